@@ -6,7 +6,7 @@ use Rattle.std.proofs.lemmas.List.Elements.{All-push, All-drop}
 use Rattle.bank_model.proofs.Waits.{waits-some}
 use Rattle.masked_bytes.specs.Entries.{layer_of, AllMasked}
 use Rattle.masked_bytes.specs.Masked.{laid, gives_all}
-use Rattle.pcm_cells.specs.Device.{ArrayState}
+use Rattle.cell_rows.specs.Device.{ArrayState}
 use Rattle.ecp_line.specs.Reading.{decode}
 use Rattle.line_writer.specs.Writing.{most_steps}
 use Rattle.power_recovery.specs.Kept.{KeptState, IsKept, stands_at}
@@ -15,7 +15,7 @@ use Rattle.power_recovery.specs.Slots.{bank_lines}
 use Rattle.bank_shape.specs.declared.answer.ReadAnswer.{ReadAnswer}
 use Rattle.bank_shape.specs.declared.answer.ReadAnswer.TheVariants as came
 use Rattle.bank_shape.specs.declared.answer.Served.{Served}
-use Rattle.bank_model.specs.Events.{Event, Read, Serve}
+use Rattle.bank_model.specs.Events.{BankEvent, Read, Serve}
 use Rattle.bank_model.specs.Answers.{MayHappen}
 use Rattle.bank_shape.specs.declared.waiting.Waiting.{Waiting}
 use Rattle.bank_invariant.specs.State.{BankState}
@@ -33,7 +33,7 @@ first_of [] w is = cc
 first_of (v ∷ ws) w is = cc
 
 module _ {n m e : ℕ} where
-  pub read_law : (row line : ℕ) (h : List (Event n)) (bank : BankState n m e) (array : ArrayState n m) (answer : ReadAnswer n)
+  pub read_law : (row line : ℕ) (h : List (BankEvent n)) (bank : BankState n m e) (array : ArrayState n m) (answer : ReadAnswer n)
       → answer ≡ read_from bank line → line < bank_lines bank.kept.shape → bank.rows_below ≤ row
       → Holds h bank array → Holds (Read row line answer ∷ h) (after_read bank row line answer) array
   read_law row line h bank array answer is below above holds = by answer may
@@ -82,7 +82,7 @@ module _ {n m e : ℕ} where
       sym (ap (λ b. cond b (came.Forwarded (layer_of bank.kept.entries line).bytes) (cond (length bank.waiting == bank.kept.shape.reads) came.Busy came.Waiting)) none
       ∙ ap (λ b. cond b came.Busy came.Waiting) (eq-eqb (length bank.waiting) bank.kept.shape.reads all))
 
-  pub lost_law : (h : List (Event n)) (bank : BankState n m e) (array : ArrayState n m) → Holds h bank array → Holds h (lost_taken bank) array
+  pub lost_law : (h : List (BankEvent n)) (bank : BankState n m e) (array : ArrayState n m) → Holds h bank array → Holds h (lost_taken bank) array
   lost_law h bank array holds = same_said h h bank array (drop 1 bank.lost) bank.rows_below holds refl holds.past holds.rows
 
   pub serve_tied : (bank : BankState n m e) (old new : ArrayState n m) → StandsAs old new
@@ -101,7 +101,7 @@ module _ {n m e : ℕ} where
       is ∙ ap (λ (p : ℕ). laid w.kept w.given (decode e (array.line p).held)) at in
       cc
 
-  pub serve_law : (h : List (Event n)) (bank : BankState n m e) (old new : ArrayState n m) (w : Waiting n) (ws : List (Waiting n)) (answer : Served n)
+  pub serve_law : (h : List (BankEvent n)) (bank : BankState n m e) (old new : ArrayState n m) (w : Waiting n) (ws : List (Waiting n)) (answer : Served n)
       → bank.waiting ≡ w ∷ ws → answer ≡ served_from bank old w → StandsAs old new
       → Holds h bank old → Holds (Serve answer ∷ h) (served bank) new
   serve_law h bank old new w ws answer first is stands holds =

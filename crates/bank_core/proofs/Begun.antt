@@ -5,8 +5,8 @@ use Rattle.std.specs.Prelude.{IsSomeAnd, IfSome, IsTrue}
 use Rattle.masked_bytes.specs.Masked.{laid}
 use Rattle.masked_bytes.specs.Entries.{completed, head_line, head_row}
 use Rattle.masked_bytes.specs.declared.entry.Entry.{Entry}
-use Rattle.pcm_cells.specs.declared.row.Cells.{Cells}
-use Rattle.pcm_cells.specs.Device.{ArrayState, LineState}
+use Rattle.cell_rows.specs.declared.row.Cells.{Cells}
+use Rattle.cell_rows.specs.Device.{ArrayState, LineState}
 use Rattle.ecp_line.specs.Reading.{decode, IsSoundLine}
 use Rattle.start_gap.specs.declared.Move.{Move}
 use Rattle.start_gap.specs.Rotation.{move_by}
@@ -26,7 +26,7 @@ use Rattle.power_recovery.proofs.Placing.{slot_of-within}
 use Rattle.power_recovery.proofs.Frames.{next_work-completed}
 use Rattle.bank_shape.specs.declared.answer.Step.{Step}
 use Rattle.bank_shape.specs.declared.answer.Step.TheVariants as did
-use Rattle.bank_model.specs.Events.{Event, Begin}
+use Rattle.bank_model.specs.Events.{BankEvent, Begin}
 use Rattle.bank_shape.specs.declared.waiting.Waiting.{Waiting}
 use Rattle.bank_shape.specs.Kinds.{is_store, is_copy}
 use Rattle.bank_invariant.specs.State.{BankState, Operation, target_of, is_free, may_begin}
@@ -101,7 +101,7 @@ module _ {n m e : ℕ} (bank : BankState n m e) (op : Operation n m e) (before a
 
   -- The invariant
 
-  holds-more : (h : List (Event n)) (work : Work) → Holds h bank before → IsFor work → op.writer.progress ≡ progress.More
+  holds-more : (h : List (BankEvent n)) (work : Work) → Holds h bank before → IsFor work → op.writer.progress ≡ progress.More
       → Holds (Begin did.More ∷ h) (begun_with (begun_kept e bank.kept before work) op bank) after
   holds-more h Nothing holds is more = let no : false ≡ true = free-for Nothing is in cc
   holds-more h (Store line slot) holds is more =
@@ -113,7 +113,7 @@ module _ {n m e : ℕ} (bank : BankState n m e) (op : Operation n m e) (before a
       (is.target ∙ ap (λ w. target_of bank.kept w) (sym is.work)) is.bytes
       (record { more = more; writes = is.writes }) is.few
 
-  holds-done : (h : List (Event n)) (work : Work) → Holds h bank before → IsFor work → op.writer.progress ≡ progress.Stored
+  holds-done : (h : List (BankEvent n)) (work : Work) → Holds h bank before → IsFor work → op.writer.progress ≡ progress.Stored
       → Holds (Begin (done_from bank.kept work op.target) ∷ h) (ended bank (done_kept (begun_kept e bank.kept before work) work)) after
   holds-done h Nothing holds is stored = let no : false ≡ true = free-for Nothing is in cc
   holds-done h (Store line slot) holds is stored =
@@ -208,7 +208,7 @@ module _ {n m e : ℕ} (bank : BankState n m e) (op : Operation n m e) (before a
 
   -- By how far the line write has come
 
-  step-holds : (h : List (Event n)) (far : Progress) → Holds h bank before → IsFor op.work → HasBegun far → op.writer.progress ≡ far
+  step-holds : (h : List (BankEvent n)) (far : Progress) → Holds h bank before → IsFor op.work → HasBegun far → op.writer.progress ≡ far
       → Holds (Begin (step_from bank.kept op far) ∷ h) (left_by (with_kept bank (begun_kept e bank.kept before op.work)) op op far) after
   step-holds h progress.More holds is begun at = holds-more h op.work holds is at
   step-holds h progress.Stored holds is begun at = holds-done h op.work holds is at
@@ -236,7 +236,7 @@ module _ {n m e : ℕ} (old new : BankState n m e) (answer : Step) (before after
 
   -- a begin keeps the invariant
   pub begin-holds : IsTrue (may_begin old) → IsBegin old new answer before after → StandsAs before after
-      → (h : List (Event n)) → Holds h old before → Holds (Begin answer ∷ h) new after
+      → (h : List (BankEvent n)) → Holds h old before → Holds (Begin answer ∷ h) new after
   begin-holds may b stands h holds =
       let end = step-holds old b.op before after h b.op.writer.progress holds (is-for may b stands) b.begun refl in
       subst (λ (s : Step). Holds (Begin s ∷ h) new after) (sym b.is)

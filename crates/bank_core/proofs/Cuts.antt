@@ -1,9 +1,9 @@
 -- That a cut keeps the tie and the invariant.
 use Rattle.std.proofs.Common.{◌≡◌, ℕ, ◌<◌, refl, sym, ap, subst, ◌∙◌, arith, Bool, true, false, List, [], ◌∷◌, ◌++◌, length, map, Option, Some, None, is_some}
 use Rattle.std.specs.Prelude.{IfSome, IsTrue, IsFalse}
-use Rattle.pcm_cells.specs.Device.{ArrayState}
+use Rattle.cell_rows.specs.Device.{ArrayState}
 use Rattle.power_recovery.specs.Kept.{IsKept, target_slot}
-use Rattle.bank_model.specs.Events.{Event, Cut}
+use Rattle.bank_model.specs.Events.{BankEvent, Cut}
 use Rattle.bank_invariant.specs.State.{BankState, Operation}
 use Rattle.bank_invariant.specs.Tied.{IsTied, IsUnderWay}
 use Rattle.bank_invariant.specs.Holds.{Holds}
@@ -51,7 +51,7 @@ module _ {n m e : ℕ} where
   pub cut_holds : (tearing : Bool) (bank : BankState n m e) (before after : ArrayState n m)
       → (IsTrue tearing → IsTrue (is_some bank.running)) → (IsFalse tearing → after ≡ before)
       → (IsTrue tearing → IfSome bank.running (λ op. IsTorn op before after))
-      → (h : List (Event n)) → Holds h bank before → Holds (Cut tearing ∷ h) (cut_off bank) after
+      → (h : List (BankEvent n)) → Holds h bank before → Holds (Cut tearing ∷ h) (cut_off bank) after
   cut_holds false bank before after runs quiet torn h holds =
       subst (λ (a : ArrayState n m). Holds (Cut false ∷ h) (cut_off bank) a) (sym (quiet refl)) (cut_law n m e h bank before holds)
   cut_holds true bank before after runs quiet torn h holds =

@@ -3,7 +3,7 @@ use Rattle.std.proofs.Common.{◌≡◌, ℕ, ◌+◌, ◌*◌, ◌-◌, ◌<◌
 use Rattle.std.proofs.lemmas.List.{get_or-replicate}
 use Rattle.std.proofs.Math.Nat.{zero-mod}
 use Rattle.masked_bytes.proofs.Layering.{laid-none_given}
-use Rattle.pcm_cells.specs.Device.{ArrayState}
+use Rattle.cell_rows.specs.Device.{ArrayState}
 use Rattle.ecp_line.proofs.Blank.{Sound-blank, decode-blank}
 use Rattle.line_writer.proofs.Untouched.{untouched-blank}
 use Rattle.line_writer.proofs.Orderly.{orderly-blank}

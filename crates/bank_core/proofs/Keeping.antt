@@ -2,7 +2,7 @@
 use Rattle.std.proofs.Common.{◌≡◌, ℕ, ◌+◌, ◌<◌, ◌≤◌, cond, Bool, true, false, List, ◌∷◌, nat_lt, refl, Option, Some, None, is_some, sym, ap, ◌∙◌, subst, arith}
 use Rattle.std.specs.Prelude.{IfSome, IsTrue}
 use Rattle.std.proofs.lemmas.Bool.{ltb-true, ltb-false}
-use Rattle.pcm_cells.specs.Device.{ArrayState}
+use Rattle.cell_rows.specs.Device.{ArrayState}
 use Rattle.spare_pool.specs.Table.{used_by}
 use Rattle.line_writer.specs.declared.writer.Progress.{Progress}
 use Rattle.line_writer.specs.declared.writer.Progress.TheVariants as progress
@@ -16,7 +16,7 @@ use Rattle.power_recovery.specs.Kept.{KeptState, IsKept, target_slot, due_region
 use Rattle.power_recovery.specs.Events.{retired_kept, exhausted_kept}
 use Rattle.bank_shape.specs.declared.answer.Step.{Step}
 use Rattle.bank_shape.specs.declared.answer.Step.TheVariants as did
-use Rattle.bank_model.specs.Events.{Event, Iterate}
+use Rattle.bank_model.specs.Events.{BankEvent, Iterate}
 use Rattle.bank_invariant.specs.State.{BankState, Operation, target_of}
 use Rattle.bank_invariant.specs.Tied.{AreSound, IsOf, IsRunning, IsUnderWay, IsTied}
 use Rattle.bank_invariant.specs.Holds.{Holds}
@@ -37,7 +37,7 @@ use Rattle.bank_core.specs.Steps.{is_some_work}
 use Rattle.bank_core.specs.Stepping.{done_from, done_kept, step_from, left_by, IsWriterStep, IsIteration}
 
 -- a work writes the slot that the history says
-slot-agrees : {n : ℕ} (kept : KeptState n) (h : List (Event n)) (work : Work) → target_slot kept work ≡ slot_of_work kept.shape h work
+slot-agrees : {n : ℕ} (kept : KeptState n) (h : List (BankEvent n)) (work : Work) → target_slot kept work ≡ slot_of_work kept.shape h work
 slot-agrees kept h Nothing = refl
 slot-agrees kept h (Store line slot) = refl
 slot-agrees kept h (Copy region step) = refl
@@ -79,14 +79,14 @@ module _ {n m e : ℕ} where
 
   -- The invariant
 
-  holds-more : (tick : ℕ) (h : List (Event n)) (bank : BankState n m e) (op now : Operation n m e) (before after : ArrayState n m)
+  holds-more : (tick : ℕ) (h : List (BankEvent n)) (bank : BankState n m e) (op now : Operation n m e) (before after : ArrayState n m)
       → Holds h bank before → bank.running ≡ Some op → IsWriterStep tick op now before after → now.writer.progress ≡ progress.More
       → Holds (Iterate did.More ∷ h) (going_on bank now) after
   holds-more tick h bank op now before after holds is step more =
       iterated_law n m e h bank before after op now holds is (differs_by tick op now before after (running_of h bank before op holds is).writing step)
       (record { work = step.work; target = step.target; bytes = step.bytes; fewer = step.fewer }) (record { more = more; writes = step.writes })
 
-  holds-done : (tick : ℕ) (h : List (Event n)) (bank : BankState n m e) (op now : Operation n m e) (before after : ArrayState n m) (work : Work)
+  holds-done : (tick : ℕ) (h : List (BankEvent n)) (bank : BankState n m e) (op now : Operation n m e) (before after : ArrayState n m) (work : Work)
       → Holds h bank before → bank.running ≡ Some op → IsWriterStep tick op now before after → now.writer.progress ≡ progress.Stored
       → op.work ≡ work → work ≡ next_work bank.kept → IsOf e bank.kept before bank.waiting op.writer.bytes work
       → Holds (Iterate (done_from bank.kept work op.target) ∷ h) (ended bank (done_kept bank.kept work)) after
@@ -98,7 +98,7 @@ module _ {n m e : ℕ} where
       let answer = subst (λ (p : Progress). IsProgress now.writer (after.line op.target) p) stored step.writes.answer in
       moved_law n m e region move h bank before after op holds is (sym next) (differs_by tick op now before after (running_of h bank before op holds is).writing step) (answer.2 ∙ step.bytes ∙ of)
 
-  holds-worn : (tick : ℕ) (h : List (Event n)) (bank : BankState n m e) (op now : Operation n m e) (before after : ArrayState n m) (left : Bool)
+  holds-worn : (tick : ℕ) (h : List (BankEvent n)) (bank : BankState n m e) (op now : Operation n m e) (before after : ArrayState n m) (left : Bool)
       → Holds h bank before → bank.running ≡ Some op → IsWriterStep tick op now before after → IsWornLine e (after.line op.target)
       → nat_lt (used_by bank.kept.table) bank.kept.shape.spares ≡ left
       → let slot = target_slot bank.kept op.work in
@@ -120,7 +120,7 @@ module _ {n m e : ℕ} where
       exhausted_law n m e h bank before after op holds is (differs_by tick op now before after (running_of h bank before op holds is).writing step) worn
       (omega (arith, none, count.1, holds.kept.table.within))
 
-  holds-step : (tick : ℕ) (h : List (Event n)) (bank : BankState n m e) (op now : Operation n m e) (before after : ArrayState n m) (far : Progress)
+  holds-step : (tick : ℕ) (h : List (BankEvent n)) (bank : BankState n m e) (op now : Operation n m e) (before after : ArrayState n m) (far : Progress)
       → Holds h bank before → bank.running ≡ Some op → IsWriterStep tick op now before after → now.writer.progress ≡ far
       → Holds (Iterate (step_from bank.kept op far) ∷ h) (left_by bank op now far) after
   holds-step tick h bank op now before after progress.More holds is step at = holds-more tick h bank op now before after holds is step at
@@ -132,7 +132,7 @@ module _ {n m e : ℕ} where
       (step.worn (subst (λ (p : Progress). IsWorn p) (sym at) tt)) refl
 
   -- an iteration keeps the invariant
-  pub iteration-holds : (tick : ℕ) (h : List (Event n)) (old new : BankState n m e) (op : Operation n m e) (answer : Step) (before after : ArrayState n m)
+  pub iteration-holds : (tick : ℕ) (h : List (BankEvent n)) (old new : BankState n m e) (op : Operation n m e) (answer : Step) (before after : ArrayState n m)
       → Holds h old before → old.running ≡ Some op → IsIteration tick op old new answer before after → Holds (Iterate answer ∷ h) new after
   iteration-holds tick h old new op answer before after holds is by =
       let end = holds-step tick h old op by.now before after by.now.writer.progress holds is by.step refl in
@@ -314,7 +314,7 @@ module _ {n m e : ℕ} where
 
   pub stepped-holds : (tick : ℕ) (old new : BankState n m e) (answer : Step) (before after : ArrayState n m)
       → IsTrue (is_some old.running) → IfSome old.running (λ op. IsIteration tick op old new answer before after)
-      → (h : List (Event n)) → Holds h old before → Holds (Iterate answer ∷ h) new after
+      → (h : List (BankEvent n)) → Holds h old before → Holds (Iterate answer ∷ h) new after
   stepped-holds tick old new answer before after runs step h holds =
       let some = some_running old.running runs in
       iteration-holds tick h old new some.0 answer before after holds some.1

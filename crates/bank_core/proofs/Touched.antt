@@ -1,7 +1,7 @@
 -- What an event does to its array.
 use Rattle.std.proofs.Common.{◌≡◌, ℕ, refl, Bool, true, false, [], ◌∷◌, Option, Some, None, is_some}
 use Rattle.std.specs.Prelude.{IfSome, IsTrue, IsFalse}
-use Rattle.pcm_cells.specs.Device.{ArrayState}
+use Rattle.cell_rows.specs.Device.{ArrayState}
 use Rattle.bank_shape.specs.declared.answer.Step.{Step}
 use Rattle.bank_model.specs.Touching.{Touches}
 use Rattle.bank_model.proofs.Touched.{touches-nothing, touches-round, touches-tear}

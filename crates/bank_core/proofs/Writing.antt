@@ -8,13 +8,13 @@ use Rattle.masked_bytes.specs.declared.entry.Entry.{Entry}
 use Rattle.protected_queue.specs.declared.accept.Accept.{Accept}
 use Rattle.protected_queue.specs.declared.accept.Accept.TheVariants as became
 use Rattle.protected_queue.specs.Queue.{accept_answer, answer_by, accepted, accepted_by}
-use Rattle.pcm_cells.specs.Device.{ArrayState}
+use Rattle.cell_rows.specs.Device.{ArrayState}
 use Rattle.line_writer.specs.Writing.{most_steps}
 use Rattle.power_recovery.specs.Kept.{KeptState}
 use Rattle.power_recovery.specs.Slots.{bank_lines}
 use Rattle.bank_shape.specs.declared.answer.WriteAnswer.{WriteAnswer}
 use Rattle.bank_shape.specs.declared.answer.WriteAnswer.TheVariants as wrote
-use Rattle.bank_model.specs.Events.{Event, Write}
+use Rattle.bank_model.specs.Events.{BankEvent, Write}
 use Rattle.bank_model.specs.Answers.{MayHappen, write_answer}
 use Rattle.bank_invariant.specs.State.{BankState, is_storing}
 use Rattle.bank_invariant.specs.Tied.{IsTied}
@@ -50,7 +50,7 @@ module _ {n : ℕ} where
 
 module _ {n m e : ℕ} where
   -- a bank answers a write as its history says
-  as_history : (line : ℕ) (h : List (Event n)) (bank : BankState n m e) (array : ArrayState n m) → Holds h bank array
+  as_history : (line : ℕ) (h : List (BankEvent n)) (bank : BankState n m e) (array : ArrayState n m) → Holds h bank array
       → write_from bank line ≡ write_answer bank.kept.shape h line
   as_history line h bank array holds = by bank.kept.exhausted refl
     where
@@ -59,7 +59,7 @@ module _ {n m e : ℕ} where
       by true is = refusal_law n m e line h bank array holds is
       by false is = write_answer_law n m e line (is_storing bank.running) h bank array holds is (agree_law n m e h bank array holds).storing
 
-  pub write_law : (row line : ℕ) (bytes : List ℕ) (given : List Bool) (h : List (Event n)) (bank : BankState n m e) (array : ArrayState n m) (answer : WriteAnswer)
+  pub write_law : (row line : ℕ) (bytes : List ℕ) (given : List Bool) (h : List (BankEvent n)) (bank : BankState n m e) (array : ArrayState n m) (answer : WriteAnswer)
       → answer ≡ write_from bank line → line < bank_lines bank.kept.shape → bank.rows_below ≤ row → IsMasked n bytes given
       → Holds h bank array
       → Holds (Write row line bytes given answer ∷ h) (after_write bank (record { row = row; line = line; bytes = bytes; given = given }) answer) array
@@ -97,7 +97,7 @@ module _ {n m e : ℕ} where
       by (became.Merged row index) is = refl
       by became.Full is = ap with_kept (kept-full (is_storing bank.running) entry bank.kept is)
 
-  pub taken_holds : (entry : Entry n) (h : List (Event n)) (bank : BankState n m e) (array : ArrayState n m)
+  pub taken_holds : (entry : Entry n) (h : List (BankEvent n)) (bank : BankState n m e) (array : ArrayState n m)
       → bank.kept.exhausted ≡ false → entry.line < bank_lines bank.kept.shape → bank.rows_below ≤ entry.row → IsMasked n entry.bytes entry.given
       → Holds h bank array
       → Holds (Write entry.row entry.line entry.bytes entry.given (written (accept_answer bank.kept.shape.writes (is_storing bank.running) bank.kept.entries entry.line)) ∷ h)

@@ -2,8 +2,8 @@
 use Rattle.std.specs.Prelude.{◌≡◌, ℕ, ◌≤◌, List, [], ◌∷◌}
 use Rattle.masked_bytes.specs.Masked.{laid}
 use Rattle.masked_bytes.specs.declared.entry.Entry.{Entry}
-use Rattle.pcm_cells.specs.declared.row.Cells.{Cells}
-use Rattle.pcm_cells.specs.Device.{ArrayState, LineState}
+use Rattle.cell_rows.specs.declared.row.Cells.{Cells}
+use Rattle.cell_rows.specs.Device.{ArrayState, LineState}
 use Rattle.bank_shape.specs.declared.Work.{Work}
 use Rattle.bank_shape.specs.declared.Work.TheVariants.{Nothing, Store, Copy}
 use Rattle.bank_shape.specs.Shape.{slot_at}

@@ -1,6 +1,6 @@
 -- What a power cut does to a bank and to its array.
 use Rattle.std.specs.Prelude.{ℕ, Bool, true, false, [], ◌++◌, map, Option, None, Some}
-use Rattle.pcm_cells.specs.Device.{ArrayState}
+use Rattle.cell_rows.specs.Device.{ArrayState}
 use Rattle.program_verify.specs.Programming.{IsTear}
 use Rattle.line_writer.specs.Untouched.{LeavesUnused}
 use Rattle.bank_invariant.specs.State.{BankState, Operation}

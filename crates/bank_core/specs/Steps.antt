@@ -1,6 +1,6 @@
 -- What a bank answers, and what each of its calls leaves.
 use Rattle.std.specs.Prelude.{ℕ, ◌+◌, ◌≤◌, ◌<◌, Bool, true, false, ◌||◌, if◌then◌else◌, drop, length, nat_lt, is_some}
-use Rattle.pcm_cells.specs.Device.{ArrayState, IsBlank}
+use Rattle.cell_rows.specs.Device.{ArrayState, IsBlank}
 use Rattle.protected_queue.specs.Queue.{accept_answer}
 use Rattle.masked_bytes.specs.declared.entry.Entry.{Entry}
 use Rattle.bank_shape.specs.declared.BankShape.{BankShape}

@@ -1,9 +1,9 @@
 //! How a bank takes a write.
 ghost use Rattle.std.specs.Prelude.{◌≡◌, ◌<◌, ◌≤◌, List, ◌∷◌};
 ghost use Rattle.masked_bytes.specs.Masked.{IsMasked};
-ghost use Rattle.pcm_cells.specs.Device.{ArrayState};
+ghost use Rattle.cell_rows.specs.Device.{ArrayState};
 ghost use Rattle.power_recovery.specs.Slots.{bank_lines};
-ghost use Rattle.bank_model.specs.Events.{Event, Write};
+ghost use Rattle.bank_model.specs.Events.{BankEvent, Write};
 ghost use Rattle.bank_invariant.specs.State.{is_storing};
 ghost use Rattle.bank_invariant.specs.Tied.{IsTied};
 ghost use Rattle.bank_invariant.specs.Holds.{Holds};
@@ -39,7 +39,7 @@ impl<const B: usize, const M: usize, const E: usize> Bank<B, M, E> {
         ensures index { IsMergedAt self.new.kept.entries entry.entry.row result }
         ensures bank { self.new ≡ after_write self.old entry.entry (answer_of result) }
         ensures tied { (array : ArrayState B M) → IsTied self.old array → IsTied self.new array }
-        ensures holds { (h : List (Event B)) (array : ArrayState B M) → Holds h self.old array
+        ensures holds { (h : List (BankEvent B)) (array : ArrayState B M) → Holds h self.old array
             → Holds (Write entry.entry.row entry.entry.line entry.entry.bytes entry.entry.given
             (answer_of result) ∷ h) self.new array }
     {

@@ -1,11 +1,11 @@
 //! The events of one bank.
 ghost use Rattle.std.specs.Prelude.{◌≡◌, ◌<◌, ◌≤◌, List, [], ◌∷◌, length, slice_get, IfOk, is_some};
-ghost use Rattle.pcm_cells.specs.Device.{ArrayState};
+ghost use Rattle.cell_rows.specs.Device.{ArrayState};
 ghost use Rattle.ecp_line.specs.Layout.{IsLayout};
 ghost use Rattle.bank_shape.specs.Shape.{IsBankShape};
 ghost use Rattle.power_recovery.specs.Kept.{IsKept};
 ghost use Rattle.power_recovery.specs.Slots.{bank_lines};
-ghost use Rattle.bank_model.specs.Events.{Event, Read};
+ghost use Rattle.bank_model.specs.Events.{BankEvent, Read};
 ghost use Rattle.bank_invariant.specs.State.{first_bank};
 ghost use Rattle.bank_invariant.specs.Tied.{IsTied};
 ghost use Rattle.bank_invariant.specs.Holds.{Holds};
@@ -118,7 +118,7 @@ impl<const B: usize, const M: usize, const E: usize> Bank<B, M, E> {
         ensures answer { result ≡ read_from self.old line }
         ensures bank { self.new ≡ after_read self.old row line result }
         ensures tied { (array : ArrayState B M) → IsTied self.old array → IsTied self.new array }
-        ensures holds { (h : List (Event B)) (array : ArrayState B M) → Holds h self.old array
+        ensures holds { (h : List (BankEvent B)) (array : ArrayState B M) → Holds h self.old array
             → Holds (Read row line result ∷ h) self.new array }
     {
         let (kept, given) = self.kept.newest(line);
@@ -143,7 +143,7 @@ impl<const B: usize, const M: usize, const E: usize> Bank<B, M, E> {
         ensures row { result ≡ slice_get self.old.lost 0 }
         ensures bank { self.new ≡ lost_taken self.old }
         ensures tied { (array : ArrayState B M) → IsTied self.old array → IsTied self.new array }
-        ensures holds { (h : List (Event B)) (array : ArrayState B M) → Holds h self.old array
+        ensures holds { (h : List (BankEvent B)) (array : ArrayState B M) → Holds h self.old array
             → Holds h self.new array }
     {
         self.lost.pop_front()

@@ -1,13 +1,13 @@
 // A line write begins.
 ghost use Rattle.std.specs.Prelude.{◌≡◌, ◌<◌, ◌==◌, List, [], ◌∷◌, length, slice_get, None, IfSome, false, IsTrue};
 ghost use Rattle.std.specs.List.{list_any};
-ghost use Rattle.pcm_cells.specs.Device.{ArrayState};
+ghost use Rattle.cell_rows.specs.Device.{ArrayState};
 ghost use Rattle.ecp_line.specs.Layout.{IsLayout};
 ghost use Rattle.bank_shape.specs.Shape.{slot_at};
 ghost use Rattle.bank_shape.specs.declared.Work.TheVariants.{Store, Copy};
 ghost use Rattle.line_writer.specs.Writing.{HasBegun};
 ghost use Rattle.power_recovery.specs.Kept.{array_line, next_work};
-ghost use Rattle.bank_model.specs.Events.{Event, Begin};
+ghost use Rattle.bank_model.specs.Events.{BankEvent, Begin};
 ghost use Rattle.bank_model.specs.Touching.{Touches};
 ghost use Rattle.bank_invariant.specs.State.{may_begin, is_free, target_of};
 ghost use Rattle.ecp_line.specs.Reading.{IsSoundLine};
@@ -22,9 +22,9 @@ ghost use Rattle.bank_core.specs.Beginning.{IsBegin, IsOfSoundLine};
 use crate::bank::{Bank, Running};
 use bank_shape::Work;
 use bank_shape::answer::Step;
+use cell_rows::{CellArray, Cells};
 use ecp_line::Ecp;
 use line_writer::{LineWriter, Progress};
-use pcm_cells::{CellArray, Cells};
 use start_gap::Move;
 
 impl<const B: usize, const M: usize, const E: usize> Bank<B, M, E> {
@@ -70,7 +70,7 @@ impl<const B: usize, const M: usize, const E: usize> Bank<B, M, E> {
         ensures touches { Touches tick (lines_sensed self.old.kept (next_work self.old.kept)) None false
             (A.state array.old) (A.state array.new) }
         ensures tied { IsTied self.new (A.state array.new) }
-        ensures holds { (h : List (Event B)) → Holds h self.old (A.state array.old)
+        ensures holds { (h : List (BankEvent B)) → Holds h self.old (A.state array.old)
             → Holds (Begin result ∷ h) self.new (A.state array.new) }
     {
         self.begin_next(array, tick)

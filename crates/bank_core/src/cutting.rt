@@ -1,7 +1,7 @@
 // A power cut.
 ghost use Rattle.std.specs.Prelude.{◌≡◌, ◌+◌, ◌≤◌, List, [], ◌∷◌, length, IfSome, IsTrue, IsFalse, is_some};
 ghost use Rattle.power_recovery.specs.Kept.{IsKept};
-ghost use Rattle.bank_model.specs.Events.{Event, Cut};
+ghost use Rattle.bank_model.specs.Events.{BankEvent, Cut};
 ghost use Rattle.bank_model.specs.Touching.{Touches};
 ghost use Rattle.bank_invariant.specs.Tied.{IsTied};
 ghost use Rattle.bank_invariant.specs.Holds.{Holds};
@@ -9,7 +9,7 @@ ghost use Rattle.bank_invariant.specs.Steps.{cut_off};
 ghost use Rattle.bank_core.specs.Cutting.{stopped, reads_lost, torn_line, IsTorn};
 
 use crate::bank::Bank;
-use pcm_cells::CellArray;
+use cell_rows::CellArray;
 
 impl<const B: usize, const M: usize, const E: usize> Bank<B, M, E> {
     /// A power cut, in the middle of the next pulse of the line write in progress if it is `tearing`.
@@ -24,7 +24,7 @@ impl<const B: usize, const M: usize, const E: usize> Bank<B, M, E> {
         ensures touches { Touches tick [] (torn_line tearing self.old.running) tearing
             (A.state array.old) (A.state array.new) }
         ensures tied { IsTied self.new (A.state array.new) }
-        ensures holds { (h : List (Event B)) → Holds h self.old (A.state array.old)
+        ensures holds { (h : List (BankEvent B)) → Holds h self.old (A.state array.old)
             → Holds (Cut tearing ∷ h) self.new (A.state array.new) }
     {
         self.stop(array, tearing, tick);

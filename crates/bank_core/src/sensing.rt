@@ -3,8 +3,8 @@ ghost use Rattle.std.specs.Prelude.{◌≡◌};
 ghost use Rattle.ecp_line.specs.Layout.{IsLayout};
 ghost use Rattle.ecp_line.specs.Reading.{decode};
 
+use cell_rows::Cells;
 use ecp_line::Ecp;
-use pcm_cells::Cells;
 
 // The bytes of a line that holds these cells.
 pub(crate) fn read_as<const B: usize, const M: usize, const E: usize>(cells: Cells<B, M>) -> [u8; B]

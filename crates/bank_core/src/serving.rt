@@ -1,6 +1,6 @@
 // A waiting read is served.
 ghost use Rattle.std.specs.Prelude.{◌≡◌, ◌<◌, List, [], ◌∷◌, length, slice_get, None, false, IfSome};
-ghost use Rattle.bank_model.specs.Events.{Event, Serve};
+ghost use Rattle.bank_model.specs.Events.{BankEvent, Serve};
 ghost use Rattle.bank_model.specs.Touching.{Touches};
 ghost use Rattle.bank_invariant.specs.Tied.{IsTied};
 ghost use Rattle.bank_invariant.specs.Holds.{Holds};
@@ -9,8 +9,8 @@ ghost use Rattle.bank_invariant.specs.Serving.{served, served_from};
 use crate::bank::Bank;
 use crate::sensing::read_as;
 use bank_shape::answer::Served;
+use cell_rows::CellArray;
 use masked_bytes::layers::lay_over;
-use pcm_cells::CellArray;
 
 impl<const B: usize, const M: usize, const E: usize> Bank<B, M, E> {
     /// Serves the oldest read that waits: one sense of the array line where its line stands.
@@ -23,7 +23,7 @@ impl<const B: usize, const M: usize, const E: usize> Bank<B, M, E> {
         ensures touches { Touches tick (result.place ∷ []) None false
             (A.state array.old) (A.state array.new) }
         ensures tied { IsTied self.new (A.state array.new) }
-        ensures holds { (h : List (Event B)) → Holds h self.old (A.state array.old)
+        ensures holds { (h : List (BankEvent B)) → Holds h self.old (A.state array.old)
             → Holds (Serve result ∷ h) self.new (A.state array.new) }
     {
         let Some(read) = self.waiting.pop_front() else {

@@ -1,11 +1,11 @@
 // The line write in progress.
 ghost use Rattle.std.specs.Prelude.{◌≡◌, ℕ, ◌<◌, List, [], ◌∷◌, Some, IfSome, IsTrue, false, is_some};
-ghost use Rattle.pcm_cells.specs.Device.{ArrayState};
+ghost use Rattle.cell_rows.specs.Device.{ArrayState};
 ghost use Rattle.ecp_line.specs.Layout.{IsLayout};
 ghost use Rattle.bank_shape.specs.Shape.{slots_of};
 ghost use Rattle.line_writer.specs.Writing.{Writes};
 ghost use Rattle.power_recovery.specs.Kept.{IsKept, target_slot, next_work};
-ghost use Rattle.bank_model.specs.Events.{Event, Iterate};
+ghost use Rattle.bank_model.specs.Events.{BankEvent, Iterate};
 ghost use Rattle.bank_model.specs.Touching.{Touches};
 ghost use Rattle.bank_invariant.specs.Tied.{IsTied};
 ghost use Rattle.bank_invariant.specs.Holds.{Holds};
@@ -16,8 +16,8 @@ ghost use Rattle.bank_core.specs.Stepping.{done_from, done_kept, worn_from, worn
 use crate::bank::{Bank, Running};
 use bank_shape::Work;
 use bank_shape::answer::Step;
+use cell_rows::CellArray;
 use line_writer::Progress;
-use pcm_cells::CellArray;
 
 impl<const B: usize, const M: usize, const E: usize> Running<B, M, E> {
     // One step of the writer, on the target.
@@ -45,7 +45,7 @@ impl<const B: usize, const M: usize, const E: usize> Bank<B, M, E> {
             (λ op. Touches tick (op.target ∷ []) (Some op.target) false
             (A.state array.old) (A.state array.new)) }
         ensures tied { IsTied self.new (A.state array.new) }
-        ensures holds { (h : List (Event B)) → Holds h self.old (A.state array.old)
+        ensures holds { (h : List (BankEvent B)) → Holds h self.old (A.state array.old)
             → Holds (Iterate result ∷ h) self.new (A.state array.new) }
     {
         self.advance(array, tick)

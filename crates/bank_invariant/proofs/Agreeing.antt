@@ -5,7 +5,7 @@ use Rattle.std.proofs.lemmas.Bool.{cases_eq, le-leb, lt-leb}
 use Rattle.std.proofs.lemmas.Nat.{div_below}
 use Rattle.std.proofs.Math.Nat.{mul-le-mul_left}
 use Rattle.masked_bytes.specs.declared.entry.Entry.{Entry}
-use Rattle.pcm_cells.specs.Device.{ArrayState}
+use Rattle.cell_rows.specs.Device.{ArrayState}
 use Rattle.start_gap.specs.Rotation.{move_after}
 use Rattle.start_gap.proofs.Turning.{move-stands}
 use Rattle.spare_pool.specs.Table.{line_by}
@@ -15,7 +15,7 @@ use Rattle.power_recovery.specs.Kept.{AllBelow, region_at, slot_of, array_line, 
 use Rattle.power_recovery.proofs.Placing.{region-exists, slot_of-after}
 use Rattle.power_recovery.proofs.Bundle.{due_region-Some, due_region-is, due_region-None}
 use Rattle.bank_shape.specs.Kinds.{is_store}
-use Rattle.bank_model.specs.Events.{Event}
+use Rattle.bank_model.specs.Events.{BankEvent}
 use Rattle.bank_model.specs.History.{Awaited, queue, waits, in_progress, stores, moved_in, stored_in, due_after, has_exhausted, first_or}
 use Rattle.bank_model.specs.After as after
 use Rattle.bank_model.specs.After.{slot_after, array_line_after, stands_at_after, work_after, slot_of_work, target_after, is_ready, may_begin_after}
@@ -46,7 +46,7 @@ same_ready n Nothing ws = refl
 same_ready n (Store line slot) ws = ap (λ b. not b) (any_waiting n line ws)
 same_ready n (Copy region step) ws = refl
 
-module _ {n m e : ℕ} (h : List (Event n)) (bank : BankState n m e) (array : ArrayState n m) (holds : Holds h bank array) where
+module _ {n m e : ℕ} (h : List (BankEvent n)) (bank : BankState n m e) (array : ArrayState n m) (holds : Holds h bank array) where
   agree_slots : (line : ℕ) → line < bank.kept.shape.regions * bank.kept.shape.lines → slot_of bank.kept line ≡ slot_after bank.kept.shape h line
   agree_slots line below =
       let region : ℕ = line / bank.kept.shape.lines in

@@ -10,7 +10,7 @@ use Rattle.masked_bytes.proofs.Layering.{joined-all_given, gives_all-all_given}
 use Rattle.bank_shape.specs.declared.BankShape.{BankShape}
 use Rattle.bank_shape.specs.declared.answer.WriteAnswer.TheVariants as wrote
 use Rattle.bank_shape.specs.declared.answer.Step.TheVariants as did
-use Rattle.bank_model.specs.Events.{Event, Write, Read, Serve, Begin, Iterate, Cut, newest}
+use Rattle.bank_model.specs.Events.{BankEvent, Write, Read, Serve, Begin, Iterate, Cut, newest}
 use Rattle.bank_model.specs.History.{Awaited, queue, waits, begun, due_after, has_exhausted, in_progress}
 use Rattle.bank_model.specs.After.{due_work, work_after, is_ready}
 use Rattle.bank_model.specs.Answers.{MayAll, head_busy_after}
@@ -153,7 +153,7 @@ module _ {n : ℕ} where
 
   module _ (shape : BankShape) (most : ℕ) where
     -- a store that begins completes the head
-    begins_complete : (h : List (Event n)) (ws : List Awaited) (mark : Bool) (due : Option ℕ) (newest_of : ℕ → List ℕ) (es : List (Entry n))
+    begins_complete : (h : List (BankEvent n)) (ws : List Awaited) (mark : Bool) (due : Option ℕ) (newest_of : ℕ → List ℕ) (es : List (Entry n))
         → is_ready ws (if mark then Nothing else due_work shape h due es) ≡ true → due ≡ None → IsComplete (begun due newest_of es)
     begins_complete h ws true due newest_of es ready none = cc
     begins_complete h ws false (Some region) newest_of es ready none = cc
@@ -161,7 +161,7 @@ module _ {n : ℕ} where
     begins_complete h ws false None newest_of (e ∷ es) ready none = refl
 
     -- while a store is in progress its head is complete
-    complete_in : (h : List (Event n)) → MayAll shape most h → in_progress h ≡ true → due_after shape h ≡ None → IsComplete (queue shape h)
+    complete_in : (h : List (BankEvent n)) → MayAll shape most h → in_progress h ≡ true → due_after shape h ≡ None → IsComplete (queue shape h)
     complete_in [] may busy none = cc
     complete_in (Write row line bytes given wrote.Accepted ∷ h) may busy none = IsComplete-append (queue shape h) _ (complete_in h may.1 busy none)
     complete_in (Write row line bytes given (wrote.Merged old) ∷ h) may busy none =
@@ -184,17 +184,17 @@ module _ {n : ℕ} where
     complete_in (Iterate did.Exhausted ∷ h) may busy none = cc
     complete_in (Cut tearing ∷ h) may busy none = cc
 
-    store_due : (h : List (Event n)) (mark : Bool) (due : Option ℕ) (es : List (Entry n)) → is_store (if mark then Nothing else due_work shape h due es) ≡ true → due ≡ None
+    store_due : (h : List (BankEvent n)) (mark : Bool) (due : Option ℕ) (es : List (Entry n)) → is_store (if mark then Nothing else due_work shape h due es) ≡ true → due ≡ None
     store_due h true due es store = cc
     store_due h false (Some region) es store = cc
     store_due h false None es store = refl
 
-    complete_busy : (h : List (Event n)) → MayAll shape most h → head_busy_after shape h ≡ true → IsComplete (queue shape h)
+    complete_busy : (h : List (BankEvent n)) → MayAll shape most h → head_busy_after shape h ≡ true → IsComplete (queue shape h)
     complete_busy h may busy =
         complete_in h may (and_first (in_progress h) (is_store (work_after shape h)) busy)
         (store_due h (has_exhausted h) (due_after shape h) (queue shape h) (and_second (in_progress h) (is_store (work_after shape h)) busy))
 
-    queue-apart : (h : List (Event n)) → MayAll shape most h → IsApart (queue shape h)
+    queue-apart : (h : List (BankEvent n)) → MayAll shape most h → IsApart (queue shape h)
     queue-apart [] may = tt
     queue-apart (Write row line bytes given wrote.Accepted ∷ h) may =
         let told = answer_accepted shape h (has_exhausted h) (candidate (head_busy_after shape h) (queue shape h) line) may.0.2 in
@@ -231,5 +231,5 @@ module _ {n : ℕ} where
       by (inr none) = inr (no_row-no_layer es e.line none)
 
   -- a head that isn't complete is alone
-  pub head-alone : (shape : BankShape) (most : ℕ) (h : List (Event n)) → MayAll shape most h → IsHeadAlone (queue shape h)
+  pub head-alone : (shape : BankShape) (most : ℕ) (h : List (BankEvent n)) → MayAll shape most h → IsHeadAlone (queue shape h)
   head-alone shape most h may = alone_by (queue shape h) (queue-apart shape most h may)

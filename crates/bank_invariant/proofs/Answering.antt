@@ -9,14 +9,14 @@ use Rattle.power_recovery.specs.Kept.{KeptState}
 use Rattle.power_recovery.specs.Events.{with_entries, accepted_kept}
 use Rattle.bank_shape.specs.declared.BankShape.{BankShape}
 use Rattle.bank_shape.specs.declared.answer.WriteAnswer.TheVariants as wrote
-use Rattle.bank_model.specs.Events.{Event}
+use Rattle.bank_model.specs.Events.{BankEvent}
 use Rattle.bank_model.specs.History.{queue, has_exhausted}
 use Rattle.bank_model.specs.Answers.{accept_answer, head_busy_after}
 use Rattle.masked_bytes.proofs.Queueing.{candidate-index, candidate-none}
 use Rattle.bank_invariant.specs.WriteAnswers.{written, WriteAnswerLaw, RefusalLaw}
 
 -- the queue answers by whether there is room and where the candidate stands, the history by whether it is full and by the candidate's row
-by_room : {n : ℕ} (shape : BankShape) (h : List (Event n)) (es : List (Entry n)) (index row : Option ℕ) (room : Bool)
+by_room : {n : ℕ} (shape : BankShape) (h : List (BankEvent n)) (es : List (Entry n)) (index row : Option ℕ) (room : Bool)
     → ((i : ℕ) → index ≡ Some i → row ≡ Some (row_at es i)) → (index ≡ None → row ≡ None)
     → (room ≡ true → (length (queue shape h) == shape.writes) ≡ false) → (room ≡ false → (length (queue shape h) == shape.writes) ≡ true)
     → written (taking.answer_by index room es) ≡ accept_answer shape h row

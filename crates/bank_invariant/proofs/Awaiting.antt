@@ -9,8 +9,8 @@ use Rattle.masked_bytes.specs.Entries.{Layer, layer_of, AllMasked}
 use Rattle.masked_bytes.specs.declared.entry.Entry.{Entry}
 use Rattle.masked_bytes.proofs.Layering.{length-laid, laid-all_given, joined-all_given, gives_all-all_given, all_given-gives_all}
 use Rattle.masked_bytes.proofs.Queueing.{IsLayer-layer_of}
-use Rattle.pcm_cells.specs.declared.array.Sense.{Sense}
-use Rattle.pcm_cells.specs.Device.{ArrayState, LineState, Senses}
+use Rattle.cell_rows.specs.declared.array.Sense.{Sense}
+use Rattle.cell_rows.specs.Device.{ArrayState, LineState, Senses}
 use Rattle.ecp_line.specs.Reading.{decode, IsSoundLine, IsWornLine}
 use Rattle.line_writer.specs.Orderly.{IsLive}
 use Rattle.line_writer.proofs.Untouched.{AreUntouched-same}
@@ -23,7 +23,7 @@ use Rattle.power_recovery.specs.Kept.{KeptState, array_line, stands_at}
 use Rattle.bank_shape.specs.declared.answer.ReadAnswer.{ReadAnswer}
 use Rattle.bank_shape.specs.declared.answer.ReadAnswer.TheVariants as came
 use Rattle.bank_model.proofs.Newest.{length-newest}
-use Rattle.bank_model.specs.Events.{Event, Write, Read, Serve, Begin, Iterate, Cut, newest}
+use Rattle.bank_model.specs.Events.{BankEvent, Write, Read, Serve, Begin, Iterate, Cut, newest}
 use Rattle.bank_model.specs.History.{Awaited, awaited, queue, waits, iterated}
 use Rattle.bank_model.specs.Answers.{MayAll, IsServed}
 use Rattle.bank_model.specs.Touching.{Touches}
@@ -173,7 +173,7 @@ gives_all-head {n = n} (entry ∷ es) line bytes masked whole =
 -- What a read is answered
 
 -- where the queue gives every byte of a line, they are the newest
-pub layer-newest : {n m e : ℕ} (h : List (Event n)) (bank : BankState n m e) (array : ArrayState n m) (line : ℕ) → Holds h bank array
+pub layer-newest : {n m e : ℕ} (h : List (BankEvent n)) (bank : BankState n m e) (array : ArrayState n m) (line : ℕ) → Holds h bank array
     → line < bank.kept.shape.regions * bank.kept.shape.lines → gives_all ((layer_of bank.kept.entries line).given) ≡ true
     → (layer_of bank.kept.entries line).bytes ≡ newest h line
 layer-newest {n = n} {e = e} h bank array line holds below all =
@@ -252,7 +252,7 @@ waiting_law n m e row line h bank array holds above may =
 -- A read is served
 
 -- each read that waits is of a line of the bank
-pub waits-known : {n : ℕ} (shape : BankShape) (most : ℕ) (h : List (Event n)) → MayAll shape most h → All (λ w. w.line < shape.regions * shape.lines) (waits shape h)
+pub waits-known : {n : ℕ} (shape : BankShape) (most : ℕ) (h : List (BankEvent n)) → MayAll shape most h → All (λ w. w.line < shape.regions * shape.lines) (waits shape h)
 waits-known shape most [] may = λ k d few. let none : ⊥ = omega (arith, few) in absurd none
 waits-known shape most (Write row line bytes given answer ∷ h) may = waits-known shape most h may.1
 waits-known shape most (Read row line (came.Forwarded bytes) ∷ h) may = waits-known shape most h may.1

@@ -1,13 +1,13 @@
 -- How many iterations a line write on a line of which no cell is stuck has had, and what each makes of its cells.
 use Rattle.std.proofs.Common.{◌≡◌, ◌∙◌, ℕ, ◌≤◌, true, false, List, Option, Some, sym, subst, arith}
 use Rattle.std.specs.Prelude.{IfSome}
-use Rattle.pcm_cells.specs.Device.{ArrayState, LineState}
+use Rattle.cell_rows.specs.Device.{ArrayState, LineState}
 use Rattle.program_verify.specs.declared.prog.Prog.{Prog}
 use Rattle.program_verify.specs.Programming.{IsRound, IsTear, is_wrong}
 use Rattle.power_recovery.specs.Kept.{target_slot}
 use Rattle.line_writer.specs.Orderly.{IsLive, IsOrderly}
 use Rattle.line_writer.proofs.Rounds.{going}
-use Rattle.bank_model.specs.Events.{Event}
+use Rattle.bank_model.specs.Events.{BankEvent}
 use Rattle.bank_model.specs.History.{iterated}
 use Rattle.bank_model.specs.Touching.{Strikes}
 use Rattle.bank_model.proofs.Sticking.{strikes-pulsed, strikes-torn}
@@ -18,7 +18,7 @@ use Rattle.bank_invariant.proofs.Targets.{target-orderly}
 use Rattle.bank_invariant.proofs.Tearing.{running_of, target_of_running}
 
 -- a cell of it that is wrong still has missed in each of them
-wrong-missed : {n m e : ℕ} (h : List (Event n)) (bank : BankState n m e) (array : ArrayState n m) (op : Operation n m e)
+wrong-missed : {n m e : ℕ} (h : List (BankEvent n)) (bank : BankState n m e) (array : ArrayState n m) (op : Operation n m e)
     → Holds h bank array → bank.running ≡ Some op → IsLive (array.line op.target)
     → (c : ℕ) → is_wrong op.writer.prog c ≡ true → iterated h ≤ (array.line op.target).misses c
 wrong-missed {n} {m} {e} h bank array op holds runs live c wrong =
@@ -38,7 +38,7 @@ fine_write_law n m e h bank array op holds runs live =
     omega (arith, missed, orderly.missed wrong (live wrong))
 
 -- so an iteration strikes cells that have missed in each of those before
-pub strikes-round : {n m e : ℕ} (tick : ℕ) (after : Prog n m) (h : List (Event n)) (bank : BankState n m e) (old new : ArrayState n m) (op : Operation n m e)
+pub strikes-round : {n m e : ℕ} (tick : ℕ) (after : Prog n m) (h : List (BankEvent n)) (bank : BankState n m e) (old new : ArrayState n m) (op : Operation n m e)
     → Holds h bank old → bank.running ≡ Some op → IsRound op.target tick op.writer.prog after old new → IsLive (old.line op.target)
     → Strikes old.bounds (iterated h) false (old.line op.target) (new.line op.target)
 strikes-round {n} {m} tick after h bank old new op holds runs round live =
@@ -47,7 +47,7 @@ strikes-round {n} {m} tick after h bank old new op holds runs round live =
     (λ c on. wrong-missed h bank old op holds runs live c (sym (round.masked c) ∙ on)) op.writer.prog.want round.pulse)
 
 -- and so does a tear
-pub strikes-tear : {n m e : ℕ} (h : List (Event n)) (bank : BankState n m e) (old new : ArrayState n m) (op : Operation n m e)
+pub strikes-tear : {n m e : ℕ} (h : List (BankEvent n)) (bank : BankState n m e) (old new : ArrayState n m) (op : Operation n m e)
     → Holds h bank old → bank.running ≡ Some op → IsTear op.target op.writer.prog old new → IsLive (old.line op.target)
     → Strikes old.bounds (iterated h) true (old.line op.target) (new.line op.target)
 strikes-tear h bank old new op holds runs tear live =

@@ -8,7 +8,7 @@ use Rattle.masked_bytes.specs.Entries.{Layer, layer_of, completed, head_line, he
 use Rattle.masked_bytes.specs.declared.entry.Entry.{Entry}
 use Rattle.masked_bytes.proofs.Layering.{laid-all_given, all_given-gives_all}
 use Rattle.masked_bytes.proofs.Standing.{layer_of-head, layer_of-head_other}
-use Rattle.pcm_cells.specs.Device.{ArrayState, LineState}
+use Rattle.cell_rows.specs.Device.{ArrayState, LineState}
 use Rattle.ecp_line.specs.Reading.{decode}
 use Rattle.ecp_line.proofs.Bytes.{length-decode}
 use Rattle.region_regs.specs.Region.{RegionState, after_store}
@@ -24,7 +24,7 @@ use Rattle.power_recovery.proofs.Placing.{slot_of-within, slot_of-apart}
 use Rattle.power_recovery.proofs.Bundle.{next_work-store, none_due, head-known, head_region-exists, IsKept-stored}
 use Rattle.bank_shape.specs.declared.answer.Step.TheVariants as did
 use Rattle.bank_shape.specs.Kinds.{is_store}
-use Rattle.bank_model.specs.Events.{Event, Begin, newest, line_of_row}
+use Rattle.bank_model.specs.Events.{BankEvent, Begin, newest, line_of_row}
 use Rattle.bank_model.specs.History.{Awaited, waits, iterated, stored_in, moved_in}
 use Rattle.bank_model.specs.After.{work_after}
 use Rattle.bank_model.specs.Answers.{IsDone, IsIterated}
@@ -105,7 +105,7 @@ record IsEnd {n m : ℕ} (e line slot : ℕ) (kept : KeptState n) (old new : Arr
   differs : DiffersAt e (array_line kept slot) old new
   reads : decoded e new (array_line kept slot) ≡ laid head.bytes head.given (decoded e old (array_line kept slot))
 
-module _ {n m e : ℕ} (line slot : ℕ) (h : List (Event n)) (bank : BankState n m e) (old new : ArrayState n m) (head : Entry n)
+module _ {n m e : ℕ} (line slot : ℕ) (h : List (BankEvent n)) (bank : BankState n m e) (old new : ArrayState n m) (head : Entry n)
     (holds : Holds h bank old) (end : IsEnd e line slot bank.kept old new head) where
   stores_next : is_store (next_work bank.kept) ≡ true
   stores_next = ap is_store (sym end.next)

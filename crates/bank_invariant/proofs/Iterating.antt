@@ -6,7 +6,7 @@ use Rattle.std.proofs.lemmas.List.Elements.{All-push, All-drop}
 use Rattle.std.proofs.Math.ListN.{get_or-map}
 use Rattle.std.specs.Prelude.{IfSome, All}
 use Rattle.masked_bytes.specs.Masked.{laid}
-use Rattle.pcm_cells.specs.Device.{ArrayState, LineState}
+use Rattle.cell_rows.specs.Device.{ArrayState, LineState}
 use Rattle.start_gap.specs.Rotation.{Rotation, IsRotation, below_gap, move_by}
 use Rattle.line_writer.specs.declared.writer.LineWriter.{LineWriter}
 use Rattle.line_writer.specs.declared.writer.Progress.{Progress}
@@ -23,7 +23,7 @@ use Rattle.power_recovery.proofs.Placing.{slot_of-within, slot_at-place}
 use Rattle.bank_shape.proofs.Sizes.{slot_at-within}
 use Rattle.power_recovery.proofs.Bundle.{due_region-Some}
 use Rattle.bank_shape.specs.declared.answer.ReadAnswer.TheVariants as came
-use Rattle.bank_model.specs.Events.{Event, Write, Read, Serve, Begin, Iterate, Cut}
+use Rattle.bank_model.specs.Events.{BankEvent, Write, Read, Serve, Begin, Iterate, Cut}
 use Rattle.bank_model.specs.History.{Awaited, waits, iterated}
 use Rattle.bank_model.specs.Answers.{MayAll}
 use Rattle.bank_shape.specs.declared.waiting.Waiting.{Waiting}
@@ -36,7 +36,7 @@ use Rattle.bank_invariant.proofs.Targets.{target-orderly, next_copy-region, deco
 use Rattle.bank_invariant.proofs.Tearing.{running_of, target_of_running, in_progress_of, not_exhausted_of}
 
 -- each read that waits is of a line of the bank
-pub waits-known : {n : ℕ} (shape : BankShape) (most : ℕ) (h : List (Event n)) → MayAll shape most h
+pub waits-known : {n : ℕ} (shape : BankShape) (most : ℕ) (h : List (BankEvent n)) → MayAll shape most h
     → All (λ (w : Awaited). w.line < bank_lines shape) (waits shape h)
 waits-known shape most [] may = λ k d few. let none : ⊥ = omega (arith, few) in absurd none
 waits-known shape most (Write row line bytes given answer ∷ h) may = waits-known shape most h may.1
@@ -101,7 +101,7 @@ module _ {n m : ℕ} where
 
 module _ {n m e : ℕ} where
   -- each read that waits is of a line that stands in another slot
-  pub waits-off : (h : List (Event n)) (bank : BankState n m e) (old : ArrayState n m) (op : Operation n m e)
+  pub waits-off : (h : List (BankEvent n)) (bank : BankState n m e) (old : ArrayState n m) (op : Operation n m e)
       → Holds h bank old → bank.running ≡ Some op
       → All (λ (w : Awaited). (w.line < bank_lines bank.kept.shape) × (slot_of bank.kept w.line ≢ target_slot bank.kept op.work)) (waits bank.kept.shape h)
   waits-off h bank old op holds is = λ k d few.
@@ -116,7 +116,7 @@ module _ {n m e : ℕ} where
       (known, off known)
 
   -- so it is still owed its bytes
-  pub served-differs : (h : List (Event n)) (bank : BankState n m e) (old new : ArrayState n m) (op : Operation n m e)
+  pub served-differs : (h : List (BankEvent n)) (bank : BankState n m e) (old new : ArrayState n m) (op : Operation n m e)
       → Holds h bank old → bank.running ≡ Some op → DiffersAt e op.target old new
       → All (λ w. laid w.kept w.given (decoded e new (stands_at bank.kept w.line)) ≡ w.newest) (waits bank.kept.shape h)
   served-differs h bank old new op holds is differs = λ k d few.
@@ -129,7 +129,7 @@ module _ {n m e : ℕ} where
       ∙ holds.served k d few
 
   -- the line write in progress, some steps later, is still that of the next work
-  pub IsRunning-later : (h : List (Event n)) (bank : BankState n m e) (old new : ArrayState n m) (op after : Operation n m e)
+  pub IsRunning-later : (h : List (BankEvent n)) (bank : BankState n m e) (old new : ArrayState n m) (op after : Operation n m e)
       → Holds h bank old → bank.running ≡ Some op → DiffersAt e op.target old new → IsLater after op → IsUnderWay after.writer (new.line op.target)
       → IsRunning bank.kept new bank.waiting after
   IsRunning-later h bank old new op after holds is differs later under =
@@ -146,7 +146,7 @@ module _ {n m e : ℕ} where
       }
 
   -- while no cell of the line is stuck, an iteration is one round more of the same programming
-  rounds-later : (h : List (Event n)) (bank : BankState n m e) (old new : ArrayState n m) (op after : Operation n m e)
+  rounds-later : (h : List (BankEvent n)) (bank : BankState n m e) (old new : ArrayState n m) (op after : Operation n m e)
       → Holds h bank old → bank.running ≡ Some op → DiffersAt e op.target old new → IsLater after op → IsUnderWay after.writer (new.line op.target)
       → IsLive (new.line op.target) → iterated h < after.writer.prog.rounds
   rounds-later h bank old new op after holds is differs later under live =

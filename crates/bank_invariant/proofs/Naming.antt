@@ -7,7 +7,7 @@ use Rattle.masked_bytes.proofs.Rows.{apart-push, apart-drop, apart-merged}
 use Rattle.bank_shape.specs.declared.BankShape.{BankShape}
 use Rattle.bank_shape.specs.declared.answer.WriteAnswer.TheVariants as wrote
 use Rattle.bank_shape.specs.declared.answer.Step.TheVariants as did
-use Rattle.bank_model.specs.Events.{Event, Write, Read, Serve, Begin, Iterate, Cut, line_of_row, newest, RowsBelow}
+use Rattle.bank_model.specs.Events.{BankEvent, Write, Read, Serve, Begin, Iterate, Cut, line_of_row, newest, RowsBelow}
 use Rattle.bank_model.specs.History.{queue, begun, due_after, has_exhausted}
 use Rattle.bank_model.specs.Answers.{MayAll, head_busy_after}
 use Rattle.bank_model.proofs.Begun.{apart-begun}
@@ -96,7 +96,7 @@ module _ {n : ℕ} where
       by false None false rest own found = cc
 
   -- each entry of the queue has the row and the line of a write
-  pub queue-named : (shape : BankShape) (most bound : ℕ) (h : List (Event n)) → MayAll shape most h → RowsBelow h bound
+  pub queue-named : (shape : BankShape) (most bound : ℕ) (h : List (BankEvent n)) → MayAll shape most h → RowsBelow h bound
       → AreNamed (λ row. line_of_row row h) bound (queue shape h)
   queue-named shape most bound [] may below = tt
   queue-named shape most bound (Write row line bytes given wrote.Accepted ∷ h) may below =
@@ -148,7 +148,7 @@ module _ {n : ℕ} where
       rw (ne_eqb e.row bound (λ same. omega (arith, same, first))) (AreNamed-no_row line_of bound es named.2)
 
   -- no two entries of the queue have one row, since the rows of the writes rise
-  pub rows-apart : (shape : BankShape) (most bound : ℕ) (h : List (Event n)) → MayAll shape most h → RowsBelow h bound → RowsApart (queue shape h)
+  pub rows-apart : (shape : BankShape) (most bound : ℕ) (h : List (BankEvent n)) → MayAll shape most h → RowsBelow h bound → RowsApart (queue shape h)
   rows-apart shape most bound [] may below = tt
   rows-apart shape most bound (Write row line bytes given wrote.Accepted ∷ h) may below =
       apart-push (queue shape h) _ (rows-apart shape most row h may.1 below.1)

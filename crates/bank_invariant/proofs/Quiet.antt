@@ -4,14 +4,14 @@ use Rattle.std.specs.Prelude.{All, IfSome}
 use Rattle.bank_model.proofs.Rising.{RowsBelow-more}
 use Rattle.masked_bytes.specs.Masked.{laid}
 use Rattle.masked_bytes.specs.declared.entry.Entry.{Entry}
-use Rattle.pcm_cells.specs.Device.{ArrayState}
+use Rattle.cell_rows.specs.Device.{ArrayState}
 use Rattle.bank_shape.specs.declared.BankShape.{BankShape}
 use Rattle.bank_shape.specs.Shape.{slots_of}
 use Rattle.line_writer.specs.Writing.{steps_left, most_steps}
 use Rattle.line_writer.specs.Orderly.{IsLive}
 use Rattle.power_recovery.specs.Kept.{region_at, stands_at}
 use Rattle.bank_shape.specs.declared.answer.ReadAnswer.TheVariants as came
-use Rattle.bank_model.specs.Events.{Event, Read, newest, RowsBelow}
+use Rattle.bank_model.specs.Events.{BankEvent, Read, newest, RowsBelow}
 use Rattle.bank_model.specs.History.{Awaited, queue, waits, in_progress, iterated, stores, stored_in, moved_in, retired, has_exhausted, first_or}
 use Rattle.bank_model.specs.Answers.{MayAll}
 use Rattle.bank_invariant.specs.State.{BankState}
@@ -32,7 +32,7 @@ pub record Said (n : ℕ) : Type 0 where
   pub retired : List ℕ
   pub exhausted : Bool
 
-abbrev pub said_by : {n : ℕ} → BankShape → List (Event n) → Said n
+abbrev pub said_by : {n : ℕ} → BankShape → List (BankEvent n) → Said n
 said_by shape h = record {
   newest = λ line. newest h line;
   waits = waits shape h;
@@ -47,7 +47,7 @@ said_by shape h = record {
 }
 
 -- a history that says the same leads to the same bank, with any lost rows and with any bound above its own
-pub same_said : {n m e : ℕ} (h later : List (Event n)) (bank : BankState n m e) (array : ArrayState n m) (lost : List ℕ) (rows : ℕ)
+pub same_said : {n m e : ℕ} (h later : List (BankEvent n)) (bank : BankState n m e) (array : ArrayState n m) (lost : List ℕ) (rows : ℕ)
     → Holds h bank array → said_by bank.kept.shape h ≡ said_by bank.kept.shape later
     → MayAll bank.kept.shape (most_steps e) later → RowsBelow later rows
     → Holds later (record bank { lost = lost; rows_below = rows }) array

@@ -5,7 +5,7 @@ use Rattle.std.specs.Prelude.{IfSome, IsTrue}
 use Rattle.masked_bytes.specs.Masked.{laid}
 use Rattle.masked_bytes.specs.Entries.{layer_of}
 use Rattle.masked_bytes.specs.declared.entry.Entry.{Entry}
-use Rattle.pcm_cells.specs.Device.{ArrayState}
+use Rattle.cell_rows.specs.Device.{ArrayState}
 use Rattle.spare_pool.specs.Table.{Table, line_by, used_by, retired_table}
 use Rattle.spare_pool.proofs.Lines.{line_by-apart}
 use Rattle.line_writer.specs.Writing.{steps_left, most_steps}
@@ -18,7 +18,7 @@ use Rattle.power_recovery.specs.Events.{retired_kept, exhausted_kept}
 use Rattle.power_recovery.proofs.Placing.{slot_of-within}
 use Rattle.power_recovery.proofs.Bundle.{IsKept-exhausted, IsKept-retired}
 use Rattle.power_recovery.proofs.Frames.{array_line-retired}
-use Rattle.bank_model.specs.Events.{Event}
+use Rattle.bank_model.specs.Events.{BankEvent}
 use Rattle.bank_model.specs.History.{Awaited, waits, iterated, retired}
 use Rattle.bank_shape.specs.declared.waiting.Waiting.{Waiting}
 use Rattle.ecp_line.specs.Reading.{IsSoundLine, IsWornLine}
@@ -48,7 +48,7 @@ module _ {n : ℕ} where
 
 module _ {n m e : ℕ} where
   -- the line write in progress may be iterated once more
-  pub may_iterate : (h : List (Event n)) (bank : BankState n m e) (array : ArrayState n m) (op : Operation n m e)
+  pub may_iterate : (h : List (BankEvent n)) (bank : BankState n m e) (array : ArrayState n m) (op : Operation n m e)
       → Holds h bank array → bank.running ≡ Some op → iterated h < most_steps e
   may_iterate h bank array op holds is =
       let steps : iterated h + steps_left op.writer ≤ most_steps e =
@@ -56,7 +56,7 @@ module _ {n m e : ℕ} where
       let left : 0 < steps_left op.writer = under_way-steps op.writer (array.line op.target) (running_of h bank array op holds is).writing in
       omega (arith, steps, left)
 
-  due_target : (h : List (Event n)) (bank : BankState n m e) (array : ArrayState n m) (op : Operation n m e)
+  due_target : (h : List (BankEvent n)) (bank : BankState n m e) (array : ArrayState n m) (op : Operation n m e)
       → Holds h bank array → bank.running ≡ Some op
       → op.target ≡ target_of (exhausted_kept bank.kept) (due_work (due_region bank.kept) (exhausted_kept bank.kept) bank.kept.entries)
   due_target h bank array op holds is =
@@ -66,7 +66,7 @@ module _ {n m e : ℕ} where
       (run.next ∙ unmarked bank.kept.exhausted (due_work (due_region bank.kept) bank.kept bank.kept.entries) (not_exhausted_of h bank array op holds is))
       ∙ sym (marked-target bank.kept (due_region bank.kept) bank.kept.entries)
 
-  pub retired-count : (h : List (Event n)) (bank : BankState n m e) (array : ArrayState n m) → Holds h bank array
+  pub retired-count : (h : List (BankEvent n)) (bank : BankState n m e) (array : ArrayState n m) → Holds h bank array
       → (length (retired h) ≡ used_by bank.kept.table) × (bank.kept.table.spares ≡ bank.kept.shape.spares)
   retired-count h bank array holds = (ap (λ (t : Table). used_by t) (sym holds.table), holds.kept.spares)
 

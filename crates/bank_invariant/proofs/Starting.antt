@@ -9,7 +9,7 @@ use Rattle.masked_bytes.specs.Entries.{Layer, layer_of, no_layer, completed, hea
 use Rattle.masked_bytes.specs.declared.entry.Entry.{Entry}
 use Rattle.masked_bytes.proofs.Layering.{length-laid, laid-none_given, gives_all-all_given, laid-again}
 use Rattle.masked_bytes.proofs.Standing.{layer_of-head, layer_of-completed, layer_of-completed_other}
-use Rattle.pcm_cells.specs.Device.{ArrayState, LineState}
+use Rattle.cell_rows.specs.Device.{ArrayState, LineState}
 use Rattle.ecp_line.specs.Reading.{decode}
 use Rattle.ecp_line.proofs.Bytes.{length-decode}
 use Rattle.line_writer.specs.Writing.{most_steps}

@@ -1,7 +1,7 @@
 -- Every answer to a write keeps the invariant.
 use Rattle.std.proofs.Common.{◌≡◌, ◌≢◌, ℕ, ◌+◌, ◌<◌, ◌==◌, Bool, true, false, if◌then◌else◌, nat_lt, List, [], ◌∷◌, ◌++◌, length, slice_get, Option, Some, None, IfSome, IsSomeAnd, refl, sym, subst, ap, ◌∙◌, arith, eqb-true}
 use Rattle.std.proofs.lemmas.Bool.{eqb-false, lt-ltb}
-use Rattle.pcm_cells.specs.Device.{ArrayState}
+use Rattle.cell_rows.specs.Device.{ArrayState}
 use Rattle.ecp_line.proofs.Bytes.{length-decode}
 use Rattle.masked_bytes.specs.Masked.{laid, IsMasked}
 use Rattle.masked_bytes.specs.Entries.{Layer, stacked, layer_of, candidate, candidate_index, newest_index, merged, merged_at, row_at, RowsApart, AllMasked}
@@ -18,7 +18,7 @@ use Rattle.power_recovery.specs.Events.{accepted_kept}
 use Rattle.power_recovery.proofs.Frames.{head-accepted_busy, next_work-accepted, next_work-due}
 use Rattle.power_recovery.proofs.Bundle.{IsKept-accepted, next_work-store, next_work-copy}
 use Rattle.bank_shape.specs.declared.answer.WriteAnswer.TheVariants as wrote
-use Rattle.bank_model.specs.Events.{Event, Write, newest}
+use Rattle.bank_model.specs.Events.{BankEvent, Write, newest}
 use Rattle.bank_model.specs.History.{queue, has_exhausted}
 use Rattle.bank_model.specs.Answers.{accept_answer, head_busy_after}
 use Rattle.bank_shape.specs.declared.waiting.Waiting.{Waiting}
@@ -43,7 +43,7 @@ exhausted_write_law n m e row line bytes given h bank array holds above may =
 
 -- What an answer says of the bank
 
-pub answer_accepted : {n : ℕ} (shape : BankShape) (h : List (Event n)) (worn : Bool) (found : Option ℕ)
+pub answer_accepted : {n : ℕ} (shape : BankShape) (h : List (BankEvent n)) (worn : Bool) (found : Option ℕ)
     → wrote.Accepted ≡ (if worn then wrote.Exhausted else accept_answer shape h found)
     → (worn ≡ false) × (found ≡ None) × ((length (queue shape h) == shape.writes) ≡ false)
 answer_accepted shape h true found e = cc
@@ -54,7 +54,7 @@ answer_accepted shape h false None e = (refl, refl, by (length (queue shape h) =
     by true e = cc
     by false e = refl
 
-pub answer_merged : {n : ℕ} (shape : BankShape) (h : List (Event n)) (worn : Bool) (found : Option ℕ) (old : ℕ)
+pub answer_merged : {n : ℕ} (shape : BankShape) (h : List (BankEvent n)) (worn : Bool) (found : Option ℕ) (old : ℕ)
     → wrote.Merged old ≡ (if worn then wrote.Exhausted else accept_answer shape h found) → (worn ≡ false) × (found ≡ Some old)
 answer_merged shape h true found old e = cc
 answer_merged shape h false (Some row) old e = let same : old ≡ row = cc in (refl, ap (λ r. Some r) (sym same))

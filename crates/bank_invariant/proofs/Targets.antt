@@ -8,7 +8,7 @@ use Rattle.masked_bytes.specs.Entries.{layer_of, AllMasked}
 use Rattle.masked_bytes.specs.declared.entry.Entry.{Entry}
 use Rattle.masked_bytes.proofs.Layering.{laid-all_given, all_given-gives_all}
 use Rattle.masked_bytes.proofs.Standing.{layer_of-head}
-use Rattle.pcm_cells.specs.Device.{ArrayState, LineState}
+use Rattle.cell_rows.specs.Device.{ArrayState, LineState}
 use Rattle.ecp_line.specs.Reading.{decode, IsSoundLine, IsWornLine}
 use Rattle.ecp_line.proofs.Bytes.{length-decode}
 use Rattle.program_verify.specs.declared.prog.Prog.{Prog}

@@ -1,9 +1,9 @@
 -- A cut that tears the line write in progress.
 use Rattle.std.proofs.Common.{◌≡◌, ℕ, List, refl, Option, Some, None, true, sym, ap, ◌∙◌, subst, arith, is_some}
 use Rattle.std.specs.Prelude.{IfSome, IsTrue}
-use Rattle.pcm_cells.specs.Device.{ArrayState}
+use Rattle.cell_rows.specs.Device.{ArrayState}
 use Rattle.power_recovery.specs.Kept.{target_slot}
-use Rattle.bank_model.specs.Events.{Event}
+use Rattle.bank_model.specs.Events.{BankEvent}
 use Rattle.bank_model.specs.History.{in_progress}
 use Rattle.bank_invariant.specs.State.{BankState, Operation}
 use Rattle.bank_invariant.specs.Tied.{IsRunning}
@@ -13,24 +13,24 @@ use Rattle.bank_invariant.proofs.Targets.{IsTargetOf, running-target, stands_for
 
 module _ {n m e : ℕ} where
   -- the line write in progress is that of the next work
-  pub running_of : (h : List (Event n)) (bank : BankState n m e) (array : ArrayState n m) (op : Operation n m e)
+  pub running_of : (h : List (BankEvent n)) (bank : BankState n m e) (array : ArrayState n m) (op : Operation n m e)
       → Holds h bank array → bank.running ≡ Some op → IsRunning bank.kept array bank.waiting op
   running_of h bank array op holds is = subst (λ (r : Option (Operation n m e)). IfSome r (IsRunning bank.kept array bank.waiting)) is holds.tied.operation
 
   -- and writes a slot
-  pub target_of_running : (h : List (Event n)) (bank : BankState n m e) (array : ArrayState n m) (op : Operation n m e)
+  pub target_of_running : (h : List (BankEvent n)) (bank : BankState n m e) (array : ArrayState n m) (op : Operation n m e)
       → Holds h bank array → bank.running ≡ Some op → IsTargetOf bank.kept bank.waiting op.target (target_slot bank.kept op.work)
   target_of_running h bank array op holds is =
       let run = running_of h bank array op holds is in
       running-target e bank.kept array bank.waiting op.writer.bytes op.work op.target holds.kept run.next run.target run.of
 
   -- the history says that a line write is in progress
-  pub in_progress_of : (h : List (Event n)) (bank : BankState n m e) (array : ArrayState n m) (op : Operation n m e)
+  pub in_progress_of : (h : List (BankEvent n)) (bank : BankState n m e) (array : ArrayState n m) (op : Operation n m e)
       → Holds h bank array → bank.running ≡ Some op → in_progress h ≡ true
   in_progress_of h bank array op holds is = sym holds.running ∙ ap (λ (r : Option (Operation n m e)). is_some r) is
 
   -- and the bank is not exhausted
-  pub not_exhausted_of : (h : List (Event n)) (bank : BankState n m e) (array : ArrayState n m) (op : Operation n m e)
+  pub not_exhausted_of : (h : List (BankEvent n)) (bank : BankState n m e) (array : ArrayState n m) (op : Operation n m e)
       → Holds h bank array → bank.running ≡ Some op → IsTrue bank.kept.exhausted → ⊥
   not_exhausted_of h bank array op holds is mark = let none : None ≡ Some op = sym (holds.tied.exhausted mark).idle ∙ is in cc
 

@@ -5,7 +5,7 @@ use Rattle.std.proofs.lemmas.Bool.{cases_eq, ne_eqb}
 use Rattle.std.proofs.lemmas.Grind.{get_or-set_at}
 use Rattle.masked_bytes.specs.Masked.{laid}
 use Rattle.masked_bytes.specs.Entries.{layer_of}
-use Rattle.pcm_cells.specs.Device.{ArrayState, LineState, CellBounds}
+use Rattle.cell_rows.specs.Device.{ArrayState, LineState, CellBounds}
 use Rattle.start_gap.specs.declared.Move.{Move}
 use Rattle.start_gap.specs.Rotation.{StandsFor, place_by, move_by, advanced}
 use Rattle.start_gap.proofs.Turning.{stands-advanced}
@@ -24,7 +24,7 @@ use Rattle.power_recovery.proofs.Frames.{moved_at, moved_kept-at, slot_of-moved,
 use Rattle.power_recovery.proofs.Bundle.{due_region-Some, next_work-copy, IsKept-moved_at}
 use Rattle.bank_shape.specs.declared.answer.Step.TheVariants as did
 use Rattle.bank_shape.specs.Kinds.{is_copy}
-use Rattle.bank_model.specs.Events.{Event, Begin, Iterate, newest}
+use Rattle.bank_model.specs.Events.{BankEvent, Begin, Iterate, newest}
 use Rattle.bank_model.specs.History.{Awaited, queue, begun, waits, in_progress, iterated, stores, stored_in, moved_in, due_after, first_or}
 use Rattle.bank_model.specs.After.{work_after, may_begin_after}
 use Rattle.bank_model.specs.Answers.{IsDone}
@@ -62,7 +62,7 @@ region-kept : (moves total stores psi : ℕ) (state new : RegionState) → IsReg
 region-kept moves total stores psi state new is as_many same =
     subst (λ (r : RegionState). IsRegionAfter total stores psi r) (sym same) (subst (λ (t : ℕ). IsRegionAfter t stores psi state) (sym as_many) is)
 
-module _ {n m e : ℕ} (region : ℕ) (step : Move) (h : List (Event n)) (bank : BankState n m e) (old new : ArrayState n m)
+module _ {n m e : ℕ} (region : ℕ) (step : Move) (h : List (BankEvent n)) (bank : BankState n m e) (old new : ArrayState n m)
     (holds : Holds h bank old) (next : next_work bank.kept ≡ Copy region step)
     (differs : DiffersAt e (target_of bank.kept (Copy region step)) old new)
     (copied : decoded e new (target_of bank.kept (Copy region step)) ≡ decoded e old (array_line bank.kept (slot_at bank.kept.shape region step.from))) where

@@ -1,7 +1,7 @@
 -- How a line write begins, and that the invariant is kept.
 use Rattle.std.specs.Prelude.{◌≡◌, ℕ, ◌≤◌, List, [], ◌∷◌, ◌++◌, Some, IsTrue, IsSomeAnd, slice_get}
 use Rattle.masked_bytes.specs.Masked.{laid}
-use Rattle.pcm_cells.specs.Device.{ArrayState}
+use Rattle.cell_rows.specs.Device.{ArrayState}
 use Rattle.start_gap.specs.declared.Move.{Move}
 use Rattle.bank_shape.specs.declared.Work.{Work}
 use Rattle.bank_shape.specs.declared.Work.TheVariants.{Nothing, Store, Copy}
@@ -10,7 +10,7 @@ use Rattle.line_writer.specs.Writing.{steps_left, most_steps}
 use Rattle.power_recovery.specs.Kept.{KeptState, array_line, next_work}
 use Rattle.power_recovery.specs.Events.{completed_kept}
 use Rattle.bank_shape.specs.declared.answer.Step.TheVariants as did
-use Rattle.bank_model.specs.Events.{Event, Begin}
+use Rattle.bank_model.specs.Events.{BankEvent, Begin}
 use Rattle.bank_invariant.specs.State.{BankState, Operation, may_begin, target_of}
 use Rattle.bank_invariant.specs.Tied.{StandsAs, decoded, IsUnderWay}
 use Rattle.bank_invariant.specs.Holds.{Holds}
@@ -35,7 +35,7 @@ module _ {n m e : ℕ} where
 -- written. The array stands as it was; that a step is left, and not too many, is what the line writer ensures
 abbrev pub BegunStoreLaw : Type 0
 BegunStoreLaw =
-    (n m e line slot : ℕ) (h : List (Event n)) (bank : BankState n m e) (old new : ArrayState n m) (op : Operation n m e)
+    (n m e line slot : ℕ) (h : List (BankEvent n)) (bank : BankState n m e) (old new : ArrayState n m) (op : Operation n m e)
     → Holds h bank old → IsTrue (may_begin bank) → next_work bank.kept ≡ Store line slot
     → StandsAs old new
     → op.work ≡ Store line slot → op.target ≡ array_line bank.kept slot
@@ -47,7 +47,7 @@ BegunStoreLaw =
 -- so does a begin of a copy that goes on, which writes what the line below the gap is read as
 abbrev pub BegunCopyLaw : Type 0
 BegunCopyLaw =
-    (n m e region : ℕ) (step : Move) (h : List (Event n)) (bank : BankState n m e) (old new : ArrayState n m) (op : Operation n m e)
+    (n m e region : ℕ) (step : Move) (h : List (BankEvent n)) (bank : BankState n m e) (old new : ArrayState n m) (op : Operation n m e)
     → Holds h bank old → IsTrue (may_begin bank) → next_work bank.kept ≡ Copy region step
     → StandsAs old new
     → op.work ≡ Copy region step → op.target ≡ target_of bank.kept op.work

@@ -1,8 +1,8 @@
 -- That what a bank keeps is what its history says it keeps.
 use Rattle.std.specs.Prelude.{◌≡◌, ℕ, ◌*◌, ◌<◌, List}
-use Rattle.pcm_cells.specs.Device.{ArrayState}
+use Rattle.cell_rows.specs.Device.{ArrayState}
 use Rattle.power_recovery.specs.Kept.{slot_of, array_line, stands_at, due_region, next_work}
-use Rattle.bank_model.specs.Events.{Event}
+use Rattle.bank_model.specs.Events.{BankEvent}
 use Rattle.bank_model.specs.History.{due_after}
 use Rattle.bank_model.specs.After.{slot_after, array_line_after, stands_at_after, work_after, target_after, may_begin_after}
 use Rattle.bank_model.specs.Answers.{head_busy_after}
@@ -10,7 +10,7 @@ use Rattle.bank_invariant.specs.State.{BankState, target_of, may_begin, is_stori
 use Rattle.bank_invariant.specs.Holds.{Holds}
 
 -- what follows from the state of a bank is what follows from this history
-pub record AgreesWith {n m e : ℕ} (h : List (Event n)) (bank : BankState n m e) : Type 0 where
+pub record AgreesWith {n m e : ℕ} (h : List (BankEvent n)) (bank : BankState n m e) : Type 0 where
   -- each line has the slot that the moves of its region give it
   pub slots : (line : ℕ) → line < bank.kept.shape.regions * bank.kept.shape.lines → slot_of bank.kept line ≡ slot_after bank.kept.shape h line
   -- each slot has the array line that the retirements give it
@@ -31,5 +31,5 @@ pub record AgreesWith {n m e : ℕ} (h : List (Event n)) (bank : BankState n m e
 -- a bank to which a history leads agrees with it
 abbrev pub AgreeLaw : Type 0
 AgreeLaw =
-    (n m e : ℕ) (h : List (Event n)) (bank : BankState n m e) (array : ArrayState n m)
+    (n m e : ℕ) (h : List (BankEvent n)) (bank : BankState n m e) (array : ArrayState n m)
     → Holds h bank array → AgreesWith h bank

@@ -2,14 +2,14 @@
 use Rattle.std.specs.Prelude.{◌≡◌, ℕ, ◌+◌, ◌*◌, ◌/◌, ◌<◌, ◌≤◌, List, length, map, IfSome, is_some, All}
 use Rattle.masked_bytes.specs.Masked.{laid}
 use Rattle.masked_bytes.specs.Entries.{layer_of}
-use Rattle.pcm_cells.specs.Device.{ArrayState}
+use Rattle.cell_rows.specs.Device.{ArrayState}
 use Rattle.start_gap.specs.Rotation.{StandsFor}
 use Rattle.region_regs.specs.Region.{RegionState}
 use Rattle.bank_shape.specs.Shape.{slots_of}
 use Rattle.line_writer.specs.Writing.{steps_left, most_steps}
 use Rattle.line_writer.specs.Orderly.{IsLive}
 use Rattle.power_recovery.specs.Kept.{KeptState, IsKept, region_at, stands_at}
-use Rattle.bank_model.specs.Events.{Event, newest, RowsBelow}
+use Rattle.bank_model.specs.Events.{BankEvent, newest, RowsBelow}
 use Rattle.bank_model.specs.History.{Awaited, queue, waits, in_progress, iterated, stores, stored_in, moved_in, retired, has_exhausted, first_or}
 use Rattle.bank_model.specs.Answers.{MayAll}
 use Rattle.bank_shape.specs.declared.waiting.Waiting.{Waiting}
@@ -31,7 +31,7 @@ abbrev pub waiting_of : {n : ℕ} → Awaited → Waiting n
 waiting_of w = record { row = w.row; line = w.line; kept = w.kept; given = w.given }
 
 -- the history leads to this bank over this array
-pub record Holds {n m e : ℕ} (h : List (Event n)) (bank : BankState n m e) (array : ArrayState n m) : Type 0 where
+pub record Holds {n m e : ℕ} (h : List (BankEvent n)) (bank : BankState n m e) (array : ArrayState n m) : Type 0 where
   -- each event of the history met its condition
   pub past : MayAll bank.kept.shape (most_steps e) h
   -- for every line, the bytes that stand for it are the newest that were accepted

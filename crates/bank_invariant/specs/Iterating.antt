@@ -1,9 +1,9 @@
 -- The law of an iteration that goes on.
 use Rattle.std.specs.Prelude.{◌≡◌, ℕ, ◌<◌, List, ◌∷◌, Some}
-use Rattle.pcm_cells.specs.Device.{ArrayState}
+use Rattle.cell_rows.specs.Device.{ArrayState}
 use Rattle.line_writer.specs.Writing.{steps_left}
 use Rattle.bank_shape.specs.declared.answer.Step.TheVariants as did
-use Rattle.bank_model.specs.Events.{Event, Iterate}
+use Rattle.bank_model.specs.Events.{BankEvent, Iterate}
 use Rattle.bank_invariant.specs.State.{BankState, Operation}
 use Rattle.bank_invariant.specs.Tied.{IsUnderWay}
 use Rattle.bank_invariant.specs.Holds.{Holds}
@@ -25,6 +25,6 @@ module _ {n m e : ℕ} where
 -- other lines as they were, and fewer steps, is what the line writer ensures
 abbrev pub IteratedLaw : Type 0
 IteratedLaw =
-    (n m e : ℕ) (h : List (Event n)) (bank : BankState n m e) (old new : ArrayState n m) (op after : Operation n m e)
+    (n m e : ℕ) (h : List (BankEvent n)) (bank : BankState n m e) (old new : ArrayState n m) (op after : Operation n m e)
     → Holds h bank old → bank.running ≡ Some op → DiffersAt e op.target old new
     → IsLater after op → IsUnderWay after.writer (new.line op.target) → Holds (Iterate did.More ∷ h) (going_on bank after) new

@@ -1,13 +1,13 @@
 -- The laws of a gap move that ends: by an iteration, or at once as it begins.
 use Rattle.std.specs.Prelude.{◌≡◌, ℕ, List, ◌∷◌, Some, None}
-use Rattle.pcm_cells.specs.Device.{ArrayState}
+use Rattle.cell_rows.specs.Device.{ArrayState}
 use Rattle.start_gap.specs.declared.Move.{Move}
 use Rattle.bank_shape.specs.declared.Work.TheVariants.{Copy}
 use Rattle.bank_shape.specs.Shape.{slot_at}
 use Rattle.power_recovery.specs.Kept.{array_line, next_work}
 use Rattle.power_recovery.specs.Events.{moved_kept}
 use Rattle.bank_shape.specs.declared.answer.Step.TheVariants as did
-use Rattle.bank_model.specs.Events.{Event, Begin, Iterate}
+use Rattle.bank_model.specs.Events.{BankEvent, Begin, Iterate}
 use Rattle.bank_invariant.specs.State.{BankState, Operation, target_of}
 use Rattle.bank_invariant.specs.Tied.{StandsAs, decoded}
 use Rattle.bank_invariant.specs.Holds.{Holds}
@@ -21,7 +21,7 @@ moved bank = record { kept = moved_kept bank.kept; running = None; waiting = ban
 -- copied, and the other lines as they were, is what the line writer ensures
 abbrev pub MovedLaw : Type 0
 MovedLaw =
-    (n m e region : ℕ) (step : Move) (h : List (Event n)) (bank : BankState n m e) (old new : ArrayState n m) (op : Operation n m e)
+    (n m e region : ℕ) (step : Move) (h : List (BankEvent n)) (bank : BankState n m e) (old new : ArrayState n m) (op : Operation n m e)
     → Holds h bank old → bank.running ≡ Some op → next_work bank.kept ≡ Copy region step → DiffersAt e op.target old new
     → decoded e new op.target ≡ decoded e old (array_line bank.kept (slot_at bank.kept.shape region step.from))
     → Holds (Iterate (did.Moved step) ∷ h) (moved bank) new
@@ -29,7 +29,7 @@ MovedLaw =
 -- and so does a gap move that ends as it begins, since the line of the gap is read so already: no line is pulsed
 abbrev pub MovedAtOnceLaw : Type 0
 MovedAtOnceLaw =
-    (n m e region : ℕ) (step : Move) (h : List (Event n)) (bank : BankState n m e) (old new : ArrayState n m)
+    (n m e region : ℕ) (step : Move) (h : List (BankEvent n)) (bank : BankState n m e) (old new : ArrayState n m)
     → Holds h bank old → bank.running ≡ None → next_work bank.kept ≡ Copy region step
     → StandsAs old new
     → decoded e new (target_of bank.kept (Copy region step)) ≡ decoded e old (array_line bank.kept (slot_at bank.kept.shape region step.from))

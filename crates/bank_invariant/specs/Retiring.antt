@@ -1,12 +1,12 @@
 -- The laws of an iteration that finds its line worn.
 use Rattle.std.specs.Prelude.{◌≡◌, ℕ, ◌<◌, List, ◌∷◌, None, Some}
-use Rattle.pcm_cells.specs.Device.{ArrayState}
+use Rattle.cell_rows.specs.Device.{ArrayState}
 use Rattle.spare_pool.specs.Table.{used_by}
 use Rattle.line_writer.specs.Writing.{most_steps}
 use Rattle.power_recovery.specs.Kept.{KeptState, target_slot}
 use Rattle.power_recovery.specs.Events.{retired_kept, exhausted_kept}
 use Rattle.bank_shape.specs.declared.answer.Step.TheVariants as did
-use Rattle.bank_model.specs.Events.{Event, Iterate}
+use Rattle.bank_model.specs.Events.{BankEvent, Iterate}
 use Rattle.bank_model.specs.Answers.{MayHappen}
 use Rattle.ecp_line.specs.Reading.{IsWornLine}
 use Rattle.bank_invariant.specs.State.{BankState, Operation}
@@ -22,7 +22,7 @@ module _ {n m e : ℕ} where
 -- that a step leaves its line sound, and worn where it says so, is what the line writer ensures
 abbrev pub ExhaustedLaw : Type 0
 ExhaustedLaw =
-    (n m e : ℕ) (h : List (Event n)) (bank : BankState n m e) (old new : ArrayState n m) (op : Operation n m e)
+    (n m e : ℕ) (h : List (BankEvent n)) (bank : BankState n m e) (old new : ArrayState n m) (op : Operation n m e)
     → Holds h bank old → bank.running ≡ Some op → DiffersAt e op.target old new → IsWornLine e (new.line op.target)
     → used_by bank.kept.table ≡ bank.kept.table.spares
     → Holds (Iterate did.Exhausted ∷ h) (ended bank (exhausted_kept bank.kept)) new
@@ -31,7 +31,7 @@ ExhaustedLaw =
 -- that the answer may be given is another law's to say: the slot of the next work by the registers is that by the history
 abbrev pub RetiredLaw : Type 0
 RetiredLaw =
-    (n m e line : ℕ) (h : List (Event n)) (bank : BankState n m e) (old new : ArrayState n m) (op : Operation n m e)
+    (n m e line : ℕ) (h : List (BankEvent n)) (bank : BankState n m e) (old new : ArrayState n m) (op : Operation n m e)
     → Holds h bank old → bank.running ≡ Some op → DiffersAt e op.target old new → IsWornLine e (new.line op.target)
     → used_by bank.kept.table < bank.kept.table.spares
     → MayHappen bank.kept.shape h (most_steps e) (Iterate (did.Retired (target_slot bank.kept op.work) line))

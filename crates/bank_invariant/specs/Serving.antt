@@ -2,13 +2,13 @@
 use Rattle.std.specs.Prelude.{◌≡◌, ℕ, ◌+◌, ◌*◌, ◌<◌, ◌≤◌, ◌==◌, if◌then◌else◌, List, [], ◌∷◌, ◌++◌, drop, length}
 use Rattle.masked_bytes.specs.Masked.{laid, gives_all}
 use Rattle.masked_bytes.specs.Entries.{Layer, layer_of}
-use Rattle.pcm_cells.specs.Device.{ArrayState}
+use Rattle.cell_rows.specs.Device.{ArrayState}
 use Rattle.line_writer.specs.Writing.{most_steps}
 use Rattle.power_recovery.specs.Kept.{stands_at}
 use Rattle.bank_shape.specs.declared.answer.ReadAnswer.{ReadAnswer}
 use Rattle.bank_shape.specs.declared.answer.ReadAnswer.TheVariants as came
 use Rattle.bank_shape.specs.declared.answer.Served.{Served}
-use Rattle.bank_model.specs.Events.{Event, Read, Serve}
+use Rattle.bank_model.specs.Events.{BankEvent, Read, Serve}
 use Rattle.bank_model.specs.Answers.{MayHappen}
 use Rattle.bank_shape.specs.declared.waiting.Waiting.{Waiting}
 use Rattle.bank_invariant.specs.State.{BankState}
@@ -52,33 +52,33 @@ read_from bank line =
 -- a read of a line of the bank may be answered so
 abbrev pub MayReadLaw : Type 0
 MayReadLaw =
-    (n m e row line : ℕ) (h : List (Event n)) (bank : BankState n m e) (array : ArrayState n m)
+    (n m e row line : ℕ) (h : List (BankEvent n)) (bank : BankState n m e) (array : ArrayState n m)
     → Holds h bank array → line < bank.kept.shape.regions * bank.kept.shape.lines
     → MayHappen bank.kept.shape h (most_steps e) (Read row line (read_from bank line))
 
 -- a read that begins to wait keeps the invariant. That it may is what `MayReadLaw` says of its answer
 abbrev pub WaitingLaw : Type 0
 WaitingLaw =
-    (n m e row line : ℕ) (h : List (Event n)) (bank : BankState n m e) (array : ArrayState n m)
+    (n m e row line : ℕ) (h : List (BankEvent n)) (bank : BankState n m e) (array : ArrayState n m)
     → Holds h bank array → bank.rows_below ≤ row → MayHappen bank.kept.shape h (most_steps e) (Read row line came.Waiting)
     → Holds (Read row line came.Waiting ∷ h) (waits_too bank row line) array
 
 -- an array that stands as it was, as a sense leaves it, keeps the invariant
 abbrev pub SensedLaw : Type 0
 SensedLaw =
-    (n m e : ℕ) (h : List (Event n)) (bank : BankState n m e) (old new : ArrayState n m)
+    (n m e : ℕ) (h : List (BankEvent n)) (bank : BankState n m e) (old new : ArrayState n m)
     → Holds h bank old → StandsAs old new → Holds h bank new
 
 -- a serve may answer the first read that waits with the bytes kept with it, over what is read
 abbrev pub MayServeLaw : Type 0
 MayServeLaw =
-    (n m e : ℕ) (h : List (Event n)) (bank : BankState n m e) (array : ArrayState n m) (w : Waiting n) (ws : List (Waiting n))
+    (n m e : ℕ) (h : List (BankEvent n)) (bank : BankState n m e) (array : ArrayState n m) (w : Waiting n) (ws : List (Waiting n))
     → Holds h bank array → bank.waiting ≡ w ∷ ws → MayHappen bank.kept.shape h (most_steps e) (Serve (served_from bank array w))
 
 -- and a serve keeps the invariant, over an array that stands as it was. That it may answer so is what `MayServeLaw` says
 abbrev pub ServedLaw : Type 0
 ServedLaw =
-    (n m e : ℕ) (h : List (Event n)) (bank : BankState n m e) (old new : ArrayState n m) (answer : Served n)
+    (n m e : ℕ) (h : List (BankEvent n)) (bank : BankState n m e) (old new : ArrayState n m) (answer : Served n)
     → Holds h bank old → MayHappen bank.kept.shape h (most_steps e) (Serve answer)
     → StandsAs old new
     → Holds (Serve answer ∷ h) (served bank) new

@@ -1,9 +1,9 @@
 -- How events lead from one bank to the next, and that the invariant is kept.
 use Rattle.std.specs.Prelude.{ℕ, ◌+◌, ◌≤◌, false, List, [], ◌∷◌, map, None}
-use Rattle.pcm_cells.specs.Device.{ArrayState}
+use Rattle.cell_rows.specs.Device.{ArrayState}
 use Rattle.line_writer.specs.Writing.{most_steps}
 use Rattle.bank_shape.specs.declared.answer.ReadAnswer.TheVariants as came
-use Rattle.bank_model.specs.Events.{Event, Read, Cut}
+use Rattle.bank_model.specs.Events.{BankEvent, Read, Cut}
 use Rattle.bank_model.specs.Answers.{MayHappen}
 use Rattle.bank_invariant.specs.State.{BankState}
 use Rattle.bank_invariant.specs.Holds.{Holds}
@@ -20,19 +20,19 @@ module _ {n m e : ℕ} where
 -- a read that is forwarded keeps the invariant
 abbrev pub ForwardedLaw : Type 0
 ForwardedLaw =
-    (n m e row line : ℕ) (bytes : List ℕ) (h : List (Event n)) (bank : BankState n m e) (array : ArrayState n m)
+    (n m e row line : ℕ) (bytes : List ℕ) (h : List (BankEvent n)) (bank : BankState n m e) (array : ArrayState n m)
     → Holds h bank array → bank.rows_below ≤ row → MayHappen bank.kept.shape h (most_steps e) (Read row line (came.Forwarded bytes))
     → Holds (Read row line (came.Forwarded bytes) ∷ h) (answered bank row) array
 
 -- so does one that is refused since as many wait as may
 abbrev pub BusyLaw : Type 0
 BusyLaw =
-    (n m e row line : ℕ) (h : List (Event n)) (bank : BankState n m e) (array : ArrayState n m)
+    (n m e row line : ℕ) (h : List (BankEvent n)) (bank : BankState n m e) (array : ArrayState n m)
     → Holds h bank array → bank.rows_below ≤ row → MayHappen bank.kept.shape h (most_steps e) (Read row line came.Busy)
     → Holds (Read row line came.Busy ∷ h) (answered bank row) array
 
 -- and a cut that tears nothing
 abbrev pub CutLaw : Type 0
 CutLaw =
-    (n m e : ℕ) (h : List (Event n)) (bank : BankState n m e) (array : ArrayState n m)
+    (n m e : ℕ) (h : List (BankEvent n)) (bank : BankState n m e) (array : ArrayState n m)
     → Holds h bank array → Holds (Cut false ∷ h) (cut_off bank) array

@@ -3,12 +3,12 @@ use Rattle.std.specs.Prelude.{◌≡◌, ℕ, List, ◌∷◌, Some, None, IsTru
 use Rattle.masked_bytes.specs.Masked.{laid}
 use Rattle.masked_bytes.specs.Entries.{head_row}
 use Rattle.masked_bytes.specs.declared.entry.Entry.{Entry}
-use Rattle.pcm_cells.specs.Device.{ArrayState}
+use Rattle.cell_rows.specs.Device.{ArrayState}
 use Rattle.bank_shape.specs.declared.Work.TheVariants.{Store}
 use Rattle.power_recovery.specs.Kept.{KeptState, array_line, next_work}
 use Rattle.power_recovery.specs.Events.{completed_kept, stored_kept}
 use Rattle.bank_shape.specs.declared.answer.Step.TheVariants as did
-use Rattle.bank_model.specs.Events.{Event, Begin, Iterate}
+use Rattle.bank_model.specs.Events.{BankEvent, Begin, Iterate}
 use Rattle.bank_invariant.specs.State.{BankState, Operation, may_begin}
 use Rattle.bank_invariant.specs.Tied.{StandsAs, decoded}
 use Rattle.bank_invariant.specs.Holds.{Holds}
@@ -24,7 +24,7 @@ module _ {n m e : ℕ} where
 -- writer ensures
 abbrev pub StoredLaw : Type 0
 StoredLaw =
-    (n m e line slot : ℕ) (h : List (Event n)) (bank : BankState n m e) (old new : ArrayState n m) (op : Operation n m e)
+    (n m e line slot : ℕ) (h : List (BankEvent n)) (bank : BankState n m e) (old new : ArrayState n m) (op : Operation n m e)
     → Holds h bank old → bank.running ≡ Some op → op.work ≡ Store line slot → DiffersAt e op.target old new
     → decoded e new op.target ≡ op.writer.bytes
     → Holds (Iterate (did.Stored (head_row bank.kept.entries) op.target) ∷ h) (resting (stored_kept bank.kept) bank) new
@@ -32,7 +32,7 @@ StoredLaw =
 -- so does a begin of a store whose line reads already as the head does, once that was completed from it. The array stands as it was
 abbrev pub BegunStoredLaw : Type 0
 BegunStoredLaw =
-    (n m e line slot : ℕ) (h : List (Event n)) (bank : BankState n m e) (old new : ArrayState n m) (head : Entry n)
+    (n m e line slot : ℕ) (h : List (BankEvent n)) (bank : BankState n m e) (old new : ArrayState n m) (head : Entry n)
     → Holds h bank old → IsTrue (may_begin bank) → next_work bank.kept ≡ Store line slot → slice_get bank.kept.entries 0 ≡ Some head
     → StandsAs old new
     → let under = decoded e old (array_line bank.kept slot) in

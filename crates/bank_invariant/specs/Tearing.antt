@@ -1,9 +1,9 @@
 -- What a step or a tear of the line write in progress does to the array, and the law of a cut that tears one.
 use Rattle.std.specs.Prelude.{◌≡◌, ◌≢◌, ℕ, true, List, ◌∷◌, Some}
-use Rattle.pcm_cells.specs.Device.{ArrayState}
+use Rattle.cell_rows.specs.Device.{ArrayState}
 use Rattle.line_writer.specs.Untouched.{HasUntouched}
 use Rattle.line_writer.specs.Orderly.{IsOrderly}
-use Rattle.bank_model.specs.Events.{Event, Cut}
+use Rattle.bank_model.specs.Events.{BankEvent, Cut}
 use Rattle.ecp_line.specs.Reading.{IsSoundLine}
 use Rattle.bank_invariant.specs.State.{BankState, Operation}
 use Rattle.bank_invariant.specs.Holds.{Holds}
@@ -24,5 +24,5 @@ pub record DiffersAt {n m : ℕ} (e target : ℕ) (old new : ArrayState n m) : T
 -- sound, and the other lines as they were, is what the line writer ensures
 abbrev pub TornLaw : Type 0
 TornLaw =
-    (n m e : ℕ) (h : List (Event n)) (bank : BankState n m e) (old new : ArrayState n m) (op : Operation n m e)
+    (n m e : ℕ) (h : List (BankEvent n)) (bank : BankState n m e) (old new : ArrayState n m) (op : Operation n m e)
     → Holds h bank old → bank.running ≡ Some op → DiffersAt e op.target old new → Holds (Cut true ∷ h) (cut_off bank) new

@@ -1,7 +1,7 @@
 -- What ties a bank to its array, whatever its history was.
 use Rattle.std.specs.Prelude.{◌≡◌, ◌≢◌, ℕ, ◌+◌, ◌<◌, ◌≤◌, IsTrue, List, Option, None, IfSome, IsSomeAnd, slice_get, All}
 use Rattle.masked_bytes.specs.Masked.{gives_all}
-use Rattle.pcm_cells.specs.Device.{ArrayState, LineState}
+use Rattle.cell_rows.specs.Device.{ArrayState, LineState}
 use Rattle.ecp_line.specs.Reading.{decode, IsSoundLine, IsWornLine}
 use Rattle.spare_pool.specs.Table.{line_by, used_by}
 use Rattle.bank_shape.specs.declared.Work.{Work}

@@ -1,12 +1,12 @@
 -- That each answer to a write keeps the invariant.
 use Rattle.std.specs.Prelude.{◌≡◌, ℕ, ◌+◌, ◌≤◌, Bool, List, ◌∷◌}
-use Rattle.pcm_cells.specs.Device.{ArrayState}
+use Rattle.cell_rows.specs.Device.{ArrayState}
 use Rattle.masked_bytes.specs.Entries.{RowsApart}
 use Rattle.masked_bytes.specs.declared.entry.Entry.{Entry}
 use Rattle.line_writer.specs.Writing.{most_steps}
 use Rattle.power_recovery.specs.Events.{accepted_kept}
 use Rattle.bank_shape.specs.declared.answer.WriteAnswer.TheVariants as wrote
-use Rattle.bank_model.specs.Events.{Event, Write}
+use Rattle.bank_model.specs.Events.{BankEvent, Write}
 use Rattle.bank_model.specs.History.{queue}
 use Rattle.bank_model.specs.Answers.{MayHappen, head_busy_after}
 use Rattle.bank_invariant.specs.State.{BankState, is_storing}
@@ -27,14 +27,14 @@ module _ {n m e : ℕ} where
 -- a write that is refused since the queue is full keeps the invariant
 abbrev pub FullLaw : Type 0
 FullLaw =
-    (n m e row line : ℕ) (bytes : List ℕ) (given : List Bool) (h : List (Event n)) (bank : BankState n m e) (array : ArrayState n m)
+    (n m e row line : ℕ) (bytes : List ℕ) (given : List Bool) (h : List (BankEvent n)) (bank : BankState n m e) (array : ArrayState n m)
     → Holds h bank array → bank.rows_below ≤ row → MayHappen bank.kept.shape h (most_steps e) (Write row line bytes given wrote.Full)
     → Holds (Write row line bytes given wrote.Full ∷ h) (answered bank row) array
 
 -- so does one that is refused since no spare was left
 abbrev pub ExhaustedWriteLaw : Type 0
 ExhaustedWriteLaw =
-    (n m e row line : ℕ) (bytes : List ℕ) (given : List Bool) (h : List (Event n)) (bank : BankState n m e) (array : ArrayState n m)
+    (n m e row line : ℕ) (bytes : List ℕ) (given : List Bool) (h : List (BankEvent n)) (bank : BankState n m e) (array : ArrayState n m)
     → Holds h bank array → bank.rows_below ≤ row → MayHappen bank.kept.shape h (most_steps e) (Write row line bytes given wrote.Exhausted)
     → Holds (Write row line bytes given wrote.Exhausted ∷ h) (answered bank row) array
 
@@ -42,7 +42,7 @@ ExhaustedWriteLaw =
 -- That the history tells the same is a law of its own: here a premise
 abbrev pub AcceptedLaw : Type 0
 AcceptedLaw =
-    (n m e row line : ℕ) (bytes : List ℕ) (given : List Bool) (busy : Bool) (h : List (Event n)) (bank : BankState n m e) (array : ArrayState n m)
+    (n m e row line : ℕ) (bytes : List ℕ) (given : List Bool) (busy : Bool) (h : List (BankEvent n)) (bank : BankState n m e) (array : ArrayState n m)
     → Holds h bank array → bank.rows_below ≤ row → MayHappen bank.kept.shape h (most_steps e) (Write row line bytes given wrote.Accepted)
     → busy ≡ is_storing bank.running → busy ≡ head_busy_after bank.kept.shape h
     → Holds (Write row line bytes given wrote.Accepted ∷ h) (taken busy (record { row = row; line = line; bytes = bytes; given = given }) bank) array
@@ -51,7 +51,7 @@ AcceptedLaw =
 -- since the rows of its writes rise, are laws of their own: here premises
 abbrev pub MergedLaw : Type 0
 MergedLaw =
-    (n m e row line old : ℕ) (bytes : List ℕ) (given : List Bool) (busy : Bool) (h : List (Event n)) (bank : BankState n m e) (array : ArrayState n m)
+    (n m e row line old : ℕ) (bytes : List ℕ) (given : List Bool) (busy : Bool) (h : List (BankEvent n)) (bank : BankState n m e) (array : ArrayState n m)
     → Holds h bank array → bank.rows_below ≤ row → MayHappen bank.kept.shape h (most_steps e) (Write row line bytes given (wrote.Merged old))
     → busy ≡ is_storing bank.running → busy ≡ head_busy_after bank.kept.shape h → RowsApart (queue bank.kept.shape h)
     → Holds (Write row line bytes given (wrote.Merged old) ∷ h) (taken busy (record { row = row; line = line; bytes = bytes; given = given }) bank) array
@@ -59,13 +59,13 @@ MergedLaw =
 -- so a write that is accepted keeps the invariant
 abbrev pub AcceptedWriteLaw : Type 0
 AcceptedWriteLaw =
-    (n m e row line : ℕ) (bytes : List ℕ) (given : List Bool) (h : List (Event n)) (bank : BankState n m e) (array : ArrayState n m)
+    (n m e row line : ℕ) (bytes : List ℕ) (given : List Bool) (h : List (BankEvent n)) (bank : BankState n m e) (array : ArrayState n m)
     → Holds h bank array → bank.rows_below ≤ row → MayHappen bank.kept.shape h (most_steps e) (Write row line bytes given wrote.Accepted)
     → Holds (Write row line bytes given wrote.Accepted ∷ h) (taken (is_storing bank.running) (record { row = row; line = line; bytes = bytes; given = given }) bank) array
 
 -- and so does one that is merged
 abbrev pub MergedWriteLaw : Type 0
 MergedWriteLaw =
-    (n m e row line old : ℕ) (bytes : List ℕ) (given : List Bool) (h : List (Event n)) (bank : BankState n m e) (array : ArrayState n m)
+    (n m e row line old : ℕ) (bytes : List ℕ) (given : List Bool) (h : List (BankEvent n)) (bank : BankState n m e) (array : ArrayState n m)
     → Holds h bank array → bank.rows_below ≤ row → MayHappen bank.kept.shape h (most_steps e) (Write row line bytes given (wrote.Merged old))
     → Holds (Write row line bytes given (wrote.Merged old) ∷ h) (taken (is_storing bank.running) (record { row = row; line = line; bytes = bytes; given = given }) bank) array

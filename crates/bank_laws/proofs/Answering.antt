@@ -8,7 +8,7 @@ use Rattle.bank_shape.specs.declared.Work.TheVariants.{Nothing}
 use Rattle.bank_shape.specs.declared.answer.WriteAnswer.TheVariants as wrote
 use Rattle.bank_shape.specs.declared.answer.Served.{Served}
 use Rattle.bank_shape.specs.declared.answer.Step.TheVariants as did
-use Rattle.bank_model.specs.Events.{Event}
+use Rattle.bank_model.specs.Events.{BankEvent}
 use Rattle.bank_model.specs.History.{Awaited, queue, due_after, has_exhausted}
 use Rattle.bank_model.specs.After.{work_after, due_work}
 use Rattle.bank_model.specs.Answers.{head_busy_after, accept_answer, write_answer, IsServed, IsDone}
@@ -61,7 +61,7 @@ pub first-gone : (ws : List Awaited) (row : ℕ) → WaitsApart ws → IsFirst w
 first-gone [] row a h = absurd h
 first-gone (w ∷ ws) row a h = subst (λ r. has_wait ws r ≡ false) (sym h) a.0
 
-module _ {n : ℕ} (shape : BankShape) (h : List (Event n)) where
+module _ {n : ℕ} (shape : BankShape) (h : List (BankEvent n)) where
   -- a write merges into an entry of the queue
   pub merged-there : (line old : ℕ) → wrote.Merged old ≡ write_answer shape h line → has_row (queue shape h) old ≡ true
   merged-there line old m = by (has_exhausted h) (candidate (head_busy_after shape h) (queue shape h) line) refl m

@@ -7,7 +7,7 @@ use Rattle.bank_shape.specs.declared.BankShape.{BankShape}
 use Rattle.bank_shape.specs.declared.answer.WriteAnswer.TheVariants as wrote
 use Rattle.bank_shape.specs.declared.answer.ReadAnswer.TheVariants as came
 use Rattle.bank_shape.specs.declared.answer.Step.TheVariants as did
-use Rattle.bank_model.specs.Events.{Event, Write, Read, Serve, Begin, Iterate, Cut, RowsBelow, line_of_row}
+use Rattle.bank_model.specs.Events.{BankEvent, Write, Read, Serve, Begin, Iterate, Cut, RowsBelow, line_of_row}
 use Rattle.bank_model.specs.History.{Awaited, begun, queue, waits}
 use Rattle.bank_model.specs.Answers.{MayAll}
 use Rattle.bank_laws.proofs.Standing.{stand_apart}
@@ -15,19 +15,19 @@ use Rattle.bank_laws.proofs.Lines.{Stands, stands-one, merges-stands}
 
 module _ {n : ℕ} where
   -- the write of this row is of this line
-  abbrev pub Wrote : List (Event n) → ℕ → ℕ → Type 0
+  abbrev pub Wrote : List (BankEvent n) → ℕ → ℕ → Type 0
   Wrote [] row line = ⊥
   Wrote (Write at of bytes given answer ∷ h) row line = ((at ≡ row) × (of ≡ line)) ⊎ Wrote h row line
   Wrote (_ ∷ h) row line = Wrote h row line
 
   -- the write or the read of this row is of this line
-  abbrev pub Asked : List (Event n) → ℕ → ℕ → Type 0
+  abbrev pub Asked : List (BankEvent n) → ℕ → ℕ → Type 0
   Asked [] row line = ⊥
   Asked (Write at of bytes given answer ∷ h) row line = ((at ≡ row) × (of ≡ line)) ⊎ Asked h row line
   Asked (Read at of answer ∷ h) row line = ((at ≡ row) × (of ≡ line)) ⊎ Asked h row line
   Asked (_ ∷ h) row line = Asked h row line
 
-  pub wrote-asked : (h : List (Event n)) (row line : ℕ) → Wrote h row line → Asked h row line
+  pub wrote-asked : (h : List (BankEvent n)) (row line : ℕ) → Wrote h row line → Asked h row line
   wrote-asked [] row line w = w
   wrote-asked (Write at of bytes given answer ∷ h) row line (inl w) = inl w
   wrote-asked (Write at of bytes given answer ∷ h) row line (inr w) = inr (wrote-asked h row line w)
@@ -37,7 +37,7 @@ module _ {n : ℕ} where
   wrote-asked (Iterate answer ∷ h) row line w = wrote-asked h row line w
   wrote-asked (Cut tearing ∷ h) row line w = wrote-asked h row line w
 
-  pub asked-below : (h : List (Event n)) (next row line : ℕ) → RowsBelow h next → Asked h row line → row < next
+  pub asked-below : (h : List (BankEvent n)) (next row line : ℕ) → RowsBelow h next → Asked h row line → row < next
   asked-below [] next row line b a = absurd a
   asked-below (Write at of bytes given answer ∷ h) next row line b (inl a) = omega (arith, b.0, a.0)
   asked-below (Write at of bytes given answer ∷ h) next row line b (inr a) = omega (arith, b.0, asked-below h at row line b.1 a)
@@ -49,7 +49,7 @@ module _ {n : ℕ} where
   asked-below (Cut tearing ∷ h) next row line b a = asked-below h next row line b a
 
   -- a row asked for one line
-  pub asked-one : (h : List (Event n)) (next row one other : ℕ) → RowsBelow h next → Asked h row one → Asked h row other → one ≡ other
+  pub asked-one : (h : List (BankEvent n)) (next row one other : ℕ) → RowsBelow h next → Asked h row one → Asked h row other → one ≡ other
   asked-one [] next row one other b p q = absurd p
   asked-one (Write at of bytes given answer ∷ h) next row one other b (inl p) (inl q) = sym p.1 ∙ q.1
   asked-one (Write at of bytes given answer ∷ h) next row one other b (inl p) (inr q) = absurd (omega (arith, p.0, asked-below h at row other b.1 q))
@@ -64,13 +64,13 @@ module _ {n : ℕ} where
   asked-one (Iterate answer ∷ h) next row one other b p q = asked-one h next row one other b p q
   asked-one (Cut tearing ∷ h) next row one other b p q = asked-one h next row one other b p q
 
-  pub wrote-below : (h : List (Event n)) (next row line : ℕ) → RowsBelow h next → Wrote h row line → row < next
+  pub wrote-below : (h : List (BankEvent n)) (next row line : ℕ) → RowsBelow h next → Wrote h row line → row < next
   wrote-below h next row line b w = asked-below h next row line b (wrote-asked h row line w)
 
-  pub wrote-one : (h : List (Event n)) (next row one other : ℕ) → RowsBelow h next → Wrote h row one → Wrote h row other → one ≡ other
+  pub wrote-one : (h : List (BankEvent n)) (next row one other : ℕ) → RowsBelow h next → Wrote h row one → Wrote h row other → one ≡ other
   wrote-one h next row one other b p q = asked-one h next row one other b (wrote-asked h row one p) (wrote-asked h row other q)
 
-  pub wrote-line : (h : List (Event n)) (next row line : ℕ) → RowsBelow h next → Wrote h row line → line_of_row row h ≡ line
+  pub wrote-line : (h : List (BankEvent n)) (next row line : ℕ) → RowsBelow h next → Wrote h row line → line_of_row row h ≡ line
   wrote-line [] next row line b w = absurd w
   wrote-line (Write at of bytes given answer ∷ h) next row line b w = by (eqb at row) refl (λ w. wrote-line h at row line b.1 w) w
     where
@@ -86,7 +86,7 @@ module _ {n : ℕ} where
   wrote-line (Cut tearing ∷ h) next row line b w = wrote-line h next row line b w
 
   -- every line is one of the bank's
-  pub asked-within : (shape : BankShape) (most : ℕ) (h : List (Event n)) (row line : ℕ) → MayAll shape most h → Asked h row line → line < shape.regions * shape.lines
+  pub asked-within : (shape : BankShape) (most : ℕ) (h : List (BankEvent n)) (row line : ℕ) → MayAll shape most h → Asked h row line → line < shape.regions * shape.lines
   asked-within shape most [] row line may a = absurd a
   asked-within shape most (Write at of bytes given answer ∷ h) row line may (inl a) = omega (arith, may.0.0, a.1)
   asked-within shape most (Write at of bytes given answer ∷ h) row line may (inr a) = asked-within shape most h row line may.1 a
@@ -135,7 +135,7 @@ module _ {n : ℕ} where
   begun-stands None f (e ∷ es) row line s = s
 
   -- what stands in the queue was written, with its own line
-  pub queue-wrote : (shape : BankShape) (most : ℕ) (h : List (Event n)) (next row line : ℕ) → MayAll shape most h → RowsBelow h next → Stands (queue shape h) row line → Wrote h row line
+  pub queue-wrote : (shape : BankShape) (most : ℕ) (h : List (BankEvent n)) (next row line : ℕ) → MayAll shape most h → RowsBelow h next → Stands (queue shape h) row line → Wrote h row line
   queue-wrote shape most [] next row line may b s = s
   queue-wrote shape most (Write at of bytes given wrote.Accepted ∷ h) next row line may b s = by (pushed-stands (queue shape h) _ row line s) (λ s. queue-wrote shape most h at row line may.1 b.1 s)
     where
@@ -183,7 +183,7 @@ dropped-waits [] row line s = s
 dropped-waits (w ∷ ws) row line s = inr s
 
 -- what waits was asked for, with its own line
-pub waits-asked : {n : ℕ} (shape : BankShape) (h : List (Event n)) (row line : ℕ) → WaitsFor (waits shape h) row line → Asked h row line
+pub waits-asked : {n : ℕ} (shape : BankShape) (h : List (BankEvent n)) (row line : ℕ) → WaitsFor (waits shape h) row line → Asked h row line
 waits-asked shape [] row line w = w
 waits-asked shape (Write at of bytes given answer ∷ h) row line w = inr (waits-asked shape h row line w)
 waits-asked shape (Read at of came.Waiting ∷ h) row line w = by (pushed-waits (waits shape h) _ row line w) (λ w. waits-asked shape h row line w)

@@ -3,7 +3,7 @@ use Rattle.std.proofs.Common.{◌≡◌, ℕ, ◌+◌, ◌-◌, ◌<◌, ◌≤�
 use Rattle.std.proofs.Math.Nat.{min-le_right}
 use Rattle.std.specs.Prelude.{min}
 use Rattle.std.proofs.lemmas.Bool.{cases_lt}
-use Rattle.pcm_cells.specs.Device.{counted}
+use Rattle.cell_rows.specs.Device.{counted}
 use Rattle.bank_model.specs.Timing.{TimedEvent}
 use Rattle.bank_model.specs.Sensing.{is_at, pulses_of}
 

@@ -9,7 +9,7 @@ use Rattle.bank_shape.specs.declared.answer.WriteAnswer.TheVariants as wrote
 use Rattle.bank_shape.specs.declared.answer.ReadAnswer.{ReadAnswer}
 use Rattle.bank_shape.specs.declared.answer.ReadAnswer.TheVariants as came
 use Rattle.bank_shape.specs.declared.answer.Step.TheVariants as did
-use Rattle.bank_model.specs.Events.{Event, Write, Read, Serve, Begin, Iterate, Cut, newest}
+use Rattle.bank_model.specs.Events.{BankEvent, Write, Read, Serve, Begin, Iterate, Cut, newest}
 use Rattle.bank_model.specs.History.{begun, queue, waits, due_after, has_exhausted}
 use Rattle.bank_model.specs.Answers.{head_busy_after, accept_answer, write_answer, read_answer, MayAll}
 use Rattle.bank_laws.specs.Bounds.{HoldsFew, BoundLaw}
@@ -36,7 +36,7 @@ module _ {n : ℕ} where
   length-begun None f (e ∷ es) = refl
 
   -- a write is accepted as a new entry only where there is room, and a read waits only where there is
-  accepted-room : (shape : BankShape) (h : List (Event n)) (line : ℕ) → wrote.Accepted ≡ write_answer shape h line → length (queue shape h) ≡ shape.writes → ⊥
+  accepted-room : (shape : BankShape) (h : List (BankEvent n)) (line : ℕ) → wrote.Accepted ≡ write_answer shape h line → length (queue shape h) ≡ shape.writes → ⊥
   accepted-room shape h line a = by (has_exhausted h) (candidate (head_busy_after shape h) (queue shape h) line) a
     where
       room : (b : Bool) → eqb (length (queue shape h)) shape.writes ≡ b → wrote.Accepted ≡ cond b wrote.Full wrote.Accepted → length (queue shape h) ≡ shape.writes → ⊥
@@ -48,7 +48,7 @@ module _ {n : ℕ} where
       by false (Some at) a = absurd (cc)
       by false None a = room (eqb (length (queue shape h)) shape.writes) refl a
 
-  waiting-room : (shape : BankShape) (h : List (Event n)) (line : ℕ) → ◌≡◌ {A = ReadAnswer n} came.Waiting (read_answer shape h line) → length (waits shape h) ≡ shape.reads → ⊥
+  waiting-room : (shape : BankShape) (h : List (BankEvent n)) (line : ℕ) → ◌≡◌ {A = ReadAnswer n} came.Waiting (read_answer shape h line) → length (waits shape h) ≡ shape.reads → ⊥
   waiting-room shape h line a = by (gives_all ((layer_of (queue shape h) line).given)) (eqb (length (waits shape h)) shape.reads) refl a
     where
       by : (b c : Bool) → eqb (length (waits shape h)) shape.reads ≡ c → ◌≡◌ {A = ReadAnswer n} came.Waiting (cond b (came.Forwarded (newest h line)) (cond c came.Busy came.Waiting))
@@ -57,7 +57,7 @@ module _ {n : ℕ} where
       by false true is a = absurd (cc)
       by false false is a = eqb-false (length (waits shape h)) shape.reads is
 
-  holds_few : (shape : BankShape) (most : ℕ) (h : List (Event n)) → MayAll shape most h → HoldsFew shape h
+  holds_few : (shape : BankShape) (most : ℕ) (h : List (BankEvent n)) → MayAll shape most h → HoldsFew shape h
   holds_few shape most [] m = record { writes = omega arith; reads = omega arith }
   holds_few shape most (Write row line bytes given wrote.Accepted ∷ h) m =
       let k = holds_few shape most h m.1 in

@@ -23,3 +23,4 @@ pub mod Counted
 pub mod Works
 pub mod Asked
 pub mod Given
+pub mod Resting

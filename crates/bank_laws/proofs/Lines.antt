@@ -5,7 +5,7 @@ use Rattle.masked_bytes.specs.declared.entry.Entry.{Entry}
 use Rattle.masked_bytes.specs.Entries.{has_row, RowsApart, merged, laid_on, newest_row, candidate, or_this}
 use Rattle.bank_shape.specs.declared.BankShape.{BankShape}
 use Rattle.bank_shape.specs.declared.answer.WriteAnswer.TheVariants as wrote
-use Rattle.bank_model.specs.Events.{Event}
+use Rattle.bank_model.specs.Events.{BankEvent}
 use Rattle.bank_model.specs.History.{begun, queue, has_exhausted}
 use Rattle.bank_model.specs.Answers.{head_busy_after, accept_answer, write_answer}
 use Rattle.std.specs.Prelude.{length}
@@ -224,7 +224,7 @@ module _ {n : ℕ} where
 
   -- Of the answer to a write
 
-  pub merged-candidate : (shape : BankShape) (h : List (Event n)) (line old : ℕ) → wrote.Merged old ≡ write_answer shape h line → candidate (head_busy_after shape h) (queue shape h) line ≡ Some old
+  pub merged-candidate : (shape : BankShape) (h : List (BankEvent n)) (line old : ℕ) → wrote.Merged old ≡ write_answer shape h line → candidate (head_busy_after shape h) (queue shape h) line ≡ Some old
   merged-candidate shape h line old m = by (has_exhausted h) (candidate (head_busy_after shape h) (queue shape h) line) m
     where
       full : (b : Bool) (c : Option ℕ) → wrote.Merged old ≡ cond b wrote.Full wrote.Accepted → c ≡ Some old
@@ -236,7 +236,7 @@ module _ {n : ℕ} where
       by false None m = full (eqb (length (queue shape h)) shape.writes) None m
       by false (Some at) m = let same : old ≡ at = cc in ap Some (sym same)
 
-  module _ (shape : BankShape) (h : List (Event n)) (line old : ℕ) (m : wrote.Merged old ≡ write_answer shape h line) where
+  module _ (shape : BankShape) (h : List (BankEvent n)) (line old : ℕ) (m : wrote.Merged old ≡ write_answer shape h line) where
     pub merges-stands : Stands (queue shape h) old line
     merges-stands = candidate-stands (head_busy_after shape h) (queue shape h) line old (merged-candidate shape h line old m)
 

@@ -12,7 +12,7 @@ use Rattle.bank_shape.specs.declared.Work.TheVariants.{Nothing}
 use Rattle.bank_shape.specs.declared.answer.WriteAnswer.TheVariants as wrote
 use Rattle.bank_shape.specs.declared.answer.Step.TheVariants as did
 use Rattle.bank_shape.specs.Kinds.{is_store}
-use Rattle.bank_model.specs.Events.{Event, Write, Read, Serve, Begin, Iterate, Cut, newest}
+use Rattle.bank_model.specs.Events.{BankEvent, Write, Read, Serve, Begin, Iterate, Cut, newest}
 use Rattle.bank_model.specs.History.{Awaited, begun, queue, waits, due_after, has_exhausted, in_progress}
 use Rattle.bank_model.specs.After.{is_ready, due_work}
 use Rattle.bank_model.specs.Answers.{head_busy_after, accept_answer, write_answer, MayAll}
@@ -173,13 +173,13 @@ module _ {n : ℕ} where
 
 module _ {n : ℕ} (shape : BankShape) where
   -- what is kept over a history that the bank allows
-  pub record KeepsPairs (h : List (Event n)) : Type 0 where
+  pub record KeepsPairs (h : List (BankEvent n)) : Type 0 where
     pub paired : ArePaired (queue shape h)
     pub long : AllLong (queue shape h)
     pub working : in_progress h ≡ true → HasWork (has_exhausted h) (due_after shape h) (queue shape h)
 
   -- a work that may be begun is there once its head is completed
-  work-begun : (h : List (Event n)) (b : Bool) (due : Option ℕ) (es : List (Entry n)) (ws : List Awaited) (f : ℕ → List ℕ)
+  work-begun : (h : List (BankEvent n)) (b : Bool) (due : Option ℕ) (es : List (Entry n)) (ws : List Awaited) (f : ℕ → List ℕ)
       → is_ready ws (cond b Nothing (due_work shape h due es)) ≡ true → HasWork b due (begun due f es)
   work-begun h true due es ws f r = absurd (cc)
   work-begun h false (Some region) es ws f r = tt
@@ -187,13 +187,13 @@ module _ {n : ℕ} (shape : BankShape) where
   work-begun h false None (e ∷ es) ws f r = gives_all-all_given n
 
   -- a busy head gives all bytes
-  pub busy-full : (h : List (Event n)) (b : Bool) (due : Option ℕ) (es : List (Entry n)) → HasWork b due es → is_store (cond b Nothing (due_work shape h due es)) ≡ true → HeadFull es
+  pub busy-full : (h : List (BankEvent n)) (b : Bool) (due : Option ℕ) (es : List (Entry n)) → HasWork b due es → is_store (cond b Nothing (due_work shape h due es)) ≡ true → HeadFull es
   busy-full h true due es w s = absurd w
   busy-full h false (Some region) es w s = absurd (cc)
   busy-full h false None es w s = w
 
   -- a write that is accepted as a new entry merges into none
-  pub accepted-none : (h : List (Event n)) (line : ℕ) → wrote.Accepted ≡ write_answer shape h line → candidate (head_busy_after shape h) (queue shape h) line ≡ None
+  pub accepted-none : (h : List (BankEvent n)) (line : ℕ) → wrote.Accepted ≡ write_answer shape h line → candidate (head_busy_after shape h) (queue shape h) line ≡ None
   accepted-none h line a = by (has_exhausted h) (candidate (head_busy_after shape h) (queue shape h) line) a
     where
       by : (b : Bool) (c : Option ℕ) → wrote.Accepted ≡ cond b wrote.Exhausted (accept_answer shape h c) → c ≡ None
@@ -201,7 +201,7 @@ module _ {n : ℕ} (shape : BankShape) where
       by false (Some at) a = absurd (cc)
       by false None a = refl
 
-  new_entry : (h : List (Event n)) (line : ℕ) → KeepsPairs h → candidate (head_busy_after shape h) (queue shape h) line ≡ None
+  new_entry : (h : List (BankEvent n)) (line : ℕ) → KeepsPairs h → candidate (head_busy_after shape h) (queue shape h) line ≡ None
       → (e : Entry n) (rest : List (Entry n)) → queue shape h ≡ e ∷ rest → (has_line rest line ≡ false) × ((line == e.line) ≡ true → gives_all e.given ≡ true)
   new_entry h line k c e rest is =
       let found : candidate (head_busy_after shape h) (e ∷ rest) line ≡ None = subst (λ (q : List (Entry n)). candidate (head_busy_after shape h) q line ≡ None) is c in (
@@ -213,7 +213,7 @@ module _ {n : ℕ} (shape : BankShape) where
             subst (λ (q : List (Entry n)). HeadFull q) is full,
       )
 
-  pub keeps_pairs : (most : ℕ) (h : List (Event n)) → MayAll shape most h → KeepsPairs h
+  pub keeps_pairs : (most : ℕ) (h : List (BankEvent n)) → MayAll shape most h → KeepsPairs h
   keeps_pairs most [] m = record { paired = tt; long = tt; working = λ p. absurd (cc) }
   keeps_pairs most (Write row line bytes given wrote.Accepted ∷ h) m =
       let k = keeps_pairs most h m.1 in

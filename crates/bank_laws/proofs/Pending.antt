@@ -16,7 +16,7 @@ use Rattle.bank_shape.specs.declared.BankShape.{BankShape}
 use Rattle.bank_shape.specs.declared.answer.WriteAnswer.{WriteAnswer}
 use Rattle.bank_shape.specs.declared.answer.WriteAnswer.TheVariants as wrote
 use Rattle.bank_shape.specs.declared.answer.Step.TheVariants as did
-use Rattle.bank_model.specs.Events.{Event, Write, Read, Serve, Begin, Iterate, Cut, RowsBelow, newest}
+use Rattle.bank_model.specs.Events.{BankEvent, Write, Read, Serve, Begin, Iterate, Cut, RowsBelow, newest}
 use Rattle.bank_model.specs.History.{queue, due_after, has_exhausted}
 use Rattle.bank_model.specs.Answers.{head_busy_after, accept_answer, write_answer}
 use Rattle.bank_model.specs.Sensing.{most_steps}
@@ -77,7 +77,7 @@ module _ {n : ℕ} where
   full_outcome tick answer (out.Lost at) is f = absurd (cc)
   full_outcome tick answer (out.Cut at) is f = absurd (cc)
 
-  full-room : (shape : BankShape) (h : List (Event n)) (line : ℕ) → wrote.Full ≡ write_answer shape h line → (length (queue shape h) == shape.writes) ≡ true
+  full-room : (shape : BankShape) (h : List (BankEvent n)) (line : ℕ) → wrote.Full ≡ write_answer shape h line → (length (queue shape h) == shape.writes) ≡ true
   full-room shape h line a = by (has_exhausted h) (candidate (head_busy_after shape h) (queue shape h) line) a
     where
       room : (b : Bool) → wrote.Full ≡ cond b wrote.Full wrote.Accepted → b ≡ true

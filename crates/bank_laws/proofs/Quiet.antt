@@ -15,7 +15,7 @@ use Rattle.bank_shape.specs.declared.BankShape.{BankShape}
 use Rattle.bank_shape.specs.declared.Work.TheVariants.{Nothing}
 use Rattle.bank_shape.specs.declared.answer.WriteAnswer.{WriteAnswer}
 use Rattle.bank_shape.specs.declared.answer.WriteAnswer.TheVariants as wrote
-use Rattle.bank_model.specs.Events.{Event, Write, Read, Serve, Begin, Iterate, Cut}
+use Rattle.bank_model.specs.Events.{BankEvent, Write, Read, Serve, Begin, Iterate, Cut}
 use Rattle.bank_model.specs.History.{first_or, stores, stored_in, moved_in, due_after, queue, waits, has_exhausted, in_progress}
 use Rattle.bank_model.specs.After.{is_ready, due_work, may_begin_after}
 use Rattle.bank_shape.specs.declared.pace.Pace.{Pace}
@@ -32,7 +32,7 @@ use Rattle.bank_laws.proofs.Serves.{may_at, onwards_at}
 use Rattle.bank_laws.proofs.Wears.{refused-exhausted, exhausted-refused, worn_outcome, worn_rows-exhausted, none_worn_before, none_worn_after}
 
 -- a bank with nothing in its queue, nothing stored, and no line write
-record IsQuiet {n : ℕ} (shape : BankShape) (h : List (Event n)) : Type 0 where
+record IsQuiet {n : ℕ} (shape : BankShape) (h : List (BankEvent n)) : Type 0 where
   queue : queue shape h ≡ []
   stored : (region : ℕ) → stored_in shape.lines h region ≡ 0
   exhausted : has_exhausted h ≡ false
@@ -44,7 +44,7 @@ not_due psi moved stored some none = lt-leb (psi * (moved + 1)) stored (by psi s
     by : (psi : ℕ) → 1 ≤ psi → stored < psi * (moved + 1)
     by psi some = grind arith
 
-module _ {n : ℕ} (shape : BankShape) (h : List (Event n)) where
+module _ {n : ℕ} (shape : BankShape) (h : List (BankEvent n)) where
   quiet-not_due : 1 ≤ shape.psi → IsQuiet shape h → due_after shape h ≡ None
   quiet-not_due some q =
       let region : ℕ = first_or 0 (stores h) / shape.lines in

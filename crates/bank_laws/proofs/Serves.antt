@@ -15,7 +15,7 @@ use Rattle.bank_shape.specs.declared.answer.WriteAnswer.TheVariants as wrote
 use Rattle.bank_shape.specs.declared.answer.ReadAnswer.{ReadAnswer}
 use Rattle.bank_shape.specs.declared.answer.ReadAnswer.TheVariants as came
 use Rattle.bank_shape.specs.declared.clock.Doing.TheVariants as doing
-use Rattle.bank_model.specs.Events.{Event, Write, Read, Serve, Begin, Iterate, Cut, newest}
+use Rattle.bank_model.specs.Events.{BankEvent, Write, Read, Serve, Begin, Iterate, Cut, newest}
 use Rattle.bank_model.specs.History.{Awaited, awaited, queue, waits}
 use Rattle.bank_model.specs.Answers.{read_answer}
 use Rattle.bank_shape.specs.declared.pace.Pace.{Pace}
@@ -68,7 +68,7 @@ lay_left false b xs ys h = refl
 
 module _ {n : ℕ} where
   -- the bytes of a forwarded answer are the newest
-  pub forwarded-newest : (shape : BankShape) (h : List (Event n)) (line : ℕ) (bytes : List ℕ) → came.Forwarded bytes ≡ read_answer shape h line → bytes ≡ newest h line
+  pub forwarded-newest : (shape : BankShape) (h : List (BankEvent n)) (line : ℕ) (bytes : List ℕ) → came.Forwarded bytes ≡ read_answer shape h line → bytes ≡ newest h line
   forwarded-newest shape h line bytes f = by (gives_all ((layer_of (queue shape h) line).given)) (eqb (length (waits shape h)) shape.reads) f
     where
       by : (b c : Bool) → ◌≡◌ {A = ReadAnswer n} (came.Forwarded bytes) (cond b (came.Forwarded (newest h line)) (cond c came.Busy came.Waiting)) → bytes ≡ newest h line
@@ -157,5 +157,5 @@ module _ {n m : ℕ} (shape : BankShape) (pace : Pace) (e : ℕ) (all : List (Ti
       by (Core (Cut tearing)) false may on new = eq-eqb x.tick x.tick refl
 
 pub served_law : ServedLaw
-served_law n m e shape pace xs l idle =
-    walk shape xs is_served [] xs refl (served_at shape pace e xs l (opens shape pace e xs l) (idle-waits shape pace xs idle))
+served_law n m e shape pace xs l still =
+    walk shape xs is_served [] xs refl (served_at shape pace e xs l (opens shape pace e xs l) still.unawaited)

@@ -8,7 +8,7 @@ use Rattle.bank_shape.specs.declared.BankShape.{BankShape}
 use Rattle.bank_shape.specs.declared.answer.WriteAnswer.TheVariants as wrote
 use Rattle.bank_shape.specs.declared.answer.ReadAnswer.TheVariants as came
 use Rattle.bank_shape.specs.declared.answer.Step.TheVariants as did
-use Rattle.bank_model.specs.Events.{Event, Write, Read, Serve, Begin, Iterate, Cut, RowsBelow}
+use Rattle.bank_model.specs.Events.{BankEvent, Write, Read, Serve, Begin, Iterate, Cut, RowsBelow}
 use Rattle.bank_model.specs.History.{Awaited, awaited, begun, queue, waits}
 use Rattle.bank_model.proofs.Begun.{row-begun, apart-begun}
 use Rattle.bank_laws.specs.Standing.{has_wait, AreRowsApart, RowLaw}
@@ -114,7 +114,7 @@ module _ {n : ℕ} where
   }
 
   -- the rows that stand after any events whose rows rise
-  pub stand_apart : (shape : BankShape) (h : List (Event n)) (next : ℕ) → RowsBelow h next → AreRowsApart (queue shape h) (waits shape h) next
+  pub stand_apart : (shape : BankShape) (h : List (BankEvent n)) (next : ℕ) → RowsBelow h next → AreRowsApart (queue shape h) (waits shape h) next
   stand_apart shape [] next b = record { queued_below = λ row h. refl; waiting_below = λ row h. refl; queued_apart = tt; waiting_apart = tt; one_place = λ row h. refl }
   stand_apart shape (Write row line bytes given wrote.Accepted ∷ h) next b = accepted _ _ _ next b.0 (stand_apart shape h row b.1)
   stand_apart shape (Write row line bytes given (wrote.Merged old) ∷ h) next b = merges _ _ old row bytes given next b.0 (stand_apart shape h row b.1)

@@ -7,7 +7,7 @@ use Rattle.bank_shape.specs.declared.BankShape.{BankShape}
 use Rattle.bank_shape.specs.declared.Work.TheVariants.{Nothing}
 use Rattle.bank_shape.specs.declared.answer.WriteAnswer.TheVariants as wrote
 use Rattle.bank_shape.specs.declared.answer.Step.TheVariants as did
-use Rattle.bank_model.specs.Events.{Event, Write, Read, Serve, Begin, Iterate, Cut, newest}
+use Rattle.bank_model.specs.Events.{BankEvent, Write, Read, Serve, Begin, Iterate, Cut, newest}
 use Rattle.bank_model.specs.History.{Awaited, begun, goes_on, queue, waits, due_after, has_exhausted, in_progress}
 use Rattle.bank_model.specs.After.{is_ready, due_work, work_after, slot_of_work, array_line_after, target_after, may_begin_after}
 use Rattle.bank_model.specs.Answers.{MayAll}
@@ -50,7 +50,7 @@ pub unexhausted : {n : ℕ} (b : Bool) (due : Option ℕ) (es : List (Entry n)) 
 unexhausted true due es w = absurd w
 unexhausted false due es w = refl
 
-module _ {n : ℕ} (shape : BankShape) (h : List (Event n)) where
+module _ {n : ℕ} (shape : BankShape) (h : List (BankEvent n)) where
   due-push : (due : Option ℕ) (es : List (Entry n)) (x : Entry n) → WorkOf false due es → due_work shape h due (es ++ x ∷ []) ≡ due_work shape h due es
   due-push (Some region) es x w = refl
   due-push None [] x w = absurd w
@@ -92,7 +92,7 @@ module _ {n : ℕ} (shape : BankShape) (h : List (Event n)) where
   ready-work ws false None (e ∷ es) r = tt
 
 -- an event that doesn't end a line write
-abbrev pub spares_work : {n : ℕ} → Event n → Bool
+abbrev pub spares_work : {n : ℕ} → BankEvent n → Bool
 spares_work (Write row line bytes given answer) = true
 spares_work (Read row line answer) = true
 spares_work (Serve answer) = true
@@ -102,17 +102,17 @@ spares_work (Cut tearing) = true
 
 module _ {n : ℕ} (shape : BankShape) where
   -- a bank has a work to do after these events
-  abbrev pub WorkAfter : List (Event n) → Type 0
+  abbrev pub WorkAfter : List (BankEvent n) → Type 0
   WorkAfter h = WorkOf (has_exhausted h) (due_after shape h) (queue shape h)
 
-  pub working : (most : ℕ) (h : List (Event n)) → MayAll shape most h → in_progress h ≡ true → WorkAfter h
+  pub working : (most : ℕ) (h : List (BankEvent n)) → MayAll shape most h → in_progress h ≡ true → WorkAfter h
   working most h m p = work-full (has_exhausted h) (due_after shape h) (queue shape h) ((keeps_pairs shape most h m).working p)
 
   -- then it has the same one, with the same target
-  abbrev pub Same : Event n → List (Event n) → Type 0
+  abbrev pub Same : BankEvent n → List (BankEvent n) → Type 0
   Same event h = WorkAfter (event ∷ h) × (target_after shape (event ∷ h) ≡ target_after shape h)
 
-  pub target-same : (event : Event n) (h : List (Event n)) → spares_work event ≡ true → WorkAfter h → Same event h
+  pub target-same : (event : BankEvent n) (h : List (BankEvent n)) → spares_work event ≡ true → WorkAfter h → Same event h
   target-same (Write row line bytes given wrote.Accepted) h s w = (
     work-push (has_exhausted h) (due_after shape h) (queue shape h) _ w,
     target-by shape h (has_exhausted h) (due_after shape h) _ (queue shape h) (due-more shape h (has_exhausted h) (due_after shape h) (queue shape h) _ w),
@@ -141,10 +141,10 @@ module _ {n : ℕ} (shape : BankShape) where
   target-same (Cut tearing) h s w = (w, refl)
 
   -- a bank without waiting reads and without a line write in progress may begin a work that is there
-  pub work-begins : (h : List (Event n)) (ws : List Awaited) → waits shape h ≡ ws → ws ≡ [] → in_progress h ≡ false → WorkAfter h → may_begin_after shape h ≡ true
+  pub work-begins : (h : List (BankEvent n)) (ws : List Awaited) → waits shape h ≡ ws → ws ≡ [] → in_progress h ≡ false → WorkAfter h → may_begin_after shape h ≡ true
   work-begins h ws is none p w =
       let empty : waits shape h ≡ [] = is ∙ none in
       ap (λ b. not b && is_ready (waits shape h) (work_after shape h)) p ∙ ap (λ ws. is_ready ws (work_after shape h)) empty ∙ ready shape h (has_exhausted h) (due_after shape h) (queue shape h) w
 
-  pub begin-works : (h : List (Event n)) → may_begin_after shape h ≡ true → WorkAfter h
+  pub begin-works : (h : List (BankEvent n)) → may_begin_after shape h ≡ true → WorkAfter h
   begin-works h m = ready-work shape h (waits shape h) (has_exhausted h) (due_after shape h) (queue shape h) (and_second (not (in_progress h)) _ m)

@@ -14,7 +14,7 @@ use Rattle.bank_shape.specs.declared.BankShape.{BankShape}
 use Rattle.bank_shape.specs.Pausing.{is_cancelling, most_cancels}
 use Rattle.bank_shape.specs.declared.answer.ReadAnswer.{ReadAnswer}
 use Rattle.bank_shape.specs.declared.answer.ReadAnswer.TheVariants as came
-use Rattle.bank_model.specs.Events.{Event, Write, Read, Serve, Begin, Iterate, Cut, RowsBelow, newest}
+use Rattle.bank_model.specs.Events.{BankEvent, Write, Read, Serve, Begin, Iterate, Cut, RowsBelow, newest}
 use Rattle.bank_model.specs.History.{Awaited, awaited, queue, waits}
 use Rattle.bank_shape.specs.declared.pace.Pace.{Pace}
 use Rattle.bank_model.specs.Timing.{Happens, Core, Regs, TimedEvent, core, core_of, last_tick, is_empty, is_writing}
@@ -368,7 +368,7 @@ module _ {n m : ℕ} (shape : BankShape) (pace : Pace) (e : ℕ) (all : List (Ti
       (last_tick-rises shape pace e ys x r i (lawful_before shape pace e later (x ∷ ys) whole))
       (ends_at_row shape pace e later ys x r i whole arrives) none
 
-  pub read_room : (h : List (Event n)) (line : ℕ) (answer : ReadAnswer n) → answer ≡ read_answer shape h line
+  pub read_room : (h : List (BankEvent n)) (line : ℕ) (answer : ReadAnswer n) → answer ≡ read_answer shape h line
       → (answer ≡ came.Busy → (length (waits shape h) == shape.reads) ≡ true) × (answer ≡ came.Waiting → (length (waits shape h) == shape.reads) ≡ false)
   read_room h line answer a = by (gives_all ((layer_of (queue shape h) line).given)) (eqb (length (waits shape h)) shape.reads) refl a
     where
@@ -437,5 +437,5 @@ module _ {n m : ℕ} (shape : BankShape) (pace : Pace) (e : ℕ) (all : List (Ti
       by (Core (Cut tearing)) false may on count = and_from _ _ (few (count refl)) refl
 
 pub wait_law : WaitLaw
-wait_law n m e shape pace xs sized l idle =
-    walk shape xs (is_wait_fair shape.reads) [] xs refl (wait_at shape pace e xs sized.read sized.iter l (idle-waits shape pace xs idle))
+wait_law n m e shape pace xs sized l still =
+    walk shape xs (is_wait_fair shape.reads) [] xs refl (wait_at shape pace e xs sized.read sized.iter l still.unawaited)

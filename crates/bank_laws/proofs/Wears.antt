@@ -17,7 +17,7 @@ use Rattle.bank_shape.specs.declared.answer.WriteAnswer.{WriteAnswer}
 use Rattle.bank_shape.specs.declared.answer.WriteAnswer.TheVariants as wrote
 use Rattle.bank_shape.specs.declared.answer.ReadAnswer.TheVariants as came
 use Rattle.bank_shape.specs.declared.answer.Step.TheVariants as did
-use Rattle.bank_model.specs.Events.{Event, Write, Read, Serve, Begin, Iterate, Cut}
+use Rattle.bank_model.specs.Events.{BankEvent, Write, Read, Serve, Begin, Iterate, Cut}
 use Rattle.bank_model.specs.History.{queue, waits, has_exhausted, due_after}
 use Rattle.bank_model.specs.After.{due_work, work_after}
 use Rattle.bank_model.specs.Answers.{head_busy_after, accept_answer, write_answer, IsDone}
@@ -77,14 +77,14 @@ module _ {n : ℕ} where
   worn_outcome tick wrote.Exhausted o is w = refl
 
   -- an exhausted bank stores nothing
-  pub exhausted-stores_none : (shape : BankShape) (h : List (Event n)) (row place : ℕ) → has_exhausted h ≡ true → IsDone shape h (work_after shape h) (did.Stored row place) → ⊥
+  pub exhausted-stores_none : (shape : BankShape) (h : List (BankEvent n)) (row place : ℕ) → has_exhausted h ≡ true → IsDone shape h (work_after shape h) (did.Stored row place) → ⊥
   exhausted-stores_none shape h row place ex d = by (has_exhausted h) ex d
     where
       by : (b : Bool) → b ≡ true → IsDone shape h (cond b Nothing (due_work shape h (due_after shape h) (queue shape h))) (did.Stored row place) → ⊥
       by true ex d = d
       by false ex d = absurd (cc)
 
-  pub exhausted-more : (event : Event n) (h : List (Event n)) → has_exhausted h ≡ true → has_exhausted (event ∷ h) ≡ true
+  pub exhausted-more : (event : BankEvent n) (h : List (BankEvent n)) → has_exhausted h ≡ true → has_exhausted (event ∷ h) ≡ true
   exhausted-more (Write row line bytes given answer) h ex = ex
   exhausted-more (Read row line answer) h ex = ex
   exhausted-more (Serve answer) h ex = ex
@@ -101,7 +101,7 @@ module _ {n : ℕ} where
   exhausted-more (Cut tearing) h ex = ex
 
   -- a write is refused as worn exactly where the bank is exhausted
-  pub refused-exhausted : (shape : BankShape) (h : List (Event n)) (line : ℕ) → wrote.Exhausted ≡ write_answer shape h line → has_exhausted h ≡ true
+  pub refused-exhausted : (shape : BankShape) (h : List (BankEvent n)) (line : ℕ) → wrote.Exhausted ≡ write_answer shape h line → has_exhausted h ≡ true
   refused-exhausted shape h line a = by (has_exhausted h) (candidate (head_busy_after shape h) (queue shape h) line) a
     where
       full : (b : Bool) → wrote.Exhausted ≡ cond b wrote.Full wrote.Accepted → false ≡ true
@@ -113,7 +113,7 @@ module _ {n : ℕ} where
       by false (Some at) a = absurd (cc)
       by false None a = full (eqb (length (queue shape h)) shape.writes) a
 
-  pub exhausted-refused : (shape : BankShape) (h : List (Event n)) (line : ℕ) (answer : WriteAnswer) → answer ≡ write_answer shape h line → has_exhausted h ≡ true → answer ≡ wrote.Exhausted
+  pub exhausted-refused : (shape : BankShape) (h : List (BankEvent n)) (line : ℕ) (answer : WriteAnswer) → answer ≡ write_answer shape h line → has_exhausted h ≡ true → answer ≡ wrote.Exhausted
   exhausted-refused shape h line answer a ex =
       a ∙ ap (λ b. cond b wrote.Exhausted (accept_answer shape h (candidate (head_busy_after shape h) (queue shape h) line))) ex
 

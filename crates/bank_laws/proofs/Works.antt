@@ -2,14 +2,14 @@
 use Rattle.std.proofs.Common.{◌≡◌, ℕ, zero, ◌+◌, ◌<◌, ◌≤◌, ◌==◌, ◌&&◌, ◌||◌, not, Bool, true, false, List, ◌∷◌, Option, Some, None, refl, sym, ap, ◌∙◌, arith, cond}
 use Rattle.std.proofs.Math.Nat.{min-le_left}
 use Rattle.std.proofs.lemmas.Bool.{ne_eqb}
-use Rattle.pcm_cells.specs.Device.{counted}
+use Rattle.cell_rows.specs.Device.{counted}
 use Rattle.bank_shape.specs.declared.BankShape.{BankShape}
 use Rattle.bank_shape.specs.Shape.{controls_from, control_line}
 use Rattle.bank_shape.specs.declared.answer.Step.{Step}
 use Rattle.bank_shape.specs.declared.answer.Step.TheVariants as did
 use Rattle.bank_shape.specs.declared.clock.Action.{Action}
 use Rattle.bank_shape.specs.declared.clock.Doing.TheVariants.{Iterating}
-use Rattle.bank_model.specs.Events.{Event}
+use Rattle.bank_model.specs.Events.{BankEvent}
 use Rattle.bank_model.specs.History.{goes_on, in_progress, iterated}
 use Rattle.bank_model.specs.After.{target_after}
 use Rattle.bank_model.specs.Answers.{MayAll}
@@ -61,7 +61,7 @@ module _ (shape : BankShape) (at : ℕ) (low : at < controls_from shape) where
       by true = change-elsewhere change
       by false = refl
 
-module _ {n : ℕ} (shape : BankShape) (at : ℕ) (h : List (Event n)) where
+module _ {n : ℕ} (shape : BankShape) (at : ℕ) (h : List (BankEvent n)) where
   -- what it has had
   pub idle-held : in_progress h ≡ false → held_on shape at h ≡ 0
   idle-held is = ap (λ b. cond (b && (target_after shape h == at)) (iterated h) 0) is
@@ -70,7 +70,7 @@ module _ {n : ℕ} (shape : BankShape) (at : ℕ) (h : List (Event n)) where
   busy-held is = ap (λ b. cond (b && (target_after shape h == at)) (iterated h) 0) is
 
   -- an event that leaves a line write in progress leaves its target
-  pub held-same : (most : ℕ) (event : Event n) → MayAll shape most h → spares_work event ≡ true
+  pub held-same : (most : ℕ) (event : BankEvent n) → MayAll shape most h → spares_work event ≡ true
       → in_progress (event ∷ h) ≡ in_progress h → iterated (event ∷ h) ≡ iterated h
       → held_on shape at (event ∷ h) ≡ held_on shape at h
   held-same most event may spares busy count = by (in_progress h) refl
@@ -87,7 +87,7 @@ module _ {n : ℕ} (shape : BankShape) (at : ℕ) (h : List (Event n)) where
           ∙ sym (ap (λ b. cond (b && (target_after shape h == at)) (iterated h) 0) is)
 
   -- the target after a begin or an iteration that goes on
-  pub going-held : (event : Event n) (answer : Step) (k : ℕ) → (goes_on answer ≡ true → target_after shape (event ∷ h) ≡ target_after shape h)
+  pub going-held : (event : BankEvent n) (answer : Step) (k : ℕ) → (goes_on answer ≡ true → target_after shape (event ∷ h) ≡ target_after shape h)
       → cond (goes_on answer && (target_after shape (event ∷ h) == at)) k 0 ≡ cond (goes_on answer && (target_after shape h == at)) k 0
   going-held event answer k same = by (goes_on answer) same
     where

@@ -1,7 +1,7 @@
 -- The laws of a bank, over a lawful history at whose end the bank has no work.
-use Rattle.std.specs.Prelude.{◌≡◌, ◌≢◌, ◌&&◌, nat_le, nat_lt, length, ℕ, ◌+◌, ◌<◌, ◌≤◌, Bool, IsTrue, List, [], filter, ◌++◌, All, IfSome}
-use Rattle.pcm_cells.specs.Device.{ArrayState}
-use Rattle.pcm_cells.specs.declared.array.Sense.{Sense}
+use Rattle.std.specs.Prelude.{◌≡◌, ◌≢◌, ◌&&◌, nat_le, nat_lt, length, ℕ, ◌+◌, ◌<◌, ◌≤◌, Bool, false, IsTrue, List, [], filter, ◌++◌, All, IfSome}
+use Rattle.cell_rows.specs.Device.{ArrayState}
+use Rattle.cell_rows.specs.declared.array.Sense.{Sense}
 use Rattle.ecp_line.specs.Reading.{decode, is_worn_line}
 use Rattle.row_rules.specs.declared.Row.{Row}
 use Rattle.row_rules.specs.Rows.{each_row}
@@ -16,16 +16,17 @@ use Rattle.bank_shape.specs.declared.pace.Pace.{Pace}
 use Rattle.bank_model.specs.Timing.{TimedEvent, core}
 use Rattle.bank_model.specs.Sensing.{pulses_of, most_steps}
 use Rattle.bank_model.specs.Adding.{senses_of}
-use Rattle.bank_model.specs.Lawful.{Lawful, IsIdle}
+use Rattle.bank_model.specs.Lawful.{Lawful}
 use Rattle.bank_laws.specs.Outcomes.{table_of}
-use Rattle.bank_laws.specs.Places.{is_placed, is_wear_true, is_taken, most_pulses, pulses_among}
-use Rattle.bank_laws.specs.Logs.{has_sense, has_controls, is_line_fair}
+use Rattle.bank_laws.specs.Resting.{IsStill, EndsIn}
+use Rattle.bank_laws.specs.Places.{is_placed, is_wear_true_to, is_taken_to, most_pulses, pulses_among}
+use Rattle.bank_laws.specs.Logs.{has_sense, has_controls, is_line_fair_to}
 use Rattle.bank_model.specs.Changes.{change_after, halted_after}
 
 -- the rules of a bank. A line write takes at most `8 * (3 * e + 2)` steps
 abbrev pub rules_of : ℕ → BankShape → Pace → Rules
 rules_of e shape pace =
-    record { writes = shape.writes; reads = shape.reads; spares = shape.spares; read = pace.read; iter = pace.iter; steps = most_steps e; policy = pace.policy; twice = nat_lt 0 (controls_of shape) }
+    record { writes = shape.writes; reads = shape.reads; spares = shape.spares; read_ticks = pace.read; iter_ticks = pace.iter; steps = most_steps e; policy = pace.policy; twice = nat_lt 0 (controls_of shape) }
 
 -- whether an array line is worn
 abbrev pub is_worn_at : {n m : ℕ} → ℕ → ArrayState n m → ℕ → Bool
@@ -33,18 +34,24 @@ is_worn_at e array line = is_worn_line e (array.line line).held (array.line line
 
 module _ {n m : ℕ} (e : ℕ) (shape : BankShape) (array : ArrayState n m) where
   -- what the rows of a bank's table, the newest first, are to the array in the end. No control line is worn before there are any
-  pub record KeepsPlaces (rules : Rules) (rows : List (Row n)) : Type 0 where
-    pub worn : IsTrue (each_row (is_wear_true shape (is_worn_at e array)) rows [])
+  pub record KeepsPlacesTo (off : Bool) (rules : Rules) (rows : List (Row n)) : Type 0 where
+    pub worn : IsTrue (each_row (is_wear_true_to off shape (is_worn_at e array)) rows [])
     pub pulses : pulses_among (λ line. (array.line line).pulses) shape.base (lines_in shape) ≤ most_pulses rules rows
     pub placed : IsTrue (each_row (is_placed shape (is_worn_at e array)) rows [])
-    pub taken : IsTrue (each_row (is_taken rules shape (is_worn_at e array)) rows [])
+    pub taken : IsTrue (each_row (is_taken_to off rules shape (is_worn_at e array)) rows [])
+
+  abbrev pub KeepsPlaces : Rules → List (Row n) → Type 0
+  KeepsPlaces = KeepsPlacesTo false
 
   -- what the log shows of the rows and of the bank's lines
-  pub record KeepsLog (rules : Rules) (rows : List (Row n)) (log : List (Sense n m)) : Type 0 where
+  pub record KeepsLogTo (off : Bool) (rules : Rules) (rows : List (Row n)) (log : List (Sense n m)) : Type 0 where
     pub sensed : IsTrue (each_row (has_sense (decode e) log) rows [])
     pub lines : (line : ℕ) → shape.base ≤ line → line < shape.base + lines_in shape
-        → IsTrue (is_line_fair rules rows log (nat_lt line (shape.base + slots_of shape + shape.spares)) line (array.line line).pulses)
+        → IsTrue (is_line_fair_to rules rows off log (nat_lt line (shape.base + slots_of shape + shape.spares)) line (array.line line).pulses)
     pub controls : IsTrue (each_row (has_controls shape log) rows [])
+
+  abbrev pub KeepsLog : Rules → List (Row n) → List (Sense n m) → Type 0
+  KeepsLog = KeepsLogTo false
 
 -- what holds of the array in the end: each line has the pulses of the history; the lines that were retired, the target that found no
 -- spare, and the control line at which the writing of a change has halted, are worn
@@ -71,14 +78,14 @@ pub record IsSized (shape : BankShape) (pace : Pace) : Type 0 where
 abbrev pub TableLaw : (n m : ℕ) → Type 0
 TableLaw n m =
     (e : ℕ) (shape : BankShape) (pace : Pace) (xs : List (TimedEvent n m))
-    → IsSized shape pace → Lawful shape pace e xs → IsIdle shape pace xs → KeepsRows (rules_of e shape pace) (table_of shape xs)
+    → IsSized shape pace → Lawful shape pace e xs → IsStill shape xs → KeepsRows (rules_of e shape pace) (table_of shape xs)
 
 -- the law of the places and of wear
 abbrev pub PlaceLaw : (n m : ℕ) → Type 0
 PlaceLaw n m =
-    (e : ℕ) (shape : BankShape) (pace : Pace) (xs : List (TimedEvent n m)) (array : ArrayState n m)
-    → IsSized shape pace → Lawful shape pace e xs → IsIdle shape pace xs → LeavesArray e shape xs array
-    → KeepsPlaces e shape array (rules_of e shape pace) (table_of shape xs)
+    (off : Bool) (e : ℕ) (shape : BankShape) (pace : Pace) (xs : List (TimedEvent n m)) (array : ArrayState n m)
+    → IsSized shape pace → Lawful shape pace e xs → EndsIn off shape pace xs → LeavesArray e shape xs array
+    → KeepsPlacesTo e shape array off (rules_of e shape pace) (table_of shape xs)
 
 -- the senses of a bank's lines in a log
 abbrev pub log_of : {n m : ℕ} → BankShape → List (Sense n m) → List (Sense n m)
@@ -87,6 +94,6 @@ log_of shape log = filter (λ s. nat_le shape.base s.line && nat_lt s.line (shap
 -- the law of the log, to which senses may have been added in the end
 abbrev pub LogLaw : (n m : ℕ) → Type 0
 LogLaw n m =
-    (e : ℕ) (shape : BankShape) (pace : Pace) (xs : List (TimedEvent n m)) (array : ArrayState n m) (log extra : List (Sense n m))
-    → IsSized shape pace → Lawful shape pace e xs → IsIdle shape pace xs → LeavesArray e shape xs array → log_of shape log ≡ senses_of xs ++ extra → All (λ s. s.pulses ≡ (array.line s.line).pulses) extra
-    → KeepsLog e shape array (rules_of e shape pace) (table_of shape xs) log
+    (off : Bool) (e : ℕ) (shape : BankShape) (pace : Pace) (xs : List (TimedEvent n m)) (array : ArrayState n m) (log extra : List (Sense n m))
+    → IsSized shape pace → Lawful shape pace e xs → EndsIn off shape pace xs → LeavesArray e shape xs array → log_of shape log ≡ senses_of xs ++ extra → All (λ s. s.pulses ≡ (array.line s.line).pulses) extra
+    → KeepsLogTo e shape array off (rules_of e shape pace) (table_of shape xs) log

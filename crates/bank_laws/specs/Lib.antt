@@ -9,5 +9,5 @@ pub mod RowLaws
 pub mod Settling
 pub mod Standing
 pub mod Ticks
-pub mod Worked
 pub mod Whole
+pub mod Resting

@@ -1,8 +1,8 @@
 -- What the senses of a log show of a bank's rows and of its lines.
-use Rattle.std.specs.Prelude.{ℕ, ◌+◌, ◌==◌, ◌&&◌, ◌||◌, not, nat_lt, nat_le, Bool, true, List, [], ◌∷◌, filter}
+use Rattle.std.specs.Prelude.{ℕ, ◌+◌, ◌==◌, ◌&&◌, ◌||◌, not, nat_lt, nat_le, Bool, true, false, List, [], ◌∷◌, filter}
 use Rattle.std.specs.List.{list_any, list_all}
-use Rattle.pcm_cells.specs.declared.row.Cells.{Cells}
-use Rattle.pcm_cells.specs.declared.array.Sense.{Sense}
+use Rattle.cell_rows.specs.declared.row.Cells.{Cells}
+use Rattle.cell_rows.specs.declared.array.Sense.{Sense}
 use Rattle.masked_bytes.specs.Masked.{laid}
 use Rattle.bank_shape.specs.Pausing.{is_cancelling}
 use Rattle.bank_shape.specs.declared.BankShape.{BankShape}
@@ -48,17 +48,32 @@ module _ {n m : ℕ} (rules : Rules) (rows : List (Row n)) where
   abbrev pub follows : Bool → Sense n m → Sense n m → Bool
   follows wears s t =
       s.pulses == t.pulses
-      || (s.pulses + 1 == t.pulses && ((nat_le (s.tick + rules.iter) t.tick || is_broken rules rows s.tick t.tick)
+      || (s.pulses + 1 == t.pulses && ((nat_le (s.tick + rules.iter_ticks) t.tick || is_broken rules rows s.tick t.tick)
       && not (wears && list_any (λ r. worn_row r && nat_lt r.tick t.tick) rows)))
 
+  -- one pulse behind this sense was torn by a cut; senses that were added since show it
+  abbrev pub tears : ℕ → Sense n m → List (Sense n m) → Bool
+  tears pulses s ts =
+      s.pulses + 1 == pulses && (list_any (λ r. is_cut r && nat_le s.tick r.tick) rows && list_all (λ t. t.pulses == pulses) ts)
+
+  -- the last sense shows the pulses of the end; or, where the power is off, all but one that was torn
+  abbrev pub follow_on_to : Bool → Bool → ℕ → Sense n m → List (Sense n m) → Bool
+  follow_on_to off wears pulses s [] = (off && tears pulses s []) || s.pulses == pulses
+  follow_on_to off wears pulses s (t ∷ ts) = (off && tears pulses s (t ∷ ts)) || (follows wears s t && follow_on_to off wears pulses t ts)
+
   abbrev pub follow_on : Bool → ℕ → Sense n m → List (Sense n m) → Bool
-  follow_on wears pulses s [] = s.pulses == pulses
-  follow_on wears pulses s (t ∷ ts) = follows wears s t && follow_on wears pulses t ts
+  follow_on = follow_on_to false
 
   -- the senses of one line, with its pulses in the end
+  abbrev pub begins_unpulsed_to : Bool → Bool → ℕ → List (Sense n m) → Bool
+  begins_unpulsed_to off wears pulses [] = pulses == 0
+  begins_unpulsed_to off wears pulses (s ∷ ss) = s.pulses == 0 && follow_on_to off wears pulses s ss
+
   abbrev pub begins_unpulsed : Bool → ℕ → List (Sense n m) → Bool
-  begins_unpulsed wears pulses [] = pulses == 0
-  begins_unpulsed wears pulses (s ∷ ss) = s.pulses == 0 && follow_on wears pulses s ss
+  begins_unpulsed = begins_unpulsed_to false
+
+  abbrev pub is_line_fair_to : Bool → List (Sense n m) → Bool → ℕ → ℕ → Bool
+  is_line_fair_to off log wears line pulses = begins_unpulsed_to off wears pulses (filter (λ s. s.line == line) log)
 
   abbrev pub is_line_fair : List (Sense n m) → Bool → ℕ → ℕ → Bool
-  is_line_fair log wears line pulses = begins_unpulsed wears pulses (filter (λ s. s.line == line) log)
+  is_line_fair = is_line_fair_to false

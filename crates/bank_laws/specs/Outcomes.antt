@@ -10,7 +10,7 @@ use Rattle.bank_shape.specs.declared.answer.WriteAnswer.TheVariants as wrote
 use Rattle.bank_shape.specs.declared.answer.ReadAnswer.TheVariants as came
 use Rattle.bank_shape.specs.declared.answer.Step.{Step}
 use Rattle.bank_shape.specs.declared.answer.Step.TheVariants as did
-use Rattle.bank_model.specs.Events.{Event, Write, Read, Serve, Begin, Iterate, Cut}
+use Rattle.bank_model.specs.Events.{BankEvent, Write, Read, Serve, Begin, Iterate, Cut}
 use Rattle.bank_model.specs.History.{Awaited, waits}
 use Rattle.bank_model.specs.Timing.{Happens, Core, Regs, TimedEvent, core}
 
@@ -24,7 +24,7 @@ step_outcome (did.Stored at place) tick row = on_row at row (out.Stored tick pla
 step_outcome _ tick row = None
 
 -- what an event at this tick makes of a row, the reads that wait given
-abbrev pub outcome_by : {n : ℕ} → List Awaited → Event n → ℕ → ℕ → Option (Outcome n)
+abbrev pub outcome_by : {n : ℕ} → List Awaited → BankEvent n → ℕ → ℕ → Option (Outcome n)
 outcome_by ws (Write at line bytes given wrote.Accepted) tick row = None
 outcome_by ws (Write at line bytes given (wrote.Merged old)) tick row = on_row old row (out.Merged tick)
 outcome_by ws (Write at line bytes given wrote.Full) tick row = on_row at row (out.Full tick)
@@ -54,7 +54,7 @@ ended tick out.Unset = out.Queued tick
 ended tick outcome = outcome
 
 -- the row of an event, with the outcome that the whole history leaves
-abbrev pub row_by : {n m : ℕ} → BankShape → List (TimedEvent n m) → Event n → ℕ → Bool → List (Row n)
+abbrev pub row_by : {n m : ℕ} → BankShape → List (TimedEvent n m) → BankEvent n → ℕ → Bool → List (Row n)
 row_by shape all (Write row line bytes given answer) tick cancels =
     record { tick = tick; asks = Writes line bytes given; outcome = ended tick (outcome_of shape all row) } ∷ []
 row_by shape all (Read row line answer) tick cancels = record { tick = tick; asks = Reads line; outcome = outcome_of shape all row } ∷ []

@@ -3,7 +3,7 @@ use Rattle.std.specs.Prelude.{◌≡◌, ℕ, ◌==◌, ◌||◌, Bool, true, fa
 use Rattle.masked_bytes.specs.declared.entry.Entry.{Entry}
 use Rattle.masked_bytes.specs.Masked.{gives_all}
 use Rattle.bank_shape.specs.declared.BankShape.{BankShape}
-use Rattle.bank_model.specs.Events.{Event}
+use Rattle.bank_model.specs.Events.{BankEvent}
 use Rattle.bank_model.specs.History.{queue}
 use Rattle.bank_model.specs.Answers.{MayAll}
 
@@ -25,4 +25,4 @@ module _ {n : ℕ} where
 
 -- so it is after any events that a bank allows
 abbrev pub PairLaw : Type 0
-PairLaw = (n most : ℕ) (shape : BankShape) (h : List (Event n)) → MayAll shape most h → ArePaired (queue shape h)
+PairLaw = (n most : ℕ) (shape : BankShape) (h : List (BankEvent n)) → MayAll shape most h → ArePaired (queue shape h)

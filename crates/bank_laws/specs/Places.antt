@@ -1,5 +1,5 @@
 -- Where the rows of a bank say that their lines stood, and how much it was pulsed.
-use Rattle.std.specs.Prelude.{ℕ, zero, suc, ◌+◌, ◌-◌, ◌*◌, ◌/◌, ◌%◌, ◌==◌, ◌&&◌, ◌||◌, not, nat_lt, nat_le, Bool, true, if◌then◌else◌, List, [], ◌∷◌, ◌++◌, count_by, length}
+use Rattle.std.specs.Prelude.{ℕ, zero, suc, ◌+◌, ◌-◌, ◌*◌, ◌/◌, ◌%◌, ◌==◌, ◌&&◌, ◌||◌, not, nat_lt, nat_le, Bool, true, false, if◌then◌else◌, List, [], ◌∷◌, ◌++◌, count_by, length}
 use Rattle.result_rows.specs.declared.Outcome.{Outcome}
 use Rattle.result_rows.specs.declared.Outcome.TheVariants as out
 use Rattle.row_rules.specs.declared.Row.{Row}
@@ -55,23 +55,32 @@ abbrev pub may_leave : BankShape → (ℕ → Bool) → Bool
 may_leave shape worn =
     is_worn_out shape worn || nat_lt 0 (worn_among worn (shape.base + slots_of shape + shape.spares) (controls_of shape))
 
--- the moves of a region in the end
-abbrev pub is_moved : {n : ℕ} → BankShape → (ℕ → Bool) → List (Row n) → ℕ → ℕ → Bool
-is_moved shape worn rows region moves =
+-- the moves of a region in the end. One that is due may be left, too, where the power is off
+abbrev pub is_moved_to : {n : ℕ} → Bool → BankShape → (ℕ → Bool) → List (Row n) → ℕ → ℕ → Bool
+is_moved_to off shape worn rows region moves =
     let count = region_stores is_stored shape region rows in
     moves == count / shape.psi
-    || (moves + 1 == count / shape.psi && (count % shape.psi == 0 && may_leave shape worn))
+    || (moves + 1 == count / shape.psi && (count % shape.psi == 0 && (off || may_leave shape worn)))
 
--- a worn row says that too many lines are worn, and a queued one that, or that a control line is
+abbrev pub is_moved : {n : ℕ} → BankShape → (ℕ → Bool) → List (Row n) → ℕ → ℕ → Bool
+is_moved shape worn rows region moves = is_moved_to false shape worn rows region moves
+
+-- a worn row says that too many lines are worn, and a queued one that, or that a control line is, or that the power is off
+abbrev pub is_wear_true_to : {n : ℕ} → Bool → BankShape → (ℕ → Bool) → RowTest n
+is_wear_true_to off shape worn before r after =
+    (not (worn_row r) || is_worn_out shape worn) && (not (asks_write r.asks && is_queued r.outcome) || (off || may_leave shape worn))
+
 abbrev pub is_wear_true : {n : ℕ} → BankShape → (ℕ → Bool) → RowTest n
-is_wear_true shape worn before r after =
-    (not (worn_row r) || is_worn_out shape worn) && (not (asks_write r.asks && is_queued r.outcome) || may_leave shape worn)
+is_wear_true shape worn before r after = is_wear_true_to false shape worn before r after
 
--- a write that finds room in the queue of a bank that is not worn out is accepted, and leaves the queue again
-abbrev pub is_taken : {n : ℕ} → Rules → BankShape → (ℕ → Bool) → RowTest n
-is_taken rules shape worn before r after =
+-- a write that finds room in the queue of a bank that is not worn out is accepted, and leaves the queue again, where the power isn't off
+abbrev pub is_taken_to : {n : ℕ} → Bool → Rules → BankShape → (ℕ → Bool) → RowTest n
+is_taken_to off rules shape worn before r after =
     not (asks_write r.asks && (nat_lt (length (pending r.tick [] before)) rules.writes && not (may_leave shape worn)))
-    || (accepts r.outcome && not (is_queued r.outcome))
+    || (accepts r.outcome && (off || not (is_queued r.outcome)))
+
+abbrev pub is_taken : {n : ℕ} → Rules → BankShape → (ℕ → Bool) → RowTest n
+is_taken rules shape worn before r after = is_taken_to false rules shape worn before r after
 
 -- the most pulses of a bank: so many for each store, each gap move, each retirement and each cut
 abbrev pub most_pulses : {n : ℕ} → Rules → List (Row n) → ℕ

@@ -9,14 +9,15 @@ use Rattle.row_rules.specs.Wearing.{is_wear_final, is_wear_earned}
 use Rattle.bank_shape.specs.declared.BankShape.{BankShape}
 use Rattle.bank_shape.specs.declared.pace.Pace.{Pace}
 use Rattle.bank_model.specs.Timing.{TimedEvent}
-use Rattle.bank_model.specs.Lawful.{Lawful, IsIdle}
+use Rattle.bank_model.specs.Lawful.{Lawful}
 use Rattle.bank_laws.specs.Laws.{IsSized}
 use Rattle.bank_laws.specs.Outcomes.{table_of}
+use Rattle.bank_laws.specs.Resting.{IsStill}
 
 -- each row has an outcome of its own operation, and each read that is answered has the newest bytes of its line
 abbrev pub ServedLaw : Type 0
 ServedLaw =
-    (n m e : ℕ) (shape : BankShape) (pace : Pace) (xs : List (TimedEvent n m)) → Lawful shape pace e xs → IsIdle shape pace xs
+    (n m e : ℕ) (shape : BankShape) (pace : Pace) (xs : List (TimedEvent n m)) → Lawful shape pace e xs → IsStill shape xs
     → IsTrue (each_row is_served (table_of shape xs) [])
 
 -- behind a write that was refused since a worn line found no spare every write is, and none is stored at its tick or later;
@@ -53,7 +54,7 @@ is_wait_fair reads before r after =
 abbrev pub WaitLaw : Type 0
 WaitLaw =
     (n m e : ℕ) (shape : BankShape) (pace : Pace) (xs : List (TimedEvent n m)) → IsSized shape pace → Lawful shape pace e xs
-    → IsIdle shape pace xs → IsTrue (each_row (is_wait_fair shape.reads) (table_of shape xs) [])
+    → IsStill shape xs → IsTrue (each_row (is_wait_fair shape.reads) (table_of shape xs) [])
 
 -- at each row the queue holds no more writes than it may, and a write that is refused as full finds exactly as many
 abbrev pub is_room_fair : {n : ℕ} → ℕ → RowTest n

@@ -4,7 +4,7 @@ use Rattle.std.specs.List.{list_any}
 use Rattle.masked_bytes.specs.declared.entry.Entry.{Entry}
 use Rattle.masked_bytes.specs.Entries.{has_row, RowsApart}
 use Rattle.bank_shape.specs.declared.BankShape.{BankShape}
-use Rattle.bank_model.specs.Events.{Event, RowsBelow}
+use Rattle.bank_model.specs.Events.{BankEvent, RowsBelow}
 use Rattle.bank_model.specs.History.{Awaited, queue, waits}
 
 -- whether a read of this row waits
@@ -26,4 +26,4 @@ pub record AreRowsApart {n : ℕ} (es : List (Entry n)) (ws : List Awaited) (nex
 
 -- so it is after any events whose rows rise
 abbrev pub RowLaw : Type 0
-RowLaw = (n : ℕ) (shape : BankShape) (h : List (Event n)) (next : ℕ) → RowsBelow h next → AreRowsApart (queue shape h) (waits shape h) next
+RowLaw = (n : ℕ) (shape : BankShape) (h : List (BankEvent n)) (next : ℕ) → RowsBelow h next → AreRowsApart (queue shape h) (waits shape h) next

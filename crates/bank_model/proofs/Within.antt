@@ -2,14 +2,14 @@
 use Rattle.std.proofs.Common.{ℕ, ◌*◌, ◌<◌, ◌≤◌, ◌==◌, cond, arith, Bool, true, false, List, [], ◌∷◌, Option, Some, None}
 use Rattle.bank_shape.specs.declared.BankShape.{BankShape}
 use Rattle.bank_shape.specs.declared.answer.Step.TheVariants as did
-use Rattle.bank_model.specs.Events.{Event, Write, Read, Serve, Begin, Iterate, Cut, line_of_row}
+use Rattle.bank_model.specs.Events.{BankEvent, Write, Read, Serve, Begin, Iterate, Cut, line_of_row}
 use Rattle.bank_model.specs.History.{stores, first_or}
 use Rattle.bank_model.specs.After.{due_moves}
 use Rattle.bank_model.specs.Answers.{MayAll}
 
 module _ {n : ℕ} (shape : BankShape) (most : ℕ) (some : 0 < shape.regions * shape.lines) where
   -- each write is of a line of the bank
-  pub line_of_row-known : (h : List (Event n)) (row : ℕ) → MayAll shape most h → line_of_row row h < shape.regions * shape.lines
+  pub line_of_row-known : (h : List (BankEvent n)) (row : ℕ) → MayAll shape most h → line_of_row row h < shape.regions * shape.lines
   line_of_row-known [] row may = some
   line_of_row-known (Write at line bytes given answer ∷ h) row may =
       by (at == row) may.0.0 (line_of_row-known h row may.1)
@@ -24,7 +24,7 @@ module _ {n : ℕ} (shape : BankShape) (most : ℕ) (some : 0 < shape.regions * 
   line_of_row-known (Cut tearing ∷ h) row may = line_of_row-known h row may.1
 
   -- and so is each store
-  pub last_store-known : (h : List (Event n)) → MayAll shape most h → first_or 0 (stores h) < shape.regions * shape.lines
+  pub last_store-known : (h : List (BankEvent n)) → MayAll shape most h → first_or 0 (stores h) < shape.regions * shape.lines
   last_store-known [] may = some
   last_store-known (Write at line bytes given answer ∷ h) may = last_store-known h may.1
   last_store-known (Read at line answer ∷ h) may = last_store-known h may.1

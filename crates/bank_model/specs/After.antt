@@ -8,7 +8,7 @@ use Rattle.bank_shape.specs.declared.BankShape.{BankShape}
 use Rattle.bank_shape.specs.declared.Work.{Work}
 use Rattle.bank_shape.specs.declared.Work.TheVariants.{Nothing, Store, Copy}
 use Rattle.bank_shape.specs.Shape.{slots_of, slot_at, slot_moved}
-use Rattle.bank_model.specs.Events.{Event}
+use Rattle.bank_model.specs.Events.{BankEvent}
 use Rattle.bank_model.specs.History.{Awaited, queue, waits, moved_in, due_after, retired, has_exhausted, in_progress}
 
 -- whether a work may be begun while these reads wait: a store may not while one of its line waits
@@ -28,7 +28,7 @@ abbrev pub due_moves : Option ℕ → ℕ
 due_moves None = 0
 due_moves (Some region) = 1
 
-module _ {n : ℕ} (shape : BankShape) (h : List (Event n)) where
+module _ {n : ℕ} (shape : BankShape) (h : List (BankEvent n)) where
   -- the slot where a line stands
   abbrev pub slot_after : ℕ → ℕ
   slot_after line = slot_moved shape line (moved_in shape.lines h (line / shape.lines))

@@ -1,9 +1,9 @@
 -- How the lines of an array age, whose cells keep to bounds: what the changes of their cells are to the line writes on them.
 use Rattle.std.specs.Prelude.{ℕ, ◌+◌, ◌<◌, ◌≤◌, min, IsTrue, IsFalse, List}
-use Rattle.pcm_cells.specs.Device.{CellBounds, LineState, ArrayState}
+use Rattle.cell_rows.specs.Device.{CellBounds, LineState, ArrayState}
 use Rattle.bank_shape.specs.declared.BankShape.{BankShape}
 use Rattle.bank_shape.specs.Shape.{slots_of, lines_in}
-use Rattle.bank_model.specs.Events.{Event}
+use Rattle.bank_model.specs.Events.{BankEvent}
 use Rattle.bank_model.specs.Works.{works_on, held_on}
 
 -- no cell of a line changed more often than so as its first one stuck: with no cell stuck none has spent more changes, and where one is,
@@ -22,12 +22,12 @@ MissesUnspent missed most line = ((c : ℕ) → IsFalse (line.stuck c)) → (c :
 
 -- the most changes of a cell of an array line with no cell stuck: one for each line write that ended on it, and one for that in progress
 -- once it was iterated
-abbrev pub most_aged : {n : ℕ} → BankShape → ℕ → List (Event n) → ℕ
+abbrev pub most_aged : {n : ℕ} → BankShape → ℕ → List (BankEvent n) → ℕ
 most_aged shape at h = works_on shape at h + min (held_on shape at h) 1
 
 -- how the lines of a bank have aged by its events: each of them endures, and those of slots and spares by the line writes on them, in
 -- which a cell that missed in every iteration of the one in progress has not changed yet
-pub record AreAged {n m : ℕ} (shape : BankShape) (h : List (Event n)) (array : ArrayState n m) : Type 0 where
+pub record AreAged {n m : ℕ} (shape : BankShape) (h : List (BankEvent n)) (array : ArrayState n m) : Type 0 where
   pub endure : (line : ℕ) → line < lines_in shape → Endures array.bounds (array.line (shape.base + line))
   pub age : (line : ℕ) → line < slots_of shape + shape.spares
       → Ages array.bounds (most_aged shape (shape.base + line) h) (array.line (shape.base + line))

@@ -14,11 +14,11 @@ use Rattle.bank_shape.specs.declared.answer.Served.{Served}
 use Rattle.bank_shape.specs.declared.answer.Step.{Step}
 use Rattle.bank_shape.specs.declared.answer.Step.TheVariants as did
 use Rattle.bank_shape.specs.Kinds.{is_store}
-use Rattle.bank_model.specs.Events.{Event, Write, Read, Serve, Begin, Iterate, Cut, newest}
+use Rattle.bank_model.specs.Events.{BankEvent, Write, Read, Serve, Begin, Iterate, Cut, newest}
 use Rattle.bank_model.specs.History.{Awaited, queue, waits, retired, has_exhausted, in_progress, iterated}
 use Rattle.bank_model.specs.After.{work_after, slot_of_work, array_line_after, stands_at_after, may_begin_after}
 
-module _ {n : ℕ} (shape : BankShape) (h : List (Event n)) where
+module _ {n : ℕ} (shape : BankShape) (h : List (BankEvent n)) where
   -- a store is in progress, so nothing merges into the head of the queue
   abbrev pub head_busy_after : Bool
   head_busy_after = in_progress h && is_store (work_after shape h)
@@ -59,7 +59,7 @@ module _ {n : ℕ} (shape : BankShape) (h : List (Event n)) where
   IsIterated work answer = IsDone work answer
 
   -- an event meets its condition, and its answer is one that the bank may give. A line write takes at most so many iterations
-  abbrev pub MayHappen : ℕ → Event n → Type 0
+  abbrev pub MayHappen : ℕ → BankEvent n → Type 0
   MayHappen most (Write row line bytes given answer) =
       (line < shape.regions * shape.lines) × IsMasked n bytes given × (answer ≡ write_answer line)
   MayHappen most (Read row line answer) = (line < shape.regions * shape.lines) × (answer ≡ read_answer line)
@@ -70,6 +70,6 @@ module _ {n : ℕ} (shape : BankShape) (h : List (Event n)) where
   MayHappen most (Cut tearing) = IsTrue (not tearing || in_progress h)
 
 -- each event of a history may happen after those before it
-abbrev pub MayAll : {n : ℕ} → BankShape → ℕ → List (Event n) → Type 0
+abbrev pub MayAll : {n : ℕ} → BankShape → ℕ → List (BankEvent n) → Type 0
 MayAll shape most [] = Unit {0}
 MayAll shape most (event ∷ h) = MayHappen shape h most event × MayAll shape most h

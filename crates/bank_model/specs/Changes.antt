@@ -8,7 +8,7 @@ use Rattle.bank_shape.specs.declared.answer.Step.{Step}
 use Rattle.bank_shape.specs.declared.answer.Step.TheVariants as did
 use Rattle.bank_shape.specs.declared.answer.Keep.{Keep}
 use Rattle.bank_shape.specs.declared.answer.Keep.TheVariants as keep
-use Rattle.bank_model.specs.Events.{Event, Begin, Iterate, Cut, line_of_row}
+use Rattle.bank_model.specs.Events.{BankEvent, Begin, Iterate, Cut, line_of_row}
 use Rattle.bank_model.specs.History.{stores, retired, first_or}
 use Rattle.bank_model.specs.Timing.{Happens, Core, Regs, KeepBegin, KeepIterate, KeepCut, TimedEvent, core}
 
@@ -18,7 +18,7 @@ item_if home.Guarded item = None
 item_if home.Array item = Some item
 
 -- the item that a step of a bank's line write changes: the region that it is of, the spare that was given, or the mark
-abbrev pub changed_by : {n : ℕ} → BankShape → List (Event n) → Step → Option ℕ → Option ℕ
+abbrev pub changed_by : {n : ℕ} → BankShape → List (BankEvent n) → Step → Option ℕ → Option ℕ
 changed_by shape h did.More old = old
 changed_by shape h (did.Stored row place) old = item_if shape.home (line_of_row row h / shape.lines)
 changed_by shape h (did.Moved step) old = item_if shape.home (first_or 0 (stores h) / shape.lines)
@@ -37,7 +37,7 @@ keeps_on keep.More = true
 keeps_on keep.Done = false
 keeps_on keep.Halted = false
 
-abbrev pub change_by : {n : ℕ} → BankShape → List (Event n) → Happens n → Option ℕ → Option ℕ
+abbrev pub change_by : {n : ℕ} → BankShape → List (BankEvent n) → Happens n → Option ℕ → Option ℕ
 change_by shape h (Core (Begin answer)) old = changed_by shape h answer old
 change_by shape h (Core (Iterate answer)) old = changed_by shape h answer old
 change_by shape h (Regs (KeepBegin answer)) old = written_by answer old

@@ -8,7 +8,7 @@ use Rattle.bank_shape.specs.declared.answer.ReadAnswer.TheVariants as came
 use Rattle.bank_shape.specs.declared.clock.Doing.{Doing}
 use Rattle.bank_shape.specs.declared.clock.Doing.TheVariants.{Serving, Beginning, Iterating}
 use Rattle.bank_shape.specs.declared.clock.Action.{Action}
-use Rattle.bank_model.specs.Events.{Event, Write, Read, Serve, Begin, Iterate, Cut, RowsBelow}
+use Rattle.bank_model.specs.Events.{BankEvent, Write, Read, Serve, Begin, Iterate, Cut, RowsBelow}
 use Rattle.bank_model.specs.History.{waits}
 use Rattle.bank_model.specs.Answers.{MayHappen}
 use Rattle.bank_shape.specs.declared.answer.Keep.TheVariants as keep
@@ -24,7 +24,7 @@ IsForwarded (came.Forwarded bytes) = Unit {0}
 IsForwarded came.Waiting = ⊥
 IsForwarded came.Busy = ⊥
 
-module _ {n : ℕ} (shape : BankShape) (h : List (Event n)) where
+module _ {n : ℕ} (shape : BankShape) (h : List (BankEvent n)) where
   -- a read would cancel: an action of a write runs, no read waits, and there were few cancels
   abbrev pub would_cancel : Policy → Option Action → ℕ → Bool
   would_cancel policy action count =
@@ -40,19 +40,19 @@ abbrev pub IsArrival : {n m : ℕ} → Pace → Option Action → ℕ → TimedE
 IsArrival pace action last x = (x.first ≡ x.tick) × (last ≤ x.tick) × IfSome action (λ a. x.tick < ends pace a)
 
 -- an event is a read that begins to wait, at this tick
-abbrev pub IsRead : {n : ℕ} → ℕ → ℕ → Event n → Type 0
+abbrev pub IsRead : {n : ℕ} → ℕ → ℕ → BankEvent n → Type 0
 IsRead tick at (Read row line came.Waiting) = at ≡ tick
 IsRead tick at event = ⊥
 
 -- the row of a write or a read is above all rows before
-abbrev pub IsAsked : {n : ℕ} → List (Event n) → Event n → Type 0
+abbrev pub IsAsked : {n : ℕ} → List (BankEvent n) → BankEvent n → Type 0
 IsAsked h (Write row line bytes given answer) = RowsBelow h row
 IsAsked h (Read row line answer) = RowsBelow h row
 IsAsked h event = Unit {0}
 
 module _ {n m : ℕ} (shape : BankShape) (pace : Pace) where
   -- an event comes when it may, while this action runs. A cut tears exactly where an iteration runs; a read that would cancel comes behind its cancel
-  abbrev pub IsOnTime : Option Action → List (TimedEvent n m) → TimedEvent n m → Event n → Type 0
+  abbrev pub IsOnTime : Option Action → List (TimedEvent n m) → TimedEvent n m → BankEvent n → Type 0
   IsOnTime action xs x (Write row line bytes given answer) = IsArrival pace action (last_tick xs) x × IsFalse x.cancels
   IsOnTime action xs x (Read row line answer) =
       IsArrival pace action (last_tick xs) x × IsFalse x.cancels
@@ -67,12 +67,12 @@ module _ {n m : ℕ} (shape : BankShape) (pace : Pace) where
       × (IsTrue (is_some (torn_control shape (change_after shape xs) action)) → IsTrue (keeping_after xs))
 
   -- behind a cancel comes the read that made it, at the cancel's tick
-  abbrev pub FollowsCancel : List (TimedEvent n m) → ℕ → Event n → Type 0
+  abbrev pub FollowsCancel : List (TimedEvent n m) → ℕ → BankEvent n → Type 0
   FollowsCancel [] at event = Unit {0}
   FollowsCancel (y ∷ ys) at event = IsTrue y.cancels → IsRead y.tick at event
 
   -- an event may come next: its row is new, the bank may answer so, at this tick, with these senses and this pulse
-  pub record IsNext (e : ℕ) (xs : List (TimedEvent n m)) (x : TimedEvent n m) (event : Event n) : Type 0 where
+  pub record IsNext (e : ℕ) (xs : List (TimedEvent n m)) (x : TimedEvent n m) (event : BankEvent n) : Type 0 where
     pub asked : IsAsked (core xs) event
     pub may : MayHappen shape (core xs) (most_steps e) event
     pub on_time : IsOnTime (running_at shape pace xs x.tick) xs x event

@@ -1,6 +1,5 @@
 pub mod Adding
 pub mod After
-pub mod Altered
 pub mod Answers
 pub mod Events
 pub mod History
@@ -12,5 +11,4 @@ pub mod Timing
 pub mod Told
 pub mod Works
 pub mod Aging
-pub mod Worked
 pub mod Touching

@@ -8,7 +8,7 @@ use Rattle.bank_shape.specs.declared.answer.ReadAnswer.TheVariants as came
 use Rattle.bank_shape.specs.declared.clock.Doing.{Doing}
 use Rattle.bank_shape.specs.declared.clock.Doing.TheVariants.{Beginning, Iterating}
 use Rattle.bank_shape.specs.declared.clock.Action.{Action}
-use Rattle.bank_model.specs.Events.{Event, Write, Read, Serve, Begin, Iterate, Cut}
+use Rattle.bank_model.specs.Events.{BankEvent, Write, Read, Serve, Begin, Iterate, Cut}
 use Rattle.bank_model.specs.History.{waits, in_progress, iterated, has_exhausted}
 use Rattle.bank_model.specs.After.{work_after, may_begin_after, is_store_of}
 use Rattle.bank_shape.specs.declared.pace.Pace.{Pace}
@@ -24,12 +24,12 @@ started None (Some doing) last tick = if nat_lt last tick then Some (record { do
 
 module _ {n : ℕ} (shape : BankShape) where
   -- whether a read of a line that begins to wait drops the begin of a store of its line. What is begun while a change stands is no store
-  abbrev pub drops_begin : List (Event n) → Option ℕ → ℕ → Option Action → Bool
+  abbrev pub drops_begin : List (BankEvent n) → Option ℕ → ℕ → Option Action → Bool
   drops_begin h None line action = is_doing Beginning action && is_store_of line (work_after shape h)
   drops_begin h (Some item) line action = false
 
   -- the action that runs after an event: one that has ended runs no more, and a cut drops it
-  abbrev pub left : List (Event n) → Option ℕ → Event n → Option Action → Option Action
+  abbrev pub left : List (BankEvent n) → Option ℕ → BankEvent n → Option Action → Option Action
   left h change (Write row line bytes given answer) action = action
   left h change (Read row line came.Waiting) action = if drops_begin h change line action then None else action
   left h change (Read row line answer) action = action
@@ -38,7 +38,7 @@ module _ {n : ℕ} (shape : BankShape) where
   left h change (Iterate answer) action = None
   left h change (Cut tearing) action = None
 
-  abbrev pub left_by : List (Event n) → Option ℕ → Happens n → Option Action → Option Action
+  abbrev pub left_by : List (BankEvent n) → Option ℕ → Happens n → Option Action → Option Action
   left_by h change (Core event) action = left h change event action
   left_by h change (Regs event) action = None
 
@@ -99,7 +99,7 @@ module _ {n m : ℕ} (shape : BankShape) (pace : Pace) where
   running_at xs tick = started (running xs) (chosen_after xs) (last_tick xs) tick
 
 -- how often the present work was cancelled
-abbrev pub cancels_by : {n : ℕ} → Event n → Bool → ℕ → ℕ
+abbrev pub cancels_by : {n : ℕ} → BankEvent n → Bool → ℕ → ℕ
 cancels_by (Cut tearing) true count = count + 1
 cancels_by (Cut tearing) false count = 0
 cancels_by (Begin did.More) cancels count = count

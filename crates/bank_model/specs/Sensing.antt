@@ -1,14 +1,14 @@
 -- Which array lines an event senses and pulses, and what the cells that it sensed are read as.
 use Rattle.std.specs.Prelude.{◌≡◌, ℕ, ◌==◌, Bool, true, false, if◌then◌else◌, List, [], ◌∷◌, ◌++◌, Option, Some, None, IsSomeAnd}
-use Rattle.pcm_cells.specs.declared.array.Sense.{Sense}
-use Rattle.pcm_cells.specs.declared.row.Cells.{Cells}
-use Rattle.pcm_cells.specs.Device.{counted}
+use Rattle.cell_rows.specs.declared.array.Sense.{Sense}
+use Rattle.cell_rows.specs.declared.row.Cells.{Cells}
+use Rattle.cell_rows.specs.Device.{counted}
 use Rattle.ecp_line.specs.Reading.{decode}
 pub use Rattle.ecp_line.specs.Steps.{most_steps}
 use Rattle.masked_bytes.specs.Masked.{laid}
 use Rattle.bank_shape.specs.declared.BankShape.{BankShape}
 use Rattle.bank_shape.specs.declared.answer.Step.TheVariants as did
-use Rattle.bank_model.specs.Events.{Event, Serve, Begin, Iterate, Cut, newest, up_to, line_of_row}
+use Rattle.bank_model.specs.Events.{BankEvent, Serve, Begin, Iterate, Cut, newest, up_to, line_of_row}
 use Rattle.bank_model.specs.History.{Awaited, waits}
 use Rattle.bank_model.specs.After.{work_after, target_after, sources_of, stands_at_after}
 use Rattle.bank_model.specs.Timing.{Happens, Core, Keeping, KeepBegin, KeepIterate, KeepCut, TimedEvent, core, is_doing}
@@ -26,7 +26,7 @@ abbrev pub pulses_of : {n m : ℕ} → List (TimedEvent n m) → ℕ → ℕ
 pulses_of [] line = 0
 pulses_of (x ∷ xs) line = if is_at x.pulsed line then counted (pulses_of xs line) else pulses_of xs line
 
-module _ {n : ℕ} (shape : BankShape) (h : List (Event n)) where
+module _ {n : ℕ} (shape : BankShape) (h : List (BankEvent n)) where
   -- the array line where the line of the first of these reads stands
   abbrev pub stand_of : List Awaited → List ℕ
   stand_of [] = []
@@ -34,7 +34,7 @@ module _ {n : ℕ} (shape : BankShape) (h : List (Event n)) where
 
   -- the array lines that an event senses, in this order: a copy's begin its source and then its target. A cut is one with the reading
   -- of these control lines
-  abbrev pub sensed_by : List ℕ → Event n → List ℕ
+  abbrev pub sensed_by : List ℕ → BankEvent n → List ℕ
   sensed_by controls (Serve answer) = stand_of (waits shape h)
   sensed_by controls (Begin answer) = sources_of shape h (work_after shape h) ++ target_after shape h ∷ []
   sensed_by controls (Iterate answer) = target_after shape h ∷ []
@@ -42,7 +42,7 @@ module _ {n : ℕ} (shape : BankShape) (h : List (Event n)) where
   sensed_by controls _ = []
 
   -- the one that it pulses or tears. A cut that doesn't tear the bank's line write may tear that of this control line
-  abbrev pub pulsed_by : Option ℕ → Event n → Option ℕ
+  abbrev pub pulsed_by : Option ℕ → BankEvent n → Option ℕ
   pulsed_by torn (Iterate answer) = Some (target_after shape h)
   pulsed_by torn (Cut true) = Some (target_after shape h)
   pulsed_by torn (Cut false) = torn
@@ -86,7 +86,7 @@ copied (x ∷ xs) = begun_with x.happens x.senses (copied xs)
 
 -- what an event sensed is read right. At a serve it gives the answer's bytes, those kept with the read laid over it; where a
 -- write is stored it gives the newest bytes of the line as of that write; where a gap move is done it gives the copied line's bytes
-abbrev pub IsReadRight : {n m : ℕ} → ℕ → BankShape → List (TimedEvent n m) → Event n → List (Sense n m) → Type 0
+abbrev pub IsReadRight : {n m : ℕ} → ℕ → BankShape → List (TimedEvent n m) → BankEvent n → List (Sense n m) → Type 0
 IsReadRight e shape xs (Serve answer) (s ∷ []) = IsLaid e (waits shape (core xs)) answer.bytes s.cells
 IsReadRight e shape xs (Begin (did.Stored row place)) (s ∷ []) = decode e s.cells ≡ newest (up_to row (core xs)) (line_of_row row (core xs))
 IsReadRight e shape xs (Iterate (did.Stored row place)) (s ∷ []) = decode e s.cells ≡ newest (up_to row (core xs)) (line_of_row row (core xs))

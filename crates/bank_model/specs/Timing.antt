@@ -1,13 +1,13 @@
 -- Events with their times, the newest first, and the actions of a bank.
 use Rattle.std.specs.Prelude.{ℕ, ◌||◌, Bool, true, false, List, [], ◌∷◌, Option, Some, None}
-use Rattle.pcm_cells.specs.declared.array.Sense.{Sense}
+use Rattle.cell_rows.specs.declared.array.Sense.{Sense}
 use Rattle.bank_shape.specs.Acting.{ends_with}
 use Rattle.bank_shape.specs.declared.pace.Pace.{Pace}
 use Rattle.bank_shape.specs.declared.clock.Doing.{Doing}
 use Rattle.bank_shape.specs.declared.clock.Doing.TheVariants.{Serving, Beginning, Iterating}
 use Rattle.bank_shape.specs.declared.clock.Action.{Action}
 use Rattle.bank_shape.specs.declared.answer.Keep.{Keep}
-use Rattle.bank_model.specs.Events.{Event}
+use Rattle.bank_model.specs.Events.{BankEvent}
 use Rattle.bank_model.specs.History.{Awaited}
 
 -- what happens at the control lines of a bank: the writing of the change that stands begins, goes on by an iteration, or is broken off
@@ -19,7 +19,7 @@ pub data Keeping : Type 0 where
 
 -- what happens at a bank, or at its control lines
 pub data Happens (n : ℕ) : Type 0 where
-  Core : (event : Event n) → Happens n
+  Core : (event : BankEvent n) → Happens n
   Regs : (event : Keeping) → Happens n
 
 -- an event with its tick, the first tick of its action, the array lines that it sensed, the one that it pulsed or tore, and whether it is a cut that a read made
@@ -54,13 +54,13 @@ is_empty [] = true
 is_empty (w ∷ ws) = false
 
 -- the core events, with this one, if it is one
-abbrev pub core_of : {n : ℕ} → Happens n → List (Event n) → List (Event n)
+abbrev pub core_of : {n : ℕ} → Happens n → List (BankEvent n) → List (BankEvent n)
 core_of (Core event) h = event ∷ h
 core_of (Regs event) h = h
 
 module _ {n m : ℕ} where
   -- the core events
-  abbrev pub core : List (TimedEvent n m) → List (Event n)
+  abbrev pub core : List (TimedEvent n m) → List (BankEvent n)
   core [] = []
   core (x ∷ xs) = core_of x.happens (core xs)
 

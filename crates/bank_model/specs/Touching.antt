@@ -1,10 +1,10 @@
 -- What one event does to an array, besides what the cells that it pulses then hold.
 use Rattle.std.specs.Prelude.{◌≡◌, ℕ, ◌+◌, ◌<◌, ◌≤◌, ◌⊎◌, ◌++◌, Bool, true, false, if◌then◌else◌, IsTrue, IsFalse, List, map, Option, Some}
-use Rattle.pcm_cells.specs.declared.array.Sense.{Sense}
-use Rattle.pcm_cells.specs.Device.{CellBounds, LineState, ArrayState, counted, sense_of}
+use Rattle.cell_rows.specs.declared.array.Sense.{Sense}
+use Rattle.cell_rows.specs.Device.{CellBounds, LineState, ArrayState, counted, sense_of}
 use Rattle.bank_shape.specs.declared.BankShape.{BankShape}
 use Rattle.bank_shape.specs.Shape.{slots_of}
-use Rattle.bank_model.specs.Events.{Event, Cut}
+use Rattle.bank_model.specs.Events.{BankEvent, Cut}
 use Rattle.bank_model.specs.History.{iterated}
 use Rattle.bank_model.specs.Sensing.{is_at}
 
@@ -28,13 +28,13 @@ pub record Strikes {n m : ℕ} (bounds : CellBounds) (missed : ℕ) (tearing : B
   pub stuck : (c : ℕ) → IsTrue (new.stuck c) → (missed ≤ old.misses c) × (bounds.endures ≤ old.spent c + 1)
 
 -- whether an event may break a pulse off
-abbrev pub breaks_off : {n : ℕ} → Event n → Bool
+abbrev pub breaks_off : {n : ℕ} → BankEvent n → Bool
 breaks_off (Cut tearing) = true
 breaks_off _ = false
 
 -- the line of a slot or a spare that an event pulses or tears, if no cell of it is stuck, is struck in cells that have each missed in every
 -- iteration of the line write in progress
-abbrev pub AreStruck : {n m : ℕ} → BankShape → List (Event n) → Event n → Option ℕ → ArrayState n m → ArrayState n m → Type 0
+abbrev pub AreStruck : {n m : ℕ} → BankShape → List (BankEvent n) → BankEvent n → Option ℕ → ArrayState n m → ArrayState n m → Type 0
 AreStruck shape h event pulsed old new =
     (line : ℕ) → line < slots_of shape + shape.spares → IsTrue (is_at pulsed (shape.base + line))
     → ((c : ℕ) → IsFalse ((old.line (shape.base + line)).stuck c))

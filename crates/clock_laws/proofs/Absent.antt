@@ -7,7 +7,7 @@ use Rattle.bank_shape.specs.declared.BankShape.{BankShape}
 use Rattle.bank_shape.specs.declared.answer.WriteAnswer.TheVariants as wrote
 use Rattle.bank_shape.specs.declared.answer.ReadAnswer.TheVariants as came
 use Rattle.bank_shape.specs.declared.answer.Step.TheVariants as did
-use Rattle.bank_model.specs.Events.{Event, Write, Read, Serve, Begin, Iterate, Cut, newest}
+use Rattle.bank_model.specs.Events.{BankEvent, Write, Read, Serve, Begin, Iterate, Cut, newest}
 use Rattle.bank_model.specs.History.{queue, waits, begun, due_after}
 use Rattle.bank_model.specs.Timing.{Core}
 use Rattle.bank_laws.specs.Standing.{has_wait}
@@ -21,9 +21,9 @@ module _ {n : ℕ} where
   lacks-begun None newest_of (e ∷ es) row none = none
 
   -- a row comes into the queue by its own write alone, and begins to wait by its own read alone
-  module _ (shape : BankShape) (h : List (Event n)) (row : ℕ) where
+  module _ (shape : BankShape) (h : List (BankEvent n)) (row : ℕ) where
     module _ (none : has_row (queue shape h) row ≡ false) where
-      pub queue-lacks : (event : Event n) → is_arrival_of (Core event) row ≡ false → has_row (queue shape (event ∷ h)) row ≡ false
+      pub queue-lacks : (event : BankEvent n) → is_arrival_of (Core event) row ≡ false → has_row (queue shape (event ∷ h)) row ≡ false
       queue-lacks (Write at line bytes given wrote.Accepted) off = lacks-push (queue shape h) _ row none off
       queue-lacks (Write at line bytes given (wrote.Merged old)) off = lacks-merged old at bytes given (queue shape h) row none off
       queue-lacks (Write at line bytes given wrote.Full) off = none
@@ -43,7 +43,7 @@ module _ {n : ℕ} where
       queue-lacks (Cut tearing) off = none
 
     module _ (waits_not : has_wait (waits shape h) row ≡ false) where
-      pub waits-lack : (event : Event n) → is_arrival_of (Core event) row ≡ false → has_wait (waits shape (event ∷ h)) row ≡ false
+      pub waits-lack : (event : BankEvent n) → is_arrival_of (Core event) row ≡ false → has_wait (waits shape (event ∷ h)) row ≡ false
       waits-lack (Write at line bytes given answer) off = waits_not
       waits-lack (Read at line came.Waiting) off = no_wait-push (waits shape h) _ row waits_not off
       waits-lack (Read at line came.Busy) off = waits_not

@@ -2,10 +2,10 @@
 use Rattle.std.proofs.Common.{◌≡◌, ◌⊎◌, inl, inr, ℕ, ◌+◌, ◌-◌, ◌^◌, ◌<◌, ◌≤◌, ◌==◌, ◌&&◌, not, Bool, true, false, List, [], ◌∷◌, Option, Some, None, min, refl, sym, ap, ◌∙◌, subst, arith, cond}
 use Rattle.std.specs.Prelude.{IsFalse}
 use Rattle.std.proofs.lemmas.Bool.{cases_lt}
-use Rattle.pcm_cells.specs.Device.{CellBounds, LineState, ArrayState, IsBlank, counted}
+use Rattle.cell_rows.specs.Device.{CellBounds, LineState, ArrayState, IsBlank, counted}
 use Rattle.bank_shape.specs.declared.BankShape.{BankShape}
 use Rattle.bank_shape.specs.Shape.{slots_of, lines_in, controls_from}
-use Rattle.bank_model.specs.Events.{Event, Write, Read, Serve, Begin, Iterate, Cut}
+use Rattle.bank_model.specs.Events.{BankEvent, Write, Read, Serve, Begin, Iterate, Cut}
 use Rattle.bank_model.specs.History.{goes_on, in_progress, iterated}
 use Rattle.bank_model.specs.After.{target_after}
 use Rattle.bank_model.specs.Answers.{MayAll}
@@ -25,7 +25,7 @@ use Rattle.place_laws.proofs.Pulsing.{begins-idle}
 use Rattle.clock_laws.proofs.Ranges.{ArePulses}
 
 -- an event of the bank strikes its line so; one of a change strikes a control line
-abbrev pub IsStruckBy : {n m : ℕ} → BankShape → List (Event n) → Happens n → Option ℕ → ArrayState n m → ArrayState n m → Type 0
+abbrev pub IsStruckBy : {n m : ℕ} → BankShape → List (BankEvent n) → Happens n → Option ℕ → ArrayState n m → ArrayState n m → Type 0
 IsStruckBy shape h (Core event) pulsed old new = AreStruck shape h event pulsed old new
 IsStruckBy shape h (Regs event) pulsed old new = Unit {0}
 
@@ -128,7 +128,7 @@ module _ {n m : ℕ} (shape : BankShape) (pace : Pace) (e at : ℕ) (low : at < 
   works = works_on shape at (core xs)
 
   -- the line, as the event goes on
-  abbrev Next : Event n → Type 0
+  abbrev Next : BankEvent n → Type 0
   Next event = IsAged bounds (works_on shape at (event ∷ core xs)) (held_on shape at (event ∷ core xs)) new
 
   -- if the event pulses it, the cells that it strikes have missed in every iteration
@@ -142,7 +142,7 @@ module _ {n m : ℕ} (shape : BankShape) (pace : Pace) (e at : ℕ) (low : at < 
       subst (λ (line : LineState n m). IsAged bounds next now line) (sym (same (ap (λ o. is_at o at) is ∙ off))) is_aged
 
   -- an event that goes past the line write in progress
-  quiet : (event : Event n) → spares_work event ≡ true → x.pulsed ≡ None → in_progress (event ∷ core xs) ≡ in_progress (core xs) → iterated (event ∷ core xs) ≡ iterated (core xs)
+  quiet : (event : BankEvent n) → spares_work event ≡ true → x.pulsed ≡ None → in_progress (event ∷ core xs) ≡ in_progress (core xs) → iterated (event ∷ core xs) ≡ iterated (core xs)
       → works_on shape at (event ∷ core xs) ≡ works → Next event
   quiet event spares none busy count counts =
       untouched None none refl (works_on shape at (event ∷ core xs)) (held_on shape at (event ∷ core xs))
@@ -273,7 +273,7 @@ module _ {n m : ℕ} (shape : BankShape) (pace : Pace) (e : ℕ) (xs : List (Tim
   }
 
 -- over another array in which each line of the bank is the same, and cells keep to the same bounds
-pub aged-same : {n m : ℕ} (shape : BankShape) (h : List (Event n)) (old new : ArrayState n m) → new.bounds ≡ old.bounds
+pub aged-same : {n m : ℕ} (shape : BankShape) (h : List (BankEvent n)) (old new : ArrayState n m) → new.bounds ≡ old.bounds
     → ((line : ℕ) → line < lines_in shape → new.line (shape.base + line) ≡ old.line (shape.base + line)) → AreAged shape h old → AreAged shape h new
 aged-same {n} {m} shape h old new bounds same was = record {
   endure = λ line below.

@@ -6,7 +6,7 @@ use Rattle.std.proofs.lemmas.List.{map_push}
 use Rattle.masked_bytes.specs.declared.entry.Entry.{Entry}
 use Rattle.masked_bytes.specs.Masked.{gives_all}
 use Rattle.masked_bytes.specs.Entries.{has_row, merged, laid_on, layer_of}
-use Rattle.pcm_cells.specs.Device.{ArrayState}
+use Rattle.cell_rows.specs.Device.{ArrayState}
 use Rattle.bank_shape.specs.declared.BankShape.{BankShape}
 use Rattle.bank_shape.specs.Pausing.{is_cancelling, most_cancels}
 use Rattle.power_recovery.specs.Kept.{KeptState}
@@ -16,7 +16,7 @@ use Rattle.bank_shape.specs.declared.answer.ReadAnswer.{ReadAnswer}
 use Rattle.bank_shape.specs.declared.answer.ReadAnswer.TheVariants as came
 use Rattle.bank_shape.specs.declared.clock.Doing.TheVariants.{Beginning}
 use Rattle.bank_shape.specs.declared.clock.Action.{Action}
-use Rattle.bank_model.specs.Events.{Event, Write, Read, RowsBelow}
+use Rattle.bank_model.specs.Events.{BankEvent, Write, Read, RowsBelow}
 use Rattle.bank_model.specs.Changes.{change_after}
 use Rattle.bank_model.specs.History.{queue, waits}
 use Rattle.bank_model.specs.After.{is_store_of}
@@ -248,7 +248,7 @@ answered_not {n = n} bank line answer is off = by (gives_all (layer_of bank.kept
 
 pub write_law : WriteLaw
 write_law n m e row line index bytes given answer xs clock bank array leads below keeps holds is_index =
-    let event : Event n = Write row line bytes given answer in
+    let event : BankEvent n = Write row line bytes given answer in
     let x : TimedEvent n m = stepped (Core event) clock.tick clock.tick [] None array in
     bank-leads xs clock bank clock.regs event clock.tick clock.tick clock.action (arrivals_after clock.tick index answer clock.arrivals) clock.cancels false [] None array array (leads-reaches xs clock array leads)
     (record {
@@ -278,7 +278,7 @@ write_law n m e row line index bytes given answer xs clock bank array leads belo
 
 pub read_law : ReadLaw
 read_law n m e row line answer xs clock bank array leads going answered below keeps holds =
-    let event : Event n = Read row line answer in
+    let event : BankEvent n = Read row line answer in
     let x : TimedEvent n m = stepped (Core event) clock.tick clock.tick [] None array in
     bank-leads xs clock bank clock.regs event clock.tick clock.tick (action_after_read clock.bank.kept clock.regs.change line answer clock.action) clock.arrivals clock.cancels false [] None array array
     (leads-reaches xs clock array leads)

@@ -4,8 +4,8 @@ use Rattle.std.specs.Prelude.{IfSome, IsSomeAnd}
 use Rattle.std.proofs.lemmas.Bool.{ne_eqb}
 use Rattle.std.proofs.lemmas.List.{drop-map}
 use Rattle.masked_bytes.specs.declared.entry.Entry.{Entry}
-use Rattle.pcm_cells.specs.declared.array.Sense.{Sense}
-use Rattle.pcm_cells.specs.Device.{ArrayState}
+use Rattle.cell_rows.specs.declared.array.Sense.{Sense}
+use Rattle.cell_rows.specs.Device.{ArrayState}
 use Rattle.ecp_line.specs.Reading.{decode}
 use Rattle.bank_shape.specs.declared.BankShape.{BankShape}
 use Rattle.bank_shape.specs.Shape.{controls_of, control_line}
@@ -13,7 +13,7 @@ use Rattle.bank_shape.specs.declared.answer.Step.TheVariants as did
 use Rattle.bank_shape.specs.declared.clock.Doing.{Doing}
 use Rattle.bank_shape.specs.declared.clock.Doing.TheVariants.{Serving, Beginning, Iterating}
 use Rattle.bank_shape.specs.declared.clock.Action.{Action}
-use Rattle.bank_model.specs.Events.{Event, Write, Read, Serve, Begin, Iterate, Cut, newest}
+use Rattle.bank_model.specs.Events.{BankEvent, Write, Read, Serve, Begin, Iterate, Cut, newest}
 use Rattle.bank_model.specs.History.{queue, begun, due_after}
 use Rattle.bank_model.specs.Changes.{change_after, line_of_change}
 use Rattle.bank_shape.specs.declared.pace.Pace.{Pace}
@@ -37,7 +37,7 @@ use Rattle.clock_laws.proofs.Elsewhere.{holds-same}
 use Rattle.clock_laws.proofs.Stepping.{follows, uncancelled, leads-reaches, reaches-leads, bank-leads, kept-reaches}
 
 -- no event that ends an action has a row of its own
-ends-asked : {n : ℕ} (h : List (Event n)) (event : Event n) (doing : Doing) → EndsDoing event doing → IsAsked h event
+ends-asked : {n : ℕ} (h : List (BankEvent n)) (event : BankEvent n) (doing : Doing) → EndsDoing event doing → IsAsked h event
 ends-asked h (Write row line bytes given answer) doing is = absurd is
 ends-asked h (Read row line answer) doing is = absurd is
 ends-asked h (Serve answer) doing is = tt
@@ -52,7 +52,7 @@ doing_is pace action doing runs is run =
     let same : action ≡ record { doing = doing; first = action.first } = ap (λ (doing : Doing). record action { doing = doing }) is in
     (run ∙ ap (λ a. Some a) same, ap (λ a. ends pace a) same)
 
-ends-on_time : {n m : ℕ} (shape : BankShape) (pace : Pace) (xs : List (TimedEvent n m)) (event : Event n) (action : Action) (runs : Option Action) (senses : List (Sense n m)) (pulsed : Option ℕ)
+ends-on_time : {n m : ℕ} (shape : BankShape) (pace : Pace) (xs : List (TimedEvent n m)) (event : BankEvent n) (action : Action) (runs : Option Action) (senses : List (Sense n m)) (pulsed : Option ℕ)
     → EndsDoing event action.doing → (change : Option Change) → IsAlone event change → item_of change ≡ change_after shape xs → runs ≡ Some action
     → IsOnTime shape pace runs xs (completion action.first (ends pace action) (Core event) senses pulsed) event
 ends-on_time shape pace xs (Write row line bytes given answer) action runs senses pulsed is change alone told run = absurd is
@@ -63,7 +63,7 @@ ends-on_time shape pace xs (Iterate answer) action runs senses pulsed is change 
 ends-on_time shape pace xs (Cut tearing) action runs senses pulsed is change alone told run = absurd is
 
 -- it looks at no control line
-pub ends-senses : {n : ℕ} (shape : BankShape) (h : List (Event n)) (controls : List ℕ) (event : Event n) (doing : Doing) → EndsDoing event doing → sensed_by shape h [] event ≡ sensed_by shape h controls event
+pub ends-senses : {n : ℕ} (shape : BankShape) (h : List (BankEvent n)) (controls : List ℕ) (event : BankEvent n) (doing : Doing) → EndsDoing event doing → sensed_by shape h [] event ≡ sensed_by shape h controls event
 ends-senses shape h controls (Write row line bytes given answer) doing is = absurd is
 ends-senses shape h controls (Read row line answer) doing is = absurd is
 ends-senses shape h controls (Serve answer) doing is = refl
@@ -71,7 +71,7 @@ ends-senses shape h controls (Begin answer) doing is = refl
 ends-senses shape h controls (Iterate answer) doing is = refl
 ends-senses shape h controls (Cut tearing) doing is = absurd is
 
-pub ends-pulses : {n : ℕ} (shape : BankShape) (h : List (Event n)) (torn : Option ℕ) (event : Event n) (doing : Doing) → EndsDoing event doing → pulsed_by shape h None event ≡ pulsed_by shape h torn event
+pub ends-pulses : {n : ℕ} (shape : BankShape) (h : List (BankEvent n)) (torn : Option ℕ) (event : BankEvent n) (doing : Doing) → EndsDoing event doing → pulsed_by shape h None event ≡ pulsed_by shape h torn event
 ends-pulses shape h torn (Write row line bytes given answer) doing is = absurd is
 ends-pulses shape h torn (Read row line answer) doing is = absurd is
 ends-pulses shape h torn (Serve answer) doing is = refl
@@ -80,7 +80,7 @@ ends-pulses shape h torn (Iterate answer) doing is = refl
 ends-pulses shape h torn (Cut tearing) doing is = absurd is
 
 -- no action runs behind it
-ends-left : {n : ℕ} (shape : BankShape) (h : List (Event n)) (change : Option ℕ) (event : Event n) (doing : Doing) (runs : Option Action) → EndsDoing event doing → None ≡ left shape h change event runs
+ends-left : {n : ℕ} (shape : BankShape) (h : List (BankEvent n)) (change : Option ℕ) (event : BankEvent n) (doing : Doing) (runs : Option Action) → EndsDoing event doing → None ≡ left shape h change event runs
 ends-left shape h change (Write row line bytes given answer) doing runs is = absurd is
 ends-left shape h change (Read row line answer) doing runs is = absurd is
 ends-left shape h change (Serve answer) doing runs is = refl
@@ -100,7 +100,7 @@ module _ {n m : ℕ} (shape : BankShape) (xs : List (TimedEvent n m)) where
   abbrev tick_at : Entry n → ℕ
   tick_at entry = tick_of_row entry.row xs
 
-  ends-arrived : (event : Event n) (doing : Doing) (first tick : ℕ) (senses : List (Sense n m)) (pulsed : Option ℕ) (arrivals : List ℕ) → EndsDoing event doing
+  ends-arrived : (event : BankEvent n) (doing : Doing) (first tick : ℕ) (senses : List (Sense n m)) (pulsed : Option ℕ) (arrivals : List ℕ) → EndsDoing event doing
       → arrivals ≡ map tick_at (queue shape (core xs))
       → arrivals_with event arrivals ≡ map (λ entry. tick_of_row entry.row (completion first tick (Core event) senses pulsed ∷ xs)) (queue shape (event ∷ core xs))
   ends-arrived (Write row line bytes given answer) doing first tick senses pulsed arrivals is before = absurd is

@@ -1,8 +1,8 @@
 -- The control lines and the change that stands, over arrays and banks that differ elsewhere.
 use Rattle.std.proofs.Common.{◌≡◌, ℕ, ◌+◌, ◌<◌, ◌≤◌, Option, Some, None, sym, ap, subst, ◌∙◌}
 use Rattle.std.specs.Prelude.{IfSome, IsSomeAnd, IsTrue}
-use Rattle.pcm_cells.specs.Rows.{cell}
-use Rattle.pcm_cells.specs.Device.{ArrayState, LineState}
+use Rattle.cell_rows.specs.Rows.{cell}
+use Rattle.cell_rows.specs.Device.{ArrayState, LineState}
 use Rattle.ecp_line.specs.Layout.{Sound}
 use Rattle.ecp_line.specs.Reading.{decode, is_worn_line}
 use Rattle.bank_shape.specs.declared.BankShape.{BankShape}

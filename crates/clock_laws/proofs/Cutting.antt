@@ -7,7 +7,7 @@ use Rattle.bank_shape.specs.declared.answer.ReadAnswer.TheVariants as came
 use Rattle.bank_shape.specs.declared.clock.Doing.{Doing}
 use Rattle.bank_shape.specs.declared.clock.Doing.TheVariants.{Serving, Beginning, Iterating}
 use Rattle.bank_shape.specs.declared.clock.Action.{Action}
-use Rattle.bank_model.specs.Events.{Event, Read, Cut}
+use Rattle.bank_model.specs.Events.{BankEvent, Read, Cut}
 use Rattle.bank_model.specs.Changes.{change_after, change_by, keeping_after, keeping_by, halted_after, halted_by, line_of_change, all_controls}
 use Rattle.bank_model.specs.History.{waits}
 use Rattle.bank_model.specs.Timing.{TimedEvent, Happens, Core, Regs, KeepCut, ends, same_doing, is_doing, is_empty, core}
@@ -77,7 +77,7 @@ told-cut {n} shape xs x regs h is change keeping halted told = record {
 pub power_cut_law : PowerCutLaw
 power_cut_law n m e xs clock bank old new leads fit holds shape stopped taken control touches struck =
     let kind : BankShape = clock.bank.kept.shape in
-    let event : Event n = Cut (tears_now clock) in
+    let event : BankEvent n = Cut (tears_now clock) in
     let x : TimedEvent n m = cut xs clock new in
     let runs : Option Action = running_at kind clock.pace xs clock.tick in
     bank-leads xs clock bank (broken_off clock.regs) event clock.tick clock.tick None clock.arrivals 0 (is_doing Iterating clock.action) (all_controls kind) (torn_now xs clock) old new (leads-reaches xs clock old leads)
@@ -121,7 +121,7 @@ pub cancel_law : CancelLaw
 cancel_law n m e line xs clock bank old new leads would none holds shape stopped taken control touches struck =
     let kind : BankShape = clock.bank.kept.shape in
     let tearing : Bool = is_doing Iterating clock.action in
-    let event : Event n = Cut tearing in
+    let event : BankEvent n = Cut tearing in
     let x : TimedEvent n m = cancel xs clock in
     let change : change_after kind xs ≡ None = sym leads.regs.change ∙ ap item_of none in
     let torn : torn_control kind (change_after kind xs) (running_at kind clock.pace xs clock.tick) ≡ None = none-torn kind (change_after kind xs) (running_at kind clock.pace xs clock.tick) change in
@@ -201,7 +201,7 @@ pub cancelled_read_law : CancelledReadLaw
 cancelled_read_law n m e row line y xs clock bank array r none at below keeps holds =
     let ys : List (TimedEvent n m) = y ∷ xs in
     let kind : BankShape = clock.bank.kept.shape in
-    let event : Event n = Read row line came.Waiting in
+    let event : BankEvent n = Read row line came.Waiting in
     let x : TimedEvent n m = stepped (Core event) clock.tick clock.tick [] None array in
     let runs : None ≡ running_at kind clock.pace ys clock.tick = sym none ∙ r.runs in
     bank-leads ys clock bank clock.regs event clock.tick clock.tick (action_after_read clock.bank.kept clock.regs.change line came.Waiting clock.action) clock.arrivals clock.cancels false [] None array array r

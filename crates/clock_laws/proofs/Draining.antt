@@ -2,7 +2,7 @@
 use Rattle.std.proofs.Common.{◌≡◌, ℕ, ◌+◌, ◌<◌, ◌≤◌, nat_lt, Bool, true, false, cond, List, [], ◌∷◌, ◌++◌, Option, Some, None, refl, sym, ap, subst, ◌∙◌, arith, ltb-false}
 use Rattle.std.specs.Prelude.{IsTrue, IfSome, IsSomeAnd, All}
 use Rattle.std.proofs.lemmas.List.Elements.{All-head, All-tail}
-use Rattle.pcm_cells.specs.Device.{ArrayState}
+use Rattle.cell_rows.specs.Device.{ArrayState}
 use Rattle.bank_shape.specs.declared.BankShape.{BankShape}
 use Rattle.bank_shape.specs.declared.clock.Doing.{Doing}
 use Rattle.bank_shape.specs.declared.clock.Doing.TheVariants.{Serving, Beginning, Iterating}
@@ -157,5 +157,5 @@ resting_registers_law n m e region xs clock array read iter leads none exists =
     record { regions = range.some_regions; lines = range.some_lines; writes = range.some_writes; reads = range.some_reads; psi = range.some_psi; read = read; iter = iter } in (
       moved_in clock.bank.kept.shape.lines (core xs) region,
       (leads.holds.regions region exists).registers,
-      moved_law n m e clock.bank.kept.shape clock.pace xs array region sized leads.lawful (idle_law n m e xs clock array leads none) (leaving_law n m e xs clock array leads),
+      moved_law false n m e clock.bank.kept.shape clock.pace xs array region sized leads.lawful (idle_law n m e xs clock array leads none) (leaving_law n m e xs clock array leads),
     )

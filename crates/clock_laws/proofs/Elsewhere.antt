@@ -3,7 +3,7 @@ use Rattle.std.proofs.Common.{◌≡◌, ℕ, ◌+◌, ◌<◌, ◌≤◌, List,
 use Rattle.std.specs.Prelude.{IfSome}
 use Rattle.masked_bytes.specs.Masked.{laid}
 use Rattle.masked_bytes.specs.Entries.{Layer, layer_of}
-use Rattle.pcm_cells.specs.Device.{ArrayState, LineState}
+use Rattle.cell_rows.specs.Device.{ArrayState, LineState}
 use Rattle.ecp_line.specs.Reading.{decode, IsSoundLine, IsWornLine}
 use Rattle.line_writer.specs.Orderly.{IsLive}
 use Rattle.line_writer.proofs.Orderly.{AreOrderly-same}
@@ -13,7 +13,7 @@ use Rattle.bank_shape.specs.declared.Work.TheVariants.{Nothing, Store, Copy}
 use Rattle.bank_shape.specs.Shape.{slots_of, slot_at, control_line}
 use Rattle.power_recovery.specs.Slots.{bank_lines}
 use Rattle.power_recovery.specs.Kept.{KeptState, IsKept, array_line, stands_at, due_region, due_work}
-use Rattle.bank_model.specs.Events.{Event}
+use Rattle.bank_model.specs.Events.{BankEvent}
 use Rattle.bank_model.specs.History.{Awaited, waits, iterated}
 use Rattle.bank_model.specs.Timing.{core}
 use Rattle.bank_shape.specs.declared.waiting.Waiting.{Waiting}
@@ -85,7 +85,7 @@ module _ {n m : ℕ} (e : ℕ) (kept : KeptState n) (range : IsKept kept) (old n
         };
   }
 
-pub holds-same : {n m e : ℕ} (h : List (Event n)) (bank : BankState n m e) (old new : ArrayState n m) → Holds h bank old → new.lines ≡ old.lines → new.bounds ≡ old.bounds
+pub holds-same : {n m e : ℕ} (h : List (BankEvent n)) (bank : BankState n m e) (old new : ArrayState n m) → Holds h bank old → new.lines ≡ old.lines → new.bounds ≡ old.bounds
     → ((line : ℕ) → IsSlotOrSpare bank.kept.shape line → new.line line ≡ old.line line) → Holds h bank new
 holds-same {n = n} {m = m} {e = e} h bank old new holds many bounds same = record {
   past = holds.past;

@@ -4,7 +4,7 @@ use Rattle.std.specs.Prelude.{IfSome, IsSomeAnd, IsTrue, All}
 use Rattle.masked_bytes.specs.Masked.{laid}
 use Rattle.masked_bytes.specs.Entries.{layer_of, head_row, head_line}
 use Rattle.masked_bytes.specs.declared.entry.Entry.{Entry}
-use Rattle.pcm_cells.specs.Device.{ArrayState, LineState}
+use Rattle.cell_rows.specs.Device.{ArrayState, LineState}
 use Rattle.ecp_line.specs.Reading.{decode}
 use Rattle.ecp_line.proofs.Bytes.{length-decode}
 use Rattle.start_gap.specs.declared.Move.{Move}
@@ -19,7 +19,7 @@ use Rattle.bank_shape.specs.declared.answer.Step.{Step}
 use Rattle.bank_shape.specs.declared.answer.Step.TheVariants as did
 use Rattle.bank_shape.specs.declared.clock.Doing.{Doing}
 use Rattle.bank_shape.specs.declared.clock.Action.{Action}
-use Rattle.bank_model.specs.Events.{Event, Write, Read, Serve, Begin, Iterate, Cut, newest, up_to, line_of_row}
+use Rattle.bank_model.specs.Events.{BankEvent, Write, Read, Serve, Begin, Iterate, Cut, newest, up_to, line_of_row}
 use Rattle.bank_model.specs.History.{Awaited, queue, waits}
 use Rattle.bank_model.specs.After.{work_after, sources_of, stands_at_after, target_after}
 use Rattle.bank_model.specs.Answers.{IsDone, IsIterated, MayAll, MayHappen}
@@ -95,7 +95,7 @@ module _ {n m e : ℕ} (xs : List (TimedEvent n m)) (clock : ClockState n m e) (
 
 -- One event
 
-no_tear : {n : ℕ} (event : Event n) (pulsed : Option ℕ) (doing : Doing) → EndsDoing event doing → false ≡ is_tear (Core event) pulsed
+no_tear : {n : ℕ} (event : BankEvent n) (pulsed : Option ℕ) (doing : Doing) → EndsDoing event doing → false ≡ is_tear (Core event) pulsed
 no_tear (Write row line bytes given answer) pulsed doing is = absurd is
 no_tear (Read row line answer) pulsed doing is = absurd is
 no_tear (Serve answer) pulsed doing is = refl
@@ -103,7 +103,7 @@ no_tear (Begin answer) pulsed doing is = refl
 no_tear (Iterate answer) pulsed doing is = refl
 no_tear (Cut tearing) pulsed doing is = absurd is
 
-module _ {n m e : ℕ} (xs : List (TimedEvent n m)) (clock : ClockState n m e) (bank : BankState n m e) (regs : RegsState n m e) (event : Event n) (action : Action) (sensed : List ℕ) (pulsed : Option ℕ) (old new : ArrayState n m)
+module _ {n m e : ℕ} (xs : List (TimedEvent n m)) (clock : ClockState n m e) (bank : BankState n m e) (regs : RegsState n m e) (event : BankEvent n) (action : Action) (sensed : List ℕ) (pulsed : Option ℕ) (old new : ArrayState n m)
     (leads : Leads xs clock old) (end : IsCompletion xs clock bank regs event action sensed pulsed old new) where
   -- it may happen
   may-end : MayHappen clock.bank.kept.shape (core xs) (most_steps e) event

@@ -1,11 +1,11 @@
 -- How the events of several calls add up, and what a bank does not touch.
 use Rattle.std.proofs.Common.{◌≡◌, ◌⊎◌, inl, inr, ℕ, ◌+◌, ◌<◌, ◌≤◌, ◌==◌, Bool, true, false, cond, List, [], ◌∷◌, ◌++◌, Option, Some, None, refl, sym, ap, ◌∙◌, arith, eqb-true, append-nil, append_assoc}
 use Rattle.std.specs.Prelude.{IfSome}
-use Rattle.pcm_cells.specs.declared.array.Sense.{Sense}
-use Rattle.pcm_cells.specs.Device.{counted}
+use Rattle.cell_rows.specs.declared.array.Sense.{Sense}
+use Rattle.cell_rows.specs.Device.{counted}
 use Rattle.bank_shape.specs.declared.BankShape.{BankShape}
 use Rattle.bank_shape.specs.Shape.{lines_in}
-use Rattle.bank_model.specs.Events.{Event, Write, Read, Serve, Begin, Iterate, Cut}
+use Rattle.bank_model.specs.Events.{BankEvent, Write, Read, Serve, Begin, Iterate, Cut}
 use Rattle.bank_model.specs.Timing.{Happens, Core, Regs, KeepBegin, KeepIterate, KeepCut, TimedEvent}
 use Rattle.bank_model.specs.Sensing.{is_at}
 use Rattle.bank_model.specs.Adding.{senses_of, pulses_on, torn_by, tears_on}
@@ -68,7 +68,7 @@ one_added_law n m shape x sensed tearing old new senses within is touches = reco
     pulsed_so line false at = ap (λ l. l.pulses) (touches.others line at) ∙ ap (λ b. cond b (counted (old.line line).pulses) (old.line line).pulses) (sym at)
 
 -- nothing is torn where nothing is pulsed
-none-torn : {n : ℕ} (event : Event n) → false ≡ is_tear (Core event) None
+none-torn : {n : ℕ} (event : BankEvent n) → false ≡ is_tear (Core event) None
 none-torn (Write row line bytes given answer) = refl
 none-torn (Read row line answer) = refl
 none-torn (Serve answer) = refl

@@ -13,7 +13,7 @@ use Rattle.masked_bytes.proofs.Standing.{layer_of-head}
 use Rattle.bank_shape.specs.declared.BankShape.{BankShape}
 use Rattle.bank_shape.specs.declared.answer.WriteAnswer.TheVariants as wrote
 use Rattle.bank_shape.specs.declared.answer.Step.TheVariants as did
-use Rattle.bank_model.specs.Events.{Event, Write, Read, Serve, Begin, Iterate, Cut, newest, up_to, RowsBelow}
+use Rattle.bank_model.specs.Events.{BankEvent, Write, Read, Serve, Begin, Iterate, Cut, newest, up_to, RowsBelow}
 use Rattle.bank_model.specs.History.{queue, begun, due_after, has_exhausted}
 use Rattle.bank_model.specs.Answers.{MayAll, head_busy_after}
 use Rattle.bank_laws.specs.Pairs.{has_line, ArePaired}
@@ -222,14 +222,14 @@ module _ {n : ℕ} where
   -- Histories
 
   -- what was newest of a line as of the write of a row
-  abbrev pub newest_at : List (Event n) → ℕ → ℕ → List ℕ
+  abbrev pub newest_at : List (BankEvent n) → ℕ → ℕ → List ℕ
   newest_at h row line = newest (up_to row h) line
 
-  length-newest_at : (h : List (Event n)) (row line : ℕ) → length (newest_at h row line) ≡ n
+  length-newest_at : (h : List (BankEvent n)) (row line : ℕ) → length (newest_at h row line) ≡ n
   length-newest_at h row line = length-newest (up_to row h) line
 
   -- a write of a line changes what is newest, and what was as of its own row
-  goes-on : (row line : ℕ) (bytes : List ℕ) (given : List Bool) (h : List (Event n)) (event : Event n)
+  goes-on : (row line : ℕ) (bytes : List ℕ) (given : List Bool) (h : List (BankEvent n)) (event : BankEvent n)
       → ((r at : ℕ) → newest_at (event ∷ h) r at ≡ (if row == r then newest (event ∷ h) at else newest_at h r at))
       → ((at : ℕ) → newest (event ∷ h) at ≡ (if line == at then laid bytes given (newest h at) else newest h at))
       → Goes row line bytes given (newest_at h) (newest_at (event ∷ h)) (newest h) (newest (event ∷ h))
@@ -240,17 +240,17 @@ module _ {n : ℕ} where
     off = λ at is. changes at ∙ ap (λ b. if b then laid bytes given (newest h at) else newest h at) is;
   }
 
-  newest_of-if : (b : Bool) (first other : List (Event n)) (at : ℕ) → newest (if b then first else other) at ≡ (if b then newest first at else newest other at)
+  newest_of-if : (b : Bool) (first other : List (BankEvent n)) (at : ℕ) → newest (if b then first else other) at ≡ (if b then newest first at else newest other at)
   newest_of-if true first other at = refl
   newest_of-if false first other at = refl
 
   module _ (shape : BankShape) (most : ℕ) where
-    begun-fresh : (h : List (Event n)) → MayAll shape most h → AreFresh (newest_at h) (newest h) (queue shape h)
+    begun-fresh : (h : List (BankEvent n)) → MayAll shape most h → AreFresh (newest_at h) (newest h) (queue shape h)
         → AreFresh (newest_at h) (newest h) (begun (due_after shape h) (newest h) (queue shape h))
     begun-fresh h may fresh =
         fresh-begun (due_after shape h) (newest_at h) (newest h) (queue shape h) (pair_law n most shape h may) (length-newest_at h) (length-newest h) fresh
 
-    refused-fresh : (row line : ℕ) (bytes : List ℕ) (given : List Bool) (h : List (Event n)) (event : Event n) → RowsBelow h row
+    refused-fresh : (row line : ℕ) (bytes : List ℕ) (given : List Bool) (h : List (BankEvent n)) (event : BankEvent n) → RowsBelow h row
         → ((r at : ℕ) → newest_at (event ∷ h) r at ≡ (if row == r then newest (event ∷ h) at else newest_at h r at))
         → AreFresh (newest_at h) (newest h) (queue shape h) → AreFresh (newest_at (event ∷ h)) (newest h) (queue shape h)
     refused-fresh row line bytes given h event below named fresh =
@@ -258,7 +258,7 @@ module _ {n : ℕ} where
         (λ r at off. named r at ∙ ap (λ b. if b then newest (event ∷ h) at else newest_at h r at) off)
         ((stand_apart shape h row below).queued_below row (omega arith)) fresh
 
-    pub queue-fresh : (h : List (Event n)) (bound : ℕ) → MayAll shape most h → RowsBelow h bound → AreFresh (newest_at h) (newest h) (queue shape h)
+    pub queue-fresh : (h : List (BankEvent n)) (bound : ℕ) → MayAll shape most h → RowsBelow h bound → AreFresh (newest_at h) (newest h) (queue shape h)
     queue-fresh [] bound may below = tt
     queue-fresh (Write row line bytes given wrote.Accepted ∷ h) bound may below =
         fresh-accepted row line bytes given (newest_at h) (newest_at (Write row line bytes given wrote.Accepted ∷ h)) (newest h) (newest (Write row line bytes given wrote.Accepted ∷ h))
@@ -292,7 +292,7 @@ module _ {n : ℕ} where
   -- The head
 
   -- a head that gives every byte has the newest bytes of its line as of its own write
-  pub head-bytes : (h : List (Event n)) (es : List (Entry n)) (bytes : List ℕ) (line : ℕ) → AreFresh (newest_at h) (newest h) es
+  pub head-bytes : (h : List (BankEvent n)) (es : List (Entry n)) (bytes : List ℕ) (line : ℕ) → AreFresh (newest_at h) (newest h) es
       → IsSomeAnd (slice_get es 0) (λ head. (head.line ≡ line) × (head.bytes ≡ bytes) × IsTrue (gives_all head.given)) → bytes ≡ newest_at h (head_row es) (head_line es)
   head-bytes h [] bytes line fresh some = absurd some
   head-bytes h (e ∷ es) bytes line fresh some =
@@ -305,7 +305,7 @@ module _ {n : ℕ} where
       ∙ no_line-layer es line (neither_second (e.line == line) (has_line es line) off)
 
   -- bytes over which the queue gives the newest ones of the head's line, and that the head doesn't change, were the newest as of its write
-  pub head-under : (h : List (Event n)) (es : List (Entry n)) (under : List ℕ) → AreFresh (newest_at h) (newest h) es → ArePaired es → AllMasked es → length under ≡ n
+  pub head-under : (h : List (BankEvent n)) (es : List (Entry n)) (under : List ℕ) → AreFresh (newest_at h) (newest h) es → ArePaired es → AllMasked es → length under ≡ n
       → laid (layer_of es (head_line es)).bytes (layer_of es (head_line es)).given under ≡ newest h (head_line es)
       → IsSomeAnd (slice_get es 0) (λ head. laid head.bytes head.given under ≡ under) → under ≡ newest_at h (head_row es) (head_line es)
   head-under h [] under fresh paired masked len stands some = absurd some
@@ -324,7 +324,7 @@ module _ {n : ℕ} where
           ∙ sym (layer_of-head e es e.line under masked len refl)
           ∙ stands ∙ sym (fresh.0.latest alone)
 
-  entries-newest : (h : List (Event n)) (es : List (Entry n)) → AreFresh (newest_at h) (newest h) es → GiveNewest h es
+  entries-newest : (h : List (BankEvent n)) (es : List (Entry n)) → AreFresh (newest_at h) (newest h) es → GiveNewest h es
   entries-newest h [] fresh = tt
   entries-newest h (e ∷ es) fresh = (fresh.0.over, entries-newest h es fresh.1)
 

@@ -12,7 +12,7 @@ use Rattle.bank_shape.specs.declared.answer.WriteAnswer.TheVariants as wrote
 use Rattle.bank_shape.specs.declared.answer.ReadAnswer.TheVariants as came
 use Rattle.bank_shape.specs.declared.answer.Served.{Served}
 use Rattle.bank_shape.specs.declared.answer.Step.TheVariants as did
-use Rattle.bank_model.specs.Events.{Event, Write, Read, Serve, Begin, Iterate, Cut}
+use Rattle.bank_model.specs.Events.{BankEvent, Write, Read, Serve, Begin, Iterate, Cut}
 use Rattle.bank_model.specs.History.{Awaited, queue, waits, due_after, has_exhausted}
 use Rattle.bank_model.specs.After.{due_work}
 use Rattle.bank_model.specs.Answers.{MayHappen, IsServed, IsDone, head_busy_after}
@@ -73,7 +73,7 @@ module _ {n : ℕ} where
   on-other : (at row : ℕ) (outcome : Outcome n) → (at == row) ≡ false → on_row at row outcome ≡ None
   on-other at row outcome off = ap (λ b. cond b (Some outcome) None) off
 
-  module _ (shape : BankShape) (h : List (Event n)) (row : ℕ) (none : has_row (queue shape h) row ≡ false) (waits_not : has_wait (waits shape h) row ≡ false) where
+  module _ (shape : BankShape) (h : List (BankEvent n)) (row : ℕ) (none : has_row (queue shape h) row ≡ false) (waits_not : has_wait (waits shape h) row ≡ false) where
     -- the write that is stored is the head
     stored-other : (mark : Bool) (due : Option ℕ) (es : List (Entry n)) (at place : ℕ) → queue shape h ≡ es
         → IsDone shape h (if mark then Nothing else due_work shape h due es) (did.Stored at place) → (at == row) ≡ false
@@ -89,7 +89,7 @@ module _ {n : ℕ} where
     served-other [] answer lacks is = absurd is
     served-other (w ∷ ws) answer lacks is = ap (λ r. r == row) is.0 ∙ neither_first (w.row == row) _ lacks
 
-    no-outcome : (most tick : ℕ) (event : Event n) → MayHappen shape h most event → is_arrival_of (Core event) row ≡ false → outcome_by (waits shape h) event tick row ≡ None
+    no-outcome : (most tick : ℕ) (event : BankEvent n) → MayHappen shape h most event → is_arrival_of (Core event) row ≡ false → outcome_by (waits shape h) event tick row ≡ None
     no-outcome most tick (Write at line bytes given wrote.Accepted) may off = refl
     no-outcome most tick (Write at line bytes given (wrote.Merged old)) may off =
         let told = answer_merged shape h (has_exhausted h) (candidate (head_busy_after shape h) (queue shape h) line) old may.2 in

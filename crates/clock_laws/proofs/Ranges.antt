@@ -4,8 +4,8 @@ use Rattle.std.specs.Prelude.{All, IfSome}
 use Rattle.std.proofs.lemmas.List.Elements.{All-nil, All-cons}
 use Rattle.std.proofs.Math.Nat.{mul-le-mul_left}
 use Rattle.masked_bytes.specs.declared.entry.Entry.{Entry}
-use Rattle.pcm_cells.specs.declared.array.Sense.{Sense}
-use Rattle.pcm_cells.specs.Device.{ArrayState, counted, sense_of}
+use Rattle.cell_rows.specs.declared.array.Sense.{Sense}
+use Rattle.cell_rows.specs.Device.{ArrayState, counted, sense_of}
 use Rattle.start_gap.specs.Rotation.{Rotation, below_gap}
 use Rattle.start_gap.proofs.Places.{below_gap-within}
 use Rattle.spare_pool.specs.Table.{line_by, used_by}
@@ -19,7 +19,7 @@ use Rattle.power_recovery.specs.Kept.{KeptState, IsKept, AllBelow, region_at, sl
 use Rattle.power_recovery.proofs.Placing.{slot_of-within}
 use Rattle.bank_shape.proofs.Sizes.{slot_at-within}
 use Rattle.power_recovery.proofs.Bundle.{due_region-Some}
-use Rattle.bank_model.specs.Events.{Event, Write, Read, Serve, Begin, Iterate, Cut}
+use Rattle.bank_model.specs.Events.{BankEvent, Write, Read, Serve, Begin, Iterate, Cut}
 use Rattle.bank_model.specs.History.{Awaited, waits}
 use Rattle.bank_model.specs.After.{work_after, target_after, sources_of}
 use Rattle.bank_shape.specs.declared.clock.Doing.TheVariants.{Iterating}
@@ -104,7 +104,7 @@ module _ {n : ℕ} (kept : KeptState n) (range : IsKept kept) where
   pub source-within : HasSource (next_work kept)
   source-within = (next_by kept.exhausted (due_region kept) kept.entries refl range.known).1
 
-module _ {n m e : ℕ} (h : List (Event n)) (bank : BankState n m e) (array : ArrayState n m) (holds : Holds h bank array) where
+module _ {n m e : ℕ} (h : List (BankEvent n)) (bank : BankState n m e) (array : ArrayState n m) (holds : Holds h bank array) where
   agreeing : AgreesWith h bank
   agreeing = agree_law n m e h bank array holds
 
@@ -124,7 +124,7 @@ module _ {n m e : ℕ} (h : List (Event n)) (bank : BankState n m e) (array : Ar
   target_after-in = subst (λ (at : ℕ). IsIn bank.kept.shape at) agreeing.target (slot-in bank.kept.shape _ (target-in bank.kept holds.kept))
 
   -- each event senses lines of its bank
-  pub sensed-in : (controls : List ℕ) (event : Event n) → AreIn bank.kept.shape controls → AreIn bank.kept.shape (sensed_by bank.kept.shape h controls event)
+  pub sensed-in : (controls : List ℕ) (event : BankEvent n) → AreIn bank.kept.shape controls → AreIn bank.kept.shape (sensed_by bank.kept.shape h controls event)
   sensed-in controls (Write row line bytes given answer) own = tt
   sensed-in controls (Read row line answer) own = tt
   sensed-in controls (Serve answer) own = first-in (waits bank.kept.shape h) (waits-known bank.kept.shape _ h holds.past)
@@ -136,7 +136,7 @@ module _ {n m e : ℕ} (h : List (Event n)) (bank : BankState n m e) (array : Ar
   sensed-in controls (Cut tearing) own = own
 
   -- and pulses one of them or none
-  pub pulsed-in : (torn : Option ℕ) (event : Event n) → IfSome torn (IsIn bank.kept.shape) → IfSome (pulsed_by bank.kept.shape h torn event) (IsIn bank.kept.shape)
+  pub pulsed-in : (torn : Option ℕ) (event : BankEvent n) → IfSome torn (IsIn bank.kept.shape) → IfSome (pulsed_by bank.kept.shape h torn event) (IsIn bank.kept.shape)
   pulsed-in torn (Write row line bytes given answer) own = tt
   pulsed-in torn (Read row line answer) own = tt
   pulsed-in torn (Serve answer) own = tt

@@ -15,7 +15,7 @@ use Rattle.bank_shape.specs.declared.answer.WriteAnswer.TheVariants as wrote
 use Rattle.bank_shape.specs.declared.answer.ReadAnswer.TheVariants as came
 use Rattle.bank_shape.specs.declared.answer.Served.{Served}
 use Rattle.bank_shape.specs.declared.answer.Step.TheVariants as did
-use Rattle.bank_model.specs.Events.{Event, Write, Read, Serve, Begin, Iterate, Cut, newest, RowsBelow}
+use Rattle.bank_model.specs.Events.{BankEvent, Write, Read, Serve, Begin, Iterate, Cut, newest, RowsBelow}
 use Rattle.bank_model.specs.History.{Awaited, queue, waits, begun, due_after, has_exhausted}
 use Rattle.bank_model.specs.After.{work_after}
 use Rattle.bank_model.specs.Answers.{MayHappen, IsServed, IsDone, head_busy_after}
@@ -85,7 +85,7 @@ wait-new : (ws : List Awaited) (w : Awaited) (row : ℕ) → (w.row == row) ≡ 
 wait-new [] w row h = or_left (w.row == row) false h
 wait-new (v ∷ ws) w row h = or_right (v.row == row) _ (wait-new ws w row h)
 
-module _ {n : ℕ} (shape : BankShape) (h : List (Event n)) (row tick : ℕ) (before : Outcome n) where
+module _ {n : ℕ} (shape : BankShape) (h : List (BankEvent n)) (row tick : ℕ) (before : Outcome n) where
   -- a row stands, waits or has its outcome
   abbrev Stands : List (Entry n) → List Awaited → Outcome n → Type 0
   Stands es ws outcome = (has_row es row ≡ true) ⊎ ((has_wait ws row ≡ true) ⊎ (is_set outcome ≡ true))
@@ -125,7 +125,7 @@ module _ {n : ℕ} (shape : BankShape) (h : List (Event n)) (row tick : ℕ) (be
   begun-kept (inl there) = inl (there-begun (due_after shape h) (newest h) (queue shape h) row there)
   begun-kept (inr other) = inr other
 
-  step : (most : ℕ) (event : Event n) → MayHappen shape h most event → (is_arrival_of (Core event) row ≡ true) ⊎ Stands (queue shape h) (waits shape h) before
+  step : (most : ℕ) (event : BankEvent n) → MayHappen shape h most event → (is_arrival_of (Core event) row ≡ true) ⊎ Stands (queue shape h) (waits shape h) before
       → Stands (queue shape (event ∷ h)) (waits shape (event ∷ h)) (unwrap_or (outcome_by (waits shape h) event tick row) before)
   step most (Write at line bytes given wrote.Accepted) may (inl own) = inl (there-new (queue shape h) (record { row = at; line = line; bytes = bytes; given = given }) row own)
   step most (Write at line bytes given wrote.Accepted) may (inr (inl there)) = inl (there-push (queue shape h) (record { row = at; line = line; bytes = bytes; given = given }) row there)

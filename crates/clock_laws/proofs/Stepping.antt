@@ -1,11 +1,11 @@
 -- One more event.
 use Rattle.std.proofs.Common.{◌≡◌, ℕ, ◌<◌, Bool, true, false, List, [], ◌∷◌, map, Option, Some, None, is_some, refl, sym, ap, subst, ◌∙◌, arith}
 use Rattle.std.specs.Prelude.{All, IfSome, IsTrue}
-use Rattle.pcm_cells.specs.Device.{ArrayState}
+use Rattle.cell_rows.specs.Device.{ArrayState}
 use Rattle.bank_shape.specs.declared.BankShape.{BankShape}
 use Rattle.bank_shape.specs.Shape.{controls_of}
 use Rattle.bank_shape.specs.declared.clock.Action.{Action}
-use Rattle.bank_model.specs.Events.{Event}
+use Rattle.bank_model.specs.Events.{BankEvent}
 use Rattle.bank_model.specs.Aging.{AreAged}
 use Rattle.bank_model.specs.History.{queue}
 use Rattle.bank_model.specs.Answers.{MayAll}
@@ -31,7 +31,7 @@ use Rattle.clock_laws.proofs.Controls.{change-known}
 use Rattle.clock_laws.proofs.Ranges.{AreIn, ArePulses, controls-in, sensed-in, kept-sensed-in, change-in, pulses-at, pulses-next, shown-all, shown-lines}
 
 -- the last event is no cancel, so nothing has to follow it
-pub follows : {n m : ℕ} (shape : BankShape) (pace : Pace) (xs : List (TimedEvent n m)) (tick : ℕ) (event : Event n) → IsWhole xs → FollowsCancel shape pace xs tick event
+pub follows : {n m : ℕ} (shape : BankShape) (pace : Pace) (xs : List (TimedEvent n m)) (tick : ℕ) (event : BankEvent n) → IsWhole xs → FollowsCancel shape pace xs tick event
 follows shape pace [] tick event whole = tt
 follows shape pace (x ∷ xs) tick event whole = λ is. absurd (cc)
 
@@ -81,7 +81,7 @@ module _ {n m e : ℕ} where
     pub control : Control bank.kept regs new
 
   -- of an event of the bank
-  pub record StepsBank (xs : List (TimedEvent n m)) (clock : ClockState n m e) (event : Event n) (first tick : ℕ) (flag tearing : Bool) (sensed : List ℕ) (pulsed : Option ℕ)
+  pub record StepsBank (xs : List (TimedEvent n m)) (clock : ClockState n m e) (event : BankEvent n) (first tick : ℕ) (flag tearing : Bool) (sensed : List ℕ) (pulsed : Option ℕ)
       (old new : ArrayState n m) : Type 0 where
     pub asked : IsAsked (core xs) event
     pub on_time : IsOnTime clock.bank.kept.shape clock.pace (running_at clock.bank.kept.shape clock.pace xs tick) xs (stepped_as flag (Core event) first tick sensed pulsed new) event
@@ -110,7 +110,7 @@ module _ {n m e : ℕ} where
     change_known = change-known clock.bank.kept clock.regs reached.control
 
     -- an event of the bank may come
-    pub bank-comes : (bank : BankState n m e) (event : Event n) (first tick : ℕ) (flag tearing : Bool) (sensed : List ℕ) (pulsed : Option ℕ)
+    pub bank-comes : (bank : BankState n m e) (event : BankEvent n) (first tick : ℕ) (flag tearing : Bool) (sensed : List ℕ) (pulsed : Option ℕ)
         → Holds (event ∷ core xs) bank new → bank.kept.shape ≡ clock.bank.kept.shape → StepsBank xs clock event first tick flag tearing sensed pulsed old new
         → MayCome clock.bank.kept.shape clock.pace e xs (stepped_as flag (Core event) first tick sensed pulsed new) (Core event)
     bank-comes bank event first tick flag tearing sensed pulsed holds same s =
@@ -235,7 +235,7 @@ module _ {n m e : ℕ} where
   }
 
   -- an event of the bank
-  pub bank-reaches : (xs : List (TimedEvent n m)) (clock : ClockState n m e) (bank : BankState n m e) (regs : RegsState n m e) (event : Event n) (first tick : ℕ) (action : Option Action)
+  pub bank-reaches : (xs : List (TimedEvent n m)) (clock : ClockState n m e) (bank : BankState n m e) (regs : RegsState n m e) (event : BankEvent n) (first tick : ℕ) (action : Option Action)
       (arrivals : List ℕ) (count : ℕ) (flag tearing : Bool) (sensed : List ℕ) (pulsed : Option ℕ) (old new : ArrayState n m) → Reaches xs clock old
       → StepsBank xs clock event first tick flag tearing sensed pulsed old new
       → Steps xs clock bank regs (stepped_as flag (Core event) first tick sensed pulsed new) action arrivals count new
@@ -247,7 +247,7 @@ module _ {n m e : ℕ} where
       (still-aged xs clock old new reached (stepped_as flag (Core event) first tick sensed pulsed new) sensed tearing
       (bank-comes xs clock old new reached bank event first tick flag tearing sensed pulsed s.holds s.shape b) b.touches b.struck) s
 
-  pub bank-leads : (xs : List (TimedEvent n m)) (clock : ClockState n m e) (bank : BankState n m e) (regs : RegsState n m e) (event : Event n) (first tick : ℕ) (action : Option Action)
+  pub bank-leads : (xs : List (TimedEvent n m)) (clock : ClockState n m e) (bank : BankState n m e) (regs : RegsState n m e) (event : BankEvent n) (first tick : ℕ) (action : Option Action)
       (arrivals : List ℕ) (count : ℕ) (tearing : Bool) (sensed : List ℕ) (pulsed : Option ℕ) (old new : ArrayState n m) → Reaches xs clock old
       → StepsBank xs clock event first tick false tearing sensed pulsed old new
       → Steps xs clock bank regs (stepped (Core event) first tick sensed pulsed new) action arrivals count new

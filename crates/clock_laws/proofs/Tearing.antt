@@ -1,12 +1,12 @@
 -- A power cut and a cancel, told by what the bank and the control lines keep.
 use Rattle.std.proofs.Common.{◌≡◌, ◌⊎◌, inl, inr, ℕ, ◌+◌, ◌||◌, not, is_some, Bool, true, false, cond, List, [], ◌∷◌, Option, Some, None, refl, sym, ap, subst, ◌∙◌}
 use Rattle.std.specs.Prelude.{IsTrue}
-use Rattle.pcm_cells.specs.Device.{ArrayState}
+use Rattle.cell_rows.specs.Device.{ArrayState}
 use Rattle.bank_shape.specs.declared.BankShape.{BankShape}
 use Rattle.bank_shape.specs.declared.clock.Doing.{Doing}
 use Rattle.bank_shape.specs.declared.clock.Doing.TheVariants.{Serving, Beginning, Iterating}
 use Rattle.bank_shape.specs.declared.clock.Action.{Action}
-use Rattle.bank_model.specs.Events.{Event, Cut}
+use Rattle.bank_model.specs.Events.{BankEvent, Cut}
 use Rattle.bank_model.specs.History.{in_progress}
 use Rattle.bank_model.specs.Answers.{MayAll, MayHappen}
 use Rattle.bank_model.specs.Changes.{line_of_change, all_controls}
@@ -95,7 +95,7 @@ torn_some false regs change r some = refl
 
 pub cut_ends_law : CutEndsLaw
 cut_ends_law n m e tearing xs clock bank old new leads fit tears holds shape stopped taken control touches struck =
-    let event : Event n = Cut (tears_now clock) in
+    let event : BankEvent n = Cut (tears_now clock) in
     let past : MayAll clock.bank.kept.shape (most_steps e) (event ∷ core xs) = subst (λ (shape : BankShape). MayAll shape (most_steps e) (event ∷ core xs)) shape holds.past in
     let pulsed : torn_line tearing clock.regs clock.regs.change clock.bank.running ≡ torn_now xs clock =
     ap (λ b. torn_line b clock.regs clock.regs.change clock.bank.running) tears ∙ torn_by_change xs clock old leads clock.regs.change refl past.0 in
@@ -114,7 +114,7 @@ cut_ends_law n m e tearing xs clock bank old new leads fit tears holds shape sto
 
 pub cancel_ends_law : CancelEndsLaw
 cancel_ends_law n m e line tearing xs clock bank old new leads would none tears holds shape stopped taken control touches struck =
-    let event : Event n = Cut tearing in
+    let event : BankEvent n = Cut tearing in
     let past : MayAll clock.bank.kept.shape (most_steps e) (event ∷ core xs) = subst (λ (shape : BankShape). MayAll shape (most_steps e) (event ∷ core xs)) shape holds.past in
     let own : Option ℕ = pulsed_by clock.bank.kept.shape (core xs) None event in
     let pulsed : torn_line tearing clock.regs clock.regs.change clock.bank.running ≡ own =

@@ -1,8 +1,8 @@
 -- What the calls of one step touch together, and what the bank and the control lines are to each other's lines.
 use Rattle.std.proofs.Common.{◌≡◌, ◌&&◌, not, is_some, ℕ, ◌+◌, Bool, true, false, cond, Option, Some, None, List, [], ◌∷◌, ◌++◌, refl, sym, ap, subst, ◌∙◌, arith, append-nil}
 use Rattle.std.proofs.lemmas.Bool.{ne_eqb}
-use Rattle.pcm_cells.specs.declared.array.Sense.{Sense}
-use Rattle.pcm_cells.specs.Device.{CellBounds, ArrayState, LineState, counted, sense_of}
+use Rattle.cell_rows.specs.declared.array.Sense.{Sense}
+use Rattle.cell_rows.specs.Device.{CellBounds, ArrayState, LineState, counted, sense_of}
 use Rattle.bank_shape.specs.Shape.{control_line}
 use Rattle.bank_model.specs.Timing.{core}
 use Rattle.bank_model.specs.Touching.{Sticks, Touches, shown}

@@ -1,7 +1,7 @@
 -- The laws of each action that ends, and of a cut, in terms of what the bank keeps.
 use Rattle.std.specs.Prelude.{◌≡◌, ◌≢◌, ℕ, ◌+◌, ◌<◌, ◌≤◌, ◌&&◌, not, Bool, true, false, IsTrue, List, [], ◌∷◌, Option, Some, None, IsSomeAnd, slice_get, is_some}
 use Rattle.masked_bytes.specs.Masked.{laid}
-use Rattle.pcm_cells.specs.Device.{ArrayState}
+use Rattle.cell_rows.specs.Device.{ArrayState}
 use Rattle.bank_shape.specs.declared.BankShape.{BankShape}
 use Rattle.bank_shape.specs.declared.Work.{Work}
 use Rattle.bank_shape.specs.declared.Work.TheVariants.{Nothing, Store, Copy}
@@ -15,7 +15,7 @@ use Rattle.bank_shape.specs.declared.answer.Keep.TheVariants as keep
 use Rattle.bank_shape.specs.declared.clock.Doing.{Doing}
 use Rattle.bank_shape.specs.declared.clock.Doing.TheVariants.{Beginning, Iterating}
 use Rattle.bank_shape.specs.declared.clock.Action.{Action}
-use Rattle.bank_model.specs.Events.{Event, Serve, Begin, Iterate, Cut}
+use Rattle.bank_model.specs.Events.{BankEvent, Serve, Begin, Iterate, Cut}
 use Rattle.bank_model.specs.Changes.{all_controls}
 use Rattle.bank_model.specs.Timing.{TimedEvent, KeepBegin, KeepIterate, core, ends, is_doing}
 use Rattle.bank_model.specs.Touching.{Touches, AreStruck}
@@ -49,7 +49,7 @@ module _ {n m e : ℕ} where
   -- the action that runs from now on ends by an event, which leaves this bank, these control lines and this array: it pulsed this
   -- line, in cells that had missed before, and then sensed these. The change that it brings is put, and the control lines hold what the
   -- bank now keeps
-  pub record IsCompletion (xs : List (TimedEvent n m)) (clock : ClockState n m e) (bank : BankState n m e) (regs : RegsState n m e) (event : Event n) (action : Action)
+  pub record IsCompletion (xs : List (TimedEvent n m)) (clock : ClockState n m e) (bank : BankState n m e) (regs : RegsState n m e) (event : BankEvent n) (action : Action)
       (sensed : List ℕ) (pulsed : Option ℕ) (old new : ArrayState n m) : Type 0 where
     pub next : next_action clock ≡ Some action
     pub doing : EndsDoing event action.doing
@@ -64,7 +64,7 @@ module _ {n m e : ℕ} where
     pub control : Control bank.kept regs new
 
   -- the history goes on by that event
-  abbrev pub GoesOn : List (TimedEvent n m) → ClockState n m e → BankState n m e → RegsState n m e → Event n → Action → ArrayState n m → ArrayState n m → Type 0
+  abbrev pub GoesOn : List (TimedEvent n m) → ClockState n m e → BankState n m e → RegsState n m e → BankEvent n → Action → ArrayState n m → ArrayState n m → Type 0
   GoesOn xs clock bank regs event action old new =
       LeadsOn clock.bank.kept.shape xs (completed xs clock action event new) (after_action clock bank regs action event) old new
 

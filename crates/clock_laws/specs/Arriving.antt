@@ -1,6 +1,6 @@
 -- The laws of a write and of a read that arrive.
 use Rattle.std.specs.Prelude.{◌≡◌, ℕ, ◌&&◌, not, nat_lt, length, false, Bool, if◌then◌else◌, List, [], ◌∷◌, ◌++◌, Option, Some, None, IsSomeAnd, slice_get, slice_set}
-use Rattle.pcm_cells.specs.Device.{ArrayState}
+use Rattle.cell_rows.specs.Device.{ArrayState}
 use Rattle.masked_bytes.specs.Masked.{gives_all}
 use Rattle.masked_bytes.specs.Entries.{layer_of}
 use Rattle.bank_shape.specs.Pausing.{is_cancelling, most_cancels}
@@ -12,7 +12,7 @@ use Rattle.bank_shape.specs.declared.answer.ReadAnswer.{ReadAnswer}
 use Rattle.bank_shape.specs.declared.answer.ReadAnswer.TheVariants as came
 use Rattle.bank_shape.specs.declared.clock.Doing.TheVariants.{Beginning}
 use Rattle.bank_shape.specs.declared.clock.Action.{Action}
-use Rattle.bank_model.specs.Events.{Event, Write, Read, RowsBelow}
+use Rattle.bank_model.specs.Events.{BankEvent, Write, Read, RowsBelow}
 use Rattle.bank_model.specs.After.{is_store_of}
 use Rattle.bank_model.specs.Timing.{TimedEvent, Core, core, is_doing, is_writing}
 use Rattle.reg_lines.specs.declared.Change.{Change}
@@ -23,7 +23,7 @@ use Rattle.clock_laws.specs.State.{ClockState}
 use Rattle.clock_laws.specs.Leads.{Leads}
 
 -- an event that arrives at a tick: nothing is sensed and nothing is pulsed
-abbrev pub arrival : {n m : ℕ} → ℕ → Event n → TimedEvent n m
+abbrev pub arrival : {n m : ℕ} → ℕ → BankEvent n → TimedEvent n m
 arrival tick event = record { happens = Core event; tick = tick; first = tick; senses = []; pulsed = None; cancels = false }
 
 -- a bank has the shape, the values of each item, the line write in progress and the lost rows of another

@@ -1,13 +1,13 @@
 -- The laws of an action that ends: a serve, or a begin or an iteration of the bank's line write or of the change's.
 use Rattle.std.specs.Prelude.{◌≡◌, ℕ, ◌<◌, false, IsTrue, List, [], ◌∷◌, drop, Option, Some, None, IfSome, is_some}
-use Rattle.pcm_cells.specs.declared.array.Sense.{Sense}
-use Rattle.pcm_cells.specs.Device.{ArrayState}
+use Rattle.cell_rows.specs.declared.array.Sense.{Sense}
+use Rattle.cell_rows.specs.Device.{ArrayState}
 use Rattle.bank_shape.specs.declared.answer.Step.{Step}
 use Rattle.bank_shape.specs.declared.answer.Step.TheVariants as did
 use Rattle.bank_shape.specs.declared.clock.Doing.{Doing}
 use Rattle.bank_shape.specs.declared.clock.Doing.TheVariants.{Serving, Beginning, Iterating}
 use Rattle.bank_shape.specs.declared.clock.Action.{Action}
-use Rattle.bank_model.specs.Events.{Event, Serve, Begin, Iterate}
+use Rattle.bank_model.specs.Events.{BankEvent, Serve, Begin, Iterate}
 use Rattle.bank_model.specs.Changes.{line_of_change}
 use Rattle.bank_model.specs.Running.{cancels_by, cancels_with}
 use Rattle.bank_model.specs.Timing.{TimedEvent, Happens, Core, Regs, Keeping, KeepBegin, KeepIterate, KeepCut, core, ends}
@@ -29,7 +29,7 @@ completion first tick happens senses pulsed =
     record { happens = happens; tick = tick; first = first; senses = senses; pulsed = pulsed; cancels = false }
 
 -- an event is the end of what a bank was busy with
-abbrev pub EndsDoing : {n : ℕ} → Event n → Doing → Type 0
+abbrev pub EndsDoing : {n : ℕ} → BankEvent n → Doing → Type 0
 EndsDoing (Serve answer) doing = doing ≡ Serving
 EndsDoing (Begin answer) doing = doing ≡ Beginning
 EndsDoing (Iterate answer) doing = doing ≡ Iterating
@@ -42,7 +42,7 @@ EndsKeeping (KeepIterate answer) doing = doing ≡ Iterating
 EndsKeeping (KeepCut tearing) doing = ⊥
 
 -- a line write of the bank is begun and goes on only while no change stands
-abbrev pub IsAlone : {n : ℕ} → Event n → Option Change → Type 0
+abbrev pub IsAlone : {n : ℕ} → BankEvent n → Option Change → Type 0
 IsAlone (Begin answer) change = change ≡ None
 IsAlone (Iterate answer) change = change ≡ None
 IsAlone _ change = Unit {0}
@@ -52,21 +52,21 @@ abbrev pub arrivals_by : Step → List ℕ → List ℕ
 arrivals_by (did.Stored row place) arrivals = drop 1 arrivals
 arrivals_by _ arrivals = arrivals
 
-abbrev pub arrivals_with : {n : ℕ} → Event n → List ℕ → List ℕ
+abbrev pub arrivals_with : {n : ℕ} → BankEvent n → List ℕ → List ℕ
 arrivals_with (Begin answer) arrivals = arrivals_by answer arrivals
 arrivals_with (Iterate answer) arrivals = arrivals_by answer arrivals
 arrivals_with _ arrivals = arrivals
 
 module _ {n m e : ℕ} where
   -- the event that ends an action of a bank, with what it senses and pulses
-  abbrev pub completed : List (TimedEvent n m) → ClockState n m e → Action → Event n → ArrayState n m → TimedEvent n m
+  abbrev pub completed : List (TimedEvent n m) → ClockState n m e → Action → BankEvent n → ArrayState n m → TimedEvent n m
   completed xs clock action event array =
       let shape = clock.bank.kept.shape in
       let tick = ends clock.pace action in
       completion action.first tick (Core event) (shown tick (sensed_by shape (core xs) [] event) array) (pulsed_by shape (core xs) None event)
 
   -- the clock after an action ended so, with this bank and these control lines: no action runs
-  abbrev pub after_action : ClockState n m e → BankState n m e → RegsState n m e → Action → Event n → ClockState n m e
+  abbrev pub after_action : ClockState n m e → BankState n m e → RegsState n m e → Action → BankEvent n → ClockState n m e
   after_action clock bank regs action event =
       record { bank = bank; regs = regs; pace = clock.pace; tick = ends clock.pace action; action = None; arrivals = arrivals_with event clock.arrivals; cancels = cancels_by event false clock.cancels; drained = clock.drained }
 
@@ -90,7 +90,7 @@ module _ {n m e : ℕ} where
 -- told by the history and hold what the bank keeps, are premises
 abbrev pub CompletionLaw : Type 0
 CompletionLaw =
-    (n m e : ℕ) (event : Event n) (action : Action) (xs : List (TimedEvent n m)) (clock : ClockState n m e) (bank : BankState n m e) (regs : RegsState n m e) (old new : ArrayState n m)
+    (n m e : ℕ) (event : BankEvent n) (action : Action) (xs : List (TimedEvent n m)) (clock : ClockState n m e) (bank : BankState n m e) (regs : RegsState n m e) (old new : ArrayState n m)
     → Leads xs clock old → next_action clock ≡ Some action → EndsDoing event action.doing → clock.tick < ends clock.pace action
     → IsAlone event clock.regs.change
     → Holds (event ∷ core xs) bank new → bank.kept.shape ≡ clock.bank.kept.shape → bank.lost ≡ []

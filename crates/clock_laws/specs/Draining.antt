@@ -1,6 +1,6 @@
 -- How a bank runs on to which nothing comes: at which ticks its actions end, and what its registers stand for where none is left.
 use Rattle.std.specs.Prelude.{◌≡◌, ℕ, ◌+◌, ◌<◌, ◌≤◌, IsTrue, List, [], ◌∷◌, ◌++◌, None, IsSomeAnd, All}
-use Rattle.pcm_cells.specs.Device.{ArrayState}
+use Rattle.cell_rows.specs.Device.{ArrayState}
 use Rattle.start_gap.specs.Rotation.{StandsFor}
 use Rattle.power_recovery.specs.Kept.{region_at}
 use Rattle.bank_model.specs.Events.{Serve, Begin, Iterate}

@@ -1,9 +1,9 @@
 -- How the events of several calls add up, and what a bank does not touch.
 use Rattle.std.specs.Prelude.{◌≡◌, ℕ, ◌+◌, ◌<◌, ◌≤◌, Bool, false, List, [], ◌∷◌, ◌++◌, Option, Some, None, IfSome, is_some}
-use Rattle.pcm_cells.specs.Device.{ArrayState}
+use Rattle.cell_rows.specs.Device.{ArrayState}
 use Rattle.bank_shape.specs.declared.BankShape.{BankShape}
 use Rattle.bank_shape.specs.Shape.{lines_in, controls_of, control_line}
-use Rattle.bank_model.specs.Events.{Event, Cut}
+use Rattle.bank_model.specs.Events.{BankEvent, Cut}
 use Rattle.bank_model.specs.Timing.{TimedEvent, Happens, Core, Regs, KeepCut}
 use Rattle.bank_model.specs.Touching.{Touches, shown}
 use Rattle.bank_model.specs.Adding.{Adds}
@@ -34,7 +34,7 @@ OneAddedLaw =
 
 -- an arrival adds nothing
 abbrev pub ArrivalAddedLaw : Type 0
-ArrivalAddedLaw = (n m tick : ℕ) (shape : BankShape) (event : Event n) (array : ArrayState n m) → Adds shape (arrival tick event ∷ []) array array
+ArrivalAddedLaw = (n m tick : ℕ) (shape : BankShape) (event : BankEvent n) (array : ArrayState n m) → Adds shape (arrival tick event ∷ []) array array
 
 -- the events of two calls add up
 abbrev pub BothAddedLaw : Type 0
@@ -73,5 +73,5 @@ ControlsStayLaw =
 -- and a history leads to the bank over an array in which a control line was pulsed or torn
 abbrev pub BankStaysLaw : Type 0
 BankStaysLaw =
-    (n m e tick item : ℕ) (sensed : List ℕ) (tearing : Bool) (h : List (Event n)) (bank : BankState n m e) (old new : ArrayState n m)
+    (n m e tick item : ℕ) (sensed : List ℕ) (tearing : Bool) (h : List (BankEvent n)) (bank : BankState n m e) (old new : ArrayState n m)
     → Holds h bank old → Touches tick sensed (Some (control_line bank.kept.shape item)) tearing old new → Holds h bank new

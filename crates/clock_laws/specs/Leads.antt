@@ -1,6 +1,6 @@
 -- That a timed history leads to a bank with its clock, over an array.
 use Rattle.std.specs.Prelude.{◌≡◌, ℕ, ◌+◌, ◌<◌, ◌≤◌, IsTrue, List, [], map, IfSome, IsSomeAnd}
-use Rattle.pcm_cells.specs.Device.{ArrayState}
+use Rattle.cell_rows.specs.Device.{ArrayState}
 use Rattle.ecp_line.specs.Reading.{decode}
 use Rattle.bank_shape.specs.Shape.{lines_in}
 use Rattle.bank_shape.specs.Kinds.{is_copy}

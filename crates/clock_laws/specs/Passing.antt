@@ -1,6 +1,6 @@
 -- The laws of time that passes in which no event comes, and of a bank that has nothing left to do.
 use Rattle.std.specs.Prelude.{◌≡◌, ℕ, ◌<◌, ◌≤◌, List, Option, None, IfSome}
-use Rattle.pcm_cells.specs.Device.{ArrayState}
+use Rattle.cell_rows.specs.Device.{ArrayState}
 use Rattle.bank_shape.specs.declared.clock.Action.{Action}
 use Rattle.bank_model.specs.Timing.{TimedEvent, ends}
 use Rattle.bank_model.specs.Lawful.{IsIdle}

@@ -1,14 +1,14 @@
 -- Which change an action puts that ends a line write of the bank.
 use Rattle.std.specs.Prelude.{◌≡◌, ℕ, ◌+◌, ◌/◌, List, ◌∷◌, Option, Some, None}
 use Rattle.masked_bytes.specs.Entries.{head_line}
-use Rattle.pcm_cells.specs.Device.{ArrayState}
+use Rattle.cell_rows.specs.Device.{ArrayState}
 use Rattle.spare_pool.specs.Table.{used_by}
 use Rattle.power_recovery.specs.Kept.{KeptState, due_region}
 use Rattle.bank_shape.specs.declared.answer.Step.{Step}
 use Rattle.bank_shape.specs.declared.answer.Step.TheVariants as did
 use Rattle.bank_model.specs.Answers.{MayHappen}
 use Rattle.bank_model.specs.Changes.{item_if}
-use Rattle.bank_model.specs.Events.{Event, Begin, Iterate}
+use Rattle.bank_model.specs.Events.{BankEvent, Begin, Iterate}
 use Rattle.bank_model.specs.Sensing.{most_steps}
 use Rattle.bank_model.specs.Timing.{TimedEvent, Core, core}
 use Rattle.reg_lines.specs.Regs.{RegsState}
@@ -35,7 +35,7 @@ item_by kept (did.Retired slot line) = item_if kept.shape.home (kept.shape.regio
 item_by kept did.Exhausted = item_if kept.shape.home (kept.shape.regions + kept.shape.spares)
 
 -- the item that an event changes
-abbrev pub item_with : {n : ℕ} → KeptState n → Event n → Option ℕ
+abbrev pub item_with : {n : ℕ} → KeptState n → BankEvent n → Option ℕ
 item_with kept (Begin answer) = item_by kept answer
 item_with kept (Iterate answer) = item_by kept answer
 item_with kept event = None
@@ -48,6 +48,6 @@ put_if (Some item) kept regs = with_change (record { item = item; values = item_
 -- the control lines with the change of the item that an event changes are told by the history
 abbrev pub PutLaw : Type 0
 PutLaw =
-    (n m e : ℕ) (event : Event n) (doing : Doing) (x : TimedEvent n m) (xs : List (TimedEvent n m)) (clock : ClockState n m e) (kept : KeptState n) (array : ArrayState n m)
+    (n m e : ℕ) (event : BankEvent n) (doing : Doing) (x : TimedEvent n m) (xs : List (TimedEvent n m)) (clock : ClockState n m e) (kept : KeptState n) (array : ArrayState n m)
     → Leads xs clock array → MayHappen clock.bank.kept.shape (core xs) (most_steps e) event → EndsDoing event doing → IsAlone event clock.regs.change
     → x.happens ≡ Core event → AreTold clock.bank.kept.shape (x ∷ xs) (put_if (item_with clock.bank.kept event) kept clock.regs)

@@ -1,6 +1,6 @@
 -- The law of a bank that was just made.
 use Rattle.std.specs.Prelude.{◌≡◌, ℕ, ◌+◌, ◌<◌, false, [], None}
-use Rattle.pcm_cells.specs.Device.{ArrayState, IsBlank}
+use Rattle.cell_rows.specs.Device.{ArrayState, IsBlank}
 use Rattle.bank_shape.specs.Shape.{lines_in}
 use Rattle.bank_invariant.specs.Holds.{Holds}
 use Rattle.register_laws.specs.Control.{Control}

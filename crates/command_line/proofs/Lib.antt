@@ -1,3 +1,3 @@
 mod Tables
-mod Reading
-mod Steps
+pub mod Reading
+pub mod Steps

@@ -27,7 +27,7 @@ unfolding job_at
 taken app all e = rw e refl
 
 -- words that it refuses
-refused_by : (kind : ErrorKind) (kinds : Kinds) (job : Option Job) → IsAmong kind kinds → answer_of kinds job ≡ Err Usage
+pub refused_by : {T : Type 0} (kind : ErrorKind) (kinds : Kinds) (job : Option T) → IsAmong kind kinds → answer_of kinds job ≡ Err Usage
 refused_by kind [] job among = absurd among
 refused_by kind (k ∷ ks) job among = refl
 
@@ -36,7 +36,7 @@ unfolding job_at
 refused app all kind among = refused_by kind (faults_at app all) (job_met (command_at app all)) among
 
 -- the definitions in terms of clap's own
-faults-are : (app : App) (all : List Text) → faults_at app all ≡ fault_of app all
+pub faults-are : (app : App) (all : List Text) → faults_at app all ≡ fault_of app all
 unfolding faults_at
 faults-are app all = refl
 
@@ -68,11 +68,11 @@ job-of-refused words all app e a p kinds other =
     behind words all app _ a p (refused app all (kind_of e) some)
 
 -- an answer that is the job of the words
-pub ok-of : (r j : Result Job Refusal) → j ≡ r → IfOk r (λ job. j ≡ Ok job)
+pub ok-of : {T : Type 0} (r j : Result T Refusal) → j ≡ r → IfOk r (λ job. j ≡ Ok job)
 ok-of (Ok job) j e = e
 ok-of (Err f) j e = tt
 
-pub err-of : (r j : Result Job Refusal) → j ≡ r → (P : Refusal → Type 0) → IfErr r (λ e. P e → j ≡ Err e)
+pub err-of : {T : Type 0} (r j : Result T Refusal) → j ≡ r → (P : Refusal → Type 0) → IfErr r (λ e. P e → j ≡ Err e)
 err-of (Ok job) j e P = tt
 err-of (Err f) j e P = λ _. e
 

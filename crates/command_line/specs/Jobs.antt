@@ -3,7 +3,7 @@ use Rattle.std.specs.Prelude.{◌≡◌, ◌≤◌, true, if◌then◌else◌, L
 use Rattle.std.specs.Int.{is_power_of_two}
 use Rattle.std.specs.Str.{bytes_eq}
 use Rattle.clap.specs.Words.{App, Kinds, Row, Text, fault_of, first_of, subcommand_of}
-use Rattle.pcm_cells.specs.Device.{IsWear}
+use Rattle.cell_rows.specs.Device.{IsWear}
 use Rattle.trace_gen.specs.Generated.{IsMix}
 use Rattle.module_shape.specs.Limits.{IsShape}
 use Rattle.command_line.specs.Table.{pcm_app}
@@ -73,11 +73,11 @@ job_named name rows =
     else (if bytes_eq name (codes "check") then check_of rows else None)))))
 
 -- a job, or a faulty command line: where there is none, or where `clap` refuses the words for some cause
-abbrev pub or_usage : Option Job → Result Job Refusal
+abbrev pub or_usage : {T : Type 0} → Option T → Result T Refusal
 or_usage None = Err Usage
 or_usage (Some job) = Ok job
 
-abbrev pub answer_of : Kinds → Option Job → Result Job Refusal
+abbrev pub answer_of : {T : Type 0} → Kinds → Option T → Result T Refusal
 answer_of [] job = or_usage job
 answer_of (kind ∷ kinds) job = Err Usage
 

@@ -1,10 +1,10 @@
 -- What the options of a command mean.
-use Rattle.std.specs.Prelude.{ℕ, nat_le, if◌then◌else◌, List, codes, Option, Some, None}
+use Rattle.std.specs.Prelude.{◌≡◌, ◌≤◌, ℕ, nat_le, if◌then◌else◌, List, codes, Option, Some, None}
 use Rattle.std.specs.Str.{bytes_eq}
 use Rattle.clap.specs.Words.{Row, Text, first_of}
 use Rattle.trace_reader.specs.Number.{number_of}
 use Rattle.trace_gen.specs.declared.mix.Mix.{Mix}
-use Rattle.pcm_cells.specs.declared.array.Wear.{Wear}
+use Rattle.cell_rows.specs.declared.array.Wear.{Wear}
 use Rattle.bank_shape.specs.declared.Home.{Home}
 use Rattle.bank_shape.specs.declared.Home.TheVariants as home
 use Rattle.bank_shape.specs.declared.pace.Policy.{Policy}
@@ -120,17 +120,35 @@ wear_of seed rows =
     with_some (number_option (codes "misses") 0 0 7 rows) (λ misses.
     if nat_le lo hi then Some (record { seed = seed; lo = lo; hi = hi; misses = misses }) else None)))
 
--- what the rows of a generated trace are: no more cuts than rows
-unfoldable pub mix_of : List Row → Option Mix
-mix_of rows =
-    with_some (number_option (codes "rows") 1000 1 400000 rows) (λ count.
+-- what the rows of a generated trace of at most so many rows are: no more cuts than rows
+unfoldable pub mix_within : ℕ → List Row → Option Mix
+mix_within most rows =
+    with_some (number_option (codes "rows") 1000 1 most rows) (λ count.
     with_some (number_option (codes "write-percent") 50 0 100 rows) (λ percent.
-    with_some (number_option (codes "cuts") 0 0 400000 rows) (λ cuts.
+    with_some (number_option (codes "cuts") 0 0 most rows) (λ cuts.
     with_some (number_option (codes "step") 10 0 65535 rows) (λ step.
     with_some (number_option (codes "hot") 0 0 65536 rows) (λ hot.
     if nat_le cuts count
     then Some (record { rows = count; write_percent = percent; cuts = cuts; step = step; hot = hot })
     else None)))))
+
+-- the rows that `run` draws and `gen` writes
+abbrev pub mix_of : List Row → Option Mix
+mix_of rows = mix_within 400000 rows
+
+-- the numbers of a mix of at most so many rows are in range
+pub record IsMixWithin (most : ℕ) (mix : Mix) : Type 0 where
+  pub some_rows : 1 ≤ mix.rows
+  pub few_rows : mix.rows ≤ most
+  pub percent : mix.write_percent ≤ 100
+  pub few_cuts : mix.cuts ≤ mix.rows
+  pub small_step : mix.step ≤ 65535
+  pub few_hot : mix.hot ≤ 65536
+
+-- an input that is drawn has this mix
+abbrev pub HasMix : Mix → Input → Type 0
+HasMix mix Source = Unit {0}
+HasMix mix (Drawn own) = own ≡ mix
 
 -- how many gap moves were made: up to a full turn of 4096 lines
 abbrev pub from_of : List Row → Option ℕ

@@ -1,6 +1,6 @@
 // What the words ask for.
+use cell_rows::Wear;
 use module_shape::Shape;
-use pcm_cells::Wear;
 use trace_gen::Mix;
 
 /// What the program is to do.

@@ -3,10 +3,10 @@
 #![tactic(auto)]
 
 mod job;
-mod options;
+pub mod options;
 mod read;
 mod refusal;
-mod table;
+pub mod table;
 
 pub use job::{CheckJob, GenJob, Input, Job, LineSize, MapJob, MovesJob, Print, Refusal, RunJob};
 pub use read::read_job;

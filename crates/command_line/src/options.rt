@@ -2,20 +2,19 @@
 ghost use Rattle.std.specs.Prelude.{◌≡◌, ◌≤◌, IfSome, IfOk, codes, option_map};
 ghost use Rattle.clap.specs.Words.{found_of, first_of, rows_of};
 ghost use Rattle.module_shape.specs.Limits.{IsShape};
-ghost use Rattle.pcm_cells.specs.Device.{IsWear};
+ghost use Rattle.cell_rows.specs.Device.{IsWear};
 ghost use Rattle.trace_gen.specs.Generated.{IsMix};
-ghost use Rattle.command_line.specs.Options.{number_or, number_option, size_option, policy_of, home_of, line_of, print_of, input_of, raw_of, shape_of, seed_of, wear_of, mix_of, from_of};
-ghost use Rattle.command_line.specs.Jobs.{IsInput};
+ghost use Rattle.command_line.specs.Options.{number_or, number_option, size_option, policy_of, home_of, line_of, print_of, input_of, raw_of, shape_of, seed_of, wear_of, mix_of, mix_within, from_of, HasMix, IsMixWithin};
 
 use crate::job::{Input, LineSize, Print};
+use cell_rows::Wear;
 use clap::ArgMatches;
 use module_shape::{Home, Policy, RawShape, Shape};
-use pcm_cells::Wear;
 use trace_gen::Mix;
 use trace_reader::number;
 
-// The value of an option, as text.
-fn value<'a>(matches: &ArgMatches<'a>, name: &str) -> Option<&'a str>
+/// The value of an option, as text.
+pub fn value<'a>(matches: &ArgMatches<'a>, name: &str) -> Option<&'a str>
     ensures { option_map (λ s. s.now) result ≡ first_of name.now (rows_of (found_of matches.now)) }
 {
     matches.get_str(name)
@@ -38,8 +37,8 @@ fn number_or_default(text: Option<&str>, default: u64, least: u64, most: u64) ->
     }
 }
 
-/// The number of an option, or its default.
-pub fn number_of(
+// The number of an option, or its default.
+pub(crate) fn number_of(
     matches: &ArgMatches<'_>,
     name: &str,
     default: u64,
@@ -99,9 +98,8 @@ pub fn line(matches: &ArgMatches<'_>) -> Option<LineSize>
 
 /// Where a run takes its trace from; a generated one has this mix.
 pub fn input(matches: &ArgMatches<'_>, mix: Mix) -> Option<Input>
-    requires { IsMix mix }
     ensures exact { result ≡ input_of mix (first_of (codes "input") (rows_of (found_of matches.now))) }
-    ensures in_range { IfSome result IsInput }
+    ensures drawn { IfSome result (HasMix mix) }
 {
     match value(matches, "input") {
         None => Some(Input::Source),
@@ -111,8 +109,8 @@ pub fn input(matches: &ArgMatches<'_>, mix: Mix) -> Option<Input>
     }
 }
 
-/// What a run writes.
-pub fn print(matches: &ArgMatches<'_>) -> Option<Print>
+// What a run writes.
+pub(crate) fn print(matches: &ArgMatches<'_>) -> Option<Print>
     ensures { result ≡ print_of (first_of (codes "print") (rows_of (found_of matches.now))) }
 {
     match value(matches, "print") {
@@ -196,15 +194,16 @@ pub fn wear(matches: &ArgMatches<'_>, seed: u64) -> Option<Wear>
     })
 }
 
-/// What the rows of a generated trace are.
-#[tactic(auto, unfolding(crate::specs::Options::mix_of))]
-pub fn mix(matches: &ArgMatches<'_>) -> Option<Mix>
-    ensures exact { result ≡ mix_of (rows_of (found_of matches.now)) }
-    ensures in_range { IfSome result IsMix }
+/// What the rows of a generated trace of at most so many rows are.
+#[tactic(auto, unfolding(crate::specs::Options::mix_within))]
+pub fn mix_within(matches: &ArgMatches<'_>, most: u32) -> Option<Mix>
+    requires { 1000 ≤ most }
+    ensures exact { result ≡ mix_within most (rows_of (found_of matches.now)) }
+    ensures in_range { IfSome result (IsMixWithin most) }
 {
-    let rows = number_of(matches, "rows", 1000, 1, 400_000)?;
+    let rows = number_of(matches, "rows", 1000, 1, u64::from(most))?;
     let write_percent = number_of(matches, "write-percent", 50, 0, 100)?;
-    let cuts = number_of(matches, "cuts", 0, 0, 400_000)?;
+    let cuts = number_of(matches, "cuts", 0, 0, u64::from(most))?;
     let step = number_of(matches, "step", 10, 0, 65_535)?;
     let hot = number_of(matches, "hot", 0, 0, 65_536)?;
     if rows < cuts {
@@ -219,8 +218,16 @@ pub fn mix(matches: &ArgMatches<'_>) -> Option<Mix>
     })
 }
 
-/// How many gap moves were made.
-pub fn from(matches: &ArgMatches<'_>) -> Option<u64>
+// What the rows are that a run draws or `gen` writes.
+pub(crate) fn mix(matches: &ArgMatches<'_>) -> Option<Mix>
+    ensures exact { result ≡ mix_of (rows_of (found_of matches.now)) }
+    ensures in_range { IfSome result IsMix }
+{
+    mix_within(matches, 400_000)
+}
+
+// How many gap moves were made.
+pub(crate) fn from(matches: &ArgMatches<'_>) -> Option<u64>
     ensures exact { result ≡ from_of (rows_of (found_of matches.now)) }
     ensures within { IfSome result (λ moves. moves ≤ 16781312) }
 {

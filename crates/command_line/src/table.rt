@@ -2,7 +2,7 @@
 ghost use Rattle.std.specs.Prelude.{◌≡◌, IfOk, false, map};
 ghost use Rattle.clap.specs.Words.{app_of, with_rule, with_subcommand};
 ghost use Rattle.clap.specs.declared.builder.command.Command.TheViews.{out-Command};
-ghost use Rattle.command_line.specs.Table.{leaf_app, option_rule, pcm_app, top_app};
+ghost use Rattle.command_line.specs.Table.{leaf_app, option_rule, pcm_app, run_options, top_app};
 
 use clap::{Arg, ArgAction, Command};
 use std::alloc::{AllocError, Global};
@@ -75,8 +75,8 @@ static CHECK_OPTIONS: [&str; 12] = [
     "seed",
 ];
 
-// Adds an option that takes one value.
-fn add_option<'a>(
+/// Adds an option that takes one value.
+pub fn add_option<'a>(
     alloc: Global,
     command: Command<'a>,
     name: &'a str,
@@ -101,6 +101,14 @@ fn leaf<'a>(alloc: Global, name: &'a str, options: &'a [&'a str]) -> Result<Comm
     Ok(command)
 }
 
+/// A command with the options of `run`.
+pub fn run_command<'a>(alloc: Global, name: &'a str) -> Result<Command<'a>, AllocError>
+    ensures app { IfOk result (λ c. app_of c ≡ leaf_app name.entry.now run_options) }
+    ensures globals { IfOk result (λ c. (out-Command c).has_globals ≡ false) }
+{
+    leaf(alloc, name, &RUN_OPTIONS)
+}
+
 // Adds a subcommand with these options.
 fn with_leaf<'a>(
     alloc: Global,
@@ -123,9 +131,9 @@ fn top_command<'a>(alloc: Global) -> Command<'a>
         .disable_help_subcommand(true)
 }
 
-/// The program's command with its six subcommands.
+// The program's command with its six subcommands.
 #[tactic(auto, unfolding(crate::specs::Table::pcm_app))]
-pub fn pcm_command<'a>(alloc: Global) -> Result<Command<'a>, AllocError>
+pub(crate) fn pcm_command<'a>(alloc: Global) -> Result<Command<'a>, AllocError>
     ensures { IfOk result (λ c. app_of c ≡ pcm_app) }
 {
     let command = top_command(alloc);

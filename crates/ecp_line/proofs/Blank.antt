@@ -1,7 +1,7 @@
 -- A line that was powered up.
 use Rattle.std.proofs.Common.{◌≡◌, ℕ, zero, suc, ◌+◌, ◌*◌, Bool, false, List, ◌∷◌, replicate, refl, ap, ◌∙◌, arith}
-use Rattle.pcm_cells.specs.Rows.{cell}
-use Rattle.pcm_cells.specs.declared.row.Cells.{Cells}
+use Rattle.cell_rows.specs.Rows.{cell}
+use Rattle.cell_rows.specs.declared.row.Cells.{Cells}
 use Rattle.ecp_line.specs.Layout.{active, number, source, decoded, full_cell, activity_cell, Sound}
 use Rattle.ecp_line.specs.Reading.{bytes_from, decode}
 use Rattle.ecp_line.proofs.Activity.{active-is}

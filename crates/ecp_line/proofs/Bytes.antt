@@ -2,8 +2,8 @@
 use Rattle.std.proofs.Common.{◌≡◌, ℕ, zero, suc, ◌+◌, ◌*◌, ◌/◌, ◌%◌, ◌<◌, Bool, List, length, get_or, eqb, refl, sym, ap, ◌∙◌, arith, ext_get_or}
 use Rattle.std.proofs.Math.Nat.{mod-eq_of_lt}
 use Rattle.std.specs.Int.{bit_at}
-use Rattle.pcm_cells.specs.declared.row.Cells.{Cells}
-use Rattle.pcm_cells.specs.Rows.{bit_of, cell}
+use Rattle.cell_rows.specs.declared.row.Cells.{Cells}
+use Rattle.cell_rows.specs.Rows.{bit_of, cell}
 use Rattle.ecp_line.specs.Layout.{number, decoded}
 use Rattle.ecp_line.specs.Reading.{bytes_from, decode}
 use Rattle.ecp_line.proofs.Wanting.{digits-from}

@@ -1,7 +1,7 @@
 -- One entry after the other: how a row is corrected, and how the sources are collected.
 use Rattle.std.proofs.Common.{◌≡◌, ◌≢◌, ℕ, ◌+◌, ◌*◌, ◌<◌, ◌≤◌, Bool, true, false, cond, List, sym, ap, ◌∙◌, inl, inr, arith, eqb}
 use Rattle.std.proofs.lemmas.Bool.{eq-eqb, ne_eqb, cases_eq, cases_lt, cond-true, cond-false, both_ways}
-use Rattle.pcm_cells.specs.Rows.{bit_of}
+use Rattle.cell_rows.specs.Rows.{bit_of}
 use Rattle.ecp_line.specs.Layout.{source_below, pointer, pointer_cell, replacement_cell, IsWanted}
 use Rattle.ecp_line.proofs.Sources.{source-none, source-passed, source-replaced, source-apart, source-lt}
 

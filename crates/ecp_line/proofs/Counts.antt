@@ -1,7 +1,7 @@
 -- How many cells have a property.
 use Rattle.std.proofs.Common.{◌≡◌, ℕ, zero, suc, ◌+◌, ◌<◌, ◌≤◌, Bool, true, false, cond, refl, sym, ap, ◌∙◌, inl, inr, arith}
 use Rattle.std.proofs.lemmas.Bool.{cases_eq, false≢true}
-use Rattle.pcm_cells.specs.Rows.{members}
+use Rattle.cell_rows.specs.Rows.{members}
 
 counted-more : (a b : Bool) → (a ≡ true → b ≡ true) → cond a 1 0 ≤ cond b 1 0
 counted-more false b h = omega arith

@@ -3,9 +3,9 @@ use Rattle.std.proofs.Common.{◌≡◌, ◌≢◌, ℕ, ◌+◌, ◌-◌, ◌*�
 use Rattle.std.proofs.lemmas.Bool.{cases_lt}
 use Rattle.std.proofs.lemmas.Nat.Bits.{bit_at-trailing_zeros, bit_at-zero}
 use Rattle.std.specs.Int.{bit_at, trailing_zeros}
-use Rattle.pcm_cells.specs.declared.row.Cells.{Cells}
-use Rattle.pcm_cells.specs.Rows.{bit_of, cell}
-use Rattle.pcm_cells.proofs.RowLemmas.{cell-bits, cell-meta}
+use Rattle.cell_rows.specs.declared.row.Cells.{Cells}
+use Rattle.cell_rows.specs.Rows.{bit_of, cell}
+use Rattle.cell_rows.proofs.RowLemmas.{cell-bits, cell-meta}
 use Rattle.ecp_line.specs.Layout.{IsLowest}
 
 -- a bit that is 0 in its byte

@@ -5,8 +5,8 @@ use Rattle.std.specs.Int.{bit_at}
 use Rattle.std.proofs.lemmas.List.{get_or-replicate, length-replicate}
 use Rattle.std.proofs.lemmas.Bool.{cases_lt, both_ways}
 use Rattle.std.proofs.lemmas.Nat.Bits.{bit_at_ones}
-use Rattle.pcm_cells.specs.Rows.{bit_of, cell, xor}
-use Rattle.pcm_cells.proofs.RowLemmas.{cell-bits, cell-meta, cell-zeros}
+use Rattle.cell_rows.specs.Rows.{bit_of, cell, xor}
+use Rattle.cell_rows.proofs.RowLemmas.{cell-bits, cell-meta, cell-zeros}
 use Rattle.ecp_line.specs.Layout.{IsLowest, IsWanted}
 use Rattle.ecp_line.proofs.Correcting.{wanted-none}
 

@@ -91,25 +91,3 @@ digits-done f first size from n x at as_many small before =
     ap (λ (k : ℕ). number f k n) (sym at) ∙ ap (number f first) (sym as_many) ∙ before ∙ ap (λ (k : ℕ). x % 2 ^ k) as_many ∙ mod-eq_of_lt small
 
 -- ---- clearing
-
--- one more activity cell is wanted at 0
-pub zeros-more : (f which more w m w1 m1 : ℕ → Bool) (q : ℕ) → ((n : ℕ) → w1 n ≡ cond (eqb n q) false (w n)) → ((n : ℕ) → m1 n ≡ cond (eqb n q) true (m n))
-    → ((n : ℕ) → cond (eqb n q) true (which n) ≡ more n) → WantsZeros f which w m → WantsZeros f more w1 m1
-zeros-more f which more w m w1 m1 q set_w set_m grows before = record {
-  cells = λ n. set_m n ∙ ap (cond (eqb n q) true) (before.cells n) ∙ grows n;
-  zero = λ n h. elim (cases_eq n q) as (λ _. w1 n ≡ false) [
-    | inl e ↦ set-same w1 w q false set_w n e
-    | inr ne ↦ set-other w1 w q false set_w n ne ∙ before.zero n (sym (set-other m1 m q true set_m n ne) ∙ h)
-  ];
-  others = others-more f w m w1 m1 q false set_w set_m before.others;
-}
-
-pub later-test : (first a number q n : ℕ) → q ≡ first + number → a < number
-    → cond (eqb n q) true (ltb (first + a) n && ltb n (first + number)) ≡ (ltb (first + a) n && ltb n (first + (number + 1)))
-later-test first a number q n at after = grind (arith, nat_tests)
-
-pub later-none : (first a n : ℕ) → (ltb (first + a) n && ltb n (first + (a + 1))) ≡ false
-later-none first a n = grind (arith, nat_tests)
-
-pub later-all : (first a number end n : ℕ) → end ≤ number → (number ≤ end) ⊎ (number ≡ a + 1) → (ltb (first + a) n && ltb n (first + number)) ≡ (ltb (first + a) n && ltb n (first + end))
-later-all first a number end n le reason = grind (arith, nat_tests)

@@ -1,8 +1,8 @@
 -- What a line is read as, as bytes, and when it is sound or worn.
 use Rattle.std.specs.Prelude.{ℕ, zero, suc, ◌+◌, ◌*◌, ◌-◌, nat_lt, Bool, not, ◌&&◌, ◌||◌, IsTrue, List, [], ◌∷◌}
-use Rattle.pcm_cells.specs.Rows.{cell, members}
-use Rattle.pcm_cells.specs.declared.row.Cells.{Cells}
-use Rattle.pcm_cells.specs.Device.{LineState}
+use Rattle.cell_rows.specs.Rows.{cell, members}
+use Rattle.cell_rows.specs.declared.row.Cells.{Cells}
+use Rattle.cell_rows.specs.Device.{LineState}
 use Rattle.ecp_line.specs.Layout.{number, decoded, full_cell, activity_cell, some_below, Sound}
 
 -- n bytes from byte k on, of these bits

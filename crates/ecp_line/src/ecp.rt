@@ -1,12 +1,12 @@
 // The layout of a line's entries, and the reading of a line.
 ghost use Rattle.std.specs.Prelude.{◌≡◌, ℕ, ◌+◌, ◌-◌, ◌*◌, ◌<◌, ◌≤◌, true, false, IfSome, IfNone, nat_lt};
-ghost use Rattle.pcm_cells.specs.Rows.{bit_of, cell, xor};
+ghost use Rattle.cell_rows.specs.Rows.{bit_of, cell, xor};
 ghost use Rattle.ecp_line.specs.Layout.{IsLayout, IsWanted, WantsZeros, IsLowest, width, pointer_cell, replacement_cell, full_cell, activity_cell, pointer, active, source, source_below, decoded, is_later, is_pointer_cell, is_entry_cell, switch_cell};
 ghost use Rattle.ecp_line.specs.Reading.{decode};
 
 use crate::lowest;
 use crate::mask::{are_bytes, with_data};
-use pcm_cells::Cells;
+use cell_rows::Cells;
 
 /// A line of `B` data bytes and `M` check bytes with `E` entries, each of a pointer and a replacement cell.
 /// Error-Correcting Pointers, Schechter et al., ISCA 2010.

@@ -1,10 +1,10 @@
 // The lowest cell of a mask.
 ghost use Rattle.std.specs.Prelude.{◌≡◌, ℕ, ◌+◌, ◌*◌, ◌<◌, ◌≤◌, true, false, length, IfSome, IfNone, slice_index};
-ghost use Rattle.pcm_cells.specs.Rows.{bit_of, cell};
-ghost use Rattle.pcm_cells.specs.Shape.{IsShape};
+ghost use Rattle.cell_rows.specs.Rows.{bit_of, cell};
+ghost use Rattle.cell_rows.specs.Shape.{IsShape};
 ghost use Rattle.ecp_line.specs.Layout.{IsLowest};
 
-use pcm_cells::Cells;
+use cell_rows::Cells;
 
 // Says of a slice what its type says of each byte, for the contracts of values that are made of it.
 pub(crate) fn are_bytes(bytes: &[u8])

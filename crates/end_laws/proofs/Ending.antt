@@ -21,7 +21,7 @@ excepted-whole (x ∷ es) = by (gives_all x.given) refl
     by false lacks = tt
 
 pub end_law : EndLaw
-end_law n m e pace xs bank array sized l idle holds halted = (
+end_law off n m e pace xs bank array sized l idle holds halted = (
   end_of bank.kept (core xs),
   record {
     table = λ slot exists. refl;
@@ -30,7 +30,7 @@ end_law n m e pace xs bank array sized l idle holds halted = (
   },
   record {
     lines = remapped_law n m e (core xs) bank array holds;
-    moved = λ region exists. gaps_law n m e pace xs bank array region sized l idle holds halted;
+    moved = λ region exists. gaps_law off n m e pace xs bank array region sized l idle holds halted;
     kept = λ line exists. kept_law n m e pace xs bank array line sized l holds exists;
     queued = queued_law n m e pace xs bank array l holds;
     stored = still_there_law n m e pace xs bank array sized l holds halted;

@@ -3,7 +3,7 @@ use Rattle.std.proofs.Common.{◌≡◌, ℕ, ◌+◌, ◌*◌, ◌/◌, ◌<◌
 use Rattle.std.proofs.lemmas.Bool.{eq-eqb, le-leb, lt-ltb, and_from, or_left, or_right}
 use Rattle.result_rows.specs.declared.Outcome.{Outcome}
 use Rattle.result_rows.specs.declared.Outcome.TheVariants as out
-use Rattle.pcm_cells.specs.Device.{ArrayState}
+use Rattle.cell_rows.specs.Device.{ArrayState}
 use Rattle.spare_pool.specs.Table.{Table, line_from}
 use Rattle.spare_pool.proofs.Lines.{line_from-more, line_by-within, line_by-apart}
 use Rattle.row_rules.specs.declared.Row.{Row}
@@ -12,7 +12,7 @@ use Rattle.bank_shape.specs.declared.BankShape.{BankShape}
 use Rattle.bank_shape.specs.Shape.{slots_of, slot_moved}
 use Rattle.power_recovery.specs.Kept.{array_line}
 use Rattle.bank_shape.specs.declared.answer.Step.TheVariants as did
-use Rattle.bank_model.specs.Events.{Event, Write, Read, Serve, Begin, Iterate, Cut}
+use Rattle.bank_model.specs.Events.{BankEvent, Write, Read, Serve, Begin, Iterate, Cut}
 use Rattle.bank_model.specs.History.{retired, moved_in, stored_in}
 use Rattle.bank_model.specs.After.{slot_after, array_line_after, stands_at_after}
 use Rattle.bank_model.specs.Sensing.{most_steps}
@@ -73,7 +73,7 @@ module _ (slots slot : ℕ) (before : List ℕ) (exists : slot < slots) where
       alone other false below same = f.only other below same
 
   module _ {n : ℕ} where
-    follows-event : (event : Event n) (h : List (Event n)) → Follows slots slot before (retired h) → Follows slots slot before (retired (event ∷ h))
+    follows-event : (event : BankEvent n) (h : List (BankEvent n)) → Follows slots slot before (retired h) → Follows slots slot before (retired (event ∷ h))
     follows-event (Write row line bytes given answer) h f = f
     follows-event (Read row line answer) h f = f
     follows-event (Serve answer) h f = f

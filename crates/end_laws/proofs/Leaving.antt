@@ -1,9 +1,9 @@
 -- What a history leaves of the array of its bank, and the moves of each region.
 use Rattle.std.proofs.Common.{ℕ, List, refl, sym, ap, subst, ◌∙◌, arith}
 use Rattle.std.specs.Prelude.{IsTrue}
-use Rattle.pcm_cells.specs.Device.{ArrayState}
+use Rattle.cell_rows.specs.Device.{ArrayState}
 use Rattle.spare_pool.specs.Table.{Table, line_by, used_by}
-use Rattle.bank_model.specs.Events.{Event}
+use Rattle.bank_model.specs.Events.{BankEvent}
 use Rattle.bank_model.specs.Sensing.{pulses_of}
 use Rattle.bank_model.specs.Timing.{TimedEvent, core}
 use Rattle.bank_laws.specs.Laws.{LeavesArray, is_worn_at}
@@ -14,7 +14,7 @@ use Rattle.bank_invariant.proofs.Agreeing.{agree_law, due-target}
 use Rattle.place_laws.proofs.Moved.{moved_law}
 use Rattle.end_laws.specs.EndLaws.{IsHaltedWorn, GapsLaw}
 
-module _ {n m e : ℕ} (h : List (Event n)) (bank : BankState n m e) (array : ArrayState n m) (holds : Holds h bank array) where
+module _ {n m e : ℕ} (h : List (BankEvent n)) (bank : BankState n m e) (array : ArrayState n m) (holds : Holds h bank array) where
   pub agreeing : AgreesWith h bank
   agreeing = agree_law n m e h bank array holds
 
@@ -38,5 +38,5 @@ module _ {n m : ℕ} (e : ℕ) (xs : List (TimedEvent n m)) (bank : BankState n 
   }
 
 pub gaps_law : GapsLaw
-gaps_law n m e pace xs bank array region sized l idle holds halted =
-    moved_law n m e bank.kept.shape pace xs (recounted e xs bank array holds halted) region sized l idle (leaves e xs bank array holds halted)
+gaps_law off n m e pace xs bank array region sized l idle holds halted =
+    moved_law off n m e bank.kept.shape pace xs (recounted e xs bank array holds halted) region sized l idle (leaves e xs bank array holds halted)

@@ -1,7 +1,7 @@
 -- The array line of each slot: its own, or a spare where its own is worn.
 use Rattle.std.proofs.Common.{◌≡◌, ℕ, ◌+◌, ◌<◌, ◌≤◌, ◌⊎◌, inl, inr, ap, subst, arith}
 use Rattle.std.specs.Prelude.{IsTrue}
-use Rattle.pcm_cells.specs.Device.{ArrayState}
+use Rattle.cell_rows.specs.Device.{ArrayState}
 use Rattle.spare_pool.specs.Table.{line_by}
 use Rattle.spare_pool.proofs.Lines.{HasSpare, line_by-cases, only_own}
 use Rattle.bank_shape.specs.Shape.{slots_of}

@@ -1,27 +1,28 @@
 -- That a bank keeps each line's newest bytes to the end, part by part and whole.
-use Rattle.std.specs.Prelude.{◌≡◌, ℕ, ◌*◌, ◌<◌, ◌||◌, if◌then◌else◌, List, [], ◌∷◌, Option, Some, None, IsTrue, IfSome, IsSomeAnd, slice_get}
+use Rattle.std.specs.Prelude.{◌≡◌, ℕ, ◌*◌, ◌<◌, ◌||◌, Bool, if◌then◌else◌, List, [], ◌∷◌, Option, Some, None, IsTrue, IfSome, IsSomeAnd, slice_get}
 use Rattle.masked_bytes.specs.Masked.{gives_all, laid}
 use Rattle.masked_bytes.specs.Entries.{layer_of}
 use Rattle.masked_bytes.specs.declared.entry.Entry.{Entry}
 use Rattle.start_gap.specs.Rotation.{StandsFor}
-use Rattle.pcm_cells.specs.Device.{ArrayState}
+use Rattle.cell_rows.specs.Device.{ArrayState}
 use Rattle.row_rules.specs.Rows.{each_row, newest}
 use Rattle.bank_shape.specs.declared.BankShape.{BankShape}
 use Rattle.bank_shape.specs.Shape.{slots_of, control_line}
 use Rattle.power_recovery.specs.Kept.{KeptState, region_at, array_line}
-use Rattle.bank_model.specs.Events.{Event}
+use Rattle.bank_model.specs.Events.{BankEvent}
 use Rattle.bank_model.specs.History.{moved_in}
 use Rattle.bank_model.specs.Changes.{change_after, halted_after}
 use Rattle.bank_shape.specs.declared.pace.Pace.{Pace}
 use Rattle.bank_model.specs.Timing.{TimedEvent, core}
-use Rattle.bank_model.specs.Lawful.{Lawful, IsIdle}
+use Rattle.bank_model.specs.Lawful.{Lawful}
 use Rattle.bank_invariant.specs.State.{BankState}
 use Rattle.bank_invariant.specs.Tied.{decoded}
 use Rattle.bank_invariant.specs.Holds.{Holds}
 use Rattle.bank_laws.specs.Outcomes.{table_of}
+use Rattle.bank_laws.specs.Resting.{EndsIn}
 use Rattle.bank_laws.specs.Laws.{IsSized, is_worn_at}
-use Rattle.bank_laws.specs.Places.{is_moved}
-use Rattle.end_laws.specs.Ends.{BankEnd, EndsWith, IsRemapped, place_by_table, is_kept_line, is_still_there, is_excepted, is_excused}
+use Rattle.bank_laws.specs.Places.{is_moved_to}
+use Rattle.end_laws.specs.Ends.{BankEnd, EndsWithTo, IsRemapped, place_by_table, is_kept_line, is_still_there, is_excepted, is_excused}
 
 -- a bank's end is that of what it keeps; an excepted line is that of the head of its queue, which gives every byte
 pub record IsEndOf {n : ℕ} (kept : KeptState n) (end : BankEnd) : Type 0 where
@@ -35,7 +36,7 @@ whole_head [] = None
 whole_head (entry ∷ entries) = if gives_all entry.given then Some entry.line else None
 
 -- what a bank keeps says where each slot's line is, and its history how often each region moved
-abbrev pub end_of : {n : ℕ} → KeptState n → List (Event n) → BankEnd
+abbrev pub end_of : {n : ℕ} → KeptState n → List (BankEvent n) → BankEnd
 end_of kept h = record { table = array_line kept; moves = moved_in kept.shape.lines h; excepted = whole_head kept.entries }
 
 -- where the writing of the change that stands has halted, its control line is worn
@@ -45,16 +46,16 @@ IsHaltedWorn e shape xs array = IsTrue (halted_after xs) → IfSome (change_afte
 -- each slot has an array line of its own: its first, or a spare where that is worn
 abbrev pub RemappedLaw : Type 0
 RemappedLaw =
-    (n m e : ℕ) (h : List (Event n)) (bank : BankState n m e) (array : ArrayState n m)
+    (n m e : ℕ) (h : List (BankEvent n)) (bank : BankState n m e) (array : ArrayState n m)
     → Holds h bank array → IsRemapped bank.kept.shape (is_worn_at e array) (array_line bank.kept)
 
 -- each region has moved once for so many stores; or once less, where the bank is worn out before a move that is due
 abbrev pub GapsLaw : Type 0
 GapsLaw =
-    (n m e : ℕ) (pace : Pace) (xs : List (TimedEvent n m)) (bank : BankState n m e) (array : ArrayState n m) (region : ℕ)
-    → IsSized bank.kept.shape pace → Lawful bank.kept.shape pace e xs → IsIdle bank.kept.shape pace xs → Holds (core xs) bank array
+    (off : Bool) (n m e : ℕ) (pace : Pace) (xs : List (TimedEvent n m)) (bank : BankState n m e) (array : ArrayState n m) (region : ℕ)
+    → IsSized bank.kept.shape pace → Lawful bank.kept.shape pace e xs → EndsIn off bank.kept.shape pace xs → Holds (core xs) bank array
     → IsHaltedWorn e bank.kept.shape xs array
-    → IsTrue (is_moved bank.kept.shape (is_worn_at e array) (table_of bank.kept.shape xs) region (moved_in bank.kept.shape.lines (core xs) region))
+    → IsTrue (is_moved_to off bank.kept.shape (is_worn_at e array) (table_of bank.kept.shape xs) region (moved_in bank.kept.shape.lines (core xs) region))
 
 -- the newest bytes of each line but one stand in the array line that the table gives it, or are of writes that were not stored
 abbrev pub KeptLaw : Type 0
@@ -92,8 +93,8 @@ StillThereLaw =
 -- bytes where its own registers and its own table say, or still in its queue
 abbrev pub EndLaw : Type 0
 EndLaw =
-    (n m e : ℕ) (pace : Pace) (xs : List (TimedEvent n m)) (bank : BankState n m e) (array : ArrayState n m)
-    → IsSized bank.kept.shape pace → Lawful bank.kept.shape pace e xs → IsIdle bank.kept.shape pace xs → Holds (core xs) bank array
+    (off : Bool) (n m e : ℕ) (pace : Pace) (xs : List (TimedEvent n m)) (bank : BankState n m e) (array : ArrayState n m)
+    → IsSized bank.kept.shape pace → Lawful bank.kept.shape pace e xs → EndsIn off bank.kept.shape pace xs → Holds (core xs) bank array
     → IsHaltedWorn e bank.kept.shape xs array
     → (end : BankEnd) × IsEndOf bank.kept end
-    × EndsWith bank.kept.shape (is_worn_at e array) (decoded e array) (table_of bank.kept.shape xs) end
+    × EndsWithTo off bank.kept.shape (is_worn_at e array) (decoded e array) (table_of bank.kept.shape xs) end

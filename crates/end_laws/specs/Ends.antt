@@ -1,5 +1,5 @@
 -- Where each line's newest bytes are in the end.
-use Rattle.std.specs.Prelude.{◌≡◌, ◌⊎◌, ℕ, ◌+◌, ◌*◌, ◌/◌, ◌<◌, ◌≤◌, ◌==◌, ◌&&◌, ◌||◌, nat_lt, nat_le, Bool, true, IsTrue, List, [], ◌∷◌, ◌++◌, Option, Some, None}
+use Rattle.std.specs.Prelude.{◌≡◌, ◌⊎◌, ℕ, ◌+◌, ◌*◌, ◌/◌, ◌<◌, ◌≤◌, ◌==◌, ◌&&◌, ◌||◌, nat_lt, nat_le, Bool, true, false, IsTrue, List, [], ◌∷◌, ◌++◌, Option, Some, None}
 use Rattle.std.specs.List.{list_any}
 use Rattle.masked_bytes.specs.Masked.{laid}
 use Rattle.result_rows.specs.declared.Outcome.{Outcome}
@@ -11,7 +11,7 @@ use Rattle.row_rules.specs.Queueing.{unstored}
 use Rattle.row_rules.specs.Serving.{same_bytes}
 use Rattle.bank_shape.specs.declared.BankShape.{BankShape}
 use Rattle.bank_shape.specs.Shape.{slots_of, slot_moved}
-use Rattle.bank_laws.specs.Places.{region_stores, is_moved}
+use Rattle.bank_laws.specs.Places.{region_stores, is_moved_to}
 use Rattle.bank_model.specs.Sensing.{is_at}
 
 -- an array line for each slot of a bank, no two the same: its own, or a spare where its own is worn
@@ -57,11 +57,14 @@ pub record BankEnd : Type 0 where
   pub excepted : Option ℕ
 
 -- a bank in the end, over its table of rows, the newest first: by one table of lines and the moves of its regions each line's
--- newest bytes are in the array or still in the queue, with at most one line excepted
-pub record EndsWith {n : ℕ} (shape : BankShape) (worn : ℕ → Bool) (held : ℕ → List ℕ) (rows : List (Row n)) (end : BankEnd) : Type 0 where
+-- newest bytes are in the array or still in the queue, with at most one line excepted. A move that is due may be left where the power is off
+pub record EndsWithTo {n : ℕ} (off : Bool) (shape : BankShape) (worn : ℕ → Bool) (held : ℕ → List ℕ) (rows : List (Row n)) (end : BankEnd) : Type 0 where
   pub lines : IsRemapped shape worn end.table
-  pub moved : (region : ℕ) → region < shape.regions → IsTrue (is_moved shape worn rows region (end.moves region))
+  pub moved : (region : ℕ) → region < shape.regions → IsTrue (is_moved_to off shape worn rows region (end.moves region))
   pub kept : (line : ℕ) → line < shape.regions * shape.lines
       → IsTrue (is_excepted end.excepted line || is_kept_line rows line (held (place_by_table shape end.moves end.table line)))
   pub queued : IsTrue (is_excused end.excepted rows)
   pub stored : IsTrue (each_row (is_still_there shape worn end.table) rows [])
+
+abbrev pub EndsWith : {n : ℕ} → BankShape → (ℕ → Bool) → (ℕ → List ℕ) → List (Row n) → BankEnd → Type 0
+EndsWith shape worn held rows end = EndsWithTo false shape worn held rows end

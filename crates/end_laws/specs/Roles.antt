@@ -1,6 +1,6 @@
 -- What an array line is used for in the end of its bank, and that each is used for one thing.
 use Rattle.std.specs.Prelude.{◌≡◌, ◌≢◌, ℕ, zero, suc, ◌+◌, ◌-◌, ◌*◌, ◌<◌, ◌≤◌, max, List}
-use Rattle.pcm_cells.specs.Device.{ArrayState}
+use Rattle.cell_rows.specs.Device.{ArrayState}
 use Rattle.wear_report.specs.declared.Role.{Role}
 use Rattle.wear_report.specs.declared.Role.TheVariants.{Line, Gap, Free, Retired, Control}
 use Rattle.start_gap.specs.Rotation.{gap_after}
@@ -8,7 +8,7 @@ use Rattle.spare_pool.specs.Table.{used_by}
 use Rattle.bank_shape.specs.declared.BankShape.{BankShape}
 use Rattle.bank_shape.specs.Shape.{slots_of, slot_at, controls_from, IsBankShape}
 use Rattle.power_recovery.specs.Kept.{array_line}
-use Rattle.bank_model.specs.Events.{Event}
+use Rattle.bank_model.specs.Events.{BankEvent}
 use Rattle.bank_invariant.specs.State.{BankState}
 use Rattle.bank_invariant.specs.Holds.{Holds}
 use Rattle.end_laws.specs.Ends.{BankEnd, place_by_table}
@@ -51,5 +51,5 @@ RoleLaw =
 -- the spares that are used by a bank's table are as many as the bank has used
 abbrev pub UsedLaw : Type 0
 UsedLaw =
-    (n m e : ℕ) (h : List (Event n)) (bank : BankState n m e) (array : ArrayState n m)
+    (n m e : ℕ) (h : List (BankEvent n)) (bank : BankState n m e) (array : ArrayState n m)
     → Holds h bank array → used_spares bank.kept.shape (array_line bank.kept) ≡ used_by bank.kept.table

@@ -11,9 +11,6 @@ use Rattle.feistel_map.specs.Network.{Network, AreHalves, left_bits, right_bits,
 pub whole : (b : ℕ) → 2 ^ left_bits b * 2 ^ right_bits b ≡ 2 ^ b
 whole b = sym (pow-add 2 (left_bits b) (right_bits b)) ∙ ap (λ n. 2 ^ n) (omega arith)
 
-pub below_16 : (k n : ℕ) → k ≤ 16 → n < 2 ^ k → n < 2 ^ 16
-below_16 k n h p = omega (arith, pow-le-pow_right {n = 2} (lit≤ tt) h)
-
 pub square_fits : (x : ℕ) → x < 2 ^ 16 → x * x < 2 ^ 32
 square_fits x h = mul-lt x x (2 ^ 16) (2 ^ 16) h h
 

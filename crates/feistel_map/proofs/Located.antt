@@ -11,13 +11,3 @@ number_at-address_of regions lines number =
     let whole : number / (regions * lines) * regions + number / lines % regions ≡ number / lines
     = ap (λ n. n * regions + number / lines % regions) quotient ∙ div-add-mod' (number / lines) regions in
     ap (λ n. n * lines + number % lines) whole ∙ div-add-mod' number lines
-
--- two numbers with one address are one
-pub address_of-apart : (regions lines m n : ℕ) → address_of regions lines m ≡ address_of regions lines n → m ≡ n
-address_of-apart regions lines m n e =
-    sym (number_at-address_of regions lines m) ∙ ap (number_at regions lines) e ∙ number_at-address_of regions lines n
-
-pub bank-below : (regions lines number : ℕ) → 1 ≤ regions → 1 ≤ lines → (banks : ℕ) → number < banks * (regions * lines)
-    → (address_of regions lines number).bank < banks
-bank-below regions lines number some also banks h =
-    div_below number (regions * lines) banks (omega (arith, mul-le-mul_right lines some)) h

@@ -11,7 +11,7 @@ use Rattle.bank_shape.specs.declared.Work.TheVariants.{Nothing}
 use Rattle.bank_shape.specs.declared.answer.WriteAnswer.TheVariants as wrote
 use Rattle.bank_shape.specs.declared.answer.Step.TheVariants as did
 use Rattle.bank_shape.specs.Kinds.{is_store}
-use Rattle.bank_model.specs.Events.{Event, Write, Read, Serve, Begin, Iterate, Cut, newest}
+use Rattle.bank_model.specs.Events.{BankEvent, Write, Read, Serve, Begin, Iterate, Cut, newest}
 use Rattle.bank_model.specs.History.{begun, queue, due_after, has_exhausted, in_progress}
 use Rattle.bank_model.specs.After.{due_work, work_after}
 use Rattle.bank_model.specs.Answers.{MayAll, head_busy_after, write_answer}
@@ -30,12 +30,12 @@ none-is None b is = refl
 none-is (Some region) b is = absurd (cc)
 
 module _ {n : ℕ} (shape : BankShape) where
-  pub record KeepsBegun (h : List (Event n)) : Type 0 where
+  pub record KeepsBegun (h : List (BankEvent n)) : Type 0 where
     pub before : is_head_begun shape h ≡ true → due_after shape h ≡ None
     pub working : in_progress h ≡ true → due_after shape h ≡ None → is_head_begun shape h ≡ true
     pub exhausted : has_exhausted h ≡ true → due_after shape h ≡ None → is_head_begun shape h ≡ true
 
-  pub keeps-begun : (most : ℕ) (h : List (Event n)) → MayAll shape most h → KeepsBegun h
+  pub keeps-begun : (most : ℕ) (h : List (BankEvent n)) → MayAll shape most h → KeepsBegun h
   keeps-begun most [] may = record { before = λ is. absurd (cc); working = λ is none. absurd (cc); exhausted = λ is none. absurd (cc) }
   keeps-begun most (Write row line bytes given answer ∷ h) may =
       let k = keeps-begun most h may.1 in record { before = k.before; working = k.working; exhausted = k.exhausted }
@@ -123,12 +123,12 @@ module _ {n : ℕ} where
   again-begun None f (e ∷ es) was again = λ is. refl
 
 module _ {n : ℕ} (shape : BankShape) where
-  store-now : (h : List (Event n)) (ex : Bool) (due : Option ℕ) (q : List (Entry n)) → is_store (cond ex Nothing (due_work shape h due q)) ≡ true → due ≡ None
+  store-now : (h : List (BankEvent n)) (ex : Bool) (due : Option ℕ) (q : List (Entry n)) → is_store (cond ex Nothing (due_work shape h due q)) ≡ true → due ≡ None
   store-now h true due q is = absurd (cc)
   store-now h false None q is = refl
   store-now h false (Some region) q is = absurd (cc)
 
-  again-pushed : (most : ℕ) (h : List (Event n)) (x : Entry n) → MayAll shape most h → wrote.Accepted ≡ write_answer shape h x.line
+  again-pushed : (most : ℕ) (h : List (BankEvent n)) (x : Entry n) → MayAll shape most h → wrote.Accepted ≡ write_answer shape h x.line
       → (es : List (Entry n)) → queue shape h ≡ es → Again es (is_head_begun shape h) → Again (es ++ x ∷ []) (is_head_begun shape h)
   again-pushed most h x may accepts [] is again = λ some. absurd (cc)
   again-pushed most h x may accepts (e ∷ es) is again = λ some. by (line-pushed es x e.line some)
@@ -141,7 +141,7 @@ module _ {n : ℕ} (shape : BankShape) where
           (keeps-begun shape most h may).working (and_first (in_progress h) _ busy)
           (store-now h (has_exhausted h) (due_after shape h) (queue shape h) (and_second (in_progress h) _ busy))
 
-  pub begun-again : (most : ℕ) (h : List (Event n)) → MayAll shape most h → Again (queue shape h) (is_head_begun shape h)
+  pub begun-again : (most : ℕ) (h : List (BankEvent n)) → MayAll shape most h → Again (queue shape h) (is_head_begun shape h)
   begun-again most [] may = tt
   begun-again most (Write row line bytes given wrote.Accepted ∷ h) may =
       again-pushed most h (record { row = row; line = line; bytes = bytes; given = given }) may.1 may.0.2 (queue shape h) refl (begun-again most h may.1)

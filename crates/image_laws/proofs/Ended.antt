@@ -1,10 +1,10 @@
 -- What is saved of a bank is that of its end: its counters are those of its stores by the rows, and its spares those of its table.
-use Rattle.std.proofs.Common.{◌≡◌, ℕ, ◌+◌, ◌*◌, ◌/◌, ◌%◌, ◌<◌, ◌≤◌, ◌==◌, ◌&&◌, ◌⊎◌, inl, inr, Bool, true, List, map, length, get_or, sym, ap, ◌∙◌, subst, arith, eqb-true}
+use Rattle.std.proofs.Common.{◌≡◌, ℕ, ◌+◌, ◌*◌, ◌/◌, ◌%◌, ◌<◌, ◌≤◌, ◌==◌, ◌&&◌, ◌||◌, ◌⊎◌, inl, inr, Bool, true, List, map, length, get_or, sym, ap, ◌∙◌, subst, arith, eqb-true}
 use Rattle.std.proofs.lemmas.Bool.{cases_lt, or_cases}
 use Rattle.std.proofs.lemmas.Nat.{mul-le}
 use Rattle.std.proofs.Math.Nat.{div-add-mod}
 use Rattle.std.proofs.Math.ListN.{get_or-map}
-use Rattle.pcm_cells.specs.Device.{ArrayState}
+use Rattle.cell_rows.specs.Device.{ArrayState}
 use Rattle.start_gap.specs.Rotation.{Rotation, StandsFor, turn}
 use Rattle.row_rules.specs.declared.Row.{Row}
 use Rattle.row_rules.specs.Answers.{is_stored}
@@ -20,7 +20,7 @@ use Rattle.bank_invariant.specs.State.{BankState}
 use Rattle.bank_invariant.specs.Holds.{Holds}
 use Rattle.bank_laws.specs.Laws.{is_worn_at}
 use Rattle.bank_laws.specs.Outcomes.{table_of}
-use Rattle.bank_laws.specs.Places.{region_stores, is_moved, may_leave}
+use Rattle.bank_laws.specs.Places.{region_stores, is_moved_to, may_leave}
 use Rattle.bank_laws.proofs.Waiting.{may_all}
 use Rattle.place_laws.proofs.Moves.{keeps}
 use Rattle.place_laws.proofs.Moved.{region_stores-counted}
@@ -67,17 +67,17 @@ one-count r a b some sa sb near = by near
     by (inr (inr next)) = absurd (next-rest b (turn r.lines) long (ap (λ k. k % turn r.lines) next ∙ sa.moves ∙ sym sb.moves))
 
 -- the number of moves by the rows is that of the history, or one off
-moves-near : {n : ℕ} (shape : BankShape) (worn : ℕ → Bool) (rows : List (Row n)) (region moves own : ℕ) → 1 ≤ shape.psi → is_moved shape worn rows region moves ≡ true
+moves-near : {n : ℕ} (off : Bool) (shape : BankShape) (worn : ℕ → Bool) (rows : List (Row n)) (region moves own : ℕ) → 1 ≤ shape.psi → is_moved_to off shape worn rows region moves ≡ true
     → shape.psi * own ≤ region_stores is_stored shape region rows → region_stores is_stored shape region rows ≤ shape.psi * (own + 1)
     → (moves ≡ own) ⊎ ((moves + 1 ≡ own) ⊎ (own + 1 ≡ moves))
-moves-near shape worn rows region moves own psi is few near = by moved counted
+moves-near off shape worn rows region moves own psi is few near = by moved counted
   where
     count : ℕ
     count = region_stores is_stored shape region rows
 
     moved : (moves ≡ count / shape.psi) ⊎ (moves + 1 ≡ count / shape.psi)
     moved =
-        elim (or_cases (moves == count / shape.psi) (moves + 1 == count / shape.psi && (count % shape.psi == 0 && may_leave shape worn)) is) [
+        elim (or_cases (moves == count / shape.psi) (moves + 1 == count / shape.psi && (count % shape.psi == 0 && (off || may_leave shape worn))) is) [
           | inl all ↦ inl (eqb-true moves (count / shape.psi) all)
           | inr less ↦ inr (eqb-true (moves + 1) (count / shape.psi) (and_first _ _ less))
         ]
@@ -99,9 +99,9 @@ moves-near shape worn rows region moves own psi is few near = by moved counted
     by (inr a) (inl b) = inr (inl (omega (arith, a, b)))
     by (inr a) (inr b) = inl (omega (arith, a, b))
 
-module _ {n m e : ℕ} (raw : RawShape) (seed bank : ℕ) (pace : Pace) (xs : List (TimedEvent n m)) (state : BankState n m e) (array : ArrayState n m) (end : BankEnd)
+module _ {n m e : ℕ} (off : Bool) (raw : RawShape) (seed bank : ℕ) (pace : Pace) (xs : List (TimedEvent n m)) (state : BankState n m e) (array : ArrayState n m) (end : BankEnd)
     (shape : state.kept.shape ≡ bank_shape (module_of raw) bank) (psi : 1 ≤ raw.psi) (l : Lawful state.kept.shape pace e xs) (holds : Holds (core xs) state array) (ends : IsEndOf state.kept end)
-    (moved : (region : ℕ) → region < raw.regions → is_moved state.kept.shape (is_worn_at e array) (table_of state.kept.shape xs) region (end.moves region) ≡ true) where
+    (moved : (region : ℕ) → region < raw.regions → is_moved_to off state.kept.shape (is_worn_at e array) (table_of state.kept.shape xs) region (end.moves region) ≡ true) where
   abbrev kept : KeptState n
   kept = state.kept
 
@@ -119,7 +119,7 @@ module _ {n m e : ℕ} (raw : RawShape) (seed bank : ℕ) (pace : Pace) (xs : Li
       let m = keeps kept.shape (most_steps e) (core xs) (omega (arith, psi, psi-same)) (may_all kept.shape pace e xs l) in
       one-count (region_at kept region).rotation (end.moves region) (moved_in kept.shape.lines (core xs) region) own.in_range.rotates.some_lines
       (ends.moves region some) (holds.regions region some).registers
-      (moves-near kept.shape (is_worn_at e array) (table_of kept.shape xs) region (end.moves region) (moved_in kept.shape.lines (core xs) region) (omega (arith, psi, psi-same)) (moved region lt)
+      (moves-near off kept.shape (is_worn_at e array) (table_of kept.shape xs) region (end.moves region) (moved_in kept.shape.lines (core xs) region) (omega (arith, psi, psi-same)) (moved region lt)
       (omega (arith, count region, m.few region)) (omega (arith, count region, m.near region)))
 
   counters : (region : ℕ) → region < raw.regions

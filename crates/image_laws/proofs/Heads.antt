@@ -10,7 +10,7 @@ use Rattle.bank_shape.specs.declared.BankShape.{BankShape}
 use Rattle.bank_shape.specs.declared.answer.WriteAnswer.TheVariants as wrote
 use Rattle.bank_shape.specs.declared.answer.Step.{Step}
 use Rattle.bank_shape.specs.declared.answer.Step.TheVariants as did
-use Rattle.bank_model.specs.Events.{Event, Write, Read, Serve, Begin, Iterate, Cut, newest, up_to, RowsBelow}
+use Rattle.bank_model.specs.Events.{BankEvent, Write, Read, Serve, Begin, Iterate, Cut, newest, up_to, RowsBelow}
 use Rattle.bank_model.specs.History.{begun, queue, due_after}
 use Rattle.bank_model.specs.Answers.{MayAll, head_busy_after, write_answer}
 use Rattle.bank_laws.specs.Pairs.{has_line, ArePaired}
@@ -29,13 +29,13 @@ pub above : (at row : ℕ) → row < at → (at == row) ≡ false
 above at row lt = ne_eqb at row (λ is. omega (arith, lt, is))
 
 module _ {n : ℕ} where
-  written-either : (at bound row line l : ℕ) (h : List (Event n)) (b : Bool) → eqb at row ≡ b → at < bound → (line_written row h ≡ Some line → row < at)
+  written-either : (at bound row line l : ℕ) (h : List (BankEvent n)) (b : Bool) → eqb at row ≡ b → at < bound → (line_written row h ≡ Some line → row < at)
       → cond b (Some l) (line_written row h) ≡ Some line → row < bound
   written-either at bound row line l h true same below before is = omega (arith, eqb-true at row same, below)
   written-either at bound row line l h false other below before is = let low = before is in omega (arith, low, below)
 
   -- a row that was written is below the next
-  pub written-below : (h : List (Event n)) (bound row line : ℕ) → RowsBelow h bound → line_written row h ≡ Some line → row < bound
+  pub written-below : (h : List (BankEvent n)) (bound row line : ℕ) → RowsBelow h bound → line_written row h ≡ Some line → row < bound
   written-below [] bound row line below is = absurd (cc)
   written-below (Write at l bytes given wrote.Accepted ∷ h) bound row line below is = written-either at bound row line l h (eqb at row) refl below.0 (written-below h at row line below.1) is
   written-below (Write at l bytes given (wrote.Merged old) ∷ h) bound row line below is = written-either at bound row line l h (eqb at row) refl below.0 (written-below h at row line below.1) is
@@ -47,7 +47,7 @@ module _ {n : ℕ} where
   written-below (Iterate answer ∷ h) bound row line below is = written-below h bound row line below is
   written-below (Cut tearing ∷ h) bound row line below is = written-below h bound row line below is
 
-  last-either : (at line row l : ℕ) (h : List (Event n)) (b : Bool) → eqb l line ≡ b → RowsBelow h at → (last_write h line ≡ Some row → line_written row h ≡ Some line)
+  last-either : (at line row l : ℕ) (h : List (BankEvent n)) (b : Bool) → eqb l line ≡ b → RowsBelow h at → (last_write h line ≡ Some row → line_written row h ≡ Some line)
       → cond b (Some at) (last_write h line) ≡ Some row → cond (eqb at row) (Some l) (line_written row h) ≡ Some line
   last-either at line row l h true same below before is =
       let own : at ≡ row = cc is in ap (λ b. cond b (Some l) (line_written row h)) (eq-eqb at row own) ∙ ap Some (eqb-true l line same)
@@ -56,7 +56,7 @@ module _ {n : ℕ} where
       ap (λ b. cond b (Some l) (line_written row h)) (above at row (written-below h at row line below was)) ∙ was
 
   -- the last write of a line was one of the line
-  last-written : (h : List (Event n)) (bound line row : ℕ) → RowsBelow h bound → last_write h line ≡ Some row → line_written row h ≡ Some line
+  last-written : (h : List (BankEvent n)) (bound line row : ℕ) → RowsBelow h bound → last_write h line ≡ Some row → line_written row h ≡ Some line
   last-written [] bound line row below is = absurd (cc)
   last-written (Write at l bytes given wrote.Accepted ∷ h) bound line row below is = last-either at line row l h (eqb l line) refl below.1 (last-written h at line row below.1) is
   last-written (Write at l bytes given (wrote.Merged old) ∷ h) bound line row below is = last-either at line row l h (eqb l line) refl below.1 (last-written h at line row below.1) is
@@ -68,7 +68,7 @@ module _ {n : ℕ} where
   last-written (Iterate answer ∷ h) bound line row below is = last-written h bound line row below is
   last-written (Cut tearing ∷ h) bound line row below is = last-written h bound line row below is
 
-  since-either : (at line row l : ℕ) (bytes : List ℕ) (given : List Bool) (h whole : List (Event n)) (b : Bool) → eqb l line ≡ b → RowsBelow h at
+  since-either : (at line row l : ℕ) (bytes : List ℕ) (given : List Bool) (h whole : List (BankEvent n)) (b : Bool) → eqb l line ≡ b → RowsBelow h at
       → newest whole line ≡ cond (eqb l line) (laid bytes given (newest h line)) (newest h line)
       → (last_write h line ≡ Some row → newest (up_to row h) line ≡ newest h line) → cond b (Some at) (last_write h line) ≡ Some row
       → newest (cond (eqb at row) whole (up_to row h)) line ≡ newest whole line
@@ -80,7 +80,7 @@ module _ {n : ℕ} where
       ∙ sym (laid_is ∙ ap (λ b. cond b (laid bytes given (newest h line)) (newest h line)) other)
 
   -- behind its last write nothing changes the newest bytes of a line
-  newest-since : (h : List (Event n)) (bound line row : ℕ) → RowsBelow h bound → last_write h line ≡ Some row → newest (up_to row h) line ≡ newest h line
+  newest-since : (h : List (BankEvent n)) (bound line row : ℕ) → RowsBelow h bound → last_write h line ≡ Some row → newest (up_to row h) line ≡ newest h line
   newest-since [] bound line row below is = absurd (cc)
   newest-since (Write at l bytes given wrote.Accepted ∷ h) bound line row below is =
       since-either at line row l bytes given h (Write at l bytes given wrote.Accepted ∷ h) (eqb l line) refl below.1 refl (newest-since h at line row below.1) is
@@ -124,17 +124,17 @@ module _ {n : ℕ} (shape : BankShape) where
       })
 
   -- a row whose write is above it has the same behind it
-  aside : (h : List (Event n)) (at row line : ℕ) (whole : List (Event n)) (layer : Layer) → row < at → IsGiven n (given_by row h) (newest (up_to row h) line)
+  aside : (h : List (BankEvent n)) (at row line : ℕ) (whole : List (BankEvent n)) (layer : Layer) → row < at → IsGiven n (given_by row h) (newest (up_to row h) line)
       → IsGiven n (cond (eqb at row) layer (given_by row h)) (newest (cond (eqb at row) whole (up_to row h)) line)
   aside h at row line whole layer lt was =
       subst (λ b. IsGiven n (cond b layer (given_by row h)) (newest (cond b whole (up_to row h)) line)) (sym (above at row lt)) was
 
-  unseen : (h : List (Event n)) (at row line : ℕ) (whole : List (Event n)) → row < at → IsGiven n (given_by row h) (newest (up_to row h) line)
+  unseen : (h : List (BankEvent n)) (at row line : ℕ) (whole : List (BankEvent n)) → row < at → IsGiven n (given_by row h) (newest (up_to row h) line)
       → IsGiven n (given_by row h) (newest (cond (eqb at row) whole (up_to row h)) line)
   unseen h at row line whole lt was =
       subst (λ b. IsGiven n (given_by row h) (newest (cond b whole (up_to row h)) line)) (sym (above at row lt)) was
 
-  given-either : (at row line l : ℕ) (h whole : List (Event n)) (layer : Layer) (b : Bool) → eqb at row ≡ b → RowsBelow h at
+  given-either : (at row line l : ℕ) (h whole : List (BankEvent n)) (layer : Layer) (b : Bool) → eqb at row ≡ b → RowsBelow h at
       → (l ≡ line → IsGiven n layer (newest whole line)) → (line_written row h ≡ Some line → IsGiven n (given_by row h) (newest (up_to row h) line))
       → cond b (Some l) (line_written row h) ≡ Some line
       → IsGiven n (cond (eqb at row) layer (given_by row h)) (newest (cond (eqb at row) whole (up_to row h)) line)
@@ -145,11 +145,11 @@ module _ {n : ℕ} (shape : BankShape) where
       aside h at row line whole layer (written-below h at row line below is) (before is)
 
   -- the entry that a write is merged into has its line's last write
-  old-last : (most : ℕ) (h : List (Event n)) (at l old : ℕ) → MayAll shape most h → RowsBelow h at → wrote.Merged old ≡ write_answer shape h l → last_write h l ≡ Some old
+  old-last : (most : ℕ) (h : List (BankEvent n)) (at l old : ℕ) → MayAll shape most h → RowsBelow h at → wrote.Merged old ≡ write_answer shape h l → last_write h l ≡ Some old
   old-last most h at l old may below m =
       queue-last shape l old most h at may below (candidate-newest (head_busy_after shape h) (queue shape h) l old (merged-candidate shape h l old m))
 
-  given-stays : (most : ℕ) (h : List (Event n)) (bound row line : ℕ) → MayAll shape most h → RowsBelow h bound → line_written row h ≡ Some line
+  given-stays : (most : ℕ) (h : List (BankEvent n)) (bound row line : ℕ) → MayAll shape most h → RowsBelow h bound → line_written row h ≡ Some line
       → IsGiven n (given_by row h) (newest (up_to row h) line)
   given-stays most [] bound row line may below is = absurd (cc)
   given-stays most (Write at l bytes given wrote.Accepted ∷ h) bound row line may below is =
@@ -176,14 +176,14 @@ module _ {n : ℕ} (shape : BankShape) where
   -- The head
 
   -- an entry has the newest bytes of its line as its own write came
-  abbrev pub IsWhole : List (Event n) → Entry n → Type 0
+  abbrev pub IsWhole : List (BankEvent n) → Entry n → Type 0
   IsWhole h e = e.bytes ≡ newest (up_to e.row h) e.line
 
-  abbrev pub HeadWhole : List (Event n) → List (Entry n) → Type 0
+  abbrev pub HeadWhole : List (BankEvent n) → List (Entry n) → Type 0
   HeadWhole h [] = Unit {0}
   HeadWhole h (e ∷ es) = IsWhole h e
 
-  whole-behind : (h : List (Event n)) (e : Entry n) (at : ℕ) (whole : List (Event n)) → e.row < at → IsWhole h e → e.bytes ≡ newest (cond (eqb at e.row) whole (up_to e.row h)) e.line
+  whole-behind : (h : List (BankEvent n)) (e : Entry n) (at : ℕ) (whole : List (BankEvent n)) → e.row < at → IsWhole h e → e.bytes ≡ newest (cond (eqb at e.row) whole (up_to e.row h)) e.line
   whole-behind h e at whole lt was = was ∙ ap (λ b. newest (cond b whole (up_to e.row h)) e.line) (sym (above at e.row lt))
 
   -- laid over any bytes it changes nothing where it gives every byte
@@ -199,7 +199,7 @@ module _ {n : ℕ} (shape : BankShape) where
       ]
 
   -- a write behind the others
-  whole-pushed : (h : List (Event n)) (at l : ℕ) (bytes : List ℕ) (given : List Bool) (q : List (Entry n)) → ((r : ℕ) → at ≤ r → has_row q r ≡ false) → (q ≡ [] → ⊥)
+  whole-pushed : (h : List (BankEvent n)) (at l : ℕ) (bytes : List ℕ) (given : List Bool) (q : List (Entry n)) → ((r : ℕ) → at ≤ r → has_row q r ≡ false) → (q ≡ [] → ⊥)
       → HeadWhole h q → HeadWhole (Write at l bytes given wrote.Accepted ∷ h) (q ++ record { row = at; line = l; bytes = bytes; given = given } ∷ [])
   whole-pushed h at l bytes given [] none some was = absurd (some refl)
   whole-pushed h at l bytes given (e ∷ es) none some was =
@@ -207,12 +207,12 @@ module _ {n : ℕ} (shape : BankShape) where
       (low-row (e ∷ es) e.row at none (head-there (e ∷ es) e.row refl)) was
 
   -- a write that is merged into one of them
-  whole-merged : (h : List (Event n)) (bound at l old : ℕ) (bytes : List ℕ) (given : List Bool) (q : List (Entry n)) → RowsBelow h bound → ((r : ℕ) → at ≤ r → has_row q r ≡ false)
+  whole-merged : (h : List (BankEvent n)) (bound at l old : ℕ) (bytes : List ℕ) (given : List Bool) (q : List (Entry n)) → RowsBelow h bound → ((r : ℕ) → at ≤ r → has_row q r ≡ false)
       → RowsApart q → Stands q old l → last_write h l ≡ Some old → HeadWhole h q → HeadWhole (Write at l bytes given (wrote.Merged old) ∷ h) (merged old at bytes given q)
   whole-merged h bound at l old bytes given [] below none apart s last was = absurd s
   whole-merged h bound at l old bytes given (e ∷ es) below none apart s last was = by (eqb e.row old) refl
     where
-      now : List (Event n)
+      now : List (BankEvent n)
       now = Write at l bytes given (wrote.Merged old) ∷ h
 
       its-line : e.row ≡ old → Stands (e ∷ es) old l → l ≡ e.line
@@ -240,7 +240,7 @@ module _ {n : ℕ} (shape : BankShape) where
       by (Some at) is = absurd (cc (none, stands-line es at line (newest-stands es line at is)))
 
   -- a store of it is begun
-  module _ (most : ℕ) (h : List (Event n)) (bound : ℕ) (may : MayAll shape most h) (below : RowsBelow h bound) where
+  module _ (most : ℕ) (h : List (BankEvent n)) (bound : ℕ) (may : MayAll shape most h) (below : RowsBelow h bound) where
     whole-completed : (e : Entry n) (es : List (Entry n)) (whole : Bool) → queue shape h ≡ e ∷ es → ArePaired (e ∷ es)
         → IsOwn (line_written e.row h) (given_by e.row h) whole e → (whole ≡ true → IsWhole h e)
         → laid e.bytes e.given (newest h e.line) ≡ newest (up_to e.row h) e.line
@@ -271,23 +271,23 @@ module _ {n : ℕ} (shape : BankShape) where
     whole-begun None (e ∷ es) whole is paired own was some = whole-completed e es whole is paired own.0 was
 
   -- what comes behind it leaves it as it is
-  whole-same : (h now : List (Event n)) (q : List (Entry n)) → ((row : ℕ) → has_row q row ≡ true → up_to row now ≡ up_to row h) → HeadWhole h q → HeadWhole now q
+  whole-same : (h now : List (BankEvent n)) (q : List (Entry n)) → ((row : ℕ) → has_row q row ≡ true → up_to row now ≡ up_to row h) → HeadWhole h q → HeadWhole now q
   whole-same h now [] same was = tt
   whole-same h now (e ∷ es) same was =
       was
       ∙ ap (λ past. newest past e.line) (sym (same e.row (head-there (e ∷ es) e.row refl)))
 
-  unchanged : (h : List (Event n)) (at : ℕ) (whole : List (Event n)) (q : List (Entry n)) → RowsBelow h at → ((r : ℕ) → at ≤ r → has_row q r ≡ false) → (row : ℕ) → has_row q row ≡ true
+  unchanged : (h : List (BankEvent n)) (at : ℕ) (whole : List (BankEvent n)) (q : List (Entry n)) → RowsBelow h at → ((r : ℕ) → at ≤ r → has_row q r ≡ false) → (row : ℕ) → has_row q row ≡ true
       → cond (eqb at row) whole (up_to row h) ≡ up_to row h
   unchanged h at whole q below none row there = ap (λ b. cond b whole (up_to row h)) (above at row (low-row q row at none there))
 
-  begin-whole : (most : ℕ) (h : List (Event n)) (bound : ℕ) (answer : Step) → MayAll shape most h → RowsBelow h bound → (is_head_begun shape h ≡ true → HeadWhole h (queue shape h))
+  begin-whole : (most : ℕ) (h : List (BankEvent n)) (bound : ℕ) (answer : Step) → MayAll shape most h → RowsBelow h bound → (is_head_begun shape h ≡ true → HeadWhole h (queue shape h))
       → (is_none (due_after shape h) || is_head_begun shape h) ≡ true → HeadWhole (Begin answer ∷ h) (begun (due_after shape h) (newest h) (queue shape h))
   begin-whole most h bound answer may below was is =
       whole-same h (Begin answer ∷ h) (begun (due_after shape h) (newest h) (queue shape h)) (λ row there. refl)
       (whole-begun most h bound may below (due_after shape h) (queue shape h) (is_head_begun shape h) refl (keeps_pairs shape most h may).paired (queue-own shape most h bound may below) was is)
 
-  pub head-whole : (most : ℕ) (h : List (Event n)) (bound : ℕ) → MayAll shape most h → RowsBelow h bound → is_head_begun shape h ≡ true → HeadWhole h (queue shape h)
+  pub head-whole : (most : ℕ) (h : List (BankEvent n)) (bound : ℕ) → MayAll shape most h → RowsBelow h bound → is_head_begun shape h ≡ true → HeadWhole h (queue shape h)
   head-whole most [] bound may below is = tt
   head-whole most (Write at l bytes given wrote.Accepted ∷ h) bound may below is =
       whole-pushed h at l bytes given (queue shape h) ((stand_apart shape h at below.1).queued_below)

@@ -9,4 +9,4 @@ pub mod Marking
 pub mod Ended
 pub mod Staying
 pub mod Saved
-mod Worked
+mod Sizes

@@ -1,5 +1,5 @@
 -- The mark of a bank and what is left to do in it, by its rows and by what is saved of it.
-use Rattle.std.proofs.Common.{◌≡◌, ℕ, zero, suc, ◌<◌, ◌==◌, ◌&&◌, ◌||◌, ◌⊎◌, inl, inr, Bool, true, false, List, [], ◌∷◌, ◌++◌, map, filter, length, get_or, Option, Some, None, refl, sym, ap, ◌∙◌, subst, arith, cond, eqb-true, append_assoc}
+use Rattle.std.proofs.Common.{◌≡◌, ℕ, zero, suc, ◌<◌, ◌==◌, ◌&&◌, ◌||◌, not, ◌⊎◌, inl, inr, Bool, true, false, List, [], ◌∷◌, ◌++◌, map, filter, length, get_or, Option, Some, None, refl, sym, ap, ◌∙◌, subst, arith, cond, eqb-true, append_assoc}
 use Rattle.std.specs.Prelude.{IfSome}
 use Rattle.std.specs.List.{list_any}
 use Rattle.std.proofs.lemmas.Bool.{eq-eqb, or_cases, or_left, or_right}
@@ -9,7 +9,7 @@ use Rattle.result_rows.specs.declared.Outcome.{Outcome}
 use Rattle.result_rows.specs.declared.Outcome.TheVariants as out
 use Rattle.masked_bytes.specs.declared.entry.Entry.{Entry}
 use Rattle.masked_bytes.specs.Entries.{has_row}
-use Rattle.pcm_cells.specs.Device.{ArrayState}
+use Rattle.cell_rows.specs.Device.{ArrayState}
 use Rattle.row_rules.specs.declared.Row.{Row}
 use Rattle.row_rules.specs.Answers.{accepts, is_merged, is_queued, is_worn}
 use Rattle.row_rules.specs.Rows.{asks_write}
@@ -26,6 +26,7 @@ use Rattle.bank_model.specs.Sensing.{most_steps}
 use Rattle.bank_shape.specs.declared.pace.Pace.{Pace}
 use Rattle.bank_model.specs.Timing.{Happens, Core, Regs, TimedEvent, core}
 use Rattle.bank_model.specs.Lawful.{Lawful, IsIdle, MayCome}
+use Rattle.bank_laws.specs.Resting.{EndsIn}
 use Rattle.bank_laws.specs.Laws.{IsSized, LeavesArray, is_worn_at}
 use Rattle.bank_laws.specs.Outcomes.{outcome_of, ended, row_with, rows_from, table_of}
 use Rattle.bank_laws.specs.Places.{worn_among}
@@ -44,7 +45,7 @@ use Rattle.pcm_image.specs.Saved.{SavedBank}
 use Rattle.pcm_image.specs.Standing.{no_region}
 use Rattle.image_laws.specs.Queued.{QueuedWrite, coming, merging, queued_after, by_order, queued_writes}
 use Rattle.image_laws.specs.Saving.{saved_bank, saved_entry, saved_region}
-use Rattle.image_laws.specs.SavedRuns.{SavesMark, SavesQueue, has_work, is_due, queued_row}
+use Rattle.image_laws.specs.SavedRuns.{SavesMarkTo, SavesQueue, has_work, is_due, queued_row}
 use Rattle.image_laws.proofs.Begun.{begun-again, keeps-begun}
 use Rattle.image_laws.proofs.Queueing.{Alike, first-again, queue-alike, queue-by_rows}
 
@@ -209,7 +210,7 @@ module _ {n m : ℕ} (shape : BankShape) (pace : Pace) (e : ℕ) (all : List (Ti
       by (Some item) exists halted halts = inr (worn_control shape pace e all array sized l leaves item exists (halts halted))
 
 module _ {n m e : ℕ} (pace : Pace) (all : List (TimedEvent n m)) (bank : BankState n m e) (array : ArrayState n m) (sized : IsSized bank.kept.shape pace)
-    (l : Lawful bank.kept.shape pace e all) (idle : IsIdle bank.kept.shape pace all) (holds : Holds (core all) bank array) (agrees : AgreesWith (core all) bank)
+    (l : Lawful bank.kept.shape pace e all) (off : Bool) (ends : EndsIn off bank.kept.shape pace all) (holds : Holds (core all) bank array) (agrees : AgreesWith (core all) bank)
     (leaves : LeavesArray e bank.kept.shape all array) where
   abbrev kept : KeptState n
   kept = bank.kept
@@ -301,8 +302,8 @@ module _ {n m e : ℕ} (pace : Pace) (all : List (TimedEvent n m)) (bank : BankS
           or_left (list_any queued_row table) (is_due shape.psi saved)
           (some-queue shape pace e all l some.0 some.1 some.2)
 
-  work-why : has_work shape.psi table saved ≡ true → is_over shape all ≡ true
-  work-why is = by (or_cases (list_any queued_row table) (is_due shape.psi saved) is)
+  work-why : IsIdle bank.kept.shape pace all → has_work shape.psi table saved ≡ true → is_over shape all ≡ true
+  work-why idle is = by (or_cases (list_any queued_row table) (is_due shape.psi saved) is)
     where
       by : (list_any queued_row table ≡ true) ⊎ (is_due shape.psi saved ≡ true) → is_over shape all ≡ true
       by (inl queued) =
@@ -311,11 +312,15 @@ module _ {n m e : ℕ} (pace : Pace) (all : List (TimedEvent n m)) (bank : BankS
           (ap (λ (q : List (Entry n)). has_row q some.0.row) some.2 ∙ ap (λ b. b || has_row some.1 some.0.row) (eq-eqb some.0.row some.0.row refl))
       by (inr due) = let some = saved-due due in idle-due shape pace all some.0 idle some.1
 
-  pub saves-mark : SavesMark shape (is_worn_at e array) table saved
+  left-why : (off : Bool) → EndsIn off bank.kept.shape pace all → (not off && has_work shape.psi table saved) ≡ true → is_over shape all ≡ true
+  left-why true ends is = absurd (cc)
+  left-why false idle is = work-why idle is
+
+  pub saves-mark : SavesMarkTo off shape (is_worn_at e array) table saved
   saves-mark = record {
     refused = λ is. exhausted-mark (refused shape pace e all l [] all refl is);
     left = λ mark. left-over (mark-exhausted mark);
-    works = λ is. by (over-why shape pace e all l array sized leaves (work-why is));
+    works = λ is. by (over-why shape pace e all l array sized leaves (left-why off ends is));
     full = λ mark. (holds.tied.exhausted (marked kept.exhausted mark)).all_used;
     worn_out = λ mark. worn_out shape pace e all array sized l leaves (mark-exhausted mark);
   }

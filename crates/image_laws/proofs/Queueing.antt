@@ -16,7 +16,7 @@ use Rattle.bank_shape.specs.declared.BankShape.{BankShape}
 use Rattle.bank_shape.specs.declared.answer.WriteAnswer.{WriteAnswer}
 use Rattle.bank_shape.specs.declared.answer.WriteAnswer.TheVariants as wrote
 use Rattle.bank_shape.specs.declared.answer.Step.TheVariants as did
-use Rattle.bank_model.specs.Events.{Event, Write, Read, Serve, Begin, Iterate, Cut, RowsBelow, newest, up_to}
+use Rattle.bank_model.specs.Events.{BankEvent, Write, Read, Serve, Begin, Iterate, Cut, RowsBelow, newest, up_to}
 use Rattle.bank_model.specs.History.{begun, queue, due_after}
 use Rattle.bank_shape.specs.declared.pace.Pace.{Pace}
 use Rattle.bank_model.specs.Timing.{Happens, Core, Regs, TimedEvent, core, core_of}
@@ -81,14 +81,14 @@ module _ {n m : ℕ} (shape : BankShape) (all : List (TimedEvent n m)) where
       by (Regs event) cancels ih = ih
 
   -- a write by its order is that of its row: its outcome, its line, what it gives, and its line's newest bytes
-  record IsItem (past : List (Event n)) (w : Numbered n) : Type 0 where
+  record IsItem (past : List (BankEvent n)) (w : Numbered n) : Type 0 where
     ends : (tick : ℕ) × (w.write.outcome ≡ ended tick (outcome_of shape all w.row))
     line : line_written w.row past ≡ Some w.write.line
     gives : given_by w.row past ≡ w.write.gives
     newest_is : newest (up_to w.row past) w.write.line ≡ w.write.newest
 
   -- it stays so behind a later write
-  item-behind : (past : List (Event n)) (at l : ℕ) (bytes : List ℕ) (given : List Bool) (answer : WriteAnswer) → RowsBelow past at → (w : Numbered n) → IsItem past w
+  item-behind : (past : List (BankEvent n)) (at l : ℕ) (bytes : List ℕ) (given : List Bool) (answer : WriteAnswer) → RowsBelow past at → (w : Numbered n) → IsItem past w
       → IsItem (Write at l bytes given answer ∷ past) w
   item-behind past at l bytes given answer below w is = by answer
     where
@@ -122,11 +122,11 @@ module _ {n m : ℕ} (shape : BankShape) (all : List (TimedEvent n m)) where
       }
 
   -- and behind any other event
-  abbrev NoWrite : Event n → Type 0
+  abbrev NoWrite : BankEvent n → Type 0
   NoWrite (Write row line bytes given answer) = ⊥
   NoWrite event = Unit {0}
 
-  item-over : (past : List (Event n)) (event : Event n) → NoWrite event → (w : Numbered n) → IsItem past w → IsItem (event ∷ past) w
+  item-over : (past : List (BankEvent n)) (event : BankEvent n) → NoWrite event → (w : Numbered n) → IsItem past w → IsItem (event ∷ past) w
   item-over past (Write row line bytes given answer) none w is = absurd none
   item-over past (Read row line answer) none w is = record { ends = is.ends; line = is.line; gives = is.gives; newest_is = is.newest_is }
   item-over past (Serve answer) none w is = record { ends = is.ends; line = is.line; gives = is.gives; newest_is = is.newest_is }
@@ -135,7 +135,7 @@ module _ {n m : ℕ} (shape : BankShape) (all : List (TimedEvent n m)) where
   item-over past (Cut tearing) none w is = record { ends = is.ends; line = is.line; gives = is.gives; newest_is = is.newest_is }
 
   -- these writes are so, and those that aren't gone are the queue's
-  record PlacedIn (past : List (Event n)) (gone : ℕ → Type 0) (ws : List (Numbered n)) : Type 0 where
+  record PlacedIn (past : List (BankEvent n)) (gone : ℕ → Type 0) (ws : List (Numbered n)) : Type 0 where
     each : Each (λ w. IsItem past w) ws
     match : Match gone (queue shape past) ws
 
@@ -351,7 +351,7 @@ module _ {n m : ℕ} (shape : BankShape) (all : List (TimedEvent n m)) where
             (match-stays (IsStored zs) (StoredBy shape zs x.tick (Core (Write row line bytes given answer))) (stay (Core (Write row line bytes given answer)) k.may) (queue shape (core zs)) (numbered zs) placed.match);
       }
 
-      others : (event : Event n) → NoWrite event → Each (λ w. IsItem (event ∷ core zs) w) (numbered zs)
+      others : (event : BankEvent n) → NoWrite event → Each (λ w. IsItem (event ∷ core zs) w) (numbered zs)
       others event none = each-map (λ w. IsItem (core zs) w) (λ w. IsItem (event ∷ core zs) w) (item-over (core zs) event none) (numbered zs) placed.each
 
       still : (h : Happens n) → MayCome shape pace e zs x h → Match (StoredBy shape zs x.tick h) (queue shape (core zs)) (numbered zs)

@@ -6,8 +6,8 @@ use Rattle.std.proofs.lemmas.Nat.{mul-le}
 use Rattle.std.proofs.Math.Nat.{mod-lt}
 use Rattle.std.proofs.lemmas.List.Elements.{All-map, All-from_get_or}
 use Rattle.std.proofs.lemmas.List.FromFn.{get_or-map-range_with_len, length-map-range_with_len}
-use Rattle.pcm_cells.specs.Rows.{zero_row}
-use Rattle.pcm_cells.specs.Device.{ArrayState, LineState}
+use Rattle.cell_rows.specs.Rows.{zero_row}
+use Rattle.cell_rows.specs.Device.{ArrayState, LineState}
 use Rattle.ecp_line.specs.Reading.{is_worn_line}
 use Rattle.row_rules.specs.declared.Row.{Row}
 use Rattle.row_rules.specs.Rows.{newest}
@@ -17,8 +17,8 @@ use Rattle.power_recovery.specs.Kept.{KeptState}
 use Rattle.bank_shape.specs.declared.pace.Pace.{Pace}
 use Rattle.bank_model.specs.Timing.{TimedEvent, core}
 use Rattle.bank_laws.specs.Laws.{IsSized, LeavesArray, is_worn_at}
-use Rattle.bank_laws.specs.Places.{is_moved}
-use Rattle.bank_model.specs.Lawful.{IsIdle}
+use Rattle.bank_laws.specs.Places.{is_moved_to}
+use Rattle.bank_laws.specs.Resting.{EndsIn}
 use Rattle.bank_invariant.specs.Bridge.{AgreeLaw, AgreesWith}
 use Rattle.bank_invariant.specs.Holds.{stands_for as kept_for}
 use Rattle.bank_laws.specs.Outcomes.{table_of}
@@ -36,11 +36,11 @@ use Rattle.clock_laws.specs.State.{ClockState}
 use Rattle.end_laws.specs.Ends.{BankEnd}
 use Rattle.end_laws.specs.EndLaws.{IsEndOf}
 use Rattle.run_laws.specs.FinishedLaws.{LinesLaw}
-use Rattle.run_laws.specs.Runs.{RunsRight, bank_of_line, line_in_bank, table_in}
+use Rattle.run_laws.specs.Runs.{RunsRightTo, bank_of_line, line_in_bank, table_in}
 use Rattle.pcm_image.specs.Saved.{Saved, SavedBank, IsSaved, IsSavedBank, IsSavedRow}
 use Rattle.pcm_image.specs.Standing.{no_bank, own_bytes, stands_for}
 use Rattle.image_laws.specs.Saving.{head_of, saved_bank, saved_banks, saved_cells, saved_of}
-use Rattle.image_laws.specs.SavedRuns.{AreRows, IsLeft, SavedLaw, SavesEnd, SavesMark, SavesQueue, SavesRun}
+use Rattle.image_laws.specs.SavedRuns.{AreRows, IsLeftTo, SavedToLaw, SavesEnd, SavesMarkTo, SavesQueue, SavesRunTo}
 use Rattle.image_laws.proofs.Ended.{saves-end}
 use Rattle.image_laws.proofs.Keeping.{bank-right, head-right}
 use Rattle.image_laws.proofs.Marking.{saves-mark, saves-queue}
@@ -54,8 +54,8 @@ pub record ImageLaws : Type 0 where
   pub agree : AgreeLaw
   pub leaving : LeavingLaw
 
-module _ (laws : ImageLaws) {n m : ℕ} (e : ℕ) (raw : RawShape) (seed : ℕ) (rows : List (Row n)) (array : ArrayState n m) (ends : ℕ → BankEnd)
-    (s : Saved n m) (left : IsLeft e raw seed rows array s) (is : IsShape raw) (low : seed < 2 ^ 64) (right_run : RunsRight e raw seed rows array ends)
+module _ (off : Bool) (laws : ImageLaws) {n m : ℕ} (e : ℕ) (raw : RawShape) (seed : ℕ) (rows : List (Row n)) (array : ArrayState n m) (ends : ℕ → BankEnd)
+    (s : Saved n m) (left : IsLeftTo off e raw seed rows array s) (is : IsShape raw) (low : seed < 2 ^ 64) (right_run : RunsRightTo e raw seed off rows array ends)
     (of_ends : (bank : ℕ) → bank < raw.banks → IsEndOf (left.banks bank).bank.kept (ends bank)) where
   abbrev kept : ℕ → KeptState n
   kept bank = (left.banks bank).bank.kept
@@ -124,9 +124,9 @@ module _ (laws : ImageLaws) {n m : ℕ} (e : ℕ) (raw : RawShape) (seed : ℕ) 
     sized-bank =
         subst (λ (s : BankShape). IsSized s clock.pace) (sym same) (subst (λ (p : Pace). IsSized shape p) (sym (left.finished.paces bank exists)) (sized raw bank is))
 
-    idle : IsIdle (kept bank).shape clock.pace xs
+    idle : EndsIn off (kept bank).shape clock.pace xs
     idle =
-        subst (λ (s : BankShape). IsIdle s clock.pace xs) (sym same) (subst (λ (p : Pace). IsIdle shape p xs) (sym (left.finished.paces bank exists)) (left.finished.idle bank exists))
+        subst (λ (s : BankShape). EndsIn off s clock.pace xs) (sym same) (subst (λ (p : Pace). EndsIn off shape p xs) (sym (left.finished.paces bank exists)) (left.finished.idle bank exists))
 
     leaves : LeavesArray e (kept bank).shape xs left.before
     leaves = laws.leaving n m e xs clock left.before leads
@@ -136,11 +136,11 @@ module _ (laws : ImageLaws) {n m : ℕ} (e : ℕ) (raw : RawShape) (seed : ℕ) 
 
     -- its moves, by the rows
     moved : (region : ℕ) → region < raw.regions
-        → is_moved (kept bank).shape (is_worn_at e left.before) (table_of (kept bank).shape xs) region ((ends bank).moves region) ≡ true
+        → is_moved_to off (kept bank).shape (is_worn_at e left.before) (table_of (kept bank).shape xs) region ((ends bank).moves region) ≡ true
     moved region lt =
-        subst (λ (rs : List (Row n)). is_moved (kept bank).shape (is_worn_at e left.before) rs region ((ends bank).moves region) ≡ true) rows-of
-        (subst (λ (s : BankShape). is_moved s (is_worn_at e left.before) (table_in raw seed bank rows) region ((ends bank).moves region) ≡ true) (sym same)
-        (subst (λ (worn : ℕ → Bool). is_moved shape worn (table_in raw seed bank rows) region ((ends bank).moves region) ≡ true) (sym worn-same)
+        subst (λ (rs : List (Row n)). is_moved_to off (kept bank).shape (is_worn_at e left.before) rs region ((ends bank).moves region) ≡ true) rows-of
+        (subst (λ (s : BankShape). is_moved_to off s (is_worn_at e left.before) (table_in raw seed bank rows) region ((ends bank).moves region) ≡ true) (sym same)
+        (subst (λ (worn : ℕ → Bool). is_moved_to off shape worn (table_in raw seed bank rows) region ((ends bank).moves region) ≡ true) (sym worn-same)
         ((right_run.end bank exists).moved region lt)))
 
     abbrev part : SavedBank n
@@ -151,22 +151,22 @@ module _ (laws : ImageLaws) {n m : ℕ} (e : ℕ) (raw : RawShape) (seed : ℕ) 
         rw (part-at bank exists)
         (subst (λ (worn : ℕ → Bool). SavesEnd (head_of raw seed) (bank_shape (module_of raw) bank) worn (table_in raw seed bank rows) (ends bank) (saved_bank (kept bank))) worn-same
         (subst (λ (rs : List (Row n)). SavesEnd (head_of raw seed) (bank_shape (module_of raw) bank) (is_worn_at e left.before) rs (ends bank) (saved_bank (kept bank))) (sym rows-of)
-        (saves-end raw seed bank clock.pace xs clock.bank left.before (ends bank) same is.some_psi leads.lawful leads.holds (of_ends bank exists) moved)))
+        (saves-end off raw seed bank clock.pace xs clock.bank left.before (ends bank) same is.some_psi leads.lawful leads.holds (of_ends bank exists) moved)))
 
     saved-queue : SavesQueue raw.psi (table_in raw seed bank rows) part
     saved-queue =
         rw (part-at bank exists)
         (subst (λ (s : BankShape). SavesQueue s.psi (table_in raw seed bank rows) (saved_bank (kept bank))) same
         (subst (λ (rs : List (Row n)). SavesQueue (kept bank).shape.psi rs (saved_bank (kept bank))) (sym rows-of)
-        (saves-queue clock.pace xs clock.bank left.before sized-bank leads.lawful idle leads.holds agrees leaves)))
+        (saves-queue clock.pace xs clock.bank left.before sized-bank leads.lawful off idle leads.holds agrees leaves)))
 
-    saved-mark : SavesMark shape (is_worn_at e array) (table_in raw seed bank rows) part
+    saved-mark : SavesMarkTo off shape (is_worn_at e array) (table_in raw seed bank rows) part
     saved-mark =
         rw (part-at bank exists)
-        (subst (λ (worn : ℕ → Bool). SavesMark shape worn (table_in raw seed bank rows) (saved_bank (kept bank))) worn-same
-        (subst (λ (s : BankShape). SavesMark s (is_worn_at e left.before) (table_in raw seed bank rows) (saved_bank (kept bank))) same
-        (subst (λ (rs : List (Row n)). SavesMark (kept bank).shape (is_worn_at e left.before) rs (saved_bank (kept bank))) (sym rows-of)
-        (saves-mark clock.pace xs clock.bank left.before sized-bank leads.lawful idle leads.holds agrees leaves))))
+        (subst (λ (worn : ℕ → Bool). SavesMarkTo off shape worn (table_in raw seed bank rows) (saved_bank (kept bank))) worn-same
+        (subst (λ (s : BankShape). SavesMarkTo off s (is_worn_at e left.before) (table_in raw seed bank rows) (saved_bank (kept bank))) same
+        (subst (λ (rs : List (Row n)). SavesMarkTo off (kept bank).shape (is_worn_at e left.before) rs (saved_bank (kept bank))) (sym rows-of)
+        (saves-mark clock.pace xs clock.bank left.before sized-bank leads.lawful off idle leads.holds agrees leaves))))
 
   -- of a line
   module _ (line : ℕ) (exists : line < total_of raw) where
@@ -203,10 +203,10 @@ module _ (laws : ImageLaws) {n m : ℕ} (e : ℕ) (raw : RawShape) (seed : ℕ) 
         ∙ own-saved e raw seed kept left.before is left.finished.size bank bank-there (leads bank bank-there).holds.kept (same bank bank-there) own own-there
         ∙ by-history ∙ by-rows
 
-  pub saves : SavesRun e raw seed rows array ends s
+  pub saves : SavesRunTo off e raw seed rows array ends s
   saves =
-      subst (λ t. SavesRun e raw seed rows array ends t) (sym left.saved)
+      subst (λ t. SavesRunTo off e raw seed rows array ends t) (sym left.saved)
       (record { head = refl; right = right; cells = cells; banks = saved-end; queues = saved-queue; marks = saved-mark; stands = line-stands })
 
-pub saved_law : ImageLaws → SavedLaw
-saved_law laws n m e raw seed rows array ends s left is low right of_ends = saves laws e raw seed rows array ends s left is low right of_ends
+pub saved_law : ImageLaws → (off : Bool) → SavedToLaw off
+saved_law laws off n m e raw seed rows array ends s left is low right of_ends = saves off laws e raw seed rows array ends s left is low right of_ends

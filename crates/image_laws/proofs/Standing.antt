@@ -9,8 +9,8 @@ use Rattle.masked_bytes.specs.declared.entry.Entry.{Entry}
 use Rattle.start_gap.specs.Rotation.{place_by}
 use Rattle.start_gap.specs.Slots.{slot_at}
 use Rattle.spare_pool.specs.Table.{line_from}
-use Rattle.pcm_cells.specs.Rows.{zero_row}
-use Rattle.pcm_cells.specs.Device.{ArrayState}
+use Rattle.cell_rows.specs.Rows.{zero_row}
+use Rattle.cell_rows.specs.Device.{ArrayState}
 use Rattle.ecp_line.specs.Reading.{decode}
 use Rattle.bank_shape.specs.declared.BankShape.{BankShape}
 use Rattle.power_recovery.specs.Kept.{KeptState, IsKept, region_at, slot_of as kept_slot, stands_at as kept_at, no_region as no_kept}

@@ -1,3 +1,4 @@
 pub mod Saving
 pub mod Queued
 pub mod SavedRuns
+pub mod Sizes

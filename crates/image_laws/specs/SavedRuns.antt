@@ -1,11 +1,11 @@
 -- What the image of a finished run says.
-use Rattle.std.specs.Prelude.{◌≡◌, ◌≢◌, ◌⊎◌, ℕ, ◌+◌, ◌*◌, ◌^◌, ◌<◌, ◌==◌, ◌&&◌, ◌||◌, Bool, IsTrue, IsFalse, List, ◌++◌, length, All, Some, map, slice_index_or}
-use Rattle.std.specs.List.{list_any}
+use Rattle.std.specs.Prelude.{◌≡◌, ◌≢◌, ◌⊎◌, ℕ, ◌+◌, ◌*◌, ◌^◌, ◌<◌, ◌==◌, ◌&&◌, ◌||◌, not, Bool, true, false, IsTrue, IsFalse, List, ◌++◌, length, Some, map, slice_index_or}
+use Rattle.std.specs.List.{list_any, range_with_len}
 use Rattle.start_gap.specs.Rotation.{StandsFor}
 use Rattle.spare_pool.specs.Table.{line_by}
-use Rattle.pcm_cells.specs.Rows.{zero_row}
-use Rattle.pcm_cells.specs.Device.{ArrayState, sense_of}
-use Rattle.pcm_cells.specs.declared.array.Sense.{Sense}
+use Rattle.cell_rows.specs.Rows.{zero_row}
+use Rattle.cell_rows.specs.Device.{ArrayState, sense_of}
+use Rattle.cell_rows.specs.declared.array.Sense.{Sense}
 use Rattle.result_rows.specs.declared.Outcome.{Outcome}
 use Rattle.row_rules.specs.declared.Row.{Row}
 use Rattle.row_rules.specs.Answers.{is_stored, is_queued}
@@ -24,37 +24,45 @@ use Rattle.clock_laws.specs.State.{ClockState}
 use Rattle.end_laws.specs.Ends.{BankEnd}
 use Rattle.end_laws.specs.EndLaws.{IsEndOf}
 use Rattle.end_laws.specs.Roles.{used_spares}
-use Rattle.run_laws.specs.Runs.{RunsRight, table_in}
-use Rattle.run_laws.specs.Finishing.{IsFinished}
+use Rattle.run_laws.specs.Runs.{RunsRightTo, table_in}
+use Rattle.run_laws.specs.Finishing.{IsFinishedTo}
 use Rattle.pcm_image.specs.declared.RegionImage.{RegionImage}
 use Rattle.pcm_image.specs.Saved.{Saved, SavedBank, Head, IsSaved, IsSavedRow}
 use Rattle.pcm_image.specs.Standing.{rotation_of, table_of, no_bank, no_region, stands_for}
 use Rattle.image_laws.specs.Saving.{head_of, saved_of}
 use Rattle.image_laws.specs.Queued.{entries_by, first_again, queued_writes}
 
--- an array that was sensed since, and nothing else: it is as it was, and a log that is told has gained senses of that
-pub record SensedSince {n m : ℕ} (before after : ArrayState n m) : Type 0 where
+-- what the senses of an array's first lines show, so many, each once and in their order, at tick 0
+abbrev pub first_senses : {n m : ℕ} → ArrayState n m → ℕ → List (Sense n m)
+first_senses array count = map (λ line. sense_of line 0 (array.line line)) (range_with_len 0 count)
+
+-- the first lines of an array were sensed since, so many, each once and in their order, and nothing else: it is as it was, and a log that
+-- is told has gained those senses
+pub record SensedSince {n m : ℕ} (count : ℕ) (before after : ArrayState n m) : Type 0 where
   pub line : (number : ℕ) → after.line number ≡ before.line number
   pub lines : after.lines ≡ before.lines
   pub tears : after.tears ≡ before.tears
   pub wear : after.wear ≡ before.wear
   pub bounds : after.bounds ≡ before.bounds
   pub log : (log : List (Sense n m)) → after.log ≡ Some log
-      → (old : List (Sense n m)) × (extra : List (Sense n m)) × (before.log ≡ Some old) × (log ≡ old ++ extra)
-      × All (λ s. s ≡ sense_of s.line 0 (before.line s.line)) extra
+      → (old : List (Sense n m)) × (before.log ≡ Some old) × (log ≡ old ++ first_senses before count)
 
 -- a saved module is what a finished run leaves: histories of its banks that asked for the rows and gave them their outcomes lead to
--- what it says that the banks keep, over an array that was only sensed since
-pub record IsLeft {n m : ℕ} (e : ℕ) (raw : RawShape) (seed : ℕ) (rows : List (Row n)) (array : ArrayState n m) (s : Saved n m) : Type 0 where
+-- what it says that the banks keep, over an array of which only the first lines, so many, were sensed since
+pub record IsLeftTo {n m : ℕ} (off : Bool) (e : ℕ) (raw : RawShape) (seed : ℕ) (rows : List (Row n)) (array : ArrayState n m) (s : Saved n m) : Type 0 where
   pub history : ℕ → List (TimedEvent n m)
   pub trace : List (Asked n)
   pub outcome : ℕ → Outcome n
   pub banks : ℕ → ClockState n m e
   pub before : ArrayState n m
-  pub finished : IsFinished raw seed history trace banks before outcome
+  pub finished : IsFinishedTo raw seed off history trace banks before outcome
   pub rows_are : rows ≡ map (row_with outcome) trace
   pub saved : s ≡ saved_of raw seed (λ bank. (banks bank).bank.kept) before
-  pub since : SensedSince before array
+  pub sensed : ℕ
+  pub since : SensedSince sensed before array
+
+abbrev pub IsLeft : {n m : ℕ} → ℕ → RawShape → ℕ → List (Row n) → ArrayState n m → Saved n m → Type 0
+IsLeft e raw seed rows array s = IsLeftTo false e raw seed rows array s
 
 -- the saved registers of a region
 abbrev pub region_in : {n : ℕ} → SavedBank n → ℕ → RegionImage
@@ -93,22 +101,25 @@ abbrev pub has_work : {n : ℕ} → ℕ → List (Row n) → SavedBank n → Boo
 has_work psi rows b = list_any queued_row rows || is_due psi b
 
 -- a saved bank is marked where a write of it was refused as worn, and only where something is left to do, no spare is free, and more of
--- its lines are worn than it has spares. Where something is left to do, it is marked or has a worn control line
-pub record SavesMark {n : ℕ} (shape : BankShape) (worn : ℕ → Bool) (rows : List (Row n)) (b : SavedBank n) : Type 0 where
+-- its lines are worn than it has spares. Where something is left to do and the power isn't off, it is marked or has a worn control line
+pub record SavesMarkTo {n : ℕ} (off : Bool) (shape : BankShape) (worn : ℕ → Bool) (rows : List (Row n)) (b : SavedBank n) : Type 0 where
   pub refused : IsTrue (list_any worn_row rows) → b.mark ≡ 1
   pub left : b.mark ≡ 1 → IsTrue (has_work shape.psi rows b)
-  pub works : IsTrue (has_work shape.psi rows b) → (b.mark ≡ 1) ⊎ (0 < worn_among worn (controls_from shape) (controls_of shape))
+  pub works : IsTrue (not off && has_work shape.psi rows b) → (b.mark ≡ 1) ⊎ (0 < worn_among worn (controls_from shape) (controls_of shape))
   pub full : b.mark ≡ 1 → length b.replaced ≡ shape.spares
   pub worn_out : b.mark ≡ 1 → IsTrue (is_worn_out shape worn)
 
--- each row of an array has the bytes of a line
+-- each of so many rows of an array, the first, has the bytes of a line; and so has every row
+abbrev pub AreRowsTo : {n m : ℕ} → ℕ → ArrayState n m → Type 0
+AreRowsTo {n} {m} count array = (line : ℕ) → line < count → IsSavedRow n m (array.line line).held
+
 abbrev pub AreRows : {n m : ℕ} → ArrayState n m → Type 0
-AreRows {n} {m} array = (line : ℕ) → line < array.lines → IsSavedRow n m (array.line line).held
+AreRows array = AreRowsTo array.lines array
 
 -- a saved module is that of this run: it says how the module is built, what its cells hold, by which registers and tables the banks
 -- end, by the rows which writes their queues hold and which banks are marked, and each line's newest bytes; what it says is in range, so
 -- that it can be read from its bytes, where each row of the array is one
-pub record SavesRun {n m : ℕ} (e : ℕ) (raw : RawShape) (seed : ℕ) (rows : List (Row n)) (array : ArrayState n m) (ends : ℕ → BankEnd) (s : Saved n m) : Type 0 where
+pub record SavesRunTo {n m : ℕ} (off : Bool) (e : ℕ) (raw : RawShape) (seed : ℕ) (rows : List (Row n)) (array : ArrayState n m) (ends : ℕ → BankEnd) (s : Saved n m) : Type 0 where
   pub head : s.head ≡ head_of raw seed
   pub right : AreRows array → IsSaved s
   pub cells : (line : ℕ) → line < array.lines → slice_index_or s.cells line (zero_row n m) ≡ (array.line line).held
@@ -116,19 +127,36 @@ pub record SavesRun {n m : ℕ} (e : ℕ) (raw : RawShape) (seed : ℕ) (rows : 
       → SavesEnd s.head (bank_shape (module_of raw) bank) (is_worn_at e array) (table_in raw seed bank rows) (ends bank) (slice_index_or s.parts bank (no_bank n))
   pub queues : (bank : ℕ) → bank < raw.banks → SavesQueue raw.psi (table_in raw seed bank rows) (slice_index_or s.parts bank (no_bank n))
   pub marks : (bank : ℕ) → bank < raw.banks
-      → SavesMark (bank_shape (module_of raw) bank) (is_worn_at e array) (table_in raw seed bank rows) (slice_index_or s.parts bank (no_bank n))
+      → SavesMarkTo off (bank_shape (module_of raw) bank) (is_worn_at e array) (table_in raw seed bank rows) (slice_index_or s.parts bank (no_bank n))
   pub stands : (line : ℕ) → line < total_of raw → stands_for e s line ≡ newest rows line
 
--- what a finished run leaves is saved as that of the run, by whichever ends of its banks the run is right
-abbrev pub SavedLaw : Type 0
-SavedLaw =
-    (n m e : ℕ) (raw : RawShape) (seed : ℕ) (rows : List (Row n)) (array : ArrayState n m) (ends : ℕ → BankEnd) (s : Saved n m) (left : IsLeft e raw seed rows array s)
-    → IsShape raw → seed < 2 ^ 64 → RunsRight e raw seed rows array ends
+abbrev pub SavesRun : {n m : ℕ} → ℕ → RawShape → ℕ → List (Row n) → ArrayState n m → (ℕ → BankEnd) → Saved n m → Type 0
+SavesRun e raw seed rows array ends s = SavesRunTo false e raw seed rows array ends s
+
+-- what a run leaves that is over is saved as that of the run, by whichever ends of its banks the run is right
+abbrev pub SavedToLaw : Bool → Type 0
+SavedToLaw off =
+    (n m e : ℕ) (raw : RawShape) (seed : ℕ) (rows : List (Row n)) (array : ArrayState n m) (ends : ℕ → BankEnd) (s : Saved n m) (left : IsLeftTo off e raw seed rows array s)
+    → IsShape raw → seed < 2 ^ 64 → RunsRightTo e raw seed off rows array ends
     → ((bank : ℕ) → bank < raw.banks → IsEndOf (left.banks bank).bank.kept (ends bank))
-    → SavesRun e raw seed rows array ends s
+    → SavesRunTo off e raw seed rows array ends s
+
+-- what a finished run leaves
+abbrev pub SavedLaw : Type 0
+SavedLaw = SavedToLaw false
+
+-- and what one leaves behind whose last row the power stays off
+abbrev pub StoppedSavedLaw : Type 0
+StoppedSavedLaw = SavedToLaw true
 
 -- a right run stays right where its array is only sensed
+abbrev pub StaysRightToLaw : Bool → Type 0
+StaysRightToLaw off =
+    (n m e : ℕ) (raw : RawShape) (seed : ℕ) (rows : List (Row n)) (array : ArrayState n m) (ends : ℕ → BankEnd) (s : Saved n m) (left : IsLeftTo off e raw seed rows array s)
+    → IsShape raw → RunsRightTo e raw seed off rows left.before ends → RunsRightTo e raw seed off rows array ends
+
 abbrev pub StaysRightLaw : Type 0
-StaysRightLaw =
-    (n m e : ℕ) (raw : RawShape) (seed : ℕ) (rows : List (Row n)) (array : ArrayState n m) (ends : ℕ → BankEnd) (s : Saved n m) (left : IsLeft e raw seed rows array s)
-    → IsShape raw → RunsRight e raw seed rows left.before ends → RunsRight e raw seed rows array ends
+StaysRightLaw = StaysRightToLaw false
+
+abbrev pub StaysStoppedLaw : Type 0
+StaysStoppedLaw = StaysRightToLaw true

@@ -1,10 +1,10 @@
 -- The image of a module: what its banks keep, and what the cells of its array hold.
-use Rattle.std.specs.Prelude.{ℕ, if◌then◌else◌, List, map}
+use Rattle.std.specs.Prelude.{ℕ, if◌then◌else◌, List, map, take}
 use Rattle.std.specs.List.{range_with_len}
 use Rattle.masked_bytes.specs.declared.entry.Entry.{Entry}
 use Rattle.region_regs.specs.Region.{RegionState}
-use Rattle.pcm_cells.specs.Device.{ArrayState}
-use Rattle.pcm_cells.specs.declared.row.Cells.{Cells}
+use Rattle.cell_rows.specs.Device.{ArrayState}
+use Rattle.cell_rows.specs.declared.row.Cells.{Cells}
 use Rattle.bank_shape.specs.declared.Home.{Home}
 use Rattle.bank_shape.specs.declared.Home.TheVariants as home
 use Rattle.power_recovery.specs.Kept.{KeptState}
@@ -57,3 +57,7 @@ saved_cells array count = map (λ line. (array.line line).held) (range_with_len 
 abbrev pub saved_of : {n m : ℕ} → RawShape → ℕ → (ℕ → KeptState n) → ArrayState n m → Saved n m
 saved_of raw seed kept array =
     record { head = head_of raw seed; parts = saved_banks kept raw.banks; cells = saved_cells array array.lines }
+
+-- the same, with the cells of its first array lines alone, so many
+abbrev pub first_rows : {n m : ℕ} → ℕ → Saved n m → Saved n m
+first_rows count s = record { head = s.head; parts = s.parts; cells = take count s.cells }

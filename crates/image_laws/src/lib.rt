@@ -2,7 +2,8 @@
 //! function here ensures; the functions do nothing when they run.
 #![tactic(auto)]
 
-ghost use Rattle.image_laws.specs.SavedRuns.{SavedLaw, StaysRightLaw};
+ghost use Rattle.image_laws.specs.SavedRuns.{SavedLaw, StaysRightLaw, StoppedSavedLaw, StaysStoppedLaw};
+ghost use Rattle.image_laws.specs.Sizes.{ShortImageLaw};
 
 use bank_invariant::bridge::kept_state_is_that_of_the_history;
 use clock_laws::events::histories_leave_the_array;
@@ -29,3 +30,27 @@ pub fn sensed_runs_stay_right()
     histories_leave_the_array();
     bank_tables_are_those_of_histories();
 }
+
+/// So is what a run leaves behind whose last row the power stays off: with no line excepted, it says each line's newest bytes.
+pub fn stopped_images_are_of_their_runs()
+    ensures { StoppedSavedLaw }
+{
+    bank_tables_are_those_of_histories();
+    lines_have_their_banks();
+    kept_state_is_that_of_the_history();
+    histories_leave_the_array();
+}
+
+/// And such a run stays right where its array is only sensed.
+pub fn sensed_stops_stay_right()
+    ensures { StaysStoppedLaw }
+{
+    logs_keep_their_laws();
+    histories_leave_the_array();
+    bank_tables_are_those_of_histories();
+}
+
+/// An image takes at most 14,905,192 bytes, whatever the sizes of its module.
+pub fn images_are_short()
+    ensures { ShortImageLaw }
+{}

@@ -95,13 +95,21 @@ module _ {X : Type 0} (f : X → List ℕ) (xs : List X) where
       more-same a c u w (flat_map f (take i xs) ++ piece) (flat_map f (take (i + 1) xs)) (ap (λ p. flat_map f (take i xs) ++ p) is ∙ take-next i d lt)
       (more-then a b c u v w (flat_map f (take i xs)) piece had more)
 
+  -- first bytes of those up to an item, and so of all
+  pub part-to : (a b : Reserved) (u v w : Option (List ℕ)) (i : ℕ) (d : X) (piece : List ℕ) → i < length xs → piece ≡ f (get_or xs i d)
+      → PrintsMore a b u v (flat_map f (take i xs)) → PrintsPart b v w piece → PrintsPart a u w (flat_map f (take (i + 1) xs))
+  part-to a b u v w i d piece lt is had part =
+      part-same a u w (flat_map f (take i xs) ++ piece) (flat_map f (take (i + 1) xs)) (ap (λ p. flat_map f (take i xs) ++ p) is ∙ take-next i d lt)
+      (part-then a b u v w (flat_map f (take i xs)) piece had part)
+
+  pub part-all : (a : Reserved) (u w : Option (List ℕ)) (i : ℕ) → PrintsPart a u w (flat_map f (take i xs)) → PrintsPart a u w (flat_map f xs)
+  part-all a u w i part =
+      part-same a u w (flat_map f (take i xs) ++ flat_map f (drop i xs)) (flat_map f xs) (take-rest i)
+      (part-first a u w (flat_map f (take i xs)) (flat_map f (drop i xs)) part)
+
   pub part-next : (a b : Reserved) (u v w : Option (List ℕ)) (i : ℕ) (d : X) (piece : List ℕ) → i < length xs → piece ≡ f (get_or xs i d)
       → PrintsMore a b u v (flat_map f (take i xs)) → PrintsPart b v w piece → PrintsPart a u w (flat_map f xs)
-  part-next a b u v w i d piece lt is had part =
-      part-same a u w (flat_map f (take (i + 1) xs) ++ flat_map f (drop (i + 1) xs)) (flat_map f xs) (take-rest (i + 1))
-      (part-first a u w (flat_map f (take (i + 1) xs)) (flat_map f (drop (i + 1) xs))
-      (part-same a u w (flat_map f (take i xs) ++ piece) (flat_map f (take (i + 1) xs)) (ap (λ p. flat_map f (take i xs) ++ p) is ∙ take-next i d lt)
-      (part-then a b u v w (flat_map f (take i xs)) piece had part)))
+  part-next a b u v w i d piece lt is had part = part-all a u w (i + 1) (part-to a b u v w i d piece lt is had part)
 
   pub more-all : (a b : Reserved) (u v : Option (List ℕ)) (i : ℕ) → length xs ≤ i → PrintsMore a b u v (flat_map f (take i xs)) → PrintsMore a b u v (flat_map f xs)
   more-all a b u v i all had = more-same a b u v (flat_map f (take i xs)) (flat_map f xs) (ap (flat_map f) (take_all i xs all)) had

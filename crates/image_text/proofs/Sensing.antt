@@ -1,26 +1,34 @@
 -- An array that is sensed line by line.
-use Rattle.std.proofs.Common.{◌≡◌, ℕ, ◌+◌, ◌<◌, ◌≤◌, inl, inr, arith, [], ◌∷◌, ◌++◌, refl, sym, ap, subst, ◌∙◌, append_assoc}
+use Rattle.std.proofs.Common.{◌≡◌, ℕ, ◌+◌, ◌≤◌, inl, inr, arith, List, Option, take, ◌∷◌, [], ◌++◌, refl, sym, ap, subst, ◌∙◌, append_assoc}
 use Rattle.std.proofs.lemmas.Bool.{cases_eq}
 use Rattle.std.proofs.lemmas.List.{append-nil}
-use Rattle.std.proofs.lemmas.List.Elements.{All-nil, All-cons, All-append}
-use Rattle.pcm_cells.specs.Device.{ArrayState, Senses, sense_of}
-use Rattle.pcm_cells.specs.declared.array.Sense.{Sense}
-use Rattle.pcm_cells.specs.declared.row.Cells.{Cells}
+use Rattle.std.proofs.lemmas.List.FromFn.{map-range_with_len_more, take-map-range_with_len}
+use Rattle.std.specs.List.{flat_map}
+use Rattle.pcm_io.specs.Reserved.{Reserved}
+use Rattle.cell_rows.specs.Device.{ArrayState, Senses, sense_of}
+use Rattle.cell_rows.specs.declared.array.Sense.{Sense}
+use Rattle.cell_rows.specs.declared.row.Cells.{Cells}
 use Rattle.pcm_image.specs.Saved.{IsSavedRow}
-use Rattle.image_laws.specs.SavedRuns.{AreRows, SensedSince}
+use Rattle.pcm_image.specs.Spelling.{cells_bytes}
+use Rattle.image_laws.specs.Saving.{saved_cells}
+use Rattle.image_laws.specs.SavedRuns.{AreRowsTo, SensedSince, first_senses}
+use Rattle.image_text.specs.Printing.{PrintsPart}
+use Rattle.image_text.specs.Sensing.{PrintsRows, SensesRows, SensesSome}
+use Rattle.image_text.proofs.Prints.{part-all, part-same}
 
-pub sensed-none : {n m : ℕ} (array : ArrayState n m) → SensedSince array array
-sensed-none {n} {m} array = record {
+pub sensed-none : {n m : ℕ} (array : ArrayState n m) → SensedSince 0 array array
+sensed-none array = record {
   line = λ number. refl;
   lines = refl;
   tears = refl;
   wear = refl;
   bounds = refl;
-  log = λ log told. (log, [], told, sym (append-nil log), All-nil (λ (s : Sense n m). s ≡ sense_of s.line 0 (array.line s.line)));
+  log = λ log told. (log, told, sym (append-nil log));
 }
 
-pub sensed-more : {n m : ℕ} (first old new : ArrayState n m) (line : ℕ) → SensedSince first old → Senses (sense_of line 0 (old.line line)) old new → SensedSince first new
-sensed-more {n} {m} first old new line since senses = record {
+-- the line behind those that were sensed is sensed
+sensed-more : {n m : ℕ} (first old new : ArrayState n m) (count : ℕ) → SensedSince count first old → Senses (sense_of count 0 (old.line count)) old new → SensedSince (count + 1) first new
+sensed-more {n} {m} first old new count since senses = record {
   line = λ number. senses.line number ∙ since.line number;
   lines = senses.lines ∙ since.lines;
   tears = senses.tears ∙ since.tears;
@@ -29,27 +37,56 @@ sensed-more {n} {m} first old new line since senses = record {
   log = λ log told.
       let last = senses.log log told in
       let had = since.log last.0 last.1 in
-      let one : Sense n m = sense_of line 0 (old.line line) in
-      let shows : one ≡ sense_of one.line 0 (first.line one.line) = ap (λ l. sense_of line 0 l) (since.line line) in
-      let Of : Sense n m → Type 0 = λ s. s ≡ sense_of s.line 0 (first.line s.line) in (
+      let one : Sense n m = sense_of count 0 (old.line count) in
+      let shows : one ≡ sense_of count 0 (first.line count) = ap (λ l. sense_of count 0 l) (since.line count) in (
         had.0,
-        had.1 ++ one ∷ [],
-        had.2,
-        last.2 ∙ ap (λ l. l ++ one ∷ []) had.3 ∙ append_assoc had.0 had.1 (one ∷ []),
-        All-append Of had.1 (one ∷ []) had.4 (All-cons Of one [] shows (All-nil Of)),
+        had.1,
+        last.2 ∙ ap (λ l. l ++ one ∷ []) had.2 ∙ append_assoc had.0 (first_senses first count) (one ∷ [])
+            ∙ ap (λ l. had.0 ++ l)
+            (ap (λ s. first_senses first count ++ s ∷ []) shows ∙ sym (map-range_with_len_more (λ line. sense_of line 0 (first.line line)) 0 count count (omega arith))),
       );
 }
 
--- the rows that were sensed so far have the bytes of a line, and so have all in the end
-pub row-more : {n m : ℕ} (array : ArrayState n m) (i : ℕ) (row : Cells n m) → row ≡ (array.line i).held → IsSavedRow n m row
-    → ((line : ℕ) → line < i → IsSavedRow n m (array.line line).held) → (line : ℕ) → line < i + 1 → IsSavedRow n m (array.line line).held
-row-more {n} {m} array i row is fits had line lt =
-    elim (cases_eq line i) [
-      | inl same ↦ subst (λ k. IsSavedRow n m (array.line k).held) (sym same) (subst (λ r. IsSavedRow n m r) is fits)
-      | inr other ↦ had line (omega arith)
-    ]
+pub senses-none : {n m : ℕ} (array : ArrayState n m) → SensesRows 0 array array
+senses-none array = record { since = sensed-none array; rows = λ line lt. absurd (omega (arith, lt)) }
 
-pub rows-all : {n m : ℕ} (first last : ArrayState n m) (i : ℕ) → first.lines ≤ i → SensedSince first last
-    → ((line : ℕ) → line < i → IsSavedRow n m (first.line line).held) → AreRows last
-rows-all {n} {m} first last i all since had =
-    λ line lt. subst (λ l. IsSavedRow n m l.held) (sym (since.line line)) (had line (omega (arith, all, lt, since.lines)))
+-- so is its row, which has the bytes of a line
+pub senses-more : {n m : ℕ} (first old new : ArrayState n m) (count : ℕ) (row : Cells n m) → row ≡ (old.line count).held → IsSavedRow n m row
+    → SensesRows count first old → Senses (sense_of count 0 (old.line count)) old new → SensesRows (count + 1) first new
+senses-more {n} {m} first old new count row is fits had senses = record {
+  since = sensed-more first old new count had.since senses;
+  rows = λ line lt.
+      subst (λ l. IsSavedRow n m l.held) (sym (senses.line line))
+      (elim (cases_eq line count) [
+        | inl same ↦ subst (λ k. IsSavedRow n m (old.line k).held) (sym same) (subst (λ r. IsSavedRow n m r) is fits)
+        | inr other ↦ had.rows line (omega arith)
+      ]);
+}
+
+-- the rows of lines that were sensed were such before
+pub rows-before : {n m : ℕ} (count : ℕ) (first last : ArrayState n m) → SensesRows count first last → AreRowsTo count first
+rows-before {n} {m} count first last senses = λ line lt. subst (λ l. IsSavedRow n m l.held) (senses.since.line line) (senses.rows line lt)
+
+-- and rows that were such before are such after a few lines were sensed
+pub rows-after : {n m : ℕ} (most count : ℕ) (first last : ArrayState n m) → SensesSome most first last → AreRowsTo count first → AreRowsTo count last
+rows-after {n} {m} most count first last senses had = λ line lt. subst (λ l. IsSavedRow n m l.held) (sym (senses.2.since.line line)) (had line lt)
+
+-- the cells of the first lines are the first of those of all
+cells-to : {n m : ℕ} (array : ArrayState n m) (count : ℕ) → count ≤ array.lines → take count (saved_cells array array.lines) ≡ saved_cells array count
+cells-to array count le = take-map-range_with_len (λ line. (array.line line).held) 0 array.lines count le
+
+-- what was printed of the lines up to one that was sensed
+pub prints-rows : {n m : ℕ} (first last : ArrayState n m) (count : ℕ) (a : Reserved) (u w : Option (List ℕ)) → count ≤ first.lines → SensesRows count first last
+    → PrintsPart a u w (flat_map cells_bytes (take count (saved_cells first first.lines))) → PrintsRows first a u w
+prints-rows first last count a u w exist senses part = record {
+  count = count;
+  exist = exist;
+  rows = rows-before count first last senses;
+  part = part-same a u w _ _ (ap (λ cells. flat_map cells_bytes cells) (cells-to first count exist)) part;
+}
+
+-- so first bytes of all lines were printed
+pub rows-part : {n m : ℕ} (array : ArrayState n m) (a : Reserved) (u w : Option (List ℕ)) → PrintsRows array a u w → PrintsPart a u w (flat_map cells_bytes (saved_cells array array.lines))
+rows-part array a u w prints =
+    part-all cells_bytes (saved_cells array array.lines) a u w prints.count
+    (part-same a u w _ _ (ap (λ cells. flat_map cells_bytes cells) (sym (cells-to array prints.count prints.exist))) prints.part)

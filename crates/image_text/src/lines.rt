@@ -2,18 +2,19 @@
 ghost use Rattle.std.specs.Prelude.{◌≡◌, ◌≤◌, OnOk, OnErr};
 ghost use Rattle.std.specs.List.{flat_map};
 ghost use Rattle.pcm_io.specs.Faults.{Rose};
-ghost use Rattle.pcm_cells.specs.Shape.{IsShape};
+ghost use Rattle.cell_rows.specs.Shape.{IsShape};
 ghost use Rattle.pcm_image.specs.Spelling.{cells_bytes};
 ghost use Rattle.image_laws.specs.Saving.{saved_cells};
-ghost use Rattle.image_laws.specs.SavedRuns.{AreRows, SensedSince};
-ghost use Rattle.image_text.specs.Printing.{PrintsMore, PrintsPart};
+ghost use Rattle.image_text.specs.Printing.{PrintsMore};
+ghost use Rattle.image_text.specs.Sensing.{PrintsRows, SensesRows, SensesSome};
 
 use crate::pieces::print_cells;
-use pcm_cells::CellArray;
+use cell_rows::CellArray;
 use pcm_io::{Sink, Text, WriteFault};
 use run_text::ROW_ROOM;
 
-/// Writes the cells of the array lines, in order. Each line is sensed for it, at tick 0 after the run.
+/// Writes the cells of the array lines, in order. Each line is sensed once for it, in order, at tick 0; after a fault no line is
+/// sensed any more.
 pub fn print_rows<const B: usize, const M: usize, A: CellArray<B, M>, K: Sink>(
     array: &mut A,
     text: &mut Text,
@@ -25,10 +26,10 @@ pub fn print_rows<const B: usize, const M: usize, A: CellArray<B, M>, K: Sink>(
     requires checks { M ≤ 16 }
     ensures printed { OnOk result (PrintsMore text.old text.new (K.written out.old) (K.written out.new)
         (flat_map cells_bytes (saved_cells (A.state array.old) (A.state array.old).lines))) }
-    ensures part { OnErr result (PrintsPart text.old (K.written out.old) (K.written out.new)
-        (flat_map cells_bytes (saved_cells (A.state array.old) (A.state array.old).lines))) }
-    ensures sensed { SensedSince (A.state array.old) (A.state array.new) }
-    ensures rows { OnOk result (AreRows (A.state array.new)) }
+    ensures part { OnErr result (PrintsRows (A.state array.old) text.old (K.written out.old)
+        (K.written out.new)) }
+    ensures sensed { SensesSome (A.state array.old).lines (A.state array.old) (A.state array.new) }
+    ensures all { OnOk result (SensesRows (A.state array.old).lines (A.state array.old) (A.state array.new)) }
     ensures limit { text.new.limit ≡ text.old.limit }
     ensures fault { OnErr result (Rose (K.faults out.old) (K.faults out.new)) }
     ensures never_falls { K.faults out.old ≤ K.faults out.new }

@@ -6,8 +6,8 @@ ghost use Rattle.pcm_image.specs.Spelling.{u8, u16, u32, head_bytes, region_byte
 ghost use Rattle.image_laws.specs.Saving.{head_of, home_number};
 ghost use Rattle.image_text.specs.Printing.{PrintsMore, PrintsPart};
 
+use cell_rows::Cells;
 use module_shape::{Home, Shape};
-use pcm_cells::Cells;
 use pcm_image::{
     EntryImage, RegionImage, write_bank, write_cells, write_count, write_entry, write_head,
     write_region, write_slot,

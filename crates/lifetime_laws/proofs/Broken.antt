@@ -14,7 +14,7 @@ use Rattle.bank_shape.specs.declared.pace.Policy.TheVariants.{Pause, Plain, Canc
 use Rattle.bank_shape.specs.Pausing.{is_cancelling}
 use Rattle.bank_shape.specs.declared.BankShape.{BankShape}
 use Rattle.bank_shape.specs.declared.answer.Step.TheVariants as did
-use Rattle.bank_model.specs.Events.{Event, Write, Read, Serve, Begin, Iterate, Cut}
+use Rattle.bank_model.specs.Events.{BankEvent, Write, Read, Serve, Begin, Iterate, Cut}
 use Rattle.bank_model.specs.History.{in_progress, goes_on, moved_in, stored_in}
 use Rattle.bank_model.specs.After.{target_after}
 use Rattle.bank_model.specs.Changes.{change_after, change_by}
@@ -43,10 +43,10 @@ use Rattle.lifetime_laws.proofs.Ended.{below_one, gave_tally, cut_tally, works-s
 use Rattle.masked_bytes.proofs.Truth.{and_first}
 
 -- the line writes of an array line that were done or given up
-abbrev ended_tally : {n : ℕ} → BankShape → ℕ → List (Event n) → ℕ
+abbrev ended_tally : {n : ℕ} → BankShape → ℕ → List (BankEvent n) → ℕ
 ended_tally shape at h = tally (λ h answer. not (goes_on answer) && target_after shape h == at) (λ h. false) h
 
-works-parts : {n : ℕ} (shape : BankShape) (at : ℕ) (h : List (Event n)) → works_on shape at h ≡ ended_tally shape at h + cut_tally shape at h
+works-parts : {n : ℕ} (shape : BankShape) (at : ℕ) (h : List (BankEvent n)) → works_on shape at h ≡ ended_tally shape at h + cut_tally shape at h
 works-parts shape at [] = refl
 works-parts shape at (Write row line bytes given answer ∷ h) = works-parts shape at h
 works-parts shape at (Read row line answer ∷ h) = works-parts shape at h
@@ -100,10 +100,10 @@ module _ (broken ended cuts count : ℕ) (change : Option ℕ) (Own : Type 0) (k
 
 module _ {n : ℕ} (shape : BankShape) (at : ℕ) where
   -- there is a work to do, and it is one of the array line
-  abbrev IsItsWork : List (Event n) → Type 0
+  abbrev IsItsWork : List (BankEvent n) → Type 0
   IsItsWork h = WorkAfter shape h × (target_after shape h ≡ at)
 
-  goes : (event : Event n) (h : List (Event n)) → spares_work event ≡ true → IsItsWork h → IsItsWork (event ∷ h)
+  goes : (event : BankEvent n) (h : List (BankEvent n)) → spares_work event ≡ true → IsItsWork h → IsItsWork (event ∷ h)
   goes event h spares its = let same = target-same shape event h spares its.0 in (same.0, same.1 ∙ its.1)
 
 module _ {n m : ℕ} (shape : BankShape) (pace : Pace) (e at : ℕ) where

@@ -13,7 +13,7 @@ use Rattle.bank_shape.specs.declared.Home.{Home}
 use Rattle.bank_shape.specs.declared.Home.TheVariants as home
 use Rattle.bank_shape.specs.Shape.{slots_of, control_line}
 use Rattle.bank_shape.specs.declared.answer.Step.TheVariants as did
-use Rattle.bank_model.specs.Events.{Event, Write, Read, Serve, Begin, Iterate, Cut, line_of_row}
+use Rattle.bank_model.specs.Events.{BankEvent, Write, Read, Serve, Begin, Iterate, Cut, line_of_row}
 use Rattle.bank_model.specs.History.{first_or, stores, stored_in, moved_in, retired, has_exhausted, in_progress, waits}
 use Rattle.bank_model.specs.After.{work_after}
 use Rattle.bank_model.specs.Answers.{MayAll}
@@ -56,7 +56,7 @@ other-item where_ other item isnt =
 
 -- those of a region
 module _ {n : ℕ} (shape : BankShape) (item : ℕ) (exists : item < shape.regions) where
-  changes-region : (most : ℕ) (h : List (Event n)) → MayAll shape most h → changes_of shape item h ≤ stored_in shape.lines h item + moved_in shape.lines h item
+  changes-region : (most : ℕ) (h : List (BankEvent n)) → MayAll shape most h → changes_of shape item h ≤ stored_in shape.lines h item + moved_in shape.lines h item
   changes-region most [] may = omega arith
   changes-region most (Write row line bytes given answer ∷ h) may = changes-region most h may.1
   changes-region most (Read row line answer ∷ h) may = changes-region most h may.1
@@ -78,11 +78,11 @@ module _ {n : ℕ} (shape : BankShape) (item : ℕ) (exists : item < shape.regio
 -- that of a spare, and that of the mark
 module _ {n : ℕ} (shape : BankShape) (some : 1 ≤ shape.regions) (lines : 1 ≤ shape.lines) (item : ℕ) (beyond : shape.regions ≤ item) where
   -- it came at most once: with the spare's retirement, or as the bank was exhausted
-  record Once (h : List (Event n)) : Type 0 where
+  record Once (h : List (BankEvent n)) : Type 0 where
     few : changes_of shape item h ≤ 1
     gone : 1 ≤ changes_of shape item h → (item < shape.regions + length (retired h)) ⊎ (has_exhausted h ≡ true)
 
-  same-once : (event : Event n) (h : List (Event n)) → changes_of shape item (event ∷ h) ≡ changes_of shape item h → length (retired (event ∷ h)) ≡ length (retired h) → has_exhausted (event ∷ h) ≡ has_exhausted h
+  same-once : (event : BankEvent n) (h : List (BankEvent n)) → changes_of shape item (event ∷ h) ≡ changes_of shape item h → length (retired (event ∷ h)) ≡ length (retired h) → has_exhausted (event ∷ h) ≡ has_exhausted h
       → Once h → Once (event ∷ h)
   same-once event h count spares ex once = record { few = omega (arith, count, once.few); gone = λ le. by (once.gone (omega (arith, le, count))) }
     where
@@ -91,12 +91,12 @@ module _ {n : ℕ} (shape : BankShape) (some : 1 ≤ shape.regions) (lines : 1 �
       by (inr is) = inr (ex ∙ is)
 
   -- a change of a region is none of it
-  region-else : (h : List (Event n)) (line : ℕ) → line < shape.regions * shape.lines → one_if (is_item item (item_if shape.home (line / shape.lines))) + changes_of shape item h ≡ changes_of shape item h
+  region-else : (h : List (BankEvent n)) (line : ℕ) → line < shape.regions * shape.lines → one_if (is_item item (item_if shape.home (line / shape.lines))) + changes_of shape item h ≡ changes_of shape item h
   region-else h line within =
       let low : line / shape.lines < shape.regions = div_below line shape.lines shape.regions (omega (arith, lines)) within in
       omega (arith, other-item shape.home (line / shape.lines) item (λ e. omega (arith, e, low, beyond)))
 
-  unspent : (h : List (Event n)) → Once h → in_progress h ≡ true → (has_exhausted h ≡ true → in_progress h ≡ false) → shape.regions + length (retired h) ≤ item → changes_of shape item h ≡ 0
+  unspent : (h : List (BankEvent n)) → Once h → in_progress h ≡ true → (has_exhausted h ≡ true → in_progress h ≡ false) → shape.regions + length (retired h) ≤ item → changes_of shape item h ≡ 0
   unspent h once busy idle high =
       omega (arith, below_one (changes_of shape item h) (λ le. by (once.gone le)))
     where
@@ -104,7 +104,7 @@ module _ {n : ℕ} (shape : BankShape) (some : 1 ≤ shape.regions) (lines : 1 �
       by (inl lt) = omega (arith, lt, high)
       by (inr ex) = absurd (cc (idle ex, busy))
 
-  once-only : (most : ℕ) (h : List (Event n)) → MayAll shape most h → Once h
+  once-only : (most : ℕ) (h : List (BankEvent n)) → MayAll shape most h → Once h
   once-only most [] may = record { few = omega arith; gone = λ le. absurd (omega (arith, le)) }
   once-only most (Write row line bytes given answer ∷ h) may = same-once _ h refl refl refl (once-only most h may.1)
   once-only most (Read row line answer ∷ h) may = same-once _ h refl refl refl (once-only most h may.1)
@@ -184,7 +184,7 @@ rests-kept item (Some other) keeping busy rounds is = ap (λ b. cond (other == i
 pub control_pulses_law : ControlPulsesLaw
 control_pulses_law n m e shape pace xs array item sized l idle leaves exists =
     let k : Kept shape pace e item xs = kept shape pace e item sized xs l in
-    let resting : busy_after shape xs ≡ false = (none-ready (gives_way pace.policy) (not (is_empty (waits shape (core xs)))) (choice_after shape pace xs) idle.chosen).0 in
+    let resting : busy_after shape xs ≡ false = idle.rests in
     let rested = rests-kept item (change_after shape xs) (keeping_after xs) (in_progress (core xs)) (rounds_after xs) resting in
     let cuts : count_by (λ (q : Row n). is_cut q) (table_of shape xs) ≡ cuts_in xs = cuts-counted shape xs xs in
     let few = changes-few shape pace e item sized xs l in

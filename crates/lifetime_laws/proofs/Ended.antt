@@ -12,7 +12,7 @@ use Rattle.bank_shape.specs.declared.Work.TheVariants.{Nothing, Store, Copy}
 use Rattle.bank_shape.specs.Shape.{slots_of, slot_at}
 use Rattle.bank_shape.specs.declared.answer.Step.{Step}
 use Rattle.bank_shape.specs.declared.answer.Step.TheVariants as did
-use Rattle.bank_model.specs.Events.{Event, Write, Read, Serve, Begin, Iterate, Cut}
+use Rattle.bank_model.specs.Events.{BankEvent, Write, Read, Serve, Begin, Iterate, Cut}
 use Rattle.bank_model.specs.History.{in_progress, retired, has_exhausted, moved_in, due_after, queue}
 use Rattle.bank_model.specs.After.{work_after, due_work, slot_of_work, array_line_after, target_after}
 use Rattle.bank_model.specs.Answers.{IsDone, MayAll}
@@ -40,23 +40,23 @@ gives_up did.Exhausted = true
 gives_up _ = false
 
 module _ {n : ℕ} (shape : BankShape) (at : ℕ) where
-  abbrev pub moved_tally : List (Event n) → ℕ
+  abbrev pub moved_tally : List (BankEvent n) → ℕ
   moved_tally h = tally (λ h answer. is_moving answer && target_after shape h == at) (λ h. false) h
 
-  abbrev pub gave_tally : List (Event n) → ℕ
+  abbrev pub gave_tally : List (BankEvent n) → ℕ
   gave_tally h = tally (λ h answer. gives_up answer && target_after shape h == at) (λ h. false) h
 
-  abbrev pub cut_tally : List (Event n) → ℕ
+  abbrev pub cut_tally : List (BankEvent n) → ℕ
   cut_tally h = tally (λ h answer. false) (λ h. in_progress h && target_after shape h == at) h
 
   -- a store is done at its target
-  done-place : (h : List (Event n)) (work : Work) (row place : ℕ) → IsDone shape h work (did.Stored row place) → place ≡ array_line_after shape h (slot_of_work shape h work)
+  done-place : (h : List (BankEvent n)) (work : Work) (row place : ℕ) → IsDone shape h work (did.Stored row place) → place ≡ array_line_after shape h (slot_of_work shape h work)
   done-place h Nothing row place d = absurd d
   done-place h (Store line slot) row place d = d.1
   done-place h (Copy region step) row place d = absurd d
 
   -- each is one of these
-  pub works-split : (most : ℕ) (h : List (Event n)) → MayAll shape most h → works_on shape at h ≡ stored_tally any at h + moved_tally h + gave_tally h + cut_tally h
+  pub works-split : (most : ℕ) (h : List (BankEvent n)) → MayAll shape most h → works_on shape at h ≡ stored_tally any at h + moved_tally h + gave_tally h + cut_tally h
   works-split most [] may = refl
   works-split most (Write row line bytes given answer ∷ h) may = works-split most h may.1
   works-split most (Read row line answer ∷ h) may = works-split most h may.1
@@ -104,12 +104,12 @@ module _ (shape : BankShape) (slot : ℕ) where
 
 module _ {n : ℕ} (shape : BankShape) (slot : ℕ) (exists : slot < slots_of shape) where
   -- a slot whose array line is that of a slot's own number is that slot
-  own-slot : (h : List (Event n)) (other : ℕ) → array_line_after shape h other ≡ shape.base + slot → other ≡ slot
+  own-slot : (h : List (BankEvent n)) (other : ℕ) → array_line_after shape h other ≡ shape.base + slot → other ≡ slot
   own-slot h other is =
       only_own (record { slots = slots_of shape; spares = shape.spares; replaced = retired h }) slot exists other
       (let same : line_from (slots_of shape) other (retired h) other ≡ slot = omega (arith, is) in same)
 
-  moved-target : (h : List (Event n)) (step : Move) → IsDone shape h (work_after shape h) (did.Moved step) → target_after shape h ≡ shape.base + slot
+  moved-target : (h : List (BankEvent n)) (step : Move) → IsDone shape h (work_after shape h) (did.Moved step) → target_after shape h ≡ shape.base + slot
       → (last_region shape h ≡ region shape slot) × (into shape slot (moved_in shape.lines h (region shape slot)) ≡ true)
   moved-target h step d target =
       let m = done-move shape h step d in
@@ -121,7 +121,7 @@ module _ {n : ℕ} (shape : BankShape) (slot : ℕ) (exists : slot < slots_of sh
       let own = gap-region shape slot m.region (moved_in shape.lines h m.region) (own-slot h _ gap) in
       (due.own ∙ own.0, subst (λ r. into shape slot (moved_in shape.lines h r) ≡ true) own.0 own.1)
 
-  pub moves-into : (most : ℕ) (h : List (Event n)) → MayAll shape most h → moved_tally shape (shape.base + slot) h ≤ passing (into shape slot) (moved_in shape.lines h (region shape slot))
+  pub moves-into : (most : ℕ) (h : List (BankEvent n)) → MayAll shape most h → moved_tally shape (shape.base + slot) h ≤ passing (into shape slot) (moved_in shape.lines h (region shape slot))
   moves-into most [] may = omega arith
   moves-into most (Write row line bytes given answer ∷ h) may = moves-into most h may.1
   moves-into most (Read row line answer ∷ h) may = moves-into most h may.1
@@ -143,15 +143,15 @@ module _ {n : ℕ} (shape : BankShape) (slot : ℕ) (exists : slot < slots_of sh
       (λ is. let m = moved-target h step may.0.1 (eqb-true _ _ is) in (eq-eqb (last_region shape h) (region shape slot) m.0, m.1)) (moves-into most h may.1)
 
   -- the slot has lost its own line, or the bank is exhausted
-  abbrev pub IsOver : List (Event n) → Type 0
+  abbrev pub IsOver : List (BankEvent n) → Type 0
   IsOver h = IsAway shape h slot ⊎ (has_exhausted h ≡ true)
 
-  pub record GivesOnce (h : List (Event n)) : Type 0 where
+  pub record GivesOnce (h : List (BankEvent n)) : Type 0 where
     pub few : gave_tally shape (shape.base + slot) h ≤ 1
     pub over : 1 ≤ gave_tally shape (shape.base + slot) h → IsOver h
 
   -- a work of the slot's own line isn't there when that is over
-  pub not-over : (h : List (Event n)) → WorkAfter shape h → target_after shape h ≡ shape.base + slot → IsOver h → ⊥
+  pub not-over : (h : List (BankEvent n)) → WorkAfter shape h → target_after shape h ≡ shape.base + slot → IsOver h → ⊥
   not-over h work target (inl away) =
       let other = own-slot h (slot_of_work shape h (work_after shape h)) target in
       let own : line_from (slots_of shape) slot (retired h) slot ≡ slot =
@@ -160,16 +160,16 @@ module _ {n : ℕ} (shape : BankShape) (slot : ℕ) (exists : slot < slots_of sh
       omega (arith, away, own, exists)
   not-over h work target (inr ex) = absurd (cc (unexhausted (has_exhausted h) (due_after shape h) (queue shape h) work, ex))
 
-  over-more : (event : Event n) (h : List (Event n)) → IsOver h → (has_exhausted h ≡ true → has_exhausted (event ∷ h) ≡ true) → IsOver (event ∷ h)
+  over-more : (event : BankEvent n) (h : List (BankEvent n)) → IsOver h → (has_exhausted h ≡ true → has_exhausted (event ∷ h) ≡ true) → IsOver (event ∷ h)
   over-more event h (inl away) go = inl (away-more shape event h slot away)
   over-more event h (inr ex) go = inr (go ex)
 
-  keeps-over : (event : Event n) (h : List (Event n)) → gave_tally shape (shape.base + slot) (event ∷ h) ≡ gave_tally shape (shape.base + slot) h
+  keeps-over : (event : BankEvent n) (h : List (BankEvent n)) → gave_tally shape (shape.base + slot) (event ∷ h) ≡ gave_tally shape (shape.base + slot) h
       → (has_exhausted h ≡ true → has_exhausted (event ∷ h) ≡ true) → GivesOnce h → GivesOnce (event ∷ h)
   keeps-over event h same go g = record { few = omega (arith, same, g.few); over = λ le. over-more event h (g.over (omega (arith, le, same))) go }
 
   -- one is given up: the first on this line
-  gives : (most : ℕ) (event : Event n) (h : List (Event n)) (b : Bool) → (target_after shape h == shape.base + slot) ≡ b → MayAll shape most h → in_progress h ≡ true
+  gives : (most : ℕ) (event : BankEvent n) (h : List (BankEvent n)) (b : Bool) → (target_after shape h == shape.base + slot) ≡ b → MayAll shape most h → in_progress h ≡ true
       → gave_tally shape (shape.base + slot) (event ∷ h) ≡ one_if b + gave_tally shape (shape.base + slot) h
       → (has_exhausted h ≡ true → has_exhausted (event ∷ h) ≡ true) → (b ≡ true → IsOver (event ∷ h)) → GivesOnce h → GivesOnce (event ∷ h)
   gives most event h true is may busy count go now g =
@@ -177,10 +177,10 @@ module _ {n : ℕ} (shape : BankShape) (slot : ℕ) (exists : slot < slots_of sh
       record { few = omega (arith, count, none); over = λ le. now refl }
   gives most event h false is may busy count go now g = keeps-over event h (omega (arith, count)) go g
 
-  away-now : (h : List (Event n)) (at : ℕ) → at ≡ slot → slots_of shape ≤ line_from (slots_of shape) slot (retired h ++ at ∷ []) slot
+  away-now : (h : List (BankEvent n)) (at : ℕ) → at ≡ slot → slots_of shape ≤ line_from (slots_of shape) slot (retired h ++ at ∷ []) slot
   away-now h at same = subst (λ k. slots_of shape ≤ k) (sym (line_from-more (slots_of shape) slot (retired h) at slot ∙ ap (λ b. cond b (slots_of shape + length (retired h)) (line_from (slots_of shape) slot (retired h) slot)) (eq-eqb at slot same))) (omega arith)
 
-  pub gives-once : (most : ℕ) (h : List (Event n)) → MayAll shape most h → GivesOnce h
+  pub gives-once : (most : ℕ) (h : List (BankEvent n)) → MayAll shape most h → GivesOnce h
   gives-once most [] may = record { few = omega arith; over = λ le. absurd (omega (arith, le)) }
   gives-once most (Write row line bytes given answer ∷ h) may = keeps-over _ h refl (λ ex. ex) (gives-once most h may.1)
   gives-once most (Read row line answer ∷ h) may = keeps-over _ h refl (λ ex. ex) (gives-once most h may.1)

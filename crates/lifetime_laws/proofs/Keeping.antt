@@ -12,7 +12,7 @@ use Rattle.bank_shape.specs.declared.answer.Step.{Step}
 use Rattle.bank_shape.specs.declared.answer.Keep.TheVariants as keep
 use Rattle.bank_shape.specs.declared.clock.Action.{Action}
 use Rattle.bank_shape.specs.declared.clock.Doing.TheVariants.{Iterating}
-use Rattle.bank_model.specs.Events.{Event, Write, Read, Serve, Begin, Iterate, Cut}
+use Rattle.bank_model.specs.Events.{BankEvent, Write, Read, Serve, Begin, Iterate, Cut}
 use Rattle.bank_model.specs.History.{retired}
 use Rattle.bank_model.specs.After.{work_after, slot_of_work, target_after}
 use Rattle.bank_model.specs.Changes.{change_after, change_by, changed_by, keeping_after, keeping_by, rounds_after, rounds_by, halted_after, halted_by, line_of_change}
@@ -41,7 +41,7 @@ is_item item None = false
 is_item item (Some at) = at == item
 
 -- how many changes of an item the events of a bank brought
-abbrev pub changes_of : {n : ℕ} → BankShape → ℕ → List (Event n) → ℕ
+abbrev pub changes_of : {n : ℕ} → BankShape → ℕ → List (BankEvent n) → ℕ
 changes_of shape item [] = 0
 changes_of shape item (Begin answer ∷ h) = one_if (is_item item (changed_by shape h answer None)) + changes_of shape item h
 changes_of shape item (Iterate answer ∷ h) = one_if (is_item item (changed_by shape h answer None)) + changes_of shape item h
@@ -330,7 +330,7 @@ module _ (shape : BankShape) (item : ℕ) where
     | inr isnt ↦ ne_eqb (control_line shape other) (control_line shape item) (λ e. isnt (omega (arith, e))) ∙ sym (ne_eqb other item isnt)
   ]
 
-  torn-stands : {n : ℕ} (h : List (Event n)) (change : Option ℕ) (keeping tearing : Bool) (action : Option Action) → target_after shape h < control_line shape item
+  torn-stands : {n : ℕ} (h : List (BankEvent n)) (change : Option ℕ) (keeping tearing : Bool) (action : Option Action) → target_after shape h < control_line shape item
       → (is_some (torn_control shape change action) ≡ true → keeping ≡ true)
       → is_at (pulsed_by shape h (torn_control shape change action) (Cut tearing)) (control_line shape item) ≡ true → (is_item item change && keeping) ≡ true
   torn-stands h change keeping true action low torn is = absurd (omega (arith, low, eqb-true (target_after shape h) (control_line shape item) is))
@@ -351,7 +351,7 @@ none-item item None is = refl
 none-item item (Some other) is = absurd (cc (is))
 
 -- what the bank's own line write brings while no change stands
-begun-item : {n : ℕ} (shape : BankShape) (item : ℕ) (h : List (Event n)) (answer : Step) (change : Option ℕ) → change ≡ None
+begun-item : {n : ℕ} (shape : BankShape) (item : ℕ) (h : List (BankEvent n)) (answer : Step) (change : Option ℕ) → change ≡ None
     → is_item item (changed_by shape h answer None) ≡ is_item item (changed_by shape h answer change)
 begun-item shape item h answer None is = refl
 begun-item shape item h answer (Some other) is = absurd (cc (is))

@@ -9,7 +9,7 @@ use Rattle.bank_shape.specs.declared.answer.WriteAnswer.TheVariants as wrote
 use Rattle.bank_shape.specs.declared.answer.ReadAnswer.TheVariants as came
 use Rattle.bank_shape.specs.declared.answer.Step.{Step}
 use Rattle.bank_shape.specs.declared.answer.Step.TheVariants as did
-use Rattle.bank_model.specs.Events.{Event, Write, Read, Serve, Begin, Iterate, Cut, line_of_row}
+use Rattle.bank_model.specs.Events.{BankEvent, Write, Read, Serve, Begin, Iterate, Cut, line_of_row}
 use Rattle.bank_model.specs.History.{queue, waits}
 use Rattle.bank_model.specs.Sensing.{most_steps}
 use Rattle.bank_shape.specs.declared.pace.Pace.{Pace}
@@ -34,11 +34,11 @@ use Rattle.bank_model.specs.Works.{tally}
 use Rattle.lifetime_laws.specs.Works.{stores_at}
 
 -- a store's answer for such a line with this place
-abbrev pub is_done_on : {n : ℕ} → (ℕ → Bool) → ℕ → List (Event n) → Step → Bool
+abbrev pub is_done_on : {n : ℕ} → (ℕ → Bool) → ℕ → List (BankEvent n) → Step → Bool
 is_done_on keep at h (did.Stored row place) = keep (line_of_row row h) && place == at
 is_done_on keep at h _ = false
 
-abbrev pub stored_tally : {n : ℕ} → (ℕ → Bool) → ℕ → List (Event n) → ℕ
+abbrev pub stored_tally : {n : ℕ} → (ℕ → Bool) → ℕ → List (BankEvent n) → ℕ
 stored_tally keep at h = tally (is_done_on keep at) (λ h. false) h
 
 abbrev pub any : ℕ → Bool

@@ -20,7 +20,7 @@ use Rattle.bank_shape.specs.Shape.{slots_of, slot_moved, control_line}
 use Rattle.bank_model.specs.Aging.{Endures}
 use Rattle.bank_shape.specs.declared.pace.Pace.{Pace}
 use Rattle.bank_model.specs.Timing.{TimedEvent, core}
-use Rattle.bank_model.specs.Lawful.{Lawful, IsIdle}
+use Rattle.bank_model.specs.Lawful.{Lawful}
 use Rattle.bank_model.specs.History.{in_progress, waits}
 use Rattle.bank_model.specs.Changes.{change_after, keeping_after}
 use Rattle.bank_shape.specs.Pausing.{gives_way}
@@ -31,6 +31,7 @@ use Rattle.bank_laws.specs.Places.{region_stores, is_place_after, is_placed}
 use Rattle.lifetime_laws.specs.Endurance.{KeepsControls}
 use Rattle.bank_laws.specs.Laws.{is_worn_at}
 use Rattle.bank_laws.specs.Outcomes.{table_of}
+use Rattle.bank_laws.specs.Resting.{IsStill}
 use Rattle.place_laws.proofs.WornOut.{none-ready}
 use Rattle.place_laws.proofs.Pulses.{bounded}
 use Rattle.bank_model.specs.Sensing.{most_steps, pulses_of}
@@ -56,9 +57,9 @@ core-rests None keeping busy changed rests = rests
 core-rests (Some item) keeping busy changed rests = changed refl
 
 -- so no line has had an iteration of one
-rests-held : {n m : ℕ} (e : ℕ) (shape : BankShape) (pace : Pace) (xs : List (TimedEvent n m)) (at : ℕ) → Lawful shape pace e xs → IsIdle shape pace xs → held_on shape at (core xs) ≡ 0
+rests-held : {n m : ℕ} (e : ℕ) (shape : BankShape) (pace : Pace) (xs : List (TimedEvent n m)) (at : ℕ) → Lawful shape pace e xs → IsStill shape xs → held_on shape at (core xs) ≡ 0
 rests-held e shape pace xs at l idle =
-    let resting : busy_after shape xs ≡ false = (none-ready (gives_way pace.policy) (not (is_empty (waits shape (core xs)))) (choice_after shape pace xs) idle.chosen).0 in
+    let resting : busy_after shape xs ≡ false = idle.rests in
     let stopped : in_progress (core xs) ≡ false = core-rests (change_after shape xs) (keeping_after xs) (in_progress (core xs)) (changed-idle shape pace e xs l) resting in
     idle-held shape at (core xs) stopped
 
@@ -98,7 +99,7 @@ slot-region shape line slot moves is =
     let few : place_after shape.lines (line % shape.lines) moves < shape.lines + 1 = mod_below (line % shape.lines + (moves + line % shape.lines) / shape.lines) (shape.lines + 1) (omega arith) in
     sym (ap (λ x. x / (shape.lines + 1)) (sym e) ∙ div-mul-add (line / shape.lines) (shape.lines + 1) (place_after shape.lines (line % shape.lines) moves) few)
 
-module _ {n : ℕ} (rules : Rules) (shape : BankShape) (worn : ℕ → Bool) (rows : List (Row n)) (slot : ℕ) (some : 1 ≤ shape.lines) (each : 1 ≤ shape.psi) (read : 1 ≤ rules.read) (exists : slot < slots_of shape)
+module _ {n : ℕ} (rules : Rules) (shape : BankShape) (worn : ℕ → Bool) (rows : List (Row n)) (slot : ℕ) (some : 1 ≤ shape.lines) (each : 1 ≤ shape.psi) (read : 1 ≤ rules.read_ticks) (exists : slot < slots_of shape)
     (in_time : each_row (is_in_time rules) rows [] ≡ true) (placed : each_row (is_placed shape worn) rows [] ≡ true) where
   abbrev share : ℕ
   share = most_at shape.lines shape.psi (region_stores is_stored shape (slot / (shape.lines + 1)) rows)
@@ -273,9 +274,9 @@ lifetime_law n m e shape array rules rows hot layout some each read keeps places
     few-works slot exists =
         let r : ℕ = slot / (shape.lines + 1) in
         let there : r < shape.regions = div_below slot (shape.lines + 1) shape.regions (omega arith) exists in
-        let stores = hot_lines_law n rules shape (is_worn_at e array) rows hot slot some each read exists keeps.ticks places.placed in
-        let works : most_works shape rows slot ≤ most_hot_works shape r hot rows = omega (arith, stores) in
-        let bound : a_write * most_works shape rows slot ≤ a_write * most_hot_works shape r hot rows = mul-le-mul_left a_write works in
+        let stores = hot_lines_law n rules shape (is_worn_at e array) rows (hot r) slot some each read exists keeps.ticks places.placed in
+        let works : most_works shape rows slot ≤ most_hot_works shape r (hot r) rows = omega (arith, stores) in
+        let bound : a_write * most_works shape rows slot ≤ a_write * most_hot_works shape r (hot r) rows = mul-le-mul_left a_write works in
         omega (arith, bound, few r there)
 
     live : (slot c : ℕ) → slot < slots_of shape → (array.line (shape.base + slot)).stuck c ≡ false

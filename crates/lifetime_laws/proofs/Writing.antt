@@ -1,9 +1,9 @@
 -- The pulses of one array line, by the line writes that end on it.
 use Rattle.std.proofs.Common.{◌≡◌, ℕ, ◌+◌, ◌*◌, ◌<◌, ◌≤◌, ◌==◌, ◌&&◌, not, Bool, true, false, List, [], ◌∷◌, Option, None, refl, ap, subst, arith, cond}
-use Rattle.pcm_cells.specs.Device.{counted}
+use Rattle.cell_rows.specs.Device.{counted}
 use Rattle.bank_shape.specs.declared.BankShape.{BankShape}
 use Rattle.bank_shape.specs.Shape.{controls_from}
-use Rattle.bank_model.specs.Events.{Event, Write, Read, Serve, Begin, Iterate, Cut}
+use Rattle.bank_model.specs.Events.{BankEvent, Write, Read, Serve, Begin, Iterate, Cut}
 use Rattle.bank_model.specs.History.{goes_on, in_progress, iterated}
 use Rattle.bank_model.specs.After.{target_after}
 use Rattle.bank_model.specs.Sensing.{is_at, most_steps, pulses_of, pulsed_by, torn_control}
@@ -37,7 +37,7 @@ next-work : (w works : ℕ) → w * (1 + works) ≡ w * works + w
 next-work w works = omega arith
 
 -- what a line write in progress has had: at most w with the next
-abbrev pub Room : {n : ℕ} → ℕ → List (Event n) → Type 0
+abbrev pub Room : {n : ℕ} → ℕ → List (BankEvent n) → Type 0
 Room w h = in_progress h ≡ true → iterated h + 1 ≤ w
 
 -- the steps of one event, over plain numbers. `going` says that the line write goes on, `here` that it is one of this array line
@@ -92,7 +92,7 @@ module _ {n m : ℕ} (shape : BankShape) (pace : Pace) (e at : ℕ) (low : at < 
       works : ℕ
       works = works_on shape at (core xs)
 
-      quiet : (event : Event n) → spares_work event ≡ true → x.pulsed ≡ None → in_progress (event ∷ core xs) ≡ in_progress (core xs) → iterated (event ∷ core xs) ≡ iterated (core xs)
+      quiet : (event : BankEvent n) → spares_work event ≡ true → x.pulsed ≡ None → in_progress (event ∷ core xs) ≡ in_progress (core xs) → iterated (event ∷ core xs) ≡ iterated (core xs)
           → works_on shape at (event ∷ core xs) ≡ works → Few xs → pulses_of (x ∷ xs) at ≤ w * works_on shape at (event ∷ core xs) + held_on shape at (event ∷ core xs)
       quiet event spares none busy count same few =
           let form : w * works_on shape at (event ∷ core xs) ≡ w * works = ap (λ k. w * k) same in

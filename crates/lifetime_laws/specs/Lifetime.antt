@@ -1,7 +1,7 @@
 -- How long a module lives under the rotation: a bank whose hot lines are few keeps every slot's own line.
 use Rattle.std.specs.Prelude.{ℕ, ◌+◌, ◌*◌, ◌/◌, ◌<◌, ◌≤◌, ◌==◌, ◌&&◌, not, nat_lt, Bool, if◌then◌else◌, IsTrue, IsFalse, List, [], ◌∷◌, length, count_by}
 use Rattle.std.specs.List.{list_any}
-use Rattle.pcm_cells.specs.Device.{CellBounds, ArrayState}
+use Rattle.cell_rows.specs.Device.{CellBounds, ArrayState}
 use Rattle.ecp_line.specs.Layout.{IsLayout}
 use Rattle.row_rules.specs.declared.Row.{Row}
 use Rattle.row_rules.specs.Answers.{is_stored}
@@ -14,9 +14,10 @@ use Rattle.bank_shape.specs.Shape.{slots_of, controls_of, control_line}
 use Rattle.bank_model.specs.Aging.{Ages, AreAged, Endures}
 use Rattle.bank_shape.specs.declared.pace.Pace.{Pace}
 use Rattle.bank_model.specs.Timing.{TimedEvent, core}
-use Rattle.bank_model.specs.Lawful.{Lawful, IsIdle}
+use Rattle.bank_model.specs.Lawful.{Lawful}
 use Rattle.bank_laws.specs.Laws.{IsSized, LeavesArray, KeepsPlaces, is_worn_at, rules_of}
 use Rattle.bank_laws.specs.Outcomes.{table_of}
+use Rattle.bank_laws.specs.Resting.{IsStill}
 use Rattle.bank_laws.specs.Places.{region_stores, is_placed, may_leave}
 use Rattle.lifetime_laws.specs.Spread.{most_at, most_moves, stay, stores_on}
 use Rattle.lifetime_laws.specs.Works.{most_works, most_each, most_kept, stores_at}
@@ -32,7 +33,7 @@ other_stores shape region hot rows =
 abbrev pub HotLinesLaw : Type 0
 HotLinesLaw =
     (n : ℕ) (rules : Rules) (shape : BankShape) (worn : ℕ → Bool) (rows : List (Row n)) (hot : List ℕ) (slot : ℕ)
-    → 1 ≤ shape.lines → 1 ≤ shape.psi → 1 ≤ rules.read → slot < slots_of shape
+    → 1 ≤ shape.lines → 1 ≤ shape.psi → 1 ≤ rules.read_ticks → slot < slots_of shape
     → IsTrue (each_row (is_in_time rules) rows []) → IsTrue (each_row (is_placed shape worn) rows [])
     → stores_at (shape.base + slot) rows
     ≤ length hot * most_at shape.lines shape.psi (region_stores is_stored shape (slot / (shape.lines + 1)) rows)
@@ -47,7 +48,7 @@ own_stores line rows = count_by (λ q. asks_write_of line q.asks && is_stored q.
 abbrev pub AttackLaw : Type 0
 AttackLaw =
     (n : ℕ) (rules : Rules) (shape : BankShape) (worn : ℕ → Bool) (rows : List (Row n)) (line slot : ℕ)
-    → 1 ≤ shape.lines → 1 ≤ shape.psi → 1 ≤ rules.read → slot < slots_of shape
+    → 1 ≤ shape.lines → 1 ≤ shape.psi → 1 ≤ rules.read_ticks → slot < slots_of shape
     → IsTrue (each_row (is_in_time rules) rows []) → IsTrue (each_row (is_placed shape worn) rows [])
     → (shape.lines + 1) * stores_on line (shape.base + slot) rows
     ≤ own_stores line rows + other_stores shape (line / shape.lines) (line ∷ []) rows + shape.lines * stay shape.lines shape.psi
@@ -66,14 +67,20 @@ pub record KeepsLines {n m : ℕ} (shape : BankShape) (array : ArrayState n m) (
 abbrev pub KeptLinesLaw : Type 0
 KeptLinesLaw =
     (n m e : ℕ) (shape : BankShape) (pace : Pace) (xs : List (TimedEvent n m)) (array : ArrayState n m)
-    → IsSized shape pace → Lawful shape pace e xs → IsIdle shape pace xs → LeavesArray e shape xs array → AreAged shape (core xs) array
+    → IsSized shape pace → Lawful shape pace e xs → IsStill shape xs → LeavesArray e shape xs array → AreAged shape (core xs) array
     → KeepsLines shape array (rules_of e shape pace) (table_of shape xs)
 
--- the most line writes of any slot's own line of a region, each begun once, by its hot lines
+-- the most line writes of any one slot's own line of a region, each begun once, by numbers: each of the hot lines brings at most its share
+-- of the region's stores, the other lines all of theirs; and there are the gap moves into it, one that gives it up, and one for each cut
+abbrev pub most_works_by : (lines psi hot stores others cuts : ℕ) → ℕ
+most_works_by lines psi hot stores others cuts =
+    hot * most_at lines psi stores + others + most_moves lines (stores / psi) + 1 + cuts
+
+-- so by the rows of a bank's table and a list of hot lines
 abbrev pub most_hot_works : {n : ℕ} → BankShape → ℕ → List ℕ → List (Row n) → ℕ
 most_hot_works shape region hot rows =
-    length hot * most_at shape.lines shape.psi (region_stores is_stored shape region rows) + other_stores shape region hot rows
-    + most_moves shape.lines (region_stores is_stored shape region rows / shape.psi) + 1 + count_by is_cut rows
+    most_works_by shape.lines shape.psi (length hot) (region_stores is_stored shape region rows) (other_stores shape region hot rows)
+    (count_by is_cut rows)
 
 -- the writes of a region that a trace asks for, and those that are of none of these lines
 abbrev pub asked_writes : {n : ℕ} → BankShape → ℕ → List (Row n) → ℕ
@@ -86,8 +93,8 @@ other_asked shape region hot rows =
 -- the same bounds by what a trace asks for, whatever becomes of it
 abbrev pub most_asked_works : {n : ℕ} → BankShape → ℕ → List ℕ → List (Row n) → ℕ
 most_asked_works shape region hot rows =
-    length hot * most_at shape.lines shape.psi (asked_writes shape region rows) + other_asked shape region hot rows
-    + most_moves shape.lines (asked_writes shape region rows / shape.psi) + 1 + count_by is_cut rows
+    most_works_by shape.lines shape.psi (length hot) (asked_writes shape region rows) (other_asked shape region hot rows)
+    (count_by is_cut rows)
 
 abbrev pub most_asked_kept : {n : ℕ} → BankShape → List (Row n) → ℕ → ℕ
 most_asked_kept shape rows item =
@@ -100,6 +107,17 @@ pub record AsksNoLess {n : ℕ} (shape : BankShape) (rows : List (Row n)) : Type
 
 abbrev pub AskedLaw : Type 0
 AskedLaw = (n : ℕ) (shape : BankShape) (rows : List (Row n)) → 1 ≤ shape.lines → 1 ≤ shape.psi → AsksNoLess shape rows
+
+-- cells endure more changes than any slot's own line may take line writes, each as often as it may be begun: in each region of a bank, by
+-- that region's own hot lines
+abbrev pub BearsWorks : {n : ℕ} → CellBounds → BankShape → Rules → List (Row n) → (ℕ → List ℕ) → Type 0
+BearsWorks bounds shape rules rows hot =
+    (region : ℕ) → region < shape.regions → tries rules.policy * most_hot_works shape region (hot region) rows < bounds.endures
+
+-- the same by what a trace asks for, whatever becomes of it
+abbrev pub BearsAskedWorks : {n : ℕ} → CellBounds → BankShape → Rules → List (Row n) → (ℕ → List ℕ) → Type 0
+BearsAskedWorks bounds shape rules rows hot =
+    (region : ℕ) → region < shape.regions → tries rules.policy * most_asked_works shape region (hot region) rows < bounds.endures
 
 -- cells endure what the changes of each item may bring its control line. A bank whose registers are guarded has none; where they are
 -- kept in the array, that of a region is written for each of its stores and moves, and no gap moves it: it wears out first
@@ -122,12 +140,11 @@ pub record LivesOn {n m : ℕ} (e : ℕ) (shape : BankShape) (array : ArrayState
   pub finished : BearsControls array.bounds shape rules rows → IsTrue (each_row is_unqueued rows [])
   pub leaves : BearsControls array.bounds shape rules rows → IsFalse (may_leave shape (is_worn_at e array))
 
--- over cells that endure more changes than the line writes of a slot's own line may bring while none of its cells is stuck, none of them
--- sticks, however often cells miss
+-- over such cells none of a slot's own line sticks, however often cells miss; any lists of lines may be taken as the regions' hot ones
 abbrev pub LifetimeLaw : Type 0
 LifetimeLaw =
-    (n m e : ℕ) (shape : BankShape) (array : ArrayState n m) (rules : Rules) (rows : List (Row n)) (hot : List ℕ)
-    → IsLayout n m e → 1 ≤ shape.lines → 1 ≤ shape.psi → 1 ≤ rules.read
+    (n m e : ℕ) (shape : BankShape) (array : ArrayState n m) (rules : Rules) (rows : List (Row n)) (hot : ℕ → List ℕ)
+    → IsLayout n m e → 1 ≤ shape.lines → 1 ≤ shape.psi → 1 ≤ rules.read_ticks
     → KeepsRows rules rows → KeepsPlaces e shape array rules rows → KeepsLines shape array rules rows
-    → ((region : ℕ) → region < shape.regions → tries rules.policy * most_hot_works shape region hot rows < array.bounds.endures)
+    → BearsWorks array.bounds shape rules rows hot
     → LivesOn e shape array rules rows

@@ -85,7 +85,7 @@ CopiesLaw = (lines place moves : ℕ) → passing (λ t. gap_after lines t == pl
 abbrev pub FoundLaw : Type 0
 FoundLaw =
     (n : ℕ) (rules : Rules) (shape : BankShape) (worn : ℕ → Bool) (rows : List (Row n)) (line slot : ℕ)
-    → 1 ≤ rules.read → slot < slots_of shape
+    → 1 ≤ rules.read_ticks → slot < slots_of shape
     → IsTrue (each_row (is_in_time rules) rows []) → IsTrue (each_row (is_placed shape worn) rows [])
     → stores_on line (shape.base + slot) rows ≤ finding_at shape line slot (region_stores is_stored shape (line / shape.lines) rows)
 
@@ -93,7 +93,7 @@ FoundLaw =
 abbrev pub SpreadLaw : Type 0
 SpreadLaw =
     (n : ℕ) (rules : Rules) (shape : BankShape) (worn : ℕ → Bool) (rows : List (Row n)) (line slot : ℕ)
-    → 1 ≤ shape.lines → 1 ≤ shape.psi → 1 ≤ rules.read → slot < slots_of shape
+    → 1 ≤ shape.lines → 1 ≤ shape.psi → 1 ≤ rules.read_ticks → slot < slots_of shape
     → IsTrue (each_row (is_in_time rules) rows []) → IsTrue (each_row (is_placed shape worn) rows [])
     → stores_on line (shape.base + slot) rows ≤ most_at shape.lines shape.psi (region_stores is_stored shape (line / shape.lines) rows)
 

@@ -1,7 +1,7 @@
 -- How many line writes one array line takes by the rows, and how many pulses: a slot's own line, and a control line, which is written by
 -- line writes of its own.
 use Rattle.std.specs.Prelude.{ℕ, ◌+◌, ◌*◌, ◌/◌, ◌<◌, ◌≤◌, ◌&&◌, nat_lt, if◌then◌else◌, List, count_by}
-use Rattle.pcm_cells.specs.Device.{ArrayState}
+use Rattle.cell_rows.specs.Device.{ArrayState}
 use Rattle.row_rules.specs.declared.Row.{Row}
 use Rattle.row_rules.specs.Answers.{is_stored}
 use Rattle.row_rules.specs.Rows.{asks_write, is_cut}
@@ -14,9 +14,10 @@ use Rattle.bank_model.specs.Works.{works_on, held_on}
 use Rattle.bank_model.specs.Sensing.{most_steps, pulses_of}
 use Rattle.bank_shape.specs.declared.pace.Pace.{Pace}
 use Rattle.bank_model.specs.Timing.{TimedEvent, core}
-use Rattle.bank_model.specs.Lawful.{Lawful, IsIdle}
+use Rattle.bank_model.specs.Lawful.{Lawful}
 use Rattle.bank_laws.specs.Laws.{IsSized, LeavesArray, rules_of}
 use Rattle.bank_laws.specs.Outcomes.{table_of}
+use Rattle.bank_laws.specs.Resting.{IsStill}
 use Rattle.bank_laws.specs.Places.{region_stores}
 use Rattle.lifetime_laws.specs.Spread.{is_stored_on, most_moves}
 
@@ -53,7 +54,7 @@ WorksLaw =
 abbrev pub LinePulsesLaw : Type 0
 LinePulsesLaw =
     (n m e : ℕ) (shape : BankShape) (pace : Pace) (xs : List (TimedEvent n m)) (array : ArrayState n m) (slot : ℕ)
-    → IsSized shape pace → Lawful shape pace e xs → IsIdle shape pace xs → LeavesArray e shape xs array → slot < slots_of shape
+    → IsSized shape pace → Lawful shape pace e xs → IsStill shape xs → LeavesArray e shape xs array → slot < slots_of shape
     → (array.line (shape.base + slot)).pulses ≤ most_each (rules_of e shape pace) * most_works shape (table_of shape xs) slot
 
 -- and how it ages, in an array that has aged by the bank's events: as its first cell stuck, no cell of it had changed more than once in
@@ -61,7 +62,7 @@ LinePulsesLaw =
 abbrev pub LineAgesLaw : Type 0
 LineAgesLaw =
     (n m e : ℕ) (shape : BankShape) (pace : Pace) (xs : List (TimedEvent n m)) (array : ArrayState n m) (slot : ℕ)
-    → IsSized shape pace → Lawful shape pace e xs → IsIdle shape pace xs → AreAged shape (core xs) array → slot < slots_of shape
+    → IsSized shape pace → Lawful shape pace e xs → IsStill shape xs → AreAged shape (core xs) array → slot < slots_of shape
     → Ages array.bounds (tries pace.policy * most_works shape (table_of shape xs) slot) (array.line (shape.base + slot))
 
 -- ---- control lines
@@ -81,5 +82,5 @@ most_kept shape rows item = most_changes shape rows item + count_by is_cut rows
 abbrev pub ControlPulsesLaw : Type 0
 ControlPulsesLaw =
     (n m e : ℕ) (shape : BankShape) (pace : Pace) (xs : List (TimedEvent n m)) (array : ArrayState n m) (item : ℕ)
-    → IsSized shape pace → Lawful shape pace e xs → IsIdle shape pace xs → LeavesArray e shape xs array → item < controls_of shape
+    → IsSized shape pace → Lawful shape pace e xs → IsStill shape xs → LeavesArray e shape xs array → item < controls_of shape
     → (array.line (control_line shape item)).pulses ≤ most_each (rules_of e shape pace) * most_kept shape (table_of shape xs) item

@@ -120,8 +120,8 @@ pub fn asked_writes_bound_stores()
     ensures { AskedLaw }
 {}
 
-/// Over cells that endure more changes than a slot's own line may take by its hot lines, one a line write
-/// however often cells miss, no cell of such a line sticks.
+/// Over cells that endure more changes than any slot's own line may take line writes by the hot lines of its
+/// region, however often cells miss, no cell of such a line sticks.
 pub fn hot_lines_leave_banks_alive()
     ensures { LifetimeLaw }
 {}

@@ -1,8 +1,8 @@
 -- A line of an array that was just powered up.
 use Rattle.std.proofs.Common.{ℕ, ◌<◌}
-use Rattle.pcm_cells.specs.declared.array.Wear.{Wear}
-use Rattle.pcm_cells.specs.Rows.{cell}
-use Rattle.pcm_cells.specs.Device.{ArrayState, IsFresh}
+use Rattle.cell_rows.specs.declared.array.Wear.{Wear}
+use Rattle.cell_rows.specs.Rows.{cell}
+use Rattle.cell_rows.specs.Device.{ArrayState, IsFresh}
 use Rattle.ecp_line.specs.Layout.{Sound}
 use Rattle.ecp_line.proofs.Blank.{Sound-blank}
 

@@ -1,9 +1,9 @@
 -- From one phase to the next.
 use Rattle.std.proofs.Common.{◌≡◌, ℕ, ◌&&◌, Bool, false, not, List, refl, sym, ap, ◌∙◌, subst, inl, inr, arith}
 use Rattle.std.proofs.lemmas.Bool.{and_parts, cases_Bool, eqb-true, true≢false}
-use Rattle.pcm_cells.specs.declared.row.Cells.{Cells}
-use Rattle.pcm_cells.specs.Rows.{cell, bit_of, xor}
-use Rattle.pcm_cells.specs.Device.{LineState}
+use Rattle.cell_rows.specs.declared.row.Cells.{Cells}
+use Rattle.cell_rows.specs.Rows.{cell, bit_of, xor}
+use Rattle.cell_rows.specs.Device.{LineState}
 use Rattle.program_verify.specs.declared.prog.Prog.{Prog}
 use Rattle.program_verify.specs.declared.prog.Turn.{Turn}
 use Rattle.program_verify.specs.declared.prog.Turn.TheVariants.{Going, Settled}
@@ -77,10 +77,6 @@ pub point-phase : {B M E : ℕ} (writer : LineWriter B M E) (line : LineState B 
     → IsPointing B E writer.entries writer.bytes (cell writer.prog.want) (cell writer.prog.which) (cell line.held) line.stuck
 point-phase {E = E} writer line e h = subst (λ (p : Phase). IsAfterRound E writer.entries writer.bytes p writer.prog (cell line.held) line.stuck) e h.phase
 
-pub switch-phase : {B M E : ℕ} (writer : LineWriter B M E) (line : LineState B M) → writer.phase ≡ Switch → HasRound writer line
-    → IsSwitched B M E writer.entries (cell writer.prog.want) (cell writer.prog.which) (cell line.held) line.stuck
-switch-phase {E = E} writer line e h = subst (λ (p : Phase). IsAfterRound E writer.entries writer.bytes p writer.prog (cell line.held) line.stuck) e h.phase
-
 -- a phase other than the last is as it was before its rounds
 pub writing-clear : {B M E : ℕ} (writer : LineWriter B M E) (line : LineState B M) → writer.phase ≡ Clear → HasRound writer line → IsWriting writer line
 writing-clear {E = E} writer line e h = record {
@@ -96,15 +92,6 @@ writing-fill {E = E} writer line e h = record {
   most = h.most;
   charged = h.charged;
   phase = subst (λ (p : Phase). IsInPhase E writer.entries writer.bytes p writer.prog (cell line.held) line.stuck) (sym e) (fill-phase writer line e h);
-}
-
-pub writing-switch : {B M E : ℕ} (writer : LineWriter B M E) (line : LineState B M) → writer.phase ≡ Switch → HasRound writer line
-    → IsSwitching B M E writer.entries (cell writer.prog.want) (cell writer.prog.which) (cell line.held) line.stuck → IsWriting writer line
-writing-switch {E = E} writer line e h phase = record {
-  prog = h.prog;
-  most = h.most;
-  charged = h.charged;
-  phase = subst (λ (p : Phase). IsInPhase E writer.entries writer.bytes p writer.prog (cell line.held) line.stuck) (sym e) phase;
 }
 
 -- the lowest wrong bit, by what the line holds and the entries that count

@@ -1,7 +1,7 @@
 -- Each phase keeps what it has settled, whatever a pulse or a tear of its cells does.
 use Rattle.std.proofs.Common.{◌≡◌, ◌≢◌, ℕ, ◌+◌, ◌-◌, ◌<◌, ◌≤◌, ◌⊎◌, ◌&&◌, Bool, true, false, List, sym, ap, ◌∙◌, inl, inr, arith, eqb, ltb, leb}
 use Rattle.std.proofs.lemmas.Bool.{cases_eq, cases_lt, cases_Bool, and_parts, ltb-true, leb-true, eqb-true, eq-eqb, ne_eqb, cond-true, cond-false, false_from_ne_true}
-use Rattle.pcm_cells.specs.Rows.{bit_of, xor}
+use Rattle.cell_rows.specs.Rows.{bit_of, xor}
 use Rattle.ecp_line.specs.Layout.{active, activity_cell, full_cell, replacement_cell, pointer_cell, source_below, pointer, is_pointer_cell, switch_cell, Prefix, IsLayout}
 use Rattle.ecp_line.proofs.Activity.{active-full, active-kept, active-is, active-within, open-within, activity-ones, activity-zero}
 use Rattle.ecp_line.proofs.Places.{entry-order, entries-order, activity-lt, pointer-lt}

@@ -1,8 +1,8 @@
 -- Each phase begins with what its programming wants.
 use Rattle.std.proofs.Common.{◌≡◌, ℕ, ◌+◌, ◌-◌, ◌*◌, ◌<◌, Bool, true, false, cond, List, refl, sym, ap, ◌∙◌, subst, inl, inr, arith, eqb}
 use Rattle.std.proofs.lemmas.Bool.{cases_eq, and_from, eq-eqb, ne_eqb, cond-true, cond-false}
-use Rattle.pcm_cells.specs.declared.row.Cells.{Cells}
-use Rattle.pcm_cells.specs.Rows.{bit_of, cell, xor}
+use Rattle.cell_rows.specs.declared.row.Cells.{Cells}
+use Rattle.cell_rows.specs.Rows.{bit_of, cell, xor}
 use Rattle.program_verify.specs.declared.prog.Prog.{Prog}
 use Rattle.program_verify.specs.Programming.{IsGoing}
 use Rattle.ecp_line.specs.Layout.{active, source_below, pointer, is_pointer_cell, is_later, switch_cell, Prefix, IsWanted, IsLayout, WantsZeros}
@@ -13,12 +13,6 @@ use Rattle.line_writer.proofs.Keeping.{switch-zero, switch-early, switch-last, e
 -- a programming that was made of these parts
 made : {B M : ℕ} → Cells B M → Cells B M → Cells B M → Prog B M
 made seen want which = record { seen = seen; want = want; which = which; rounds = 0 }
-
-pub clearing-made : {B M : ℕ} (E : ℕ) (held seen want which : Cells B M) → held ≡ seen
-    → WantsZeros (cell seen) (is_later B E (cell seen)) (cell want) (cell which) → IsClearing B E (active B E (cell seen)) (cell want) (cell which) (cell held)
-clearing-made {B} E held seen want which e zeros =
-    subst (λ (h : Cells B _). IsClearing B E (active B E (cell seen)) (cell want) (cell which) (cell h)) (sym e)
-    (record { entries = refl; cells = zeros.cells; zero = zeros.zero })
 
 pub filling-made : {B M : ℕ} (E w : ℕ) (bytes : List ℕ) (held seen want which : Cells B M) → held ≡ seen
     → active B E (cell held) ≡ w → IsCleared B E (cell held) w → IsWanted B (active B E (cell seen)) (cell seen) bytes (cell want) (cell which)

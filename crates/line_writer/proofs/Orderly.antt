@@ -1,9 +1,9 @@
 -- What a write does to a line of which no cell is stuck.
 use Rattle.std.proofs.Common.{◌≡◌, ◌≢◌, ℕ, zero, suc, ◌+◌, ◌-◌, ◌*◌, ◌<◌, ◌≤◌, Bool, true, false, cond, List, refl, sym, ap, ◌∙◌, subst, inl, inr, arith}
 use Rattle.std.proofs.lemmas.Bool.{and_left, and_parts, both_ways, cases_eq, false_from_ne_true}
-use Rattle.pcm_cells.specs.declared.row.Cells.{Cells}
-use Rattle.pcm_cells.specs.Rows.{cell, members, xor}
-use Rattle.pcm_cells.specs.Device.{ArrayState, LineState, CellBounds, CellTorn, TornStep, IsBlank}
+use Rattle.cell_rows.specs.declared.row.Cells.{Cells}
+use Rattle.cell_rows.specs.Rows.{cell, members, xor}
+use Rattle.cell_rows.specs.Device.{ArrayState, LineState, CellBounds, CellTorn, TornStep, IsBlank}
 use Rattle.ecp_line.specs.Layout.{source_below, is_inert, Prefix}
 use Rattle.ecp_line.proofs.Sources.{source-none}
 use Rattle.program_verify.specs.declared.prog.Prog.{Prog}

@@ -1,9 +1,9 @@
 -- What a round of the present phase and a tear leave, and that both keep the line sound.
 use Rattle.std.proofs.Common.{◌≡◌, ℕ, ◌+◌, ◌-◌, ◌*◌, ◌<◌, Bool, true, false, not, List, sym, ap, ◌∙◌, subst, inl, inr, arith, ltb}
 use Rattle.std.proofs.lemmas.Bool.{both_ways, and_parts, and_from, and_left, or_left, or_right, cases_Bool, lt-ltb, eqb-true, false_from_ne_true}
-use Rattle.pcm_cells.specs.declared.row.Cells.{Cells}
-use Rattle.pcm_cells.specs.Rows.{cell, members}
-use Rattle.pcm_cells.specs.Device.{LineState, ArrayState, CellBounds, DeviceStep, TornStep, CellPulsed, CellTorn}
+use Rattle.cell_rows.specs.declared.row.Cells.{Cells}
+use Rattle.cell_rows.specs.Rows.{cell, members}
+use Rattle.cell_rows.specs.Device.{LineState, ArrayState, CellBounds, DeviceStep, TornStep, CellPulsed, CellTorn}
 use Rattle.program_verify.specs.declared.prog.Prog.{Prog}
 use Rattle.program_verify.specs.Programming.{Programs, IsGoing, IsRound, IsTear, is_wrong}
 use Rattle.ecp_line.specs.Layout.{switch_cell, full_cell, activity_cell, Prefix, Sound, IsLayout}

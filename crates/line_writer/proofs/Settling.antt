@@ -1,8 +1,8 @@
 -- What a phase has settled when no round of it is left.
 use Rattle.std.proofs.Common.{◌≡◌, ℕ, zero, suc, ◌+◌, ◌-◌, ◌*◌, ◌<◌, ◌≤◌, ◌⊎◌, ◌&&◌, Bool, true, false, List, refl, sym, ap, ◌∙◌, inl, inr, arith}
 use Rattle.std.proofs.lemmas.Bool.{cases_Bool, both_ways, and_from, and_left, lt-ltb, eq-eqb, ne_eqb, le-leb, false_from_ne_true}
-use Rattle.pcm_cells.proofs.ByteLemmas.{xor_false}
-use Rattle.pcm_cells.specs.Rows.{bit_of, xor, members}
+use Rattle.cell_rows.proofs.ByteLemmas.{xor_false}
+use Rattle.cell_rows.specs.Rows.{bit_of, xor, members}
 use Rattle.ecp_line.specs.Layout.{active, is_later, source_below, pointer, number, width, pointer_cell, replacement_cell, full_cell, activity_cell, switch_cell, Prefix, IsLayout, IsLowest}
 use Rattle.ecp_line.proofs.Activity.{active-full}
 use Rattle.ecp_line.proofs.Digits.{number-none, number-one, number-zero}
@@ -38,11 +38,6 @@ cleared-worn B E w want which f stuck c phase on at =
     record { is = at; activity = inr (full, c - activity_cell B E, omega arith, omega arith) }
 
 -- ---- filling
-
-pub filled-right : (B E w : ℕ) (bytes : List ℕ) (want which f : ℕ → Bool) → IsFilling B E w bytes want which f → ((n : ℕ) → (which n && xor (f n) (want n)) ≡ false)
-    → (x : ℕ) → x < 8 * B → f (source_below B f x w) ≡ bit_of bytes x
-filled-right B E w bytes want which f phase none x low =
-    let (on, at) = phase.wanted.sources x low in right which want f (source_below B f x w) on (none (source_below B f x w)) ∙ at
 
 -- the source of a bit that is wrong is left wrong
 pub filled-wrong : (B E w : ℕ) (bytes : List ℕ) (want which f : ℕ → Bool) (x : ℕ) → IsFilling B E w bytes want which f → x < 8 * B
@@ -101,20 +96,3 @@ pointed B M E w bytes want which f stuck layout phase left before =
     ])
 
 -- ---- switching
-
--- a switch cell that is left 0 is wrong, and the only one
-pub switched-wrong : (B M E w : ℕ) (want which f stuck : ℕ → Bool) → IsSwitching B M E w want which f stuck → IsLowest (λ n. which n && xor (f n) (want n)) (switch_cell B E w)
-switched-wrong B M E w want which f stuck phase = record {
-  is = and_from (which (switch_cell B E w)) _ (phase.cells (switch_cell B E w) ∙ eq-eqb _ _ refl)
-      (ap (λ (b : Bool). xor b (want (switch_cell B E w))) (switch-zero B E w f phase.ready) ∙ phase.one);
-  below = λ k l. and_left (which k) _ (phase.cells k ∙ ne_eqb k (switch_cell B E w) (λ e. omega arith));
-}
-
-pub switched-worn : (B M E w : ℕ) (want which f stuck : ℕ → Bool) → IsSwitching B M E w want which f stuck → stuck (switch_cell B E w) ≡ true → IsStuckActivity B E f stuck (switch_cell B E w)
-switched-worn B M E w want which f stuck phase at = record {
-  is = at;
-  activity = elim (early_or_last E w phase.ready.entry) as (λ _. (switch_cell B E w ≡ full_cell B E) ⊎ ((f (full_cell B E) ≡ false) × (i : ℕ) × (i < E - 1) × (switch_cell B E w ≡ activity_cell B E + i))) [
-    | inl early ↦ inr (phase.ready.full, w, early, switch-early B E w early)
-    | inr last ↦ inl (switch-last B E w last)
-  ];
-}

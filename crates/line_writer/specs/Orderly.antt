@@ -1,7 +1,7 @@
 -- Lines of which no cell is stuck: their check cells hold 0, since a write pulses one of them only once a cell is stuck.
 use Rattle.std.specs.Prelude.{◌≡◌, ℕ, ◌+◌, ◌*◌, ◌<◌, ◌≤◌, false}
-use Rattle.pcm_cells.specs.Rows.{cell}
-use Rattle.pcm_cells.specs.Device.{ArrayState, LineState}
+use Rattle.cell_rows.specs.Rows.{cell}
+use Rattle.cell_rows.specs.Device.{ArrayState, LineState}
 
 module _ {n m : ℕ} where
   -- no cell of a line is stuck

@@ -1,6 +1,6 @@
 -- The phases of a write, on a line seen as functions: what its cells hold, and which are stuck.
 use Rattle.std.specs.Prelude.{ℕ, List, ◌≡◌, ◌+◌, ◌-◌, ◌*◌, ◌<◌, ◌≤◌, ◌⊎◌, Bool, true, false, nat_eq}
-use Rattle.pcm_cells.specs.Rows.{bit_of, xor}
+use Rattle.cell_rows.specs.Rows.{bit_of, xor}
 use Rattle.ecp_line.specs.Layout.{active, activity_cell, full_cell, source_below, decoded, pointer, is_pointer_cell, is_later, switch_cell, Prefix, IsWanted}
 
 -- the activity cells behind cell w of them are 0

@@ -1,7 +1,7 @@
 -- The unused check cells of a line, those behind the cell `full`: no write pulses them.
 use Rattle.std.specs.Prelude.{◌≡◌, ℕ, ◌+◌, ◌<◌, false}
-use Rattle.pcm_cells.specs.Rows.{cell}
-use Rattle.pcm_cells.specs.Device.{ArrayState, LineState}
+use Rattle.cell_rows.specs.Rows.{cell}
+use Rattle.cell_rows.specs.Device.{ArrayState, LineState}
 use Rattle.program_verify.specs.declared.prog.Prog.{Prog}
 use Rattle.program_verify.specs.Programming.{is_wrong}
 use Rattle.ecp_line.specs.Layout.{full_cell}

@@ -1,8 +1,8 @@
 -- What a write in progress has settled of its line, and how many steps it has left.
 use Rattle.std.specs.Prelude.{ℕ, List, ◌≡◌, ◌+◌, ◌-◌, ◌*◌, ◌<◌, ◌≤◌, ◌⊎◌, Bool, true, false}
-use Rattle.pcm_cells.specs.Rows.{cell, members, bit_of, xor}
-use Rattle.pcm_cells.specs.declared.row.Cells.{Cells}
-use Rattle.pcm_cells.specs.Device.{LineState}
+use Rattle.cell_rows.specs.Rows.{cell, members, bit_of, xor}
+use Rattle.cell_rows.specs.declared.row.Cells.{Cells}
+use Rattle.cell_rows.specs.Device.{LineState}
 use Rattle.program_verify.specs.declared.prog.Prog.{Prog}
 use Rattle.program_verify.specs.Programming.{Programs, IsGoing, is_wrong}
 use Rattle.ecp_line.specs.Layout.{active, source_below, Prefix, IsLowest}

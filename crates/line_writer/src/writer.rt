@@ -1,15 +1,15 @@
 // A whole write of a line.
 ghost use Rattle.std.specs.Prelude.{◌≡◌, ℕ, ◌+◌, ◌-◌, ◌*◌, ◌<◌, ◌≤◌, true, false};
-ghost use Rattle.pcm_cells.specs.Device.{LineState};
-ghost use Rattle.pcm_cells.specs.Rows.{cell};
+ghost use Rattle.cell_rows.specs.Device.{LineState};
+ghost use Rattle.cell_rows.specs.Rows.{cell};
 ghost use Rattle.program_verify.specs.Programming.{is_wrong, IsRound, IsTear, IsStatus, IsStuckWhereWrong};
 ghost use Rattle.ecp_line.specs.Layout.{IsLayout, Sound};
 ghost use Rattle.ecp_line.specs.Reading.{is_worn_line};
 ghost use Rattle.line_writer.specs.Writing.{IsWriting, HasRound, IsDone, Writes, IsFillable, IsInOrder, IsPointable, IsSwitchable, IsProgress, HasBegun, IsWorn, steps_left, most_steps, most_entries};
 ghost use Rattle.line_writer.specs.Untouched.{LeavesUnused};
 
+use cell_rows::{CellArray, Cells};
 use ecp_line::{Ecp, lowest};
-use pcm_cells::{CellArray, Cells};
 use program_verify::{Prog, Turn};
 
 /// How far a write has come.

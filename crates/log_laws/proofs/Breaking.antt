@@ -7,7 +7,7 @@ use Rattle.row_rules.specs.declared.Rules.{Rules}
 use Rattle.bank_shape.specs.Pausing.{is_cancelling}
 use Rattle.bank_shape.specs.declared.BankShape.{BankShape}
 use Rattle.bank_shape.specs.declared.answer.ReadAnswer.TheVariants as came
-use Rattle.bank_model.specs.Events.{Event, Write, Read, Serve, Begin, Iterate, Cut}
+use Rattle.bank_model.specs.Events.{BankEvent, Write, Read, Serve, Begin, Iterate, Cut}
 use Rattle.bank_shape.specs.declared.pace.Pace.{Pace}
 use Rattle.bank_model.specs.Timing.{Happens, Core, Regs, TimedEvent}
 use Rattle.bank_model.specs.Lawful.{Lawful, MayCome, IsRead}
@@ -19,7 +19,7 @@ between : (from at to : ℕ) → from ≤ at → at ≤ to → (nat_le from at &
 between from at to le lt = and_from (nat_le from at) _ (le-leb from at le) (le-leb at to lt)
 
 -- a read that begins to wait, behind a cancel
-is_read-same : {n : ℕ} (h : Event n) (tick at : ℕ) → IsRead tick at h → (at ≡ tick) × IsRead at at h
+is_read-same : {n : ℕ} (h : BankEvent n) (tick at : ℕ) → IsRead tick at h → (at ≡ tick) × IsRead at at h
 is_read-same (Read row line came.Waiting) tick at is = (is, refl)
 is_read-same (Read row line came.Busy) tick at is = absurd is
 is_read-same (Read row line (came.Forwarded bytes)) tick at is = absurd is
@@ -48,7 +48,7 @@ module _ {n m : ℕ} (shape : BankShape) (rules : Rules) where
       → is_broken rules (row_with shape all (Core (Cut tearing)) tick false) from to ≡ true
   cut_breaks all tick from to tearing le lt = or_left (nat_le from tick && nat_le tick to) false (between from tick to le lt)
 
-  read_breaks : (all : List (TimedEvent n m)) (h : Event n) (tick from to : ℕ) (cancels : Bool) → is_cancelling rules.policy ≡ true → IsRead tick tick h → from ≤ tick → tick ≤ to
+  read_breaks : (all : List (TimedEvent n m)) (h : BankEvent n) (tick from to : ℕ) (cancels : Bool) → is_cancelling rules.policy ≡ true → IsRead tick tick h → from ≤ tick → tick ≤ to
       → is_broken rules (row_with shape all (Core h) tick cancels) from to ≡ true
   read_breaks all (Read row line came.Waiting) tick from to cancels policy is le lt =
       or_left _ false (and_from (is_cancelling rules.policy && true) _ (and_from (is_cancelling rules.policy) true policy refl) (between from tick to le lt))

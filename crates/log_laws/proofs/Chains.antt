@@ -5,11 +5,11 @@ use Rattle.masked_bytes.proofs.Truth.{and_first, and_second}
 use Rattle.std.proofs.lemmas.List.Elements.{All-head, All-tail}
 use Rattle.std.specs.Prelude.{nat_le, nat_lt, All}
 use Rattle.std.specs.List.{list_any}
-use Rattle.pcm_cells.specs.declared.array.Sense.{Sense}
+use Rattle.cell_rows.specs.declared.array.Sense.{Sense}
 use Rattle.row_rules.specs.declared.Row.{Row}
 use Rattle.row_rules.specs.declared.Rules.{Rules}
 use Rattle.row_rules.specs.Wearing.{worn_row}
-use Rattle.bank_laws.specs.Logs.{is_broken, follows, follow_on, begins_unpulsed}
+use Rattle.bank_laws.specs.Logs.{is_broken, follows, tears, follow_on, follow_on_to, begins_unpulsed, begins_unpulsed_to}
 
 -- the last sense of a list that begins with this one
 abbrev pub last_of : {n m : ℕ} → Sense n m → List (Sense n m) → Sense n m
@@ -29,11 +29,11 @@ module _ {n m : ℕ} (rules : Rules) (rows : List (Row n)) (wears : Bool) where
   same_follows s t is = or_left (s.pulses == t.pulses) _ (eq-eqb s.pulses t.pulses is)
 
   -- a sense after one more pulse
-  pub step_follows : (s t : Sense n m) → s.pulses + 1 ≡ t.pulses → (nat_le (s.tick + rules.iter) t.tick || is_broken rules rows s.tick t.tick) ≡ true
+  pub step_follows : (s t : Sense n m) → s.pulses + 1 ≡ t.pulses → (nat_le (s.tick + rules.iter_ticks) t.tick || is_broken rules rows s.tick t.tick) ≡ true
       → (wears && list_any (λ r. worn_row r && nat_lt r.tick t.tick) rows) ≡ false → follows rules rows wears s t ≡ true
   step_follows s t up apart fine =
       or_right (s.pulses == t.pulses) _ (and_from (s.pulses + 1 == t.pulses) _ (eq-eqb (s.pulses + 1) t.pulses up)
-      (and_from (nat_le (s.tick + rules.iter) t.tick || is_broken rules rows s.tick t.tick) _ apart (ap not fine)))
+      (and_from (nat_le (s.tick + rules.iter_ticks) t.tick || is_broken rules rows s.tick t.tick) _ apart (ap not fine)))
 
   -- each of these senses follows the one before
   abbrev pub Follow : Sense n m → List (Sense n m) → Type 0
@@ -76,3 +76,21 @@ module _ {n m : ℕ} (rules : Rules) (rows : List (Row n)) (wears : Bool) where
   pub follow-alike : (p : ℕ) (t : Sense n m) (ts : List (Sense n m)) → t.pulses ≡ p → All (λ t. t.pulses ≡ p) ts → Follow t ts
   follow-alike p t ts is a =
       subst (λ k. follow_on rules rows wears k t ts ≡ true) (sym (last_of-all (λ (t : Sense n m). t.pulses ≡ p) t ts is a)) (same_chain p t ts is a)
+
+  -- a chain of senses is one where the power is off, too
+  pub follow-off : (off : Bool) (p : ℕ) (s : Sense n m) (ss : List (Sense n m)) → follow_on rules rows wears p s ss ≡ true → follow_on_to rules rows off wears p s ss ≡ true
+  follow-off off p s [] f = or_right _ _ f
+  follow-off off p s (t ∷ ts) f =
+      or_right _ _ (and_from (follows rules rows wears s t) _ (and_first (follows rules rows wears s t) _ f) (follow-off off p t ts (and_second (follows rules rows wears s t) _ f)))
+
+  pub begin-off : (off : Bool) (p : ℕ) (ss : List (Sense n m)) → begins_unpulsed rules rows wears p ss ≡ true → begins_unpulsed_to rules rows off wears p ss ≡ true
+  begin-off off p [] f = f
+  begin-off off p (s ∷ ss) f = and_from (s.pulses == 0) _ (and_first (s.pulses == 0) _ f) (follow-off off p s ss (and_second (s.pulses == 0) _ f))
+
+  -- one that ends with a torn pulse
+  pub torn-end : (p : ℕ) (s : Sense n m) (ss ts : List (Sense n m)) → Follow s ss → tears rules rows p (last_of s ss) ts ≡ true
+      → follow_on_to rules rows true wears p s (ss ++ ts) ≡ true
+  torn-end p s [] [] f torn = or_left _ _ torn
+  torn-end p s [] (t ∷ ts) f torn = or_left _ _ torn
+  torn-end p s (r ∷ ss) ts f torn =
+      or_right _ _ (and_from (follows rules rows wears s r) _ (and_first (follows rules rows wears s r) _ f) (torn-end p r ss ts (and_second (follows rules rows wears s r) _ f) torn))

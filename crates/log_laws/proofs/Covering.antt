@@ -7,7 +7,7 @@ use Rattle.masked_bytes.proofs.Queueing.{candidate-newest}
 use Rattle.bank_shape.specs.declared.BankShape.{BankShape}
 use Rattle.bank_shape.specs.declared.answer.WriteAnswer.TheVariants as wrote
 use Rattle.bank_shape.specs.declared.answer.Step.TheVariants as did
-use Rattle.bank_model.specs.Events.{Event, Write, Read, Serve, Begin, Iterate, Cut, RowsBelow, line_of_row, newest}
+use Rattle.bank_model.specs.Events.{BankEvent, Write, Read, Serve, Begin, Iterate, Cut, RowsBelow, line_of_row, newest}
 use Rattle.bank_model.specs.History.{queue, due_after}
 use Rattle.bank_model.specs.Answers.{MayAll, head_busy_after}
 use Rattle.bank_laws.proofs.Answering.{IsHead, head-there, stored-head}
@@ -24,14 +24,14 @@ uncovered_by n own out given rest = cond own (cond out (none_given n) (joined gi
 
 module _ {n : ℕ} where
   -- the bytes of a line that its accepted writes give, down to the last that is out
-  abbrev pub uncovered : (ℕ → Bool) → ℕ → List (Event n) → List Bool
+  abbrev pub uncovered : (ℕ → Bool) → ℕ → List (BankEvent n) → List Bool
   uncovered out line [] = none_given n
   uncovered out line (Write row at bytes given wrote.Accepted ∷ h) = uncovered_by n (at == line) (out row) given (uncovered out line h)
   uncovered out line (Write row at bytes given (wrote.Merged old) ∷ h) = uncovered_by n (at == line) (out row) given (uncovered out line h)
   uncovered out line (_ ∷ h) = uncovered out line h
 
   -- the rows of a line that were stored
-  abbrev pub out_in : ℕ → List (Event n) → ℕ → Bool
+  abbrev pub out_in : ℕ → List (BankEvent n) → ℕ → Bool
   out_in line [] = λ row. false
   out_in line (Begin (did.Stored row place) ∷ h) = out_with (line_of_row row h == line) (out_in line h) row
   out_in line (Iterate (did.Stored row place) ∷ h) = out_with (line_of_row row h == line) (out_in line h) row
@@ -52,7 +52,7 @@ module _ {n : ℕ} where
       (subst (λ l. Fits u (out_with (l == line) out e.row) line es) (sym k.0) (fits-drop u out line e es t))
 
 module _ {n : ℕ} (shape : BankShape) where
-  head-not : (h : List (Event n)) (bound at r : ℕ) → RowsBelow h bound → IsHead (queue shape h) at → bound ≤ r → (at == r) ≡ false
+  head-not : (h : List (BankEvent n)) (bound at r : ℕ) → RowsBelow h bound → IsHead (queue shape h) at → bound ≤ r → (at == r) ≡ false
   head-not h bound at r below head le =
       either (at == r)
       (λ same.
@@ -61,7 +61,7 @@ module _ {n : ℕ} (shape : BankShape) where
       absurd (cc (subst (λ k. has_row (queue shape h) k ≡ true) (eqb-true at r same) there, lacks))) (λ isnt. isnt)
 
   -- no row is stored before it came
-  pub out-fresh : (most : ℕ) (h : List (Event n)) (bound line r : ℕ) → MayAll shape most h → RowsBelow h bound → bound ≤ r → out_in line h r ≡ false
+  pub out-fresh : (most : ℕ) (h : List (BankEvent n)) (bound line r : ℕ) → MayAll shape most h → RowsBelow h bound → bound ≤ r → out_in line h r ≡ false
   out-fresh most [] bound line r m below le = refl
   out-fresh most (Write row at bytes given answer ∷ h) bound line r m below le = let lt : row < bound = below.0 in out-fresh most h row line r m.1 below.1 (omega arith)
   out-fresh most (Read row at answer ∷ h) bound line r m below le = let lt : row < bound = below.0 in out-fresh most h row line r m.1 below.1 (omega arith)
@@ -81,11 +81,11 @@ module _ {n : ℕ} (shape : BankShape) where
   out-fresh most (Cut tearing ∷ h) bound line r m below le = out-fresh most h bound line r m.1 below le
 
   -- the entries have the lines of their rows, and give what the writes give
-  pub record FitsAfter (h : List (Event n)) : Type 0 where
+  pub record FitsAfter (h : List (BankEvent n)) : Type 0 where
     pub named : Named (λ row. line_of_row row h) (queue shape h)
     pub fits : (line : ℕ) → Fits (λ out. uncovered out line h) (out_in line h) line (queue shape h)
 
-  pub fits-after : (most : ℕ) (h : List (Event n)) (bound : ℕ) → MayAll shape most h → RowsBelow h bound → FitsAfter h
+  pub fits-after : (most : ℕ) (h : List (BankEvent n)) (bound : ℕ) → MayAll shape most h → RowsBelow h bound → FitsAfter h
   fits-after most [] bound m below = record { named = tt; fits = λ line. refl }
   fits-after most (Write row at bytes given wrote.Accepted ∷ h) bound m below =
       let k = fits-after most h row m.1 below.1 in

@@ -1,15 +1,15 @@
 -- The senses of each of a bank's lines are fair.
-use Rattle.std.proofs.Common.{◌≡◌, ℕ, ◌+◌, ◌-◌, ◌<◌, ◌==◌, ◌&&◌, ◌||◌, ◌⊎◌, inl, inr, Bool, true, false, List, [], ◌∷◌, ◌++◌, Option, Some, None, refl, sym, ap, ◌∙◌, subst, arith, cond, append_assoc}
-use Rattle.std.proofs.lemmas.Bool.{and_from}
-use Rattle.std.specs.Prelude.{All, nat_lt, not}
+use Rattle.std.proofs.Common.{◌≡◌, ℕ, ◌+◌, ◌-◌, ◌<◌, ◌≤◌, ◌==◌, ◌&&◌, ◌||◌, ◌⊎◌, inl, inr, Bool, true, false, List, [], ◌∷◌, ◌++◌, Option, Some, None, refl, sym, ap, ◌∙◌, subst, arith, cond, append_assoc, eq-eqb}
+use Rattle.std.proofs.lemmas.Bool.{and_from, or_left, le-leb}
+use Rattle.std.specs.Prelude.{All, nat_le, nat_lt, not}
 use Rattle.std.proofs.lemmas.List.Elements.{filter-append}
-use Rattle.pcm_cells.specs.declared.array.Sense.{Sense}
+use Rattle.cell_rows.specs.declared.array.Sense.{Sense}
 use Rattle.bank_shape.specs.declared.BankShape.{BankShape}
 use Rattle.bank_shape.specs.Shape.{slots_of, lines_in, controls_from}
 use Rattle.bank_shape.specs.declared.clock.Doing.TheVariants.{Serving}
 use Rattle.bank_model.specs.History.{waits}
 use Rattle.bank_shape.specs.declared.pace.Pace.{Pace}
-use Rattle.bank_model.specs.Timing.{TimedEvent, core, is_empty}
+use Rattle.bank_model.specs.Timing.{Happens, Core, TimedEvent, core, is_empty, last_tick}
 use Rattle.bank_model.specs.After.{may_begin_after}
 use Rattle.bank_shape.specs.Pausing.{gives_way}
 use Rattle.bank_shape.specs.Acting.{Choice, chosen_by}
@@ -19,13 +19,20 @@ use Rattle.bank_model.specs.Adding.{senses_of}
 use Rattle.bank_model.specs.Sensing.{pulses_of}
 use Rattle.bank_model.specs.Lawful.{Lawful, IsIdle}
 use Rattle.bank_laws.specs.Laws.{IsSized, rules_of}
-use Rattle.bank_laws.specs.Logs.{begins_unpulsed}
-use Rattle.bank_laws.specs.Outcomes.{rows_from, table_of}
+use Rattle.bank_laws.specs.Logs.{begins_unpulsed_to, follow_on_to}
+use Rattle.bank_laws.specs.Resting.{IsCutOff, EndsIn}
+use Rattle.bank_laws.proofs.Counted.{counted-cases}
+use Rattle.cell_rows.specs.Device.{counted}
+use Rattle.row_rules.specs.Rows.{is_cut}
+use Rattle.std.specs.List.{list_any, list_all}
+use Rattle.std.proofs.lemmas.List.Elements.{All-head, All-tail}
+use Rattle.bank_model.specs.Events.{Cut}
+use Rattle.bank_laws.specs.Outcomes.{row_with, rows_from, table_of}
 use Rattle.bank_laws.specs.Settling.{AreOpen}
 use Rattle.bank_laws.proofs.Serves.{idle-waits}
 use Rattle.bank_laws.proofs.Settling.{opens}
 use Rattle.log_laws.specs.Laws.{PulseStepsLaw}
-use Rattle.log_laws.proofs.Chains.{last_of, follow-same, begin-same}
+use Rattle.log_laws.proofs.Chains.{last_of, follow-same, begin-same, follow-off, begin-off, torn-end}
 use Rattle.log_laws.proofs.Owning.{own, own-kept, own-log}
 use Rattle.log_laws.proofs.Pulsing.{Torn, Due, Busy, Shown}
 use Rattle.log_laws.proofs.Stepping.{step}
@@ -41,6 +48,20 @@ none-begins way reads c is = by (way && reads) c.busy reads c.ready is
     by false false true k is = absurd (cc)
     by false false false true is = absurd (cc)
     by false false false false is = refl
+
+-- behind a history that ends with a power cut stands a cut at its last tick
+cut-row : {n m : ℕ} (shape : BankShape) (all : List (TimedEvent n m)) → IsCutOff all → (k : ℕ) → k ≤ last_tick all → list_any (λ r. is_cut r && nat_le k r.tick) (rows_from shape all all) ≡ true
+cut-row shape [] off k le = absurd off
+cut-row {n} shape (x ∷ xs) off k le =
+    ap (λ (h : Happens n). list_any (λ r. is_cut r && nat_le k r.tick) (row_with shape (x ∷ xs) h x.tick x.cancels ++ rows_from shape (x ∷ xs) xs)) off.1
+    ∙ ap (λ (c : Bool). list_any (λ r. is_cut r && nat_le k r.tick) (row_with shape (x ∷ xs) (Core (Cut off.0)) x.tick c ++ rows_from shape (x ∷ xs) xs)) off.2
+    ∙ or_left (nat_le k x.tick) _ (le-leb k x.tick le)
+
+all-show : {n m : ℕ} (p : ℕ) (ss : List (Sense n m)) → All (λ s. s.pulses ≡ p) ss → list_all (λ s. s.pulses == p) ss ≡ true
+all-show p [] are = refl
+all-show {n} {m} p (s ∷ ss) are =
+    and_from (s.pulses == p) _ (eq-eqb s.pulses p (All-head (λ (t : Sense n m). t.pulses ≡ p) s ss are))
+    (all-show p ss (All-tail (λ (t : Sense n m). t.pulses ≡ p) s ss are))
 
 module _ {n m : ℕ} (e : ℕ) (shape : BankShape) (pace : Pace) (wears : Bool) (line : ℕ) (wears_is : wears ≡ nat_lt line (controls_from shape)) (all : List (TimedEvent n m)) (sized : IsSized shape pace) (lawful : Lawful shape pace e all) where
   abbrev Known : List (TimedEvent n m) → Type 0
@@ -71,26 +92,42 @@ module _ {n m : ℕ} (e : ℕ) (shape : BankShape) (pace : Pace) (wears : Bool) 
           ∙ work-begins shape (core all) (waits shape (core all)) refl (idle-waits shape pace all idle) k.2 k.1
       open_now (inr k) = ready-some (change_after shape all) (keeping_after all) (halted_after all) (may_begin_after shape (core all)) k.0 k.1 k.2
 
-  shown_in_end : IsIdle shape pace all → (more : List (Sense n m)) → All (λ s. s.pulses ≡ pulses_of all line) more → Known all
-      → begins_unpulsed (rules_of e shape pace) (rows_from shape all all) wears (pulses_of all line) (own line (senses_of all) ++ more) ≡ true
-  shown_in_end idle more are (inl u) =
-      subst (λ (ss : List (Sense n m)). begins_unpulsed (rules_of e shape pace) (rows_from shape all all) wears (pulses_of all line) (ss ++ more) ≡ true) (sym u.none)
-      (begin-same (rules_of e shape pace) (rows_from shape all all) wears (pulses_of all line) more u.unpulsed are)
-  shown_in_end idle more are (inr v) =
-      subst (λ (ss : List (Sense n m)). begins_unpulsed (rules_of e shape pace) (rows_from shape all all) wears (pulses_of all line) (ss ++ more) ≡ true) (sym v.2.is)
-      (and_from (v.0.pulses == 0) _ (subst (λ p. (p == 0) ≡ true) (sym v.2.first) refl)
-      (follow-same (rules_of e shape pace) (rows_from shape all all) wears (pulses_of all line) v.0 v.1 more v.2.follow (last v.2.now) are))
+  shown_in_end : (off : Bool) → EndsIn off shape pace all → (more : List (Sense n m)) → All (λ s. s.pulses ≡ pulses_of all line) more → Known all
+      → begins_unpulsed_to (rules_of e shape pace) (rows_from shape all all) off wears (pulses_of all line) (own line (senses_of all) ++ more) ≡ true
+  shown_in_end off ends more are (inl u) =
+      subst (λ (ss : List (Sense n m)). begins_unpulsed_to (rules_of e shape pace) (rows_from shape all all) off wears (pulses_of all line) (ss ++ more) ≡ true) (sym u.none)
+      (begin-off (rules_of e shape pace) (rows_from shape all all) wears off (pulses_of all line) more (begin-same (rules_of e shape pace) (rows_from shape all all) wears (pulses_of all line) more u.unpulsed are))
+  shown_in_end off ends more are (inr v) =
+      subst (λ (ss : List (Sense n m)). begins_unpulsed_to (rules_of e shape pace) (rows_from shape all all) off wears (pulses_of all line) (ss ++ more) ≡ true) (sym v.2.is)
+      (and_from (v.0.pulses == 0) _ (subst (λ p. (p == 0) ≡ true) (sym v.2.first) refl) (last off ends v.2.now))
     where
-      last : (pulses_of all line ≡ (last_of v.0 v.1).pulses) ⊎ Torn shape pace (rules_of e shape pace) (rows_from shape all all) wears line all all (last_of v.0 v.1)
-          → (last_of v.0 v.1).pulses ≡ pulses_of all line
-      last (inl same) = sym same
-      last (inr torn) = absurd (mended idle (last_of v.0 v.1) torn)
+      shows : (off : Bool) → (last_of v.0 v.1).pulses ≡ pulses_of all line → follow_on_to (rules_of e shape pace) (rows_from shape all all) off wears (pulses_of all line) v.0 (v.1 ++ more) ≡ true
+      shows off same =
+          follow-off (rules_of e shape pace) (rows_from shape all all) wears off (pulses_of all line) v.0 (v.1 ++ more)
+          (follow-same (rules_of e shape pace) (rows_from shape all all) wears (pulses_of all line) v.0 v.1 more v.2.follow same are)
+
+      torn_by : IsCutOff all → pulses_of all line ≡ (last_of v.0 v.1).pulses + 1 → follow_on_to (rules_of e shape pace) (rows_from shape all all) true wears (pulses_of all line) v.0 (v.1 ++ more) ≡ true
+      torn_by cut up =
+          torn-end (rules_of e shape pace) (rows_from shape all all) wears (pulses_of all line) v.0 v.1 more v.2.follow
+          (and_from _ _ (eq-eqb ((last_of v.0 v.1).pulses + 1) (pulses_of all line) (sym up))
+          (and_from _ _ (cut-row shape all cut ((last_of v.0 v.1).tick) v.2.below) (all-show (pulses_of all line) more are)))
+
+      last : (off : Bool) → EndsIn off shape pace all → (pulses_of all line ≡ (last_of v.0 v.1).pulses) ⊎ Torn shape pace (rules_of e shape pace) (rows_from shape all all) wears line all all (last_of v.0 v.1)
+          → follow_on_to (rules_of e shape pace) (rows_from shape all all) off wears (pulses_of all line) v.0 (v.1 ++ more) ≡ true
+      last off ends (inl same) = shows off (sym same)
+      last false idle (inr torn) = absurd (mended idle (last_of v.0 v.1) torn)
+      last true cut (inr torn) = by (counted-cases ((last_of v.0 v.1).pulses) torn.few)
+        where
+          by : (counted (last_of v.0 v.1).pulses ≡ (last_of v.0 v.1).pulses) ⊎ (counted (last_of v.0 v.1).pulses ≡ (last_of v.0 v.1).pulses + 1)
+              → follow_on_to (rules_of e shape pace) (rows_from shape all all) true wears (pulses_of all line) v.0 (v.1 ++ more) ≡ true
+          by (inl stays) = shows true (sym (torn.up ∙ stays))
+          by (inr more_by) = torn_by cut (torn.up ∙ more_by)
 
 pub pulse_steps_law : PulseStepsLaw
-pulse_steps_law n m e shape pace xs array log extra sized lawful idle leaves is are line from below =
-    subst (λ (ss : List (Sense n m)). begins_unpulsed (rules_of e shape pace) (table_of shape xs) wears ((array.line line).pulses) ss ≡ true) (sym in_log)
-    (subst (λ p. begins_unpulsed (rules_of e shape pace) (table_of shape xs) wears p (own line (senses_of xs) ++ own line extra) ≡ true) (sym pulses)
-    (shown_in_end e shape pace wears line refl xs sized lawful idle (own line extra)
+pulse_steps_law off n m e shape pace xs array log extra sized lawful ends leaves is are line from below =
+    subst (λ (ss : List (Sense n m)). begins_unpulsed_to (rules_of e shape pace) (table_of shape xs) off wears ((array.line line).pulses) ss ≡ true) (sym in_log)
+    (subst (λ p. begins_unpulsed_to (rules_of e shape pace) (table_of shape xs) off wears p (own line (senses_of xs) ++ own line extra) ≡ true) (sym pulses)
+    (shown_in_end e shape pace wears line refl xs sized lawful off ends (own line extra)
     (subst (λ p. All (λ s. s.pulses ≡ p) (own line extra)) pulses (own-kept line (λ l. (array.line l).pulses) extra are))
     (known e shape pace wears line refl xs sized lawful (opens shape pace e xs lawful) [] xs refl)))
   where

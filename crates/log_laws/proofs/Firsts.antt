@@ -5,7 +5,7 @@ use Rattle.bank_shape.specs.declared.BankShape.{BankShape}
 use Rattle.bank_shape.specs.declared.answer.ReadAnswer.TheVariants as came
 use Rattle.bank_shape.specs.declared.clock.Doing.{Doing}
 use Rattle.bank_shape.specs.declared.clock.Action.{Action}
-use Rattle.bank_model.specs.Events.{Event, Write, Read, Serve, Begin, Iterate, Cut}
+use Rattle.bank_model.specs.Events.{BankEvent, Write, Read, Serve, Begin, Iterate, Cut}
 use Rattle.bank_model.specs.Running.{drops_begin, started, left}
 
 -- an action, if there is one, began at this tick or later
@@ -21,7 +21,7 @@ started-from p None (Some doing) last tick h le = by (nat_lt last tick)
     by true = le
     by false = tt
 
-pub left-from : {n : ℕ} (shape : BankShape) (h : List (Event n)) (change : Option ℕ) (event : Event n) (p : ℕ) (action : Option Action) → BeganFrom p action → BeganFrom p (left shape h change event action)
+pub left-from : {n : ℕ} (shape : BankShape) (h : List (BankEvent n)) (change : Option ℕ) (event : BankEvent n) (p : ℕ) (action : Option Action) → BeganFrom p action → BeganFrom p (left shape h change event action)
 left-from shape h change (Write row line bytes given answer) p action b = b
 left-from shape h change (Read row line came.Waiting) p action b = by (drops_begin shape h change line action)
   where

@@ -4,7 +4,7 @@ use Rattle.masked_bytes.proofs.Truth.{neither_first, neither_second, differ_sym}
 use Rattle.masked_bytes.specs.declared.entry.Entry.{Entry}
 use Rattle.masked_bytes.specs.Entries.{newest_row, merged, laid_on, has_row, RowsApart}
 use Rattle.bank_shape.specs.declared.answer.WriteAnswer.{WriteAnswer}
-use Rattle.bank_model.specs.Events.{Event, Write, Read, Serve, Begin, Iterate, Cut, RowsBelow, line_of_row, up_to}
+use Rattle.bank_model.specs.Events.{BankEvent, Write, Read, Serve, Begin, Iterate, Cut, RowsBelow, line_of_row, up_to}
 use Rattle.bank_model.specs.History.{begun}
 use Rattle.bank_laws.proofs.Entries.{differ_back}
 use Rattle.bank_laws.proofs.Given.{NewestOf, newest-of}
@@ -49,7 +49,7 @@ module _ {n : ℕ} where
 
   -- A write among others whose rows rise
 
-  pub row-below : (pre : List (Event n)) (row line : ℕ) (bytes : List ℕ) (given : List Bool) (answer : WriteAnswer) (h : List (Event n)) (bound : ℕ) → RowsBelow (pre ++ Write row line bytes given answer ∷ h) bound → row < bound
+  pub row-below : (pre : List (BankEvent n)) (row line : ℕ) (bytes : List ℕ) (given : List Bool) (answer : WriteAnswer) (h : List (BankEvent n)) (bound : ℕ) → RowsBelow (pre ++ Write row line bytes given answer ∷ h) bound → row < bound
   row-below [] row line bytes given answer h bound below = below.0
   row-below (Write at to some which how ∷ pre) row line bytes given answer h bound below = let lt : row < at = row-below pre row line bytes given answer h at below.1 in let up : at < bound = below.0 in omega arith
   row-below (Read at to how ∷ pre) row line bytes given answer h bound below = let lt : row < at = row-below pre row line bytes given answer h at below.1 in let up : at < bound = below.0 in omega arith
@@ -58,7 +58,7 @@ module _ {n : ℕ} where
   row-below (Iterate how ∷ pre) row line bytes given answer h bound below = row-below pre row line bytes given answer h bound below
   row-below (Cut how ∷ pre) row line bytes given answer h bound below = row-below pre row line bytes given answer h bound below
 
-  pub line-kept : (pre : List (Event n)) (row line : ℕ) (bytes : List ℕ) (given : List Bool) (answer : WriteAnswer) (h : List (Event n)) (bound : ℕ) → RowsBelow (pre ++ Write row line bytes given answer ∷ h) bound
+  pub line-kept : (pre : List (BankEvent n)) (row line : ℕ) (bytes : List ℕ) (given : List Bool) (answer : WriteAnswer) (h : List (BankEvent n)) (bound : ℕ) → RowsBelow (pre ++ Write row line bytes given answer ∷ h) bound
       → line_of_row row (pre ++ Write row line bytes given answer ∷ h) ≡ line
   line-kept [] row line bytes given answer h bound below = ap (λ b. cond b line (line_of_row row h)) (eq-eqb row row refl)
   line-kept (Write at to some which how ∷ pre) row line bytes given answer h bound below =
@@ -70,7 +70,7 @@ module _ {n : ℕ} where
   line-kept (Iterate how ∷ pre) row line bytes given answer h bound below = line-kept pre row line bytes given answer h bound below
   line-kept (Cut how ∷ pre) row line bytes given answer h bound below = line-kept pre row line bytes given answer h bound below
 
-  pub up_to-kept : (pre : List (Event n)) (row line : ℕ) (bytes : List ℕ) (given : List Bool) (answer : WriteAnswer) (h : List (Event n)) (bound : ℕ) → RowsBelow (pre ++ Write row line bytes given answer ∷ h) bound
+  pub up_to-kept : (pre : List (BankEvent n)) (row line : ℕ) (bytes : List ℕ) (given : List Bool) (answer : WriteAnswer) (h : List (BankEvent n)) (bound : ℕ) → RowsBelow (pre ++ Write row line bytes given answer ∷ h) bound
       → up_to row (pre ++ Write row line bytes given answer ∷ h) ≡ Write row line bytes given answer ∷ h
   up_to-kept [] row line bytes given answer h bound below = ap (λ b. cond b (Write row line bytes given answer ∷ h) (up_to row h)) (eq-eqb row row refl)
   up_to-kept (Write at to some which how ∷ pre) row line bytes given answer h bound below =
@@ -83,7 +83,7 @@ module _ {n : ℕ} where
   up_to-kept (Cut how ∷ pre) row line bytes given answer h bound below = up_to-kept pre row line bytes given answer h bound below
 
   -- the rows of older events are below those of newer ones
-  pub rows_below-end : (pre h : List (Event n)) (bound : ℕ) → RowsBelow (pre ++ h) bound → (low : ℕ) × RowsBelow h low × (low ≤ bound)
+  pub rows_below-end : (pre h : List (BankEvent n)) (bound : ℕ) → RowsBelow (pre ++ h) bound → (low : ℕ) × RowsBelow h low × (low ≤ bound)
   rows_below-end [] h bound below = (bound, below, omega arith)
   rows_below-end (Write at to some which how ∷ pre) h bound below = let k = rows_below-end pre h at below.1 in (k.0, k.1, let up : at < bound = below.0 in let le : k.0 ≤ at = k.2 in omega (arith, up, le))
   rows_below-end (Read at to how ∷ pre) h bound below = let k = rows_below-end pre h at below.1 in (k.0, k.1, let up : at < bound = below.0 in let le : k.0 ≤ at = k.2 in omega (arith, up, le))

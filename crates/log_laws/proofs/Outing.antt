@@ -10,7 +10,7 @@ use Rattle.bank_shape.specs.declared.answer.WriteAnswer.{WriteAnswer}
 use Rattle.bank_shape.specs.declared.answer.WriteAnswer.TheVariants as wrote
 use Rattle.bank_shape.specs.declared.answer.ReadAnswer.TheVariants as came
 use Rattle.bank_shape.specs.declared.answer.Step.TheVariants as did
-use Rattle.bank_model.specs.Events.{Event, Write, Read, Serve, Begin, Iterate, Cut, RowsBelow, line_of_row, up_to}
+use Rattle.bank_model.specs.Events.{BankEvent, Write, Read, Serve, Begin, Iterate, Cut, RowsBelow, line_of_row, up_to}
 use Rattle.bank_model.specs.History.{waits}
 use Rattle.bank_model.specs.Sensing.{most_steps}
 use Rattle.bank_shape.specs.declared.pace.Pace.{Pace}
@@ -37,7 +37,7 @@ core-append {n} {m} (x ∷ mid) ys = by x.happens (core-append mid ys)
 
 module _ {n : ℕ} where
   -- what was stored stays so
-  pub out-more : (line : ℕ) (event : Event n) (h : List (Event n)) (row : ℕ) → out_in line h row ≡ true → out_in line (event ∷ h) row ≡ true
+  pub out-more : (line : ℕ) (event : BankEvent n) (h : List (BankEvent n)) (row : ℕ) → out_in line h row ≡ true → out_in line (event ∷ h) row ≡ true
   out-more line (Write at to bytes given answer) h row k = k
   out-more line (Read at to answer) h row k = k
   out-more line (Serve answer) h row k = k
@@ -66,7 +66,7 @@ module _ {n : ℕ} where
   lost-not false tick o was = was
 
   -- and a store stores its row
-  on_row-out : (line : ℕ) (h : List (Event n)) (at row tick place : ℕ) (o : Outcome n) → line_of_row row h ≡ line → is_stored o ≡ false → out_in line h row ≡ false
+  on_row-out : (line : ℕ) (h : List (BankEvent n)) (at row tick place : ℕ) (o : Outcome n) → line_of_row row h ≡ line → is_stored o ≡ false → out_in line h row ≡ false
       → is_stored (unwrap_or (on_row at row (out.Stored tick place)) o) ≡ out_with (line_of_row at h == line) (out_in line h) at row
   on_row-out line h at row tick place o is was none = by (eqb at row) refl
     where

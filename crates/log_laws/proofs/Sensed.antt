@@ -5,7 +5,7 @@ use Rattle.std.specs.Prelude.{filter, nat_le, nat_lt}
 use Rattle.std.specs.List.{list_any}
 use Rattle.std.proofs.lemmas.List.Folds.{list_any-append}
 use Rattle.bank_model.proofs.Waits.{waits-some}
-use Rattle.pcm_cells.specs.declared.array.Sense.{Sense}
+use Rattle.cell_rows.specs.declared.array.Sense.{Sense}
 use Rattle.ecp_line.specs.Reading.{decode}
 use Rattle.result_rows.specs.declared.Outcome.{Outcome}
 use Rattle.result_rows.specs.declared.Outcome.TheVariants as out
@@ -141,6 +141,6 @@ module _ {n m : ℕ} (shape : BankShape) (pace : Pace) (e : ℕ) (all : List (Ti
         by (Core (Cut tearing)) false is may on old new = refl
 
 pub sensed_law : SensedLaw
-sensed_law n m e shape pace xs log extra sized l idle shown =
+sensed_law n m e shape pace xs log extra sized l still shown =
     walk shape xs (has_sense (decode e) log) [] xs refl
-    (λ later x ys same. sensed_at shape pace e xs log extra sized l (opens shape pace e xs l) shown later x ys same (idle-waits shape pace xs idle))
+    (λ later x ys same. sensed_at shape pace e xs log extra sized l (opens shape pace e xs l) shown later x ys same still.unawaited)

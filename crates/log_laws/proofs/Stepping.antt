@@ -5,8 +5,8 @@ use Rattle.std.specs.Prelude.{All, IfSome, IsTrue, is_some, map, nat_le, nat_lt}
 use Rattle.std.proofs.lemmas.Bool.{le-leb, le-ltb, and_right, or_left, or_right}
 use Rattle.std.proofs.lemmas.List.Elements.{All-head}
 use Rattle.std.proofs.lemmas.List.Folds.{list_any-append}
-use Rattle.pcm_cells.specs.declared.array.Sense.{Sense}
-use Rattle.pcm_cells.specs.Device.{counted}
+use Rattle.cell_rows.specs.declared.array.Sense.{Sense}
+use Rattle.cell_rows.specs.Device.{counted}
 use Rattle.bank_shape.specs.Pausing.{is_cancelling}
 use Rattle.bank_shape.specs.declared.BankShape.{BankShape}
 use Rattle.bank_shape.specs.Shape.{controls_of, controls_from}
@@ -16,7 +16,7 @@ use Rattle.bank_shape.specs.declared.answer.Keep.TheVariants as keep
 use Rattle.bank_shape.specs.declared.answer.Step.{Step}
 use Rattle.bank_shape.specs.declared.clock.Doing.TheVariants.{Iterating}
 use Rattle.bank_shape.specs.declared.clock.Action.{Action}
-use Rattle.bank_model.specs.Events.{Event, Write, Read, Serve, Begin, Iterate, Cut}
+use Rattle.bank_model.specs.Events.{BankEvent, Write, Read, Serve, Begin, Iterate, Cut}
 use Rattle.bank_model.specs.History.{queue, due_after, has_exhausted, in_progress}
 use Rattle.bank_model.specs.After.{target_after, sources_of, work_after}
 use Rattle.bank_shape.specs.declared.pace.Pace.{Pace}
@@ -46,7 +46,7 @@ use Rattle.bank_laws.proofs.Targets.{WorkAfter, spares_work, working, target-sam
 use Rattle.log_laws.proofs.Unworn.{worn_below, unworn}
 
 -- what goes on after an event was spared by it
-goes-spares : {n : ℕ} (event : Event n) (h : List (Event n)) → in_progress (event ∷ h) ≡ true → spares_work event ≡ true
+goes-spares : {n : ℕ} (event : BankEvent n) (h : List (BankEvent n)) → in_progress (event ∷ h) ≡ true → spares_work event ≡ true
 goes-spares (Write row line bytes given answer) h p = refl
 goes-spares (Read row line answer) h p = refl
 goes-spares (Serve answer) h p = refl
@@ -110,7 +110,7 @@ module _ {n m : ℕ} (e : ℕ) (shape : BankShape) (pace : Pace) (wears : Bool) 
   rises : last_tick xs ≤ x.tick
   rises = last_tick-rises shape pace e xs x sized.read sized.iter here
 
-  may : (event : Event n) → x.happens ≡ Core event → IsNext shape pace e xs x event
+  may : (event : BankEvent n) → x.happens ≡ Core event → IsNext shape pace e xs x event
   may event is = subst (λ h. MayCome shape pace e xs x h) is here.0
 
   kept : (event : Keeping) → x.happens ≡ Regs event → IsNextKept shape pace e xs x event
@@ -134,7 +134,7 @@ module _ {n m : ℕ} (e : ℕ) (shape : BankShape) (pace : Pace) (wears : Bool) 
   began_by : (p : ℕ) → p ≤ last_tick xs → BeganFrom p (running shape pace xs) → BeganFrom p (running_at shape pace xs x.tick)
   began_by p le b = started-from p (running shape pace xs) (chosen_after shape pace xs) (last_tick xs) x.tick b le
 
-  keeps : (event : Event n) → x.happens ≡ Core event → (p : ℕ) → p ≤ last_tick xs → BeganFrom p (running shape pace xs) → BeganFrom p (running shape pace (x ∷ xs))
+  keeps : (event : BankEvent n) → x.happens ≡ Core event → (p : ℕ) → p ≤ last_tick xs → BeganFrom p (running shape pace xs) → BeganFrom p (running shape pace (x ∷ xs))
   keeps event is p le b =
       subst (λ r. BeganFrom p r) (sym (running_is (Core event) is)) (left-from shape (core xs) (change_after shape xs) event p (running_at shape pace xs x.tick) (began_by p le b))
 
@@ -147,10 +147,10 @@ module _ {n m : ℕ} (e : ℕ) (shape : BankShape) (pace : Pace) (wears : Bool) 
   works : in_progress (core xs) ≡ true → WorkAfter shape (core xs)
   works p = working shape (most_steps e) (core xs) (may_all shape pace e xs here.1) p
 
-  target_on : (event : Event n) → x.happens ≡ Core event → spares_work event ≡ true → WorkAfter shape (core xs) → target_after shape (core (x ∷ xs)) ≡ target_after shape (core xs)
+  target_on : (event : BankEvent n) → x.happens ≡ Core event → spares_work event ≡ true → WorkAfter shape (core xs) → target_after shape (core (x ∷ xs)) ≡ target_after shape (core xs)
   target_on event is spares work = ap (λ h. target_after shape h) (core_is (Core event) is) ∙ (target-same shape event (core xs) spares work).1
 
-  work_on : (event : Event n) → x.happens ≡ Core event → spares_work event ≡ true → WorkAfter shape (core xs) → WorkAfter shape (core (x ∷ xs))
+  work_on : (event : BankEvent n) → x.happens ≡ Core event → spares_work event ≡ true → WorkAfter shape (core xs) → WorkAfter shape (core (x ∷ xs))
   work_on event is spares work = subst (λ h. WorkAfter shape h) (sym (core_is (Core event) is)) (target-same shape event (core xs) spares work).0
 
   -- a line write that is to be begun isn't in progress
@@ -180,7 +180,7 @@ module _ {n m : ℕ} (e : ℕ) (shape : BankShape) (pace : Pace) (wears : Bool) 
     broken = λ later z its to le. t.broken pre x same to (let up : last_tick xs ≤ x.tick = rises in omega (arith, up, le));
   }
 
-  due_on : (event : Event n) → x.happens ≡ Core event → spares_work event ≡ true → (in_progress (core xs) ≡ false → in_progress (event ∷ core xs) ≡ false)
+  due_on : (event : BankEvent n) → x.happens ≡ Core event → spares_work event ≡ true → (in_progress (core xs) ≡ false → in_progress (event ∷ core xs) ≡ false)
       → change_by shape (core xs) (Core event) (change_after shape xs) ≡ change_after shape xs → (keeping_after xs ≡ false → keeping_by (Core event) (keeping_after xs) ≡ false) → DueHere xs → DueHere (x ∷ xs)
   due_on event is spares stops still quiet (inl k) = inl (
     change_is (Core event) is ∙ still ∙ k.0,
@@ -194,7 +194,7 @@ module _ {n m : ℕ} (e : ℕ) (shape : BankShape) (pace : Pace) (wears : Bool) 
     halted_is (Core event) is ∙ k.2,
   )
 
-  busy_back : (event : Event n) → x.happens ≡ Core event → (in_progress (event ∷ core xs) ≡ true → in_progress (core xs) ≡ true)
+  busy_back : (event : BankEvent n) → x.happens ≡ Core event → (in_progress (event ∷ core xs) ≡ true → in_progress (core xs) ≡ true)
       → change_by shape (core xs) (Core event) (change_after shape xs) ≡ change_after shape xs → (keeping_by (Core event) (keeping_after xs) ≡ true → keeping_after xs ≡ true) → BusyHere (x ∷ xs) → BusyHere xs
   busy_back event is goes still quiet (inl k) =
       let now : in_progress (event ∷ core xs) ≡ true = sym (ap in_progress (core_is (Core event) is)) ∙ k.1 in
@@ -204,7 +204,7 @@ module _ {n m : ℕ} (e : ℕ) (shape : BankShape) (pace : Pace) (wears : Bool) 
       inr (sym (ap (line_of_change shape) (change_is (Core event) is ∙ still)) ∙ k.0, quiet (sym (keeping_is (Core event) is) ∙ k.1))
 
   -- an event that leaves the line alone
-  passes : (event : Event n) → x.happens ≡ Core event → spares_work event ≡ true → (in_progress (core xs) ≡ false → in_progress (event ∷ core xs) ≡ false)
+  passes : (event : BankEvent n) → x.happens ≡ Core event → spares_work event ≡ true → (in_progress (core xs) ≡ false → in_progress (event ∷ core xs) ≡ false)
       → (in_progress (event ∷ core xs) ≡ true → in_progress (core xs) ≡ true) → change_by shape (core xs) (Core event) (change_after shape xs) ≡ change_after shape xs
       → (keeping_after xs ≡ false → keeping_by (Core event) (keeping_after xs) ≡ false) → (keeping_by (Core event) (keeping_after xs) ≡ true → keeping_after xs ≡ true)
       → own line x.senses ≡ [] → is_at x.pulsed line ≡ false → Known xs → Known (x ∷ xs)
@@ -290,7 +290,7 @@ module _ {n m : ℕ} (e : ℕ) (shape : BankShape) (pace : Pace) (wears : Bool) 
       apart = let le : (last_of s ss).tick ≤ x.first = began in omega (arith, le, end, tick)
 
   -- a serve or a begin that senses the line
-  senses : (event : Event n) → x.happens ≡ Core event → (t : Sense n m) (ts : List (Sense n m)) → own line x.senses ≡ t ∷ ts → is_at x.pulsed line ≡ false
+  senses : (event : BankEvent n) → x.happens ≡ Core event → (t : Sense n m) (ts : List (Sense n m)) → own line x.senses ≡ t ∷ ts → is_at x.pulsed line ≡ false
       → left shape (core xs) (change_after shape xs) event (running_at shape pace xs x.tick) ≡ None → IsTrue (ends_action (Core event)) → Known xs → Known (x ∷ xs)
   senses event is t ts are unpulsed leaves ends known =
       let first = first_sensed t ts (may event is).senses are in
@@ -309,7 +309,7 @@ module _ {n m : ℕ} (e : ℕ) (shape : BankShape) (pace : Pace) (wears : Bool) 
       absurd (cc)
 
   -- behind a step of the bank's line write none of a change is in progress, and the target is the same
-  bank_busy : (event : Event n) → x.happens ≡ Core event → keeping_by (Core event) (keeping_after xs) ≡ false → WorkAfter shape (core xs) → (target_after shape (core xs) ≡ line → ⊥) → BusyHere (x ∷ xs) → ⊥
+  bank_busy : (event : BankEvent n) → x.happens ≡ Core event → keeping_by (Core event) (keeping_after xs) ≡ false → WorkAfter shape (core xs) → (target_after shape (core xs) ≡ line → ⊥) → BusyHere (x ∷ xs) → ⊥
   bank_busy event is rests work other (inl k) =
       other (sym (target_on event is (goes-spares event (core xs) (sym (ap in_progress (core_is (Core event) is)) ∙ k.1)) work) ∙ k.2)
   bank_busy event is rests work other (inr k) = absurd (cc (keeping_is (Core event) is, k.1, rests))

@@ -4,8 +4,8 @@ use Rattle.std.proofs.lemmas.Bool.{and_from, or_left, or_right}
 use Rattle.std.specs.Prelude.{All, map, unwrap_or}
 use Rattle.std.proofs.lemmas.List.Elements.{All-head}
 use Rattle.std.proofs.lemmas.List.Folds.{list_any-append}
-use Rattle.pcm_cells.specs.declared.array.Sense.{Sense}
-use Rattle.pcm_cells.specs.declared.row.Cells.{Cells}
+use Rattle.cell_rows.specs.declared.array.Sense.{Sense}
+use Rattle.cell_rows.specs.declared.row.Cells.{Cells}
 use Rattle.ecp_line.specs.Reading.{decode}
 use Rattle.result_rows.specs.declared.Outcome.{Outcome}
 use Rattle.result_rows.specs.declared.Outcome.TheVariants as out
@@ -18,7 +18,7 @@ use Rattle.bank_shape.specs.declared.answer.WriteAnswer.{WriteAnswer}
 use Rattle.bank_shape.specs.declared.answer.WriteAnswer.TheVariants as wrote
 use Rattle.bank_shape.specs.declared.answer.ReadAnswer.TheVariants as came
 use Rattle.bank_shape.specs.declared.answer.Step.TheVariants as did
-use Rattle.bank_model.specs.Events.{Event, Write, Read, Serve, Begin, Iterate, Cut, newest, up_to, line_of_row}
+use Rattle.bank_model.specs.Events.{BankEvent, Write, Read, Serve, Begin, Iterate, Cut, newest, up_to, line_of_row}
 use Rattle.bank_model.specs.History.{waits}
 use Rattle.bank_model.specs.After.{array_line_after, slot_of_work, sources_of, target_after, work_after}
 use Rattle.bank_model.specs.Answers.{IsDone}
@@ -54,7 +54,7 @@ pub older-sensed : {n m : ℕ} (read_as : Cells n m → List ℕ) (xs : List (Ti
     → is_sensed read_as (senses_of (y ∷ xs)) place tick gives ≡ true
 older-sensed read_as xs y place tick gives there = list_any-append _ (senses_of xs) y.senses ∙ or_left (is_sensed read_as (senses_of xs) place tick gives) _ there
 
-module _ {n : ℕ} (shape : BankShape) (h : List (Event n)) where
+module _ {n : ℕ} (shape : BankShape) (h : List (BankEvent n)) where
   -- a line write that ends with a store was a store, and has its target as place
   done-target : (work : Work) (row place : ℕ) → IsDone shape h work (did.Stored row place) → (sources_of shape h work ≡ []) × (place ≡ array_line_after shape h (slot_of_work shape h work))
   done-target Nothing row place d = absurd d

@@ -1,12 +1,13 @@
 -- The law of the log, by its two parts.
 use Rattle.bank_laws.specs.Whole.{WholeLogLaw}
+use Rattle.bank_laws.proofs.Resting.{ends-still}
 use Rattle.log_laws.proofs.Fair.{pulse_steps_law}
 use Rattle.log_laws.proofs.Sensed.{sensed_law}
 use Rattle.log_laws.proofs.Controls.{controls_law}
 
 pub whole_log_law : WholeLogLaw
-whole_log_law n m e shape pace xs array log extra sized l idle leaves shown are = record {
-  sensed = sensed_law n m e shape pace xs log extra sized l idle shown;
-  lines = λ line from below. pulse_steps_law n m e shape pace xs array log extra sized l idle leaves shown are line from below;
+whole_log_law n m off e shape pace xs array log extra sized l ends leaves shown are = record {
+  sensed = sensed_law n m e shape pace xs log extra sized l (ends-still shape off pace xs ends) shown;
+  lines = λ line from below. pulse_steps_law off n m e shape pace xs array log extra sized l ends leaves shown are line from below;
   controls = controls_law n m e shape pace xs log extra l shown;
 }

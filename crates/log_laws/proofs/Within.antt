@@ -4,7 +4,7 @@ use Rattle.std.specs.Prelude.{zero, suc, All, IfSome, map}
 use Rattle.std.proofs.lemmas.Nat.{div_below}
 use Rattle.std.proofs.lemmas.List.Elements.{All-nil, All-cons, All-head, All-tail, All-append}
 use Rattle.masked_bytes.specs.declared.entry.Entry.{Entry}
-use Rattle.pcm_cells.specs.declared.array.Sense.{Sense}
+use Rattle.cell_rows.specs.declared.array.Sense.{Sense}
 use Rattle.start_gap.specs.Rotation.{gap_after, move_after}
 use Rattle.start_gap.proofs.Places.{below_gap-within}
 use Rattle.spare_pool.specs.Table.{Table}
@@ -13,7 +13,7 @@ use Rattle.bank_shape.specs.declared.BankShape.{BankShape}
 use Rattle.bank_shape.specs.declared.Work.{Work}
 use Rattle.bank_shape.specs.declared.Work.TheVariants.{Nothing}
 use Rattle.bank_shape.specs.Shape.{slots_of, lines_in, controls_of, controls_from, IsIn}
-use Rattle.bank_model.specs.Events.{Event, Write, Read, Serve, Begin, Iterate, Cut, RowsBelow, line_of_row}
+use Rattle.bank_model.specs.Events.{BankEvent, Write, Read, Serve, Begin, Iterate, Cut, RowsBelow, line_of_row}
 use Rattle.bank_model.specs.History.{Awaited, first_or, stores, moved_in, retired, has_exhausted, due_after, queue, waits}
 use Rattle.bank_model.specs.After.{due_work, work_after, slot_of_work, slot_after, array_line_after, target_after, sources_of}
 use Rattle.bank_model.specs.Answers.{MayAll}
@@ -41,13 +41,13 @@ numbers-in shape from (suc count) low high =
 
 module _ {n : ℕ} (shape : BankShape) (r : 1 ≤ shape.regions) (l : 1 ≤ shape.lines) (most : ℕ) where
   -- every write is of one of the bank's lines, and so is the last store
-  pub row_line-within : (h : List (Event n)) (row : ℕ) → MayAll shape most h → line_of_row row h < shape.regions * shape.lines
+  pub row_line-within : (h : List (BankEvent n)) (row : ℕ) → MayAll shape most h → line_of_row row h < shape.regions * shape.lines
   row_line-within h row may = line_of_row-known shape most (some_product shape.regions shape.lines r l) h row may
 
-  pub last-within : (h : List (Event n)) → MayAll shape most h → first_or 0 (stores h) < shape.regions * shape.lines
+  pub last-within : (h : List (BankEvent n)) → MayAll shape most h → first_or 0 (stores h) < shape.regions * shape.lines
   last-within h may = last_store-known shape most (some_product shape.regions shape.lines r l) h may
 
-  module _ (h : List (Event n)) (may : MayAll shape most h) where
+  module _ (h : List (BankEvent n)) (may : MayAll shape most h) where
     -- each slot's array line is one of the bank's
     array_line-in : (slot : ℕ) → slot < slots_of shape → IsIn shape (array_line_after shape h slot)
     array_line-in slot below =
@@ -90,7 +90,7 @@ module _ {n : ℕ} (shape : BankShape) (r : 1 ≤ shape.regions) (l : 1 ≤ shap
         let exists = slot_moved-within shape w.line (moved_in shape.lines h (w.line / shape.lines)) l (asked-within shape most h w.row w.line may asked) in
         All-cons (IsIn shape) _ [] (array_line-in (slot_after shape h w.line) exists) (All-nil (IsIn shape))
 
-    sensed-in : (next : ℕ) → RowsBelow h next → (cancels : Bool) (event : Event n) → All (IsIn shape) (sensed_by shape h (read_again shape cancels) event)
+    sensed-in : (next : ℕ) → RowsBelow h next → (cancels : Bool) (event : BankEvent n) → All (IsIn shape) (sensed_by shape h (read_again shape cancels) event)
     sensed-in next b cancels event = by event
       where
         own : IsOwn (work_after shape h)
@@ -103,7 +103,7 @@ module _ {n : ℕ} (shape : BankShape) (r : 1 ≤ shape.regions) (l : 1 ≤ shap
         controls true = All-nil (IsIn shape)
         controls false = numbers-in shape (controls_from shape) (controls_of shape) (omega arith) (omega arith)
 
-        by : (event : Event n) → All (IsIn shape) (sensed_by shape h (read_again shape cancels) event)
+        by : (event : BankEvent n) → All (IsIn shape) (sensed_by shape h (read_again shape cancels) event)
         by (Write row line bytes given answer) = All-nil (IsIn shape)
         by (Read row line answer) = All-nil (IsIn shape)
         by (Serve answer) = stand-in (waits shape h) refl

@@ -1,7 +1,7 @@
 -- The laws of a bank's log, one by one.
-use Rattle.std.specs.Prelude.{◌≡◌, ℕ, ◌+◌, ◌<◌, ◌≤◌, nat_lt, IsTrue, List, [], ◌++◌, All}
-use Rattle.pcm_cells.specs.Device.{ArrayState}
-use Rattle.pcm_cells.specs.declared.array.Sense.{Sense}
+use Rattle.std.specs.Prelude.{◌≡◌, ℕ, ◌+◌, ◌<◌, ◌≤◌, nat_lt, Bool, IsTrue, List, [], ◌++◌, All}
+use Rattle.cell_rows.specs.Device.{ArrayState}
+use Rattle.cell_rows.specs.declared.array.Sense.{Sense}
 use Rattle.ecp_line.specs.Reading.{decode}
 use Rattle.row_rules.specs.Rows.{each_row}
 use Rattle.bank_shape.specs.declared.BankShape.{BankShape}
@@ -9,27 +9,28 @@ use Rattle.bank_shape.specs.Shape.{slots_of, lines_in}
 use Rattle.bank_model.specs.Adding.{senses_of}
 use Rattle.bank_shape.specs.declared.pace.Pace.{Pace}
 use Rattle.bank_model.specs.Timing.{TimedEvent}
-use Rattle.bank_model.specs.Lawful.{Lawful, IsIdle}
+use Rattle.bank_model.specs.Lawful.{Lawful}
 use Rattle.bank_laws.specs.Outcomes.{table_of}
-use Rattle.bank_laws.specs.Logs.{has_sense, has_controls, is_line_fair}
+use Rattle.bank_laws.specs.Resting.{IsStill, EndsIn}
+use Rattle.bank_laws.specs.Logs.{has_sense, has_controls, is_line_fair_to}
 use Rattle.bank_laws.specs.Laws.{LeavesArray, IsSized, rules_of, log_of}
 
 -- the senses of each of a bank's lines begin at no pulses, go on by at most one pulse, an iteration or broken off, and end with
 -- the line's pulses; senses that show those may have been added
 abbrev pub PulseStepsLaw : Type 0
 PulseStepsLaw =
-    (n m e : ℕ) (shape : BankShape) (pace : Pace) (xs : List (TimedEvent n m)) (array : ArrayState n m) (log extra : List (Sense n m))
-    → IsSized shape pace → Lawful shape pace e xs → IsIdle shape pace xs → LeavesArray e shape xs array
+    (off : Bool) (n m e : ℕ) (shape : BankShape) (pace : Pace) (xs : List (TimedEvent n m)) (array : ArrayState n m) (log extra : List (Sense n m))
+    → IsSized shape pace → Lawful shape pace e xs → EndsIn off shape pace xs → LeavesArray e shape xs array
     → log_of shape log ≡ senses_of xs ++ extra → All (λ s. s.pulses ≡ (array.line s.line).pulses) extra
     → (line : ℕ) → shape.base ≤ line → line < shape.base + lines_in shape
-    → IsTrue (is_line_fair (rules_of e shape pace) (table_of shape xs) log (nat_lt line (shape.base + slots_of shape + shape.spares)) line (array.line line).pulses)
+    → IsTrue (is_line_fair_to (rules_of e shape pace) (table_of shape xs) off log (nat_lt line (shape.base + slots_of shape + shape.spares)) line (array.line line).pulses)
 
 -- each row that was stored or read has a sense of its place at its tick: a stored one reads as the newest bytes of its line as of
 -- that row, and a read one gives the bytes that were read, the newest laid over it where the queue had them
 abbrev pub SensedLaw : Type 0
 SensedLaw =
     (n m e : ℕ) (shape : BankShape) (pace : Pace) (xs : List (TimedEvent n m)) (log extra : List (Sense n m))
-    → IsSized shape pace → Lawful shape pace e xs → IsIdle shape pace xs → log_of shape log ≡ senses_of xs ++ extra
+    → IsSized shape pace → Lawful shape pace e xs → IsStill shape xs → log_of shape log ≡ senses_of xs ++ extra
     → IsTrue (each_row (has_sense (decode e) log) (table_of shape xs) [])
 
 -- each cut has a sense of every control line at its tick

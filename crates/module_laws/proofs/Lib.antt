@@ -1,3 +1,4 @@
 pub mod Tables
 pub mod Serving
 pub mod Splitting
+pub mod LastCuts

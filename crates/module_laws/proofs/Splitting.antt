@@ -12,8 +12,9 @@ use Rattle.bank_shape.specs.declared.BankShape.{BankShape}
 use Rattle.bank_model.specs.Events.{Write, Read, Serve, Begin, Iterate, Cut}
 use Rattle.bank_shape.specs.declared.pace.Pace.{Pace}
 use Rattle.bank_model.specs.Timing.{Happens, Core, Regs, TimedEvent, last_tick}
-use Rattle.bank_model.specs.Lawful.{Lawful, IsIdle}
+use Rattle.bank_model.specs.Lawful.{Lawful}
 use Rattle.bank_laws.specs.Laws.{IsSized, rules_of}
+use Rattle.bank_laws.specs.Resting.{IsStill}
 use Rattle.bank_laws.specs.Room.{RoomLaw}
 use Rattle.bank_laws.specs.Outcomes.{rows_from}
 use Rattle.bank_laws.proofs.Ticks.{last_tick-rises}
@@ -141,7 +142,7 @@ module _ {n : ℕ} (bank_of line_in : ℕ → ℕ) (bank : ℕ) where
       by false ih = ih
 
 module _ {n m : ℕ} (e : ℕ) (shape : BankShape) (pace : Pace) (bank_of line_in : ℕ → ℕ) (bank : ℕ) (outcome : ℕ → Outcome n)
-    (room : RoomLaw n m) (sized : IsSized shape pace) (xs : List (TimedEvent n m)) (l : Lawful shape pace e xs) (idle : IsIdle shape pace xs) where
+    (room : RoomLaw n m) (sized : IsSized shape pace) (xs : List (TimedEvent n m)) (l : Lawful shape pace e xs) (idle : IsStill shape xs) where
   abbrev IsRight : Asked n → Type 0
   IsRight a = outcome a.row ≡ last_outcome shape xs a a.asks
 
@@ -181,7 +182,7 @@ module _ {n m : ℕ} (e : ℕ) (shape : BankShape) (pace : Pace) (bank_of line_i
       and_from _ _
       (ap (λ (rs : List (Row n)). has_room (rules_of e shape pace) a.tick rs) rows
       ∙ ap (λ (zs : List (TimedEvent n m)). has_room (rules_of e shape pace) a.tick (rows_from shape zs s.past)) same'
-      ∙ room e shape pace s.past newer' a.tick sized (subst (λ (zs : List (TimedEvent n m)). Lawful shape pace e zs) same' l) (subst (λ (zs : List (TimedEvent n m)). IsIdle shape pace zs) same' idle) s.before late')
+      ∙ room e shape pace s.past newer' a.tick sized (subst (λ (zs : List (TimedEvent n m)). Lawful shape pace e zs) same' l) (subst (λ (zs : List (TimedEvent n m)). IsStill shape zs) same' idle) s.before late')
       (every_row asked newer' s.past a.tick (row_with outcome a ∷ after) same' late' falls.0 falls.1 s.asked_before rest)
 
 abbrev last_of : {n : ℕ} → List (Asked n) → ℕ

@@ -5,7 +5,7 @@ use Rattle.row_rules.specs.declared.Asks.{Asks}
 use Rattle.row_rules.specs.declared.Asks.TheVariants.{Reads, Writes, Cuts}
 use Rattle.row_rules.specs.declared.Row.{Row}
 use Rattle.row_rules.specs.Table.{is_of, of_bank}
-use Rattle.bank_model.specs.Events.{Event, Write, Read, Cut}
+use Rattle.bank_model.specs.Events.{BankEvent, Write, Read, Cut}
 use Rattle.bank_model.specs.Timing.{Happens, Core, Regs, TimedEvent}
 
 -- a row with its number, as it is asked for
@@ -42,7 +42,7 @@ module _ {n : ℕ} (bank_of line_in : ℕ → ℕ) where
 -- the rows of a bank's history are what was asked of the bank, both the newest first: each write and read has the number, the line
 -- and the tick of its row, and each power cut the tick of its row, which has no number in the history. What is no arrival has no row,
 -- nor has a cut that a read made
-abbrev pub IsAskedBy : {n : ℕ} → Event n → Bool → ℕ → (List (Asked n) → Type 0) → List (Asked n) → Type 0
+abbrev pub IsAskedBy : {n : ℕ} → BankEvent n → Bool → ℕ → (List (Asked n) → Type 0) → List (Asked n) → Type 0
 IsAskedBy (Write row line bytes given answer) cancels tick rest [] = ⊥
 IsAskedBy (Write row line bytes given answer) cancels tick rest (a ∷ asked) = (a ≡ record { row = row; tick = tick; asks = Writes line bytes given }) × rest asked
 IsAskedBy (Read row line answer) cancels tick rest [] = ⊥

@@ -12,8 +12,10 @@ use Rattle.row_rules.specs.Serving.{is_served}
 use Rattle.row_rules.specs.Queueing.{has_room}
 use Rattle.bank_shape.specs.declared.BankShape.{BankShape}
 use Rattle.bank_shape.specs.declared.pace.Pace.{Pace}
-use Rattle.bank_model.specs.Timing.{TimedEvent}
-use Rattle.bank_model.specs.Lawful.{Lawful, IsIdle}
+use Rattle.bank_model.specs.Timing.{TimedEvent, last_tick}
+use Rattle.bank_model.specs.Told.{IsWhole}
+use Rattle.bank_model.specs.Lawful.{Lawful}
+use Rattle.bank_laws.specs.Resting.{IsStill, IsCutOff}
 use Rattle.bank_laws.specs.Outcomes.{table_of, outcome_of, ended}
 use Rattle.bank_laws.specs.Laws.{IsSized, rules_of}
 use Rattle.bank_laws.specs.Room.{RoomLaw}
@@ -62,6 +64,13 @@ finds_room_in bank_of line_in rules bank before r after = has_room rules r.tick 
 abbrev pub RoomByBankLaw : Type 0
 RoomByBankLaw =
     (n m e : ℕ) (shape : BankShape) (pace : Pace) (bank_of line_in : ℕ → ℕ) (bank : ℕ) (xs : List (TimedEvent n m)) (asked : List (Asked n)) (outcome : ℕ → Outcome n)
-    → RoomLaw n m → IsSized shape pace → Lawful shape pace e xs → IsIdle shape pace xs → TicksFall asked
+    → RoomLaw n m → IsSized shape pace → Lawful shape pace e xs → IsStill shape xs → TicksFall asked
     → AreAsked xs (asked_of bank_of line_in bank asked) → AreRecorded shape xs outcome (asked_of bank_of line_in bank asked)
     → IsTrue (each_row (finds_room_in bank_of line_in (rules_of e shape pace) bank) (map (row_with outcome) asked) [])
+
+-- where the last row that was asked for is a power cut, and no event came behind its tick, the history ends with that cut
+abbrev pub LastCutLaw : Type 0
+LastCutLaw =
+    (n m e : ℕ) (shape : BankShape) (pace : Pace) (xs : List (TimedEvent n m)) (a : Asked n) (asked : List (Asked n))
+    → 1 ≤ pace.read → 1 ≤ pace.iter → Lawful shape pace e xs → IsWhole xs → AreAsked xs (a ∷ asked) → a.asks ≡ Cuts
+    → last_tick xs ≤ a.tick → IsCutOff xs

@@ -2,7 +2,7 @@
 //! nothing when they run.
 #![tactic(auto)]
 
-ghost use Rattle.module_laws.specs.Serves.{BankTableLaw, ServedByBanksLaw, RoomByBankLaw};
+ghost use Rattle.module_laws.specs.Serves.{BankTableLaw, ServedByBanksLaw, RoomByBankLaw, LastCutLaw};
 
 /// The rows of a bank's lines, and the power cuts, are the table of the bank's history.
 pub fn bank_tables_are_those_of_histories()
@@ -17,4 +17,9 @@ pub fn modules_serve_as_their_banks()
 /// Every row finds each bank holding no more writes and reads than it may, whichever bank the row is of.
 pub fn every_row_finds_room()
     ensures { RoomByBankLaw }
+{}
+
+/// Where the last row is a power cut, and no event came behind its tick, the bank's history ends with that cut.
+pub fn last_cuts_end_histories()
+    ensures { LastCutLaw }
 {}

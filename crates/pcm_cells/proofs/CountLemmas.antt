@@ -1,9 +1,9 @@
 -- Numbers of cells in rows of eight.
-use Rattle.std.proofs.Common.{◌≡◌, ◌≢◌, ℕ, suc, ◌+◌, ◌-◌, ◌*◌, ◌/◌, ◌%◌, ◌<◌, ◌≤◌, cond, eqb, List, [], ◌∷◌, ◌++◌, length, get_or, set, refl, sym, ◌∙◌, ap, inl, inr, arith, get_or-set_same, get_or-set_other, eq-eqb, ne_eqb}
+use Rattle.std.proofs.Common.{◌≡◌, ◌≢◌, ℕ, suc, ◌+◌, ◌-◌, ◌*◌, ◌/◌, ◌%◌, ◌<◌, ◌≤◌, List, [], ◌∷◌, ◌++◌, length, get_or, set, refl, sym, ◌∙◌, ap, inl, inr, arith, get_or-set_same, get_or-set_other}
 use Rattle.std.proofs.Math.ListN.{get_or-append}
 use Rattle.std.specs.List.{flat_map}
 use Rattle.std.proofs.lemmas.List.{get_or-append_right, get_or_past}
-use Rattle.std.proofs.lemmas.Bool.{cases_eq, cases_lt}
+use Rattle.std.proofs.lemmas.Bool.{cases_lt}
 use Rattle.pcm_cells.specs.declared.counts.Counts.{Counts}
 use Rattle.pcm_cells.specs.Counts.{count, count_in}
 
@@ -46,58 +46,6 @@ pub count-meta : {B M : ℕ} (counts : Counts B M) (n : ℕ) → length counts.b
 unfolding count
 count-meta {B} {M} counts n len h = count_in-append_right counts.bits counts.meta B n len h
 
--- one number is set
-pub count_in-set : (rows : List (List ℕ)) (number value : ℕ) → number < 8 * length rows → length (get_or rows (number / 8) []) ≡ 8
-    → (n : ℕ) → count_in (set rows (number / 8) (set (get_or rows (number / 8) []) (number % 8) value)) n ≡ cond (eqb n number) value (count_in rows n)
-count_in-set rows number value within eight n =
-    let row : List ℕ = get_or rows (number / 8) [] in
-    elim (cases_eq n number) as (λ _. count_in (set rows (number / 8) (set row (number % 8) value)) n ≡ cond (eqb n number) value (count_in rows n)) [
-      | inl same ↦
-          rw (same, eq-eqb number number refl)
-          (ap (λ x. get_or x (number % 8) 0) (get_or-set_same rows (number / 8) (set row (number % 8) value) [] (omega arith))
-          ∙ get_or-set_same row (number % 8) value 0 (omega (arith, eight)))
-      | inr apart ↦
-          rw (ne_eqb n number apart)
-          (elim (cases_eq (n / 8) (number / 8)) as (λ _. count_in (set rows (number / 8) (set row (number % 8) value)) n ≡ count_in rows n) [
-            | inl here ↦
-                ap (λ k. get_or (get_or (set rows (number / 8) (set row (number % 8) value)) k []) (n % 8) 0) here
-                ∙ ap (λ x. get_or x (n % 8) 0) (get_or-set_same rows (number / 8) (set row (number % 8) value) [] (omega arith))
-                ∙ get_or-set_other row (number % 8) (n % 8) value 0 (λ e. apart (omega arith))
-                ∙ ap (λ k. get_or (get_or rows k []) (n % 8) 0) (sym here)
-            | inr other ↦ ap (λ x. get_or x (n % 8) 0) (get_or-set_other rows (number / 8) (n / 8) (set row (number % 8) value) [] other)
-          ])
-    ]
-
--- one number of the data cells is set
-pub counts_set-bits : {B M : ℕ} (old new : Counts B M) (number value : ℕ) → length old.bits ≡ B → length new.bits ≡ B → number < 8 * B
-    → ((n : ℕ) → count_in new.bits n ≡ cond (eqb n number) value (count_in old.bits n)) → new.meta ≡ old.meta
-    → (n : ℕ) → count new n ≡ cond (eqb n number) value (count old n)
-counts_set-bits {B} {M} old new number value len len_new within bits meta n =
-    elim (cases_lt n (8 * B)) as (λ _. count new n ≡ cond (eqb n number) value (count old n)) [
-      | inl low ↦ rw (count-bits new n len_new low, count-bits old n len low) (bits n)
-      | inr high ↦
-          rw (ne_eqb n number (omega arith))
-          (count-meta new n len_new high ∙ ap (λ x. count_in x (n - 8 * B)) meta ∙ sym (count-meta old n len high))
-    ]
-
--- one of the check cells
-pub counts_set-meta : {B M : ℕ} (old new : Counts B M) (number value : ℕ) → length old.bits ≡ B → length new.bits ≡ B → 8 * B ≤ number
-    → ((n : ℕ) → count_in new.meta n ≡ cond (eqb n (number - 8 * B)) value (count_in old.meta n)) → new.bits ≡ old.bits
-    → (n : ℕ) → count new n ≡ cond (eqb n number) value (count old n)
-counts_set-meta {B} {M} old new number value len len_new within meta bits n =
-    elim (cases_lt n (8 * B)) as (λ _. count new n ≡ cond (eqb n number) value (count old n)) [
-      | inl low ↦
-          rw (ne_eqb n number (omega arith))
-          (count-bits new n len_new low ∙ ap (λ x. count_in x n) bits ∙ sym (count-bits old n len low))
-      | inr high ↦
-          let e : eqb (n - 8 * B) (number - 8 * B) ≡ eqb n number =
-          (elim (cases_eq n number) as (λ _. eqb (n - 8 * B) (number - 8 * B) ≡ eqb n number) [
-            | inl same ↦ eq-eqb _ _ (omega arith) ∙ sym (eq-eqb _ _ same)
-            | inr apart ↦ ne_eqb _ _ (omega arith) ∙ sym (ne_eqb _ _ apart)
-          ]) in
-          rw (count-meta new n len_new high, count-meta old n len high) (meta (n - 8 * B) ∙ ap (λ t. cond t value (count_in old.meta (n - 8 * B))) e)
-    ]
-
 -- a block of the data cells and one of the check cells
 pub block_count-bits : {B M : ℕ} (counts : Counts B M) (block i : ℕ) → length counts.bits ≡ B → B % 8 ≡ 0 → 8 * block < B → i < 64
     → count counts (64 * block + i) ≡ count_in counts.bits (64 * block + i)
@@ -128,3 +76,65 @@ kept_count-meta {B} {M} old new block n len len_new bits whole from others apart
           let index : (n - 8 * B) / 64 ≢ block - B / 8 = λ e. apart (omega arith) in
           count-meta new n len_new high ∙ others (n - 8 * B) index ∙ sym (count-meta old n len high)
     ]
+
+-- a row of eight is written
+pub count_in_written : (rows : List (List ℕ)) (group i : ℕ) (row : List ℕ) → group < length rows → i < 8
+    → count_in (set rows group row) (8 * group + i) ≡ get_or row i 0
+count_in_written rows group i row within low =
+    let index : (8 * group + i) / 8 ≡ group = omega arith in
+    let digit : (8 * group + i) % 8 ≡ i = omega arith in
+    ap (λ k. get_or (get_or (set rows group row) k []) ((8 * group + i) % 8) 0) index
+    ∙ ap (λ xs. get_or xs ((8 * group + i) % 8) 0) (get_or-set_same rows group row [] within) ∙ ap (λ k. get_or row k 0) digit
+
+pub count_in_kept : (rows : List (List ℕ)) (group n : ℕ) (row : List ℕ) → n / 8 ≢ group → count_in (set rows group row) n ≡ count_in rows n
+count_in_kept rows group n row apart = ap (λ xs. get_or xs (n % 8) 0) (get_or-set_other rows group (n / 8) row [] (λ e. apart (omega arith)))
+
+pub kept_row-bits : {B M : ℕ} (old new : Counts B M) (group n : ℕ) → length old.bits ≡ B → length new.bits ≡ B → new.meta ≡ old.meta
+    → ((k : ℕ) → k / 8 ≢ group → count_in new.bits k ≡ count_in old.bits k) → n / 8 ≢ group → count new n ≡ count old n
+kept_row-bits {B} {M} old new group n len len_new meta others apart =
+    elim (cases_lt n (8 * B)) as (λ _. count new n ≡ count old n) [
+      | inl low ↦ count-bits new n len_new low ∙ others n apart ∙ sym (count-bits old n len low)
+      | inr high ↦ count-meta new n len_new high ∙ ap (λ x. count_in x (n - 8 * B)) meta ∙ sym (count-meta old n len high)
+    ]
+
+pub kept_row-meta : {B M : ℕ} (old new : Counts B M) (group n : ℕ) → length old.bits ≡ B → length new.bits ≡ B → new.bits ≡ old.bits
+    → B ≤ group → ((k : ℕ) → k / 8 ≢ group - B → count_in new.meta k ≡ count_in old.meta k) → n / 8 ≢ group → count new n ≡ count old n
+kept_row-meta {B} {M} old new group n len len_new bits from others apart =
+    elim (cases_lt n (8 * B)) as (λ _. count new n ≡ count old n) [
+      | inl low ↦ count-bits new n len_new low ∙ ap (λ x. count_in x n) bits ∙ sym (count-bits old n len low)
+      | inr high ↦
+          let index : (n - 8 * B) / 8 ≢ group - B = λ e. apart (omega arith) in
+          count-meta new n len_new high ∙ others (n - 8 * B) index ∙ sym (count-meta old n len high)
+    ]
+
+-- of the rows the numbers from one on, up to another, are less by so much, and the others are as they were
+pub record Lessens (less : ℕ → ℕ) (from to : ℕ) (old now : List (List ℕ)) : Type 0 where
+  pub done : (n : ℕ) → from ≤ n → n < to → count_in now n ≡ count_in old n - less n
+  pub below : (n : ℕ) → n < from → count_in now n ≡ count_in old n
+  pub above : (n : ℕ) → to ≤ n → count_in now n ≡ count_in old n
+
+pub lessens_none : (less : ℕ → ℕ) (from : ℕ) (rows : List (List ℕ)) → Lessens less from from rows rows
+lessens_none less from rows = record { done = λ n high low. absurd (omega arith); below = λ n h. refl; above = λ n h. refl }
+
+-- a row more
+pub lessens_row : (less : ℕ → ℕ) (from row : ℕ) (old now : List (List ℕ)) (new : List ℕ) → from ≤ 8 * row → row < length now
+    → ((i : ℕ) → i < 8 → get_or new i 0 ≡ get_or (get_or now row []) i 0 - less (8 * row + i))
+    → Lessens less from (8 * row) old now → Lessens less from (8 * row + 8) old (set now row new)
+lessens_row less from row old now new first within here lessens = record {
+  done = λ n high low.
+      elim (cases_lt n (8 * row)) as (λ _. count_in (set now row new) n ≡ count_in old n - less n) [
+        | inl before ↦ count_in_kept now row n new (λ e. absurd (omega arith)) ∙ lessens.done n high before
+        | inr from_row ↦
+            let i : ℕ = n - 8 * row in
+            let few : i < 8 = omega arith in
+            let number : 8 * row + i ≡ n = omega arith in
+            let index : n / 8 ≡ row = omega arith in
+            let digit : n % 8 ≡ i = omega arith in
+            ap (count_in (set now row new)) (sym number) ∙ count_in_written now row i new within few ∙ here i few
+            ∙ ap (λ k. k - less (8 * row + i))
+            (ap (λ k. get_or (get_or now k []) i 0) (sym index) ∙ ap (λ k. get_or (get_or now (n / 8) []) k 0) (sym digit) ∙ lessens.above n (omega arith))
+            ∙ ap (λ k. count_in old n - less k) number
+      ];
+  below = λ n low. count_in_kept now row n new (λ e. absurd (omega arith)) ∙ lessens.below n low;
+  above = λ n high. count_in_kept now row n new (λ e. absurd (omega arith)) ∙ lessens.above n (omega arith);
+}

@@ -2,14 +2,13 @@
 use Rattle.std.proofs.Common.{◌≡◌, ℕ, ◌+◌, ◌-◌, ◌*◌, ◌%◌, ◌^◌, ◌<◌, ◌≤◌, ◌&&◌, min, Bool, true, false, List, [], length, get_or, refl, sym, subst, arith, cond, inl, inr, true≢false, ◌∙◌, Some}
 use Rattle.std.specs.Prelude.{nat_lt, nat_le, nat_eq, IsFalse}
 use Rattle.std.proofs.lemmas.Bool.{leb-true, leb-false, ltb-true, cases_eq, cases_lt}
-use Rattle.pcm_cells.specs.declared.array.Wear.{Wear}
-use Rattle.pcm_cells.specs.declared.row.Cells.{Cells}
+use Rattle.cell_rows.specs.declared.array.Wear.{Wear}
+use Rattle.cell_rows.specs.declared.row.Cells.{Cells}
 use Rattle.pcm_cells.specs.declared.seeded.SeededCell.{SeededCell}
-use Rattle.pcm_cells.specs.Rows.{cell}
-use Rattle.pcm_cells.specs.Device.{CellBounds, counted}
+use Rattle.cell_rows.specs.Rows.{cell}
+use Rattle.cell_rows.specs.Device.{CellBounds, counted}
 use Rattle.pcm_cells.specs.Seeded.{LifeLine, SeededArray, IsDrawn, Wears, bounds_of, changed, life_state, lifeless, pulsed, seeded, seeded_cell, seeded_line}
 use Rattle.pcm_cells.specs.Endurance.{IsBounded, AreBounded}
-use Rattle.pcm_cells.proofs.RowLemmas.{cell_past}
 use Rattle.pcm_cells.proofs.LineLemmas.{KeepsTo}
 
 -- one more pulse, up to the greatest count
@@ -110,17 +109,18 @@ bounded_kept {B} {M} bounds at tearing mask want old new few w s line n exists w
       | inr other ↦ subst (λ row. IsBounded bounds row.line.pulses (seeded_cell row n)) (sym (w.others line other)) (s line n before within)
     ]
 
-pub masked_within : {B M : ℕ} (mask : Cells B M) (n : ℕ) → length mask.bits ≡ B → length mask.meta ≡ M → cell mask n ≡ true → n < 8 * (B + M)
-masked_within {B} {M} mask n bits meta masked =
+-- a masked cell is one of the row's
+pub masked_within : {B M : ℕ} (mask : Cells B M) → ((n : ℕ) → 8 * (B + M) ≤ n → cell mask n ≡ false) → (n : ℕ) → cell mask n ≡ true → n < 8 * (B + M)
+masked_within {B} {M} mask past n masked =
     elim (cases_lt n (8 * (B + M))) as (λ _. n < 8 * (B + M)) [
       | inl low ↦ low
-      | inr high ↦ absurd (true≢false (sym masked ∙ cell_past mask n bits meta high))
+      | inr high ↦ absurd (true≢false (sym masked ∙ past n high))
     ]
 
 -- each cell in the mask of a pulse or tear keeps to them
-pub bounded_keeps : {B M : ℕ} (bounds : CellBounds) (array : SeededArray B M) (line : ℕ) (mask : Cells B M) → length mask.bits ≡ B → length mask.meta ≡ M
+pub bounded_keeps : {B M : ℕ} (bounds : CellBounds) (array : SeededArray B M) (line : ℕ) (mask : Cells B M) → ((n : ℕ) → 8 * (B + M) ≤ n → cell mask n ≡ false)
     → line < length array.lines → AreBounded bounds array.lines → (n : ℕ) → cell mask n ≡ true → KeepsTo bounds (life_state bounds (seeded_line array line)) n
 unfolding AreBounded
-bounded_keeps bounds array line mask bits meta exists s n masked =
-    let own = s line n exists (masked_within mask n bits meta masked) in
+bounded_keeps bounds array line mask past exists s n masked =
+    let own = s line n exists (masked_within mask past n masked) in
     record { misses = omega (arith, own.missed, own.limit); endures = own.stuck }

@@ -1,13 +1,13 @@
-pub mod ByteLemmas
 pub mod BlockLemmas
-pub mod RowLemmas
 pub mod FollowsLemmas
 pub mod LineLemmas
 pub mod PlaneLemmas
 pub mod CountLemmas
+pub mod LevelLemmas
 pub mod ScriptedLemmas
-pub mod DrawnLemmas
+pub mod LifeLemmas
 pub mod SeededLemmas
+pub mod CalmLemmas
 pub mod PageLemmas
 pub mod PagingLemmas
 pub mod EnduranceLemmas

@@ -2,7 +2,7 @@
 use Rattle.std.proofs.Common.{◌≡◌, ℕ, ◌<◌, ◌≤◌, List, [], ◌∷◌, ◌++◌, length, cond, refl, ◌∙◌, ap, inl, inr, arith, Some, None}
 use Rattle.std.proofs.lemmas.Bool.{cases_lt, lt-ltb, le-ltb}
 use Rattle.std.proofs.lemmas.List.{length-append}
-use Rattle.pcm_cells.specs.declared.array.Sense.{Sense}
+use Rattle.cell_rows.specs.declared.array.Sense.{Sense}
 use Rattle.pcm_cells.specs.Logging.{logged, log_of}
 
 -- as many senses as it has room for

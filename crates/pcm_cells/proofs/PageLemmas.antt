@@ -5,16 +5,16 @@ use Rattle.std.proofs.lemmas.List.{get_or_past}
 use Rattle.std.proofs.lemmas.List.FromFn.{get_or-map-range_with_len, length-map-range_with_len}
 use Rattle.std.proofs.lemmas.Nat.Bits.{bit_at_cat_low, bit_at_cat_high}
 use Rattle.std.specs.Int.{bit_at}
-use Rattle.pcm_cells.specs.declared.array.Wear.{Wear}
-use Rattle.pcm_cells.specs.declared.row.Cells.{Cells}
+use Rattle.cell_rows.specs.declared.array.Wear.{Wear}
+use Rattle.cell_rows.specs.declared.row.Cells.{Cells}
 use Rattle.pcm_cells.specs.declared.digits.Digits.{Digits}
 use Rattle.pcm_cells.specs.declared.counts.Counts.{Counts}
-use Rattle.pcm_cells.specs.Rows.{bit_of, cell}
+use Rattle.cell_rows.specs.Rows.{bit_of, cell}
 use Rattle.pcm_cells.specs.Counts.{count}
 use Rattle.pcm_cells.specs.Planes.{bit_in, number_of, digit, zero_digits, blank_planes}
 use Rattle.pcm_cells.specs.Seeded.{LifeLine, IsDrawn, seeded_cell, left_of, endurance, miss_limit, stuck_value}
 use Rattle.pcm_cells.specs.Pages.{number_from, bytes_from, row_of, digits_of, word_of, drawn_line, HaveSameLife}
-use Rattle.pcm_cells.proofs.RowLemmas.{cell-bits, cell-meta, cell-zeros, cell_past}
+use Rattle.cell_rows.proofs.RowLemmas.{cell-bits, cell-meta, cell-zeros, cell_past}
 use Rattle.pcm_cells.proofs.PlaneLemmas.{digit-is, digit-zeros}
 use Rattle.pcm_cells.proofs.SeededLemmas.{left_is, left_size}
 

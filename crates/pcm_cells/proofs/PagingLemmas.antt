@@ -8,11 +8,11 @@ use Rattle.std.proofs.lemmas.Grind.{get_or_default_zero}
 use Rattle.std.proofs.lemmas.List.Folds.{sum_by-replicate}
 use Rattle.std.proofs.lemmas.List.Sums.{sum_by-set}
 use Rattle.std.specs.List.{sum_by}
-use Rattle.pcm_cells.specs.declared.array.Wear.{Wear}
-use Rattle.pcm_cells.specs.declared.row.Cells.{Cells}
+use Rattle.cell_rows.specs.declared.array.Wear.{Wear}
+use Rattle.cell_rows.specs.declared.row.Cells.{Cells}
 use Rattle.pcm_cells.specs.declared.pages.Pages.{Pages}
-use Rattle.pcm_cells.specs.Rows.{cell}
-use Rattle.pcm_cells.specs.Device.{counted}
+use Rattle.cell_rows.specs.Rows.{cell}
+use Rattle.cell_rows.specs.Device.{counted}
 use Rattle.pcm_cells.specs.Follows.{Follows}
 use Rattle.pcm_cells.specs.Seeded.{LifeLine, SeededArray, IsDrawn, Wears, lifeless, seeded, seeded_cell, seeded_line}
 use Rattle.pcm_cells.specs.Pages.{IsPaging, free, page_seen, line_seen, drawn_line}

@@ -4,21 +4,21 @@ use Rattle.std.proofs.lemmas.Bool.{ltb-true, leb-true, lt-ltb, lt-leb, cases_eq,
 use Rattle.std.proofs.lemmas.List.{get_or_past}
 use Rattle.std.proofs.lemmas.List.FromFn.{get_or-map-range_with_len, length-map-range_with_len}
 use Rattle.std.specs.Prelude.{nat_lt, nat_le, bit_xor}
-use Rattle.pcm_cells.specs.declared.row.Cells.{Cells}
+use Rattle.cell_rows.specs.declared.row.Cells.{Cells}
 use Rattle.pcm_cells.specs.declared.line.CellState.{CellState}
-use Rattle.pcm_cells.specs.declared.array.Wear.{Wear}
+use Rattle.cell_rows.specs.declared.array.Wear.{Wear}
 use Rattle.pcm_cells.specs.declared.seeded.SeededCell.{SeededCell}
 use Rattle.pcm_cells.specs.declared.digits.Digits.{Digits}
 use Rattle.pcm_cells.specs.declared.counts.Counts.{Counts}
 use Rattle.pcm_cells.specs.Counts.{count}
-use Rattle.pcm_cells.specs.Rows.{cell}
-use Rattle.pcm_cells.specs.Device.{CellBounds, DeviceStep, TornStep, IsBlank, counted}
-use Rattle.pcm_cells.specs.Shape.{IsWhole}
+use Rattle.cell_rows.specs.Rows.{cell}
+use Rattle.cell_rows.specs.Device.{CellBounds, DeviceStep, TornStep, IsBlank, counted}
+use Rattle.cell_rows.specs.Shape.{IsWhole}
 use Rattle.pcm_cells.specs.Planes.{PlaneLine, plane_cell, digit}
 use Rattle.pcm_cells.specs.Follows.{Follows}
 use Rattle.seeded_words.specs.Words.{xoshiro_of, word_at}
 use Rattle.pcm_cells.specs.Seeded.{LifeLine, left_of, life_state, bounds_of, endurance, IsDrawn, changed, pulsed, seeded, seeded_cell}
-use Rattle.pcm_cells.proofs.RowLemmas.{cell-zeros}
+use Rattle.cell_rows.proofs.RowLemmas.{cell-zeros}
 use Rattle.pcm_cells.proofs.PlaneLemmas.{digit_few, digit-zeros}
 use Rattle.pcm_cells.proofs.LineLemmas.{IsPulsed, IsTorn, KeepsTo, device_step, torn_step}
 
@@ -285,12 +285,12 @@ level_here true count levelled final spent new before after none = omega (arith,
 level_here false count levelled final spent new before after none = omega (arith, before, after, none)
 
 -- a block's word of calm is right where its counts are looked at again, and the others stay
-pub calm_kept : (calm : List Bool) (stuck : ℕ → Bool) (old new : ℕ → ℕ) (block : ℕ) (many : Bool) → block < length calm
-    → ((n : ℕ) → get_or calm (n / 64) false ≡ true → stuck n ≡ false → 8 ≤ old n)
+pub calm_kept : (calm : List Bool) (stuck : ℕ → Bool) (old new : ℕ → ℕ) (top block : ℕ) (many : Bool) → block < length calm
+    → ((n : ℕ) → n < top → get_or calm (n / 64) false ≡ true → stuck n ≡ false → 8 ≤ old n)
     → (many ≡ true → (i : ℕ) → i < 64 → stuck (64 * block + i) ≡ false → 8 ≤ new (64 * block + i))
     → ((n : ℕ) → n / 64 ≢ block → new n ≡ old n)
-    → (n : ℕ) → get_or (set calm block many) (n / 64) false ≡ true → stuck n ≡ false → 8 ≤ new n
-calm_kept calm stuck old new block many within before here others n is live =
+    → (n : ℕ) → n < top → get_or (set calm block many) (n / 64) false ≡ true → stuck n ≡ false → 8 ≤ new n
+calm_kept calm stuck old new top block many within before here others n low is live =
     elim (cases_eq (n / 64) block) as (λ _. 8 ≤ new n) [
       | inl same ↦
           let number : 64 * block + (n - 64 * block) ≡ n = omega arith in
@@ -298,7 +298,7 @@ calm_kept calm stuck old new block many within before here others n is live =
           subst (λ k. 8 ≤ new k) number (here yes (n - 64 * block) (omega arith) (ap stuck number ∙ live))
       | inr apart ↦
           let kept = get_or-set_other calm block (n / 64) many false (λ e. apart (omega arith)) in
-          rw (others n apart) (before n (sym kept ∙ is) live)
+          rw (others n apart) (before n low (sym kept ∙ is) live)
     ]
 
 -- of two that aren't both true, the first is false where the second is true
@@ -306,15 +306,12 @@ pub both_false : (a b : Bool) → (a && b) ≡ false → b ≡ true → a ≡ fa
 both_false true b none more = absurd (true≢false (sym more ∙ none))
 both_false false b none more = refl
 
-not_calm : (k n : ℕ) → get_or (replicate k false) n false ≡ false
-not_calm zero zero = refl
-not_calm zero (suc n) = refl
-not_calm (suc k) zero = refl
-not_calm (suc k) (suc n) = not_calm k n
-
--- of a line that was just drawn no block is calm
-pub never_calm : (k n : ℕ) (count : ℕ) → get_or (replicate k false) n false ≡ true → 8 ≤ count
-never_calm k n count is = absurd (true≢false (sym is ∙ not_calm k n))
+-- where a block of a new line is calm, each is
+pub told_calm : (k n : ℕ) (calm : Bool) → get_or (replicate k calm) n false ≡ true → calm ≡ true
+told_calm zero zero calm is = absurd (true≢false (sym is))
+told_calm zero (suc n) calm is = absurd (true≢false (sym is))
+told_calm (suc k) zero calm is = is
+told_calm (suc k) (suc n) calm is = told_calm k n calm is
 
 pub or_false : (a b : Bool) → cond a true b ≡ false → b ≡ false
 or_false true b h = absurd (true≢false h)

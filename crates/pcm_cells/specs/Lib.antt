@@ -1,7 +1,3 @@
-pub mod Rows
-pub mod Shape
-pub mod Pulse
-pub mod Device
 pub mod Cell
 pub mod Follows
 pub mod Scripted

@@ -1,6 +1,6 @@
 -- A log of bounded length.
 use Rattle.std.specs.Prelude.{ℕ, List, [], ◌∷◌, ◌++◌, length, nat_lt, if◌then◌else◌, Option, Some, None}
-use Rattle.pcm_cells.specs.declared.array.Sense.{Sense}
+use Rattle.cell_rows.specs.declared.array.Sense.{Sense}
 
 -- a log of at most `cap` senses after one more; a sense that doesn't fit ends the log
 abbrev pub logged : {B M : ℕ} → ℕ → Sense B M → Option (List (Sense B M)) → Option (List (Sense B M))

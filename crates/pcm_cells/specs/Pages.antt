@@ -1,8 +1,8 @@
 -- A line whose life isn't drawn yet, seen as if it were.
 use Rattle.std.specs.Prelude.{ℕ, zero, suc, ◌≡◌, ◌≢◌, ◌+◌, ◌*◌, ◌^◌, ◌<◌, ◌≤◌, Bool, cond, List, length, map, bit_xor, slice_index, slice_index_or}
 use Rattle.std.specs.List.{range_with_len, sum_by}
-use Rattle.pcm_cells.specs.declared.array.Wear.{Wear}
-use Rattle.pcm_cells.specs.declared.row.Cells.{Cells}
+use Rattle.cell_rows.specs.declared.array.Wear.{Wear}
+use Rattle.cell_rows.specs.declared.row.Cells.{Cells}
 use Rattle.pcm_cells.specs.declared.digits.Digits.{Digits}
 use Rattle.pcm_cells.specs.Planes.{bit_in, blank_planes}
 use Rattle.pcm_cells.specs.Seeded.{LifeLine, seeded_cell, endurance, miss_limit, stuck_value}

@@ -1,14 +1,10 @@
 -- Small numbers of cells, kept as rows of their binary digits.
-use Rattle.std.specs.Prelude.{ℕ, ◌+◌, Bool, cond, nat_eq}
-use Rattle.std.specs.Int.{bit_at}
-use Rattle.pcm_cells.specs.declared.row.Cells.{Cells}
+use Rattle.std.specs.Prelude.{ℕ, ◌+◌, Bool, cond}
+use Rattle.cell_rows.specs.declared.row.Cells.{Cells}
 use Rattle.pcm_cells.specs.declared.digits.Digits.{Digits}
-use Rattle.pcm_cells.specs.Rows.{cell, zero_row}
+use Rattle.cell_rows.specs.Rows.{cell, zero_row}
+pub use Rattle.cell_rows.specs.Rows.{bit_in}
 use Rattle.pcm_cells.specs.declared.line.CellState.{CellState}
-
--- whether bit i of a byte is 1
-abbrev pub bit_in : ℕ → ℕ → Bool
-bit_in byte i = nat_eq (bit_at byte i) 1
 
 -- the number with these binary digits
 abbrev pub number_of : Bool → Bool → Bool → ℕ

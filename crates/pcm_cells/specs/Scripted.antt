@@ -1,14 +1,14 @@
 -- The array whose cells miss and stick as a script says.
 use Rattle.std.specs.Prelude.{ℕ, ◌≡◌, ◌≢◌, ◌+◌, ◌-◌, ◌*◌, ◌^◌, min, Bool, true, false, ◌&&◌, nat_eq, nat_lt, if◌then◌else◌, List, [], ◌∷◌, length, replicate, slice_index, slice_index_or, Option, Some, None, Vec}
 use Rattle.std.specs.declared.alloc.Global.{Global}
-use Rattle.pcm_cells.specs.declared.row.Cells.{Cells}
+use Rattle.cell_rows.specs.declared.row.Cells.{Cells}
 use Rattle.pcm_cells.specs.declared.line.CellState.{CellState}
-use Rattle.pcm_cells.specs.declared.array.Wear.{Wear}
+use Rattle.cell_rows.specs.declared.array.Wear.{Wear}
 use Rattle.pcm_cells.specs.declared.script.Script.{Script}
 use Rattle.pcm_cells.specs.declared.script.Act.{Act}
 use Rattle.pcm_cells.specs.declared.script.Act.TheVariants.{Miss, Stick}
-use Rattle.pcm_cells.specs.Rows.{cell}
-use Rattle.pcm_cells.specs.Device.{ArrayState, CellBounds, counted}
+use Rattle.cell_rows.specs.Rows.{cell}
+use Rattle.cell_rows.specs.Device.{ArrayState, CellBounds, counted}
 use Rattle.pcm_cells.specs.Follows.{Follows}
 use Rattle.pcm_cells.specs.Cell.{CellLine, line_state, cell_state, blank_line}
 

@@ -2,11 +2,11 @@
 use Rattle.std.specs.Prelude.{ℕ, ◌≡◌, ◌≢◌, ◌+◌, ◌≤◌, ◌-◌, ◌*◌, ◌/◌, ◌%◌, ◌^◌, ◌<◌, min, Bool, true, false, ◌&&◌, nat_eq, nat_lt, nat_le, bit_xor, if◌then◌else◌, List, [], length, map, slice_index, slice_index_or, Option, None, Some}
 use Rattle.std.specs.Int.{bit_at}
 use Rattle.std.specs.List.{range_with_len}
-use Rattle.pcm_cells.specs.declared.row.Cells.{Cells}
-use Rattle.pcm_cells.specs.declared.array.Wear.{Wear}
+use Rattle.cell_rows.specs.declared.row.Cells.{Cells}
+use Rattle.cell_rows.specs.declared.array.Wear.{Wear}
 use Rattle.pcm_cells.specs.declared.seeded.SeededCell.{SeededCell}
-use Rattle.pcm_cells.specs.Rows.{cell, zero_row}
-use Rattle.pcm_cells.specs.Device.{ArrayState, LineState, CellBounds, counted}
+use Rattle.cell_rows.specs.Rows.{cell, zero_row}
+use Rattle.cell_rows.specs.Device.{ArrayState, LineState, CellBounds, counted}
 use Rattle.pcm_cells.specs.declared.digits.Digits.{Digits}
 use Rattle.pcm_cells.specs.declared.counts.Counts.{Counts}
 use Rattle.pcm_cells.specs.Counts.{count}
@@ -64,9 +64,18 @@ pub record LifeLine (B M : ℕ) : Type 0 where
 unfoldable pub left_of : {B M : ℕ} → Digits B M → Counts B M → List ℕ
 left_of {B} {M} spent counts = map (λ n. count counts n - digit spent n) (range_with_len 0 (8 * (B + M)))
 
--- each live cell of a calm block has a count of at least eight
+-- a line from its planes, as if it were never pulsed
+abbrev pub life_of : {B M : ℕ} → Cells B M → Cells B M → Digits B M → Digits B M → Counts B M → Digits B M → Cells B M → LifeLine B M
+life_of held stuck misses spent counts limits ends = record {
+  line = record { held = held; stuck = stuck; misses = misses; pulses = 0 };
+  left = left_of spent counts;
+  limits = limits;
+  ends = ends;
+}
+
+-- each live cell of a calm block of the row has a count of at least eight
 abbrev pub IsCalm : {B M : ℕ} → List Bool → Cells B M → (ℕ → ℕ) → Type 0
-IsCalm calm stuck counts = (n : ℕ) → slice_index_or calm (n / 64) false ≡ true → cell stuck n ≡ false → 8 ≤ counts n
+IsCalm {B} {M} calm stuck counts = (n : ℕ) → n < 8 * (B + M) → slice_index_or calm (n / 64) false ≡ true → cell stuck n ≡ false → 8 ≤ counts n
 
 abbrev pub seeded_cell : {B M : ℕ} → LifeLine B M → ℕ → SeededCell
 seeded_cell row number = record {

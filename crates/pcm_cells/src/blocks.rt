@@ -1,29 +1,6 @@
 // Blocks of 64 cells, each as the bits of a number, the lowest bit first.
-ghost use Rattle.std.specs.Prelude.{◌≡◌, ◌≢◌, ℕ, ◌+◌, ◌-◌, ◌*◌, ◌/◌, ◌%◌, ◌<◌, ◌≤◌, ◌&&◌, true, false, not, bit_and, bit_xor, length, nat_eq, nat_le, IsTrue, if◌then◌else◌, slice_index};
-ghost use Rattle.pcm_cells.specs.Rows.{bit_of};
+ghost use Rattle.std.specs.Prelude.{◌≡◌, ◌≢◌, ℕ, ◌+◌, ◌-◌, ◌*◌, ◌%◌, ◌^◌, ◌<◌, ◌≤◌, ◌&&◌, true, false, not, bit_and, bit_xor, nat_eq, nat_le, IsTrue, if◌then◌else◌, slice_index};
 ghost use Rattle.pcm_cells.specs.Planes.{bit_in, number_of};
-
-// Eight bytes of the list, the first of them lowest.
-pub(crate) fn read_block(bytes: &[u8], block: usize) -> u64
-    requires { 8 * block + 8 ≤ length bytes.now }
-    ensures { (i : ℕ) → i < 64 → bit_in result i ≡ bit_of bytes.now (64 * block + i) }
-{
-    let mut bits = 0;
-    for index in 0..8 {
-        bits |= (bytes[8 * block + index] as u64) << (8 * index);
-    }
-    bits
-}
-
-pub(crate) fn write_block(bytes: &mut [u8], block: usize, bits: u64)
-    requires { 8 * block + 8 ≤ length bytes.old }
-    ensures here { (i : ℕ) → i < 64 → bit_of bytes.new (64 * block + i) ≡ bit_in bits i }
-    ensures others { (n : ℕ) → n / 64 ≢ block → bit_of bytes.new n ≡ bit_of bytes.old n }
-{
-    for index in 0..8 {
-        bytes[8 * block + index] = (bits >> (8 * index) & 0xff) as u8;
-    }
-}
 
 // Of each cell that is in the mask the wanted bit, and of each other one the bit as it is.
 pub(crate) fn chosen(bits: u64, mask: u64, want: u64) -> u64
@@ -89,59 +66,6 @@ pub(crate) fn spend(left: &mut [u32; 64], mask: u64) -> u64
     last
 }
 
-// The 32 lowest bits of a number, and the highest.
-fn halves(bits: u64) -> (u32, u32)
-    ensures low { (i : ℕ) → i < 32 → bit_in result.0 i ≡ bit_in bits i }
-    ensures high { (i : ℕ) → i < 32 → bit_in result.1 i ≡ bit_in bits (32 + i) }
-{
-    ((bits & 0xffff_ffff) as u32, (bits >> 32) as u32)
-}
-
-// At each index the number whose only digit 1 is there. By a table, since a shift by the index has no lanes.
-const ONES: [u32; 32] = [
-    1, 2, 4, 8, 0x10, 0x20, 0x40, 0x80, 0x100, 0x200, 0x400, 0x800, 0x1000, 0x2000, 0x4000, 0x8000,
-    0x10000, 0x20000, 0x40000, 0x80000, 0x100000, 0x200000, 0x400000, 0x800000, 0x1000000,
-    0x2000000, 0x4000000, 0x8000000, 0x10000000, 0x20000000, 0x40000000, 0x80000000,
-];
-
-// The digit that a number has at an index.
-fn digit_at(bits: u32, index: u32) -> u32
-    requires { index < 32 }
-    ensures is { result ≡ (if bit_in bits index then 1 else 0) }
-    ensures few { result ≤ 1 }
-{
-    if bits & ONES[index as usize] != 0 {
-        1
-    } else {
-        0
-    }
-}
-
-// Takes from each of 32 counts the number whose binary digits these are, the lowest first.
-fn level_half(left: &mut [u32; 64], first: usize, low: u32, middle: u32, high: u32)
-    requires { first ≤ 32 }
-    ensures here { (i : ℕ) → i < 32 → slice_index left.new (first + i) ≡ slice_index left.old (first + i)
-        - number_of (bit_in low i) (bit_in middle i) (bit_in high i) }
-    ensures before { (n : ℕ) → n < first → slice_index left.new n ≡ slice_index left.old n }
-    ensures after { (n : ℕ) → first + 32 ≤ n → slice_index left.new n ≡ slice_index left.old n }
-{
-    for index in 0..32 {
-        let less = digit_at(low, index) + 2 * digit_at(middle, index) + 4 * digit_at(high, index);
-        let count = &mut left[first + index as usize];
-        *count = count.saturating_sub(less);
-    }
-}
-
-// Takes from each count the number whose binary digits these are, the lowest first.
-pub(crate) fn level(left: &mut [u32; 64], low: u64, middle: u64, high: u64)
-    ensures { (i : ℕ) → i < 64 → slice_index left.new i ≡ slice_index left.old i
-        - number_of (bit_in low i) (bit_in middle i) (bit_in high i) }
-{
-    let (low, middle, high) = (halves(low), halves(middle), halves(high));
-    level_half(left, 0, low.0, middle.0, high.0);
-    level_half(left, 32, low.1, middle.1, high.1);
-}
-
 // Whether the number has the digit 0 at an index.
 fn lacks(bits: u64, index: u32) -> bool
     requires { index < 64 }
@@ -173,4 +97,37 @@ pub(crate) fn are_many(left: &[u32; 64], mask: u64) -> bool
         few |= (left[index as usize] < 8) & lacks(mask, index);
     }
     !few
+}
+
+// At each number up to 7 its binary digits, the lowest in bit 0, the next in bit 8, the last in bit 16.
+const SPREAD: [u32; 8] = [0, 1, 0x100, 0x101, 0x10000, 0x10001, 0x10100, 0x10101];
+
+// What a word makes of its cell, at bits 0, 8 and 16 the digits of its limit, and at bit 24 the value that it sticks at.
+pub(crate) fn life(limit: u8, word: u64) -> u32
+    requires { limit ≤ 7 }
+    ensures limit { number_of (bit_in result 0) (bit_in result 8) (bit_in result 16) ≡ limit }
+    ensures end { bit_in result 24 ≡ bit_in word 63 }
+    ensures apart { (i : ℕ) → i % 8 ≢ 0 → bit_in result i ≡ false }
+    ensures small { result < 2 ^ 25 }
+{
+    SPREAD[limit as usize] | ((word >> 63) as u32) << 24
+}
+
+// The planes of a group of eight with the life of one cell more.
+pub(crate) fn with_life(planes: u32, index: usize, life: u32) -> u32
+    requires fits { index < 8 }
+    requires small { life < 2 ^ 25 }
+    requires apart { (i : ℕ) → i % 8 ≢ 0 → bit_in life i ≡ false }
+    ensures here { (p : ℕ) → bit_in planes (8 * p + index) ≡ false → bit_in result (8 * p + index) ≡ bit_in life (8 * p) }
+    ensures kept { (i : ℕ) → i % 8 ≢ index → bit_in result i ≡ bit_in planes i }
+{
+    planes | life << index
+}
+
+// A byte of a number, the lowest being byte 0.
+pub(crate) fn byte_at(planes: u32, index: u32) -> u8
+    requires { index < 4 }
+    ensures { (i : ℕ) → i < 8 → bit_in result i ≡ bit_in planes (8 * index + i) }
+{
+    (planes >> (8 * index) & 0xff) as u8
 }

@@ -1,7 +1,10 @@
 // Numbers of up to 32 bits of a row's cells.
-ghost use Rattle.std.specs.Prelude.{◌≡◌, ◌≢◌, ℕ, ◌+◌, ◌*◌, ◌/◌, ◌%◌, ◌<◌, ◌≤◌, length, nat_eq, slice_index, slice_index_or, if◌then◌else◌};
+ghost use Rattle.std.specs.Prelude.{◌≡◌, ◌≢◌, ℕ, ◌+◌, ◌-◌, ◌*◌, ◌/◌, ◌<◌, ◌≤◌, length, slice_index};
 ghost use Rattle.pcm_cells.specs.Counts.{count, count_in};
-ghost use Rattle.pcm_cells.specs.Shape.{IsShape, IsWhole};
+ghost use Rattle.pcm_cells.specs.Planes.{bit_in, number_of};
+ghost use Rattle.cell_rows.specs.Shape.{IsWhole};
+
+use crate::levels::level;
 
 /// A number of each cell of a row, in rows of eight: those of the data cells, and those of the check cells.
 #[derive(Clone, Copy, Drop)]
@@ -43,13 +46,6 @@ fn write_counts(rows: &mut [[u32; 8]], block: usize, counts: &[u32; 64])
     }
 }
 
-fn set_count(rows: &mut [[u32; 8]], number: usize, value: u32)
-    requires { number < 8 * length rows.old }
-    ensures { (n : ℕ) → count_in rows.new n ≡ (if nat_eq n number then value else count_in rows.old n) }
-{
-    rows[number / 8][number % 8] = value;
-}
-
 impl<const B: usize, const M: usize> Counts<B, M> {
     pub(crate) fn zero() -> Counts<B, M> {
         Counts {
@@ -58,14 +54,16 @@ impl<const B: usize, const M: usize> Counts<B, M> {
         }
     }
 
-    pub(crate) fn set(&mut self, number: usize, value: u32)
-        requires { number < 8 * (B + M) }
-        ensures { (n : ℕ) → count self.new n ≡ (if nat_eq n number then value else count self.old n) }
+    // Lets the cells of a group of eight have these numbers.
+    pub(crate) fn set_group(&mut self, group: usize, row: &[u32; 8])
+        requires { group < B + M }
+        ensures here { (i : ℕ) → i < 8 → count self.new (8 * group + i) ≡ slice_index row.now i }
+        ensures others { (n : ℕ) → n / 8 ≢ group → count self.new n ≡ count self.old n }
     {
-        if number / 8 < B {
-            set_count(&mut self.bits, number, value);
+        if group < B {
+            self.bits[group] = *row;
         } else {
-            set_count(&mut self.meta, number - 8 * B, value);
+            self.meta[group - B] = *row;
         }
     }
 
@@ -93,6 +91,21 @@ impl<const B: usize, const M: usize> Counts<B, M> {
             write_counts(&mut self.bits, block, counts);
         } else {
             write_counts(&mut self.meta, block - B / 8, counts);
+        }
+    }
+
+    // Takes from the number of each cell of a block of 64 the one whose binary digits these are, the lowest first.
+    pub(crate) fn level(&mut self, block: usize, low: u64, middle: u64, high: u64)
+        requires whole { IsWhole B M }
+        requires exists { 8 * block < B + M }
+        ensures here { (i : ℕ) → i < 64 → count self.new (64 * block + i) ≡ count self.old (64 * block + i)
+            - number_of (bit_in low i) (bit_in middle i) (bit_in high i) }
+        ensures others { (n : ℕ) → n / 64 ≢ block → count self.new n ≡ count self.old n }
+    {
+        if 8 * block < B {
+            level(&mut self.bits, block, low, middle, high);
+        } else {
+            level(&mut self.meta, block - B / 8, low, middle, high);
         }
     }
 }

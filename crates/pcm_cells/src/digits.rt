@@ -1,10 +1,10 @@
 // Small numbers of a row's cells, as planes of their binary digits.
-ghost use Rattle.std.specs.Prelude.{◌≡◌, ◌≢◌, ℕ, ◌+◌, ◌*◌, ◌/◌, ◌<◌, ◌≤◌, true, false, nat_eq, nat_lt, if◌then◌else◌};
+ghost use Rattle.std.specs.Prelude.{◌≡◌, ◌≢◌, ℕ, ◌+◌, ◌*◌, ◌/◌, ◌<◌, true, false, nat_lt, if◌then◌else◌};
 ghost use Rattle.pcm_cells.specs.Planes.{bit_in, digit, number_of, zero_digits};
-ghost use Rattle.pcm_cells.specs.Shape.{IsWhole};
+ghost use Rattle.cell_rows.specs.Shape.{IsWhole};
 
-use crate::Cells;
-use crate::blocks::{chosen, without};
+use crate::blocks::{byte_at, chosen, without};
+use cell_rows::Cells;
 
 /// A number from 0 to 7 of each cell of a row: its binary digits, the lowest in `low`.
 #[derive(Clone, Copy, Drop)]
@@ -25,14 +25,16 @@ impl<const B: usize, const M: usize> Digits<B, M> {
         }
     }
 
-    pub(crate) fn set(&mut self, number: u16, value: u8)
-        requires exists { number < 8 * (B + M) }
-        requires few { value ≤ 7 }
-        ensures { (n : ℕ) → digit self.new n ≡ (if nat_eq n number then value else digit self.old n) }
+    // Lets the numbers of a group of eight have the binary digits that these bytes are, the lowest first.
+    pub(crate) fn set_group(&mut self, group: usize, planes: u32)
+        requires { group < B + M }
+        ensures here { (i : ℕ) → i < 8 → digit self.new (8 * group + i)
+            ≡ number_of (bit_in planes i) (bit_in planes (8 + i)) (bit_in planes (16 + i)) }
+        ensures others { (n : ℕ) → n / 8 ≢ group → digit self.new n ≡ digit self.old n }
     {
-        self.low.set(number, value % 2 == 1);
-        self.middle.set(number, value / 2 % 2 == 1);
-        self.high.set(number, value / 4 % 2 == 1);
+        self.low.set_group(group, byte_at(planes, 0));
+        self.middle.set_group(group, byte_at(planes, 1));
+        self.high.set_group(group, byte_at(planes, 2));
     }
 
     // As a mask over a block: the cells whose number is below their limit.

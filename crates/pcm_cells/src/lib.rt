@@ -1,23 +1,20 @@
-//! Rows of one-bit memory cells, and arrays of them whose cells miss, stick or are torn by a
-//! power cut. A trait says all that a pulse, a tear and a sense may do to an array, so that a
-//! controller can be proved over every one.
+//! Arrays of one-bit memory cells that miss, stick or are torn by a power cut: one whose cells wear out as a seed says, one that
+//! does what a script says, and one that logs its senses. What an array is stands in cell_rows, whose names are handed on.
 #![tactic(auto)]
 
-mod array;
 mod blocks;
-mod bytes;
+mod calm;
 mod counts;
 mod digits;
+mod levels;
 mod line;
 mod logged;
 mod pages;
-mod row;
 mod script;
 mod seeded;
 
-pub use array::{CellArray, Sense, Wear};
+pub use cell_rows::{CellArray, Cells, Sense, Wear};
 pub use line::CellState;
 pub use logged::LoggedArray;
-pub use row::Cells;
 pub use script::{Act, Script, ScriptArray};
 pub use seeded::{MemArray, SeededCell};

@@ -1,12 +1,20 @@
 // One line of cells that may miss and stick.
-ghost use Rattle.std.specs.Prelude.{◌≡◌, ℕ, ◌+◌, ◌*◌, ◌<◌, ◌≤◌, IfOk, slice_index};
+ghost use Rattle.std.specs.Prelude.{◌≡◌, ℕ, ◌+◌, ◌*◌, ◌<◌, ◌≤◌, false, IfOk, slice_index};
+ghost use Rattle.cell_rows.specs.Rows.{cell};
 ghost use Rattle.pcm_cells.specs.Cell.{cell_state, line_state, blank_line, SetsCell};
-ghost use Rattle.pcm_cells.specs.Device.{counted};
-ghost use Rattle.pcm_cells.specs.Shape.{IsShape};
+ghost use Rattle.cell_rows.specs.Device.{counted};
+ghost use Rattle.cell_rows.specs.Shape.{IsShape};
 
-use crate::Cells;
+use cell_rows::Cells;
 use std::alloc::{AllocError, Global};
 use std::marker::Model;
+
+// Past its end a mask has no cell.
+pub(crate) fn has_end<const B: usize, const M: usize>(mask: &Cells<B, M>)
+    ensures { (n : ℕ) → 8 * (B + M) ≤ n → cell mask.now n ≡ false }
+{
+    let (_bits, _meta) = (&mask.bits[..], &mask.meta[..]);
+}
 
 /// One cell: what it holds, whether it is stuck at that, and how often it missed
 /// since it last changed, 0 to 7.
@@ -29,7 +37,7 @@ pub(crate) struct Line<const B: usize, const M: usize> {
 impl<const B: usize, const M: usize> Model for Line<B, M> {
     ghost use Rattle.std.specs.Prelude.{◌≡◌, ℕ, ◌+◌, ◌*◌, ◌≤◌, slice_index, vec_len};
     ghost use Rattle.pcm_cells.specs.Cell.{CellLine};
-    ghost use Rattle.pcm_cells.specs.Shape.{IsShape};
+    ghost use Rattle.cell_rows.specs.Shape.{IsShape};
 
     ghost Value = { CellLine B M };
 

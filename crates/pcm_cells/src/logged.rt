@@ -1,7 +1,7 @@
 // An array that keeps a log of its senses.
 ghost use Rattle.std.specs.Prelude.{◌≡◌, ℕ, ◌<◌, ◌≤◌, vec_len, vec_capacity};
 
-use crate::{CellArray, Cells, Sense, Wear};
+use cell_rows::{CellArray, Cells, Sense, Wear};
 use std::alloc::{AllocError, Global};
 
 /// Passes each call on to another array, and keeps a log of the senses since `power_up`.
@@ -18,7 +18,7 @@ pub struct LoggedArray<A, const B: usize, const M: usize> {
 
 impl<A: CellArray<B, M> + Drop, const B: usize, const M: usize> LoggedArray<A, B, M> {
     ghost use Rattle.std.specs.Prelude.{IfOk, IfSome, IfNone, [], Some, None};
-    ghost use Rattle.pcm_cells.specs.Shape.{IsShape};
+    ghost use Rattle.cell_rows.specs.Shape.{IsShape};
     ghost use Rattle.pcm_cells.specs.Logging.{logged};
     ghost use Rattle.pcm_cells.specs.Logged.{told_log};
 
@@ -71,9 +71,9 @@ impl<A: CellArray<B, M> + Drop, const B: usize, const M: usize> LoggedArray<A, B
 impl<A: CellArray<B, M> + Drop, const B: usize, const M: usize> CellArray<B, M>
     for LoggedArray<A, B, M> {
     ghost use Rattle.std.specs.Prelude.{◌+◌, OnOk, OnErr, [], Some};
-    ghost use Rattle.pcm_cells.specs.Device.{DeviceStep, TornStep, ChangesOnly, Senses, IsFresh, IsWear, counted, sense_of};
-    ghost use Rattle.pcm_cells.specs.Shape.{IsShape};
-    ghost use Rattle.pcm_cells.specs.Pulse.{IsPulse};
+    ghost use Rattle.cell_rows.specs.Device.{DeviceStep, TornStep, ChangesOnly, Senses, IsFresh, IsWear, counted, sense_of};
+    ghost use Rattle.cell_rows.specs.Shape.{IsShape};
+    ghost use Rattle.cell_rows.specs.Pulse.{IsPulse};
     ghost use Rattle.pcm_cells.specs.Logging.{logged};
     ghost use Rattle.pcm_cells.specs.Logged.{told_log, logged_state};
 

@@ -1,14 +1,14 @@
 // Lines that are kept from their first pulse on.
 ghost use Rattle.std.specs.Prelude.{◌≡◌, ◌≢◌, ℕ, ◌+◌, ◌<◌, length, slice_index, vec_capacity, IfOk, replicate};
-ghost use Rattle.pcm_cells.specs.Rows.{cell};
-ghost use Rattle.pcm_cells.specs.Shape.{IsShape, IsWhole};
-ghost use Rattle.pcm_cells.specs.Device.{IsWear, counted};
+ghost use Rattle.cell_rows.specs.Rows.{cell};
+ghost use Rattle.cell_rows.specs.Shape.{IsShape, IsWhole};
+ghost use Rattle.cell_rows.specs.Device.{IsWear, counted};
 ghost use Rattle.pcm_cells.specs.Follows.{Follows};
 ghost use Rattle.pcm_cells.specs.Seeded.{seeded, seeded_cell};
 ghost use Rattle.pcm_cells.specs.Pages.{IsPaging};
 
 use crate::seeded::SeededLine;
-use crate::{Cells, Wear};
+use cell_rows::{Cells, Wear};
 use std::alloc::{AllocError, Global};
 
 /// The lines of an array, each with a page from its first pulse or tear on. A line without a page is as its

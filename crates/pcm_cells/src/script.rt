@@ -1,8 +1,9 @@
 // The array whose cells miss and stick as a script says.
 ghost use Rattle.std.specs.Prelude.{◌≡◌, ◌≢◌, ℕ, ◌+◌, ◌*◌, ◌<◌, ◌≤◌, true, false, [], length, replicate, IfOk, OnOk, OnErr, slice_index};
 
-use crate::line::Line;
-use crate::{CellArray, CellState, Cells, Wear};
+use crate::CellState;
+use crate::line::{Line, has_end};
+use cell_rows::{CellArray, Cells, Wear};
 use std::alloc::{AllocError, Global};
 use std::marker::Model;
 
@@ -74,7 +75,7 @@ struct ScriptLine<const B: usize, const M: usize> {
 impl<const B: usize, const M: usize> Model for ScriptLine<B, M> {
     ghost use Rattle.std.specs.Prelude.{◌≡◌, ℕ, ◌+◌, ◌*◌, ◌≤◌, slice_index, vec_len};
     ghost use Rattle.pcm_cells.specs.Scripted.{ScriptedLine};
-    ghost use Rattle.pcm_cells.specs.Shape.{IsShape};
+    ghost use Rattle.cell_rows.specs.Shape.{IsShape};
 
     ghost Value = { ScriptedLine B M };
 
@@ -85,9 +86,9 @@ impl<const B: usize, const M: usize> Model for ScriptLine<B, M> {
 }
 
 ghost use Rattle.pcm_cells.specs.Cell.{cell_state, line_state, SetsCell};
-ghost use Rattle.pcm_cells.specs.Rows.{cell};
-ghost use Rattle.pcm_cells.specs.Shape.{IsShape};
-ghost use Rattle.pcm_cells.specs.Device.{counted};
+ghost use Rattle.cell_rows.specs.Rows.{cell};
+ghost use Rattle.cell_rows.specs.Shape.{IsShape};
+ghost use Rattle.cell_rows.specs.Device.{counted};
 ghost use Rattle.pcm_cells.specs.Follows.{Follows, FollowsIn};
 ghost use Rattle.pcm_cells.specs.Scripted.{scripted, scripted_cell, blank_scripted};
 
@@ -167,6 +168,7 @@ impl<const B: usize, const M: usize> ScriptLine<B, M> {
         ensures pulses { self.new.line.pulses ≡ counted self.old.line.pulses }
         ensures few { (n : ℕ) → slice_index self.new.line.misses n ≤ 7 }
     {
+        has_end(mask);
         for group in 0..B + M {
             if !mask.is_clear(group) {
                 self.turn_group(script, line, tearing, group, mask, want);
@@ -203,7 +205,7 @@ pub struct ScriptArray<const B: usize, const M: usize> {
 impl<const B: usize, const M: usize> Model for ScriptArray<B, M> {
     ghost use Rattle.std.specs.Prelude.{◌^◌, ◌<◌, length};
     ghost use Rattle.pcm_cells.specs.Scripted.{ScriptedArray, scripted_lines};
-    ghost use Rattle.pcm_cells.specs.Shape.{IsShape};
+    ghost use Rattle.cell_rows.specs.Shape.{IsShape};
 
     ghost Value = { ScriptedArray B M };
 
@@ -267,8 +269,8 @@ impl<const B: usize, const M: usize> ScriptArray<B, M> {
 }
 
 impl<const B: usize, const M: usize> CellArray<B, M> for ScriptArray<B, M> {
-    ghost use Rattle.pcm_cells.specs.Device.{DeviceStep, TornStep, ChangesOnly, Senses, IsFresh, IsWear, sense_of};
-    ghost use Rattle.pcm_cells.specs.Pulse.{IsPulse};
+    ghost use Rattle.cell_rows.specs.Device.{DeviceStep, TornStep, ChangesOnly, Senses, IsFresh, IsWear, sense_of};
+    ghost use Rattle.cell_rows.specs.Pulse.{IsPulse};
 
     ghost state = { scripted_state };
 

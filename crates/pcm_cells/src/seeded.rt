@@ -1,11 +1,14 @@
 // The array whose cells wear out as a seed says.
-ghost use Rattle.std.specs.Prelude.{◌≡◌, ◌≢◌, ℕ, ◌+◌, ◌-◌, ◌*◌, ◌%◌, ◌<◌, ◌≤◌, true, false, length, IfOk, OnOk, OnErr, slice_index, bit_xor};
+ghost use Rattle.std.specs.Prelude.{◌≡◌, ◌≢◌, ℕ, ◌+◌, ◌-◌, ◌*◌, ◌%◌, ◌<◌, ◌≤◌, true, false, length, OnOk, OnErr, slice_index};
 
-use crate::blocks::{are_many, chosen, level, reached, spend, without};
+use crate::CellState;
+use crate::blocks::{are_many, byte_at, chosen, life, reached, spend, with_life, without};
+use crate::calm::{has_room, is_calm, wear_calm};
 use crate::counts::Counts;
 use crate::digits::Digits;
+use crate::line::has_end;
 use crate::pages::Pages;
-use crate::{CellArray, CellState, Cells, Wear};
+use cell_rows::{CellArray, Cells, Wear};
 use rand_core::{Rng, SeedableRng};
 use rand_xoshiro::Xoshiro256PlusPlus;
 use std::alloc::{AllocError, Global};
@@ -23,13 +26,16 @@ pub struct SeededCell {
     pub end: bool,
 }
 
-ghost use Rattle.pcm_cells.specs.Seeded.{endurance, miss_limit, stuck_value, seeded};
-ghost use Rattle.pcm_cells.specs.Device.{IsWear};
+ghost use Rattle.pcm_cells.specs.Seeded.{endurance, miss_limit, seeded};
+ghost use Rattle.cell_rows.specs.Device.{IsWear};
 
 fn endurance(wear: Wear, word: u64) -> u32
     requires { IsWear wear }
     ensures { result ≡ endurance wear word }
 {
+    if wear.lo == wear.hi {
+        return wear.lo;
+    }
     let span = (wear.hi - wear.lo) as u64 + 1;
     wear.lo + (word % span) as u32
 }
@@ -60,7 +66,7 @@ pub(crate) struct SeededLine<const B: usize, const M: usize> {
 impl<const B: usize, const M: usize> Model for SeededLine<B, M> {
     ghost use Rattle.pcm_cells.specs.Counts.{count};
     ghost use Rattle.pcm_cells.specs.Seeded.{LifeLine, left_of, IsCalm};
-    ghost use Rattle.pcm_cells.specs.Shape.{IsShape};
+    ghost use Rattle.cell_rows.specs.Shape.{IsShape};
 
     ghost Value = { LifeLine B M };
 
@@ -74,19 +80,26 @@ impl<const B: usize, const M: usize> Model for SeededLine<B, M> {
     ghost invariant = { λ l. IsShape B M × IsCalm l.calm l.stuck (count l.left) };
 }
 
-ghost use Rattle.pcm_cells.specs.Rows.{cell};
-ghost use Rattle.pcm_cells.specs.Shape.{IsShape, IsWhole};
-ghost use Rattle.pcm_cells.specs.Device.{counted};
+ghost use Rattle.cell_rows.specs.Rows.{cell};
+ghost use Rattle.cell_rows.specs.Shape.{IsShape, IsWhole};
+ghost use Rattle.cell_rows.specs.Device.{counted};
 ghost use Rattle.pcm_cells.specs.Follows.{Follows, FollowsIn};
 ghost use Rattle.pcm_cells.specs.Seeded.{seeded_cell, left_of, IsDrawn};
+ghost use Rattle.pcm_cells.specs.Counts.{count};
 ghost use Rattle.pcm_cells.specs.Pages.{drawn_line, HaveSameLife};
 ghost use Rattle.pcm_cells.specs.Planes.{bit_in, digit, blank_planes, zero_digits};
-ghost use Rattle.std.specs.Prelude.{◌/◌, ◌&&◌, nat_le, if◌then◌else◌};
+ghost use Rattle.std.specs.Prelude.{◌/◌, ◌&&◌, nat_le, IsTrue, if◌then◌else◌};
 
 impl<const B: usize, const M: usize> SeededLine<B, M> {
-    // A line with these lives that was never pulsed.
-    fn new(left: Counts<B, M>, limits: Digits<B, M>, ends: Cells<B, M>) -> SeededLine<B, M>
-        requires { IsShape B M }
+    // A line with these lives that was never pulsed. It may be told that each count is at least eight.
+    fn new(
+        left: Counts<B, M>,
+        limits: Digits<B, M>,
+        ends: Cells<B, M>,
+        calm: bool,
+    ) -> SeededLine<B, M>
+        requires shape { IsShape B M }
+        requires many { IsTrue calm → (n : ℕ) → n < 8 * (B + M) → 8 ≤ count left n }
         ensures is { result ≡ record {
           line = blank_planes B M;
           left = left_of (zero_digits B M) left.entry;
@@ -105,7 +118,7 @@ impl<const B: usize, const M: usize> SeededLine<B, M> {
             limits,
             ends,
             spent: Digits::zero(),
-            calm: [false; B],
+            calm: [calm; B],
         }
     }
 
@@ -119,13 +132,19 @@ impl<const B: usize, const M: usize> SeededLine<B, M> {
         let mut left = Counts::zero();
         let mut limits = Digits::zero();
         let mut ends = Cells::zero();
-        for cell in 0..8 * (B + M) {
-            let word = words.next_u64();
-            left.set(cell, endurance(wear, word));
-            limits.set(cell as u16, miss_limit(wear, word));
-            ends.set(cell as u16, word >> 63 == 1);
+        for group in 0..B + M {
+            let mut counts = [0; 8];
+            let mut planes = 0;
+            for index in 0..8 {
+                let word = words.next_u64();
+                counts[index] = endurance(wear, word);
+                planes = with_life(planes, index, life(miss_limit(wear, word), word));
+            }
+            left.set_group(group, &counts);
+            limits.set_group(group, planes);
+            ends.set_group(group, byte_at(planes, 3));
         }
-        SeededLine::new(left, limits, ends)
+        SeededLine::new(left, limits, ends, wear.lo >= 8)
     }
 
     // Takes one from each count of a block that is in the mask, and answers those of them that were at most
@@ -153,16 +172,15 @@ impl<const B: usize, const M: usize> SeededLine<B, M> {
         }
         let stuck = self.stuck.block(block);
         let (low, middle, high) = self.spent.planes(block);
-        let mut counts = *self.left.block(block);
-        level(&mut counts, low, middle, high);
+        self.left.level(block, low, middle, high);
         self.spent.clear(block);
-        let calm = are_many(&counts, stuck);
+        let calm = are_many(self.left.block(block), stuck);
         self.calm[block] = calm;
         if calm {
-            self.left.set_block(block, &counts);
             self.spent.advance(block, changing, 0);
             return 0;
         }
+        let mut counts = *self.left.block(block);
         let last = spend(&mut counts, changing);
         self.left.set_block(block, &counts);
         last
@@ -189,6 +207,93 @@ impl<const B: usize, const M: usize> SeededLine<B, M> {
         self.misses.advance(block, missing, changing);
     }
 
+    // Brings the counts of a block up to date.
+    fn level_block(&mut self, block: usize)
+        requires exists { 8 * block < B + M }
+        requires shape { IsShape B M }
+        requires whole { IsWhole B M }
+        ensures { self.new ≡ self.old }
+    {
+        let stuck = self.stuck.block(block);
+        let (low, middle, high) = self.spent.planes(block);
+        self.left.level(block, low, middle, high);
+        self.spent.clear(block);
+        self.calm[block] = are_many(self.left.block(block), stuck);
+    }
+
+    // Brings the counts up to date.
+    fn level(&mut self)
+        requires shape { IsShape B M }
+        requires whole { IsWhole B M }
+        ensures { self.new ≡ self.old }
+    {
+        for block in 0..(B + M) / 8 {
+            let (low, middle, high) = self.spent.planes(block);
+            if low | middle | high != 0 || !self.calm[block] {
+                self.level_block(block);
+            }
+        }
+    }
+
+    // The masked cells in a pulse or in a tear, block by block.
+    fn wear_blocks(&mut self, tearing: bool, mask: &Cells<B, M>, want: &Cells<B, M>)
+        requires shape { IsShape B M }
+        requires whole { IsWhole B M }
+        ensures cells { FollowsIn 0 (8 * (B + M)) (cell mask.now) (seeded tearing (cell want.now))
+            (seeded_cell self.old) (seeded_cell self.new) }
+        ensures pulses { self.new.line.pulses ≡ self.old.line.pulses }
+    {
+        for block in 0..(B + M) / 8 {
+            if mask.block(block) != 0 {
+                self.wear_block(tearing, block, mask, want);
+            }
+        }
+    }
+
+    // The masked cells in a pulse or in a tear. The counts are brought up to date first where a line is new, and
+    // where no cell of it is near its end.
+    #[inline(never)]
+    fn wear_levelled(&mut self, tearing: bool, mask: &Cells<B, M>, want: &Cells<B, M>)
+        requires shape { IsShape B M }
+        requires whole { IsWhole B M }
+        ensures cells { FollowsIn 0 (8 * (B + M)) (cell mask.now) (seeded tearing (cell want.now))
+            (seeded_cell self.old) (seeded_cell self.new) }
+        ensures pulses { self.new.line.pulses ≡ self.old.line.pulses }
+    {
+        if self.pulses == 0 || is_calm::<B, M>(&self.calm) {
+            self.level();
+        }
+        self.wear_blocks(tearing, mask, want);
+    }
+
+    // The same, by all blocks at once where no cell is near its end.
+    fn wear_cells(&mut self, tearing: bool, mask: &Cells<B, M>, want: &Cells<B, M>)
+        requires shape { IsShape B M }
+        requires whole { IsWhole B M }
+        ensures cells { FollowsIn 0 (8 * (B + M)) (cell mask.now) (seeded tearing (cell want.now))
+            (seeded_cell self.old) (seeded_cell self.new) }
+        ensures pulses { self.new.line.pulses ≡ self.old.line.pulses }
+    {
+        if is_calm::<B, M>(&self.calm) && has_room(&self.spent, mask) {
+            // Copies, so that LLVM sees that no write to the line changes them.
+            let (mask, want) = (*mask, *want);
+            wear_calm(
+                &mut self.held,
+                &mut self.misses,
+                &mut self.spent,
+                &self.stuck,
+                &self.left,
+                &self.limits,
+                &self.ends,
+                tearing,
+                &mask,
+                &want,
+            );
+        } else {
+            self.wear_levelled(tearing, mask, want);
+        }
+    }
+
     // A pulse or a tear of the line.
     pub(crate) fn wear(&mut self, tearing: bool, mask: &Cells<B, M>, want: &Cells<B, M>)
         requires shape { IsShape B M }
@@ -197,11 +302,8 @@ impl<const B: usize, const M: usize> SeededLine<B, M> {
             (seeded_cell self.new) }
         ensures pulses { self.new.line.pulses ≡ counted self.old.line.pulses }
     {
-        for block in 0..(B + M) / 8 {
-            if mask.block(block) != 0 {
-                self.wear_block(tearing, block, mask, want);
-            }
-        }
+        has_end(mask);
+        self.wear_cells(tearing, mask, want);
         self.pulses = self.pulses.saturating_add(1);
     }
 
@@ -238,7 +340,7 @@ impl<const B: usize, const M: usize> Model for MemArray<B, M> {
     ghost use Rattle.pcm_cells.specs.Endurance.{AreBounded, IsInRange};
     ghost use Rattle.pcm_cells.specs.Paging.{seeded_lines};
     ghost use Rattle.pcm_cells.specs.Seeded.{SeededArray, bounds_of};
-    ghost use Rattle.pcm_cells.specs.Shape.{IsShape, IsWhole};
+    ghost use Rattle.cell_rows.specs.Shape.{IsShape, IsWhole};
 
     ghost Value = { SeededArray B M };
 
@@ -273,7 +375,9 @@ impl<const B: usize, const M: usize> MemArray<B, M> {
         ensures wear { self.new.wear ≡ self.old.wear }
         ensures range { IsInRange (bounds_of self.old.wear) }
         ensures bounded { AreBounded (bounds_of self.old.wear) self.new.lines }
+        ensures end { (n : ℕ) → 8 * (B + M) ≤ n → cell mask.now n ≡ false }
     {
+        has_end(mask);
         let Some(lines) = &mut self.lines else {
             unreachable!()
         };
@@ -282,8 +386,8 @@ impl<const B: usize, const M: usize> MemArray<B, M> {
 }
 
 impl<const B: usize, const M: usize> CellArray<B, M> for MemArray<B, M> {
-    ghost use Rattle.pcm_cells.specs.Device.{DeviceStep, TornStep, ChangesOnly, Senses, IsFresh, sense_of};
-    ghost use Rattle.pcm_cells.specs.Pulse.{IsPulse};
+    ghost use Rattle.cell_rows.specs.Device.{DeviceStep, TornStep, ChangesOnly, Senses, IsFresh, sense_of};
+    ghost use Rattle.cell_rows.specs.Pulse.{IsPulse};
 
     ghost state = { seeded_state };
 

@@ -2,7 +2,7 @@
 use Rattle.std.proofs.Common.{◌≡◌, ℕ, zero, suc, ◌+◌, ◌*◌, ◌/◌, ◌%◌, ◌<◌, ◌≤◌, Bool, true, false, cond, eqb, List, length, get_or, refl, sym, ap, ◌∙◌, arith, ext_get_or}
 use Rattle.std.specs.Int.{bit_at}
 use Rattle.std.specs.Prelude.{slice_index_or}
-use Rattle.pcm_cells.specs.Rows.{bit_of}
+use Rattle.cell_rows.specs.Rows.{bit_of}
 use Rattle.ecp_line.specs.Layout.{number}
 use Rattle.ecp_line.specs.Reading.{bytes_from}
 use Rattle.ecp_line.proofs.Bytes.{bytes-from, get_or-bytes_from}

@@ -1,7 +1,7 @@
 -- The two laws: what is read is saved so, and what is saved so is read.
-use Rattle.std.proofs.Common.{◌≡◌, ℕ, suc, ◌+◌, ◌*◌, ◌/◌, ◌%◌, ◌^◌, ◌<◌, ◌≤◌, Bool, true, ◌==◌, cond, eqb, nat_le, nat_lt, List, [], ◌∷◌, ◌++◌, length, get_or, Result, Ok, Err, All, refl, sym, ap, subst, ◌∙◌, append_assoc, arith}
+use Rattle.std.proofs.Common.{◌≡◌, ℕ, suc, ◌+◌, ◌*◌, ◌/◌, ◌%◌, ◌^◌, ◌<◌, ◌≤◌, Bool, true, ◌==◌, eqb, nat_le, nat_lt, List, [], ◌∷◌, ◌++◌, length, get_or, Result, Ok, Err, All, refl, sym, ap, subst, ◌∙◌, append_assoc, arith}
 use Rattle.masked_bytes.proofs.Truth.{and_first, and_second}
-use Rattle.std.specs.Prelude.{IfOk}
+use Rattle.std.specs.Prelude.{IfOk, OnOk, IsTrue}
 use Rattle.std.specs.List.{flat_map, AllByRecursion}
 use Rattle.std.specs.Str.{bytes_eq}
 use Rattle.std.specs.Int.{w16, w32, w64}
@@ -12,7 +12,7 @@ use Rattle.std.proofs.lemmas.Slice.Eq.{bytes_eq-Decides}
 use Rattle.std.proofs.lemmas.List.{append-nil, nil_from_length, length-append, length-take, length-drop, take_at, drop_at, take-append-drop}
 use Rattle.std.proofs.lemmas.List.Elements.{All-from_recursion, All-get_or}
 use Rattle.masked_bytes.specs.Masked.{gives_some, zero_elsewhere}
-use Rattle.pcm_cells.specs.declared.row.Cells.{Cells}
+use Rattle.cell_rows.specs.declared.row.Cells.{Cells}
 use Rattle.pcm_image.specs.declared.RegionImage.{RegionImage}
 use Rattle.pcm_image.specs.declared.EntryImage.{EntryImage}
 use Rattle.pcm_image.specs.declared.ImageKind.TheVariants as kind
@@ -20,7 +20,7 @@ use Rattle.pcm_image.specs.declared.fields.ReadImage.{ReadImage}
 use Rattle.pcm_image.specs.Saved.{Saved, SavedBank, Head, IsHead, IsSaved, IsSavedBank, IsSavedEntry, IsSavedRegion, IsSavedRow, slots_in, lines_in, array_lines_in, is_lines}
 use Rattle.module_shape.specs.Limits.{is_power_between}
 use Rattle.pcm_image.specs.Spelling.{u8, u16, u32, u64, magic, packed, head_bytes, region_bytes, entry_bytes, bank_bytes, cells_bytes, image_bytes}
-use Rattle.pcm_image.specs.Reading.{Cursor, ◌>>=◌, fault, field, any, byte_at, number_at, times, is_size, size_at, size_of, head_at, region_at, given_from, is_given, entry_at, bank_at, row_of, cells_at, image_of}
+use Rattle.pcm_image.specs.Reading.{Cursor, ◌>>=◌, field, any, byte_at, number_at, times, is_size, is_size_of, size_at, size_of, head_at, region_at, given_from, is_given, entry_at, bank_at, row_of, cells_at, image_of}
 use Rattle.pcm_image.specs.Giving.{Gives}
 use Rattle.ecp_line.proofs.Bytes.{length-bytes_from}
 use Rattle.pcm_image.proofs.Bits.{length-given_from, packed-given, given-packed}
@@ -305,37 +305,38 @@ seven c c0 c1 c2 c3 c4 c5 c6 x0 x1 x2 x3 x4 x5 x6 t0 t1 t2 t3 t4 t5 t6 =
 
 -- the fields of a head, one behind another
 head_joined : (B : ℕ) (h : Head) (size : ℕ) (c c0 c1 c2 c3 c4 c5 c6 : Cursor)
-    → Takes c (magic ++ u8 size) c0 × Passes 256 (λ n. n == B) size
+    → Takes c (magic ++ u8 size) c0 × Passes 256 (is_size_of B) size
     → Takes c0 (u8 h.banks) c1 × Passes 256 (is_power_between 1 16) h.banks
     → Takes c1 (u8 h.regions) c2 × Passes 256 (is_power_between 1 16) h.regions
     → Takes c2 (u16 h.lines) c3 × Passes (2 ^ 16) (is_lines h.banks h.regions) h.lines
     → Takes c3 (u16 h.spares) c4 × Passes (2 ^ 16) (λ n. nat_le n 1024) h.spares
     → Takes c4 (u64 h.seed) c5 × Passes (2 ^ 64) any h.seed
     → Takes c5 (u8 h.home) c6 × Passes 256 (λ n. nat_lt n 2) h.home
-    → Takes c (head_bytes B h) c6 × IsHead h
+    → Takes c (head_bytes B h) c6 × IsHead h × (is_size B ≡ true)
 head_joined B h size c c0 c1 c2 c3 c4 c5 c6 t0 t1 t2 t3 t4 t5 t6 =
     let m = seven c c0 c1 c2 c3 c4 c5 c6 (magic ++ u8 size) (u8 h.banks) (u8 h.regions) (u16 h.lines) (u16 h.spares) (u64 h.seed) (u8 h.home) t0.0 t1.0 t2.0 t3.0 t4.0 t5.0 t6.0 in
-    let same : size ≡ B = eqb-true size B t0.1.1 in (
+    let same : size ≡ B = eqb-true size B (and_second (is_size size) (size == B) t0.1.1) in (
       subst (λ (k : ℕ). Takes c ((magic ++ u8 k) ++ (u8 h.banks ++ (u8 h.regions ++ (u16 h.lines ++ (u16 h.spares ++ (u64 h.seed ++ u8 h.home)))))) c6) same m,
       record { banks = t1.1.1; regions = t2.1.1; lines = t3.1.1; spares = true_le h.spares 1024 t4.1.1; seed = t5.1.0; home = true_lt h.home 2 t6.1.1 },
+      subst (λ (k : ℕ). is_size k ≡ true) same (and_first (is_size size) (size == B) t0.1.1),
     )
 
-head_takes : (B : ℕ) (c : Cursor) (x : Head × Cursor) → IsBytes c.left → head_at B c ≡ Ok x → Takes c (head_bytes B x.0) x.1 × IsHead x.0
+head_takes : (B : ℕ) (c : Cursor) (x : Head × Cursor) → IsBytes c.left → head_at B c ≡ Ok x → Takes c (head_bytes B x.0) x.1 × IsHead x.0 × (is_size B ≡ true)
 unfolding head_at
 head_takes B c x small e =
     bound _ _ x _ e (λ x0 e0 n0. bound _ _ x _ n0 (λ x1 e1 n1. bound _ _ x _ n1 (λ x2 e2 n2. bound _ _ x _ n2 (λ x3 e3 n3. bound _ _ x _ n3 (λ x4 e4 n4. bound _ _ x _ n4 (λ x5 e5 n5. bound _ _ x _ n5 (λ x6 e6 n6.
-    let t0 = size_takes (λ n. n == B) c x0 small e0 in
+    let t0 = size_takes (is_size_of B) c x0 small e0 in
     let t1 = (byte_pair kind.Shape (is_power_between 1 16)).takes x0.1 x1 t0.0.rest_fits e1 in
     let t2 = (byte_pair kind.Shape (is_power_between 1 16)).takes x1.1 x2 t1.0.rest_fits e2 in
     let t3 = (number_pair w16 (2 ^ 16) kind.Shape (is_lines x1.0 x2.0) wide16).takes x2.1 x3 t2.0.rest_fits e3 in
     let t4 = (number_pair w16 (2 ^ 16) kind.Shape (λ n. nat_le n 1024) wide16).takes x3.1 x4 t3.0.rest_fits e4 in
     let t5 = (number_pair w64 (2 ^ 64) kind.Shape any wide64).takes x4.1 x5 t4.0.rest_fits e5 in
     let t6 = (byte_pair kind.Shape (λ n. nat_lt n 2)).takes x5.1 x6 t5.0.rest_fits e6 in
-    subst (λ (y : Head × Cursor). Takes c (head_bytes B y.0) y.1 × IsHead y.0)
+    subst (λ (y : Head × Cursor). Takes c (head_bytes B y.0) y.1 × IsHead y.0 × (is_size B ≡ true))
     (ok_is (record { banks = x1.0; regions = x2.0; lines = x3.0; spares = x4.0; seed = x5.0; home = x6.0 }, x6.1) x n6)
     (head_joined B (record { banks = x1.0; regions = x2.0; lines = x3.0; spares = x4.0; seed = x5.0; home = x6.0 }) x0.0 c x0.1 x1.1 x2.1 x3.1 x4.1 x5.1 x6.1 t0 t1 t2 t3 t4 t5 t6))))))))
 
-head_read : (B : ℕ) (h : Head) (c c0 c1 c2 c3 c4 c5 c6 : Cursor) → size_at (λ n. n == B) c ≡ Ok (B, c0)
+head_read : (B : ℕ) (h : Head) (c c0 c1 c2 c3 c4 c5 c6 : Cursor) → size_at (is_size_of B) c ≡ Ok (B, c0)
     → byte_at kind.Shape (is_power_between 1 16) c0 ≡ Ok (h.banks, c1)
     → byte_at kind.Shape (is_power_between 1 16) c1 ≡ Ok (h.regions, c2)
     → number_at w16 kind.Shape (is_lines h.banks h.regions) c2 ≡ Ok (h.lines, c3)
@@ -346,16 +347,16 @@ unfolding head_at
 head_read B h c c0 c1 c2 c3 c4 c5 c6 p0 p1 p2 p3 p4 p5 p6 =
     gives_on _ _ _ _ p0 (gives_on _ _ _ _ p1 (gives_on _ _ _ _ p2 (gives_on _ _ _ _ p3 (gives_on _ _ _ _ p4 (gives_on _ _ _ _ p5 (gives_on _ _ _ _ p6 refl))))))
 
-head_again : (B : ℕ) → B ≤ 128 → (h : Head) (c : Cursor) (rest : List ℕ) → IsHead h → c.left ≡ head_bytes B h ++ rest → (after : Cursor) × (head_at B c ≡ Ok (h, after)) × (after.left ≡ rest)
+head_again : (B : ℕ) → B ≤ 128 → is_size B ≡ true → (h : Head) (c : Cursor) (rest : List ℕ) → IsHead h → c.left ≡ head_bytes B h ++ rest → (after : Cursor) × (head_at B c ≡ Ok (h, after)) × (after.left ≡ rest)
 unfolding head_at
-head_again B few h c rest is e =
+head_again B few sized h c rest is e =
     let fit = head-fits h is in
     let p1 = byte_pair kind.Shape (is_power_between 1 16) in
     let p3 = number_pair w16 (2 ^ 16) kind.Shape (is_lines h.banks h.regions) wide16 in
     let p4 = number_pair w16 (2 ^ 16) kind.Shape (λ n. nat_le n 1024) wide16 in
     let p5 = number_pair w64 (2 ^ 64) kind.Shape any wide64 in
     let p6 = byte_pair kind.Shape (λ n. nat_lt n 2) in
-    let a0 = size_again (λ n. n == B) B c (u8 h.banks ++ (u8 h.regions ++ (u16 h.lines ++ (u16 h.spares ++ (u64 h.seed ++ (u8 h.home ++ rest)))))) (omega (arith, few), same B) e in
+    let a0 = size_again (is_size_of B) B c (u8 h.banks ++ (u8 h.regions ++ (u16 h.lines ++ (u16 h.spares ++ (u64 h.seed ++ (u8 h.home ++ rest)))))) (omega (arith, few), and_from (is_size B) (B == B) sized (same B)) e in
     let a1 = p1.again h.banks a0.0 (u8 h.regions ++ (u16 h.lines ++ (u16 h.spares ++ (u64 h.seed ++ (u8 h.home ++ rest))))) (omega (arith, fit.banks), is.banks) a0.2 in
     let a2 = p1.again h.regions a1.0 (u16 h.lines ++ (u16 h.spares ++ (u64 h.seed ++ (u8 h.home ++ rest)))) (omega (arith, fit.regions), is.regions) a1.2 in
     let a3 = p3.again h.lines a2.0 (u16 h.spares ++ (u64 h.seed ++ (u8 h.home ++ rest))) (omega (arith, fit.lines), is.lines) a2.2 in
@@ -432,7 +433,7 @@ image_joined {B} {M} s c c0 c1 c2 none t0 t1 t2 =
       m0.parts ∙ ap (λ (r : List ℕ). image_bytes s ++ r) nothing ∙ append-nil (image_bytes s),
     )
 
-pub image_takes : (B M : ℕ) → B % 8 ≡ 0 → (bytes : List ℕ) (s : Saved B M) → IsBytes bytes → image_of B M bytes ≡ Ok s → IsSaved s × (bytes ≡ image_bytes s)
+pub image_takes : (B M : ℕ) → B % 8 ≡ 0 → (bytes : List ℕ) (s : Saved B M) → IsBytes bytes → image_of B M bytes ≡ Ok s → IsSaved s × (bytes ≡ image_bytes s) × (is_size B ≡ true)
 unfolding image_of
 image_takes B M whole bytes s small e =
     bound _ _ s _ e (λ x0 e0 n0. bound _ _ s _ n0 (λ x1 e1 n1. bound _ _ s _ n1 (λ x2 e2 n2.
@@ -440,8 +441,8 @@ image_takes B M whole bytes s small e =
     let t0 = head_takes B (record { at = 0; left = bytes }) x0 small e0 in
     let t1 = times_takes (bank_at B x0.0) bank_bytes (BankFits B x0.0) (bank_pair B whole x0.0) x0.0.banks x0.1 x1 t0.0.rest_fits e1 in
     let t2 = times_takes (cells_at B M) cells_bytes (RowFits B M) (cells_pair B M) (x0.0.banks * array_lines_in x0.0) x1.1 x2 t1.0.rest_fits e2 in
-    subst (λ (v : Saved B M). IsSaved v × (bytes ≡ image_bytes v)) g.1
-    (image_joined (record { head = x0.0; parts = x1.0; cells = x2.0 }) (record { at = 0; left = bytes }) x0.1 x1.1 x2.1 g.0 t0 t1 t2))))
+    let made = image_joined (record { head = x0.0; parts = x1.0; cells = x2.0 }) (record { at = 0; left = bytes }) x0.1 x1.1 x2.1 g.0 (t0.0, t0.1) t1 t2 in
+    subst (λ (v : Saved B M). IsSaved v × (bytes ≡ image_bytes v) × (is_size B ≡ true)) g.1 (made.0, made.1, t0.2))))
 
 -- the parts of an image, one behind another
 image_read : (B M : ℕ) (bytes : List ℕ) (s : Saved B M) (c0 c1 c2 : Cursor) → head_at B (record { at = 0; left = bytes }) ≡ Ok (s.head, c0)
@@ -450,14 +451,14 @@ image_read : (B M : ℕ) (bytes : List ℕ) (s : Saved B M) (c0 c1 c2 : Cursor) 
 unfolding image_of
 image_read B M bytes s c0 c1 c2 p0 p1 p2 none = gives_on _ _ _ _ p0 (gives_on _ _ _ _ p1 (gives_on _ _ _ _ p2 (rw none refl)))
 
-pub image_again : (B M : ℕ) → B % 8 ≡ 0 → B ≤ 128 → (s : Saved B M) → IsSaved s → image_of B M (image_bytes s) ≡ Ok s
+pub image_again : (B M : ℕ) → B % 8 ≡ 0 → B ≤ 128 → is_size B ≡ true → (s : Saved B M) → IsSaved s → image_of B M (image_bytes s) ≡ Ok s
 unfolding image_of image_bytes
-image_again B M whole few s k =
+image_again B M whole few sized s k =
     let h = s.head in
     let w1 = flat_map bank_bytes s.parts in
     let w2 = flat_map cells_bytes s.cells in
     let c : Cursor = record { at = 0; left = head_bytes B h ++ (w1 ++ w2) } in
-    let a0 = head_again B few h c (w1 ++ w2) k.head refl in
+    let a0 = head_again B few sized h c (w1 ++ w2) k.head refl in
     let a1 = times_again (bank_at B h) bank_bytes (BankFits B h) (bank_pair B whole h) s.parts a0.0 w2 (all_map (IsSavedBank h) (BankFits B h) s.parts (bank_back B h k.head) (all_to (IsSavedBank h) s.parts k.parts)) a0.2 in
     let read1 = subst (λ (n : ℕ). times n (bank_at B h) a0.0 ≡ Ok (s.parts, a1.0)) k.one_each a1.1 in
     let a2 = times_again (cells_at B M) cells_bytes (RowFits B M) (cells_pair B M) s.cells a1.0 [] (all_map (IsSavedRow B M) (RowFits B M) s.cells (λ row f. (f.bits, f.meta)) (all_to (IsSavedRow B M) s.cells k.rows)) (a1.2 ∙ sym (append-nil w2)) in
@@ -466,8 +467,13 @@ image_again B M whole few s k =
     image_read B M c.left s a0.0 a1.0 a2.0 a0.1 read1 read2 none
 
 pub is_found : {B M : ℕ} (bytes : List ℕ) (r : Result (Saved B M) ReadImage) → B % 8 ≡ 0 → IsBytes bytes → Gives (λ image. image) r (image_of B M bytes) → IfOk r (λ image. IsSaved image × (bytes ≡ image_bytes image))
-is_found {B} {M} bytes (Ok s) whole small given = image_takes B M whole bytes s small given
+is_found {B} {M} bytes (Ok s) whole small given = let t = image_takes B M whole bytes s small given in (t.0, t.1)
 is_found bytes (Err e) whole small given = tt
+
+-- only lines of a size that an image may have are read
+pub is_sized : {B M : ℕ} (bytes : List ℕ) (r : Result (Saved B M) ReadImage) → B % 8 ≡ 0 → IsBytes bytes → Gives (λ image. image) r (image_of B M bytes) → OnOk r (IsTrue (is_size B))
+is_sized {B} {M} bytes (Ok s) whole small given = let t = image_takes B M whole bytes s small given in t.2
+is_sized bytes (Err e) whole small given = tt
 
 -- the first two fields of what is saved
 pub size-is : (B M : ℕ) (s : Saved B M) → is_size B ≡ true → B < 256 → size_of (image_bytes s) ≡ Ok B

@@ -3,8 +3,8 @@ use Rattle.std.specs.Prelude.{ℕ, zero, suc, ◌+◌, ◌*◌, ◌/◌, ◌&&�
 use Rattle.std.specs.Str.{bytes_eq}
 use Rattle.std.specs.Int.{Width, w16, w32, w64, byte_len, from_le_bytes}
 use Rattle.masked_bytes.specs.Masked.{gives_some, zero_elsewhere}
-use Rattle.pcm_cells.specs.Rows.{bit_of}
-use Rattle.pcm_cells.specs.declared.row.Cells.{Cells}
+use Rattle.cell_rows.specs.Rows.{bit_of}
+use Rattle.cell_rows.specs.declared.row.Cells.{Cells}
 use Rattle.pcm_image.specs.declared.RegionImage.{RegionImage}
 use Rattle.pcm_image.specs.declared.EntryImage.{EntryImage}
 use Rattle.pcm_image.specs.declared.ImageFault.{ImageFault}
@@ -59,18 +59,23 @@ times (suc n) read c = do
   others ← times n read first.1
   Ok (first.0 ∷ others.0, others.1)
 
--- the first two fields; the size is 64 or 128, or the one that is asked for
+-- the first two fields; the size of a line passes a test
 unfoldable pub size_at : (ℕ → Bool) → Cursor → Got ℕ
 size_at test c = do
   m ← field 8 Magic (λ bytes. bytes_eq bytes magic) any c
   byte_at Size test m.1
 
+-- the size is 64 or 128
 abbrev pub is_size : ℕ → Bool
 is_size n = if n == 64 then true else n == 128
 
+-- and it is the one that is asked for
+abbrev pub is_size_of : ℕ → ℕ → Bool
+is_size_of B n = is_size n && n == B
+
 unfoldable pub head_at : ℕ → Cursor → Got Head
 head_at B c = do
-  size ← size_at (λ n. n == B) c
+  size ← size_at (is_size_of B) c
   banks ← byte_at Shape (is_power_between 1 16) size.1
   regions ← byte_at Shape (is_power_between 1 16) banks.1
   lines ← number_at w16 Shape (is_lines banks.0 regions.0) regions.1

@@ -1,7 +1,7 @@
 -- A saved module: what its banks keep, and what the cells of its array hold.
 use Rattle.std.specs.Prelude.{◌≡◌, ℕ, ◌+◌, ◌*◌, ◌^◌, ◌%◌, ◌<◌, ◌≤◌, ◌==◌, ◌&&◌, nat_le, Bool, if◌then◌else◌, List, length, All, IsTrue}
 use Rattle.masked_bytes.specs.Masked.{IsMasked}
-use Rattle.pcm_cells.specs.declared.row.Cells.{Cells}
+use Rattle.cell_rows.specs.declared.row.Cells.{Cells}
 use Rattle.module_shape.specs.Limits.{is_power_between}
 use Rattle.pcm_image.specs.declared.RegionImage.{RegionImage}
 use Rattle.pcm_image.specs.declared.EntryImage.{EntryImage}

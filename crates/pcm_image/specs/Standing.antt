@@ -8,7 +8,7 @@ use Rattle.start_gap.specs.Slots.{slot_at}
 use Rattle.spare_pool.specs.Table.{Table, line_by}
 use Rattle.feistel_map.specs.Log2.{log2}
 use Rattle.feistel_map.specs.Network.{network_of, feistel}
-use Rattle.pcm_cells.specs.Rows.{zero_row}
+use Rattle.cell_rows.specs.Rows.{zero_row}
 use Rattle.ecp_line.specs.Reading.{decode}
 use Rattle.pcm_image.specs.declared.RegionImage.{RegionImage}
 use Rattle.pcm_image.specs.declared.EntryImage.{EntryImage}

@@ -5,7 +5,7 @@ ghost use Rattle.pcm_image.specs.declared.fields.ReadImage.TheVariants.{NoMemory
 ghost use Rattle.pcm_image.specs.declared.ImageKind.TheVariants as kind;
 ghost use Rattle.module_shape.specs.Limits.{is_power_between};
 ghost use Rattle.pcm_image.specs.Saved.{is_lines};
-ghost use Rattle.pcm_image.specs.Reading.{any, byte_at, number_at, size_at, head_at};
+ghost use Rattle.pcm_image.specs.Reading.{any, byte_at, number_at, is_size_of, size_at, head_at};
 ghost use Rattle.pcm_image.specs.Giving.{Gives, IsSmall, cursor, head_view};
 
 use crate::{ImageFault, ImageKind};
@@ -228,11 +228,11 @@ fn home_at<'a>(fields: Fields<'a>) -> Result<(u8, Fields<'a>), ReadImage>
     Ok((number, rest))
 }
 
-// The first two fields: an image's first eight bytes, and the size of its lines, which is the one that is asked for.
+// The first two fields: an image's first eight bytes, and the size of its lines, which is 64 or 128 and the one that is asked for.
 #[tactic(auto, unfolding(crate::specs::Reading::size_at))]
 fn size_is<'a>(fields: Fields<'a>, size: usize) -> Result<(u8, Fields<'a>), ReadImage>
     requires { fields.at < 2 ^ 31 - 8 }
-    ensures gives { Gives (λ x. (x.0, cursor x.1)) result (size_at (λ n. n == size) (cursor fields.entry)) }
+    ensures gives { Gives (λ x. (x.0, cursor x.1)) result (size_at (is_size_of size) (cursor fields.entry)) }
     ensures at { IfOk result (λ x. x.1.at ≡ fields.entry.at + 9) }
 {
     if fields.left.len() < 8 {
@@ -247,7 +247,7 @@ fn size_is<'a>(fields: Fields<'a>, size: usize) -> Result<(u8, Fields<'a>), Read
         left,
     };
     let (number, rest) = u8_at(behind)?;
-    if number as usize != size {
+    if !matches!(number, 64 | 128) || number as usize != size {
         return Err(bad(&behind, ImageKind::Size));
     }
     Ok((number, rest))

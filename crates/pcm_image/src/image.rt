@@ -1,6 +1,6 @@
 // A saved module in memory.
 use crate::{EntryImage, RegionImage};
-use pcm_cells::Cells;
+use cell_rows::Cells;
 use std::marker::Model;
 
 /// What is saved of a bank: its mark, the slots of its used spares, its registers, and its queue, the oldest write first.

@@ -1,17 +1,17 @@
 // The parts of an image: its banks, field by field, and its rows of cells.
-ghost use Rattle.std.specs.Prelude.{◌≡◌, ◌+◌, ◌*◌, ◌/◌, ◌%◌, ◌^◌, ◌<◌, ◌≤◌, ◌&&◌, ◌||◌, ◌==◌, ℕ, length, Ok, Err, IfOk, MatchResult, nat_le, nat_lt};
+ghost use Rattle.std.specs.Prelude.{◌≡◌, ◌+◌, ◌*◌, ◌/◌, ◌%◌, ◌^◌, ◌<◌, ◌≤◌, ◌&&◌, ◌||◌, ◌==◌, ℕ, length, Ok, Err, IfOk, OnOk, IsTrue, MatchResult, nat_le, nat_lt};
 ghost use Rattle.std.specs.Int.{w16, w32};
 ghost use Rattle.masked_bytes.specs.Masked.{gives_some, zero_elsewhere};
-ghost use Rattle.pcm_cells.specs.Rows.{bit_of};
+ghost use Rattle.cell_rows.specs.Rows.{bit_of};
 ghost use Rattle.pcm_image.specs.declared.ImageKind.TheVariants as kind;
 ghost use Rattle.pcm_image.specs.Saved.{Saved, IsSaved, IsSize, slots_in, lines_in, array_lines_in};
 ghost use Rattle.pcm_image.specs.Spelling.{image_bytes};
-ghost use Rattle.pcm_image.specs.Reading.{any, byte_at, number_at, field, times, region_at, given_from, is_given, entry_at, bank_at, cells_at, image_of, size_of};
+ghost use Rattle.pcm_image.specs.Reading.{any, byte_at, number_at, field, times, region_at, given_from, is_given, entry_at, bank_at, cells_at, image_of, is_size, size_of};
 ghost use Rattle.pcm_image.specs.Giving.{Gives, IsSmall, cursor, head_view};
 
 use crate::fields::{Fields, HeadImage, ReadImage, bad, head, u8_at, u16_at, u32_at};
 use crate::{BankImage, EntryImage, Image, ImageFault, ImageKind, RegionImage};
-use pcm_cells::Cells;
+use cell_rows::Cells;
 use std::alloc::Global;
 
 // The mark of a bank.
@@ -477,10 +477,12 @@ pub fn read_image<const B: usize, const M: usize>(
     bytes: &[u8],
 ) -> Result<Image<B, M>, ReadImage>
     requires { IsSize B M }
+    // Only lines of 64 or 128 bytes are read.
+    ensures size { OnOk result (IsTrue (is_size B)) }
     // What is read is saved so, each byte of it.
     ensures found { IfOk result (λ image. IsSaved image × (bytes.now ≡ image_bytes image)) }
-    // What is saved so is read, unless memory runs out.
-    ensures only { (s : Saved B M) → IsSaved s → bytes.now ≡ image_bytes s
+    // What is saved so of such lines is read, unless memory runs out.
+    ensures only { IsTrue (is_size B) → (s : Saved B M) → IsSaved s → bytes.now ≡ image_bytes s
         → Gives (λ image. image) result (Ok s) }
     // Which field fails, and where it begins.
     ensures exact { Gives (λ image. image) result (image_of B M bytes.now) }

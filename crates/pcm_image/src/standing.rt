@@ -4,7 +4,7 @@ ghost use Rattle.masked_bytes.specs.Masked.{laid};
 ghost use Rattle.masked_bytes.specs.Entries.{layer_of, AllMasked};
 ghost use Rattle.spare_pool.specs.Table.{line_by, line_from};
 ghost use Rattle.feistel_map.specs.Log2.{log2};
-ghost use Rattle.pcm_cells.specs.Rows.{zero_row};
+ghost use Rattle.cell_rows.specs.Rows.{zero_row};
 ghost use Rattle.ecp_line.specs.Layout.{IsLayout};
 ghost use Rattle.pcm_image.specs.Saved.{IsHead, IsSaved, IsSavedBank, total_in, lines_in, slots_in, array_lines_in};
 ghost use Rattle.pcm_image.specs.Giving.{head_view};
@@ -12,10 +12,10 @@ ghost use Rattle.pcm_image.specs.Standing.{stands_for, mixed_in, entry_of, rotat
 
 use crate::fields::HeadImage;
 use crate::{BankImage, EntryImage, Image};
+use cell_rows::Cells;
 use ecp_line::Ecp;
 use feistel_map::Feistel;
 use masked_bytes::layers::lay_over;
-use pcm_cells::Cells;
 use start_gap::Registers;
 
 // The line of a slot, behind these spares: the last that was given to it, or its own.

@@ -5,7 +5,7 @@ ghost use Rattle.ecp_line.specs.Layout.{number};
 ghost use Rattle.pcm_image.specs.Spelling.{magic, u8, u16, u32, u64, packed, head_bytes, region_bytes, entry_bytes, cells_bytes};
 
 use crate::{EntryImage, RegionImage};
-use pcm_cells::Cells;
+use cell_rows::Cells;
 use pcm_io::Text;
 
 /// The 24 bytes of a head.

@@ -71,8 +71,3 @@ AppendsPrefix-longer a b piece more prefix =
     let short : prefix.0 ≤ length (piece ++ more) = rw length-append (omega (arith, prefix.1)) in
     let within : prefix.0 ≤ length piece = prefix.1 in
     (prefix.0, short, rw (take-append-le prefix.0 piece more within) prefix.2)
-
--- what was taken up to the end of told bytes is all of them
-pub Takes-all : (bytes : List ℕ) (now : Option (List ℕ)) (i j : ℕ) (taken : List ℕ) → Takes (Some bytes) now i j taken → IsAtEnd now → taken ≡ bytes
-Takes-all bytes None i j taken takes at_end = absurd takes.first
-Takes-all bytes (Some rest) i j taken takes at_end = sym (takes.first ∙ ap (λ xs. taken ++ xs) at_end ∙ append-nil taken)

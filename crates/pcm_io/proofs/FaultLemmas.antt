@@ -4,14 +4,6 @@ use Rattle.std.proofs.lemmas.Bool.{cases_lt}
 use Rattle.std.proofs.Math.Nat.{add_assoc}
 use Rattle.pcm_io.specs.Faults.{Rose, raised_by}
 
--- a count that rose in a later part rose in the whole
-pub Rose-later : (a b c : ℕ) → a ≤ b → Rose b c → Rose a c
-Rose-later a b c earlier later = omega arith
-
--- a count that rose in an earlier part rose in the whole
-pub Rose-earlier : (a b c : ℕ) → Rose a b → b ≤ c → Rose a c
-Rose-earlier a b c earlier later = omega arith
-
 -- a count that is raised by nothing
 pub raised_by-zero : (count : ℕ) → raised_by count 0 ≡ count
 raised_by-zero count = omega arith

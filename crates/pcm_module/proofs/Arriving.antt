@@ -4,7 +4,7 @@ use Rattle.masked_bytes.proofs.Truth.{neither_first, neither_second}
 use Rattle.std.specs.Prelude.{IsTrue}
 use Rattle.std.proofs.lemmas.Bool.{ne_eqb, or_from}
 use Rattle.std.proofs.lemmas.List.Elements.{All-head, All-tail}
-use Rattle.pcm_cells.specs.Device.{ArrayState}
+use Rattle.cell_rows.specs.Device.{ArrayState}
 use Rattle.result_rows.specs.declared.Outcome.{Outcome}
 use Rattle.bank_shape.specs.declared.BankShape.{BankShape}
 use Rattle.bank_model.specs.Events.{Write, Read, Serve, Begin, Iterate, Cut, RowsBelow}
@@ -19,9 +19,9 @@ use Rattle.clock_laws.proofs.Extending.{both_added_law}
 use Rattle.module_laws.specs.Asking.{Asked, AreAsked, IsAsked}
 use Rattle.reg_lines.specs.declared.Change.{Change}
 use Rattle.clock_laws.specs.Arriving.{cancels_for}
-use Rattle.bank_clock.specs.Cancelling.{cancel_by, cancel_first}
-use Rattle.bank_clock.specs.Extending.{Extends, IsOpen, IsQuiet, EndsAction, outcome_in}
-use Rattle.bank_clock.proofs.Running.{none-arrives}
+use Rattle.bank_timing.specs.Cancelling.{cancel_by, cancel_first}
+use Rattle.bank_timing.specs.Extending.{Extends, IsOpen, IsQuiet, EndsAction, outcome_in}
+use Rattle.bank_timing.proofs.Running.{none-arrives}
 use Rattle.bank_laws.specs.Ticks.{ends_action}
 use Rattle.pcm_module.specs.Stepping.{IsStep}
 use Rattle.pcm_module.proofs.Moving.{untouched, open_kept, outcome_at_row}

@@ -5,7 +5,7 @@ use Rattle.std.proofs.lemmas.Bool.{ne_eqb, cases_lt, cases_eq, and_right, or_fro
 use Rattle.std.proofs.lemmas.Option.{slice_get_within}
 use Rattle.std.proofs.lemmas.List.Elements.{All-nil, All-cons, All-weaker}
 use Rattle.circular_buffer.proofs.Places.{slice_get-set_same, slice_get-set_other}
-use Rattle.pcm_cells.specs.Device.{ArrayState}
+use Rattle.cell_rows.specs.Device.{ArrayState}
 use Rattle.result_rows.specs.declared.Outcome.{Outcome}
 use Rattle.result_rows.specs.Table.{HasRow}
 use Rattle.row_rules.specs.Table.{is_of}
@@ -15,13 +15,13 @@ use Rattle.module_shape.specs.Addresses.{ModuleShape, bank_shape, array_lines_of
 use Rattle.module_shape.proofs.Bounds.{banks_apart}
 use Rattle.clock_laws.specs.State.{ClockState}
 use Rattle.clock_laws.specs.Standing.{arrives_with}
-use Rattle.module_laws.specs.Asking.{Asked, asked_in, asked_of}
-use Rattle.bank_clock.specs.Extending.{outcome_in}
+use Rattle.module_laws.specs.Asking.{Asked, AreAsked, asked_in, asked_of}
+use Rattle.bank_timing.specs.Extending.{Extends, outcome_in}
 use Rattle.pcm_module.specs.Stepping.{IsAt, IsStep}
 use Rattle.pcm_module.specs.Replaying.{BankReplays, RowsFall, outcome_so_far}
 use Rattle.pcm_module.proofs.Naming.{is_numbered, names, not_named, above_all, rows_of_bank_all, All-both}
 use Rattle.pcm_module.proofs.Logging.{AreOff}
-use Rattle.pcm_module.proofs.Steps.{own_replays, other_replays}
+use Rattle.pcm_module.proofs.Steps.{own_extends, other_replays}
 
 -- the lines of two banks of a module are apart
 pub banks_off : (shape : ModuleShape) (bank other : ℕ) → bank ≢ other → AreOff (bank_shape shape bank) (bank_shape shape other)
@@ -67,21 +67,21 @@ module _ {n m e : ℕ} (shape : ModuleShape) (pace : Pace) where
       (bank : ℕ) → bank < shape.banks
       → IsSomeAnd (slice_get banks bank) (BankReplays (bank_shape shape bank) pace tick rows (h bank) (owns bank) array results)
 
-  -- a row that arrives at one bank leaves each bank replaying: that one with the row, and the others what they did
-  pub all_step : (tick rows later above bank : ℕ) (h grown : ℕ → List (TimedEvent n m)) (owns asked : ℕ → List (Asked n)) (banks : List (ClockState n m e))
-      (added : List (TimedEvent n m)) (a : Asked n) (clock next : ClockState n m e) (before after : ArrayState n m) (results recorded : List (Outcome n))
+  -- events at one bank leave each bank replaying: that one what is asked by then, and the others what they did
+  pub all_extend : (tick rows later above bank : ℕ) (h grown : ℕ → List (TimedEvent n m)) (owns asked : ℕ → List (Asked n)) (own : List (Asked n)) (banks : List (ClockState n m e))
+      (added : List (TimedEvent n m)) (clock next : ClockState n m e) (before after : ArrayState n m) (results recorded : List (Outcome n))
       → AllReplay tick rows h owns before results banks → bank < shape.banks → slice_get banks bank ≡ Some clock
-      → IsStep (h bank) added a clock next before after results recorded → IsAt later above next recorded
+      → Extends (h bank) added clock next before after results recorded → AreAsked (added ++ h bank) own → IsAt later above next recorded
       → (grown bank ≡ added ++ h bank) → ((other : ℕ) → other ≢ bank → grown other ≡ h other)
-      → (asked bank ≡ a ∷ owns bank) → ((other : ℕ) → other ≢ bank → asked other ≡ owns other)
-      → All (λ c. HasRow results c.row) (a ∷ owns bank)
-      → All (λ c. is_numbered c.asks ≡ false → names (a ∷ owns bank) c.row ≡ false) (a ∷ owns bank)
-      → outcome_in results a.row ≡ outcome_so_far (bank_shape shape bank) (h bank) a a.asks
+      → (asked bank ≡ own) → ((other : ℕ) → other ≢ bank → asked other ≡ owns other)
+      → All (λ c. HasRow results c.row) own
+      → All (λ c. is_numbered c.asks ≡ false → names own c.row ≡ false) own
+      → All (λ c. outcome_in results c.row ≡ outcome_so_far (bank_shape shape bank) (h bank) c c.asks) own
       → ((other : ℕ) → other ≢ bank → All (λ c. HasRow results c.row) (owns other))
-      → ((other : ℕ) → other ≢ bank → All (λ c. names (a ∷ owns bank) c.row ≡ false) (owns other))
+      → ((other : ℕ) → other ≢ bank → All (λ c. names own c.row ≡ false) (owns other))
       → tick ≤ later → rows ≤ above
       → AllReplay later above grown asked after recorded (slice_set banks bank next)
-  all_step tick rows later above bank h grown owns asked banks added a clock next before after results recorded all in_range is step at grown_is grown_off asked_is asked_off has cuts ready others apart in_time below k exists =
+  all_extend tick rows later above bank h grown owns asked own banks added clock next before after results recorded all in_range is extends arrived at grown_is grown_off asked_is asked_off has cuts so_far others apart in_time below k exists =
       elim (cases_eq k bank) [
         | inl same ↦ at_get (P k) (slice_get (slice_set banks bank next) k) next
             (ap (λ j. slice_get (slice_set banks bank next) j) same ∙ slice_get-set_same banks bank next (slice_get_within banks bank clock is)) (here same)
@@ -98,8 +98,8 @@ module _ {n m e : ℕ} (shape : ModuleShape) (pace : Pace) where
       here same =
           subst (λ j. P j next) (sym same)
           (subst (λ xs. BankReplays (bank_shape shape bank) pace later above xs (asked bank) after recorded next) (sym grown_is)
-          (subst (λ own. BankReplays (bank_shape shape bank) pace later above (added ++ h bank) own after recorded next) (sym asked_is)
-          (own_replays (bank_shape shape bank) pace tick rows later above (h bank) added a (owns bank) clock next before after results recorded first step at has cuts ready)))
+          (subst (λ rows. BankReplays (bank_shape shape bank) pace later above (added ++ h bank) rows after recorded next) (sym asked_is)
+          (own_extends (bank_shape shape bank) pace tick rows later above (h bank) added (owns bank) own clock next before after results recorded first extends arrived at has cuts so_far)))
 
       there : k ≢ bank → (o : Option (ClockState n m e)) → slice_get banks k ≡ o
           → IsSomeAnd o (BankReplays (bank_shape shape k) pace tick rows (h k) (owns k) before results) → IsSomeAnd (slice_get (slice_set banks bank next) k) (P k)
@@ -107,13 +107,35 @@ module _ {n m e : ℕ} (shape : ModuleShape) (pace : Pace) where
       there off (Some c) is f =
           at_get (P k) (slice_get (slice_set banks bank next) k) c (slice_get-set_other banks bank k next off ∙ is)
           (subst (λ xs. BankReplays (bank_shape shape k) pace later above xs (asked k) after recorded c) (sym (grown_off k off))
-          (subst (λ own. BankReplays (bank_shape shape k) pace later above (h k) own after recorded c) (sym (asked_off k off))
-          (other_replays (bank_shape shape k) (bank_shape shape bank) pace tick rows later above (h k) (h bank) added (owns k) c clock next before after results recorded f first.leads step.extends
+          (subst (λ rows. BankReplays (bank_shape shape k) pace later above (h k) rows after recorded c) (sym (asked_off k off))
+          (other_replays (bank_shape shape k) (bank_shape shape bank) pace tick rows later above (h k) (h bank) added (owns k) c clock next before after results recorded f first.leads extends
           first.shaped (banks_off shape bank k (λ e. off (sym e)))
           (others k off)
-          (All-weaker (λ (c : Asked n). names (a ∷ owns bank) c.row ≡ false) (λ (c : Asked n). arrives_with (added ++ h bank) c.row ≡ false)
-          (λ c none. not_named c.row (added ++ h bank) (a ∷ owns bank) (step.arrives (owns bank) first.arrived) none) (owns k) (apart k off))
+          (All-weaker (λ (c : Asked n). names own c.row ≡ false) (λ (c : Asked n). arrives_with (added ++ h bank) c.row ≡ false)
+          (λ c none. not_named c.row (added ++ h bank) own arrived none) (owns k) (apart k off))
           in_time below)))
+
+  -- a row that arrives at one bank leaves each bank replaying: that one with the row, and the others what they did
+  pub all_step : (tick rows later above bank : ℕ) (h grown : ℕ → List (TimedEvent n m)) (owns asked : ℕ → List (Asked n)) (banks : List (ClockState n m e))
+      (added : List (TimedEvent n m)) (a : Asked n) (clock next : ClockState n m e) (before after : ArrayState n m) (results recorded : List (Outcome n))
+      → AllReplay tick rows h owns before results banks → bank < shape.banks → slice_get banks bank ≡ Some clock
+      → IsStep (h bank) added a clock next before after results recorded → IsAt later above next recorded
+      → (grown bank ≡ added ++ h bank) → ((other : ℕ) → other ≢ bank → grown other ≡ h other)
+      → (asked bank ≡ a ∷ owns bank) → ((other : ℕ) → other ≢ bank → asked other ≡ owns other)
+      → All (λ c. HasRow results c.row) (a ∷ owns bank)
+      → All (λ c. is_numbered c.asks ≡ false → names (a ∷ owns bank) c.row ≡ false) (a ∷ owns bank)
+      → outcome_in results a.row ≡ outcome_so_far (bank_shape shape bank) (h bank) a a.asks
+      → ((other : ℕ) → other ≢ bank → All (λ c. HasRow results c.row) (owns other))
+      → ((other : ℕ) → other ≢ bank → All (λ c. names (a ∷ owns bank) c.row ≡ false) (owns other))
+      → tick ≤ later → rows ≤ above
+      → AllReplay later above grown asked after recorded (slice_set banks bank next)
+  all_step tick rows later above bank h grown owns asked banks added a clock next before after results recorded all in_range is step at grown_is grown_off asked_is asked_off has cuts ready others apart in_time below =
+      all_extend tick rows later above bank h grown owns asked (a ∷ owns bank) banks added clock next before after results recorded all in_range is step.extends
+      (step.arrives (owns bank) first.arrived) at grown_is grown_off asked_is asked_off has cuts
+      (All-cons (λ (c : Asked n). outcome_in results c.row ≡ outcome_so_far (bank_shape shape bank) (h bank) c c.asks) a (owns bank) ready first.recorded) others apart in_time below
+    where
+      first : BankReplays (bank_shape shape bank) pace tick rows (h bank) (owns bank) before results clock
+      first = from_get (BankReplays (bank_shape shape bank) pace tick rows (h bank) (owns bank) before results) (slice_get banks bank) clock is (all bank in_range)
 
 module _ {n : ℕ} (home number : ℕ → ℕ) where
   -- no other row of a bank has the number of a cut's row

@@ -1,7 +1,7 @@
 -- What a bank leaves of the array beyond all banks, and of a log.
 use Rattle.std.proofs.Common.{◌≡◌, ℕ, ◌*◌, ◌<◌, List, [], ◌++◌, refl, sym, ap, subst, ◌∙◌, inr, append_assoc, append-nil, arith}
-use Rattle.pcm_cells.specs.declared.array.Sense.{Sense}
-use Rattle.pcm_cells.specs.Device.{ArrayState}
+use Rattle.cell_rows.specs.declared.array.Sense.{Sense}
+use Rattle.cell_rows.specs.Device.{ArrayState}
 use Rattle.bank_shape.specs.declared.BankShape.{BankShape}
 use Rattle.bank_model.specs.Timing.{TimedEvent}
 use Rattle.bank_model.specs.Adding.{Adds, senses_of}

@@ -5,7 +5,7 @@ use Rattle.std.proofs.lemmas.Bool.{lt-ltb}
 use Rattle.std.proofs.lemmas.List.Elements.{All-tail, All-cons, All-weaker}
 use Rattle.std.proofs.Math.ListN.{length-set}
 use Rattle.circular_buffer.proofs.Places.{slice_get-set_same, slice_get-set_other}
-use Rattle.pcm_cells.specs.Device.{ArrayState}
+use Rattle.cell_rows.specs.Device.{ArrayState}
 use Rattle.masked_bytes.specs.Entries.{has_row}
 use Rattle.result_rows.specs.declared.Outcome.{Outcome}
 use Rattle.result_rows.specs.declared.Outcome.TheVariants as out
@@ -22,7 +22,7 @@ use Rattle.clock_laws.specs.Leads.{Leads}
 use Rattle.clock_laws.specs.Standing.{has_waiting}
 use Rattle.module_laws.specs.Asking.{Asked}
 use Rattle.row_rules.specs.Lines.{IsOfLines}
-use Rattle.bank_clock.specs.Extending.{IsOpen, outcome_in}
+use Rattle.bank_timing.specs.Extending.{IsOpen, outcome_in}
 use Rattle.run_laws.specs.Runs.{pacing_in, bank_of_line, line_in_bank}
 use Rattle.pcm_module.specs.State.{ModuleState, StandsNowhere}
 use Rattle.pcm_module.specs.Shaped.{IsModule}

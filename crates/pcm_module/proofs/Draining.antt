@@ -1,11 +1,11 @@
 -- The banks of a module are drained one after the other.
-use Rattle.std.proofs.Common.{◌≡◌, ◌≢◌, ℕ, ◌+◌, ◌<◌, ◌≤◌, nat_lt, Bool, true, false, List, [], ◌++◌, Option, Some, None, refl, sym, ap, subst, ◌∙◌, inl, inr, append_assoc, arith}
+use Rattle.std.proofs.Common.{◌≡◌, ◌≢◌, ℕ, ◌+◌, ◌<◌, ◌≤◌, nat_lt, Bool, true, false, List, [], ◌∷◌, ◌++◌, Option, Some, None, refl, sym, ap, subst, ◌∙◌, inl, inr, append_assoc, arith}
 use Rattle.std.specs.Prelude.{All, IsSomeAnd, slice_get, slice_set, unwrap_or}
 use Rattle.std.proofs.lemmas.Bool.{cases_eq, lt-ltb, ltb-true}
 use Rattle.std.proofs.lemmas.List.Elements.{All-weaker}
 use Rattle.std.proofs.Math.ListN.{length-set}
 use Rattle.circular_buffer.proofs.Places.{slice_get-some, slice_get-set_same, slice_get-set_other}
-use Rattle.pcm_cells.specs.Device.{ArrayState}
+use Rattle.cell_rows.specs.Device.{ArrayState}
 use Rattle.masked_bytes.specs.Entries.{has_row}
 use Rattle.result_rows.specs.declared.Outcome.{Outcome}
 use Rattle.result_rows.specs.Table.{HasRow}
@@ -16,17 +16,25 @@ use Rattle.module_shape.specs.Addresses.{module_of, bank_shape}
 use Rattle.clock_laws.specs.State.{ClockState}
 use Rattle.clock_laws.specs.Leads.{Leads}
 use Rattle.clock_laws.specs.Standing.{has_waiting, arrives_with}
-use Rattle.module_laws.specs.Asking.{Asked}
-use Rattle.bank_clock.specs.Extending.{LeavesOthers, outcome_in}
-use Rattle.bank_clock.specs.Draining.{Drains}
+use Rattle.module_laws.specs.Asking.{Asked, AreAsked, asked_of}
+use Rattle.module_laws.proofs.LastCuts.{cut-last}
+use Rattle.module_shape.specs.declared.raw.RawShape.{RawShape}
+use Rattle.module_shape.specs.Limits.{IsShape}
+use Rattle.bank_shape.specs.declared.pace.Pace.{Pace}
+use Rattle.bank_model.specs.Timing.{last_tick}
+use Rattle.row_rules.specs.declared.Asks.{Asks}
+use Rattle.row_rules.specs.declared.Asks.TheVariants.{Cuts}
+use Rattle.bank_laws.specs.Resting.{IsCutOff}
+use Rattle.bank_timing.specs.Extending.{LeavesOthers, outcome_in}
+use Rattle.bank_timing.specs.Draining.{DrainsTo}
 use Rattle.end_laws.specs.Ends.{BankEnd}
 use Rattle.end_laws.specs.EndLaws.{IsEndOf}
 use Rattle.run_laws.specs.Runs.{pacing_in, bank_of_line, line_in_bank}
-use Rattle.run_laws.specs.Finishing.{IsFinished}
+use Rattle.run_laws.specs.Finishing.{IsFinishedTo}
 use Rattle.pcm_module.specs.State.{ModuleState, AreEndsOf, bank_at, first_bank}
 use Rattle.pcm_module.specs.Shaped.{IsModule, IsBankOf}
 use Rattle.pcm_module.specs.Replaying.{Replays, ReplaysIn, IsReplayed, asked_in_bank}
-use Rattle.pcm_module.specs.Draining.{MayFinish, IsDrained, DrainedIf, AreDrained}
+use Rattle.pcm_module.specs.Draining.{MayFinish, MayEnd, MayStop, IsDrainedTo, DrainedIf, AreDrained}
 use Rattle.pcm_module.proofs.Naming.{names, not_named, apart_rows, rows_of_bank_all}
 use Rattle.pcm_module.proofs.Arriving.{own_asked}
 use Rattle.pcm_module.proofs.Banks.{banks_off, changed, changed_at, changed_off, at_get, from_get, cuts_apart}
@@ -64,17 +72,36 @@ at_bank {n = n} {m = m} {e = e} module_ P bank there = by (slice_get module_.ban
     by None p = absurd p
     by (Some clock) p = p
 
-module _ {n m e : ℕ} (module_ : ModuleState n m e) (before : ArrayState n m) (results : List (Outcome n)) where
+-- a power cut is of every bank
+own_cut : {n : ℕ} (bank_of line_in : ℕ → ℕ) (bank : ℕ) (a : Asked n) (asked : List (Asked n)) → a.asks ≡ Cuts
+    → asked_of bank_of line_in bank (a ∷ asked) ≡ record { row = a.row; tick = a.tick; asks = Cuts } ∷ asked_of bank_of line_in bank asked
+own_cut bank_of line_in bank a asked is =
+    ap (λ (q : Asks _). asked_of bank_of line_in bank (record { row = a.row; tick = a.tick; asks = q } ∷ asked)) is
+
+-- where the last row was a power cut, each bank's history ends with it
+may_stop : {n m e : ℕ} (off : Bool) (module_ : ModuleState n m e) → IsShape module_.shape → (bank : ℕ) (xs : List (TimedEvent n m)) (asked : List (Asked n)) (array : ArrayState n m)
+    (results : List (Outcome n)) (clock : ClockState n m e) → MayEnd off module_.tick asked → ReplaysIn module_ bank xs asked array results clock → MayStop off xs
+may_stop false module_ shaped bank xs asked array results clock ending f = tt
+may_stop true module_ shaped bank xs [] array results clock ending f = absurd ending
+may_stop {n} {m} {e} true module_ shaped bank xs (a ∷ asked) array results clock ending f =
+    let own : AreAsked xs (record { row = a.row; tick = a.tick; asks = Cuts } ∷ asked_in_bank module_ bank asked) =
+    subst (λ (q : List (Asked n)). AreAsked xs q) (own_cut (bank_of_line module_.shape module_.seed) (line_in_bank module_.shape module_.seed) bank a asked ending.1) f.arrived in
+    let low : last_tick xs ≤ clock.tick = f.leads.told.now in
+    let in_time : clock.tick ≤ module_.tick = f.in_time in
+    (cut-last clock.bank.kept.shape clock.pace e (subst (λ (p : Pace). 1 ≤ p.read) (sym f.paced) shaped.some_read_ticks) (subst (λ (p : Pace). 1 ≤ p.iter) (sym f.paced) shaped.some_iter_ticks)
+    xs (record { row = a.row; tick = a.tick; asks = Cuts }) (asked_in_bank module_ bank asked) f.leads.lawful f.leads.told.whole own refl (omega (arith, low, in_time, ending.0))).0
+
+module _ {n m e : ℕ} (off : Bool) (module_ : ModuleState n m e) (before : ArrayState n m) (results : List (Outcome n)) where
   -- before the first bank
-  pub drain_none : (banks : List (ClockState n m e)) → MayFinish module_ banks before results → AreDrained module_ 0 banks before before results results
+  pub drain_none : (banks : List (ClockState n m e)) → MayFinish off module_ banks before results → AreDrained off module_ 0 banks before before results results
   drain_none banks may = record {
     count = may.count;
     ahead = λ bank above. ap (λ (cs : List (ClockState n m e)). slice_get cs bank) (sym may.same);
     rows = refl;
-    replays = λ h asked f. (
+    replays = λ h asked f ending. (
       (λ bank. []),
       λ k there.
-          subst (λ (b : Bool). IsSomeAnd (slice_get banks k) (DrainedIf module_ b k (h k) asked before results)) (sym (not_below k 0 (omega arith)))
+          subst (λ (b : Bool). IsSomeAnd (slice_get banks k) (DrainedIf off module_ b k (h k) asked before results)) (sym (not_below k 0 (omega arith)))
           (subst (λ (cs : List (ClockState n m e)). IsSomeAnd (slice_get cs k) (ReplaysIn module_ k (h k) asked before results)) may.same (f.banks k there)),
     );
     others = λ row has nowhere. refl;
@@ -82,20 +109,20 @@ module _ {n m e : ℕ} (module_ : ModuleState n m e) (before : ArrayState n m) (
   }
 
   module _ (reached : ℕ) (banks : List (ClockState n m e)) (between : ArrayState n m) (recorded : List (Outcome n)) (clock : ClockState n m e)
-      (so_far : AreDrained module_ reached banks before between results recorded) (exists : reached < module_.shape.banks) (is : slice_get banks reached ≡ Some clock) where
+      (so_far : AreDrained off module_ reached banks before between results recorded) (exists : reached < module_.shape.banks) (is : slice_get banks reached ≡ Some clock) where
     -- the next bank still replays what was asked of it
-    pub next_replays : (h : ℕ → List (TimedEvent n m)) (asked : List (Asked n)) (f : Replays h asked module_ before results)
-        → ReplaysIn module_ reached ((so_far.replays h asked f).0 reached ++ h reached) asked between recorded clock
-    next_replays h asked f =
-        let went = so_far.replays h asked f in
-        subst (λ (b : Bool). DrainedIf module_ b reached (went.0 reached ++ h reached) asked between recorded clock) (not_below reached reached (omega arith))
-        (from_get (DrainedIf module_ (nat_lt reached reached) reached (went.0 reached ++ h reached) asked between recorded) (slice_get banks reached) clock is (went.1 reached exists))
+    pub next_replays : (h : ℕ → List (TimedEvent n m)) (asked : List (Asked n)) (f : Replays h asked module_ before results) (ending : MayEnd off module_.tick asked)
+        → ReplaysIn module_ reached ((so_far.replays h asked f ending).0 reached ++ h reached) asked between recorded clock
+    next_replays h asked f ending =
+        let went = so_far.replays h asked f ending in
+        subst (λ (b : Bool). DrainedIf off module_ b reached (went.0 reached ++ h reached) asked between recorded clock) (not_below reached reached (omega arith))
+        (from_get (DrainedIf off module_ (nat_lt reached reached) reached (went.0 reached ++ h reached) asked between recorded) (slice_get banks reached) clock is (went.1 reached exists))
 
-    module _ (after : ArrayState n m) (ended : List (Outcome n)) (next : ClockState n m e)
-        (drains : (xs : List (TimedEvent n m)) → Leads xs clock between → (added : List (TimedEvent n m)) × Drains xs added clock next between after recorded ended) where
-      module _ (h : ℕ → List (TimedEvent n m)) (asked : List (Asked n)) (f : Replays h asked module_ before results) where
+    module _ (after : ArrayState n m) (ended : List (Outcome n)) (next : ClockState n m e) (in_range : IsShape module_.shape)
+        (drains : (xs : List (TimedEvent n m)) → Leads xs clock between → MayStop off xs → (added : List (TimedEvent n m)) × DrainsTo off xs added clock next between after recorded ended) where
+      module _ (h : ℕ → List (TimedEvent n m)) (asked : List (Asked n)) (f : Replays h asked module_ before results) (ending : MayEnd off module_.tick asked) where
         abbrev added : ℕ → List (TimedEvent n m)
-        added = (so_far.replays h asked f).0
+        added = (so_far.replays h asked f ending).0
 
         abbrev went : ℕ → List (TimedEvent n m)
         went k = added k ++ h k
@@ -107,10 +134,10 @@ module _ {n m e : ℕ} (module_ : ModuleState n m e) (before : ArrayState n m) (
         shape_of k = bank_shape (module_of module_.shape) k
 
         first : ReplaysIn module_ reached (went reached) asked between recorded clock
-        first = next_replays h asked f
+        first = next_replays h asked f ending
 
-        abbrev run : (more : List (TimedEvent n m)) × Drains (went reached) more clock next between after recorded ended
-        run = drains (went reached) (next_replays h asked f).leads
+        abbrev run : (more : List (TimedEvent n m)) × DrainsTo off (went reached) more clock next between after recorded ended
+        run = drains (went reached) (next_replays h asked f ending).leads (may_stop off module_ in_range reached (went reached) asked between recorded clock ending (next_replays h asked f ending))
 
         abbrev later : ℕ → List (TimedEvent n m)
         later = changed reached (run.0 ++ added reached) added
@@ -121,67 +148,67 @@ module _ {n m e : ℕ} (module_ : ModuleState n m e) (before : ArrayState n m) (
             (All-weaker (λ (c : Asked n). HasRow results c.row) (λ (c : Asked n). HasRow recorded c.row) (λ c has. row_kept results recorded c.row so_far.rows has) asked f.in_table)
 
         abbrev P : ℕ → ClockState n m e → Type 0
-        P k = DrainedIf module_ (nat_lt k (reached + 1)) k (later k ++ h k) asked after ended
+        P k = DrainedIf off module_ (nat_lt k (reached + 1)) k (later k ++ h k) asked after ended
 
-        here : DrainedIf module_ true reached (run.0 ++ went reached) asked after ended next
+        here : DrainedIf off module_ true reached (run.0 ++ went reached) asked after ended next
         here =
-            own_drains (went reached) run.0 clock next between after recorded ended first.leads run.1 (shape_of reached) (pacing_in module_.shape) module_.tick module_.rows_below (own reached)
+            own_drains off (went reached) run.0 clock next between after recorded ended first.leads run.1 (shape_of reached) (pacing_in module_.shape) module_.tick module_.rows_below (own reached)
             first (own_falls (bank_of_line module_.shape module_.seed) (line_in_bank module_.shape module_.seed) reached asked f.rows) (has_rows reached)
             (cuts_apart (bank_of_line module_.shape module_.seed) (line_in_bank module_.shape module_.seed) reached asked f.rows)
 
         -- a bank beside it
-        beside : (k : ℕ) → k ≢ reached → (c : ClockState n m e) → (b : Bool) → DrainedIf module_ b k (went k) asked between recorded c → DrainedIf module_ b k (went k) asked after ended c
-        beside k off c b = by b
+        beside : (k : ℕ) → k ≢ reached → (c : ClockState n m e) → (b : Bool) → DrainedIf off module_ b k (went k) asked between recorded c → DrainedIf off module_ b k (went k) asked after ended c
+        beside k other c b = by b
           where
             apart : All (λ c. arrives_with (run.0 ++ went reached) c.row ≡ false) (own k)
             apart =
                 All-weaker (λ (c : Asked n). names (own reached) c.row ≡ false) (λ (c : Asked n). arrives_with (run.0 ++ went reached) c.row ≡ false)
                 (λ c none. not_named c.row (run.0 ++ went reached) (own reached) (own_asked run.0 (went reached) (own reached) run.1.quiet first.arrived) none) (own k)
-                (apart_rows (bank_of_line module_.shape module_.seed) (line_in_bank module_.shape module_.seed) reached k (λ e. off (sym e)) asked f.rows)
+                (apart_rows (bank_of_line module_.shape module_.seed) (line_in_bank module_.shape module_.seed) reached k (λ e. other (sym e)) asked f.rows)
 
-            by : (b : Bool) → DrainedIf module_ b k (went k) asked between recorded c → DrainedIf module_ b k (went k) asked after ended c
+            by : (b : Bool) → DrainedIf off module_ b k (went k) asked between recorded c → DrainedIf off module_ b k (went k) asked after ended c
             by true g =
-                beside_drained (went reached) run.0 clock next between after recorded ended first.leads run.1 (went k) c (own k) (shape_of reached) (shape_of k) (pacing_in module_.shape)
-                first.shaped g.shaped (banks_off (module_of module_.shape) reached k (λ e. off (sym e))) (has_rows k) apart g
+                beside_drained off (went reached) run.0 clock next between after recorded ended first.leads run.1 (went k) c (own k) (shape_of reached) (shape_of k) (pacing_in module_.shape)
+                first.shaped g.shaped (banks_off (module_of module_.shape) reached k (λ e. other (sym e))) (has_rows k) apart g
             by false g =
-                beside_replays (went reached) run.0 clock next between after recorded ended first.leads run.1 (went k) c (own k) (shape_of reached) (shape_of k) (pacing_in module_.shape)
-                first.shaped g.shaped (banks_off (module_of module_.shape) reached k (λ e. off (sym e))) (has_rows k) apart module_.tick module_.rows_below g
+                beside_replays off (went reached) run.0 clock next between after recorded ended first.leads run.1 (went k) c (own k) (shape_of reached) (shape_of k) (pacing_in module_.shape)
+                first.shaped g.shaped (banks_off (module_of module_.shape) reached k (λ e. other (sym e))) (has_rows k) apart module_.tick module_.rows_below g
 
         there_of : (k : ℕ) → k ≢ reached → (o : Option (ClockState n m e)) → slice_get banks k ≡ o
-            → IsSomeAnd o (DrainedIf module_ (nat_lt k reached) k (went k) asked between recorded) → IsSomeAnd (slice_get (slice_set banks reached next) k) (P k)
-        there_of k off None at g = absurd g
-        there_of k off (Some c) at g =
-            at_get (P k) (slice_get (slice_set banks reached next) k) c (slice_get-set_other banks reached k next off ∙ at)
-            (subst (λ (b : Bool). DrainedIf module_ b k (later k ++ h k) asked after ended c) (sym (below_next k reached off))
-            (subst (λ (a : List (TimedEvent n m)). DrainedIf module_ (nat_lt k reached) k (a ++ h k) asked after ended c) (sym (changed_off reached (run.0 ++ added reached) added k off))
-            (beside k off c (nat_lt k reached) g)))
+            → IsSomeAnd o (DrainedIf off module_ (nat_lt k reached) k (went k) asked between recorded) → IsSomeAnd (slice_get (slice_set banks reached next) k) (P k)
+        there_of k other None at g = absurd g
+        there_of k other (Some c) at g =
+            at_get (P k) (slice_get (slice_set banks reached next) k) c (slice_get-set_other banks reached k next other ∙ at)
+            (subst (λ (b : Bool). DrainedIf off module_ b k (later k ++ h k) asked after ended c) (sym (below_next k reached other))
+            (subst (λ (a : List (TimedEvent n m)). DrainedIf off module_ (nat_lt k reached) k (a ++ h k) asked after ended c) (sym (changed_off reached (run.0 ++ added reached) added k other))
+            (beside k other c (nat_lt k reached) g)))
 
         here_of : (k : ℕ) → k ≡ reached → IsSomeAnd (slice_get (slice_set banks reached next) k) (P k)
         here_of k same =
             subst (λ (j : ℕ). IsSomeAnd (slice_get (slice_set banks reached next) j) (P j)) (sym same)
             (at_get (P reached) (slice_get (slice_set banks reached next) reached) next (slice_get-set_same banks reached next (omega (arith, so_far.count, exists)))
-            (subst (λ (b : Bool). DrainedIf module_ b reached (later reached ++ h reached) asked after ended next) (sym (lt-ltb reached (reached + 1) (omega arith)))
-            (subst (λ (a : List (TimedEvent n m)). DrainedIf module_ true reached (a ++ h reached) asked after ended next) (sym (changed_at reached (run.0 ++ added reached) added reached refl))
-            (subst (λ (xs : List (TimedEvent n m)). DrainedIf module_ true reached xs asked after ended next) (sym (append_assoc run.0 (added reached) (h reached))) here))))
+            (subst (λ (b : Bool). DrainedIf off module_ b reached (later reached ++ h reached) asked after ended next) (sym (lt-ltb reached (reached + 1) (omega arith)))
+            (subst (λ (a : List (TimedEvent n m)). DrainedIf off module_ true reached (a ++ h reached) asked after ended next) (sym (changed_at reached (run.0 ++ added reached) added reached refl))
+            (subst (λ (xs : List (TimedEvent n m)). DrainedIf off module_ true reached xs asked after ended next) (sym (append_assoc run.0 (added reached) (h reached))) here))))
 
         replays_on : (k : ℕ) → k < module_.shape.banks → IsSomeAnd (slice_get (slice_set banks reached next) k) (P k)
         replays_on k there =
             elim (cases_eq k reached) [
               | inl same ↦ here_of k same
-              | inr off ↦ there_of k off (slice_get banks k) refl ((so_far.replays h asked f).1 k there)
+              | inr other ↦ there_of k other (slice_get banks k) refl ((so_far.replays h asked f ending).1 k there)
             ]
 
       -- it is drained
-      pub drain_one : IsReplayed module_ before results → LeavesOthers clock.bank recorded ended
-          → AreDrained module_ (reached + 1) (slice_set banks reached next) before after results ended
+      pub drain_one : ((h : ℕ → List (TimedEvent n m)) × (asked : List (Asked n)) × Replays h asked module_ before results × MayEnd off module_.tick asked) → LeavesOthers clock.bank recorded ended
+          → AreDrained off module_ (reached + 1) (slice_set banks reached next) before after results ended
       drain_one led leaves =
-          let first = next_replays led.0 led.1 led.2 in
-          let d = run led.0 led.1 led.2 in
+          let first = next_replays led.0 led.1 led.2 led.3 in
+          let d = run led.0 led.1 led.2 led.3 in
           record {
             count = length-set banks reached next ∙ so_far.count;
             ahead = λ k above. slice_get-set_other banks reached k next (λ e. absurd (omega (arith, above, e))) ∙ so_far.ahead k (omega (arith, above));
             rows = d.1.rows ∙ so_far.rows;
-            replays = λ h asked f. (later h asked f, replays_on h asked f);
+            replays = λ h asked f ending. (later h asked f ending, replays_on h asked f ending);
             others = λ row has nowhere.
                 let stood = subst (λ (c : ClockState n m e). (has_row c.bank.kept.entries row ≡ false) × (has_waiting c.bank.waiting row ≡ false))
                 (bank_there module_ reached clock (sym (so_far.ahead reached (omega arith)) ∙ is)) (nowhere reached exists) in
@@ -191,31 +218,36 @@ module _ {n m e : ℕ} (module_ : ModuleState n m e) (before : ArrayState n m) (
 
 -- a module may be finished with the banks that it has
 pub may_finish : {n m e : ℕ} {old now : ModuleState n m e} {network : Network} {before : ArrayState n m} {results : List (Outcome n)}
-    → old ≡ now → IsModule old.shape old.seed network old.banks old.tick → IsReplayed now before results → MayFinish old old.banks before results
+    → old ≡ now → IsModule old.shape old.seed network old.banks old.tick → IsReplayed now before results → MayFinish false old old.banks before results
 may_finish {n = n} {m = m} {e = e} {before = before} {results = results} same inv led =
-    record { same = refl; count = inv.count; in_time = inv.in_time; led = subst (λ (o : ModuleState n m e). IsReplayed o before results) (sym same) led }
+    record { same = refl; count = inv.count; in_time = inv.in_time; in_range = inv.in_range; led = let was = subst (λ (o : ModuleState n m e). IsReplayed o before results) (sym same) led in (was.0, was.1, was.2, tt) }
 
-module _ {n m e : ℕ} {module_ : ModuleState n m e} {banks : List (ClockState n m e)} {before after : ArrayState n m} {results recorded : List (Outcome n)}
-    (d : AreDrained module_ module_.shape.banks banks before after results recorded) where
+pub may_stop_all : {n m e : ℕ} {old : ModuleState n m e} {network : Network} {before : ArrayState n m} {results : List (Outcome n)}
+    → IsModule old.shape old.seed network old.banks old.tick → (h : ℕ → List (TimedEvent n m)) (asked : List (Asked n)) → Replays h asked old before results → MayEnd true old.tick asked
+    → MayFinish true old old.banks before results
+may_stop_all inv h asked f cut = record { same = refl; count = inv.count; in_time = inv.in_time; in_range = inv.in_range; led = (h, asked, f, cut) }
+
+module _ {n m e : ℕ} {off : Bool} {module_ : ModuleState n m e} {banks : List (ClockState n m e)} {before after : ArrayState n m} {results recorded : List (Outcome n)}
+    (d : AreDrained off module_ module_.shape.banks banks before after results recorded) where
   abbrev drained_module : ModuleState n m e
   drained_module = record module_ { banks = banks; finished = true }
 
-  module _ (h : ℕ → List (TimedEvent n m)) (asked : List (Asked n)) (f : Replays h asked module_ before results) where
+  module _ (h : ℕ → List (TimedEvent n m)) (asked : List (Asked n)) (f : Replays h asked module_ before results) (ending : MayEnd off module_.tick asked) where
     each : (k : ℕ) → k < module_.shape.banks
-        → IsSomeAnd (slice_get banks k) (IsDrained (bank_shape (module_of module_.shape) k) (pacing_in module_.shape) ((d.replays h asked f).0 k ++ h k) (asked_in_bank module_ k asked) after recorded)
+        → IsSomeAnd (slice_get banks k) (IsDrainedTo off (bank_shape (module_of module_.shape) k) (pacing_in module_.shape) ((d.replays h asked f ending).0 k ++ h k) (asked_in_bank module_ k asked) after recorded)
     each k there =
-        subst (λ (b : Bool). IsSomeAnd (slice_get banks k) (DrainedIf module_ b k ((d.replays h asked f).0 k ++ h k) asked after recorded)) (lt-ltb k module_.shape.banks there)
-        ((d.replays h asked f).1 k there)
+        subst (λ (b : Bool). IsSomeAnd (slice_get banks k) (DrainedIf off module_ b k ((d.replays h asked f ending).0 k ++ h k) asked after recorded)) (lt-ltb k module_.shape.banks there)
+        ((d.replays h asked f ending).1 k there)
 
     drained_at : (k : ℕ) → k < module_.shape.banks
-        → IsDrained (bank_shape (module_of module_.shape) k) (pacing_in module_.shape) ((d.replays h asked f).0 k ++ h k) (asked_in_bank module_ k asked) after recorded (bank_at drained_module k)
+        → IsDrainedTo off (bank_shape (module_of module_.shape) k) (pacing_in module_.shape) ((d.replays h asked f ending).0 k ++ h k) (asked_in_bank module_ k asked) after recorded (bank_at drained_module k)
     drained_at k there =
-        at_bank drained_module (IsDrained (bank_shape (module_of module_.shape) k) (pacing_in module_.shape) ((d.replays h asked f).0 k ++ h k) (asked_in_bank module_ k asked) after recorded) k (each k there)
+        at_bank drained_module (IsDrainedTo off (bank_shape (module_of module_.shape) k) (pacing_in module_.shape) ((d.replays h asked f ending).0 k ++ h k) (asked_in_bank module_ k asked) after recorded) k (each k there)
 
     -- all banks are drained
-    pub drain_every : (added : ℕ → List (TimedEvent n m)) × IsFinished module_.shape module_.seed (λ k. added k ++ h k) asked (bank_at drained_module) after (outcome_in recorded)
+    pub drain_every : (added : ℕ → List (TimedEvent n m)) × IsFinishedTo module_.shape module_.seed off (λ k. added k ++ h k) asked (bank_at drained_module) after (outcome_in recorded)
     drain_every = (
-      (d.replays h asked f).0,
+      (d.replays h asked f ending).0,
       record {
         size = d.stays.lines ∙ f.size;
         shapes = λ k there. (drained_at k there).shaped;
@@ -238,19 +270,20 @@ module _ {n m e : ℕ} {module_ : ModuleState n m e} {banks : List (ClockState n
       (subst (λ (c : ClockState n m e). IsEndOf c.bank.kept (ends k)) (bank_there drained_module k clock.0 clock.1) (own k there))
 
   -- a module whose banks were drained is still one
-  pub module_drained : {network : Network} → IsModule module_.shape module_.seed network module_.banks module_.tick → IsReplayed module_ before results
+  pub module_drained : {network : Network} → IsModule module_.shape module_.seed network module_.banks module_.tick
+      → ((h : ℕ → List (TimedEvent n m)) × (asked : List (Asked n)) × Replays h asked module_ before results × MayEnd off module_.tick asked)
       → IsModule module_.shape module_.seed network banks module_.tick
   module_drained is led = record {
     layout = is.layout;
     in_range = is.in_range;
     mixing = is.mixing;
     count = d.count;
-    of_shape = λ k there. shaped k (slice_get banks k) ((d.replays led.0 led.1 led.2).0 k ++ led.0 k) (asked_in_bank module_ k led.1) (each led.0 led.1 led.2 k there);
+    of_shape = λ k there. shaped k (slice_get banks k) ((d.replays led.0 led.1 led.2 led.3).0 k ++ led.0 k) (asked_in_bank module_ k led.1) (each led.0 led.1 led.2 led.3 k there);
     in_time = is.in_time;
   }
     where
       shaped : (k : ℕ) (o : Option (ClockState n m e)) (xs : List (TimedEvent n m)) (own : List (Asked n))
-          → IsSomeAnd o (IsDrained (bank_shape (module_of module_.shape) k) (pacing_in module_.shape) xs own after recorded)
+          → IsSomeAnd o (IsDrainedTo off (bank_shape (module_of module_.shape) k) (pacing_in module_.shape) xs own after recorded)
           → IsSomeAnd o (IsBankOf (bank_shape (module_of module_.shape) k))
       shaped k None xs own f = f
       shaped k (Some c) xs own f = record { shaped = f.shaped; kept = f.leads.holds.kept }

@@ -1,7 +1,7 @@
 -- A bank of a module is drained, and the banks beside it stay.
 use Rattle.std.proofs.Common.{◌≡◌, ◌≢◌, ℕ, Bool, true, false, if◌then◌else◌, List, ◌++◌, map, refl, sym, ap, subst, ◌∙◌, arith}
 use Rattle.std.specs.Prelude.{All}
-use Rattle.pcm_cells.specs.Device.{ArrayState}
+use Rattle.cell_rows.specs.Device.{ArrayState}
 use Rattle.masked_bytes.specs.declared.entry.Entry.{Entry}
 use Rattle.masked_bytes.specs.Entries.{has_row}
 use Rattle.result_rows.specs.declared.Outcome.{Outcome}
@@ -15,11 +15,12 @@ use Rattle.bank_model.specs.Timing.{TimedEvent, core}
 use Rattle.bank_model.specs.Adding.{Adds}
 use Rattle.bank_model.specs.Told.{tick_of_row}
 use Rattle.bank_model.specs.History.{Awaited, queue}
-use Rattle.bank_model.specs.Lawful.{Lawful, IsIdle}
+use Rattle.bank_model.specs.Lawful.{Lawful}
+use Rattle.bank_laws.specs.Resting.{EndsIn}
 use Rattle.bank_laws.specs.Outcomes.{outcome_of, ended}
 use Rattle.bank_laws.specs.Settling.{AreOpen}
 use Rattle.bank_laws.proofs.Settling.{opens}
-use Rattle.bank_laws.proofs.Serves.{idle-waits}
+use Rattle.bank_laws.proofs.Resting.{ends-still}
 use Rattle.bank_shape.specs.declared.waiting.Waiting.{Waiting}
 use Rattle.bank_invariant.specs.Holds.{waiting_of}
 use Rattle.clock_laws.specs.State.{ClockState}
@@ -32,10 +33,10 @@ use Rattle.clock_laws.proofs.Settled.{settled_law}
 use Rattle.clock_laws.proofs.Elsewhere.{elsewhere_law}
 use Rattle.module_laws.specs.Asking.{Asked, AreAsked}
 use Rattle.module_laws.specs.Serves.{last_outcome, AreRecorded}
-use Rattle.bank_clock.specs.Extending.{outcome_in}
-use Rattle.bank_clock.specs.Draining.{Drains}
+use Rattle.bank_timing.specs.Extending.{outcome_in}
+use Rattle.bank_timing.specs.Draining.{DrainsTo}
 use Rattle.pcm_module.specs.Replaying.{BankReplays, IsLogged, RowsFall, outcome_so_far}
-use Rattle.pcm_module.specs.Draining.{IsDrained}
+use Rattle.pcm_module.specs.Draining.{IsDrainedTo}
 use Rattle.pcm_module.proofs.Standing.{stands_not}
 use Rattle.pcm_module.proofs.Naming.{is_numbered, names, not_named, All-both}
 use Rattle.pcm_module.proofs.Logging.{AreOff, logged_own, logged_off}
@@ -44,8 +45,8 @@ use Rattle.pcm_module.proofs.Steps.{stays_replayed, own_senses}
 use Rattle.pcm_module.proofs.Arriving.{own_asked}
 use Rattle.pcm_module.proofs.Becoming.{Becomes, all_become, ended_set}
 
-module _ {n m e : ℕ} (xs added : List (TimedEvent n m)) (old new : ClockState n m e) (before after : ArrayState n m) (results recorded : List (Outcome n))
-    (leads : Leads xs old before) (d : Drains xs added old new before after results recorded) where
+module _ {n m e : ℕ} (off : Bool) (xs added : List (TimedEvent n m)) (old new : ClockState n m e) (before after : ArrayState n m) (results recorded : List (Outcome n))
+    (leads : Leads xs old before) (d : DrainsTo off xs added old new before after results recorded) where
   drained_lawful : Lawful old.bank.kept.shape old.pace e (added ++ xs)
   drained_lawful =
       subst (λ (s : BankShape). Lawful s old.pace e (added ++ xs)) d.shape
@@ -59,7 +60,7 @@ module _ {n m e : ℕ} (xs added : List (TimedEvent n m)) (old new : ClockState 
   none_waits : (row : ℕ) → has_waiting new.bank.waiting row ≡ false
   none_waits row =
       ap (λ (ws : List (Waiting n)). has_waiting ws row)
-      (d.leads.holds.waiting ∙ ap (λ (ws : List Awaited). map (waiting_of {n = n}) ws) (idle-waits new.bank.kept.shape new.pace (added ++ xs) d.idle))
+      (d.leads.holds.waiting ∙ ap (λ (ws : List Awaited). map (waiting_of {n = n}) ws) (ends-still new.bank.kept.shape off new.pace (added ++ xs) d.idle).unawaited)
 
   -- the outcome of a row that doesn't stand in the queue in the end
   gone : (row : ℕ) → HasRow results row → has_row (queue old.bank.kept.shape (core (added ++ xs))) row ≡ false
@@ -127,14 +128,14 @@ module _ {n m e : ℕ} (xs added : List (TimedEvent n m)) (old new : ClockState 
   pub own_drains : (shape : BankShape) (pace : Pace) (tick rows : ℕ) (own : List (Asked n))
       → BankReplays shape pace tick rows xs own before results old → RowsFall own
       → All (λ c. HasRow results c.row) own → All (λ c. is_numbered c.asks ≡ false → names own c.row ≡ false) own
-      → IsDrained shape pace (added ++ xs) own after recorded new
+      → IsDrainedTo off shape pace (added ++ xs) own after recorded new
   own_drains shape pace tick rows own f falls has cuts = record {
     shaped = shaped;
     paced = paced;
     leads = d.leads;
     idle =
-        subst (λ (s : BankShape). IsIdle s pace (added ++ xs)) shaped
-        (subst (λ (p : Pace). IsIdle new.bank.kept.shape p (added ++ xs)) paced d.idle);
+        subst (λ (s : BankShape). EndsIn off s pace (added ++ xs)) shaped
+        (subst (λ (p : Pace). EndsIn off new.bank.kept.shape p (added ++ xs)) paced d.idle);
     logged =
         logged_own shape added before after (subst (λ (s : BankShape). Adds s added before after) f.shaped d.adds)
         (own_senses shape xs added new after d.leads shaped) xs f.logged;
@@ -179,7 +180,7 @@ module _ {n m e : ℕ} (xs added : List (TimedEvent n m)) (old new : ClockState 
       Told c = outcome_in recorded c.row ≡ last_outcome old.bank.kept.shape (added ++ xs) c c.asks
 
   module _ (ys : List (TimedEvent n m)) (clock : ClockState n m e) (asked : List (Asked n)) (own shape : BankShape) (pace : Pace)
-      (of_own : old.bank.kept.shape ≡ own) (shaped : clock.bank.kept.shape ≡ shape) (off : AreOff own shape)
+      (of_own : old.bank.kept.shape ≡ own) (shaped : clock.bank.kept.shape ≡ shape) (apart_of : AreOff own shape)
       (has : All (λ c. HasRow results c.row) asked) (apart : All (λ c. arrives_with (added ++ xs) c.row ≡ false) asked) where
     adds : Adds own added before after
     adds = subst (λ (s : BankShape). Adds s added before after) of_own d.adds
@@ -189,10 +190,10 @@ module _ {n m e : ℕ} (xs added : List (TimedEvent n m)) (old new : ClockState 
     leads_beside of = elsewhere_law n m e ys clock before after of adds.lines adds.bounds (λ line low high. adds.others line (off' line (low, high)))
       where
         off' : AreOff own clock.bank.kept.shape
-        off' = subst (λ (s : BankShape). AreOff own s) (sym shaped) off
+        off' = subst (λ (s : BankShape). AreOff own s) (sym shaped) apart_of
 
     logged_beside : IsLogged shape ys before → IsLogged shape ys after
-    logged_beside = logged_off own added before after adds (own_senses own xs added new after d.leads (d.shape ∙ of_own)) shape ys off
+    logged_beside = logged_off own added before after adds (own_senses own xs added new after d.leads (d.shape ∙ of_own)) shape ys apart_of
 
     same_beside : All (λ c. outcome_in recorded c.row ≡ outcome_in results c.row) asked
     same_beside =
@@ -203,7 +204,7 @@ module _ {n m e : ℕ} (xs added : List (TimedEvent n m)) (old new : ClockState 
     beside_replays tick rows f =
         stays_replayed shape pace tick rows tick rows ys asked clock before after results recorded f (leads_beside f.leads) (logged_beside f.logged) d.rows same_beside (omega arith) (omega arith)
 
-    pub beside_drained : IsDrained shape pace ys asked before results clock → IsDrained shape pace ys asked after recorded clock
+    pub beside_drained : IsDrainedTo off shape pace ys asked before results clock → IsDrainedTo off shape pace ys asked after recorded clock
     beside_drained f = record {
       shaped = f.shaped;
       paced = f.paced;

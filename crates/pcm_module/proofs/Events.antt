@@ -1,9 +1,9 @@
 -- What an event asks, by its operation.
 use Rattle.std.proofs.Common.{◌≡◌, ℕ, List, ◌∷◌, ◌++◌, sym, subst}
-use Rattle.pcm_cells.specs.Device.{ArrayState}
+use Rattle.cell_rows.specs.Device.{ArrayState}
 use Rattle.result_rows.specs.declared.Outcome.{Outcome}
-use Rattle.trace_reader.specs.declared.event.TraceEvent.{TraceEvent}
-use Rattle.trace_reader.specs.declared.event.TraceOp.{TraceOp}
+use Rattle.trace_reader.specs.declared.event.Event.{Event}
+use Rattle.trace_reader.specs.declared.event.EventOp.{EventOp}
 use Rattle.trace_reader.specs.Events.{IsOpFor}
 use Rattle.bank_model.specs.Timing.{TimedEvent}
 use Rattle.module_laws.specs.Asking.{Asked}
@@ -14,14 +14,14 @@ use Rattle.pcm_module.specs.Replaying.{Replays}
 use Rattle.pcm_module.specs.Taking.{Takes}
 
 -- a row that was taken is the event's
-pub replays_event : {n m e : ℕ} (row : ℕ) (event : TraceEvent n) (op : TraceOp n) (old new : ModuleState n m e) (before after : ArrayState n m) (results recorded : List (Outcome n))
+pub replays_event : {n m e : ℕ} (row : ℕ) (event : Event n) (op : EventOp n) (old new : ModuleState n m e) (before after : ArrayState n m) (results recorded : List (Outcome n))
     → event.op ≡ op → Takes (record { row = row; tick = event.tick; asks = asks_of op }) old new before after results recorded
     → (h : ℕ → List (TimedEvent n m)) (asked : List (Asked n)) → Replays h asked old before results
     → (added : ℕ → List (TimedEvent n m)) × Replays (λ bank. added bank ++ h bank) (asked_by row event ∷ asked) new after recorded
 replays_event {n = n} {m = m} row event op old new before after results recorded is taken h asked f =
-    subst (λ (o : TraceOp n). (added : ℕ → List (TimedEvent n m)) × Replays (λ bank. added bank ++ h bank) (record { row = row; tick = event.tick; asks = asks_of o } ∷ asked) new after recorded)
+    subst (λ (o : EventOp n). (added : ℕ → List (TimedEvent n m)) × Replays (λ bank. added bank ++ h bank) (record { row = row; tick = event.tick; asks = asks_of o } ∷ asked) new after recorded)
     (sym is) (taken.replays h asked f)
 
 -- the operation of an event for a module's lines
-pub op_for : {n : ℕ} (lines : ℕ) (event : TraceEvent n) (op : TraceOp n) → event.op ≡ op → IsOpFor lines event.op → IsOpFor lines op
-op_for {n = n} lines event op is h = subst (λ (o : TraceOp n). IsOpFor lines o) is h
+pub op_for : {n : ℕ} (lines : ℕ) (event : Event n) (op : EventOp n) → event.op ≡ op → IsOpFor lines event.op → IsOpFor lines op
+op_for {n = n} lines event op is h = subst (λ (o : EventOp n). IsOpFor lines o) is h

@@ -12,6 +12,7 @@ mod TakenRows
 mod Becoming
 mod Ending
 mod Draining
+mod Settles
 mod Cuts
 mod Serving
 mod Events

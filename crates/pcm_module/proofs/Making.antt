@@ -4,8 +4,8 @@ use Rattle.std.specs.Prelude.{slice_get}
 use Rattle.std.proofs.lemmas.Bool.{cases_eq}
 use Rattle.std.proofs.lemmas.List.Elements.{All-nil}
 use Rattle.circular_buffer.proofs.Places.{slice_get-append_left, slice_get-last}
-use Rattle.pcm_cells.specs.declared.array.Wear.{Wear}
-use Rattle.pcm_cells.specs.Device.{ArrayState, IsFresh}
+use Rattle.cell_rows.specs.declared.array.Wear.{Wear}
+use Rattle.cell_rows.specs.Device.{ArrayState, IsFresh}
 use Rattle.ecp_line.specs.Layout.{IsLayout}
 use Rattle.result_rows.specs.declared.Outcome.{Outcome}
 use Rattle.result_rows.specs.Table.{HasRow}
@@ -25,7 +25,7 @@ use Rattle.module_laws.specs.Asking.{Asked}
 use Rattle.row_rules.specs.Lines.{IsOfLines}
 use Rattle.clock_laws.specs.State.{ClockState}
 use Rattle.clock_laws.specs.Leads.{Leads}
-use Rattle.bank_clock.specs.Extending.{first_clock, outcome_in}
+use Rattle.bank_timing.specs.Extending.{first_clock, outcome_in}
 use Rattle.run_laws.specs.Runs.{pacing_in}
 use Rattle.pcm_module.specs.State.{ModuleState, first_bank, banks_from}
 use Rattle.pcm_module.specs.Shaped.{IsModule, IsBankOf}

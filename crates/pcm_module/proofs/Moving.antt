@@ -4,7 +4,7 @@ use Rattle.std.proofs.lemmas.Bool.{or_from}
 use Rattle.masked_bytes.proofs.Truth.{neither_first, neither_second}
 use Rattle.std.specs.Prelude.{unwrap_or}
 use Rattle.circular_buffer.proofs.Places.{slice_get-some}
-use Rattle.pcm_cells.specs.Device.{ArrayState}
+use Rattle.cell_rows.specs.Device.{ArrayState}
 use Rattle.masked_bytes.specs.Entries.{has_row}
 use Rattle.result_rows.specs.declared.Outcome.{Outcome}
 use Rattle.result_rows.specs.declared.Outcome.TheVariants as out
@@ -21,7 +21,7 @@ use Rattle.clock_laws.specs.Standing.{has_waiting, is_arrival_of, arrives_with}
 use Rattle.clock_laws.proofs.Recording.{whole_outcome_law}
 use Rattle.clock_laws.proofs.Others.{other_rows_law}
 use Rattle.module_laws.specs.Asking.{Asked, AreAsked}
-use Rattle.bank_clock.specs.Extending.{Extends, IsOpen, outcome_in}
+use Rattle.bank_timing.specs.Extending.{Extends, IsOpen, outcome_in}
 use Rattle.pcm_module.proofs.Standing.{StandsNot, stands_not}
 use Rattle.pcm_module.proofs.Naming.{names, not_named}
 

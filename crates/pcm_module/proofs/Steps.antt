@@ -1,8 +1,7 @@
--- A row that arrives at one bank extends that bank's history, and the other banks' histories replay what was asked as before.
-use Rattle.std.proofs.Common.{◌≡◌, ◌⊎◌, ℕ, ◌≤◌, true, false, List, ◌∷◌, ◌++◌, length, refl, sym, subst, ◌∙◌, inl, inr, arith}
+-- What happens at one bank extends that bank's history, and the other banks' histories replay what was asked as before.
+use Rattle.std.proofs.Common.{◌≡◌, ◌⊎◌, ℕ, ◌≤◌, true, false, List, ◌++◌, length, refl, sym, subst, ◌∙◌, inl, inr, arith}
 use Rattle.std.specs.Prelude.{All}
-use Rattle.std.proofs.lemmas.List.Elements.{All-cons}
-use Rattle.pcm_cells.specs.Device.{ArrayState}
+use Rattle.cell_rows.specs.Device.{ArrayState}
 use Rattle.masked_bytes.specs.Entries.{has_row}
 use Rattle.result_rows.specs.declared.Outcome.{Outcome}
 use Rattle.result_rows.specs.Table.{HasRow}
@@ -17,9 +16,9 @@ use Rattle.clock_laws.specs.State.{ClockState}
 use Rattle.clock_laws.specs.Leads.{Leads}
 use Rattle.clock_laws.specs.Standing.{has_waiting, arrives_with}
 use Rattle.clock_laws.proofs.Elsewhere.{elsewhere_law}
-use Rattle.module_laws.specs.Asking.{Asked}
-use Rattle.bank_clock.specs.Extending.{Extends, outcome_in}
-use Rattle.pcm_module.specs.Stepping.{IsAt, IsStep}
+use Rattle.module_laws.specs.Asking.{Asked, AreAsked}
+use Rattle.bank_timing.specs.Extending.{Extends, outcome_in}
+use Rattle.pcm_module.specs.Stepping.{IsAt}
 use Rattle.pcm_module.specs.Replaying.{BankReplays, IsLogged, outcome_so_far}
 use Rattle.pcm_module.proofs.Naming.{is_numbered, names, not_named, of_named, All-both}
 use Rattle.pcm_module.proofs.Logging.{AreOff, IsOwnSense, logged_own, logged_off, added_within}
@@ -83,39 +82,40 @@ module _ {n m e : ℕ} where
       off' : AreOff own clock.bank.kept.shape
       off' = subst (λ (s : BankShape). AreOff own s) (sym f.shaped) off
 
-  -- the bank where a row came replays the longer list
-  pub own_replays : (shape : BankShape) (pace : Pace) (tick rows later above : ℕ) (xs added : List (TimedEvent n m)) (a : Asked n) (asked : List (Asked n))
+  -- the bank where events came replays what is asked by then, where each of these rows had its outcome so far
+  pub own_extends : (shape : BankShape) (pace : Pace) (tick rows later above : ℕ) (xs added : List (TimedEvent n m)) (own asked : List (Asked n))
       (old new : ClockState n m e) (before after : ArrayState n m) (results recorded : List (Outcome n))
-      → BankReplays shape pace tick rows xs asked before results old → IsStep xs added a old new before after results recorded → IsAt later above new recorded
-      → All (λ c. HasRow results c.row) (a ∷ asked)
-      → All (λ c. is_numbered c.asks ≡ false → names (a ∷ asked) c.row ≡ false) (a ∷ asked)
-      → outcome_in results a.row ≡ outcome_so_far shape xs a a.asks
-      → BankReplays shape pace later above (added ++ xs) (a ∷ asked) after recorded new
-  own_replays shape pace tick rows later above xs added a asked old new before after results recorded f step at has cuts ready = record {
+      → BankReplays shape pace tick rows xs own before results old → Extends xs added old new before after results recorded → AreAsked (added ++ xs) asked
+      → IsAt later above new recorded
+      → All (λ c. HasRow results c.row) asked
+      → All (λ c. is_numbered c.asks ≡ false → names asked c.row ≡ false) asked
+      → All (λ c. outcome_in results c.row ≡ outcome_so_far shape xs c c.asks) asked
+      → BankReplays shape pace later above (added ++ xs) asked after recorded new
+  own_extends shape pace tick rows later above xs added own asked old new before after results recorded f extends arrived at has cuts so_far = record {
     shaped = shaped;
-    paced = step.extends.pace ∙ f.paced;
+    paced = extends.pace ∙ f.paced;
     going = at.going;
     in_time = omega (arith, at.now);
     below = at.below;
-    leads = step.extends.leads;
+    leads = extends.leads;
     logged =
-        logged_own shape added before after (subst (λ (s : BankShape). Adds s added before after) f.shaped step.extends.adds)
-        (own_senses shape xs added new after step.extends.leads shaped) xs f.logged;
+        logged_own shape added before after (subst (λ (s : BankShape). Adds s added before after) f.shaped extends.adds)
+        (own_senses shape xs added new after extends.leads shaped) xs f.logged;
     open_rows = at.open_rows;
-    arrived = step.arrives asked f.arrived;
+    arrived = arrived;
     recorded =
-        All-both HasIt Known Told (λ c there known. told c there known) (a ∷ asked) has
-        (All-both IsCutApart Before Known (λ c apart told. (apart, told)) (a ∷ asked) cuts (All-cons Before a asked ready f.recorded));
+        All-both HasIt Known Told (λ c there known. told c there known) asked has
+        (All-both IsCutApart Before Known (λ c apart told. (apart, told)) asked cuts so_far);
   }
     where
       shaped : new.bank.kept.shape ≡ shape
-      shaped = step.extends.shape ∙ f.shaped
+      shaped = extends.shape ∙ f.shaped
 
       HasIt : Asked n → Type 0
       HasIt c = HasRow results c.row
 
       IsCutApart : Asked n → Type 0
-      IsCutApart c = is_numbered c.asks ≡ false → names (a ∷ asked) c.row ≡ false
+      IsCutApart c = is_numbered c.asks ≡ false → names asked c.row ≡ false
 
       Before : Asked n → Type 0
       Before c = outcome_in results c.row ≡ outcome_so_far shape xs c c.asks
@@ -130,16 +130,16 @@ module _ {n m e : ℕ} where
       numbered_told : (c : Asked n) → HasRow results c.row → outcome_in results c.row ≡ outcome_of shape xs c.row → outcome_in recorded c.row ≡ outcome_of shape (added ++ xs) c.row
       numbered_told c there is =
           subst (λ (s : BankShape). outcome_in recorded c.row ≡ outcome_of s (added ++ xs) c.row) f.shaped
-          (told_on xs old before f.leads added new after results recorded step.extends c.row there
+          (told_on xs old before f.leads added new after results recorded extends c.row there
           (subst (λ (s : BankShape). outcome_in results c.row ≡ outcome_of s xs c.row) (sym f.shaped) is))
 
       told : (c : Asked n) → HasIt c → Known c → Told c
       told c there known = by c.asks known.0 known.1
         where
-          by : (asks : Asks n) → (is_numbered asks ≡ false → names (a ∷ asked) c.row ≡ false) → outcome_in results c.row ≡ outcome_so_far shape xs c asks
+          by : (asks : Asks n) → (is_numbered asks ≡ false → names asked c.row ≡ false) → outcome_in results c.row ≡ outcome_so_far shape xs c asks
               → outcome_in recorded c.row ≡ outcome_so_far shape (added ++ xs) c asks
           by (Reads line) apart is = numbered_told c there is
           by (Writes line bytes given) apart is = numbered_told c there is
           by Cuts apart is =
-              untouched xs old before f.leads added new after results recorded step.extends c.row there
-              (not_named c.row (added ++ xs) (a ∷ asked) (step.arrives asked f.arrived) (apart refl)) ∙ is
+              untouched xs old before f.leads added new after results recorded extends c.row there
+              (not_named c.row (added ++ xs) asked arrived (apart refl)) ∙ is

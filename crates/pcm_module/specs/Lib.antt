@@ -4,5 +4,6 @@ pub mod Replaying
 pub mod Stepping
 pub mod Taking
 pub mod Draining
+pub mod Settling
 pub mod Shaped
 pub mod Roles

@@ -9,7 +9,7 @@ use Rattle.module_shape.specs.declared.raw.RawShape.{RawShape}
 use Rattle.module_shape.specs.Limits.{IsShape, total_of}
 use Rattle.module_shape.specs.Addresses.{module_of, bank_shape}
 use Rattle.clock_laws.specs.State.{ClockState}
-use Rattle.bank_clock.specs.Extending.{last_tick}
+use Rattle.bank_timing.specs.Extending.{last_tick}
 
 -- a bank has this shape, and what is true of every bank is true of it
 pub record IsBankOf {n m e : ℕ} (shape : BankShape) (clock : ClockState n m e) : Type 0 where

@@ -6,7 +6,7 @@ use Rattle.module_shape.specs.declared.raw.RawShape.{RawShape}
 use Rattle.module_shape.specs.Addresses.{module_of, bank_shape}
 use Rattle.clock_laws.specs.State.{ClockState}
 use Rattle.clock_laws.specs.Standing.{has_waiting}
-use Rattle.bank_clock.specs.Extending.{first_clock}
+use Rattle.bank_timing.specs.Extending.{first_clock}
 use Rattle.end_laws.specs.Ends.{BankEnd}
 use Rattle.end_laws.specs.EndLaws.{IsEndOf}
 use Rattle.run_laws.specs.Runs.{pacing_in, bank_of_line, line_in_bank}

@@ -1,12 +1,12 @@
 -- What one row does at one bank.
 use Rattle.std.specs.Prelude.{◌≡◌, ◌≢◌, ℕ, ◌≤◌, false, List, ◌∷◌, ◌++◌}
-use Rattle.pcm_cells.specs.Device.{ArrayState}
+use Rattle.cell_rows.specs.Device.{ArrayState}
 use Rattle.result_rows.specs.declared.Outcome.{Outcome}
 use Rattle.bank_model.specs.Timing.{TimedEvent}
 use Rattle.module_laws.specs.Asking.{Asked, AreAsked}
 use Rattle.clock_laws.specs.State.{ClockState}
 use Rattle.clock_laws.specs.Standing.{arrives_with}
-use Rattle.bank_clock.specs.Extending.{Extends, AreOpen}
+use Rattle.bank_timing.specs.Extending.{Extends, AreOpen}
 
 -- a bank is at a tick, and takes rows from a bound on; of the rows that stand there none has an outcome
 pub record IsAt {n m e : ℕ} (tick rows : ℕ) (clock : ClockState n m e) (results : List (Outcome n)) : Type 0 where

@@ -1,13 +1,13 @@
 -- What a row does to a module.
 use Rattle.std.specs.Prelude.{◌≡◌, ◌≢◌, ℕ, ◌+◌, ◌*◌, ◌<◌, ◌≤◌, List, ◌∷◌, ◌++◌, length, Some}
-use Rattle.pcm_cells.specs.declared.array.Sense.{Sense}
-use Rattle.pcm_cells.specs.Device.{ArrayState}
+use Rattle.cell_rows.specs.declared.array.Sense.{Sense}
+use Rattle.cell_rows.specs.Device.{ArrayState}
 use Rattle.result_rows.specs.declared.Outcome.{Outcome}
 use Rattle.result_rows.specs.Table.{HasRow}
 use Rattle.bank_model.specs.Timing.{TimedEvent}
 use Rattle.module_shape.specs.Addresses.{module_of, array_lines_of}
 use Rattle.module_laws.specs.Asking.{Asked}
-use Rattle.bank_clock.specs.Extending.{IsOpen, outcome_in}
+use Rattle.bank_timing.specs.Extending.{IsOpen, outcome_in}
 use Rattle.pcm_module.specs.State.{ModuleState, StandsNowhere}
 use Rattle.pcm_module.specs.Replaying.{Replays}
 

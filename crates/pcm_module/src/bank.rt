@@ -1,28 +1,28 @@
 // What a module asks of one of its banks.
 ghost use Rattle.std.specs.Prelude.{◌≡◌, ◌+◌, ◌<◌, ◌≤◌, ℕ, List, false};
-ghost use Rattle.pcm_cells.specs.Device.{ArrayState};
+ghost use Rattle.cell_rows.specs.Device.{ArrayState};
 ghost use Rattle.ecp_line.specs.Layout.{IsLayout};
 ghost use Rattle.masked_bytes.specs.Masked.{IsMasked};
 ghost use Rattle.row_rules.specs.declared.Asks.TheVariants.{Reads, Writes, Cuts};
 ghost use Rattle.power_recovery.specs.Slots.{bank_lines};
 ghost use Rattle.bank_model.specs.Timing.{TimedEvent};
 ghost use Rattle.clock_laws.specs.Leads.{Leads};
-ghost use Rattle.bank_clock.specs.Extending.{AreOpen, IsOpen, last_tick};
+ghost use Rattle.bank_timing.specs.Extending.{AreOpen, IsOpen, last_tick};
 ghost use Rattle.pcm_module.specs.Stepping.{IsAt, IsStep};
 
-use bank_clock::clocked::ClockedBank;
+use bank_timing::clocked::Timed;
+use cell_rows::CellArray;
 use masked_bytes::entry::Entry;
-use pcm_cells::CellArray;
-use result_rows::Results;
+use row_telling::Outcomes;
 
 /// A read of a bank line arrives at a tick.
-pub fn read_at<const B: usize, const M: usize, const E: usize, A: CellArray<B, M>>(
-    timed: &mut ClockedBank<B, M, E>,
+pub fn read_at<const B: usize, const M: usize, const E: usize, A: CellArray<B, M>, R: Outcomes<B>>(
+    timed: &mut Timed<B, M, E>,
     array: &mut A,
     tick: u64,
     row: u32,
     line: u32,
-    results: &mut Results<B>,
+    results: &mut R,
 )
     requires layout { IsLayout B M E }
     requires going { timed.old.drained ≡ false }
@@ -31,25 +31,26 @@ pub fn read_at<const B: usize, const M: usize, const E: usize, A: CellArray<B, M
     requires within { tick ≤ last_tick }
     requires exists { line < bank_lines timed.old.bank.kept.shape }
     requires rises { timed.old.bank.rows_below ≤ row }
-    requires open { AreOpen timed.old.bank results.old }
-    requires fresh { IsOpen results.old row }
-    ensures at { IsAt tick (row + 1) timed.new results.new }
+    requires open { AreOpen timed.old.bank (R.table results.old) }
+    requires fresh { IsOpen (R.table results.old) row }
+    ensures at { IsAt tick (row + 1) timed.new (R.table results.new) }
     ensures step { (xs : List (TimedEvent B M)) → Leads xs timed.old (A.state array.old)
         → (added : List (TimedEvent B M))
         × IsStep xs added (record { row = row; tick = tick; asks = Reads line }) timed.old timed.new
-        (A.state array.old) (A.state array.new) results.old results.new }
+        (A.state array.old) (A.state array.new) (R.table results.old) (R.table results.new) }
+    ensures goes_on { R.goes_on results.old results.new }
 {
     timed.advance(array, tick, results);
     timed.arrive_read(array, row, line, results);
 }
 
 /// A write of a bank line arrives at a tick.
-pub fn write_at<const B: usize, const M: usize, const E: usize, A: CellArray<B, M>>(
-    timed: &mut ClockedBank<B, M, E>,
+pub fn write_at<const B: usize, const M: usize, const E: usize, A: CellArray<B, M>, R: Outcomes<B>>(
+    timed: &mut Timed<B, M, E>,
     array: &mut A,
     tick: u64,
     entry: Entry<B>,
-    results: &mut Results<B>,
+    results: &mut R,
 )
     requires layout { IsLayout B M E }
     requires going { timed.old.drained ≡ false }
@@ -59,9 +60,9 @@ pub fn write_at<const B: usize, const M: usize, const E: usize, A: CellArray<B, 
     requires exists { entry.line < bank_lines timed.old.bank.kept.shape }
     requires rises { timed.old.bank.rows_below ≤ entry.row }
     requires masked { IsMasked B entry.bytes entry.given }
-    requires open { AreOpen timed.old.bank results.old }
-    requires fresh { IsOpen results.old entry.row }
-    ensures at { IsAt tick (entry.entry.row + 1) timed.new results.new }
+    requires open { AreOpen timed.old.bank (R.table results.old) }
+    requires fresh { IsOpen (R.table results.old) entry.row }
+    ensures at { IsAt tick (entry.entry.row + 1) timed.new (R.table results.new) }
     ensures step { (xs : List (TimedEvent B M)) → Leads xs timed.old (A.state array.old)
         → (added : List (TimedEvent B M))
         × IsStep xs added
@@ -70,30 +71,32 @@ pub fn write_at<const B: usize, const M: usize, const E: usize, A: CellArray<B, 
           tick = tick;
           asks = Writes entry.entry.line entry.entry.bytes entry.entry.given;
         })
-        timed.old timed.new (A.state array.old) (A.state array.new) results.old results.new }
+        timed.old timed.new (A.state array.old) (A.state array.new) (R.table results.old) (R.table results.new) }
+    ensures goes_on { R.goes_on results.old results.new }
 {
     timed.advance(array, tick, results);
     timed.arrive_write(entry, results);
 }
 
 /// The power is cut at a tick; the cut's row has a number of which no bank hears.
-pub fn cut_at<const B: usize, const M: usize, const E: usize, A: CellArray<B, M>>(
-    timed: &mut ClockedBank<B, M, E>,
+pub fn cut_at<const B: usize, const M: usize, const E: usize, A: CellArray<B, M>, R: Outcomes<B>>(
+    timed: &mut Timed<B, M, E>,
     array: &mut A,
     tick: u64,
-    results: &mut Results<B>,
+    results: &mut R,
 )
     requires layout { IsLayout B M E }
     requires going { timed.old.drained ≡ false }
     requires led { (xs : List (TimedEvent B M)) × Leads xs timed.old (A.state array.old) }
     requires forward { timed.old.tick ≤ tick }
     requires within { tick ≤ last_tick }
-    requires open { AreOpen timed.old.bank results.old }
-    ensures at { IsAt tick timed.old.bank.rows_below timed.new results.new }
+    requires open { AreOpen timed.old.bank (R.table results.old) }
+    ensures at { IsAt tick timed.old.bank.rows_below timed.new (R.table results.new) }
     ensures step { (row : ℕ) (xs : List (TimedEvent B M)) → Leads xs timed.old (A.state array.old)
         → (added : List (TimedEvent B M))
         × IsStep xs added (record { row = row; tick = tick; asks = Cuts }) timed.old timed.new
-        (A.state array.old) (A.state array.new) results.old results.new }
+        (A.state array.old) (A.state array.new) (R.table results.old) (R.table results.new) }
+    ensures goes_on { R.goes_on results.old results.new }
 {
     timed.advance(array, tick, results);
     timed.power_cut(array, results);

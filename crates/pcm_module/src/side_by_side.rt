@@ -1,7 +1,7 @@
 //! A module of banks.
 ghost use Rattle.std.specs.Prelude.{◌≡◌, ◌*◌, ◌+◌, ◌<◌, ◌≤◌, ℕ, List, [], IfOk, Some, slice_get, false};
-ghost use Rattle.pcm_cells.specs.declared.array.Wear.{Wear};
-ghost use Rattle.pcm_cells.specs.Device.{ArrayState, IsFresh};
+ghost use Rattle.cell_rows.specs.declared.array.Wear.{Wear};
+ghost use Rattle.cell_rows.specs.Device.{ArrayState, IsFresh};
 ghost use Rattle.ecp_line.specs.Layout.{IsLayout};
 ghost use Rattle.bank_shape.specs.declared.Home.TheVariants.{Array};
 ghost use Rattle.result_rows.specs.declared.Outcome.{Outcome};
@@ -12,7 +12,7 @@ ghost use Rattle.run_laws.specs.Runs.{bank_of_line, line_in_bank};
 ghost use Rattle.pcm_module.specs.State.{banks_from, bank_at, stands_in};
 ghost use Rattle.pcm_module.specs.Replaying.{Replays};
 
-use bank_clock::clocked::ClockedBank;
+use bank_timing::clocked::Timed;
 use feistel_map::Feistel;
 use module_shape::{BankLine, Shape};
 use power_recovery::kept::Kept;
@@ -27,7 +27,7 @@ pub struct Module<const B: usize, const M: usize, const E: usize> {
     // The seed of the randomiser.
     pub(crate) seed: u64,
     pub(crate) feistel: Feistel,
-    pub(crate) banks: Vec<ClockedBank<B, M, E>>,
+    pub(crate) banks: Vec<Timed<B, M, E>>,
     // The tick of the last row.
     pub(crate) tick: u64,
     // Above the numbers of all rows so far.
@@ -63,7 +63,7 @@ impl<const B: usize, const M: usize, const E: usize> Module<B, M, E> {
         let feistel = Feistel::new(shape.address_bits(), seed);
         let mut banks = Vec::new(alloc);
         for bank in 0..shape.banks() {
-            banks.push(ClockedBank::new(alloc, shape.bank_shape(bank), shape.pace())?)?;
+            banks.push(Timed::new(alloc, shape.bank_shape(bank), shape.pace())?)?;
         }
         Ok(Module {
             shape,
@@ -118,7 +118,7 @@ impl<const B: usize, const M: usize, const E: usize> Module<B, M, E> {
     }
 
     /// A bank, by its number from 0.
-    pub fn timed(&self, bank: u32) -> &ClockedBank<B, M, E>
+    pub fn timed(&self, bank: u32) -> &Timed<B, M, E>
         requires { bank < self.now.shape.banks }
         ensures { slice_get self.now.banks bank ≡ Some result.now }
     {

@@ -8,7 +8,7 @@ ghost use Rattle.bank_model.specs.Timing.{TimedEvent};
 ghost use Rattle.module_shape.specs.Limits.{total_of};
 ghost use Rattle.module_shape.specs.Addresses.{module_of, array_lines_of};
 ghost use Rattle.module_laws.specs.Asking.{Asked};
-ghost use Rattle.bank_clock.specs.Extending.{IsOpen, outcome_in, last_tick};
+ghost use Rattle.bank_timing.specs.Extending.{IsOpen, outcome_in, last_tick};
 ghost use Rattle.pcm_module.specs.Asking.{asked_by};
 ghost use Rattle.pcm_module.specs.State.{StandsNowhere};
 ghost use Rattle.pcm_module.specs.Replaying.{Replays, IsReplayed};
@@ -16,55 +16,57 @@ ghost use Rattle.pcm_module.specs.Taking.{Takes, StaysBeyond};
 
 use crate::bank::{cut_at, read_at, write_at};
 use crate::side_by_side::Module;
+use cell_rows::CellArray;
 use masked_bytes::entry::Entry;
-use pcm_cells::CellArray;
-use result_rows::{Outcome, Results};
-use trace_reader::{TraceEvent, TraceOp};
+use result_rows::Outcome;
+use row_telling::Outcomes;
+use trace_reader::{Event, EventOp};
 
 impl<const B: usize, const M: usize, const E: usize> Module<B, M, E> {
     /// A row of the trace, with its number, above those of all rows before it. A read or a write brings its own bank alone
     /// to its tick; a power cut reaches each bank.
-    pub fn event<A: CellArray<B, M>>(
+    pub fn event<A: CellArray<B, M>, R: Outcomes<B>>(
         &mut self,
         array: &mut A,
         row: u32,
-        event: &TraceEvent<B>,
-        results: &mut Results<B>,
+        event: &Event<B>,
+        results: &mut R,
     )
         requires going { self.old.finished ≡ false }
         requires replays { (h : ℕ → List (TimedEvent B M)) × (asked : List (Asked B))
-            × Replays h asked self.old (A.state array.old) results.old }
+            × Replays h asked self.old (A.state array.old) (R.table results.old) }
         requires event { IsEventFor (total_of self.old.shape) self.old.tick event.now }
         requires rises { self.old.rows_below ≤ row }
-        requires open { IsOpen results.old row }
+        requires open { IsOpen (R.table results.old) row }
         ensures shape { self.new.shape ≡ self.old.shape }
         ensures seed { self.new.seed ≡ self.old.seed }
         ensures going { self.new.finished ≡ false }
         ensures tick { self.new.tick ≡ event.now.tick }
         ensures rows { self.new.rows_below ≡ row + 1 }
-        ensures table { length results.new ≡ length results.old }
+        ensures table { length (R.table results.new) ≡ length (R.table results.old) }
 
         // each bank's history goes on, and leads on with this row
         ensures replays { (h : ℕ → List (TimedEvent B M)) (asked : List (Asked B))
-            → Replays h asked self.old (A.state array.old) results.old
+            → Replays h asked self.old (A.state array.old) (R.table results.old)
             → (added : ℕ → List (TimedEvent B M))
             × Replays (λ bank. added bank ++ h bank) (asked_by row event.now ∷ asked) self.new
-            (A.state array.new) results.new }
-        ensures open { (other : ℕ) → row < other → IsOpen results.old other → IsOpen results.new other }
-        ensures others { (other : ℕ) → HasRow results.old other → other ≢ row → StandsNowhere self.old other
-            → outcome_in results.new other ≡ outcome_in results.old other }
+            (A.state array.new) (R.table results.new) }
+        ensures open { (other : ℕ) → row < other → IsOpen (R.table results.old) other → IsOpen (R.table results.new) other }
+        ensures others { (other : ℕ) → HasRow (R.table results.old) other → other ≢ row → StandsNowhere self.old other
+            → outcome_in (R.table results.new) other ≡ outcome_in (R.table results.old) other }
         ensures stays { StaysBeyond (self.old.shape.banks * array_lines_of (module_of self.old.shape))
             (A.state array.old) (A.state array.new) }
+        ensures goes_on { R.goes_on results.old results.new }
     {
         // A field that is read makes known what is true of every module.
         let _ = &self.shape;
         match event.op {
-            TraceOp::Read(line) => self.read(array, event.tick, row, line, results),
-            TraceOp::Write(line, bytes) => {
+            EventOp::Read(line) => self.read(array, event.tick, row, line, results),
+            EventOp::Write(line, bytes) => {
                 let entry = Entry::whole(row, line, &bytes);
                 self.write(array, event.tick, entry, results);
             }
-            TraceOp::Mask(line, bytes, given) => {
+            EventOp::Mask(line, bytes, given) => {
                 let entry = Entry {
                     row,
                     line,
@@ -73,27 +75,28 @@ impl<const B: usize, const M: usize, const E: usize> Module<B, M, E> {
                 };
                 self.write(array, event.tick, entry, results);
             }
-            TraceOp::Cut => self.cut(array, event.tick, row, results),
+            EventOp::Cut => self.cut(array, event.tick, row, results),
         }
     }
 
     // A read of a line arrives at its bank.
-    fn read<A: CellArray<B, M>>(
+    fn read<A: CellArray<B, M>, R: Outcomes<B>>(
         &mut self,
         array: &mut A,
         tick: u64,
         row: u32,
         line: u32,
-        results: &mut Results<B>,
+        results: &mut R,
     )
-        requires led { IsReplayed self.old (A.state array.old) results.old }
+        requires led { IsReplayed self.old (A.state array.old) (R.table results.old) }
         requires forward { self.old.tick ≤ tick }
         requires within { tick ≤ last_tick }
         requires exists { line < total_of self.old.shape }
         requires rises { self.old.rows_below ≤ row }
-        requires fresh { IsOpen results.old row }
+        requires fresh { IsOpen (R.table results.old) row }
         ensures takes { Takes (record { row = row; tick = tick; asks = Reads line }) self.old self.new
-            (A.state array.old) (A.state array.new) results.old results.new }
+            (A.state array.old) (A.state array.new) (R.table results.old) (R.table results.new) }
+        ensures goes_on { R.goes_on results.old results.new }
     {
         let place = self.place(line);
         let timed = &mut self.banks[place.bank as usize];
@@ -103,27 +106,28 @@ impl<const B: usize, const M: usize, const E: usize> Module<B, M, E> {
     }
 
     // A write of a line of the module arrives at its bank, where the line has another number.
-    fn write<A: CellArray<B, M>>(
+    fn write<A: CellArray<B, M>, R: Outcomes<B>>(
         &mut self,
         array: &mut A,
         tick: u64,
         entry: Entry<B>,
-        results: &mut Results<B>,
+        results: &mut R,
     )
-        requires led { IsReplayed self.old (A.state array.old) results.old }
+        requires led { IsReplayed self.old (A.state array.old) (R.table results.old) }
         requires forward { self.old.tick ≤ tick }
         requires within { tick ≤ last_tick }
         requires exists { entry.line < total_of self.old.shape }
         requires masked { IsMasked B entry.bytes entry.given }
         requires rises { self.old.rows_below ≤ entry.row }
-        requires fresh { IsOpen results.old entry.row }
+        requires fresh { IsOpen (R.table results.old) entry.row }
         ensures takes { Takes
             (record {
               row = entry.entry.row;
               tick = tick;
               asks = Writes entry.entry.line entry.entry.bytes entry.entry.given;
             })
-            self.old self.new (A.state array.old) (A.state array.new) results.old results.new }
+            self.old self.new (A.state array.old) (A.state array.new) (R.table results.old) (R.table results.new) }
+        ensures goes_on { R.goes_on results.old results.new }
     {
         let place = self.place(entry.line);
         let mut here = entry;
@@ -135,20 +139,21 @@ impl<const B: usize, const M: usize, const E: usize> Module<B, M, E> {
     }
 
     // The power is cut: each bank is brought to the tick and cut, in order. The outcome of the cut's own row is known at once.
-    fn cut<A: CellArray<B, M>>(
+    fn cut<A: CellArray<B, M>, R: Outcomes<B>>(
         &mut self,
         array: &mut A,
         tick: u64,
         row: u32,
-        results: &mut Results<B>,
+        results: &mut R,
     )
-        requires led { IsReplayed self.old (A.state array.old) results.old }
+        requires led { IsReplayed self.old (A.state array.old) (R.table results.old) }
         requires forward { self.old.tick ≤ tick }
         requires within { tick ≤ last_tick }
         requires rises { self.old.rows_below ≤ row }
-        requires fresh { IsOpen results.old row }
+        requires fresh { IsOpen (R.table results.old) row }
         ensures takes { Takes (record { row = row; tick = tick; asks = Cuts }) self.old self.new
-            (A.state array.old) (A.state array.new) results.old results.new }
+            (A.state array.old) (A.state array.new) (R.table results.old) (R.table results.new) }
+        ensures goes_on { R.goes_on results.old results.new }
     {
         let banks = self.shape.banks();
         results.set(row, Outcome::Cut { tick });

@@ -6,9 +6,9 @@ use Rattle.std.proofs.lemmas.Bool.{cases_eq}
 use Rattle.std.proofs.lemmas.List.{append-nil, length-append}
 use Rattle.pcm_io.specs.Faults.{Rose}
 use Rattle.pcm_io.proofs.ByteLemmas.{Takes-nothing}
-use Rattle.pcm_cells.specs.Device.{ArrayState}
+use Rattle.cell_rows.specs.Device.{ArrayState}
 use Rattle.trace_reader.specs.Trace.{trace_of}
-use Rattle.trace_reader.specs.declared.event.TraceEvent.{TraceEvent}
+use Rattle.trace_reader.specs.declared.event.Event.{Event}
 use Rattle.trace_reader.specs.declared.fault.ParseFault.{ParseFault}
 use Rattle.trace_reader.specs.declared.fault.ParseFault.TheVariants as parsing
 use Rattle.module_shape.specs.Limits.{total_of}
@@ -26,7 +26,7 @@ use Rattle.pcm_top.specs.Reading.{IsReadFault, ReadsWhole, SourceChange, TakesNo
 use Rattle.pcm_top.specs.Calls.{Deed, SinkChange}
 use Rattle.pcm_top.specs.Inputs.{ComeFrom, IsFaultOf, is_source}
 use Rattle.command_line.specs.declared.job.CheckJob.{CheckJob}
-use Rattle.text_check.specs.declared.fault.TextFault.TheVariants as text
+use Rattle.check_text.specs.declared.fault.TextFault.TheVariants as text
 use Rattle.pcm_top.specs.Checking.{IsCheckFault, TellsVerdict, pointers_in, room_line}
 use Rattle.pcm_top.specs.FaultLines.{status_of}
 use Rattle.pcm_top.specs.Running.{Does, HasCause, IsRefused, Runs, WritesRun, reads_source, status_done}
@@ -59,10 +59,10 @@ more-go (Some xs) (Some ys) bytes found is took =
     rw (← same, took) (omega arith)
 
 -- the status of bytes that are a trace's, or not
-by-trace : (n lines : ℕ) (bytes found : List ℕ) (status : ℕ) (trace : Result (List (TraceEvent n)) ParseFault)
+by-trace : (n lines : ℕ) (bytes found : List ℕ) (status : ℕ) (trace : Result (List (Event n)) ParseFault)
     → found ≡ bytes → length found ≤ trace_room n → trace_of n lines found ≡ trace → IsTraceStatus trace status → IsSourceStatus n lines bytes status
 by-trace n lines bytes found status trace same within is has =
-    let Of : Result (List (TraceEvent n)) ParseFault → Type 0 = λ t. IsTraceStatus t status in
+    let Of : Result (List (Event n)) ParseFault → Type 0 = λ t. IsTraceStatus t status in
     let With : List ℕ → Type 0 = λ bs. IsSourceStatus n lines bs status in
     subst With same (inr (within, subst Of (sym is) has))
 
@@ -160,7 +160,7 @@ run-status Whole = inl refl
 run-status Short = inr refl
 
 -- where the events of a run come from decides that it is made
-come-status : (n : ℕ) (job : RunJob) (input : Input) (s : SourceChange) (events : List (TraceEvent n)) (bytes : List ℕ) (done : Done) → n ≡ bytes_in job.line → (is_source input ≡ true → s.left_before ≡ Some bytes)
+come-status : (n : ℕ) (job : RunJob) (input : Input) (s : SourceChange) (events : List (Event n)) (bytes : List ℕ) (done : Done) → n ≡ bytes_in job.line → (is_source input ≡ true → s.left_before ≡ Some bytes)
     → ComeFrom n job input s events → IsInputStatus job bytes (status_done done) input
 come-status n job Source s events bytes done size told come =
     let With : ℕ → Type 0 = λ b. IsSourceStatus b (total_of job.shape) bytes (status_done done) in
@@ -268,13 +268,13 @@ too-much n lines (Trace f) s cause low over = absurd (within-count n s (cause.0,
 too-much n lines TooLong s cause low over = refl
 
 -- memory may run out behind the events
-pub memory-after : (n : ℕ) (job : RunJob) (input : Input) (s : SourceChange) (events : List (TraceEvent n)) → ComeFrom n job input s events → s.faults_now ≡ s.faults_before
+pub memory-after : (n : ℕ) (job : RunJob) (input : Input) (s : SourceChange) (events : List (Event n)) → ComeFrom n job input s events → s.faults_now ≡ s.faults_before
     → IsFaultOf n job input NoMemory s
 memory-after n job Source s events come calm = (calm, (come.bytes, come.whole.takes, come.whole.within))
 memory-after n job (Drawn mix) s events come calm = refl
 
 -- a source that was read to its end within its room, and one of which nothing was taken
-pub come-within : (n : ℕ) (job : RunJob) (input : Input) (s : SourceChange) (events : List (TraceEvent n)) → ComeFrom n job input s events → s.taken_before + trace_room n < 2 ^ 64 - 1 → s.taken_before + trace_room n < s.taken_now → ⊥
+pub come-within : (n : ℕ) (job : RunJob) (input : Input) (s : SourceChange) (events : List (Event n)) → ComeFrom n job input s events → s.taken_before + trace_room n < 2 ^ 64 - 1 → s.taken_before + trace_room n < s.taken_now → ⊥
 come-within n job Source s events come low over = within-count n s (come.bytes, come.whole.takes, come.whole.within) low over
 come-within n job (Drawn mix) s events come low over =
     let same = come.0.taken in

@@ -1,14 +1,14 @@
 -- What a run that was made is, and that what is written of it is its text.
-use Rattle.std.proofs.Common.{◌≡◌, ℕ, List, length, Some, sym, subst}
-use Rattle.pcm_cells.specs.Device.{ArrayState}
+use Rattle.std.proofs.Common.{◌≡◌, ℕ, ◌≤◌, List, length, Some, sym, subst}
+use Rattle.cell_rows.specs.Device.{ArrayState}
 use Rattle.trace_reader.specs.Events.{AreEventsFor}
-use Rattle.trace_reader.specs.declared.event.TraceEvent.{TraceEvent}
+use Rattle.trace_reader.specs.declared.event.Event.{Event}
 use Rattle.result_rows.specs.declared.Outcome.{Outcome}
 use Rattle.module_shape.specs.declared.raw.RawShape.{RawShape}
 use Rattle.module_shape.specs.Limits.{IsShape, total_of}
 use Rattle.end_laws.specs.Ends.{BankEnd}
 use Rattle.run_laws.specs.Runs.{RunsRight}
-use Rattle.image_laws.specs.SavedRuns.{AreRows}
+use Rattle.pcm_image.specs.Saved.{Saved}
 use Rattle.pcm_module.specs.State.{AreEndsOf, ModuleState}
 use Rattle.command_line.specs.declared.job.Print.TheVariants.{Image}
 use Rattle.command_line.specs.declared.job.RunJob.{RunJob}
@@ -17,6 +17,8 @@ use Rattle.pcm_top.specs.Calls.{Gets, GetsPart, SinkChange}
 use Rattle.pcm_top.specs.Inputs.{ComeFrom}
 use Rattle.pcm_top.specs.Rows.{rows_of}
 use Rattle.pcm_top.specs.RunText.{HaveRoles, IsRunText}
+use Rattle.pcm_top.specs.Images.{WritesRows, senses_for}
+use Rattle.pcm_top.proofs.Saving.{LeavesWith}
 use Rattle.pcm_top.specs.Running.{RunIsWritten, RunIsWrittenInPart, Runs, done_by}
 use Rattle.pcm_top.specs.Laws.{CanBePrinted, PrintableLaw}
 use Rattle.pcm_top.specs.declared.run.Done.{Done}
@@ -35,7 +37,7 @@ pub ready-for : {n m e : ℕ} (raw : RawShape) (seed rows count : ℕ) (module_ 
     → rows ≡ count → IsReady raw seed rows module_ array results → IsReady raw seed count module_ array results
 ready-for raw seed rows count module_ array results same ready = subst (λ c. IsReady raw seed c module_ array results) same ready
 
-module _ {n m e : ℕ} (job : RunJob) (array : ArrayState n m) (events : List (TraceEvent n)) (outcomes : List (Outcome n)) (pcm : ModuleState n m e)
+module _ {n m e : ℕ} (job : RunJob) (array : ArrayState n m) (events : List (Event n)) (outcomes : List (Outcome n)) (pcm : ModuleState n m e)
     (shape : pcm.shape ≡ job.shape) (seeded : pcm.seed ≡ job.seed) (size : length outcomes ≡ length events)
     (left : (ends : ℕ → BankEnd) × AreEndsOf pcm ends × RunsRight e pcm.shape pcm.seed (rows_of events outcomes) array ends) where
   -- it can be printed
@@ -61,18 +63,33 @@ module _ {n m e : ℕ} (job : RunJob) (array : ArrayState n m) (events : List (T
         let Seeded : ℕ → Type 0 = λ seed. IsRunText job.shape seed e events outcomes left.0 array job.print whole in
         subst Seeded seeded (subst Shaped shape is)
 
-    pub run-written : (out : SinkChange) (done : Done) → done ≡ done_by outcomes → (job.print ≡ Image → AreRows array) → HaveRoles pcm.shape pcm.seed left.0
+    left-of-job : (Of : Saved n m → ℕ → Type 0) → LeavesWith e pcm.shape pcm.seed (rows_of events outcomes) array Of → LeavesWith e job.shape job.seed (rows_of events outcomes) array Of
+    left-of-job Of is =
+        let Shaped : RawShape → Type 0 = λ raw. LeavesWith e raw pcm.seed (rows_of events outcomes) array Of in
+        let Seeded : ℕ → Type 0 = λ seed. LeavesWith e job.shape seed (rows_of events outcomes) array Of in
+        subst Seeded seeded (subst Shaped shape is)
+
+    -- its lines were sensed for a text that was written, or for a part of it
+    abbrev pub Whole : Saved n m → ℕ → Type 0
+    Whole saved count = count ≡ senses_for job.print array.lines
+
+    abbrev pub InPart : SinkChange → Saved n m → ℕ → Type 0
+    InPart out saved count = (count ≤ senses_for job.print array.lines) × (job.print ≡ Image → WritesRows array saved out.written_before out.written_now)
+
+    pub run-written : (out : SinkChange) (done : Done) → done ≡ done_by outcomes → LeavesWith e pcm.shape pcm.seed (rows_of events outcomes) array Whole → HaveRoles pcm.shape pcm.seed left.0
         → ((ends : ℕ → BankEnd) → AreEndsOf pcm ends → RunsRight e pcm.shape pcm.seed (rows_of events outcomes) array ends → HaveRoles pcm.shape pcm.seed ends
         → (whole : List ℕ) × IsRunText pcm.shape pcm.seed e events outcomes ends array job.print whole × Gets out whole)
         → RunIsWritten n m e job s array out done
-    run-written out done is rows roles writes =
+    run-written out done is leaves roles writes =
         let text = writes left.0 left.1 left.2 roles in
-        record { run = made; text = text.0; is_text = text-of-job text.0 text.1; written = text.2; ending = is; rows = rows }
+        let had = left-of-job Whole leaves in
+        record { run = made; text = text.0; is_text = text-of-job text.0 text.1; written = text.2; ending = is; left = record { saved = had.0; left = had.1; rows = had.2 }; sensed = had.3 }
 
-    pub run-part : (out : SinkChange) → HaveRoles pcm.shape pcm.seed left.0
+    pub run-part : (out : SinkChange) → LeavesWith e pcm.shape pcm.seed (rows_of events outcomes) array (InPart out) → HaveRoles pcm.shape pcm.seed left.0
         → ((ends : ℕ → BankEnd) → AreEndsOf pcm ends → RunsRight e pcm.shape pcm.seed (rows_of events outcomes) array ends → HaveRoles pcm.shape pcm.seed ends
         → (whole : List ℕ) × IsRunText pcm.shape pcm.seed e events outcomes ends array job.print whole × GetsPart out whole)
         → RunIsWrittenInPart n m e job s array out
-    run-part out roles writes =
+    run-part out leaves roles writes =
         let text = writes left.0 left.1 left.2 roles in
-        record { run = made; text = text.0; is_text = text-of-job text.0 text.1; written = text.2 }
+        let had = left-of-job (InPart out) leaves in
+        record { run = made; text = text.0; is_text = text-of-job text.0 text.1; written = text.2; left = record { saved = had.0; left = had.1; rows = had.2 }; sensed = had.3.0; rows = had.3.1 }

@@ -1,18 +1,18 @@
 -- That each row of a right run can be printed.
-use Rattle.std.proofs.Common.{◌≡◌, ℕ, zero, suc, ◌+◌, ◌-◌, ◌*◌, ◌<◌, ◌≤◌, List, [], ◌∷◌, length, Some, refl, ap, ◌∙◌, subst, arith, reverse}
+use Rattle.std.proofs.Common.{◌≡◌, ℕ, zero, suc, ◌*◌, ◌<◌, ◌≤◌, List, [], ◌∷◌, length, Some, refl, ap, ◌∙◌, subst, arith, reverse}
 use Rattle.std.specs.Prelude.{slice_get, All}
 use Rattle.std.specs.Option.{ForSome}
 use Rattle.std.proofs.lemmas.List.{reverse-reverse}
 use Rattle.std.proofs.lemmas.List.Elements.{All-get_or}
 use Rattle.std.proofs.lemmas.Option.{get_or_from_slice_get, slice_get_within}
-use Rattle.verdict_laws.proofs.Soon.{All-reverse}
-use Rattle.text_check.proofs.Standing.{own-op}
+use Rattle.check_laws.proofs.Soon.{All-reverse}
+use Rattle.check_text.proofs.Standing.{own-op}
 use Rattle.trace_rows.proofs.Lines.{lines-exist as rows-exist}
-use Rattle.pcm_cells.specs.Device.{ArrayState}
+use Rattle.cell_rows.specs.Device.{ArrayState}
 use Rattle.trace_reader.specs.Events.{AreEventsFor, IsOpFor}
-use Rattle.trace_reader.specs.declared.event.TraceEvent.{TraceEvent}
-use Rattle.trace_reader.specs.declared.event.TraceOp.{TraceOp}
-use Rattle.trace_reader.specs.declared.event.TraceOp.TheVariants as op
+use Rattle.trace_reader.specs.declared.event.Event.{Event}
+use Rattle.trace_reader.specs.declared.event.EventOp.{EventOp}
+use Rattle.trace_reader.specs.declared.event.EventOp.TheVariants as op
 use Rattle.trace_reader.proofs.Lawful.{AreEventsFor-at}
 use Rattle.result_rows.specs.declared.Outcome.{Outcome}
 use Rattle.result_rows.specs.Outcomes.{op_of, place_of}
@@ -30,7 +30,7 @@ use Rattle.pcm_top.specs.Rows.{rows_of}
 
 module _ {n : ℕ} where
   -- the row of an event
-  row-at : (events : List (TraceEvent n)) (outcomes : List (Outcome n)) (i : ℕ) (event : TraceEvent n) (outcome : Outcome n)
+  row-at : (events : List (Event n)) (outcomes : List (Outcome n)) (i : ℕ) (event : Event n) (outcome : Outcome n)
       → slice_get events i ≡ Some event → slice_get outcomes i ≡ Some outcome → slice_get (rows_with events outcomes) i ≡ Some (row_of event outcome)
   row-at [] outcomes i event outcome at is = absurd (cc at)
   row-at (first ∷ events) [] i event outcome at is = absurd (cc is)
@@ -41,7 +41,7 @@ module _ {n : ℕ} where
   row-at (first ∷ events) (own ∷ outcomes) (suc i) event outcome at is = row-at events outcomes i event outcome at is
 
   -- what every row of a run's table is, the row of each event is
-  pub row-of-event : (P : Row n → Type 0) (events : List (TraceEvent n)) (outcomes : List (Outcome n)) (i : ℕ) (event : TraceEvent n) (outcome : Outcome n)
+  pub row-of-event : (P : Row n → Type 0) (events : List (Event n)) (outcomes : List (Outcome n)) (i : ℕ) (event : Event n) (outcome : Outcome n)
       → slice_get events i ≡ Some event → slice_get outcomes i ≡ Some outcome → All P (rows_of events outcomes) → P (row_of event outcome)
   row-of-event P events outcomes i event outcome at is all =
       let rows : List (Row n) = rows_with events outcomes in
@@ -50,19 +50,19 @@ module _ {n : ℕ} where
       let here : slice_get rows i ≡ Some row = row-at events outcomes i event outcome at is in
       subst P (get_or_from_slice_get rows i row row here) (All-get_or P rows i row (slice_get_within rows i row here) each)
 
-  pub lines-exist : (raw : RawShape) (events : List (TraceEvent n)) (outcomes : List (Outcome n)) → AreEventsFor (total_of raw) 0 events
+  pub lines-exist : (raw : RawShape) (events : List (Event n)) (outcomes : List (Outcome n)) → AreEventsFor (total_of raw) 0 events
       → LinesExist raw (rows_of events outcomes)
   lines-exist raw events outcomes lawful =
       All-reverse (λ (r : Row n). IsOfLines (total_of raw) r.asks) (rows_with events outcomes) (rows-exist (total_of raw) 0 events outcomes lawful)
 
-  small-line : (lines : ℕ) (o : TraceOp n) → lines ≤ 65536 → IsOpFor lines o → named_line o ≤ 65535
+  small-line : (lines : ℕ) (o : EventOp n) → lines ≤ 65536 → IsOpFor lines o → named_line o ≤ 65535
   small-line lines (op.Read line) few h = omega arith
   small-line lines (op.Write line bytes) few h = omega (arith, h.0)
   small-line lines (op.Mask line bytes given) few h = omega (arith, h.0)
   small-line lines op.Cut few h = omega arith
 
   -- each row of a right run has an outcome with which it can be printed
-  pub are-printable : {m : ℕ} (e : ℕ) (raw : RawShape) (seed : ℕ) (events : List (TraceEvent n)) (outcomes : List (Outcome n)) (array : ArrayState n m) (ends : ℕ → BankEnd)
+  pub are-printable : {m : ℕ} (e : ℕ) (raw : RawShape) (seed : ℕ) (events : List (Event n)) (outcomes : List (Outcome n)) (array : ArrayState n m) (ends : ℕ → BankEnd)
       → OwnOutcomesLaw → PlacesExistLaw → FewArrayLinesLaw → IsShape raw → AreEventsFor (total_of raw) 0 events → length outcomes ≡ length events
       → RunsRight e raw seed (rows_of events outcomes) array ends → ArePrintable events outcomes
   are-printable {m} e raw seed events outcomes array ends own exist few shape lawful size right = record {

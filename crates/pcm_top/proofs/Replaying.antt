@@ -5,16 +5,16 @@ use Rattle.std.proofs.Math.Seq.{drop-cons}
 use Rattle.std.proofs.lemmas.List.{take_more, take_all, reverse-append, length-reverse, length-take-le, length-replicate, get_or-replicate}
 use Rattle.std.proofs.lemmas.Option.{get_or_from_slice_get, slice_get-get_or, slice_get_within}
 use Rattle.trace_reader.proofs.Lawful.{lawful-first}
-use Rattle.pcm_cells.specs.Device.{ArrayState}
+use Rattle.cell_rows.specs.Device.{ArrayState}
 use Rattle.trace_reader.specs.Events.{AreEventsFor, IsEventFor}
-use Rattle.trace_reader.specs.declared.event.TraceEvent.{TraceEvent}
+use Rattle.trace_reader.specs.declared.event.Event.{Event}
 use Rattle.result_rows.specs.declared.Outcome.{Outcome}
 use Rattle.result_rows.specs.declared.Outcome.TheVariants.{Unset}
 use Rattle.bank_model.specs.Timing.{TimedEvent}
 use Rattle.module_shape.specs.declared.raw.RawShape.{RawShape}
 use Rattle.module_shape.specs.Limits.{total_of}
 use Rattle.module_laws.specs.Asking.{Asked}
-use Rattle.bank_clock.specs.Extending.{IsOpen}
+use Rattle.bank_timing.specs.Extending.{IsOpen}
 use Rattle.pcm_module.specs.State.{ModuleState}
 use Rattle.pcm_module.specs.Asking.{asked_by, asked_for}
 use Rattle.pcm_module.specs.Replaying.{Replays}
@@ -22,7 +22,7 @@ use Rattle.pcm_top.specs.Ready.{IsReady}
 
 -- the first i events were handed to the module; some histories replay them, the rows behind them are open, and the other events
 -- may follow
-pub record HasReplayed {n m e : ℕ} (raw : RawShape) (seed : ℕ) (events : List (TraceEvent n)) (i : ℕ) (module_ : ModuleState n m e) (array : ArrayState n m) (results : List (Outcome n)) : Type 0 where
+pub record HasReplayed {n m e : ℕ} (raw : RawShape) (seed : ℕ) (events : List (Event n)) (i : ℕ) (module_ : ModuleState n m e) (array : ArrayState n m) (results : List (Outcome n)) : Type 0 where
   pub shape : module_.shape ≡ raw
   pub seeded : module_.seed ≡ seed
   pub going : module_.finished ≡ false
@@ -47,7 +47,7 @@ open-row {n} size row above within = record {
   unset = unset-row size (row - 1) (omega arith);
 }
 
-pub replayed-none : {n m e : ℕ} (raw : RawShape) (seed : ℕ) (events : List (TraceEvent n)) (module_ : ModuleState n m e) (array : ArrayState n m) (results : List (Outcome n))
+pub replayed-none : {n m e : ℕ} (raw : RawShape) (seed : ℕ) (events : List (Event n)) (module_ : ModuleState n m e) (array : ArrayState n m) (results : List (Outcome n))
     → IsReady raw seed (length events) module_ array results → AreEventsFor (total_of raw) 0 events → HasReplayed raw seed events 0 module_ array results
 replayed-none {n} raw seed events module_ array results ready lawful = record {
   shape = ready.shape;
@@ -61,7 +61,7 @@ replayed-none {n} raw seed events module_ array results ready lawful = record {
 }
 
 -- one event more was handed on
-pub below-more : {n : ℕ} (events : List (TraceEvent n)) (i : ℕ) (event : TraceEvent n) → slice_get events i ≡ Some event → reverse (take (i + 1) events) ≡ event ∷ reverse (take i events)
+pub below-more : {n : ℕ} (events : List (Event n)) (i : ℕ) (event : Event n) → slice_get events i ≡ Some event → reverse (take (i + 1) events) ≡ event ∷ reverse (take i events)
 below-more events i event at =
     let within = slice_get_within events i event at in
     let value = get_or_from_slice_get events i event event at in
@@ -69,7 +69,7 @@ below-more events i event at =
     ∙ ap (λ e. e ∷ reverse (take i events)) value
 
 -- what it asks has the next number
-asked-more : {n : ℕ} (events : List (TraceEvent n)) (i : ℕ) (event : TraceEvent n) → slice_get events i ≡ Some event
+asked-more : {n : ℕ} (events : List (Event n)) (i : ℕ) (event : Event n) → slice_get events i ≡ Some event
     → asked_by (i + 1) event ∷ asked_for (reverse (take i events)) ≡ asked_for (reverse (take (i + 1) events))
 asked-more events i event at =
     let within = slice_get_within events i event at in
@@ -77,13 +77,13 @@ asked-more events i event at =
     rw (below-more events i event at, size) refl
 
 -- the events from a place on begin with the one there
-left-next : {n : ℕ} (events : List (TraceEvent n)) (i : ℕ) (event : TraceEvent n) → slice_get events i ≡ Some event → drop i events ≡ event ∷ drop (i + 1) events
+left-next : {n : ℕ} (events : List (Event n)) (i : ℕ) (event : Event n) → slice_get events i ≡ Some event → drop i events ≡ event ∷ drop (i + 1) events
 left-next events i event at =
     let within = slice_get_within events i event at in
     let one : i + 1 ≡ suc i = omega arith in
     rw one (drop-cons events i event within ∙ ap (λ e. e ∷ drop (suc i) events) (get_or_from_slice_get events i event event at))
 
-module _ {n m e : ℕ} (raw : RawShape) (seed : ℕ) (events : List (TraceEvent n)) (i : ℕ) (event : TraceEvent n) (at : slice_get events i ≡ Some event)
+module _ {n m e : ℕ} (raw : RawShape) (seed : ℕ) (events : List (Event n)) (i : ℕ) (event : Event n) (at : slice_get events i ≡ Some event)
     (module_ : ModuleState n m e) (array : ArrayState n m) (results : List (Outcome n)) (had : HasReplayed raw seed events i module_ array results) where
   next-left : IsEventFor (total_of raw) module_.tick event × AreEventsFor (total_of raw) event.tick (drop (i + 1) events)
   next-left = lawful-first (total_of raw) module_.tick event (drop (i + 1) events) (rw (← left-next events i event at) had.left)
@@ -120,9 +120,9 @@ module _ {n m e : ℕ} (raw : RawShape) (seed : ℕ) (events : List (TraceEvent 
       }
 
 -- all events were handed on
-pub replayed-all : {n m e : ℕ} (raw : RawShape) (seed : ℕ) (events : List (TraceEvent n)) (i : ℕ) (module_ : ModuleState n m e) (array : ArrayState n m) (results : List (Outcome n))
+pub replayed-all : {n m e : ℕ} (raw : RawShape) (seed : ℕ) (events : List (Event n)) (i : ℕ) (module_ : ModuleState n m e) (array : ArrayState n m) (results : List (Outcome n))
     → length events ≤ i → HasReplayed raw seed events i module_ array results
     → (h : ℕ → List (TimedEvent n m)) × Replays h (asked_for (reverse events)) module_ array results
 replayed-all {n} {m} raw seed events i module_ array results all had =
-    let P : List (TraceEvent n) → Type 0 = λ es. Replays had.led.0 (asked_for (reverse es)) module_ array results in
+    let P : List (Event n) → Type 0 = λ es. Replays had.led.0 (asked_for (reverse es)) module_ array results in
     (had.led.0, subst P (take_all i events all) had.led.1)

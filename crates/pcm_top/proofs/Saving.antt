@@ -1,34 +1,57 @@
 -- The image of a run that was made.
 use Rattle.std.proofs.Common.{◌≡◌, ℕ, ◌^◌, ◌<◌, List, Option, Some, None, refl, sym, subst, reverse}
-use Rattle.std.specs.Prelude.{IsSomeAnd, slice_get, unwrap_or}
+use Rattle.std.specs.Prelude.{IsSomeAnd, OnOk, OnErr, Result, Ok, Err, slice_get, unwrap_or}
 use Rattle.pcm_top.proofs.Tables.{rows-are}
-use Rattle.pcm_cells.specs.Device.{ArrayState}
-use Rattle.trace_reader.specs.declared.event.TraceEvent.{TraceEvent}
+use Rattle.cell_rows.specs.Device.{ArrayState}
+use Rattle.trace_reader.specs.declared.event.Event.{Event}
 use Rattle.result_rows.specs.declared.Outcome.{Outcome}
+use Rattle.row_rules.specs.declared.Row.{Row}
+use Rattle.module_shape.specs.declared.raw.RawShape.{RawShape}
 use Rattle.module_shape.specs.Limits.{IsShape}
-use Rattle.bank_clock.specs.Extending.{outcome_in}
+use Rattle.bank_timing.specs.Extending.{outcome_in}
 use Rattle.end_laws.specs.Ends.{BankEnd}
 use Rattle.end_laws.specs.EndLaws.{IsEndOf}
 use Rattle.run_laws.specs.Runs.{RunsRight}
+use Rattle.pcm_image.specs.Saved.{Saved}
 use Rattle.pcm_image.specs.Spelling.{image_bytes}
 use Rattle.image_laws.specs.Saving.{saved_of}
-use Rattle.image_laws.specs.SavedRuns.{IsLeft, SavedLaw, SensedSince, StaysRightLaw}
+use Rattle.image_laws.specs.SavedRuns.{AreRowsTo, IsLeft, SavedLaw, SensedSince, StaysRightLaw}
 use Rattle.pcm_module.specs.Asking.{asked_for}
 use Rattle.pcm_module.specs.State.{AreEndsOf, ModuleState, bank_at, first_bank}
 use Rattle.command_line.specs.declared.job.Print.{Print}
 use Rattle.command_line.specs.declared.job.Print.TheVariants.{Image}
-use Rattle.pcm_top.specs.Images.{kept_in}
+use Rattle.image_text.specs.Sensing.{SensesRows}
+use Rattle.image_text.proofs.Sensing.{senses-none}
+use Rattle.pcm_top.specs.Images.{kept_in, senses_for}
 use Rattle.pcm_top.specs.Played.{IsPlayed}
 use Rattle.pcm_top.specs.Rows.{rows_of}
 use Rattle.pcm_top.specs.RunText.{HaveRoles, IsRunText}
+
+-- of an array nothing was sensed for a text that needs no sense
+pub senses-nothing : {n m : ℕ} {T E : Type 0} (r : Result T E) (print : Print) (array : ArrayState n m) → ((lines : ℕ) → senses_for print lines ≡ 0) → OnOk r (SensesRows (senses_for print array.lines) array array)
+senses-nothing r print array none = ok-any r _ (subst (λ count. SensesRows count array array) (sym (none array.lines)) (senses-none array))
+  where
+    ok-any : {T E : Type 0} (r : Result T E) (P : Type 0) → P → OnOk r P
+    ok-any (Ok x) P h = h
+    ok-any (Err e) P h = tt
+
+-- and of a text that isn't an image nothing is said of rows
+pub no-image : {T E : Type 0} (r : Result T E) (print : Print) (P : Type 0) → (print ≡ Image → ⊥) → OnErr r (print ≡ Image → P)
+no-image (Ok x) print P other = tt
+no-image (Err e) print P other = λ is. absurd (other is)
 
 -- a value that is there
 there : {X : Type 0} (P : X → Type 0) (o : Option X) (d : X) → IsSomeAnd o P → P (unwrap_or o d)
 there P (Some x) d h = h
 there P None d h = absurd h
 
-module _ {n m e : ℕ} (pcm : ModuleState n m e) (before array : ArrayState n m) (events : List (TraceEvent n)) (outcomes : List (Outcome n))
-    (played : IsPlayed pcm events outcomes before) (since : SensedSince before array) where
+-- what is left of a run, some of whose array's lines were sensed for its text, each of them a row
+abbrev pub LeavesWith : {n m : ℕ} → ℕ → RawShape → ℕ → List (Row n) → ArrayState n m → (Saved n m → ℕ → Type 0) → Type 0
+LeavesWith {n} {m} e raw seed rows array Of =
+    (saved : Saved n m) × (left : IsLeft e raw seed rows array saved) × AreRowsTo left.sensed array × Of saved left.sensed
+
+module _ {n m e : ℕ} (pcm : ModuleState n m e) (before array : ArrayState n m) (events : List (Event n)) (outcomes : List (Outcome n))
+    (played : IsPlayed pcm events outcomes before) (count : ℕ) (since : SensedSince count before array) where
   pub left-of : IsLeft e pcm.shape pcm.seed (rows_of events outcomes) array (saved_of pcm.shape pcm.seed (kept_in pcm) before)
   left-of = record {
     history = played.history;
@@ -39,8 +62,14 @@ module _ {n m e : ℕ} (pcm : ModuleState n m e) (before array : ArrayState n m)
     finished = played.finished;
     rows_are = sym (rows-are events outcomes played.one_each);
     saved = refl;
+    sensed = count;
     since = since;
   }
+
+  -- and which of its lines were sensed for it
+  pub leaves-with : (Of : Saved n m → ℕ → Type 0) → AreRowsTo count array → Of (saved_of pcm.shape pcm.seed (kept_in pcm) before) count → LeavesWith e pcm.shape pcm.seed (rows_of events outcomes) array Of
+  unfolding left-of
+  leaves-with Of rows is = (saved_of pcm.shape pcm.seed (kept_in pcm) before, left-of, rows, is)
 
   -- what was right of the array before is right of it now
   pub right-now : StaysRightLaw → IsShape pcm.shape → (ends : ℕ → BankEnd)
@@ -50,15 +79,15 @@ module _ {n m e : ℕ} (pcm : ModuleState n m e) (before array : ArrayState n m)
       law n m e pcm.shape pcm.seed (rows_of events outcomes) array ends (saved_of pcm.shape pcm.seed (kept_in pcm) before) left-of is had
 
 -- so the text of a run that prints its image is written
-pub image-text : {n m e : ℕ} → SavedLaw → (pcm : ModuleState n m e) (seed : ℕ) (before array : ArrayState n m) (events : List (TraceEvent n)) (outcomes : List (Outcome n)) (print : Print) (P : List ℕ → Type 0)
-    → print ≡ Image → seed ≡ pcm.seed → seed < 2 ^ 64 → IsShape pcm.shape → IsPlayed pcm events outcomes before → SensedSince before array
+pub image-text : {n m e : ℕ} → SavedLaw → (pcm : ModuleState n m e) (seed : ℕ) (before array : ArrayState n m) (events : List (Event n)) (outcomes : List (Outcome n)) (print : Print) (P : List ℕ → Type 0)
+    → print ≡ Image → seed ≡ pcm.seed → seed < 2 ^ 64 → IsShape pcm.shape → IsPlayed pcm events outcomes before → (count : ℕ) → SensedSince count before array
     → P (image_bytes (saved_of pcm.shape seed (kept_in pcm) before))
     → (ends : ℕ → BankEnd) → AreEndsOf pcm ends → RunsRight e pcm.shape pcm.seed (rows_of events outcomes) array ends → HaveRoles pcm.shape pcm.seed ends
     → (whole : List ℕ) × IsRunText pcm.shape pcm.seed e events outcomes ends array print whole × P whole
 unfolding left-of
-image-text {n} {m} {e} law pcm seed before array events outcomes print P is same low shape played since writes ends are right roles =
+image-text {n} {m} {e} law pcm seed before array events outcomes print P is same low shape played count since writes ends are right roles =
     let s = saved_of pcm.shape pcm.seed (kept_in pcm) before in
-    let left = left-of pcm before array events outcomes played since in
+    let left = left-of pcm before array events outcomes played count since in
     let Low : ℕ → Type 0 = λ k. k < 2 ^ 64 in
     let Of : Print → Type 0 = λ p. IsRunText pcm.shape pcm.seed e events outcomes ends array p (image_bytes s) in
     let Writes : ℕ → Type 0 = λ k. P (image_bytes (saved_of pcm.shape k (kept_in pcm) before)) in

@@ -3,13 +3,13 @@ use Rattle.std.proofs.Common.{◌≡◌, ℕ, ◌+◌, ◌-◌, List, [], ◌∷
 use Rattle.std.specs.Prelude.{slice_get, unwrap_or}
 use Rattle.std.proofs.lemmas.List.{append-nil, length_push}
 use Rattle.masked_bytes.proofs.Lists.{turned}
-use Rattle.trace_reader.specs.declared.event.TraceEvent.{TraceEvent}
+use Rattle.trace_reader.specs.declared.event.Event.{Event}
 use Rattle.result_rows.specs.declared.Outcome.{Outcome}
 use Rattle.result_rows.specs.declared.Outcome.TheVariants.{Unset}
 use Rattle.row_rules.specs.declared.Row.{Row}
 use Rattle.trace_rows.specs.Rows.{row_of, rows_with}
 use Rattle.module_laws.specs.Asking.{Asked, row_with}
-use Rattle.bank_clock.specs.Extending.{outcome_in}
+use Rattle.bank_timing.specs.Extending.{outcome_in}
 use Rattle.pcm_module.specs.Asking.{asked_by, asked_for}
 use Rattle.pcm_top.specs.Rows.{rows_of}
 
@@ -19,11 +19,11 @@ map-reverse f (x ∷ xs) ys = ap (map f) (turned x xs ys) ∙ map-reverse f xs (
 
 module _ {n : ℕ} where
   -- what events ask, numbered from this row on
-  abbrev numbered : ℕ → List (TraceEvent n) → List (Asked n)
+  abbrev numbered : ℕ → List (Event n) → List (Asked n)
   numbered row [] = []
   numbered row (event ∷ events) = asked_by row event ∷ numbered (row + 1) events
 
-  asked-forwards : (events below : List (TraceEvent n)) → asked_for (reverse events ++ below) ≡ reverse (numbered (length below + 1) events) ++ asked_for below
+  asked-forwards : (events below : List (Event n)) → asked_for (reverse events ++ below) ≡ reverse (numbered (length below + 1) events) ++ asked_for below
   asked-forwards [] below = refl
   asked-forwards (event ∷ events) below =
       let next : length (event ∷ below) + 1 ≡ length below + 1 + 1 = omega arith in
@@ -40,7 +40,7 @@ module _ {n : ℕ} where
       at [] = refl
       at (first ∷ before) = at before
 
-  with-outcomes : (before : List (Outcome n)) (events : List (TraceEvent n)) (outcomes : List (Outcome n)) → length outcomes ≡ length events
+  with-outcomes : (before : List (Outcome n)) (events : List (Event n)) (outcomes : List (Outcome n)) → length outcomes ≡ length events
       → map (row_with (outcome_in (before ++ outcomes))) (numbered (length before + 1) events) ≡ rows_with events outcomes
   with-outcomes before [] [] size = refl
   with-outcomes before [] (outcome ∷ outcomes) size = absurd (omega (arith, size))
@@ -55,10 +55,10 @@ module _ {n : ℕ} where
       ∙ with-outcomes (before ++ outcome ∷ []) events outcomes (omega (arith, size)))
 
   -- the numbered rows of a run, the newest first, are its table
-  pub rows-are : (events : List (TraceEvent n)) (outcomes : List (Outcome n)) → length outcomes ≡ length events
+  pub rows-are : (events : List (Event n)) (outcomes : List (Outcome n)) → length outcomes ≡ length events
       → map (row_with (outcome_in outcomes)) (asked_for (reverse events)) ≡ rows_of events outcomes
   rows-are events outcomes size =
-      ap (λ (es : List (TraceEvent n)). map (row_with (outcome_in outcomes)) (asked_for es)) (sym (append-nil (reverse events)))
+      ap (λ (es : List (Event n)). map (row_with (outcome_in outcomes)) (asked_for es)) (sym (append-nil (reverse events)))
       ∙ ap (map (row_with (outcome_in outcomes))) (asked-forwards events [])
       ∙ map-reverse (row_with (outcome_in outcomes)) (numbered 1 events) []
       ∙ append-nil (reverse (map (row_with (outcome_in outcomes)) (numbered 1 events)))

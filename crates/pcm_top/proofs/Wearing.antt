@@ -4,11 +4,11 @@ use Rattle.std.specs.Prelude.{slice_get, IsSomeAnd}
 use Rattle.std.proofs.Math.Nat.{one-le-mul, div-lt_iff_lt-mul, mul-div_cancel_left}
 use Rattle.std.proofs.lemmas.Bool.{cases_eq}
 use Rattle.std.proofs.lemmas.List.{append-nil, length_push}
-use Rattle.pcm_cells.specs.Device.{ArrayState}
+use Rattle.cell_rows.specs.Device.{ArrayState}
 use Rattle.std.specs.Io.KnownBytes.{Appends}
 use Rattle.pcm_io.specs.Giving.{AppendsPrefix}
 use Rattle.pcm_io.specs.Reserved.{Reserved}
-use Rattle.trace_reader.specs.declared.event.TraceEvent.{TraceEvent}
+use Rattle.trace_reader.specs.declared.event.Event.{Event}
 use Rattle.result_rows.specs.declared.Outcome.{Outcome}
 use Rattle.wear_report.specs.declared.Role.{Role}
 use Rattle.wear_report.specs.WearText.{wear_text}
@@ -161,7 +161,7 @@ pub lines-of-bank : (banks lines all : ℕ) → 1 ≤ banks → all ≡ banks * 
 lines-of-bank banks lines all some is = rw is (mul-div_cancel_left lines (omega arith))
 
 -- so the text of a run that prints a wear report is written
-pub wear-text : {n m e : ℕ} (entries : ℕ) (pcm : ModuleState n m e) (array : ArrayState n m) (events : List (TraceEvent n)) (outcomes : List (Outcome n)) (print : Print) (P : List ℕ → Type 0)
+pub wear-text : {n m e : ℕ} (entries : ℕ) (pcm : ModuleState n m e) (array : ArrayState n m) (events : List (Event n)) (outcomes : List (Outcome n)) (print : Print) (P : List ℕ → Type 0)
     → print ≡ Wear
     → ((ends : ℕ → BankEnd) → AreEndsOf pcm ends → HaveRoles pcm.shape pcm.seed ends → (rows : List (ℕ × ℕ × Role)) × IsWearReport pcm.shape pcm.seed ends array rows × P (wear_text rows))
     → (ends : ℕ → BankEnd) → AreEndsOf pcm ends → HaveRoles pcm.shape pcm.seed ends → (whole : List ℕ) × IsRunText pcm.shape pcm.seed entries events outcomes ends array print whole × P whole

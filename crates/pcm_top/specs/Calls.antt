@@ -3,7 +3,7 @@ use Rattle.std.specs.Prelude.{◌≡◌, ◌≤◌, ℕ, List, Option, Result, O
 use Rattle.std.specs.Io.KnownBytes.{Appends}
 use Rattle.pcm_io.specs.Faults.{Rose}
 use Rattle.pcm_io.specs.Giving.{AppendsPrefix}
-use Rattle.pcm_cells.specs.Device.{ArrayState}
+use Rattle.cell_rows.specs.Device.{ArrayState}
 use Rattle.command_line.specs.declared.job.Job.{Job}
 use Rattle.command_line.specs.declared.job.Refusal.{Refusal}
 use Rattle.pcm_top.specs.Reading.{SourceChange, source_change}

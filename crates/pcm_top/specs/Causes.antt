@@ -7,8 +7,8 @@ use Rattle.trace_reader.specs.declared.fault.ParseFault.{ParseFault}
 use Rattle.trace_reader.specs.declared.fault.ParseFault.TheVariants as parsing
 use Rattle.pcm_image.specs.declared.fields.ReadImage.{ReadImage}
 use Rattle.pcm_image.specs.declared.fields.ReadImage.TheVariants as image
-use Rattle.text_check.specs.declared.fault.TextFault.{TextFault}
-use Rattle.text_check.specs.declared.fault.TextFault.TheVariants as text
+use Rattle.check_text.specs.declared.fault.TextFault.{TextFault}
+use Rattle.check_text.specs.declared.fault.TextFault.TheVariants as text
 use Rattle.pcm_top.specs.declared.fault.Fault.{Fault}
 use Rattle.pcm_top.specs.declared.fault.Fault.TheVariants.{Usage, Trace, Image, Read, TooLong, NoMemory, Results}
 

@@ -3,12 +3,12 @@ use Rattle.std.specs.Prelude.{◌≡◌, ◌⊎◌, ℕ, List}
 use Rattle.command_line.specs.declared.job.CheckJob.{CheckJob}
 use Rattle.command_line.specs.declared.job.LineSize.{LineSize}
 use Rattle.command_line.specs.declared.job.LineSize.TheVariants.{Bytes64, Bytes128}
-use Rattle.row_verdict.specs.declared.Verdict.{Verdict}
-use Rattle.row_verdict.specs.declared.Verdict.TheVariants.{Yes, No}
-use Rattle.text_check.specs.Checked.{HasVerdict, IsTextFault}
-use Rattle.text_check.specs.VerdictText.{verdict_text}
-use Rattle.text_check.specs.declared.fault.TextFault.{TextFault}
-use Rattle.text_check.specs.declared.fault.TextFault.TheVariants as text
+use Rattle.check_verdict.specs.declared.Verdict.{Verdict}
+use Rattle.check_verdict.specs.declared.Verdict.TheVariants.{Yes, No}
+use Rattle.check_text.specs.Checked.{HasVerdict, IsTextFault}
+use Rattle.check_text.specs.VerdictText.{verdict_text}
+use Rattle.check_text.specs.declared.fault.TextFault.{TextFault}
+use Rattle.check_text.specs.declared.fault.TextFault.TheVariants as text
 use Rattle.pcm_top.specs.Calls.{Gets, GetsPart, SinkChange}
 use Rattle.pcm_top.specs.Reading.{ReadsWhole, NeverFails, SourceChange, SourceFails, TakesMore, TakesSome}
 use Rattle.pcm_top.specs.declared.run.Done.{Done}

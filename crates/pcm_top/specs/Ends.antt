@@ -1,7 +1,7 @@
 -- How the parts of a call end.
 use Rattle.std.specs.Prelude.{◌≡◌, ◌≢◌, ◌≤◌, ℕ, List, false, Result, Err, IfOk, IfErr, OnOk, OnErr}
-use Rattle.pcm_cells.specs.Device.{ArrayState}
-use Rattle.trace_reader.specs.declared.event.TraceEvent.{TraceEvent}
+use Rattle.cell_rows.specs.Device.{ArrayState}
+use Rattle.trace_reader.specs.declared.event.Event.{Event}
 use Rattle.pcm_io.specs.declared.WriteFault.{WriteFault}
 use Rattle.command_line.specs.declared.job.CheckJob.{CheckJob}
 use Rattle.command_line.specs.declared.job.LineSize.TheVariants.{Bytes64, Bytes128}
@@ -81,7 +81,7 @@ pub record EndsCheck {K : Type 0} (n e : ℕ) (job : CheckJob)
   pub reads : Reads (trace_room room_line) source result
 
 -- how events are played, whichever source they came from: a run of them is made, and its text is written
-pub record Plays (n m e : ℕ) (job : RunJob) (events : List (TraceEvent n)) (array : ArrayState n m)
+pub record Plays (n m e : ℕ) (job : RunJob) (events : List (Event n)) (array : ArrayState n m)
     (out : SinkChange) (result : Result Done WriteFault) : Type 0 where
   pub done : IfOk result (λ done. (s : SourceChange) → ComeFrom n job job.input s events
       → RunIsWritten n m e job s array out done)

@@ -1,6 +1,6 @@
 -- Where the events of a run come from.
 use Rattle.std.specs.Prelude.{◌≡◌, ℕ, Bool, true, false, List}
-use Rattle.trace_reader.specs.declared.event.TraceEvent.{TraceEvent}
+use Rattle.trace_reader.specs.declared.event.Event.{Event}
 use Rattle.trace_gen.specs.Generated.{generated}
 use Rattle.module_shape.specs.Limits.{total_of}
 use Rattle.command_line.specs.declared.job.Input.{Input}
@@ -18,7 +18,7 @@ is_source (Drawn mix) = false
 module _ (n : ℕ) (job : RunJob) where
   -- the events are those of the trace that the source gives, read to its end; or those that the seed draws,
   -- and nothing is read
-  abbrev pub ComeFrom : Input → SourceChange → List (TraceEvent n) → Type 0
+  abbrev pub ComeFrom : Input → SourceChange → List (Event n) → Type 0
   ComeFrom Source s events = ReadsTrace n (total_of job.shape) s events
   ComeFrom (Drawn mix) s events = TakesNothing s × (events ≡ generated n job.seed (total_of job.shape) mix)
 

@@ -1,10 +1,10 @@
 -- A module that has replayed a trace to its end.
 use Rattle.std.specs.Prelude.{◌≡◌, ℕ, List, length, reverse}
-use Rattle.pcm_cells.specs.Device.{ArrayState}
-use Rattle.trace_reader.specs.declared.event.TraceEvent.{TraceEvent}
+use Rattle.cell_rows.specs.Device.{ArrayState}
+use Rattle.trace_reader.specs.declared.event.Event.{Event}
 use Rattle.result_rows.specs.declared.Outcome.{Outcome}
 use Rattle.bank_model.specs.Timing.{TimedEvent}
-use Rattle.bank_clock.specs.Extending.{outcome_in}
+use Rattle.bank_timing.specs.Extending.{outcome_in}
 use Rattle.run_laws.specs.Finishing.{IsFinished}
 use Rattle.pcm_module.specs.Asking.{asked_for}
 use Rattle.pcm_module.specs.State.{ModuleState, bank_at}
@@ -12,7 +12,7 @@ use Rattle.pcm_module.specs.State.{ModuleState, bank_at}
 -- each event has an outcome; histories of its banks, which asked for these events and gave them these
 -- outcomes, led to it over the array, and nothing is left to do
 pub record IsPlayed {n m e : ℕ} (pcm : ModuleState n m e)
-    (events : List (TraceEvent n)) (outcomes : List (Outcome n)) (array : ArrayState n m) : Type 0 where
+    (events : List (Event n)) (outcomes : List (Outcome n)) (array : ArrayState n m) : Type 0 where
   pub history : ℕ → List (TimedEvent n m)
   pub one_each : length outcomes ≡ length events
   pub finished : IsFinished pcm.shape pcm.seed history (asked_for (reverse events)) (bank_at pcm) array

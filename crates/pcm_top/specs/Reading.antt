@@ -4,7 +4,7 @@ use Rattle.std.specs.Io.KnownBytes.{IsAtEnd}
 use Rattle.pcm_io.specs.Faults.{Rose}
 use Rattle.pcm_io.specs.Taking.{Takes}
 use Rattle.trace_reader.specs.Trace.{trace_of}
-use Rattle.trace_reader.specs.declared.event.TraceEvent.{TraceEvent}
+use Rattle.trace_reader.specs.declared.event.Event.{Event}
 use Rattle.trace_reader.specs.declared.fault.ParseFault.{ParseFault}
 use Rattle.trace_reader.specs.declared.fault.ParseFault.TheVariants as parsing
 use Rattle.pcm_top.specs.declared.fault.Fault.{Fault}
@@ -96,7 +96,7 @@ module _ (n lines : ℕ) where
   IsReadFault Write s = ⊥
 
   -- the source was read to its end, and its bytes are a trace with these events
-  pub record ReadsTrace (s : SourceChange) (events : List (TraceEvent n)) : Type 0 where
+  pub record ReadsTrace (s : SourceChange) (events : List (Event n)) : Type 0 where
     pub bytes : List ℕ
     pub whole : ReadsWhole n s bytes
     pub trace : trace_of n lines bytes ≡ Ok events

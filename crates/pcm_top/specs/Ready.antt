@@ -1,6 +1,6 @@
 -- A module that is ready to replay a trace.
 use Rattle.std.specs.Prelude.{◌≡◌, ℕ, false, List, [], replicate}
-use Rattle.pcm_cells.specs.Device.{ArrayState}
+use Rattle.cell_rows.specs.Device.{ArrayState}
 use Rattle.result_rows.specs.declared.Outcome.{Outcome}
 use Rattle.result_rows.specs.declared.Outcome.TheVariants.{Unset}
 use Rattle.module_shape.specs.declared.raw.RawShape.{RawShape}

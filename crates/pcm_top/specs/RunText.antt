@@ -1,7 +1,7 @@
 -- The text that a run writes.
 use Rattle.std.specs.Prelude.{◌≡◌, ℕ, ◌/◌, ◌<◌, List, length, IsSomeAnd, slice_get}
-use Rattle.pcm_cells.specs.Device.{ArrayState}
-use Rattle.trace_reader.specs.declared.event.TraceEvent.{TraceEvent}
+use Rattle.cell_rows.specs.Device.{ArrayState}
+use Rattle.trace_reader.specs.declared.event.Event.{Event}
 use Rattle.result_rows.specs.declared.Outcome.{Outcome}
 use Rattle.wear_report.specs.declared.Role.{Role}
 use Rattle.wear_report.specs.WearText.{wear_text}
@@ -52,7 +52,7 @@ module _ {n m : ℕ} (raw : RawShape) (seed : ℕ) where
 
   -- what is written of these events and their outcomes, of these ends, and of the array, whose lines have e
   -- error-correcting pointers: the results, the summary, the wear report, or the image of what the run left
-  abbrev pub IsRunText : ℕ → List (TraceEvent n) → List (Outcome n) → (ℕ → BankEnd) → ArrayState n m
+  abbrev pub IsRunText : ℕ → List (Event n) → List (Outcome n) → (ℕ → BankEnd) → ArrayState n m
       → Print → List ℕ → Type 0
   IsRunText e events outcomes ends array Results text = text ≡ results_text events outcomes
   IsRunText e events outcomes ends array Summary text =

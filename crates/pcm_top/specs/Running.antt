@@ -1,14 +1,15 @@
 -- What a job does, and why a call does none of it.
-use Rattle.std.specs.Prelude.{◌≡◌, ◌⊎◌, ℕ, Bool, true, false, if◌then◌else◌, List, length, Some, Result, Ok, Err}
-use Rattle.pcm_cells.specs.Device.{ArrayState}
-use Rattle.trace_reader.specs.declared.event.TraceEvent.{TraceEvent}
+use Rattle.std.specs.Prelude.{◌≡◌, ◌⊎◌, ℕ, ◌≤◌, Bool, true, false, if◌then◌else◌, List, length, Some, Result, Ok, Err}
+use Rattle.cell_rows.specs.Device.{ArrayState}
+use Rattle.trace_reader.specs.declared.event.Event.{Event}
 use Rattle.result_rows.specs.declared.Outcome.{Outcome}
 use Rattle.run_text.specs.Shortfall.{any_short}
 use Rattle.rotation_reports.specs.MapText.{map_text}
 use Rattle.rotation_reports.specs.MovesText.{moves_text}
 use Rattle.end_laws.specs.Ends.{BankEnd}
 use Rattle.run_laws.specs.Runs.{RunsRight}
-use Rattle.image_laws.specs.SavedRuns.{AreRows}
+use Rattle.image_laws.specs.SavedRuns.{AreRowsTo, IsLeft}
+use Rattle.pcm_image.specs.Saved.{Saved}
 use Rattle.command_line.specs.declared.job.Job.{Job}
 use Rattle.command_line.specs.declared.job.Job.TheVariants.{Run, Gen, Map, Moves, Show, Check}
 use Rattle.command_line.specs.declared.job.RunJob.{RunJob}
@@ -22,6 +23,7 @@ use Rattle.pcm_top.specs.Reading.{SourceChange, trace_room}
 use Rattle.pcm_top.specs.Calls.{Deed, Gets, GetsPart, SinkChange, SinkFails}
 use Rattle.pcm_top.specs.Inputs.{ComeFrom, IsFaultOf, is_source}
 use Rattle.pcm_top.specs.Checking.{IsCheckFault, TellsVerdict, TellsVerdictInPart, pointers_in, room_line}
+use Rattle.pcm_top.specs.Images.{WritesRows, senses_for}
 use Rattle.pcm_top.specs.Rows.{rows_of}
 use Rattle.pcm_top.specs.RunText.{IsRunText}
 use Rattle.pcm_top.specs.Showing.{IsShowFault, ShowsImage, ShowsImageInPart}
@@ -45,7 +47,7 @@ module _ (n m e : ℕ) (job : RunJob) (s : SourceChange) (array : ArrayState n m
   -- a completed read has its line's newest bytes, and each line's newest bytes are in the array or in a
   -- queue. The array was powered up with the job's wear
   pub record Runs : Type 0 where
-    pub events : List (TraceEvent n)
+    pub events : List (Event n)
     pub come : ComeFrom n job job.input s events
     pub outcomes : List (Outcome n)
     pub one_each : length outcomes ≡ length events
@@ -57,22 +59,34 @@ module _ (n m e : ℕ) (job : RunJob) (s : SourceChange) (array : ArrayState n m
   abbrev pub IsTextOf : Runs → List ℕ → Type 0
   IsTextOf run text = IsRunText job.shape job.seed e run.events run.outcomes run.ends array job.print text
 
-  -- it was made, and exactly its text was written; where that is an image, each row of the array has the
-  -- bytes of a line
+  -- what it left of its array: histories of its banks lead there, and for its text the first lines were sensed
+  -- since, each once, in order and at tick 0. Each of them has the bytes of a line
+  pub record HasLeft (run : Runs) : Type 0 where
+    pub saved : Saved n m
+    pub left : IsLeft e job.shape job.seed (rows_of run.events run.outcomes) array saved
+    pub rows : AreRowsTo left.sensed array
+
+  -- it was made, and exactly its text was written, for which each line was sensed where it is an image, and
+  -- else none
   pub record RunIsWritten (out : SinkChange) (done : Done) : Type 0 where
     pub run : Runs
     pub text : List ℕ
     pub is_text : IsTextOf run text
     pub written : Gets out text
     pub ending : done ≡ done_by run.outcomes
-    pub rows : job.print ≡ Image → AreRows array
+    pub left : HasLeft run
+    pub sensed : left.left.sensed ≡ senses_for job.print array.lines
 
-  -- it was made, and first bytes of its text were written
+  -- it was made, and first bytes of its text were written, for which no more lines were sensed; of an image they
+  -- are of rows that have the bytes of a line
   pub record RunIsWrittenInPart (out : SinkChange) : Type 0 where
     pub run : Runs
     pub text : List ℕ
     pub is_text : IsTextOf run text
     pub written : GetsPart out text
+    pub left : HasLeft run
+    pub sensed : left.left.sensed ≤ senses_for job.print array.lines
+    pub rows : job.print ≡ Image → WritesRows array left.saved out.written_before out.written_now
 
 -- whether the words ask for what is read: a trace that is run, an image that is shown, or a trace and its
 -- results; and for a run over lines of this size

@@ -1,7 +1,7 @@
 -- The status of a call in which memory suffices and nothing fails.
 use Rattle.std.specs.Prelude.{◌≡◌, ◌⊎◌, ℕ, ◌<◌, ◌≤◌, List, length, Result, Ok, Err}
 use Rattle.trace_reader.specs.Trace.{trace_of}
-use Rattle.trace_reader.specs.declared.event.TraceEvent.{TraceEvent}
+use Rattle.trace_reader.specs.declared.event.Event.{Event}
 use Rattle.trace_reader.specs.declared.fault.ParseFault.{ParseFault}
 use Rattle.trace_reader.specs.declared.fault.ParseFault.TheVariants as parsing
 use Rattle.module_shape.specs.Limits.{total_of}
@@ -12,10 +12,10 @@ use Rattle.command_line.specs.declared.job.CheckJob.{CheckJob}
 use Rattle.command_line.specs.declared.job.Input.{Input}
 use Rattle.command_line.specs.declared.job.Input.TheVariants.{Source, Drawn}
 use Rattle.command_line.specs.declared.job.Refusal.{Refusal}
-use Rattle.row_verdict.specs.declared.Verdict.{Verdict}
-use Rattle.text_check.specs.Checked.{HasVerdict, IsTextFault}
-use Rattle.text_check.specs.declared.fault.TextFault.{TextFault}
-use Rattle.text_check.specs.declared.fault.TextFault.TheVariants as text
+use Rattle.check_verdict.specs.declared.Verdict.{Verdict}
+use Rattle.check_text.specs.Checked.{HasVerdict, IsTextFault}
+use Rattle.check_text.specs.declared.fault.TextFault.{TextFault}
+use Rattle.check_text.specs.declared.fault.TextFault.TheVariants as text
 use Rattle.pcm_top.specs.Jobs.{bytes_in}
 use Rattle.pcm_image.specs.declared.ImageFault.{ImageFault}
 use Rattle.pcm_top.specs.Reading.{trace_room}
@@ -36,7 +36,7 @@ IsStatusIn room bytes status decided =
     ((room < length bytes) × (status ≡ status_of TooLong)) ⊎ ((length bytes ≤ room) × decided)
 
 -- by the events of a trace, or its fault
-abbrev pub IsTraceStatus : {n : ℕ} → Result (List (TraceEvent n)) ParseFault → ℕ → Type 0
+abbrev pub IsTraceStatus : {n : ℕ} → Result (List (Event n)) ParseFault → ℕ → Type 0
 IsTraceStatus (Ok events) status = IsRunStatus status
 IsTraceStatus (Err (parsing.Trace f)) status = status ≡ status_of (Trace f)
 IsTraceStatus (Err parsing.TooMany) status = status ≡ status_of TooLong

@@ -4,11 +4,11 @@ ghost use Rattle.pcm_top.specs.Causes.{no_bytes, no_image, no_job, no_text, no_t
 ghost use Rattle.pcm_top.specs.declared.fault.Fault.TheVariants as of;
 
 use crate::fault::Fault;
+use check_text::TextFault;
 use command_line::Refusal;
 use pcm_image::{ImageFault, ReadImage};
 use pcm_io::{ReadAllFault, WriteFault};
 use std::alloc::AllocError;
-use text_check::TextFault;
 use trace_reader::ParseFault;
 
 impl From<AllocError> for Fault {

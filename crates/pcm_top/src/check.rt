@@ -1,6 +1,6 @@
 // The command `check`.
 ghost use Rattle.std.specs.Prelude.{◌≡◌, ◌≤◌};
-ghost use Rattle.text_check.specs.VerdictText.{verdict_text};
+ghost use Rattle.check_text.specs.VerdictText.{verdict_text};
 ghost use Rattle.pcm_top.specs.Jobs.{bytes_in};
 ghost use Rattle.pcm_top.specs.Reading.{source_change};
 ghost use Rattle.pcm_top.specs.Calls.{lent_sink};
@@ -9,10 +9,10 @@ ghost use Rattle.pcm_top.specs.Ends.{EndsCheck, EndsText, Gives};
 
 use crate::fault::Fault;
 use crate::run::Done;
+use check_text::{Verdict, check_text, print_verdict};
 use command_line::{CheckJob, LineSize};
 use pcm_io::{Sink, Source, Text, read_all, write_all};
 use std::alloc::Global;
-use text_check::{Verdict, check_text, print_verdict};
 
 /// Bytes that a trace and its results may have together, whatever the size of their lines.
 pub const CHECK_ROOM: usize = 268_435_456;

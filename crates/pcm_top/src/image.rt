@@ -8,12 +8,12 @@ ghost use Rattle.pcm_io.specs.Reserved.{reserved};
 ghost use Rattle.ecp_line.specs.Layout.{IsLayout};
 ghost use Rattle.pcm_image.specs.Spelling.{bank_bytes, image_bytes};
 ghost use Rattle.image_laws.specs.Saving.{saved_banks, saved_of};
-ghost use Rattle.image_laws.specs.SavedRuns.{AreRows, SensedSince};
 ghost use Rattle.image_text.specs.Printing.{PrintsMore, PrintsPart};
-ghost use Rattle.pcm_top.specs.Images.{kept_in};
+ghost use Rattle.image_text.specs.Sensing.{SensesRows, SensesSome};
+ghost use Rattle.pcm_top.specs.Images.{WritesRows, kept_in};
 
+use cell_rows::CellArray;
 use image_text::{print_bank, print_head, print_rows};
-use pcm_cells::CellArray;
 use pcm_io::{Sink, Text, WriteFault};
 use pcm_module::Module;
 use run_text::{ROW_ROOM, TEXT_ROOM, print_rest};
@@ -41,8 +41,8 @@ fn print_banks<const B: usize, const M: usize, const E: usize, K: Sink>(
     Ok(())
 }
 
-/// Writes the image of a module with this seed over its array. Each array line is sensed once more for it, at
-/// tick 0 after the run, and nothing else happens to the array.
+/// Writes the image of a module with this seed over its array. Each array line is sensed once for it, in order,
+/// at tick 0 after the run, and nothing else happens to the array; after a fault no line is sensed any more.
 pub fn print_image<const B: usize, const M: usize, const E: usize, A: CellArray<B, M>, K: Sink>(
     pcm: &Module<B, M, E>,
     seed: u64,
@@ -59,8 +59,11 @@ pub fn print_image<const B: usize, const M: usize, const E: usize, A: CellArray<
         (image_bytes (saved_of pcm.now.shape seed (kept_in pcm.now) (A.state array.old)))) }
     ensures prefix { OnErr result (AppendsPrefix (K.written out.old) (K.written out.new)
         (image_bytes (saved_of pcm.now.shape seed (kept_in pcm.now) (A.state array.old)))) }
-    ensures sensed { SensedSince (A.state array.old) (A.state array.new) }
-    ensures rows { OnOk result (AreRows (A.state array.new)) }
+    ensures part { OnErr result (WritesRows (A.state array.new)
+        (saved_of pcm.now.shape seed (kept_in pcm.now) (A.state array.old))
+        (K.written out.old) (K.written out.new)) }
+    ensures sensed { SensesSome (A.state array.old).lines (A.state array.old) (A.state array.new) }
+    ensures all { OnOk result (SensesRows (A.state array.old).lines (A.state array.old) (A.state array.new)) }
     ensures fault { OnErr result (Rose (K.faults out.old) (K.faults out.new)) }
     ensures never_falls { K.faults out.old ≤ K.faults out.new }
 {

@@ -13,7 +13,7 @@ use command_line::{Input, RunJob};
 use pcm_io::{Source, read_all};
 use std::alloc::Global;
 use trace_gen::{Mix, generate};
-use trace_reader::{MOST_ROWS, TraceEvent, parse};
+use trace_reader::{Event, MOST_ROWS, parse};
 
 /// Bytes that a trace may have, for each byte of a line: 67,108,864 over lines of 64 bytes, 134,217,728 over
 /// lines of 128.
@@ -24,7 +24,7 @@ fn read_trace<const B: usize, S: Source>(
     alloc: Global,
     lines: u32,
     source: &mut S,
-) -> Result<Vec<TraceEvent<B>>, Fault>
+) -> Result<Vec<Event<B>>, Fault>
     requires small { B ≤ 128 }
     requires lines { 1 ≤ lines }
     ensures gives { let s = source_change S.left S.taken S.faults source.old source.new in
@@ -43,7 +43,7 @@ fn draw_trace<const B: usize>(
     seed: u64,
     lines: u32,
     mix: Mix,
-) -> Result<Vec<TraceEvent<B>>, Fault>
+) -> Result<Vec<Event<B>>, Fault>
     requires small { B ≤ 128 }
     requires some_lines { 1 ≤ lines }
     requires few_lines { lines ≤ 65536 }
@@ -62,7 +62,7 @@ pub fn events_of<const B: usize, S: Source>(
     alloc: Global,
     job: &RunJob,
     source: &mut S,
-) -> Result<Vec<TraceEvent<B>>, Fault>
+) -> Result<Vec<Event<B>>, Fault>
     requires small { B ≤ 128 }
     requires job { IsRun job.now }
     ensures gives { let s = source_change S.left S.taken S.faults source.old source.new in

@@ -5,8 +5,8 @@ ghost use Rattle.ecp_line.specs.Layout.{IsLayout};
 ghost use Rattle.command_line.specs.Jobs.{IsRun};
 ghost use Rattle.pcm_top.specs.Ready.{IsReady};
 
+use cell_rows::CellArray;
 use command_line::RunJob;
-use pcm_cells::CellArray;
 use pcm_io::Text;
 use pcm_module::Module;
 use result_rows::Results;

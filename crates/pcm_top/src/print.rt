@@ -1,5 +1,5 @@
 // What a run writes.
-ghost use Rattle.std.specs.Prelude.{◌≡◌, ◌*◌, ◌≤◌, ℕ, List, length, OnOk, OnErr};
+ghost use Rattle.std.specs.Prelude.{◌≡◌, ◌≢◌, ◌*◌, ◌≤◌, ℕ, List, length, OnOk, OnErr};
 ghost use Rattle.std.specs.Io.KnownBytes.{Appends};
 ghost use Rattle.pcm_io.specs.Faults.{Rose};
 ghost use Rattle.pcm_io.specs.Giving.{AppendsPrefix};
@@ -10,31 +10,34 @@ ghost use Rattle.run_text.specs.ResultText.{ArePrintable};
 ghost use Rattle.pcm_module.specs.State.{AreEndsOf};
 ghost use Rattle.ecp_line.specs.Layout.{IsLayout};
 ghost use Rattle.module_shape.specs.Limits.{IsShape};
-ghost use Rattle.image_laws.specs.SavedRuns.{AreRows, SensedSince};
+ghost use Rattle.image_laws.specs.Saving.{saved_of};
+ghost use Rattle.image_text.specs.Sensing.{SensesRows, SensesSome};
 ghost use Rattle.run_laws.specs.Runs.{RunsRight};
+ghost use Rattle.pcm_top.specs.Images.{WritesRows, kept_in, senses_for};
 ghost use Rattle.pcm_top.specs.Played.{IsPlayed};
 ghost use Rattle.pcm_top.specs.Rows.{rows_of};
 ghost use Rattle.pcm_top.specs.RunText.{HaveRoles, IsRunText};
 
 use crate::image::print_image;
 use crate::wear::print_wear;
+use cell_rows::CellArray;
 use command_line::Print;
 use image_laws::images_are_of_their_runs;
-use pcm_cells::CellArray;
 use pcm_io::{Sink, Text, WriteFault};
 use pcm_module::Module;
 use result_rows::Results;
 use run_text::{TEXT_ROOM, print_counts, print_results, sum_pulses};
-use trace_reader::{MOST_ROWS, TraceEvent};
+use trace_reader::{Event, MOST_ROWS};
 
 /// Writes what is asked for of a run that was made: its results, its summary, its wear report or its image.
-/// For an image each line of the array is sensed once more; otherwise nothing happens to the array.
+/// For an image each line of the array is sensed once, in order, at tick 0; otherwise nothing happens to the
+/// array.
 pub fn print_run<const B: usize, const M: usize, const E: usize, A: CellArray<B, M>, K: Sink>(
     print: Print,
     pcm: &Module<B, M, E>,
     seed: u64,
     array: &mut A,
-    events: &[TraceEvent<B>],
+    events: &[Event<B>],
     results: &Results<B>,
     text: &mut Text,
     out: &mut K,
@@ -60,8 +63,14 @@ pub fn print_run<const B: usize, const M: usize, const E: usize, A: CellArray<B,
         → (whole : List ℕ)
         × IsRunText pcm.now.shape pcm.now.seed E events.now results.now ends (A.state array.new) print whole
         × AppendsPrefix (K.written out.old) (K.written out.new) whole) }
-    ensures sensed { SensedSince (A.state array.old) (A.state array.new) }
-    ensures rows { OnOk result (print ≡ Print.Image → AreRows (A.state array.new)) }
+    ensures part { OnErr result (print ≡ Print.Image → WritesRows (A.state array.new)
+        (saved_of pcm.now.shape pcm.now.seed (kept_in pcm.now) (A.state array.old))
+        (K.written out.old) (K.written out.new)) }
+    ensures sensed { SensesSome (senses_for print (A.state array.old).lines) (A.state array.old)
+        (A.state array.new) }
+    ensures all { OnOk result (SensesRows (senses_for print (A.state array.old).lines) (A.state array.old)
+        (A.state array.new)) }
+    ensures untouched { print ≢ Print.Image → array.new ≡ array.old }
     ensures fault { OnErr result (Rose (K.faults out.old) (K.faults out.new)) }
     ensures never_falls { K.faults out.old ≤ K.faults out.new }
 {

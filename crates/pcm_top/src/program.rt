@@ -12,8 +12,8 @@ use crate::fault::{Fault, tell};
 use crate::report::{report_map, report_moves};
 use crate::run::{Done, run};
 use crate::show::show;
+use cell_rows::CellArray;
 use command_line::{Job, LineSize, Refusal, RunJob, read_job};
-use pcm_cells::CellArray;
 use pcm_io::{Sink, Source};
 use std::alloc::Global;
 

@@ -10,16 +10,16 @@ ghost use Rattle.pcm_top.specs.Ready.{IsReady};
 ghost use Rattle.pcm_top.specs.Rows.{rows_of};
 ghost use Rattle.pcm_top.specs.Played.{IsPlayed};
 
-use pcm_cells::CellArray;
+use cell_rows::CellArray;
 use pcm_module::Module;
 use result_rows::Results;
-use trace_reader::{MOST_ROWS, TraceEvent};
+use trace_reader::{Event, MOST_ROWS};
 
 /// Hands each event to the module, in order and with its row's number from 1, and then drains the banks.
 pub fn replay<const B: usize, const M: usize, const E: usize, A: CellArray<B, M>>(
     pcm: &mut Module<B, M, E>,
     array: &mut A,
-    events: &[TraceEvent<B>],
+    events: &[Event<B>],
     results: &mut Results<B>,
 )
     requires layout { IsLayout B M E }

@@ -16,15 +16,15 @@ use crate::laws::right_runs_can_be_printed;
 use crate::memory::take_memory;
 use crate::print::print_run;
 use crate::replay::replay;
+use cell_rows::CellArray;
 use command_line::RunJob;
 use image_laws::sensed_runs_stay_right;
-use pcm_cells::CellArray;
 use pcm_io::{Sink, Source, Text, WriteFault};
 use pcm_module::Module;
 use result_rows::Results;
 use run_text::{TEXT_ROOM, any_short};
 use std::alloc::Global;
-use trace_reader::{MOST_ROWS, TraceEvent};
+use trace_reader::{Event, MOST_ROWS};
 
 /// How a job was done.
 #[derive(Clone, Copy, Debug, PartialEq, Eq)]
@@ -66,7 +66,7 @@ fn play<const B: usize, const M: usize, const E: usize, A: CellArray<B, M>, K: S
     job: &RunJob,
     pcm: &mut Module<B, M, E>,
     array: &mut A,
-    events: &[TraceEvent<B>],
+    events: &[Event<B>],
     results: &mut Results<B>,
     text: &mut Text,
     out: &mut K,

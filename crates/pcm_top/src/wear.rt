@@ -11,7 +11,7 @@ ghost use Rattle.end_laws.specs.Ends.{BankEnd};
 ghost use Rattle.pcm_module.specs.State.{AreEndsOf};
 ghost use Rattle.pcm_top.specs.RunText.{HaveRoles, IsWearReport};
 
-use pcm_cells::CellArray;
+use cell_rows::CellArray;
 use pcm_io::{Sink, Text, WriteFault};
 use pcm_module::Module;
 use run_text::{TEXT_ROOM, print_rest, print_wear_header, print_wear_row};

@@ -3,7 +3,7 @@ use Rattle.std.proofs.Common.{◌≡◌, ℕ, ◌+◌, ◌<◌, inl, inr, Bool, 
 use Rattle.std.proofs.lemmas.Bool.{ne_eqb}
 use Rattle.masked_bytes.proofs.Counting.{one_if}
 use Rattle.bank_shape.specs.declared.answer.Step.TheVariants as did
-use Rattle.bank_model.specs.Events.{Event, Write, Read, Serve, Begin, Iterate, Cut, RowsBelow, line_of_row}
+use Rattle.bank_model.specs.Events.{BankEvent, Write, Read, Serve, Begin, Iterate, Cut, RowsBelow, line_of_row}
 use Rattle.bank_model.proofs.Rising.{RowsBelow-more}
 use Rattle.bank_laws.proofs.Asked.{Wrote, wrote-asked, asked-below}
 
@@ -15,19 +15,19 @@ one-counted false b c off on = refl
 
 module _ {n : ℕ} where
   -- how many writes of these events have such a line and such a row
-  abbrev pub writes_with : (ℕ → Bool) → (ℕ → Bool) → List (Event n) → ℕ
+  abbrev pub writes_with : (ℕ → Bool) → (ℕ → Bool) → List (BankEvent n) → ℕ
   writes_with keep counts [] = 0
   writes_with keep counts (Write row line bytes given answer ∷ h) = one_if (keep line && counts row) + writes_with keep counts h
   writes_with keep counts (_ ∷ h) = writes_with keep counts h
 
   -- how many stores of these events are of such a line
-  abbrev pub stores_with : (ℕ → Bool) → List (Event n) → ℕ
+  abbrev pub stores_with : (ℕ → Bool) → List (BankEvent n) → ℕ
   stores_with keep [] = 0
   stores_with keep (Begin (did.Stored row place) ∷ h) = one_if (keep (line_of_row row h)) + stores_with keep h
   stores_with keep (Iterate (did.Stored row place) ∷ h) = one_if (keep (line_of_row row h)) + stores_with keep h
   stores_with keep (_ ∷ h) = stores_with keep h
 
-  pub writes-same : (keep f g : ℕ → Bool) (h : List (Event n)) → ((row : ℕ) → f row ≡ g row) → writes_with keep f h ≡ writes_with keep g h
+  pub writes-same : (keep f g : ℕ → Bool) (h : List (BankEvent n)) → ((row : ℕ) → f row ≡ g row) → writes_with keep f h ≡ writes_with keep g h
   writes-same keep f g [] same = refl
   writes-same keep f g (Write row line bytes given answer ∷ h) same =
       ap (λ b. one_if (keep line && b) + writes_with keep f h) (same row) ∙ ap (λ k. one_if (keep line && g row) + k) (writes-same keep f g h same)
@@ -37,7 +37,7 @@ module _ {n : ℕ} where
   writes-same keep f g (Iterate answer ∷ h) same = writes-same keep f g h same
   writes-same keep f g (Cut tearing ∷ h) same = writes-same keep f g h same
 
-  writes-below : (keep f g : ℕ → Bool) (h : List (Event n)) (at : ℕ) → RowsBelow h at → ((row : ℕ) → (at == row) ≡ false → f row ≡ g row) → writes_with keep f h ≡ writes_with keep g h
+  writes-below : (keep f g : ℕ → Bool) (h : List (BankEvent n)) (at : ℕ) → RowsBelow h at → ((row : ℕ) → (at == row) ≡ false → f row ≡ g row) → writes_with keep f h ≡ writes_with keep g h
   writes-below keep f g [] at b same = refl
   writes-below keep f g (Write row line bytes given answer ∷ h) at b same =
       ap (λ b. one_if (keep line && b) + writes_with keep f h) (same row (ne_eqb at row (λ is. omega (arith, b.0, is))))
@@ -49,7 +49,7 @@ module _ {n : ℕ} where
   writes-below keep f g (Cut tearing ∷ h) at b same = writes-below keep f g h at b same
 
   -- one more row counts, that of a write of this line
-  pub writes-more : (keep f g : ℕ → Bool) (h : List (Event n)) (next at line : ℕ) → RowsBelow h next → Wrote h at line → f at ≡ false → g at ≡ true
+  pub writes-more : (keep f g : ℕ → Bool) (h : List (BankEvent n)) (next at line : ℕ) → RowsBelow h next → Wrote h at line → f at ≡ false → g at ≡ true
       → ((row : ℕ) → (at == row) ≡ false → g row ≡ f row) → writes_with keep g h ≡ writes_with keep f h + one_if (keep line)
   writes-more keep f g [] next at line b w off on same = absurd w
   writes-more keep f g (Write row of bytes given answer ∷ h) next at line b (inl w) off on same =

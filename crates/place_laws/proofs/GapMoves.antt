@@ -12,7 +12,7 @@ use Rattle.start_gap.proofs.FullTurn.{has_each_pair_once}
 use Rattle.bank_shape.specs.declared.BankShape.{BankShape}
 use Rattle.bank_shape.specs.declared.Work.TheVariants.{Nothing}
 use Rattle.bank_shape.specs.declared.answer.Step.TheVariants as did
-use Rattle.bank_model.specs.Events.{Event, Write, Read, Serve, Begin, Iterate, Cut}
+use Rattle.bank_model.specs.Events.{BankEvent, Write, Read, Serve, Begin, Iterate, Cut}
 use Rattle.bank_model.specs.History.{queue, moved_in, due_after, has_exhausted}
 use Rattle.bank_model.specs.After.{work_after, due_work}
 use Rattle.bank_model.specs.Answers.{IsDone, MayAll}
@@ -34,7 +34,7 @@ one-more lines own region t step moves false is next same =
 
 module _ {n : ℕ} (shape : BankShape) where
   -- a move that ends is the next one of the region of the last store
-  ended-move : (h : List (Event n)) (step : Move) → IsDone shape h (work_after shape h) (did.Moved step)
+  ended-move : (h : List (BankEvent n)) (step : Move) → IsDone shape h (work_after shape h) (did.Moved step)
       → step ≡ move_after shape.lines (moved_in shape.lines h (last_region shape h))
   ended-move h step d = by (has_exhausted h) (due_after shape h) (queue shape h) refl d
     where
@@ -47,14 +47,14 @@ module _ {n : ℕ} (shape : BankShape) where
       by false None [] is d = absurd d
       by false None (e ∷ es) is d = absurd d
 
-  moved-more : (h : List (Event n)) (region : ℕ) (step : Move) → IsDone shape h (work_after shape h) (did.Moved step)
+  moved-more : (h : List (BankEvent n)) (region : ℕ) (step : Move) → IsDone shape h (work_after shape h) (did.Moved step)
       → moves_of shape.lines h region ≡ first_moves shape.lines (moved_in shape.lines h region)
       → moves_of shape.lines (Iterate (did.Moved step) ∷ h) region ≡ first_moves shape.lines (moved_in shape.lines (Iterate (did.Moved step) ∷ h) region)
   moved-more h region step d same =
       one-more shape.lines (last_region shape h) region (moved_in shape.lines h region) step (moves_of shape.lines h region) (eqb (last_region shape h) region) refl
       (λ is. ended-move h step d ∙ ap (λ r. move_after shape.lines (moved_in shape.lines h r)) is) same
 
-  moves-are : (most region : ℕ) (h : List (Event n)) → MayAll shape most h
+  moves-are : (most region : ℕ) (h : List (BankEvent n)) → MayAll shape most h
       → moves_of shape.lines h region ≡ first_moves shape.lines (moved_in shape.lines h region)
   moves-are most region [] may = refl
   moves-are most region (Begin (did.Moved step) ∷ h) may = moved-more h region step may.0.1 (moves-are most region h may.1)

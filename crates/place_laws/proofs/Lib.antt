@@ -16,4 +16,3 @@ pub mod Pulses
 pub mod Moved
 mod Places
 mod GapMoves
-mod Worked

@@ -1,5 +1,5 @@
 -- The moves of a region in the end, by the rows.
-use Rattle.std.proofs.Common.{◌≡◌, ℕ, ◌+◌, ◌*◌, ◌/◌, ◌%◌, ◌≤◌, ◌==◌, inl, inr, List, Option, Some, None, refl, sym, ap, ◌∙◌, arith, true}
+use Rattle.std.proofs.Common.{◌≡◌, ℕ, ◌+◌, ◌*◌, ◌/◌, ◌%◌, ◌≤◌, ◌==◌, inl, inr, ◌||◌, List, Option, Some, None, refl, sym, ap, ◌∙◌, arith, true}
 use Rattle.std.proofs.lemmas.Bool.{eq-eqb, cases_lt, and_from, or_left, or_right}
 use Rattle.row_rules.specs.Answers.{is_stored}
 use Rattle.bank_shape.specs.declared.BankShape.{BankShape}
@@ -17,7 +17,7 @@ use Rattle.place_laws.proofs.Moves.{KeepsMoves, keeps, none-due}
 use Rattle.place_laws.proofs.Storing.{stored-counted, region-stored}
 use Rattle.place_laws.proofs.Tables.{region-all}
 use Rattle.place_laws.proofs.WornOut.{idle-due}
-use Rattle.place_laws.proofs.Taken.{leaves_work}
+use Rattle.place_laws.proofs.Taken.{left_off}
 use Rattle.place_laws.proofs.Placed.{between_products, at_product}
 
 -- the stores of a region by the rows are those by the events
@@ -27,7 +27,7 @@ region_stores-counted shape pace e xs region l =
     region-all shape xs region ∙ stored-counted shape pace e (λ line. line / shape.lines == region) xs l ∙ region-stored shape.lines (core xs) region
 
 pub moved_law : MovedLaw
-moved_law n m e shape pace xs array region sized l idle leaves =
+moved_law off n m e shape pace xs array region sized l ends leaves =
     elim (cases_lt (stored_in shape.lines (core xs) region) (shape.psi * (moved_in shape.lines (core xs) region + 1))) [
       | inl lt ↦
           or_left _ _ (eq-eqb (moved_in shape.lines (core xs) region) (region_stores is_stored shape region (table_of shape xs) / shape.psi)
@@ -46,6 +46,6 @@ moved_law n m e shape pace xs array region sized l idle leaves =
     count : region_stores is_stored shape region (table_of shape xs) ≡ stored_in shape.lines (core xs) region
     count = region_stores-counted shape pace e xs region l
 
-    due : (d : Option ℕ) → due_after shape (core xs) ≡ d → shape.psi * (moved_in shape.lines (core xs) region + 1) ≤ stored_in shape.lines (core xs) region → may_leave shape (is_worn_at e array) ≡ true
+    due : (d : Option ℕ) → due_after shape (core xs) ≡ d → shape.psi * (moved_in shape.lines (core xs) region + 1) ≤ stored_in shape.lines (core xs) region → (off || may_leave shape (is_worn_at e array)) ≡ true
     due None is ge = absurd (omega (arith, none-due shape (core xs) moves is region, ge))
-    due (Some at) is ge = leaves_work shape pace e xs array sized l idle leaves (idle-due shape pace xs at idle is)
+    due (Some at) is ge = left_off shape pace e xs array sized l leaves off ends (λ idle. idle-due shape pace xs at idle is)

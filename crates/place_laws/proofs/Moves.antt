@@ -4,7 +4,7 @@ use Rattle.std.specs.Prelude.{nat_le}
 use Rattle.std.proofs.lemmas.Bool.{leb-true, leb-false}
 use Rattle.bank_shape.specs.declared.BankShape.{BankShape}
 use Rattle.bank_shape.specs.declared.answer.Step.TheVariants as did
-use Rattle.bank_model.specs.Events.{Event, Write, Read, Serve, Begin, Iterate, Cut, line_of_row}
+use Rattle.bank_model.specs.Events.{BankEvent, Write, Read, Serve, Begin, Iterate, Cut, line_of_row}
 use Rattle.bank_model.specs.History.{first_or, stores, stored_in, moved_in, due_after}
 use Rattle.bank_model.specs.Answers.{MayAll}
 use Rattle.masked_bytes.proofs.Counting.{one_if}
@@ -35,17 +35,17 @@ moved_bounds psi own moved stored region false some is few near enough last =
 
 module _ {n : ℕ} (shape : BankShape) where
   -- the region of the last store
-  abbrev pub last_region : List (Event n) → ℕ
+  abbrev pub last_region : List (BankEvent n) → ℕ
   last_region h = first_or 0 (stores h) / shape.lines
 
   -- each region's stores are those of its moves, and fewer than one move more but where that is due
-  pub record KeepsMoves (h : List (Event n)) : Type 0 where
+  pub record KeepsMoves (h : List (BankEvent n)) : Type 0 where
     pub few : (region : ℕ) → shape.psi * moved_in shape.lines h region ≤ stored_in shape.lines h region
     pub near : (region : ℕ) → stored_in shape.lines h region ≤ shape.psi * (moved_in shape.lines h region + 1)
     pub last : (region : ℕ) → shape.psi * (moved_in shape.lines h region + 1) ≤ stored_in shape.lines h region → last_region h ≡ region
 
   -- where none is due each region has fewer
-  pub none-due : (h : List (Event n)) → KeepsMoves h → due_after shape h ≡ None → (region : ℕ) → stored_in shape.lines h region < shape.psi * (moved_in shape.lines h region + 1)
+  pub none-due : (h : List (BankEvent n)) → KeepsMoves h → due_after shape h ≡ None → (region : ℕ) → stored_in shape.lines h region < shape.psi * (moved_in shape.lines h region + 1)
   none-due h keeps none region = by (nat_le (shape.psi * (moved_in shape.lines h region + 1)) (stored_in shape.lines h region)) refl
     where
       due : (r : ℕ) → last_region h ≡ r → nat_le (shape.psi * (moved_in shape.lines h r + 1)) (stored_in shape.lines h r) ≡ true → ◌≡◌ {A = Option ℕ} (Some (last_region h)) None
@@ -62,11 +62,11 @@ module _ {n : ℕ} (shape : BankShape) where
       by false gt = leb-false _ _ gt
 
   -- where one is due it is the last store's, which has as many as one move more accounts for
-  pub record IsDue (h : List (Event n)) (region : ℕ) : Type 0 where
+  pub record IsDue (h : List (BankEvent n)) (region : ℕ) : Type 0 where
     pub own : last_region h ≡ region
     pub enough : shape.psi * (moved_in shape.lines h region + 1) ≤ stored_in shape.lines h region
 
-  pub some-due : (h : List (Event n)) (region : ℕ) → due_after shape h ≡ Some region → IsDue h region
+  pub some-due : (h : List (BankEvent n)) (region : ℕ) → due_after shape h ≡ Some region → IsDue h region
   some-due h region is = by (nat_le (shape.psi * (moved_in shape.lines h (last_region h) + 1)) (stored_in shape.lines h (last_region h))) refl is
     where
       by : (b : Bool) → nat_le (shape.psi * (moved_in shape.lines h (last_region h) + 1)) (stored_in shape.lines h (last_region h)) ≡ b → cond b (Some (last_region h)) None ≡ Some region → IsDue h region
@@ -78,14 +78,14 @@ module _ {n : ℕ} (shape : BankShape) where
           }
       by false le is = absurd (cc)
 
-  keeps-stored : (h : List (Event n)) (line : ℕ) → KeepsMoves h → due_after shape h ≡ None → (region : ℕ)
+  keeps-stored : (h : List (BankEvent n)) (line : ℕ) → KeepsMoves h → due_after shape h ≡ None → (region : ℕ)
       → (shape.psi * moved_in shape.lines h region ≤ one_if (eqb (line / shape.lines) region) + stored_in shape.lines h region)
       × (one_if (eqb (line / shape.lines) region) + stored_in shape.lines h region ≤ shape.psi * (moved_in shape.lines h region + 1))
       × (shape.psi * (moved_in shape.lines h region + 1) ≤ one_if (eqb (line / shape.lines) region) + stored_in shape.lines h region → line / shape.lines ≡ region)
   keeps-stored h line keeps none region =
       stored_bounds shape.psi (line / shape.lines) (moved_in shape.lines h region) (stored_in shape.lines h region) region (eqb (line / shape.lines) region) refl (keeps.few region) (none-due h keeps none region)
 
-  keeps-moved : 1 ≤ shape.psi → (h : List (Event n)) (region : ℕ) → KeepsMoves h → due_after shape h ≡ Some region → (at : ℕ)
+  keeps-moved : 1 ≤ shape.psi → (h : List (BankEvent n)) (region : ℕ) → KeepsMoves h → due_after shape h ≡ Some region → (at : ℕ)
       → (shape.psi * (one_if (eqb (last_region h) at) + moved_in shape.lines h at) ≤ stored_in shape.lines h at)
       × (stored_in shape.lines h at ≤ shape.psi * (one_if (eqb (last_region h) at) + moved_in shape.lines h at + 1))
       × (shape.psi * (one_if (eqb (last_region h) at) + moved_in shape.lines h at + 1) ≤ stored_in shape.lines h at → last_region h ≡ at)
@@ -94,14 +94,14 @@ module _ {n : ℕ} (shape : BankShape) where
       moved_bounds shape.psi (last_region h) (moved_in shape.lines h at) (stored_in shape.lines h at) at (eqb (last_region h) at) some refl (keeps.few at) (keeps.near at)
       (λ same. subst (λ r. shape.psi * (moved_in shape.lines h r + 1) ≤ stored_in shape.lines h r) (sym is.own ∙ same) is.enough) (keeps.last at)
 
-  store_kept : (h : List (Event n)) (row place : ℕ) → KeepsMoves h → IsStoreOf shape h row place → KeepsMoves (Iterate (did.Stored row place) ∷ h)
+  store_kept : (h : List (BankEvent n)) (row place : ℕ) → KeepsMoves h → IsStoreOf shape h row place → KeepsMoves (Iterate (did.Stored row place) ∷ h)
   store_kept h row place keeps store = record {
     few = λ region. (keeps-stored h (line_of_row row h) keeps store.due region).0;
     near = λ region. (keeps-stored h (line_of_row row h) keeps store.due region).1;
     last = λ region. (keeps-stored h (line_of_row row h) keeps store.due region).2;
   }
 
-  pub keeps : (most : ℕ) (h : List (Event n)) → 1 ≤ shape.psi → MayAll shape most h → KeepsMoves h
+  pub keeps : (most : ℕ) (h : List (BankEvent n)) → 1 ≤ shape.psi → MayAll shape most h → KeepsMoves h
   keeps most [] some may = record {
     few = λ region. grind arith;
     near = λ region. omega arith;

@@ -26,9 +26,10 @@ use Rattle.bank_model.specs.Answers.{MayAll}
 use Rattle.bank_model.specs.Sensing.{most_steps, pulses_of}
 use Rattle.bank_shape.specs.declared.pace.Pace.{Pace}
 use Rattle.bank_model.specs.Timing.{Happens, Core, Regs, TimedEvent, core, is_empty}
-use Rattle.bank_model.specs.Lawful.{Lawful, IsIdle}
+use Rattle.bank_model.specs.Lawful.{Lawful}
 use Rattle.bank_model.specs.After.{due_moves}
 use Rattle.bank_laws.specs.Laws.{IsSized, rules_of}
+use Rattle.bank_laws.specs.Resting.{IsStill}
 use Rattle.bank_laws.specs.Outcomes.{outcome_of, ended, row_with, rows_from, table_of}
 use Rattle.bank_laws.specs.Places.{pulses_among, most_pulses}
 use Rattle.bank_laws.proofs.Waiting.{may_all}
@@ -89,7 +90,7 @@ module _ {n m : ℕ} (shape : BankShape) (all : List (TimedEvent n m)) where
       by (Core (Cut tearing)) false ih =
           omega (arith, ih, sum_by-cons (λ (r : Row n). one_if (is_cut r)) (record { tick = x.tick; asks = Cuts; outcome = out.Cut x.tick }) (rows_from shape all ys))
 
-module _ {n m : ℕ} (shape : BankShape) (pace : Pace) (e : ℕ) (all : List (TimedEvent n m)) (sized : IsSized shape pace) (l : Lawful shape pace e all) (idle : IsIdle shape pace all) where
+module _ {n m : ℕ} (shape : BankShape) (pace : Pace) (e : ℕ) (all : List (TimedEvent n m)) (sized : IsSized shape pace) (l : Lawful shape pace e all) (still : IsStill shape all) where
   abbrev stores_by_rows : ℕ
   stores_by_rows = sum_by (λ (q : Row n). one_if (asks_write q.asks && is_stored q.outcome)) (table_of shape all)
 
@@ -151,7 +152,7 @@ module _ {n m : ℕ} (shape : BankShape) (pace : Pace) (e : ℕ) (all : List (Ti
           by (Some item) false halted le = omega (arith, le, within, cuts)
 
   held_none : held_by (busy_after shape all) (made_after shape all) ≡ 0
-  held_none = held-idle (busy_after shape all) (made_after shape all) (none-ready (gives_way pace.policy) (not (is_empty (waits shape (core all)))) (choice_after shape pace all) idle.chosen).0
+  held_none = held-idle (busy_after shape all) (made_after shape all) still.rests
 
   -- each change is one of the bank whose registers are in the array
   twice_is : nat_lt 0 (controls_of shape) ≡ is_array shape.home
@@ -171,8 +172,8 @@ module _ {n m : ℕ} (shape : BankShape) (pace : Pace) (e : ℕ) (all : List (Ti
       subst (λ b. pulses_in shape pace e shape.base (lines_in shape) all ≤ tries pace.policy * most_steps e * (writings b * (2 * stores_by_rows + shape.spares + 1) + cuts_by_rows)) (sym twice_is) few
 
 pub pulse_law : PulsesLaw
-pulse_law n m e shape pace xs array sized l idle leaves =
+pulse_law n m e shape pace xs array sized l still leaves =
     let same : pulses_among (λ line. (array.line line).pulses) (shape.base + 0) (lines_in shape) ≡ pulses_among (λ line. pulses_of xs line) (shape.base + 0) (lines_in shape) =
     pulses-same (λ line. (array.line line).pulses) (λ line. pulses_of xs line) shape.base 0 (lines_in shape) (λ line lt. leaves.pulses line (omega (arith, lt))) in
     let first : (f : ℕ → ℕ) → pulses_among f (shape.base + 0) (lines_in shape) ≡ pulses_among f shape.base (lines_in shape) = λ f. ap (λ k. pulses_among f k (lines_in shape)) (omega arith) in
-    omega (arith, same, first (λ line. (array.line line).pulses), first (λ line. pulses_of xs line), events_bound shape pace e xs sized l idle)
+    omega (arith, same, first (λ line. (array.line line).pulses), first (λ line. pulses_of xs line), events_bound shape pace e xs sized l still)

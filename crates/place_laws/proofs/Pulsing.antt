@@ -2,11 +2,11 @@
 use Rattle.std.proofs.Common.{◌≡◌, ℕ, zero, suc, ◌+◌, ◌*◌, ◌<◌, ◌≤◌, ◌==◌, ◌⊎◌, inl, inr, sym, not, Bool, true, false, List, [], ◌∷◌, Option, Some, None, refl, ap, ◌∙◌, subst, arith, cond}
 use Rattle.std.specs.Prelude.{is_some}
 use Rattle.std.proofs.lemmas.Bool.{not-true}
-use Rattle.pcm_cells.specs.Device.{counted}
+use Rattle.cell_rows.specs.Device.{counted}
 use Rattle.bank_shape.specs.declared.BankShape.{BankShape}
 use Rattle.bank_shape.specs.declared.answer.Step.{Step}
 use Rattle.bank_shape.specs.declared.answer.Step.TheVariants as did
-use Rattle.bank_model.specs.Events.{Event, Write, Read, Serve, Begin, Iterate, Cut}
+use Rattle.bank_model.specs.Events.{BankEvent, Write, Read, Serve, Begin, Iterate, Cut}
 use Rattle.bank_model.specs.History.{goes_on, in_progress, iterated}
 use Rattle.bank_model.specs.After.{may_begin_after}
 use Rattle.bank_model.specs.Sensing.{is_at, most_steps, pulses_of, pulsed_by, torn_control}
@@ -87,7 +87,7 @@ abbrev pub held_by : Bool → ℕ → ℕ
 held_by busy made = cond busy made 0
 
 -- a begin finds no line write in progress
-pub begins-idle : {n : ℕ} (shape : BankShape) (h : List (Event n)) → may_begin_after shape h ≡ true → in_progress h ≡ false
+pub begins-idle : {n : ℕ} (shape : BankShape) (h : List (BankEvent n)) → may_begin_after shape h ≡ true → in_progress h ≡ false
 begins-idle shape h may = not-true (in_progress h) (and_first (not (in_progress h)) _ may)
 
 pub held-idle : (busy : Bool) (made : ℕ) → busy ≡ false → held_by busy made ≡ 0
@@ -138,7 +138,7 @@ module _ (w pulses new ends cancels : ℕ) where
 
 -- a cut pulses only a line write that is in progress: the bank's, where no change stands, or the change's
 torn-busy : (shape : BankShape) (change : Option ℕ) (keeping busy : Bool) (action : Option Action) (tearing : Bool) → (tearing ≡ true → busy ≡ true) → tearing ≡ tears_bank change action
-    → (is_some (torn_control shape change action) ≡ true → keeping ≡ true) → {n : ℕ} (h : List (Event n)) → (pulse_of (pulsed_by shape h (torn_control shape change action) (Cut tearing)) ≡ 0)
+    → (is_some (torn_control shape change action) ≡ true → keeping ≡ true) → {n : ℕ} (h : List (BankEvent n)) → (pulse_of (pulsed_by shape h (torn_control shape change action) (Cut tearing)) ≡ 0)
     ⊎ ((pulse_of (pulsed_by shape h (torn_control shape change action) (Cut tearing)) ≡ 1) × (busy_by change keeping busy ≡ true))
 torn-busy shape None keeping busy action true going is torn h = inr (refl, going refl)
 torn-busy shape (Some item) keeping busy action true going is torn h = absurd (cc)

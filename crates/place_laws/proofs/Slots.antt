@@ -10,7 +10,7 @@ use Rattle.bank_shape.specs.declared.Work.{Work}
 use Rattle.bank_shape.specs.declared.Work.TheVariants.{Nothing, Store, Copy}
 use Rattle.bank_shape.specs.Shape.{slots_of, slot_moved}
 use Rattle.bank_shape.specs.declared.answer.Step.TheVariants as did
-use Rattle.bank_model.specs.Events.{Event, Write, Read, Serve, Begin, Iterate, Cut}
+use Rattle.bank_model.specs.Events.{BankEvent, Write, Read, Serve, Begin, Iterate, Cut}
 use Rattle.bank_model.specs.History.{retired}
 use Rattle.bank_model.specs.After.{work_after}
 use Rattle.bank_model.specs.Answers.{IsDone, MayAll}
@@ -25,19 +25,19 @@ pub gap-within : (n t : ℕ) → gap_after n t ≤ n
 gap-within n t = omega arith
 
 -- no begin retires or exhausts
-pub begin-retires_none : {n : ℕ} (shape : BankShape) (h : List (Event n)) (work : Work) (slot line : ℕ) → IsDone shape h work (did.Retired slot line) → ⊥
+pub begin-retires_none : {n : ℕ} (shape : BankShape) (h : List (BankEvent n)) (work : Work) (slot line : ℕ) → IsDone shape h work (did.Retired slot line) → ⊥
 begin-retires_none shape h Nothing slot line d = d
 begin-retires_none shape h (Store at of) slot line d = d
 begin-retires_none shape h (Copy region step) slot line d = d
 
-pub begin-exhausts_none : {n : ℕ} (shape : BankShape) (h : List (Event n)) (work : Work) → IsDone shape h work did.Exhausted → ⊥
+pub begin-exhausts_none : {n : ℕ} (shape : BankShape) (h : List (BankEvent n)) (work : Work) → IsDone shape h work did.Exhausted → ⊥
 begin-exhausts_none shape h Nothing d = d
 begin-exhausts_none shape h (Store at of) d = d
 begin-exhausts_none shape h (Copy region step) d = d
 
 module _ {n : ℕ} (shape : BankShape) where
   -- no more retirements than spares
-  pub retired-few : (most : ℕ) (h : List (Event n)) → MayAll shape most h → length (retired h) ≤ shape.spares
+  pub retired-few : (most : ℕ) (h : List (BankEvent n)) → MayAll shape most h → length (retired h) ≤ shape.spares
   retired-few most [] may = omega arith
   retired-few most (Write row line bytes given answer ∷ h) may = retired-few most h may.1
   retired-few most (Read row line answer ∷ h) may = retired-few most h may.1
@@ -55,17 +55,17 @@ module _ {n : ℕ} (shape : BankShape) where
   retired-few most (Iterate did.Exhausted ∷ h) may = retired-few most h may.1
 
   -- a slot that has a spare has one after any later event
-  abbrev pub IsAway : List (Event n) → ℕ → Type 0
+  abbrev pub IsAway : List (BankEvent n) → ℕ → Type 0
   IsAway h slot = slots_of shape ≤ line_from (slots_of shape) slot (retired h) slot
 
-  away-retired : (h : List (Event n)) (at slot : ℕ) → IsAway h slot → slots_of shape ≤ line_from (slots_of shape) slot (retired h ++ at ∷ []) slot
+  away-retired : (h : List (BankEvent n)) (at slot : ℕ) → IsAway h slot → slots_of shape ≤ line_from (slots_of shape) slot (retired h ++ at ∷ []) slot
   away-retired h at slot away = subst (λ k. slots_of shape ≤ k) (sym (line_from-more (slots_of shape) slot (retired h) at slot)) (by (at == slot))
     where
       by : (b : Bool) → slots_of shape ≤ cond b (slots_of shape + length (retired h)) (line_from (slots_of shape) slot (retired h) slot)
       by true = omega arith
       by false = away
 
-  pub away-more : (event : Event n) (h : List (Event n)) (slot : ℕ) → IsAway h slot → IsAway (event ∷ h) slot
+  pub away-more : (event : BankEvent n) (h : List (BankEvent n)) (slot : ℕ) → IsAway h slot → IsAway (event ∷ h) slot
   away-more (Write row line bytes given answer) h slot away = away
   away-more (Read row line answer) h slot away = away
   away-more (Serve answer) h slot away = away

@@ -8,7 +8,7 @@ use Rattle.bank_shape.specs.declared.answer.WriteAnswer.TheVariants as wrote
 use Rattle.bank_shape.specs.declared.answer.ReadAnswer.TheVariants as came
 use Rattle.bank_shape.specs.declared.answer.Served.{Served}
 use Rattle.bank_shape.specs.declared.answer.Step.TheVariants as did
-use Rattle.bank_model.specs.Events.{Event, Write, Read, Serve, Begin, Iterate, Cut}
+use Rattle.bank_model.specs.Events.{BankEvent, Write, Read, Serve, Begin, Iterate, Cut}
 use Rattle.bank_model.specs.History.{Awaited, waits}
 use Rattle.bank_model.specs.After.{stands_at_after}
 use Rattle.bank_model.specs.Answers.{IsServed}
@@ -35,12 +35,12 @@ module _ {n : ℕ} where
   not_lost false t o last ne s = s
 
   -- a serve is of a read that waits, from the place where its line stands
-  pub record IsServeOf (shape : BankShape) (h : List (Event n)) (row place : ℕ) : Type 0 where
+  pub record IsServeOf (shape : BankShape) (h : List (BankEvent n)) (row place : ℕ) : Type 0 where
     pub line : ℕ
     pub waits_for : WaitsFor (waits shape h) row line
     pub place_is : place ≡ stands_at_after shape h line
 
-  served-of : (shape : BankShape) (h : List (Event n)) (answer : Served n) → IsServed shape h (waits shape h) answer → IsServeOf shape h answer.row answer.place
+  served-of : (shape : BankShape) (h : List (BankEvent n)) (answer : Served n) → IsServed shape h (waits shape h) answer → IsServeOf shape h answer.row answer.place
   served-of shape h answer s = by (waits shape h) refl s
     where
       by : (ws : List Awaited) → waits shape h ≡ ws → IsServed shape h ws answer → IsServeOf shape h answer.row answer.place

@@ -9,7 +9,7 @@ use Rattle.bank_shape.specs.declared.BankShape.{BankShape}
 use Rattle.bank_shape.specs.declared.answer.WriteAnswer.TheVariants as wrote
 use Rattle.bank_shape.specs.declared.answer.ReadAnswer.TheVariants as came
 use Rattle.bank_shape.specs.declared.answer.Step.TheVariants as did
-use Rattle.bank_model.specs.Events.{Event, Write, Read, Serve, Begin, Iterate, Cut, RowsBelow, line_of_row}
+use Rattle.bank_model.specs.Events.{BankEvent, Write, Read, Serve, Begin, Iterate, Cut, RowsBelow, line_of_row}
 use Rattle.bank_model.specs.History.{queue, waits, stored_in}
 use Rattle.bank_model.specs.Sensing.{most_steps}
 use Rattle.bank_shape.specs.declared.pace.Pace.{Pace}
@@ -75,7 +75,7 @@ module _ {n : ℕ} where
   stored_agrees t (out.Cut at) last keeps from = none_before t (out.Cut at) last refl from
 
   -- the stores of a region
-  pub region-stored : (lines : ℕ) (h : List (Event n)) (region : ℕ) → stores_with (λ line. line / lines == region) h ≡ stored_in lines h region
+  pub region-stored : (lines : ℕ) (h : List (BankEvent n)) (region : ℕ) → stores_with (λ line. line / lines == region) h ≡ stored_in lines h region
   region-stored lines [] region = refl
   region-stored lines (Write row line bytes given answer ∷ h) region = region-stored lines h region
   region-stored lines (Read row line answer ∷ h) region = region-stored lines h region

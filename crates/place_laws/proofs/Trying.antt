@@ -9,7 +9,7 @@ use Rattle.bank_shape.specs.declared.answer.Step.TheVariants as did
 use Rattle.bank_shape.specs.declared.clock.Doing.{Doing}
 use Rattle.bank_shape.specs.declared.clock.Doing.TheVariants as doing
 use Rattle.bank_shape.specs.declared.clock.Action.{Action}
-use Rattle.bank_model.specs.Events.{Event, Write, Read, Serve, Begin, Iterate, Cut}
+use Rattle.bank_model.specs.Events.{BankEvent, Write, Read, Serve, Begin, Iterate, Cut}
 use Rattle.bank_model.specs.History.{moved_in, stored_in, retired, has_exhausted, due_after, queue, waits, in_progress}
 use Rattle.bank_model.specs.After.{due_work, work_after, is_ready, may_begin_after, due_moves}
 use Rattle.bank_model.specs.Answers.{MayAll}
@@ -38,10 +38,10 @@ use Rattle.place_laws.proofs.Pulsing.{ends_work, ends_in}
 
 module _ {n : ℕ} where
   -- all stores, all moves
-  abbrev pub all_stores : List (Event n) → ℕ
+  abbrev pub all_stores : List (BankEvent n) → ℕ
   all_stores h = stores_with (λ line. true) h
 
-  abbrev pub all_moves : List (Event n) → ℕ
+  abbrev pub all_moves : List (BankEvent n) → ℕ
   all_moves [] = 0
   all_moves (Begin (did.Moved step) ∷ h) = 1 + all_moves h
   all_moves (Iterate (did.Moved step) ∷ h) = 1 + all_moves h
@@ -59,7 +59,7 @@ cuts_in (x ∷ xs) = one_if (cuts_power x.happens x.cancels) + cuts_in xs
 
 module _ {n : ℕ} (shape : BankShape) where
   -- an exhausted bank begins nothing
-  pub exhausted-begins_none : (h : List (Event n)) → has_exhausted h ≡ true → may_begin_after shape h ≡ false
+  pub exhausted-begins_none : (h : List (BankEvent n)) → has_exhausted h ≡ true → may_begin_after shape h ≡ false
   exhausted-begins_none h ex = by (in_progress h) (has_exhausted h) ex
     where
       by : (b ex : Bool) → ex ≡ true → (not b && is_ready (waits shape h) (cond ex Nothing (due_work shape h (due_after shape h) (queue shape h)))) ≡ false
@@ -67,11 +67,11 @@ module _ {n : ℕ} (shape : BankShape) where
       by false true is = refl
       by false false is = absurd (cc)
 
-  begun_idle : (h : List (Event n)) (busy : Bool) → has_exhausted h ≡ true → may_begin_after shape h ≡ true → busy ≡ false
+  begun_idle : (h : List (BankEvent n)) (busy : Bool) → has_exhausted h ≡ true → may_begin_after shape h ≡ true → busy ≡ false
   begun_idle h busy ex may = absurd (cc (exhausted-begins_none h ex, may))
 
   -- and no line write is in progress
-  pub exhausted-idle : (most : ℕ) (h : List (Event n)) → MayAll shape most h → has_exhausted h ≡ true → in_progress h ≡ false
+  pub exhausted-idle : (most : ℕ) (h : List (BankEvent n)) → MayAll shape most h → has_exhausted h ≡ true → in_progress h ≡ false
   exhausted-idle most [] may ex = refl
   exhausted-idle most (Write row line bytes given answer ∷ h) may ex = exhausted-idle most h may.1 ex
   exhausted-idle most (Read row line answer ∷ h) may ex = exhausted-idle most h may.1 ex
@@ -89,7 +89,7 @@ module _ {n : ℕ} (shape : BankShape) where
   exhausted-idle most (Iterate did.Exhausted ∷ h) may ex = refl
 
   -- after a move none is due
-  moved-none_due : 1 ≤ shape.psi → (h : List (Event n)) → KeepsMoves shape h
+  moved-none_due : 1 ≤ shape.psi → (h : List (BankEvent n)) → KeepsMoves shape h
       → due_moves (cond (nat_le (shape.psi * (one_if (last_region shape h == last_region shape h) + moved_in shape.lines h (last_region shape h) + 1)) (stored_in shape.lines h (last_region shape h))) (Some (last_region shape h)) None) ≡ 0
   moved-none_due some h k =
       let own : ℕ = last_region shape h in
@@ -103,7 +103,7 @@ module _ {n : ℕ} (shape : BankShape) where
       ap (λ b. due_moves (cond b (Some (last_region shape h)) None)) (lt-leb _ _ (omega (arith, near, next, whole, some)))
 
   -- no more moves than stores, with the one that is due
-  pub moves-few : (most : ℕ) (h : List (Event n)) → 1 ≤ shape.psi → MayAll shape most h → all_moves h + due_moves (due_after shape h) ≤ all_stores h
+  pub moves-few : (most : ℕ) (h : List (BankEvent n)) → 1 ≤ shape.psi → MayAll shape most h → all_moves h + due_moves (due_after shape h) ≤ all_stores h
   moves-few most [] some may = omega (arith, none_at_first)
     where
       none_at_first : due_moves (due_after {n = n} shape []) ≡ 0
@@ -157,7 +157,7 @@ dropped-still true r still = refl
 dropped-still false r still = still
 
 -- each line write of the bank that ends is a store, a move, a retirement, or the one that finds no spare
-abbrev pub causes : {n : ℕ} → List (Event n) → ℕ
+abbrev pub causes : {n : ℕ} → List (BankEvent n) → ℕ
 causes h = all_stores h + all_moves h + length (retired h) + one_if (has_exhausted h)
 
 -- one, where a change stands that is still to be written

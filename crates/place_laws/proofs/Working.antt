@@ -6,13 +6,13 @@ use Rattle.bank_shape.specs.declared.BankShape.{BankShape}
 use Rattle.bank_shape.specs.declared.Work.TheVariants.{Nothing}
 use Rattle.bank_shape.specs.declared.answer.Step.TheVariants as did
 use Rattle.start_gap.specs.declared.Move.{Move}
-use Rattle.bank_model.specs.Events.{Event}
+use Rattle.bank_model.specs.Events.{BankEvent}
 use Rattle.bank_model.specs.History.{queue, due_after, has_exhausted}
 use Rattle.bank_model.specs.After.{work_after, due_work, stands_at_after}
 use Rattle.bank_model.specs.Answers.{IsDone}
 use Rattle.bank_laws.proofs.Lines.{Stands}
 
-module _ {n : ℕ} (shape : BankShape) (h : List (Event n)) where
+module _ {n : ℕ} (shape : BankShape) (h : List (BankEvent n)) where
   -- a store of a row at a place: its line stands in the queue, no move is due, and the place is the line's
   pub record IsStoreOf (row place : ℕ) : Type 0 where
     pub line : ℕ

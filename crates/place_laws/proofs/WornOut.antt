@@ -5,7 +5,7 @@ use Rattle.std.proofs.lemmas.Nat.{div_below}
 use Rattle.masked_bytes.specs.declared.entry.Entry.{Entry}
 use Rattle.masked_bytes.specs.Entries.{has_row}
 use Rattle.masked_bytes.proofs.Truth.{or_rest}
-use Rattle.pcm_cells.specs.Device.{ArrayState}
+use Rattle.cell_rows.specs.Device.{ArrayState}
 use Rattle.start_gap.specs.Rotation.{move_after}
 use Rattle.spare_pool.specs.Table.{Table, line_from}
 use Rattle.spare_pool.proofs.Lines.{line_by-within}
@@ -17,7 +17,7 @@ use Rattle.bank_shape.specs.declared.Home.TheVariants as home
 use Rattle.bank_shape.specs.declared.answer.Keep.TheVariants as keep
 use Rattle.std.specs.Prelude.{IfSome}
 use Rattle.bank_shape.specs.declared.answer.Step.TheVariants as did
-use Rattle.bank_model.specs.Events.{Event, Write, Read, Serve, Begin, Iterate, Cut, RowsBelow, line_of_row}
+use Rattle.bank_model.specs.Events.{BankEvent, Write, Read, Serve, Begin, Iterate, Cut, RowsBelow, line_of_row}
 use Rattle.bank_model.specs.History.{Awaited, first_or, stores, moved_in, retired, has_exhausted, due_after, queue, waits, in_progress}
 use Rattle.bank_model.specs.After.{due_work, work_after, slot_of_work, is_ready, may_begin_after}
 use Rattle.bank_model.specs.Answers.{MayAll}
@@ -49,7 +49,7 @@ some_product a b p q = grind (arith, p, q)
 
 module _ {n : ℕ} (shape : BankShape) where
   -- an exhausted bank has used all its spares
-  pub exhausted-full : (most : ℕ) (h : List (Event n)) → MayAll shape most h → has_exhausted h ≡ true → length (retired h) ≡ shape.spares
+  pub exhausted-full : (most : ℕ) (h : List (BankEvent n)) → MayAll shape most h → has_exhausted h ≡ true → length (retired h) ≡ shape.spares
   exhausted-full most [] may ex = absurd (cc)
   exhausted-full most (Write row line bytes given answer ∷ h) may ex = exhausted-full most h may.1 ex
   exhausted-full most (Read row line answer ∷ h) may ex = exhausted-full most h may.1 ex
@@ -66,13 +66,13 @@ module _ {n : ℕ} (shape : BankShape) where
   exhausted-full most (Iterate (did.Retired slot line) ∷ h) may ex = absurd (omega (arith, exhausted-full most h may.1 ex, may.0.1.2))
   exhausted-full most (Iterate did.Exhausted ∷ h) may ex = may.0.1
 
-  store_line : (most : ℕ) (h : List (Event n)) (next row place : ℕ) → MayAll shape most h → RowsBelow h next → IsStoreOf shape h row place → line_of_row row h < shape.regions * shape.lines
+  store_line : (most : ℕ) (h : List (BankEvent n)) (next row place : ℕ) → MayAll shape most h → RowsBelow h next → IsStoreOf shape h row place → line_of_row row h < shape.regions * shape.lines
   store_line most h next row place may b store =
       let w = queue-wrote shape most h next row store.line may b store.stands in
       omega (arith, wrote-line h next row store.line b w, asked-within shape most h row store.line may (wrote-asked h row store.line w))
 
   -- the last store is of one of the bank's lines
-  last_within : (most : ℕ) (h : List (Event n)) (next : ℕ) → 1 ≤ shape.regions → 1 ≤ shape.lines → MayAll shape most h → RowsBelow h next → first_or 0 (stores h) < shape.regions * shape.lines
+  last_within : (most : ℕ) (h : List (BankEvent n)) (next : ℕ) → 1 ≤ shape.regions → 1 ≤ shape.lines → MayAll shape most h → RowsBelow h next → first_or 0 (stores h) < shape.regions * shape.lines
   last_within most [] next r l may b = some_product shape.regions shape.lines r l
   last_within most (Write row line bytes given answer ∷ h) next r l may b = last_within most h row r l may.1 b.1
   last_within most (Read row line answer ∷ h) next r l may b = last_within most h row r l may.1 b.1
@@ -90,7 +90,7 @@ module _ {n : ℕ} (shape : BankShape) where
   last_within most (Iterate did.Exhausted ∷ h) next r l may b = last_within most h next r l may.1 b
 
   -- what is due writes a slot of the bank
-  pub due-within : (most : ℕ) (h : List (Event n)) (next : ℕ) → 1 ≤ shape.regions → 1 ≤ shape.lines → MayAll shape most h → RowsBelow h next
+  pub due-within : (most : ℕ) (h : List (BankEvent n)) (next : ℕ) → 1 ≤ shape.regions → 1 ≤ shape.lines → MayAll shape most h → RowsBelow h next
       → slot_of_work shape h (due_work shape h (due_after shape h) (queue shape h)) < slots_of shape
   due-within most h next r l may b = by (due_after shape h) (queue shape h) refl refl
     where

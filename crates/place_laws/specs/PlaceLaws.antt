@@ -1,15 +1,16 @@
 -- The laws of the places of a bank and of its wear, one by one.
-use Rattle.std.specs.Prelude.{ℕ, ◌≤◌, IsTrue, List, []}
-use Rattle.pcm_cells.specs.Device.{ArrayState}
+use Rattle.std.specs.Prelude.{ℕ, ◌≤◌, Bool, IsTrue, List, []}
+use Rattle.cell_rows.specs.Device.{ArrayState}
 use Rattle.row_rules.specs.Rows.{each_row}
 use Rattle.bank_shape.specs.declared.BankShape.{BankShape}
 use Rattle.bank_shape.specs.Shape.{lines_in}
 use Rattle.bank_model.specs.History.{moved_in}
 use Rattle.bank_shape.specs.declared.pace.Pace.{Pace}
 use Rattle.bank_model.specs.Timing.{TimedEvent, core}
-use Rattle.bank_model.specs.Lawful.{Lawful, IsIdle}
+use Rattle.bank_model.specs.Lawful.{Lawful}
 use Rattle.bank_laws.specs.Outcomes.{table_of}
-use Rattle.bank_laws.specs.Places.{is_placed, is_moved, is_wear_true, is_taken, most_pulses, pulses_among}
+use Rattle.bank_laws.specs.Resting.{IsStill, EndsIn}
+use Rattle.bank_laws.specs.Places.{is_placed, is_moved_to, is_wear_true_to, is_taken_to, most_pulses, pulses_among}
 use Rattle.bank_laws.specs.Laws.{IsSized, LeavesArray, is_worn_at, rules_of}
 
 -- each row carries the array line where its line stood at its tick, or a spare where that line is worn in the end
@@ -22,27 +23,27 @@ PlacedLaw =
 -- a refused write, and one that stands in the queue in the end, say that more lines are worn than there are spares
 abbrev pub WornLaw : Type 0
 WornLaw =
-    (n m e : ℕ) (shape : BankShape) (pace : Pace) (xs : List (TimedEvent n m)) (array : ArrayState n m)
-    → IsSized shape pace → Lawful shape pace e xs → IsIdle shape pace xs → LeavesArray e shape xs array
-    → IsTrue (each_row (is_wear_true shape (is_worn_at e array)) (table_of shape xs) [])
+    (off : Bool) (n m e : ℕ) (shape : BankShape) (pace : Pace) (xs : List (TimedEvent n m)) (array : ArrayState n m)
+    → IsSized shape pace → Lawful shape pace e xs → EndsIn off shape pace xs → LeavesArray e shape xs array
+    → IsTrue (each_row (is_wear_true_to off shape (is_worn_at e array)) (table_of shape xs) [])
 
 -- in a bank that is not worn out a write that finds room is accepted, and leaves the queue again
 abbrev pub TakenLaw : Type 0
 TakenLaw =
-    (n m e : ℕ) (shape : BankShape) (pace : Pace) (xs : List (TimedEvent n m)) (array : ArrayState n m)
-    → IsSized shape pace → Lawful shape pace e xs → IsIdle shape pace xs → LeavesArray e shape xs array
-    → IsTrue (each_row (is_taken (rules_of e shape pace) shape (is_worn_at e array)) (table_of shape xs) [])
+    (off : Bool) (n m e : ℕ) (shape : BankShape) (pace : Pace) (xs : List (TimedEvent n m)) (array : ArrayState n m)
+    → IsSized shape pace → Lawful shape pace e xs → EndsIn off shape pace xs → LeavesArray e shape xs array
+    → IsTrue (each_row (is_taken_to off (rules_of e shape pace) shape (is_worn_at e array)) (table_of shape xs) [])
 
 -- the lines of a bank have no more pulses than its stores, gap moves, retirements and cuts account for
 abbrev pub PulsesLaw : Type 0
 PulsesLaw =
     (n m e : ℕ) (shape : BankShape) (pace : Pace) (xs : List (TimedEvent n m)) (array : ArrayState n m)
-    → IsSized shape pace → Lawful shape pace e xs → IsIdle shape pace xs → LeavesArray e shape xs array
+    → IsSized shape pace → Lawful shape pace e xs → IsStill shape xs → LeavesArray e shape xs array
     → pulses_among (λ line. (array.line line).pulses) shape.base (lines_in shape) ≤ most_pulses (rules_of e shape pace) (table_of shape xs)
 
 -- each region's gap has moved once for so many stores; or once less, where the bank is worn out before a move that is due
 abbrev pub MovedLaw : Type 0
 MovedLaw =
-    (n m e : ℕ) (shape : BankShape) (pace : Pace) (xs : List (TimedEvent n m)) (array : ArrayState n m) (region : ℕ)
-    → IsSized shape pace → Lawful shape pace e xs → IsIdle shape pace xs → LeavesArray e shape xs array
-    → IsTrue (is_moved shape (is_worn_at e array) (table_of shape xs) region (moved_in shape.lines (core xs) region))
+    (off : Bool) (n m e : ℕ) (shape : BankShape) (pace : Pace) (xs : List (TimedEvent n m)) (array : ArrayState n m) (region : ℕ)
+    → IsSized shape pace → Lawful shape pace e xs → EndsIn off shape pace xs → LeavesArray e shape xs array
+    → IsTrue (is_moved_to off shape (is_worn_at e array) (table_of shape xs) region (moved_in shape.lines (core xs) region))

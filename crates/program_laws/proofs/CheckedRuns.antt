@@ -3,25 +3,25 @@ use Rattle.std.proofs.Common.{◌≡◌, ℕ, ◌+◌, ◌-◌, ◌*◌, ◌≤�
 use Rattle.std.specs.Prelude.{◌⊎◌, codes, slice_index, Ok}
 use Rattle.std.specs.List.{join_with_byte}
 use Rattle.std.proofs.lemmas.List.{append_cancel_left, get_or_at}
-use Rattle.pcm_cells.specs.Device.{ArrayState}
+use Rattle.cell_rows.specs.Device.{ArrayState}
 use Rattle.trace_reader.specs.Trace.{most_rows, trace_of}
-use Rattle.trace_reader.specs.declared.event.TraceEvent.{TraceEvent}
+use Rattle.trace_reader.specs.declared.event.Event.{Event}
 use Rattle.trace_reader.proofs.Lawful.{trace_of-lawful}
 use Rattle.trace_gen.specs.EventText.{event_fields, event_row, event_rows, trace_text}
 use Rattle.trace_gen.specs.Generated.{IsMix, generated}
 use Rattle.trace_gen.specs.Laws.{GeneratedSizeLaw, GeneratedTextLaw}
 use Rattle.trace_gen.specs.declared.mix.Mix.{Mix}
 use Rattle.result_rows.specs.declared.Outcome.{Outcome}
-use Rattle.row_verdict.specs.declared.Verdict.{Verdict}
-use Rattle.row_verdict.specs.declared.Verdict.TheVariants.{Yes}
+use Rattle.check_verdict.specs.declared.Verdict.{Verdict}
+use Rattle.check_verdict.specs.declared.Verdict.TheVariants.{Yes}
 use Rattle.module_shape.specs.Limits.{total_of}
 use Rattle.run_text.specs.ResultText.{results_text}
-use Rattle.text_check.specs.Checked.{HasVerdict, IsTextFault}
-use Rattle.text_check.specs.JudgedRuns.{IsJudgedOk, IsRunOf, JudgedRunsLaw, ShortLaw}
-use Rattle.text_check.specs.SplitLaw.{EndsItsLine}
-use Rattle.text_check.specs.VerdictText.{verdict_text}
-use Rattle.text_check.specs.declared.fault.TextFault.{TextFault}
-use Rattle.text_check.specs.declared.fault.TextFault.TheVariants as text
+use Rattle.check_text.specs.Checked.{HasVerdict, IsTextFault}
+use Rattle.check_text.specs.JudgedRuns.{IsJudgedOk, IsRunOf, JudgedRunsLaw, ShortLaw}
+use Rattle.check_text.specs.SplitLaw.{EndsItsLine}
+use Rattle.check_text.specs.VerdictText.{verdict_text}
+use Rattle.check_text.specs.declared.fault.TextFault.{TextFault}
+use Rattle.check_text.specs.declared.fault.TextFault.TheVariants as text
 use Rattle.command_line.specs.Jobs.{IsInput, IsRun}
 use Rattle.command_line.specs.declared.job.Input.{Input}
 use Rattle.command_line.specs.declared.job.Input.TheVariants.{Source, Drawn}
@@ -44,7 +44,7 @@ use Rattle.pcm_top.specs.declared.fault.Fault.TheVariants as fault
 use Rattle.pcm_top.specs.declared.run.Done.{Done}
 use Rattle.pcm_top.specs.declared.run.Done.TheVariants.{Whole}
 use Rattle.pcm_top.proofs.Deciding.{more-go, reads-told}
-use Rattle.text_check.proofs.JudgedRuns.{some-lines}
+use Rattle.check_text.proofs.JudgedRuns.{some-lines}
 
 -- ---- the trace of a run
 
@@ -54,7 +54,7 @@ ends-line front =
     let size : length (front ++ 10 ∷ []) - 1 ≡ length front = omega (arith, length-append front (10 ∷ [])) in
     inr (inl (ap (slice_index (front ++ 10 ∷ [])) size ∙ get_or_at front 10 [] 0 (length front) refl))
 
-rows-end : {n : ℕ} (front : List ℕ) (events : List (TraceEvent n)) → EndsItsLine ((front ++ 10 ∷ []) ++ event_rows events)
+rows-end : {n : ℕ} (front : List ℕ) (events : List (Event n)) → EndsItsLine ((front ++ 10 ∷ []) ++ event_rows events)
 unfolding event_rows
 rows-end front [] = subst EndsItsLine (sym (append-nil (front ++ 10 ∷ []))) (ends-line front)
 rows-end front (event ∷ events) =
@@ -65,17 +65,17 @@ rows-end front (event ∷ events) =
     (rows-end row events)
 
 -- a generated trace does
-text-ends : {n : ℕ} (events : List (TraceEvent n)) → EndsItsLine (trace_text events)
+text-ends : {n : ℕ} (events : List (Event n)) → EndsItsLine (trace_text events)
 text-ends events = rows-end (codes "tick,op,arg,data") events
 
 -- the trace of events of a run over lines of n bytes
-record IsTrace (n : ℕ) (job : RunJob) (events : List (TraceEvent n)) (trace : List ℕ) : Type 0 where
+record IsTrace (n : ℕ) (job : RunJob) (events : List (Event n)) (trace : List ℕ) : Type 0 where
   reads : trace_of n (total_of job.shape) trace ≡ Ok events
   ended : EndsItsLine trace
   short : length trace ≤ trace_room n
 
 module _ (texts : GeneratedTextLaw) (sizes : GeneratedSizeLaw) (job : RunJob) (run : IsRun job) where
-  drawn-trace : (size : LineSize) → size ≡ job.line → (mix : Mix) → IsMix mix → (events : List (TraceEvent (bytes_in size))) (trace : List ℕ)
+  drawn-trace : (size : LineSize) → size ≡ job.line → (mix : Mix) → IsMix mix → (events : List (Event (bytes_in size))) (trace : List ℕ)
       → length (trace_text (generated (bytes_in size) job.seed (total_of job.shape) mix)) ≤ trace_room (bytes_in size)
       → events ≡ generated (bytes_in size) job.seed (total_of job.shape) mix → trace ≡ trace_text (generated (bytes_in job.line) job.seed (total_of job.shape) mix)
       → IsTrace (bytes_in size) job events trace
@@ -85,7 +85,7 @@ module _ (texts : GeneratedTextLaw) (sizes : GeneratedSizeLaw) (job : RunJob) (r
       record {
         reads =
             ap (trace_of (bytes_in size) (total_of job.shape)) own ∙ texts (bytes_in size) job.seed (total_of job.shape) mix (some-lines job.shape run.shape) run.shape.few_in_all mixed
-            ∙ ap (λ (events : List (TraceEvent (bytes_in size))). Ok events) (sym drawn);
+            ∙ ap (λ (events : List (Event (bytes_in size))). Ok events) (sym drawn);
         ended = subst EndsItsLine (sym own) (text-ends (generated (bytes_in size) job.seed (total_of job.shape) mix));
         short = omega (arith, ap length own, fits);
       }
@@ -102,7 +102,7 @@ module _ (texts : GeneratedTextLaw) (sizes : GeneratedSizeLaw) (job : RunJob) (r
       let few = mixed.few_rows in
       omega arith
 
-  is-trace : (size : LineSize) → size ≡ job.line → (input : Input) → IsInput input → (s : SourceChange) (events : List (TraceEvent (bytes_in size))) (trace : List ℕ)
+  is-trace : (size : LineSize) → size ≡ job.line → (input : Input) → IsInput input → (s : SourceChange) (events : List (Event (bytes_in size))) (trace : List ℕ)
       → ComeFrom (bytes_in size) job input s events → IsTraceOf job input s trace → IsTrace (bytes_in size) job events trace
   is-trace size of Source has s events trace come is =
       let same = reads-told (bytes_in size) s trace come.bytes is.0 come.whole in
@@ -174,7 +174,7 @@ module _ (texts : GeneratedTextLaw) (sizes : GeneratedSizeLaw) (judges : JudgedR
       → IsTrace n job made.run.events trace
       → ((rows : ℕ) → rows ≤ most_rows → trace_room n + (36 + rows * (64 + 2 * n)) ≤ trace_room room_line) → IsOkText n e job (trace ++ results)
   ok-text n m e array done made some few whole room =
-      let events : List (TraceEvent n) = made.run.events in
+      let events : List (Event n) = made.run.events in
       let outcomes : List (Outcome n) = made.run.outcomes in
       let one : IsRunOf e job.shape job.seed trace events outcomes array made.run.ends = record {
         shape = run.shape;

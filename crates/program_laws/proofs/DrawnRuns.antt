@@ -1,9 +1,9 @@
 -- That a run of drawn events is a run of their text.
 use Rattle.std.proofs.Common.{◌≡◌, ℕ, ◌≤◌, List, length, refl, sym, subst, arith}
 use Rattle.std.specs.Io.KnownBytes.{IsAtEnd}
-use Rattle.text_check.proofs.JudgedRuns.{some-lines}
-use Rattle.pcm_cells.specs.Device.{ArrayState}
-use Rattle.trace_reader.specs.declared.event.TraceEvent.{TraceEvent}
+use Rattle.check_text.proofs.JudgedRuns.{some-lines}
+use Rattle.cell_rows.specs.Device.{ArrayState}
+use Rattle.trace_reader.specs.declared.event.Event.{Event}
 use Rattle.trace_gen.specs.EventText.{trace_text}
 use Rattle.trace_gen.specs.Generated.{IsMix, generated}
 use Rattle.trace_gen.specs.Laws.{GeneratedSizeLaw, GeneratedTextLaw}
@@ -36,7 +36,7 @@ module _ (texts : GeneratedTextLaw) (sizes : GeneratedSizeLaw) (job : RunJob) (m
   mixed = input-mix job.input mix draws run.input
 
   -- it fits where lines are long enough
-  reads : (n : ℕ) (drawn : SourceChange) (events : List (TraceEvent n)) → TakesBytes read (text_of n) → length (text_of n) ≤ trace_room n
+  reads : (n : ℕ) (drawn : SourceChange) (events : List (Event n)) → TakesBytes read (text_of n) → length (text_of n) ≤ trace_room n
       → ComeFrom n job job.input drawn events → ReadsTrace n (total_of job.shape) read events
   reads n drawn events takes fits come =
       let From : Input → Type 0 = λ input. ComeFrom n job input drawn events in
@@ -81,7 +81,8 @@ module _ (texts : GeneratedTextLaw) (sizes : GeneratedSizeLaw) (job : RunJob) (m
     is_text = is.is_text;
     written = is.written;
     ending = is.ending;
-    rows = is.rows;
+    left = record { saved = is.left.saved; left = is.left.left; rows = is.left.rows };
+    sensed = is.sensed;
   }
 
   same-part : (n m e : ℕ) (drawn : SourceChange) (array : ArrayState n m) (out : SinkChange) → TakesBytes read (text_of n) → length (text_of n) ≤ trace_room n
@@ -92,6 +93,9 @@ module _ (texts : GeneratedTextLaw) (sizes : GeneratedSizeLaw) (job : RunJob) (m
     text = is.text;
     is_text = is.is_text;
     written = is.written;
+    left = record { saved = is.left.saved; left = is.left.left; rows = is.left.rows };
+    sensed = is.sensed;
+    rows = is.rows;
   }
 
   -- at either size of lines

@@ -1,6 +1,6 @@
 -- What `check` makes of the results that a run printed.
 use Rattle.std.specs.Prelude.{◌≡◌, ◌⊎◌, ℕ, List, ◌++◌, codes, Some, Ok}
-use Rattle.text_check.specs.SplitLaw.{EndsItsLine}
+use Rattle.check_text.specs.SplitLaw.{EndsItsLine}
 use Rattle.command_line.specs.Jobs.{IsRun}
 use Rattle.command_line.specs.declared.job.CheckJob.{CheckJob}
 use Rattle.command_line.specs.declared.job.Input.{Input}

@@ -1,7 +1,7 @@
 -- What every run that was made is, and what runs of drawn events are.
 use Rattle.std.specs.Prelude.{◌≡◌, ℕ, Bool, IsTrue, IsFalse, List, ◌∷◌, ◌++◌, All, Ok}
 use Rattle.std.specs.Io.KnownBytes.{IsAtEnd}
-use Rattle.pcm_cells.specs.Device.{ArrayState}
+use Rattle.cell_rows.specs.Device.{ArrayState}
 use Rattle.trace_gen.specs.declared.mix.Mix.{Mix}
 use Rattle.row_rules.specs.declared.Asks.TheVariants.{Writes}
 use Rattle.row_rules.specs.declared.Row.{Row}

@@ -7,11 +7,12 @@ ghost use Rattle.program_laws.specs.Lasting.{LastingLaw, LastingTraceLaw, Seeded
 ghost use Rattle.program_laws.specs.Laws.{CompletenessLaw, DrawnLaw};
 ghost use Rattle.program_laws.specs.ShownRuns.{ShownLaw};
 
+use check_text::{printed_results_are_short, right_runs_are_judged_ok};
+use image_laws::images_are_short;
 use run_laws::{
     lasting_traces_live_on, no_row_falls_short, reads_are_not_lost_without_cuts, room_is_taken,
     runs_live_on,
 };
-use text_check::{printed_results_are_short, right_runs_are_judged_ok};
 use trace_gen::laws::{gen_text_is_short, gen_text_reads_back, generated_events_are_lawful};
 
 /// Of whichever trace: without a power cut no read is lost; a write that finds room in a bank that isn't worn
@@ -35,26 +36,26 @@ pub fn drawn_runs_are_runs_of_their_text()
     gen_text_is_short();
 }
 
-/// Of whichever trace: over cells that endure more changes than the hot lines of a bank may bring any slot's
-/// own line, one a line write however often cells miss, the bank wears out nowhere: no write is refused for
-/// want of a spare or left in the queue, each slot has its own line, and no spare is used. Start-Gap divides
-/// what one hot line brings by the lines of its region.
+/// Of whichever trace: over cells that endure more changes than any slot's own line of a bank may take line
+/// writes by the hot lines of its region, however often cells miss, the bank wears out nowhere: no write is
+/// refused for want of a spare, each slot has its own line and no spare is used; and none is left in the
+/// queue, where the bank has no control lines or cells endure what the changes of items bring these.
+/// Start-Gap divides what one hot line brings by the lines of its region.
 pub fn runs_last()
     ensures { LastingLaw }
 {
     runs_live_on();
 }
 
-/// So it is where the writes that the trace asks for bring no slot's own line of a bank as many changes,
-/// whatever becomes of them.
+/// So it is by the writes that the trace asks for, whatever becomes of them.
 pub fn traces_last()
     ensures { LastingTraceLaw }
 {
     lasting_traces_live_on();
 }
 
-/// And of every run over the seeded array, as the program makes it, by its options alone: its cells endure as
-/// many changes as `--lo` says; by the run's stores, or by what its trace asks for.
+/// So it is of every run over the seeded array, as the program makes it, whose cells endure `--lo` changes: no
+/// other premise is on the array.
 pub fn seeded_runs_last()
     ensures stored { SeededLastingLaw }
     ensures asked { SeededTraceLaw }
@@ -63,10 +64,13 @@ pub fn seeded_runs_last()
     traces_last();
 }
 
-/// What `show` writes of the bytes that a run wrote as its image is each line's newest bytes.
+/// What `show` writes of the bytes that a run wrote as its image is each line's newest bytes: they are never too
+/// many, and no field of them fails.
 pub fn images_show_the_newest()
     ensures { ShownLaw }
-{}
+{
+    images_are_short();
+}
 
 /// What a run wrote as its results, given to `check` behind its trace with the same options, is ok.
 pub fn printed_results_are_ok()

@@ -1,8 +1,8 @@
 -- What a programming of a line wants, how far it has come, and what a round does.
 use Rattle.std.specs.Prelude.{ℕ, ◌≡◌, ◌+◌, ◌*◌, ◌<◌, ◌≤◌, ◌⊎◌, ◌&&◌, Bool, true, false}
-use Rattle.pcm_cells.specs.declared.row.Cells.{Cells}
-use Rattle.pcm_cells.specs.Rows.{cell, xor}
-use Rattle.pcm_cells.specs.Device.{LineState, ArrayState, DeviceStep, TornStep, ChangesOnly, Senses, counted}
+use Rattle.cell_rows.specs.declared.row.Cells.{Cells}
+use Rattle.cell_rows.specs.Rows.{cell, xor}
+use Rattle.cell_rows.specs.Device.{LineState, ArrayState, DeviceStep, TornStep, ChangesOnly, Senses, counted}
 use Rattle.program_verify.specs.declared.prog.Prog.{Prog}
 use Rattle.program_verify.specs.declared.prog.Turn.{Turn}
 use Rattle.program_verify.specs.declared.prog.Turn.TheVariants.{Going, Settled}

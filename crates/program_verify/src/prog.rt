@@ -1,11 +1,11 @@
 // One programming of a line, round by round.
 ghost use Rattle.std.specs.Prelude.{◌≡◌, ℕ, ◌+◌, ◌<◌};
-ghost use Rattle.pcm_cells.specs.Device.{LineState};
-ghost use Rattle.pcm_cells.specs.Rows.{cell};
-ghost use Rattle.pcm_cells.specs.Shape.{IsShape};
+ghost use Rattle.cell_rows.specs.Device.{LineState};
+ghost use Rattle.cell_rows.specs.Rows.{cell};
+ghost use Rattle.cell_rows.specs.Shape.{IsShape};
 ghost use Rattle.program_verify.specs.Programming.{is_wrong, Programs, IsGoing, IsStatus, IsStuckWhereWrong, IsRound, IsTear};
 
-use pcm_cells::{CellArray, Cells};
+use cell_rows::{CellArray, Cells};
 
 // The greatest number of rounds.
 const ROUNDS: u8 = 8;

@@ -6,7 +6,7 @@ use Rattle.result_rows.specs.declared.Outcome.{Outcome}
 use Rattle.result_rows.specs.declared.Outcome.TheVariants as out
 use Rattle.masked_bytes.specs.Masked.{joined, none_given}
 use Rattle.row_rules.specs.Answers.{is_stored}
-use Rattle.bank_model.specs.Events.{Event, Write, Read, Serve, Begin, Iterate, Cut, RowsBelow}
+use Rattle.bank_model.specs.Events.{BankEvent, Write, Read, Serve, Begin, Iterate, Cut, RowsBelow}
 use Rattle.bank_laws.proofs.Ending.{accepting}
 use Rattle.bank_laws.proofs.Asked.{Wrote, wrote-below}
 
@@ -34,13 +34,13 @@ since-other given rest answer at row line floor ne = since-skip (answer && (at =
 
 module _ {n : ℕ} where
   -- the bytes that the accepted writes of a line give whose rows are this number or more
-  abbrev pub since : List (Event n) → ℕ → ℕ → List Bool
+  abbrev pub since : List (BankEvent n) → ℕ → ℕ → List Bool
   since [] line floor = none_given n
   since (Write row at bytes given answer ∷ h) line floor = cond (accepting answer && (at == line && nat_le floor row)) (joined given (since h line floor)) (since h line floor)
   since (_ ∷ h) line floor = since h line floor
 
   -- the number behind the newest row of a line that is stored by these outcomes, or 0
-  abbrev pub floor_of : (ℕ → Outcome n) → List (Event n) → ℕ → ℕ
+  abbrev pub floor_of : (ℕ → Outcome n) → List (BankEvent n) → ℕ → ℕ
   floor_of o [] line = 0
   floor_of o (Write row at bytes given answer ∷ h) line = cond (at == line && is_stored (o row)) (suc row) (floor_of o h line)
   floor_of o (_ ∷ h) line = floor_of o h line
@@ -48,7 +48,7 @@ module _ {n : ℕ} where
   -- What the writes give
 
   -- from a number above all rows on nothing is given
-  pub since-none : (h : List (Event n)) (bound line floor : ℕ) → RowsBelow h bound → bound ≤ floor → since h line floor ≡ none_given n
+  pub since-none : (h : List (BankEvent n)) (bound line floor : ℕ) → RowsBelow h bound → bound ≤ floor → since h line floor ≡ none_given n
   since-none [] bound line floor r le = refl
   since-none (Write at l bytes given answer ∷ h) bound line floor r le =
       since-skip (accepting answer && (l == line && nat_le floor at)) given (since h line floor) (and_right (accepting answer) _ (and_right (l == line) _ (lt-leb floor at (omega (arith, r.0, le)))))
@@ -61,7 +61,7 @@ module _ {n : ℕ} where
 
   -- The floor
 
-  pub floor-bound : (o : ℕ → Outcome n) (h : List (Event n)) (bound line : ℕ) → RowsBelow h bound → floor_of o h line ≤ bound
+  pub floor-bound : (o : ℕ → Outcome n) (h : List (BankEvent n)) (bound line : ℕ) → RowsBelow h bound → floor_of o h line ≤ bound
   floor-bound o [] bound line r = omega arith
   floor-bound o (Write at l bytes given answer ∷ h) bound line r = by (l == line && is_stored (o at)) (floor-bound o h at line r.1)
     where
@@ -75,7 +75,7 @@ module _ {n : ℕ} where
   floor-bound o (Cut tearing ∷ h) bound line r = floor-bound o h bound line r
 
   -- outcomes that agree on which rows of the line are stored leave one floor
-  pub floor-agree : (o p : ℕ → Outcome n) (h : List (Event n)) (line : ℕ) → ((row l : ℕ) → Wrote h row l → (l == line) ≡ true → is_stored (p row) ≡ is_stored (o row)) → floor_of p h line ≡ floor_of o h line
+  pub floor-agree : (o p : ℕ → Outcome n) (h : List (BankEvent n)) (line : ℕ) → ((row l : ℕ) → Wrote h row l → (l == line) ≡ true → is_stored (p row) ≡ is_stored (o row)) → floor_of p h line ≡ floor_of o h line
   floor-agree o p [] line same = refl
   floor-agree o p (Write at l bytes given answer ∷ h) line same = by (eqb l line) (same at l (inl (refl, refl))) (floor-agree o p h line (λ row k a is. same row k (inr a) is))
     where
@@ -89,7 +89,7 @@ module _ {n : ℕ} where
   floor-agree o p (Cut tearing ∷ h) line same = floor-agree o p h line same
 
   -- a stored row of the line is below the floor
-  pub floor-above : (o : ℕ → Outcome n) (h : List (Event n)) (bound row line : ℕ) → RowsBelow h bound → Wrote h row line → is_stored (o row) ≡ true → row < floor_of o h line
+  pub floor-above : (o : ℕ → Outcome n) (h : List (BankEvent n)) (bound row line : ℕ) → RowsBelow h bound → Wrote h row line → is_stored (o row) ≡ true → row < floor_of o h line
   floor-above o [] bound row line r a s = absurd a
   floor-above o (Write at l bytes given answer ∷ h) bound row line r a s = by (l == line && is_stored (o at)) refl a (λ a. floor-above o h at row line r.1 a s)
     where
@@ -111,7 +111,7 @@ module _ {n : ℕ} where
   floor-above o (Cut tearing ∷ h) bound row line r a s = floor-above o h bound row line r a s
 
   -- where no later row of the line is stored, the floor is behind a stored row
-  pub floor-own : (o : ℕ → Outcome n) (h : List (Event n)) (bound row line : ℕ) → RowsBelow h bound → Wrote h row line → is_stored (o row) ≡ true
+  pub floor-own : (o : ℕ → Outcome n) (h : List (BankEvent n)) (bound row line : ℕ) → RowsBelow h bound → Wrote h row line → is_stored (o row) ≡ true
       → ((at : ℕ) → Wrote h at line → row < at → is_stored (o at) ≡ false) → floor_of o h line ≡ suc row
   floor-own o [] bound row line r a s none = absurd a
   floor-own o (Write at l bytes given answer ∷ h) bound row line r a s none = by (eqb l line) refl a (λ k. floor-own o h at row line r.1 k s (λ q j lt. none q (inr j) lt))
@@ -128,7 +128,7 @@ module _ {n : ℕ} where
   floor-own o (Iterate answer ∷ h) bound row line r a s none = floor-own o h bound row line r a s none
   floor-own o (Cut tearing ∷ h) bound row line r a s none = floor-own o h bound row line r a s none
 
-  pub floor-new : (o : ℕ → Outcome n) (h : List (Event n)) (row at line : ℕ) → is_stored (o row) ≡ false → cond (at == line && is_stored (o row)) (suc row) (floor_of o h line) ≡ floor_of o h line
+  pub floor-new : (o : ℕ → Outcome n) (h : List (BankEvent n)) (row at line : ℕ) → is_stored (o row) ≡ false → cond (at == line && is_stored (o row)) (suc row) (floor_of o h line) ≡ floor_of o h line
   floor-new o h row at line s = floor-skip (at == line && is_stored (o row)) row (floor_of o h line) (and_right (at == line) _ s)
 
   -- Stored or not

@@ -14,7 +14,7 @@ use Rattle.row_rules.specs.Queueing.{pending, waiting, cover, is_at_head, read_f
 use Rattle.bank_shape.specs.declared.BankShape.{BankShape}
 use Rattle.bank_shape.specs.declared.answer.ReadAnswer.{ReadAnswer}
 use Rattle.bank_shape.specs.declared.answer.ReadAnswer.TheVariants as came
-use Rattle.bank_model.specs.Events.{Event, Write, Read, Serve, Begin, Iterate, Cut, RowsBelow, newest}
+use Rattle.bank_model.specs.Events.{BankEvent, Write, Read, Serve, Begin, Iterate, Cut, RowsBelow, newest}
 use Rattle.bank_model.specs.History.{awaited, queue, waits}
 use Rattle.bank_model.specs.Answers.{read_answer}
 use Rattle.bank_model.specs.Sensing.{most_steps}
@@ -53,7 +53,7 @@ module _ {n : ℕ} where
   head-stands (e ∷ es) line h = (e.row, inl (refl, h))
 
   -- a forwarded answer comes where the queue gives all bytes, and another where it does not
-  forwarded-gives : (shape : BankShape) (h : List (Event n)) (line : ℕ) (bytes : List ℕ) → came.Forwarded bytes ≡ read_answer shape h line → gives_all ((layer_of (queue shape h) line).given) ≡ true
+  forwarded-gives : (shape : BankShape) (h : List (BankEvent n)) (line : ℕ) (bytes : List ℕ) → came.Forwarded bytes ≡ read_answer shape h line → gives_all ((layer_of (queue shape h) line).given) ≡ true
   forwarded-gives shape h line bytes f = by (gives_all ((layer_of (queue shape h) line).given)) (eqb (length (waits shape h)) shape.reads) f
     where
       by : (b c : Bool) → ◌≡◌ {A = ReadAnswer n} (came.Forwarded bytes) (cond b (came.Forwarded (newest h line)) (cond c came.Busy came.Waiting)) → b ≡ true
@@ -67,7 +67,7 @@ module _ {n : ℕ} where
   NotForwarded came.Busy = Unit {0}
   NotForwarded came.Waiting = Unit {0}
 
-  others-lack : (shape : BankShape) (h : List (Event n)) (line : ℕ) (answer : ReadAnswer n) → NotForwarded answer → answer ≡ read_answer shape h line → gives_all ((layer_of (queue shape h) line).given) ≡ false
+  others-lack : (shape : BankShape) (h : List (BankEvent n)) (line : ℕ) (answer : ReadAnswer n) → NotForwarded answer → answer ≡ read_answer shape h line → gives_all ((layer_of (queue shape h) line).given) ≡ false
   others-lack shape h line answer other a = by (gives_all ((layer_of (queue shape h) line).given)) (eqb (length (waits shape h)) shape.reads) a
     where
       by : (b c : Bool) → answer ≡ cond b (came.Forwarded (newest h line)) (cond c came.Busy came.Waiting) → b ≡ false
@@ -241,5 +241,5 @@ module _ {n m : ℕ} (shape : BankShape) (pace : Pace) (e : ℕ) (all : List (Ti
       by (Core (Cut tearing)) false may on f = refl
 
 pub forward_law : ForwardLaw
-forward_law n m e shape pace xs sized l idle =
-    walk shape xs (is_forward_fair shape.reads) [] xs refl (λ later x ys same. forward_pass shape pace e xs later x ys sized.read sized.iter l (idle-waits shape pace xs idle) same)
+forward_law n m e shape pace xs sized l still =
+    walk shape xs (is_forward_fair shape.reads) [] xs refl (λ later x ys same. forward_pass shape pace e xs later x ys sized.read sized.iter l still.unawaited same)

@@ -6,7 +6,7 @@ use Rattle.masked_bytes.specs.Entries.{or_this, newest_row, laid_on, merged, has
 use Rattle.bank_shape.specs.declared.BankShape.{BankShape}
 use Rattle.bank_shape.specs.declared.answer.WriteAnswer.TheVariants as wrote
 use Rattle.bank_shape.specs.declared.answer.Step.TheVariants as did
-use Rattle.bank_model.specs.Events.{Event, Write, Read, Serve, Begin, Iterate, Cut, newest, RowsBelow}
+use Rattle.bank_model.specs.Events.{BankEvent, Write, Read, Serve, Begin, Iterate, Cut, newest, RowsBelow}
 use Rattle.masked_bytes.proofs.Queueing.{candidate-newest}
 use Rattle.bank_model.specs.History.{begun, queue, due_after}
 use Rattle.bank_model.specs.Answers.{MayAll, head_busy_after}
@@ -112,7 +112,7 @@ merged-last line row true at new es after last here own aside go is = sym own �
 merged-last line row false at new es after last here own aside go is = go (sym (aside here) ∙ is)
 
 module _ {n : ℕ} (shape : BankShape) (line row : ℕ) where
-  pub queue-last : (most : ℕ) (h : List (Event n)) (bound : ℕ) → MayAll shape most h → RowsBelow h bound
+  pub queue-last : (most : ℕ) (h : List (BankEvent n)) (bound : ℕ) → MayAll shape most h → RowsBelow h bound
       → newest_row (queue shape h) line ≡ Some row → last_write h line ≡ Some row
   queue-last most [] bound may below is = absurd (cc)
   queue-last most (Write new at bytes given wrote.Accepted ∷ h) bound may below is =

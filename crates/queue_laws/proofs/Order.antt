@@ -9,7 +9,7 @@ use Rattle.bank_shape.specs.declared.Work.TheVariants.{Nothing}
 use Rattle.bank_shape.specs.declared.answer.WriteAnswer.{WriteAnswer}
 use Rattle.bank_shape.specs.declared.answer.WriteAnswer.TheVariants as wrote
 use Rattle.bank_shape.specs.declared.answer.Step.TheVariants as did
-use Rattle.bank_model.specs.Events.{Event, Write, Read, Serve, Begin, Iterate, Cut, newest}
+use Rattle.bank_model.specs.Events.{BankEvent, Write, Read, Serve, Begin, Iterate, Cut, newest}
 use Rattle.bank_model.specs.History.{begun, queue, due_after, has_exhausted, in_progress}
 use Rattle.bank_model.specs.After.{due_work}
 use Rattle.bank_model.specs.Answers.{head_busy_after}
@@ -154,21 +154,21 @@ module _ {n : ℕ} where
   head-push f bound (e ∷ es) x full h = h
 
   -- a store is in progress after a new entry or a merged one only where it was before
-  store-push : (shape : BankShape) (h k : List (Event n)) (b : Bool) (due : Option ℕ) (es : List (Entry n)) (x : Entry n) → HasWork b due es
+  store-push : (shape : BankShape) (h k : List (BankEvent n)) (b : Bool) (due : Option ℕ) (es : List (Entry n)) (x : Entry n) → HasWork b due es
       → is_store (cond b Nothing (due_work shape h due (es ++ x ∷ []))) ≡ true → is_store (cond b Nothing (due_work shape k due es)) ≡ true
   store-push shape h k true due es x w s = absurd w
   store-push shape h k false (Some region) es x w s = absurd (cc)
   store-push shape h k false None [] x w s = absurd w
   store-push shape h k false None (e ∷ es) x w s = refl
 
-  store-merged : (shape : BankShape) (h k : List (Event n)) (b : Bool) (due : Option ℕ) (old new : ℕ) (bytes : List ℕ) (given : List Bool) (es : List (Entry n))
+  store-merged : (shape : BankShape) (h k : List (BankEvent n)) (b : Bool) (due : Option ℕ) (old new : ℕ) (bytes : List ℕ) (given : List Bool) (es : List (Entry n))
       → is_store (cond b Nothing (due_work shape h due (merged old new bytes given es))) ≡ true → is_store (cond b Nothing (due_work shape k due es)) ≡ true
   store-merged shape h k true due old new bytes given es s = absurd (cc)
   store-merged shape h k false (Some region) old new bytes given es s = absurd (cc)
   store-merged shape h k false None old new bytes given [] s = absurd (cc)
   store-merged shape h k false None old new bytes given (e ∷ es) s = refl
 
-  store-same : (shape : BankShape) (h k : List (Event n)) (b : Bool) (due : Option ℕ) (es : List (Entry n))
+  store-same : (shape : BankShape) (h k : List (BankEvent n)) (b : Bool) (due : Option ℕ) (es : List (Entry n))
       → is_store (cond b Nothing (due_work shape h due es)) ≡ true → is_store (cond b Nothing (due_work shape k due es)) ≡ true
   store-same shape h k true due es s = absurd (cc)
   store-same shape h k false (Some region) es s = absurd (cc)
@@ -239,7 +239,7 @@ module _ {n m : ℕ} (shape : BankShape) (pace : Pace) (e : ℕ) where
           (head-more (λ row. tick_by row h x.tick (tick_of_row row zs)) (λ row. tick_of_row row zs) (last_tick zs) x.tick (queue shape (core zs)) rises (kept h may) (o.busy (was b)));
     }
 
-    still : (k : List (Event n)) → (in_progress (core zs) && is_store (cond (has_exhausted (core zs)) Nothing (due_work shape k (due_after shape (core zs)) (queue shape (core zs))))) ≡ true → head_busy_after shape (core zs) ≡ true
+    still : (k : List (BankEvent n)) → (in_progress (core zs) && is_store (cond (has_exhausted (core zs)) Nothing (due_work shape k (due_after shape (core zs)) (queue shape (core zs))))) ≡ true → head_busy_after shape (core zs) ≡ true
     still k b =
         and_from (in_progress (core zs)) _ (and_first (in_progress (core zs)) _ b)
         (store-same shape k (core zs) (has_exhausted (core zs)) (due_after shape (core zs))

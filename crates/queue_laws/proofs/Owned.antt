@@ -12,7 +12,7 @@ use Rattle.bank_shape.specs.declared.BankShape.{BankShape}
 use Rattle.bank_shape.specs.declared.Work.TheVariants.{Nothing}
 use Rattle.bank_shape.specs.declared.answer.WriteAnswer.TheVariants as wrote
 use Rattle.bank_shape.specs.declared.answer.Step.TheVariants as did
-use Rattle.bank_model.specs.Events.{Event, Write, Read, Serve, Begin, Iterate, Cut, newest, RowsBelow}
+use Rattle.bank_model.specs.Events.{BankEvent, Write, Read, Serve, Begin, Iterate, Cut, newest, RowsBelow}
 use Rattle.bank_model.proofs.Newest.{length-newest}
 use Rattle.bank_model.specs.History.{Awaited, begun, queue, waits, due_after, has_exhausted, in_progress}
 use Rattle.bank_model.specs.After.{is_ready, due_work}
@@ -191,11 +191,11 @@ module _ {n : ℕ} where
 
 module _ {n : ℕ} (shape : BankShape) where
   -- the entries of the queue after some events
-  abbrev pub QueueOwn : List (Event n) → Type 0
+  abbrev pub QueueOwn : List (BankEvent n) → Type 0
   QueueOwn h = AreOwn (λ row. line_written row h) (λ row. given_by row h) (is_head_begun shape h) (queue shape h)
 
   -- where a line write may be begun and no gap move is due, a head stands
-  ready-head : (h : List (Event n)) (b : Bool) (due : Option ℕ) (q : List (Entry n)) (ws : List Awaited)
+  ready-head : (h : List (BankEvent n)) (b : Bool) (due : Option ℕ) (q : List (Entry n)) (ws : List Awaited)
       → is_ready ws (cond b Nothing (due_work shape h due q)) ≡ true
       → due ≡ None → q ≡ [] → ⊥
   ready-head h true due q ws r none empty = absurd (cc)
@@ -204,7 +204,7 @@ module _ {n : ℕ} (shape : BankShape) where
       subst (λ (d : Option ℕ). is_ready ws (due_work shape h d []) ≡ true) none (subst (λ (es : List (Entry n)). is_ready ws (due_work shape h due es) ≡ true) empty r) in
       absurd (cc)
 
-  begun-own : (h : List (Event n))
+  begun-own : (h : List (BankEvent n))
       → (not (in_progress h) && is_ready (waits shape h) (cond (has_exhausted h) Nothing (due_work shape h (due_after shape h) (queue shape h)))) ≡ true
       → QueueOwn h
       → AreOwn (λ row. line_written row h) (λ row. given_by row h) (is_none (due_after shape h) || is_head_begun shape h) (begun (due_after shape h) (newest h) (queue shape h))
@@ -212,7 +212,7 @@ module _ {n : ℕ} (shape : BankShape) where
       own-begun (λ row. line_written row h) (λ row. given_by row h) (is_head_begun shape h) (due_after shape h) (newest h) (queue shape h) (length-newest h)
       (ready-head h (has_exhausted h) (due_after shape h) (queue shape h) (waits shape h) (and_second (not (in_progress h)) _ may)) are
 
-  pub queue-own : (most : ℕ) (h : List (Event n)) (bound : ℕ) → MayAll shape most h → RowsBelow h bound → QueueOwn h
+  pub queue-own : (most : ℕ) (h : List (BankEvent n)) (bound : ℕ) → MayAll shape most h → RowsBelow h bound → QueueOwn h
   queue-own most [] bound may below = refl
   queue-own most (Write row line bytes given wrote.Accepted ∷ h) bound may below =
       own-pushed row (λ r. line_written r h) (λ r. line_written r (Write row line bytes given wrote.Accepted ∷ h)) (λ r. given_by r h) (λ r. given_by r (Write row line bytes given wrote.Accepted ∷ h))

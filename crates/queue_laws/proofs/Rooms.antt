@@ -14,7 +14,7 @@ use Rattle.row_rules.specs.Rows.{write_of}
 use Rattle.row_rules.specs.Queueing.{pending, waiting, has_room, pairs_few, is_refused}
 use Rattle.bank_shape.specs.declared.BankShape.{BankShape}
 use Rattle.bank_shape.specs.declared.answer.WriteAnswer.TheVariants as wrote
-use Rattle.bank_model.specs.Events.{Event, Write, Read, Serve, Begin, Iterate, Cut}
+use Rattle.bank_model.specs.Events.{BankEvent, Write, Read, Serve, Begin, Iterate, Cut}
 use Rattle.bank_model.specs.History.{queue, waits, has_exhausted}
 use Rattle.bank_model.specs.Answers.{head_busy_after, accept_answer, write_answer}
 use Rattle.bank_model.specs.Sensing.{most_steps}
@@ -47,7 +47,7 @@ use Rattle.queue_laws.proofs.Few.{StandsWell, pairs_are_few, refusal, HeadAlone}
 
 -- a write that is refused as full merges into nothing
 module _ {n : ℕ} (shape : BankShape) where
-  full-none : (h : List (Event n)) (line : ℕ) → wrote.Full ≡ write_answer shape h line → candidate (head_busy_after shape h) (queue shape h) line ≡ None
+  full-none : (h : List (BankEvent n)) (line : ℕ) → wrote.Full ≡ write_answer shape h line → candidate (head_busy_after shape h) (queue shape h) line ≡ None
   full-none h line a = by (has_exhausted h) (candidate (head_busy_after shape h) (queue shape h) line) a
     where
       by : (b : Bool) (c : Option ℕ) → wrote.Full ≡ cond b wrote.Exhausted (accept_answer shape h c) → c ≡ None
@@ -230,10 +230,10 @@ module _ {n m : ℕ} (shape : BankShape) (pace : Pace) (e : ℕ) where
           (room_between shape pace e all front (y ∷ now) t r i l same (omega (arith, at)) behind_it none)
 
 pub room_law : (n m : ℕ) → RoomLaw n m
-room_law n m e shape pace xs later t sized l idle up ticks = by (last_of later)
+room_law n m e shape pace xs later t sized l still up ticks = by (last_of later)
   where
     none : waits shape (core (later ++ xs)) ≡ []
-    none = idle-waits shape pace (later ++ xs) idle
+    none = still.unawaited
 
     by : (later ≡ []) ⊎ ((front : List (TimedEvent n m)) × (y : TimedEvent n m) × (later ≡ front ++ y ∷ [])) → has_room (rules_of e shape pace) t (rows_from shape (later ++ xs) xs) ≡ true
     by (inl alone) = room_between shape pace e (later ++ xs) later xs t sized.read sized.iter l refl up (subst (λ (ys : List (TimedEvent n m)). EndsAbove t ys) (sym alone) tt) none

@@ -7,16 +7,17 @@ use Rattle.row_rules.specs.Queueing.{pending, waiting, cover, pairs_few, is_refu
 use Rattle.bank_shape.specs.declared.BankShape.{BankShape}
 use Rattle.bank_shape.specs.declared.pace.Pace.{Pace}
 use Rattle.bank_model.specs.Timing.{TimedEvent}
-use Rattle.bank_model.specs.Lawful.{Lawful, IsIdle}
+use Rattle.bank_model.specs.Lawful.{Lawful}
 use Rattle.bank_laws.specs.Laws.{IsSized, rules_of}
 use Rattle.bank_laws.specs.Outcomes.{table_of}
+use Rattle.bank_laws.specs.Resting.{IsStill}
 
--- a test holds of each row of the table that a lawful history leaves at whose end the bank is idle. The test may depend on how
+-- a test holds of each row of the table that a lawful history leaves at whose end the bank is still. The test may depend on how
 -- many entries a line has, on the bank's shape and on its pace
 abbrev pub HoldsOfRows : ((n e : ℕ) → BankShape → Pace → RowTest n) → Type 0
 HoldsOfRows test =
     (n m e : ℕ) (shape : BankShape) (pace : Pace) (xs : List (TimedEvent n m)) → IsSized shape pace → Lawful shape pace e xs
-    → IsIdle shape pace xs → IsTrue (each_row (test n e shape pace) (table_of shape xs) [])
+    → IsStill shape xs → IsTrue (each_row (test n e shape pace) (table_of shape xs) [])
 
 -- of the writes that a row finds in the queue at most two have one line, and then the older one is at the head
 abbrev pub finds_pairs_few : {n : ℕ} → RowTest n

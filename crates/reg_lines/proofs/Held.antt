@@ -1,7 +1,7 @@
 -- That the calls keep what ties the control lines to the array.
 use Rattle.std.proofs.Common.{◌≡◌, ◌≢◌, ℕ, ◌+◌, ◌<◌, ◌≤◌, refl, sym, ap, subst, ◌∙◌, arith, Bool, true, false, Option, Some, None, eqb, eqb-true, eq-eqb}
 use Rattle.std.specs.Prelude.{IfSome, IsSomeAnd, IsTrue, is_some}
-use Rattle.pcm_cells.specs.Device.{ArrayState, LineState}
+use Rattle.cell_rows.specs.Device.{ArrayState, LineState}
 use Rattle.ecp_line.specs.Reading.{decode, IsSoundLine, IsWornLine}
 use Rattle.line_writer.specs.declared.writer.LineWriter.{LineWriter}
 use Rattle.line_writer.specs.declared.writer.Progress.{Progress}
@@ -9,6 +9,7 @@ use Rattle.line_writer.specs.declared.writer.Progress.TheVariants as progress
 use Rattle.line_writer.specs.Writing.{Writes, IsProgress, HasBegun, IsWorn}
 use Rattle.line_writer.specs.Untouched.{HasUntouched, AreUntouched}
 use Rattle.line_writer.proofs.Untouched.{AreUntouched-same, AreUntouched-beside}
+use Rattle.bank_shape.specs.declared.answer.Keep.{Keep}
 use Rattle.bank_shape.specs.declared.answer.Keep.TheVariants as keep
 use Rattle.reg_lines.specs.declared.Change.{Change}
 use Rattle.reg_lines.specs.declared.regs.RegLines.TheInside.{Inside}
@@ -36,6 +37,13 @@ items-apart : (base item other : ℕ) → eqb item other ≡ false → base + it
 items-apart base item other off same = let equal : item ≡ other = omega (arith, same) in let yes : eqb item other ≡ true = eq-eqb item other equal in cc
 
 module _ {n m e : ℕ} where
+  -- what a step leaves doesn't depend on the line write that was taken out for it
+  pub kept-over : (answer : Keep) (now : LineWriter n m e) (regs : RegsState n m e) (taken : Option (LineWriter n m e))
+      → kept_on answer now (record { base = regs.base; items = regs.items; change = regs.change; halted = regs.halted; writer = taken }) ≡ kept_on answer now regs
+  kept-over keep.More now regs taken = refl
+  kept-over keep.Done now regs taken = refl
+  kept-over keep.Halted now regs taken = refl
+
   -- what a step of the writing of a change leaves
   pub record HasStepped (regs : RegsState n m e) (array : ArrayState n m) (change : Change) (writer : LineWriter n m e) : Type 0 where
     pub stands : regs.change ≡ Some change

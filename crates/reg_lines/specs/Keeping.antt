@@ -1,12 +1,18 @@
 -- What each call does to the change that stands and to its writing.
 use Rattle.std.specs.Prelude.{◌≡◌, ℕ, ◌+◌, ◌<◌, ◌≤◌, Bool, true, false, List, [], ◌∷◌, Option, Some, None}
+use Rattle.cell_rows.specs.Device.{ArrayState}
+use Rattle.program_verify.specs.declared.prog.Prog.{Prog}
+use Rattle.program_verify.specs.Programming.{IsRound, IsTear}
+use Rattle.ecp_line.specs.Reading.{IsSoundLine, IsWornLine}
 use Rattle.line_writer.specs.declared.writer.LineWriter.{LineWriter}
 use Rattle.line_writer.specs.declared.writer.Progress.{Progress}
 use Rattle.line_writer.specs.declared.writer.Progress.TheVariants as progress
-use Rattle.line_writer.specs.Writing.{steps_left, most_steps}
+use Rattle.line_writer.specs.Writing.{Writes, HasBegun, IsWorn, steps_left, most_steps}
+use Rattle.line_writer.specs.Untouched.{LeavesUnused}
 use Rattle.bank_shape.specs.declared.answer.Keep.{Keep}
 use Rattle.bank_shape.specs.declared.answer.Keep.TheVariants as keep
 use Rattle.reg_lines.specs.declared.Change.{Change}
+use Rattle.reg_lines.specs.Values.{encoded}
 use Rattle.reg_lines.specs.Regs.{RegsState}
 
 -- the answer where a step of the line write comes so far
@@ -44,14 +50,49 @@ module _ {n m e : ℕ} where
   torn_line true regs = target_of regs regs.change
   torn_line false regs = None
 
-  -- a line write has fewer steps left than the one that went on before, or where none did, at most as many as a whole one
-  abbrev pub HasFewer : Option (LineWriter n m e) → LineWriter n m e → Type 0
-  HasFewer None writer = steps_left writer ≤ most_steps e
-  HasFewer (Some before) writer = steps_left writer < steps_left before
-
-  -- a step leaves this answer: by some line write, which came so far
-  pub record IsKeep (old new : RegsState n m e) (answer : Keep) : Type 0 where
+  -- the begin of the writing of a change: a line write of its bytes to its own line, which then has a step left or is read as them; by how
+  -- far that has come, the answer and what stands then go
+  pub record IsBegin (old new : RegsState n m e) (answer : Keep) (after : ArrayState n m) : Type 0 where
+    pub change : Change
+    pub stands : old.change ≡ Some change
     pub writer : LineWriter n m e
+    pub bytes : writer.bytes ≡ encoded n change.values
+    pub writes : Writes writer (after.line (old.base + change.item))
+    pub begun : HasBegun writer.progress
+    pub few : steps_left writer ≤ most_steps e
     pub is : answer ≡ keep_from writer.progress
     pub leaves : new ≡ kept_on answer writer old
-    pub steps : HasFewer old.writer writer
+
+  -- a step of a line write on this line: one pulse of exactly its wrong cells, of no unused check cell, and one sense of the line, after
+  -- which the writer is this
+  pub record IsWriterStep (line tick : ℕ) (old new : LineWriter n m e) (before after : ArrayState n m) : Type 0 where
+    pub round : (prog : Prog n m) × IsRound line tick old.prog prog before after × ((after.line line).held ≡ prog.seen)
+    pub unused : LeavesUnused e old.prog
+    pub writes : Writes new (after.line line)
+    pub sound : IsSoundLine e (after.line line)
+    pub worn : IsWorn new.progress → IsWornLine e (after.line line)
+    pub bytes : new.bytes ≡ old.bytes
+    pub fewer : steps_left new < steps_left old
+
+  -- an iteration of the writing of a change: one step of its line write on its own line, by which the answer and what stands then go
+  pub record IsIteration (tick : ℕ) (old new : RegsState n m e) (answer : Keep) (before after : ArrayState n m) : Type 0 where
+    pub change : Change
+    pub stands : old.change ≡ Some change
+    pub writer : LineWriter n m e
+    pub runs : old.writer ≡ Some writer
+    pub bytes : writer.bytes ≡ encoded n change.values
+    pub now : LineWriter n m e
+    pub step : IsWriterStep (old.base + change.item) tick writer now before after
+    pub is : answer ≡ keep_from now.progress
+    pub leaves : new ≡ kept_on answer now old
+
+  -- a tear of the writing of a change: one pulse that breaks off, of the cells that its step would pulse, none of which is an unused check
+  -- cell; its line is sound
+  pub record IsTorn (regs : RegsState n m e) (before after : ArrayState n m) : Type 0 where
+    pub change : Change
+    pub stands : regs.change ≡ Some change
+    pub writer : LineWriter n m e
+    pub runs : regs.writer ≡ Some writer
+    pub tear : IsTear (regs.base + change.item) writer.prog before after
+    pub unused : LeavesUnused e writer.prog
+    pub sound : IsSoundLine e (after.line (regs.base + change.item))

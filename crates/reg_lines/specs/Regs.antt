@@ -1,7 +1,7 @@
 -- What contracts see of the control lines of a bank and of the change that stands, and what ties them to the array.
 use Rattle.std.specs.Prelude.{◌≡◌, ℕ, ◌+◌, ◌^◌, ◌<◌, ◌≤◌, ◌==◌, Bool, if◌then◌else◌, IsTrue, List, Option, Some, None, IfSome, IsSomeAnd, is_some}
-use Rattle.pcm_cells.specs.Device.{ArrayState, LineState}
-use Rattle.pcm_cells.specs.Rows.{cell}
+use Rattle.cell_rows.specs.Device.{ArrayState, LineState}
+use Rattle.cell_rows.specs.Rows.{cell}
 use Rattle.ecp_line.specs.Layout.{IsLayout, Sound}
 use Rattle.ecp_line.specs.Reading.{decode, is_worn_line}
 use Rattle.line_writer.specs.declared.writer.LineWriter.{LineWriter}

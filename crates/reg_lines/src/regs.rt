@@ -1,19 +1,19 @@
 // The control lines of a bank.
 ghost use Rattle.std.specs.Prelude.{◌≡◌, ◌≢◌, ◌+◌, ◌^◌, ◌<◌, ◌≤◌, [], ◌∷◌, None, Some, IfSome, IsTrue, IsFalse, is_some, false};
-ghost use Rattle.pcm_cells.specs.Device.{ArrayState};
+ghost use Rattle.cell_rows.specs.Device.{ArrayState};
 ghost use Rattle.ecp_line.specs.Layout.{IsLayout};
 ghost use Rattle.ecp_line.specs.Reading.{decode};
 ghost use Rattle.bank_model.specs.Touching.{Touches};
 ghost use Rattle.reg_lines.specs.Values.{encoded};
 ghost use Rattle.reg_lines.specs.Regs.{RegsState, AreHeld, values_held};
-ghost use Rattle.reg_lines.specs.Keeping.{with_change, broken_off, line_of, target_of, torn_line, keep_from, kept_on, IsKeep};
+ghost use Rattle.reg_lines.specs.Keeping.{with_change, broken_off, line_of, target_of, torn_line, keep_from, kept_on, IsBegin, IsIteration, IsTorn};
 ghost use Rattle.bank_shape.specs.declared.answer.Keep.TheVariants as keep;
 
 use crate::{Change, encode, values_of};
 use bank_shape::answer::Keep;
+use cell_rows::CellArray;
 use ecp_line::Ecp;
 use line_writer::{LineWriter, Progress};
-use pcm_cells::CellArray;
 use std::marker::Model;
 
 /// Control lines, one for each item, and the change that stands.
@@ -89,7 +89,7 @@ impl<const B: usize, const M: usize, const E: usize> RegLines<B, M, E> {
         requires idle { self.old.writer ≡ None }
         requires going { self.old.halted ≡ false }
         requires held { AreHeld self.old (A.state array.old) }
-        ensures keeps { IsKeep self.old self.new result }
+        ensures begins { IsBegin self.old self.new result (A.state array.new) }
         ensures goes { result ≢ keep.Halted }
         ensures touches { Touches tick (line_of self.old self.old.change) None false
             (A.state array.old) (A.state array.new) }
@@ -111,7 +111,7 @@ impl<const B: usize, const M: usize, const E: usize> RegLines<B, M, E> {
     pub fn iterate<A: CellArray<B, M>>(&mut self, array: &mut A, tick: u64) -> Keep
         requires runs { IsTrue (is_some self.old.writer) }
         requires held { AreHeld self.old (A.state array.old) }
-        ensures keeps { IsKeep self.old self.new result }
+        ensures step { IsIteration tick self.old self.new result (A.state array.old) (A.state array.new) }
         ensures touches { Touches tick (line_of self.old self.old.change) (target_of self.old self.old.change)
             false (A.state array.old) (A.state array.new) }
         ensures done { result ≡ keep.Done
@@ -137,6 +137,8 @@ impl<const B: usize, const M: usize, const E: usize> RegLines<B, M, E> {
         requires runs { IsTrue tearing → IsTrue (is_some self.old.writer) }
         requires held { AreHeld self.old (A.state array.old) }
         ensures regs { self.new ≡ broken_off self.old }
+        ensures quiet { IsFalse tearing → A.state array.new ≡ A.state array.old }
+        ensures torn { IsTrue tearing → IsTorn self.old (A.state array.old) (A.state array.new) }
         ensures touches { Touches tick [] (torn_line tearing self.old) tearing
             (A.state array.old) (A.state array.new) }
         ensures held { AreHeld self.new (A.state array.new) }

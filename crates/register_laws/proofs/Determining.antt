@@ -109,11 +109,11 @@ all-items shape home is = ap (λ (h : Home). if_array h (items_of shape)) is
 
 pub determined_law : DeterminedLaw
 determined_law n m e kept other now regs array one two =
-    items-determine kept other one.in_range two.in_range shape entries
+    items-determine kept other one.lines.in_range two.lines.in_range shape entries
     (λ item below.
-    let there : item < controls_of kept.shape = subst (λ (k : ℕ). item < k) (sym (all-items kept.shape _ one.home)) below in
+    let there : item < controls_of kept.shape = subst (λ (k : ℕ). item < k) (sym (all-items kept.shape _ one.lines.home)) below in
     let there_other : item < controls_of other.shape = subst (λ (s : BankShape). item < controls_of s) shape there in
-    one.control.values item there ∙ sym (two.control.values item there_other))
+    one.lines.values item there ∙ sym (two.lines.values item there_other))
   where
     shape : kept.shape ≡ other.shape
     shape = sym (ap (λ (k : KeptState n). k.shape) one.stripped) ∙ ap (λ (k : KeptState n). k.shape) two.stripped

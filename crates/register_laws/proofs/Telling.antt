@@ -1,7 +1,7 @@
 -- That the change that stands goes on as a timed history tells.
 use Rattle.std.proofs.Common.{◌≡◌, ◌≢◌, ℕ, ◌+◌, ◌<◌, ◌≤◌, List, ◌∷◌, Option, Some, None, is_some, refl, sym, ap, subst, ◌∙◌, arith}
 use Rattle.std.specs.Prelude.{IfSome, IsSomeAnd, IsTrue}
-use Rattle.pcm_cells.specs.Device.{ArrayState}
+use Rattle.cell_rows.specs.Device.{ArrayState}
 use Rattle.line_writer.specs.declared.writer.LineWriter.{LineWriter}
 use Rattle.line_writer.specs.Writing.{steps_left, most_steps}
 use Rattle.line_writer.proofs.Rounds.{going}
@@ -14,7 +14,8 @@ use Rattle.bank_model.specs.Timing.{TimedEvent, Happens, Core, Regs, KeepBegin, 
 use Rattle.bank_model.specs.Changes.{change_after, changed_by, change_by, keeping_by, rounds_by, halted_by, keeping_after, rounds_after, halted_after}
 use Rattle.reg_lines.specs.declared.Change.{Change}
 use Rattle.reg_lines.specs.Regs.{RegsState, IsWritingOf}
-use Rattle.reg_lines.specs.Keeping.{HasFewer, with_change, broken_off, kept_on}
+use Rattle.reg_lines.proofs.Held.{begun-goes}
+use Rattle.reg_lines.specs.Keeping.{with_change, broken_off, kept_on}
 use Rattle.register_laws.specs.Telling.{item_of, AreTold, IsCutting, IsStep, IsAside, ToldBegunLaw, ToldIteratedLaw, ToldLeftLaw, ToldBrokenLaw, ToldPutLaw, ToldStillLaw, ToldAsideLaw}
 
 module _ {n m e : ℕ} (shape : BankShape) (xs : List (TimedEvent n m)) where
@@ -41,11 +42,6 @@ module _ {n m e : ℕ} (shape : BankShape) (xs : List (TimedEvent n m)) where
   iterated regs keep.More before writer t most few = record { change = t.change; writing = refl; halted = t.halted; steps = omega (arith, most, few) }
   iterated regs keep.Done before writer t most few = record { change = refl; writing = refl; halted = t.halted; steps = tt }
   iterated regs keep.Halted before writer t most few = record { change = t.change; writing = refl; halted = refl; steps = tt }
-
-  iterated_by : (regs : RegsState n m e) (answer : Keep) (old : Option (LineWriter n m e)) (writer : LineWriter n m e) → AreTold shape xs regs → IsTrue (is_some old)
-      → IfSome old (λ writer. rounds_after xs + steps_left writer ≤ most_steps e) → HasFewer old writer → Tells (Regs (KeepIterate answer)) (kept_on answer writer regs)
-  iterated_by regs answer None writer t runs most few = cc
-  iterated_by regs answer (Some before) writer t runs most few = iterated regs answer before writer t most few
 
   -- A cut
 
@@ -107,12 +103,14 @@ module _ {n m e : ℕ} (shape : BankShape) (xs : List (TimedEvent n m)) where
       omega (arith, few, goes.rounds)
 
 pub told_begun_law : ToldBegunLaw
-told_begun_law n m e shape xs x regs new answer t is idle going step =
-    told shape xs x new (rw (is, step.leaves) (begun shape xs regs answer step.writer t going (subst (λ (w : Option (LineWriter n m e)). HasFewer w step.writer) idle step.steps)))
+told_begun_law n m e shape xs x regs new answer after t is step =
+    told shape xs x new
+    (rw (is, step.leaves) (begun shape xs regs answer step.writer t (λ halted. begun-goes step.writer.progress step.begun (sym step.is ∙ halted)) step.few))
 
 pub told_iterated_law : ToldIteratedLaw
-told_iterated_law n m e shape xs x regs new answer t is runs step =
-    told shape xs x new (rw (is, step.leaves) (iterated_by shape xs regs answer regs.writer step.writer t runs t.steps step.steps))
+told_iterated_law n m e tick shape xs x regs new answer before after t is step =
+    let most = subst (λ (w : Option (LineWriter n m e)). IfSome w (λ writer. rounds_after xs + steps_left writer ≤ most_steps e)) step.runs t.steps in
+    told shape xs x new (rw (is, step.leaves) (iterated shape xs regs answer step.writer step.now t most step.step.fewer))
 
 pub told_left_law : ToldLeftLaw
 told_left_law n m e shape xs regs array t held runs = left_by shape xs regs array regs.writer regs.change runs held.writing t.steps

@@ -2,7 +2,7 @@
 use Rattle.std.proofs.Common.{◌≡◌, ℕ, ◌+◌, ◌<◌, Bool, true, false, Option, Some, None, refl, sym, ap, subst, ◌∙◌, arith}
 use Rattle.std.specs.Prelude.{IfSome}
 use Rattle.std.proofs.lemmas.Bool.{ne_eqb}
-use Rattle.pcm_cells.specs.Device.{ArrayState}
+use Rattle.cell_rows.specs.Device.{ArrayState}
 use Rattle.ecp_line.specs.Reading.{decode}
 use Rattle.line_writer.specs.declared.writer.LineWriter.{LineWriter}
 use Rattle.bank_shape.specs.Shape.{controls_of}
@@ -84,7 +84,7 @@ begun_law n m e tick kept regs new before after answer range control step touche
 pub iterated_law : IteratedLaw
 iterated_law n m e tick kept regs new before after answer range control step touches whole held =
     rw step.leaves
-    (written kept regs before after answer step.writer range control (λ item other. touches.others (regs.base + item) (not-target regs regs.change item other)) whole (rw (sym step.leaves) held))
+    (written kept regs before after answer step.now range control (λ item other. touches.others (regs.base + item) (not-target regs regs.change item other)) whole (rw (sym step.leaves) held))
 
 pub broken_law : BrokenLaw
 broken_law n m e tick tearing kept regs before after control touches held = record {

@@ -1,7 +1,7 @@
 -- Which item an event of a bank changes, and that the control lines go on to hold what the bank keeps.
 use Rattle.std.specs.Prelude.{◌≡◌, ◌≢◌, ℕ, ◌+◌, ◌/◌, ◌<◌, Some, None, length}
 use Rattle.masked_bytes.specs.Entries.{head_line}
-use Rattle.pcm_cells.specs.Device.{ArrayState}
+use Rattle.cell_rows.specs.Device.{ArrayState}
 use Rattle.spare_pool.specs.Table.{used_by}
 use Rattle.bank_shape.specs.Shape.{controls_of}
 use Rattle.power_recovery.specs.Kept.{KeptState, IsKept, due_region}

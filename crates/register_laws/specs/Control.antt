@@ -1,6 +1,6 @@
 -- That the control lines hold what a bank keeps, but for the change that stands.
 use Rattle.std.specs.Prelude.{◌≡◌, ℕ, ◌+◌, ◌<◌, IfSome}
-use Rattle.pcm_cells.specs.Device.{ArrayState}
+use Rattle.cell_rows.specs.Device.{ArrayState}
 use Rattle.bank_shape.specs.declared.BankShape.{BankShape}
 use Rattle.bank_shape.specs.Shape.{controls_of, controls_from}
 use Rattle.power_recovery.specs.Kept.{KeptState}

@@ -1,7 +1,7 @@
 -- What changes no item: events that leave all but the queue, and what becomes of the array's other lines.
 use Rattle.std.specs.Prelude.{ℕ, ◌+◌, ◌<◌, ◌≤◌, Bool, false, List, Option, None, IfSome}
 use Rattle.masked_bytes.specs.declared.entry.Entry.{Entry}
-use Rattle.pcm_cells.specs.Device.{ArrayState, IsBlank}
+use Rattle.cell_rows.specs.Device.{ArrayState, IsBlank}
 use Rattle.bank_shape.specs.declared.BankShape.{BankShape}
 use Rattle.bank_shape.specs.Shape.{controls_of, controls_from, control_line, lines_in}
 use Rattle.bank_model.specs.Touching.{Touches}

@@ -1,17 +1,16 @@
 -- That the change that stands, and how far its writing has come, are those that a timed history leaves.
-use Rattle.std.specs.Prelude.{◌≡◌, ◌≢◌, ℕ, ◌+◌, ◌<◌, ◌≤◌, List, ◌∷◌, Option, Some, None, IfSome, IsTrue, is_some}
-use Rattle.pcm_cells.specs.Device.{ArrayState}
+use Rattle.std.specs.Prelude.{◌≡◌, ℕ, ◌+◌, ◌<◌, ◌≤◌, List, ◌∷◌, Option, Some, None, IfSome, IsTrue, is_some}
+use Rattle.cell_rows.specs.Device.{ArrayState}
 use Rattle.bank_shape.specs.declared.BankShape.{BankShape}
 use Rattle.line_writer.specs.Writing.{steps_left, most_steps}
 use Rattle.bank_shape.specs.declared.answer.Keep.{Keep}
-use Rattle.bank_shape.specs.declared.answer.Keep.TheVariants as keep
 use Rattle.bank_shape.specs.declared.answer.Step.{Step}
 use Rattle.bank_model.specs.Events.{Write, Read, Serve, Begin, Iterate, Cut}
 use Rattle.bank_model.specs.Timing.{TimedEvent, Happens, Core, Regs, KeepBegin, KeepIterate, KeepCut, core}
 use Rattle.bank_model.specs.Changes.{change_after, changed_by, keeping_after, rounds_after, halted_after}
 use Rattle.reg_lines.specs.declared.Change.{Change}
 use Rattle.reg_lines.specs.Regs.{RegsState, AreHeld}
-use Rattle.reg_lines.specs.Keeping.{with_change, broken_off, IsKeep}
+use Rattle.reg_lines.specs.Keeping.{with_change, broken_off, IsBegin, IsIteration}
 
 -- the item of a change, if one stands
 abbrev pub item_of : Option Change → Option ℕ
@@ -25,17 +24,17 @@ pub record AreTold {n m e : ℕ} (shape : BankShape) (xs : List (TimedEvent n m)
   pub halted : regs.halted ≡ halted_after xs
   pub steps : IfSome regs.writer (λ writer. rounds_after xs + steps_left writer ≤ most_steps e)
 
--- each step of the writing makes it go on so. It begins only while none goes on, and never ends at a worn line as it begins
+-- each step of the writing makes it go on so
 abbrev pub ToldBegunLaw : Type 0
 ToldBegunLaw =
-    (n m e : ℕ) (shape : BankShape) (xs : List (TimedEvent n m)) (x : TimedEvent n m) (regs new : RegsState n m e) (answer : Keep)
-    → AreTold shape xs regs → x.happens ≡ Regs (KeepBegin answer) → regs.writer ≡ None → answer ≢ keep.Halted → IsKeep regs new answer
+    (n m e : ℕ) (shape : BankShape) (xs : List (TimedEvent n m)) (x : TimedEvent n m) (regs new : RegsState n m e) (answer : Keep) (after : ArrayState n m)
+    → AreTold shape xs regs → x.happens ≡ Regs (KeepBegin answer) → IsBegin regs new answer after
     → AreTold shape (x ∷ xs) new
 
 abbrev pub ToldIteratedLaw : Type 0
 ToldIteratedLaw =
-    (n m e : ℕ) (shape : BankShape) (xs : List (TimedEvent n m)) (x : TimedEvent n m) (regs new : RegsState n m e) (answer : Keep)
-    → AreTold shape xs regs → x.happens ≡ Regs (KeepIterate answer) → IsTrue (is_some regs.writer) → IsKeep regs new answer
+    (n m e tick : ℕ) (shape : BankShape) (xs : List (TimedEvent n m)) (x : TimedEvent n m) (regs new : RegsState n m e) (answer : Keep) (before after : ArrayState n m)
+    → AreTold shape xs regs → x.happens ≡ Regs (KeepIterate answer) → IsIteration tick regs new answer before after
     → AreTold shape (x ∷ xs) new
 
 -- a change that is being written has iterations left

@@ -1,6 +1,6 @@
 -- That the writing of the change that stands goes on to hold what the bank keeps. Each premise is a clause of the call.
 use Rattle.std.specs.Prelude.{◌≡◌, ℕ, ◌+◌, Bool, false, [], None, IfSome}
-use Rattle.pcm_cells.specs.Device.{ArrayState}
+use Rattle.cell_rows.specs.Device.{ArrayState}
 use Rattle.ecp_line.specs.Reading.{decode}
 use Rattle.bank_shape.specs.declared.answer.Keep.{Keep}
 use Rattle.bank_shape.specs.declared.answer.Keep.TheVariants as keep
@@ -8,7 +8,7 @@ use Rattle.bank_model.specs.Touching.{Touches}
 use Rattle.power_recovery.specs.Kept.{KeptState, IsKept}
 use Rattle.reg_lines.specs.Values.{encoded}
 use Rattle.reg_lines.specs.Regs.{RegsState, AreHeld}
-use Rattle.reg_lines.specs.Keeping.{line_of, target_of, torn_line, broken_off, IsKeep}
+use Rattle.reg_lines.specs.Keeping.{line_of, target_of, torn_line, broken_off, IsBegin, IsIteration}
 use Rattle.register_laws.specs.Control.{Control}
 
 module _ {n m e : ℕ} where
@@ -21,7 +21,7 @@ module _ {n m e : ℕ} where
 abbrev pub BegunLaw : Type 0
 BegunLaw =
     (n m e tick : ℕ) (kept : KeptState n) (regs new : RegsState n m e) (before after : ArrayState n m) (answer : Keep)
-    → IsKept kept → Control kept regs before → IsKeep regs new answer
+    → IsKept kept → Control kept regs before → IsBegin regs new answer after
     → Touches tick (line_of regs regs.change) None false before after → IsWrittenWhole regs after answer → AreHeld new after
     → Control kept new after
 
@@ -29,7 +29,7 @@ BegunLaw =
 abbrev pub IteratedLaw : Type 0
 IteratedLaw =
     (n m e tick : ℕ) (kept : KeptState n) (regs new : RegsState n m e) (before after : ArrayState n m) (answer : Keep)
-    → IsKept kept → Control kept regs before → IsKeep regs new answer
+    → IsKept kept → Control kept regs before → IsIteration tick regs new answer before after
     → Touches tick (line_of regs regs.change) (target_of regs regs.change) false before after → IsWrittenWhole regs after answer → AreHeld new after
     → Control kept new after
 

@@ -16,11 +16,11 @@ use Rattle.row_rules.specs.Rows.{asks_write_of, asks_write, accepted_of}
 use Rattle.row_rules.specs.Lines.{IsOfLines}
 use Rattle.row_rules.specs.Table.{is_of, of_bank}
 use Rattle.row_rules.specs.Wearing.{worn_row}
-use Rattle.row_verdict.specs.Covering.{sooner, soonest}
-use Rattle.row_verdict.specs.QueueLaws.{next_accepted}
-use Rattle.row_verdict.specs.Verdicts.{bank_in}
-use Rattle.row_verdict.specs.Worn.{first_worn}
-use Rattle.row_verdict.specs.Judged.{beside}
+use Rattle.check_verdict.specs.Covering.{sooner, soonest}
+use Rattle.check_verdict.specs.QueueLaws.{next_accepted}
+use Rattle.check_verdict.specs.Verdicts.{bank_in}
+use Rattle.check_verdict.specs.Worn.{first_worn}
+use Rattle.check_verdict.specs.Judged.{beside}
 use Rattle.result_check.specs.declared.ahead.Coming.{Coming}
 use Rattle.result_check.specs.Coming.{IsOutlook, sooner_of, coming_to, coming_of, coming_at}
 use Rattle.result_check.specs.Finding.{line_asked, line_written}
@@ -188,11 +188,6 @@ pub written_is : {n : ℕ} (asks : Asks n) (line : ℕ) → line_written asks �
 written_is (Reads at) line is = absurd (cc)
 written_is {n} (Writes at bytes given) line is = (bytes, given, ap (λ k. let w : Asks n = Writes k bytes given in w) (some_same at line is))
 written_is Cuts line is = absurd (cc)
-
-pub written_below : {n : ℕ} (asks : Asks n) (line lines : ℕ) → line_written asks ≡ Some line → IsOfLines lines asks → line < lines
-written_below (Reads at) line lines is h = absurd (cc)
-written_below (Writes at bytes given) line lines is h = let e = some_same at line is in omega (arith, e, h)
-written_below Cuts line lines is h = absurd (cc)
 
 pub asked_below : {n : ℕ} (asks : Asks n) (line lines : ℕ) → line_asked asks ≡ Some line → IsOfLines lines asks → line < lines
 asked_below (Reads at) line lines is h = let e = some_same at line is in omega (arith, e, h)

@@ -4,17 +4,17 @@ use Rattle.std.specs.Prelude.{slice_get}
 use Rattle.result_rows.specs.declared.Outcome.{Outcome}
 use Rattle.result_rows.specs.declared.Outcome.TheVariants as out
 use Rattle.result_rows.specs.Table.{outcome_at}
-use Rattle.trace_reader.specs.declared.event.TraceEvent.{TraceEvent}
+use Rattle.trace_reader.specs.declared.event.Event.{Event}
 use Rattle.row_rules.specs.declared.Row.{Row}
 use Rattle.row_rules.specs.Rows.{asks_read, asks_write, is_cut, line_of}
-use Rattle.row_judging.specs.Cutting.{cut_ticks}
-use Rattle.row_judging.specs.Keys.{key, store_key, store_keys, read_key, read_keys}
-use Rattle.row_verdict.specs.Verdicts.{bank_in}
+use Rattle.check_judging.specs.Cutting.{cut_ticks}
+use Rattle.check_judging.specs.Keys.{key, store_key, store_keys, read_key, read_keys}
+use Rattle.check_verdict.specs.Verdicts.{bank_in}
 use Rattle.trace_rows.specs.Rows.{rows_with, row_of}
 use Rattle.result_check.specs.declared.found.Found.{Found}
 
 -- the rows of the events from an index on begin with that of the one there
-pub rows_next : {n : ℕ} (events : List (TraceEvent n)) (outcomes : List (Outcome n)) (i : ℕ) (event : TraceEvent n) (outcome : Outcome n)
+pub rows_next : {n : ℕ} (events : List (Event n)) (outcomes : List (Outcome n)) (i : ℕ) (event : Event n) (outcome : Outcome n)
     → slice_get events i ≡ Some event → slice_get outcomes i ≡ Some outcome
     → drop i (rows_with events outcomes) ≡ row_of event outcome ∷ drop (suc i) (rows_with events outcomes)
 rows_next [] outcomes i event outcome at of = absurd (cc)
@@ -28,7 +28,7 @@ rows_next (e ∷ events) (o ∷ outcomes) (suc i) event outcome at of = rows_nex
 pub outcome_there : {n : ℕ} (outcomes : List (Outcome n)) (i : ℕ) (outcome : Outcome n) → outcome_at outcomes (i + 1) ≡ Some outcome → slice_get outcomes i ≡ Some outcome
 outcome_there outcomes i outcome is = let same : i + 1 - 1 ≡ i = omega arith in subst (λ k. slice_get outcomes k ≡ Some outcome) same is
 
-pub rows_length : {n : ℕ} (events : List (TraceEvent n)) (outcomes : List (Outcome n)) → length outcomes ≡ length events → length (rows_with events outcomes) ≡ length events
+pub rows_length : {n : ℕ} (events : List (Event n)) (outcomes : List (Outcome n)) → length outcomes ≡ length events → length (rows_with events outcomes) ≡ length events
 rows_length [] outcomes is = refl
 rows_length (e ∷ events) [] is = absurd (omega (arith, is))
 rows_length (e ∷ events) (o ∷ outcomes) is = let h = rows_length events outcomes (omega (arith, is)) in omega (arith, h)
@@ -101,16 +101,6 @@ found_more banks rows i r old new here had s d l c = record {
   reads = more (read_keys (bank_in banks)) (λ q rest. read_front (bank_in banks) q rest q.outcome) r rows i here old.reads.items new.reads.items had.reads d;
   lines = more (store_keys (λ line. line)) (λ q rest. store_front (λ line. line) q rest q.outcome) r rows i here old.lines.items new.lines.items had.lines l;
   cuts = more cut_ticks cut_front r rows i here old.cuts.items new.cuts.items had.cuts c;
-}
-
--- what is found in no rows, and in all
-pub found_none : {n : ℕ} (banks : List ℕ) (rows : List (Row n)) (found : Found) → found.stores.items ≡ [] → found.reads.items ≡ [] → found.lines.items ≡ [] → found.cuts.items ≡ []
-    → IsFoundTo banks rows 0 found
-found_none banks rows found s d l c = record {
-  stores = ap (λ xs. xs ++ store_keys (bank_in banks) rows) s;
-  reads = ap (λ xs. xs ++ read_keys (bank_in banks) rows) d;
-  lines = ap (λ xs. xs ++ store_keys (λ line. line) rows) l;
-  cuts = ap (λ xs. xs ++ cut_ticks rows) c;
 }
 
 pub none_left : {A : Type 0} (i : ℕ) (xs : List A) → length xs ≤ i → drop i xs ≡ []

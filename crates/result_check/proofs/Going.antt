@@ -15,18 +15,18 @@ use Rattle.result_rows.specs.declared.Outcome.TheVariants as out
 use Rattle.row_rules.specs.declared.Row.{Row}
 use Rattle.row_rules.specs.declared.Rules.{Rules}
 use Rattle.row_rules.specs.Rows.{asks_cut, asks_read, asks_write, is_cut, line_of}
-use Rattle.row_judging.specs.Cutting.{cut_ticks}
-use Rattle.row_judging.specs.Keys.{key, store_key, store_keys, read_key, read_keys, all_short}
-use Rattle.row_judging.specs.Rising.{rising}
-use Rattle.row_judging.specs.Runs.{GivesSized}
-use Rattle.row_verdict.specs.declared.Rule.{Rule}
-use Rattle.row_verdict.specs.declared.lines.Line.{Line}
+use Rattle.check_judging.specs.Cutting.{cut_ticks}
+use Rattle.check_judging.specs.Keys.{key, store_key, store_keys, read_key, read_keys, all_short}
+use Rattle.check_judging.specs.Rising.{rising}
+use Rattle.check_judging.specs.Runs.{GivesSized}
+use Rattle.check_verdict.specs.declared.Rule.{Rule}
+use Rattle.check_verdict.specs.declared.lines.Line.{Line}
 use Rattle.masked_bytes.specs.Masked.{none_given}
-use Rattle.row_verdict.specs.Covering.{KeptLine}
-use Rattle.row_verdict.specs.declared.lines.Run.{Run}
-use Rattle.row_verdict.specs.States.{Facts, Stands, no_facts}
-use Rattle.row_verdict.specs.Tables.{around}
-use Rattle.row_verdict.specs.Verdicts.{bank_in, all_rules, broken_by, or_later, verdict_from, verdict_of, no}
+use Rattle.check_verdict.specs.Covering.{KeptLine}
+use Rattle.check_verdict.specs.declared.lines.Run.{Run}
+use Rattle.check_verdict.specs.States.{Facts, Stands, no_facts}
+use Rattle.check_verdict.specs.Tables.{around}
+use Rattle.check_verdict.specs.Verdicts.{bank_in, all_rules, broken_by, or_later, verdict_from, verdict_of, no}
 use Rattle.result_check.specs.declared.ahead.Coming.{Coming}
 use Rattle.result_check.specs.declared.found.Found.{Found}
 use Rattle.result_check.specs.Coming.{coming_at, coming_of}
@@ -269,31 +269,13 @@ facts_push [] h (suc bank) = refl
 facts_push (f ∷ kept) h zero = h 0
 facts_push (f ∷ kept) h (suc bank) = facts_push kept (λ k. h (suc k)) bank
 
-pub fresh_push : (n : ℕ) (lines : List (Line n)) (one : Line n) → IsFresh n one → AreFresh n lines → AreFresh n (lines ++ one ∷ [])
-fresh_push n [] one fresh h zero line is = subst (λ (x : Line n). IsFresh n x) (some_same one line is) fresh
-fresh_push n [] one fresh h (suc l) line is = absurd (cc)
-fresh_push n (x ∷ lines) one fresh h zero line is = h 0 line is
-fresh_push n (x ∷ lines) one fresh h (suc l) line is = fresh_push n lines one fresh (λ k y there. h (suc k) y there) l line is
-
 pub record AreNew (counter : ℕ) (kept : List Facts) : Type 0 where
   pub number : length kept ≡ counter
   pub facts : (bank : ℕ) → facts_in kept bank ≡ no_facts
 
-pub new_more : (counter : ℕ) (kept new : List Facts) (f : Facts) → AreNew counter kept → f ≡ no_facts → new ≡ kept ++ f ∷ [] → AreNew (counter + 1) new
-new_more counter kept new f h is pushed = record {
-  number = ap length pushed ∙ length-append kept (f ∷ []) ∙ ap (λ k. k + 1) h.number;
-  facts = λ bank. ap (λ xs. facts_in xs bank) (pushed ∙ ap (λ x. kept ++ x ∷ []) is) ∙ facts_push kept h.facts bank;
-}
-
 pub record AreNewLines (n counter : ℕ) (lines : List (Line n)) : Type 0 where
   pub number : length lines ≡ counter
   pub fresh : AreFresh n lines
-
-pub line_more : (n counter : ℕ) (lines new : List (Line n)) (one : Line n) → AreNewLines n counter lines → IsFresh n one → new ≡ lines ++ one ∷ [] → AreNewLines n (counter + 1) new
-line_more n counter lines new one h fresh pushed = record {
-  number = ap length pushed ∙ length-append lines (one ∷ []) ∙ ap (λ k. k + 1) h.number;
-  fresh = subst (λ (xs : List (Line n)). AreFresh n xs) (sym pushed) (fresh_push n lines one fresh h.fresh);
-}
 
 -- each bank is below the number of banks
 banks_least : (number : ℕ) (banks : List ℕ) → number ≤ banks_from number banks

@@ -9,12 +9,12 @@ use Rattle.row_rules.specs.declared.Row.{Row}
 use Rattle.row_rules.specs.declared.Rules.{Rules}
 use Rattle.row_rules.specs.Queueing.{has_room}
 use Rattle.row_rules.specs.Table.{of_bank}
-use Rattle.row_verdict.specs.Judged.{a_cut}
-use Rattle.row_verdict.specs.Members.{never}
-use Rattle.row_verdict.specs.Passing.{Passed, put, joined_room}
-use Rattle.row_verdict.specs.States.{Facts, Stands, no_facts, settled, cut_off}
-use Rattle.row_verdict.specs.Verdicts.{bank_in}
-use Rattle.row_verdict.proofs.Passing.{all_room_law, settle_one_law, room_seen_law}
+use Rattle.check_verdict.specs.Judged.{a_cut}
+use Rattle.check_verdict.specs.Members.{never}
+use Rattle.check_verdict.specs.Passing.{Passed, put, joined_room}
+use Rattle.check_verdict.specs.States.{Facts, Stands, no_facts, settled, cut_off}
+use Rattle.check_verdict.specs.Verdicts.{bank_in}
+use Rattle.check_verdict.proofs.Passing.{all_room_law, settle_one_law, room_seen_law}
 use Rattle.result_check.specs.Keeping.{facts_in, Knows}
 use Rattle.result_check.proofs.Lists.{get_set_same, get_set_other}
 
@@ -32,20 +32,6 @@ pub record IsCutTo (tick reached : ℕ) (old new : List Facts) : Type 0 where
 
 pub cut_none : (tick : ℕ) (old : List Facts) → IsCutTo tick 0 old old
 cut_none tick old = record { below = λ k lt. absurd (omega (arith, lt)); above = λ k le. refl; number = refl }
-
-pub cut_more : (tick reached : ℕ) (old new : List Facts) (f : Facts) → reached < length new → f ≡ cut_off (settled tick (facts_in new reached))
-    → IsCutTo tick reached old new → IsCutTo tick (reached + 1) old (slice_set new reached f)
-cut_more tick reached old new f lt is had = record {
-  below = λ k less. by_below k less (cases_eq k reached);
-  above = λ k le. facts_set_other new reached k f (λ e. absurd (omega (arith, e, le))) ∙ had.above k (omega (arith, le));
-  number = length-set new reached f ∙ had.number;
-}
-  where
-    by_below : (k : ℕ) → k < reached + 1 → (k ≡ reached) ⊎ (k ≡ reached → ⊥) → facts_in (slice_set new reached f) k ≡ cut_off (settled tick (facts_in old k))
-    by_below k less (inl e) =
-        ap (facts_in (slice_set new reached f)) e ∙ facts_set_same new reached f lt ∙ is
-        ∙ ap (λ g. cut_off (settled tick g)) (had.above reached (omega arith)) ∙ ap (λ j. cut_off (settled tick (facts_in old j))) (sym e)
-    by_below k less (inr off) = facts_set_other new reached k f off ∙ had.below k (omega (arith, less, off))
 
 pub cut_every : (tick reached : ℕ) (old new : List Facts) → length new ≤ reached → IsCutTo tick reached old new → (k : ℕ) → facts_in new k ≡ cut_off (settled tick (facts_in old k))
 cut_every tick reached old new le had k = by (cases_lt k reached)
@@ -84,14 +70,6 @@ knows_settled {n} rules banks from tick bank kept new joined before le below lt 
       same_facts rules banks tick (put k.at bank tick) (put (facts_in kept) bank (settled tick (facts_in kept bank))) (facts_in new) joined before
       (λ j. put_set kept bank (settled tick (facts_in kept bank)) lt j ∙ ap (λ xs. facts_in xs j) (sym is))
       (settle_one_law n from tick bank rules banks k.at (facts_in kept) joined before k.passed le below);
-}
-
--- once nothing happens but that time passes
-pub knows_later : {n : ℕ} (rules : Rules) (banks : List ℕ) (from tick : ℕ) (kept : List Facts) (joined : Option ℕ) (before : List (Row n))
-    → from ≤ tick → Knows rules banks from kept joined before → Knows rules banks tick kept joined before
-knows_later rules banks from tick kept joined before le k = record {
-  at = k.at;
-  passed = record { stand = k.passed.stand; by = λ j. let b = k.passed.by j in omega (arith, b, le); room = k.passed.room; known = k.passed.known };
 }
 
 -- once the bank of the last row is settled and seen to have room

@@ -10,12 +10,12 @@ use Rattle.row_rules.specs.declared.Row.{Row}
 use Rattle.row_rules.specs.Answers.{accepts}
 use Rattle.row_rules.specs.Rows.{accepted_of}
 use Rattle.row_rules.specs.Table.{is_of}
-use Rattle.row_verdict.specs.Covering.{KeptLine, unclosed_behind, runs_behind}
-use Rattle.row_verdict.specs.declared.lines.Line.{Line}
-use Rattle.row_verdict.specs.declared.lines.Run.{Run}
-use Rattle.row_verdict.specs.Judged.{beside, a_write}
-use Rattle.row_verdict.specs.Verdicts.{bank_in}
-use Rattle.row_verdict.proofs.Covering.{line_stays_law, line_joins_law}
+use Rattle.check_verdict.specs.Covering.{KeptLine, unclosed_behind, runs_behind}
+use Rattle.check_verdict.specs.declared.lines.Line.{Line}
+use Rattle.check_verdict.specs.declared.lines.Run.{Run}
+use Rattle.check_verdict.specs.Judged.{beside, a_write}
+use Rattle.check_verdict.specs.Verdicts.{bank_in}
+use Rattle.check_verdict.proofs.Covering.{line_stays_law, line_joins_law}
 use Rattle.result_check.specs.Keeping.{KnowsLines}
 use Rattle.result_check.specs.Lines.{IsLineBehind, LinePasses}
 use Rattle.result_check.specs.Outcomes.{stored_at}

@@ -5,16 +5,16 @@ use Rattle.row_rules.specs.declared.Row.{Row}
 use Rattle.row_rules.specs.declared.Rules.{Rules}
 use Rattle.row_rules.specs.Table.{is_of, of_bank}
 use Rattle.row_rules.specs.Queueing.{waiting, awaits}
-use Rattle.row_judging.specs.Keys.{reach}
-use Rattle.row_verdict.specs.declared.lines.Line.{Line}
-use Rattle.row_verdict.specs.Members.{never}
-use Rattle.row_verdict.specs.Passing.{joined_room}
-use Rattle.row_verdict.specs.States.{Facts, settled}
-use Rattle.row_verdict.specs.Verdicts.{bank_in}
-use Rattle.row_verdict.proofs.Numbers.{numbers_law}
-use Rattle.row_verdict.proofs.Passing.{cut_room_law}
-use Rattle.row_verdict.proofs.States.{stands_later_law}
-use Rattle.row_verdict.proofs.VerdictLaws.{came_below}
+use Rattle.check_judging.specs.Keys.{reach}
+use Rattle.check_verdict.specs.declared.lines.Line.{Line}
+use Rattle.check_verdict.specs.Members.{never}
+use Rattle.check_verdict.specs.Passing.{joined_room}
+use Rattle.check_verdict.specs.States.{Facts, settled}
+use Rattle.check_verdict.specs.Verdicts.{bank_in}
+use Rattle.check_verdict.proofs.Numbers.{numbers_law}
+use Rattle.check_verdict.proofs.Passing.{cut_room_law}
+use Rattle.check_verdict.proofs.States.{stands_later_law}
+use Rattle.check_verdict.proofs.VerdictLaws.{came_below}
 use Rattle.result_check.specs.declared.ahead.Coming.{Coming}
 use Rattle.result_check.specs.declared.found.Found.{Found}
 use Rattle.result_check.specs.Keeping.{facts_in, Knows, KnowsLines, IsNext, Meets}

@@ -7,9 +7,9 @@ use Rattle.std.proofs.lemmas.List.Elements.{All-tail}
 use Rattle.result_rows.specs.declared.Outcome.{Outcome}
 use Rattle.result_rows.specs.declared.Outcome.TheVariants as out
 use Rattle.row_rules.specs.declared.Row.{Row}
-use Rattle.row_judging.specs.Keys.{is_short, all_short}
-use Rattle.row_judging.specs.Rising.{rising}
-use Rattle.row_verdict.specs.Fitting.{is_brief, all_brief}
+use Rattle.check_judging.specs.Keys.{is_short, all_short}
+use Rattle.check_judging.specs.Rising.{rising}
+use Rattle.check_verdict.specs.Fitting.{is_brief, all_brief}
 
 -- what a test says of all rows, it says of one
 pub one_of_all : {A : Type 0} (p : A → Bool) (xs : List A) (i : ℕ) (x : A) (rest : List A) → drop i xs ≡ x ∷ rest → list_all p xs ≡ true → p x ≡ true
@@ -41,12 +41,3 @@ short_of_brief (out.Cut u) h = refl
 pub all_short_of_brief : {n : ℕ} (rows : List (Row n)) → all_brief rows ≡ true → all_short rows ≡ true
 all_short_of_brief [] h = refl
 all_short_of_brief (q ∷ rows) h = ap (λ b. b && all_short rows) (short_of_brief q.outcome (and_first _ _ h)) ∙ all_short_of_brief rows (and_second _ _ h)
-
--- the rows behind one don't come before it
-pub rising_behind : {n : ℕ} (t : ℕ) (rows : List (Row n)) (i : ℕ) (r : Row n) (rest : List (Row n)) → drop i rows ≡ r ∷ rest → rising t rows ≡ true → rising r.tick rest ≡ true
-rising_behind t [] zero r rest is h = absurd (cc)
-rising_behind t [] (suc i) r rest is h = absurd (cc)
-rising_behind t (q ∷ rows) zero r rest is h =
-    let same : q ≡ r = cc in let more : rows ≡ rest = cc in
-    ap (λ xs. rising r.tick xs) (sym more) ∙ ap (λ (x : Row _). rising x.tick rows) (sym same) ∙ and_second _ _ h
-rising_behind t (q ∷ rows) (suc i) r rest is h = rising_behind q.tick rows i r rest is (and_second _ _ h)

@@ -15,32 +15,32 @@ use Rattle.row_rules.specs.declared.Rules.{Rules}
 use Rattle.row_rules.specs.Serving.{may_have}
 use Rattle.row_rules.specs.Table.{is_of, of_bank}
 use Rattle.row_rules.specs.Queueing.{has_room, read_fits}
-use Rattle.row_judging.specs.Cutting.{cut_ticks}
-use Rattle.row_judging.specs.Distances.{ends_behind}
-use Rattle.row_judging.specs.Rising.{rising}
-use Rattle.row_judging.specs.Runs.{GivesSized}
-use Rattle.row_judging.proofs.Sublists.{room_stays_law}
-use Rattle.row_verdict.specs.Ahead.{at_store, latest_kept, bound_kept}
-use Rattle.row_verdict.specs.Covering.{KeptLine, cover_kept, soonest}
-use Rattle.row_verdict.specs.Fitting.{write_fits, at_head_kept}
-use Rattle.row_verdict.specs.Judged.{first_broken, beside, a_write, a_read, a_cut, RoomIs}
-use Rattle.row_verdict.specs.Keeping.{stored_early, write_timely, read_timely}
-use Rattle.row_verdict.specs.Kept.{apart_kept, sight, sight_of}
-use Rattle.row_verdict.specs.Members.{never}
-use Rattle.row_verdict.specs.Passing.{Passed, put}
-use Rattle.row_verdict.specs.QueueLaws.{next_accepted}
-use Rattle.row_verdict.specs.States.{Facts, Stands, settled, after_write, after_read, cut_off}
-use Rattle.row_verdict.specs.Verdicts.{bank_in, all_rules, broken_by}
-use Rattle.row_verdict.specs.Timely.{first_of_ticks}
-use Rattle.row_verdict.specs.VerdictLaws.{Comes}
-use Rattle.row_verdict.specs.Worn.{first_worn}
-use Rattle.row_verdict.specs.declared.Rule.{Rule}
-use Rattle.row_verdict.specs.declared.lines.Line.{Line}
-use Rattle.row_verdict.specs.declared.members.Member.{Member}
-use Rattle.row_verdict.proofs.Judged.{judge_cut_law}
-use Rattle.row_verdict.proofs.Passing.{settle_one_law, row_passes_law, cut_passed_law}
-use Rattle.row_verdict.proofs.States.{stands_later_law, write_passes_law, read_passes_law}
-use Rattle.row_verdict.proofs.VerdictLaws.{write_verdict_law, read_verdict_law, newest_beside}
+use Rattle.check_judging.specs.Cutting.{cut_ticks}
+use Rattle.check_judging.specs.Distances.{ends_behind}
+use Rattle.check_judging.specs.Rising.{rising}
+use Rattle.check_judging.specs.Runs.{GivesSized}
+use Rattle.check_judging.proofs.Sublists.{room_stays_law}
+use Rattle.check_verdict.specs.Ahead.{at_store, latest_kept, bound_kept}
+use Rattle.check_verdict.specs.Covering.{KeptLine, cover_kept, soonest}
+use Rattle.check_verdict.specs.Fitting.{write_fits, at_head_kept}
+use Rattle.check_verdict.specs.Judged.{first_broken, beside, a_write, a_read, a_cut, RoomIs}
+use Rattle.check_verdict.specs.Keeping.{stored_early, write_timely, read_timely}
+use Rattle.check_verdict.specs.Kept.{apart_kept, sight, sight_of}
+use Rattle.check_verdict.specs.Members.{never}
+use Rattle.check_verdict.specs.Passing.{Passed, put}
+use Rattle.check_verdict.specs.QueueLaws.{next_accepted}
+use Rattle.check_verdict.specs.States.{Facts, Stands, settled, after_write, after_read, cut_off}
+use Rattle.check_verdict.specs.Verdicts.{bank_in, all_rules, broken_by}
+use Rattle.check_verdict.specs.Timely.{first_of_ticks}
+use Rattle.check_verdict.specs.VerdictLaws.{Comes}
+use Rattle.check_verdict.specs.Worn.{first_worn}
+use Rattle.check_verdict.specs.declared.Rule.{Rule}
+use Rattle.check_verdict.specs.declared.lines.Line.{Line}
+use Rattle.check_verdict.specs.declared.members.Member.{Member}
+use Rattle.check_verdict.proofs.Judged.{judge_cut_law}
+use Rattle.check_verdict.proofs.Passing.{settle_one_law, row_passes_law, cut_passed_law}
+use Rattle.check_verdict.proofs.States.{stands_later_law, write_passes_law, read_passes_law}
+use Rattle.check_verdict.proofs.VerdictLaws.{write_verdict_law, read_verdict_law, newest_beside}
 use Rattle.result_check.specs.declared.found.Found.{Found}
 use Rattle.result_check.specs.Keeping.{facts_in, Knows, KnowsLines, IsNext, HasPassed}
 use Rattle.result_check.proofs.Keeping.{same_facts, put_set, facts_settled, bank_exists}
@@ -91,7 +91,7 @@ module _ {n : ℕ} (rules : Rules) (banks : List ℕ) (found : Found) (before : 
   pub own_stands : Stands r.tick (beside banks line before) f
   own_stands = stands_later_law n (h.knows.at own) r.tick (beside banks line before) (facts_in kept own) (h.knows.passed.by own) below (h.knows.passed.stand own)
 
-  pub comes : 0 < rules.read → rules.read < 2 ^ 32 → Comes rules banks line before r after f
+  pub comes : 0 < rules.read_ticks → rules.read_ticks < 2 ^ 32 → Comes rules banks line before r after f
   comes some small = record {
     stands = own_stands;
     later = rising_of_bank (bank_in banks) own r.tick after h.later;
@@ -159,13 +159,13 @@ read_ends tick line read bound cut some (out.Cut u) pos served timely = refl
 pub write_taken : {n : ℕ} (rules : Rules) (banks : List ℕ) (found : Found) (before : List (Row n)) (tick line : ℕ) (bytes : List ℕ) (given : List Bool) (o : Outcome n) (after : List (Row n))
     (kept kept1 kept2 : List Facts) (joined joined2 : Option ℕ) (lines lines2 : List (Line n)) (room : Bool) (asks : Asks n) (some : List ℕ) (next worn : Option ℕ) (cuts stores reads : List ℕ) (number : ℕ) (broken : Option Rule) (fb : Facts)
     → IsNext rules banks found before (a_write tick line bytes given o) after kept joined lines room
-    → line < length banks → line < length lines → tick < never → 0 < rules.read → rules.read < 2 ^ 32
+    → line < length banks → line < length lines → tick < never → 0 < rules.read_ticks → rules.read_ticks < 2 ^ 32
     → asks ≡ Writes line bytes given → next ≡ next_accepted line (beside banks line after) → worn ≡ first_worn (beside banks line after) → cuts ≡ cut_ticks after
     → stores ≡ found.stores.items → reads ≡ found.reads.items → number ≡ bank_in banks line
     → kept1 ≡ slice_set kept (bank_in banks line) (settled tick (facts_in kept (bank_in banks line))) → length kept1 ≡ length kept
     → fb ≡ facts_in kept1 number
     → broken ≡ first_broken (may_have tick asks some o) room (write_fits rules.writes tick line fb.members next o) (is_worn o || (not fb.worn && stored_early worn o))
-    (write_timely tick (at_store (latest_kept rules stores reads cuts number tick) o) o && apart_kept rules.read fb.members fb.waits fb.last_answer fb.last_store o)
+    (write_timely tick (at_store (latest_kept rules stores reads cuts number tick) o) o && apart_kept rules.read_ticks fb.members fb.waits fb.last_answer fb.last_store o)
     → (broken ≡ None → (m : Member) × (sight m ≡ sight_of (a_write tick line [] [] o)) × (kept2 ≡ slice_set kept1 number (after_write line m o (facts_in kept1 number))))
     → (broken ≡ None → joined2 ≡ Some line)
     → (broken ≡ None → KnowsLines banks tick lines2 (a_write tick line bytes given o ∷ before))
@@ -195,13 +195,13 @@ write_taken {n} rules banks found before tick line bytes given o after kept kept
     Told : Asks n → Option ℕ → Option ℕ → List ℕ → Facts → Option Rule
     Told a nx wn cs g =
         first_broken (may_have tick a some o) room (write_fits rules.writes tick line g.members nx o) (is_worn o || (not g.worn && stored_early wn o))
-        (write_timely tick (at_store (latest_kept rules found.stores.items found.reads.items cs b tick) o) o && apart_kept rules.read g.members g.waits g.last_answer g.last_store o)
+        (write_timely tick (at_store (latest_kept rules found.stores.items found.reads.items cs b tick) o) o && apart_kept rules.read_ticks g.members g.waits g.last_answer g.last_store o)
 
     -- by these keys of this bank
     Above : List ℕ → List ℕ → ℕ → Option Rule
     Above ss ds k =
         first_broken (may_have tick asks some o) room (write_fits rules.writes tick line fb.members next o) (is_worn o || (not fb.worn && stored_early worn o))
-        (write_timely tick (at_store (latest_kept rules ss ds cuts k tick) o) o && apart_kept rules.read fb.members fb.waits fb.last_answer fb.last_store o)
+        (write_timely tick (at_store (latest_kept rules ss ds cuts k tick) o) o && apart_kept rules.read_ticks fb.members fb.waits fb.last_answer fb.last_store o)
 
     law : broken_by rules banks all_rules before r after ≡ Told (Writes line bytes given) (next_accepted line (beside banks line after)) (first_worn (beside banks line after)) (cut_ticks after) f
     law = write_verdict_law n tick line bytes given o rules banks some before after f room found.stores.items found.reads.items found.lines.items
@@ -234,14 +234,14 @@ write_taken {n} rules banks found before tick line bytes given o after kept kept
 pub read_taken : {n : ℕ} (rules : Rules) (banks : List ℕ) (found : Found) (before : List (Row n)) (tick line : ℕ) (o : Outcome n) (after : List (Row n))
     (kept kept1 kept2 : List Facts) (joined joined2 : Option ℕ) (lines lines2 : List (Line n)) (room : Bool) (asks : Asks n) (soon : Option ℕ) (cuts stores keys : List ℕ) (number : ℕ) (broken : Option Rule) (fb : Facts) (ln : Line n)
     → IsNext rules banks found before (a_read tick line o) after kept joined lines room
-    → line < length banks → slice_get lines line ≡ Some ln → tick < never → 0 < rules.read → rules.read < 2 ^ 32
+    → line < length banks → slice_get lines line ≡ Some ln → tick < never → 0 < rules.read_ticks → rules.read_ticks < 2 ^ 32
     → asks ≡ Reads line → soon ≡ soonest line (beside banks line after) → cuts ≡ cut_ticks after
     → stores ≡ found.stores.items → keys ≡ found.lines.items → number ≡ bank_in banks line
     → kept1 ≡ slice_set kept (bank_in banks line) (settled tick (facts_in kept (bank_in banks line))) → length kept1 ≡ length kept
     → fb ≡ facts_in kept1 number
     → broken ≡ first_broken (may_have tick asks ln.newest o) room
     (read_fits rules.reads (length fb.waits + fb.lost) (gives_all (cover_kept n tick soon ln.unclosed ln.runs.items)) (at_head_kept keys line tick fb.members) o) true
-    (read_timely tick rules.read (bound_kept rules stores number tick fb.fourth (length fb.waits + fb.lost)) (first_of_ticks cuts) o && apart_kept rules.read fb.members fb.waits fb.last_answer fb.last_store o)
+    (read_timely tick rules.read_ticks (bound_kept rules stores number tick fb.fourth (length fb.waits + fb.lost)) (first_of_ticks cuts) o && apart_kept rules.read_ticks fb.members fb.waits fb.last_answer fb.last_store o)
     → (broken ≡ None → kept2 ≡ slice_set kept1 number (after_read tick o (facts_in kept1 number)))
     → (broken ≡ None → joined2 ≡ Some line) → (broken ≡ None → lines2 ≡ lines)
     → HasPassed rules banks before (a_read tick line o) after broken kept2 joined2 lines2
@@ -271,23 +271,23 @@ read_taken {n} rules banks found before tick line o after kept kept1 kept2 joine
     Told a sn cs g =
         first_broken (may_have tick a ln.newest o) room
         (read_fits rules.reads (length g.waits + g.lost) (gives_all (cover_kept n tick sn ln.unclosed ln.runs.items)) (at_head_kept found.lines.items line tick g.members) o) true
-        (read_timely tick rules.read (bound_kept rules found.stores.items b tick g.fourth (length g.waits + g.lost)) (first_of_ticks cs) o && apart_kept rules.read g.members g.waits g.last_answer g.last_store o)
+        (read_timely tick rules.read_ticks (bound_kept rules found.stores.items b tick g.fourth (length g.waits + g.lost)) (first_of_ticks cs) o && apart_kept rules.read_ticks g.members g.waits g.last_answer g.last_store o)
 
     -- by these keys of this bank
     Above : List ℕ → List ℕ → ℕ → Option Rule
     Above ss ks j =
         first_broken (may_have tick asks ln.newest o) room
         (read_fits rules.reads (length fb.waits + fb.lost) (gives_all (cover_kept n tick soon ln.unclosed ln.runs.items)) (at_head_kept ks line tick fb.members) o) true
-        (read_timely tick rules.read (bound_kept rules ss j tick fb.fourth (length fb.waits + fb.lost)) (first_of_ticks cuts) o && apart_kept rules.read fb.members fb.waits fb.last_answer fb.last_store o)
+        (read_timely tick rules.read_ticks (bound_kept rules ss j tick fb.fourth (length fb.waits + fb.lost)) (first_of_ticks cuts) o && apart_kept rules.read_ticks fb.members fb.waits fb.last_answer fb.last_store o)
 
     fits : Bool
     fits = read_fits rules.reads (length f.waits + f.lost) (gives_all (cover_kept n tick (soonest line (beside banks line after)) ln.unclosed ln.runs.items)) (at_head_kept found.lines.items line tick f.members) o
 
     timely : Bool
-    timely = read_timely tick rules.read (bound_kept rules found.stores.items b tick f.fourth (length f.waits + f.lost)) (first_of_ticks (cut_ticks after)) o
+    timely = read_timely tick rules.read_ticks (bound_kept rules found.stores.items b tick f.fourth (length f.waits + f.lost)) (first_of_ticks (cut_ticks after)) o
 
     apart : Bool
-    apart = apart_kept rules.read f.members f.waits f.last_answer f.last_store o
+    apart = apart_kept rules.read_ticks f.members f.waits f.last_answer f.last_store o
 
     k : KeptLine n tick line (beside banks line before) ln.newest ln.unclosed ln.runs.items
     k = h.lines_known line ln there
@@ -315,7 +315,7 @@ read_taken {n} rules banks found before tick line o after kept kept1 kept2 joine
         let stands = read_passes_law n tick line o rules (beside banks line before) f ln.newest
         (own_stands rules banks found before r after kept joined lines room h line within below)
         ((room_is rules banks found before r after kept joined lines room h line within below).own breaks.has_room) breaks.is_served h.brief
-        (read_ends tick line rules.read (bound_kept rules found.stores.items b tick f.fourth (length f.waits + f.lost)) (first_of_ticks (cut_ticks after)) ln.newest o pos breaks.is_served (and_first timely apart breaks.is_timely)) in
+        (read_ends tick line rules.read_ticks (bound_kept rules found.stores.items b tick f.fourth (length f.waits + f.lost)) (first_of_ticks (cut_ticks after)) ln.newest o pos breaks.is_served (and_first timely apart breaks.is_timely)) in
         subst (λ j. Knows rules banks tick kept2 j (r ∷ before)) (sym (joins none))
         (row_known rules banks found before r after kept joined lines room h line within below kept1 kept2 (after_read tick o f) exists is size (pass none ∙ ap (λ j. slice_set kept1 j (after_read tick o (facts_in kept1 j))) here ∙ ap (λ x. slice_set kept1 b (after_read tick o x)) same)
         breaks.has_room (inl refl) stands)

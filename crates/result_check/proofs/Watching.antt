@@ -8,15 +8,15 @@ use Rattle.std.proofs.Math.Nat.{min-le_left, min-le_right}
 use Rattle.std.proofs.lemmas.List.Folds.{list_all-append}
 use Rattle.result_rows.specs.declared.Outcome.{Outcome}
 use Rattle.result_rows.specs.declared.Outcome.TheVariants as out
-use Rattle.row_judging.specs.Distances.{later_of}
-use Rattle.row_verdict.specs.declared.members.Member.{Member}
-use Rattle.row_verdict.specs.declared.members.Twins.{Twins}
-use Rattle.row_verdict.specs.declared.members.Twins.TheVariants.{Anywhere}
-use Rattle.row_verdict.specs.Kept.{ended, least_end}
-use Rattle.row_verdict.specs.Fitting.{IsKnown}
-use Rattle.row_verdict.specs.Joined.{stays_beside}
-use Rattle.row_verdict.specs.States.{Facts, settled, after_write, after_read}
-use Rattle.row_verdict.specs.Members.{never}
+use Rattle.check_judging.specs.Distances.{later_of}
+use Rattle.check_verdict.specs.declared.members.Member.{Member}
+use Rattle.check_verdict.specs.declared.members.Twins.{Twins}
+use Rattle.check_verdict.specs.declared.members.Twins.TheVariants.{Anywhere}
+use Rattle.check_verdict.specs.Kept.{ended, least_end}
+use Rattle.check_verdict.specs.Fitting.{IsKnown}
+use Rattle.check_verdict.specs.Joined.{stays_beside}
+use Rattle.check_verdict.specs.States.{Facts, settled, after_write, after_read}
+use Rattle.check_verdict.specs.Members.{never}
 use Rattle.result_check.specs.Watching.{NoneEndsBelow, IsWatched, least_of, read_at}
 
 -- a bound on some numbers

@@ -4,11 +4,11 @@ use Rattle.result_rows.specs.declared.Outcome.{Outcome}
 use Rattle.row_rules.specs.declared.Asks.{Asks}
 use Rattle.row_rules.specs.declared.Row.{Row}
 use Rattle.row_rules.specs.Table.{of_bank}
-use Rattle.row_verdict.specs.Covering.{soonest}
-use Rattle.row_verdict.specs.Judged.{beside}
-use Rattle.row_verdict.specs.QueueLaws.{next_accepted}
-use Rattle.row_verdict.specs.Verdicts.{bank_in}
-use Rattle.row_verdict.specs.Worn.{first_worn}
+use Rattle.check_verdict.specs.Covering.{soonest}
+use Rattle.check_verdict.specs.Judged.{beside}
+use Rattle.check_verdict.specs.QueueLaws.{next_accepted}
+use Rattle.check_verdict.specs.Verdicts.{bank_in}
+use Rattle.check_verdict.specs.Worn.{first_worn}
 use Rattle.result_check.specs.declared.ahead.Coming.{Coming}
 use Rattle.result_check.specs.Finding.{line_asked}
 

@@ -2,11 +2,11 @@
 use Rattle.std.specs.Prelude.{◌≡◌, ℕ, ◌+◌, ◌<◌, ◌≤◌, true, List, All, Option, length, take, drop, reverse}
 use Rattle.row_rules.specs.declared.Row.{Row}
 use Rattle.row_rules.specs.declared.Rules.{Rules}
-use Rattle.row_judging.specs.Cutting.{cut_ticks}
-use Rattle.row_judging.specs.Rising.{rising}
-use Rattle.row_verdict.specs.declared.lines.Line.{Line}
-use Rattle.row_verdict.specs.States.{Facts}
-use Rattle.row_verdict.specs.Verdicts.{verdict_from, verdict_of}
+use Rattle.check_judging.specs.Cutting.{cut_ticks}
+use Rattle.check_judging.specs.Rising.{rising}
+use Rattle.check_verdict.specs.declared.lines.Line.{Line}
+use Rattle.check_verdict.specs.States.{Facts}
+use Rattle.check_verdict.specs.Verdicts.{verdict_from, verdict_of}
 use Rattle.result_check.specs.declared.found.Found.{Found}
 use Rattle.result_check.specs.Keeping.{Knows, KnowsLines}
 

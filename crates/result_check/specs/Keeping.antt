@@ -3,20 +3,20 @@ use Rattle.std.specs.Prelude.{◌≡◌, ◌<◌, ◌≤◌, ◌+◌, max, ℕ, 
 use Rattle.std.specs.Prelude.{slice_get, unwrap_or}
 use Rattle.row_rules.specs.declared.Row.{Row}
 use Rattle.row_rules.specs.declared.Rules.{Rules}
-use Rattle.row_judging.specs.Keys.{reach}
-use Rattle.row_judging.specs.Rising.{rising}
-use Rattle.row_judging.specs.Runs.{GivesSized}
-use Rattle.row_verdict.specs.declared.Rule.{Rule}
-use Rattle.row_verdict.specs.declared.lines.Line.{Line}
-use Rattle.row_verdict.specs.Covering.{KeptLine}
-use Rattle.row_verdict.specs.Fitting.{is_brief}
-use Rattle.row_verdict.specs.Judged.{beside}
-use Rattle.row_verdict.specs.Passing.{Passed}
-use Rattle.row_verdict.specs.States.{Facts, no_facts}
-use Rattle.row_verdict.specs.VerdictLaws.{HasKeys}
-use Rattle.row_verdict.specs.Verdicts.{all_rules, broken_by, all_have_room}
+use Rattle.check_judging.specs.Keys.{reach}
+use Rattle.check_judging.specs.Rising.{rising}
+use Rattle.check_judging.specs.Runs.{GivesSized}
+use Rattle.check_verdict.specs.declared.Rule.{Rule}
+use Rattle.check_verdict.specs.declared.lines.Line.{Line}
+use Rattle.check_verdict.specs.Covering.{KeptLine}
+use Rattle.check_verdict.specs.Fitting.{is_brief}
+use Rattle.check_verdict.specs.Judged.{beside}
+use Rattle.check_verdict.specs.Passing.{Passed}
+use Rattle.check_verdict.specs.States.{Facts, no_facts}
+use Rattle.check_verdict.specs.VerdictLaws.{HasKeys}
+use Rattle.check_verdict.specs.Verdicts.{all_rules, broken_by, all_have_room}
 use Rattle.row_rules.specs.Rows.{asks_cut}
-use Rattle.row_judging.specs.Cutting.{cut_ticks}
+use Rattle.check_judging.specs.Cutting.{cut_ticks}
 use Rattle.result_check.specs.declared.ahead.Coming.{Coming}
 use Rattle.result_check.specs.declared.found.Found.{Found}
 use Rattle.result_check.specs.Coming.{coming_at}

@@ -2,12 +2,12 @@
 use Rattle.std.specs.Prelude.{◌≡◌, ℕ, ◌<◌, ◌≤◌, IsTrue, List, All, length, IsPermutation}
 use Rattle.std.specs.List.Sorted.{IsNonDecreasing}
 use Rattle.row_rules.specs.declared.Row.{Row}
-use Rattle.row_judging.specs.Cutting.{cut_ticks}
-use Rattle.row_judging.specs.Keys.{reach, store_keys, read_keys}
-use Rattle.row_judging.specs.Rising.{rising}
-use Rattle.row_judging.specs.Runs.{GivesSized}
-use Rattle.row_verdict.specs.Fitting.{all_brief}
-use Rattle.row_verdict.specs.Verdicts.{bank_in}
+use Rattle.check_judging.specs.Cutting.{cut_ticks}
+use Rattle.check_judging.specs.Keys.{reach, store_keys, read_keys}
+use Rattle.check_judging.specs.Rising.{rising}
+use Rattle.check_judging.specs.Runs.{GivesSized}
+use Rattle.check_verdict.specs.Fitting.{all_brief}
+use Rattle.check_verdict.specs.Verdicts.{bank_in}
 use Rattle.result_check.specs.declared.found.Found.{Found}
 use Rattle.row_rules.specs.Lines.{IsOfLines}
 

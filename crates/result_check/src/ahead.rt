@@ -13,7 +13,7 @@ ghost use Rattle.result_check.specs.Tables.{IsTable};
 use crate::found::bank_of;
 use result_rows::{Outcome, Results};
 use std::alloc::{AllocError, Global};
-use trace_reader::{TraceEvent, TraceOp};
+use trace_reader::{Event, EventOp};
 
 /// What the rows behind a row of a line bring: when the next accepted write of the line comes, when the first of the line's
 /// stores does, and when the first worn row of its bank does.
@@ -43,31 +43,31 @@ fn sooner_of(tick: u64, found: Option<u64>) -> Option<u64>
 }
 
 /// The line of a read or a write.
-pub fn line_of<const B: usize>(op: &TraceOp<B>) -> Option<u32>
+pub fn line_of<const B: usize>(op: &EventOp<B>) -> Option<u32>
     ensures { result ≡ line_asked (asks_of op.now) }
 {
     match *op {
-        TraceOp::Read(line) => Some(line),
-        TraceOp::Write(line, _) => Some(line),
-        TraceOp::Mask(line, _, _) => Some(line),
-        TraceOp::Cut => None,
+        EventOp::Read(line) => Some(line),
+        EventOp::Write(line, _) => Some(line),
+        EventOp::Mask(line, _, _) => Some(line),
+        EventOp::Cut => None,
     }
 }
 
 /// The line of a write.
-pub fn line_written<const B: usize>(op: &TraceOp<B>) -> Option<u32>
+pub fn line_written<const B: usize>(op: &EventOp<B>) -> Option<u32>
     ensures { result ≡ line_written (asks_of op.now) }
 {
     match *op {
-        TraceOp::Write(line, _) => Some(line),
-        TraceOp::Mask(line, _, _) => Some(line),
+        EventOp::Write(line, _) => Some(line),
+        EventOp::Mask(line, _, _) => Some(line),
         _ => None,
     }
 }
 
 impl Outlook {
     /// What comes to a row.
-    fn at<const B: usize>(&self, banks: &[u8], op: &TraceOp<B>) -> Coming
+    fn at<const B: usize>(&self, banks: &[u8], op: &EventOp<B>) -> Coming
         requires line { IsOfLines (length banks.now) (asks_of op.now) }
         requires next { length self.now.next.items ≡ length banks.now }
         requires soonest { length self.now.soonest.items ≡ length banks.now }
@@ -119,7 +119,7 @@ impl Outlook {
     }
 
     /// Adds a row in front of them.
-    fn add<const B: usize>(&mut self, banks: &[u8], event: &TraceEvent<B>, outcome: &Outcome<B>)
+    fn add<const B: usize>(&mut self, banks: &[u8], event: &Event<B>, outcome: &Outcome<B>)
         requires line { IsOfLines (length banks.now) (asks_of event.now.op) }
         requires next { length self.old.next.items ≡ length banks.now }
         requires soonest { length self.old.soonest.items ≡ length banks.now }
@@ -143,7 +143,7 @@ fn none_yet(alloc: Global, number: usize) -> Result<Vec<Option<u64>>, AllocError
 /// What the rows behind each row bring, the last row's first.
 pub fn look_ahead<const B: usize>(
     alloc: Global,
-    events: &[TraceEvent<B>],
+    events: &[Event<B>],
     results: &Results<B>,
     banks: &[u8],
 ) -> Result<Vec<Coming>, AllocError>

@@ -1,18 +1,18 @@
 //! A first look at a table: the keys of what is stored and read, and the ticks of the cuts.
 
 ghost use Rattle.std.specs.Prelude.{◌≡◌, ◌<◌, ◌≤◌, ◌++◌, [], ◌∷◌, length, IfOk, IsTrue};
-ghost use Rattle.row_judging.specs.Keys as keys;
-ghost use Rattle.row_judging.specs.Cutting.{cut_ticks};
-ghost use Rattle.row_verdict.specs.Verdicts.{bank_in};
+ghost use Rattle.check_judging.specs.Keys as keys;
+ghost use Rattle.check_judging.specs.Cutting.{cut_ticks};
+ghost use Rattle.check_verdict.specs.Verdicts.{bank_in};
 ghost use Rattle.trace_rows.specs.Rows.{rows_with, asks_of, row_of};
 ghost use Rattle.row_rules.specs.Lines.{IsOfLines};
 ghost use Rattle.result_check.specs.Tables.{IsTable, IsFound};
 
+use check_verdict::keys::key;
+use check_verdict::queue::line_key;
 use result_rows::{Outcome, Results};
-use row_verdict::keys::key;
-use row_verdict::queue::line_key;
 use std::alloc::{AllocError, Global};
-use trace_reader::{TraceEvent, TraceOp};
+use trace_reader::{Event, EventOp};
 
 /// The bank of a line.
 pub fn bank_of(banks: &[u8], line: u32) -> u8
@@ -36,7 +36,7 @@ impl Found {
     fn add<const B: usize>(
         &mut self,
         banks: &[u8],
-        event: &TraceEvent<B>,
+        event: &Event<B>,
         outcome: &Outcome<B>,
     ) -> Result<(), AllocError>
         requires line { IsOfLines (length banks.now) (asks_of event.now.op) }
@@ -51,18 +51,18 @@ impl Found {
             ≡ self.old.cuts.items ++ cut_ticks (row_of event.now outcome.now ∷ [])) }
     {
         match event.op {
-            TraceOp::Write(line, _) | TraceOp::Mask(line, _, _) => {
+            EventOp::Write(line, _) | EventOp::Mask(line, _, _) => {
                 if let Outcome::Stored { tick, .. } = outcome {
                     self.stores.push(key(bank_of(banks, line), *tick))?;
                     self.lines.push(line_key(line, *tick))?;
                 }
             }
-            TraceOp::Read(line) => {
+            EventOp::Read(line) => {
                 if let Outcome::Read { tick, .. } = outcome {
                     self.reads.push(key(bank_of(banks, line), *tick))?;
                 }
             }
-            TraceOp::Cut => self.cuts.push(event.tick)?,
+            EventOp::Cut => self.cuts.push(event.tick)?,
         }
         Ok(())
     }
@@ -70,7 +70,7 @@ impl Found {
     /// Those of a whole table, the keys sorted.
     pub fn of<const B: usize>(
         alloc: Global,
-        events: &[TraceEvent<B>],
+        events: &[Event<B>],
         results: &Results<B>,
         banks: &[u8],
     ) -> Result<Found, AllocError>

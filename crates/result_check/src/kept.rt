@@ -9,41 +9,41 @@ ghost use Rattle.row_rules.specs.declared.Asks.TheVariants.{Reads, Writes, Cuts}
 ghost use Rattle.row_rules.specs.declared.Row.{Row};
 ghost use Rattle.row_rules.specs.declared.Rules as laws;
 ghost use Rattle.result_check.specs.declared.found.Found.{Found};
-ghost use Rattle.row_judging.specs.Keys.{reach, is_short};
-ghost use Rattle.row_verdict.specs.Judged as judged;
-ghost use Rattle.row_verdict.specs.Kept.{sight, sight_of};
-ghost use Rattle.row_verdict.specs.Passing.{joined_room};
-ghost use Rattle.row_verdict.specs.Fitting.{room_kept};
-ghost use Rattle.row_verdict.specs.Members.{never};
-ghost use Rattle.row_verdict.specs.States.{no_facts, settled, cut_off, after_write, after_read};
-ghost use Rattle.row_verdict.specs.Verdicts.{bank_in};
+ghost use Rattle.check_judging.specs.Keys.{reach, is_short};
+ghost use Rattle.check_verdict.specs.Judged as judged;
+ghost use Rattle.check_verdict.specs.Kept.{sight, sight_of};
+ghost use Rattle.check_verdict.specs.Passing.{joined_room};
+ghost use Rattle.check_verdict.specs.Fitting.{room_kept};
+ghost use Rattle.check_verdict.specs.Members.{never};
+ghost use Rattle.check_verdict.specs.States.{no_facts, settled, cut_off, after_write, after_read};
+ghost use Rattle.check_verdict.specs.Verdicts.{bank_in};
 ghost use Rattle.trace_rows.specs.Rows.{asks_of, row_of};
-ghost use Rattle.row_verdict.specs.Within.{AreWithin};
-ghost use Rattle.row_judging.specs.Cutting.{cut_ticks};
-ghost use Rattle.row_verdict.specs.Covering.{soonest};
-ghost use Rattle.row_verdict.specs.Judged.{beside, a_write, a_read, a_cut};
-ghost use Rattle.row_verdict.specs.QueueLaws.{next_accepted};
-ghost use Rattle.row_verdict.specs.Worn.{first_worn};
+ghost use Rattle.check_verdict.specs.Within.{AreWithin};
+ghost use Rattle.check_judging.specs.Cutting.{cut_ticks};
+ghost use Rattle.check_verdict.specs.Covering.{soonest};
+ghost use Rattle.check_verdict.specs.Judged.{beside, a_write, a_read, a_cut};
+ghost use Rattle.check_verdict.specs.QueueLaws.{next_accepted};
+ghost use Rattle.check_verdict.specs.Worn.{first_worn};
 ghost use Rattle.result_check.specs.Coming.{a_row};
 ghost use Rattle.result_check.specs.Tables.{IsUsable};
 ghost use Rattle.result_check.specs.Lines.{AreFresh, IsLineBehind, LinePasses};
 ghost use Rattle.result_check.specs.Keeping.{banks_from, facts_in, Knows, IsNext, HasPassed, Meets};
 ghost use Rattle.row_rules.specs.Lines.{IsOfLines};
 ghost use Rattle.result_check.specs.Outcomes as spec;
-ghost use Rattle.row_verdict.specs.declared.members.Member.{Member};
-ghost use Rattle.row_verdict.specs.declared.lines.Line.{Line};
+ghost use Rattle.check_verdict.specs.declared.members.Member.{Member};
+ghost use Rattle.check_verdict.specs.declared.lines.Line.{Line};
 
 use crate::ahead::Coming;
 use crate::found::{Found, bank_of};
 use crate::watched::Watched;
+use check_verdict::Rule;
+use check_verdict::judge::{Ahead, Keys, judge_read, judge_write};
+use check_verdict::lines::Line;
+use check_verdict::members::{Member, NEVER};
 use result_rows::Outcome;
 use row_rules::Rules;
-use row_verdict::Rule;
-use row_verdict::judge::{Ahead, Keys, judge_read, judge_write};
-use row_verdict::lines::Line;
-use row_verdict::members::{Member, NEVER};
 use std::alloc::{AllocError, Global};
-use trace_reader::{TraceEvent, TraceOp};
+use trace_reader::{Event, EventOp};
 
 /// When a write is stored, if it is.
 fn stored_at<const B: usize>(outcome: &Outcome<B>) -> Option<u64>
@@ -290,7 +290,7 @@ impl<const B: usize> Kept<B> {
         room: bool,
         tick: u64,
         line: u32,
-        op: &TraceOp<B>,
+        op: &EventOp<B>,
         bytes: &[u8; B],
         given: &[bool; B],
         outcome: &Outcome<B>,
@@ -361,7 +361,7 @@ impl<const B: usize> Kept<B> {
         room: bool,
         tick: u64,
         line: u32,
-        op: &TraceOp<B>,
+        op: &EventOp<B>,
         outcome: &Outcome<B>,
     ) -> Result<Option<Rule>, AllocError>
         requires small { B ≤ 128 }
@@ -448,7 +448,7 @@ impl<const B: usize> Kept<B> {
         found: &Found,
         cuts: &[u64],
         coming: Coming,
-        event: &TraceEvent<B>,
+        event: &Event<B>,
         outcome: &Outcome<B>,
     ) -> Result<Option<Rule>, AllocError>
         requires small { B ≤ 128 }
@@ -473,25 +473,25 @@ impl<const B: usize> Kept<B> {
         let tick = event.tick;
         let room = self.find_room(rules, banks, tick);
         match &event.op {
-            TraceOp::Read(line) => {
+            EventOp::Read(line) => {
                 self.take_read(
                     rules, banks, found, cuts, coming, room, tick, *line, &event.op, outcome,
                 )
             }
-            TraceOp::Write(line, bytes) => {
+            EventOp::Write(line, bytes) => {
                 let given = [true; B];
                 self.take_write(
                     rules, banks, found, cuts, coming, room, tick, *line, &event.op, bytes, &given,
                     outcome,
                 )
             }
-            TraceOp::Mask(line, bytes, given) => {
+            EventOp::Mask(line, bytes, given) => {
                 self.take_write(
                     rules, banks, found, cuts, coming, room, tick, *line, &event.op, bytes, given,
                     outcome,
                 )
             }
-            TraceOp::Cut => Ok(self.take_cut(room, tick, outcome)),
+            EventOp::Cut => Ok(self.take_cut(room, tick, outcome)),
         }
     }
 }

@@ -4,8 +4,8 @@
 
 ghost use Rattle.std.specs.Prelude.{◌≡◌, ◌+◌, ◌≤◌, if◌then◌else◌, drop, length, slice_get, Some, ◌<◌, IfOk};
 ghost use Rattle.row_rules.specs.Rows.{asks_cut};
-ghost use Rattle.row_verdict.specs.Within.{AreWithin};
-ghost use Rattle.row_verdict.specs.Verdicts.{verdict_of};
+ghost use Rattle.check_verdict.specs.Within.{AreWithin};
+ghost use Rattle.check_verdict.specs.Verdicts.{verdict_of};
 ghost use Rattle.trace_rows.specs.Rows.{rows_with, asks_of};
 ghost use Rattle.result_check.specs.Checkable.{IsCheckable};
 ghost use Rattle.result_check.specs.Coming.{coming_of};
@@ -18,21 +18,21 @@ mod kept;
 pub mod watched;
 
 use ahead::{Coming, look_ahead};
+pub use check_verdict::{Rule, Verdict};
 use found::Found;
 use kept::Kept;
 use result_rows::Results;
 pub use row_rules::Rules;
-pub use row_verdict::{Rule, Verdict};
 use std::alloc::{AllocError, Global};
-use trace_reader::{TraceEvent, TraceOp};
+use trace_reader::{Event, EventOp};
 
 /// How many cuts have come with this operation.
-fn cuts_with<const B: usize>(cuts: usize, op: &TraceOp<B>) -> usize
+fn cuts_with<const B: usize>(cuts: usize, op: &EventOp<B>) -> usize
     requires { cuts ≤ 400_000 }
     ensures { result ≡ (if asks_cut (asks_of op.now) then cuts + 1 else cuts) }
 {
     match op {
-        TraceOp::Cut => cuts + 1,
+        EventOp::Cut => cuts + 1,
         _ => cuts,
     }
 }
@@ -55,7 +55,7 @@ fn item(coming: &[Coming], index: usize) -> Coming
 
 /// Lets the rows pass in their order, up to the first that breaks a rule.
 fn pass_rows<const B: usize>(
-    events: &[TraceEvent<B>],
+    events: &[Event<B>],
     results: &Results<B>,
     banks: &[u8],
     rules: &Rules,
@@ -92,10 +92,10 @@ fn pass_rows<const B: usize>(
 
 /// The verdict on a trace and its results, where item l of `banks` is the bank of line l. Yes comes exactly where each row
 /// keeps each rule, and No names the lowest row that doesn't, counted from 1, and the first rule that it breaks
-/// (`row_verdict::verdicts_are_exact`).
+/// (`check_verdict::verdicts_are_exact`).
 pub fn check<const B: usize>(
     alloc: Global,
-    events: &[TraceEvent<B>],
+    events: &[Event<B>],
     results: &Results<B>,
     banks: &[u8],
     rules: &Rules,

@@ -2,17 +2,17 @@
 //! with the lines that may have two members, so that no others are sought for two.
 
 ghost use Rattle.std.specs.Prelude.{◌≡◌, ◌<◌, ◌^◌, ◌-◌, IfOk};
-ghost use Rattle.row_verdict.specs.Banks.{facts_of};
-ghost use Rattle.row_verdict.specs.Fitting.{room_kept};
-ghost use Rattle.row_verdict.specs.Members.{never};
-ghost use Rattle.row_verdict.specs.States as spec;
+ghost use Rattle.check_verdict.specs.Banks.{facts_of};
+ghost use Rattle.check_verdict.specs.Fitting.{room_kept};
+ghost use Rattle.check_verdict.specs.Members.{never};
+ghost use Rattle.check_verdict.specs.States as spec;
 ghost use Rattle.result_check.specs.Watching as watching;
 ghost use Rattle.result_check.specs.Watching.{least_of};
 
+use check_verdict::bank::Bank;
+use check_verdict::members::{Member, NEVER, Twins};
+use check_verdict::queue::{has_line, has_room, twins_with};
 use result_rows::Outcome;
-use row_verdict::bank::Bank;
-use row_verdict::members::{Member, NEVER, Twins};
-use row_verdict::queue::{has_line, has_room, twins_with};
 use std::alloc::{AllocError, Global};
 use std::marker::Model;
 
@@ -27,8 +27,8 @@ pub struct Watched {
 }
 
 impl Model for Watched {
-    ghost use Rattle.row_verdict.specs.States.{Facts};
-    ghost use Rattle.row_verdict.specs.Banks.{facts_of};
+    ghost use Rattle.check_verdict.specs.States.{Facts};
+    ghost use Rattle.check_verdict.specs.Banks.{facts_of};
     ghost use Rattle.result_check.specs.Watching.{IsWatched};
 
     ghost Value = { Facts };

@@ -1,11 +1,8 @@
-pub mod Altered
 pub mod Answers
 pub mod Lines
 pub mod Queueing
-pub mod Room
 pub mod Rows
 pub mod Serving
 pub mod Table
 pub mod Ticking
 pub mod Wearing
-pub mod Worked

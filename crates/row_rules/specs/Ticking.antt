@@ -15,7 +15,7 @@ use Rattle.row_rules.specs.Queueing.{waiting}
 
 -- the longest time of one attempt to write a line: a sense, and then at most so many iterations
 abbrev pub attempt : Rules → ℕ
-attempt rules = rules.read + rules.steps * rules.iter
+attempt rules = rules.read_ticks + rules.steps * rules.iter_ticks
 
 -- how often one line write may be begun: reads cancel it at most four times
 abbrev pub tries : Policy → ℕ
@@ -30,7 +30,7 @@ writings twice = if twice then 2 else 1
 -- the longest time until a write is stored, in which w writes are stored, s reads are read and c cuts come
 abbrev pub longest : Rules → ℕ → ℕ → ℕ → ℕ
 longest rules w s c =
-    tries rules.policy * attempt rules * (writings rules.twice * (2 * w + rules.spares) + c) + rules.read * (2 * s + c)
+    tries rules.policy * attempt rules * (writings rules.twice * (2 * w + rules.spares) + c) + rules.read_ticks * (2 * s + c)
 
 module _ {n : ℕ} where
   -- the greatest tick up to a at which a write is stored, or 0
@@ -49,15 +49,15 @@ module _ {n : ℕ} where
 
   -- how long a read that arrives at tick a may find its bank busy with something else than reads
   abbrev pub delay : Rules → Policy → ℕ → List (Row n) → List (Row n) → ℕ
-  delay rules Pause a before after = max rules.read rules.iter
+  delay rules Pause a before after = max rules.read_ticks rules.iter_ticks
   delay rules Plain a before after = attempt rules
   delay rules Cancel a before after =
-      if nat_lt (came_since (last_store a (before ++ after)) before) 4 then 0 else max rules.read rules.iter
+      if nat_lt (came_since (last_store a (before ++ after)) before) 4 then 0 else max rules.read_ticks rules.iter_ticks
 
   -- the tick by which a read that arrives at tick a has ended, unless a cut came before
   abbrev pub bound : Rules → ℕ → List (Row n) → List (Row n) → ℕ
   bound rules a before after =
-      a + delay rules rules.policy a before after + (length (waiting a [] before) + 1) * rules.read
+      a + delay rules rules.policy a before after + (length (waiting a [] before) + 1) * rules.read_ticks
 
   -- no cut comes below tick u
   abbrev pub no_cut_below : ℕ → List (Row n) → Bool
@@ -71,7 +71,7 @@ module _ {n : ℕ} where
   -- a read is read in time, and not behind a cut; or it is lost at the first cut behind it, before its time is up
   abbrev pub read_in_time : Rules → ℕ → Outcome n → List (Row n) → List (Row n) → Bool
   read_in_time rules a (out.Read u place bytes) before after =
-      nat_le (a + rules.read) u && (nat_le u (bound rules a before after) && no_cut_below u after)
+      nat_le (a + rules.read_ticks) u && (nat_le u (bound rules a before after) && no_cut_below u after)
   read_in_time rules a (out.Lost u) before after = first_cut_at u after && nat_lt u (bound rules a before after)
   read_in_time rules a _ before after = true
 
@@ -109,4 +109,4 @@ module _ {n : ℕ} where
   -- a row is read or stored in time, and apart from every row before it
   abbrev pub is_in_time : Rules → RowTest n
   is_in_time rules before r after =
-      asks_in_time rules r r.asks before after && list_all (λ q. apart rules.read r.outcome q.outcome) before
+      asks_in_time rules r r.asks before after && list_all (λ q. apart rules.read_ticks r.outcome q.outcome) before

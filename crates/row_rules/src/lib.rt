@@ -44,9 +44,9 @@ pub struct Rules {
     /// How many spare lines there are.
     pub spares: u32,
     /// How many ticks a serve or a begin lasts.
-    pub read: u32,
+    pub read_ticks: u32,
     /// How many ticks an iteration of a line write lasts.
-    pub iter: u32,
+    pub iter_ticks: u32,
     /// How many iterations a line write takes at most.
     pub steps: u32,
     /// When a line write gives way to a read.

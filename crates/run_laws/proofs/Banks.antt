@@ -1,17 +1,18 @@
 -- What one bank of a finished run leaves.
-use Rattle.std.proofs.Common.{◌≡◌, ℕ, List, refl, sym, subst}
-use Rattle.pcm_cells.specs.Device.{ArrayState}
+use Rattle.std.proofs.Common.{◌≡◌, ℕ, Bool, List, refl, sym, subst}
+use Rattle.cell_rows.specs.Device.{ArrayState}
 use Rattle.bank_shape.specs.declared.BankShape.{BankShape}
 use Rattle.bank_shape.specs.declared.pace.Pace.{Pace}
 use Rattle.bank_model.specs.Timing.{TimedEvent, core}
-use Rattle.bank_model.specs.Lawful.{Lawful, IsIdle}
+use Rattle.bank_model.specs.Lawful.{Lawful}
 use Rattle.bank_laws.specs.Outcomes.{table_of}
+use Rattle.bank_laws.specs.Resting.{EndsIn}
 use Rattle.bank_laws.specs.Laws.{IsSized, LeavesArray, is_worn_at}
 use Rattle.bank_invariant.specs.Tied.{decoded}
 use Rattle.clock_laws.specs.Ending.{LeavingLaw}
 use Rattle.clock_laws.specs.State.{ClockState}
 use Rattle.clock_laws.specs.Leads.{Leads}
-use Rattle.end_laws.specs.Ends.{EndsWith}
+use Rattle.end_laws.specs.Ends.{EndsWithTo}
 use Rattle.end_laws.proofs.Ending.{excepted-whole}
 use Rattle.end_laws.specs.EndLaws.{IsHaltedWorn, IsEndOf, RemappedLaw, GapsLaw, KeptLaw, QueuedLaw, StillThereLaw, end_of}
 
@@ -34,13 +35,13 @@ module _ {n m e : ℕ} (xs : List (TimedEvent n m)) (clock : ClockState n m e) (
     pub leaves : LeavingLaw → LeavesArray e shape xs array
     leaves law = subst (λ (s : BankShape). LeavesArray e s xs array) same (law n m e xs clock array leads)
 
-    pub ends_right : LeavingLaw → RemappedLaw → GapsLaw → KeptLaw → QueuedLaw → StillThereLaw → IsSized shape pace → IsIdle shape pace xs
-        → EndsWith shape (is_worn_at e array) (decoded e array) (table_of shape xs) (end_of clock.bank.kept (core xs))
-    ends_right leaving remapped gaps kept queued still sized idle =
-        subst (λ (s : BankShape). EndsWith s (is_worn_at e array) (decoded e array) (table_of s xs) (end_of clock.bank.kept (core xs))) same
+    pub ends_right : LeavingLaw → RemappedLaw → GapsLaw → KeptLaw → QueuedLaw → StillThereLaw → IsSized shape pace → (off : Bool) → EndsIn off shape pace xs
+        → EndsWithTo off shape (is_worn_at e array) (decoded e array) (table_of shape xs) (end_of clock.bank.kept (core xs))
+    ends_right leaving remapped gaps kept queued still sized off idle =
+        subst (λ (s : BankShape). EndsWithTo off s (is_worn_at e array) (decoded e array) (table_of s xs) (end_of clock.bank.kept (core xs))) same
         (record {
           lines = remapped n m e (core xs) clock.bank array leads.holds;
-          moved = λ region exists. gaps n m e pace xs clock.bank array region sized' lawful' idle' leads.holds halted;
+          moved = λ region exists. gaps off n m e pace xs clock.bank array region sized' lawful' idle' leads.holds halted;
           kept = λ line exists. kept n m e pace xs clock.bank array line sized' lawful' leads.holds exists;
           queued = queued n m e pace xs clock.bank array lawful' leads.holds;
           stored = still n m e pace xs clock.bank array sized' lawful' leads.holds halted;
@@ -56,5 +57,5 @@ module _ {n m e : ℕ} (xs : List (TimedEvent n m)) (clock : ClockState n m e) (
         halted : IsHaltedWorn e clock.bank.kept.shape xs array
         halted = (leaving n m e xs clock array leads).halted
 
-        idle' : IsIdle clock.bank.kept.shape pace xs
-        idle' = subst (λ (s : BankShape). IsIdle s pace xs) (sym same) idle
+        idle' : EndsIn off clock.bank.kept.shape pace xs
+        idle' = subst (λ (s : BankShape). EndsIn off s pace xs) (sym same) idle

@@ -1,12 +1,12 @@
 -- A finished run is right, by the laws of its banks.
-use Rattle.std.proofs.Common.{◌≡◌, ℕ, ◌+◌, ◌*◌, ◌/◌, ◌%◌, ◌<◌, ◌≤◌, List, [], map, Some, sym, ◌∙◌, subst, arith}
+use Rattle.std.proofs.Common.{◌≡◌, ℕ, ◌+◌, ◌*◌, ◌/◌, ◌%◌, ◌<◌, ◌≤◌, Bool, List, [], map, Some, sym, ◌∙◌, subst, arith}
 use Rattle.std.specs.Prelude.{All}
 use Rattle.std.proofs.lemmas.List.{append-nil}
 use Rattle.std.proofs.lemmas.Nat.{mod_below, div_below, div-add-mod'}
 use Rattle.std.proofs.Math.Nat.{one-le-mul}
 use Rattle.std.proofs.lemmas.List.Elements.{All-nil, All-map}
-use Rattle.pcm_cells.specs.Device.{ArrayState}
-use Rattle.pcm_cells.specs.declared.array.Sense.{Sense}
+use Rattle.cell_rows.specs.Device.{ArrayState}
+use Rattle.cell_rows.specs.declared.array.Sense.{Sense}
 use Rattle.result_rows.specs.declared.Outcome.{Outcome}
 use Rattle.line_writer.specs.Untouched.{HasUntouched, AreUntouched}
 use Rattle.row_rules.specs.declared.Row.{Row}
@@ -17,8 +17,10 @@ use Rattle.bank_model.specs.Adding.{senses_of}
 use Rattle.bank_model.specs.Aging.{AreAged}
 use Rattle.bank_model.specs.Timing.{TimedEvent, core}
 use Rattle.bank_model.specs.Lawful.{Lawful}
-use Rattle.bank_laws.specs.Laws.{IsSized, LeavesArray, KeepsPlaces, KeepsLog, is_worn_at}
+use Rattle.bank_laws.specs.Laws.{IsSized, LeavesArray, KeepsPlacesTo, KeepsLogTo, is_worn_at}
 use Rattle.bank_laws.specs.Outcomes.{table_of}
+use Rattle.bank_laws.specs.Resting.{IsStill}
+use Rattle.bank_laws.proofs.Resting.{ends-still}
 use Rattle.module_shape.specs.declared.raw.RawShape.{RawShape}
 use Rattle.module_shape.specs.Limits.{IsShape, total_of}
 use Rattle.module_shape.specs.Addresses.{module_of, array_lines_of, bank_shape}
@@ -29,12 +31,12 @@ use Rattle.row_rules.specs.Lines.{IsOfLines}
 use Rattle.bank_invariant.specs.Tied.{decoded}
 use Rattle.clock_laws.specs.Ending.{LeavingLaw, UntouchedLaw}
 use Rattle.clock_laws.specs.State.{ClockState}
-use Rattle.end_laws.specs.Ends.{EndsWith}
+use Rattle.end_laws.specs.Ends.{EndsWithTo}
 use Rattle.end_laws.specs.EndLaws.{RemappedLaw, GapsLaw, KeptLaw, QueuedLaw, StillThereLaw}
 use Rattle.lifetime_laws.specs.Lifetime.{KeepsLines, KeptLinesLaw}
-use Rattle.run_laws.specs.Runs.{bank_of_line, line_in_bank, pacing_in, rules_in, table_in, Serves, RunsRight}
-use Rattle.run_laws.specs.Finishing.{IsFinished}
-use Rattle.run_laws.specs.FinishedLaws.{FinishedLaw, ends_of}
+use Rattle.run_laws.specs.Runs.{bank_of_line, line_in_bank, pacing_in, rules_in, table_in, ServesTo, RunsRightTo}
+use Rattle.run_laws.specs.Finishing.{IsFinishedTo}
+use Rattle.run_laws.specs.FinishedLaws.{EndedLaw, ends_of}
 use Rattle.run_laws.proofs.Mixing.{lines_law}
 use Rattle.run_laws.proofs.Banks.{is_end, is_lawful, leaves, ends_right}
 
@@ -74,8 +76,8 @@ some_lines raw is =
     let slots : 1 ≤ raw.regions * (raw.lines + 1) = one-le-mul {a = raw.regions} {b = raw.lines + 1} is.some_regions (omega arith) in
     omega (arith, slots)
 
-module _ {n m e : ℕ} (laws : BankLaws) (raw : RawShape) (seed : ℕ) (h : ℕ → List (TimedEvent n m)) (trace : List (Asked n)) (banks : ℕ → ClockState n m e)
-    (array : ArrayState n m) (outcome : ℕ → Outcome n) (is : IsShape raw) (done : IsFinished raw seed h trace banks array outcome) where
+module _ {n m e : ℕ} (off : Bool) (laws : BankLaws) (raw : RawShape) (seed : ℕ) (h : ℕ → List (TimedEvent n m)) (trace : List (Asked n)) (banks : ℕ → ClockState n m e)
+    (array : ArrayState n m) (outcome : ℕ → Outcome n) (is : IsShape raw) (done : IsFinishedTo raw seed off h trace banks array outcome) where
   abbrev rows : List (Row n)
   rows = map (row_with outcome) trace
 
@@ -99,32 +101,35 @@ module _ {n m e : ℕ} (laws : BankLaws) (raw : RawShape) (seed : ℕ) (h : ℕ 
         laws.by_bank n m (shape_of bank) (bank_of_line raw seed) (line_in_bank raw seed) bank (h bank) trace outcome (done.asked bank exists)
         (done.recorded bank exists)
 
+    still : IsStill (shape_of bank) (h bank)
+    still = ends-still (shape_of bank) off (pacing_in raw) (h bank) (done.idle bank exists)
+
     keeps_rows : KeepsRows (rules_in e raw bank) (table_in raw seed bank rows)
     keeps_rows =
         subst (λ (rs : List (Row n)). KeepsRows (rules_in e raw bank) rs) (sym table)
-        (laws.tables n m e (shape_of bank) (pacing_in raw) (h bank) (sized raw bank is) lawful (done.idle bank exists))
+        (laws.tables n m e (shape_of bank) (pacing_in raw) (h bank) (sized raw bank is) lawful still)
 
-    keeps_places : KeepsPlaces e (shape_of bank) array (rules_in e raw bank) (table_in raw seed bank rows)
+    keeps_places : KeepsPlacesTo e (shape_of bank) array off (rules_in e raw bank) (table_in raw seed bank rows)
     keeps_places =
-        subst (λ (rs : List (Row n)). KeepsPlaces e (shape_of bank) array (rules_in e raw bank) rs) (sym table)
-        (laws.places n m e (shape_of bank) (pacing_in raw) (h bank) array (sized raw bank is) lawful (done.idle bank exists) left)
+        subst (λ (rs : List (Row n)). KeepsPlacesTo e (shape_of bank) array off (rules_in e raw bank) rs) (sym table)
+        (laws.places n m off e (shape_of bank) (pacing_in raw) (h bank) array (sized raw bank is) lawful (done.idle bank exists) left)
 
     keeps_lines : KeepsLines (shape_of bank) array (rules_in e raw bank) (table_in raw seed bank rows)
     keeps_lines =
         subst (λ (rs : List (Row n)). KeepsLines (shape_of bank) array (rules_in e raw bank) rs) (sym table)
-        (laws.lines n m e (shape_of bank) (pacing_in raw) (h bank) array (sized raw bank is) lawful (done.idle bank exists) left aged)
+        (laws.lines n m e (shape_of bank) (pacing_in raw) (h bank) array (sized raw bank is) lawful still left aged)
 
-    keeps_log : (log : List (Sense n m)) → array.log ≡ Some log → KeepsLog e (shape_of bank) array (rules_in e raw bank) (table_in raw seed bank rows) log
+    keeps_log : (log : List (Sense n m)) → array.log ≡ Some log → KeepsLogTo e (shape_of bank) array off (rules_in e raw bank) (table_in raw seed bank rows) log
     keeps_log log told =
-        subst (λ (rs : List (Row n)). KeepsLog e (shape_of bank) array (rules_in e raw bank) rs log) (sym table)
-        (laws.logs n m e (shape_of bank) (pacing_in raw) (h bank) array log [] (sized raw bank is) lawful (done.idle bank exists) left
+        subst (λ (rs : List (Row n)). KeepsLogTo e (shape_of bank) array off (rules_in e raw bank) rs log) (sym table)
+        (laws.logs n m off e (shape_of bank) (pacing_in raw) (h bank) array log [] (sized raw bank is) lawful (done.idle bank exists) left
         (done.log log told bank exists ∙ sym (append-nil (senses_of (h bank)))) (All-nil (λ (s : Sense n m). s.pulses ≡ (array.line s.line).pulses)))
 
-    ends : EndsWith (shape_of bank) (is_worn_at e array) (decoded e array) (table_in raw seed bank rows) (ends_of h banks bank)
+    ends : EndsWithTo off (shape_of bank) (is_worn_at e array) (decoded e array) (table_in raw seed bank rows) (ends_of h banks bank)
     ends =
-        subst (λ (rs : List (Row n)). EndsWith (shape_of bank) (is_worn_at e array) (decoded e array) rs (ends_of h banks bank)) (sym table)
+        subst (λ (rs : List (Row n)). EndsWithTo off (shape_of bank) (is_worn_at e array) (decoded e array) rs (ends_of h banks bank)) (sym table)
         (ends_right (h bank) (banks bank) array (done.leads bank exists) (shape_of bank) (pacing_in raw) (done.shapes bank exists) (done.paces bank exists)
-        laws.leaving laws.remapped laws.gaps laws.kept laws.queued laws.still (sized raw bank is) (done.idle bank exists))
+        laws.leaving laws.remapped laws.gaps laws.kept laws.queued laws.still (sized raw bank is) off (done.idle bank exists))
 
     -- the unused check cells of its lines are untouched
     untouched : AreUntouched e array (shape_of bank).base (lines_in (shape_of bank))
@@ -136,7 +141,7 @@ module _ {n m e : ℕ} (laws : BankLaws) (raw : RawShape) (seed : ℕ) (h : ℕ 
   exist : All (λ r. IsOfLines (total_of raw) r.asks) rows
   exist = All-map (λ (r : Row n). IsOfLines (total_of raw) r.asks) (row_with outcome) trace done.exist
 
-  serves : Serves e raw seed rows array
+  serves : ServesTo e raw seed off rows array
   serves = record {
     served =
         laws.served n raw.banks (total_of raw) (bank_of_line raw seed) (line_in_bank raw seed) rows (lines_law raw seed is) is.some_banks exist
@@ -144,7 +149,7 @@ module _ {n m e : ℕ} (laws : BankLaws) (raw : RawShape) (seed : ℕ) (h : ℕ 
     banks = keeps_rows;
     room = λ bank few.
         laws.finds n m e (shape_of bank) (pacing_in raw) (bank_of_line raw seed) (line_in_bank raw seed) bank (h bank) trace outcome (laws.room n m)
-        (sized raw bank is) (lawful bank few) (done.idle bank few) done.ticks (done.asked bank few) (done.recorded bank few);
+        (sized raw bank is) (lawful bank few) (still bank few) done.ticks (done.asked bank few) (done.recorded bank few);
     places = keeps_places;
     lines = keeps_lines;
   }
@@ -159,7 +164,7 @@ module _ {n m e : ℕ} (laws : BankLaws) (raw : RawShape) (seed : ℕ) (h : ℕ 
       subst (λ (at : ℕ). HasUntouched e (array.line at)) place
       (untouched (line / each) (div_below line each raw.banks some within) (line % each) (mod_below line each some))
 
-  pub runs_right : RunsRight e raw seed rows array (ends_of h banks)
+  pub runs_right : RunsRightTo e raw seed off rows array (ends_of h banks)
   runs_right = record {
     size = done.size;
     serves = serves;
@@ -168,8 +173,8 @@ module _ {n m e : ℕ} (laws : BankLaws) (raw : RawShape) (seed : ℕ) (h : ℕ 
     unused = unused;
   }
 
-pub finished_law : BankLaws → FinishedLaw
-finished_law laws n m e raw seed h trace banks array outcome is done = (
-  runs_right laws raw seed h trace banks array outcome is done,
+pub ended_law : BankLaws → (off : Bool) → EndedLaw off
+ended_law laws off n m e raw seed h trace banks array outcome is done = (
+  runs_right off laws raw seed h trace banks array outcome is done,
   λ bank few. is_end (h bank) (banks bank) array (done.leads bank few),
 )

@@ -24,8 +24,8 @@ asked_alive_law asked lifetime retired n m e raw seed rows array ends hot bank s
     alive_law lifetime retired n m e raw seed rows array ends hot bank shape layout right exists
     (λ region lt.
     let each : ℕ = tries (rules_in e raw bank).policy in
-    let fewer : each * most_hot_works (bank_shape (module_of raw) bank) region hot (table_in raw seed bank rows)
-    ≤ each * most_asked_works (bank_shape (module_of raw) bank) region hot (table_in raw seed bank rows) =
+    let fewer : each * most_hot_works (bank_shape (module_of raw) bank) region (hot region) (table_in raw seed bank rows)
+    ≤ each * most_asked_works (bank_shape (module_of raw) bank) region (hot region) (table_in raw seed bank rows) =
     mul-le-mul_left each
-    ((asked n (bank_shape (module_of raw) bank) (table_in raw seed bank rows) (omega (arith, shape.some_lines)) (omega (arith, shape.some_psi))).works region hot) in
+    ((asked n (bank_shape (module_of raw) bank) (table_in raw seed bank rows) (omega (arith, shape.some_lines)) (omega (arith, shape.some_psi))).works region (hot region)) in
     omega (arith, fewer, few region lt))

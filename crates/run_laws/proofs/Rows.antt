@@ -6,7 +6,7 @@ use Rattle.std.specs.Option.{ForSome}
 use Rattle.std.proofs.lemmas.Bool.{lt-ltb}
 use Rattle.std.proofs.lemmas.List.Elements.{All-nil, All-head, All-tail}
 use Rattle.bank_shape.proofs.Sizes.{if_array-le}
-use Rattle.pcm_cells.specs.Device.{ArrayState}
+use Rattle.cell_rows.specs.Device.{ArrayState}
 use Rattle.result_rows.specs.declared.Op.TheVariants as op
 use Rattle.run_text.specs.Shortfall.{is_short, any_short}
 use Rattle.result_rows.specs.Outcomes.{op_of, place_of}

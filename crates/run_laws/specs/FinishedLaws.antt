@@ -1,6 +1,6 @@
 -- What a finished run leaves, by the histories of its banks.
-use Rattle.std.specs.Prelude.{◌≡◌, ℕ, ◌<◌, List, map}
-use Rattle.pcm_cells.specs.Device.{ArrayState}
+use Rattle.std.specs.Prelude.{◌≡◌, ℕ, ◌<◌, Bool, true, false, List, map}
+use Rattle.cell_rows.specs.Device.{ArrayState}
 use Rattle.result_rows.specs.declared.Outcome.{Outcome}
 use Rattle.bank_model.specs.Timing.{TimedEvent, core}
 use Rattle.module_shape.specs.declared.raw.RawShape.{RawShape}
@@ -13,8 +13,8 @@ use Rattle.end_laws.specs.Ends.{BankEnd}
 use Rattle.end_laws.specs.EndLaws.{IsEndOf, end_of}
 use Rattle.end_laws.specs.Roles.{HasOneRole}
 use Rattle.row_rules.specs.declared.Row.{Row}
-use Rattle.run_laws.specs.Runs.{bank_of_line, line_in_bank, line_named, RunsRight}
-use Rattle.run_laws.specs.Finishing.{IsFinished}
+use Rattle.run_laws.specs.Runs.{bank_of_line, line_in_bank, line_named, RunsRight, RunsRightTo}
+use Rattle.run_laws.specs.Finishing.{IsFinishedTo}
 
 -- the lines of a module: each is of one of its banks, and no two have one number there
 abbrev pub LinesLaw : Type 0
@@ -24,14 +24,22 @@ LinesLaw = (raw : RawShape) (seed : ℕ) → IsShape raw → AreLines raw.banks 
 abbrev pub ends_of : {n m e : ℕ} → (ℕ → List (TimedEvent n m)) → (ℕ → ClockState n m e) → ℕ → BankEnd
 ends_of h banks bank = end_of (banks bank).bank.kept (core (h bank))
 
--- a finished run is right, and each end that it leaves is that of what the bank keeps
-abbrev pub FinishedLaw : Type 0
-FinishedLaw =
+-- a run that is over is right, and each end that it leaves is that of what the bank keeps
+abbrev pub EndedLaw : Bool → Type 0
+EndedLaw off =
     (n m e : ℕ) (raw : RawShape) (seed : ℕ) (h : ℕ → List (TimedEvent n m)) (trace : List (Asked n)) (banks : ℕ → ClockState n m e)
     (array : ArrayState n m) (outcome : ℕ → Outcome n)
-    → IsShape raw → IsFinished raw seed h trace banks array outcome
-    → RunsRight e raw seed (map (row_with outcome) trace) array (ends_of h banks)
+    → IsShape raw → IsFinishedTo raw seed off h trace banks array outcome
+    → RunsRightTo e raw seed off (map (row_with outcome) trace) array (ends_of h banks)
     × ((bank : ℕ) → bank < raw.banks → IsEndOf (banks bank).bank.kept (ends_of h banks bank))
+
+-- so is a finished run
+abbrev pub FinishedLaw : Type 0
+FinishedLaw = EndedLaw false
+
+-- and one behind whose last row the power stays off
+abbrev pub StoppedLaw : Type 0
+StoppedLaw = EndedLaw true
 
 -- the line that is named by a bank and a number there: the name undoes the bank and the number, and each pair is of the line that it names
 pub record AreNamed (raw : RawShape) (seed : ℕ) : Type 0 where

@@ -1,7 +1,7 @@
 -- What a right run says of each row of its module.
 use Rattle.std.specs.Prelude.{◌≡◌, ℕ, ◌*◌, ◌<◌, ◌≤◌, IsTrue, IsFalse, Bool, length, List, [], ◌∷◌, ◌++◌, map, Some, All}
 use Rattle.std.specs.Option.{ForSome}
-use Rattle.pcm_cells.specs.Device.{ArrayState}
+use Rattle.cell_rows.specs.Device.{ArrayState}
 use Rattle.result_rows.specs.declared.Op.{Op}
 use Rattle.result_rows.specs.declared.Op.TheVariants as op
 use Rattle.result_rows.specs.Outcomes.{op_of, place_of}

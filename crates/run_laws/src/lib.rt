@@ -2,7 +2,7 @@
 //! ensures; the functions do nothing when they run.
 #![tactic(auto)]
 
-ghost use Rattle.run_laws.specs.FinishedLaws.{FinishedLaw, LinesLaw, NamedLaw, RolesLaw};
+ghost use Rattle.run_laws.specs.FinishedLaws.{FinishedLaw, StoppedLaw, LinesLaw, NamedLaw, RolesLaw};
 ghost use Rattle.run_laws.specs.Lasting.{AliveLaw, AskedAliveLaw};
 ghost use Rattle.run_laws.specs.RowsOfRuns.{OwnOutcomesLaw, PlacesExistLaw, FewArrayLinesLaw, NoneLostLaw, RoomIsTakenLaw, NoneShortLaw};
 
@@ -34,6 +34,27 @@ pub fn lines_have_their_names()
 /// A run whose banks have nothing left to do leaves rows that keep every law, over its array in the end.
 pub fn finished_runs_are_right()
     ensures { FinishedLaw }
+{
+    tables_keep_their_laws();
+    places_keep_their_laws();
+    lines_keep_their_law();
+    logs_keep_their_laws();
+    banks_keep_their_room();
+    bank_tables_are_those_of_histories();
+    modules_serve_as_their_banks();
+    every_row_finds_room();
+    histories_leave_the_array();
+    unused_cells_stay_untouched();
+    slots_have_their_lines();
+    registers_follow_stores();
+    lines_are_kept();
+    excepted_lines_are_queued();
+    stored_rows_are_still_there();
+}
+
+/// A run behind whose last row, a power cut, the power stays off leaves rows that keep these laws, but for what says that work is finished.
+pub fn stopped_runs_are_right()
+    ensures { StoppedLaw }
 {
     tables_keep_their_laws();
     places_keep_their_laws();
@@ -90,9 +111,9 @@ pub fn no_row_falls_short()
     ensures { NoneShortLaw }
 {}
 
-/// Over cells that endure more changes than a run's hot lines may bring any slot's own line of a bank, one a line write however often
-/// cells miss, the bank wears out nowhere: no row is refused for want of a spare or left in the queue, each slot has its own line, and no
-/// spare is used.
+/// Over cells that endure more changes than any slot's own line of a bank may take line writes by the hot lines of its region, however
+/// often cells miss, the bank wears out nowhere: no row is refused for want of a spare, each slot has its own line and no spare is used;
+/// and none is left in the queue, where the bank has no control lines or cells endure what the changes of items bring these.
 pub fn runs_live_on()
     ensures { AliveLaw }
 {

@@ -24,15 +24,6 @@ printed-more a b text whole more h = record {
   limit = h.limit;
 }
 
--- the same bytes, some of which went from the text to the sink
-pub printed-flushed : (room : ℕ) (a b c : Option (List ℕ)) (old new : Reserved) (whole : List ℕ) → Flushes room old new b c → Printed a b old whole → Printed a c new whole
-printed-flushed room a b c old new whole f h = record {
-  gone = h.gone ++ f.piece;
-  sent = Appends-Appends a b c h.gone f.piece h.sent f.sent;
-  is = append_assoc h.gone f.piece new.bytes ∙ ap (λ (xs : List ℕ). h.gone ++ xs) (sym f.kept) ∙ h.is;
-  limit = f.limit ∙ h.limit;
-}
-
 -- the same bytes, all of which went from the text to the sink
 pub printed-cleared : (a b c : Option (List ℕ)) (old new : Reserved) (bytes whole : List ℕ) → bytes ≡ old.bytes → new ≡ reserved old.limit
     → Appends b c bytes → Printed a b old whole → Printed a c new whole
@@ -43,10 +34,6 @@ printed-cleared a b c old new bytes whole same cleared sent h =
       is = append-nil (h.gone ++ bytes) ∙ ap (λ (xs : List ℕ). h.gone ++ xs) same ∙ h.is;
       limit = h.limit;
     })
-
--- all of it is written once the text is
-pub printed-last : (a b c : Option (List ℕ)) (text : Reserved) (whole : List ℕ) → Appends b c text.bytes → Printed a b text whole → Appends a c whole
-printed-last a b c text whole last h = rw (← h.is) (Appends-Appends a b c h.gone text.bytes h.sent last)
 
 -- first bytes of it are, once first bytes of the text are
 pub printed-part : (a b c : Option (List ℕ)) (text : Reserved) (whole : List ℕ) → AppendsPrefix b c text.bytes → Printed a b text whole → AppendsPrefix a c whole

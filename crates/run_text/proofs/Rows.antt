@@ -7,14 +7,14 @@ use Rattle.std.proofs.lemmas.Option.{get_or_from_slice_get, slice_get_within}
 use Rattle.pcm_io.specs.Giving.{AppendsPrefix}
 use Rattle.pcm_io.specs.Reserved.{Reserved, appended, reserved}
 use Rattle.pcm_io.proofs.ByteLemmas.{AppendsPrefix-longer}
-use Rattle.trace_reader.specs.declared.event.TraceEvent.{TraceEvent}
+use Rattle.trace_reader.specs.declared.event.Event.{Event}
 use Rattle.result_rows.specs.declared.Outcome.{Outcome}
 use Rattle.result_rows.specs.RowText.{header_text, row_text}
 use Rattle.run_text.specs.ResultText.{asked, named_line, results_text, rows_text}
 use Rattle.run_text.specs.Gathering.{Printed}
 use Rattle.run_text.proofs.Gathered.{printed-first, printed-more}
 
-module _ {n : ℕ} (events : List (TraceEvent n)) (outcomes : List (Outcome n)) where
+module _ {n : ℕ} (events : List (Event n)) (outcomes : List (Outcome n)) where
   -- the rows from this one on
   abbrev pub rows_from : ℕ → List ℕ
   rows_from i = rows_text (i + 1) (drop i events) (drop i outcomes)
@@ -35,7 +35,7 @@ module _ {n : ℕ} (events : List (TraceEvent n)) (outcomes : List (Outcome n)) 
   rows-flushed i old new a b c keeps h = record { so_far = h.so_far; printed = keeps a h.so_far h.printed; is = h.is }
 
   -- one row more
-  row-next : (i : ℕ) (event : TraceEvent n) (outcome : Outcome n) → slice_get events i ≡ Some event → slice_get outcomes i ≡ Some outcome
+  row-next : (i : ℕ) (event : Event n) (outcome : Outcome n) → slice_get events i ≡ Some event → slice_get outcomes i ≡ Some outcome
       → rows_from i ≡ row_text (i + 1) (asked event.op) (named_line event.op) outcome ++ rows_from (i + 1)
   unfolding rows_text
   row-next i event outcome e o = rw (drop-next events i event e, drop-next outcomes i outcome o) refl
@@ -46,7 +46,7 @@ module _ {n : ℕ} (events : List (TraceEvent n)) (outcomes : List (Outcome n)) 
           let one : i + 1 ≡ suc i = omega arith in
           rw one (drop-cons xs i x within ∙ ap (λ y. y ∷ drop (suc i) xs) (get_or_from_slice_get xs i x x at))
 
-  pub rows-more : (i : ℕ) (text : Reserved) (event : TraceEvent n) (outcome : Outcome n) (a b : Option (List ℕ))
+  pub rows-more : (i : ℕ) (text : Reserved) (event : Event n) (outcome : Outcome n) (a b : Option (List ℕ))
       → slice_get events i ≡ Some event → slice_get outcomes i ≡ Some outcome → HasRows i text a b
       → HasRows (i + 1) (appended text (row_text (i + 1) (asked event.op) (named_line event.op) outcome)) a b
   rows-more i text event outcome a b e o h =
@@ -63,7 +63,7 @@ module _ {n : ℕ} (events : List (TraceEvent n)) (outcomes : List (Outcome n)) 
   rows-all i text a b all h =
       let none : drop i events ≡ [] = drop_all i events all in
       let whole : h.so_far ≡ results_text events outcomes =
-      sym (append-nil h.so_far) ∙ sym (ap (λ (es : List (TraceEvent n)). h.so_far ++ rows_text (i + 1) es (drop i outcomes)) none) ∙ h.is in
+      sym (append-nil h.so_far) ∙ sym (ap (λ (es : List (Event n)). h.so_far ++ rows_text (i + 1) es (drop i outcomes)) none) ∙ h.is in
       rw (← whole) h.printed
 
   -- first bytes of the rows so far are first bytes of the whole

@@ -1,6 +1,6 @@
 -- What one more line does to the sum of the pulses of an array.
 use Rattle.std.proofs.Common.{ℕ, ◌+◌, ◌≡◌, refl, add-one, arith}
-use Rattle.pcm_cells.specs.Device.{ArrayState}
+use Rattle.cell_rows.specs.Device.{ArrayState}
 use Rattle.run_text.specs.Pulses.{at_most_u64, pulses_of_first}
 
 module _ {B M : ℕ} where

@@ -1,6 +1,6 @@
 -- The pulses of a whole array.
 use Rattle.std.specs.Prelude.{ℕ, zero, suc, ◌+◌, ◌-◌, ◌^◌, min}
-use Rattle.pcm_cells.specs.Device.{ArrayState}
+use Rattle.cell_rows.specs.Device.{ArrayState}
 
 -- a number, or the greatest u64 where it is greater
 abbrev pub at_most_u64 : ℕ → ℕ

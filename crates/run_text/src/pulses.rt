@@ -2,7 +2,7 @@
 ghost use Rattle.std.specs.Prelude.{◌≡◌, ◌+◌};
 ghost use Rattle.run_text.specs.Pulses.{at_most_u64, pulses_in_all};
 
-use pcm_cells::CellArray;
+use cell_rows::CellArray;
 
 /// The sum of two counts of pulses, which stays at the greatest u64.
 pub fn add_pulses(sum: u64, pulses: u64) -> u64

@@ -9,32 +9,32 @@ ghost use Rattle.run_text.specs.ResultText.{ArePrintable, asked, named_line, res
 use crate::room::{TEXT_ROOM, make_room, print_rest};
 use pcm_io::{Sink, Text, WriteFault};
 use result_rows::{Op, Results, header, print_row};
-use trace_reader::{MOST_ROWS, TraceEvent, TraceOp};
+use trace_reader::{Event, EventOp, MOST_ROWS};
 
 // What a row asks for, as its result shows it.
-fn asked_by<const B: usize>(op: &TraceOp<B>) -> Op
+fn asked_by<const B: usize>(op: &EventOp<B>) -> Op
     ensures { result ≡ asked op.now }
 {
     match op {
-        TraceOp::Read(_) => Op::Read,
-        TraceOp::Write(..) | TraceOp::Mask(..) => Op::Write,
-        TraceOp::Cut => Op::Cut,
+        EventOp::Read(_) => Op::Read,
+        EventOp::Write(..) | EventOp::Mask(..) => Op::Write,
+        EventOp::Cut => Op::Cut,
     }
 }
 
 // The line that a row names; a cut names none, and 0 stands for that.
-fn line_named_by<const B: usize>(op: &TraceOp<B>) -> u32
+fn line_named_by<const B: usize>(op: &EventOp<B>) -> u32
     ensures { result ≡ named_line op.now }
 {
     match op {
-        TraceOp::Read(line) | TraceOp::Write(line, _) | TraceOp::Mask(line, _, _) => *line,
-        TraceOp::Cut => 0,
+        EventOp::Read(line) | EventOp::Write(line, _) | EventOp::Mask(line, _, _) => *line,
+        EventOp::Cut => 0,
     }
 }
 
 /// Writes the header of the results and one row for each event. The text is empty at first.
 pub fn print_results<const B: usize, K: Sink>(
-    events: &[TraceEvent<B>],
+    events: &[Event<B>],
     results: &Results<B>,
     text: &mut Text,
     out: &mut K,

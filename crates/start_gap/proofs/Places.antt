@@ -129,20 +129,6 @@ place_after-apart n t a b some few p q e =
     let stands : StandsFor r t = rotation_after-stands n t in
     place-apart r a b p q (place-stands r t a range stands ∙ e ∙ sym (place-stands r t b range stands))
 
--- one more move takes its line into the gap, and leaves all others
-pub place_after-more : (n t line : ℕ) → 1 ≤ n → n ≤ 4096 → line < n
-    → place_after n line (t + 1) ≡ (if line == moved_line n t then gap_after n t else place_after n line t)
-place_after-more n t line some few h =
-    let r : Rotation = rotation_after n t in
-    let range : IsRotation r = rotation_after-range n t some few in
-    let stands : StandsFor r t = rotation_after-stands n t in
-    let next : IsRotation (advanced r) = advanced-range r range in
-    sym (place-stands (advanced r) (t + 1) line next (stands-advanced r t range stands))
-    ∙ place_by-advanced r line range h
-    ∙ ap (λ m. if line == m then r.gap else place_by r line) (ap (λ (m : Move). m.line) (move-stands r t range stands))
-    ∙ ap (λ g. if line == moved_line n t then g else place_by r line) (gap-stands r t range stands)
-    ∙ ap (λ p. if line == moved_line n t then gap_after n t else p) (place-stands r t line range stands)
-
 -- the same, by the gap
 pub places-end : (r : Rotation) → IsRotation r → r.gap ≡ 0 → (line : ℕ) → line < r.lines
     → place_by (record { lines = r.lines; start = (r.start + 1) % r.lines; gap = r.lines }) line

@@ -20,7 +20,7 @@ use Rattle.bank_shape.specs.declared.answer.Step.TheVariants as did
 use Rattle.bank_shape.specs.declared.clock.Doing.{Doing}
 use Rattle.bank_shape.specs.declared.clock.Doing.TheVariants.{Serving}
 use Rattle.bank_shape.specs.declared.clock.Action.{Action}
-use Rattle.bank_model.specs.Events.{Event, Write, Read, Serve, Begin, Iterate, Cut, newest}
+use Rattle.bank_model.specs.Events.{BankEvent, Write, Read, Serve, Begin, Iterate, Cut, newest}
 use Rattle.bank_model.specs.History.{Awaited, awaited, queue, waits}
 use Rattle.bank_shape.specs.declared.pace.Pace.{Pace}
 use Rattle.bank_model.specs.Timing.{Happens, Core, Regs, KeepBegin, KeepIterate, KeepCut, TimedEvent, is_writing, is_empty, core, core_of, last_tick}
@@ -204,7 +204,7 @@ module _ {n m : ℕ} (shape : BankShape) (all : List (TimedEvent n m)) (a most :
   after_stored (z ∷ later) = stored-append a most (rows_after shape all later) (row_with shape all z.happens z.tick z.cancels) (after_stored later) (own_stored z.happens z.tick z.cancels)
 
 module _ {n m : ℕ} where
-  no_pending : (shape : BankShape) (pace : Pace) (zs : List (TimedEvent n m)) (at : ℕ) (event : Event n) → FollowsCancel shape pace zs at event → (IsRead (last_tick zs) at event → ⊥) → pending_cancel zs ≡ 0
+  no_pending : (shape : BankShape) (pace : Pace) (zs : List (TimedEvent n m)) (at : ℕ) (event : BankEvent n) → FollowsCancel shape pace zs at event → (IsRead (last_tick zs) at event → ⊥) → pending_cancel zs ≡ 0
   no_pending shape pace [] at event f other = refl
   no_pending shape pace (y ∷ ys) at event f other = by y.cancels f
     where
@@ -283,6 +283,26 @@ module _ {n m : ℕ} (shape : BankShape) (pace : Pace) (e : ℕ) where
           let now : t ≡ z.tick = event.at in
           subst (λ b. t ≤ cond b z.tick (stored_at zs)) (sym (eq-eqb (stores_by z.happens) 1 event.one)) (omega (arith, now))
       by None same go is = let k : t ≤ stored_at zs = go is in let more : stored_at zs ≤ stored_at (z ∷ zs) = rises (stores_by z.happens == 1) in omega (arith, k, more)
+
+  -- what runs as a read comes is no line write, where the present one was cancelled less often than it may be, or that is how this read came
+  pub idle_few : (x : TimedEvent n m) (ys : List (TimedEvent n m)) → Lawful shape pace e (x ∷ ys) → (row line : ℕ) → is_cancelling pace.policy ≡ true
+      → MayCome shape pace e ys x (Core (Read row line came.Waiting)) → (pending_cancel ys ≡ 0 → cancels_after ys < 4) → is_writing (running_at shape pace ys x.tick) ≡ false
+  idle_few x ys here row line cancelling may few = false_from_ne_true _ (λ writes. clash writes (cancelled_or ys x.tick row line here.1 may.behind))
+    where
+      full : (is_empty (waits shape (core ys)) ≡ false) ⊎ (4 ≤ cancels_after ys) → is_writing (running_at shape pace ys x.tick) ≡ true → 4 ≤ cancels_after ys
+      full (inr most) writes = most
+      full (inl some) writes =
+          full_count shape pace e ys cancelling here.1
+          (started-writing (gives_way pace.policy) (reads_of shape pace ys) (busy_after shape ys) (ready_after shape ys) (running shape pace ys) (last_tick ys) x.tick (gives pace.policy cancelling) (ap not some) writes)
+          (ap not some)
+
+      clash : is_writing (running_at shape pace ys x.tick) ≡ true → (pending_cancel ys ≡ 0) ⊎ (running_at shape pace ys x.tick ≡ None) → ⊥
+      clash writes (inr cancelled) = let k : is_writing (running_at shape pace ys x.tick) ≡ false = ap is_writing cancelled in absurd (cc)
+      clash writes (inl none) =
+          let lt : cancels_after ys < 4 = few none in
+          let most : 4 ≤ cancels_after ys =
+          full (no_cancel (is_cancelling pace.policy) (is_writing (running_at shape pace ys x.tick)) (is_empty (waits shape (core ys))) (cancels_after ys) cancelling writes (may.on_time.2 (λ f. f))) writes in
+          absurd (omega (arith, lt, most))
 
   module _ (all : List (TimedEvent n m)) (r : 1 ≤ pace.read) (i : 1 ≤ pace.iter) (l : Lawful shape pace e all) (idle : waits shape (core all) ≡ []) where
     settled : (row : ℕ) (owed : List ℕ) → ReadFate shape all row owed → IsSettled owed (outcome_of shape all row)
@@ -386,27 +406,7 @@ module _ {n m : ℕ} (shape : BankShape) (pace : Pace) (e : ℕ) where
           came-earlier (last_store x.tick (rows_from shape all ys ++ rows_after shape all later)) (stored_at ys) (rows_from shape all ys) (let k = last-early in omega (arith, k, at)) in
           omega (arith, lt, count, since, none)
 
-      -- what runs as a read comes is no line write, where the present one was cancelled less often than it may be, or that is how this read came
-      pub idle_few : (row line : ℕ) → is_cancelling pace.policy ≡ true → MayCome shape pace e ys x (Core (Read row line came.Waiting)) → (pending_cancel ys ≡ 0 → cancels_after ys < 4)
-          → is_writing (running_at shape pace ys x.tick) ≡ false
-      idle_few row line cancelling may few = false_from_ne_true _ (λ writes. clash writes (cancelled_or ys x.tick row line here.1 may.behind))
-        where
-          full : (is_empty (waits shape (core ys)) ≡ false) ⊎ (4 ≤ cancels_after ys) → is_writing (running_at shape pace ys x.tick) ≡ true → 4 ≤ cancels_after ys
-          full (inr most) writes = most
-          full (inl some) writes =
-              full_count shape pace e ys cancelling here.1
-              (started-writing (gives_way pace.policy) (reads_of shape pace ys) (busy_after shape ys) (ready_after shape ys) (running shape pace ys) (last_tick ys) x.tick (gives pace.policy cancelling) (ap not some) writes)
-              (ap not some)
-
-          clash : is_writing (running_at shape pace ys x.tick) ≡ true → (pending_cancel ys ≡ 0) ⊎ (running_at shape pace ys x.tick ≡ None) → ⊥
-          clash writes (inr cancelled) = let k : is_writing (running_at shape pace ys x.tick) ≡ false = ap is_writing cancelled in absurd (cc)
-          clash writes (inl none) =
-              let lt : cancels_after ys < 4 = few none in
-              let most : 4 ≤ cancels_after ys =
-              full (no_cancel (is_cancelling pace.policy) (is_writing (running_at shape pace ys x.tick)) (is_empty (waits shape (core ys))) (cancels_after ys) cancelling writes (may.on_time.2 (λ f. f))) writes in
-              absurd (omega (arith, lt, most))
-
-      -- so it is where few reads came since the last store
+      -- nor is it one where few reads came since the last store
       pub idle_runs : (row line : ℕ) → is_cancelling pace.policy ≡ true → MayCome shape pace e ys x (Core (Read row line came.Waiting)) → stored_at (x ∷ ys) ≡ stored_at ys
           → nat_lt (came_since (last_store x.tick (rows_from shape all ys ++ rows_after shape all later)) (rows_from shape all ys)) 4 ≡ true → is_writing (running_at shape pace ys x.tick) ≡ false
-      idle_runs row line cancelling may at few = idle_few row line cancelling may (λ none. few_came few at none)
+      idle_runs row line cancelling may at few = idle_few x ys here row line cancelling may (λ none. few_came few at none)

@@ -9,7 +9,7 @@ use Rattle.bank_shape.specs.Pausing.{is_cancelling, most_cancels}
 use Rattle.bank_shape.specs.declared.BankShape.{BankShape}
 use Rattle.bank_shape.specs.declared.answer.Keep.TheVariants as keep
 use Rattle.bank_shape.specs.declared.answer.Step.TheVariants as did
-use Rattle.bank_model.specs.Events.{Event, Write, Read, Serve, Begin, Iterate, Cut}
+use Rattle.bank_model.specs.Events.{BankEvent, Write, Read, Serve, Begin, Iterate, Cut}
 use Rattle.bank_model.specs.History.{waits, has_exhausted}
 use Rattle.bank_shape.specs.declared.pace.Pace.{Pace}
 use Rattle.bank_model.specs.Timing.{Happens, Core, Regs, KeepBegin, KeepIterate, KeepCut, TimedEvent, is_writing, is_empty, core, core_of}
@@ -28,7 +28,7 @@ few_of true false c d h = absurd (cc)
 few_of false b c d h = absurd (cc)
 
 module _ {n : ℕ} where
-  pub fine_before : (h : Happens n) (xs : List (Event n)) → has_exhausted (core_of h xs) ≡ false → has_exhausted xs ≡ false
+  pub fine_before : (h : Happens n) (xs : List (BankEvent n)) → has_exhausted (core_of h xs) ≡ false → has_exhausted xs ≡ false
   fine_before (Regs event) xs fine = fine
   fine_before (Core event) xs fine = either (has_exhausted xs) (λ ex. absurd (cc (exhausted-more event xs ex, fine))) (λ is. is)
 

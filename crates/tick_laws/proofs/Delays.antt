@@ -14,7 +14,7 @@ use Rattle.bank_shape.specs.declared.answer.Step.TheVariants as did
 use Rattle.bank_shape.specs.declared.clock.Doing.{Doing}
 use Rattle.bank_shape.specs.declared.clock.Doing.TheVariants.{Serving, Beginning, Iterating}
 use Rattle.bank_shape.specs.declared.clock.Action.{Action}
-use Rattle.bank_model.specs.Events.{Event, Write, Read, Serve, Begin, Iterate, Cut, newest}
+use Rattle.bank_model.specs.Events.{BankEvent, Write, Read, Serve, Begin, Iterate, Cut, newest}
 use Rattle.bank_model.specs.History.{awaited, queue, waits, has_exhausted, in_progress, iterated}
 use Rattle.bank_model.specs.After.{work_after, is_store_of}
 use Rattle.bank_shape.specs.declared.pace.Pace.{Pace}
@@ -44,7 +44,7 @@ gain read work h cancels =
     (read + work) * (stores_by h + moves_by h + others_by h + cuts_by h cancels + cancelled_by h cancels) + read * (2 * serves_by h + cuts_by h cancels)
 
 -- what runs began in time: by the time that the line write in progress took, or by a sense where its begin was dropped, with no change
-abbrev pub InTime : {n : ℕ} → BankShape → ℕ → ℕ → ℕ → Option ℕ → Bool → ℕ → List (Event n) → Option Action → ℕ → Type 0
+abbrev pub InTime : {n : ℕ} → BankShape → ℕ → ℕ → ℕ → Option ℕ → Bool → ℕ → List (BankEvent n) → Option Action → ℕ → Type 0
 InTime shape read iter base change busy count h r top =
     (top ≤ base + spent read iter busy count) ⊎ ((IsHeld shape h × (change ≡ None)) × (is_doing Beginning r ≡ false) × (top ≤ base + read))
 

@@ -11,7 +11,7 @@ use Rattle.bank_shape.specs.declared.Work.TheVariants.{Nothing}
 use Rattle.bank_shape.specs.declared.clock.Doing.{Doing}
 use Rattle.bank_shape.specs.declared.clock.Doing.TheVariants.{Serving, Beginning, Iterating}
 use Rattle.bank_shape.specs.declared.clock.Action.{Action}
-use Rattle.bank_model.specs.Events.{Event}
+use Rattle.bank_model.specs.Events.{BankEvent}
 use Rattle.bank_model.specs.History.{Awaited, queue, waits, due_after, has_exhausted, in_progress}
 use Rattle.bank_model.specs.After.{is_ready, is_store_of, due_work, work_after, may_begin_after}
 use Rattle.bank_model.specs.Timing.{same_doing, is_doing, is_empty}
@@ -24,7 +24,7 @@ HeldUp ws [] = ⊥
 HeldUp ws (e ∷ es) = list_any (λ w. w.line == e.line) ws ≡ true
 
 -- no line write is in progress, and the store that is next waits for a read
-pub record IsHeld {n : ℕ} (shape : BankShape) (h : List (Event n)) : Type 0 where
+pub record IsHeld {n : ℕ} (shape : BankShape) (h : List (BankEvent n)) : Type 0 where
   pub idle : in_progress h ≡ false
   pub due : due_after shape h ≡ None
   pub held : HeldUp (waits shape h) (queue shape h)
@@ -60,7 +60,7 @@ module _ {n : ℕ} where
       elim (eqb e.row old) as (λ b. HeldUp ws (cond b (laid_on row bytes given e ∷ es) (e ∷ merged old row bytes given es))) [ true ↦ h | false ↦ h ]
 
   -- a read on the line of the store that is next holds it up
-  pub store-held : (shape : BankShape) (h : List (Event n)) (line : ℕ) (v : Awaited) → v.line ≡ line → is_store_of line (work_after shape h) ≡ true
+  pub store-held : (shape : BankShape) (h : List (BankEvent n)) (line : ℕ) (v : Awaited) → v.line ≡ line → is_store_of line (work_after shape h) ≡ true
       → (due_after shape h ≡ None) × HeldUp (waits shape h ++ v ∷ []) (queue shape h)
   store-held shape h line v own is = by (has_exhausted h) (due_after shape h) (queue shape h) is
     where
@@ -75,7 +75,7 @@ module _ {n : ℕ} where
       )
 
   -- where the next store is held up nothing is begun
-  pub held-begins_none : (shape : BankShape) (h : List (Event n)) → IsHeld shape h → may_begin_after shape h ≡ true → ⊥
+  pub held-begins_none : (shape : BankShape) (h : List (BankEvent n)) → IsHeld shape h → may_begin_after shape h ≡ true → ⊥
   held-begins_none shape h k may = by (in_progress h) (has_exhausted h) (due_after shape h) (queue shape h) k.due k.held may
     where
       clash : (b : Bool) → b ≡ true → not b ≡ true → ⊥
@@ -91,7 +91,7 @@ module _ {n : ℕ} where
       by false false None (e ∷ es) none held may = clash (list_any (λ w. w.line == e.line) (waits shape h)) held may
 
   -- where a write stands, and a spare was found for every worn line, a line write is in progress, a read waits, or one may be begun
-  may-begin : (shape : BankShape) (h : List (Event n)) (row : ℕ) → has_row (queue shape h) row ≡ true → has_exhausted h ≡ false → in_progress h ≡ false → not (is_empty (waits shape h)) ≡ false
+  may-begin : (shape : BankShape) (h : List (BankEvent n)) (row : ℕ) → has_row (queue shape h) row ≡ true → has_exhausted h ≡ false → in_progress h ≡ false → not (is_empty (waits shape h)) ≡ false
       → may_begin_after shape h ≡ true
   may-begin shape h row there fine idle none = by (in_progress h) (has_exhausted h) (due_after shape h) (queue shape h) (waits shape h) there fine idle none
     where
@@ -104,7 +104,7 @@ module _ {n : ℕ} where
       by false false None [] [] there fine idle none = absurd (cc)
       by false false None (e ∷ es) [] there fine idle none = refl
 
-  pub works : (way : Bool) (shape : BankShape) (h : List (Event n)) (change : Option ℕ) (keeping halted : Bool) (row : ℕ) → has_row (queue shape h) row ≡ true → has_exhausted h ≡ false → halted ≡ false
+  pub works : (way : Bool) (shape : BankShape) (h : List (BankEvent n)) (change : Option ℕ) (keeping halted : Bool) (row : ℕ) → has_row (queue shape h) row ≡ true → has_exhausted h ≡ false → halted ≡ false
       → (d : Doing)
       × (chosen_by way (not (is_empty (waits shape h))) (choice (busy_by change keeping (in_progress h)) (ready_by change (keeping || halted) (may_begin_after shape h))) ≡ Some d)
   works way shape h None keeping halted row there fine runs =

@@ -15,4 +15,5 @@ mod Counts
 mod StoreTimes
 mod Cancelling
 mod ReadTimes
+mod FewCancels
 mod Times

@@ -7,7 +7,7 @@ use Rattle.masked_bytes.specs.declared.entry.Entry.{Entry}
 use Rattle.bank_shape.specs.declared.BankShape.{BankShape}
 use Rattle.bank_shape.specs.declared.Work.TheVariants.{Nothing}
 use Rattle.bank_shape.specs.declared.answer.Step.TheVariants as did
-use Rattle.bank_model.specs.Events.{Event, Write, Read, Serve, Begin, Iterate, Cut, line_of_row}
+use Rattle.bank_model.specs.Events.{BankEvent, Write, Read, Serve, Begin, Iterate, Cut, line_of_row}
 use Rattle.bank_model.specs.History.{first_or, stores, stored_in, moved_in, due_after, retired, queue, has_exhausted}
 use Rattle.bank_model.specs.After.{work_after, due_work, due_moves}
 use Rattle.bank_model.specs.Answers.{IsDone}
@@ -17,7 +17,7 @@ use Rattle.bank_model.specs.Lawful.{Lawful, MayCome}
 use Rattle.bank_model.proofs.Within.{due_moves-few}
 use Rattle.tick_laws.proofs.Tallies.{stores_by, moves_by, retires_by, tally}
 
-module _ {n : ℕ} (shape : BankShape) (h : List (Event n)) where
+module _ {n : ℕ} (shape : BankShape) (h : List (BankEvent n)) where
   -- a store is done where no move is due, and a move where one is
   pub done_store : (row place : ℕ) → IsDone shape h (work_after shape h) (did.Stored row place) → due_after shape h ≡ None
   done_store row place d = by (has_exhausted h) (due_after shape h) (queue shape h) d
@@ -86,14 +86,14 @@ none_flag true region is = absurd (cc)
 none_flag false region is = refl
 
 module _ {n : ℕ} (shape : BankShape) where
-  abbrev Balanced : List (Event n) → Type 0
+  abbrev Balanced : List (BankEvent n) → Type 0
   Balanced h = AreBalanced shape.psi (λ at. stored_in shape.lines h at) (λ at. moved_in shape.lines h at) (first_or 0 (stores h) / shape.lines)
 
-  free : (h : List (Event n)) → due_after shape h ≡ None
+  free : (h : List (BankEvent n)) → due_after shape h ≡ None
       → nat_le (shape.psi * (moved_in shape.lines h (first_or 0 (stores h) / shape.lines) + 1)) (stored_in shape.lines h (first_or 0 (stores h) / shape.lines)) ≡ false
   free h is = none_flag _ (first_or 0 (stores h) / shape.lines) is
 
-  moved_flag : (h : List (Event n)) → 1 ≤ shape.psi → Balanced h
+  moved_flag : (h : List (BankEvent n)) → 1 ≤ shape.psi → Balanced h
       → due_moves (cond (nat_le (shape.psi * ((cond ((first_or 0 (stores h) / shape.lines) == (first_or 0 (stores h) / shape.lines)) 1 0 + moved_in shape.lines h (first_or 0 (stores h) / shape.lines)) + 1))
       (stored_in shape.lines h (first_or 0 (stores h) / shape.lines))) (Some (first_or 0 (stores h) / shape.lines)) None) ≡ 0
   moved_flag h some b = ap (λ c. due_moves (cond c (Some (first_or 0 (stores h) / shape.lines)) None)) (not-due _ _ _ _ b some)

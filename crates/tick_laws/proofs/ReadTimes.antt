@@ -41,25 +41,25 @@ use Rattle.bank_laws.proofs.Fates.{Awaits, IsSettled, ReadFate, awaits-has, awai
 use Rattle.bank_laws.proofs.Answering.{IsFirst, served-first}
 use Rattle.bank_laws.proofs.Walking.{Passes, walk, rows_after}
 use Rattle.bank_laws.proofs.Ending.{Onwards, own_answer}
-use Rattle.bank_laws.proofs.Serves.{may_at, onwards_at, idle-waits}
+use Rattle.bank_laws.proofs.Serves.{may_at, onwards_at}
 use Rattle.bank_laws.proofs.Waiting.{waits_length, cancels-none, settled_all}
-use Rattle.tick_laws.specs.TickLaws.{reads_in_time, ReadTimeLaw, count_found, rows_behind, ends_by, FewCancelsLaw}
+use Rattle.tick_laws.specs.TickLaws.{reads_in_time, ReadTimeLaw}
 use Rattle.tick_laws.proofs.Actions.{since, since-up, FitsAll, running_at-fits}
 use Rattle.tick_laws.proofs.Settings.{SetAt, row_set, setting, unset_before, unset_waits}
 use Rattle.tick_laws.proofs.Turns.{turn, turn-some, turn-new, NotEarly, not_early-new, owes, owes-most}
 use Rattle.tick_laws.proofs.Waits.{Turn, TurnAt, turn_at, TurnBy, step, work_time, few_times, fits_ending, ending, at_end, at_cut, some-reads}
 use Rattle.tick_laws.proofs.Tallies.{stores_by}
-use Rattle.tick_laws.proofs.Cancelling.{stored_at, pending_cancel, idle_few, idle_runs, gives}
+use Rattle.tick_laws.proofs.Cancelling.{stored_at, idle_runs}
 use Rattle.tick_laws.proofs.Afterwards.{none-below, first-behind, rows_after-append, late-cuts}
 
 module _ {n : ℕ} where
   -- what the outcome of a read that came at tick a has to do with a bound and the rows behind it
-  abbrev InTime : (read a bound : ℕ) → List (Row n) → Outcome n → Type 0
+  abbrev pub InTime : (read a bound : ℕ) → List (Row n) → Outcome n → Type 0
   InTime read a bound after (out.Read u place bytes) = (a + read ≤ u) × (u ≤ bound) × (no_cut_below u after ≡ true)
   InTime read a bound after (out.Lost u) = (first_cut_at u after ≡ true) × (u < bound)
   InTime read a bound after _ = Unit {0}
 
-  in_time : (rules : Rules) (a most : ℕ) (before after : List (Row n)) (o : Outcome n) → bound rules a before after ≡ most → InTime rules.read a most after o → read_in_time rules a o before after ≡ true
+  in_time : (rules : Rules) (a most : ℕ) (before after : List (Row n)) (o : Outcome n) → bound rules a before after ≡ most → InTime rules.read_ticks a most after o → read_in_time rules a o before after ≡ true
   in_time rules a most before after out.Unset same h = refl
   in_time rules a most before after (out.Stored at place) same h = refl
   in_time rules a most before after (out.Merged at) same h = refl
@@ -67,7 +67,7 @@ module _ {n : ℕ} where
   in_time rules a most before after (out.Full at) same h = refl
   in_time rules a most before after (out.Worn at) same h = refl
   in_time rules a most before after (out.Read u place bytes) same h =
-      and_from (nat_le (a + rules.read) u) _ (le-leb (a + rules.read) u h.0)
+      and_from (nat_le (a + rules.read_ticks) u) _ (le-leb (a + rules.read_ticks) u h.0)
       (and_from (nat_le u (bound rules a before after)) _
       (subst (λ k. nat_le u k ≡ true) (sym same) (le-leb u most h.1)) h.2)
   in_time rules a most before after (out.Forwarded at bytes) same h = refl
@@ -78,17 +78,17 @@ module _ {n : ℕ} where
 
   -- a line write holds up a read that comes no longer than is said
   delay-most : (rules : Rules) (p : Policy) (a : ℕ) (before after : List (Row n)) (busy : Bool) (r : Option Action)
-      → (is_cancelling p ≡ true → nat_lt (came_since (last_store a (before ++ after)) before) 4 ≡ true → owes rules.read rules.iter (rules.steps * rules.iter) true busy r ≡ 0)
-      → owes rules.read rules.iter (rules.steps * rules.iter) (gives_way p) busy r ≤ delay rules p a before after
-  delay-most rules Pause a before after busy r few = owes-most rules.read rules.iter (rules.steps * rules.iter) true busy r
-  delay-most rules Plain a before after busy r few = owes-most rules.read rules.iter (rules.steps * rules.iter) false busy r
+      → (is_cancelling p ≡ true → nat_lt (came_since (last_store a (before ++ after)) before) 4 ≡ true → owes rules.read_ticks rules.iter_ticks (rules.steps * rules.iter_ticks) true busy r ≡ 0)
+      → owes rules.read_ticks rules.iter_ticks (rules.steps * rules.iter_ticks) (gives_way p) busy r ≤ delay rules p a before after
+  delay-most rules Pause a before after busy r few = owes-most rules.read_ticks rules.iter_ticks (rules.steps * rules.iter_ticks) true busy r
+  delay-most rules Plain a before after busy r few = owes-most rules.read_ticks rules.iter_ticks (rules.steps * rules.iter_ticks) false busy r
   delay-most rules Cancel a before after busy r few = by (nat_lt (came_since (last_store a (before ++ after)) before) 4) (few refl)
     where
-      by : (b : Bool) → (b ≡ true → owes rules.read rules.iter (rules.steps * rules.iter) true busy r ≡ 0) → owes rules.read rules.iter (rules.steps * rules.iter) true busy r ≤ cond b 0 (max rules.read rules.iter)
+      by : (b : Bool) → (b ≡ true → owes rules.read_ticks rules.iter_ticks (rules.steps * rules.iter_ticks) true busy r ≡ 0) → owes rules.read_ticks rules.iter_ticks (rules.steps * rules.iter_ticks) true busy r ≤ cond b 0 (max rules.read_ticks rules.iter_ticks)
       by true few = let k = few refl in omega (arith, k)
-      by false few = owes-most rules.read rules.iter (rules.steps * rules.iter) true busy r
+      by false few = owes-most rules.read_ticks rules.iter_ticks (rules.steps * rules.iter_ticks) true busy r
 
-owes-idle : (read iter work : ℕ) (busy b : Bool) (r : Option Action) → is_writing r ≡ false → owes read iter work true busy (cond b None r) ≡ 0
+pub owes-idle : (read iter work : ℕ) (busy b : Bool) (r : Option Action) → is_writing r ≡ false → owes read iter work true busy (cond b None r) ≡ 0
 owes-idle read iter work busy true r h = refl
 owes-idle read iter work busy false None h = refl
 owes-idle read iter work busy false (Some action) h = by action.doing h
@@ -99,7 +99,7 @@ owes-idle read iter work busy false (Some action) h = by action.doing h
     by Iterating h = absurd (cc)
 
 -- where a read that came drops the action that runs, none is left, which fits
-drop_or : {n m : ℕ} (shape : BankShape) (pace : Pace) (ys : List (TimedEvent n m)) (b : Bool)
+pub drop_or : {n m : ℕ} (shape : BankShape) (pace : Pace) (ys : List (TimedEvent n m)) (b : Bool)
     (runs : Option Action)
     → FitsAll shape pace ys runs
     → FitsAll shape pace ys (cond b None runs)
@@ -141,7 +141,7 @@ uncancelled shape pace e zs s (Core (Cut tearing)) row may there = by s.cancels 
 
 module _ {n m : ℕ} (shape : BankShape) (pace : Pace) (e : ℕ) (all : List (TimedEvent n m)) where
   -- a read that waits is in time, and no cut came
-  turns : (a most row : ℕ) (owed : List ℕ) (zs : List (TimedEvent n m)) → 1 ≤ pace.read → 1 ≤ pace.iter → Awaits (waits shape (core zs)) row owed → a ≤ last_tick zs → Turn shape pace e a most row zs
+  pub turns : (a most row : ℕ) (owed : List ℕ) (zs : List (TimedEvent n m)) → 1 ≤ pace.read → 1 ≤ pace.iter → Awaits (waits shape (core zs)) row owed → a ≤ last_tick zs → Turn shape pace e a most row zs
       → (mid : List (TimedEvent n m)) → Lawful shape pace e (mid ++ zs) → outcome_of shape (mid ++ zs) row ≡ out.Unset
       → Turn shape pace e a most row (mid ++ zs) × (a ≤ last_tick (mid ++ zs)) × (list_any is_cut (rows_after shape all mid) ≡ false)
   turns a most row owed zs r i waits_on up t [] l un = (t, up, refl)
@@ -237,7 +237,7 @@ module _ {n m : ℕ} (shape : BankShape) (pace : Pace) (e : ℕ) (all : List (Ti
         lost false is = absurd (cc)
 
   -- so a read that begins to wait is in time in the end
-  in_end : (a most row : ℕ) (owed : List ℕ) (later zs : List (TimedEvent n m)) → 1 ≤ pace.read → 1 ≤ pace.iter → Lawful shape pace e (later ++ zs)
+  pub in_end : (a most row : ℕ) (owed : List ℕ) (later zs : List (TimedEvent n m)) → 1 ≤ pace.read → 1 ≤ pace.iter → Lawful shape pace e (later ++ zs)
       → Awaits (waits shape (core zs)) row owed → a ≤ last_tick zs → Turn shape pace e a most row zs → outcome_of shape (later ++ zs) row ≢ out.Unset
       → InTime pace.read a most (rows_after shape all later) (outcome_of shape (later ++ zs) row)
   in_end a most row owed later zs r i l waits_on up t set = by (setting shape pace e later zs row (outcome_of shape (later ++ zs) row) l unset set refl)
@@ -330,106 +330,6 @@ module _ {n m : ℕ} (shape : BankShape) (pace : Pace) (e : ℕ) (all : List (Ti
       by (Core (Cut tearing)) true may on count top free go = tt
       by (Core (Cut tearing)) false may on count top free go = refl
 
-module _ {n m : ℕ} (shape : BankShape) (pace : Pace) (e : ℕ) (all : List (TimedEvent n m)) where
-  sum_few : (s o t x k p : ℕ) → s ≤ x → o ≡ 0 → t ≡ k → s + o + t ≤ x + k + p
-  sum_few s o t x k p top none is = omega arith
-
-  -- a read that waits, and finds the present line write cancelled less often than it may be, ends by the reads before it and its own
-  few_read_at : 1 ≤ pace.read → 1 ≤ pace.iter → Lawful shape pace e all → waits shape (core all) ≡ [] → (later : List (TimedEvent n m)) (x : TimedEvent n m) (ys : List (TimedEvent n m)) → all ≡ later ++ x ∷ ys
-      → (row line : ℕ) → x.happens ≡ Core (Read row line came.Waiting) → is_cancelling pace.policy ≡ true → (pending_cancel ys ≡ 0 → cancels_after ys < 4)
-      → InTime pace.read x.tick (x.tick + (length (waits shape (core ys)) + 1) * pace.read) (rows_after shape all later) (outcome_of shape all row)
-  few_read_at r i l idle later x ys same row line is cancelling few =
-      by x.happens is (may_at shape pace e all later x ys l same) (onwards_at shape pace e all later x ys l same)
-      (since-up shape pace e (x ∷ ys) r i here)
-      (λ most row owed waits_on t set.
-      subst (λ (xs : List (TimedEvent n m)). InTime pace.read x.tick most (rows_after shape all later) (outcome_of shape xs row)) (sym same)
-      (in_end shape pace e all x.tick most row owed later (x ∷ ys) r i whole waits_on (omega arith) t (subst (λ (xs : List (TimedEvent n m)). outcome_of shape xs row ≢ out.Unset) same set)))
-    where
-      whole : Lawful shape pace e (later ++ x ∷ ys)
-      whole = subst (λ (xs : List (TimedEvent n m)). Lawful shape pace e xs) same l
-
-      here : Lawful shape pace e (x ∷ ys)
-      here = lawful_before shape pace e later (x ∷ ys) whole
-
-      runs : Option Action
-      runs = running_at shape pace ys x.tick
-
-      most : ℕ
-      most = x.tick + (length (waits shape (core ys)) + 1) * pace.read
-
-      ways : gives_way pace.policy ≡ true
-      ways = gives pace.policy cancelling
-
-      row_of : Happens n → ℕ
-      row_of (Core (Read at line answer)) = at
-      row_of h = 0
-
-      by : (h : Happens n) → h ≡ Core (Read row line came.Waiting) → MayCome shape pace e ys x h → Onwards shape all ys x.tick h
-          → since (left_by shape (core ys) (change_after shape ys) h runs) x.tick ≤ x.tick
-          → ((most row : ℕ) (owed : List ℕ) → Awaits (waits shape (core_of h (core ys))) row owed → TurnBy shape pace e x.tick most row ys x here h (left_by shape (core ys) (change_after shape ys) h runs)
-          → outcome_of shape all row ≢ out.Unset → InTime pace.read x.tick most (rows_after shape all later) (outcome_of shape all row))
-          → InTime pace.read x.tick most (rows_after shape all later) (outcome_of shape all row)
-      by (Core (Write at on bytes given answer)) is may on_ top go = absurd (cc)
-      by (Core (Read at on (came.Forwarded bytes))) is may on_ top go = absurd (cc)
-      by (Core (Read at on came.Busy)) is may on_ top go = absurd (cc)
-      by (Core (Read at on came.Waiting)) is may on_ top go =
-          let v = awaited at on (newest (core ys) on) (layer_of (queue shape (core ys)) on) in
-          let drops = drops_begin shape (core ys) (change_after shape ys) on runs in
-          let new : has_wait (waits shape (core ys)) at ≡ false = (stand_apart shape (core ys) at may.asked).waiting_below at (omega arith) in
-          let waits_on = awaits-new (waits shape (core ys)) v in
-          let free : is_writing runs ≡ false = idle_few shape pace e all r i l idle later x ys same at on cancelling may few in
-          let none : owes pace.read pace.iter (work_time pace e) (gives_way pace.policy) (busy_after shape ys) (cond drops None runs) ≡ 0 =
-          ap (λ w. owes pace.read pace.iter (work_time pace e) w (busy_after shape ys) (cond drops None runs)) ways ∙ owes-idle pace.read pace.iter (work_time pace e) (busy_after shape ys) drops runs free in
-          subst (λ k. InTime pace.read x.tick most (rows_after shape all later) (outcome_of shape all k)) (ap row_of is)
-          (go most at (newest (core ys) on) waits_on
-          (record {
-            low =
-                not_early-new x.tick at (gives_way pace.policy) (busy_after shape ys)
-                (waits shape (core ys)) v (cond drops None runs) new
-                (drop_or shape pace ys drops runs (running_at-fits shape pace e ys x.tick));
-            high = sum_few _ _ _ x.tick ((length (waits shape (core ys)) + 1) * pace.read) _ top none (turn-new pace.read at (waits shape (core ys)) v new refl);
-          })
-          (ended_read shape pace e all at (newest (core ys) on) idle
-          (on_.reads at (newest (core ys) on) (inl waits_on))))
-      by (Core (Serve answer)) is may on_ top go = absurd (cc)
-      by (Regs event) is may on_ top go = absurd (cc)
-      by (Core (Begin answer)) is may on_ top go = absurd (cc)
-      by (Core (Iterate answer)) is may on_ top go = absurd (cc)
-      by (Core (Cut tearing)) is may on_ top go = absurd (cc)
-
 pub read_time_law : ReadTimeLaw
-read_time_law n m e shape pace xs sized l idle =
-    walk shape xs (reads_in_time (rules_of e shape pace)) [] xs refl (read_at shape pace e xs sized.read sized.iter l (idle-waits shape pace xs idle))
-
-ends-by : {n : ℕ} (read a most : ℕ) (after : List (Row n)) (o : Outcome n) → InTime read a most after o → ends_by read a most o after ≡ true
-ends-by read a most after (out.Read u place bytes) h =
-    and_from (nat_le (a + read) u) _ (le-leb (a + read) u h.0)
-    (and_from (nat_le u most) _ (le-leb u most h.1) h.2)
-ends-by read a most after (out.Lost u) h = and_from (first_cut_at u after) _ h.0 (lt-ltb u most h.1)
-ends-by read a most after out.Unset h = refl
-ends-by read a most after (out.Stored at place) h = refl
-ends-by read a most after (out.Merged at) h = refl
-ends-by read a most after (out.Queued at) h = refl
-ends-by read a most after (out.Full at) h = refl
-ends-by read a most after (out.Worn at) h = refl
-ends-by read a most after (out.Forwarded at bytes) h = refl
-ends-by read a most after (out.Busy at) h = refl
-ends-by read a most after (out.Cut at) h = refl
-
-behind-is : {n m : ℕ} (shape : BankShape) (all later : List (TimedEvent n m)) → rows_behind shape all later ≡ rows_after shape all later
-behind-is shape all [] = refl
-behind-is shape all (x ∷ later) = ap (λ rows. rows ++ row_with shape all x.happens x.tick x.cancels) (behind-is shape all later)
-
-found-few : {n m : ℕ} (ys : List (TimedEvent n m)) → count_found ys < 4 → pending_cancel ys ≡ 0 → cancels_after ys < 4
-found-few [] few none = few
-found-few (y ∷ ys) few none = by y.cancels few none
-  where
-    by : (b : Bool) → cond b (cancels_after ys) (cancels_after (y ∷ ys)) < 4 → ◌≡◌ {A = ℕ} (cond b 1 0) 0 → cancels_after (y ∷ ys) < 4
-    by true few none = absurd (omega (arith, none))
-    by false few none = few
-
-pub few_cancels_law : FewCancelsLaw
-few_cancels_law n m e row line shape pace later ys x sized l idle is cancelling few =
-    ap (λ rows. ends_by pace.read x.tick (x.tick + (length (waits shape (core ys)) + 1) * pace.read) (outcome_of shape (later ++ x ∷ ys) row) rows) (behind-is shape (later ++ x ∷ ys) later)
-    ∙ ends-by pace.read x.tick (x.tick + (length (waits shape (core ys)) + 1) * pace.read) (rows_after shape (later ++ x ∷ ys) later) (outcome_of shape (later ++ x ∷ ys) row)
-    (few_read_at shape pace e (later ++ x ∷ ys) sized.read sized.iter l (idle-waits shape pace (later ++ x ∷ ys) idle) later x ys refl row line is cancelling (found-few ys few))
+read_time_law n m e shape pace xs sized l still =
+    walk shape xs (reads_in_time (rules_of e shape pace)) [] xs refl (read_at shape pace e xs sized.read sized.iter l still.unawaited)

@@ -7,7 +7,7 @@ use Rattle.result_rows.specs.declared.Outcome.TheVariants as out
 use Rattle.row_rules.specs.Ticking.{apart}
 use Rattle.bank_shape.specs.declared.BankShape.{BankShape}
 use Rattle.bank_shape.specs.declared.answer.ReadAnswer.TheVariants as came
-use Rattle.bank_model.specs.Events.{Event, Write, Read, Serve, Begin, Iterate, Cut, RowsBelow}
+use Rattle.bank_model.specs.Events.{BankEvent, Write, Read, Serve, Begin, Iterate, Cut, RowsBelow}
 use Rattle.bank_model.specs.History.{Awaited, waits}
 use Rattle.bank_laws.specs.Outcomes.{on_row, ended}
 use Rattle.bank_laws.specs.Standing.{has_wait}
@@ -33,7 +33,7 @@ rising-push (w ∷ ws) v r below = (above, rising-push ws v r.1 (λ other there.
         (λ ne. absurd (cc (no_wait-push ws v other no ne, there))))
 
 module _ {n : ℕ} where
-  pub waits_rise : (shape : BankShape) (h : List (Event n)) (next : ℕ) → RowsBelow h next → Rising (waits shape h)
+  pub waits_rise : (shape : BankShape) (h : List (BankEvent n)) (next : ℕ) → RowsBelow h next → Rising (waits shape h)
   waits_rise shape [] next b = tt
   waits_rise shape (Write row line bytes given answer ∷ h) next b = waits_rise shape h row b.1
   waits_rise shape (Read row line came.Waiting ∷ h) next b =

@@ -21,7 +21,7 @@ use Rattle.bank_laws.proofs.Answering.{merged-there}
 use Rattle.bank_laws.proofs.Fates.{new-push, new-merged}
 use Rattle.bank_laws.proofs.Walking.{Passes, walk, rows_after}
 use Rattle.bank_laws.proofs.Ending.{Onwards, own_answer}
-use Rattle.bank_laws.proofs.Serves.{may_at, onwards_at, idle-waits}
+use Rattle.bank_laws.proofs.Serves.{may_at, onwards_at}
 use Rattle.tick_laws.specs.TickLaws.{is_apart, reads_in_time, stores_in_time, StoreTimeLaw, InTimeLaw}
 use Rattle.tick_laws.proofs.Apart.{apart_at}
 use Rattle.tick_laws.proofs.ReadTimes.{read_at}
@@ -92,7 +92,7 @@ store_time_law n m e shape pace xs sized l =
     walk shape xs (stores_in_time (rules_of e shape pace)) [] xs refl (store_at shape pace e xs sized.read sized.iter sized.psi l)
 
 pub in_time_law : InTimeLaw
-in_time_law n m e shape pace xs sized l idle =
+in_time_law n m e shape pace xs sized l still =
     walk shape xs (is_in_time (rules_of e shape pace)) [] xs refl (λ later x ys same.
     all_three shape pace e xs x.happens x.tick x.cancels _ _ (apart_at shape pace e xs later x ys sized.read sized.iter l same)
-    (read_at shape pace e xs sized.read sized.iter l (idle-waits shape pace xs idle) later x ys same) (store_at shape pace e xs sized.read sized.iter sized.psi l later x ys same))
+    (read_at shape pace e xs sized.read sized.iter l still.unawaited later x ys same) (store_at shape pace e xs sized.read sized.iter sized.psi l later x ys same))

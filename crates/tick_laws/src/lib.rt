@@ -2,7 +2,7 @@
 //! what a function here ensures; the functions do nothing when they run.
 #![tactic(auto)]
 
-ghost use Rattle.tick_laws.specs.TickLaws.{ApartLaw, FewCancelsLaw, ReadTimeLaw, StoreTimeLaw, InTimeLaw};
+ghost use Rattle.tick_laws.specs.TickLaws.{ApartLaw, FewCancelsLaw, FewCancelsNowLaw, ReadTimeLaw, StoreTimeLaw, InTimeLaw};
 
 /// Two stored rows lie at least a sense apart, two read rows too and in the order of their rows, and no row is read at the
 /// tick of a stored one.
@@ -25,6 +25,11 @@ pub fn writes_wait_little()
 /// before.
 pub fn reads_that_may_cancel_wait_little()
     ensures { FewCancelsLaw }
+{}
+
+/// So it is at any tick, whatever the bank has still to do: such a read has ended so, or waits still and has time left.
+pub fn reads_that_may_cancel_have_time_left()
+    ensures { FewCancelsNowLaw }
 {}
 
 /// Each row is read or stored in time, and apart from every row before it.

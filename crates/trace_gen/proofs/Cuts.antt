@@ -6,7 +6,7 @@ use Rattle.std.proofs.lemmas.Bool.Decides.{nat_tests}
 use Rattle.std.proofs.lemmas.List.Sums.{sum_by-cons}
 use Rattle.std.proofs.lemmas.Nat.{div-add-mod', div-mul-add, le-div}
 use Rattle.rand_core.specs.Stream.{Stream, next_u64}
-use Rattle.trace_reader.specs.declared.event.TraceEvent.{TraceEvent}
+use Rattle.trace_reader.specs.declared.event.Event.{Event}
 use Rattle.trace_gen.specs.declared.mix.Mix.{Mix}
 use Rattle.trace_gen.specs.Generated.{access_by, cut_distance, draws_write, event_drawn, events_drawn, is_cut_row, op_drawn}
 use Rattle.trace_gen.specs.Laws.{cuts_among, is_cut}
@@ -81,8 +81,8 @@ unfolding event_drawn
 event-cut n lines mix row before left = op-cut n lines mix row (next_u64 left).1
 
 -- one event more
-cuts-more : {n : ℕ} (event : TraceEvent n) (rest : List (TraceEvent n)) (row : Bool) → is_cut event.op ≡ row → cuts_among (event ∷ rest) ≡ cond row 1 0 + cuts_among rest
-cuts-more {n} event rest row is = sum_by-cons (λ (e : TraceEvent n). cond (is_cut e.op) 1 0) event rest ∙ ap (λ (b : Bool). cond b 1 0 + cuts_among rest) is
+cuts-more : {n : ℕ} (event : Event n) (rest : List (Event n)) (row : Bool) → is_cut event.op ≡ row → cuts_among (event ∷ rest) ≡ cond row 1 0 + cuts_among rest
+cuts-more {n} event rest row is = sum_by-cons (λ (e : Event n). cond (is_cut e.op) 1 0) event rest ∙ ap (λ (b : Bool). cond b 1 0 + cuts_among rest) is
 
 -- the cuts of the rows behind so many that are done
 cuts-behind : (n lines : ℕ) (mix : Mix) (more done before : ℕ) (left : Stream) → cuts_among (events_drawn n lines mix more done before left) + counted mix done ≡ counted mix (done + more)

@@ -1,7 +1,7 @@
 -- How the events of a generated trace are drawn one by one.
 use Rattle.std.proofs.Common.{◌≡◌, ℕ, suc, ◌+◌, ◌-◌, ◌%◌, ◌<◌, [], ◌∷◌, refl, sym, arith}
 use Rattle.rand_core.specs.Stream.{Stream, next_u64}
-use Rattle.trace_reader.specs.declared.event.TraceOp.{TraceOp}
+use Rattle.trace_reader.specs.declared.event.EventOp.{EventOp}
 use Rattle.trace_gen.specs.declared.mix.Mix.{Mix}
 use Rattle.trace_gen.specs.Generated.{event_drawn, events_drawn, op_drawn}
 
@@ -13,7 +13,7 @@ left-none n lines mix rows done before left all =
     rw none refl
 
 -- one event more: its word, its tick, and what happens
-pub left-more : (n lines : ℕ) (mix : Mix) (rows done before tick word : ℕ) (left behind after : Stream) (op : TraceOp n)
+pub left-more : (n lines : ℕ) (mix : Mix) (rows done before tick word : ℕ) (left behind after : Stream) (op : EventOp n)
     → done < rows → (word, behind) ≡ next_u64 left → tick ≡ before + word % (mix.step + 1) → (op, after) ≡ op_drawn n lines mix (done + 1) behind
     → events_drawn n lines mix (rows - done) done before left ≡ record { tick = tick; op = op } ∷ events_drawn n lines mix (rows - (done + 1)) (done + 1) tick after
 unfolding events_drawn event_drawn

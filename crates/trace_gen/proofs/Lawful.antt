@@ -9,11 +9,11 @@ use Rattle.rand_xoshiro.specs.Xoshiro256.{of_seed}
 use Rattle.seeded_words.specs.Words.{xoshiro_of}
 use Rattle.trace_reader.specs.Events.{AreEventsFor, IsEventFor, IsOpFor}
 use Rattle.trace_reader.specs.Rows.{latest_tick}
-use Rattle.trace_reader.specs.declared.event.TraceEvent.{TraceEvent}
-use Rattle.trace_reader.specs.declared.event.TraceOp.{TraceOp}
+use Rattle.trace_reader.specs.declared.event.Event.{Event}
+use Rattle.trace_reader.specs.declared.event.EventOp.{EventOp}
 use Rattle.trace_gen.specs.declared.mix.Mix.{Mix}
-use Rattle.trace_gen.specs.Generated.{IsMix, access_by, draws_write, event_drawn, events_drawn, generated, is_cut_row, line_drawn, op_drawn}
-use Rattle.trace_gen.specs.Laws.{AllHaveBytes, AllWithin, GeneratedLaw, GeneratedTextLaw, HasBytes, IsGenerated}
+use Rattle.trace_gen.specs.Generated.{IsLongMix, IsMix, access_by, draws_write, event_drawn, events_drawn, generated, is_cut_row, line_drawn, op_drawn}
+use Rattle.trace_gen.specs.Laws.{AllHaveBytes, AllWithin, GeneratedLaw, GeneratedTextLaw, HasBytes, IsGenerated, LongGeneratedLaw, LongMixLaw}
 use Rattle.trace_gen.proofs.Cuts.{cuts-all}
 use Rattle.trace_gen.proofs.Read.{text_law}
 use Rattle.trace_gen.proofs.Words.{IsWords, after-word, fills}
@@ -31,7 +31,7 @@ line-below lines mix word some = elim (cases_Bool (nat_lt 0 mix.hot && nat_lt (w
 ]
 
 -- what is drawn for a row
-record IsDrawn {n : ℕ} (lines : ℕ) (drawn : TraceOp n × Stream) : Type 0 where
+record IsDrawn {n : ℕ} (lines : ℕ) (drawn : EventOp n × Stream) : Type 0 where
   for : IsOpFor lines drawn.0
   has : HasBytes drawn.0
   left : IsWords drawn.1
@@ -53,7 +53,7 @@ op-drawn n lines mix row left some words = elim (cases_Bool (is_cut_row mix row)
 ]
 
 -- what the events of so many rows are like, no tick of which is above this
-record AreDrawn {n : ℕ} (lines before most many : ℕ) (events : List (TraceEvent n)) : Type 0 where
+record AreDrawn {n : ℕ} (lines before most many : ℕ) (events : List (Event n)) : Type 0 where
   lawful : AreEventsFor lines before events
   bytes : AllHaveBytes events
   rows : length events ≡ many
@@ -63,7 +63,7 @@ none-drawn : (n lines before most : ℕ) → AreDrawn {n = n} lines before most 
 unfolding AreEventsFor AllHaveBytes AllWithin
 none-drawn n lines before most = record { lawful = tt; bytes = tt; rows = refl; ticks = tt }
 
-one-drawn : (n lines before most many : ℕ) (event : TraceEvent n) (rest : List (TraceEvent n)) → IsEventFor lines before event → HasBytes event.op → event.tick ≤ most
+one-drawn : (n lines before most many : ℕ) (event : Event n) (rest : List (Event n)) → IsEventFor lines before event → HasBytes event.op → event.tick ≤ most
     → AreDrawn lines event.tick most many rest → AreDrawn lines before most (suc many) (event ∷ rest)
 unfolding AreEventsFor AllHaveBytes AllWithin
 one-drawn n lines before most many event rest for has early behind =
@@ -89,10 +89,16 @@ all-drawn n lines mix (suc more) done before most left some fits early words =
 pub span-small : (mix : Mix) → IsMix mix → mix.rows * mix.step ≤ 26214000000
 span-small mix is = mul-le-mul is.few_rows is.small_step
 
-pub generated_law : GeneratedLaw
-unfolding generated
-generated_law n seed lines mix some few is =
+pub long-mix : LongMixLaw
+long-mix mix is =
     let small = span-small mix is in
+    let rows : mix.rows ≤ 400000 = is.few_rows in
+    record { some_rows = is.some_rows; few_rows = omega arith; percent = is.percent; few_cuts = is.few_cuts; small_step = is.small_step; few_hot = is.few_hot; in_time = omega arith }
+
+pub long_generated_law : LongGeneratedLaw
+unfolding generated
+long_generated_law n seed lines mix some few is =
+    let in_time : mix.rows * mix.step ≤ latest_tick = is.in_time in
     let all = all-drawn n lines mix mix.rows 0 0 (mix.rows * mix.step) (xoshiro_of seed) some (omega arith) (omega arith) (record { state = of_seed (splitmix_seed 32 seed); is = refl }) in
     record {
       lawful = all.lawful;
@@ -101,6 +107,9 @@ generated_law n seed lines mix some few is =
       cuts = cuts-all n lines mix 0 (xoshiro_of seed) is.few_cuts;
       ticks = all.ticks;
     }
+
+pub generated_law : GeneratedLaw
+generated_law n seed lines mix some few is = long_generated_law n seed lines mix some few (long-mix mix is)
 
 -- its text
 pub generated_text_law : GeneratedTextLaw
@@ -111,5 +120,5 @@ generated_text_law n seed lines mix some few is =
     text_law n lines (generated n seed lines mix) (omega arith) all.lawful all.bytes (omega arith)
 
 -- the same of a list that has these events
-pub generated_as : (n seed lines : ℕ) (mix : Mix) (events : List (TraceEvent n)) → 1 ≤ lines → lines ≤ 65536 → IsMix mix → generated n seed lines mix ≡ events → IsGenerated lines mix events
+pub generated_as : (n seed lines : ℕ) (mix : Mix) (events : List (Event n)) → 1 ≤ lines → lines ≤ 65536 → IsMix mix → generated n seed lines mix ≡ events → IsGenerated lines mix events
 generated_as n seed lines mix events some few is same = rw (← same) (generated_law n seed lines mix some few is)

@@ -2,7 +2,7 @@
 use Rattle.std.proofs.Common.{◌≡◌, ℕ, zero, suc, ◌+◌, ◌<◌, Bool, false, List, [], ◌∷◌, ◌++◌, length, get_or, take, refl, sym, ap, ◌∙◌, arith, append_assoc}
 use Rattle.std.proofs.lemmas.List.{append-nil}
 use Rattle.pcm_io.specs.Reserved.{Reserved, appended}
-use Rattle.trace_reader.specs.declared.event.TraceEvent.{TraceEvent}
+use Rattle.trace_reader.specs.declared.event.Event.{Event}
 use Rattle.trace_gen.specs.EventText.{event_row, event_rows, masked_text, pair_text}
 
 -- nothing of a masked write
@@ -38,11 +38,11 @@ pub event_rows-nil : (n : ℕ) → event_rows {n = n} [] ≡ []
 unfolding event_rows
 event_rows-nil n = refl
 
-pub event_rows-cons : {n : ℕ} (event : TraceEvent n) (rest : List (TraceEvent n)) → event_rows (event ∷ rest) ≡ event_row event ++ event_rows rest
+pub event_rows-cons : {n : ℕ} (event : Event n) (rest : List (Event n)) → event_rows (event ∷ rest) ≡ event_row event ++ event_rows rest
 unfolding event_rows
 event_rows-cons event rest = refl
 
-pub event_rows-append : {n : ℕ} (first second : List (TraceEvent n)) → event_rows (first ++ second) ≡ event_rows first ++ event_rows second
+pub event_rows-append : {n : ℕ} (first second : List (Event n)) → event_rows (first ++ second) ≡ event_rows first ++ event_rows second
 unfolding event_rows
 event_rows-append [] second = refl
 event_rows-append (event ∷ rest) second = ap (λ (text : List ℕ). event_row event ++ text) (event_rows-append rest second) ∙ sym (append_assoc (event_row event) (event_rows rest) (event_rows second))

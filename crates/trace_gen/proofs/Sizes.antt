@@ -7,22 +7,22 @@ use Rattle.std.proofs.lemmas.Fmt.{length-decimal-le}
 use Rattle.hex.specs.Hex.{encode_lower, encode_with, lower_digits}
 use Rattle.hex.proofs.HexLemmas.{length-encode_with}
 use Rattle.trace_reader.specs.Events.{AreEventsFor, IsEventFor, IsOpFor}
-use Rattle.trace_reader.specs.declared.event.TraceEvent.{TraceEvent}
-use Rattle.trace_reader.specs.declared.event.TraceOp.{TraceOp}
-use Rattle.trace_reader.specs.declared.event.TraceOp.TheVariants.{Read, Write, Mask, Cut}
+use Rattle.trace_reader.specs.declared.event.Event.{Event}
+use Rattle.trace_reader.specs.declared.event.EventOp.{EventOp}
+use Rattle.trace_reader.specs.declared.event.EventOp.TheVariants.{Read, Write, Mask, Cut}
 use Rattle.pcm_io.proofs.DigitLemmas.{five_digits}
 use Rattle.trace_gen.specs.EventText.{data_text, event_row, event_rows, line_text, masked_text, op_letter, pair_text}
 use Rattle.trace_gen.specs.Generated.{generated}
 use Rattle.trace_gen.specs.Laws.{AllWithin, GeneratedSizeLaw}
 use Rattle.trace_gen.proofs.Lawful.{generated_law, span-small}
 
-letter-size : (n : ℕ) (op : TraceOp n) → length (op_letter op) ≡ 1
+letter-size : (n : ℕ) (op : EventOp n) → length (op_letter op) ≡ 1
 letter-size n (Read line) = refl
 letter-size n (Write line bytes) = refl
 letter-size n (Mask line bytes given) = refl
 letter-size n Cut = refl
 
-line-size : (n lines : ℕ) (op : TraceOp n) → lines ≤ 65536 → IsOpFor lines op → length (line_text op) ≤ 5
+line-size : (n lines : ℕ) (op : EventOp n) → lines ≤ 65536 → IsOpFor lines op → length (line_text op) ≤ 5
 line-size n lines (Read line) few for = five_digits line (omega arith)
 line-size n lines (Write line bytes) few for =
     let below : line < lines = for.0 in
@@ -46,7 +46,7 @@ masked-size (byte ∷ bytes) (g ∷ given) =
     let rest = masked-size bytes given in
     simp length-append (omega arith)
 
-data-size : (n lines : ℕ) (op : TraceOp n) → IsOpFor lines op → length (data_text op) ≤ 2 * n
+data-size : (n lines : ℕ) (op : EventOp n) → IsOpFor lines op → length (data_text op) ≤ 2 * n
 data-size n lines (Read line) for = omega arith
 data-size n lines (Write line bytes) for =
     let digits : length (encode_lower bytes) ≡ 2 * length bytes = length-encode_with lower_digits bytes in
@@ -62,7 +62,7 @@ data-size n lines Cut for = omega arith
 fields-size : (a b c d : List ℕ) → length (join_with_byte 44 (a ∷ b ∷ c ∷ d ∷ []) ++ codes "\n") ≡ length a + length b + length c + length d + 4
 fields-size a b c d = simp length-append (omega arith)
 
-row-size : (n lines before : ℕ) (event : TraceEvent n) → lines ≤ 65536 → event.tick < 10 ^ 11 → IsEventFor lines before event → length (event_row event) ≤ 2 * n + 21
+row-size : (n lines before : ℕ) (event : Event n) → lines ≤ 65536 → event.tick < 10 ^ 11 → IsEventFor lines before event → length (event_row event) ≤ 2 * n + 21
 row-size n lines before event few early for =
     let whole = fields-size (decimal event.tick) (op_letter event.op) (line_text event.op) (data_text event.op) in
     let tick : length (decimal event.tick) ≤ 11 = length-decimal-le 11 event.tick (lit< tt) early (omega arith) in
@@ -71,7 +71,7 @@ row-size n lines before event few early for =
     let bytes = data-size n lines event.op for.op in
     omega arith
 
-rows-size : (n lines before most : ℕ) (events : List (TraceEvent n)) → lines ≤ 65536 → most < 10 ^ 11 → AreEventsFor lines before events → AllWithin most events
+rows-size : (n lines before most : ℕ) (events : List (Event n)) → lines ≤ 65536 → most < 10 ^ 11 → AreEventsFor lines before events → AllWithin most events
     → length (event_rows events) ≤ length events * (2 * n + 21)
 unfolding AreEventsFor AllWithin event_rows
 rows-size n lines before most [] few early for within = omega arith

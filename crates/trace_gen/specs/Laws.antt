@@ -8,12 +8,12 @@ use Rattle.csv.specs.declared.parser.State.TheVariants as st
 use Rattle.trace_reader.specs.Events.{AreEventsFor, IsEventFor}
 use Rattle.trace_reader.specs.Rows.{event_of}
 use Rattle.trace_reader.specs.Trace.{most_rows, trace_of}
-use Rattle.trace_reader.specs.declared.event.TraceEvent.{TraceEvent}
-use Rattle.trace_reader.specs.declared.event.TraceOp.{TraceOp}
-use Rattle.trace_reader.specs.declared.event.TraceOp.TheVariants.{Read, Write, Mask, Cut}
+use Rattle.trace_reader.specs.declared.event.Event.{Event}
+use Rattle.trace_reader.specs.declared.event.EventOp.{EventOp}
+use Rattle.trace_reader.specs.declared.event.EventOp.TheVariants.{Read, Write, Mask, Cut}
 use Rattle.trace_gen.specs.declared.mix.Mix.{Mix}
 use Rattle.trace_gen.specs.EventText.{event_fields, event_row, trace_text}
-use Rattle.trace_gen.specs.Generated.{IsMix, bytes_of_words, generated, words_left}
+use Rattle.trace_gen.specs.Generated.{IsLongMix, IsMix, bytes_of_words, generated, words_left}
 
 -- the line numbers of a trace have at most five digits
 abbrev pub most_lines : ℕ
@@ -21,45 +21,45 @@ most_lines = 100000
 
 module _ {n : ℕ} where
   -- what an operation gives are bytes
-  abbrev pub HasBytes : TraceOp n → Type 0
+  abbrev pub HasBytes : EventOp n → Type 0
   HasBytes (Read line) = Unit {0}
   HasBytes (Write line bytes) = IsBytes bytes
   HasBytes (Mask line bytes given) = IsBytes bytes
   HasBytes Cut = Unit {0}
 
   -- the same of each event
-  unfoldable pub AllHaveBytes : List (TraceEvent n) → Type 0
+  unfoldable pub AllHaveBytes : List (Event n) → Type 0
   AllHaveBytes [] = Unit {0}
   AllHaveBytes (event ∷ rest) = HasBytes event.op × AllHaveBytes rest
 
   -- no event has a tick above this
-  unfoldable pub AllWithin : ℕ → List (TraceEvent n) → Type 0
+  unfoldable pub AllWithin : ℕ → List (Event n) → Type 0
   AllWithin most [] = Unit {0}
   AllWithin most (event ∷ rest) = (event.tick ≤ most) × AllWithin most rest
 
   -- whether an event is a cut of the power
-  abbrev pub is_cut : TraceOp n → Bool
+  abbrev pub is_cut : EventOp n → Bool
   is_cut (Read line) = false
   is_cut (Write line bytes) = false
   is_cut (Mask line bytes given) = false
   is_cut Cut = true
 
   -- how many cuts there are
-  abbrev pub cuts_among : List (TraceEvent n) → ℕ
+  abbrev pub cuts_among : List (Event n) → ℕ
   cuts_among events = count_by (λ event. is_cut event.op) events
 
   -- a printed row is read as the fields that it was printed of, and these as the event
-  pub record RowReadsBack (lines before : ℕ) (event : TraceEvent n) (behind : List ℕ) : Type 0 where
+  pub record RowReadsBack (lines before : ℕ) (event : Event n) (behind : List ℕ) : Type 0 where
     pub fields : next_record default_config st.StartRecord [] [] (event_row event ++ behind) ≡ Some (event_fields event, st.StartRecord, behind)
     pub reads : event_of n lines before (event_fields event) ≡ Ok event
 
 -- every event for the lines of a module, whatever stands behind its row
 abbrev pub RowLaw : Type 0
-RowLaw = (n lines before : ℕ) (event : TraceEvent n) (behind : List ℕ) → lines ≤ most_lines → IsEventFor lines before event → HasBytes event.op → RowReadsBack lines before event behind
+RowLaw = (n lines before : ℕ) (event : Event n) (behind : List ℕ) → lines ≤ most_lines → IsEventFor lines before event → HasBytes event.op → RowReadsBack lines before event behind
 
 -- the text of any trace's events is read as these events
 abbrev pub TextLaw : Type 0
-TextLaw = (n lines : ℕ) (events : List (TraceEvent n)) → lines ≤ most_lines → AreEventsFor lines 0 events → AllHaveBytes events → length events ≤ most_rows
+TextLaw = (n lines : ℕ) (events : List (Event n)) → lines ≤ most_lines → AreEventsFor lines 0 events → AllHaveBytes events → length events ≤ most_rows
     → trace_of n lines (trace_text events) ≡ Ok events
 
 -- the text of a generated trace is read as the events that were drawn
@@ -68,12 +68,20 @@ GeneratedTextLaw = (n seed lines : ℕ) (mix : Mix) → 1 ≤ lines → lines �
     → trace_of n lines (trace_text (generated n seed lines mix)) ≡ Ok (generated n seed lines mix)
 
 -- what the events of a generated trace are like
-pub record IsGenerated {n : ℕ} (lines : ℕ) (mix : Mix) (events : List (TraceEvent n)) : Type 0 where
+pub record IsGenerated {n : ℕ} (lines : ℕ) (mix : Mix) (events : List (Event n)) : Type 0 where
   pub lawful : AreEventsFor lines 0 events
   pub bytes : AllHaveBytes events
   pub rows : length events ≡ mix.rows
   pub cuts : cuts_among events ≡ mix.cuts
   pub ticks : AllWithin (mix.rows * mix.step) events
+
+-- of as many rows as their ticks allow
+abbrev pub LongGeneratedLaw : Type 0
+LongGeneratedLaw = (n seed lines : ℕ) (mix : Mix) → 1 ≤ lines → lines ≤ 65536 → IsLongMix mix → IsGenerated lines mix (generated n seed lines mix)
+
+-- a mix for a whole trace is one for a long one
+abbrev pub LongMixLaw : Type 0
+LongMixLaw = (mix : Mix) → IsMix mix → IsLongMix mix
 
 abbrev pub GeneratedLaw : Type 0
 GeneratedLaw = (n seed lines : ℕ) (mix : Mix) → 1 ≤ lines → lines ≤ 65536 → IsMix mix → IsGenerated lines mix (generated n seed lines mix)

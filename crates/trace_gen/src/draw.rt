@@ -6,7 +6,7 @@ ghost use Rattle.trace_gen.specs.Generated.{cut_distance, words_left, access_by,
 use crate::mix::Mix;
 use rand_core::Rng;
 use rand_xoshiro::Xoshiro256PlusPlus;
-use trace_reader::TraceOp;
+use trace_reader::EventOp;
 
 // The read or write that a word draws.
 #[tactic(auto, unfolding(crate::specs::Generated::access_by))]
@@ -15,7 +15,7 @@ pub fn access<const B: usize>(
     word: u64,
     lines: u32,
     mix: &Mix,
-) -> TraceOp<B>
+) -> EventOp<B>
     requires { 1 ≤ lines }
     ensures { (result, words_left words.new) ≡ access_by B lines mix.now word (words_left words.old) }
 {
@@ -23,9 +23,9 @@ pub fn access<const B: usize>(
     if mix.is_write(word) {
         let mut bytes = [0; B];
         words.fill_bytes(&mut bytes);
-        TraceOp::Write(line, bytes)
+        EventOp::Write(line, bytes)
     } else {
-        TraceOp::Read(line)
+        EventOp::Read(line)
     }
 }
 
@@ -37,14 +37,14 @@ pub fn op<const B: usize>(
     distance: u32,
     lines: u32,
     mix: &Mix,
-) -> TraceOp<B>
+) -> EventOp<B>
     requires lines { 1 ≤ lines }
     requires distance { distance ≡ cut_distance mix.now }
     requires some { 1 ≤ distance }
     ensures { (result, words_left words.new) ≡ op_drawn B lines mix.now row (words_left words.old) }
 {
     if mix.is_cut(row, distance) {
-        TraceOp::Cut
+        EventOp::Cut
     } else {
         let word = words.next_u64();
         access(words, word, lines, mix)

@@ -1,6 +1,6 @@
 //! The generator of a trace.
 ghost use Rattle.std.specs.Prelude.{◌≡◌, ◌+◌, ◌≤◌, [], ◌∷◌, IfOk, MatchOption};
-ghost use Rattle.trace_gen.specs.Generated.{IsMix, generated};
+ghost use Rattle.trace_gen.specs.Generated.{IsLongMix, IsMix, generated};
 ghost use Rattle.trace_gen.specs.Laws.{IsGenerated};
 
 use crate::draw::op;
@@ -9,7 +9,7 @@ use rand_core::{Rng, SeedableRng};
 use rand_xoshiro::Xoshiro256PlusPlus;
 use std::alloc::{AllocError, Global};
 use std::marker::Model;
-use trace_reader::TraceEvent;
+use trace_reader::Event;
 
 /// The events of a generated trace that are still to come, drawn one by one: no memory is taken.
 #[derive(Drop)]
@@ -24,10 +24,10 @@ pub struct Generator<const B: usize> {
 
 impl<const B: usize> Model for Generator<B> {
     ghost use Rattle.std.specs.Prelude.{List};
-    ghost use Rattle.trace_reader.specs.declared.event.TraceEvent.{TraceEvent};
+    ghost use Rattle.trace_reader.specs.declared.event.Event.{Event};
     ghost use Rattle.trace_gen.specs.Drawing.{Draws, left_of};
 
-    ghost Value = { List (TraceEvent B) };
+    ghost Value = { List (Event B) };
 
     ghost view = { λ g. left_of B (record { state = g.words; lines = g.lines; mix = g.mix; done = g.done; tick = g.tick }) };
 
@@ -42,6 +42,16 @@ impl<const B: usize> Generator<B> {
         requires mix { IsMix mix }
         ensures { result ≡ generated B seed lines mix }
     {
+        Generator::long(seed, lines, mix)
+    }
+
+    /// The same, of as many rows as their ticks allow.
+    pub fn long(seed: u64, lines: u32, mix: Mix) -> Generator<B>
+        requires some_lines { 1 ≤ lines }
+        requires few_lines { lines ≤ 65536 }
+        requires mix { IsLongMix mix }
+        ensures { result ≡ generated B seed lines mix }
+    {
         Generator {
             words: Xoshiro256PlusPlus::seed_from_u64(seed),
             lines,
@@ -53,7 +63,7 @@ impl<const B: usize> Generator<B> {
     }
 
     /// Draws the next event, if one is still to come.
-    pub fn next_event(&mut self) -> Option<TraceEvent<B>>
+    pub fn next_event(&mut self) -> Option<Event<B>>
         ensures { MatchOption result ((self.old ≡ []) × (self.new ≡ []))
             (λ event. self.old ≡ event ∷ self.new) }
     {
@@ -69,7 +79,7 @@ impl<const B: usize> Generator<B> {
             self.lines,
             &self.mix,
         );
-        Some(TraceEvent {
+        Some(Event {
             tick: self.tick,
             op,
         })
@@ -82,7 +92,7 @@ pub fn generate<const B: usize>(
     seed: u64,
     lines: u32,
     mix: Mix,
-) -> Result<Vec<TraceEvent<B>>, AllocError>
+) -> Result<Vec<Event<B>>, AllocError>
     requires some_lines { 1 ≤ lines }
     requires few_lines { lines ≤ 65536 }
     requires mix { IsMix mix }

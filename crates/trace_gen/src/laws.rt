@@ -1,6 +1,6 @@
 //! The laws of printed and of generated traces. A law is what a function here ensures; the functions do nothing when they
 //! run.
-ghost use Rattle.trace_gen.specs.Laws.{RowLaw, TextLaw, GeneratedLaw, GeneratedTextLaw, GeneratedSizeLaw, PayloadLaw};
+ghost use Rattle.trace_gen.specs.Laws.{RowLaw, TextLaw, GeneratedLaw, GeneratedTextLaw, GeneratedSizeLaw, LongGeneratedLaw, LongMixLaw, PayloadLaw};
 
 /// A printed row is read as the fields of its event, and these as the event.
 pub fn row_reads_back()
@@ -15,6 +15,16 @@ pub fn text_reads_back()
 /// Every generated trace is a trace of its module with the rows, the cuts and the ticks that were asked for.
 pub fn generated_events_are_lawful()
     ensures { GeneratedLaw }
+{}
+
+/// The same of a trace of as many rows as their ticks allow.
+pub fn long_events_are_lawful()
+    ensures { LongGeneratedLaw }
+{}
+
+/// A mix for a whole trace is one for a long one.
+pub fn mixes_are_long()
+    ensures { LongMixLaw }
 {}
 
 /// The text of a generated trace is read as the events that its seed draws.

@@ -1,12 +1,12 @@
 //! What a generated trace is made of.
 ghost use Rattle.std.specs.Prelude.{◌≡◌, ◌+◌, ◌≤◌, ◌<◌};
-ghost use Rattle.trace_gen.specs.Generated.{IsMix, cut_distance, is_cut_row, line_drawn, draws_write};
+ghost use Rattle.trace_gen.specs.Generated.{IsLongMix, cut_distance, is_cut_row, line_drawn, draws_write};
 
 /// The number of rows and what they are. Nine words in ten draw a line among the hot ones, where there are any, and the
 /// others draw one among all.
 #[derive(Clone, Copy, Debug, PartialEq, Eq)]
 pub struct Mix {
-    /// How many rows, 1 to 400,000.
+    /// How many rows, 1 to 400,000; of a long trace up to 4,000,000,000.
     pub rows: u32,
     /// How many of a hundred reads and writes are writes.
     pub write_percent: u32,
@@ -21,7 +21,7 @@ pub struct Mix {
 impl Mix {
     // How far apart the cuts are.
     pub(crate) fn cut_distance(&self) -> u32
-        requires { IsMix self.now }
+        requires { IsLongMix self.now }
         ensures distance { result ≡ cut_distance self.now }
         ensures some { 1 ≤ result }
     {

@@ -5,7 +5,7 @@ ghost use Rattle.hex.specs.Hex.{encode_lower};
 ghost use Rattle.trace_gen.specs.EventText.{trace_header, pair_text, masked_text, op_letter, line_text, data_text, event_row};
 
 use pcm_io::Text;
-use trace_reader::{TraceEvent, TraceOp};
+use trace_reader::{Event, EventOp};
 
 /// The first line of a trace, with its LF.
 pub fn header() -> &'static [u8]
@@ -16,7 +16,7 @@ pub fn header() -> &'static [u8]
 
 /// Appends the row of one event: numbers in decimal, bytes in lower-case hexadecimal digits, LF at the end.
 #[tactic(auto, using(pcm_io::proofs::DigitLemmas::twenty_digits))]
-pub fn print_event<const B: usize>(event: &TraceEvent<B>, text: &mut Text)
+pub fn print_event<const B: usize>(event: &Event<B>, text: &mut Text)
     requires size { B ≤ 128 }
     requires room { 64 + 2 * B ≤ room_in text.old }
     ensures after { text.new ≡ appended text.old (event_row event.now) }
@@ -32,41 +32,41 @@ pub fn print_event<const B: usize>(event: &TraceEvent<B>, text: &mut Text)
     text.push(b"\n");
 }
 
-fn letter<const B: usize>(op: &TraceOp<B>) -> &'static [u8]
+fn letter<const B: usize>(op: &EventOp<B>) -> &'static [u8]
     ensures letter { result.now ≡ op_letter op.now }
     ensures short { length result.now ≡ 1 }
 {
     match op {
-        TraceOp::Read(_) => b"R",
-        TraceOp::Write(_, _) => b"W",
-        TraceOp::Mask(_, _, _) => b"M",
-        TraceOp::Cut => b"C",
+        EventOp::Read(_) => b"R",
+        EventOp::Write(_, _) => b"W",
+        EventOp::Mask(_, _, _) => b"M",
+        EventOp::Cut => b"C",
     }
 }
 
 #[tactic(auto, using(pcm_io::proofs::DigitLemmas::ten_digits))]
-fn push_line<const B: usize>(op: &TraceOp<B>, text: &mut Text)
+fn push_line<const B: usize>(op: &EventOp<B>, text: &mut Text)
     requires room { 10 ≤ room_in text.old }
     ensures after { text.new ≡ appended text.old (line_text op.now) }
     ensures room { room_in text.old ≤ room_in text.new + 10 }
 {
     match op {
-        TraceOp::Read(line) | TraceOp::Write(line, _) | TraceOp::Mask(line, _, _) =>
+        EventOp::Read(line) | EventOp::Write(line, _) | EventOp::Mask(line, _, _) =>
             text.push_number(*line as u64),
-        TraceOp::Cut => {}
+        EventOp::Cut => {}
     }
 }
 
-fn push_data<const B: usize>(op: &TraceOp<B>, text: &mut Text)
+fn push_data<const B: usize>(op: &EventOp<B>, text: &mut Text)
     requires size { B ≤ 128 }
     requires room { 2 * B ≤ room_in text.old }
     ensures after { text.new ≡ appended text.old (data_text op.now) }
     ensures room { room_in text.old ≤ room_in text.new + 2 * B }
 {
     match op {
-        TraceOp::Write(_, bytes) => text.push_hex(bytes),
-        TraceOp::Mask(_, bytes, given) => push_masked(bytes, given, text),
-        TraceOp::Read(_) | TraceOp::Cut => {}
+        EventOp::Write(_, bytes) => text.push_hex(bytes),
+        EventOp::Mask(_, bytes, given) => push_masked(bytes, given, text),
+        EventOp::Read(_) | EventOp::Cut => {}
     }
 }
 

@@ -14,9 +14,9 @@ use Rattle.trace_reader.specs.Payload.{bytes_of, masked_of, masked_by, Masked, p
 use Rattle.trace_reader.specs.Rows.{cut_of, event_at, event_of, latest_tick, line_of, mask_of, op_of, or_fault, read_of, text_at, tick_of, write_of}
 use Rattle.trace_reader.specs.Trace.{and_then_rows, event_before, events_of, fault_at, is_header, most_rows, rows_from, trace_of}
 use Rattle.trace_reader.specs.Events.{AreEventsFor, IsEventFor, IsOpFor}
-use Rattle.trace_reader.specs.declared.event.TraceEvent.{TraceEvent}
-use Rattle.trace_reader.specs.declared.event.TraceOp.{TraceOp}
-use Rattle.trace_reader.specs.declared.event.TraceOp.TheVariants.{Read, Write, Mask, Cut}
+use Rattle.trace_reader.specs.declared.event.Event.{Event}
+use Rattle.trace_reader.specs.declared.event.EventOp.{EventOp}
+use Rattle.trace_reader.specs.declared.event.EventOp.TheVariants.{Read, Write, Mask, Cut}
 use Rattle.trace_reader.specs.declared.fault.Kind.{Kind}
 use Rattle.trace_reader.specs.declared.fault.Kind.TheVariants as kind
 use Rattle.trace_reader.specs.declared.fault.ParseFault.{ParseFault}
@@ -84,7 +84,7 @@ line-below lines line text some h =
     omega arith
 
 -- each operation
-read-lawful : (n lines : ℕ) (line payload : List ℕ) (op : TraceOp n) → 1 ≤ lines → read_of n lines line payload ≡ Ok op → IsOpFor lines op
+read-lawful : (n lines : ℕ) (line payload : List ℕ) (op : EventOp n) → 1 ≤ lines → read_of n lines line payload ≡ Ok op → IsOpFor lines op
 unfolding read_of
 read-lawful n lines line payload op some h =
     let a = or_fault-ok (line_of lines line) kind.Line _ op h in
@@ -92,7 +92,7 @@ read-lawful n lines line payload op some h =
     let same : Read a.0 ≡ op = cc in
     rw (← same) (line-below lines a.0 line some a.1)
 
-write-lawful : (n lines : ℕ) (line payload : List ℕ) (op : TraceOp n) → 1 ≤ lines → write_of n lines line payload ≡ Ok op → IsOpFor lines op
+write-lawful : (n lines : ℕ) (line payload : List ℕ) (op : EventOp n) → 1 ≤ lines → write_of n lines line payload ≡ Ok op → IsOpFor lines op
 unfolding write_of
 write-lawful n lines line payload op some h =
     let a = or_fault-ok (line_of lines line) kind.Line _ op h in
@@ -100,7 +100,7 @@ write-lawful n lines line payload op some h =
     let same : Write a.0 b.0 ≡ op = cc in
     rw (← same) (line-below lines a.0 line some a.1, bytes_of-length n payload b.0 b.1)
 
-mask-lawful : (n lines : ℕ) (line payload : List ℕ) (op : TraceOp n) → 1 ≤ lines → mask_of n lines line payload ≡ Ok op → IsOpFor lines op
+mask-lawful : (n lines : ℕ) (line payload : List ℕ) (op : EventOp n) → 1 ≤ lines → mask_of n lines line payload ≡ Ok op → IsOpFor lines op
 unfolding mask_of
 mask-lawful n lines line payload op some h =
     let a = or_fault-ok (line_of lines line) kind.Line _ op h in
@@ -108,7 +108,7 @@ mask-lawful n lines line payload op some h =
     let same : Mask a.0 b.0.bytes b.0.given ≡ op = cc in
     rw (← same) (line-below lines a.0 line some a.1, masked_of-lawful n payload b.0 b.1)
 
-cut-lawful : (n lines : ℕ) (line payload : List ℕ) (op : TraceOp n) → cut_of n lines line payload ≡ Ok op → IsOpFor lines op
+cut-lawful : (n lines : ℕ) (line payload : List ℕ) (op : EventOp n) → cut_of n lines line payload ≡ Ok op → IsOpFor lines op
 unfolding cut_of
 cut-lawful n lines line payload op h = by (not (length line == 0)) (not (length payload == 0)) h
   where
@@ -119,7 +119,7 @@ cut-lawful n lines line payload op h = by (not (length line == 0)) (not (length 
         let same : Cut ≡ op = cc in
         rw (← same) tt
 
-op-lawful : (n lines : ℕ) (op line payload : List ℕ) (found : TraceOp n) → 1 ≤ lines → op_of n lines op line payload ≡ Ok found → IsOpFor lines found
+op-lawful : (n lines : ℕ) (op line payload : List ℕ) (found : EventOp n) → 1 ≤ lines → op_of n lines op line payload ≡ Ok found → IsOpFor lines found
 unfolding op_of
 op-lawful n lines op line payload found some h =
     by (bytes_eq op (codes "R")) (bytes_eq op (codes "W")) (bytes_eq op (codes "M")) (bytes_eq op (codes "C")) h
@@ -133,13 +133,13 @@ op-lawful n lines op line payload found some h =
     by false false false true q = cut-lawful n lines line payload found q
     by false false false false q = cc q
 
-event_at-ok : (n tick : ℕ) (r : Result (TraceOp n) Kind) (event : TraceEvent n) → event_at tick r ≡ Ok event → (tick ≡ event.tick) × (r ≡ Ok event.op)
+event_at-ok : (n tick : ℕ) (r : Result (EventOp n) Kind) (event : Event n) → event_at tick r ≡ Ok event → (tick ≡ event.tick) × (r ≡ Ok event.op)
 event_at-ok n tick (Err e) event h = cc h
 event_at-ok n tick (Ok op) event h =
     let same : record { tick = tick; op = op } ≡ event = cc in
     rw (← same) (refl, refl)
 
-event_of-lawful : (n lines before : ℕ) (fields : List (List ℕ)) (event : TraceEvent n) → 1 ≤ lines → event_of n lines before fields ≡ Ok event → IsEventFor lines before event
+pub event_of-lawful : (n lines before : ℕ) (fields : List (List ℕ)) (event : Event n) → 1 ≤ lines → event_of n lines before fields ≡ Ok event → IsEventFor lines before event
 unfolding event_of
 event_of-lawful n lines before fields event some h = whole (not (length fields == 4)) h
   where
@@ -169,15 +169,15 @@ event_of-lawful n lines before fields event some h = whole (not (length fields =
         ticked a.0 a.1 (nat_lt a.0 before) refl a.2
 
 -- all rows
-event_before-ok : (n : ℕ) (event : TraceEvent n) (r : Result (List (TraceEvent n)) ParseFault) (events : List (TraceEvent n)) → event_before event r ≡ Ok events
-    → (rest : List (TraceEvent n)) × (r ≡ Ok rest) × (events ≡ event ∷ rest)
+event_before-ok : (n : ℕ) (event : Event n) (r : Result (List (Event n)) ParseFault) (events : List (Event n)) → event_before event r ≡ Ok events
+    → (rest : List (Event n)) × (r ≡ Ok rest) × (events ≡ event ∷ rest)
 event_before-ok n event (Err e) events h = cc h
 event_before-ok n event (Ok rest) events h =
     let same : event ∷ rest ≡ events = cc in
     (rest, refl, sym same)
 
-and_then_rows-ok : (n row : ℕ) (r : Result (TraceEvent n) Kind) (behind : TraceEvent n → Result (List (TraceEvent n)) ParseFault) (events : List (TraceEvent n)) → and_then_rows row r behind ≡ Ok events
-    → (event : TraceEvent n) × (r ≡ Ok event) × (rest : List (TraceEvent n)) × (behind event ≡ Ok rest) × (events ≡ event ∷ rest)
+and_then_rows-ok : (n row : ℕ) (r : Result (Event n) Kind) (behind : Event n → Result (List (Event n)) ParseFault) (events : List (Event n)) → and_then_rows row r behind ≡ Ok events
+    → (event : Event n) × (r ≡ Ok event) × (rest : List (Event n)) × (behind event ≡ Ok rest) × (events ≡ event ∷ rest)
 and_then_rows-ok n row (Err e) behind events h = cc h
 and_then_rows-ok n row (Ok event) behind events h =
     let a = event_before-ok n event (behind event) events h in
@@ -186,11 +186,11 @@ and_then_rows-ok n row (Ok event) behind events h =
 empty-size : {T : Type 0} (events : List T) (row : ℕ) → [] ≡ events → row ≤ most_rows + 1 → row + length events ≤ most_rows + 1
 empty-size events row none within = rw (← none) (omega arith)
 
-empty-lawful : {n : ℕ} (lines before : ℕ) (events : List (TraceEvent n)) → [] ≡ events → AreEventsFor lines before events
+empty-lawful : {n : ℕ} (lines before : ℕ) (events : List (Event n)) → [] ≡ events → AreEventsFor lines before events
 unfolding AreEventsFor
 empty-lawful lines before events none = rw (← none) tt
 
-pub rows_from-lawful : (n lines row before : ℕ) (rows : List (List (List ℕ))) (events : List (TraceEvent n)) → 1 ≤ lines → row ≤ most_rows + 1 → rows_from n lines row before rows ≡ Ok events
+pub rows_from-lawful : (n lines row before : ℕ) (rows : List (List (List ℕ))) (events : List (Event n)) → 1 ≤ lines → row ≤ most_rows + 1 → rows_from n lines row before rows ≡ Ok events
     → AreEventsFor lines before events × (row + length events ≤ most_rows + 1)
 unfolding rows_from AreEventsFor
 rows_from-lawful n lines row before [] events some within h =
@@ -201,7 +201,7 @@ rows_from-lawful n lines row before (fields ∷ rest) events some within h =
   where
     by : (b : Bool) → nat_lt most_rows row ≡ b
         → (if b then Err fault.TooMany else and_then_rows row (event_of n lines before fields) (λ event. rows_from n lines (row + 1) event.tick rest)) ≡ Ok events
-        → ((event : TraceEvent n) (behind : List (TraceEvent n)) → 1 ≤ lines → row + 1 ≤ most_rows + 1 → rows_from n lines (row + 1) event.tick rest ≡ Ok behind → AreEventsFor lines event.tick behind × (row + 1 + length behind ≤ most_rows + 1))
+        → ((event : Event n) (behind : List (Event n)) → 1 ≤ lines → row + 1 ≤ most_rows + 1 → rows_from n lines (row + 1) event.tick rest ≡ Ok behind → AreEventsFor lines event.tick behind × (row + 1 + length behind ≤ most_rows + 1))
         → AreEventsFor lines before events × (row + length events ≤ most_rows + 1)
     by true e q more = cc q
     by false e q more =
@@ -212,7 +212,7 @@ rows_from-lawful n lines row before (fields ∷ rest) events some within h =
         rw a.4 ((event_of-lawful n lines before fields a.0 some a.1, behind.0), omega arith)
 
 -- the events of a trace
-events_of-lawful : (n lines : ℕ) (all : List (List (List ℕ))) (events : List (TraceEvent n)) → 1 ≤ lines → events_of n lines all ≡ Ok events → AreEventsFor lines 0 events × (length events ≤ most_rows)
+events_of-lawful : (n lines : ℕ) (all : List (List (List ℕ))) (events : List (Event n)) → 1 ≤ lines → events_of n lines all ≡ Ok events → AreEventsFor lines 0 events × (length events ≤ most_rows)
 unfolding events_of
 events_of-lawful n lines [] events some h = cc h
 events_of-lawful n lines (first ∷ rows) events some h = by (is_header first) h
@@ -224,12 +224,12 @@ events_of-lawful n lines (first ∷ rows) events some h = by (is_header first) h
         (all.0, omega arith)
     by false q = cc q
 
-pub trace_of-lawful : (n lines : ℕ) (bytes : List ℕ) (events : List (TraceEvent n)) → 1 ≤ lines → trace_of n lines bytes ≡ Ok events → AreEventsFor lines 0 events × (length events ≤ most_rows)
+pub trace_of-lawful : (n lines : ℕ) (bytes : List ℕ) (events : List (Event n)) → 1 ≤ lines → trace_of n lines bytes ≡ Ok events → AreEventsFor lines 0 events × (length events ≤ most_rows)
 unfolding trace_of
 trace_of-lawful n lines bytes events some h = events_of-lawful n lines (records default_config (strip_bom bytes)) events some h
 
 -- one of the events: its line exists, and its tick is in time
-pub AreEventsFor-at : {n : ℕ} (lines before : ℕ) (events : List (TraceEvent n)) (i : ℕ) (event : TraceEvent n) → AreEventsFor lines before events → slice_get events i ≡ Some event
+pub AreEventsFor-at : {n : ℕ} (lines before : ℕ) (events : List (Event n)) (i : ℕ) (event : Event n) → AreEventsFor lines before events → slice_get events i ≡ Some event
     → IsOpFor lines event.op × (event.tick ≤ latest_tick)
 unfolding AreEventsFor
 AreEventsFor-at lines before [] i event h at = cc at
@@ -239,6 +239,6 @@ AreEventsFor-at lines before (first ∷ rest) zero event h at =
 AreEventsFor-at lines before (first ∷ rest) (suc i) event h at = AreEventsFor-at lines first.tick rest i event h.1 at
 
 -- the first of lawful events, and those behind it
-pub lawful-first : {n : ℕ} (lines before : ℕ) (event : TraceEvent n) (rest : List (TraceEvent n)) → AreEventsFor lines before (event ∷ rest) → IsEventFor lines before event × AreEventsFor lines event.tick rest
+pub lawful-first : {n : ℕ} (lines before : ℕ) (event : Event n) (rest : List (Event n)) → AreEventsFor lines before (event ∷ rest) → IsEventFor lines before event × AreEventsFor lines event.tick rest
 unfolding AreEventsFor
 lawful-first lines before event rest h = h

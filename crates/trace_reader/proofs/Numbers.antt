@@ -38,9 +38,6 @@ pub record Reads (text : List ℕ) (i value : ℕ) : Type 0 where
   pub digits : list_all is_ascii_digit (take i text) ≡ true
   pub is : value ≡ digits_value 10 (take i text)
 
-pub reads-none : (text : List ℕ) → Reads text 0 0
-reads-none text = record { digits = refl; is = refl }
-
 -- the value of one digit more
 next_value : (text : List ℕ) (i value digit : ℕ) → i < length text → is_ascii_digit (get_or text i 0) ≡ true → Reads text i value → digit + 48 ≡ get_or text i 0 → digits_value 10 (take (i + 1) text) ≡ value * 10 + digit
 next_value text i value digit below is_digit reads e =

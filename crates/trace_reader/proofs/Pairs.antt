@@ -69,9 +69,6 @@ pub record ReadsPairs (text : List ℕ) (i : ℕ) (bytes : List ℕ) (given : Li
   pub given_are : take i given ≡ map is_some pairs
   pub rest : pairs_of text ≡ pairs_before pairs (pairs_of (drop (2 * i) text))
 
-pub reads_pairs-none : (text bytes : List ℕ) (given : List Bool) → ReadsPairs text 0 bytes given
-reads_pairs-none text bytes given = record { pairs = []; size = refl; bytes_are = refl; given_are = refl; rest = pairs_before-nil (pairs_of text) }
-
 -- the next pair of a text
 pairs_of-next : (text : List ℕ) (j : ℕ) → j + 1 < length text → pairs_of (drop j text) ≡ pair_before (pair_of (get_or text j 0) (get_or text (j + 1) 0)) (pairs_of (drop (j + 2) text))
 unfolding pairs_of

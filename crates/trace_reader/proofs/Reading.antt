@@ -21,10 +21,6 @@ in_field-clean false true true h = refl
 in_field-clean false true false h = refl
 in_field-clean false false d h = cc h
 
-start_field-clean : (q : Bool) (r : State × Action) → EndsClean r → EndsClean (if q then (st.InQuoted, act.Skip) else r)
-start_field-clean true r clean h = cc h
-start_field-clean false r clean h = clean h
-
 skip-clean : (q : Bool) (s : State) (r : State × Action) → EndsClean r → EndsClean (if q then (s, act.Skip) else r)
 skip-clean true s r clean h = cc h
 skip-clean false s r clean h = clean h
@@ -62,7 +58,7 @@ step-clean st.AfterQuote c = copy-clean (c == 34) st.InQuoted (in_field default_
 step-clean st.InComment c = skip-clean (c == 10) st.StartRecord (st.InComment, act.Skip) (skipped-clean st.InComment)
 step-clean st.AfterCr c = skip-clean (c == 10) st.StartRecord (start_record default_config c) (record-clean c)
 
-unended-le : (s : State) → unended s ≤ 1
+pub unended-le : (s : State) → unended s ≤ 1
 unended-le s = le-one (ends_at_end s)
   where
     le-one : (b : Bool) → (if b then 1 else 0) ≤ 1
@@ -70,7 +66,7 @@ unended-le s = le-one (ends_at_end s)
     le-one false = omega arith
 
 -- each record takes a byte, or the end of the text
-shorter : (s : State) (fields : List (List ℕ)) (field text : List ℕ) (p : Read) → next_record default_config s fields field text ≡ Some p
+pub shorter : (s : State) (fields : List (List ℕ)) (field text : List ℕ) (p : Read) → next_record default_config s fields field text ≡ Some p
     → length p.2 + unended p.1 < length text + unended s
 unfolding next_record
 shorter s fields field [] p h = by (ends_at_end s) refl h
@@ -97,7 +93,7 @@ shorter s fields field (c ∷ rest) p h = by (is_end (step default_config s c).1
         omega arith
 
 -- one record more
-records_from-some : (most : ℕ) (s : State) (text : List ℕ) (p : Read) → next_record default_config s [] [] text ≡ Some p → length text + unended s ≤ most
+pub records_from-some : (most : ℕ) (s : State) (text : List ℕ) (p : Read) → next_record default_config s [] [] text ≡ Some p → length text + unended s ≤ most
     → (less : ℕ) × (records_from default_config most s text ≡ p.0 ∷ records_from default_config less p.1 p.2) × (length p.2 + unended p.1 ≤ less)
 unfolding records_from
 records_from-some zero s text p h enough =
@@ -108,7 +104,7 @@ records_from-some (suc most) s text p h enough =
     (most, ap (records_next (records_from default_config most)) h, omega arith)
 
 -- no record more
-records_from-none : (most : ℕ) (s : State) (text : List ℕ) → next_record default_config s [] [] text ≡ None → records_from default_config most s text ≡ []
+pub records_from-none : (most : ℕ) (s : State) (text : List ℕ) → next_record default_config s [] [] text ≡ None → records_from default_config most s text ≡ []
 unfolding records_from
 records_from-none zero s text h = refl
 records_from-none (suc most) s text h = ap (records_next (records_from default_config most)) h

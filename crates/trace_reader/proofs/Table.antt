@@ -100,9 +100,6 @@ pub record ReadsDigits (text : List ℕ) (i : ℕ) (bytes : List ℕ) (most : �
   pub read : most < 16 → read_from 0 text ≡ bytes_before (take i bytes) (read_from (2 * i) (drop (2 * i) text))
   pub bad : 16 ≤ most → read_from 0 text ≡ None
 
-pub reads_digits-none : (text bytes : List ℕ) → ReadsDigits text 0 bytes 0
-reads_digits-none text bytes = record { read = λ _. bytes_before-nil (read_from 0 text); bad = λ h. absurd (omega arith) }
-
 -- the next two characters of a text
 two-next : (text : List ℕ) (j : ℕ) → j + 1 < length text → drop j text ≡ get_or text j 0 ∷ get_or text (j + 1) 0 ∷ drop (j + 2) text
 two-next text j within =

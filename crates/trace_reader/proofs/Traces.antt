@@ -8,27 +8,27 @@ use Rattle.csv.specs.declared.reader.Reader.{Reader}
 use Rattle.trace_reader.specs.Records.{HasLeft}
 use Rattle.trace_reader.specs.Rows.{event_of}
 use Rattle.trace_reader.specs.Trace.{and_then_rows, event_before, events_of, fault_at, is_header, most_rows, rows_from, trace_of}
-use Rattle.trace_reader.specs.declared.event.TraceEvent.{TraceEvent}
+use Rattle.trace_reader.specs.declared.event.Event.{Event}
 use Rattle.trace_reader.specs.declared.fault.Kind.{Kind}
 use Rattle.trace_reader.specs.declared.fault.Kind.TheVariants as kind
 use Rattle.trace_reader.specs.declared.fault.ParseFault.{ParseFault}
 use Rattle.trace_reader.specs.declared.fault.ParseFault.TheVariants as fault
 
 -- events in front of those of the rows behind them
-abbrev pub after_events : {n : ℕ} → List (TraceEvent n) → Result (List (TraceEvent n)) ParseFault → Result (List (TraceEvent n)) ParseFault
+abbrev pub after_events : {n : ℕ} → List (Event n) → Result (List (Event n)) ParseFault → Result (List (Event n)) ParseFault
 after_events events (Ok behind) = Ok (events ++ behind)
 after_events events (Err fault) = Err fault
 
-after_events-nil : {n : ℕ} (r : Result (List (TraceEvent n)) ParseFault) → r ≡ after_events [] r
+after_events-nil : {n : ℕ} (r : Result (List (Event n)) ParseFault) → r ≡ after_events [] r
 after_events-nil (Ok behind) = refl
 after_events-nil (Err fault) = refl
 
-after_events-one : {n : ℕ} (events : List (TraceEvent n)) (event : TraceEvent n) (r : Result (List (TraceEvent n)) ParseFault) → after_events events (event_before event r) ≡ after_events (events ++ (event ∷ [])) r
+after_events-one : {n : ℕ} (events : List (Event n)) (event : Event n) (r : Result (List (Event n)) ParseFault) → after_events events (event_before event r) ≡ after_events (events ++ (event ∷ [])) r
 after_events-one events event (Ok behind) = ap Ok (sym (append_assoc events (event ∷ []) behind))
 after_events-one events event (Err fault) = refl
 
 -- so far these events were read of rows that mean `total`, up to the row before this number, whose tick is `before`
-pub record HasRead (n lines : ℕ) (total : Result (List (TraceEvent n)) ParseFault) (reader : Reader (Bor (List ℕ))) (events : List (TraceEvent n)) (number before : ℕ) : Type 0 where
+pub record HasRead (n lines : ℕ) (total : Result (List (Event n)) ParseFault) (reader : Reader (Bor (List ℕ))) (events : List (Event n)) (number before : ℕ) : Type 0 where
   pub rows : List (List (List ℕ))
   pub left : HasLeft reader rows
   pub is : total ≡ after_events events (rows_from n lines number before rows)
@@ -55,7 +55,7 @@ unfolding events_of
 header-read n lines bytes first rows e header = trace_of-records n lines bytes (first ∷ rows) e ∙ rw header refl
 
 -- no row more
-pub rows-end : (n lines : ℕ) (total : Result (List (TraceEvent n)) ParseFault) (reader : Reader (Bor (List ℕ))) (events : List (TraceEvent n)) (number before : ℕ)
+pub rows-end : (n lines : ℕ) (total : Result (List (Event n)) ParseFault) (reader : Reader (Bor (List ℕ))) (events : List (Event n)) (number before : ℕ)
     → (h : HasRead n lines total reader events number before) → h.rows ≡ [] → total ≡ Ok events
 unfolding rows_from
 rows-end n lines total reader events number before h none =
@@ -69,21 +69,21 @@ rows_from-step n lines number before fields rest within =
     let allowed : nat_lt most_rows number ≡ false = grind (arith, nat_tests) in
     rw allowed refl
 
-rows-next : (n lines : ℕ) (total : Result (List (TraceEvent n)) ParseFault) (reader : Reader (Bor (List ℕ))) (events : List (TraceEvent n)) (number before : ℕ) (fields : List (List ℕ)) (rest : List (List (List ℕ)))
+rows-next : (n lines : ℕ) (total : Result (List (Event n)) ParseFault) (reader : Reader (Bor (List ℕ))) (events : List (Event n)) (number before : ℕ) (fields : List (List ℕ)) (rest : List (List (List ℕ)))
     → (h : HasRead n lines total reader events number before) → h.rows ≡ fields ∷ rest → number ≤ most_rows
     → total ≡ after_events events (and_then_rows number (event_of n lines before fields) (λ event. rows_from n lines (number + 1) event.tick rest))
 rows-next n lines total reader events number before fields rest h some within =
     h.is ∙ ap (λ (rows : List (List (List ℕ))). after_events events (rows_from n lines number before rows)) some
     ∙ ap (after_events events) (rows_from-step n lines number before fields rest within)
 
-pub row-faulty : (n lines : ℕ) (total : Result (List (TraceEvent n)) ParseFault) (reader : Reader (Bor (List ℕ))) (events : List (TraceEvent n)) (number before : ℕ) (fields : List (List ℕ)) (rest : List (List (List ℕ))) (kind : Kind)
+pub row-faulty : (n lines : ℕ) (total : Result (List (Event n)) ParseFault) (reader : Reader (Bor (List ℕ))) (events : List (Event n)) (number before : ℕ) (fields : List (List ℕ)) (rest : List (List (List ℕ))) (kind : Kind)
     → (h : HasRead n lines total reader events number before) → h.rows ≡ fields ∷ rest → number ≤ most_rows
     → event_of n lines before fields ≡ Err kind → total ≡ fault_at number kind
 row-faulty n lines total reader events number before fields rest kind h some within e =
     rows-next n lines total reader events number before fields rest h some within
-    ∙ ap (λ (r : Result (TraceEvent n) Kind). after_events events (and_then_rows number r (λ event. rows_from n lines (number + 1) event.tick rest))) e
+    ∙ ap (λ (r : Result (Event n) Kind). after_events events (and_then_rows number r (λ event. rows_from n lines (number + 1) event.tick rest))) e
 
-pub row-read : (n lines : ℕ) (total : Result (List (TraceEvent n)) ParseFault) (reader new : Reader (Bor (List ℕ))) (events : List (TraceEvent n)) (number before : ℕ) (fields : List (List ℕ)) (rest : List (List (List ℕ))) (event : TraceEvent n)
+pub row-read : (n lines : ℕ) (total : Result (List (Event n)) ParseFault) (reader new : Reader (Bor (List ℕ))) (events : List (Event n)) (number before : ℕ) (fields : List (List ℕ)) (rest : List (List (List ℕ))) (event : Event n)
     → (h : HasRead n lines total reader events number before) → h.rows ≡ fields ∷ rest → HasLeft new rest → number ≤ most_rows
     → event_of n lines before fields ≡ Ok event → HasRead n lines total new (events ++ (event ∷ [])) (number + 1) event.tick
 row-read n lines total reader new events number before fields rest event h some left within e = record {
@@ -91,12 +91,12 @@ row-read n lines total reader new events number before fields rest event h some 
   left = left;
   is =
       rows-next n lines total reader events number before fields rest h some within
-      ∙ ap (λ (r : Result (TraceEvent n) Kind). after_events events (and_then_rows number r (λ event. rows_from n lines (number + 1) event.tick rest))) e
+      ∙ ap (λ (r : Result (Event n) Kind). after_events events (and_then_rows number r (λ event. rows_from n lines (number + 1) event.tick rest))) e
       ∙ after_events-one events event (rows_from n lines (number + 1) event.tick rest);
 }
 
 -- a row too many
-pub rows-too_many : (n lines : ℕ) (total : Result (List (TraceEvent n)) ParseFault) (reader : Reader (Bor (List ℕ))) (events : List (TraceEvent n)) (number before : ℕ) (fields : List (List ℕ)) (rest : List (List (List ℕ)))
+pub rows-too_many : (n lines : ℕ) (total : Result (List (Event n)) ParseFault) (reader : Reader (Bor (List ℕ))) (events : List (Event n)) (number before : ℕ) (fields : List (List ℕ)) (rest : List (List (List ℕ)))
     → (h : HasRead n lines total reader events number before) → h.rows ≡ fields ∷ rest → most_rows < number → total ≡ Err fault.TooMany
 unfolding rows_from
 rows-too_many n lines total reader events number before fields rest h some over =

@@ -2,14 +2,14 @@
 
 /// One row of a trace: at this tick of the simulation this happens.
 #[derive(Clone, Copy, Debug, PartialEq)]
-pub struct TraceEvent<const B: usize> {
+pub struct Event<const B: usize> {
     pub tick: u64,
-    pub op: TraceOp<B>,
+    pub op: EventOp<B>,
 }
 
 /// What happens, at a line of `B` bytes where it has one.
 #[derive(Clone, Copy, Debug, PartialEq)]
-pub enum TraceOp<const B: usize> {
+pub enum EventOp<const B: usize> {
     /// A read of this line arrives.
     Read(u32),
     /// A write of this line arrives, with all its bytes.

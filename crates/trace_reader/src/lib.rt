@@ -11,7 +11,8 @@ mod row;
 mod trace;
 
 pub use decimal::number;
-pub use event::{TraceEvent, TraceOp};
+pub use event::{Event, EventOp};
 pub use fault::{Kind, ParseFault, TraceFault};
-pub use row::LATEST_TICK;
+pub use payload::Values;
+pub use row::{LATEST_TICK, read_fields};
 pub use trace::{MOST_ROWS, parse};

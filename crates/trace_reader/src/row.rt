@@ -2,10 +2,10 @@
 ghost use Rattle.std.specs.Prelude.{◌≡◌, ◌≤◌};
 ghost use Rattle.std.specs.Option.{ok_or};
 ghost use Rattle.csv.specs.Records.{fields_of};
-ghost use Rattle.trace_reader.specs.Rows.{text_at, line_of, read_of, write_of, mask_of, op_of, event_of};
+ghost use Rattle.trace_reader.specs.Rows.{text_at, line_of, read_of, write_of, mask_of, op_of, row_of, event_of};
 
 use crate::decimal::number;
-use crate::event::{TraceEvent, TraceOp};
+use crate::event::{Event, EventOp};
 use crate::fault::Kind;
 use crate::payload::{Values, bytes_from_digits, bytes_from_pairs};
 use csv::ByteRecord;
@@ -13,7 +13,7 @@ use csv::ByteRecord;
 /// The greatest tick of a trace: 2 to the power 40.
 pub const LATEST_TICK: u64 = 1_099_511_627_776;
 
-// The field at an index, empty where there is none.
+/// The field at an index, empty where there is none.
 pub fn field(row: &ByteRecord, index: usize) -> &[u8]
     ensures { result.now ≡ text_at (fields_of row.now) index }
 {
@@ -31,13 +31,13 @@ fn read_line(text: &[u8], lines: u32) -> Result<u32, Kind>
 
 // A read has a line and no payload.
 #[tactic(auto, unfolding(crate::specs::Rows::read_of))]
-fn plain_read<const B: usize>(line: &[u8], payload: &[u8], lines: u32) -> Result<TraceOp<B>, Kind>
+fn plain_read<const B: usize>(line: &[u8], payload: &[u8], lines: u32) -> Result<EventOp<B>, Kind>
     requires { 1 ≤ lines }
     ensures { result ≡ read_of B lines line.now payload.now }
 {
     let line = read_line(line, lines)?;
     if payload.is_empty() {
-        Ok(TraceOp::Read(line))
+        Ok(EventOp::Read(line))
     } else {
         Err(Kind::Payload)
     }
@@ -50,24 +50,24 @@ fn whole_write<const B: usize>(
     payload: &[u8],
     lines: u32,
     values: &Values,
-) -> Result<TraceOp<B>, Kind>
+) -> Result<EventOp<B>, Kind>
     requires { 1 ≤ lines }
     ensures { result ≡ write_of B lines line.now payload.now }
 {
     let line = read_line(line, lines)?;
     let bytes = bytes_from_digits(values, payload).ok_or(Kind::Payload)?;
-    Ok(TraceOp::Write(line, bytes))
+    Ok(EventOp::Write(line, bytes))
 }
 
 // A masked write has a line and some of its bytes.
 #[tactic(auto, unfolding(crate::specs::Rows::mask_of))]
-fn masked_write<const B: usize>(line: &[u8], payload: &[u8], lines: u32) -> Result<TraceOp<B>, Kind>
+fn masked_write<const B: usize>(line: &[u8], payload: &[u8], lines: u32) -> Result<EventOp<B>, Kind>
     requires { 1 ≤ lines }
     ensures { result ≡ mask_of B lines line.now payload.now }
 {
     let line = read_line(line, lines)?;
     let masked = bytes_from_pairs(payload).ok_or(Kind::Payload)?;
-    Ok(TraceOp::Mask(line, masked.bytes, masked.given))
+    Ok(EventOp::Mask(line, masked.bytes, masked.given))
 }
 
 #[tactic(auto, unfolding(crate::specs::Rows::op_of, crate::specs::Rows::cut_of))]
@@ -77,7 +77,7 @@ fn read_op<const B: usize>(
     payload: &[u8],
     lines: u32,
     values: &Values,
-) -> Result<TraceOp<B>, Kind>
+) -> Result<EventOp<B>, Kind>
     requires { 1 ≤ lines }
     ensures { result ≡ op_of B lines op.now line.now payload.now }
 {
@@ -91,31 +91,55 @@ fn read_op<const B: usize>(
             } else if !payload.is_empty() {
                 Err(Kind::Payload)
             } else {
-                Ok(TraceOp::Cut)
+                Ok(EventOp::Cut)
             }
         }
         _ => Err(Kind::Op),
     }
 }
 
-/// What a record says as a row of a trace, where the row before has the tick `before`.
+/// What four fields say as a row of a trace, where the row before has the tick `before`.
+pub fn read_fields<const B: usize>(
+    tick: &[u8],
+    op: &[u8],
+    line: &[u8],
+    payload: &[u8],
+    lines: u32,
+    before: u64,
+    values: &Values,
+) -> Result<Event<B>, Kind>
+    requires { 1 ≤ lines }
+    ensures { result ≡ row_of B lines before tick.now op.now line.now payload.now }
+{
+    let tick = number(tick, 13, LATEST_TICK).ok_or(Kind::Tick)?;
+    if tick < before {
+        return Err(Kind::Order);
+    }
+    let op = read_op(op, line, payload, lines, values)?;
+    Ok(Event { tick, op })
+}
+
+/// What a record says as a row of a trace.
 #[tactic(auto, unfolding(crate::specs::Rows::event_of))]
 pub fn read_event<const B: usize>(
     row: &ByteRecord,
     lines: u32,
     before: u64,
     values: &Values,
-) -> Result<TraceEvent<B>, Kind>
+) -> Result<Event<B>, Kind>
     requires { 1 ≤ lines }
     ensures { result ≡ event_of B lines before (fields_of row.now) }
 {
     if row.len() != 4 {
         return Err(Kind::Fields);
     }
-    let tick = number(field(row, 0), 13, LATEST_TICK).ok_or(Kind::Tick)?;
-    if tick < before {
-        return Err(Kind::Order);
-    }
-    let op = read_op(field(row, 1), field(row, 2), field(row, 3), lines, values)?;
-    Ok(TraceEvent { tick, op })
+    read_fields(
+        field(row, 0),
+        field(row, 1),
+        field(row, 2),
+        field(row, 3),
+        lines,
+        before,
+        values,
+    )
 }

@@ -5,7 +5,7 @@ ghost use Rattle.trace_reader.specs.Events.{AreEventsFor};
 ghost use Rattle.trace_reader.specs.Records.{HasLeft, IsOpen};
 ghost use Rattle.trace_reader.specs.Trace.{is_header, rows_from, trace_of};
 
-use crate::event::TraceEvent;
+use crate::event::Event;
 use crate::fault::{Kind, ParseFault, TraceFault};
 use crate::payload::Values;
 use crate::records::{next_row, open};
@@ -16,8 +16,9 @@ use std::alloc::Global;
 /// The greatest number of rows behind the header.
 pub const MOST_ROWS: u32 = 400_000;
 
+/// Whether a record is the header of a trace.
 #[tactic(auto, unfolding(crate::specs::Trace::is_header))]
-fn is_header_row(row: &ByteRecord) -> bool
+pub fn is_header_row(row: &ByteRecord) -> bool
     ensures { result ≡ is_header (fields_of row.now) }
 {
     row.len() == 4
@@ -34,7 +35,7 @@ fn read_rows<const B: usize>(
     row: &mut ByteRecord,
     lines: u32,
     values: &Values,
-) -> Result<Vec<TraceEvent<B>>, ParseFault>
+) -> Result<Vec<Event<B>>, ParseFault>
     requires lines { 1 ≤ lines }
     requires small { B ≤ 128 }
     requires open { IsOpen reader.old }
@@ -71,7 +72,7 @@ pub fn parse<const B: usize>(
     alloc: Global,
     bytes: &[u8],
     lines: u32,
-) -> Result<Vec<TraceEvent<B>>, ParseFault>
+) -> Result<Vec<Event<B>>, ParseFault>
     requires lines { 1 ≤ lines }
     requires small { B ≤ 128 }
     ensures ok { IfOk result (λ v. trace_of B lines bytes.now ≡ Ok v.items) }

@@ -1,8 +1,8 @@
 -- The rows of a table, as the code has them: an event and its outcome.
 use Rattle.std.specs.Prelude.{ℕ, true, List, [], ◌∷◌, replicate}
-use Rattle.trace_reader.specs.declared.event.TraceEvent.{TraceEvent}
-use Rattle.trace_reader.specs.declared.event.TraceOp.{TraceOp}
-use Rattle.trace_reader.specs.declared.event.TraceOp.TheVariants.{Read, Write, Mask, Cut}
+use Rattle.trace_reader.specs.declared.event.Event.{Event}
+use Rattle.trace_reader.specs.declared.event.EventOp.{EventOp}
+use Rattle.trace_reader.specs.declared.event.EventOp.TheVariants.{Read, Write, Mask, Cut}
 use Rattle.result_rows.specs.declared.Outcome.{Outcome}
 use Rattle.row_rules.specs.declared.Asks.{Asks}
 use Rattle.row_rules.specs.declared.Asks.TheVariants.{Reads, Writes, Cuts}
@@ -10,18 +10,18 @@ use Rattle.row_rules.specs.declared.Row.{Row}
 
 module _ {n : ℕ} where
   -- what an operation asks: a whole write gives every byte
-  abbrev pub asks_of : TraceOp n → Asks n
+  abbrev pub asks_of : EventOp n → Asks n
   asks_of (Read line) = Reads line
   asks_of (Write line bytes) = Writes line bytes (replicate n true)
   asks_of (Mask line bytes given) = Writes line bytes given
   asks_of Cut = Cuts
 
   -- the row of an event with its outcome
-  abbrev pub row_of : TraceEvent n → Outcome n → Row n
+  abbrev pub row_of : Event n → Outcome n → Row n
   row_of event outcome = record { tick = event.tick; asks = asks_of event.op; outcome = outcome }
 
   -- the rows of a trace with these outcomes, the oldest first
-  abbrev pub rows_with : List (TraceEvent n) → List (Outcome n) → List (Row n)
+  abbrev pub rows_with : List (Event n) → List (Outcome n) → List (Row n)
   rows_with [] outcomes = []
   rows_with (event ∷ events) [] = []
   rows_with (event ∷ events) (outcome ∷ outcomes) = row_of event outcome ∷ rows_with events outcomes

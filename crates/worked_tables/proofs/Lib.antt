@@ -1,2 +1,6 @@
 mod SmallRun
 mod SmallVerdicts
+mod QueueExamples
+mod MoveExamples
+mod ImageExamples
+mod Below

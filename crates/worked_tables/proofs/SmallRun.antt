@@ -8,13 +8,13 @@ use Rattle.std.proofs.lemmas.Bool.{cases_eq}
 use Rattle.rand_core.specs.Stream.{next_u64}
 use Rattle.rand_core.specs.Steps.{stream_of}
 use Rattle.seeded_words.specs.Words.{stream_after, word_at}
-use Rattle.pcm_cells.specs.declared.array.Sense.{Sense}
+use Rattle.cell_rows.specs.declared.array.Sense.{Sense}
 use Rattle.ecp_line.specs.Reading.{decode}
 use Rattle.ecp_line.specs.Layout as layout
-use Rattle.pcm_cells.specs.Rows as cells
+use Rattle.cell_rows.specs.Rows as cells
 use Rattle.line_writer.specs.Untouched.{HasUntouched}
 use Rattle.row_rules.specs.declared.Row.{Row}
-use Rattle.row_rules.specs.Worked.{whole}
+use Rattle.worked_tables.specs.TableExamples.{whole}
 use Rattle.row_rules.specs.Rows.{each_row}
 use Rattle.row_rules.specs.Serving.{is_served}
 use Rattle.row_rules.specs.Table.{KeepsRows}

@@ -3,9 +3,9 @@ use Rattle.std.proofs.Common.{◌≡◌, refl}
 use Rattle.rand_core.specs.Stream.{next_u64}
 use Rattle.rand_core.specs.Steps.{stream_of}
 use Rattle.seeded_words.specs.Words.{stream_after, word_at}
-use Rattle.row_verdict.specs.Verdicts.{no}
-use Rattle.row_verdict.specs.declared.Rule.TheVariants.{Serves, Tick}
-use Rattle.row_verdict.specs.declared.Verdict.TheVariants.{Yes}
+use Rattle.check_verdict.specs.Verdicts.{no}
+use Rattle.check_verdict.specs.declared.Rule.TheVariants.{Serves, Tick}
+use Rattle.check_verdict.specs.declared.Verdict.TheVariants.{Yes}
 use Rattle.worked_tables.specs.Runs.{reading, misplaced}
 use Rattle.worked_tables.specs.Verdicts.{verdict_on, read_at}
 

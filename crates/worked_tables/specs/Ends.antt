@@ -2,7 +2,7 @@
 use Rattle.std.specs.Prelude.{ℕ, ◌==◌, Bool, if◌then◌else◌, List, [], ◌∷◌}
 use Rattle.result_rows.specs.declared.Outcome.TheVariants as out
 use Rattle.row_rules.specs.declared.Row.{Row}
-use Rattle.row_rules.specs.Worked.{W, M}
+use Rattle.worked_tables.specs.TableExamples.{W, M}
 
 -- line 3 is stored
 abbrev pub stored_rows : List (Row 2)

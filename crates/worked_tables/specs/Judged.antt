@@ -4,7 +4,7 @@ use Rattle.result_rows.specs.declared.Outcome.TheVariants as out
 use Rattle.bank_shape.specs.declared.pace.Policy.{Policy}
 use Rattle.row_rules.specs.declared.Row.{Row}
 use Rattle.row_rules.specs.declared.Rules.{Rules}
-use Rattle.row_rules.specs.Worked.{W, R, C, whole}
+use Rattle.worked_tables.specs.TableExamples.{W, R, C, whole}
 
 -- four lines of one bank
 abbrev pub one_bank : List ℕ
@@ -13,7 +13,7 @@ one_bank = 0 ∷ 0 ∷ 0 ∷ 0 ∷ []
 -- the small bank with its registers in the array
 abbrev pub with_registers : Policy → Rules
 with_registers policy =
-    record { writes = 4; reads = 4; spares = 2; read = 5; iter = 10; steps = 160; policy = policy; twice = true }
+    record { writes = 4; reads = 4; spares = 2; read_ticks = 5; iter_ticks = 10; steps = 160; policy = policy; twice = true }
 
 -- a write, and a read of it that is read at this tick with these bytes
 abbrev pub read_back : ℕ → List ℕ → List (Row 2)

@@ -1,3 +1,9 @@
+pub mod Faults
+pub mod TableExamples
+pub mod AlteredTables
+pub mod HistoryExamples
+pub mod AlteredHistories
+pub mod HistoryTables
 pub mod Ends
 pub mod Judged
 pub mod Lifetimes

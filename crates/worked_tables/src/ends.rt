@@ -3,9 +3,9 @@
 
 ghost use Rattle.std.specs.Prelude.{◌≡◌, ◌∷◌, [], Some, None, true, false};
 ghost use Rattle.row_rules.specs.Rows.{each_row};
-ghost use Rattle.row_rules.specs.Worked.{whole};
-ghost use Rattle.bank_laws.specs.Worked.{none_worn};
-ghost use Rattle.bank_model.specs.Worked.{small};
+ghost use Rattle.worked_tables.specs.TableExamples.{whole};
+ghost use Rattle.worked_tables.specs.HistoryTables.{none_worn};
+ghost use Rattle.worked_tables.specs.HistoryExamples.{small};
 ghost use Rattle.end_laws.specs.Ends.{is_excused, is_kept_line, is_still_there};
 ghost use Rattle.end_laws.specs.Roles.{used_spares};
 ghost use Rattle.worked_tables.specs.Ends.{half_stored_rows, slot_3_has, stored_rows, worn_3};

@@ -4,8 +4,8 @@
 ghost use Rattle.std.specs.Prelude.{◌≡◌, [], ◌∷◌, map, reverse};
 ghost use Rattle.bank_shape.specs.declared.pace.Policy.TheVariants.{Pause, Plain, Cancel};
 ghost use Rattle.bank_model.specs.Lawful.{Lawful, IsIdle};
-ghost use Rattle.bank_model.specs.Worked.{small, moving, pace, whole, paused, not_paused, cancelled, two_entries, dropped_begin, copied_as, in_array, kept_done, kept_torn, kept_halted, bank_torn, kept_cancelled};
-ghost use Rattle.bank_model.specs.Altered as altered;
+ghost use Rattle.worked_tables.specs.HistoryExamples.{small, moving, pace, whole, paused, not_paused, cancelled, two_entries, dropped_begin, copied_as, in_array, kept_done, kept_torn, kept_halted, bank_torn, kept_cancelled};
+ghost use Rattle.worked_tables.specs.AlteredHistories as altered;
 
 /// Histories of stores, reads, cuts and moves are lawful, under each policy.
 pub fn worked_histories_are_lawful()

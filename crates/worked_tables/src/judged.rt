@@ -2,12 +2,12 @@
 
 ghost use Rattle.std.specs.Prelude.{◌≡◌, [], ◌∷◌};
 ghost use Rattle.bank_shape.specs.declared.pace.Policy.TheVariants.{Pause, Plain, Cancel};
-ghost use Rattle.row_rules.specs.Altered as altered;
-ghost use Rattle.row_rules.specs.Worked.{narrow, small, whole};
-ghost use Rattle.row_rules.specs.Worked.{cancelled, cancelled_begin, cancelled_often, lost_read, no_spare, one_entry, paused};
-ghost use Rattle.row_verdict.specs.Verdicts.{verdict_of, no};
-ghost use Rattle.row_verdict.specs.declared.Rule.TheVariants.{Serves, Queue, Worn, Tick};
-ghost use Rattle.row_verdict.specs.declared.Verdict.TheVariants.{Yes};
+ghost use Rattle.worked_tables.specs.AlteredTables as altered;
+ghost use Rattle.worked_tables.specs.TableExamples.{narrow, small, whole};
+ghost use Rattle.worked_tables.specs.TableExamples.{cancelled, cancelled_begin, cancelled_often, lost_read, no_spare, one_entry, paused};
+ghost use Rattle.check_verdict.specs.Verdicts.{verdict_of, no};
+ghost use Rattle.check_verdict.specs.declared.Rule.TheVariants.{Serves, Queue, Worn, Tick};
+ghost use Rattle.check_verdict.specs.declared.Verdict.TheVariants.{Yes};
 ghost use Rattle.worked_tables.specs.Judged as worked;
 ghost use Rattle.worked_tables.specs.Judged.{one_bank};
 

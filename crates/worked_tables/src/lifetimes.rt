@@ -5,13 +5,14 @@ ghost use Rattle.std.specs.Prelude.{◌≡◌, ◌+◌, ◌*◌, ◌/◌, true, 
 ghost use Rattle.row_rules.specs.Rows.{each_row};
 ghost use Rattle.row_rules.specs.Answers.{is_stored};
 ghost use Rattle.row_rules.specs.Ticking.{is_in_time};
-ghost use Rattle.row_rules.specs.Worked.{small};
-ghost use Rattle.bank_shape.specs.declared.pace.Policy.TheVariants.{Pause};
+ghost use Rattle.worked_tables.specs.TableExamples.{small};
+ghost use Rattle.bank_shape.specs.declared.pace.Policy.TheVariants.{Pause, Cancel};
 ghost use Rattle.bank_laws.specs.Places.{is_placed, region_stores};
-ghost use Rattle.bank_laws.specs.Worked.{none_worn};
+ghost use Rattle.worked_tables.specs.HistoryTables.{none_worn};
 ghost use Rattle.lifetime_laws.specs.Spread.{most_at, most_moves, stores_on};
 ghost use Rattle.lifetime_laws.specs.Works.{stores_at};
-ghost use Rattle.worked_tables.specs.Lifetimes.{two_lines, storing, always, waiting_for_slot_0, stores_of};
+ghost use Rattle.lifetime_laws.specs.Lifetime.{most_hot_works, most_asked_works, BearsWorks};
+ghost use Rattle.worked_tables.specs.Lifetimes.{two_lines, storing, always, waiting_for_slot_0, stores_of, sixteen_regions, one_hot_line_each, its_first, all_first, enduring, most_promised};
 
 /// Sixteen lines, a gap move for each ten stores: of 20,000 and of 50,000 stores of one line at most 1,280 and 3,040 are on one
 /// array line, and 118 and 295 moves go into one place. Without moves all 50,000 are.
@@ -44,4 +45,29 @@ pub fn worked_table_refutes_stronger_bounds()
     ensures even_by_the_line { 8 / (2 + 1) + 2 * 1 ≡ 4 }
     ensures all { region_stores is_stored two_lines 0 (storing waiting_for_slot_0 24) ≡ 24 }
     ensures all_on { stores_at 0 (storing waiting_for_slot_0 24) ≡ 16 }
+{}
+
+/// Sixteen regions of four lines, a gap move after each store, 1,000 stores of one line of each region: by each region's own hot line its
+/// bound is 401, so cells that endure 402 changes bear them. By the hot lines of all regions in each it would be 3,401, and by none 1,201.
+pub fn hot_lines_count_in_their_own_region()
+    ensures in_time { each_row (is_in_time (small Pause)) (one_hot_line_each 48) [] ≡ true }
+    ensures placed { each_row (is_placed sixteen_regions none_worn) (one_hot_line_each 48) [] ≡ true }
+    ensures own { most_hot_works sixteen_regions 0 (its_first 0) (one_hot_line_each 16000) ≡ 401 }
+    ensures asked { most_asked_works sixteen_regions 0 (its_first 0) (one_hot_line_each 16000) ≡ 401 }
+    ensures all { most_hot_works sixteen_regions 0 (all_first 16) (one_hot_line_each 16000) ≡ 3401 }
+    ensures none { most_hot_works sixteen_regions 0 [] (one_hot_line_each 16000) ≡ 1201 }
+    ensures bears { BearsWorks (enduring 402) sixteen_regions (small Pause) (one_hot_line_each 16000) its_first }
+{}
+
+/// How many stores of hot lines are promised, as `examples/studies/promise` prints it: of one line of a region of 64 over cells of
+/// 100,000,000 changes, with a gap move for each hundred stores, for each one, and so seldom that none comes, and under the policy
+/// cancel; of one line of 16 beside 8 stores of others, as in the study of lifetimes; and of three lines of 16 through ten power cuts.
+pub fn promises_are_computed()
+    ensures default { most_promised Pause 64 100 1 100000000 0 0 6435521917 ≡ true }
+    ensures often { most_promised Pause 64 1 1 100000000 0 0 3249999870 ≡ true }
+    ensures never { most_promised Pause 64 4000000000 1 100000000 0 0 99999998 ≡ true }
+    ensures cancelled { most_promised Cancel 64 100 1 100000000 0 0 1287104381 ≡ true }
+    ensures study { most_promised Pause 16 1 1 20000 8 0 169822 ≡ true }
+    ensures study_4 { most_promised Pause 16 4 1 20000 8 0 271315 ≡ true }
+    ensures cuts { most_promised Pause 16 4 3 20000 8 10 104443 ≡ true }
 {}

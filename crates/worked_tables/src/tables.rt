@@ -4,11 +4,11 @@
 ghost use Rattle.std.specs.Prelude.{◌≡◌, ◌+◌, ◌*◌, None, true, false, reverse, [], ◌∷◌, nat_lt};
 ghost use Rattle.bank_shape.specs.declared.pace.Policy.TheVariants.{Pause, Plain, Cancel};
 ghost use Rattle.row_rules.specs.Rows.{each_row, line_of};
-ghost use Rattle.row_rules.specs.Room.{finds_room};
-ghost use Rattle.row_rules.specs.Table.{first_fault, Serves, Queues, Wears, Earns, Ticks};
-ghost use Rattle.row_rules.specs.Worked.{holding, small, narrow, one_entry, no_spare, paused, not_paused, lost_read, saved_read, two_entries, half_queued, completed_entry, cut_begin, dropped_begin, cancelled, cancelled_begin, cancelled_often};
-ghost use Rattle.row_rules.specs.Altered as altered;
-ghost use Rattle.row_rules.specs.Altered.{breaks};
+ghost use Rattle.worked_tables.specs.Faults.{finds_room};
+ghost use Rattle.worked_tables.specs.Faults.{first_fault, Serves, Queues, Wears, Earns, Ticks};
+ghost use Rattle.worked_tables.specs.TableExamples.{holding, small, narrow, one_entry, no_spare, paused, not_paused, lost_read, saved_read, two_entries, half_queued, completed_entry, cut_begin, dropped_begin, cancelled, cancelled_begin, cancelled_often};
+ghost use Rattle.worked_tables.specs.AlteredTables as altered;
+ghost use Rattle.worked_tables.specs.AlteredTables.{breaks};
 
 /// Tables of whole writes.
 pub fn whole_writes_keep_all_laws()

@@ -2,9 +2,9 @@
 //! definitions; there is nothing to run.
 
 ghost use Rattle.std.specs.Prelude.{◌≡◌};
-ghost use Rattle.row_verdict.specs.Verdicts.{no};
-ghost use Rattle.row_verdict.specs.declared.Rule.TheVariants.{Serves, Tick};
-ghost use Rattle.row_verdict.specs.declared.Verdict.TheVariants.{Yes};
+ghost use Rattle.check_verdict.specs.Verdicts.{no};
+ghost use Rattle.check_verdict.specs.declared.Rule.TheVariants.{Serves, Tick};
+ghost use Rattle.check_verdict.specs.declared.Verdict.TheVariants.{Yes};
 ghost use Rattle.worked_tables.specs.Runs.{reading, misplaced};
 ghost use Rattle.worked_tables.specs.Verdicts.{verdict_on, read_at};
 

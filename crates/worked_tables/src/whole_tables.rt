@@ -2,10 +2,10 @@
 ghost use Rattle.std.specs.Prelude.{◌≡◌, [], true, false};
 ghost use Rattle.bank_shape.specs.declared.pace.Policy.TheVariants.{Pause};
 ghost use Rattle.row_rules.specs.Rows.{each_row};
-ghost use Rattle.bank_model.specs.Worked.{pace};
+ghost use Rattle.worked_tables.specs.HistoryExamples.{pace};
 ghost use Rattle.bank_laws.specs.Laws.{rules_of};
 ghost use Rattle.bank_laws.specs.Places.{is_wear_true, is_taken, most_pulses, worn_among};
-ghost use Rattle.bank_laws.specs.Worked.{none_worn};
+ghost use Rattle.worked_tables.specs.HistoryTables.{none_worn};
 ghost use Rattle.worked_tables.specs.Ends.{worn_3};
 ghost use Rattle.worked_tables.specs.WholeTables.{found, without_spares, worn_out};
 

@@ -1,3 +1,4 @@
+use Rattle.std.proofs.Common.{false}
 use Rattle.image_laws.proofs.Saved.{ImageLaws, saved_law}
 use Rattle.image_laws.proofs.images_are_of_their_runs.Goals as goal
 
@@ -9,4 +10,4 @@ returns c =
       agree = c.kept_state_is_that_of_the_history.ensures;
       leaving = c.histories_leave_the_array.ensures;
     } in
-    saved_law laws
+    saved_law laws false

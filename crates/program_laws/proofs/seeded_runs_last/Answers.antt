@@ -1,5 +1,5 @@
 use Rattle.std.proofs.Common.{arith, sym, ap, subst}
-use Rattle.pcm_cells.specs.Device.{CellBounds}
+use Rattle.cell_rows.specs.Device.{CellBounds}
 use Rattle.pcm_cells.specs.Seeded.{seeded_state, bounds_of}
 use Rattle.run_laws.specs.Lasting.{Outlasts, OutlastsAsked}
 use Rattle.pcm_top.specs.Rows.{rows_of}

@@ -1,4 +1,5 @@
-use Rattle.run_laws.proofs.Finished.{BankLaws, finished_law}
+use Rattle.std.proofs.Common.{false}
+use Rattle.run_laws.proofs.Finished.{BankLaws, ended_law}
 use Rattle.run_laws.proofs.finished_runs_are_right.Goals as goal
 
 pub returns : goal.returns
@@ -20,4 +21,4 @@ returns c =
       queued = c.excepted_lines_are_queued.ensures;
       still = c.stored_rows_are_still_there.ensures;
     } in
-    finished_law laws
+    ended_law laws false

@@ -1,4 +1,4 @@
-use Rattle.tick_laws.proofs.ReadTimes.{few_cancels_law}
+use Rattle.tick_laws.proofs.FewCancels.{few_cancels_law}
 use Rattle.tick_laws.proofs.reads_that_may_cancel_wait_little.Goals as goal
 
 pub returns : goal.returns

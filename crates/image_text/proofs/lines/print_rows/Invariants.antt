@@ -1,10 +1,9 @@
-use Rattle.std.proofs.Common.{◌≡◌, ℕ, ◌<◌, ◌≤◌, take}
+use Rattle.std.proofs.Common.{◌≡◌, ◌≤◌, take}
 use Rattle.std.specs.List.{flat_map}
-use Rattle.pcm_image.specs.Saved.{IsSavedRow}
 use Rattle.pcm_image.specs.Spelling.{cells_bytes}
 use Rattle.image_laws.specs.Saving.{saved_cells}
-use Rattle.image_laws.specs.SavedRuns.{SensedSince}
 use Rattle.image_text.specs.Printing.{PrintsMore}
+use Rattle.image_text.specs.Sensing.{SensesRows}
 use Rattle.image_text.proofs.lines.print_rows.Given as goal
 
 -- those so far are printed, and were sensed; each of them has the bytes of a line
@@ -13,5 +12,4 @@ invariant-loop-line g l =
     PrintsMore l.fn.text l.text (g.K.Sink.written l.fn.out) (g.K.Sink.written l.out)
     (flat_map cells_bytes (take l.line (saved_cells (g.A.CellArray.state l.fn.array) (g.A.CellArray.state l.fn.array).lines)))
     × (l.text.limit ≡ l.fn.text.limit) × (g.K.Sink.faults l.fn.out ≤ g.K.Sink.faults l.out) × (l.line ≤ (g.A.CellArray.state l.fn.array).lines)
-    × SensedSince (g.A.CellArray.state l.fn.array) (g.A.CellArray.state l.array)
-    × ((line : ℕ) → line < l.line → IsSavedRow g.row.B g.row.M ((g.A.CellArray.state l.fn.array).line line).held)
+    × SensesRows l.line (g.A.CellArray.state l.fn.array) (g.A.CellArray.state l.array)

@@ -1,5 +1,5 @@
 use Rattle.std.proofs.Common.{arith}
-use Rattle.pcm_cells.proofs.ByteLemmas.{digit_choice}
+use Rattle.cell_rows.proofs.ByteLemmas.{digit_choice}
 use Rattle.pcm_cells.proofs.blocks.chosen.Goals as goal
 
 pub returns-clause-bits : goal.returns-clause-bits

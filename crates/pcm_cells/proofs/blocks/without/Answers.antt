@@ -1,4 +1,4 @@
-use Rattle.pcm_cells.proofs.ByteLemmas.{digit_without}
+use Rattle.cell_rows.proofs.ByteLemmas.{digit_without}
 use Rattle.pcm_cells.proofs.blocks.without.Goals as goal
 
 pub returns : goal.returns

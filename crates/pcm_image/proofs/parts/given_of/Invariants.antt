@@ -1,5 +1,5 @@
 use Rattle.std.proofs.Common.{◌≡◌, ◌<◌, ℕ, false, get_or, length}
-use Rattle.pcm_cells.specs.Rows.{bit_of}
+use Rattle.cell_rows.specs.Rows.{bit_of}
 use Rattle.pcm_image.proofs.parts.given_of.Given as goal
 
 -- the bits so far

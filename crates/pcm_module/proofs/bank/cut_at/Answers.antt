@@ -3,7 +3,7 @@ use Rattle.row_rules.specs.declared.Asks.TheVariants.{Cuts}
 use Rattle.bank_model.specs.Timing.{TimedEvent}
 use Rattle.clock_laws.specs.Cutting.{cut}
 use Rattle.module_laws.specs.Asking.{Asked}
-use Rattle.bank_clock.proofs.Sizes.{timed_fits, row_fits}
+use Rattle.bank_timing.proofs.Sizes.{timed_fits}
 use Rattle.pcm_module.proofs.Arriving.{step_on}
 use Rattle.pcm_module.proofs.bank.cut_at.Goals as goal
 
@@ -12,13 +12,10 @@ power_cut-requires g c =
     let run = c.advance.ensures.extends c.requires.led.0 c.requires.led.1 in (
       timed_fits g.row.B g.row.M g.row.E c.requires.layout,
       (
-        row_fits,
+        c.advance.ensures.going,
         (
-          c.advance.ensures.going,
-          (
-            (run.0 ++ c.requires.led.0, run.1.leads),
-            c.advance.ensures.unset,
-          ),
+          (run.0 ++ c.requires.led.0, run.1.leads),
+          c.advance.ensures.unset,
         ),
       ),
     )
@@ -41,9 +38,12 @@ returns-clause-step g c row xs leads =
     let event : TimedEvent g.row.B g.row.M = cut (run.0 ++ xs) c.advance.new.self after in
     let a : Asked g.row.B = record { row = row; tick = c.args.tick; asks = Cuts } in (
       event ∷ run.0,
-      step_on xs run.0 c.args.timed.now c.advance.new.self c.power_cut.new.self before between after c.args.results.now c.advance.new.results c.power_cut.new.results leads run.2 run.1 (event ∷ []) a next
+      step_on xs run.0 c.args.timed.now c.advance.new.self c.power_cut.new.self before between after (g.R.Outcomes.table c.args.results.now) (g.R.Outcomes.table c.advance.new.results) (g.R.Outcomes.table c.power_cut.new.results) leads run.2 run.1 (event ∷ []) a next
           (λ asked is. (sym c.advance.ensures.now, refl, is)) (λ other off. refl),
     )
 
 pub advance-requires : goal.advance-requires
 advance-requires g c = grind arith
+
+pub returns-clause-goes_on : goal.returns-clause-goes_on
+returns-clause-goes_on g c = g.met.R.Outcomes.follows _ _ _ c.advance.ensures.goes_on c.power_cut.ensures.goes_on

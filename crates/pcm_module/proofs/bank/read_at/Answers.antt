@@ -8,8 +8,8 @@ use Rattle.bank_invariant.specs.Serving.{read_from}
 use Rattle.power_recovery.specs.Slots.{bank_lines}
 use Rattle.clock_laws.specs.Arriving.{arrival}
 use Rattle.module_laws.specs.Asking.{Asked}
-use Rattle.bank_clock.proofs.Sizes.{timed_fits, row_fits}
-use Rattle.bank_clock.specs.Cancelling.{cancel_first}
+use Rattle.bank_timing.proofs.Sizes.{timed_fits}
+use Rattle.bank_timing.specs.Cancelling.{cancel_first}
 use Rattle.pcm_module.proofs.Arriving.{open_on, step_on, first_asked, first_off}
 use Rattle.pcm_module.proofs.bank.read_at.Goals as goal
 
@@ -19,20 +19,17 @@ arrive_read-requires g c =
     let before = g.A.CellArray.state c.args.array.now in
     let after = g.A.CellArray.state c.advance.new.array in
     let stays = subst (λ (s : BankShape). c.args.line < bank_lines s) (sym run.1.shape) c.requires.exists in
-    let still = open_on c.requires.led.0 run.0 c.args.timed.now c.advance.new.self c.advance.new.self before after after c.args.results.now c.advance.new.results c.advance.new.results c.requires.led.1 run.2 run.1 c.args.row c.requires.rises c.requires.fresh in (
+    let still = open_on c.requires.led.0 run.0 c.args.timed.now c.advance.new.self c.advance.new.self before after after (g.R.Outcomes.table c.args.results.now) (g.R.Outcomes.table c.advance.new.results) (g.R.Outcomes.table c.advance.new.results) c.requires.led.1 run.2 run.1 c.args.row c.requires.rises c.requires.fresh in (
       timed_fits g.row.B g.row.M g.row.E c.requires.layout,
       (
-        row_fits,
+        c.advance.ensures.going,
         (
-          c.advance.ensures.going,
+          (run.0 ++ c.requires.led.0, run.1.leads),
           (
-            (run.0 ++ c.requires.led.0, run.1.leads),
+            stays,
             (
-              stays,
-              (
-                omega (arith, c.advance.ensures.rows, c.requires.rises),
-                (c.advance.ensures.unset, still),
-              ),
+              omega (arith, c.advance.ensures.rows, c.requires.rises),
+              (c.advance.ensures.unset, still),
             ),
           ),
         ),
@@ -59,7 +56,7 @@ returns-clause-step g c xs leads =
     let extra : List (TimedEvent g.row.B g.row.M) = cancel_first (run.0 ++ xs) clock c.args.line in
     let a : Asked g.row.B = record { row = c.args.row; tick = c.args.tick; asks = Reads c.args.line } in (
       (event ∷ extra) ++ run.0,
-      step_on xs run.0 c.args.timed.now clock c.arrive_read.new.self before between after c.args.results.now c.advance.new.results c.arrive_read.new.results leads run.2 run.1
+      step_on xs run.0 c.args.timed.now clock c.arrive_read.new.self before between after (g.R.Outcomes.table c.args.results.now) (g.R.Outcomes.table c.advance.new.results) (g.R.Outcomes.table c.arrive_read.new.results) leads run.2 run.1
           (event ∷ extra) a next
           (λ asked is. (
             ap (λ (t : ℕ). let b : Asked g.row.B = record { row = c.args.row; tick = t; asks = Reads c.args.line } in b) (sym c.advance.ensures.now),
@@ -70,3 +67,6 @@ returns-clause-step g c xs leads =
 
 pub advance-requires : goal.advance-requires
 advance-requires g c = grind arith
+
+pub returns-clause-goes_on : goal.returns-clause-goes_on
+returns-clause-goes_on g c = g.met.R.Outcomes.follows _ _ _ c.advance.ensures.goes_on c.arrive_read.ensures.goes_on

@@ -8,7 +8,7 @@ use Rattle.bank_core.specs.Steps.{write_from}
 use Rattle.power_recovery.specs.Slots.{bank_lines}
 use Rattle.clock_laws.specs.Arriving.{arrival}
 use Rattle.module_laws.specs.Asking.{Asked}
-use Rattle.bank_clock.proofs.Sizes.{timed_fits, row_fits, entry_fits}
+use Rattle.bank_timing.proofs.Sizes.{timed_fits, entry_fits}
 use Rattle.pcm_module.proofs.Arriving.{open_on, step_on}
 use Rattle.pcm_module.proofs.bank.write_at.Goals as goal
 
@@ -18,22 +18,19 @@ arrive_write-requires g c =
     let before = g.A.CellArray.state c.args.array.now in
     let after = g.A.CellArray.state c.advance.new.array in
     let stays = subst (λ (s : BankShape). c.args.entry.line < bank_lines s) (sym run.1.shape) c.requires.exists in
-    let still = open_on c.requires.led.0 run.0 c.args.timed.now c.advance.new.self c.advance.new.self before after after c.args.results.now c.advance.new.results c.advance.new.results c.requires.led.1 run.2 run.1 c.args.entry.row c.requires.rises c.requires.fresh in (
+    let still = open_on c.requires.led.0 run.0 c.args.timed.now c.advance.new.self c.advance.new.self before after after (g.R.Outcomes.table c.args.results.now) (g.R.Outcomes.table c.advance.new.results) (g.R.Outcomes.table c.advance.new.results) c.requires.led.1 run.2 run.1 c.args.entry.row c.requires.rises c.requires.fresh in (
       timed_fits g.row.B g.row.M g.row.E c.requires.layout,
       (
         entry_fits g.row.B c.requires.layout.shape.1,
         (
-          row_fits,
+          c.advance.ensures.going,
           (
-            c.advance.ensures.going,
+            (run.0 ++ c.requires.led.0, after, run.1.leads),
             (
-              (run.0 ++ c.requires.led.0, after, run.1.leads),
+              stays,
               (
-                stays,
-                (
-                  omega (arith, c.advance.ensures.rows, c.requires.rises),
-                  (c.requires.masked, (c.advance.ensures.unset, still)),
-                ),
+                omega (arith, c.advance.ensures.rows, c.requires.rises),
+                (c.requires.masked, (c.advance.ensures.unset, still)),
               ),
             ),
           ),
@@ -58,10 +55,13 @@ returns-clause-step g c xs leads =
     let event : TimedEvent g.row.B g.row.M = arrival c.advance.new.self.tick (Write c.args.entry.row c.args.entry.line c.args.entry.bytes c.args.entry.given (write_from c.advance.new.self.bank c.args.entry.line)) in
     let a : Asked g.row.B = record { row = c.args.entry.row; tick = c.args.tick; asks = Writes c.args.entry.line c.args.entry.bytes c.args.entry.given } in (
       event ∷ run.0,
-      step_on xs run.0 c.args.timed.now c.advance.new.self c.arrive_write.new.self before after after c.args.results.now c.advance.new.results c.arrive_write.new.results leads run.2 run.1 (event ∷ []) a next
+      step_on xs run.0 c.args.timed.now c.advance.new.self c.arrive_write.new.self before after after (g.R.Outcomes.table c.args.results.now) (g.R.Outcomes.table c.advance.new.results) (g.R.Outcomes.table c.arrive_write.new.results) leads run.2 run.1 (event ∷ []) a next
           (λ asked is. (ap (λ (t : ℕ). let b : Asked g.row.B = record { row = c.args.entry.row; tick = t; asks = Writes c.args.entry.line c.args.entry.bytes c.args.entry.given } in b) (sym c.advance.ensures.now), is))
           (λ other off. or_from (c.args.entry.row == other) _ (ne_eqb c.args.entry.row other (λ e. off (sym e))) refl),
     )
 
 pub advance-requires : goal.advance-requires
 advance-requires g c = grind arith
+
+pub returns-clause-goes_on : goal.returns-clause-goes_on
+returns-clause-goes_on g c = g.met.R.Outcomes.follows _ _ _ c.advance.ensures.goes_on c.arrive_write.ensures.goes_on

@@ -1,13 +1,13 @@
-use Rattle.std.proofs.Common.{arith, ◌≡◌, ℕ, ◌<◌, ◌++◌, length, Some, sym, subst, ◌∙◌}
+use Rattle.std.proofs.Common.{arith, false, ◌≡◌, ℕ, ◌<◌, ◌++◌, length, Some, sym, subst, ◌∙◌}
 use Rattle.std.specs.Prelude.{slice_get}
-use Rattle.bank_clock.proofs.Sizes.{timed_fits, row_fits}
+use Rattle.bank_timing.proofs.Sizes.{timed_fits}
 use Rattle.pcm_module.specs.Draining.{AreDrained}
 use Rattle.masked_bytes.proofs.Lists.{item-at}
 use Rattle.pcm_module.proofs.Draining.{drain_none, next_replays, drain_one, reached_bank, reached_all, time_left}
 use Rattle.pcm_module.proofs.finishing.drain_all.Goals as goal
 
 pub loop-bank-init : goal.loop-bank-init
-loop-bank-init g c of may = drain_none of (g.A.CellArray.state c.args.array.now) c.args.results.now c.args.banks.now.items may
+loop-bank-init g c = ((λ of may. drain_none false of (g.A.CellArray.state c.args.array.now) (g.R.Outcomes.table c.args.results.now) c.args.banks.now.items may), g.met.R.Outcomes.stands c.args.results.now)
 
 pub drain-requires : goal.drain-requires
 drain-requires g c =
@@ -16,44 +16,45 @@ drain-requires g c =
     let bank = c.loop-bank.bank in
     let banks = c.loop-bank.banks.items in
     let clock = c.index_mut.result.now in
-    let so_far = c.loop-bank.invariant of may in
+    let so_far = c.loop-bank.invariant.0 of may in
     let exists = reached_bank bank c.len-bank-end.result (length c.args.banks.now.items) of.shape.banks c.loop-bank-test.true (c.len-bank-end.ensures ∙ c.args.banks.now.ok.0) may.count in
     let within : bank < length banks = subst (λ (k : ℕ). bank < k) (sym so_far.count) exists in
     let is : slice_get banks bank ≡ Some clock = item-at banks bank clock within c.index_mut.ensures.value in
-    let f = next_replays of (g.A.CellArray.state c.args.array.now) c.args.results.now bank banks (g.A.CellArray.state c.loop-bank.array) c.loop-bank.results clock so_far exists is may.led.0 may.led.1 may.led.2 in (
+    let f = next_replays false of (g.A.CellArray.state c.args.array.now) (g.R.Outcomes.table c.args.results.now) bank banks (g.A.CellArray.state c.loop-bank.array) (g.R.Outcomes.table c.loop-bank.results) clock so_far exists is may.led.0 may.led.1 may.led.2 may.led.3 in (
       timed_fits g.row.B g.row.M g.row.E c.requires.layout,
       (
-        row_fits,
+        f.going,
         (
-          f.going,
+          ((so_far.replays may.led.0 may.led.1 may.led.2 may.led.3).0 bank ++ may.led.0 bank, f.leads),
           (
-            ((so_far.replays may.led.0 may.led.1 may.led.2).0 bank ++ may.led.0 bank, f.leads),
-            (
-              time_left clock.tick of.tick _ f.in_time may.in_time,
-              f.open_rows,
-            ),
+            time_left clock.tick of.tick _ f.in_time may.in_time,
+            f.open_rows,
           ),
         ),
       ),
     )
 
 pub loop-bank-preserved : goal.loop-bank-preserved
-loop-bank-preserved g c of may =
-    let bank = c.loop-bank.bank in
-    let banks = c.loop-bank.banks.items in
-    let clock = c.index_mut.result.now in
-    let so_far = c.loop-bank.invariant of may in
-    let exists = reached_bank bank c.len-bank-end.result (length c.args.banks.now.items) of.shape.banks c.loop-bank-test.true (c.len-bank-end.ensures ∙ c.args.banks.now.ok.0) may.count in
-    let within : bank < length banks = subst (λ (k : ℕ). bank < k) (sym so_far.count) exists in
-    let is : slice_get banks bank ≡ Some clock = item-at banks bank clock within c.index_mut.ensures.value in
-    drain_one of (g.A.CellArray.state c.args.array.now) c.args.results.now bank banks (g.A.CellArray.state c.loop-bank.array) c.loop-bank.results clock so_far exists is
-    (g.A.CellArray.state c.drain.new.array) c.drain.new.results c.drain.new.self c.drain.ensures.drains may.led c.drain.ensures.others
+loop-bank-preserved g c = (
+  (λ of may.
+      let bank = c.loop-bank.bank in
+      let banks = c.loop-bank.banks.items in
+      let clock = c.index_mut.result.now in
+      let so_far = c.loop-bank.invariant.0 of may in
+      let exists = reached_bank bank c.len-bank-end.result (length c.args.banks.now.items) of.shape.banks c.loop-bank-test.true (c.len-bank-end.ensures ∙ c.args.banks.now.ok.0) may.count in
+      let within : bank < length banks = subst (λ (k : ℕ). bank < k) (sym so_far.count) exists in
+      let is : slice_get banks bank ≡ Some clock = item-at banks bank clock within c.index_mut.ensures.value in
+      drain_one false of (g.A.CellArray.state c.args.array.now) (g.R.Outcomes.table c.args.results.now) bank banks (g.A.CellArray.state c.loop-bank.array) (g.R.Outcomes.table c.loop-bank.results) clock so_far exists is
+      (g.A.CellArray.state c.drain.new.array) (g.R.Outcomes.table c.drain.new.results) c.drain.new.self may.in_range (λ xs leads any. c.drain.ensures.drains xs leads) may.led c.drain.ensures.others),
+  g.met.R.Outcomes.follows _ _ _ c.loop-bank.invariant.1 c.drain.ensures.goes_on,
+)
 
 pub returns : goal.returns
 returns g c = record {
+  goes_on = c.loop-bank.invariant.1;
   drained = λ of may.
       let all = reached_all c.loop-bank.bank c.len-bank-end.result (length c.args.banks.now.items) of.shape.banks c.loop-bank.auto.bank-end c.loop-bank-test.false (c.len-bank-end.ensures ∙ c.args.banks.now.ok.0) may.count in
-      subst (λ (k : ℕ). AreDrained of k c.loop-bank.banks.items (g.A.CellArray.state c.args.array.now) (g.A.CellArray.state c.loop-bank.array) c.args.results.now c.loop-bank.results) all (c.loop-bank.invariant of may);
+      subst (λ (k : ℕ). AreDrained false of k c.loop-bank.banks.items (g.A.CellArray.state c.args.array.now) (g.A.CellArray.state c.loop-bank.array) (g.R.Outcomes.table c.args.results.now) (g.R.Outcomes.table c.loop-bank.results)) all (c.loop-bank.invariant.0 of may);
 }
 
 pub index_mut-requires : goal.index_mut-requires

@@ -1,7 +1,7 @@
 use Rattle.std.proofs.Common.{◌∙◌, refl, sym, ap, arith}
 use Rattle.std.proofs.lemmas.List.FromFn.{get_or-map-range_with_len, length-map-range_with_len}
 use Rattle.module_shape.specs.declared.raw.RawShape.{RawShape}
-use Rattle.bank_clock.proofs.Sizes.{timed_fits, bank_fits}
+use Rattle.bank_timing.proofs.Sizes.{timed_fits, bank_fits}
 use Rattle.pcm_image.specs.Spelling.{bank_bytes}
 use Rattle.image_laws.specs.Saving.{saved_bank, saved_banks}
 use Rattle.run_text.proofs.Gathered.{on_err_any}

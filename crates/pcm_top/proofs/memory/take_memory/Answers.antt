@@ -1,6 +1,6 @@
 use Rattle.std.proofs.Common.{arith, ℕ, subst}
-use Rattle.pcm_cells.specs.Device.{IsFresh}
-use Rattle.bank_clock.proofs.Sizes.{timed_fits}
+use Rattle.cell_rows.specs.Device.{IsFresh}
+use Rattle.bank_timing.proofs.Sizes.{timed_fits}
 use Rattle.pcm_top.proofs.memory.take_memory.Goals as goal
 
 pub drop-branch-requires-room-T-Destruct : goal.drop-branch-requires-room-T-Destruct

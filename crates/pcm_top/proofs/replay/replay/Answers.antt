@@ -26,17 +26,14 @@ event-requires g c =
       (
         event_fits g.row.B c.requires.layout.shape.1,
         (
-          omega arith,
+          had.going,
           (
-            had.going,
+            (had.led.0, _, had.led.1),
             (
-              (had.led.0, _, had.led.1),
+              next-event c.args.pcm.now.shape c.args.pcm.now.seed events c.loop-i.i event at c.loop-i.pcm state c.loop-i.results had,
               (
-                next-event c.args.pcm.now.shape c.args.pcm.now.seed events c.loop-i.i event at c.loop-i.pcm state c.loop-i.results had,
-                (
-                  had.bound,
-                  next-open c.args.pcm.now.shape c.args.pcm.now.seed events c.loop-i.i event at c.loop-i.pcm state c.loop-i.results had,
-                ),
+                had.bound,
+                next-open c.args.pcm.now.shape c.args.pcm.now.seed events c.loop-i.i event at c.loop-i.pcm state c.loop-i.results had,
               ),
             ),
           ),

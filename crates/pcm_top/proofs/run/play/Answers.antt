@@ -1,9 +1,11 @@
-use Rattle.std.proofs.Common.{◌≡◌, ◌≤◌, length, refl, sym, ◌∙◌, subst, arith, rules}
+use Rattle.std.proofs.Common.{◌≡◌, ◌≤◌, refl, sym, ap, ◌∙◌, subst, arith, rules}
 use Rattle.module_shape.specs.Limits.{IsShape}
 use Rattle.run_text.proofs.Gathered.{on_err_any}
 use Rattle.trace_reader.proofs.Sizes.{event_fits}
 use Rattle.pcm_top.proofs.Making.{can-print, ready-itself, run-part, run-written}
-use Rattle.pcm_top.proofs.Saving.{right-now}
+use Rattle.command_line.specs.declared.job.Print.TheVariants.{Image}
+use Rattle.pcm_top.specs.Images.{WritesRows, senses_for}
+use Rattle.pcm_top.proofs.Saving.{leaves-with, right-now}
 use Rattle.pcm_top.proofs.run.play.Goals as goal
 
 pub print_run-requires : goal.print_run-requires
@@ -62,8 +64,9 @@ returns-in_err-print_run g c =
     let before = g.A.CellArray.state c.replay.new.array in
     let array = g.A.CellArray.state c.print_run.new.array in
     let left = c.replay.ensures.right in
+    let some = c.print_run.ensures.sensed in
     let stays =
-    right-now c.replay.new.pcm before array events c.replay.new.results c.replay.ensures.played c.print_run.ensures.sensed
+    right-now c.replay.new.pcm before array events c.replay.new.results c.replay.ensures.played some.0 some.2.since
     c.sensed_runs_stay_right.ensures (subst IsShape (sym shape) c.requires.job.shape) left.0 left.2 in
     let can =
     can-print job before events c.replay.new.results c.replay.new.pcm shape seeded size left
@@ -74,7 +77,10 @@ returns-in_err-print_run g c =
           on_err_any c.from_residual.result _
           (λ s come.
           run-part job array events c.replay.new.results c.replay.new.pcm shape seeded size (left.0, left.1, stays) s come
-          (c.print_run.ensures.sensed.wear ∙ c.replay.ensures.wear ∙ c.requires.wear) _ can.roles c.in_err-print_run.ensures.prefix);
+          (some.2.since.wear ∙ c.replay.ensures.wear ∙ c.requires.wear) _
+          (leaves-with c.replay.new.pcm before array events c.replay.new.results c.replay.ensures.played some.0 some.2.since (λ saved count. (count ≤ senses_for job.print array.lines) × (job.print ≡ Image → WritesRows array saved (g.K.Sink.written c.args.out.now) (g.K.Sink.written c.print_run.new.out))) some.2.rows
+          (subst (λ lines. some.0 ≤ senses_for job.print lines) (sym some.2.since.lines) some.1, c.in_err-print_run.ensures.part))
+          can.roles c.in_err-print_run.ensures.prefix);
       fault = on_err_any c.from_residual.result _ c.in_err-print_run.ensures.fault;
       never_falls = c.print_run.ensures.never_falls;
     }
@@ -89,8 +95,10 @@ returns g c =
     let before = g.A.CellArray.state c.replay.new.array in
     let array = g.A.CellArray.state c.print_run.new.array in
     let left = c.replay.ensures.right in
+    let some = c.print_run.ensures.sensed in
+    let all = c.in_ok-print_run.ensures.all in
     let stays =
-    right-now c.replay.new.pcm before array events c.replay.new.results c.replay.ensures.played c.print_run.ensures.sensed
+    right-now c.replay.new.pcm before array events c.replay.new.results c.replay.ensures.played some.0 some.2.since
     c.sensed_runs_stay_right.ensures (subst IsShape (sym shape) c.requires.job.shape) left.0 left.2 in
     let can =
     can-print job before events c.replay.new.results c.replay.new.pcm shape seeded size left
@@ -99,7 +107,10 @@ returns g c =
       done =
           λ s come.
           run-written job array events c.replay.new.results c.replay.new.pcm shape seeded size (left.0, left.1, stays) s come
-          (c.print_run.ensures.sensed.wear ∙ c.replay.ensures.wear ∙ c.requires.wear) _ c.ending.result c.ending.ensures c.in_ok-print_run.ensures.rows can.roles c.in_ok-print_run.ensures.ok;
+          (some.2.since.wear ∙ c.replay.ensures.wear ∙ c.requires.wear) _ c.ending.result c.ending.ensures
+          (leaves-with c.replay.new.pcm before array events c.replay.new.results c.replay.ensures.played (senses_for job.print before.lines) all.since (λ saved count. count ≡ senses_for job.print array.lines) all.rows
+          (ap (senses_for job.print) (sym all.since.lines)))
+          can.roles c.in_ok-print_run.ensures.ok;
       in_part = tt;
       fault = tt;
       never_falls = c.print_run.ensures.never_falls;

@@ -1,5 +1,5 @@
-use Rattle.std.proofs.Common.{◌≡◌, ◌≤◌, length, refl, arith, rules}
-use Rattle.bank_clock.proofs.Sizes.{timed_fits}
+use Rattle.std.proofs.Common.{◌≡◌, length, refl, arith, rules}
+use Rattle.bank_timing.proofs.Sizes.{timed_fits}
 use Rattle.trace_reader.proofs.Sizes.{event_fits}
 use Rattle.pcm_top.proofs.Deciding.{come-within, memory-after}
 use Rattle.pcm_top.proofs.Making.{ready-for}

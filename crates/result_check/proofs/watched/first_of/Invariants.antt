@@ -1,6 +1,6 @@
 use Rattle.std.proofs.Common.{◌≡◌}
 use Rattle.std.specs.Prelude.{drop}
-use Rattle.row_verdict.specs.Members.{never}
+use Rattle.check_verdict.specs.Members.{never}
 use Rattle.result_check.specs.Watching.{least_of}
 use Rattle.result_check.proofs.watched.first_of.Given as goal
 

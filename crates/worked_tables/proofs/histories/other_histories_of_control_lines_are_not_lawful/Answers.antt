@@ -2,7 +2,7 @@ use Rattle.std.proofs.Common.{rules, refl}
 use lib.Count.{count_trailing_zeros}
 use Rattle.ecp_line.specs.Reading.{decode}
 use Rattle.ecp_line.specs.Layout.{width, number, leading, active, source_below}
-use Rattle.pcm_cells.specs.Rows.{cell}
+use Rattle.cell_rows.specs.Rows.{cell}
 use Rattle.worked_tables.proofs.histories.other_histories_of_control_lines_are_not_lawful.Goals as goal
 
 pub returns-clause-begins : goal.returns-clause-begins

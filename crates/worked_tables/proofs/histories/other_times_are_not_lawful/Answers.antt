@@ -4,7 +4,7 @@ use Rattle.bank_shape.specs.declared.clock.Doing.TheVariants.{Serving, Beginning
 use lib.Count.{count_trailing_zeros}
 use Rattle.ecp_line.specs.Reading.{decode}
 use Rattle.ecp_line.specs.Layout.{width, number, leading, active, source_below}
-use Rattle.pcm_cells.specs.Rows.{cell}
+use Rattle.cell_rows.specs.Rows.{cell}
 use Rattle.worked_tables.proofs.histories.other_times_are_not_lawful.Goals as goal
 
 pub returns-clause-iterates_too_long : goal.returns-clause-iterates_too_long

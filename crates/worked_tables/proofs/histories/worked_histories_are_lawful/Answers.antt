@@ -2,7 +2,7 @@ use Rattle.std.proofs.Common.{rules}
 use lib.Count.{count_trailing_zeros}
 use Rattle.ecp_line.specs.Reading.{decode}
 use Rattle.ecp_line.specs.Layout.{width, number, leading, active, source_below}
-use Rattle.pcm_cells.specs.Rows.{cell}
+use Rattle.cell_rows.specs.Rows.{cell}
 use Rattle.worked_tables.proofs.histories.worked_histories_are_lawful.Goals as goal
 
 pub returns-clause-paused : goal.returns-clause-paused

@@ -1,5 +1,5 @@
 use Rattle.std.proofs.Common.{◌-◌, ◌∙◌, sym, arith}
-use Rattle.pcm_cells.specs.Rows.{cell}
+use Rattle.cell_rows.specs.Rows.{cell}
 use Rattle.ecp_line.proofs.Activity.{active-all, active-found}
 use Rattle.ecp_line.proofs.ecp.Ecp.active.Goals as goal
 

@@ -1,6 +1,6 @@
 use Rattle.std.proofs.Common.{◌≡◌, ℕ, ap, sym, ◌∙◌, arith}
-use Rattle.pcm_cells.specs.Rows.{cell}
-use Rattle.pcm_cells.proofs.RowLemmas.{cell-bits}
+use Rattle.cell_rows.specs.Rows.{cell}
+use Rattle.cell_rows.proofs.RowLemmas.{cell-bits}
 use Rattle.ecp_line.specs.Layout.{source_below, active}
 use Rattle.ecp_line.proofs.Sources.{source-none}
 use Rattle.ecp_line.proofs.Bytes.{decode-is}

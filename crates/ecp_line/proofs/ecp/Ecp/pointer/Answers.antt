@@ -1,5 +1,5 @@
 use Rattle.std.proofs.Common.{◌≡◌, ℕ, ◌+◌, ◌<◌, sym, ◌∙◌, refl, arith, subst}
-use Rattle.pcm_cells.specs.Rows.{cell}
+use Rattle.cell_rows.specs.Rows.{cell}
 use Rattle.ecp_line.specs.Layout.{pointer_cell, width}
 use Rattle.ecp_line.proofs.Digits.{width-small}
 use Rattle.ecp_line.proofs.Wanting.{run-none, run-more, run-moved, digits-none, digits-more, digits-done, others-more}

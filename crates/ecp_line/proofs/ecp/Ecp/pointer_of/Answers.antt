@@ -1,6 +1,6 @@
 use Rattle.ecp_line.specs.Layout.{number, pointer, pointer_cell}
 use Rattle.std.proofs.Common.{ℕ, ◌≡◌, ◌∙◌, sym, arith, ap}
-use Rattle.pcm_cells.specs.Rows.{cell}
+use Rattle.cell_rows.specs.Rows.{cell}
 use Rattle.ecp_line.proofs.Places.{pointer-lt}
 use Rattle.ecp_line.proofs.Digits.{number-none, number-one, number-zero, number-lt, width-small, shifted, weight-small}
 use Rattle.ecp_line.proofs.ecp.Ecp.pointer_of.Goals as goal

@@ -1,5 +1,5 @@
 use Rattle.std.proofs.Common.{◌∙◌, sym, arith}
-use Rattle.pcm_cells.specs.Rows.{cell}
+use Rattle.cell_rows.specs.Rows.{cell}
 use Rattle.ecp_line.proofs.Places.{full-lt, entries-order}
 use Rattle.ecp_line.proofs.Sources.{source-lt, source-none, source-passed, source-replaced}
 use Rattle.ecp_line.proofs.ecp.Ecp.source_below.Goals as goal

@@ -1,5 +1,5 @@
 use Rattle.std.proofs.Common.{◌≡◌}
-use Rattle.pcm_cells.specs.Rows.{cell}
+use Rattle.cell_rows.specs.Rows.{cell}
 use Rattle.ecp_line.specs.Layout.{source_below}
 use Rattle.ecp_line.proofs.ecp.Ecp.source_below.Given as goal
 

@@ -1,5 +1,5 @@
 use Rattle.std.proofs.Common.{arith, ◌∙◌}
-use Rattle.pcm_cells.specs.Rows.{cell}
+use Rattle.cell_rows.specs.Rows.{cell}
 use Rattle.ecp_line.proofs.Correcting.{wanted-more}
 use Rattle.ecp_line.proofs.ReadRows.{wanted-start}
 use Rattle.ecp_line.proofs.ecp.Ecp.wanted.Goals as goal

@@ -1,4 +1,4 @@
-use Rattle.pcm_cells.specs.Rows.{cell}
+use Rattle.cell_rows.specs.Rows.{cell}
 use Rattle.ecp_line.specs.Layout.{IsWanted}
 use Rattle.ecp_line.proofs.ecp.Ecp.wanted.Given as goal
 

@@ -1,5 +1,5 @@
 use Rattle.std.proofs.Common.{arith}
-use Rattle.pcm_cells.specs.Rows.{cell}
+use Rattle.cell_rows.specs.Rows.{cell}
 use Rattle.ecp_line.specs.Layout.{decoded}
 use Rattle.ecp_line.proofs.ReadRows.{lowest-wrong, IfSome-map}
 use Rattle.ecp_line.proofs.ecp.Ecp.wrong.Goals as goal

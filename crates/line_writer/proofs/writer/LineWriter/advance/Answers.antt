@@ -1,5 +1,5 @@
 use Rattle.std.proofs.Common.{arith, sym, ◌∙◌}
-use Rattle.pcm_cells.specs.Rows.{cell}
+use Rattle.cell_rows.specs.Rows.{cell}
 use Rattle.line_writer.proofs.Settling.{pointed}
 use Rattle.line_writer.proofs.Going.{going-on, done, none-wrong, wrong-held, point-phase}
 use Rattle.line_writer.proofs.writer.LineWriter.advance.Goals as goal

@@ -1,7 +1,7 @@
 use Rattle.std.proofs.Common.{◌≡◌, ℕ, arith, sym, subst, ◌∙◌}
-use Rattle.pcm_cells.specs.declared.row.Cells.{Cells}
-use Rattle.pcm_cells.specs.Rows.{cell}
-use Rattle.pcm_cells.specs.Device.{LineState}
+use Rattle.cell_rows.specs.declared.row.Cells.{Cells}
+use Rattle.cell_rows.specs.Rows.{cell}
+use Rattle.cell_rows.specs.Device.{LineState}
 use Rattle.ecp_line.specs.Layout.{active, Sound, Prefix}
 use Rattle.line_writer.specs.Phases.{IsCleared}
 use Rattle.line_writer.specs.Writing.{IsInOrder}

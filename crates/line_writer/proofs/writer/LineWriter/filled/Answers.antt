@@ -1,6 +1,6 @@
 use Rattle.std.proofs.Common.{ℕ, sym, ap, ◌∙◌, subst, arith}
-use Rattle.pcm_cells.proofs.ByteLemmas.{xor_false}
-use Rattle.pcm_cells.specs.Rows.{cell}
+use Rattle.cell_rows.proofs.ByteLemmas.{xor_false}
+use Rattle.cell_rows.specs.Rows.{cell}
 use Rattle.ecp_line.specs.Layout.{Prefix, source_below}
 use Rattle.line_writer.proofs.Settling.{filled-wrong, filled-worn, filled-ready}
 use Rattle.line_writer.proofs.Going.{wrong-held, fill-phase, writing-fill, lowest-held}

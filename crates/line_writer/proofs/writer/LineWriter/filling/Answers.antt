@@ -1,6 +1,6 @@
 use Rattle.std.proofs.Common.{arith, sym, ap, subst, inr}
 use Rattle.std.proofs.lemmas.Bool.{both_ways}
-use Rattle.pcm_cells.specs.Rows.{cell}
+use Rattle.cell_rows.specs.Rows.{cell}
 use Rattle.program_verify.specs.declared.prog.Prog.{Prog}
 use Rattle.line_writer.specs.Phases.{IsFilling}
 use Rattle.line_writer.specs.Writing.{HasBegun}

@@ -1,5 +1,5 @@
 use Rattle.std.proofs.Common.{arith, sym, ◌∙◌, subst}
-use Rattle.pcm_cells.specs.Rows.{cell}
+use Rattle.cell_rows.specs.Rows.{cell}
 use Rattle.program_verify.specs.declared.prog.Prog.{Prog}
 use Rattle.line_writer.specs.Phases.{IsPointing}
 use Rattle.line_writer.proofs.Making.{pointing-made}

@@ -1,6 +1,6 @@
 use Rattle.std.proofs.Common.{true, cond, eqb, sym, ap, ◌∙◌, subst, arith}
-use Rattle.pcm_cells.specs.declared.row.Cells.{Cells}
-use Rattle.pcm_cells.specs.Rows.{cell}
+use Rattle.cell_rows.specs.declared.row.Cells.{Cells}
+use Rattle.cell_rows.specs.Rows.{cell}
 use Rattle.program_verify.specs.declared.prog.Prog.{Prog}
 use Rattle.program_verify.specs.Programming.{IsGoing}
 use Rattle.line_writer.specs.Phases.{IsSwitching}

@@ -1,6 +1,6 @@
 use Rattle.std.proofs.Common.{◌+◌, ◌*◌, ◌∙◌, refl}
 use Rattle.pcm_cells.specs.Planes.{bit_in}
-use Rattle.pcm_cells.proofs.ByteLemmas.{digit_xor, digit_and}
+use Rattle.cell_rows.proofs.ByteLemmas.{digit_xor, digit_and}
 use Rattle.pcm_cells.proofs.PlaneLemmas.{digit_grown, digit_kept}
 use Rattle.pcm_cells.proofs.digits.Digits.advance.Goals as goal
 

@@ -1,5 +1,5 @@
 use Rattle.std.proofs.Common.{◌≡◌, ◌<◌, ◌∙◌, length, set, sym, ap, subst, arith}
-use Rattle.pcm_cells.specs.Rows.{cell}
+use Rattle.cell_rows.specs.Rows.{cell}
 use Rattle.pcm_cells.specs.Follows.{Follows}
 use Rattle.pcm_cells.specs.Scripted.{ScriptedArray, Turns, scripted, scripted_cell, scripted_lines}
 use Rattle.pcm_cells.proofs.ScriptedLemmas.{line_turned}

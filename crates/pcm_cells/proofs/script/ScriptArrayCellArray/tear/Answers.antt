@@ -1,5 +1,5 @@
 use Rattle.std.proofs.Common.{sym, subst}
-use Rattle.pcm_cells.specs.Device.{TornStep}
+use Rattle.cell_rows.specs.Device.{TornStep}
 use Rattle.pcm_cells.specs.Cell.{line_state}
 use Rattle.pcm_cells.specs.Scripted.{scripted_bounds, scripted_line, ScriptedArray}
 use Rattle.pcm_cells.proofs.ScriptedLemmas.{scripted_torn_step}

@@ -1,5 +1,5 @@
 use Rattle.std.proofs.Common.{◌≡◌, ◌*◌}
-use Rattle.pcm_cells.specs.Rows.{cell}
+use Rattle.cell_rows.specs.Rows.{cell}
 use Rattle.pcm_cells.specs.Follows.{FollowsIn}
 use Rattle.pcm_cells.specs.Scripted.{scripted, scripted_cell}
 use Rattle.pcm_cells.proofs.script.ScriptLine.turn_group.Given as goal

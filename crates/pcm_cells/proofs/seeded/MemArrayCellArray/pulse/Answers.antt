@@ -1,6 +1,6 @@
 use Rattle.std.proofs.Common.{◌∙◌, ap, arith, refl, subst, sym, Option}
-use Rattle.pcm_cells.specs.declared.array.Wear.{Wear}
-use Rattle.pcm_cells.specs.Device.{DeviceStep}
+use Rattle.cell_rows.specs.declared.array.Wear.{Wear}
+use Rattle.cell_rows.specs.Device.{DeviceStep}
 use Rattle.pcm_cells.specs.Seeded.{bounds_of, life_state, seeded_line}
 use Rattle.pcm_cells.proofs.SeededLemmas.{seeded_device_step}
 use Rattle.pcm_cells.proofs.EnduranceLemmas.{bounded_keeps, masked_within}
@@ -15,8 +15,8 @@ returns-clause-step g c =
     (sym c.wear.ensures.wear)
     (seeded_device_step bounds c.args.mask.now c.args.want.now
     (seeded_line c.args.self.now c.args.line) (seeded_line c.wear.new.self c.args.line) c.wear.ensures.range.misses wears.cells
-    (λ n masked. masked_within c.args.mask.now n (omega arith) (omega arith) masked)
-    (bounded_keeps bounds c.wear.new.self c.args.line c.args.mask.now (omega arith) (omega arith) (omega (arith, c.requires.exists, wears.lines)) c.wear.ensures.bounded)
+    (masked_within c.args.mask.now c.wear.ensures.end)
+    (bounded_keeps bounds c.wear.new.self c.args.line c.args.mask.now c.wear.ensures.end (omega (arith, c.requires.exists, wears.lines)) c.wear.ensures.bounded)
     wears.pulses)
 
 pub returns-clause-others : goal.returns-clause-others

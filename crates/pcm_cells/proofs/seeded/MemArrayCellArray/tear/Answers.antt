@@ -1,6 +1,6 @@
 use Rattle.std.proofs.Common.{◌∙◌, ap, arith, refl, subst, sym, Option}
-use Rattle.pcm_cells.specs.declared.array.Wear.{Wear}
-use Rattle.pcm_cells.specs.Device.{ChangesOnly, TornStep}
+use Rattle.cell_rows.specs.declared.array.Wear.{Wear}
+use Rattle.cell_rows.specs.Device.{ChangesOnly, TornStep}
 use Rattle.pcm_cells.specs.Seeded.{bounds_of, life_state, seeded_line, seeded_state, SeededArray}
 use Rattle.pcm_cells.proofs.SeededLemmas.{seeded_torn_step}
 use Rattle.pcm_cells.proofs.EnduranceLemmas.{bounded_keeps, masked_within}
@@ -12,8 +12,8 @@ returns-clause-step g c =
     let bounds = bounds_of c.args.self.now.wear in
     let step = seeded_torn_step bounds c.args.mask.now c.args.want.now
     (seeded_line c.args.self.now c.args.line) (seeded_line c.wear.new.self c.args.line) c.wear.ensures.range.misses wears.cells
-    (λ n masked. masked_within c.args.mask.now n (omega arith) (omega arith) masked)
-    (bounded_keeps bounds c.wear.new.self c.args.line c.args.mask.now (omega arith) (omega arith) (omega (arith, c.requires.exists, wears.lines)) c.wear.ensures.bounded)
+    (masked_within c.args.mask.now c.wear.ensures.end)
+    (bounded_keeps bounds c.wear.new.self c.args.line c.args.mask.now c.wear.ensures.end (omega (arith, c.requires.exists, wears.lines)) c.wear.ensures.bounded)
     wears.pulses in
     let now = subst
     (λ (w : Option Wear). TornStep bounds c.args.mask.now (life_state bounds (seeded_line c.args.self.now c.args.line)) (life_state (bounds_of w) (seeded_line c.wear.new.self c.args.line)))

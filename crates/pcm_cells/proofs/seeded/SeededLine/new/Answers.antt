@@ -1,9 +1,9 @@
 use Rattle.std.proofs.Common.{◌≡◌, ℕ, ◌+◌, ◌*◌, ◌≤◌, ◌/◌, ◌∙◌, false, length, refl, arith}
-use Rattle.pcm_cells.specs.declared.row.Cells.{Cells}
-use Rattle.pcm_cells.specs.Rows.{cell}
-use Rattle.pcm_cells.proofs.RowLemmas.{cell_past}
+use Rattle.cell_rows.specs.declared.row.Cells.{Cells}
+use Rattle.cell_rows.specs.Rows.{cell}
+use Rattle.cell_rows.proofs.RowLemmas.{cell_past}
 use Rattle.pcm_cells.proofs.PlaneLemmas.{digit-is}
-use Rattle.pcm_cells.proofs.SeededLemmas.{never_calm}
+use Rattle.pcm_cells.proofs.SeededLemmas.{told_calm}
 use Rattle.pcm_cells.proofs.seeded.SeededLine.new.Given.{Over}
 use Rattle.pcm_cells.proofs.seeded.SeededLine.new.Goals.{Start}
 use Rattle.pcm_cells.proofs.seeded.SeededLine.new.Goals as goal
@@ -29,7 +29,7 @@ past_row : {B M : ℕ} (row : Cells B M) (n : ℕ) → IsSized row → 8 * (B + 
 past_row row n (bits, meta) past = cell_past row n bits meta past
 
 pub invariant_of-result : goal.invariant_of-result
-invariant_of-result g c = (c.requires, λ n is live. never_calm g.row.B (n / 64) _ is)
+invariant_of-result g c = (c.requires.shape, λ n low is live. c.requires.many (told_calm g.row.B (n / 64) c.args.calm is) n low)
 
 pub returns-clause-no_limits : goal.returns-clause-no_limits
 returns-clause-no_limits g c n past =

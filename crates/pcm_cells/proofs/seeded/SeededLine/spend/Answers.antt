@@ -1,10 +1,10 @@
-use Rattle.std.proofs.Common.{◌≡◌, ℕ, ◌+◌, ◌-◌, ◌*◌, ◌&&◌, ◌/◌, ◌≤◌, ◌<◌, false, true≢false, cond, eqb, rules, slice_index, refl, sym, ◌∙◌, ap, arith}
+use Rattle.std.proofs.Common.{◌≡◌, ℕ, ◌+◌, ◌-◌, ◌*◌, ◌&&◌, ◌/◌, ◌≤◌, ◌<◌, false, true≢false, cond, eqb, rules, slice_index, refl, subst, sym, ◌∙◌, ap, arith}
 use Rattle.std.specs.Prelude.{nat_le}
 use Rattle.std.proofs.lemmas.Nat.Bits.{bit_at-zero}
-use Rattle.pcm_cells.specs.Rows.{cell}
+use Rattle.cell_rows.specs.Rows.{cell}
 use Rattle.pcm_cells.specs.Planes.{bit_in, digit}
 use Rattle.pcm_cells.specs.Counts.{count}
-use Rattle.pcm_cells.proofs.ByteLemmas.{digit_and}
+use Rattle.cell_rows.proofs.ByteLemmas.{digit_and}
 use Rattle.pcm_cells.proofs.SeededLemmas.{left_is, left_kept, calm_last, calm_here, calm_level, less_none, level_here, calm_kept, both_false, in_row, in_block, none_few}
 use Rattle.pcm_cells.proofs.seeded.SeededLine.spend.Goals as goal
 
@@ -34,7 +34,7 @@ returns-then-full-changing-eq0-clause-last g c i low =
     let clear : (bit_in c.full.result i && bit_in c.args.changing i) ≡ false =
     sym (digit_and c.full.result c.args.changing i) ∙ ap (λ x. bit_in x i) c.if-full-changing-eq0.true ∙ none in
     none ∙ calm_last (bit_in c.args.changing i) (count c.self.inside.left n) (digit c.self.inside.spent n)
-    (λ more. c.self.invariant.1 n (rw row c.if-self-block.true) (ap (λ s. cell s.line.stuck n) c.self.view_is ∙ c.requires.live i low more))
+    (λ more. c.self.invariant.1 n within (rw row c.if-self-block.true) (ap (λ s. cell s.line.stuck n) c.self.view_is ∙ c.requires.live i low more))
     (λ more. c.full.ensures i low (both_false _ _ clear more))
     ∙ ap (λ k. bit_in c.args.changing i && nat_le k 1) (sym (left_is c.self.inside.spent c.self.inside.left n within))
     ∙ ap (λ s. bit_in c.args.changing i && nat_le (slice_index s.left n) 1) c.self.view_is
@@ -61,14 +61,15 @@ returns-then-calm-clause-last g c i low =
     let n : ℕ = 64 * c.args.block + i in
     let within : n < 8 * (g.row.B + g.row.M) = in_row g.row.B g.row.M c.args.block i c.requires.whole c.requires.exists low in
     let none : bit_in 0 i ≡ false = ap (λ x. eqb x 1) (bit_at-zero i) in
-    let levelled : slice_index c.level.new.left i ≡ count c.self.inside.left n - digit c.self.inside.spent n =
-    c.level.ensures i low ∙ rw (c.planes-low.ensures i low, c.block.ensures i low) refl in
-    none ∙ calm_last (bit_in c.args.changing i) (slice_index c.level.new.left i) 0
+    let levelled : count c.level.new.self n ≡ count c.self.inside.left n - digit c.self.inside.spent n =
+    c.level.ensures.here i low ∙ ap (λ k. count c.self.inside.left n - k) (c.planes-low.ensures i low) in
+    none ∙ calm_last (bit_in c.args.changing i) (count c.level.new.self n) 0
     (λ more.
-    c.are_many-calm.ensures c.if-calm.true i low
-    (c.block-stuck.ensures i low ∙ ap (λ s. cell s.line.stuck n) c.self.view_is ∙ c.requires.live i low more))
+    subst (λ k. 8 ≤ k) (c.block.ensures i low)
+    (c.are_many-calm.ensures c.if-calm.true i low
+    (c.block-stuck.ensures i low ∙ ap (λ s. cell s.line.stuck n) c.self.view_is ∙ c.requires.live i low more)))
     (λ more. none_few)
-    ∙ ap (λ k. bit_in c.args.changing i && nat_le k 1) (less_none (slice_index c.level.new.left i) ∙ levelled ∙ sym (left_is c.self.inside.spent c.self.inside.left n within))
+    ∙ ap (λ k. bit_in c.args.changing i && nat_le k 1) (less_none (count c.level.new.self n) ∙ levelled ∙ sym (left_is c.self.inside.spent c.self.inside.left n within))
     ∙ ap (λ s. bit_in c.args.changing i && nat_le (slice_index s.left n) 1) c.self.view_is
 
 pub returns-then-calm-clause-here : goal.returns-then-calm-clause-here
@@ -76,38 +77,38 @@ returns-then-calm-clause-here g c i low =
     let n : ℕ = 64 * c.args.block + i in
     let none : bit_in 0 i ≡ false = ap (λ x. eqb x 1) (bit_at-zero i) in
     let within : n < 8 * (g.row.B + g.row.M) = in_row g.row.B g.row.M c.args.block i c.requires.whole c.requires.exists low in
-    let levelled : slice_index c.level.new.left i ≡ count c.self.inside.left n - digit c.self.inside.spent n =
-    c.level.ensures i low ∙ rw (c.planes-low.ensures i low, c.block.ensures i low) refl in
+    let levelled : count c.level.new.self n ≡ count c.self.inside.left n - digit c.self.inside.spent n =
+    c.level.ensures.here i low ∙ ap (λ k. count c.self.inside.left n - k) (c.planes-low.ensures i low) in
     let grown : digit c.advance-then-calm.new.self n ≡ cond (bit_in c.args.changing i) (digit c.clear.new.self n + 1) (digit c.clear.new.self n) =
     c.advance-then-calm.ensures.here i low ∙ ap (λ b. cond b 0 (cond (bit_in c.args.changing i) (digit c.clear.new.self n + 1) (digit c.clear.new.self n))) none in
-    left_is c.advance-then-calm.new.self c.set_block.new.self n within
+    left_is c.advance-then-calm.new.self c.level.new.self n within
     ∙ calm_level (bit_in c.args.changing i) (count c.self.inside.left n) (digit c.self.inside.spent n)
-    (count c.set_block.new.self n) (digit c.clear.new.self n) (digit c.advance-then-calm.new.self n)
-    (c.set_block.ensures.here i low ∙ levelled) (c.clear.ensures.here i low) grown
+    (count c.level.new.self n) (digit c.clear.new.self n) (digit c.advance-then-calm.new.self n)
+    levelled (c.clear.ensures.here i low) grown
     ∙ ap (λ k. cond (bit_in c.args.changing i) (k - 1) k) (sym (left_is c.self.inside.spent c.self.inside.left n within))
     ∙ ap (λ s. cond (bit_in c.args.changing i) (slice_index s.left n - 1) (slice_index s.left n)) c.self.view_is
 
 pub returns-then-calm-clause-others : goal.returns-then-calm-clause-others
 returns-then-calm-clause-others g c n apart =
-    left_kept c.self.inside.spent c.advance-then-calm.new.self c.self.inside.left c.set_block.new.self n (c.set_block.ensures.others n apart)
+    left_kept c.self.inside.spent c.advance-then-calm.new.self c.self.inside.left c.level.new.self n (c.level.ensures.others n apart)
     (c.advance-then-calm.ensures.others n apart ∙ c.clear.ensures.others n apart)
     ∙ ap (λ s. slice_index s.left n) c.self.view_is
 
 pub invariant_of-self-2 : goal.invariant_of-self-2
 invariant_of-self-2 g c = (
   c.self.invariant.0,
-  calm_kept c.self.inside.calm (cell c.self.inside.stuck) (count c.self.inside.left) (count c.set_block-2.new.self) c.args.block c.are_many-calm.result
+  calm_kept c.self.inside.calm (cell c.self.inside.stuck) (count c.self.inside.left) (count c.set_block.new.self) (8 * (g.row.B + g.row.M)) c.args.block c.are_many-calm.result
       (search rules) c.self.invariant.1
       (λ many. absurd (true≢false (sym many ∙ c.if-calm.false)))
-      c.set_block-2.ensures.others,
+      (λ n apart. c.set_block.ensures.others n apart ∙ c.level.ensures.others n apart),
 )
 
 pub returns-clause-last : goal.returns-clause-last
 returns-clause-last g c i low =
     let n : ℕ = 64 * c.args.block + i in
     let within : n < 8 * (g.row.B + g.row.M) = in_row g.row.B g.row.M c.args.block i c.requires.whole c.requires.exists low in
-    let levelled : slice_index c.level.new.left i ≡ count c.self.inside.left n - digit c.self.inside.spent n =
-    c.level.ensures i low ∙ rw (c.planes-low.ensures i low, c.block.ensures i low) refl in
+    let levelled : slice_index c.block-2.result.now i ≡ count c.self.inside.left n - digit c.self.inside.spent n =
+    c.block-2.ensures i low ∙ c.level.ensures.here i low ∙ ap (λ k. count c.self.inside.left n - k) (c.planes-low.ensures i low) in
     c.spend-last.ensures.last i low
     ∙ ap (λ k. bit_in c.args.changing i && nat_le k 1) (levelled ∙ sym (left_is c.self.inside.spent c.self.inside.left n within))
     ∙ ap (λ s. bit_in c.args.changing i && nat_le (slice_index s.left n) 1) c.self.view_is
@@ -116,18 +117,19 @@ pub returns-clause-here : goal.returns-clause-here
 returns-clause-here g c i low =
     let n : ℕ = 64 * c.args.block + i in
     let within : n < 8 * (g.row.B + g.row.M) = in_row g.row.B g.row.M c.args.block i c.requires.whole c.requires.exists low in
-    let levelled : slice_index c.level.new.left i ≡ count c.self.inside.left n - digit c.self.inside.spent n =
-    c.level.ensures i low ∙ rw (c.planes-low.ensures i low, c.block.ensures i low) refl in
-    left_is c.clear.new.self c.set_block-2.new.self n within
-    ∙ level_here (bit_in c.args.changing i) (count c.self.inside.left n) (slice_index c.level.new.left i)
-    (count c.set_block-2.new.self n) (digit c.self.inside.spent n) (digit c.clear.new.self n)
-    levelled (c.set_block-2.ensures.here i low ∙ c.spend-last.ensures.here i low) (c.clear.ensures.here i low)
+    let levelled : slice_index c.block-2.result.now i ≡ count c.self.inside.left n - digit c.self.inside.spent n =
+    c.block-2.ensures i low ∙ c.level.ensures.here i low ∙ ap (λ k. count c.self.inside.left n - k) (c.planes-low.ensures i low) in
+    left_is c.clear.new.self c.set_block.new.self n within
+    ∙ level_here (bit_in c.args.changing i) (count c.self.inside.left n) (slice_index c.block-2.result.now i)
+    (count c.set_block.new.self n) (digit c.self.inside.spent n) (digit c.clear.new.self n)
+    levelled (c.set_block.ensures.here i low ∙ c.spend-last.ensures.here i low) (c.clear.ensures.here i low)
     ∙ ap (λ k. cond (bit_in c.args.changing i) (k - 1) k) (sym (left_is c.self.inside.spent c.self.inside.left n within))
     ∙ ap (λ s. cond (bit_in c.args.changing i) (slice_index s.left n - 1) (slice_index s.left n)) c.self.view_is
 
 pub returns-clause-others : goal.returns-clause-others
 returns-clause-others g c n apart =
-    left_kept c.self.inside.spent c.clear.new.self c.self.inside.left c.set_block-2.new.self n (c.set_block-2.ensures.others n apart) (c.clear.ensures.others n apart)
+    left_kept c.self.inside.spent c.clear.new.self c.self.inside.left c.set_block.new.self n
+    (c.set_block.ensures.others n apart ∙ c.level.ensures.others n apart) (c.clear.ensures.others n apart)
     ∙ ap (λ s. slice_index s.left n) c.self.view_is
 
 pub invariant_of-self : goal.invariant_of-self
@@ -151,10 +153,10 @@ advance-requires-then-calm g c =
 pub invariant_of-self-then-calm : goal.invariant_of-self-then-calm
 invariant_of-self-then-calm g c = (
   c.self.invariant.0,
-  calm_kept c.self.inside.calm (cell c.self.inside.stuck) (count c.self.inside.left) (count c.set_block.new.self) c.args.block c.are_many-calm.result
+  calm_kept c.self.inside.calm (cell c.self.inside.stuck) (count c.self.inside.left) (count c.level.new.self) (8 * (g.row.B + g.row.M)) c.args.block c.are_many-calm.result
       (search rules) c.self.invariant.1
-      (λ many i low live. rw (c.set_block.ensures.here i low) (c.are_many-calm.ensures many i low (c.block-stuck.ensures i low ∙ live)))
-      c.set_block.ensures.others,
+      (λ many i low live. subst (λ k. 8 ≤ k) (c.block.ensures i low) (c.are_many-calm.ensures many i low (c.block-stuck.ensures i low ∙ live)))
+      c.level.ensures.others,
 )
 
 pub returns-then-calm-clause-line : goal.returns-then-calm-clause-line
@@ -208,5 +210,5 @@ set_block-requires g c = grind arith
 pub spend-last-requires : goal.spend-last-requires
 spend-last-requires g c = grind arith
 
-pub set_block-requires-2 : goal.set_block-requires-2
-set_block-requires-2 g c = grind arith
+pub block-requires-2 : goal.block-requires-2
+block-requires-2 g c = grind arith

@@ -1,9 +1,9 @@
 use Rattle.std.proofs.Common.{◌≡◌, ℕ, ◌+◌, ◌*◌, ◌%◌, ◌≤◌, ◌&&◌, rules, slice_index, true, cond, refl, sym, ◌∙◌, ap, arith}
-use Rattle.pcm_cells.specs.Rows.{cell}
+use Rattle.cell_rows.specs.Rows.{cell}
 use Rattle.pcm_cells.specs.Planes.{bit_in, digit}
 use Rattle.pcm_cells.specs.Seeded.{LifeLine, left_of, seeded, seeded_cell}
 use Rattle.std.proofs.Common.{bit_and}
-use Rattle.pcm_cells.proofs.ByteLemmas.{digit_and, digit_or}
+use Rattle.cell_rows.proofs.ByteLemmas.{digit_and, digit_or}
 use Rattle.pcm_cells.proofs.FollowsLemmas.{followed_block}
 use Rattle.pcm_cells.proofs.SeededLemmas.{worn_follows, worn_kept, missing_few, or_false, stuck_before}
 use Rattle.pcm_cells.proofs.seeded.SeededLine.wear_block.Goals as goal
@@ -72,8 +72,8 @@ invariant_of-self g c =
     let stuck : c.self-2.inside.stuck ≡ c.self.inside.stuck =
     ap (λ s. s.line.stuck) c.self-2.view_is ∙ ap (λ l. l.stuck) c.spend-last.ensures.line ∙ sym (ap (λ s. s.line.stuck) c.self.view_is) in (
       c.self-2.invariant.0,
-      λ n is live.
-          c.self-2.invariant.1 n is
+      λ n low is live.
+          c.self-2.invariant.1 n low is
           (stuck_before block (cell c.self-2.inside.stuck) (cell c.set_block-2.new.self)
           (λ i low h. ap (λ s. cell s (64 * block + i)) stuck ∙ sym (c.block-stuck.ensures i low)
           ∙ or_false (bit_in c.spend-last.result i) (bit_in c.block-stuck.result i)

@@ -1,7 +1,7 @@
 use Rattle.std.proofs.Common.{arith, ◌≡◌, ◌+◌, ◌++◌, ◌<◌, ◌≤◌, length, Some, refl, sym, ap, subst}
 use Rattle.std.specs.Prelude.{slice_get}
 use Rattle.row_rules.specs.declared.Asks.TheVariants.{Cuts}
-use Rattle.bank_clock.proofs.Sizes.{timed_fits, row_fits, outcome_fits}
+use Rattle.bank_timing.proofs.Sizes.{timed_fits, outcome_fits}
 use Rattle.pcm_module.specs.State.{ModuleState}
 use Rattle.pcm_module.specs.Taking.{Takes}
 use Rattle.pcm_module.proofs.Serving.{module_kept, module_at, at_above}
@@ -11,7 +11,7 @@ use Rattle.pcm_module.proofs.Cuts.{cut_none, cut_replays, cut_one, cut_every, in
 use Rattle.pcm_module.proofs.side_by_side.Module.cut.Goals as goal
 
 pub set-requires : goal.set-requires
-set-requires g c = (row_fits, (outcome_fits g.row.B g.row.M g.row.E c.self.invariant.layout, (c.requires.fresh.exists, c.requires.fresh.unset)))
+set-requires g c = (outcome_fits g.row.B g.row.M g.row.E c.self.invariant.layout, (c.requires.fresh.exists, (c.requires.fresh.unset, refl)))
 
 pub loop-bank-init : goal.loop-bank-init
 loop-bank-init g c =
@@ -19,17 +19,19 @@ loop-bank-init g c =
     let old : ModuleState g.row.B g.row.M g.row.E = record { shape = s.shape; seed = s.seed; banks = s.banks.items; tick = s.tick; rows_below = s.rows_below; finished = s.finished } in
     let same : old ≡ c.args.self.now = c.self.view_is in
     let rises : s.tick ≤ c.args.tick = subst (λ (o : ModuleState g.row.B g.row.M g.row.E). o.tick ≤ c.args.tick) (sym same) c.requires.forward in
-    let above : s.rows_below ≤ c.args.row = subst (λ (o : ModuleState g.row.B g.row.M g.row.E). o.rows_below ≤ c.args.row) (sym same) c.requires.rises in
-    rw (← same) (record {
-      is = c.self.invariant;
-      same = refl;
-      cuts = cut_none c.args.row c.args.tick old (g.A.CellArray.state c.args.array.now) c.args.results.now rises above c.requires.fresh.exists c.requires.fresh c.set.new.self c.set.ensures;
-    })
+    let above : s.rows_below ≤ c.args.row = subst (λ (o : ModuleState g.row.B g.row.M g.row.E). o.rows_below ≤ c.args.row) (sym same) c.requires.rises in (
+      rw (← same) (record {
+        is = c.self.invariant;
+        same = refl;
+        cuts = cut_none c.args.row c.args.tick old (g.A.CellArray.state c.args.array.now) (g.R.Outcomes.table c.args.results.now) rises above c.requires.fresh.exists c.requires.fresh (g.R.Outcomes.table c.set.new.self) c.set.ensures.table;
+      }),
+      c.set.ensures.goes_on,
+    )
 
 pub cut_at-requires : goal.cut_at-requires
 cut_at-requires g c =
     let old = c.args.self.now in
-    let inv = c.loop-bank.invariant in
+    let inv = c.loop-bank.invariant.0 in
     let items = c.loop-bank.self-inside.banks.items in
     let ends : c.self.inside.shape.banks ≡ old.shape.banks = ap (λ (o : ModuleState g.row.B g.row.M g.row.E). o.shape.banks) c.self.view_is in
     let banks : c.loop-bank.self-inside.shape.banks ≡ old.shape.banks = ap (λ (o : ModuleState g.row.B g.row.M g.row.E). o.shape.banks) inv.same in
@@ -38,20 +40,17 @@ cut_at-requires g c =
     let is : slice_get items c.loop-bank.bank ≡ Some c.index_mut.result.now = item-at items c.loop-bank.bank c.index_mut.result.now within c.index_mut.ensures.value in
     let led = c.requires.led in
     let xs = (inv.cuts.replays led.0 led.1 led.2).0 c.loop-bank.bank ++ led.0 c.loop-bank.bank in
-    let f = cut_replays c.args.row c.args.tick old (g.A.CellArray.state c.args.array.now) c.args.results.now c.requires.forward c.requires.rises c.requires.fresh.exists c.loop-bank.bank items (g.A.CellArray.state c.loop-bank.array) c.loop-bank.results c.index_mut.result.now exists is inv.cuts led.0 led.1 led.2 in (
+    let f = cut_replays c.args.row c.args.tick old (g.A.CellArray.state c.args.array.now) (g.R.Outcomes.table c.args.results.now) c.requires.forward c.requires.rises c.requires.fresh.exists c.loop-bank.bank items (g.A.CellArray.state c.loop-bank.array) (g.R.Outcomes.table c.loop-bank.results) c.index_mut.result.now exists is inv.cuts led.0 led.1 led.2 in (
       timed_fits g.row.B g.row.M g.row.E inv.is.layout,
       (
-        row_fits,
+        inv.is.layout,
         (
-          inv.is.layout,
+          f.going,
           (
-            f.going,
+            (xs, f.leads),
             (
-              (xs, f.leads),
-              (
-                f.in_time,
-                (c.requires.within, f.open_rows),
-              ),
+              f.in_time,
+              (c.requires.within, f.open_rows),
             ),
           ),
         ),
@@ -61,7 +60,7 @@ cut_at-requires g c =
 pub loop-bank-preserved : goal.loop-bank-preserved
 loop-bank-preserved g c =
     let old = c.args.self.now in
-    let inv = c.loop-bank.invariant in
+    let inv = c.loop-bank.invariant.0 in
     let items = c.loop-bank.self-inside.banks.items in
     let ends : c.self.inside.shape.banks ≡ old.shape.banks = ap (λ (o : ModuleState g.row.B g.row.M g.row.E). o.shape.banks) c.self.view_is in
     let banks : c.loop-bank.self-inside.shape.banks ≡ old.shape.banks = ap (λ (o : ModuleState g.row.B g.row.M g.row.E). o.shape.banks) inv.same in
@@ -70,35 +69,38 @@ loop-bank-preserved g c =
     let is : slice_get items c.loop-bank.bank ≡ Some c.index_mut.result.now = item-at items c.loop-bank.bank c.index_mut.result.now within c.index_mut.ensures.value in
     let led = c.requires.led in
     let xs = (inv.cuts.replays led.0 led.1 led.2).0 c.loop-bank.bank ++ led.0 c.loop-bank.bank in
-    let f = cut_replays c.args.row c.args.tick old (g.A.CellArray.state c.args.array.now) c.args.results.now c.requires.forward c.requires.rises c.requires.fresh.exists c.loop-bank.bank items (g.A.CellArray.state c.loop-bank.array) c.loop-bank.results c.index_mut.result.now exists is inv.cuts led.0 led.1 led.2 in
-    let s = c.cut_at.ensures.step c.args.row xs f.leads in
-    record {
-      is = module_kept c.loop-bank.self-inside.shape c.loop-bank.self-inside.seed c.loop-bank.self-inside.feistel items c.loop-bank.self-inside.tick c.loop-bank.self-inside.tick c.loop-bank.bank c.index_mut.result.now c.cut_at.new.timed inv.is inv.is.in_time within is s.1.extends.shape s.1.extends.leads.holds.kept;
-      same = inv.same;
-      cuts = cut_one c.args.row c.args.tick old (g.A.CellArray.state c.args.array.now) c.args.results.now c.requires.forward c.requires.rises c.requires.fresh.exists c.loop-bank.bank items (g.A.CellArray.state c.loop-bank.array) c.loop-bank.results c.index_mut.result.now exists is inv.cuts
-          (g.A.CellArray.state c.cut_at.new.array) c.cut_at.new.results c.cut_at.new.timed
-          (at_above c.args.tick c.index_mut.result.now.bank.rows_below (c.args.row + 1) c.cut_at.new.timed c.cut_at.new.results c.cut_at.ensures.at f.below)
-          (c.cut_at.ensures.step c.args.row) led;
-    }
+    let f = cut_replays c.args.row c.args.tick old (g.A.CellArray.state c.args.array.now) (g.R.Outcomes.table c.args.results.now) c.requires.forward c.requires.rises c.requires.fresh.exists c.loop-bank.bank items (g.A.CellArray.state c.loop-bank.array) (g.R.Outcomes.table c.loop-bank.results) c.index_mut.result.now exists is inv.cuts led.0 led.1 led.2 in
+    let s = c.cut_at.ensures.step c.args.row xs f.leads in (
+      record {
+        is = module_kept c.loop-bank.self-inside.shape c.loop-bank.self-inside.seed c.loop-bank.self-inside.feistel items c.loop-bank.self-inside.tick c.loop-bank.self-inside.tick c.loop-bank.bank c.index_mut.result.now c.cut_at.new.timed inv.is inv.is.in_time within is s.1.extends.shape s.1.extends.leads.holds.kept;
+        same = inv.same;
+        cuts = cut_one c.args.row c.args.tick old (g.A.CellArray.state c.args.array.now) (g.R.Outcomes.table c.args.results.now) c.requires.forward c.requires.rises c.requires.fresh.exists c.loop-bank.bank items (g.A.CellArray.state c.loop-bank.array) (g.R.Outcomes.table c.loop-bank.results) c.index_mut.result.now exists is inv.cuts
+            (g.A.CellArray.state c.cut_at.new.array) (g.R.Outcomes.table c.cut_at.new.results) c.cut_at.new.timed
+            (at_above c.args.tick c.index_mut.result.now.bank.rows_below (c.args.row + 1) c.cut_at.new.timed (g.R.Outcomes.table c.cut_at.new.results) c.cut_at.ensures.at f.below)
+            (c.cut_at.ensures.step c.args.row) led;
+      },
+      g.met.R.Outcomes.follows _ _ _ c.loop-bank.invariant.1 c.cut_at.ensures.goes_on,
+    )
 
 pub invariant_of-self : goal.invariant_of-self
 invariant_of-self g c =
-    module_at c.loop-bank.self-inside.shape c.loop-bank.self-inside.seed c.loop-bank.self-inside.feistel c.loop-bank.self-inside.banks.items c.loop-bank.self-inside.tick c.args.tick c.loop-bank.invariant.is c.requires.within
+    module_at c.loop-bank.self-inside.shape c.loop-bank.self-inside.seed c.loop-bank.self-inside.feistel c.loop-bank.self-inside.banks.items c.loop-bank.self-inside.tick c.args.tick c.loop-bank.invariant.0.is c.requires.within
 
 pub returns : goal.returns
 returns g c =
     let old = c.args.self.now in
-    let inv = c.loop-bank.invariant in
+    let inv = c.loop-bank.invariant.0 in
     let s = c.loop-bank.self-inside in
     let items = s.banks.items in
     let ends : c.self.inside.shape.banks ≡ old.shape.banks = ap (λ (o : ModuleState g.row.B g.row.M g.row.E). o.shape.banks) c.self.view_is in
     let banks : s.shape.banks ≡ old.shape.banks = ap (λ (o : ModuleState g.row.B g.row.M g.row.E). o.shape.banks) inv.same in
     let all : c.loop-bank.bank ≡ old.shape.banks =
     reached_all c.loop-bank.bank c.banks-banks.result c.self.inside.shape.banks old.shape.banks c.loop-bank.auto.bank-end c.loop-bank-test.false c.banks-banks.ensures.number ends in
-    let taken = cut_every c.args.row c.args.tick old (g.A.CellArray.state c.args.array.now) c.args.results.now c.requires.forward c.requires.rises c.requires.fresh.exists c.loop-bank.bank items (g.A.CellArray.state c.loop-bank.array) c.loop-bank.results all inv.cuts in
+    let taken = cut_every c.args.row c.args.tick old (g.A.CellArray.state c.args.array.now) (g.R.Outcomes.table c.args.results.now) c.requires.forward c.requires.rises c.requires.fresh.exists c.loop-bank.bank items (g.A.CellArray.state c.loop-bank.array) (g.R.Outcomes.table c.loop-bank.results) all inv.cuts in
     record {
+      goes_on = c.loop-bank.invariant.1;
       takes =
-          subst (λ (new : ModuleState g.row.B g.row.M g.row.E). Takes (record { row = c.args.row; tick = c.args.tick; asks = Cuts }) old new (g.A.CellArray.state c.args.array.now) (g.A.CellArray.state c.loop-bank.array) c.args.results.now c.loop-bank.results)
+          subst (λ (new : ModuleState g.row.B g.row.M g.row.E). Takes (record { row = c.args.row; tick = c.args.tick; asks = Cuts }) old new (g.A.CellArray.state c.args.array.now) (g.A.CellArray.state c.loop-bank.array) (g.R.Outcomes.table c.args.results.now) (g.R.Outcomes.table c.loop-bank.results))
           (sym (ap (λ (o : ModuleState g.row.B g.row.M g.row.E). let new : ModuleState g.row.B g.row.M g.row.E = record o { banks = items; tick = c.args.tick; rows_below = c.args.row + 1 } in new) inv.same)) taken;
     }
 

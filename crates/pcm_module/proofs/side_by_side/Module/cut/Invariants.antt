@@ -5,4 +5,5 @@ abbrev pub invariant-loop-bank : goal.invariant-loop-bank
 invariant-loop-bank g l =
     let s = l.self-inside in
     IsCutting l.row l.tick l.bank s.shape s.seed s.feistel s.banks.items s.tick s.rows_below s.finished l.fn.self
-    (g.A.CellArray.state l.fn.array) (g.A.CellArray.state l.array) l.fn.results l.results
+    (g.A.CellArray.state l.fn.array) (g.A.CellArray.state l.array) (g.R.Outcomes.table l.fn.results) (g.R.Outcomes.table l.results)
+    × g.R.Outcomes.goes_on l.fn.results l.results

@@ -1,8 +1,8 @@
 use Rattle.std.proofs.Common.{◌<◌, ◌∙◌, arith}
-use Rattle.trace_reader.specs.declared.event.TraceOp.TheVariants.{Read, Write, Mask, Cut}
+use Rattle.trace_reader.specs.declared.event.EventOp.TheVariants.{Read, Write, Mask, Cut}
 use Rattle.masked_bytes.proofs.Layering.{IsMasked-all_given}
 use Rattle.module_shape.specs.Limits.{total_of}
-use Rattle.bank_clock.proofs.Sizes.{row_fits, entry_fits}
+use Rattle.bank_timing.proofs.Sizes.{entry_fits}
 use Rattle.pcm_module.proofs.Sizes.{module_fits}
 use Rattle.pcm_module.proofs.Events.{replays_event, op_for}
 use Rattle.pcm_module.proofs.side_by_side.Module.event.Goals as goal
@@ -17,19 +17,16 @@ write-requires g c =
       (
         entry_fits g.row.B layout.shape.1,
         (
-          row_fits,
+          c.requires.replays,
           (
-            c.requires.replays,
+            c.requires.event.rises,
             (
-              c.requires.event.rises,
+              c.requires.event.in_time,
               (
-                c.requires.event.in_time,
+                op.0,
                 (
-                  op.0,
-                  (
-                    IsMasked-all_given g.row.B c.in-Write.bytes some op.1,
-                    (c.requires.rises, c.requires.open),
-                  ),
+                  IsMasked-all_given g.row.B c.in-Write.bytes some op.1,
+                  (c.requires.rises, c.requires.open),
                 ),
               ),
             ),
@@ -40,19 +37,19 @@ write-requires g c =
 
 pub returns-in-Read-clause-replays : goal.returns-in-Read-clause-replays
 returns-in-Read-clause-replays g c =
-    replays_event c.args.row c.args.event.now (Read c.in-Read.line) c.args.self.now c.read.new.self (g.A.CellArray.state c.args.array.now) (g.A.CellArray.state c.read.new.array) c.args.results.now c.read.new.results c.in-Read.is c.read.ensures.takes
+    replays_event c.args.row c.args.event.now (Read c.in-Read.line) c.args.self.now c.read.new.self (g.A.CellArray.state c.args.array.now) (g.A.CellArray.state c.read.new.array) (g.R.Outcomes.table c.args.results.now) (g.R.Outcomes.table c.read.new.results) c.in-Read.is c.read.ensures.takes
 
 pub returns-in-Write-clause-replays : goal.returns-in-Write-clause-replays
 returns-in-Write-clause-replays g c =
-    replays_event c.args.row c.args.event.now (Write c.in-Write.line c.in-Write.bytes) c.args.self.now c.write.new.self (g.A.CellArray.state c.args.array.now) (g.A.CellArray.state c.write.new.array) c.args.results.now c.write.new.results c.in-Write.is (rw c.whole-entry.ensures.entry at c.write.ensures.takes)
+    replays_event c.args.row c.args.event.now (Write c.in-Write.line c.in-Write.bytes) c.args.self.now c.write.new.self (g.A.CellArray.state c.args.array.now) (g.A.CellArray.state c.write.new.array) (g.R.Outcomes.table c.args.results.now) (g.R.Outcomes.table c.write.new.results) c.in-Write.is (rw c.whole-entry.ensures.entry at c.write.ensures.takes)
 
 pub returns-in-Mask-clause-replays : goal.returns-in-Mask-clause-replays
 returns-in-Mask-clause-replays g c =
-    replays_event c.args.row c.args.event.now (Mask c.in-Mask.line c.in-Mask.bytes c.in-Mask.given) c.args.self.now c.write-in-Mask.new.self (g.A.CellArray.state c.args.array.now) (g.A.CellArray.state c.write-in-Mask.new.array) c.args.results.now c.write-in-Mask.new.results c.in-Mask.is c.write-in-Mask.ensures.takes
+    replays_event c.args.row c.args.event.now (Mask c.in-Mask.line c.in-Mask.bytes c.in-Mask.given) c.args.self.now c.write-in-Mask.new.self (g.A.CellArray.state c.args.array.now) (g.A.CellArray.state c.write-in-Mask.new.array) (g.R.Outcomes.table c.args.results.now) (g.R.Outcomes.table c.write-in-Mask.new.results) c.in-Mask.is c.write-in-Mask.ensures.takes
 
 pub returns-in-Cut-clause-replays : goal.returns-in-Cut-clause-replays
 returns-in-Cut-clause-replays g c =
-    replays_event c.args.row c.args.event.now (Cut) c.args.self.now c.cut.new.self (g.A.CellArray.state c.args.array.now) (g.A.CellArray.state c.cut.new.array) c.args.results.now c.cut.new.results c.in-Cut.is c.cut.ensures.takes
+    replays_event c.args.row c.args.event.now (Cut) c.args.self.now c.cut.new.self (g.A.CellArray.state c.args.array.now) (g.A.CellArray.state c.cut.new.array) (g.R.Outcomes.table c.args.results.now) (g.R.Outcomes.table c.cut.new.results) c.in-Cut.is c.cut.ensures.takes
 
 pub returns-in-Read-clause-shape : goal.returns-in-Read-clause-shape
 returns-in-Read-clause-shape g c = c.read.ensures.takes.shape
@@ -173,3 +170,15 @@ cut-requires g c = grind arith
 
 pub whole-entry-requires : goal.whole-entry-requires
 whole-entry-requires g c = grind arith
+
+pub returns-in-Read-clause-goes_on : goal.returns-in-Read-clause-goes_on
+returns-in-Read-clause-goes_on g c = c.read.ensures.goes_on
+
+pub returns-in-Write-clause-goes_on : goal.returns-in-Write-clause-goes_on
+returns-in-Write-clause-goes_on g c = c.write.ensures.goes_on
+
+pub returns-in-Mask-clause-goes_on : goal.returns-in-Mask-clause-goes_on
+returns-in-Mask-clause-goes_on g c = c.write-in-Mask.ensures.goes_on
+
+pub returns-in-Cut-clause-goes_on : goal.returns-in-Cut-clause-goes_on
+returns-in-Cut-clause-goes_on g c = c.cut.ensures.goes_on

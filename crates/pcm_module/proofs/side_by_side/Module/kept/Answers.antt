@@ -4,7 +4,7 @@ use Rattle.power_recovery.specs.Kept.{KeptState, IsKept}
 use Rattle.bank_invariant.specs.State.{BankState}
 use Rattle.module_shape.specs.Addresses.{module_of, bank_shape}
 use Rattle.clock_laws.specs.State.{ClockState}
-use Rattle.bank_clock.proofs.Sizes.{timed_fits, bank_fits}
+use Rattle.bank_timing.proofs.Sizes.{timed_fits, bank_fits}
 use Rattle.pcm_module.specs.State.{ModuleState}
 use Rattle.pcm_module.specs.Shaped.{IsBankOf}
 use Rattle.pcm_module.proofs.Banks.{from_get}

@@ -1,7 +1,7 @@
 use Rattle.std.proofs.Common.{ℕ, ◌∙◌, sym, ap, subst}
 use Rattle.bank_shape.specs.declared.BankShape.{BankShape}
 use Rattle.feistel_map.specs.Network.{network_of}
-use Rattle.bank_clock.proofs.Sizes.{timed_fits}
+use Rattle.bank_timing.proofs.Sizes.{timed_fits}
 use Rattle.pcm_module.proofs.Making.{AreMade, made_none, made_one, made_replays, made_module_is, end_is, next_is}
 use Rattle.pcm_module.proofs.side_by_side.Module.new.Goals as goal
 

@@ -1,14 +1,14 @@
 use Rattle.std.proofs.Common.{arith}
 use Rattle.pcm_module.proofs.Views.{state_of}
 use Rattle.pcm_module.proofs.Serving.{ComesTo, comes, bank_replays, bank_forward, bank_has, bank_rises, taken_kept, write_taken}
-use Rattle.bank_clock.proofs.Sizes.{timed_fits, row_fits, entry_fits}
+use Rattle.bank_timing.proofs.Sizes.{timed_fits, entry_fits}
 use Rattle.pcm_module.proofs.side_by_side.Module.write.Given.{Over}
 use Rattle.pcm_module.proofs.side_by_side.Module.write.Goals.{After-index_mut-timed}
 use Rattle.pcm_module.proofs.side_by_side.Module.write.Goals as goal
 
 -- the write comes to the bank of its line
 arrives : (g : Over) (c : After-index_mut-timed g)
-    → ComesTo (state_of c.self.inside) (g.A.CellArray.state c.args.array.now) c.args.results.now c.args.entry.row c.args.tick c.args.entry.line c.place-place.result.bank c.place-place.result.line c.index_mut-timed.result.now
+    → ComesTo (state_of c.self.inside) (g.A.CellArray.state c.args.array.now) (g.R.Outcomes.table c.args.results.now) c.args.entry.row c.args.tick c.args.entry.line c.place-place.result.bank c.place-place.result.line c.index_mut-timed.result.now
 arrives g c =
     let place = c.place-place.ensures in
     comes c.self.view_is c.self.invariant c.requires.led c.requires.forward c.requires.rises c.requires.exists c.requires.fresh
@@ -18,13 +18,13 @@ pub write_at-requires : goal.write_at-requires
 write_at-requires g c =
     let h = arrives g (goal.at.write_at-requires g c).After-index_mut-timed in
     let b = bank_replays h in
-    (timed_fits g.row.B g.row.M g.row.E c.self.invariant.layout, (entry_fits g.row.B c.self.invariant.layout.shape.1, (row_fits, (c.self.invariant.layout, (b.going, ((h.led.0 c.place-place.result.bank, b.leads), (bank_forward h, (c.requires.within, (bank_has h, (bank_rises h, (c.requires.masked, (b.open_rows, c.requires.fresh))))))))))))
+    (timed_fits g.row.B g.row.M g.row.E c.self.invariant.layout, (entry_fits g.row.B c.self.invariant.layout.shape.1, (c.self.invariant.layout, (b.going, ((h.led.0 c.place-place.result.bank, b.leads), (bank_forward h, (c.requires.within, (bank_has h, (bank_rises h, (c.requires.masked, (b.open_rows, c.requires.fresh)))))))))))
 
 pub invariant_of-self : goal.invariant_of-self
 invariant_of-self g c = taken_kept (arrives g (goal.at.invariant_of-self g c).After-index_mut-timed) c.self.invariant c.requires.within c.write_at.ensures.step
 
 pub returns : goal.returns
-returns g c = rw (← c.self.view_is) (record { takes = write_taken (arrives g (goal.at.returns g c).After-index_mut-timed) c.write_at.ensures.at c.write_at.ensures.step })
+returns g c = rw (← c.self.view_is) (record { goes_on = c.write_at.ensures.goes_on; takes = write_taken (arrives g (goal.at.returns g c).After-index_mut-timed) c.write_at.ensures.at c.write_at.ensures.step })
 
 pub place-place-requires : goal.place-place-requires
 place-place-requires g c = grind arith

@@ -41,21 +41,3 @@ returns-clause-apart g c =
     let region = rw (← c.self.view_is) at c.region.ensures.region in
     let slot = slot_of-place _ c.args.line c.place-place.result _ _ range region c.registers.ensures.rotation c.place-place.ensures.by_registers in
     rw (← c.self.view_is) (λ other below e. slot_of-apart _ range c.args.line other exists below (e ∙ slot))
-
-pub nonzero_div-region : goal.nonzero_div-region
-nonzero_div-region g c = grind arith
-
-pub region-requires : goal.region-requires
-region-requires g c = grind arith
-
-pub registers-requires : goal.registers-requires
-registers-requires g c = grind arith
-
-pub nonzero_rem-line : goal.nonzero_rem-line
-nonzero_rem-line g c = grind arith
-
-pub overflow_add-result : goal.overflow_add-result
-overflow_add-result g c = grind arith
-
-pub overflow_mul-result : goal.overflow_mul-result
-overflow_mul-result g c = grind arith

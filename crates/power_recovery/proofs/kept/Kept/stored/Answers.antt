@@ -1,4 +1,4 @@
-use Rattle.std.proofs.Common.{arith, ◌≡◌, ◌/◌, subst}
+use Rattle.std.proofs.Common.{◌≡◌, ◌/◌, subst}
 use Rattle.region_regs.specs.Region.{RegionState}
 use Rattle.power_recovery.proofs.Bundle.{stores_head, read_region}
 use Rattle.power_recovery.proofs.kept.Kept.stored.Goals as goal
@@ -24,21 +24,3 @@ returns-clause-in_range g c =
     let stores = stores_head _ c.in-Some.head c.self.invariant.1 next c.in-Some.ensures.head in
     let read = read_region c.self.inside.regions.items (c.in-Some.head.line / c.self.inside.shape.lines) _ stores.exists c.index_mut.ensures.value in
     rw (c.in-Some.ensures.rest, c.stored.ensures.counted, ← read) stores.range
-
-pub pop-requires : goal.pop-requires
-pop-requires g c = grind arith
-
-pub unreachable-requires : goal.unreachable-requires
-unreachable-requires g c = grind arith
-
-pub unreachable-unreachable : goal.unreachable-unreachable
-unreachable-unreachable g c = grind arith
-
-pub nonzero_div-head : goal.nonzero_div-head
-nonzero_div-head g c = grind arith
-
-pub index_mut-requires : goal.index_mut-requires
-index_mut-requires g c = grind arith
-
-pub returns-clause-row : goal.returns-clause-row
-returns-clause-row g c = grind arith

@@ -1,5 +1,5 @@
 use Rattle.std.proofs.Common.{arith, ℕ, ◌+◌, ◌<◌, Option, IfSome, ap, sym, subst, ◌∙◌}
-use Rattle.pcm_cells.specs.Device.{LineState}
+use Rattle.cell_rows.specs.Device.{LineState}
 use Rattle.line_writer.specs.Writing.{HasBegun}
 use Rattle.reg_lines.specs.declared.Change.{Change}
 use Rattle.reg_lines.proofs.Held.{HasStepped, held-stepped, held-same, done-holds, begun-goes, begun-fresh}
@@ -35,6 +35,22 @@ stepped g c =
       worn = λ worn. absurd (begun-fresh c.begin-writer.result.progress (begun g c) worn);
     })
 
+pub returns-clause-begins : goal.returns-clause-begins
+returns-clause-begins g c =
+    let after = (goal.at.returns-clause-begins g c).After-keep in
+    let step = stepped g after in
+    record {
+      change = c.in-Some.change;
+      stands = step.stands;
+      writer = c.begin-writer.result;
+      bytes = step.bytes;
+      writes = step.writes;
+      begun = begun g after;
+      few = c.begin-writer.ensures.steps;
+      is = c.keep.ensures.answer;
+      leaves = c.keep.ensures.regs;
+    }
+
 pub returns-clause-goes : goal.returns-clause-goes
 returns-clause-goes g c = λ halted. begun-goes c.begin-writer.result.progress (begun g (goal.at.returns-clause-goes g c).After-keep) (sym c.keep.ensures.answer ∙ halted)
 
@@ -68,9 +84,6 @@ begin-writer-requires g c = grind arith
 
 pub keep-requires : goal.keep-requires
 keep-requires g c = grind arith
-
-pub returns-clause-keeps : goal.returns-clause-keeps
-returns-clause-keeps g c = grind arith
 
 pub returns-clause-touches : goal.returns-clause-touches
 returns-clause-touches g c = grind arith

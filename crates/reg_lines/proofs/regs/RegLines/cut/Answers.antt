@@ -28,6 +28,31 @@ returns-clause-touches g c =
           quiet (quiet-cut c.args.tearing c.self.inside.writer (rw (← c.self.view_is) at c.requires.runs) none) w.array-is
     ])
 
+pub returns-clause-torn : goal.returns-clause-torn
+returns-clause-torn g c =
+    rw (← c.self.view_is)
+    (elim c.match-take.branch [
+      | in-Some+in-Some-change+then-tearing w ↦ λ yes. rw w.array-is (record {
+        change = w.in-Some-change.change;
+        stands = w.in-Some-change.is;
+        writer = w.in-Some.writer;
+        runs = sym c.take.ensures.value ∙ w.in-Some.is;
+        tear = w.tear.ensures.tear;
+        unused = w.tear.ensures.unused;
+        sound = w.tear.ensures.sound;
+      })
+      | in-Some+in-Some-change+else-tearing w ↦ λ yes. let no = w.if-tearing.false in absurd cc
+      | in-Some+in_default-change w ↦ λ yes.
+          let no = w.in_default-change in
+          let none : c.self.inside.change ≡ None = cc in
+          absurd (written-stands c.self.inside.writer c.self.inside.change w.in-Some.writer c.self.invariant.written (sym c.take.ensures.value ∙ w.in-Some.is) none)
+      | in_default w ↦ λ yes.
+          let no = w.in_default in
+          let none : c.self.inside.writer ≡ None = cc in
+          let quiet = quiet-cut c.args.tearing c.self.inside.writer (rw (← c.self.view_is) at c.requires.runs) none in
+          absurd cc
+    ])
+
 pub returns-clause-held : goal.returns-clause-held
 returns-clause-held g c =
     let held = rw (← c.self.view_is) at c.requires.held in
@@ -59,3 +84,6 @@ invariant_of-self g c = grind arith
 
 pub returns-clause-regs : goal.returns-clause-regs
 returns-clause-regs g c = grind arith
+
+pub returns-clause-quiet : goal.returns-clause-quiet
+returns-clause-quiet g c = grind arith

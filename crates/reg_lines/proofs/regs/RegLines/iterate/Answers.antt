@@ -4,7 +4,7 @@ use Rattle.line_writer.proofs.Untouched.{untouched-round, AreUntouched-beside}
 use Rattle.reg_lines.specs.Regs.{RegsState}
 use Rattle.bank_model.specs.Touching.{Touches}
 use Rattle.bank_model.proofs.Touched.{touches-round}
-use Rattle.reg_lines.proofs.Held.{HasStepped, held-stepped, sound-beside, writing-of, running-going}
+use Rattle.reg_lines.proofs.Held.{HasStepped, held-stepped, sound-beside, writing-of, running-going, kept-over, view_of}
 use Rattle.reg_lines.proofs.regs.RegLines.iterate.Given.{Over}
 use Rattle.reg_lines.proofs.regs.RegLines.iterate.Goals.{After-keep}
 use Rattle.reg_lines.proofs.regs.RegLines.iterate.Goals as goal
@@ -70,8 +70,30 @@ unreachable-requires-in-None g c = grind arith
 pub unreachable-unreachable-in-None : goal.unreachable-unreachable-in-None
 unreachable-unreachable-in-None g c = grind arith
 
-pub returns-clause-keeps : goal.returns-clause-keeps
-returns-clause-keeps g c = grind arith
+pub returns-clause-step : goal.returns-clause-step
+returns-clause-step g c =
+    let held = rw (← c.self.view_is) at c.requires.held in
+    let runs = sym c.take.ensures.value ∙ c.in-Some-take.is in
+    let now = stepped g (goal.at.returns-clause-step g c).After-keep in
+    rw (← c.self.view_is) (record {
+      change = c.in-Some.change;
+      stands = c.in-Some.is;
+      writer = c.in-Some-take.writer;
+      runs = runs;
+      bytes = (writing-of (view_of c.self.inside) (g.A.CellArray.state c.args.array.now) c.in-Some.change c.in-Some-take.writer held c.in-Some.is runs).bytes;
+      now = c.step.new.self;
+      step = record {
+        round = c.step.ensures.round;
+        unused = c.step.ensures.unused;
+        writes = c.step.ensures.writes;
+        sound = c.step.ensures.sound;
+        worn = now.worn;
+        bytes = c.step.ensures.bytes;
+        fewer = c.step.ensures.steps;
+      };
+      is = c.keep.ensures.answer;
+      leaves = c.keep.ensures.regs ∙ kept-over c.keep.result c.step.new.self (view_of c.self.inside) c.take.new.self;
+    })
 
 pub returns-clause-touches : goal.returns-clause-touches
 returns-clause-touches g c =

@@ -1,7 +1,7 @@
 use Rattle.std.proofs.Common.{◌≡◌, ◌∙◌, refl, sym, ap, subst}
 use Rattle.std.specs.Prelude.{slice_set}
-use Rattle.row_verdict.specs.States.{after_write}
-use Rattle.row_verdict.specs.declared.lines.Line.{Line}
+use Rattle.check_verdict.specs.States.{after_write}
+use Rattle.check_verdict.specs.declared.lines.Line.{Line}
 use Rattle.result_check.specs.Lines.{IsLineBehind}
 use Rattle.result_check.proofs.Lists.{some_same}
 use Rattle.masked_bytes.proofs.Lists.{item-at}

@@ -4,7 +4,7 @@ use Rattle.row_rules.specs.declared.Asks.{Asks}
 use Rattle.row_rules.specs.declared.Asks.TheVariants.{Reads, Writes}
 use Rattle.row_rules.specs.Rows.{asks_cut}
 use Rattle.row_rules.specs.Lines.{IsOfLines}
-use Rattle.row_verdict.specs.Verdicts.{bank_in}
+use Rattle.check_verdict.specs.Verdicts.{bank_in}
 use Rattle.trace_rows.specs.Rows.{asks_of, row_of}
 use Rattle.result_check.specs.declared.ahead.Coming.{Coming}
 use Rattle.result_check.specs.Coming.{a_row, coming_at}

@@ -1,8 +1,8 @@
 use Rattle.std.proofs.Common.{◌≡◌, ◌<◌, ◌∙◌, List, length, sym, ap, arith}
 use Rattle.std.specs.Prelude.{slice_get}
 use Rattle.std.proofs.Math.ListN.{length-set}
-use Rattle.row_verdict.specs.Banks.{facts_of}
-use Rattle.row_verdict.specs.declared.lines.Line.{Line}
+use Rattle.check_verdict.specs.Banks.{facts_of}
+use Rattle.check_verdict.specs.declared.lines.Line.{Line}
 use Rattle.result_check.proofs.Keeping.{bank_exists, facts_got}
 use Rattle.masked_bytes.proofs.Lists.{item-at}
 use Rattle.result_check.proofs.Taking.{read_taken}

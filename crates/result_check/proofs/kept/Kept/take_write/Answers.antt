@@ -1,7 +1,7 @@
 use Rattle.std.proofs.Common.{◌≡◌, ◌<◌, ◌∙◌, List, length, sym, ap, subst, arith}
 use Rattle.std.proofs.Math.ListN.{length-set}
-use Rattle.row_verdict.specs.Banks.{facts_of}
-use Rattle.row_verdict.specs.declared.lines.Line.{Line}
+use Rattle.check_verdict.specs.Banks.{facts_of}
+use Rattle.check_verdict.specs.declared.lines.Line.{Line}
 use Rattle.result_check.specs.Keeping.{KnowsLines}
 use Rattle.result_check.proofs.Keeping.{bank_exists, facts_got}
 use Rattle.result_check.proofs.Lines.{lines_pass}

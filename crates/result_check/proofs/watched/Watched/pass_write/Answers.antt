@@ -1,9 +1,9 @@
 use Rattle.std.proofs.Common.{◌++◌, [], ◌∷◌, List, refl, sym, subst}
 use Rattle.std.specs.Prelude.{filter}
-use Rattle.row_verdict.specs.declared.members.Member.{Member}
-use Rattle.row_verdict.specs.Banks.{facts_of}
-use Rattle.row_verdict.specs.Fitting.{IsKnown}
-use Rattle.row_verdict.specs.Joined.{stays_beside}
+use Rattle.check_verdict.specs.declared.members.Member.{Member}
+use Rattle.check_verdict.specs.Banks.{facts_of}
+use Rattle.check_verdict.specs.Fitting.{IsKnown}
+use Rattle.check_verdict.specs.Joined.{stays_beside}
 use Rattle.result_check.specs.Watching.{IsWatched}
 use Rattle.result_check.proofs.Watching.{watched_none, watched_written}
 use Rattle.result_check.proofs.watched.Watched.pass_write.Goals as goal

@@ -1,10 +1,9 @@
-use Rattle.std.proofs.Common.{◌≡◌, ◌-◌, ◌∙◌, ap, arith}
-use Rattle.trace_gen.specs.Generated.{events_drawn, generated, words_left}
+use Rattle.std.proofs.Common.{rules}
+use Rattle.trace_gen.specs.Generated.{IsLongMix}
+use Rattle.trace_gen.proofs.Lawful.{long-mix}
 use Rattle.trace_gen.proofs.generator.Generator.new.Goals as goal
 
-pub returns : goal.returns
-unfolding generated
-returns g c =
-    let all : c.args.mix.rows - 0 ≡ c.args.mix.rows = omega arith in
-    ap (λ rows. events_drawn g.row.B c.args.lines c.args.mix rows 0 0 (words_left c.seed_from_u64.result)) all
-    ∙ ap (λ state. events_drawn g.row.B c.args.lines c.args.mix c.args.mix.rows 0 0 (words_left state)) c.seed_from_u64.ensures
+pub long-requires : goal.long-requires
+long-requires g c =
+    let long : IsLongMix c.args.mix = long-mix c.args.mix c.requires.mix in
+    search rules

@@ -1,0 +1,10 @@
+use Rattle.bank_tests.proofs.rows.cut.Goals as goal
+
+pub returns-clause-going : goal.returns-clause-going
+returns-clause-going g c =
+    let led = c.requires.going.led in
+    record {
+      running = c.power_cut.ensures.going;
+      led = (_, (c.power_cut.ensures.extends led.0 led.1).leads);
+      unset = c.power_cut.ensures.unset;
+    }

@@ -1,0 +1,10 @@
+use Rattle.bank_tests.proofs.rows.pass.Goals as goal
+
+pub returns-clause-going : goal.returns-clause-going
+returns-clause-going g c =
+    let led = c.requires.going.led in
+    record {
+      running = c.advance.ensures.going;
+      led = (_, (c.advance.ensures.extends led.0 led.1).1.leads);
+      unset = c.advance.ensures.unset;
+    }

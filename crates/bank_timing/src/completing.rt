@@ -1,0 +1,341 @@
+// The end of an action.
+ghost use Rattle.std.specs.Prelude.{◌≡◌, ◌<◌, ◌≤◌, List, [], ◌∷◌, None, Some, IfSome, IsTrue, is_some, slice_get};
+ghost use Rattle.bank_shape.specs.declared.clock.Doing.TheVariants.{Serving, Beginning, Iterating};
+ghost use Rattle.bank_model.specs.Timing.{TimedEvent, ends};
+ghost use Rattle.clock_laws.specs.State.{next_action};
+ghost use Rattle.clock_laws.specs.Leads.{Leads};
+ghost use Rattle.result_rows.specs.declared.Outcome.{Outcome as RowOutcome};
+ghost use Rattle.spare_pool.specs.Table.{used_by};
+ghost use Rattle.bank_shape.specs.Shape.{IsBankShape};
+ghost use Rattle.power_recovery.specs.Kept.{next_work};
+ghost use Rattle.register_laws.specs.Items.{items_of, item_values, region_values, spare_values, mark_values};
+ghost use Rattle.clock_laws.specs.Putting.{put_if};
+ghost use Rattle.bank_timing.specs.Extending.{AreOpen, last_tick_with_drain};
+ghost use Rattle.bank_timing.specs.Completing.{Completes, IsRecordable, step_recorded, recorded_clock, with_regs, region_of, item_from, cancels_by_step, cancels_by_keep};
+
+use crate::clocked::Timed;
+use bank_shape::answer::{Keep, Served, Step};
+use bank_shape::clock::{Action, Doing};
+use bank_shape::{BankShape, Home, Work};
+use cell_rows::CellArray;
+use power_recovery::kept::Kept;
+use reg_lines::Change;
+use region_regs::Region;
+use result_rows::Outcome;
+use row_telling::Outcomes;
+use spare_pool::Remap;
+
+impl<const B: usize, const M: usize, const E: usize> Timed<B, M, E> {
+    // Completes the action that runs from now on, at its end: its event happens, and sets what outcome it makes.
+    pub(crate) fn complete<A: CellArray<B, M>, R: Outcomes<B>>(
+        &mut self,
+        array: &mut A,
+        action: Action,
+        results: &mut R,
+    )
+        requires led { (xs : List (TimedEvent B M)) × Leads xs self.old (A.state array.old) }
+        requires next { next_action self.old ≡ Some action }
+        requires within { self.old.tick ≤ last_tick_with_drain }
+        requires unset { AreOpen self.old.bank (R.table results.old) }
+        ensures completes { Completes self.old self.new action (A.state array.old) (A.state array.new)
+            (R.table results.old) (R.table results.new) }
+        ensures goes_on { R.goes_on results.old results.new }
+    {
+        match action.doing {
+            Doing::Serving => self.serve(array, action, results),
+            Doing::Beginning => self.begin(array, action, results),
+            Doing::Iterating => self.iterate(array, action, results),
+        }
+    }
+
+    // The oldest waiting read is served.
+    fn serve<A: CellArray<B, M>, R: Outcomes<B>>(
+        &mut self,
+        array: &mut A,
+        action: Action,
+        results: &mut R,
+    )
+        requires led { (xs : List (TimedEvent B M)) × Leads xs self.old (A.state array.old) }
+        requires next { next_action self.old ≡ Some action }
+        requires doing { action.doing ≡ Serving }
+        requires within { self.old.tick ≤ last_tick_with_drain }
+        requires unset { AreOpen self.old.bank (R.table results.old) }
+        ensures completes { Completes self.old self.new action (A.state array.old) (A.state array.new)
+            (R.table results.old) (R.table results.new) }
+        ensures goes_on { R.goes_on results.old results.new }
+    {
+        self.tick = action.ends(self.pace.read, self.pace.iter);
+        self.action = None;
+        let Served { row, place, bytes } = self.bank.serve(array, self.tick);
+        results.set(
+            row,
+            Outcome::Read {
+                tick: self.tick,
+                place,
+                bytes,
+            },
+        );
+    }
+
+    // A line write begins: that of the change that stands, or else that of the bank's next work.
+    fn begin<A: CellArray<B, M>, R: Outcomes<B>>(
+        &mut self,
+        array: &mut A,
+        action: Action,
+        results: &mut R,
+    )
+        requires led { (xs : List (TimedEvent B M)) × Leads xs self.old (A.state array.old) }
+        requires next { next_action self.old ≡ Some action }
+        requires doing { action.doing ≡ Beginning }
+        requires within { self.old.tick ≤ last_tick_with_drain }
+        requires unset { AreOpen self.old.bank (R.table results.old) }
+        ensures completes { Completes self.old self.new action (A.state array.old) (A.state array.new)
+            (R.table results.old) (R.table results.new) }
+        ensures goes_on { R.goes_on results.old results.new }
+    {
+        match self.regs.change() {
+            Some(_) => self.begin_change(array, action),
+            None => self.begin_work(array, action, results),
+        }
+    }
+
+    // A line write goes on by an iteration: that of the change that stands, or else the bank's.
+    fn iterate<A: CellArray<B, M>, R: Outcomes<B>>(
+        &mut self,
+        array: &mut A,
+        action: Action,
+        results: &mut R,
+    )
+        requires led { (xs : List (TimedEvent B M)) × Leads xs self.old (A.state array.old) }
+        requires next { next_action self.old ≡ Some action }
+        requires doing { action.doing ≡ Iterating }
+        requires within { self.old.tick ≤ last_tick_with_drain }
+        requires unset { AreOpen self.old.bank (R.table results.old) }
+        ensures completes { Completes self.old self.new action (A.state array.old) (A.state array.new)
+            (R.table results.old) (R.table results.new) }
+        ensures goes_on { R.goes_on results.old results.new }
+    {
+        match self.regs.change() {
+            Some(_) => self.iterate_change(array, action),
+            None => self.iterate_work(array, action, results),
+        }
+    }
+
+    // The writing of the change begins.
+    fn begin_change<A: CellArray<B, M>>(&mut self, array: &mut A, action: Action)
+        requires led { (xs : List (TimedEvent B M)) × Leads xs self.old (A.state array.old) }
+        requires next { next_action self.old ≡ Some action }
+        requires doing { action.doing ≡ Beginning }
+        requires within { self.old.tick ≤ last_tick_with_drain }
+        requires stands { IsTrue (is_some self.old.regs.change) }
+        ensures { (results : List (RowOutcome B)) → AreOpen self.old.bank results
+            → Completes self.old self.new action (A.state array.old) (A.state array.new) results results }
+    {
+        self.tick = action.ends(self.pace.read, self.pace.iter);
+        self.action = None;
+        let keep = self.regs.begin(array, self.tick);
+        self.cancels = cancels_by_keep(keep, self.cancels);
+    }
+
+    // It goes on by an iteration.
+    fn iterate_change<A: CellArray<B, M>>(&mut self, array: &mut A, action: Action)
+        requires led { (xs : List (TimedEvent B M)) × Leads xs self.old (A.state array.old) }
+        requires next { next_action self.old ≡ Some action }
+        requires doing { action.doing ≡ Iterating }
+        requires within { self.old.tick ≤ last_tick_with_drain }
+        requires stands { IsTrue (is_some self.old.regs.change) }
+        ensures { (results : List (RowOutcome B)) → AreOpen self.old.bank results
+            → Completes self.old self.new action (A.state array.old) (A.state array.new) results results }
+    {
+        self.tick = action.ends(self.pace.read, self.pace.iter);
+        self.action = None;
+        let keep = self.regs.iterate(array, self.tick);
+        self.cancels = cancels_by_keep(keep, self.cancels);
+    }
+
+    // The line write of the bank's next work begins.
+    fn begin_work<A: CellArray<B, M>, R: Outcomes<B>>(
+        &mut self,
+        array: &mut A,
+        action: Action,
+        results: &mut R,
+    )
+        requires led { (xs : List (TimedEvent B M)) × Leads xs self.old (A.state array.old) }
+        requires next { next_action self.old ≡ Some action }
+        requires doing { action.doing ≡ Beginning }
+        requires within { self.old.tick ≤ last_tick_with_drain }
+        requires unset { AreOpen self.old.bank (R.table results.old) }
+        requires alone { self.old.regs.change ≡ None }
+        ensures completes { Completes self.old self.new action (A.state array.old) (A.state array.new)
+            (R.table results.old) (R.table results.new) }
+        ensures goes_on { R.goes_on results.old results.new }
+    {
+        self.tick = action.ends(self.pace.read, self.pace.iter);
+        self.action = None;
+        let (region, used) = changes_next(self.bank.kept());
+        let step = self.bank.begin(array, self.tick);
+        self.record(step, results);
+        self.put(region, used, step);
+    }
+
+    // It goes on by an iteration.
+    fn iterate_work<A: CellArray<B, M>, R: Outcomes<B>>(
+        &mut self,
+        array: &mut A,
+        action: Action,
+        results: &mut R,
+    )
+        requires led { (xs : List (TimedEvent B M)) × Leads xs self.old (A.state array.old) }
+        requires next { next_action self.old ≡ Some action }
+        requires doing { action.doing ≡ Iterating }
+        requires within { self.old.tick ≤ last_tick_with_drain }
+        requires unset { AreOpen self.old.bank (R.table results.old) }
+        requires alone { self.old.regs.change ≡ None }
+        ensures completes { Completes self.old self.new action (A.state array.old) (A.state array.new)
+            (R.table results.old) (R.table results.new) }
+        ensures goes_on { R.goes_on results.old results.new }
+    {
+        self.tick = action.ends(self.pace.read, self.pace.iter);
+        self.action = None;
+        let (region, used) = changes_next(self.bank.kept());
+        let step = self.bank.iterate(array, self.tick);
+        self.record(step, results);
+        self.put(region, used, step);
+    }
+
+    // A step of the bank's line write came so far: a write that is stored leaves the queue, and has its outcome.
+    fn record<R: Outcomes<B>>(&mut self, step: Step, results: &mut R)
+        requires unset { IsRecordable step (R.table results.old) }
+        ensures clock { self.new ≡ recorded_clock step self.old }
+        ensures results { (R.table results.new) ≡ step_recorded step self.old.tick (R.table results.old) }
+        ensures goes_on { R.goes_on results.old results.new }
+    {
+        self.cancels = cancels_by_step(step, self.cancels);
+        if let Step::Stored { row, place } = step {
+            self.arrivals.pop_front();
+            results.set(
+                row,
+                Outcome::Stored {
+                    tick: self.tick,
+                    place,
+                },
+            );
+        }
+    }
+
+    // The change that a step of the bank's line write brings is put, with the values that the bank keeps now.
+    fn put(&mut self, region: u32, used: u32, step: Step)
+        requires free { IfSome (item_from self.old.bank.kept.shape region used step)
+            (λ item. self.old.regs.change ≡ None) }
+        requires items { IfSome (item_from self.old.bank.kept.shape region used step)
+            (λ item. item < self.old.regs.items) }
+        requires known { IfSome (item_from self.old.bank.kept.shape region used step)
+            (λ item. item < items_of self.old.bank.kept.shape) }
+        requires few { used ≤ self.old.bank.kept.shape.spares }
+        requires rests { self.old.action ≡ None }
+        ensures { self.new ≡ with_regs (put_if (item_from self.old.bank.kept.shape region used step)
+            self.old.bank.kept self.old.regs) self.old }
+    {
+        let shape = *self.bank.kept().shape();
+        if let Some(item) = item_from(&shape, region, used, step) {
+            let values = item_values(self.bank.kept(), item);
+            self.regs.put(Change { item, values });
+        }
+    }
+}
+
+// How often the present line write was cancelled, after a step of the bank's.
+fn cancels_by_step(step: Step, cancels: u32) -> u32
+    ensures { result ≡ cancels_by_step step cancels }
+{
+    match step {
+        Step::More => cancels,
+        _ => 0,
+    }
+}
+
+// How often the present line write was cancelled, after a step of the writing of a change.
+fn cancels_by_keep(keep: Keep, cancels: u32) -> u32
+    ensures { result ≡ cancels_by_keep keep cancels }
+{
+    match keep {
+        Keep::More => cancels,
+        _ => 0,
+    }
+}
+
+// The region of the next work, and how many spares are used.
+fn changes_next<const B: usize>(kept: &Kept<B>) -> (u32, u32)
+    requires few { B ≤ 128 }
+    ensures region { result.0 ≡ region_of kept.now.shape (next_work kept.now) }
+    ensures used { result.1 ≡ used_by kept.now.table }
+{
+    let used = kept.remap().used();
+    let region = match kept.next_work() {
+        Work::Nothing => 0,
+        Work::Store { line, .. } => line / kept.shape().lines,
+        Work::Copy { region, .. } => region,
+    };
+    (region, used)
+}
+
+// The item that a step changes, if the registers are in the array.
+fn item_from(shape: &BankShape, region: u32, used: u32, step: Step) -> Option<u32>
+    requires limits { IsBankShape shape.now }
+    requires few { used ≤ shape.now.spares }
+    ensures { result ≡ item_from shape.now region used step }
+{
+    if let Home::Guarded = shape.home {
+        return None;
+    }
+    match step {
+        Step::More => None,
+        Step::Stored { .. } => Some(region),
+        Step::Moved(_) => Some(region),
+        Step::Retired { .. } => Some(shape.regions + used),
+        Step::Exhausted => Some(shape.regions + shape.spares),
+    }
+}
+
+// The values of an item.
+fn item_values<const B: usize>(kept: &Kept<B>, item: u32) -> [u32; 3]
+    requires few { B ≤ 128 }
+    requires exists { item < items_of kept.now.shape }
+    ensures { result ≡ item_values kept.now item }
+{
+    let shape = *kept.shape();
+    if item < shape.regions {
+        return region_values(kept.region(item), shape.lines);
+    }
+    if item < shape.regions + shape.spares {
+        return spare_values(kept.remap(), item - shape.regions);
+    }
+    mark_values(kept.exhausted())
+}
+
+// Those of a region.
+fn region_values(region: &Region, lines: u32) -> [u32; 3]
+    requires { lines ≡ region.now.rotation.lines }
+    ensures { result ≡ region_values region.now }
+{
+    let registers = region.registers();
+    [registers.start(), lines - registers.gap(), region.counter()]
+}
+
+// Those of a spare.
+fn spare_values(remap: &Remap, spare: u32) -> [u32; 3]
+    ensures { result ≡ spare_values (slice_get remap.now.replaced spare) }
+{
+    if spare < remap.used() {
+        [remap.replaced(spare) + 1, 0, 0]
+    } else {
+        [0, 0, 0]
+    }
+}
+
+// Those of the mark.
+fn mark_values(exhausted: bool) -> [u32; 3]
+    ensures { result ≡ mark_values exhausted }
+{
+    if exhausted { [1, 0, 0] } else { [0, 0, 0] }
+}

@@ -1,0 +1,5 @@
+pub mod ByteLemmas
+pub mod BlockLemmas
+pub mod WordLemmas
+pub mod RowLemmas
+pub mod LaneLemmas

@@ -1,0 +1,10 @@
+use Rattle.std.proofs.Common.{◌*◌, bit_xor}
+use Rattle.cell_rows.proofs.LaneLemmas.{Joins}
+use Rattle.cell_rows.proofs.bytes.xor_with.Given as goal
+
+-- the bytes of the steps so far are done, and the others are as they were
+abbrev pub invariant-loop-step : goal.invariant-loop-step
+invariant-loop-step l = Joins bit_xor l.fn.bytes l.other l.bytes (16 * l.step)
+
+abbrev pub invariant-loop-i : goal.invariant-loop-i
+invariant-loop-i l = Joins bit_xor l.fn.bytes l.other l.bytes l.i

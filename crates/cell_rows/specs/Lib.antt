@@ -1,0 +1,4 @@
+pub mod Rows
+pub mod Shape
+pub mod Pulse
+pub mod Device

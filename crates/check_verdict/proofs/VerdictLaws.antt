@@ -1,0 +1,199 @@
+-- A row's verdict in the words of the code.
+use Rattle.std.proofs.Common.{◌≡◌, ℕ, zero, suc, ◌+◌, ◌-◌, ◌*◌, ◌<◌, ◌≤◌, ◌==◌, ◌&&◌, ◌||◌, ◌⊎◌, inl, inr, Bool, true, false, List, [], ◌∷◌, ◌++◌, Option, Some, None, length, refl, sym, ap, ◌∙◌, subst, cond, arith}
+use Rattle.masked_bytes.proofs.Truth.{and_first, and_second}
+use Rattle.std.specs.Prelude.{nat_le, nat_lt, not, slice_get, unwrap_or, count_by}
+use Rattle.std.proofs.lemmas.Bool.{leb-true, ltb-true, le-ltb, eq-eqb, eqb-true, ne_eqb, cases_lt, cases_eq}
+use Rattle.masked_bytes.specs.Masked.{gives_all, laid}
+use Rattle.result_rows.specs.declared.Outcome.{Outcome}
+use Rattle.result_rows.specs.declared.Outcome.TheVariants as out
+use Rattle.row_rules.specs.declared.Asks.{Asks}
+use Rattle.row_rules.specs.declared.Asks.TheVariants.{Reads, Writes, Cuts}
+use Rattle.row_rules.specs.declared.Row.{Row}
+use Rattle.row_rules.specs.Answers.{accepts, is_worn, is_answered, is_lost, stored_after, stored_by}
+use Rattle.row_rules.specs.declared.Rules.{Rules}
+use Rattle.row_rules.specs.Rows.{newest, asks_write, asks_read, asks_write_of, lay_row, bytes_of, given_of}
+use Rattle.row_rules.specs.Serving.{may_have}
+use Rattle.row_rules.specs.Table.{is_of, of_bank}
+use Rattle.row_rules.specs.Queueing.{waiting, cover, read_fits}
+use Rattle.row_rules.specs.Ticking.{bound, delay, longest, stores_in, reads_in, cuts_to}
+use Rattle.check_judging.specs.Coming.{came}
+use Rattle.check_judging.specs.Cutting.{cut_ticks}
+use Rattle.check_judging.specs.Keys.{reach, is_short, key, up_to}
+use Rattle.check_judging.specs.Rising.{falling}
+use Rattle.masked_bytes.proofs.Counting.{count-append, count-cons, one_if}
+use Rattle.check_judging.proofs.Cuts.{first_cut_law, cuts_of_bank_law}
+use Rattle.check_verdict.specs.Ahead.{four_kept, bound_kept, latest_kept, at_store}
+use Rattle.check_verdict.specs.Covering.{soonest, cover_kept}
+use Rattle.check_verdict.specs.Fitting.{at_head_kept, write_fits}
+use Rattle.check_verdict.specs.Judged.{first_broken, beside, a_write, a_read}
+use Rattle.check_verdict.specs.Keeping.{stored_early, read_timely, write_timely, delay_kept}
+use Rattle.check_verdict.specs.Kept.{apart_kept}
+use Rattle.check_verdict.specs.QueueLaws.{next_accepted}
+use Rattle.check_verdict.specs.States.{Facts}
+use Rattle.check_verdict.specs.Tables.{four_came}
+use Rattle.check_verdict.specs.Timely.{FindsTimes, first_of_ticks, latest_store}
+use Rattle.check_verdict.specs.VerdictLaws.{HasKeys, Comes, WriteVerdictLaw, ReadVerdictLaw}
+use Rattle.check_verdict.specs.Verdicts.{bank_in}
+use Rattle.check_verdict.specs.Worn.{first_worn}
+use Rattle.check_verdict.proofs.Covering.{cover_kept_law}
+use Rattle.check_verdict.proofs.Judged.{judge_write_law, judge_read_law}
+use Rattle.check_verdict.proofs.Numbers.{numbers_law}
+use Rattle.check_verdict.proofs.Tables.{counts_told_law, line_keys_law, delay_law}
+
+-- a row stands among those of its line's bank
+own : {A : Type 0} (b : ℕ) (x : A) (xs : List A) → cond (b == b) (x ∷ xs) xs ≡ x ∷ xs
+own b x xs = ap (λ c. cond c (x ∷ xs) xs) (eq-eqb b b refl)
+
+module _ {n : ℕ} (rules : Rules) (banks : List ℕ) (line : ℕ) (before : List (Row n)) (r : Row n) (after : List (Row n)) (f : Facts) (comes : Comes rules banks line before r after f) where
+  times : FindsTimes rules (beside banks line before) r (beside banks line after) f.members f.waits f.lost f.last_answer f.last_store
+  times = record { kept = comes.stands.finds.kept; later = comes.later; short = comes.short; some = comes.some; small = comes.small }
+
+  cuts : (u : ℕ) → cuts_to u (beside banks line after) ≡ up_to u (cut_ticks after)
+  cuts u = (first_cut_law n r.tick u (beside banks line after) comes.later).number ∙ ap (λ ticks. count_by (λ c. nat_le c u) ticks) (cuts_of_bank_law n (bank_in banks) (bank_in banks line) after)
+
+  module _ (stores reads lines : List ℕ) (keys : HasKeys banks before r after stores reads lines) (mine : of_bank (bank_in banks) (bank_in banks line) (r ∷ after) ≡ r ∷ beside banks line after) where
+    latest : (u : ℕ) → r.tick < u → u < reach
+        → latest_kept rules stores reads (cut_ticks after) (bank_in banks line) r.tick u ≡ latest_store rules u r (beside banks line before) (beside banks line after)
+    latest u lt below =
+        let c = counts_told_law n (bank_in banks) (bank_in banks line) r.tick u before r after stores reads keys.of_stores keys.of_reads (omega (arith, lt)) below keys.short in
+        let s : up_to (key (bank_in banks line) r.tick) stores + stores_in r.tick u (beside banks line before ++ r ∷ beside banks line after) ≡ up_to (key (bank_in banks line) u) stores =
+        subst (λ rows. up_to (key (bank_in banks line) r.tick) stores + stores_in r.tick u (beside banks line before ++ rows) ≡ up_to (key (bank_in banks line) u) stores) mine c.stored in
+        let d : up_to (key (bank_in banks line) r.tick) reads + reads_in r.tick u (beside banks line before ++ r ∷ beside banks line after) ≡ up_to (key (bank_in banks line) u) reads =
+        subst (λ rows. up_to (key (bank_in banks line) r.tick) reads + reads_in r.tick u (beside banks line before ++ rows) ≡ up_to (key (bank_in banks line) u) reads) mine c.read in
+        let w : up_to (key (bank_in banks line) u) stores - up_to (key (bank_in banks line) r.tick) stores ≡ stores_in r.tick u (beside banks line before ++ r ∷ beside banks line after) = omega (arith, s) in
+        let v : up_to (key (bank_in banks line) u) reads - up_to (key (bank_in banks line) r.tick) reads ≡ reads_in r.tick u (beside banks line before ++ r ∷ beside banks line after) = omega (arith, d) in
+        ap (λ k. r.tick + longest rules k (up_to (key (bank_in banks line) u) reads - up_to (key (bank_in banks line) r.tick) reads) (up_to u (cut_ticks after))) w
+        ∙ ap (λ k. r.tick + longest rules (stores_in r.tick u (beside banks line before ++ r ∷ beside banks line after)) k (up_to u (cut_ticks after))) v
+        ∙ ap (λ k. r.tick + longest rules (stores_in r.tick u (beside banks line before ++ r ∷ beside banks line after)) (reads_in r.tick u (beside banks line before ++ r ∷ beside banks line after)) k) (sym (cuts u))
+
+    -- four reads came
+    four : asks_write r.asks ≡ false → (fourth : Option ℕ) → ((d : ℕ) → fourth ≡ Some d → d ≤ r.tick) → r.tick < reach
+        → four_came r.tick fourth (beside banks line before ++ beside banks line after) ≡ four_kept stores (bank_in banks line) r.tick fourth
+    four reading None le below = refl
+    four reading (Some d) le below =
+        let c = counts_told_law n (bank_in banks) (bank_in banks line) d r.tick before r after stores reads keys.of_stores keys.of_reads (le d refl) below keys.short in
+        let s : up_to (key (bank_in banks line) d) stores + stores_in d r.tick (beside banks line before ++ r ∷ beside banks line after) ≡ up_to (key (bank_in banks line) r.tick) stores =
+        subst (λ rows. up_to (key (bank_in banks line) d) stores + stores_in d r.tick (beside banks line before ++ rows) ≡ up_to (key (bank_in banks line) r.tick) stores) mine c.stored in
+        let i = count-append (λ (q : Row n). asks_write q.asks && (stored_after d q.outcome && stored_by r.tick q.outcome)) (beside banks line before) (r ∷ beside banks line after) in
+        let j = count-append (λ (q : Row n). asks_write q.asks && (stored_after d q.outcome && stored_by r.tick q.outcome)) (beside banks line before) (beside banks line after) in
+        let k = count-cons (λ (q : Row n). asks_write q.asks && (stored_after d q.outcome && stored_by r.tick q.outcome)) r (beside banks line after) in
+        let z : one_if (asks_write r.asks && (stored_after d r.outcome && stored_by r.tick r.outcome)) ≡ one_if false = ap one_if (ap (λ b. b && (stored_after d r.outcome && stored_by r.tick r.outcome)) reading) in
+        same (stores_in d r.tick (beside banks line before ++ beside banks line after)) (up_to (key (bank_in banks line) d) stores) (up_to (key (bank_in banks line) r.tick) stores) (omega (arith, s, i, j, k, z))
+      where
+        same : (c a b : ℕ) → a + c ≡ b → (c == 0) ≡ (a == b)
+        same c a b is = by (cases_eq c 0)
+          where
+            by : (c ≡ 0) ⊎ (c ≡ 0 → ⊥) → (c == 0) ≡ (a == b)
+            by (inl e) = eq-eqb c 0 e ∙ sym (eq-eqb a b (omega (arith, is, e)))
+            by (inr ne) = ne_eqb c 0 ne ∙ sym (ne_eqb a b (λ e. ne (omega (arith, is, e))))
+
+-- a read that came did so no later than the last row
+pub came_below : {n : ℕ} (t : ℕ) (rows : List (Row n)) → falling t rows ≡ true → (k d : ℕ) → slice_get (came rows) k ≡ Some d → d ≤ t
+came_below t [] h k d is = absurd (cc)
+came_below {n} t (q ∷ rows) h k d is =
+    by (asks_read q.asks && (is_answered q.outcome || is_lost q.outcome)) k is
+    (λ k is. came_below q.tick rows (and_second (nat_le q.tick t) _ h) k d is)
+  where
+    tick : q.tick ≤ t
+    tick = leb-true q.tick t (and_first (nat_le q.tick t) _ h)
+
+    by : (c : Bool) (k : ℕ) → slice_get (cond c (q.tick ∷ came rows) (came rows)) k ≡ Some d → ((k : ℕ) → slice_get (came rows) k ≡ Some d → d ≤ q.tick) → d ≤ t
+    by true zero is rest = let e : q.tick ≡ d = ap (λ o. unwrap_or o 0) is in omega (arith, e, tick)
+    by true (suc k) is rest = let e = rest k is in omega (arith, e, tick)
+    by false k is rest = let e = rest k is in omega (arith, e, tick)
+
+-- only a tick above its arrival counts
+same_timely : {n : ℕ} (tick : ℕ) (o : Outcome n) (f g : ℕ → ℕ) → ((u : ℕ) → tick < u → u < reach → f u ≡ g u) → is_short o ≡ true
+    → write_timely tick (at_store f o) o ≡ write_timely tick (at_store g o) o
+same_timely tick (out.Stored u place) f g same short = by (cases_lt tick u)
+  where
+    by : (tick < u) ⊎ (u ≤ tick) → (nat_lt tick u && nat_le u (f u)) ≡ (nat_lt tick u && nat_le u (g u))
+    by (inl lt) = ap (λ k. nat_lt tick u && nat_le u k) (same u lt (ltb-true u reach short))
+    by (inr le) = ap (λ b. b && nat_le u (f u)) (le-ltb tick u le) ∙ ap (λ b. b && nat_le u (g u)) (sym (le-ltb tick u le))
+same_timely tick out.Unset f g same short = refl
+same_timely tick (out.Merged v) f g same short = refl
+same_timely tick (out.Queued v) f g same short = refl
+same_timely tick (out.Full v) f g same short = refl
+same_timely tick (out.Worn v) f g same short = refl
+same_timely tick (out.Read v place more) f g same short = refl
+same_timely tick (out.Forwarded v more) f g same short = refl
+same_timely tick (out.Busy v) f g same short = refl
+same_timely tick (out.Lost v) f g same short = refl
+same_timely tick (out.Cut v) f g same short = refl
+
+pub write_verdict_law : WriteVerdictLaw
+write_verdict_law n tick line bytes given outcome rules banks some before after f room stores reads lines comes room_is keys =
+    judge_write_law n tick line bytes given outcome rules banks some before after f.members f.waits f.lost f.last_answer f.last_store room
+    (at_store (λ u. latest_store rules u (a_write tick line bytes given outcome) (beside banks line before) (beside banks line after)) outcome)
+    comes.stands.finds (times rules banks line before (a_write tick line bytes given outcome) after f comes) room_is
+    (λ u place is. ap (at_store (λ u. latest_store rules u (a_write tick line bytes given outcome) (beside banks line before) (beside banks line after))) is)
+    ∙ ap (λ b. first_broken (may_have tick (Writes line bytes given) some outcome) room
+    (write_fits rules.writes tick line f.members (next_accepted line (beside banks line after)) outcome)
+    (is_worn outcome || (not b && stored_early (first_worn (beside banks line after)) outcome))
+    (write_timely tick (at_store (λ u. latest_store rules u (a_write tick line bytes given outcome) (beside banks line before) (beside banks line after)) outcome) outcome
+    && apart_kept rules.read_ticks f.members f.waits f.last_answer f.last_store outcome)) (sym comes.stands.worn_is)
+    ∙ ap (λ b. first_broken (may_have tick (Writes line bytes given) some outcome) room
+    (write_fits rules.writes tick line f.members (next_accepted line (beside banks line after)) outcome)
+    (is_worn outcome || (not f.worn && stored_early (first_worn (beside banks line after)) outcome))
+    (b && apart_kept rules.read_ticks f.members f.waits f.last_answer f.last_store outcome))
+    (sym (same_timely tick outcome (latest_kept rules stores reads (cut_ticks after) (bank_in banks line) tick)
+    (λ u. latest_store rules u (a_write tick line bytes given outcome) (beside banks line before) (beside banks line after))
+    (λ u lt below. latest rules banks line before (a_write tick line bytes given outcome) after f comes stores reads lines keys
+    (own (bank_in banks line) (a_write tick line bytes given outcome) (beside banks line after)) u lt below) comes.short))
+
+pub read_verdict_law : ReadVerdictLaw
+read_verdict_law n now tick line outcome rules banks bytes before after f room stores reads lines unclosed runs comes room_is keys kept le sized is =
+    judge_read_law n tick line outcome rules banks before after f.members f.waits lines f.lost f.last_answer f.last_store room
+    comes.stands.finds (times rules banks line before (a_read tick line outcome) after f comes) room_is
+    (line_keys_law n (bank_in banks) line tick before (a_read tick line outcome) after lines keys.of_lines keys.short refl)
+    ∙ ap (λ zs. first_broken (may_have tick (Reads line) zs outcome) room
+    (read_fits rules.reads (length f.waits + f.lost) (gives_all (cover tick line (beside banks line before) (beside banks line after))) (at_head_kept lines line tick f.members) outcome) true
+    (read_timely tick rules.read_ticks (bound rules tick (beside banks line before) (beside banks line after)) (first_of_ticks (cut_ticks (beside banks line after))) outcome
+    && apart_kept rules.read_ticks f.members f.waits f.last_answer f.last_store outcome)) (sym is)
+    ∙ ap (λ given. first_broken (may_have tick (Reads line) bytes outcome) room
+    (read_fits rules.reads (length f.waits + f.lost) (gives_all given) (at_head_kept lines line tick f.members) outcome) true
+    (read_timely tick rules.read_ticks (bound rules tick (beside banks line before) (beside banks line after)) (first_of_ticks (cut_ticks (beside banks line after))) outcome
+    && apart_kept rules.read_ticks f.members f.waits f.last_answer f.last_store outcome))
+    (cover_kept_law n now tick line (beside banks line before) (beside banks line after) bytes unclosed runs kept le sized)
+    ∙ ap (λ k. first_broken (may_have tick (Reads line) bytes outcome) room
+    (read_fits rules.reads (length f.waits + f.lost) (gives_all (cover_kept n tick (soonest line (beside banks line after)) unclosed runs)) (at_head_kept lines line tick f.members) outcome) true
+    (read_timely tick rules.read_ticks k (first_of_ticks (cut_ticks (beside banks line after))) outcome
+    && apart_kept rules.read_ticks f.members f.waits f.last_answer f.last_store outcome)) bounds
+    ∙ ap (λ ticks. first_broken (may_have tick (Reads line) bytes outcome) room
+    (read_fits rules.reads (length f.waits + f.lost) (gives_all (cover_kept n tick (soonest line (beside banks line after)) unclosed runs)) (at_head_kept lines line tick f.members) outcome) true
+    (read_timely tick rules.read_ticks (bound_kept rules stores (bank_in banks line) tick f.fourth (length f.waits + f.lost)) (first_of_ticks ticks) outcome
+    && apart_kept rules.read_ticks f.members f.waits f.last_answer f.last_store outcome)) (cuts_of_bank_law n (bank_in banks) (bank_in banks line) after)
+  where
+    numbers : length (waiting tick [] (beside banks line before)) ≡ length f.waits + f.lost
+    numbers = (numbers_law n tick (beside banks line before) f.members f.waits f.lost f.last_answer f.last_store comes.stands.finds.kept).reads
+
+    delays : delay rules rules.policy tick (beside banks line before) (beside banks line after) ≡ delay_kept rules (four_kept stores (bank_in banks line) tick f.fourth)
+    delays =
+        delay_law n tick tick rules (beside banks line before) (beside banks line after) f.first f.second f.third f.fourth comes.stands.four comes.stands.passed
+        ∙ ap (delay_kept rules)
+        (four rules banks line before (a_read tick line outcome) after f comes stores reads lines keys (own (bank_in banks line) (a_read tick line outcome) (beside banks line after)) refl f.fourth
+        (λ d is. came_below tick (beside banks line before) comes.stands.passed 3 d (sym comes.stands.four.at_4 ∙ is)) comes.reached)
+
+    bounds : bound rules tick (beside banks line before) (beside banks line after) ≡ bound_kept rules stores (bank_in banks line) tick f.fourth (length f.waits + f.lost)
+    bounds =
+        ap (λ k. tick + delay rules rules.policy tick (beside banks line before) (beside banks line after) + (k + 1) * rules.read_ticks) numbers
+        ∙ ap (λ k. tick + k + (length f.waits + f.lost + 1) * rules.read_ticks) delays
+
+-- the newest bytes of a line are told by its bank's rows
+pub newest_beside : {n : ℕ} (bank_of : ℕ → ℕ) (line : ℕ) (rows : List (Row n)) → newest (of_bank bank_of (bank_of line) rows) line ≡ newest rows line
+newest_beside bank_of line [] = refl
+newest_beside {n} bank_of line (q ∷ rows) = by (is_of bank_of (bank_of line) q.asks) refl (newest_beside bank_of line rows)
+  where
+    apart : (asks : Asks n) → is_of bank_of (bank_of line) asks ≡ false → (asks_write_of line asks && accepts q.outcome) ≡ false
+    apart (Reads at) differs = refl
+    apart Cuts differs = refl
+    apart (Writes at bytes given) differs = which (at == line) refl
+      where
+        which : (b : Bool) → (at == line) ≡ b → (b && accepts q.outcome) ≡ false
+        which true is = let k : true ≡ false = sym (eq-eqb (bank_of at) (bank_of line) (ap bank_of (eqb-true at line is))) ∙ differs in absurd (cc)
+        which false is = refl
+
+    by : (b : Bool) → is_of bank_of (bank_of line) q.asks ≡ b → newest (of_bank bank_of (bank_of line) rows) line ≡ newest rows line
+        → newest (cond b (q ∷ of_bank bank_of (bank_of line) rows) (of_bank bank_of (bank_of line) rows)) line ≡ newest (q ∷ rows) line
+    by true is ih = ap (lay_row line q) ih
+    by false is ih = ih ∙ ap (λ b. cond b (laid (bytes_of q.asks) (given_of q.asks) (newest rows line)) (newest rows line)) (sym (apart q.asks is))

@@ -1,0 +1,17 @@
+-- What the code keeps of a bank, as the laws know it.
+use Rattle.check_verdict.specs.declared.bank.Bank.{Bank}
+use Rattle.check_verdict.specs.States.{Facts}
+
+abbrev pub facts_of : Bank → Facts
+facts_of b = record {
+  members = b.members.items;
+  waits = b.waits.items;
+  lost = b.lost;
+  last_answer = b.last_answer;
+  last_store = b.last_store;
+  worn = b.worn;
+  first = b.first;
+  second = b.second;
+  third = b.third;
+  fourth = b.fourth;
+}

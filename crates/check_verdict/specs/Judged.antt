@@ -1,0 +1,87 @@
+-- A row's verdict, by what is kept of its bank and known of the rows behind it.
+use Rattle.std.specs.Prelude.{◌≡◌, ℕ, ◌+◌, ◌&&◌, ◌||◌, not, Bool, true, IsTrue, if◌then◌else◌, List, ◌++◌, Option, Some, None, length}
+use Rattle.std.specs.List.{list_any}
+use Rattle.masked_bytes.specs.Masked.{gives_all}
+use Rattle.result_rows.specs.declared.Outcome.{Outcome}
+use Rattle.result_rows.specs.declared.Outcome.TheVariants as out
+use Rattle.row_rules.specs.declared.Asks.TheVariants.{Reads, Writes, Cuts}
+use Rattle.row_rules.specs.declared.Row.{Row}
+use Rattle.row_rules.specs.Answers.{is_worn}
+use Rattle.row_rules.specs.declared.Rules.{Rules}
+use Rattle.row_rules.specs.Rows.{newest}
+use Rattle.row_rules.specs.Serving.{may_have}
+use Rattle.row_rules.specs.Table.{of_bank}
+use Rattle.row_rules.specs.Queueing.{cover, read_fits, has_room}
+use Rattle.row_rules.specs.Ticking.{bound}
+use Rattle.row_rules.specs.Wearing.{worn_row}
+use Rattle.check_judging.specs.Cutting.{cut_ticks}
+use Rattle.check_verdict.specs.declared.Rule.{Rule}
+use Rattle.check_verdict.specs.declared.Rule.TheVariants as rule
+use Rattle.check_verdict.specs.declared.members.Member.{Member}
+use Rattle.check_verdict.specs.Fitting.{at_head_kept, write_fits}
+use Rattle.check_verdict.specs.Keeping.{stored_early, read_timely, write_timely}
+use Rattle.check_verdict.specs.Kept.{apart_kept}
+use Rattle.check_verdict.specs.QueueLaws.{Finds, KeysTell, next_accepted}
+use Rattle.check_verdict.specs.Timely.{FindsTimes, first_of_ticks, latest_store}
+use Rattle.check_verdict.specs.Verdicts.{bank_in, all_have_room, all_rules, broken_by}
+use Rattle.check_verdict.specs.Worn.{first_worn}
+
+-- the first rule that is broken, by whether a row is served, each bank has room, and the row's answer, wear and times are as they must be
+abbrev pub first_broken : Bool → Bool → Bool → Bool → Bool → Option Rule
+first_broken served room fits wear timely =
+    if served then (if room && fits then (if wear then (if timely then None else Some rule.Tick) else Some rule.Worn) else Some rule.Queue)
+    else Some rule.Serves
+
+module _ {n : ℕ} (banks : List ℕ) where
+  -- the rows of a line's bank among these
+  abbrev pub beside : ℕ → List (Row n) → List (Row n)
+  beside line rows = of_bank (bank_in banks) (bank_in banks line) rows
+
+abbrev pub a_write : {n : ℕ} → ℕ → ℕ → List ℕ → List Bool → Outcome n → Row n
+a_write tick line bytes given outcome = record { tick = tick; asks = Writes line bytes given; outcome = outcome }
+
+abbrev pub a_read : {n : ℕ} → ℕ → ℕ → Outcome n → Row n
+a_read tick line outcome = record { tick = tick; asks = Reads line; outcome = outcome }
+
+abbrev pub a_cut : {n : ℕ} → ℕ → Outcome n → Row n
+a_cut tick outcome = record { tick = tick; asks = Cuts; outcome = outcome }
+
+-- each bank has room as a row comes exactly where this is true
+pub record RoomIs {n : ℕ} (rules : Rules) (banks : List ℕ) (line : ℕ) (before : List (Row n)) (r : Row n) (after : List (Row n)) (room : Bool) : Type 0 where
+  pub all : all_have_room banks rules before r after ≡ room
+  pub own : room ≡ true → IsTrue (has_room rules r.tick (beside banks line before))
+
+abbrev pub JudgeWriteLaw : Type 0
+JudgeWriteLaw =
+    (n tick line : ℕ) (bytes : List ℕ) (given : List Bool) (outcome : Outcome n) (rules : Rules) (banks some : List ℕ) (before after : List (Row n))
+    (members : List Member) (waits : List ℕ) (lost : ℕ) (last_answer last_store : Option ℕ) (room : Bool) (latest : ℕ)
+    → Finds tick (beside banks line before) members waits lost last_answer last_store
+    → FindsTimes rules (beside banks line before) (a_write tick line bytes given outcome) (beside banks line after) members waits lost last_answer last_store
+    → RoomIs rules banks line before (a_write tick line bytes given outcome) after room
+    → ((u place : ℕ) → outcome ≡ out.Stored u place → latest ≡ latest_store rules u (a_write tick line bytes given outcome) (beside banks line before) (beside banks line after))
+    → broken_by rules banks all_rules before (a_write tick line bytes given outcome) after
+    ≡ first_broken (may_have tick (Writes line bytes given) some outcome) room
+    (write_fits rules.writes tick line members (next_accepted line (beside banks line after)) outcome)
+    (is_worn outcome || (not (list_any worn_row (beside banks line before)) && stored_early (first_worn (beside banks line after)) outcome))
+    (write_timely tick latest outcome && apart_kept rules.read_ticks members waits last_answer last_store outcome)
+
+abbrev pub JudgeReadLaw : Type 0
+JudgeReadLaw =
+    (n tick line : ℕ) (outcome : Outcome n) (rules : Rules) (banks : List ℕ) (before after : List (Row n))
+    (members : List Member) (waits keys : List ℕ) (lost : ℕ) (last_answer last_store : Option ℕ) (room : Bool)
+    → Finds tick (beside banks line before) members waits lost last_answer last_store
+    → FindsTimes rules (beside banks line before) (a_read tick line outcome) (beside banks line after) members waits lost last_answer last_store
+    → RoomIs rules banks line before (a_read tick line outcome) after room
+    → KeysTell keys line tick (beside banks line before ++ beside banks line after)
+    → broken_by rules banks all_rules before (a_read tick line outcome) after
+    ≡ first_broken (may_have tick (Reads line) (newest before line) outcome) room
+    (read_fits rules.reads (length waits + lost) (gives_all (cover tick line (beside banks line before) (beside banks line after))) (at_head_kept keys line tick members) outcome)
+    true
+    (read_timely tick rules.read_ticks (bound rules tick (beside banks line before) (beside banks line after)) (first_of_ticks (cut_ticks (beside banks line after))) outcome
+    && apart_kept rules.read_ticks members waits last_answer last_store outcome)
+
+abbrev pub JudgeCutLaw : Type 0
+JudgeCutLaw =
+    (n tick : ℕ) (outcome : Outcome n) (rules : Rules) (banks some : List ℕ) (before after : List (Row n)) (room : Bool)
+    → all_have_room banks rules before (a_cut tick outcome) after ≡ room
+    → broken_by rules banks all_rules before (a_cut tick outcome) after ≡ first_broken (may_have tick Cuts some outcome) room true true true

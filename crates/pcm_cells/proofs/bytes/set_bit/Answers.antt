@@ -1,5 +1,0 @@
-use Rattle.pcm_cells.proofs.ByteLemmas.{bit_of-set}
-use Rattle.pcm_cells.proofs.bytes.set_bit.Goals as goal
-
-pub returns : goal.returns
-returns c = bit_of-set c.args.bytes.now c.args.number c.with_bit.result c.args.value c.requires c.with_bit.ensures.is c.with_bit.ensures.kept

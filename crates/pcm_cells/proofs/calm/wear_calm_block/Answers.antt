@@ -1,0 +1,92 @@
+use Rattle.std.proofs.Common.{◌≡◌, ℕ, ◌+◌, ◌-◌, ◌*◌, ◌%◌, ◌≤◌, ◌&&◌, Bool, true, false, not, cond, eqb, rules, refl, sym, ◌∙◌, ap, arith, bit_and}
+use Rattle.std.specs.Prelude.{nat_le}
+use Rattle.std.proofs.lemmas.Nat.Bits.{bit_at-zero}
+use Rattle.cell_rows.specs.Rows.{cell}
+use Rattle.pcm_cells.specs.Planes.{bit_in, digit}
+use Rattle.pcm_cells.specs.Counts.{count}
+use Rattle.pcm_cells.specs.Seeded.{LifeLine, life_of, seeded, seeded_cell}
+use Rattle.cell_rows.proofs.ByteLemmas.{digit_and, swapped}
+use Rattle.pcm_cells.proofs.FollowsLemmas.{followed_block}
+use Rattle.pcm_cells.proofs.CalmLemmas.{calm_parts}
+use Rattle.pcm_cells.proofs.SeededLemmas.{worn_follows, worn_kept, missing_few, left_is, left_kept, calm_last, calm_here, in_row}
+use Rattle.pcm_cells.proofs.calm.wear_calm_block.Goals as goal
+
+pub advance-requires : goal.advance-requires
+advance-requires g c =
+    let few_bytes : g.row.B ≤ 128 = c.requires.shape.1 in
+    let few_check : g.row.M ≤ 16 = c.requires.shape.3 in (
+      search rules,
+      (
+        c.requires.whole,
+        (
+          c.requires.exists,
+          λ i low more.
+              let n : ℕ = 64 * c.args.block + i in
+              let live : bit_in c.without-live.result i ≡ (not (cell c.args.stuck.now n) && (not (c.args.tearing && eqb (i % 2) 1) && cell c.args.mask.now n)) =
+              c.without-live.ensures i
+              ∙ rw (c.block-2.ensures i low, digit_and c.block.result c.args.reach i, c.block.ensures i low, c.requires.reach i low)
+              (ap (λ b. not (cell c.args.stuck.now n) && b) (swapped (cell c.args.mask.now n) (not (c.args.tearing && eqb (i % 2) 1)))) in
+              c.requires.few i low
+              ((calm_parts (cell c.args.stuck.now n) (c.args.tearing && eqb (i % 2) 1) (cell c.args.mask.now n) (bit_in (bit_and c.without-live.result c.below.result) i)
+              (bit_in c.without-live.result i) (bit_in c.without-changing.result i) live (c.without-changing.ensures i) more).1),
+        ),
+      ),
+    )
+
+pub advance-requires-2 : goal.advance-requires-2
+advance-requires-2 g c =
+    let few_bytes : g.row.B ≤ 128 = c.requires.shape.1 in
+    let few_check : g.row.M ≤ 16 = c.requires.shape.3 in (
+      search rules,
+      (
+        c.requires.whole,
+        (
+          c.requires.exists,
+          λ i low h.
+              missing_few c.args.misses.now c.args.limits.now (64 * c.args.block + i) (bit_in c.without-live.result i) (bit_in (bit_and c.without-live.result c.below.result) i)
+              (digit_and c.without-live.result c.below.result i ∙ ap (λ b. bit_in c.without-live.result i && b) (c.below.ensures i low)) h,
+        ),
+      ),
+    )
+
+pub returns-clause-cells : goal.returns-clause-cells
+returns-clause-cells g c =
+    let block = c.args.block in
+    let stuck = c.args.stuck.now in
+    let old : LifeLine g.row.B g.row.M =
+    life_of c.args.held.now stuck c.args.misses.now c.args.spent.now c.args.left.now c.args.limits.now c.args.ends.now in
+    let new : LifeLine g.row.B g.row.M =
+    life_of c.set_block.new.self stuck c.advance-2.new.self c.advance.new.self c.args.left.now c.args.limits.now c.args.ends.now in
+    followed_block block (cell c.args.mask.now) (seeded c.args.tearing (cell c.args.want.now)) (seeded_cell old) (seeded_cell new)
+    (λ i low.
+    let n : ℕ = 64 * block + i in
+    let parity : n % 2 ≡ i % 2 = omega arith in
+    let within = in_row g.row.B g.row.M block i c.requires.whole c.requires.exists low in
+    let none : bit_in 0 i ≡ false = ap (λ x. eqb x 1) (bit_at-zero i) in
+    let changing : Bool = bit_in c.without-changing.result i in
+    let torn : Bool = c.args.tearing && eqb (i % 2) 1 in
+    let live : bit_in c.without-live.result i ≡ (not (cell stuck n) && (not torn && cell c.args.mask.now n)) =
+    c.without-live.ensures i
+    ∙ rw (c.block-2.ensures i low, digit_and c.block.result c.args.reach i, c.block.ensures i low, c.requires.reach i low)
+    (ap (λ b. not (cell stuck n) && b) (swapped (cell c.args.mask.now n) (not torn))) in
+    let parts : changing ≡ true → (cell stuck n ≡ false) × (cell c.args.mask.now n ≡ true) =
+    calm_parts (cell stuck n) torn (cell c.args.mask.now n) (bit_in (bit_and c.without-live.result c.below.result) i)
+    (bit_in c.without-live.result i) changing live (c.without-changing.ensures i) in
+    let grown : digit c.advance.new.self n ≡ cond changing (digit c.args.spent.now n + 1) (digit c.args.spent.now n) =
+    c.advance.ensures.here i low ∙ ap (λ b. cond b 0 (cond changing (digit c.args.spent.now n + 1) (digit c.args.spent.now n))) none in
+    worn_follows c.args.mask.now c.args.want.now c.args.tearing old new n
+    (bit_in c.without-live.result i) (bit_in (bit_and c.without-live.result c.below.result) i) changing false
+    (live ∙ rw (parity) refl)
+    (digit_and c.without-live.result c.below.result i ∙ ap (λ b. bit_in c.without-live.result i && b) (c.below.ensures i low))
+    (c.without-changing.ensures i)
+    (calm_last changing (count c.args.left.now n) (digit c.args.spent.now n) (λ more. c.requires.many i low (parts more).0) (λ more. c.requires.few i low (parts more).1)
+    ∙ ap (λ k. changing && nat_le k 1) (sym (left_is c.args.spent.now c.args.left.now n within)))
+    (c.set_block.ensures.here i low ∙ c.chosen-now.ensures.bits i ∙ rw (c.block-3.ensures i low, c.block-4.ensures i low) refl)
+    refl
+    (c.advance-2.ensures.here i low)
+    (left_is c.advance.new.self c.args.left.now n within
+    ∙ calm_here changing (count c.args.left.now n) (digit c.args.spent.now n) (digit c.advance.new.self n) grown
+    ∙ ap (λ k. cond changing (k - 1) k) (sym (left_is c.args.spent.now c.args.left.now n within)))
+    refl refl)
+    (λ n apart. worn_kept old new n (c.set_block.ensures.others n apart) refl (c.advance-2.ensures.others n apart)
+    (left_kept c.args.spent.now c.advance.new.self c.args.left.now c.args.left.now n refl (c.advance.ensures.others n apart)) refl refl)

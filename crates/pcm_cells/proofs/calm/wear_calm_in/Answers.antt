@@ -1,0 +1,21 @@
+use Rattle.std.proofs.Common.{◌≡◌, ◌+◌, ◌*◌, ◌∙◌, arith}
+use Rattle.cell_rows.specs.Rows.{cell}
+use Rattle.pcm_cells.specs.Seeded.{seeded, seeded_cell, life_of}
+use Rattle.pcm_cells.proofs.FollowsLemmas.{followed_group}
+use Rattle.pcm_cells.proofs.calm.wear_calm_in.Goals as goal
+
+pub loop-block-preserved : goal.loop-block-preserved
+loop-block-preserved g c =
+    let i = c.loop-block.invariant in
+    let block = c.loop-block.block in
+    let next : 64 * (block + 1) ≡ 64 * block + 64 = omega arith in
+    record {
+      order = omega (arith, i.order);
+      cells =
+          rw (next)
+          (followed_group (64 * c.args.from) (64 * block) (64 * block + 64) (cell c.args.mask.now) (seeded c.args.tearing (cell c.args.want.now))
+          (seeded_cell (life_of c.args.held.now c.args.stuck.now c.args.misses.now c.args.spent.now c.args.left.now c.args.limits.now c.args.ends.now))
+          (seeded_cell (life_of c.loop-block.held c.args.stuck.now c.loop-block.misses c.loop-block.spent c.args.left.now c.args.limits.now c.args.ends.now))
+          _ i.cells c.wear_calm_block.ensures.cells (omega (arith, i.order)) (omega arith));
+      others = λ n h. c.wear_calm_block.ensures.others n (λ e. absurd (omega arith)) ∙ i.others n (omega arith);
+    }

@@ -1,0 +1,16 @@
+use Rattle.std.proofs.Common.{◌≡◌, ℕ, ◌*◌, ◌≤◌}
+use Rattle.cell_rows.specs.Rows.{cell}
+use Rattle.pcm_cells.specs.Planes.{digit}
+use Rattle.pcm_cells.specs.Follows.{FollowsIn}
+use Rattle.pcm_cells.specs.Seeded.{seeded, seeded_cell, life_of}
+use Rattle.pcm_cells.proofs.calm.wear_calm_in.Given as goal
+
+-- the blocks so far have worn
+abbrev pub invariant-loop-block : goal.invariant-loop-block
+invariant-loop-block g l = record {
+  order : l.from ≤ l.block;
+  cells : FollowsIn (64 * l.from) (64 * l.block) (cell l.mask) (seeded l.tearing (cell l.want))
+      (seeded_cell (life_of l.initial.held l.stuck l.initial.misses l.initial.spent l.left l.limits l.ends))
+      (seeded_cell (life_of l.held l.stuck l.misses l.spent l.left l.limits l.ends));
+  others : (n : ℕ) → 64 * l.block ≤ n → digit l.spent n ≡ digit l.initial.spent n;
+}

@@ -1,5 +1,0 @@
-use Rattle.pcm_cells.proofs.RowLemmas.{cell-zeros}
-use Rattle.pcm_cells.proofs.row.Cells.zero.Goals as goal
-
-pub returns-clause-cells : goal.returns-clause-cells
-returns-clause-cells g c = cell-zeros g.row.B g.row.M

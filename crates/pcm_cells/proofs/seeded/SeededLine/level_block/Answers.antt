@@ -1,0 +1,36 @@
+use Rattle.std.proofs.Common.{◌≡◌, ℕ, ◌+◌, ◌-◌, ◌*◌, ◌/◌, ◌<◌, ◌≤◌, rules, subst, inl, inr, refl, ◌∙◌, ap, arith}
+use Rattle.std.proofs.lemmas.Bool.{cases_eq}
+use Rattle.cell_rows.specs.Rows.{cell}
+use Rattle.pcm_cells.specs.Planes.{digit}
+use Rattle.pcm_cells.specs.Counts.{count}
+use Rattle.pcm_cells.proofs.SeededLemmas.{calm_kept, less_none}
+use Rattle.pcm_cells.proofs.CalmLemmas.{left_same}
+use Rattle.pcm_cells.proofs.seeded.SeededLine.level_block.Goals as goal
+
+pub invariant_of-self : goal.invariant_of-self
+invariant_of-self g c = (
+  c.self.invariant.0,
+  calm_kept c.self.inside.calm (cell c.self.inside.stuck) (count c.self.inside.left) (count c.level.new.self) (8 * (g.row.B + g.row.M)) c.args.block c.are_many.result
+      (search rules) c.self.invariant.1
+      (λ many i low live. subst (λ k. 8 ≤ k) (c.block.ensures i low) (c.are_many.ensures many i low (c.block-stuck.ensures i low ∙ live)))
+      c.level.ensures.others,
+)
+
+pub returns : goal.returns
+returns g c =
+    let block = c.args.block in
+    let same : (n : ℕ) → count c.level.new.self n - digit c.clear.new.self n ≡ count c.self.inside.left n - digit c.self.inside.spent n =
+    λ n.
+    elim (cases_eq (n / 64) block) as (λ _. count c.level.new.self n - digit c.clear.new.self n ≡ count c.self.inside.left n - digit c.self.inside.spent n) [
+      | inl here ↦
+          let i : ℕ = n - 64 * block in
+          let low : i < 64 = omega arith in
+          let number : 64 * block + i ≡ n = omega arith in
+          subst (λ k. count c.level.new.self k - digit c.clear.new.self k ≡ count c.self.inside.left k - digit c.self.inside.spent k) number
+          (rw (c.clear.ensures.here i low)
+          (less_none (count c.level.new.self (64 * block + i)) ∙ c.level.ensures.here i low ∙ ap (λ k. count c.self.inside.left (64 * block + i) - k) (c.planes-low.ensures i low)))
+      | inr apart ↦ rw (c.level.ensures.others n apart, c.clear.ensures.others n apart) refl
+    ] in
+    ap (λ xs. record { line = record { held = c.self.inside.held; stuck = c.self.inside.stuck; misses = c.self.inside.misses; pulses = c.self.inside.pulses }; left = xs; limits = c.self.inside.limits; ends = c.self.inside.ends })
+    (left_same c.self.inside.spent c.clear.new.self c.self.inside.left c.level.new.self (λ n h. same n))
+    ∙ c.self.view_is

@@ -1,0 +1,35 @@
+use Rattle.std.proofs.Common.{◌≡◌, ◌+◌, ◌*◌, ◌∙◌, ap, arith}
+use Rattle.pcm_cells.specs.Seeded.{seeded, seeded_cell}
+use Rattle.cell_rows.specs.Rows.{cell}
+use Rattle.pcm_cells.proofs.FollowsLemmas.{followed_group, followed_clear}
+use Rattle.pcm_cells.proofs.BlockLemmas.{block_clear}
+use Rattle.pcm_cells.proofs.seeded.SeededLine.wear_blocks.Goals.{then-block-ne0, else-block-ne0}
+use Rattle.pcm_cells.proofs.seeded.SeededLine.wear_blocks.Goals as goal
+
+pub loop-block-preserved : goal.loop-block-preserved
+loop-block-preserved g c =
+    let invariant = c.loop-block.invariant in
+    let block = c.loop-block.block in
+    let mask = cell c.args.mask.now in
+    let rule = seeded c.args.tearing (cell c.args.want.now) in
+    let old = seeded_cell c.args.self.now in
+    let so_far = seeded_cell c.loop-block.self in
+    let next : 64 * (block + 1) ≡ 64 * block + 64 = omega arith in
+    elim c.if-block-ne0.branch [
+      | then-block-ne0 w ↦
+          record {
+            cells =
+                rw (w.self-is, next)
+                (followed_group 0 (64 * block) (64 * block + 64) mask rule old so_far (seeded_cell w.wear_block.new.self)
+                invariant.cells w.wear_block.ensures.cells (omega arith) (omega arith));
+            pulses = ap (λ line. line.line.pulses) w.self-is ∙ w.wear_block.ensures.pulses ∙ invariant.pulses;
+          }
+      | else-block-ne0 w ↦
+          record {
+            cells =
+                rw (w.self-is, next)
+                (followed_clear 0 (64 * block) (64 * block + 64) mask rule old so_far invariant.cells (omega arith)
+                (block_clear mask block c.block.result w.if-block-ne0.false c.block.ensures));
+            pulses = ap (λ line. line.line.pulses) w.self-is ∙ invariant.pulses;
+          }
+    ]

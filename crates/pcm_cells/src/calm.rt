@@ -1,0 +1,193 @@
+// Pulses of lines of which no live cell is near its end.
+ghost use Rattle.std.specs.Prelude.{◌≡◌, ◌≢◌, ℕ, ◌+◌, ◌*◌, ◌/◌, ◌%◌, ◌<◌, ◌≤◌, ◌&&◌, true, false, not, nat_eq, IsTrue, slice_index_or};
+ghost use Rattle.cell_rows.specs.Rows.{cell};
+ghost use Rattle.pcm_cells.specs.Counts.{count};
+ghost use Rattle.pcm_cells.specs.Planes.{bit_in, digit};
+ghost use Rattle.cell_rows.specs.Shape.{IsShape, IsWhole};
+ghost use Rattle.pcm_cells.specs.Follows.{FollowsIn};
+ghost use Rattle.pcm_cells.specs.Seeded.{seeded, seeded_cell, life_of};
+
+use crate::blocks::{chosen, without};
+use crate::counts::Counts;
+use crate::digits::Digits;
+use cell_rows::Cells;
+
+// Whether each block is calm.
+pub(crate) fn is_calm<const B: usize, const M: usize>(calm: &[bool; B]) -> bool
+    requires whole { IsWhole B M }
+    requires shape { IsShape B M }
+    ensures { IsTrue result → (n : ℕ) → n < 8 * (B + M) → slice_index_or calm.now (n / 64) false ≡ true }
+{
+    let mut all = true;
+    for block in 0..(B + M) / 8 {
+        all &= calm[block];
+    }
+    all
+}
+
+// Of some blocks, whether no masked cell has the number 7.
+#[inline(always)]
+fn has_room_in<const B: usize, const M: usize>(
+    spent: &Digits<B, M>,
+    mask: &Cells<B, M>,
+    from: usize,
+    to: usize,
+) -> bool
+    requires whole { IsWhole B M }
+    requires shape { IsShape B M }
+    requires exists { 8 * to ≤ B + M }
+    ensures { IsTrue result → (n : ℕ) → 64 * from ≤ n → n < 64 * to → cell mask.now n ≡ true → digit spent.now n < 7 }
+{
+    let mut full = 0;
+    for block in from..to {
+        full |= spent.full(block) & mask.block(block);
+    }
+    full == 0
+}
+
+// Whether no masked cell has the number 7.
+pub(crate) fn has_room<const B: usize, const M: usize>(
+    spent: &Digits<B, M>,
+    mask: &Cells<B, M>,
+) -> bool
+    requires whole { IsWhole B M }
+    requires shape { IsShape B M }
+    ensures { IsTrue result → (n : ℕ) → n < 8 * (B + M) → cell mask.now n ≡ true → digit spent.now n < 7 }
+{
+    has_room_in(spent, mask, 0, B / 8) & has_room_in(spent, mask, B / 8, (B + M) / 8)
+}
+
+// The cells that a pulse reaches, or a tear, which reaches those of even number alone.
+fn reach(tearing: bool) -> u64
+    ensures { (i : ℕ) → i < 64 → bit_in result i ≡ not (tearing && nat_eq (i % 2) 1) }
+{
+    if tearing {
+        0x5555_5555_5555_5555
+    } else {
+        0xffff_ffff_ffff_ffff
+    }
+}
+
+// The masked cells of one block, of which none is near its end.
+#[inline(always)]
+fn wear_calm_block<const B: usize, const M: usize>(
+    held: &mut Cells<B, M>,
+    misses: &mut Digits<B, M>,
+    spent: &mut Digits<B, M>,
+    stuck: &Cells<B, M>,
+    left: &Counts<B, M>,
+    limits: &Digits<B, M>,
+    ends: &Cells<B, M>,
+    tearing: bool,
+    reach: u64,
+    block: usize,
+    mask: &Cells<B, M>,
+    want: &Cells<B, M>,
+)
+    requires exists { 8 * block < B + M }
+    requires shape { IsShape B M }
+    requires whole { IsWhole B M }
+    requires reach { (i : ℕ) → i < 64 → bit_in reach i ≡ not (tearing && nat_eq (i % 2) 1) }
+    requires many { (i : ℕ) → i < 64 → cell stuck.now (64 * block + i) ≡ false → 8 ≤ count left.now (64 * block + i) }
+    requires few { (i : ℕ) → i < 64 → cell mask.now (64 * block + i) ≡ true → digit spent.old (64 * block + i) < 7 }
+    ensures cells { FollowsIn (64 * block) (64 * block + 64) (cell mask.now) (seeded tearing (cell want.now))
+        (seeded_cell (life_of held.old stuck.now misses.old spent.old left.now limits.now ends.now))
+        (seeded_cell (life_of held.new stuck.now misses.new spent.new left.now limits.now ends.now)) }
+    ensures others { (n : ℕ) → n / 64 ≢ block → digit spent.new n ≡ digit spent.old n }
+{
+    let live = without(mask.block(block) & reach, stuck.block(block));
+    let missing = live & misses.below(limits, block);
+    let changing = without(live, missing);
+    spent.advance(block, changing, 0);
+    let now = chosen(held.block(block), changing, want.block(block));
+    held.set_block(block, now);
+    misses.advance(block, missing, changing);
+}
+
+// The masked cells of some blocks.
+#[inline(always)]
+fn wear_calm_in<const B: usize, const M: usize>(
+    held: &mut Cells<B, M>,
+    misses: &mut Digits<B, M>,
+    spent: &mut Digits<B, M>,
+    stuck: &Cells<B, M>,
+    left: &Counts<B, M>,
+    limits: &Digits<B, M>,
+    ends: &Cells<B, M>,
+    tearing: bool,
+    from: usize,
+    to: usize,
+    mask: &Cells<B, M>,
+    want: &Cells<B, M>,
+)
+    requires order { from ≤ to }
+    requires exists { 8 * to ≤ B + M }
+    requires shape { IsShape B M }
+    requires whole { IsWhole B M }
+    requires many { (n : ℕ) → n < 8 * (B + M) → cell stuck.now n ≡ false → 8 ≤ count left.now n }
+    requires few { (n : ℕ) → 64 * from ≤ n → n < 8 * (B + M) → cell mask.now n ≡ true → digit spent.old n < 7 }
+    ensures cells { FollowsIn (64 * from) (64 * to) (cell mask.now) (seeded tearing (cell want.now))
+        (seeded_cell (life_of held.old stuck.now misses.old spent.old left.now limits.now ends.now))
+        (seeded_cell (life_of held.new stuck.now misses.new spent.new left.now limits.now ends.now)) }
+    ensures others { (n : ℕ) → 64 * to ≤ n → digit spent.new n ≡ digit spent.old n }
+{
+    let reach = reach(tearing);
+    for block in from..to {
+        wear_calm_block(
+            held, misses, spent, stuck, left, limits, ends, tearing, reach, block, mask, want,
+        );
+    }
+}
+
+// A pulse or a tear of a line of which no live masked cell is near its end. The data blocks and the check blocks
+// have a loop each, so that neither asks which a block is.
+#[inline(always)]
+pub(crate) fn wear_calm<const B: usize, const M: usize>(
+    held: &mut Cells<B, M>,
+    misses: &mut Digits<B, M>,
+    spent: &mut Digits<B, M>,
+    stuck: &Cells<B, M>,
+    left: &Counts<B, M>,
+    limits: &Digits<B, M>,
+    ends: &Cells<B, M>,
+    tearing: bool,
+    mask: &Cells<B, M>,
+    want: &Cells<B, M>,
+)
+    requires shape { IsShape B M }
+    requires whole { IsWhole B M }
+    requires many { (n : ℕ) → n < 8 * (B + M) → cell stuck.now n ≡ false → 8 ≤ count left.now n }
+    requires few { (n : ℕ) → n < 8 * (B + M) → cell mask.now n ≡ true → digit spent.old n < 7 }
+    ensures { FollowsIn 0 (8 * (B + M)) (cell mask.now) (seeded tearing (cell want.now))
+        (seeded_cell (life_of held.old stuck.now misses.old spent.old left.now limits.now ends.now))
+        (seeded_cell (life_of held.new stuck.now misses.new spent.new left.now limits.now ends.now)) }
+{
+    wear_calm_in(
+        held,
+        misses,
+        spent,
+        stuck,
+        left,
+        limits,
+        ends,
+        tearing,
+        0,
+        B / 8,
+        mask,
+        want,
+    );
+    wear_calm_in(
+        held,
+        misses,
+        spent,
+        stuck,
+        left,
+        limits,
+        ends,
+        tearing,
+        B / 8,
+        (B + M) / 8,
+        mask,
+        want,
+    );
+}

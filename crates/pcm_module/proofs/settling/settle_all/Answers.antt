@@ -1,0 +1,68 @@
+use Rattle.std.proofs.Common.{arith, ◌≡◌, ℕ, ◌<◌, ◌++◌, length, Some, sym, subst, ◌∙◌}
+use Rattle.std.specs.Prelude.{slice_get}
+use Rattle.bank_timing.proofs.Sizes.{timed_fits}
+use Rattle.masked_bytes.proofs.Lists.{item-at}
+use Rattle.pcm_module.specs.Settling.{AreSettled}
+use Rattle.pcm_module.proofs.Draining.{reached_bank, reached_all}
+use Rattle.pcm_module.proofs.Settles.{settle_none, settle_replays, settle_one}
+use Rattle.pcm_module.proofs.settling.settle_all.Goals as goal
+
+pub loop-bank-init : goal.loop-bank-init
+loop-bank-init g c = (
+  (λ of may. settle_none c.args.tick of (g.A.CellArray.state c.args.array.now) (g.R.Outcomes.table c.args.results.now) c.args.banks.now.items may),
+  g.met.R.Outcomes.stands c.args.results.now,
+)
+
+pub advance-requires : goal.advance-requires
+advance-requires g c =
+    let of = c.requires.ready.0 in
+    let may = c.requires.ready.1 in
+    let bank = c.loop-bank.bank in
+    let banks = c.loop-bank.banks.items in
+    let clock = c.index_mut.result.now in
+    let so_far = c.loop-bank.invariant.0 of may in
+    let exists = reached_bank bank c.len-bank-end.result (length c.args.banks.now.items) of.shape.banks c.loop-bank-test.true (c.len-bank-end.ensures ∙ c.args.banks.now.ok.0) may.count in
+    let within : bank < length banks = subst (λ (k : ℕ). bank < k) (sym so_far.count) exists in
+    let is : slice_get banks bank ≡ Some clock = item-at banks bank clock within c.index_mut.ensures.value in
+    let f = settle_replays c.args.tick of (g.A.CellArray.state c.args.array.now) (g.R.Outcomes.table c.args.results.now) bank banks (g.A.CellArray.state c.loop-bank.array) (g.R.Outcomes.table c.loop-bank.results) clock so_far exists is may.led.0 may.led.1 may.led.2 in (
+      timed_fits g.row.B g.row.M g.row.E c.requires.layout,
+      (
+        f.going,
+        (
+          ((so_far.replays may.led.0 may.led.1 may.led.2).0 bank ++ may.led.0 bank, f.leads),
+          (f.in_time, (may.within, f.open_rows)),
+        ),
+      ),
+    )
+
+pub loop-bank-preserved : goal.loop-bank-preserved
+loop-bank-preserved g c = (
+  (λ of may.
+      let bank = c.loop-bank.bank in
+      let banks = c.loop-bank.banks.items in
+      let clock = c.index_mut.result.now in
+      let so_far = c.loop-bank.invariant.0 of may in
+      let exists = reached_bank bank c.len-bank-end.result (length c.args.banks.now.items) of.shape.banks c.loop-bank-test.true (c.len-bank-end.ensures ∙ c.args.banks.now.ok.0) may.count in
+      let within : bank < length banks = subst (λ (k : ℕ). bank < k) (sym so_far.count) exists in
+      let is : slice_get banks bank ≡ Some clock = item-at banks bank clock within c.index_mut.ensures.value in
+      let f = settle_replays c.args.tick of (g.A.CellArray.state c.args.array.now) (g.R.Outcomes.table c.args.results.now) bank banks (g.A.CellArray.state c.loop-bank.array) (g.R.Outcomes.table c.loop-bank.results) clock so_far exists is may.led.0 may.led.1 may.led.2 in
+      settle_one c.args.tick of (g.A.CellArray.state c.args.array.now) (g.R.Outcomes.table c.args.results.now) bank banks (g.A.CellArray.state c.loop-bank.array) (g.R.Outcomes.table c.loop-bank.results) clock so_far exists is
+      (g.A.CellArray.state c.advance.new.array) (g.R.Outcomes.table c.advance.new.results) c.advance.new.self
+      (record { now = c.advance.ensures.now; going = c.advance.ensures.going; below = omega (arith, c.advance.ensures.rows, f.below); open_rows = c.advance.ensures.unset })
+      c.advance.ensures.extends may.led c.advance.ensures.others),
+  g.met.R.Outcomes.follows _ _ _ c.loop-bank.invariant.1 c.advance.ensures.goes_on,
+)
+
+pub returns : goal.returns
+returns g c = record {
+  settled = λ of may.
+      let all = reached_all c.loop-bank.bank c.len-bank-end.result (length c.args.banks.now.items) of.shape.banks c.loop-bank.auto.bank-end c.loop-bank-test.false (c.len-bank-end.ensures ∙ c.args.banks.now.ok.0) may.count in
+      subst (λ (k : ℕ). AreSettled c.args.tick of k c.loop-bank.banks.items (g.A.CellArray.state c.args.array.now) (g.A.CellArray.state c.loop-bank.array) (g.R.Outcomes.table c.args.results.now) (g.R.Outcomes.table c.loop-bank.results)) all (c.loop-bank.invariant.0 of may);
+  goes_on = c.loop-bank.invariant.1;
+}
+
+pub index_mut-requires : goal.index_mut-requires
+index_mut-requires g c = grind arith
+
+pub loop-bank-smaller : goal.loop-bank-smaller
+loop-bank-smaller g c = grind arith

@@ -1,0 +1,9 @@
+use Rattle.pcm_module.specs.State.{ModuleState}
+use Rattle.pcm_module.specs.Settling.{MaySettle, AreSettled}
+use Rattle.pcm_module.proofs.settling.settle_all.Given as goal
+
+abbrev pub invariant-loop-bank : goal.invariant-loop-bank
+invariant-loop-bank g l =
+    ((of : ModuleState g.row.B g.row.M g.row.E) → MaySettle l.tick of l.fn.banks.items (g.A.CellArray.state l.fn.array) (g.R.Outcomes.table l.fn.results)
+    → AreSettled l.tick of l.bank l.banks.items (g.A.CellArray.state l.fn.array) (g.A.CellArray.state l.array) (g.R.Outcomes.table l.fn.results) (g.R.Outcomes.table l.results))
+    × g.R.Outcomes.goes_on l.fn.results l.results

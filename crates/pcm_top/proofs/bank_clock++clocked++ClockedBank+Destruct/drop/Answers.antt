@@ -1,5 +1,0 @@
-use Rattle.bank_clock.proofs.Sizes.{bank_fits}
-use Rattle.pcm_top.proofs.bank_clock++clocked++ClockedBank+Destruct.drop.Goals as goal
-
-pub drop-requires : goal.drop-requires
-drop-requires g c = bank_fits c.drop.invariant.layout

@@ -1,0 +1,371 @@
+// Runs of a case, and what is told of them.
+ghost use Rattle.cell_rows.specs.Shape.{IsShape};
+
+use crate::case::Case;
+use crate::digits::in_short;
+use crate::sink::CaseSink;
+use crate::tally::Tally;
+use pcm_cells::{CellArray, Cells, MemArray, ScriptArray};
+use pcm_io::MemSource;
+use pcm_top::pcm_run;
+use std::alloc::{AllocError, Global};
+use std::str;
+
+/// What a run answered.
+#[derive(Drop)]
+struct Answer {
+    status: u8,
+    // The bytes that were written, and how they are shown.
+    bytes: Vec<u8>,
+    out: String,
+    err: String,
+    // How many lines each array has in the end, and what the shown lines hold, a text line for each.
+    arrays: String,
+}
+
+/// A case's name; then what its run wrote, its status and what the shown lines hold, or what its many runs came to.
+pub fn played(alloc: Global, case: &Case) -> Result<String, AllocError> {
+    let mut text = format!(in alloc; "case {}\n", case.name.as_str())?;
+    if let Some(last) = case.cuts {
+        let runs = cut_runs(alloc, case, last)?;
+        runs.push_to(&mut text)?;
+    } else if case.beginnings {
+        let runs = short_runs(alloc, case)?;
+        runs.push_to(&mut text)?;
+    } else {
+        let answer = answer_of(alloc, case, case.trace.as_bytes())?;
+        push_answer(&mut text, case, &answer)?;
+        if !case.pieces.is_empty() {
+            push_stood_for(&mut text, case, answer.bytes.as_slice())?;
+        }
+    }
+    Ok(text)
+}
+
+// What `show` says of an image.
+fn push_stood_for(text: &mut String, case: &Case, image: &[u8]) -> Result<(), AllocError> {
+    let alloc = *text.allocator();
+    let mut show = Case::new(alloc);
+    show.words.push(String::from_str(alloc, "show")?)?;
+    show.line_bytes = case.line_bytes;
+    show.last = case.last;
+    let answer = answer_of(alloc, &show, image)?;
+    push_answer(text, &show, &answer)
+}
+
+fn answer_of(alloc: Global, case: &Case, trace: &[u8]) -> Result<Answer, AllocError> {
+    if case.seeded {
+        let mut array = MemArray::new();
+        let mut wide = MemArray::new();
+        answer_over(alloc, case, trace, &mut array, &mut wide)
+    } else {
+        let mut array = scripted(alloc, case)?;
+        let mut wide = scripted(alloc, case)?;
+        answer_over(alloc, case, trace, &mut array, &mut wide)
+    }
+}
+
+// An array whose cells do as the case's script says.
+fn scripted<const B: usize, const M: usize>(
+    alloc: Global,
+    case: &Case,
+) -> Result<ScriptArray<B, M>, AllocError>
+    requires { IsShape B M }
+{
+    let script = Vec::from_slice(alloc, case.script.as_slice())?;
+    Ok(ScriptArray::new(script))
+}
+
+fn answer_over<A: CellArray<64, 8>, V: CellArray<128, 16>>(
+    alloc: Global,
+    case: &Case,
+    trace: &[u8],
+    array: &mut A,
+    wide: &mut V,
+) -> Result<Answer, AllocError> {
+    let mut ends = Ends::new(alloc, case, trace)?;
+    let status = run(alloc, case, array, wide, &mut ends);
+    let arrays = arrays_of(alloc, case, array, wide)?;
+    ends.answer(alloc, case, status, arrays)
+}
+
+fn run<A: CellArray<64, 8>, V: CellArray<128, 16>>(
+    alloc: Global,
+    case: &Case,
+    array: &mut A,
+    wide: &mut V,
+    ends: &mut Ends,
+) -> u8 {
+    pcm_run(
+        alloc,
+        case.words.as_slice(),
+        array,
+        wide,
+        &mut ends.source,
+        &mut ends.out,
+        &mut ends.err,
+    )
+}
+
+/// Where the bytes of a run come from and go to.
+#[derive(Drop)]
+struct Ends {
+    source: MemSource,
+    out: CaseSink,
+    err: CaseSink,
+}
+
+impl Ends {
+    fn new(alloc: Global, case: &Case, trace: &[u8]) -> Result<Ends, AllocError> {
+        let source = source(alloc, case, trace)?;
+        let out = CaseSink::new(alloc, &case.out_fails, case.one_byte)?;
+        let err = CaseSink::new(alloc, &case.err_fails, case.one_byte)?;
+        Ok(Ends { source, out, err })
+    }
+
+    fn answer(
+        self,
+        alloc: Global,
+        case: &Case,
+        status: u8,
+        arrays: String,
+    ) -> Result<Answer, AllocError> {
+        let bytes = Vec::from_slice(alloc, self.out.written())?;
+        let out = if case.pieces.is_empty() {
+            text_in(alloc, &self.out)?
+        } else {
+            image_in(alloc, case, bytes.as_slice())?
+        };
+        let err = text_in(alloc, &self.err)?;
+        Ok(Answer {
+            status,
+            bytes,
+            out,
+            err,
+            arrays,
+        })
+    }
+}
+
+fn source(alloc: Global, case: &Case, trace: &[u8]) -> Result<MemSource, AllocError> {
+    let bytes = Vec::from_slice(alloc, trace)?;
+    let fails = Vec::from_slice(alloc, case.source_fails.as_slice())?;
+    Ok(MemSource::new(bytes, fails))
+}
+
+fn text_in(alloc: Global, sink: &CaseSink) -> Result<String, AllocError> {
+    let text = str::from_utf8(sink.written()).unwrap_or("no text\n");
+    String::from_str(alloc, text)
+}
+
+// The digits of an image: those of each of its first pieces, and then of each row of cells, its bits and its check bytes.
+fn image_in(alloc: Global, case: &Case, bytes: &[u8]) -> Result<String, AllocError> {
+    let mut text = format!(in alloc; "bytes {}\n", bytes.len())?;
+    let mut left = bytes;
+    for count in case.pieces.iter() {
+        let (piece, behind) = left.split_at(left.len().min(*count as usize));
+        writeln!(text, "{}", digits(alloc, piece)?.as_str())?;
+        left = behind;
+    }
+    let row_bytes = if case.line_bytes == 128 { 144 } else { 72 };
+    for row in left.chunks(row_bytes) {
+        let (bits, check) = row.split_at(row.len().min(case.line_bytes));
+        let bits = digits(alloc, bits)?;
+        let check = digits(alloc, check)?;
+        writeln!(text, "{},{}", bits.as_str(), check.as_str())?;
+    }
+    Ok(text)
+}
+
+// How many lines each array has, and what the shown lines hold, a text line for each.
+fn arrays_of<A: CellArray<64, 8>, V: CellArray<128, 16>>(
+    alloc: Global,
+    case: &Case,
+    array: &mut A,
+    wide: &mut V,
+) -> Result<String, AllocError> {
+    let lines = array.lines();
+    let wide_lines = wide.lines();
+    let mut text = format!(in alloc; "array lines {lines} {wide_lines}\n")?;
+    for line in case.shown.iter() {
+        match case.line_bytes {
+            128 => push_line(alloc, &mut text, *line, wide)?,
+            _ => push_line(alloc, &mut text, *line, array)?,
+        }
+    }
+    Ok(text)
+}
+
+// What a line of an array holds, and how often it was pulsed.
+fn push_line<const B: usize, const M: usize, A: CellArray<B, M>>(
+    alloc: Global,
+    text: &mut String,
+    line: u32,
+    array: &mut A,
+) -> Result<(), AllocError>
+    requires { IsShape B M }
+{
+    if line >= array.lines() {
+        return writeln!(text, "line {line} none");
+    }
+    let pulses = array.pulses(line);
+    let cells = array.sense(line, 0);
+    push_cells(alloc, text, line, pulses, &cells)
+}
+
+fn push_cells<const B: usize, const M: usize>(
+    alloc: Global,
+    text: &mut String,
+    line: u32,
+    pulses: u64,
+    cells: &Cells<B, M>,
+) -> Result<(), AllocError> {
+    let bits = digits(alloc, &cells.bits)?;
+    let bits = in_short(alloc, bits.as_str(), B)?;
+    let check = digits(alloc, &cells.meta)?;
+    writeln!(
+        text,
+        "line {line} pulses {pulses} bits {bits} check {check}"
+    )
+}
+
+fn digits(alloc: Global, bytes: &[u8]) -> Result<String, AllocError> {
+    let mut text = String::new(alloc);
+    for byte in bytes {
+        write!(text, "{byte:02x}")?;
+    }
+    Ok(text)
+}
+
+fn push_answer(text: &mut String, case: &Case, answer: &Answer) -> Result<(), AllocError> {
+    let count = answer.out.as_str().lines().count();
+    let skipped = match case.last {
+        None => 0,
+        Some(last) => {
+            writeln!(text, "lines {count}")?;
+            count.saturating_sub(last)
+        }
+    };
+    for row in answer.out.as_str().lines().skip(skipped) {
+        push_row(text, row, case.line_bytes)?;
+    }
+    for row in answer.err.as_str().lines() {
+        writeln!(text, "err {row}")?;
+    }
+    writeln!(text, "status {}", answer.status)?;
+    text.push_str(answer.arrays.as_str())
+}
+
+fn push_row(text: &mut String, row: &str, line_bytes: usize) -> Result<(), AllocError> {
+    let alloc = *text.allocator();
+    for (i, field) in row.split(',').enumerate() {
+        if i > 0 {
+            text.push(',')?;
+        }
+        let field = in_short(alloc, field, line_bytes)?;
+        text.push_str(field.as_str())?;
+    }
+    text.push('\n')
+}
+
+/// What many runs came to: the different tables of results, the rows of cuts left out, and the different ends.
+#[derive(Drop)]
+struct Runs {
+    tables: Tally,
+    ends: Tally,
+}
+
+impl Runs {
+    fn new(alloc: Global) -> Runs {
+        Runs {
+            tables: Tally::new(alloc),
+            ends: Tally::new(alloc),
+        }
+    }
+
+    fn count(&mut self, alloc: Global, case: &Case, answer: &Answer) -> Result<(), AllocError> {
+        let table = without_cuts(alloc, answer.out.as_str())?;
+        self.tables.count(table)?;
+        let end = end_of(alloc, case, answer)?;
+        self.ends.count(end)
+    }
+
+    fn push_to(&self, text: &mut String) -> Result<(), AllocError> {
+        writeln!(text, "tables {}", self.tables.texts.len())?;
+        for (end, times) in self.ends.texts.iter() {
+            writeln!(text, "{times} x {}", end.as_str())?;
+        }
+        Ok(())
+    }
+}
+
+// A run for each tick of a cut.
+fn cut_runs(alloc: Global, case: &Case, last: u32) -> Result<Runs, AllocError> {
+    let mut runs = Runs::new(alloc);
+    for cut in 0..=last {
+        let trace = with_cut(alloc, case.trace.as_str(), cut)?;
+        let answer = answer_of(alloc, case, trace.as_str().as_bytes())?;
+        runs.count(alloc, case, &answer)?;
+    }
+    Ok(runs)
+}
+
+// A run for each beginning of the source's bytes.
+fn short_runs(alloc: Global, case: &Case) -> Result<Runs, AllocError> {
+    let mut runs = Runs::new(alloc);
+    let bytes = case.trace.as_bytes();
+    for count in 0..=bytes.len() {
+        let answer = answer_of(alloc, case, &bytes[..count])?;
+        runs.count(alloc, case, &answer)?;
+    }
+    Ok(runs)
+}
+
+// The trace with a cut behind the rows of ticks up to the cut's.
+fn with_cut(alloc: Global, trace: &str, cut: u32) -> Result<String, AllocError> {
+    let mut text = String::new(alloc);
+    let mut is_cut = false;
+    for row in trace.lines() {
+        let tick = row
+            .split(',')
+            .next()
+            .and_then(|tick| tick.parse::<u64>().ok());
+        if !is_cut && tick.is_some_and(|tick| tick > u64::from(cut)) {
+            writeln!(text, "{cut},C,,")?;
+            is_cut = true;
+        }
+        writeln!(text, "{row}")?;
+    }
+    if !is_cut {
+        writeln!(text, "{cut},C,,")?;
+    }
+    Ok(text)
+}
+
+fn without_cuts(alloc: Global, out: &str) -> Result<String, AllocError> {
+    let mut text = String::new(alloc);
+    for row in out.lines() {
+        if !row.contains(",C,") {
+            writeln!(text, "{row}")?;
+        }
+    }
+    Ok(text)
+}
+
+// The status, the number of rows, of the last ones the line and the bytes, and the lines on faults.
+fn end_of(alloc: Global, case: &Case, answer: &Answer) -> Result<String, AllocError> {
+    let out = answer.out.as_str();
+    let rows = out.lines().count().saturating_sub(1);
+    let mut text = format!(in alloc; "status {} rows {rows}", answer.status)?;
+    let skipped = out.lines().count().saturating_sub(case.last.unwrap_or(0));
+    for row in out.lines().skip(skipped) {
+        let line = row.split(',').nth(2).unwrap_or("");
+        let bytes = row.split(',').nth(6).unwrap_or("");
+        let bytes = in_short(alloc, bytes, case.line_bytes)?;
+        write!(text, " {line} {bytes}")?;
+    }
+    for row in answer.err.as_str().lines() {
+        write!(text, " err {row}")?;
+    }
+    Ok(text)
+}

@@ -1,6 +1,0 @@
-use Rattle.result_reader.proofs.Whole.{HasRead}
-use Rattle.result_reader.proofs.results.parse_results.Given as goal
-
--- the rows so far were read
-abbrev pub invariant-rows : goal.invariant-rows
-invariant-rows g l = HasRead g.row.B l.of l.initial.rest l.rest l.results l.i

@@ -1,7 +1,0 @@
-use Rattle.std.proofs.Common.{ℕ, ◌<◌}
-use Rattle.result_reader.specs.Splitting.{IsHeaderAt}
-use Rattle.result_reader.proofs.split.find_results.Given as goal
-
--- no header line begins before
-abbrev pub invariant-starts : goal.invariant-starts
-invariant-starts l = (before : ℕ) → before < l.at → ¬ IsHeaderAt l.bytes before

@@ -1,5 +1,0 @@
-use Rattle.row_judging.proofs.FirstWorn.{worn_law}
-use Rattle.row_judging.proofs.first_worn_tells.Goals as goal
-
-pub returns : goal.returns
-returns c = worn_law

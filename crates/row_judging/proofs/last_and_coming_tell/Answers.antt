@@ -1,5 +1,0 @@
-use Rattle.row_judging.proofs.Apart.{apart_law}
-use Rattle.row_judging.proofs.last_and_coming_tell.Goals as goal
-
-pub returns : goal.returns
-returns c = apart_law

@@ -1,6 +1,0 @@
-use Rattle.row_judging.proofs.Sublists.{room_stays_law}
-use Rattle.row_judging.proofs.Sublists.{room_behind_cut_law}
-use Rattle.row_judging.proofs.room_stays.Goals as goal
-
-pub returns : goal.returns
-returns c = record { later = room_stays_law; cut = room_behind_cut_law }

@@ -1,5 +1,0 @@
-use Rattle.row_judging.proofs.Covers.{cover_law}
-use Rattle.row_judging.proofs.runs_cover.Goals as goal
-
-pub returns : goal.returns
-returns c = cover_law

@@ -1,5 +1,0 @@
-use Rattle.row_judging.proofs.Steps.{settle_law, step_law}
-use Rattle.row_judging.proofs.steps_tell.Goals as goal
-
-pub returns : goal.returns
-returns c = record { settle = settle_law; step = step_law }

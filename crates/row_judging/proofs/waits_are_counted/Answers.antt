@@ -1,5 +1,0 @@
-use Rattle.row_judging.proofs.Losing.{waiting_law}
-use Rattle.row_judging.proofs.waits_are_counted.Goals as goal
-
-pub returns : goal.returns
-returns c = waiting_law

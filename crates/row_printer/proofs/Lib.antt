@@ -1,0 +1,7 @@
+-- What telling one line more makes of a printer, that each row is told once and counted, and how a line is put together.
+pub mod Telling
+pub mod Once
+pub mod Counted
+pub mod Growing
+mod Rows
+mod Pieces

@@ -1,0 +1,39 @@
+-- What telling one line more adds.
+use Rattle.std.proofs.Common.{◌≡◌, ℕ, List, [], ◌∷◌, ◌++◌, length, append_assoc, refl, ap, sym, ◌∙◌}
+use Rattle.std.proofs.lemmas.List.{append-nil}
+use Rattle.result_rows.specs.declared.Outcome.{Outcome}
+use Rattle.result_rows.specs.Table.{with_outcome}
+use Rattle.result_rows.proofs.TableLemmas.{length-with_outcome}
+use Rattle.row_printer.specs.declared.told.Told.{Told}
+use Rattle.row_printer.specs.declared.told.Told.TheVariants.{Became, Settled}
+use Rattle.row_printer.specs.Telling.{told_line, told_text, outcomes_in, recorded}
+
+module _ {n : ℕ} where
+  -- the text has its line at the end
+  pub told_text-more : (told : List (Told n)) (line : Told n) → told_text (told ++ line ∷ []) ≡ told_text told ++ told_line line
+  told_text-more [] line = append-nil (told_line line)
+  told_text-more (one ∷ told) line =
+      ap (λ (rest : List ℕ). told_line one ++ rest) (told_text-more told line)
+      ∙ sym (append_assoc (told_line one) (told_text told) (told_line line))
+
+  -- the outcomes have its own, if it is one
+  pub outcomes-more : (told : List (Told n)) (row : ℕ) (outcome : Outcome n) → outcomes_in (told ++ Became row outcome ∷ []) ≡ outcomes_in told ++ (row, outcome) ∷ []
+  outcomes-more [] row outcome = refl
+  outcomes-more (Became at one ∷ told) row outcome = ap (λ (rest : List (ℕ × Outcome n)). (at, one) ∷ rest) (outcomes-more told row outcome)
+  outcomes-more (Settled tick ∷ told) row outcome = outcomes-more told row outcome
+
+  pub outcomes-same : (told : List (Told n)) (tick : ℕ) → outcomes_in (told ++ Settled tick ∷ []) ≡ outcomes_in told
+  outcomes-same [] tick = refl
+  outcomes-same (Became at one ∷ told) tick = ap (λ (rest : List (ℕ × Outcome n)). (at, one) ∷ rest) (outcomes-same told tick)
+  outcomes-same (Settled now ∷ told) tick = outcomes-same told tick
+
+  -- the table has its outcome
+  pub recorded-more : (outcomes : List (ℕ × Outcome n)) (table : List (Outcome n)) (row : ℕ) (outcome : Outcome n)
+      → recorded (outcomes ++ (row, outcome) ∷ []) table ≡ with_outcome (recorded outcomes table) row outcome
+  recorded-more [] table row outcome = refl
+  recorded-more (one ∷ outcomes) table row outcome = recorded-more outcomes (with_outcome table one.0 one.1) row outcome
+
+  -- and as many rows as before
+  pub length-recorded : (outcomes : List (ℕ × Outcome n)) (table : List (Outcome n)) → length (recorded outcomes table) ≡ length table
+  length-recorded [] table = refl
+  length-recorded (one ∷ outcomes) table = length-recorded outcomes (with_outcome table one.0 one.1) ∙ length-with_outcome table one.0 one.1

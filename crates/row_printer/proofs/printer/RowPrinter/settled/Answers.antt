@@ -1,0 +1,17 @@
+use Rattle.ghost_list.specs.Items.{items}
+use Rattle.row_printer.proofs.Telling.{outcomes-same}
+use Rattle.row_printer.proofs.printer.RowPrinter.settled.Goals as goal
+
+pub invariant_of-self : goal.invariant_of-self
+invariant_of-self g c =
+    rw c.and.ensures (record {
+      few = c.self.invariant.few;
+      limit = c.print_line-self-inside.ensures.limit;
+      once = rw (outcomes-same (items c.self.inside.told) c.args.tick) c.self.invariant.once;
+      counted = rw (outcomes-same (items c.self.inside.told) c.args.tick) c.self.invariant.counted;
+    })
+
+pub returns-clause-printing : goal.returns-clause-printing
+returns-clause-printing g c =
+    rw (c.and.ensures, ← c.self.view_is)
+    (λ before first h. c.print_line-self-inside.ensures.printed before first (items c.self.inside.told) (rw c.deref_mut.ensures.value h))

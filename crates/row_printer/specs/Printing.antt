@@ -1,0 +1,62 @@
+-- What contracts see of a printer of rows.
+use Rattle.std.specs.Prelude.{◌≡◌, ℕ, ◌≤◌, Bool, true, false, if◌then◌else◌, List, [], ◌++◌, Option, replicate}
+use Rattle.pcm_io.specs.Faults.{Rose}
+use Rattle.pcm_io.specs.Giving.{AppendsPrefix}
+use Rattle.pcm_io.specs.Reserved.{Reserved}
+use Rattle.result_rows.specs.declared.Outcome.{Outcome}
+use Rattle.result_rows.specs.declared.Outcome.TheVariants.{Unset}
+use Rattle.run_text.specs.Counting.{counts_of}
+use Rattle.run_text.specs.Gathering.{Printed}
+use Rattle.run_text.specs.declared.counts.Counts.{Counts}
+use Rattle.run_text.specs.declared.room.TheConstants.{TEXT_ROOM}
+use Rattle.row_printer.specs.declared.told.Told.{Told}
+use Rattle.row_printer.specs.Telling.{told_header, told_text, outcomes_in, became, recorded, TellsOnce}
+
+-- its sink, the text that is still to be written, what it was told, in order, how many rows came, whether lines are printed, and whether a
+-- write failed
+pub record Printing (n : ℕ) (S : Type 0) : Type 0 where
+  pub sink : S
+  pub text : Reserved
+  pub told : List (Told n)
+  pub rows : ℕ
+  pub prints : Bool
+  pub broken : Bool
+
+-- the table that outcomes make of so many rows
+abbrev pub table_of : {n : ℕ} → ℕ → List (Told n) → List (Outcome n)
+table_of rows told = recorded (outcomes_in told) (replicate rows Unset)
+
+-- the table that the outcomes make which it was told
+abbrev pub table_told : {n : ℕ} {S : Type 0} → Printing n S → List (Outcome n)
+table_told printer = table_of printer.rows printer.told
+
+-- the whole text of a stream that told this: the header and each line, or nothing where lines aren't printed
+abbrev pub stream_text : {n : ℕ} → Bool → List (Told n) → List ℕ
+stream_text prints told = if prints then told_header ++ told_text told else []
+
+-- this is printed, behind what was written before; once a write failed first bytes of it were written, and the count of faults rose
+pub record Prints (before : Option (List ℕ)) (first : ℕ) (written : Option (List ℕ)) (faults : ℕ) (text : Reserved) (whole : List ℕ) (broken : Bool) : Type 0 where
+  pub printed : broken ≡ false → Printed before written text whole
+  pub part : broken ≡ true → AppendsPrefix before written whole
+  pub fault : broken ≡ true → Rose first faults
+  pub never_falls : first ≤ faults
+
+module _ {n : ℕ} {S : Type 0} (written : S → Option (List ℕ)) (faults : S → ℕ) where
+  -- a printer has printed what it was told, behind what its sink had received before, when so many of its calls had failed
+  abbrev pub IsPrinting : Option (List ℕ) → ℕ → Printing n S → Type 0
+  IsPrinting before first p = Prints before first (written p.sink) (faults p.sink) p.text (stream_text p.prints p.told) p.broken
+
+  -- one became the other by outcomes that it was told
+  pub record PrintsOn (old new : Printing n S) : Type 0 where
+    pub added : List (ℕ × Outcome n)
+    pub told : new.told ≡ old.told ++ became added
+    pub rows : new.rows ≡ old.rows
+    pub prints : new.prints ≡ old.prints
+    pub printing : (before : Option (List ℕ)) (first : ℕ) → IsPrinting before first old → IsPrinting before first new
+
+-- each row was told once, and the outcomes are counted
+pub record IsTold {n : ℕ} (text : Reserved) (told : List (Told n)) (rows : ℕ) (counts : Counts) : Type 0 where
+  pub few : n ≤ 128
+  pub limit : text.limit ≡ TEXT_ROOM
+  pub once : TellsOnce rows (outcomes_in told)
+  pub counted : counts ≡ counts_of (table_of rows told)

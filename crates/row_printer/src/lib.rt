@@ -1,0 +1,11 @@
+//! Prints what becomes of the rows of a trace as it becomes known, and counts it; it keeps no table.
+#![tactic(auto)]
+
+mod counting;
+mod printer;
+mod text;
+mod told;
+
+pub use printer::RowPrinter;
+pub use text::{print_told, stream_header};
+pub use told::Told;

@@ -1,0 +1,269 @@
+// A printer of rows.
+ghost use Rattle.std.specs.Prelude.{◌≡◌, ℕ, ◌+◌, ◌<◌, ◌≤◌, List, [], ◌∷◌, ◌++◌, Option, Some, true, false, IsTrue, is_some, OnOk, OnErr};
+ghost use Rattle.std.specs.Io.KnownBytes.{Appends};
+ghost use Rattle.pcm_io.specs.Faults.{Rose};
+ghost use Rattle.pcm_io.specs.Giving.{AppendsPrefix};
+ghost use Rattle.pcm_io.specs.Reserved.{appended, reserved};
+ghost use Rattle.result_rows.specs.declared.Outcome.TheVariants.{Unset};
+ghost use Rattle.result_rows.specs.Outcomes.{op_of};
+ghost use Rattle.result_rows.specs.Table.{HasRow, outcome_at, with_outcome};
+ghost use Rattle.run_text.specs.Counting.{counts_of};
+ghost use Rattle.run_text.specs.Shortfall.{any_short};
+ghost use Rattle.row_printer.specs.declared.told.Told.{Told as Line};
+ghost use Rattle.row_printer.specs.declared.told.Told.TheVariants.{Settled};
+ghost use Rattle.row_printer.specs.Telling.{outcomes_in, TellsOnce};
+ghost use Rattle.row_printer.specs.Printing.{IsPrinting, Prints, PrintsOn, stream_text, table_told};
+
+use crate::counting::{count, counts_short, no_counts};
+use crate::text::{print_told, stream_header};
+use crate::told::Told;
+use ghost_list::GhostList;
+use pcm_io::{Sink, Text, WriteFault};
+use result_rows::Outcome;
+use row_telling::Outcomes;
+use run_text::{Counts, TEXT_ROOM, make_room, print_rest, short_rows_are_counted};
+use std::marker::Model;
+
+/// Prints a line for each outcome that it is told, behind a header and in the order in which they are told, and counts them; it
+/// keeps none. Or it prints nothing, and only counts. A text of 65,536 bytes is gathered and then written. After a fault of the
+/// sink it prints no more, and goes on counting.
+#[derive(Drop)]
+pub struct RowPrinter<const B: usize, S: Sink + Drop> {
+    // In a box, so that the printer has one size whatever the sink.
+    sink: Box<S>,
+    text: Text,
+    // For contracts alone: one byte.
+    told: GhostList<Told<B>>,
+    // How many rows came.
+    rows: u32,
+    // Whether lines are printed.
+    prints: bool,
+    // Whether a write failed.
+    broken: bool,
+    counts: Counts,
+}
+
+impl<const B: usize, S: Sink + Drop> Model for RowPrinter<B, S> {
+    ghost use Rattle.ghost_list.specs.Items.{items};
+    ghost use Rattle.row_printer.specs.Printing.{Printing, IsTold};
+
+    ghost Value = { Printing B S };
+
+    ghost view = { λ p. record { sink = p.sink.value; text = p.text; told = items p.told; rows = p.rows; prints = p.prints; broken = p.broken } };
+
+    ghost invariant = { λ p. IsTold p.text (items p.told) p.rows p.counts };
+}
+
+impl<const B: usize, S: Sink + Drop> RowPrinter<B, S> {
+    /// A printer of no row yet, which prints lines or only counts. The text is what it gathers them in.
+    pub fn new(sink: Box<S>, text: Text, prints: bool) -> RowPrinter<B, S>
+        requires few { B ≤ 128 }
+        requires text { text ≡ reserved TEXT_ROOM }
+        ensures told { result.told ≡ [] }
+        ensures rows { result.rows ≡ 0 }
+        ensures prints { result.prints ≡ prints }
+        ensures broken { result.broken ≡ false }
+        ensures sink { result.sink ≡ sink.value }
+        ensures printing { IsPrinting S.written S.faults (S.written sink.value) (S.faults sink.value) result }
+    {
+        RowPrinter {
+            sink,
+            text: begun(prints, text),
+            told: GhostList::new(),
+            rows: 0,
+            prints,
+            broken: false,
+            counts: no_counts(),
+        }
+    }
+
+    /// One row more came: it is open until its outcome is told.
+    pub fn add_row(&mut self)
+        requires few { self.old.rows < 4294967295 }
+        ensures rows { self.new.rows ≡ self.old.rows + 1 }
+        ensures told { self.new.told ≡ self.old.told }
+        ensures prints { self.new.prints ≡ self.old.prints }
+        ensures table { table_told self.new ≡ table_told self.old ++ Unset ∷ [] }
+        ensures printing { (before : Option (List ℕ)) (first : ℕ) → IsPrinting S.written S.faults before first self.old
+            → IsPrinting S.written S.faults before first self.new }
+    {
+        self.rows += 1;
+    }
+
+    /// Tells that every bank has come to a tick.
+    pub fn settled(&mut self, tick: u64)
+        ensures rows { self.new.rows ≡ self.old.rows }
+        ensures told { self.new.told ≡ self.old.told ++ Settled tick ∷ [] }
+        ensures prints { self.new.prints ≡ self.old.prints }
+        ensures printing { (before : Option (List ℕ)) (first : ℕ) → IsPrinting S.written S.faults before first self.old
+            → IsPrinting S.written S.faults before first self.new }
+    {
+        let line = Told::Settled(tick);
+        self.broken = print_line(
+            &line,
+            self.prints,
+            self.broken,
+            &mut self.text,
+            &mut *self.sink,
+        );
+        self.told = self.told.and(&line);
+    }
+
+    /// Writes what is gathered: all that was told is written then, unless a write fails now or failed before.
+    pub fn flush(&mut self) -> Result<(), WriteFault>
+        ensures rows { self.new.rows ≡ self.old.rows }
+        ensures told { self.new.told ≡ self.old.told }
+        ensures prints { self.new.prints ≡ self.old.prints }
+        ensures broken { OnOk result (self.new.broken ≡ false) }
+        ensures text { OnOk result (self.new.text ≡ reserved TEXT_ROOM) }
+        ensures printing { (before : Option (List ℕ)) (first : ℕ) → IsPrinting S.written S.faults before first self.old
+            → IsPrinting S.written S.faults before first self.new }
+        ensures ok { OnOk result ((before : Option (List ℕ)) (first : ℕ) → IsPrinting S.written S.faults before first self.old
+            → Appends before (S.written self.new.sink) (stream_text self.new.prints self.new.told)) }
+        ensures err { OnErr result ((before : Option (List ℕ)) (first : ℕ) → IsPrinting S.written S.faults before first self.old
+            → AppendsPrefix before (S.written self.new.sink) (stream_text self.new.prints self.new.told)
+            × Rose first (S.faults self.new.sink)) }
+    {
+        self.broken = print_all(self.broken, &mut self.text, &mut *self.sink);
+        if self.broken {
+            return Err(WriteFault);
+        }
+        Ok(())
+    }
+
+    /// How many rows came.
+    pub fn rows(&self) -> u32
+        ensures { result ≡ self.now.rows }
+    {
+        self.rows
+    }
+
+    /// Whether a write failed.
+    pub fn broken(&self) -> bool
+        ensures { result ≡ self.now.broken }
+    {
+        self.broken
+    }
+
+    /// How many rows had each outcome so far.
+    pub fn counts(&self) -> Counts
+        ensures { result ≡ counts_of (table_told self.now) }
+    {
+        self.counts
+    }
+
+    /// Whether some row fell short of what it asked for: then a run ends with status 1.
+    pub fn short(&self) -> bool
+        ensures { result ≡ any_short (table_told self.now) }
+    {
+        short_rows_are_counted();
+        counts_short(&self.counts)
+    }
+
+    /// Gives back the sink, and the text with what is still to be written.
+    pub fn end(self) -> (Box<S>, Text)
+        ensures sink { result.0.value ≡ self.sink }
+        ensures text { result.1 ≡ self.text }
+        ensures once { TellsOnce self.rows (outcomes_in self.told) }
+    {
+        let RowPrinter { sink, text, .. } = self;
+        (sink, text)
+    }
+}
+
+impl<const B: usize, S: Sink + Drop> Outcomes<B> for RowPrinter<B, S> {
+    ghost use Rattle.row_printer.specs.GoingOn.{stands-on, follows-on};
+
+    ghost table = { λ p. table_told p };
+
+    ghost goes_on = { λ old new. PrintsOn S.written S.faults old new };
+
+    ghost stands = { λ one. stands-on S.written S.faults one };
+
+    ghost follows = { λ one two three before behind. follows-on S.written S.faults one two three before behind };
+
+    fn set(&mut self, row: u32, outcome: Outcome<B>)
+        requires exists { HasRow (table_told self.old) row }
+        requires unset { outcome_at (table_told self.old) row ≡ Some Unset }
+        requires told { IsTrue (is_some (op_of outcome)) }
+        ensures table { table_told self.new ≡ with_outcome (table_told self.old) row outcome.entry }
+        ensures goes_on { PrintsOn S.written S.faults self.old self.new }
+    {
+        let line = Told::Became(row, outcome);
+        self.broken = print_line(
+            &line,
+            self.prints,
+            self.broken,
+            &mut self.text,
+            &mut *self.sink,
+        );
+        count(&mut self.counts, &outcome);
+        self.told = self.told.and(&line);
+    }
+}
+
+// A text with the header, where lines are printed.
+fn begun(prints: bool, text: Text) -> Text
+    requires { text ≡ reserved TEXT_ROOM }
+    ensures { result ≡ appended text (stream_text {n = 0} prints []) }
+{
+    let mut text = text;
+    if prints {
+        text.push(stream_header());
+    }
+    text
+}
+
+// Prints a line, where lines are printed, unless a write failed before; answers whether one failed.
+fn print_line<const B: usize, S: Sink>(
+    line: &Told<B>,
+    prints: bool,
+    broken: bool,
+    text: &mut Text,
+    sink: &mut S,
+) -> bool
+    requires few { B ≤ 128 }
+    requires limit { text.old.limit ≡ TEXT_ROOM }
+    ensures limit { text.new.limit ≡ TEXT_ROOM }
+    ensures printed { (before : Option (List ℕ)) (first : ℕ) (told : List (Line B))
+        → Prints before first (S.written sink.old) (S.faults sink.old) text.old (stream_text prints told) broken
+        → Prints before first (S.written sink.new) (S.faults sink.new) text.new
+        (stream_text prints (told ++ line.now ∷ [])) result }
+{
+    if broken {
+        return true;
+    }
+    if !prints {
+        return false;
+    }
+    match make_room(text, sink) {
+        Ok(()) => {
+            print_told(line, text);
+            false
+        }
+        Err(_) => true,
+    }
+}
+
+// Writes what is gathered, unless a write failed before; answers whether one failed.
+fn print_all<S: Sink>(broken: bool, text: &mut Text, sink: &mut S) -> bool
+    ensures limit { text.new.limit ≡ text.old.limit }
+    ensures empty { result ≡ false → text.new ≡ reserved text.old.limit }
+    ensures printed { (before : Option (List ℕ)) (first : ℕ) (whole : List ℕ)
+        → Prints before first (S.written sink.old) (S.faults sink.old) text.old whole broken
+        → Prints before first (S.written sink.new) (S.faults sink.new) text.new whole result }
+    ensures written { result ≡ false → (before : Option (List ℕ)) (first : ℕ) (whole : List ℕ)
+        → Prints before first (S.written sink.old) (S.faults sink.old) text.old whole broken
+        → Appends before (S.written sink.new) whole }
+{
+    if broken {
+        return true;
+    }
+    match print_rest(text, sink) {
+        Ok(()) => {
+            text.clear();
+            false
+        }
+        Err(_) => true,
+    }
+}

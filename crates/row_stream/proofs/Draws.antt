@@ -1,0 +1,97 @@
+-- How drawn rows are served.
+use Rattle.std.proofs.Common.{◌≡◌, ℕ, ◌+◌, ◌<◌, ◌≤◌, List, [], ◌∷◌, ◌++◌, length, reverse, refl, sym, ap, ◌∙◌, subst, arith}
+use Rattle.std.proofs.Math.Nat.{one-le-mul}
+use Rattle.std.proofs.lemmas.List.{append-nil}
+use Rattle.masked_bytes.proofs.Lists.{turned}
+use Rattle.cell_rows.specs.Device.{ArrayState}
+use Rattle.module_shape.specs.declared.raw.RawShape.{RawShape}
+use Rattle.module_shape.specs.Limits.{IsShape, total_of}
+use Rattle.pcm_module.specs.State.{ModuleState}
+use Rattle.row_printer.specs.declared.told.Told.{Told}
+use Rattle.trace_reader.specs.Events.{AreEventsFor, IsEventFor}
+use Rattle.trace_reader.specs.declared.event.Event.{Event}
+use Rattle.trace_reader.proofs.Lawful.{lawful-first}
+use Rattle.trace_gen.specs.declared.mix.Mix.{Mix}
+use Rattle.trace_gen.specs.Generated.{IsLongMix, generated}
+use Rattle.trace_gen.specs.Laws.{IsGenerated}
+use Rattle.trace_stream.specs.Laws.{all_events}
+use Rattle.trace_stream.specs.declared.asked.Asked.{Asked}
+use Rattle.trace_stream.specs.declared.asked.Asked.TheVariants.{Happens}
+use Rattle.row_stream.specs.declared.stop.Behind.{Behind}
+use Rattle.row_stream.specs.declared.stop.Behind.TheVariants.{Nothing}
+use Rattle.row_stream.specs.Asking.{behind_of, behind_op, events_in}
+use Rattle.row_stream.specs.Serving.{IsServing}
+
+-- a module has a line
+pub total-some : (raw : RawShape) → IsShape raw → 1 ≤ total_of raw
+total-some raw is =
+    let some : 1 ≤ raw.lines = omega (arith, is.some_lines) in
+    one-le-mul (one-le-mul is.some_banks is.some_regions) some
+
+-- of all drawn events the first were served, and these are left
+pub record HasDrawn {n m e : ℕ} (raw : RawShape) (seed : ℕ) (module_ : ModuleState n m e) (array : ArrayState n m) (places : ℕ) (told : List (Told n))
+    (all left : List (Event n)) (behind : Behind) : Type 0 where
+  pub asked : List (Asked n)
+  pub serving : IsServing raw seed asked module_ array places told
+  pub stands : behind ≡ behind_of asked
+  pub drawn : reverse asked ++ all_events left ≡ all_events all
+  pub lawful : AreEventsFor (total_of raw) module_.tick left
+  pub few : length (events_in asked) + length left ≤ 4000000000
+
+module _ {n m e : ℕ} (raw : RawShape) (seed : ℕ) where
+  pub drawn-first : (module_ : ModuleState n m e) (array : ArrayState n m) (places : ℕ) (told : List (Told n)) (left : List (Event n)) (lines own : ℕ) (mix : Mix)
+      → IsServing raw seed [] module_ array places told → lines ≡ total_of raw → IsLongMix mix → IsGenerated lines mix (generated n own lines mix) → left ≡ generated n own lines mix
+      → HasDrawn raw seed module_ array places told (generated n own (total_of raw) mix) left Nothing
+  drawn-first module_ array places told left lines own mix serving is long drawn same =
+      let all : List (Event n) = generated n own (total_of raw) mix in
+      let P : ℕ → Type 0 = λ k. IsGenerated k mix (generated n own k mix) in
+      let Q : ℕ → Type 0 = λ tick. AreEventsFor (total_of raw) tick all in
+      let R : List (Event n) → Type 0 = λ events. HasDrawn raw seed module_ array places told all events Nothing in
+      let right : IsGenerated (total_of raw) mix all = subst P is drawn in
+      let left_is : left ≡ all = same ∙ ap (λ (k : ℕ). generated n own k mix) is in
+      subst R (sym left_is) (record {
+        asked = [];
+        serving = serving;
+        stands = refl;
+        drawn = refl;
+        lawful = subst Q (sym serving.tick) right.lawful;
+        few = omega (arith, right.rows, long.few_rows);
+      })
+
+  module _ (module_ : ModuleState n m e) (array : ArrayState n m) (places : ℕ) (told : List (Told n)) (all left : List (Event n)) (behind : Behind)
+      (had : HasDrawn raw seed module_ array places told all left behind) where
+    pub drawn-few : places < 4294967295
+    drawn-few = omega (arith, had.serving.counted, had.few)
+
+    next-drawn : (event : Event n) (rest : List (Event n)) → left ≡ event ∷ rest → IsEventFor (total_of raw) module_.tick event × AreEventsFor (total_of raw) event.tick rest
+    next-drawn event rest is =
+        let P : List (Event n) → Type 0 = λ events. AreEventsFor (total_of raw) module_.tick events in
+        lawful-first (total_of raw) module_.tick event rest (subst P is had.lawful)
+
+    pub drawn-next : (event : Event n) (rest : List (Event n)) → left ≡ event ∷ rest → IsEventFor (total_of module_.shape) module_.tick event
+    drawn-next event rest is =
+        let P : RawShape → Type 0 = λ shape. IsEventFor (total_of shape) module_.tick event in
+        subst P (sym had.serving.served.shape) (next-drawn event rest is).0
+
+    pub drawn-more : (event : Event n) (rest : List (Event n)) → left ≡ event ∷ rest
+        → (new : ModuleState n m e) (after : ArrayState n m) (places2 : ℕ) (told2 : List (Told n)) (stands : Behind)
+        → (IsServing raw seed had.asked module_ array places told → IsServing raw seed (Happens event ∷ had.asked) new after places2 told2) → stands ≡ behind_op event.op
+        → HasDrawn raw seed new after places2 told2 all rest stands
+    drawn-more event rest is new after places2 told2 stands serves behinds =
+        let served = serves had.serving in
+        let P : ℕ → Type 0 = λ tick. AreEventsFor (total_of raw) tick rest in
+        let size : length left ≡ length rest + 1 = ap length is ∙ omega arith in
+        record {
+          asked = Happens event ∷ had.asked;
+          serving = served;
+          stands = behinds;
+          drawn = turned (Happens event) had.asked (all_events rest) ∙ ap (λ (events : List (Event n)). reverse had.asked ++ all_events events) (sym is) ∙ had.drawn;
+          lawful = subst P (sym served.tick) (next-drawn event rest is).1;
+          few = omega (arith, size, had.few);
+        }
+
+    -- none is left
+    pub drawn-all : left ≡ [] → reverse had.asked ≡ all_events all
+    drawn-all none =
+        let P : List (Event n) → Type 0 = λ events. reverse had.asked ++ all_events events ≡ all_events all in
+        sym (append-nil (reverse had.asked)) ∙ subst P none had.drawn

@@ -1,0 +1,84 @@
+-- How a stream ends.
+use Rattle.std.proofs.Common.{◌≡◌, ℕ, Bool, true, false, List, [], ◌∷◌, ◌++◌, length, map, ◌≤◌, arith, refl, sym, ◌∙◌, subst}
+use Rattle.cell_rows.specs.Device.{ArrayState}
+use Rattle.trace_reader.specs.Events.{IsEventFor}
+use Rattle.trace_reader.specs.Rows.{latest_tick}
+use Rattle.trace_reader.specs.declared.event.EventOp.{EventOp}
+use Rattle.trace_reader.specs.declared.event.EventOp.TheVariants.{Read, Write, Mask, Cut}
+use Rattle.result_rows.specs.declared.Outcome.{Outcome}
+use Rattle.row_rules.specs.declared.Row.{Row}
+use Rattle.row_rules.specs.declared.Asks.TheVariants.{Cuts}
+use Rattle.trace_rows.specs.Rows.{asks_of}
+use Rattle.bank_model.specs.Timing.{TimedEvent}
+use Rattle.bank_timing.specs.Extending.{outcome_in}
+use Rattle.module_shape.specs.declared.raw.RawShape.{RawShape}
+use Rattle.module_laws.specs.Asking.{row_with}
+use Rattle.end_laws.specs.Ends.{BankEnd}
+use Rattle.run_laws.specs.Runs.{RunsRightTo}
+use Rattle.run_laws.specs.Finishing.{IsFinishedTo}
+use Rattle.pcm_module.specs.Asking.{asked_for}
+use Rattle.pcm_module.specs.Draining.{IsLastCut}
+use Rattle.pcm_module.specs.State.{AreEndsOf, ModuleState, bank_at}
+use Rattle.row_printer.specs.Printing.{table_of}
+use Rattle.row_printer.specs.Telling.{became}
+use Rattle.row_printer.specs.declared.told.Told.{Told}
+use Rattle.trace_stream.specs.declared.asked.Asked.{Asked}
+use Rattle.trace_stream.specs.declared.asked.Asked.TheVariants.{Happens, Settle}
+use Rattle.row_stream.specs.declared.stop.Behind.{Behind}
+use Rattle.row_stream.specs.declared.stop.Behind.TheVariants.{Nothing, Going, Off}
+use Rattle.row_stream.specs.Asking.{behind_of, behind_op, events_in, tick_reached}
+use Rattle.row_stream.specs.Serving.{IsServing}
+use Rattle.row_stream.specs.Ending.{HasEnded, rows_of}
+use Rattle.row_stream.proofs.Tables.{rows-are}
+
+-- an operation behind which the power is off is a cut
+op-cut : {n : ℕ} (op : EventOp n) → behind_op op ≡ Off → asks_of op ≡ Cuts
+op-cut (Read line) is = absurd (cc is)
+op-cut (Write line bytes) is = absurd (cc is)
+op-cut (Mask line bytes given) is = absurd (cc is)
+op-cut Cut is = refl
+
+-- a cut may come at the tick that was reached
+pub cut-next : {n : ℕ} (lines before tick : ℕ) → tick ≡ before → before ≤ latest_tick → IsEventFor {n = n} lines before (record { tick = tick; op = Cut })
+cut-next lines before tick same in_time = record { rises = omega (arith, same); in_time = omega (arith, same, in_time); op = tt }
+
+-- then the last row was one
+pub last-cut : {n : ℕ} (asked : List (Asked n)) (tick : ℕ) → behind_of asked ≡ Off → tick ≡ tick_reached asked → IsLastCut tick (asked_for (events_in asked))
+last-cut [] tick is reached = absurd (cc is)
+last-cut (Happens event ∷ before) tick is reached = (sym reached, op-cut event.op is)
+last-cut (Settle at ∷ before) tick is reached = absurd (cc is)
+
+module _ {n m e : ℕ} (raw : RawShape) (seed : ℕ) (asked : List (Asked n)) (module_ : ModuleState n m e) (array : ArrayState n m) (places : ℕ) (told : List (Told n))
+    (had : IsServing raw seed asked module_ array places told) where
+  -- what is left, where the banks drained or the power stays off
+  pub has-ended : (off : Bool) (new : ModuleState n m e) (after : ArrayState n m) (places2 : ℕ) (told2 : List (Told n))
+      → places2 ≡ places → (outcomes : List (ℕ × Outcome n)) → told2 ≡ told ++ became outcomes
+      → new.shape ≡ module_.shape → new.seed ≡ module_.seed → length (table_of places2 told2) ≡ length (table_of places told)
+      → ((added : ℕ → List (TimedEvent n m))
+      × IsFinishedTo new.shape new.seed off (λ bank. added bank ++ had.history bank) (asked_for (events_in asked)) (bank_at new) after (outcome_in (table_of places2 told2)))
+      → ((ends : ℕ → BankEnd) × AreEndsOf new ends
+      × RunsRightTo e new.shape new.seed off (map (row_with (outcome_in (table_of places2 told2))) (asked_for (events_in asked))) after ends)
+      → HasEnded raw seed off asked new after places2 told2
+  has-ended off new after places2 told2 same outcomes tells shape seeded size finished right =
+      let whole : length (table_of places2 told2) ≡ length (events_in asked) = size ∙ had.served.size in
+      let Right : List (Row n) → Type 0 = λ rows. RunsRightTo e raw seed off rows after right.0 in
+      let same_shape : new.shape ≡ raw = shape ∙ had.served.shape in
+      let same_seed : new.seed ≡ seed = seeded ∙ had.served.seeded in
+      let Done : RawShape → ℕ → Type 0 = λ r k. (added : ℕ → List (TimedEvent n m))
+      × IsFinishedTo r k off (λ bank. added bank ++ had.history bank) (asked_for (events_in asked)) (bank_at new) after (outcome_in (table_of places2 told2)) in
+      let Was : RawShape → ℕ → Type 0 = λ r k. RunsRightTo e r k off (map (row_with (outcome_in (table_of places2 told2))) (asked_for (events_in asked))) after right.0 in
+      record {
+        shape = shape ∙ had.served.shape;
+        seeded = seeded ∙ had.served.seeded;
+        counted = same ∙ had.counted;
+        size = whole;
+        history = had.history;
+        said = told;
+        along = had.along;
+        rest = outcomes;
+        all = tells;
+        finished = subst (λ k. Done raw k) same_seed (subst (λ r. Done r new.seed) same_shape finished);
+        ends = right.0;
+        are = right.1;
+        right = subst Right (rows-are (events_in asked) (table_of places2 told2) whole) (subst (λ k. Was raw k) same_seed (subst (λ r. Was r new.seed) same_shape right.2));
+      }

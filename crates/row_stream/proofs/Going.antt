@@ -1,0 +1,128 @@
+-- How a row of a stream is served.
+use Rattle.std.proofs.Common.{◌≡◌, ℕ, suc, ◌+◌, ◌≤◌, false, List, [], ◌∷◌, ◌++◌, length, refl, sym, ap, ◌∙◌, subst, arith, replicate}
+use Rattle.std.proofs.lemmas.List.{append-nil, length_push}
+use Rattle.cell_rows.specs.Device.{ArrayState}
+use Rattle.trace_reader.specs.Rows.{latest_tick}
+use Rattle.trace_reader.specs.declared.event.Event.{Event}
+use Rattle.result_rows.specs.declared.Outcome.{Outcome}
+use Rattle.bank_model.specs.Timing.{TimedEvent}
+use Rattle.module_shape.specs.declared.raw.RawShape.{RawShape}
+use Rattle.module_laws.specs.Asking.{Asked as AskedRow}
+use Rattle.bank_timing.specs.Extending.{IsOpen}
+use Rattle.pcm_module.specs.Asking.{asked_by, asked_for}
+use Rattle.pcm_module.specs.State.{ModuleState}
+use Rattle.pcm_module.specs.Replaying.{Replays}
+use Rattle.row_printer.specs.Printing.{table_of}
+use Rattle.row_printer.specs.Telling.{became, outcomes_in, recorded}
+use Rattle.row_printer.specs.declared.told.Told.{Told}
+use Rattle.row_printer.specs.declared.told.Told.TheVariants.{Became, Settled}
+use Rattle.trace_stream.specs.declared.asked.Asked.{Asked}
+use Rattle.trace_stream.specs.declared.asked.Asked.TheVariants.{Happens, Settle}
+use Rattle.row_stream.specs.Asking.{events_in}
+use Rattle.row_stream.specs.Serving.{HasServed, IsServing}
+use Rattle.row_stream.proofs.Growing.{none, longer, open-last, replays-longer}
+
+-- a line that answers a settle tells no outcome
+outcomes-settled : {n : ℕ} (told : List (Told n)) (tick : ℕ) → outcomes_in (told ++ Settled tick ∷ []) ≡ outcomes_in told
+outcomes-settled [] tick = refl
+outcomes-settled (Became row outcome ∷ told) tick = ap (λ rest. (row, outcome) ∷ rest) (outcomes-settled told tick)
+outcomes-settled (Settled at ∷ told) tick = outcomes-settled told tick
+
+module _ {n m e : ℕ} (raw : RawShape) (seed : ℕ) (asked : List (Asked n)) (module_ : ModuleState n m e) (array : ArrayState n m) (places : ℕ) (told : List (Told n))
+    (had : IsServing raw seed asked module_ array places told) where
+  -- an event may be handed to the module once there is a place for its outcome
+  pub next-replayed : (results : List (Outcome n)) → results ≡ longer (table_of places told)
+      → (h : ℕ → List (TimedEvent n m)) × (rows : List (AskedRow n)) × Replays h rows module_ array results
+  next-replayed results grown =
+      let P : List (Outcome n) → Type 0 = λ r. Replays had.history (asked_for (events_in asked)) module_ array r in
+      (had.history, asked_for (events_in asked), subst P (sym grown) (replays-longer had.history (asked_for (events_in asked)) module_ array (table_of places told) had.served.replays))
+
+  pub next-bound : (row : ℕ) → row ≡ places + 1 → module_.rows_below ≤ row
+  next-bound row is = omega (arith, is, had.served.bound, had.counted)
+
+  pub next-open : (results : List (Outcome n)) (row : ℕ) → results ≡ longer (table_of places told) → row ≡ places + 1 → IsOpen results row
+  next-open results row grown is =
+      let last : length (table_of places told) + 1 ≡ row = omega (arith, is, had.counted, had.served.size) in
+      let P : List (Outcome n) → Type 0 = λ r. IsOpen r row in
+      let Q : ℕ → Type 0 = λ r. IsOpen (longer (table_of places told)) r in
+      subst P (sym grown) (subst Q last (open-last (table_of places told)))
+
+  -- and then it is served
+  pub serving-event : (event : Event n) (new : ModuleState n m e) (after : ArrayState n m) (places2 : ℕ) (told2 : List (Told n)) (row : ℕ) (results : List (Outcome n))
+      → results ≡ longer (table_of places told) → row ≡ places + 1 → places2 ≡ places + 1
+      → (outcomes : List (ℕ × Outcome n)) → told2 ≡ told ++ became outcomes
+      → new.shape ≡ module_.shape → new.seed ≡ module_.seed → new.finished ≡ false → new.tick ≡ event.tick → event.tick ≤ latest_tick → new.rows_below ≡ row + 1
+      → length (table_of places2 told2) ≡ length results
+      → ((h : ℕ → List (TimedEvent n m)) (rows : List (AskedRow n)) → Replays h rows module_ array results
+      → (added : ℕ → List (TimedEvent n m)) × Replays (λ bank. added bank ++ h bank) (asked_by row event ∷ rows) new after (table_of places2 told2))
+      → IsServing raw seed (Happens event ∷ asked) new after places2 told2
+  unfolding next-replayed
+  serving-event event new after places2 told2 row results grown is counts outcomes tells shape seeded going tick in_time bound size leads =
+      let next = next-replayed results grown in
+      let led = leads had.history (asked_for (events_in asked)) next.2 in
+      let h : ℕ → List (TimedEvent n m) = λ bank. led.0 bank ++ had.history bank in
+      let number : row ≡ length (events_in asked) + 1 = omega (arith, is, had.counted) in
+      let counted : places2 ≡ length (event ∷ events_in asked) = omega (arith, counts, had.counted) in
+      let P : ℕ → Type 0 = λ r. Replays h (asked_by r event ∷ asked_for (events_in asked)) new after (table_of places2 told2) in
+      let one : length results ≡ length (table_of places told) + 1 = ap length grown ∙ length_push (table_of places told) none in
+      let served : HasServed raw seed (event ∷ events_in asked) h new after (table_of places2 told2) = record {
+        shape = shape ∙ had.served.shape;
+        seeded = seeded ∙ had.served.seeded;
+        going = going;
+        bound = omega (arith, bound, number);
+        size = size ∙ omega (arith, one, had.served.size);
+        replays = subst P number led.1;
+      } in
+      let Q : ℕ → Type 0 = λ k. HasServed raw seed (event ∷ events_in asked) h new after (table_of k told2) in
+      record {
+        history = h;
+        along = (had.history, told, had.along, led.0, refl, outcomes, tells ∙ sym (append-nil (told ++ became outcomes)), record { module_ = new; array = after; served = subst Q counted served });
+        served = served;
+        counted = counted;
+        tick = tick;
+        in_time = omega (arith, tick, in_time);
+      }
+
+  -- so is a settle
+  pub serving-settle : (at : ℕ) (new : ModuleState n m e) (after : ArrayState n m) (places2 : ℕ) (told1 told2 : List (Told n))
+      → places2 ≡ places → (outcomes : List (ℕ × Outcome n)) → told1 ≡ told ++ became outcomes → told2 ≡ told1 ++ Settled at ∷ []
+      → new.shape ≡ module_.shape → new.seed ≡ module_.seed → new.finished ≡ false → new.tick ≡ at → at ≤ latest_tick → new.rows_below ≡ module_.rows_below
+      → length (table_of places2 told1) ≡ length (table_of places told)
+      → ((h : ℕ → List (TimedEvent n m)) (rows : List (AskedRow n)) → Replays h rows module_ array (table_of places told)
+      → (added : ℕ → List (TimedEvent n m)) × Replays (λ bank. added bank ++ h bank) rows new after (table_of places2 told1))
+      → IsServing raw seed (Settle at ∷ asked) new after places2 told2
+  serving-settle at new after places2 told1 told2 counts outcomes tells tells2 shape seeded going tick in_time bound size leads =
+      let led = leads had.history (asked_for (events_in asked)) had.served.replays in
+      let h : ℕ → List (TimedEvent n m) = λ bank. led.0 bank ++ had.history bank in
+      let counted : places2 ≡ length (events_in asked) = counts ∙ had.counted in
+      let same : table_of places2 told1 ≡ table_of places2 told2 =
+      let P : List (Told n) → Type 0 = λ t. table_of places2 told1 ≡ table_of places2 t in
+      subst P (sym tells2) (ap (λ (o : List (ℕ × Outcome n)). recorded o (replicate places2 (none {n = n}))) (sym (outcomes-settled told1 at))) in
+      let R : List (Outcome n) → Type 0 = λ results. HasServed raw seed (events_in asked) h new after results in
+      let served : HasServed raw seed (events_in asked) h new after (table_of places2 told1) = record {
+        shape = shape ∙ had.served.shape;
+        seeded = seeded ∙ had.served.seeded;
+        going = going;
+        bound = omega (arith, bound, had.served.bound);
+        size = size ∙ had.served.size;
+        replays = led.1;
+      } in
+      let now : HasServed raw seed (events_in asked) h new after (table_of places2 told2) = subst R same served in
+      let Q : ℕ → Type 0 = λ k. HasServed raw seed (events_in asked) h new after (table_of k told2) in
+      record {
+        history = h;
+        along = (
+          had.history,
+          told,
+          had.along,
+          led.0,
+          refl,
+          outcomes,
+          tells2 ∙ ap (λ t. t ++ Settled at ∷ []) tells,
+          record { module_ = new; array = after; served = subst Q counted now },
+        );
+        served = now;
+        counted = counted;
+        tick = tick;
+        in_time = omega (arith, tick, in_time);
+      }

@@ -1,0 +1,242 @@
+-- How the rows of a source are served.
+use Rattle.std.proofs.Common.{◌≡◌, ◌≢◌, ℕ, suc, ◌<◌, ◌+◌, ◌-◌, ◌*◌, ◌^◌, ◌≤◌, Bool, true, List, [], ◌∷◌, ◌++◌, length, reverse, Option, Some, None, refl, sym, ap, ◌∙◌, subst, arith, length-append}
+use Prim.Native.Nat.{max}
+use prog.Memory.{up}
+use Rattle.std.specs.Prelude.{Result, Ok, Err, OnOk, OnErr}
+use Rattle.std.specs.Io.KnownBytes.{IsAtEnd}
+use Rattle.std.proofs.lemmas.List.{reverse-append}
+use Rattle.cell_rows.specs.Device.{ArrayState}
+use Rattle.pcm_io.specs.Faults.{Rose}
+use Rattle.pcm_io.specs.Taking.{Takes}
+use Rattle.pcm_io.proofs.ByteLemmas.{Takes-Takes, Takes-nothing}
+use Rattle.module_shape.specs.declared.raw.RawShape.{RawShape}
+use Rattle.module_shape.specs.Limits.{total_of}
+use Rattle.pcm_module.specs.State.{ModuleState}
+use Rattle.row_printer.specs.declared.told.Told.{Told}
+use Rattle.trace_stream.specs.Arrived.{StaysEnded}
+use Rattle.trace_stream.specs.Stream.{AsksNext, HasFault, IsOfText, Opens, Standing, asked_from, stream_of}
+use Rattle.trace_stream.specs.Asked.{IsAskedFor, rows_after, tick_asked}
+use Rattle.trace_stream.specs.declared.asked.Asked.{Asked}
+use Rattle.trace_stream.specs.declared.asked.Asked.TheVariants.{Happens, Settle}
+use Rattle.trace_stream.specs.declared.fault.StreamFault.{StreamFault}
+use Rattle.trace_stream.specs.declared.fault.StreamFault.TheVariants as fault
+use Rattle.trace_stream.proofs.Runs.{HasAsked, after_asked, asked-all, asked-faulty, asked-first, asked-more}
+use Rattle.row_stream.specs.declared.stop.Behind.{Behind}
+use Rattle.row_stream.specs.declared.stop.Behind.TheVariants.{Nothing}
+use Rattle.row_stream.specs.declared.stop.Stop.TheVariants.{Input}
+use Rattle.row_stream.specs.Asking.{behind_of, events_in, tick_reached}
+use Rattle.row_stream.specs.Serving.{IsServing}
+use Rattle.row_stream.specs.Sourcing.{BeginsWith, Fronts, HasCome, HasStopped, IsFaulty, IsRead}
+
+-- what follows where a call went well, or didn't
+pub ok-so : {T E : Type 0} (r : Result T E) (P Q : Type 0) → (P → Q) → OnOk r P → OnOk r Q
+ok-so (Ok x) P Q so had = so had
+ok-so (Err e) P Q so had = tt
+
+pub err-so : {T E : Type 0} (r : Result T E) (P Q : Type 0) → (P → Q) → OnErr r P → OnErr r Q
+err-so (Ok x) P Q so had = tt
+err-so (Err e) P Q so had = so had
+
+-- of what a source gave, so many rows and settles were served, and the rest is still to read from here on
+pub record HasFed {n m e : ℕ} (raw : RawShape) (seed : ℕ) (module_ : ModuleState n m e) (array : ArrayState n m) (places : ℕ) (told : List (Told n))
+    {S : Type 0} (left : S → Option (List ℕ)) (taken faults : S → ℕ) (old new : S) (stream : Standing) (behind : Behind) (count : ℕ) : Type 0 where
+  pub asked : List (Asked n)
+  pub serving : IsServing raw seed asked module_ array places told
+  pub stands : behind ≡ behind_of asked
+  pub bytes : List ℕ
+  pub takes : Takes (left old) (left new) (taken old) (taken new) bytes
+  pub has : HasAsked n (total_of raw) bytes (reverse asked) stream
+  pub lines : stream.lines ≡ total_of raw
+  pub tick : stream.tick ≡ tick_reached asked
+  pub few : length (events_in asked) ≤ stream.rows
+  pub most : stream.rows ≤ 4294967294
+  pub calm : faults new ≡ faults old
+  pub counted : length asked ≡ count
+
+-- what was asked stands in front of what is still asked
+begins-after : {n : ℕ} (asked : List (Asked n)) (r : Result (List (Asked n)) StreamFault) → BeginsWith asked (after_asked (reverse asked) r)
+begins-after asked (Ok behind) = (behind, refl)
+begins-after asked (Err e) = tt
+
+fronts : {n : ℕ} (lines : ℕ) (bytes : List ℕ) (asked : List (Asked n)) (stream : Standing) → HasAsked n lines bytes (reverse asked) stream → Fronts lines bytes stream.arrived.ended asked
+fronts {n} lines bytes asked stream has = λ more comes.
+    subst (BeginsWith asked) (sym (has.same more comes)) (begins-after asked (asked_from n stream more))
+
+-- an asked row fits in memory
+row_le : (a b : ℕ) → a ≤ 136 → b ≤ 128 → up 8 (8 + up 4 (max 8 (max a (max (up 1 a + (b * 1)) 1)))) ≤ 284
+row_le a b h k = omega arith
+
+row_below : (event : ℕ) → event ≤ 284 → up 8 (max (8 + event) 16) < 9223372036854775808
+row_below event h = omega arith
+
+first_le : (b : ℕ) → b ≤ 128 → 8 + (b * 1) ≤ 136
+first_le b h = omega arith
+
+pub asked_fits : (b : ℕ) → b ≤ 128 → up 8 (max (8 + up 8 (8 + up 4 (max 8 (max (8 + (b * 1)) (max (up 1 (8 + (b * 1)) + (b * 1)) 1))))) 16) < 9223372036854775808
+asked_fits b h = row_below _ (row_le _ b (first_le b h) h)
+
+-- how a module stands behind a row is the same whatever came before
+pub behind-any : {n : ℕ} (asked : Asked n) (before : List (Asked n)) → behind_of (asked ∷ []) ≡ behind_of (asked ∷ before)
+behind-any (Happens event) before = refl
+behind-any (Settle at) before = refl
+
+begins-none : {n : ℕ} (r : Result (List (Asked n)) StreamFault) → BeginsWith {n = n} [] r
+begins-none (Ok all) = (all, refl)
+begins-none (Err e) = tt
+
+module _ (n lines : ℕ) {S : Type 0} (left : S → Option (List ℕ)) (taken faults : S → ℕ) (old : S) where
+  -- nothing came
+  pub come-none : (new : S) → HasCome {n = n} lines left taken faults old new []
+  come-none new = record {
+    bytes = [];
+    between = left old;
+    came = (Takes-nothing (left old) 0).first;
+    ended = true;
+    front = λ more comes. begins-none (stream_of n lines ([] ++ more));
+  }
+
+  -- why there is no first row
+  pub open-stopped : (new : S) (found : StreamFault)
+      → (IsOfText found → (bytes : List ℕ) × (ended : Bool) × Takes (left old) (left new) (taken old) (taken new) bytes × (ended ≡ true → IsAtEnd (left new))
+      × ((k : ℕ) → HasFault (stream_of k lines) bytes found ended))
+      → (found ≡ fault.Read → Rose (faults old) (faults new))
+      → (found ≡ fault.Endless → (bytes : List ℕ) × Takes (left old) (left new) (taken old) (taken new) bytes × (2 ^ 64 - 1 ≤ length bytes))
+      → (found ≢ fault.Read → faults new ≡ faults old)
+      → HasStopped {n = n} lines left taken faults old new [] (Input found)
+  open-stopped new (fault.Trace f) text fails past calm =
+      let of = text ((λ is. cc is), (λ is. cc is), (λ is. cc is)) in
+      record { bytes = of.0; takes = of.2; ended = of.1; at_end = of.3; front = λ more comes. begins-none (stream_of n lines (of.0 ++ more)); fault = of.4 n; calm = calm (λ is. cc is) }
+  open-stopped new fault.TooMany text fails past calm =
+      let of = text ((λ is. cc is), (λ is. cc is), (λ is. cc is)) in
+      record { bytes = of.0; takes = of.2; ended = of.1; at_end = of.3; front = λ more comes. begins-none (stream_of n lines (of.0 ++ more)); fault = of.4 n; calm = calm (λ is. cc is) }
+  open-stopped new fault.Read text fails past calm = (come-none new, fails refl)
+  open-stopped new fault.Endless text fails past calm = (come-none new, calm (λ is. cc is), past refl)
+  open-stopped new fault.NoMemory text fails past calm = (come-none new, calm (λ is. cc is))
+
+module _ {n m e : ℕ} (raw : RawShape) (seed : ℕ) {S : Type 0} (left : S → Option (List ℕ)) (taken faults : S → ℕ) (old : S) where
+  -- the header was read
+  pub fed-first : (module_ : ModuleState n m e) (array : ArrayState n m) (places : ℕ) (told : List (Told n)) (new : S) (stream : Standing)
+      → IsServing raw seed [] module_ array places told
+      → (bytes : List ℕ) → Takes (left old) (left new) (taken old) (taken new) bytes → Opens (total_of raw) bytes stream
+      → stream.rows ≡ 0 → stream.tick ≡ 0 → stream.lines ≡ total_of raw → faults new ≡ faults old
+      → HasFed raw seed module_ array places told left taken faults old new stream Nothing 0
+  fed-first module_ array places told new stream serving bytes takes opens rows tick lines calm = record {
+    asked = [];
+    serving = serving;
+    stands = refl;
+    bytes = bytes;
+    takes = takes;
+    has = asked-first n (total_of raw) bytes stream opens;
+    lines = lines;
+    tick = tick;
+    few = omega arith;
+    most = omega (arith, rows);
+    calm = calm;
+    counted = refl;
+  }
+
+  module _ (module_ : ModuleState n m e) (array : ArrayState n m) (places : ℕ) (told : List (Told n)) (mid : S) (stream : Standing) (behind : Behind) (count : ℕ)
+      (had : HasFed raw seed module_ array places told left taken faults old mid stream behind count) where
+    -- a row more may be served
+    pub next-few : places < 4294967295
+    next-few = omega (arith, had.serving.counted, had.few, had.most)
+
+    -- what is asked next may be asked of the module
+    pub next-asked : (asked : Asked n) → IsAskedFor stream.lines stream.tick asked → IsAskedFor (total_of module_.shape) module_.tick asked
+    next-asked asked lawful =
+        let lines : stream.lines ≡ total_of module_.shape = had.lines ∙ ap total_of (sym had.serving.served.shape) in
+        let tick : stream.tick ≡ module_.tick = had.tick ∙ sym had.serving.tick in
+        subst (λ (t : ℕ). IsAskedFor (total_of module_.shape) t asked) tick (subst (λ (k : ℕ). IsAskedFor k stream.tick asked) lines lawful)
+
+    rows-next : (asked : Asked n) (rows : ℕ) → rows ≡ rows_after stream.rows asked → length (events_in (asked ∷ had.asked)) ≤ rows
+    rows-next (Happens event) rows is = omega (arith, is, had.few)
+    rows-next (Settle tick) rows is = omega (arith, is, had.few)
+
+    -- a row more was served
+    pub fed-more : (new_module : ModuleState n m e) (after : ArrayState n m) (places2 : ℕ) (told2 : List (Told n)) (new : S) (now : Standing) (asked : Asked n) (stands : Behind)
+        → (IsServing raw seed had.asked module_ array places told → IsServing raw seed (asked ∷ had.asked) new_module after places2 told2)
+        → ((before : List (Asked n)) → stands ≡ behind_of (asked ∷ before))
+        → (bytes : List ℕ) → Takes (left mid) (left new) (taken mid) (taken new) bytes → StaysEnded stream.arrived.ended bytes now.arrived.ended → AsksNext stream bytes (Some asked) now
+        → now.lines ≡ stream.lines → now.rows ≡ rows_after stream.rows asked → now.rows ≤ 4294967294 → now.tick ≡ tick_asked asked → faults new ≡ faults mid
+        → HasFed raw seed new_module after places2 told2 left taken faults old new now stands (count + 1)
+    fed-more new_module after places2 told2 new now asked stands serves behinds bytes takes stays asks lines rows most tick calm =
+        let turned : reverse (asked ∷ had.asked) ≡ reverse had.asked ++ asked ∷ [] = reverse-append (asked ∷ []) had.asked in
+        let P : List (Asked n) → Type 0 = λ all. HasAsked n (total_of raw) (had.bytes ++ bytes) all now in
+        record {
+          asked = asked ∷ had.asked;
+          serving = serves had.serving;
+          stands = behinds had.asked;
+          bytes = had.bytes ++ bytes;
+          takes = Takes-Takes _ _ _ _ _ _ _ _ had.takes takes;
+          has = subst P (sym turned) (asked-more n (total_of raw) had.bytes bytes (reverse had.asked) asked stream now had.has stays asks);
+          lines = lines ∙ had.lines;
+          tick = tick ∙ reached asked had.asked;
+          few = rows-next asked now.rows rows;
+          most = most;
+          calm = calm ∙ had.calm;
+          counted = omega (arith, had.counted);
+        }
+      where
+        reached : (asked : Asked n) (before : List (Asked n)) → tick_asked asked ≡ tick_reached (asked ∷ before)
+        reached (Happens event) before = refl
+        reached (Settle at) before = refl
+
+    -- there is none
+    pub fed-all : (new : S) (now : Standing) (bytes : List ℕ) → Takes (left mid) (left new) (taken mid) (taken new) bytes → StaysEnded stream.arrived.ended bytes now.arrived.ended
+        → AsksNext {n = n} stream bytes None now → (now.arrived.ended ≡ true → IsAtEnd (left new)) → faults new ≡ faults mid
+        → IsRead (total_of raw) left taken faults old new had.asked
+    fed-all new now bytes takes stays asks ends calm = record {
+      bytes = had.bytes ++ bytes;
+      takes = Takes-Takes _ _ _ _ _ _ _ _ had.takes takes;
+      ended = ends asks.1;
+      stream = asked-all n (total_of raw) had.bytes bytes (reverse had.asked) stream now had.has stays asks;
+      calm = calm ∙ had.calm;
+    }
+
+    -- what came so far
+    pub fed-come : (new : S) → HasCome (total_of raw) left taken faults old new had.asked
+    fed-come new = record {
+      bytes = had.bytes;
+      between = left mid;
+      came = had.takes.first;
+      ended = stream.arrived.ended;
+      front = fronts (total_of raw) had.bytes had.asked stream had.has;
+    }
+
+    fed-fault : (new : S) (now : Standing) (found : StreamFault) (bytes : List ℕ) → Takes (left mid) (left new) (taken mid) (taken new) bytes → StaysEnded stream.arrived.ended bytes now.arrived.ended
+        → (now.arrived.ended ≡ true → IsAtEnd (left new)) → HasFault (asked_from n stream) bytes found now.arrived.ended → faults new ≡ faults mid
+        → IsFaulty (total_of raw) left taken faults old new had.asked found
+    fed-fault new now found bytes takes stays ends faulty calm =
+        let wrong = asked-faulty n (total_of raw) had.bytes bytes (reverse had.asked) stream found now.arrived.ended had.has stays faulty in
+        record {
+          bytes = had.bytes ++ bytes;
+          takes = Takes-Takes _ _ _ _ _ _ _ _ had.takes takes;
+          ended = now.arrived.ended;
+          at_end = ends;
+          front = λ more comes. subst (BeginsWith had.asked) (sym (wrong more comes)) tt;
+          fault = wrong;
+          calm = calm ∙ had.calm;
+        }
+
+    -- why there is no row more
+    pub fed-stopped : (new : S) (now : Standing) (found : StreamFault)
+        → (IsOfText found → (bytes : List ℕ) × Takes (left mid) (left new) (taken mid) (taken new) bytes × StaysEnded stream.arrived.ended bytes now.arrived.ended
+        × ((stream.arrived.ended ≡ true → IsAtEnd (left mid)) → now.arrived.ended ≡ true → IsAtEnd (left new)) × HasFault (asked_from n stream) bytes found now.arrived.ended)
+        → (stream.arrived.ended ≡ true → IsAtEnd (left mid))
+        → (found ≡ fault.Read → Rose (faults mid) (faults new))
+        → (found ≡ fault.Endless → (bytes : List ℕ) × Takes (left mid) (left new) (taken mid) (taken new) bytes × (2 ^ 64 - 1 ≤ length bytes))
+        → (found ≢ fault.Read → faults new ≡ faults mid)
+        → HasStopped (total_of raw) left taken faults old new had.asked (Input found)
+    fed-stopped new now (fault.Trace f) text ends fails past calm =
+        let of = text ((λ is. cc is), (λ is. cc is), (λ is. cc is)) in
+        fed-fault new now (fault.Trace f) of.0 of.1 of.2 (of.3 ends) of.4 (calm (λ is. cc is))
+    fed-stopped new now fault.TooMany text ends fails past calm =
+        let of = text ((λ is. cc is), (λ is. cc is), (λ is. cc is)) in
+        fed-fault new now fault.TooMany of.0 of.1 of.2 (of.3 ends) of.4 (calm (λ is. cc is))
+    fed-stopped new now fault.Read text ends fails past calm = (fed-come new, subst (λ k. Rose k (faults new)) had.calm (fails refl))
+    fed-stopped new now fault.Endless text ends fails past calm =
+        let of = past refl in
+        let more : length (had.bytes ++ of.0) ≡ length had.bytes + length of.0 = length-append had.bytes of.0 in
+        let long : 2 ^ 64 - 1 ≤ length of.0 = of.2 in
+        (fed-come new, calm (λ is. cc is) ∙ had.calm, (had.bytes ++ of.0, Takes-Takes _ _ _ _ _ _ _ _ had.takes of.1, omega (arith, more, long)))
+    fed-stopped new now fault.NoMemory text ends fails past calm = (fed-come new, calm (λ is. cc is) ∙ had.calm)

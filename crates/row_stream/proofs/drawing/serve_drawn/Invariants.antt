@@ -1,0 +1,21 @@
+use Rattle.std.proofs.Common.{◌≡◌, ℕ, List, [], length, Option}
+use Rattle.module_shape.specs.declared.raw.RawShape.{RawShape}
+use Rattle.module_shape.specs.Limits.{total_of}
+use Rattle.trace_gen.specs.Generated.{generated}
+use Rattle.row_printer.specs.Printing.{IsPrinting}
+use Rattle.row_stream.specs.Serving.{IsServing}
+use Rattle.row_stream.proofs.Draws.{HasDrawn}
+use Rattle.row_stream.proofs.drawing.serve_drawn.Given as goal
+
+-- the rows so far were served
+abbrev pub invariant-rows : goal.invariant-rows
+invariant-rows g l = record {
+  drawn : (raw : RawShape) (own : ℕ) → IsServing {n = g.row.B} {m = g.row.M} {e = g.row.E} raw own [] l.fn.pcm (g.A.CellArray.state l.fn.array) l.fn.out.rows l.fn.out.told
+      → HasDrawn {n = g.row.B} {m = g.row.M} {e = g.row.E} raw own l.pcm (g.A.CellArray.state l.array) l.out.rows l.out.told (generated g.row.B l.fn.seed (total_of raw) l.fn.mix) l.generator l.behind;
+  prints : l.out.prints ≡ l.fn.out.prints;
+  printing : (before : Option (List ℕ)) (first : ℕ) → IsPrinting g.K.Sink.written g.K.Sink.faults before first l.fn.out → IsPrinting g.K.Sink.written g.K.Sink.faults before first l.out;
+  wear : (g.A.CellArray.state l.array).wear ≡ (g.A.CellArray.state l.fn.array).wear;
+}
+
+abbrev pub decreases-rows : goal.decreases-rows
+decreases-rows g l = length l.generator

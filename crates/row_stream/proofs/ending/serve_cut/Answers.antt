@@ -1,0 +1,25 @@
+use Rattle.std.proofs.Common.{◌≡◌, ◌∙◌, ◌∷◌, ℕ, arith, subst}
+use Rattle.trace_reader.specs.declared.event.EventOp.TheVariants.{Cut}
+use Rattle.trace_stream.specs.declared.asked.Asked.TheVariants.{Happens}
+use Rattle.row_stream.specs.Serving.{IsServing}
+use Rattle.trace_reader.proofs.Sizes.{event_fits}
+use Rattle.row_stream.proofs.Ends.{cut-next}
+use Rattle.row_stream.proofs.ending.serve_cut.Goals as goal
+
+pub serve_event-requires : goal.serve_event-requires
+serve_event-requires g c =
+    let s = c.requires.serving in (
+      omega arith,
+      (
+        event_fits g.row.B c.requires.layout.shape.1,
+        (
+          omega arith,
+          (c.requires.layout, (cut-next _ c.args.pcm.now.tick c.tick.result c.tick.ensures s.3.in_time, (c.requires.few, s))),
+        ),
+      ),
+    )
+
+pub returns-clause-serving : goal.returns-clause-serving
+returns-clause-serving g c = λ raw seed before had.
+    let P : ℕ → Type 0 = λ tick. IsServing raw seed (Happens (record { tick = tick; op = Cut }) ∷ before) c.serve_event.new.pcm (g.A.CellArray.state c.serve_event.new.array) c.serve_event.new.out.rows c.serve_event.new.out.told in
+    subst P (c.tick.ensures ∙ had.tick) (c.serve_event.ensures.serving raw seed before had)

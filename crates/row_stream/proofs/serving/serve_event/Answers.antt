@@ -1,0 +1,50 @@
+use Rattle.std.proofs.Common.{◌≡◌, ◌∙◌, ◌+◌, ◌++◌, ap, arith}
+use Rattle.row_printer.specs.Telling.{became}
+use Rattle.row_printer.specs.Printing.{table_told}
+use Rattle.trace_reader.proofs.Sizes.{event_fits}
+use Rattle.row_stream.proofs.Going.{next-bound, next-open, next-replayed, serving-event}
+use Rattle.row_stream.proofs.serving.serve_event.Goals as goal
+
+pub event-requires : goal.event-requires
+event-requires g c =
+    let s = c.requires.serving in
+    let state = g.A.CellArray.state c.args.array.now in
+    let row : c.rows-row.result ≡ c.args.out.now.rows + 1 = c.rows-row.ensures ∙ c.add_row.ensures.rows in
+    let had = s.3 in (
+      omega arith,
+      (
+        event_fits g.row.B c.requires.layout.shape.1,
+        (
+          had.served.going,
+          (
+            next-replayed s.0 s.1 s.2 c.args.pcm.now state c.args.out.now.rows c.args.out.now.told had (table_told c.add_row.new.self) c.add_row.ensures.table,
+            (
+              c.requires.event,
+              (
+                next-bound s.0 s.1 s.2 c.args.pcm.now state c.args.out.now.rows c.args.out.now.told had c.rows-row.result row,
+                next-open s.0 s.1 s.2 c.args.pcm.now state c.args.out.now.rows c.args.out.now.told had (table_told c.add_row.new.self) c.rows-row.result c.add_row.ensures.table row,
+              ),
+            ),
+          ),
+        ),
+      ),
+    )
+
+pub returns-clause-serving : goal.returns-clause-serving
+returns-clause-serving g c = λ raw seed before had.
+    let row : c.rows-row.result ≡ c.args.out.now.rows + 1 = c.rows-row.ensures ∙ c.add_row.ensures.rows in
+    let on = c.event.ensures.goes_on in
+    let e = c.event.ensures in
+    serving-event raw seed before c.args.pcm.now (g.A.CellArray.state c.args.array.now) c.args.out.now.rows c.args.out.now.told had c.args.event.now
+    c.event.new.self (g.A.CellArray.state c.event.new.array) c.event.new.results.rows c.event.new.results.told c.rows-row.result (table_told c.add_row.new.self)
+    c.add_row.ensures.table row (on.rows ∙ c.add_row.ensures.rows) on.added (on.told ∙ ap (λ t. t ++ became on.added) c.add_row.ensures.told)
+    e.shape e.seed e.going e.tick c.requires.event.in_time e.rows e.table e.replays
+
+pub returns-clause-prints : goal.returns-clause-prints
+returns-clause-prints g c = c.event.ensures.goes_on.prints ∙ c.add_row.ensures.prints
+
+pub returns-clause-printing : goal.returns-clause-printing
+returns-clause-printing g c = λ before first h. c.event.ensures.goes_on.printing before first (c.add_row.ensures.printing before first h)
+
+pub returns-clause-wear : goal.returns-clause-wear
+returns-clause-wear g c = c.event.ensures.stays.wear

@@ -1,0 +1,58 @@
+-- What the rows of a stream ask. Here it stands with the newest first.
+use Rattle.std.specs.Prelude.{ℕ, Bool, true, false, List, [], ◌∷◌}
+use Rattle.trace_reader.specs.declared.event.Event.{Event}
+use Rattle.trace_reader.specs.declared.event.EventOp.{EventOp}
+use Rattle.trace_reader.specs.declared.event.EventOp.TheVariants.{Read, Write, Mask, Cut}
+use Rattle.trace_stream.specs.declared.asked.Asked.{Asked}
+use Rattle.trace_stream.specs.declared.asked.Asked.TheVariants.{Happens, Settle}
+use Rattle.row_stream.specs.declared.stop.Behind.{Behind}
+use Rattle.row_stream.specs.declared.stop.Behind.TheVariants.{Nothing, Going, Off}
+
+module _ {n : ℕ} where
+  -- the events among what rows ask: a settle is none
+  abbrev pub events_in : List (Asked n) → List (Event n)
+  events_in [] = []
+  events_in (Happens event ∷ before) = event ∷ events_in before
+  events_in (Settle tick ∷ before) = events_in before
+
+  -- the tick that was reached
+  abbrev pub tick_reached : List (Asked n) → ℕ
+  tick_reached [] = 0
+  tick_reached (Happens event ∷ before) = event.tick
+  tick_reached (Settle tick ∷ before) = tick
+
+  -- how a module stands behind an operation, and behind what was asked
+  abbrev pub behind_op : EventOp n → Behind
+  behind_op (Read line) = Going
+  behind_op (Write line bytes) = Going
+  behind_op (Mask line bytes given) = Going
+  behind_op Cut = Off
+
+  abbrev pub behind_of : List (Asked n) → Behind
+  behind_of [] = Nothing
+  behind_of (Happens event ∷ before) = behind_op event.op
+  behind_of (Settle tick ∷ before) = Going
+
+  -- a power cut at the tick that was reached, behind what was asked
+  abbrev pub cut_behind : List (Asked n) → List (Asked n)
+  cut_behind asked = Happens (record { tick = tick_reached asked; op = Cut }) ∷ asked
+
+  -- where the power is to stay off in the end, it is cut behind what was asked, unless that was its cut, or nothing
+  abbrev pub cut_if : Behind → List (Asked n) → List (Asked n)
+  cut_if Nothing asked = asked
+  cut_if Off asked = asked
+  cut_if Going asked = cut_behind asked
+
+  abbrev pub with_cut : Bool → List (Asked n) → List (Asked n)
+  with_cut false asked = asked
+  with_cut true asked = cut_if (behind_of asked) asked
+
+-- whether the power stays off in the end: where nothing was asked it makes no difference
+abbrev pub off_behind : Behind → Bool
+off_behind Nothing = false
+off_behind Going = true
+off_behind Off = true
+
+abbrev pub stays_off : {n : ℕ} → Bool → List (Asked n) → Bool
+stays_off false asked = false
+stays_off true asked = off_behind (behind_of asked)

@@ -1,0 +1,44 @@
+-- What a stream leaves that was served to its end.
+use Rattle.std.specs.Prelude.{◌≡◌, ℕ, Bool, List, ◌++◌, length, reverse}
+use Rattle.cell_rows.specs.Device.{ArrayState}
+use Rattle.trace_reader.specs.declared.event.Event.{Event}
+use Rattle.result_rows.specs.declared.Outcome.{Outcome}
+use Rattle.bank_model.specs.Timing.{TimedEvent}
+use Rattle.bank_timing.specs.Extending.{outcome_in}
+use Rattle.row_rules.specs.declared.Row.{Row}
+use Rattle.trace_rows.specs.Rows.{rows_with}
+use Rattle.module_shape.specs.declared.raw.RawShape.{RawShape}
+use Rattle.end_laws.specs.Ends.{BankEnd}
+use Rattle.run_laws.specs.Runs.{RunsRightTo}
+use Rattle.run_laws.specs.Finishing.{IsFinishedTo}
+use Rattle.pcm_module.specs.Asking.{asked_for}
+use Rattle.pcm_module.specs.State.{AreEndsOf, ModuleState, bank_at}
+use Rattle.row_printer.specs.Printing.{table_of}
+use Rattle.row_printer.specs.Telling.{became}
+use Rattle.row_printer.specs.declared.told.Told.{Told}
+use Rattle.trace_stream.specs.declared.asked.Asked.{Asked}
+use Rattle.row_stream.specs.Asking.{events_in}
+use Rattle.row_stream.specs.Serving.{TellsAlong}
+
+-- the table of events, the newest first, with the outcomes of the rows from the first on: the newest row first
+abbrev pub rows_of : {n : ℕ} → List (Event n) → List (Outcome n) → List (Row n)
+rows_of events outcomes = reverse (rows_with (reverse events) outcomes)
+
+-- rows that asked this were served to their end: the banks drained, or the power stayed off. Row by row the outcomes were told as they became known, and
+-- in the end the rest; by them the rows are right over the array
+pub record HasEnded {n m e : ℕ} (raw : RawShape) (seed : ℕ) (off : Bool) (asked : List (Asked n)) (module_ : ModuleState n m e) (array : ArrayState n m) (places : ℕ) (told : List (Told n)) : Type 0 where
+  pub shape : module_.shape ≡ raw
+  pub seeded : module_.seed ≡ seed
+  pub counted : places ≡ length (events_in asked)
+  pub size : length (table_of places told) ≡ length (events_in asked)
+  pub history : ℕ → List (TimedEvent n m)
+  pub said : List (Told n)
+  pub along : TellsAlong e raw seed asked history said
+  pub rest : List (ℕ × Outcome n)
+  pub all : told ≡ said ++ became rest
+  pub finished : (added : ℕ → List (TimedEvent n m))
+      × IsFinishedTo raw seed off (λ bank. added bank ++ history bank) (asked_for (events_in asked))
+      (bank_at module_) array (outcome_in (table_of places told))
+  pub ends : ℕ → BankEnd
+  pub are : AreEndsOf module_ ends
+  pub right : RunsRightTo e raw seed off (rows_of (events_in asked) (table_of places told)) array ends

@@ -1,0 +1,5 @@
+pub mod Asking
+pub mod Serving
+pub mod Sourcing
+pub mod Ending
+pub mod Laws

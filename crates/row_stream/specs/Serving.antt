@@ -1,0 +1,60 @@
+-- What a module and what was told have to do with what the rows of a stream asked so far. What was asked stands with the newest first.
+use Rattle.std.specs.Prelude.{◌≡◌, ℕ, ◌+◌, ◌≤◌, false, List, [], ◌∷◌, ◌++◌, length}
+use Rattle.cell_rows.specs.Device.{ArrayState}
+use Rattle.trace_reader.specs.Rows.{latest_tick}
+use Rattle.trace_reader.specs.declared.event.Event.{Event}
+use Rattle.result_rows.specs.declared.Outcome.{Outcome}
+use Rattle.bank_model.specs.Timing.{TimedEvent}
+use Rattle.module_shape.specs.declared.raw.RawShape.{RawShape}
+use Rattle.pcm_module.specs.Asking.{asked_for}
+use Rattle.pcm_module.specs.State.{ModuleState}
+use Rattle.pcm_module.specs.Replaying.{Replays}
+use Rattle.row_printer.specs.Printing.{table_of}
+use Rattle.row_printer.specs.Telling.{became}
+use Rattle.row_printer.specs.declared.told.Told.{Told}
+use Rattle.row_printer.specs.declared.told.Told.TheVariants.{Settled}
+use Rattle.trace_stream.specs.declared.asked.Asked.{Asked}
+use Rattle.trace_stream.specs.declared.asked.Asked.TheVariants.{Happens, Settle}
+use Rattle.row_stream.specs.Asking.{events_in, tick_reached}
+
+module _ {n m e : ℕ} (raw : RawShape) (seed : ℕ) where
+  -- a module of these sizes and this seed was handed these events, and histories of its banks, which asked for exactly these, led to it over the
+  -- array and gave exactly these outcomes so far
+  pub record HasServed (events : List (Event n)) (h : ℕ → List (TimedEvent n m)) (module_ : ModuleState n m e) (array : ArrayState n m) (outcomes : List (Outcome n)) : Type 0 where
+    pub shape : module_.shape ≡ raw
+    pub seeded : module_.seed ≡ seed
+    pub going : module_.finished ≡ false
+    pub bound : module_.rows_below ≤ length events + 1
+    pub size : length outcomes ≡ length events
+    pub replays : Replays h (asked_for events) module_ array outcomes
+
+-- the line that answers a row besides outcomes: only a settle has one
+abbrev pub line_of : {n : ℕ} → Asked n → List (Told n)
+line_of (Happens event) = []
+line_of (Settle tick) = Settled tick ∷ []
+
+module _ {n m : ℕ} (e : ℕ) (raw : RawShape) (seed : ℕ) where
+  -- of these events exactly those outcomes were told which these histories gave so far, at the module and the array to which they led
+  pub record AreKnown (events : List (Event n)) (h : ℕ → List (TimedEvent n m)) (told : List (Told n)) : Type 0 where
+    pub module_ : ModuleState n m e
+    pub array : ArrayState n m
+    pub served : HasServed raw seed events h module_ array (table_of (length events) told)
+
+  -- row by row: rows that asked this brought these histories about, and this was told of them. As each row was served, the outcomes were told that
+  -- the histories gave then and hadn't given before, no others, and behind them the line of the row
+  abbrev pub TellsAlong : List (Asked n) → (ℕ → List (TimedEvent n m)) → List (Told n) → Type 0
+  TellsAlong [] h told = (h ≡ (λ bank. [])) × (told ≡ [])
+  TellsAlong (asked ∷ before) h told =
+      (earlier : ℕ → List (TimedEvent n m)) × (said : List (Told n)) × TellsAlong before earlier said
+      × (added : ℕ → List (TimedEvent n m)) × (h ≡ (λ bank. added bank ++ earlier bank))
+      × (outcomes : List (ℕ × Outcome n)) × (told ≡ (said ++ became outcomes) ++ line_of asked)
+      × AreKnown (events_in (asked ∷ before)) h told
+
+-- rows that asked this were served by a module over an array, and told by a printer that knows of so many rows
+pub record IsServing {n m e : ℕ} (raw : RawShape) (seed : ℕ) (asked : List (Asked n)) (module_ : ModuleState n m e) (array : ArrayState n m) (places : ℕ) (told : List (Told n)) : Type 0 where
+  pub history : ℕ → List (TimedEvent n m)
+  pub along : TellsAlong e raw seed asked history told
+  pub served : HasServed raw seed (events_in asked) history module_ array (table_of places told)
+  pub counted : places ≡ length (events_in asked)
+  pub tick : module_.tick ≡ tick_reached asked
+  pub in_time : module_.tick ≤ latest_tick

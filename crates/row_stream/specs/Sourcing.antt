@@ -1,0 +1,65 @@
+-- What the rows that a source gave have to do with its bytes. What was asked stands with the newest first.
+use Rattle.std.specs.Prelude.{◌≡◌, ℕ, ◌≤◌, ◌^◌, ◌-◌, Bool, true, List, ◌++◌, length, reverse, Option, Result, Ok, Err}
+use Rattle.std.specs.Io.KnownBytes.{Consumes, IsAtEnd}
+use Rattle.pcm_io.specs.Faults.{Rose}
+use Rattle.pcm_io.specs.Taking.{Takes}
+use Rattle.trace_stream.specs.Arrived.{Comes}
+use Rattle.trace_stream.specs.Stream.{HasFault, stream_of}
+use Rattle.trace_stream.specs.declared.asked.Asked.{Asked}
+use Rattle.trace_stream.specs.declared.fault.StreamFault.{StreamFault}
+use Rattle.trace_stream.specs.declared.fault.StreamFault.TheVariants as fault
+use Rattle.row_stream.specs.declared.stop.Stop.{Stop}
+use Rattle.row_stream.specs.declared.stop.Stop.TheVariants.{Input, Endless, Output}
+
+module _ {n : ℕ} where
+  -- the first rows of a stream ask this, where it is one
+  abbrev pub BeginsWith : List (Asked n) → Result (List (Asked n)) StreamFault → Type 0
+  BeginsWith asked (Ok all) = (rest : List (Asked n)) × (all ≡ reverse asked ++ rest)
+  BeginsWith asked (Err e) = Unit {0}
+
+  -- the rows of a text that begins with these bytes ask this first, whatever comes behind
+  abbrev pub Fronts : ℕ → List ℕ → Bool → List (Asked n) → Type 0
+  Fronts lines bytes ended asked = (more : List ℕ) → Comes ended more → BeginsWith asked (stream_of n lines (bytes ++ more))
+
+-- of a source before and after, whose bytes are a trace for so many lines
+module _ {n : ℕ} (lines : ℕ) {S : Type 0} (left : S → Option (List ℕ)) (taken faults : S → ℕ) (old new : S) (asked : List (Asked n)) where
+  -- it was read to its end, no call failed, and its bytes are a stream whose rows ask this
+  pub record IsRead : Type 0 where
+    pub bytes : List ℕ
+    pub takes : Takes (left old) (left new) (taken old) (taken new) bytes
+    pub ended : IsAtEnd (left new)
+    pub stream : stream_of n lines bytes ≡ Ok (reverse asked)
+    pub calm : faults new ≡ faults old
+
+  -- it gave bytes whose first rows ask this
+  pub record HasCome : Type 0 where
+    pub bytes : List ℕ
+    pub between : Option (List ℕ)
+    pub came : Consumes (left old) between bytes
+    pub ended : Bool
+    pub front : Fronts lines bytes ended asked
+
+  -- behind those stands this fault, whatever may still come; no call failed
+  pub record IsFaulty (e : StreamFault) : Type 0 where
+    pub bytes : List ℕ
+    pub takes : Takes (left old) (left new) (taken old) (taken new) bytes
+    pub ended : Bool
+    pub at_end : ended ≡ true → IsAtEnd (left new)
+    pub front : Fronts lines bytes ended asked
+    pub fault : HasFault (stream_of n lines) bytes e ended
+    pub calm : faults new ≡ faults old
+
+  -- it gave more bytes than can be counted
+  abbrev pub TookPast : Type 0
+  TookPast = (bytes : List ℕ) × Takes (left old) (left new) (taken old) (taken new) bytes × (2 ^ 64 - 1 ≤ length bytes)
+
+  -- why no more rows were served: the text has a fault or too many rows; or a call failed; or a row didn't end within all bytes that can be
+  -- counted; or memory ran out before the first row; or so many rows and settles came; or the output failed
+  abbrev pub HasStopped : Stop → Type 0
+  HasStopped (Input (fault.Trace f)) = IsFaulty (fault.Trace f)
+  HasStopped (Input fault.TooMany) = IsFaulty fault.TooMany
+  HasStopped (Input fault.Read) = HasCome × Rose (faults old) (faults new)
+  HasStopped (Input fault.Endless) = HasCome × (faults new ≡ faults old) × TookPast
+  HasStopped (Input fault.NoMemory) = HasCome × (faults new ≡ faults old)
+  HasStopped Endless = HasCome × (faults new ≡ faults old) × (length asked ≡ 2 ^ 64 - 1)
+  HasStopped Output = HasCome × (faults new ≡ faults old)

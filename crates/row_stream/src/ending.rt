@@ -1,0 +1,141 @@
+// The end of a stream.
+ghost use Rattle.std.specs.Prelude.{◌≡◌, ℕ, ◌<◌, List, Bool, Option, true, false};
+ghost use Rattle.ecp_line.specs.Layout.{IsLayout};
+ghost use Rattle.module_shape.specs.declared.raw.RawShape.{RawShape};
+ghost use Rattle.row_stream.specs.declared.stop.Behind.TheVariants.{Off};
+ghost use Rattle.trace_stream.specs.declared.asked.Asked.{Asked as StreamAsked};
+ghost use Rattle.row_printer.specs.Printing.{IsPrinting};
+ghost use Rattle.row_stream.specs.Asking.{behind_of, cut_behind, cut_if, off_behind, stays_off, with_cut};
+ghost use Rattle.row_stream.specs.Serving.{IsServing};
+ghost use Rattle.row_stream.specs.Ending.{HasEnded};
+
+use crate::serving::serve_event;
+use crate::stop::Behind;
+use cell_rows::CellArray;
+use pcm_io::Sink;
+use pcm_module::Module;
+use row_printer::RowPrinter;
+use trace_reader::{Event, EventOp};
+
+/// Ends a stream behind its last row: its banks drain, or, where the power is to stay off, it is cut where that is not its last row, and no
+/// bank goes on. What became known by it is told.
+pub fn end<const B: usize, const M: usize, const E: usize, A: CellArray<B, M>, K: Sink + Drop>(
+    pcm: &mut Module<B, M, E>,
+    array: &mut A,
+    off: bool,
+    behind: Behind,
+    out: &mut RowPrinter<B, K>,
+)
+    requires layout { IsLayout B M E }
+    requires few { out.old.rows < 4294967295 }
+    requires serving { (raw : RawShape) × (seed : ℕ) × (asked : List (StreamAsked B))
+        × IsServing raw seed asked pcm.old (A.state array.old) out.old.rows out.old.told × (behind ≡ behind_of asked) }
+    ensures ended { (raw : RawShape) (seed : ℕ) (asked : List (StreamAsked B))
+        → IsServing raw seed asked pcm.old (A.state array.old) out.old.rows out.old.told → behind ≡ behind_of asked
+        → HasEnded raw seed (stays_off off asked) (with_cut off asked) pcm.new (A.state array.new) out.new.rows out.new.told }
+    ensures prints { out.new.prints ≡ out.old.prints }
+    ensures printing { (before : Option (List ℕ)) (first : ℕ) → IsPrinting K.written K.faults before first out.old
+        → IsPrinting K.written K.faults before first out.new }
+    ensures wear { (A.state array.new).wear ≡ (A.state array.old).wear }
+{
+    if off {
+        stay_off(pcm, array, behind, out);
+    } else {
+        drain(pcm, array, out);
+    }
+}
+
+// The power is to stay off.
+fn stay_off<const B: usize, const M: usize, const E: usize, A: CellArray<B, M>, K: Sink + Drop>(
+    pcm: &mut Module<B, M, E>,
+    array: &mut A,
+    behind: Behind,
+    out: &mut RowPrinter<B, K>,
+)
+    requires layout { IsLayout B M E }
+    requires few { out.old.rows < 4294967295 }
+    requires serving { (raw : RawShape) × (seed : ℕ) × (asked : List (StreamAsked B))
+        × IsServing raw seed asked pcm.old (A.state array.old) out.old.rows out.old.told × (behind ≡ behind_of asked) }
+    ensures ended { (raw : RawShape) (seed : ℕ) (asked : List (StreamAsked B))
+        → IsServing raw seed asked pcm.old (A.state array.old) out.old.rows out.old.told → behind ≡ behind_of asked
+        → HasEnded raw seed (off_behind (behind_of asked)) (cut_if (behind_of asked) asked)
+        pcm.new (A.state array.new) out.new.rows out.new.told }
+    ensures prints { out.new.prints ≡ out.old.prints }
+    ensures printing { (before : Option (List ℕ)) (first : ℕ) → IsPrinting K.written K.faults before first out.old
+        → IsPrinting K.written K.faults before first out.new }
+    ensures wear { (A.state array.new).wear ≡ (A.state array.old).wear }
+{
+    match behind {
+        Behind::Nothing => drain(pcm, array, out),
+        Behind::Going => {
+            serve_cut(pcm, array, out);
+            stop(pcm, array, out);
+        }
+        Behind::Off => stop(pcm, array, out),
+    }
+}
+
+// Cuts the power at the tick that was reached.
+fn serve_cut<const B: usize, const M: usize, const E: usize, A: CellArray<B, M>, K: Sink + Drop>(
+    pcm: &mut Module<B, M, E>,
+    array: &mut A,
+    out: &mut RowPrinter<B, K>,
+)
+    requires layout { IsLayout B M E }
+    requires few { out.old.rows < 4294967295 }
+    requires serving { (raw : RawShape) × (seed : ℕ) × (before : List (StreamAsked B))
+        × IsServing raw seed before pcm.old (A.state array.old) out.old.rows out.old.told }
+    ensures serving { (raw : RawShape) (seed : ℕ) (before : List (StreamAsked B))
+        → IsServing raw seed before pcm.old (A.state array.old) out.old.rows out.old.told
+        → IsServing raw seed (cut_behind before) pcm.new (A.state array.new) out.new.rows out.new.told }
+    ensures prints { out.new.prints ≡ out.old.prints }
+    ensures printing { (before : Option (List ℕ)) (first : ℕ) → IsPrinting K.written K.faults before first out.old
+        → IsPrinting K.written K.faults before first out.new }
+    ensures wear { (A.state array.new).wear ≡ (A.state array.old).wear }
+{
+    let event = Event {
+        tick: pcm.tick(),
+        op: EventOp::Cut,
+    };
+    serve_event(pcm, array, &event, out);
+}
+
+// Lets the banks finish what is left to do.
+fn drain<const B: usize, const M: usize, const E: usize, A: CellArray<B, M>, K: Sink + Drop>(
+    pcm: &mut Module<B, M, E>,
+    array: &mut A,
+    out: &mut RowPrinter<B, K>,
+)
+    requires layout { IsLayout B M E }
+    requires serving { (raw : RawShape) × (seed : ℕ) × (asked : List (StreamAsked B))
+        × IsServing raw seed asked pcm.old (A.state array.old) out.old.rows out.old.told }
+    ensures ended { (raw : RawShape) (seed : ℕ) (asked : List (StreamAsked B))
+        → IsServing raw seed asked pcm.old (A.state array.old) out.old.rows out.old.told
+        → HasEnded raw seed false asked pcm.new (A.state array.new) out.new.rows out.new.told }
+    ensures prints { out.new.prints ≡ out.old.prints }
+    ensures printing { (before : Option (List ℕ)) (first : ℕ) → IsPrinting K.written K.faults before first out.old
+        → IsPrinting K.written K.faults before first out.new }
+    ensures wear { (A.state array.new).wear ≡ (A.state array.old).wear }
+{
+    pcm.finish(array, out);
+}
+
+// Leaves all as it is behind a power cut; the array, which is only looked at here, stays as the cut left it.
+fn stop<const B: usize, const M: usize, const E: usize, A: CellArray<B, M>, K: Sink + Drop>(
+    pcm: &mut Module<B, M, E>,
+    array: &A,
+    out: &mut RowPrinter<B, K>,
+)
+    requires layout { IsLayout B M E }
+    requires serving { (raw : RawShape) × (seed : ℕ) × (asked : List (StreamAsked B))
+        × IsServing raw seed asked pcm.old (A.state array.now) out.old.rows out.old.told × (behind_of asked ≡ Off) }
+    ensures ended { (raw : RawShape) (seed : ℕ) (asked : List (StreamAsked B))
+        → IsServing raw seed asked pcm.old (A.state array.now) out.old.rows out.old.told → behind_of asked ≡ Off
+        → HasEnded raw seed true asked pcm.new (A.state array.now) out.new.rows out.new.told }
+    ensures prints { out.new.prints ≡ out.old.prints }
+    ensures printing { (before : Option (List ℕ)) (first : ℕ) → IsPrinting K.written K.faults before first out.old
+        → IsPrinting K.written K.faults before first out.new }
+{
+    let _ = array;
+    pcm.stop(out);
+}

@@ -1,0 +1,96 @@
+// One row of a stream.
+ghost use Rattle.std.specs.Prelude.{◌≡◌, ℕ, ◌<◌, ◌≤◌, List, ◌∷◌, Option};
+ghost use Rattle.ecp_line.specs.Layout.{IsLayout};
+ghost use Rattle.module_shape.specs.declared.raw.RawShape.{RawShape};
+ghost use Rattle.module_shape.specs.Limits.{total_of};
+ghost use Rattle.trace_reader.specs.Events.{IsEventFor};
+ghost use Rattle.trace_reader.specs.Rows.{latest_tick};
+ghost use Rattle.trace_stream.specs.Asked.{IsAskedFor};
+ghost use Rattle.trace_stream.specs.declared.asked.Asked.{Asked as StreamAsked};
+ghost use Rattle.trace_stream.specs.declared.asked.Asked.TheVariants.{Happens, Settle};
+ghost use Rattle.row_printer.specs.Printing.{IsPrinting};
+ghost use Rattle.row_stream.specs.Serving.{IsServing};
+
+use cell_rows::CellArray;
+use pcm_io::Sink;
+use pcm_module::Module;
+use row_printer::RowPrinter;
+use trace_reader::Event;
+use trace_stream::Asked;
+
+/// Serves one row of a stream, and tells what became known by it: of an event what its bank did before it and what the event itself
+/// decides, at a power cut what all banks did, and at a settle too, behind which its tick is told. An event has the next number.
+pub fn serve<const B: usize, const M: usize, const E: usize, A: CellArray<B, M>, K: Sink + Drop>(
+    pcm: &mut Module<B, M, E>,
+    array: &mut A,
+    asked: &Asked<B>,
+    out: &mut RowPrinter<B, K>,
+)
+    requires layout { IsLayout B M E }
+    requires asked { IsAskedFor (total_of pcm.old.shape) pcm.old.tick asked.now }
+    requires few { out.old.rows < 4294967295 }
+    requires serving { (raw : RawShape) × (seed : ℕ) × (before : List (StreamAsked B))
+        × IsServing raw seed before pcm.old (A.state array.old) out.old.rows out.old.told }
+    ensures serving { (raw : RawShape) (seed : ℕ) (before : List (StreamAsked B))
+        → IsServing raw seed before pcm.old (A.state array.old) out.old.rows out.old.told
+        → IsServing raw seed (asked.now ∷ before) pcm.new (A.state array.new) out.new.rows out.new.told }
+    ensures prints { out.new.prints ≡ out.old.prints }
+    ensures printing { (before : Option (List ℕ)) (first : ℕ) → IsPrinting K.written K.faults before first out.old
+        → IsPrinting K.written K.faults before first out.new }
+    ensures wear { (A.state array.new).wear ≡ (A.state array.old).wear }
+{
+    match asked {
+        Asked::Happens(event) => serve_event(pcm, array, event, out),
+        Asked::Settle(tick) => serve_settle(pcm, array, *tick, out),
+    }
+}
+
+/// Hands an event to the module, with the next number.
+pub fn serve_event<
+    const B: usize,
+    const M: usize,
+    const E: usize,
+    A: CellArray<B, M>,
+    K: Sink + Drop,
+>(pcm: &mut Module<B, M, E>, array: &mut A, event: &Event<B>, out: &mut RowPrinter<B, K>)
+    requires layout { IsLayout B M E }
+    requires event { IsEventFor (total_of pcm.old.shape) pcm.old.tick event.now }
+    requires few { out.old.rows < 4294967295 }
+    requires serving { (raw : RawShape) × (seed : ℕ) × (before : List (StreamAsked B))
+        × IsServing raw seed before pcm.old (A.state array.old) out.old.rows out.old.told }
+    ensures serving { (raw : RawShape) (seed : ℕ) (before : List (StreamAsked B))
+        → IsServing raw seed before pcm.old (A.state array.old) out.old.rows out.old.told
+        → IsServing raw seed (Happens event.now ∷ before) pcm.new (A.state array.new) out.new.rows out.new.told }
+    ensures prints { out.new.prints ≡ out.old.prints }
+    ensures printing { (before : Option (List ℕ)) (first : ℕ) → IsPrinting K.written K.faults before first out.old
+        → IsPrinting K.written K.faults before first out.new }
+    ensures wear { (A.state array.new).wear ≡ (A.state array.old).wear }
+{
+    out.add_row();
+    let row = out.rows();
+    pcm.event(array, row, event, out);
+}
+
+// Brings every bank to a tick, and tells that behind what became known by it.
+fn serve_settle<const B: usize, const M: usize, const E: usize, A: CellArray<B, M>, K: Sink + Drop>(
+    pcm: &mut Module<B, M, E>,
+    array: &mut A,
+    tick: u64,
+    out: &mut RowPrinter<B, K>,
+)
+    requires layout { IsLayout B M E }
+    requires rises { pcm.old.tick ≤ tick }
+    requires in_time { tick ≤ latest_tick }
+    requires serving { (raw : RawShape) × (seed : ℕ) × (before : List (StreamAsked B))
+        × IsServing raw seed before pcm.old (A.state array.old) out.old.rows out.old.told }
+    ensures serving { (raw : RawShape) (seed : ℕ) (before : List (StreamAsked B))
+        → IsServing raw seed before pcm.old (A.state array.old) out.old.rows out.old.told
+        → IsServing raw seed (Settle tick ∷ before) pcm.new (A.state array.new) out.new.rows out.new.told }
+    ensures prints { out.new.prints ≡ out.old.prints }
+    ensures printing { (before : Option (List ℕ)) (first : ℕ) → IsPrinting K.written K.faults before first out.old
+        → IsPrinting K.written K.faults before first out.new }
+    ensures wear { (A.state array.new).wear ≡ (A.state array.old).wear }
+{
+    pcm.settle(array, tick, out);
+    out.settled(tick);
+}

@@ -1,0 +1,49 @@
+// Why and where a stream stops.
+ghost use Rattle.std.specs.Prelude.{◌≡◌, List, ◌∷◌};
+ghost use Rattle.trace_stream.specs.declared.asked.Asked.{Asked as StreamAsked};
+ghost use Rattle.row_stream.specs.Asking.{behind_of, behind_op};
+
+use trace_reader::EventOp;
+use trace_stream::{Asked, StreamFault};
+
+/// Why a stream isn't served to its end.
+#[derive(Clone, Copy, Debug, PartialEq)]
+pub enum Stop {
+    /// No further row could be had.
+    Input(StreamFault),
+    /// Rows and settles came that can't be counted: 2 to the power 64 less one of them.
+    Endless,
+    /// The output couldn't be written.
+    Output,
+}
+
+/// How a module stands behind what was asked of it.
+#[derive(Clone, Copy, Debug, PartialEq, Eq)]
+pub enum Behind {
+    /// Nothing was asked.
+    Nothing,
+    /// Its power is on.
+    Going,
+    /// A power cut came last.
+    Off,
+}
+
+/// How a module stands behind a row.
+pub fn behind_asked<const B: usize>(asked: &Asked<B>) -> Behind
+    ensures { (before : List (StreamAsked B)) → result ≡ behind_of (asked.now ∷ before) }
+{
+    match asked {
+        Asked::Happens(event) => behind_event(&event.op),
+        Asked::Settle(_) => Behind::Going,
+    }
+}
+
+/// How a module stands behind an event.
+pub(crate) fn behind_event<const B: usize>(op: &EventOp<B>) -> Behind
+    ensures { result ≡ behind_op op.now }
+{
+    match op {
+        EventOp::Cut => Behind::Off,
+        _ => Behind::Going,
+    }
+}

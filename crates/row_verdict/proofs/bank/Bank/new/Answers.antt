@@ -1,5 +1,0 @@
-use Rattle.std.proofs.Common.{arith}
-use Rattle.row_verdict.proofs.bank.Bank.new.Goals as goal
-
-pub returns : goal.returns
-returns c = grind arith

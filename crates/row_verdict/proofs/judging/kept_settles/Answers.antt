@@ -1,5 +1,0 @@
-use Rattle.row_verdict.proofs.Settles.{settle_kept_law}
-use Rattle.row_verdict.proofs.judging.kept_settles.Goals as goal
-
-pub returns : goal.returns
-returns c = settle_kept_law

@@ -1,5 +1,0 @@
-use Rattle.row_verdict.proofs.Tables.{counts_told_law, line_keys_law, own_law}
-use Rattle.row_verdict.proofs.judging.table_tells_counts.Goals as goal
-
-pub returns : goal.returns
-returns c = record { counts = counts_told_law; lines = line_keys_law; own = own_law }

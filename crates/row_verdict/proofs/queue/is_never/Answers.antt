@@ -1,5 +1,0 @@
-use Rattle.std.proofs.Common.{arith}
-use Rattle.row_verdict.proofs.queue.is_never.Goals as goal
-
-pub returns : goal.returns
-returns c = grind arith

@@ -1,5 +1,0 @@
-use Rattle.std.proofs.Common.{arith}
-use Rattle.row_verdict.proofs.queue.key_at.Goals as goal
-
-pub get-requires : goal.get-requires
-get-requires c κs = grind arith

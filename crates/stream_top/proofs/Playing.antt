@@ -1,0 +1,63 @@
+-- How a stream is served by a module that is new.
+use Rattle.std.proofs.Common.{◌≡◌, ◌⊎◌, inl, inr, ℕ, ◌≤◌, Bool, true, false, List, [], length, refl, arith}
+use Rattle.std.specs.Prelude.{if◌then◌else◌}
+use Rattle.cell_rows.specs.Device.{ArrayState}
+use Rattle.result_rows.specs.declared.Outcome.{Outcome}
+use Rattle.module_shape.specs.declared.raw.RawShape.{RawShape}
+use Rattle.module_shape.specs.Limits.{total_of}
+use Rattle.pcm_module.specs.State.{ModuleState}
+use Rattle.pcm_module.specs.Replaying.{Replays}
+use Rattle.row_stream.specs.Serving.{IsServing}
+use Rattle.row_stream.specs.Sourcing.{HasStopped}
+use Rattle.row_stream.specs.declared.stop.Stop.{Stop}
+use Rattle.row_stream.specs.declared.stop.Stop.TheVariants.{Input, Endless, Output}
+use Rattle.stream_words.specs.declared.job.StreamJob.{StreamJob}
+use Rattle.trace_stream.specs.declared.asked.Asked.{Asked}
+use Rattle.trace_stream.specs.declared.fault.StreamFault.TheVariants as from
+use Rattle.stream_top.specs.Calls.{LentSource}
+use Rattle.stream_top.specs.Streams.{HasCause, stop_fault}
+use Rattle.stream_top.specs.declared.done.Done.TheVariants.{Whole, Short}
+use Rattle.stream_top.specs.declared.fault.Fault.TheVariants.{Write}
+
+-- a module to which nothing was handed yet has served nothing
+pub serves-none : {n m e : ℕ} (raw : RawShape) (seed : ℕ) (module_ : ModuleState n m e) (array : ArrayState n m) → module_.shape ≡ raw → module_.seed ≡ seed → module_.tick ≡ 0
+    → module_.rows_below ≡ 0 → module_.finished ≡ false → ((results : List (Outcome n)) → Replays (λ bank. []) [] module_ array results)
+    → IsServing raw seed [] module_ array 0 []
+serves-none raw seed module_ array shape seeded tick below going begins = record {
+  history = λ bank. [];
+  along = (refl, refl);
+  served = record { shape = shape; seeded = seeded; going = going; bound = omega (arith, below); size = refl; replays = begins [] };
+  counted = refl;
+  tick = tick;
+  in_time = omega (arith, tick);
+}
+
+-- why a stream stops is why the program does
+pub stop-cause : {S : Type 0} (n m e : ℕ) (job : StreamJob) (source : LentSource S) (asked : List (Asked n)) (stop : Stop)
+    → HasStopped (total_of job.shape) source.left source.taken source.faults source.before source.now asked stop → HasCause n m e job source (stop_fault stop) asked
+stop-cause n m e job source asked (Input (from.Trace f)) had = had
+stop-cause n m e job source asked (Input from.TooMany) had = inl had
+stop-cause n m e job source asked (Input from.Read) had = had
+stop-cause n m e job source asked (Input from.Endless) had = inr (inl had)
+stop-cause n m e job source asked (Input from.NoMemory) had = had
+stop-cause n m e job source asked Endless had = inr (inr had)
+stop-cause n m e job source asked Output had = had
+
+-- only the output's stop is a fault of writing
+pub only-output : (stop : Stop) → stop_fault stop ≡ Write → stop ≡ Output
+only-output (Input (from.Trace f)) is = absurd (cc is)
+only-output (Input from.TooMany) is = absurd (cc is)
+only-output (Input from.Read) is = absurd (cc is)
+only-output (Input from.Endless) is = absurd (cc is)
+only-output (Input from.NoMemory) is = absurd (cc is)
+only-output Endless is = absurd (cc is)
+only-output Output is = refl
+
+-- how a stream was done
+pub done-short : (short : Bool) → short ≡ true → Short ≡ (if short then Short else Whole)
+done-short true is = refl
+done-short false is = absurd (cc is)
+
+pub done-whole : (short : Bool) → short ≡ false → Whole ≡ (if short then Short else Whole)
+done-whole true is = absurd (cc is)
+done-whole false is = refl

@@ -1,0 +1,24 @@
+// How a stream was done.
+ghost use Rattle.std.specs.Prelude.{◌≡◌};
+ghost use Rattle.stream_top.specs.Streams.{status_done};
+
+/// How a stream was done.
+#[derive(Clone, Copy, Debug, PartialEq, Eq)]
+pub enum Done {
+    /// Wholly: no row fell short of what it asked for.
+    Whole,
+    /// Some row was refused, lost or left in a queue.
+    Short,
+}
+
+impl Done {
+    /// The status of the program for it.
+    pub fn status(self) -> u8
+        ensures { result ≡ status_done self }
+    {
+        match self {
+            Done::Whole => 0,
+            Done::Short => 1,
+        }
+    }
+}

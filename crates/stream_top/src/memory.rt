@@ -1,0 +1,34 @@
+// The memory of a stream.
+ghost use Rattle.std.specs.Prelude.{◌≡◌, ◌≤◌, ℕ, List, [], IfOk, Some, false};
+ghost use Rattle.pcm_io.specs.Reserved.{reserved};
+ghost use Rattle.ecp_line.specs.Layout.{IsLayout};
+ghost use Rattle.row_stream.specs.Serving.{IsServing};
+ghost use Rattle.stream_words.specs.Jobs.{IsStreamJob};
+
+use cell_rows::CellArray;
+use pcm_io::Text;
+use pcm_module::Module;
+use run_text::TEXT_ROOM;
+use std::alloc::{AllocError, Global};
+use stream_words::StreamJob;
+
+/// Takes the memory of a stream: that of the array, which is powered up, of the module, and of the text that is gathered. What comes after
+/// takes memory for the row at hand alone.
+pub fn take_memory<const B: usize, const M: usize, const E: usize, A: CellArray<B, M>>(
+    alloc: Global,
+    job: &StreamJob,
+    array: &mut A,
+) -> Result<(Module<B, M, E>, Text), AllocError>
+    requires layout { IsLayout B M E }
+    requires wide { 16 ≤ B }
+    requires job { IsStreamJob job.now }
+    ensures ready { IfOk result (λ taken. IsServing job.now.shape job.now.seed [] taken.0 (A.state array.new) 0 []) }
+    ensures wear { IfOk result (λ taken. (A.state array.new).wear ≡ Some job.now.wear) }
+    ensures text { IfOk result (λ taken. taken.1 ≡ reserved TEXT_ROOM) }
+{
+    array.power_up(alloc, job.shape.array_lines(), job.wear)?;
+    Ok((
+        Module::new(alloc, job.shape, job.seed)?,
+        Text::new(alloc, TEXT_ROOM)?,
+    ))
+}

@@ -1,0 +1,264 @@
+// A stream, served to its end or up to a fault.
+ghost use Rattle.std.specs.Prelude.{◌≡◌, ◌≢◌, ◌⊎◌, ◌≤◌, ◌<◌, ℕ, List, [], Option, true, false, Ok, Err, IfOk, IfErr, OnOk, Some};
+ghost use Rattle.std.specs.Io.KnownBytes.{Appends};
+ghost use Rattle.pcm_io.specs.Faults.{Rose};
+ghost use Rattle.pcm_io.specs.Giving.{AppendsPrefix};
+ghost use Rattle.pcm_io.specs.Reserved.{reserved};
+ghost use Rattle.pcm_module.specs.Roles.{spares_used};
+ghost use Rattle.pcm_module.specs.State.{AreEndsOf};
+ghost use Rattle.end_laws.specs.Ends.{BankEnd};
+ghost use Rattle.run_text.specs.Pulses.{pulses_in_all};
+ghost use Rattle.ecp_line.specs.Layout.{IsLayout};
+ghost use Rattle.trace_stream.specs.declared.asked.Asked.{Asked as StreamAsked};
+ghost use Rattle.row_printer.specs.Printing.{IsPrinting, stream_text, table_told};
+ghost use Rattle.row_stream.specs.Asking.{behind_of};
+ghost use Rattle.row_stream.specs.Serving.{IsServing};
+ghost use Rattle.stream_words.specs.Jobs.{IsStreamJob};
+ghost use Rattle.stream_top.specs.Calls.{sink_between, source_between};
+ghost use Rattle.stream_top.specs.Streams.{ComeFrom, Ends, HasPlayed, StopsBy, closing, done_by, is_source, is_off, prints_rows, stop_fault};
+
+use crate::done::Done;
+use crate::fault::Fault;
+use crate::memory::take_memory;
+use cell_rows::CellArray;
+use command_line::Input;
+use pcm_io::{Sink, Source, Text};
+use pcm_module::Module;
+use row_printer::RowPrinter;
+use row_stream::{Behind, Stop, each_row_is_told, end, serve_drawn, serve_source};
+use run_text::{Counts, TEXT_ROOM, print_rest, print_summary, sum_pulses};
+use std::alloc::Global;
+use stream_words::{End, StreamJob, StreamPrint};
+use trace_stream::StreamFault;
+
+// The fault of the program that a stop of a stream is.
+fn fault_of(stop: Stop) -> Fault
+    ensures { result ≡ stop_fault stop }
+{
+    match stop {
+        Stop::Input(StreamFault::Trace(fault)) => Fault::Trace(fault),
+        Stop::Input(StreamFault::TooMany) => Fault::TooLong,
+        Stop::Input(StreamFault::Read) => Fault::Read,
+        Stop::Input(StreamFault::Endless) => Fault::TooLong,
+        Stop::Input(StreamFault::NoMemory) => Fault::NoMemory,
+        Stop::Endless => Fault::TooLong,
+        Stop::Output => Fault::Write,
+    }
+}
+
+// Whether the power is to stay off in the end.
+fn stays_off(end: End) -> bool
+    ensures { result ≡ is_off end }
+{
+    match end {
+        End::Drain => false,
+        End::Off => true,
+    }
+}
+
+// Whether what becomes known is printed as it does.
+fn shows_rows(print: StreamPrint) -> bool
+    ensures { result ≡ prints_rows print }
+{
+    match print {
+        StreamPrint::Rows => true,
+        StreamPrint::Summary => false,
+        StreamPrint::Wear => false,
+        StreamPrint::Image => false,
+    }
+}
+
+// Writes what is asked for in the end of a stream that was served.
+fn close<const B: usize, const M: usize, const E: usize, A: CellArray<B, M>, K: Sink + Drop>(
+    print: StreamPrint,
+    ended: Result<Done, Fault>,
+    pcm: &Module<B, M, E>,
+    array: &A,
+    rows: u32,
+    counts: &Counts,
+    text: Text,
+    out: Box<K>,
+) -> (Result<Done, Fault>, Box<K>)
+    requires { OnOk ended (text ≡ reserved TEXT_ROOM) }
+    ensures ok { IfOk result.0 (λ done. (ended ≡ Ok done) × ((retired : ℕ)
+        × ((ends : ℕ → BankEnd) → AreEndsOf pcm.now ends → retired ≡ spares_used pcm.now.shape ends)
+        × Appends (K.written out.value) (K.written result.1.value) (closing print rows counts.now retired (pulses_in_all (A.state array.now))))) }
+    ensures err { IfErr result.0 (λ fault. ((ended ≡ Err fault) × (result.1.value ≡ out.value))
+        ⊎ ((fault ≡ Fault.Write) × (done : Done) × (ended ≡ Ok done) × (retired : ℕ)
+        × ((ends : ℕ → BankEnd) → AreEndsOf pcm.now ends → retired ≡ spares_used pcm.now.shape ends)
+        × AppendsPrefix (K.written out.value) (K.written result.1.value) (closing print rows counts.now retired (pulses_in_all (A.state array.now)))
+        × Rose (K.faults out.value) (K.faults result.1.value))) }
+{
+    let done = match ended {
+        Ok(done) => done,
+        Err(fault) => return (Err(fault), out),
+    };
+    let retired = pcm.retired();
+    let pulses = sum_pulses(array);
+    let mut text = text;
+    push_closing(print, rows, counts, retired, pulses, &mut text);
+    let mut out = out;
+    match print_rest(&text, &mut *out) {
+        Ok(()) => (Ok(done), out),
+        Err(_) => (Err(Fault::Write), out),
+    }
+}
+
+// The text of what is asked for in the end.
+fn push_closing(
+    print: StreamPrint,
+    rows: u32,
+    counts: &Counts,
+    retired: u32,
+    pulses: u64,
+    text: &mut Text,
+)
+    requires { text.old ≡ reserved TEXT_ROOM }
+    ensures { text.new.bytes ≡ closing print rows counts.now retired pulses }
+{
+    match print {
+        StreamPrint::Summary => print_summary(rows, counts, retired, pulses, text),
+        StreamPrint::Rows => {}
+        StreamPrint::Wear => {}
+        StreamPrint::Image => {}
+    }
+}
+
+// Serves the rows of a job, wherever they come from.
+fn serve_rows<
+    const B: usize,
+    const M: usize,
+    const E: usize,
+    A: CellArray<B, M>,
+    S: Source,
+    K: Sink + Drop,
+>(
+    alloc: Global,
+    job: &StreamJob,
+    pcm: &mut Module<B, M, E>,
+    array: &mut A,
+    source: &mut S,
+    out: &mut RowPrinter<B, K>,
+) -> Result<Behind, Fault>
+    requires layout { IsLayout B M E }
+    requires job { IsStreamJob job.now }
+    requires begins { IsServing job.now.shape job.now.seed [] pcm.old (A.state array.old) out.old.rows out.old.told }
+    ensures served { IfOk result (λ behind. (asked : List (StreamAsked B))
+        × IsServing job.now.shape job.now.seed asked pcm.new (A.state array.new) out.new.rows out.new.told
+        × (behind ≡ behind_of asked)
+        × ComeFrom B M E job.now (source_between S.left S.taken S.faults source.old source.new) job.now.input asked) }
+    ensures few { out.new.rows < 4294967295 }
+    ensures stopped { IfErr result (λ fault. (asked : List (StreamAsked B))
+        × IsServing job.now.shape job.now.seed asked pcm.new (A.state array.new) out.new.rows out.new.told
+        × StopsBy B M E job.now (source_between S.left S.taken S.faults source.old source.new) job.now.input fault asked) }
+    ensures prints { out.new.prints ≡ out.old.prints }
+    ensures printing { (before : Option (List ℕ)) (first : ℕ) → IsPrinting K.written K.faults before first out.old
+        → IsPrinting K.written K.faults before first out.new }
+    ensures written { result ≢ Err Fault.Write → (before : Option (List ℕ)) (first : ℕ) → IsPrinting K.written K.faults before first out.old
+        → Appends before (K.written out.new.sink) (stream_text out.new.prints out.new.told) }
+    ensures part { result ≡ Err Fault.Write → (before : Option (List ℕ)) (first : ℕ) → IsPrinting K.written K.faults before first out.old
+        → AppendsPrefix before (K.written out.new.sink) (stream_text out.new.prints out.new.told) × Rose first (K.faults out.new.sink) }
+    ensures wear { (A.state array.new).wear ≡ (A.state array.old).wear }
+    ensures unread { is_source job.now.input ≡ false → source.new ≡ source.old }
+{
+    match job.input {
+        Input::Source => match serve_source(alloc, pcm, array, source, out) {
+            Ok(behind) => Ok(behind),
+            Err(stop) => Err(fault_of(stop)),
+        },
+        Input::Drawn(mix) => match serve_drawn(pcm, array, job.seed, mix, out) {
+            Ok(behind) => Ok(behind),
+            Err(_) => Err(Fault::Write),
+        },
+    }
+}
+
+// Serves a job on a module that is new, and writes what became known.
+fn play<
+    const B: usize,
+    const M: usize,
+    const E: usize,
+    A: CellArray<B, M>,
+    S: Source,
+    K: Sink + Drop,
+>(
+    alloc: Global,
+    job: &StreamJob,
+    pcm: &mut Module<B, M, E>,
+    array: &mut A,
+    source: &mut S,
+    out: &mut RowPrinter<B, K>,
+) -> Result<Done, Fault>
+    requires layout { IsLayout B M E }
+    requires job { IsStreamJob job.now }
+    requires begins { IsServing job.now.shape job.now.seed [] pcm.old (A.state array.old) out.old.rows out.old.told }
+    ensures done { IfOk result (λ done. (asked : List (StreamAsked B))
+        × HasPlayed B M E job.now (source_between S.left S.taken S.faults source.old source.new) asked pcm.new (A.state array.new)
+        out.new.rows out.new.told × (done ≡ done_by (table_told out.new))) }
+    ensures stopped { IfErr result (λ fault. fault ≢ Fault.Write → (asked : List (StreamAsked B))
+        × IsServing job.now.shape job.now.seed asked pcm.new (A.state array.new) out.new.rows out.new.told
+        × StopsBy B M E job.now (source_between S.left S.taken S.faults source.old source.new) job.now.input fault asked) }
+    ensures broken { result ≡ Err Fault.Write → (asked : List (StreamAsked B))
+        × (HasPlayed B M E job.now (source_between S.left S.taken S.faults source.old source.new) asked pcm.new (A.state array.new)
+        out.new.rows out.new.told
+        ⊎ (IsServing job.now.shape job.now.seed asked pcm.new (A.state array.new) out.new.rows out.new.told
+        × StopsBy B M E job.now (source_between S.left S.taken S.faults source.old source.new) job.now.input Fault.Write asked)) }
+    ensures prints { out.new.prints ≡ out.old.prints }
+    ensures written { result ≢ Err Fault.Write → (before : Option (List ℕ)) (first : ℕ) → IsPrinting K.written K.faults before first out.old
+        → Appends before (K.written out.new.sink) (stream_text out.new.prints out.new.told) }
+    ensures part { result ≡ Err Fault.Write → (before : Option (List ℕ)) (first : ℕ) → IsPrinting K.written K.faults before first out.old
+        → AppendsPrefix before (K.written out.new.sink) (stream_text out.new.prints out.new.told) × Rose first (K.faults out.new.sink) }
+    ensures text { OnOk result (out.new.text ≡ reserved TEXT_ROOM) }
+    ensures falls { (before : Option (List ℕ)) (first : ℕ) → IsPrinting K.written K.faults before first out.old → first ≤ K.faults out.new.sink }
+    ensures wear { (A.state array.new).wear ≡ (A.state array.old).wear }
+    ensures unread { is_source job.now.input ≡ false → source.new ≡ source.old }
+{
+    let behind = match serve_rows(alloc, job, pcm, array, source, out) {
+        Ok(behind) => behind,
+        Err(fault) => return Err(fault),
+    };
+    end(pcm, array, stays_off(job.end), behind, out);
+    let Ok(()) = out.flush() else {
+        return Err(Fault::Write);
+    };
+    if out.short() {
+        Ok(Done::Short)
+    } else {
+        Ok(Done::Whole)
+    }
+}
+
+/// Serves a stream on the array, which is powered up first: what became of each row is written as soon as it is known. The output is given
+/// back.
+pub fn stream<
+    const B: usize,
+    const M: usize,
+    const E: usize,
+    A: CellArray<B, M>,
+    S: Source,
+    K: Sink + Drop,
+>(
+    alloc: Global,
+    job: &StreamJob,
+    array: &mut A,
+    source: &mut S,
+    out: Box<K>,
+) -> (Result<Done, Fault>, Box<K>)
+    requires layout { IsLayout B M E }
+    requires wide { 16 ≤ B }
+    requires job { IsStreamJob job.now }
+    ensures { Ends B M E job.now (source_between S.left S.taken S.faults source.old source.new)
+        (sink_between K.written K.faults out.value result.1.value) (A.state array.new) result.0 }
+{
+    each_row_is_told();
+    let (mut pcm, text) = match take_memory::<B, M, E, A>(alloc, job, array) {
+        Ok(taken) => taken,
+        Err(_) => return (Err(Fault::NoMemory), out),
+    };
+    let mut printer = RowPrinter::<B, K>::new(out, text, shows_rows(job.print));
+    let result = play(alloc, job, &mut pcm, array, source, &mut printer);
+    let counts = printer.counts();
+    let rows = printer.rows();
+    let (out, text) = printer.end();
+    close(job.print, result, &pcm, array, rows, &counts, text, out)
+}

@@ -1,0 +1,16 @@
+use Rattle.std.proofs.Common.{true, ap, ◌∙◌}
+use Rattle.std.specs.Prelude.{codes}
+use Rattle.clap.specs.Simple.{app_of_fields}
+use Rattle.clap.specs.Words.{App, with_rule}
+use Rattle.clap.specs.declared.builder.command.Command.{Command}
+use Rattle.clap.specs.declared.builder.command.Command.TheOpen.{Command-F}
+use Rattle.command_line.specs.Table.{option_rule}
+use Rattle.stream_words.specs.Table.{stream_app}
+use Rattle.stream_words.proofs.table.stream_command.Goals as goal
+
+pub returns : goal.returns
+unfolding stream_app
+returns c =
+    ap app_of_fields (c.no_binary_name.ensures ∙ ap (λ (f : Command-F Command). record f { no_binary_name = true }) c.disable_help_flag.ensures)
+    ∙ ap (λ (a : App). record a { top = record a.top { disable_help_flag = true; no_binary_name = true } })
+    (c.in_ok-command.ensures.app ∙ ap (λ (a : App). with_rule a (option_rule (codes "end"))) c.in_ok-run_command.ensures.app)

@@ -1,0 +1,4 @@
+-- What the contracts of the words of a stream cite.
+pub mod Table
+pub mod Options
+pub mod Jobs

@@ -1,0 +1,45 @@
+// What the words ask for.
+use cell_rows::Wear;
+use command_line::{Input, LineSize};
+use module_shape::Shape;
+
+/// A run of a stream: each outcome is written as soon as it is known.
+#[derive(Clone, Copy, Drop)]
+pub struct StreamJob {
+    /// The size of a line.
+    pub line: LineSize,
+    /// The sizes and the pace of the module.
+    pub shape: Shape,
+    /// Picks the keys that mix the lines.
+    pub seed: u64,
+    /// How the cells wear out; its seed is the same.
+    pub wear: Wear,
+    /// What is written.
+    pub print: StreamPrint,
+    /// Where the rows come from; drawn ones are up to 4,000,000,000, with ticks up to 2^40.
+    pub input: Input,
+    /// What becomes of the module behind the last row.
+    pub end: End,
+}
+
+/// What a stream writes.
+#[derive(Clone, Copy, Debug, Drop, PartialEq, Eq)]
+pub enum StreamPrint {
+    /// A row for each outcome.
+    Rows,
+    /// How many rows had each outcome.
+    Summary,
+    /// A row for each array line.
+    Wear,
+    /// The module as it stands in the end, as bytes.
+    Image,
+}
+
+/// What becomes of the module behind the last row.
+#[derive(Clone, Copy, Debug, Drop, PartialEq, Eq)]
+pub enum End {
+    /// Its banks go on until they have nothing left to do.
+    Drain,
+    /// The power goes, and stays off.
+    Off,
+}

@@ -1,0 +1,11 @@
+//! The words of the program of streams: options alone, as `clap` reads them. They are those of `pcm run`, with other
+//! values of `--print`, longer drawn traces, and `--end`.
+#![tactic(auto)]
+
+mod job;
+mod options;
+mod read;
+mod table;
+
+pub use job::{End, StreamJob, StreamPrint};
+pub use read::read_stream_job;

@@ -1,0 +1,49 @@
+// What the options of a stream mean, where it isn't what those of a run mean.
+ghost use Rattle.std.specs.Prelude.{◌≡◌, IfSome, codes};
+ghost use Rattle.clap.specs.Words.{first_of, found_of, rows_of};
+ghost use Rattle.trace_gen.specs.Generated.{IsLongMix};
+ghost use Rattle.stream_words.specs.Options.{end_of, long_mix_of, print_of};
+
+use crate::job::{End, StreamPrint};
+use clap::ArgMatches;
+use command_line::options::{mix_within, value};
+use trace_gen::Mix;
+use trace_reader::LATEST_TICK;
+
+// What a stream writes.
+pub(crate) fn print(matches: &ArgMatches<'_>) -> Option<StreamPrint>
+    ensures { result ≡ print_of (first_of (codes "print") (rows_of (found_of matches.now))) }
+{
+    match value(matches, "print") {
+        None => Some(StreamPrint::Rows),
+        Some("rows") => Some(StreamPrint::Rows),
+        Some("summary") => Some(StreamPrint::Summary),
+        Some("wear") => Some(StreamPrint::Wear),
+        Some("image") => Some(StreamPrint::Image),
+        Some(_) => None,
+    }
+}
+
+// What becomes of the module behind the last row.
+pub(crate) fn end(matches: &ArgMatches<'_>) -> Option<End>
+    ensures { result ≡ end_of (first_of (codes "end") (rows_of (found_of matches.now))) }
+{
+    match value(matches, "end") {
+        None => Some(End::Drain),
+        Some("drain") => Some(End::Drain),
+        Some("off") => Some(End::Off),
+        Some(_) => None,
+    }
+}
+
+// What the rows are that a stream draws.
+pub(crate) fn long_mix(matches: &ArgMatches<'_>) -> Option<Mix>
+    ensures exact { result ≡ long_mix_of (rows_of (found_of matches.now)) }
+    ensures in_range { IfSome result IsLongMix }
+{
+    let mix = mix_within(matches, 4_000_000_000)?;
+    if LATEST_TICK < u64::from(mix.rows) * u64::from(mix.step) {
+        return None;
+    }
+    Some(mix)
+}

@@ -1,0 +1,9 @@
+use Rattle.std.proofs.Common.{replicate}
+use Rattle.wear_report.specs.declared.Role.TheVariants.{Free}
+use Rattle.wear_report.specs.WearText.{wear_text}
+use Rattle.run_text.specs.Gathering.{Printed}
+use Rattle.text_tests.proofs.printed.print_spares.Given as goal
+
+-- the rows so far are printed
+abbrev pub invariant-loop-line : goal.invariant-loop-line
+invariant-loop-line g l = Printed (g.K.Sink.written l.fn.out) (g.K.Sink.written l.out) l.text (wear_text (replicate l.line (0, 0, Free)))

@@ -1,0 +1,181 @@
+ghost use Rattle.std.specs.Prelude.{◌≡◌, ◌≤◌, replicate, length, IfOk, OnOk, OnErr};
+ghost use Rattle.std.specs.Io.KnownBytes.{Appends};
+ghost use Rattle.pcm_io.specs.Giving.{AppendsPrefix};
+ghost use Rattle.pcm_io.specs.Reserved.{reserved};
+ghost use Rattle.wear_report.specs.WearText.{wear_text};
+ghost use Rattle.run_text.specs.ResultText.{ArePrintable};
+
+use pcm_io::{MemSink, Sink, Text, WriteFault};
+use result_rows::{Outcome, Results};
+use run_text::{
+    ROW_ROOM, TEXT_ROOM, print_counts, print_rest, print_results, print_wear_header, print_wear_row,
+};
+use std::alloc::{AllocError, Global};
+use std::process::Abort;
+use std::test::Fail;
+use trace_reader::{Event, EventOp, MOST_ROWS};
+use wear_report::{Role, header};
+
+// An empty text of so much room, and a sink whose call with this number fails.
+fn desk(alloc: Global, room: usize, fails: u32) -> Result<(Text, MemSink), AllocError>
+    ensures { IfOk result (λ desk. desk.0 ≡ reserved room) }
+{
+    let text = Text::new(alloc, room)?;
+    let fails = Vec::from_slice(alloc, &[fails])?;
+    Ok((text, MemSink::new(alloc, 4096, fails)?))
+}
+
+// Compares what a printer answered, and what it wrote.
+fn assert_written(
+    rt: &impl Abort,
+    done: Result<(), WriteFault>,
+    out: &MemSink,
+    wanted: (Result<(), WriteFault>, &[u8]),
+) {
+    assert_eq!(rt; (done, out.written()), wanted);
+}
+
+fn assert_results<const B: usize>(
+    rt: &impl Abort,
+    alloc: Global,
+    events: &[Event<B>],
+    results: &Results<B>,
+    wanted: &[u8],
+) -> Result<(), AllocError>
+    requires size { B ≤ 128 }
+    requires rows { length events.now ≤ MOST_ROWS }
+    requires printable { ArePrintable events.now results.now }
+{
+    let (mut text, mut out) = desk(alloc, TEXT_ROOM, 9)?;
+    let done = print_results(events, results, &mut text, &mut out);
+    assert_written(rt, done, &out, (Ok(()), wanted));
+    Ok(())
+}
+
+#[test]
+fn no_rows_have_a_header_alone(rt: HostRuntime) -> Result<(), Fail> {
+    let results = Results::<64>::new(rt.alloc(), 0)?;
+    assert_results(
+        &rt,
+        rt.alloc(),
+        &[],
+        &results,
+        b"row,op,line,outcome,tick,place,data\n",
+    )?;
+    Ok(())
+}
+
+#[test]
+fn a_write_that_a_cut_stopped(rt: HostRuntime) -> Result<(), Fail> {
+    let events = [
+        Event {
+            tick: 0,
+            op: EventOp::Mask(3, [7; 8], [true; 8]),
+        },
+        Event {
+            tick: 9,
+            op: EventOp::Cut,
+        },
+        Event {
+            tick: 9,
+            op: EventOp::Read(3),
+        },
+    ];
+    let mut results = Results::<8>::new(rt.alloc(), 3)?;
+    results.set(1, Outcome::Stored { tick: 24, place: 5 });
+    results.set(2, Outcome::Cut { tick: 9 });
+    results.set(
+        3,
+        Outcome::Forwarded {
+            tick: 9,
+            bytes: [7; 8],
+        },
+    );
+    let wanted =
+        b"row,op,line,outcome,tick,place,data\n1,W,3,stored,24,5,\n2,C,,cut,9,,\n3,R,3,forwarded,9,,0707070707070707\n";
+    assert_results(&rt, rt.alloc(), &events, &results, wanted)?;
+    Ok(())
+}
+
+fn assert_counts(
+    rt: &impl Abort,
+    alloc: Global,
+    results: &Results<64>,
+    fails: u32,
+    wanted: (Result<(), WriteFault>, &[u8]),
+) -> Result<(), AllocError> {
+    let (mut text, mut out) = desk(alloc, TEXT_ROOM, fails)?;
+    let done = print_counts(results, 3, 17, &mut text, &mut out);
+    assert_written(rt, done, &out, wanted);
+    Ok(())
+}
+
+#[test]
+fn a_summary_is_written_whole_or_not_at_all(rt: HostRuntime) -> Result<(), Fail> {
+    let mut results = Results::new(rt.alloc(), 2)?;
+    results.set(1, Outcome::Stored { tick: 15, place: 3 });
+    results.set(2, Outcome::Busy { tick: 0 });
+    let whole =
+        b"rows 2\nstored 1\nmerged 0\nqueued 0\nfull 0\nworn 0\nread 0\nforwarded 0\nbusy 1\nlost 0\ncut 0\nretired 3\npulses 17\n";
+    assert_counts(&rt, rt.alloc(), &results, 9, (Ok(()), whole))?;
+    assert_counts(&rt, rt.alloc(), &results, 1, (Err(WriteFault), b""))?;
+    Ok(())
+}
+
+// Prints the report of two array lines into a text that has room for one row.
+fn print_two(text: &mut Text, out: &mut MemSink) -> Result<(), WriteFault>
+    requires { text.old ≡ reserved ROW_ROOM }
+{
+    text.push(header());
+    print_wear_row(0, 0, 7, Role::Line(2), text, out)?;
+    print_wear_row(1, 0, 1, Role::Retired, text, out)?;
+    print_rest(text, out)
+}
+
+fn assert_report(
+    rt: &impl Abort,
+    alloc: Global,
+    fails: u32,
+    wanted: (Result<(), WriteFault>, &[u8]),
+) -> Result<(), AllocError> {
+    let (mut text, mut out) = desk(alloc, ROW_ROOM, fails)?;
+    let done = print_two(&mut text, &mut out);
+    assert_written(rt, done, &out, wanted);
+    Ok(())
+}
+
+#[test]
+fn a_wear_report_goes_out_piece_by_piece(rt: HostRuntime) -> Result<(), Fail> {
+    let whole = b"array,bank,pulses,role\n0,0,7,line 2\n1,0,1,retired\n";
+    assert_report(&rt, rt.alloc(), 9, (Ok(()), whole))?;
+    assert_report(&rt, rt.alloc(), 1, (Err(WriteFault), b""))?;
+    assert_report(
+        &rt,
+        rt.alloc(),
+        2,
+        (Err(WriteFault), b"array,bank,pulses,role\n"),
+    )?;
+    Ok(())
+}
+
+// Prints the report of an array of so many spares that were never pulsed, as a caller does who prints it row by row.
+fn print_spares<K: Sink>(lines: u32, text: &mut Text, out: &mut K) -> Result<(), WriteFault>
+    requires { text.old ≡ reserved TEXT_ROOM }
+    ensures ok { OnOk result (Appends (K.written out.old) (K.written out.new) (wear_text (replicate lines (0, 0, Role.Free)))) }
+    ensures prefix { OnErr result (AppendsPrefix (K.written out.old) (K.written out.new) (wear_text (replicate lines (0, 0, Role.Free)))) }
+{
+    print_wear_header(text);
+    for line in 0..lines {
+        print_wear_row(line, 0, 0, Role::Free, text, out)?;
+    }
+    print_rest(text, out)
+}
+
+#[test]
+fn a_loop_prints_a_whole_report(rt: HostRuntime) -> Result<(), Fail> {
+    let (mut text, mut out) = desk(rt.alloc(), TEXT_ROOM, 9)?;
+    let done = print_spares(2, &mut text, &mut out);
+    let wanted = b"array,bank,pulses,role\n0,0,0,free\n1,0,0,free\n";
+    assert_written(&rt, done, &out, (Ok(()), wanted));
+    Ok(())
+}

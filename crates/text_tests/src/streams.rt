@@ -1,0 +1,156 @@
+use crate::expected::assert_text;
+use pcm_io::{MemSink, MemSource, NeverFailSource, Text};
+use result_rows::Outcome;
+use row_printer::RowPrinter;
+use row_telling::Outcomes;
+use run_text::TEXT_ROOM;
+use std::alloc::Global;
+use std::test::Fail;
+use trace_reader::{Event, EventOp, Kind, TraceFault};
+use trace_stream::{Asked, StreamFault, read_stream};
+
+// What a text asks, read from a source whose call with this number fails. The first call gives one byte, and the others
+// all that are left.
+fn read(alloc: Global, text: &[u8], fails: u32) -> Result<Vec<Asked<64>>, StreamFault> {
+    let bytes = Vec::from_slice(alloc, text)?;
+    let fails = Vec::from_slice(alloc, &[fails])?;
+    read_stream(alloc, &mut MemSource::new(bytes, fails), 4)
+}
+
+#[test]
+fn rows_come_in_order(rt: HostRuntime) -> Result<(), Fail> {
+    let text = b"tick,op,arg,data\n\n3,R,1,\r\n\"3\",S,,\n9,C,,";
+    let asked = match read(rt.alloc(), text, 9) {
+        Ok(asked) => asked,
+        Err(_) => Vec::new(rt.alloc()),
+    };
+    let told = [
+        Asked::Happens(Event {
+            tick: 3,
+            op: EventOp::Read(1),
+        }),
+        Asked::Settle(3),
+        Asked::Happens(Event {
+            tick: 9,
+            op: EventOp::Cut,
+        }),
+    ];
+    assert_eq!(rt; asked.as_slice(), told.as_slice());
+    Ok(())
+}
+
+#[test]
+fn faults_are_told(rt: HostRuntime) -> Result<(), Fail> {
+    let text = b"tick,op,arg,data\n3,R,1,\n";
+    let faults = [
+        read(rt.alloc(), text, 1).err(),
+        read(rt.alloc(), text, 2).err(),
+        read(rt.alloc(), text, 3).err(),
+        read(rt.alloc(), text, 4).err(),
+        read(rt.alloc(), b"tick,op,arg,data\n3,S,,\n2,S,,\n", 9).err(),
+        read(rt.alloc(), b"tick,op,arg,data\n3,S,0,\n", 9).err(),
+        read(rt.alloc(), b"tick,op,arg,data\n3,S,,0\n", 9).err(),
+        read(rt.alloc(), b"tick,op,arg,data\nx,S,0,0\n", 9).err(),
+        read(rt.alloc(), b"tick,op,arg,data\n3,S,\n", 9).err(),
+        read(
+            rt.alloc(),
+            b"tick,op,arg,data\n3,S,,\n3,C,,\n3,S,,\n3,S,0,\n",
+            9,
+        )
+        .err(),
+        read(rt.alloc(), b"tick,op,arg,data\n3,S,,\n3,C,,,,", 3).err(),
+    ];
+    let row = |row, kind| Some(StreamFault::Trace(TraceFault { row, kind }));
+    assert_eq!(rt;
+        faults,
+        [
+            Some(StreamFault::Read),
+            Some(StreamFault::Read),
+            Some(StreamFault::Read),
+            None,
+            row(1, Kind::Order),
+            row(1, Kind::Line),
+            row(1, Kind::Payload),
+            row(1, Kind::Tick),
+            row(1, Kind::Fields),
+            row(2, Kind::Line),
+            row(1, Kind::Fields),
+        ]
+    );
+    Ok(())
+}
+
+// A record of 300,000 commas, and a field of as many digits.
+#[test]
+fn long_records_are_judged_as_they_are(rt: HostRuntime) -> Result<(), Fail> {
+    let mut commas = Vec::from_slice(rt.alloc(), b"tick,op,arg,data\n")?;
+    let mut digits = Vec::from_slice(rt.alloc(), b"tick,op,arg,data\n0,R,")?;
+    for _ in 0..300_000 {
+        commas.push(b',')?;
+        digits.push(b'0')?;
+    }
+    digits.extend_from_slice(b",")?;
+    let first = read_stream::<64, NeverFailSource>(
+        rt.alloc(),
+        &mut NeverFailSource::new(commas),
+        4,
+    );
+    let second = read_stream::<64, NeverFailSource>(
+        rt.alloc(),
+        &mut NeverFailSource::new(digits),
+        4,
+    );
+    assert_eq!(rt;
+        first.err(),
+        Some(StreamFault::Trace(TraceFault {
+            row: 1,
+            kind: Kind::Fields
+        }))
+    );
+    assert_eq!(rt;
+        second.err(),
+        Some(StreamFault::Trace(TraceFault {
+            row: 1,
+            kind: Kind::Line
+        }))
+    );
+    Ok(())
+}
+
+// Two rows and a tick, told to a printer that prints or only counts: what is written, how many rows were stored and how many refused, and
+// whether one fell short.
+fn told(alloc: Global, prints: bool) -> Result<(Box<MemSink>, (u32, u32, bool)), Fail> {
+    let fails = Vec::from_slice(alloc, &[9])?;
+    let sink = Box::new(alloc, MemSink::new(alloc, 4096, fails)?)?;
+    let mut out = RowPrinter::<64, MemSink>::new(sink, Text::new(alloc, TEXT_ROOM)?, prints);
+    out.add_row();
+    out.add_row();
+    out.set(2, Outcome::Busy { tick: 5 });
+    out.set(1, Outcome::Stored { tick: 9, place: 3 });
+    out.settled(12);
+    let _done = out.flush();
+    let counts = out.counts();
+    let short = out.short();
+    let (sink, _text) = out.end();
+    Ok((sink, (counts.stored, counts.busy, short)))
+}
+
+#[test]
+fn a_stream_tells_each_row_once_as_it_comes(rt: HostRuntime) -> Result<(), Fail> {
+    let (sink, counted) = told(rt.alloc(), true)?;
+    assert_text(
+        &rt,
+        sink.written(),
+        b"row,outcome,tick,place,data\n2,busy,5,,\n1,stored,9,3,\n,settled,12,,\n",
+    );
+    assert_eq!(rt; counted, (1, 1, true));
+    Ok(())
+}
+
+#[test]
+fn a_stream_may_only_count(rt: HostRuntime) -> Result<(), Fail> {
+    let (sink, counted) = told(rt.alloc(), false)?;
+    assert_text(&rt, sink.written(), b"");
+    assert_eq!(rt; counted, (1, 1, true));
+    Ok(())
+}

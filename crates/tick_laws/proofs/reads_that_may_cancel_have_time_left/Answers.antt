@@ -1,0 +1,5 @@
+use Rattle.tick_laws.proofs.FewCancels.{few_cancels_now_law}
+use Rattle.tick_laws.proofs.reads_that_may_cancel_have_time_left.Goals as goal
+
+pub returns : goal.returns
+returns c = few_cancels_now_law

@@ -1,0 +1,12 @@
+-- How streamed traces are read.
+pub mod Keeping
+pub mod Gathering
+pub mod Marks
+pub mod Steps
+pub mod KeptRecords
+pub mod Judging
+pub mod Rows
+pub mod Lawful
+pub mod Runs
+pub mod Traces
+pub mod Bare

@@ -1,0 +1,59 @@
+use Rattle.std.proofs.Common.{[], ◌∷◌}
+use Rattle.pcm_io.proofs.ByteLemmas.{Takes-Takes}
+use Rattle.trace_stream.proofs.Marks.{begun-none, begun-one, begun-two, begun-first, begun-second, begun-third, begun-mark}
+use Rattle.trace_stream.proofs.incoming.Incoming.begin.Goals as goal
+
+pub returns-in_default-clause-ok : goal.returns-in_default-clause-ok
+returns-in_default-clause-ok g c =
+    let first = rw c.in_default.is at c.in_ok-first.ensures.takes in
+    ([], first, begun-none c.of.result c.of.ensures)
+
+pub returns-then-first-clause-ok : goal.returns-then-first-clause-ok
+returns-then-first-clause-ok g c =
+    let first = rw c.in-Some.is at c.in_ok-first.ensures.takes in
+    (c.in-Some.first ∷ [], first, λ more comes. begun-first c.of-then-first.result c.in-Some.first c.of-then-first.ensures c.if-first.true more)
+
+pub returns-in_default-2-clause-ok : goal.returns-in_default-2-clause-ok
+returns-in_default-2-clause-ok g c =
+    let first = rw c.in-Some.is at c.in_ok-first.ensures.takes in
+    let second = rw c.in_default-2.is at c.in_ok-second.ensures.takes in
+    (c.in-Some.first ∷ [], Takes-Takes _ _ _ _ _ _ _ _ first second, begun-one c.of-in_default-2.result c.in-Some.first c.of-in_default-2.ensures)
+
+pub returns-then-second-clause-ok : goal.returns-then-second-clause-ok
+returns-then-second-clause-ok g c =
+    let first = rw c.in-Some.is at c.in_ok-first.ensures.takes in
+    let second = rw c.in-Some-2.is at c.in_ok-second.ensures.takes in (
+      c.in-Some.first ∷ c.in-Some-2.second ∷ [],
+      Takes-Takes _ _ _ _ _ _ _ _ first second,
+      λ more comes. begun-second c.of-then-second.result c.in-Some.first c.in-Some-2.second c.of-then-second.ensures c.if-second.true more,
+    )
+
+pub returns-in_default-3-clause-ok : goal.returns-in_default-3-clause-ok
+returns-in_default-3-clause-ok g c =
+    let first = rw c.in-Some.is at c.in_ok-first.ensures.takes in
+    let second = rw c.in-Some-2.is at c.in_ok-second.ensures.takes in
+    let third = rw c.in_default-3.is at c.in_ok-third.ensures.takes in (
+      c.in-Some.first ∷ c.in-Some-2.second ∷ [],
+      Takes-Takes _ _ _ _ _ _ _ _ (Takes-Takes _ _ _ _ _ _ _ _ first second) third,
+      begun-two c.of-in_default-3.result c.in-Some.first c.in-Some-2.second c.of-in_default-3.ensures,
+    )
+
+pub returns-then-third-clause-ok : goal.returns-then-third-clause-ok
+returns-then-third-clause-ok g c =
+    let first = rw c.in-Some.is at c.in_ok-first.ensures.takes in
+    let second = rw c.in-Some-2.is at c.in_ok-second.ensures.takes in
+    let third = rw c.in-Some-3.is at c.in_ok-third.ensures.takes in (
+      c.in-Some.first ∷ c.in-Some-2.second ∷ c.in-Some-3.third ∷ [],
+      Takes-Takes _ _ _ _ _ _ _ _ (Takes-Takes _ _ _ _ _ _ _ _ first second) third,
+      λ more comes. begun-mark c.of-then-third.result c.in-Some.first c.in-Some-2.second c.in-Some-3.third c.of-then-third.ensures c.if-first.false c.if-second.false c.if-third.true more,
+    )
+
+pub returns-else-third-clause-ok : goal.returns-else-third-clause-ok
+returns-else-third-clause-ok g c =
+    let first = rw c.in-Some.is at c.in_ok-first.ensures.takes in
+    let second = rw c.in-Some-2.is at c.in_ok-second.ensures.takes in
+    let third = rw c.in-Some-3.is at c.in_ok-third.ensures.takes in (
+      c.in-Some.first ∷ c.in-Some-2.second ∷ c.in-Some-3.third ∷ [],
+      Takes-Takes _ _ _ _ _ _ _ _ (Takes-Takes _ _ _ _ _ _ _ _ first second) third,
+      λ more comes. begun-third c.of-else-third.result c.in-Some.first c.in-Some-2.second c.in-Some-3.third c.of-else-third.ensures c.if-third.false more,
+    )

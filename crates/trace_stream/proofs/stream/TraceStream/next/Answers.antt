@@ -1,0 +1,60 @@
+use Rattle.std.proofs.Common.{refl, sym, ◌∙◌}
+use Rattle.trace_stream.specs.Machine.{state_of}
+use Rattle.trace_stream.specs.Stream.{Standing}
+use Rattle.trace_stream.proofs.Lawful.{asked-lawful}
+use Rattle.trace_stream.proofs.Rows.{asks-faulty, asks-none, asks-some, asks-too_many, happens-counted}
+use Rattle.trace_stream.proofs.stream.TraceStream.next.Goals as goal
+
+pub returns-then-not-branch-clause-ok : goal.returns-then-not-branch-clause-ok
+returns-then-not-branch-clause-ok g c =
+    let old : Standing = record { arrived = c.self.inside.records.incoming; state = state_of c.self.inside.records.place; rows = c.self.inside.rows; tick = c.self.inside.tick; lines = c.self.inside.lines } in
+    let new : Standing = record { arrived = c.next.new.self.incoming; state = state_of c.next.new.self.place; rows = c.self.inside.rows; tick = c.self.inside.tick; lines = c.self.inside.lines } in
+    let found = rw c.if-not-branch.true at c.in_ok-next.ensures.found in
+    rw (← c.self.view_is) (found.0, found.1, found.2, asks-none g.row.B old new found.0 c.next.new.self.kept.fields found.3)
+
+pub returns-then-is_past-clause-fault : goal.returns-then-is_past-clause-fault
+returns-then-is_past-clause-fault g c = λ text.
+    let old : Standing = record { arrived = c.self.inside.records.incoming; state = state_of c.self.inside.records.place; rows = c.self.inside.rows; tick = c.self.inside.tick; lines = c.self.inside.lines } in
+    let new : Standing = record { arrived = c.next.new.self.incoming; state = state_of c.next.new.self.place; rows = c.self.inside.rows; tick = c.self.inside.tick; lines = c.self.inside.lines } in
+    let found = rw c.if-not-branch.false at c.in_ok-next.ensures.found in
+    let past = sym c.is_past.ensures ∙ c.if-is_past.true in
+    rw (← c.self.view_is) (found.0, found.1, found.2, c.in_ok-next.ensures.end, asks-too_many g.row.B old new found.0 c.next.new.self.kept.fields c.requires found.3 past)
+
+pub returns-in-Ok-clause-ok : goal.returns-in-Ok-clause-ok
+returns-in-Ok-clause-ok g c =
+    let old : Standing = record { arrived = c.self.inside.records.incoming; state = state_of c.self.inside.records.place; rows = c.self.inside.rows; tick = c.self.inside.tick; lines = c.self.inside.lines } in
+    let new : Standing = record { arrived = c.next.new.self.incoming; state = state_of c.next.new.self.place; rows = c.rows_after-self-inside.result; tick = c.tick-self-inside.result; lines = c.self.inside.lines } in
+    let found = rw c.if-not-branch.false at c.in_ok-next.ensures.found in
+    let asks = sym c.in-Ok.ensures in
+    let within = sym c.is_past.ensures ∙ c.if-is_past.false in
+    rw (← c.self.view_is) (found.0, found.1, found.2, asks-some g.row.B old new found.0 c.next.new.self.kept.fields c.in-Ok.asked c.requires found.3 asks within c.rows_after-self-inside.ensures c.tick-self-inside.ensures refl)
+
+pub returns-in-Ok-clause-lawful : goal.returns-in-Ok-clause-lawful
+returns-in-Ok-clause-lawful g c =
+    let asks = sym c.in-Ok.ensures in
+    rw (← c.self.view_is) (asked-lawful g.row.B c.self.inside.lines c.self.inside.tick c.next.new.self.kept.fields c.in-Ok.asked c.self.invariant.0 asks)
+
+pub returns-in-Err-clause-fault : goal.returns-in-Err-clause-fault
+returns-in-Err-clause-fault g c = λ text.
+    let old : Standing = record { arrived = c.self.inside.records.incoming; state = state_of c.self.inside.records.place; rows = c.self.inside.rows; tick = c.self.inside.tick; lines = c.self.inside.lines } in
+    let new : Standing = record { arrived = c.next.new.self.incoming; state = state_of c.next.new.self.place; rows = c.self.inside.rows; tick = c.self.inside.tick; lines = c.self.inside.lines } in
+    let found = rw c.if-not-branch.false at c.in_ok-next.ensures.found in
+    let asks = sym c.in-Err.ensures in
+    let within = sym c.is_past.ensures ∙ c.if-is_past.false in
+    rw (← c.self.view_is) (found.0, found.1, found.2, c.in_ok-next.ensures.end, asks-faulty g.row.B old new found.0 c.next.new.self.kept.fields c.in-Err.kind c.requires found.3 asks within)
+
+pub invariant_of-self-in-Ok : goal.invariant_of-self-in-Ok
+invariant_of-self-in-Ok g c =
+    let asks = sym c.in-Ok.ensures in
+    let within = sym c.is_past.ensures ∙ c.if-is_past.false in
+    (c.self.invariant.0, rw c.rows_after-self-inside.ensures (happens-counted g.row.B c.self.inside.lines c.self.inside.tick c.next.new.self.kept.fields c.in-Ok.asked c.self.inside.rows asks c.self.invariant.1 within))
+
+pub returns-in-Ok-clause-row : goal.returns-in-Ok-clause-row
+returns-in-Ok-clause-row g c =
+    let asks = sym c.in-Ok.ensures in
+    let within = sym c.is_past.ensures ∙ c.if-is_past.false in
+    rw (← c.self.view_is) (
+      c.rows_after-self-inside.ensures,
+      rw c.rows_after-self-inside.ensures (happens-counted g.row.B c.self.inside.lines c.self.inside.tick c.next.new.self.kept.fields c.in-Ok.asked c.self.inside.rows asks c.self.invariant.1 within),
+      c.tick-self-inside.ensures,
+    )

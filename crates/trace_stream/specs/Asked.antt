@@ -1,0 +1,54 @@
+-- What a row of a streamed trace asks for, or its first fault.
+use Rattle.std.specs.Prelude.{ℕ, ◌+◌, ◌==◌, ◌&&◌, ◌≤◌, nat_lt, not, Bool, if◌then◌else◌, List, length, codes, Result, Ok, Err}
+use Rattle.std.specs.Str.{bytes_eq}
+use Rattle.trace_reader.specs.Rows.{event_of, latest_tick, or_fault, text_at, tick_of}
+use Rattle.trace_reader.specs.Events.{IsEventFor}
+use Rattle.trace_reader.specs.declared.event.Event.{Event}
+use Rattle.trace_reader.specs.declared.fault.Kind.{Kind}
+use Rattle.trace_reader.specs.declared.fault.Kind.TheVariants as kind
+use Rattle.trace_stream.specs.declared.asked.Asked.{Asked}
+use Rattle.trace_stream.specs.declared.asked.Asked.TheVariants.{Happens, Settle}
+
+-- whether a record's operation is to settle
+abbrev pub is_settle : List (List ℕ) → Bool
+is_settle fields = (length fields == 4) && bytes_eq (text_at fields 1) (codes "S")
+
+-- the tick of a row that settles: it has neither line nor payload. The tests come in the order of those of a cut
+unfoldable pub settle_of : ℕ → List (List ℕ) → Result ℕ Kind
+settle_of before fields =
+    or_fault (tick_of (text_at fields 0)) kind.Tick (λ tick.
+    if nat_lt tick before then Err kind.Order
+    else if not (length (text_at fields 2) == 0) then Err kind.Line
+    else if not (length (text_at fields 3) == 0) then Err kind.Payload
+    else Ok tick)
+
+module _ {n : ℕ} where
+  -- the tick of a row
+  abbrev pub tick_asked : Asked n → ℕ
+  tick_asked (Happens event) = event.tick
+  tick_asked (Settle tick) = tick
+
+  -- how many rows have a number, with this one: a row that settles has none
+  abbrev pub rows_after : ℕ → Asked n → ℕ
+  rows_after rows (Happens event) = rows + 1
+  rows_after rows (Settle tick) = rows
+
+  -- an event, or the tick of a row that settles, as what a row asks for
+  abbrev pub asked_event : Result (Event n) Kind → Result (Asked n) Kind
+  asked_event (Ok event) = Ok (Happens event)
+  asked_event (Err fault) = Err fault
+
+  abbrev pub asked_settle : Result ℕ Kind → Result (Asked n) Kind
+  asked_settle (Ok tick) = Ok (Settle tick)
+  asked_settle (Err fault) = Err fault
+
+  -- what is asked of so many lines, at a tick that is none of the earlier ones
+  abbrev pub IsAskedFor : ℕ → ℕ → Asked n → Type 0
+  IsAskedFor lines before (Happens event) = IsEventFor lines before event
+  IsAskedFor lines before (Settle tick) = (before ≤ tick) × (tick ≤ latest_tick)
+
+-- what a record says as a row, where the row before has the tick `before`: an event, by the definition of a whole trace,
+-- or that every bank comes to a tick
+unfoldable pub asked_of : (n lines before : ℕ) → List (List ℕ) → Result (Asked n) Kind
+asked_of n lines before fields =
+    if is_settle fields then asked_settle (settle_of before fields) else asked_event (event_of n lines before fields)

@@ -1,0 +1,8 @@
+-- What the contracts of streamed traces cite.
+pub mod Arrived
+pub mod Machine
+pub mod Room
+pub mod Kept
+pub mod Asked
+pub mod Stream
+pub mod Laws

@@ -1,0 +1,119 @@
+//! What the rows of a streamed trace ask for.
+ghost use Rattle.std.specs.Prelude.{◌≡◌, ◌<◌, ◌≤◌};
+ghost use Rattle.trace_reader.specs.Rows.{event_of};
+ghost use Rattle.trace_reader.specs.Trace.{is_header};
+ghost use Rattle.trace_stream.specs.Asked.{asked_of, is_settle, rows_after, settle_of, tick_asked};
+
+use crate::kept::Gathered;
+use trace_reader::{Event, Kind, LATEST_TICK, Values, number, read_fields};
+
+/// What one row of a streamed trace asks for.
+#[derive(Clone, Copy, Debug, PartialEq)]
+pub enum Asked<const B: usize> {
+    /// This happens. The row has a number.
+    Happens(Event<B>),
+    /// Every bank comes to this tick. The row has no number.
+    Settle(u64),
+}
+
+impl<const B: usize> Asked<B> {
+    /// The tick of the row.
+    pub fn tick(&self) -> u64
+        ensures { result ≡ tick_asked self.now }
+    {
+        match self {
+            Asked::Happens(event) => event.tick,
+            Asked::Settle(tick) => *tick,
+        }
+    }
+
+    /// How many rows have a number, with this one, where so many had one before.
+    pub fn rows_after(&self, rows: u32) -> u32
+        requires { rows < 4294967295 }
+        ensures { result ≡ rows_after rows self.now }
+    {
+        match self {
+            Asked::Happens(_) => rows + 1,
+            Asked::Settle(_) => rows,
+        }
+    }
+}
+
+/// Whether what is kept of a record is the header of a trace.
+#[tactic(auto, unfolding(trace_reader::specs::Trace::is_header))]
+pub fn is_header_row(row: &Gathered) -> bool
+    ensures { result ≡ is_header row.now.fields }
+{
+    row.count() == 4
+        && row.field(0) == b"tick".as_slice()
+        && row.field(1) == b"op".as_slice()
+        && row.field(2) == b"arg".as_slice()
+        && row.field(3) == b"data".as_slice()
+}
+
+/// Whether it is a row that settles, right or wrong.
+pub fn is_settle_row(row: &Gathered) -> bool
+    ensures { result ≡ is_settle row.now.fields }
+{
+    row.count() == 4 && row.field(1) == b"S".as_slice()
+}
+
+// The tick of a row that settles.
+#[tactic(auto, unfolding(crate::specs::Asked::settle_of))]
+fn read_settle(row: &Gathered, before: u64) -> Result<u64, Kind>
+    ensures { result ≡ settle_of before row.now.fields }
+{
+    let tick = number(row.field(0), 13, LATEST_TICK).ok_or(Kind::Tick)?;
+    if tick < before {
+        Err(Kind::Order)
+    } else if !row.field(2).is_empty() {
+        Err(Kind::Line)
+    } else if !row.field(3).is_empty() {
+        Err(Kind::Payload)
+    } else {
+        Ok(tick)
+    }
+}
+
+// What happens by a row that doesn't settle.
+#[tactic(auto, unfolding(trace_reader::specs::Rows::event_of))]
+fn read_event<const B: usize>(
+    row: &Gathered,
+    lines: u32,
+    before: u64,
+    values: &Values,
+) -> Result<Event<B>, Kind>
+    requires { 1 ≤ lines }
+    ensures { result ≡ event_of B lines before row.now.fields }
+{
+    if row.count() != 4 {
+        return Err(Kind::Fields);
+    }
+    read_fields(
+        row.field(0),
+        row.field(1),
+        row.field(2),
+        row.field(3),
+        lines,
+        before,
+        values,
+    )
+}
+
+/// What a record asks for as a row, by what is kept of it, where the row before has the tick `before`.
+#[tactic(auto, unfolding(crate::specs::Asked::asked_of))]
+pub fn read_asked<const B: usize>(
+    row: &Gathered,
+    lines: u32,
+    before: u64,
+    values: &Values,
+) -> Result<Asked<B>, Kind>
+    requires { 1 ≤ lines }
+    ensures { result ≡ asked_of B lines before row.now.fields }
+{
+    if is_settle_row(row) {
+        Ok(Asked::Settle(read_settle(row, before)?))
+    } else {
+        Ok(Asked::Happens(read_event(row, lines, before, values)?))
+    }
+}

@@ -1,0 +1,143 @@
+//! `csv`'s machine with its default settings: what a byte does, by where it stands in a record.
+ghost use Rattle.std.specs.Prelude.{◌≡◌, ◌≤◌, length, take, true};
+ghost use Rattle.std.specs.List.{list_all};
+ghost use Rattle.csv.specs.Machine as Spec;
+ghost use Rattle.csv.specs.Reading.{default_config};
+ghost use Rattle.trace_stream.specs.Machine.{is_plain, moved, state_of, takes_plain};
+
+/// Where in a record a byte stands.
+#[derive(Clone, Copy, PartialEq, Eq)]
+pub enum Place {
+    StartRecord,
+    StartField,
+    InField,
+    InQuoted,
+    AfterQuote,
+    AfterCr,
+}
+
+/// What a byte does.
+#[derive(Clone, Copy, PartialEq, Eq)]
+pub enum Move {
+    Skip,
+    Keep,
+    EndField,
+    EndRecord,
+}
+
+fn in_field(byte: u8) -> (Place, Move)
+    ensures { moved result ≡ Spec.in_field default_config byte }
+{
+    if byte == b',' {
+        (Place::StartField, Move::EndField)
+    } else if byte == b'\r' {
+        (Place::AfterCr, Move::EndRecord)
+    } else if byte == b'\n' {
+        (Place::StartRecord, Move::EndRecord)
+    } else {
+        (Place::InField, Move::Keep)
+    }
+}
+
+fn start_field(byte: u8) -> (Place, Move)
+    ensures { moved result ≡ Spec.start_field default_config byte }
+{
+    if byte == b'"' {
+        (Place::InQuoted, Move::Skip)
+    } else {
+        in_field(byte)
+    }
+}
+
+fn start_record(byte: u8) -> (Place, Move)
+    ensures { moved result ≡ Spec.start_record default_config byte }
+{
+    if byte == b'\r' || byte == b'\n' {
+        (Place::StartRecord, Move::Skip)
+    } else {
+        start_field(byte)
+    }
+}
+
+fn in_quoted(byte: u8) -> (Place, Move)
+    ensures { moved result ≡ Spec.step default_config (state_of Place.InQuoted) byte }
+{
+    if byte == b'"' {
+        (Place::AfterQuote, Move::Skip)
+    } else {
+        (Place::InQuoted, Move::Keep)
+    }
+}
+
+fn after_quote(byte: u8) -> (Place, Move)
+    ensures { moved result ≡ Spec.step default_config (state_of Place.AfterQuote) byte }
+{
+    if byte == b'"' {
+        (Place::InQuoted, Move::Keep)
+    } else {
+        in_field(byte)
+    }
+}
+
+fn after_cr(byte: u8) -> (Place, Move)
+    ensures { moved result ≡ Spec.step default_config (state_of Place.AfterCr) byte }
+{
+    if byte == b'\n' {
+        (Place::StartRecord, Move::Skip)
+    } else {
+        start_record(byte)
+    }
+}
+
+/// Where the next byte stands, and what this one does.
+pub fn step(place: Place, byte: u8) -> (Place, Move)
+    ensures { moved result ≡ Spec.step default_config (state_of place) byte }
+{
+    match place {
+        Place::StartRecord => start_record(byte),
+        Place::StartField => start_field(byte),
+        Place::InField => in_field(byte),
+        Place::InQuoted => in_quoted(byte),
+        Place::AfterQuote => after_quote(byte),
+        Place::AfterCr => after_cr(byte),
+    }
+}
+
+/// Whether plain bytes only join the field at hand.
+pub fn takes_plain(place: Place) -> bool
+    ensures { result ≡ takes_plain (state_of place) }
+{
+    match place {
+        Place::StartRecord | Place::StartField | Place::InField | Place::AfterCr => true,
+        Place::InQuoted | Place::AfterQuote => false,
+    }
+}
+
+/// Whether the end of the text ends a record.
+pub fn ends_at_end(place: Place) -> bool
+    ensures { result ≡ Spec.ends_at_end (state_of place) }
+{
+    match place {
+        Place::StartRecord | Place::AfterCr => false,
+        Place::StartField | Place::InField | Place::InQuoted | Place::AfterQuote => true,
+    }
+}
+
+fn is_plain(byte: u8) -> bool
+    ensures { result ≡ is_plain byte }
+{
+    byte != b'"' && byte != b',' && byte != b'\r' && byte != b'\n'
+}
+
+/// How many plain bytes come first.
+pub fn plain_run(bytes: &[u8]) -> usize
+    ensures within { result ≤ length bytes.now }
+    ensures plain { list_all is_plain (take result bytes.now) ≡ true }
+{
+    for (i, byte) in bytes.iter().enumerate() {
+        if !is_plain(*byte) {
+            return i;
+        }
+    }
+    bytes.len()
+}

@@ -1,5 +1,0 @@
-use Rattle.verdict_laws.proofs.Judged.{rules_kept_law}
-use Rattle.verdict_laws.proofs.right_runs_keep_the_rules.Goals as goal
-
-pub returns : goal.returns
-returns c = rules_kept_law c.lines_have_their_banks.ensures
