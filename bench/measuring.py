@@ -1,0 +1,75 @@
+"""What the benches share: their words, one run's processor time and memory, the least of several, and tables."""
+import argparse
+import os
+import pathlib
+import subprocess
+import sys
+
+TOP = pathlib.Path(__file__).resolve().parent.parent
+# The module and the trace in which each write takes some four pulses: cells miss, wear out and get spares.
+FOUR_PULSES = "--banks 4 --regions 2 --lines 64 --spares 256 --lo 200 --hi 2000 --misses 3 --seed 7"
+FOUR_PULSES_TRACE = "--write-percent 50 --cuts 32 --step 40 --hot 16 --seed 7"
+LARGEST = "--banks 16 --regions 16 --lines 256 --spares 1024"
+
+
+def parser(description, times=None, rows=None):
+    """The words of a bench: the program, and what it measures by."""
+    words = argparse.ArgumentParser(description=description, formatter_class=argparse.RawDescriptionHelpFormatter)
+    built = TOP / "crates" / "pcm_cli" / "out" / "pcm_cli"
+    words.add_argument("program", nargs="?", default=str(built), help="crates/pcm_cli/out/pcm_cli, unless it is given")
+    words.add_argument("--peer", help="another program with the same command line, run in turn with it: its figures, and their ratio")
+    if times:
+        words.add_argument("--times", type=int, default=times, help=f"runs of each, {times} unless it is given")
+    if rows:
+        words.add_argument("--rows", type=int, default=rows, help=f"rows of each trace, {rows} unless it is given")
+    return words
+
+
+def programs_of(words):
+    """The program and its peer; the bench ends where one isn't there."""
+    programs = [it for it in (words.program, words.peer) if it]
+    for it in programs:
+        if not os.access(it, os.X_OK):
+            sys.exit(f"{pathlib.Path(sys.argv[0]).name}: no program at {it}")
+    return programs
+
+
+def once(program, words, source=os.devnull, statuses=(0, 1)):
+    """One run: its processor time in seconds, user and system, its peak memory in MB, and what it printed, the errors too."""
+    with open(source, "rb") as stdin:
+        how = {"stdin": stdin, "stdout": subprocess.PIPE, "stderr": subprocess.STDOUT}
+        child = subprocess.Popen([program, *words.split()], **how)
+        said = []
+        # (what is printed is read and dropped, but for its beginning)
+        while piece := child.stdout.read(1 << 20):
+            said.append(piece if sum(map(len, said)) < 1000 else b"")
+        _, status, used = os.wait4(child.pid, 0)
+        child.returncode = os.waitstatus_to_exitcode(status)
+    text = b"".join(said)[:1000].decode(errors="replace").strip()
+    if child.returncode not in statuses:
+        sys.exit(f"{program} {words}: status {child.returncode}: {text}")
+    return used.ru_utime + used.ru_stime, used.ru_maxrss / 1024, text
+
+
+def least(programs, times, words, source=os.devnull):
+    """The least time and memory of each program, which take turns, and what each printed."""
+    best, said = [(float("inf"), float("inf"))] * len(programs), [set() for _ in programs]
+    for _ in range(times):
+        for place, program in enumerate(programs):
+            seconds, memory, text = once(program, words, source)
+            best[place] = min(best[place][0], seconds), min(best[place][1], memory)
+            said[place].add(text)
+    return best, said
+
+
+def print_head(*names):
+    print_row(*names)
+    print("|" + "---|" * len(names))
+
+
+def print_row(*cells):
+    print("| " + " | ".join(map(str, cells)) + " |", flush=True)
+
+
+def ratio(one, other):
+    return f"{one / other:.2f}" if other else ""

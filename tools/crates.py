@@ -1,0 +1,84 @@
+"""The crates of crates.txt: the shelf of each, what it stands on, and what its first lines say of it.
+
+A shelf begins with a comment '# NUMBER. NAME'; behind it each line names a crate and the libraries that it stands on, its own
+repository's and the kit's."""
+import functools
+import itertools
+import pathlib
+import re
+import sys
+import typing
+
+TOP = pathlib.Path(__file__).resolve().parent.parent
+# What a crate's text is in.
+PARTS = ("src", "specs", "proofs")
+
+
+class Crate(typing.NamedTuple):
+    """A line of crates.txt."""
+
+    name: str
+    shelf: str
+    libraries: tuple[str, ...]
+
+    @property
+    def folder(self):
+        return TOP / "crates" / self.name
+
+    @property
+    def root(self):
+        """The file that a check of the crate begins with, in its folder."""
+        return "src/main.rt" if (self.folder / "src" / "main.rt").exists() else "src/lib.rt"
+
+    def files(self, *parts):
+        """The files of its text, or of these parts of it, in order."""
+        return sorted(file for part in parts or PARTS for file in (self.folder / part).rglob("*") if file.is_file())
+
+    def about(self):
+        """The first sentence of its root file."""
+        lines = (self.folder / self.root).read_text(encoding="utf-8").splitlines()
+        head = itertools.takewhile(lambda line: re.match(r"//! ?\S", line), lines)
+        words = " ".join(line.removeprefix("//!").strip() for line in head)
+        return re.split(r"(?<=\.)\s+(?=[A-Z`])", words)[0].removesuffix(".")
+
+    def in_short(self):
+        """What stands there before a colon, where that says enough: some words, and not those of another crate."""
+        head = self.about().partition(":")[0]
+        alone = sum(it.about().partition(":")[0] == head for it in listed().values()) == 1
+        return head if alone and head.count(" ") >= 3 else self.about()
+
+
+@functools.cache
+def listed():
+    """All crates by their names, in the order of crates.txt."""
+    crates, shelf = {}, ""
+    for line in (TOP / "crates.txt").read_text(encoding="utf-8").splitlines():
+        if heading := re.match(r"# (\d+\. .*)", line):
+            shelf = heading[1]
+        name, colon, libraries = line.partition("#")[0].partition(":")
+        if colon:
+            crates[name.strip()] = Crate(name.strip(), shelf, tuple(libraries.split()))
+    return crates
+
+
+def named(name):
+    """The crate of this name; the script ends where there is none."""
+    return listed().get(name) or sys.exit(f"crates.txt has no crate {name}")
+
+
+@functools.cache
+def below(name):
+    """The crates of this repository that a crate is said to stand on."""
+    return tuple(it for it in named(name).libraries if it in listed())
+
+
+@functools.cache
+def needed(name):
+    """A crate and all crates that it stands on, through others too."""
+    return frozenset({name}.union(*map(needed, below(name))))
+
+
+def directly_below(name):
+    """The crates that a crate stands on and reaches through no other of them."""
+    through = frozenset().union(*(needed(it) - {it} for it in below(name)))
+    return tuple(it for it in below(name) if it not in through)
