@@ -8,8 +8,11 @@ bytes where the format has them. All else is done here, so every importer has th
 * A write of all bytes of a line is a row `W`, a write of some of them a row `M`, with `..` for the others.
 * The tick of a row is `CYCLE div CYCLES_PER_TICK`. Cycles never fall, and a tick is at most 2^40.
 * A line ends with LF or CRLF; the last end may be missing. A line that isn't of the form ends the reading with `line N: WHY` on
-  standard error and status 1. Nothing is written before all of the input is read. An input without accesses gives the header alone.
-* `pcm` takes at most 400,000 rows. More are refused, or cut into pieces with --pieces; ticks go on from piece to piece.
+  standard error and status 1. But for --stream nothing is written before all of the input is read. An input without accesses gives
+  the header alone.
+* `pcm run` takes at most 400,000 rows. More are refused, or cut into pieces with --pieces; ticks go on from piece to piece.
+* With --stream rows are written as they are made, any number of them, for `./pcm stream`: so an importer stands in a pipe behind a
+  program that is still running. What was written before a line that is refused stays written then.
 """
 
 import argparse
@@ -175,18 +178,38 @@ def lines_of(source) -> Iterable[str]:
         yield line.decode("latin-1")
 
 
-def gather(importer: Importer, options: argparse.Namespace, source, pieces: Pieces) -> None:
-    """Reads all of the input into pieces, or refuses it by the number of a line."""
+def gather(importer: Importer, options: argparse.Namespace, source, add: Callable[[bytes], object]) -> None:
+    """Hands on each row of the input, or refuses it by the number of a line."""
     read = importer.reader(options)
     rows = Rows(options)
     for number, text in enumerate(lines_of(source), 1):
         try:
             for access in read(text):
                 for row in rows.of(access):
-                    pieces.add(row)
+                    add(row)
         except Refusal as why:
             raise Refusal(f"line {number}: {why}") from None
-    pieces.close()
+
+
+def stream(importer: Importer, options: argparse.Namespace, source, out) -> None:
+    """Writes rows as they are made; what was made before a refusal is written too."""
+    out.write(HEADER)
+    try:
+        gather(importer, options, source, out.write)
+    finally:
+        out.flush()
+
+
+def write_whole(importer: Importer, options: argparse.Namespace, source, out) -> None:
+    """Writes one trace or numbered pieces, once all of the input is read."""
+    beside = None if options.pieces is None else os.path.dirname(options.pieces) or "."
+    with tempfile.TemporaryDirectory(prefix="pcm-import-", dir=beside) as folder:
+        pieces = Pieces(folder, options)
+        try:
+            gather(importer, options, source, pieces.add)
+        finally:
+            pieces.close()
+        hand_out(pieces, options, out)
 
 
 def hand_out(pieces: Pieces, options: argparse.Namespace, out) -> None:
@@ -222,7 +245,9 @@ def parser_of(importer: Importer) -> argparse.ArgumentParser:
     parser.add_argument("--data", choices=rules, default=rules[-1], help="the bytes of writes: all 0; in each eight bytes their own "
                         "address, lowest byte first; words of SplitMix64, new ones for each row; or those of the trace (%(default)s)")
     parser.add_argument("--seed", type=ranged(0, 2**64 - 1), default=0, help="seed of the words (0)")
-    parser.add_argument("--pieces", metavar="NAME", help="write NAME-001.csv, NAME-002.csv and so on in the place of standard output")
+    many = parser.add_mutually_exclusive_group()
+    many.add_argument("--pieces", metavar="NAME", help="write NAME-001.csv, NAME-002.csv and so on in the place of standard output")
+    many.add_argument("--stream", action="store_true", help="write rows as they are made, any number, for `./pcm stream`")
     parser.add_argument("--most-rows", type=ranged(1, MOST_ROWS), default=MOST_ROWS, metavar="N", help="rows of a trace or piece (400000)")
     importer.add_options(parser)
     return parser
@@ -231,15 +256,9 @@ def parser_of(importer: Importer) -> argparse.ArgumentParser:
 def main(importer: Importer, words, source, out, told) -> int:
     """Runs an importer; its status is 0, or 1 where the input is refused."""
     options = parser_of(importer).parse_args(words)
-    beside = None if options.pieces is None else os.path.dirname(options.pieces) or "."
+    write = stream if options.stream else write_whole
     try:
-        with tempfile.TemporaryDirectory(prefix="pcm-import-", dir=beside) as folder:
-            pieces = Pieces(folder, options)
-            try:
-                gather(importer, options, source, pieces)
-            finally:
-                pieces.close()
-            hand_out(pieces, options, out)
+        write(importer, options, source, out)
     except (Refusal, OSError) as why:
         print(why, file=told)
         return 1

@@ -23,10 +23,10 @@ DIGITS = "".join(f"{number:02x}" for number in range(64))
 ADDRESSES = "".join((192 + at).to_bytes(8, "little").hex() for at in range(0, 64, 8))
 SECOND_WORD = "f465b9a16a9e786e"  # of SplitMix64 of seed 0, lowest byte first
 FORMS = {
-    gem5: "[id,]command,address,size,flags,tick[,pc]",
+    gem5: "[id,]command,address,size[,flags],tick[,pc]",
     nvmain: "cycle operation address data thread",
     dramsim3: "address command cycle",
-    ramulator: "address R|W, or LD|ST address",
+    ramulator: "address R|W, count address [address], or LD|ST address",
     lackey: "I  address,size or, behind one blank, L|S|M address,size",
 }
 GOOD = {
@@ -120,6 +120,10 @@ def answers_of_formats():
     yield same("gem5, u", run(gem5, "9,u,192,64,0,70,4194304\n"), other)
     yield same("gem5, u dropped", run(gem5, "9,u,192,64,0,70\n", "--others", "drop"), (0, HEADER, ""))
     yield same("gem5, u read", run(gem5, "u,192,64,0,70\n", "--others", "read"), (0, HEADER + "70,R,3,\n", ""))
+    for words, line in [((), "w,192,64,70"), ((), "4,r,192,64,0,70,9"), (("--no-flags",), "r,192,64,70,9"), (("--no-flags",), "r,192,64,70")]:
+        wanted = GOOD[gem5][1] if ",r," in "," + line else f"70,W,3,{ZEROS}\n"
+        yield same(f"gem5, {line}", run(gem5, line + "\n", "--data", "zero", *words), (0, HEADER + wanted, ""))
+    yield same("nvmain, tabs", run(nvmain, f"70\tR\t0xc0\t{ZEROS}\t0\n"), (0, HEADER + GOOD[nvmain][1], ""))
     yield same("nvmain, data", run(nvmain, f"7 W c5 {DIGITS} 0\n"), (0, HEADER + f"7,W,3,{DIGITS}\n", ""))
     half = (0, HEADER + "7,M,1," + ".." * 64 + f"{DIGITS}\n", "")
     yield same("nvmain, half a line", run(nvmain, f"7 W c5 {DIGITS} 0\n", "--size", "128"), half)
@@ -130,6 +134,8 @@ def answers_of_formats():
     yield same("dramsim3, P_FETCH", run(dramsim3, "c0 P_FETCH 7\n"), (0, HEADER + "7,R,3,\n", ""))
     written = (0, HEADER + f"0,R,3,\n5,W,3,{ZEROS}\n", "")
     yield same("ramulator, load and store", run(ramulator, "LD 192\nST 0xc0\n", "--every", "5", "--data", "zero"), written)
+    cpu = (0, HEADER + f"15,R,3,\n20,R,1,\n20,W,2,{ZEROS}\n", "")
+    yield same("ramulator, a CPU trace", run(ramulator, "3 192\n0\t0x40 128\n", "--every", "5", "--data", "zero"), cpu)
     modify = (0, HEADER + "1,R,3,\n1,M,3,0000" + ".." * 62 + "\n", "")
     yield same("lackey, modify", run(lackey, "==1== x\nI  00000000,4\n M 000000c0,2\n", "--data", "zero"), modify)
     fetched = (0, HEADER + "0,R,3,\n", "")
@@ -164,10 +170,20 @@ def answers_of_pieces():
         yield same("pieces of a bad line", pieces_of(folder, rows + "x\n", 2), refused)
 
 
+def answers_of_streams():
+    """Rows as they are made: any number, and what comes before a line that is refused."""
+    rows = "r,0,64,0,1\nr,64,64,0,2\nr,128,64,0,3\n"
+    told = HEADER + "1,R,0,\n2,R,1,\n3,R,2,\n"
+    yield same("a stream", run(gem5, rows, "--stream", "--most-rows", "2"), (0, told, ""))
+    refused = "line 4: not of the form " + FORMS[gem5] + "\n"
+    yield same("a stream with a bad line", run(gem5, rows + "x\n" + rows, "--stream"), (1, told, refused))
+    yield same("a stream and pieces", run(gem5, rows, "--stream", "--pieces", "x"), (2, "", "usage"))
+
+
 def main():
     """Runs all tests; the status is 1 where one failed."""
     results = []
-    for answers in (answers_of_all, answers_of_options, answers_of_formats, answers_of_pieces):
+    for answers in (answers_of_all, answers_of_options, answers_of_formats, answers_of_pieces, answers_of_streams):
         results.extend(answers())
     print(f"{sum(results)} passed, {len(results) - sum(results)} failed")
     return 0 if all(results) else 1

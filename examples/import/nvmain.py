@@ -7,7 +7,7 @@ The first line may be NVMV0 or NVMV1. Every other line has the form
 
     CYCLE OPERATION ADDRESS DATA [OLD] THREAD
 
-with one blank or more between the fields: CYCLE and THREAD are decimal numbers, OPERATION is R or W, ADDRESS is hexadecimal, with
+with one blank or tab or more between the fields: CYCLE and THREAD are decimal numbers, OPERATION is R or W, ADDRESS is hexadecimal, with
 or without 0x, DATA and OLD are 128 hexadecimal digits. OLD, the bytes before, stands exactly in a trace that begins with NVMV1.
 An access is of the 64 bytes around its address. A write has the bytes of DATA, the first two digits being the lowest byte, unless
 --data says otherwise; OLD, and DATA of a read, are read over.
@@ -21,10 +21,10 @@ import sys
 import accesses
 
 WORD = 64
-START = r" *([0-9]{1,20}) +([RW]) +(?:0[xX])?([0-9a-fA-F]{1,16}) +([0-9a-fA-F]{128})"
+START = r"[ \t]*([0-9]{1,20})[ \t]+([RW])[ \t]+(?:0[xX])?([0-9a-fA-F]{1,16})[ \t]+([0-9a-fA-F]{128})"
 FORMS = {
-    "NVMV0": ("cycle operation address data thread", re.compile(START + r" +[0-9]+ *")),
-    "NVMV1": ("cycle operation address data old thread", re.compile(START + r" +[0-9a-fA-F]{128} +[0-9]+ *")),
+    "NVMV0": ("cycle operation address data thread", re.compile(START + r"[ \t]+[0-9]+[ \t]*")),
+    "NVMV1": ("cycle operation address data old thread", re.compile(START + r"[ \t]+[0-9a-fA-F]{128}[ \t]+[0-9]+[ \t]*")),
 }
 
 

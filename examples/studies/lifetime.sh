@@ -4,7 +4,8 @@
 # For that every other line along the rotation is first stored once with ones, while the rest hold zeros as they were powered up: a copy
 # then always finds the opposite bytes. Cells stick at their last change; no spare stands by.
 # promised: the most stores of the hot line after which, by the theorem, no cell is stuck; life: how many are made until a line is worn;
-# percent: the promised ones of these. stays: how many stays at one place (lines * psi stores) a cell endures.
+# percent: the promised ones of these. stays: how many stays at one place (lines * psi stores) bring as many changes as a cell endures; the
+# copies of the gap take some of these.
 # Rows: psi (stores before a gap moves; 65535: no moves at this size), then the sizes of regions, then misses. A store takes up to
 # misses + 1 pulses, and changes a cell once all the same.
 #
@@ -34,7 +35,7 @@ printf 'lines,psi,changes,misses,stays,promised,life,percent\n'
 while read -r lines psi changes misses; do
     [ $full ] && lines=$((2 * lines)) changes=$((changes / 2))
     others=$((lines / 2))
-    promised=$(awk -v lines="$lines" -v psi="$psi" -v lo="$changes" -v others="$others" -f "$here/promise.awk")
+    promised=$("$here/promise" --lines "$lines" --psi "$psi" --lo "$changes" --others "$others")
     attack "$lines" |
         "$pcm" run --banks 1 --regions 1 --spares 0 --print summary --lines "$lines" --psi "$psi" --lo "$changes" --hi "$changes" --misses "$misses" |
         awk -v OFS=, -v lines="$lines" -v psi="$psi" -v changes="$changes" -v misses="$misses" -v promised="$promised" -v others="$others" '

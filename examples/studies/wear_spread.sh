@@ -1,5 +1,5 @@
 #!/bin/sh
-# How evenly gap moves spread wear: all writes go to two lines of one region of 64. For each psi (stores before a gap moves):
+# How evenly gap moves spread wear: nine of ten writes go to two lines of one region of 64. For each psi (stores before a gap moves):
 # the pulses of the most pulsed array line, of the mean one, and what the moves cost.
 pcm=${1:-./pcm}
 printf 'psi,most,mean,total\n'

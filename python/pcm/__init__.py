@@ -1,0 +1,37 @@
+"""Drives `pcm`, a proved simulator of a phase-change memory module.
+
+Whole traces, by the program's command `run`::
+
+    import pcm
+    done = pcm.run([pcm.Write(0, 7, bytes(64)), pcm.Read(100, 7)], policy="pause")
+    for row in done.rows:
+        print(row.number, row.outcome)
+
+Row by row, over a pipe to its second program, `stream`, with answers as they become known::
+
+    with pcm.Module(banks=4, policy="cancel") as module:
+        module.write(0, 7, b"\\xff" * 64)
+        module.read(100, 7)
+        for outcome in module.settle(1000):
+            print(outcome)
+
+Ticks are the simulation's own unit of time, from 0 to 2**40, and never fall. A line is a line of the module, from 0. Options are those of
+the command line, with `_` for `-`: `docs/USING.md` of the repository has them all. A wrong option, a fault of the trace and an end of the
+program that isn't one of a whole run are exceptions (`PcmError`), which carry the program's status and its line.
+"""
+from .errors import OutOfMemory, PcmError, ReadFault, TooLong, TraceError, UsageError, WriteFault
+from .frames import to_frame
+from .image import Bank, Entry, Image, ImageError, Region
+from .module import Module
+from .outcomes import Busy, Cut, Forwarded, Full, Lost, Merged, Outcome, Queued, Read as ReadOutcome, Settled, Stored, Worn
+from .program import program
+from .rows import MaskedWrite, PowerCut, Read, Settle, Write, read_trace, write_trace
+from .whole import Result, ResultRow, WearLine, run
+
+__version__ = "1.1.0"
+__all__ = [
+    "Bank", "Busy", "Cut", "Entry", "Forwarded", "Full", "Image", "ImageError", "Lost", "MaskedWrite", "Merged", "Module", "OutOfMemory",
+    "Outcome", "PcmError", "PowerCut", "Queued", "Read", "ReadFault", "ReadOutcome", "Region", "Result", "ResultRow", "Settle", "Settled",
+    "Stored", "TooLong", "TraceError", "UsageError", "WearLine", "Worn", "Write", "WriteFault", "program", "read_trace", "run", "to_frame",
+    "write_trace",
+]

@@ -1,0 +1,247 @@
+"""The image of a module: its state as bytes, as `--print image` writes it and `pcm show` reads it (docs/FORMATS.md)."""
+import struct
+from dataclasses import dataclass, field
+from typing import Iterator, List, Optional, Tuple
+
+_MAGIC = b"PCMIMG01"
+
+
+class ImageError(ValueError):
+    """Bytes that aren't an image: `at` is the first byte of the field that is wrong, and `kind` a word of docs/FORMATS.md."""
+
+    def __init__(self, at: int, kind: str) -> None:
+        super().__init__(f"image byte {at}: {kind}")
+        self.at = at
+        self.kind = kind
+
+
+@dataclass
+class Region:
+    """A region's Start and Gap registers, and the stores since its last gap move."""
+
+    start: int
+    gap: int
+    counter: int
+
+
+@dataclass
+class Entry:
+    """A write in a bank's queue: its line in the bank, and its bytes, `None` where one isn't given."""
+
+    line: int
+    data: List[Optional[int]]
+
+
+@dataclass
+class Bank:
+    """A bank: whether it found no spare, the slots that its used spares were given to, its regions, and its queue, the oldest first."""
+
+    mark: int
+    replaced: List[int] = field(default_factory=list)
+    regions: List[Region] = field(default_factory=list)
+    entries: List[Entry] = field(default_factory=list)
+
+
+@dataclass
+class Image:
+    """A module: the bytes of a line, the lines of a region, the spares of a bank, the seed of the randomiser, whether registers stand in
+    the array, its banks, and the cells of each array line, data before check cells, the lowest bit of a byte first."""
+
+    line_bytes: int
+    lines: int
+    spares: int
+    seed: int
+    registers_in_array: bool
+    banks: List[Bank]
+    cells: List[bytes]
+
+    @property
+    def check_bytes(self) -> int:
+        """The bytes of a line's check cells."""
+        return 8 if self.line_bytes == 64 else 16
+
+    @property
+    def regions(self) -> int:
+        """The regions of a bank."""
+        return len(self.banks[0].regions)
+
+    @property
+    def slots(self) -> int:
+        """The slots of a bank: each region has a place more than it has lines."""
+        return self.regions * (self.lines + 1)
+
+    @property
+    def array_lines(self) -> int:
+        """The array lines of a bank: its slots, its spares, and where registers stand in the array its control lines."""
+        return self.slots + self.spares + ((self.regions + self.spares + 1) if self.registers_in_array else 0)
+
+    @staticmethod
+    def read(data: bytes) -> "Image":
+        """The image that these bytes are; `ImageError` where they are none, as `pcm show` would tell."""
+        return _Reader(data).image()
+
+    def write(self) -> bytes:
+        """The bytes of the image."""
+        size, banks = self.line_bytes, self.banks
+        parts = [_MAGIC, struct.pack("<BBBHHQB", size, len(banks), self.regions, self.lines, self.spares, self.seed, self.registers_in_array)]
+        for bank in banks:
+            parts.append(struct.pack("<BH", bank.mark, len(bank.replaced)))
+            parts += [struct.pack("<I", slot) for slot in bank.replaced]
+            parts += [struct.pack("<HHH", region.start, region.gap, region.counter) for region in bank.regions]
+            parts.append(struct.pack("<H", len(bank.entries)))
+            for entry in bank.entries:
+                given = bytes(
+                    sum((entry.data[8 * at + bit] is not None) << bit for bit in range(8)) for at in range(size // 8)
+                )
+                parts += [struct.pack("<I", entry.line), bytes(byte or 0 for byte in entry.data), given]
+        return b"".join([*parts, *self.cells])
+
+    def array_line(self, bank: int, slot: int) -> int:
+        """The array line of a bank's slot: the last spare that it was given, or its own."""
+        base = bank * self.array_lines
+        for spare, replaced in reversed(list(enumerate(self.banks[bank].replaced))):
+            if replaced == slot:
+                return base + self.slots + spare
+        return base + slot
+
+    def place(self, line: int) -> Tuple[int, int]:
+        """The bank of a line of the module, and its line there, by the randomiser."""
+        total = len(self.banks) * self.regions * self.lines
+        return divmod(_feistel(line, total.bit_length() - 1, self.seed), self.regions * self.lines)
+
+    def slot(self, bank: int, line: int) -> int:
+        """The slot of a bank's line, where the registers of its region put it."""
+        number, offset = divmod(line, self.lines)
+        region = self.banks[bank].regions[number]
+        place = (offset + region.start) % self.lines
+        return number * (self.lines + 1) + place + (place >= region.gap)
+
+    def newest(self, line: int) -> bytes:
+        """The newest bytes of a line of the module, as `pcm show` prints them: each byte is that of the newest write in the queue that
+        gives it, or else what the line's array line is read as."""
+        bank, here = self.place(line)
+        data = bytearray(self.decode(self.array_line(bank, self.slot(bank, here))))
+        for entry in self.banks[bank].entries:
+            if entry.line == here:
+                for at, byte in enumerate(entry.data):
+                    data[at] = data[at] if byte is None else byte
+        return bytes(data)
+
+    def pointers(self, array_line: int) -> List[Tuple[int, int]]:
+        """The active entries of an array line by its own check cells: of each the bit that it points to, and what its own cell holds."""
+        data, check = self._halves(array_line)
+        bits, full, entries = _layout(self.line_bytes)
+        width = bits.bit_length() - 1
+        number = int.from_bytes(check, "little")
+        last = (entries - 1) * (width + 1)
+        active = [number >> (last + at) & 1 for at in range(entries - 1)]
+        count = entries if number >> full & 1 else (active + [0]).index(0)
+        return [
+            (number >> (at * (width + 1)) & (bits - 1), number >> (at * (width + 1) + width) & 1) for at in range(count)
+        ]
+
+    def decode(self, array_line: int) -> bytes:
+        """The bytes that an array line stands for: its data cells, but for those that an active entry stands in for."""
+        data, _ = self._halves(array_line)
+        number = int.from_bytes(data, "little")
+        for bit, value in self.pointers(array_line):
+            number = number & ~(1 << bit) | value << bit
+        return number.to_bytes(self.line_bytes, "little")
+
+    def _halves(self, array_line: int) -> Tuple[bytes, bytes]:
+        cells = self.cells[array_line]
+        return cells[: self.line_bytes], cells[self.line_bytes:]
+
+
+def _layout(line_bytes: int) -> Tuple[int, int, int]:
+    """Of a line: its bits, the check cell `full`, and its entries."""
+    bits = 8 * line_bytes
+    entries = 6 if line_bytes == 64 else 8
+    return bits, entries * bits.bit_length(), entries
+
+
+def _splitmix(seed: int) -> Iterator[int]:
+    """The words of SplitMix64."""
+    mask = (1 << 64) - 1
+    while True:
+        seed = (seed + 0x9E3779B97F4A7C15) & mask
+        word = seed
+        word = (word ^ word >> 30) * 0xBF58476D1CE4E5B9 & mask
+        word = (word ^ word >> 27) * 0x94D049BB133111EB & mask
+        yield word ^ word >> 31
+
+
+def _feistel(number: int, bits: int, seed: int) -> int:
+    """Where the randomiser sends a line of a module of 2**bits lines."""
+    words = _splitmix(seed)
+    keys = [next(words) % 65536 for _ in range(3)]
+    width = bits // 2
+    left, right = divmod(number, 1 << width)
+    left ^= (right ^ keys[0]) ** 2 % (1 << (bits - width))
+    right ^= (left ^ keys[1]) ** 2 % (1 << width)
+    left ^= (right ^ keys[2]) ** 2 % (1 << (bits - width))
+    return left << width | right
+
+
+class _Reader:
+    def __init__(self, data: bytes) -> None:
+        self.data = data
+        self.at = 0
+
+    def take(self, size: int) -> bytes:
+        if len(self.data) - self.at < size:
+            raise ImageError(self.at, "short")
+        self.at += size
+        return self.data[self.at - size: self.at]
+
+    def number(self, size: int, kind: str, most: Optional[int] = None) -> int:
+        begun = self.at
+        value = int.from_bytes(self.take(size), "little")
+        if most is not None and value > most:
+            raise ImageError(begun, kind)
+        return value
+
+    def power(self, size: int, least: int, most: int) -> int:
+        begun = self.at
+        value = self.number(size, "shape")
+        if not least <= value <= most or value & (value - 1):
+            raise ImageError(begun, "shape")
+        return value
+
+    def image(self) -> Image:
+        if self.take(8) != _MAGIC:
+            raise ImageError(0, "magic")
+        begun = self.at
+        size = self.number(1, "size")
+        if size not in (64, 128):
+            raise ImageError(begun, "size")
+        banks, regions = self.power(1, 1, 16), self.power(1, 1, 16)
+        begun = self.at
+        lines = self.power(2, 4, 4096)
+        if banks * regions * lines > 65536:
+            raise ImageError(begun, "shape")
+        spares, seed = self.number(2, "shape", most=1024), self.number(8, "seed")
+        home = self.number(1, "shape", most=1)
+        parts = [self.bank(size, regions, lines, spares) for _ in range(banks)]
+        image = Image(size, lines, spares, seed, bool(home), parts, [])
+        image.cells = [self.take(size + image.check_bytes) for _ in range(banks * image.array_lines)]
+        if self.at < len(self.data):
+            raise ImageError(self.at, "extra")
+        return image
+
+    def bank(self, size: int, regions: int, lines: int, spares: int) -> Bank:
+        bank = Bank(self.number(1, "bank", most=1))
+        slots = regions * (lines + 1)
+        bank.replaced = [self.number(4, "bank", most=slots - 1) for _ in range(self.number(2, "bank", most=spares))]
+        for _ in range(regions):
+            bank.regions.append(Region(self.number(2, "bank", most=lines - 1), self.number(2, "bank", most=lines), self.number(2, "bank")))
+        bank.entries = list(self.entries(self.number(2, "bank", most=256), size, regions * lines))
+        return bank
+
+    def entries(self, count: int, size: int, lines: int) -> Iterator[Entry]:
+        for _ in range(count):
+            line, data, begun = self.number(4, "entry", most=lines - 1), self.take(size), self.at
+            given = int.from_bytes(self.take(size // 8), "little")
+            if given == 0 or any(byte and not given >> at & 1 for at, byte in enumerate(data)):
+                raise ImageError(begun, "entry")
+            yield Entry(line, [byte if given >> at & 1 else None for at, byte in enumerate(data)])

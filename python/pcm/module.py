@@ -1,0 +1,190 @@
+"""A module that answers as it goes, over a pipe to `pcm stream`."""
+import collections
+import os
+import selectors
+import subprocess
+import tempfile
+from types import TracebackType
+from typing import Deque, Iterator, List, Optional, Sequence, Type
+
+from .errors import error_of
+from .outcomes import Outcome, Settled, told_of
+from .program import Program, program, words_of
+from .rows import HEADER
+
+# Rows are gathered up to so many bytes before they are handed to the pipe.
+_GATHERED = 1 << 16
+
+
+class Module:
+    """A phase-change memory module behind a pipe.
+
+    Rows are numbered from 1 in the order in which they are handed in; each call answers its row's number. Outcomes come from `settle`,
+    `finish` and `outcomes`, each once, in the order in which they become known. Rows may be handed in at any rate and answers taken at
+    any time: what the pipes don't hold is kept here, so neither side ever waits for the other. A `Module` isn't to be used by two threads
+    at once.
+
+    Options are those of `pcm stream`, with `_` for `-`, as `banks=4`, `write_queue=8`, `policy="cancel"`, `end="off"`. `program` names
+    the program (else the environment's PCM, or `./pcm` of the checkout)."""
+
+    def __init__(self, *, program: Program = None, **options: object) -> None:
+        self._rows = 0
+        self._tail = b""
+        self._out = bytearray(HEADER.encode())
+        self._known: Deque[Outcome] = collections.deque()
+        self._settled: Optional[int] = None
+        self.status: Optional[int] = None
+        self._said = tempfile.TemporaryFile()
+        words = [*_start(program), "stream", *words_of(options)]
+        self._process = subprocess.Popen(words, stdin=subprocess.PIPE, stdout=subprocess.PIPE, stderr=self._said)
+        assert self._process.stdin is not None and self._process.stdout is not None
+        self._to, self._from = self._process.stdin.fileno(), self._process.stdout.fileno()
+        os.set_blocking(self._to, False)
+        os.set_blocking(self._from, False)
+        self._poll = selectors.DefaultSelector()
+        self._poll.register(self._from, selectors.EVENT_READ)
+        self._writing = self._ended = False
+
+    def write(self, tick: int, line: int, data: bytes) -> int:
+        """A write of a whole line arrives at a tick. Answers the row's number."""
+        return self._hand(f"{tick},W,{line},{bytes(data).hex()}\n")
+
+    def write_masked(self, tick: int, line: int, data: Sequence[Optional[int]]) -> int:
+        """A write that gives some bytes of a line arrives at a tick; `None` stands for each byte that stays. Answers the row's number."""
+        return self._hand(f"{tick},M,{line},{''.join('..' if byte is None else f'{byte:02x}' for byte in data)}\n")
+
+    def read(self, tick: int, line: int) -> int:
+        """A read of a line arrives at a tick. Answers the row's number."""
+        return self._hand(f"{tick},R,{line},\n")
+
+    def cut(self, tick: int) -> int:
+        """The power is cut at a tick, and is there again at once. Answers the row's number."""
+        return self._hand(f"{tick},C,,\n")
+
+    def settle(self, tick: int) -> List[Outcome]:
+        """Every bank goes on to a tick. Answers all outcomes known by then that weren't answered before."""
+        self._out += f"{tick},S,,\n".encode()
+        self._settled = None
+        while self._settled is None:
+            if self._ended:
+                raise self._fail()
+            self._pump(wait=True)
+        return self._take()
+
+    def outcomes(self) -> Iterator[Outcome]:
+        """The outcomes that have come by now and weren't answered before. It doesn't wait."""
+        self._pump(wait=False)
+        while self._known:
+            yield self._known.popleft()
+
+    def finish(self) -> List[Outcome]:
+        """No more rows come: the banks drain (or, with `end="off"`, the power stays off). Answers all outcomes that weren't answered
+        before; `status` is then 0, or 1 where some row fell short of what it asked for."""
+        while self._out and not self._ended:
+            self._pump(wait=True)
+        self._close_input()
+        while not self._ended:
+            self._pump(wait=True)
+        if self._reap() not in (0, 1):
+            raise self._fail()
+        return self._take()
+
+    def close(self) -> None:
+        """Ends the program, whatever it does, and frees what it held."""
+        if self._process.returncode is None:
+            self._close_input()
+            if not self._ended:
+                self._process.kill()
+            self._process.wait()
+        if self._process.stdout is not None:
+            self._process.stdout.close()
+        self._poll.close()
+        self._said.close()
+
+    def __enter__(self) -> "Module":
+        return self
+
+    def __exit__(self, kind: Optional[Type[BaseException]], error: Optional[BaseException], trace: Optional[TracebackType]) -> None:
+        try:
+            if error is None and self.status is None:
+                self.finish()
+        finally:
+            self.close()
+
+    def _hand(self, text: str) -> int:
+        self._out += text.encode()
+        self._rows += 1
+        if len(self._out) >= _GATHERED:
+            self._pump(wait=False)
+            if self._ended:
+                raise self._fail()
+        return self._rows
+
+    def _take(self) -> List[Outcome]:
+        known = list(self._known)
+        self._known.clear()
+        return known
+
+    def _pump(self, wait: bool) -> None:
+        """Hands rows to the pipe and takes answers from it, as far as it lets; where asked, waits until one of the two was possible."""
+        if self._ended:
+            return
+        if bool(self._out) != self._writing:
+            self._writing = bool(self._out)
+            if self._writing:
+                self._poll.register(self._to, selectors.EVENT_WRITE)
+            else:
+                self._poll.unregister(self._to)
+        for key, _ in self._poll.select(None if wait else 0):
+            if key.fd == self._from:
+                self._take_in()
+            elif self._writing:
+                self._hand_out()
+
+    def _hand_out(self) -> None:
+        try:
+            sent = os.write(self._to, memoryview(self._out)[:_GATHERED])
+            del self._out[:sent]
+        except BlockingIOError:
+            pass
+        except BrokenPipeError:
+            # (the program has ended; its answers, and why, are still to be read)
+            self._out.clear()
+            self._close_input()
+
+    def _take_in(self) -> None:
+        try:
+            piece = os.read(self._from, 1 << 18)
+        except BlockingIOError:
+            return
+        if not piece:
+            self._ended = True
+            return
+        lines = (self._tail + piece).split(b"\n")
+        self._tail = lines.pop()
+        for line in lines:
+            told = told_of(line.decode())
+            if isinstance(told, Settled):
+                self._settled = told.tick
+            elif told is not None:
+                self._known.append(told)
+
+    def _close_input(self) -> None:
+        if self._writing:
+            self._poll.unregister(self._to)
+            self._writing = False
+        if self._process.stdin is not None and not self._process.stdin.closed:
+            self._process.stdin.close()
+
+    def _reap(self) -> int:
+        self.status = self._process.wait()
+        return self.status
+
+    def _fail(self) -> Exception:
+        status = self._reap()
+        self._said.seek(0)
+        return error_of(status, self._said.read())
+
+
+def _start(given: Program) -> List[str]:
+    return program(given)

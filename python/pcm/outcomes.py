@@ -1,0 +1,124 @@
+"""What became of the rows of a trace."""
+from dataclasses import dataclass
+from typing import ClassVar, Dict, Optional, Type
+
+
+@dataclass(frozen=True)
+class Outcome:
+    """What became of a row. `row` is its number, from 1; `tick` is when (in ticks)."""
+
+    word: ClassVar[str] = ""
+    falls_short: ClassVar[bool] = False
+    row: int
+    tick: int
+
+
+@dataclass(frozen=True)
+class Stored(Outcome):
+    """A write is stored: its last action ended at `tick`; `place` is the array line that holds it."""
+
+    word: ClassVar[str] = "stored"
+    place: int
+
+
+@dataclass(frozen=True)
+class Merged(Outcome):
+    """A newer write of the line, which arrived at `tick`, took this one's place in the queue."""
+
+    word: ClassVar[str] = "merged"
+
+
+@dataclass(frozen=True)
+class Queued(Outcome):
+    """A write is still in the protected queue in the end; `tick` is its own arrival."""
+
+    word: ClassVar[str] = "queued"
+    falls_short: ClassVar[bool] = True
+
+
+@dataclass(frozen=True)
+class Full(Outcome):
+    """A write is refused as it arrives: its bank's queue is full."""
+
+    word: ClassVar[str] = "full"
+    falls_short: ClassVar[bool] = True
+
+
+@dataclass(frozen=True)
+class Worn(Outcome):
+    """A write is refused as it arrives: a worn line of its bank had found no spare."""
+
+    word: ClassVar[str] = "worn"
+    falls_short: ClassVar[bool] = True
+
+
+@dataclass(frozen=True)
+class Read(Outcome):
+    """A read is served from the array line `place`, at `tick`, with `data`."""
+
+    word: ClassVar[str] = "read"
+    place: int
+    data: bytes
+
+
+@dataclass(frozen=True)
+class Forwarded(Outcome):
+    """A read is answered from the queue as it arrives, with `data`."""
+
+    word: ClassVar[str] = "forwarded"
+    data: bytes
+
+
+@dataclass(frozen=True)
+class Busy(Outcome):
+    """A read is refused as it arrives: as many wait as may."""
+
+    word: ClassVar[str] = "busy"
+    falls_short: ClassVar[bool] = True
+
+
+@dataclass(frozen=True)
+class Lost(Outcome):
+    """A read that waited is lost at a power cut, at `tick`."""
+
+    word: ClassVar[str] = "lost"
+    falls_short: ClassVar[bool] = True
+
+
+@dataclass(frozen=True)
+class Cut(Outcome):
+    """The power was cut."""
+
+    word: ClassVar[str] = "cut"
+
+
+@dataclass(frozen=True)
+class Settled:
+    """Every bank has gone on to `tick`: all outcomes that are known by then came before."""
+
+    tick: int
+
+
+_BY_WORD: Dict[str, Type[Outcome]] = {it.word: it for it in (Stored, Merged, Queued, Full, Worn, Read, Forwarded, Busy, Lost, Cut)}
+
+
+def outcome_of(word: str, row: int, tick: int, place: str, data: str) -> Outcome:
+    """The outcome of a row by its printed fields."""
+    kind = _BY_WORD[word]
+    if kind is Stored:
+        return Stored(row, tick, int(place))
+    if kind is Read:
+        return Read(row, tick, int(place), bytes.fromhex(data))
+    if kind is Forwarded:
+        return Forwarded(row, tick, bytes.fromhex(data))
+    return kind(row, tick)
+
+
+def told_of(line: str) -> Optional["Outcome | Settled"]:
+    """What a line of a stream tells: an outcome, or that the module has settled; nothing for the header."""
+    row, word, tick, place, data = line.rstrip("\n").split(",")
+    if word == "settled":
+        return Settled(int(tick))
+    if row == "row":
+        return None
+    return outcome_of(word, int(row), int(tick), place, data)

@@ -1,0 +1,185 @@
+"""Tests of the package, over the program that PCM names (or ./pcm of the checkout)."""
+import io
+import os
+import pathlib
+import random
+import subprocess
+import sys
+import tempfile
+import unittest
+
+sys.path.insert(0, str(pathlib.Path(__file__).resolve().parent.parent))
+import pcm  # noqa: E402
+
+SMALL = {"banks": 1, "regions": 1, "lines": 4, "spares": 2, "write_queue": 4, "read_queue": 4}
+ONES = b"\xff" * 64
+WORN = {"banks": 2, "regions": 2, "lines": 8, "lo": 5, "hi": 40, "misses": 2, "psi": 3}
+
+
+def drawn(**options):
+    """The rows of a generated trace."""
+    words = [*pcm.program(), "gen", *[word for name, value in options.items() for word in (f"--{name.replace('_', '-')}", str(value))]]
+    return list(pcm.read_trace(io.StringIO(subprocess.run(words, stdout=subprocess.PIPE, text=True, check=True).stdout)))
+
+
+class WholeTraces(unittest.TestCase):
+    def test_a_write_and_a_read_of_its_line(self):
+        done = pcm.run([pcm.Write(0, 0, ONES), pcm.Read(100, 0)], **SMALL)
+        self.assertEqual(0, done.status)
+        self.assertEqual([pcm.ResultRow(1, "W", 0, pcm.Stored(1, 15, 3)), pcm.ResultRow(2, "R", 0, pcm.ReadOutcome(2, 105, 3, ONES))], done.rows)
+
+    def test_a_trace_in_a_file_is_the_trace(self):
+        rows = [pcm.MaskedWrite(0, 1, [1] + [None] * 63), pcm.PowerCut(7), pcm.Read(7, 1)]
+        with tempfile.TemporaryDirectory() as folder:
+            path = pathlib.Path(folder) / "trace.csv"
+            with open(path, "w", encoding="ascii") as file:
+                self.assertEqual(3, pcm.write_trace(rows, file))
+            with open(path, encoding="ascii") as file:
+                self.assertEqual(rows, list(pcm.read_trace(file)))
+            self.assertEqual(pcm.run(rows, **SMALL), pcm.run(path, **SMALL))
+
+    def test_a_summary_and_a_wear_report(self):
+        summary = pcm.run(input="drawn", rows=500, cuts=3, print="summary", **WORN).summary
+        self.assertEqual(500, summary["rows"])
+        self.assertEqual(500, sum(summary[word] for word in list(summary)[1:11]))
+        wear = pcm.run(input="drawn", rows=500, cuts=3, print="wear", **WORN).wear
+        self.assertEqual(summary["pulses"], sum(line.pulses for line in wear))
+
+    def test_a_wrong_option_carries_status_and_line(self):
+        with self.assertRaises(pcm.UsageError) as wrong:
+            pcm.run([], lines=5)
+        self.assertEqual(2, wrong.exception.status)
+        self.assertIn("usage: pcm", wrong.exception.line)
+
+    def test_a_fault_of_the_trace_names_row_and_kind(self):
+        with self.assertRaises(pcm.TraceError) as wrong:
+            pcm.run([pcm.Read(5, 0), pcm.Read(4, 0)])
+        self.assertEqual((3, 2, "order"), (wrong.exception.status, wrong.exception.row, wrong.exception.kind))
+
+    def test_lines_that_are_no_rows_are_named(self):
+        with self.assertRaisesRegex(ValueError, "row 1: op"):
+            list(pcm.read_trace(["tick,op,arg,data\n", "0,X,0,\n"]))
+
+    def test_no_program_is_told(self):
+        with self.assertRaises(FileNotFoundError):
+            pcm.run([], program="/nowhere/pcm")
+
+
+class Images(unittest.TestCase):
+    def test_an_image_is_read_back_and_shows_what_show_shows(self):
+        for number in range(8):
+            options = {"registers": ["guarded", "array"][number % 2], "line": [64, 128][number // 2 % 2], "seed": number, **WORN}
+            image = pcm.run(input="drawn", rows=2000, cuts=5, print="image", **options).image
+            again = pcm.Image.read(image.write())
+            self.assertEqual(image, again)
+            shown = subprocess.run([*pcm.program(), "show"], input=image.write(), stdout=subprocess.PIPE, check=True).stdout.decode()
+            lines = "".join(f"{line},{image.newest(line).hex()}\n" for line in range(32))
+            self.assertEqual("line,data\n" + lines, shown)
+
+    def test_faults_are_those_of_show(self):
+        whole = pcm.run([pcm.Write(0, 0, ONES)], print="image", **SMALL).image.write()
+        broken = [whole[:-1], whole + b"x", b"", b"PCMIMG02" + whole[8:]]
+        broken += [whole[:at] + b"\xff\xff" + whole[at + 2:] for at in range(8, 40)]
+        for data in broken:
+            shown = subprocess.run([*pcm.program(), "show"], input=data, stdout=subprocess.PIPE, stderr=subprocess.PIPE, check=False)
+            try:
+                pcm.Image.read(data)
+                self.assertEqual(0, shown.returncode)
+            except pcm.ImageError as wrong:
+                self.assertEqual(f"{wrong}\n", shown.stderr.decode())
+
+
+class Streams(unittest.TestCase):
+    def test_answers_come_as_they_are_known(self):
+        with pcm.Module(**SMALL) as module:
+            self.assertEqual(1, module.write(0, 0, ONES))
+            self.assertEqual(2, module.read(3, 0))
+            self.assertEqual([pcm.Forwarded(2, 3, ONES)], module.settle(14))
+            self.assertEqual([pcm.Stored(1, 15, 3)], module.settle(15))
+            self.assertEqual(3, module.read(20, 0))
+            self.assertEqual([pcm.ReadOutcome(3, 25, 3, ONES)], module.finish())
+            self.assertEqual(0, module.status)
+
+    def test_a_power_cut_loses_reads_and_no_write(self):
+        with pcm.Module(**SMALL) as module:
+            module.write_masked(0, 0, [7] + [None] * 63)
+            module.read(6, 1)
+            module.cut(7)
+            self.assertCountEqual([pcm.Lost(2, 7), pcm.Cut(3, 7)], module.settle(7))
+            self.assertEqual([1], [outcome.row for outcome in module.finish()])
+            self.assertEqual(1, module.status)
+
+    def test_the_power_stays_off(self):
+        with pcm.Module(end="off", **SMALL) as module:
+            module.write(0, 0, ONES)
+            module.settle(7)
+            self.assertEqual([pcm.Cut(2, 7), pcm.Queued(1, 0)], module.finish())
+
+    def test_a_stream_tells_what_a_run_tells(self):
+        for policy in ("pause", "plain", "cancel"):
+            rows = drawn(rows=3000, cuts=5, banks=2, regions=2, lines=8)
+            wanted = {row.outcome for row in pcm.run(rows, policy=policy, **WORN).rows}
+            told = []
+            with pcm.Module(policy=policy, **WORN) as module:
+                for row in rows:
+                    module._hand(row.text())
+                    told += module.outcomes()
+                told += module.finish()
+            self.assertEqual((3000, wanted), (len(told), set(told)))
+
+    def test_a_fault_carries_row_and_kind_and_known_outcomes_stay(self):
+        module = pcm.Module(**SMALL)
+        module.write(0, 0, ONES)
+        module.read(100, 9)
+        with self.assertRaises(pcm.TraceError) as wrong:
+            module.finish()
+        self.assertEqual((2, "line"), (wrong.exception.row, wrong.exception.kind))
+        module.close()
+
+    def test_a_wrong_option_is_told(self):
+        with self.assertRaises(pcm.UsageError):
+            with pcm.Module(lines=5) as module:
+                module.settle(0)
+
+    def test_full_pipes_in_both_directions(self):
+        # (no answer is taken until all rows are handed in: both pipes fill, and neither side waits for ever)
+        with pcm.Module(**SMALL) as module:
+            for tick in range(40_000):
+                module.read(10 * tick, tick % 4)
+            self.assertEqual(40_000, len(module.finish()))
+
+    def test_a_module_that_is_dropped_ends_its_program(self):
+        module = pcm.Module(**SMALL)
+        module.write(0, 0, ONES)
+        module.close()
+        self.assertIsNotNone(module._process.returncode)
+
+
+class Packages(unittest.TestCase):
+    def test_the_wheel_installs_without_a_network(self):
+        with tempfile.TemporaryDirectory() as folder:
+            made = subprocess.run(
+                [sys.executable, "-m", "pip", "install", "--quiet", "--no-deps", "--target", folder, str(pathlib.Path(__file__).resolve().parent.parent)],
+                stdout=subprocess.PIPE, stderr=subprocess.STDOUT, check=False, env={**os.environ, "PIP_NO_INDEX": "1"},
+            )
+            if b"No module named pip" in made.stdout:
+                self.skipTest("this Python has no pip")
+            self.assertEqual(0, made.returncode, made.stdout.decode())
+            told = subprocess.run([sys.executable, "-c", "import pcm; print(pcm.__version__)"], cwd="/", stdout=subprocess.PIPE, text=True,
+                                  env={**os.environ, "PYTHONPATH": folder}, check=True).stdout
+            self.assertEqual(pcm.__version__, told.strip())
+
+    def test_a_frame_of_pandas(self):
+        try:
+            import pandas  # noqa: F401
+        except ImportError:
+            with self.assertRaises(ImportError):
+                pcm.to_frame([pcm.Cut(1, 0)])
+            return
+        frame = pcm.to_frame(pcm.run([pcm.Write(0, 0, ONES), pcm.Read(100, 0)], **SMALL).rows)
+        self.assertEqual(["stored", "read"], list(frame["outcome"]))
+
+
+random.seed(1)
+if __name__ == "__main__":
+    unittest.main()

@@ -1,0 +1,47 @@
+"""Makes the package's wheel, for `pip install ./python`, with the standard library alone: so no network is needed."""
+import base64
+import hashlib
+import pathlib
+import re
+import zipfile
+
+HERE = pathlib.Path(__file__).resolve().parent
+
+
+def _project():
+    """The fields of pyproject.toml's [project] that are texts."""
+    text = (HERE / "pyproject.toml").read_text(encoding="utf-8").partition("[project]")[2]
+    return dict(re.findall(r'^([a-z-]+) = "(.*)"$', text, re.MULTILINE))
+
+
+def _metadata(project):
+    return (
+        f"Metadata-Version: 2.1\nName: {project['name']}\nVersion: {project['version']}\n"
+        f"Summary: {project['description']}\nRequires-Python: {project['requires-python']}\n"
+    )
+
+
+def build_wheel(wheel_directory, config_settings=None, metadata_directory=None):
+    """Writes the wheel (PEP 517), and answers its name."""
+    project = _project()
+    stem = f"{project['name']}-{project['version']}"
+    about = f"{stem}.dist-info"
+    files = {f"pcm/{file.name}": file.read_bytes() for file in sorted((HERE / "pcm").glob("*.py"))}
+    files["pcm/py.typed"] = b""
+    files[f"{about}/METADATA"] = _metadata(project).encode()
+    files[f"{about}/WHEEL"] = b"Wheel-Version: 1.0\nGenerator: wheel_of\nRoot-Is-Purelib: true\nTag: py3-none-any\n"
+    record = "".join(
+        f"{name},sha256={base64.urlsafe_b64encode(hashlib.sha256(data).digest()).decode().rstrip('=')},{len(data)}\n"
+        for name, data in files.items()
+    )
+    files[f"{about}/RECORD"] = (record + f"{about}/RECORD,,\n").encode()
+    name = f"{stem}-py3-none-any.whl"
+    with zipfile.ZipFile(pathlib.Path(wheel_directory) / name, "w", zipfile.ZIP_DEFLATED) as wheel:
+        for path, data in files.items():
+            wheel.writestr(path, data)
+    return name
+
+
+def build_sdist(sdist_directory, config_settings=None):
+    """Source packages aren't made: the repository is the source."""
+    raise NotImplementedError("install from the checkout: pip install ./python")
