@@ -1,11 +1,10 @@
 #!/usr/bin/env python3
-"""Draws the pictures of README.md and docs/ into this folder. Needs Python 3 alone: docs/pictures/draw.py
+"""Draws the pictures of README.md and docs/ into this folder: docs/pictures/draw.py [--check]
 
-To look at one: rsvg-convert -w 860 module.svg > module.png (Debian's librsvg2-bin). No check runs this script."""
+With --check it draws nothing, and names those that aren't as it would draw them; docs/check calls it so. Needs Python 3 alone. To look at
+one: rsvg-convert -w 860 module.svg > module.png (Debian's librsvg2-bin)."""
 import pathlib
-
-# whether a bank's registers may be kept in lines of its array
-REGISTERS = True
+import sys
 
 HERE = pathlib.Path(__file__).resolve().parent
 FONT = "'DejaVu Sans', Verdana, Arial, sans-serif"
@@ -46,10 +45,14 @@ class Picture:
     def arrow(self, *points, colour=GREY, dashed=False):
         self.line(points, colour, dashed, head=True)
 
-    def write(self):
+    def drawn(self):
+        """The text of the file."""
         tip = f'<defs><marker id="tip" markerWidth="9" markerHeight="8" refX="8" refY="4" orient="auto"><path d="M0,0 L9,4 L0,8 z" fill="{GREY}"/></marker></defs>'
         head = f'<svg xmlns="http://www.w3.org/2000/svg" width="{self.width}" height="{self.height}" viewBox="0 0 {self.width} {self.height}" font-family="{FONT}">'
-        (HERE / f"{self.name}.svg").write_text("\n".join([head, tip, *self.parts, "</svg>", ""]))
+        return "\n".join([head, tip, *self.parts, "</svg>", ""])
+
+    def file(self):
+        return HERE / f"{self.name}.svg"
 
 
 def escaped(words):
@@ -86,8 +89,7 @@ def module():
     p.named(420, 156, 150, 20, "worn slot → spare", WHITE, 11)
     p.text(312, 200, "mark", 13, "start")
     p.named(420, 186, 150, 20, "exhausted", WHITE, 11)
-    if REGISTERS:
-        p.text(312, 225, "(--registers array: the last three stand in control lines)", 10, "start", GREY)
+    p.text(312, 225, "(--registers array: the last three stand in control lines)", 10, "start", GREY)
 
     p.box(646, 68, 178, 168, RED, dashed=True)
     p.text(658, 86, "gone at a power cut", 12, "start", DARK[RED], bold=True)
@@ -100,11 +102,10 @@ def module():
         p.text(535, top + 16, f"region {region}: N lines in N + 1 slots; dashed: its gap", 11, "start", GREY)
     row_of_lines(p, 300, 362, 4, SAND)
     p.text(535, 378, "spares, for slots whose line is worn", 11, "start", GREY)
-    if REGISTERS:
-        for number in range(7):
-            p.box(300 + number * 25, 406, 22, 22, GREEN, dashed=True, round_=2)
-        p.text(535, 415, "control lines, with --registers array alone:", 11, "start", GREY)
-        p.text(535, 431, "one for each region, each spare, and the mark", 11, "start", GREY)
+    for number in range(7):
+        p.box(300 + number * 25, 406, 22, 22, GREEN, dashed=True, round_=2)
+    p.text(535, 415, "control lines, with --registers array alone:", 11, "start", GREY)
+    p.text(535, 431, "one for each region, each spare, and the mark", 11, "start", GREY)
 
     p.text(16, 150, "A line of 64 or 128 bytes\nis one array line: its data\ncells, and check cells for\nerror-correcting pointers.", 12, "start", GREY)
     p.text(16, 240, "Each bank does one action\nat a time: a sense for a\nread or to begin a write, or\none pulse and one sense.", 12, "start", GREY)
@@ -156,7 +157,7 @@ def cut():
 
 
 def write():
-    p = Picture("write", 860, 500, "The life of a write: refused, merged or accepted; then begun, pulsed and sensed until it is stored")
+    p = Picture("write", 860, 500, "The life of a write: refused, merged or accepted; then begun, pulsed and sensed until it is stored; torn by a cut or cancelled by a read it begins anew")
     p.named(20, 20, 150, 40, "a write arrives", PALE)
     asks = ((100, "is the bank exhausted?", "worn: refused", RED), (180, "does an entry of its line wait,\nother than the head in flight?", "merged: the entry takes its\nbytes; the older write is done", GREEN), (270, "is the queue full?", "full: refused", RED))
     last = 60
@@ -171,32 +172,134 @@ def write():
         last = y + height
     p.arrow((95, last), (95, 366))
     p.named(20, 366, 220, 44, "accepted: waits in the queue,\nwhich survives power cuts", GREEN, 12)
-    p.text(250, 440, "once it is the head, no gap move is due,\nand no read of its line waits", 11, "middle", GREY)
-    p.line([(130, 410), (130, 476), (515, 476), (515, 60)], GREY)
-    p.arrow((515, 60), (540, 60))
+    p.text(310, 440, "once it is the head, no gap move is due,\nand no read of its line waits", 11, "middle", GREY)
+    p.line([(130, 410), (130, 484), (506, 484), (506, 56)], GREY)
+    p.arrow((506, 56), (540, 56))
 
-    p.named(540, 34, 300, 52, "begin: sense its array line;\nbytes not given are taken from there", PALE, 12)
-    p.arrow((690, 86), (690, 126))
-    p.text(682, 110, "not yet its bytes", 11, "end", GREY)
-    p.named(540, 126, 300, 52, "iteration: pulse the cells that differ,\nthen sense the line", BLUE, 12)
-    p.line([(840, 140), (852, 140), (852, 164), (842, 164)], GREY, head=True)
-    p.text(838, 118, "again, 160 (208) at most", 10, "end", GREY)
-    p.arrow((690, 178), (690, 222))
-    p.text(700, 204, "decodes to its bytes", 11, "start", GREY)
-    p.named(540, 222, 300, 44, "stored: leaves the queue;\nits region counts one store more", GREEN, 12)
+    p.text(840, 22, "a cut, or a read of its line, drops it; it begins anew", 11, "end", GREY)
+    p.named(540, 32, 300, 52, "begin: sense its array line;\nbytes not given are taken from there", PALE, 12)
+    p.arrow((690, 84), (690, 130))
+    p.text(682, 112, "not yet its bytes", 11, "end", GREY)
+    p.named(540, 130, 300, 48, "iteration: pulse the cells that differ,\nthen sense the line", BLUE, 12)
+    p.line([(840, 142), (852, 142), (852, 166), (842, 166)], GREY, head=True)
+    p.text(846, 122, "again, 160 (208) at most", 10, "end", GREY)
+    for x, words in ((586, "it has\nits bytes"), (690, "it is\nbroken off"), (794, "a cell\ncan't be set")):
+        p.arrow((x - 20, 178), (x - 20, 226))
+        p.text(x - 14, 194, words, 10, "start", GREY)
+    p.named(540, 226, 96, 86, "stored:\nleaves the\nqueue; its\nregion counts\none more", GREEN, 11)
+    p.named(642, 226, 96, 86, "torn by a cut,\nor cancelled\nby a read (four\ntimes at most):\nit still waits", RED, 11)
+    p.named(744, 226, 96, 86, "worn: more\nstuck cells than\npointers, or a\nswitch is stuck", SAND, 11)
+    p.line([(690, 312), (690, 334), (524, 334)], GREY)
+    p.named(642, 386, 96, 62, "a spare takes\nthe slot;\nbegin anew", SAND, 11)
+    p.named(744, 386, 96, 62, "no spare left:\nthe bank is\nexhausted", RED, 11)
+    p.line([(776, 312), (776, 352), (690, 352)], GREY)
+    p.arrow((690, 352), (690, 386))
+    p.arrow((806, 312), (806, 386))
+    p.line([(642, 417), (524, 417), (524, 70)], GREY)
+    p.arrow((524, 70), (540, 70))
+    p.text(840, 468, "what was accepted stays in the queue", 11, "end", GREY)
+    return p
 
-    p.named(540, 300, 142, 62, "a power cut tears\nthe pulse; the entry\nstays", RED, 12)
-    p.named(698, 300, 142, 62, "too many cells are\nstuck, or a switch is:\nthe line is worn", SAND, 12)
-    p.arrow((560, 178), (560, 300), dashed=True)
-    p.arrow((826, 178), (826, 300), dashed=True)
-    p.line([(540, 330), (526, 330), (526, 74)], GREY, dashed=True)
-    p.arrow((526, 74), (540, 74), dashed=True)
-    p.named(540, 392, 142, 62, "a spare takes the\nslot; begin anew", SAND, 12)
-    p.named(698, 392, 142, 62, "no spare is left:\nthe bank is\nexhausted", RED, 12)
-    p.arrow((730, 362), (660, 392))
-    p.arrow((786, 362), (786, 392))
-    p.line([(540, 424), (526, 424), (526, 330)], GREY, dashed=True)
-    p.text(769, 474, "accepted writes stay queued", 11, colour=GREY)
+
+def policies():
+    p = Picture("policies", 860, 318, "The same write and read under the three policies: paused, plain and cancelled")
+    x = lambda tick: 116 + tick * 7.3
+    bottom = 262
+    for tick in (0, 7, 12, 20, 85, 90, 97):
+        p.line([(x(tick), 40), (x(tick), bottom)], "#d9e0e7", width=1)
+        p.text(x(tick), bottom + 16, str(tick), 11, colour=GREY)
+    p.line([(x(0), bottom), (x(100), bottom)], RULE)
+    p.text(14, bottom + 16, "tick", 12, "start", GREY)
+    p.text(14, 28, "trace rows", 13, "start", bold=True)
+    p.text(x(0), 28, "W line 0", 12, "start")
+    p.text(x(7) + 4, 28, "R line 1", 12, "start", DARK[SAND])
+    p.line([(x(7), 34), (x(7), bottom)], DARK[SAND], dashed=True, width=1.6)
+
+    def act(top, begin, end, words, fill):
+        p.named(x(begin), top, x(end) - x(begin), 34, words, fill, 10)
+
+    def iterations(top, begin, end):
+        for tick in range(begin, end, 10):
+            act(top, tick, tick + 10, "pulse, sense" if tick + 10 <= end else "", BLUE)
+
+    rows = ((50, "pause", "the read is served between two iterations"), (122, "plain", "the write goes on to its end first"), (194, "cancel", "the read tears the pulse; the write begins anew"))
+    for top, name, told in rows:
+        p.text(14, top + 16, name, 13, "start", bold=True)
+        act(top, 0, 5, "sense", PALE)
+        p.text(x(100) + 2, top + 50, told, 11, "end", GREY)
+    iterations(50, 5, 15)
+    act(50, 15, 20, "serve", SAND)
+    iterations(50, 20, 90)
+    p.text(x(8), 100, "read 20, stored 90", 11, "start")
+    iterations(122, 5, 85)
+    act(122, 85, 90, "serve", SAND)
+    p.text(x(8), 172, "read 90, stored 85", 11, "start")
+    act(194, 5, 7, "", RED)
+    act(194, 7, 12, "serve", SAND)
+    act(194, 12, 17, "sense", PALE)
+    iterations(194, 17, 97)
+    p.text(x(8), 244, "read 12, stored 97", 11, "start")
+    p.text(430, 306, "Some of its cells miss seven times, so the write takes eight iterations. Red: a pulse that is torn.", 11, colour=GREY)
+    return p
+
+
+def cells():
+    p = Picture("cells", 860, 372, "The cells of an array line of 64 bytes: data cells, six pointers with their replacement cells, the cell full, and three unused cells")
+    p.text(14, 30, "512 data cells", 13, "start", bold=True)
+    stuck = 11
+    for number in range(32):
+        p.box(14 + number * 25, 42, 22, 22, RED if number == stuck else BLUE, round_=2)
+    p.text(14 + 32 * 25 + 4, 58, "· ·", 13, "start", GREY)
+    p.text(14 + stuck * 25 + 11, 57, "x", 11, colour=DARK[RED], bold=True)
+    p.text(14 + 11, 57, "0", 10, colour=GREY)
+    p.text(14 + stuck * 25 + 40, 90, "data cell x is stuck at the wrong bit", 12, "start", DARK[RED])
+
+    p.text(14, 134, "64 check cells", 13, "start", bold=True)
+    for number in range(6):
+        left = 14 + number * 118
+        p.named(left, 146, 84, 26, f"pointer {number}", SAND if number == 0 else PALE if number < 5 else GREEN, 11)
+        p.named(left + 84, 146, 28, 26, "r", SAND if number == 0 else PALE, 11)
+    p.named(722, 146, 34, 26, "full", GREEN, 11)
+    for number in range(3):
+        p.box(762 + number * 25, 146, 22, 26, WHITE, dashed=True, round_=2)
+    p.text(798, 192, "unused", 11, colour=GREY)
+    p.line([(56, 146), (56, 108), (14 + stuck * 25 + 11, 108)], DARK[SAND], width=1.6)
+    p.line([(14 + stuck * 25 + 11, 108), (14 + stuck * 25 + 11, 66)], DARK[SAND], width=1.6, head=True)
+    p.text(14, 192, "nine cells with the number x,", 11, "start", GREY)
+    p.text(14, 208, "and a replacement cell r that stands for bit x", 11, "start", GREY)
+
+    p.text(14, 252, "pointer 5, cell by cell", 13, "start", bold=True)
+    for number in range(10):
+        fill = GREEN if number < 5 else PALE
+        p.named(14 + number * 60, 264, 56, 28, f"m{number}" if number < 5 else "r" if number == 9 else "", fill, 11)
+    p.line([(646, 172), (646, 240), (560, 240), (560, 262)], RULE, dashed=True)
+    p.named(640, 264, 56, 28, "full", GREEN, 11)
+    p.text(14, 314, "activity cells: while full is 0, as many pointers are active as these begin with ones, so none to five", 12, "start", DARK[GREEN])
+    p.text(14, 332, "full is 1: all six are active, and these five cells hold the low digits of pointer 5's number", 12, "start", DARK[GREEN])
+    p.text(14, 358, "Where two active pointers have one number, the later one counts: so a replacement cell that sticks is replaced in its turn.", 11, "start", GREY)
+    return p
+
+
+def stay():
+    lines, places = 4, 5
+    p = Picture("stay", 860, 300, "Where each of four lines stands over a full turn of twenty gap moves: line 0 stays at each of five places for four moves")
+    place = lambda line, moves: (line + (moves + line) // lines) % places
+    left, top, width, height = 92, 58, 36, 32
+    p.text(14, 30, "gap moves", 12, "start", GREY)
+    for moves in range(lines * places):
+        p.text(left + moves * width + width / 2, 30, str(moves), 10, colour=GREY)
+        for line in range(lines):
+            fill = BLUE if line == 0 else PALE
+            p.named(left + moves * width, top + place(line, moves) * height, width, height, str(line), fill, 11)
+        p.box(left + moves * width, top + (lines - moves % places) * height, width, height, WHITE, dashed=True, round_=2)
+    for at in range(places):
+        p.text(14, top + at * height + 20, f"place {at}", 12, "start", GREY)
+    for number in range(places):
+        begin = left + number * lines * width
+        p.line([(begin + 2, 44), (begin + lines * width - 2, 44)], DARK[BLUE], width=2)
+    p.text(left + 2, 240, "one stay of line 0: N moves, so N * psi stores of its region", 12, "start", DARK[BLUE])
+    p.text(left + 2, 260, "a turn: N + 1 stays, so N * (N + 1) * psi stores, after which all is as at first", 12, "start")
+    p.text(left + 2, 284, "Here N is 4; dashed: the gap. A column is psi stores, and the move behind them.", 11, "start", GREY)
     return p
 
 
@@ -262,6 +365,18 @@ def registers():
     return p
 
 
+def main():
+    pictures = [draw() for draw in (module, cut, write, policies, cells, stay, turn, registers)]
+    if "--check" not in sys.argv:
+        for picture in pictures:
+            picture.file().write_text(picture.drawn())
+        return 0
+    stale = [it.name for it in pictures if not it.file().is_file() or it.file().read_text() != it.drawn()]
+    stale += sorted({it.stem for it in HERE.glob("*.svg")} - {it.name for it in pictures})
+    for name in stale:
+        print(f"docs/pictures/{name}.svg isn't what draw.py draws")
+    return int(bool(stale))
+
+
 if __name__ == "__main__":
-    for draw in (module, cut, write, turn, *[registers] * REGISTERS):
-        draw().write()
+    sys.exit(main())

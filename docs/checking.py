@@ -1,0 +1,383 @@
+"""What docs/check holds the documents to. Each part yields what it found: None where something is so, and else what isn't."""
+import functools
+import os
+import pathlib
+import re
+import subprocess
+import sys
+import tempfile
+
+TOP = pathlib.Path(__file__).resolve().parent.parent
+sys.path.insert(0, str(TOP / "tools"))
+import crates
+
+COMMANDS = ("README.md", "docs/USING.md")
+HEADER = b"tick,op,arg,data\n"
+RESULTS = b"row,op,line,outcome,tick,place,data\n"
+EXAMPLE = re.compile(r"Example: `((?:run|gen|map|moves|show|check|stream)\b[^`]*)`")
+# The program of streams, as the gate builds it; a program that is given may have its command.
+STREAMS = TOP / "crates" / "pcm_stream" / "out" / "pcm_stream"
+WHOLE_LINE = re.compile(r"\b(?:[0-9a-f]{256}|[0-9a-f]{128})\b")
+HELP_PAGES = ((), ("run",), ("gen",), ("map",), ("moves",), ("show",), ("check",), ("stream",))
+# Words of documents that name nothing of this repository: units, commands of the system, and a type that DECISIONS.md says isn't there;
+# and words that stand for names.
+FOREIGN = {"MiB", "GiB", "renice", "parallel", "sbatch", "valgrind", "RulePolicy"}
+FOREIGN_OPTIONS = {"option", "progress", "sshlogin", "anew"}
+PLACEHOLDER = re.compile(r"\b(NAME|TOOL|CRATE|PATH|LOG|PROGRAM|COMMAND|TABLE|FILE|WORD|SECTION|IMAGE|WHY|KIND|RULE|BYTES)\b")
+
+
+def documents():
+    """All pages of the repository, by their paths in it."""
+    folders = [it for it in TOP.iterdir() if it.is_dir() and it.name not in (".git", "crates", "out")]
+    found = [*TOP.glob("*.md"), TOP / "crates" / "README.md", *(page for folder in folders for page in folder.rglob("*.md"))]
+    return {str(it.relative_to(TOP)): it.read_text(encoding="utf-8") for it in sorted(found)}
+
+
+# The list of crates.
+
+
+def list_of_crates():
+    """The list of crates/README.md, by shelves."""
+    lines, shelf = [], None
+    for crate in crates.listed().values():
+        if crate.shelf != shelf:
+            shelf = crate.shelf
+            title = re.sub(r" \(.*", "", shelf)
+            lines += ["", f"### {title[:3]}{title[3:].capitalize()}", ""]
+        below = ", ".join(crates.directly_below(crate.name))
+        lines.append(f"- [{crate.name}]({crate.name}): {crate.in_short()}" + f" ({below})" * bool(below))
+    return "\n".join(lines).strip()
+
+
+def check_crates(writes):
+    path = TOP / "crates" / "README.md"
+    text = path.read_text(encoding="utf-8")
+    wanted = re.sub(r"(?s)(<!-- crates -->\n).*(?=<!-- /crates -->)", lambda it: f"{it[1]}{list_of_crates()}\n", text)
+    if writes:
+        path.write_text(wanted, encoding="utf-8")
+    yield None if wanted == text or writes else "crates/README.md isn't what crates.txt and the crates say: docs/check --write writes it"
+
+
+# Commands that stand with what they print.
+
+
+def shortened(text):
+    """Lines in which the digits of a whole line stand as the first byte, two points and the last byte."""
+    return [WHOLE_LINE.sub(lambda it: f"{it[0][:2]}..{it[0][-2:]}", line) for line in text.splitlines()]
+
+
+def blocks(lines):
+    """Yields each command that stands behind four blanks and '$ ', and where its output begins and ends among the lines."""
+    at = 0
+    while at < len(lines):
+        if not lines[at].startswith("    $ "):
+            at += 1
+            continue
+        command = [lines[at][6:]]
+        at += 1
+        while at < len(lines) and lines[at].startswith("    > "):
+            command.append(lines[at][6:])
+            at += 1
+        begin = at
+        while at < len(lines) and lines[at].startswith("    ") and not lines[at].startswith("    $ "):
+            at += 1
+        yield "\n".join(command), begin, at
+
+
+def matches(wanted, got):
+    """Whether lines are the wanted ones, of which '...' stands for any."""
+    if "..." not in wanted:
+        return wanted == got
+    cut = wanted.index("...")
+    rest = wanted[cut + 1 :]
+    return wanted[:cut] == got[:cut] and any(matches(rest, got[at:]) for at in range(cut, len(got) + 1))
+
+
+def check_commands(program, writes):
+    for document in COMMANDS:
+        lines, changes = (TOP / document).read_text(encoding="utf-8").split("\n"), []
+        with tempfile.TemporaryDirectory() as room:
+            for folder in ("examples", "python", "c"):
+                os.symlink(TOP / folder, f"{room}/{folder}")
+            wrapper = pathlib.Path(f"{room}/pcm")
+            streams = f'if [ "$1" = stream ]; then shift; exec "{STREAMS}" "$@"; fi\n' if STREAMS.exists() else ""
+            wrapper.write_text(f'#!/bin/sh\n{streams}exec "{program}" "$@"\n')
+            wrapper.chmod(0o755)
+            around = {**os.environ, "PCM": str(wrapper), "PYTHONDONTWRITEBYTECODE": "1"}
+            for command, begin, end in blocks(lines):
+                how = {"cwd": room, "env": around, "stdin": subprocess.DEVNULL, "stdout": subprocess.PIPE, "stderr": subprocess.STDOUT}
+                ran = subprocess.run(["bash", "-c", command], text=True, **how)
+                wanted, got = [it[4:] for it in lines[begin:end]], shortened(ran.stdout)
+                changes += [] if matches(wanted, got) else [(begin, end, got)]
+                well = matches(wanted, got) or writes
+                yield None if well else f"{document}:{begin}: {command}\n  wanted {wanted}\n  got    {got[:40]}"
+            for words in EXAMPLE.findall("\n".join(lines)):
+                source = HEADER + RESULTS if words.startswith("check") else HEADER
+                ran = subprocess.run(["bash", "-c", f"./pcm {words}"], cwd=room, input=source, capture_output=True)
+                yield None if ran.returncode in (0, 1) else f"{document}: {words}: status {ran.returncode}"
+        if writes and changes:
+            for begin, end, got in reversed(changes):
+                lines[begin:end] = [f"    {it}".rstrip() for it in got]
+            (TOP / document).write_text("\n".join(lines), encoding="utf-8")
+
+
+def check_help():
+    for words in HELP_PAGES:
+        page = subprocess.run([TOP / "pcm", "help", *words], capture_output=True)
+        well = page.returncode == 0 and page.stdout.count(b"\n") > 3
+        yield None if well else f"./pcm help {' '.join(words)}: no text"
+
+
+# Code that is quoted.
+
+
+def quoted(text):
+    """Yields each quoted block: the file that it is quoted from, and its lines."""
+    for file, block in re.findall(r"(?ms)^<!-- quoted from (\S+) -->\n+```\w*\n(.*?)^```$", text):
+        yield file, block.splitlines()
+
+
+def stands_in(block, lines):
+    """Whether the parts of a block, between lines that are '..', stand in this order among the lines, whatever their blanks."""
+    parts = [part.split("\n") for part in re.split(r"(?m)^\s*\.\.\s*$\n?", "\n".join(block))]
+    here, at = [" ".join(line.split()) for line in lines], 0
+    for part in parts:
+        wanted = [" ".join(line.split()) for line in part if line.strip()]
+        places = [it for it in range(at, len(here) - len(wanted) + 1) if here[it : it + len(wanted)] == wanted]
+        if not places:
+            return False
+        at = places[0] + len(wanted)
+    return True
+
+
+def check_quotes():
+    for document, text in documents().items():
+        for file, block in quoted(text):
+            path = TOP / file
+            well = path.is_file() and stands_in(block, [it for it in path.read_text(encoding="utf-8").splitlines() if it.strip()])
+            yield None if well else f"{document}: what is quoted from {file} doesn't stand there"
+
+
+# Names.
+
+
+def words_of(paths):
+    return {word for path in paths for word in re.findall(r"\w+", path.read_text(encoding="utf-8", errors="replace"))}
+
+
+@functools.cache
+def vocabulary():
+    """All words of code, definitions, proofs, wrong bodies and scripts, and the names of files and libraries."""
+    own = [file for crate in crates.listed().values() for file in crate.files(*crates.PARTS, "must-fail")]
+    scripts = [*TOP.glob("tools/*"), *TOP.glob("bench/*"), *TOP.glob("docs/**/*.py"), TOP / "docs" / "check", TOP / "pcm", TOP / ".ci" / "run"]
+    examples = [it for folder in ("examples", "python", "c") for it in TOP.glob(f"{folder}/**/*") if it.is_file()]
+    texts = [it for it in (*own, *scripts, *examples) if it.is_file() and it.suffix in ("", ".rt", ".antt", ".edit", ".py", ".sh", ".awk", ".c", ".h", ".cpp")]
+    names = {part for file in (*texts, *examples) for part in (file.stem, file.parent.name)}
+    texts += [it for it in TOP.glob("crates/*/stdin")]
+    return words_of(texts) | names | FOREIGN | {it for crate in crates.listed().values() for it in (crate.name, *crate.libraries)}
+
+
+@functools.cache
+def options():
+    """The options of the program and of the scripts."""
+    texts = [file.read_text(encoding="utf-8") for file in crates.named("command_line").files("src", "specs")]
+    scripts = (*TOP.glob("tools/*"), *TOP.glob("bench/*"), *TOP.glob("docs/check*"), *TOP.glob("docs/pictures/*.py"), *TOP.glob("examples/**/*"))
+    texts += [it.read_text(encoding="utf-8") for it in scripts if it.is_file() and it.suffix in ("", ".py", ".sh")]
+    return {word for text in texts for word in re.findall(r'(?:--|")([a-z][a-z-]+)', text)}
+
+
+def is_name(word):
+    """Whether a word can only be a name of code: it has an underscore, or a capital that doesn't begin a sentence."""
+    return bool(re.search(r"[A-Za-z0-9]_[A-Za-z0-9]|[a-z][A-Z]", word))
+
+
+def unknown_names(text):
+    """Names that a page gives, in a span of code or in its sentences, and that stand nowhere."""
+    prose = re.sub(r"(?ms)^```.*?^```$|^    .*?$|<!--.*?-->|\]\([^)]*\)", "", text)
+    spans = re.findall(r"`([^`\n]+)`", prose)
+    found = {word for word in re.findall(r"\w+", prose) if is_name(word)}
+    found |= {word for span in spans for word in re.findall(r"\w+", span) if is_name(word) or re.match(r"[A-Z][a-z]\w+", word)}
+    found |= {span for span in spans if re.fullmatch(r"[a-z][a-z0-9]{2,}", span)}
+    return {word for word in found if word not in vocabulary() and not PLACEHOLDER.search(word)}
+
+
+def unknown_options(text):
+    return {f"--{word}" for word in re.findall(r"`[^`\n]*?--([a-z][a-z-]+)", text) if word not in options() | FOREIGN_OPTIONS}
+
+
+def is_path(span):
+    return re.fullmatch(r"\.?[\w*-][\w./*-]*/[\w./*-]*", span) and not PLACEHOLDER.search(span)
+
+
+def unknown_paths(document, text):
+    """Paths that a page gives in spans of code, and that are no file: from the top, from the page, from crates/ or in some crate. What is
+    made as the program is built counts for one."""
+    rooms = [(TOP, ""), ((TOP / document).parent, ""), (TOP / "crates", ""), (TOP / "crates", "*/")]
+    spans = {span.split()[0] for span in re.findall(r"`([^`\n]+)`", text) if span.strip()}
+    paths = [span for span in spans if is_path(span) and not re.search(r"(^|/)out/|/build\.log$", span)]
+    return {path for path in paths if not any(any(room.glob(below + path.removeprefix("./"))) for room, below in rooms)}
+
+
+def misplaced(text):
+    """Lines of a tree, a definition and the file of specs/ that has it, of which that isn't so."""
+    for name, crate, file in re.findall(r"(?m)^    \W*(\w+)\s+(\w+)/(specs/\w+\.antt)", text):
+        path = TOP / "crates" / crate / file
+        if not path.is_file() or not re.search(rf"(?m)^\s*(?:abbrev )?(?:pub )?(?:record )?{name}\b", path.read_text(encoding="utf-8")):
+            yield f"{name} {crate}/{file}"
+
+
+def check_names():
+    for document, text in documents().items():
+        for word in sorted({*unknown_names(text), *unknown_options(text), *unknown_paths(document, text), *misplaced(text)}):
+            yield f"{document}: {word} stands nowhere"
+        yield None
+
+
+# The table of requirements.
+
+
+@functools.cache
+def text_of(crate, *parts):
+    return "\n".join(it.read_text(encoding="utf-8") for it in crates.named(crate).files(*parts))
+
+
+def defines(crate, path):
+    """Whether a crate has a function or a definition of this name, which may stand behind its module and type."""
+    name = path.split("::")[-1]
+    pattern = rf"\b(?:fn|struct|enum|trait|record|type) {name}\b|(?m:^ *(?:abbrev )?(?:pub )?{name} :)"
+    return re.search(pattern, text_of(crate, "src", "specs"))
+
+
+@functools.cache
+def clauses(crate):
+    """The names of the clauses of each function of a crate, and of the fields of each record."""
+    found = {}
+    for name, head in re.findall(r"(?ms)\bfn (\w+)(.*?)(?=^ *\{|^ *\}|\bfn )", text_of(crate, "src")):
+        found.setdefault(name, set()).update(re.findall(r"\bensures (\w+) \{", head))
+    for name, body in re.findall(r"(?ms)\brecord (\w+)(.*?)(?=^\S|\Z)", text_of(crate, "specs")):
+        found.setdefault(name, set()).update(re.findall(r"(?m)^ *(?:pub )?(\w+) :", body))
+    return found
+
+
+def has_clause(crate, path, clause):
+    return clause in clauses(crate).get(path.split("::")[-1], ())
+
+
+def is_test(crate, name):
+    """Whether a crate has a test of this name, or a case of its stored input."""
+    stored = crates.named(crate).folder / "stdin"
+    if stored.is_file() and re.search(rf"(?m)^case {name}$", stored.read_text(encoding="utf-8")):
+        return True
+    return bool(re.search(rf"#\[test\]\s+(?:pub )?fn {name}\b", text_of(crate, "src")))
+
+
+def faults_of_row(cells):
+    """What isn't there of a row of the table: its clauses, wrong bodies and tests, each as `crate NAME: CLAUSE`."""
+    clauses, bodies, tests = ([span.partition(" ")[::2] for span in re.findall(r"`([^`]+)`", cell)] for cell in cells)
+    for crate, rest in clauses:
+        name, _, clause = rest.partition(": ")
+        if crate not in crates.listed() or not (has_clause(crate, name, clause) if clause else defines(crate, name)):
+            yield f"clause {crate} {rest}"
+    for crate, name in bodies:
+        if not (TOP / "crates" / crate / "must-fail" / f"{name}.edit").is_file():
+            yield f"wrong body {crate} {name}"
+    for crate, name in tests:
+        if crate not in crates.listed() or not is_test(crate, name):
+            yield f"test {crate} {name}"
+
+
+def check_requirements():
+    text = (TOP / "docs" / "VERIFYING.md").read_text(encoding="utf-8")
+    for row in re.findall(r"(?m)^\| (?!Requirement|-)(.*) \|$", text.partition("<!-- requirements -->")[2].partition("<!-- /requirements -->")[0]):
+        requirement, *cells = row.split(" | ")
+        if len(cells) != 3:
+            yield f"docs/VERIFYING.md: {requirement}: {len(cells) + 1} cells"
+            continue
+        found = list(faults_of_row(cells))
+        yield from (f"docs/VERIFYING.md: {it} stands nowhere" for it in found)
+        yield None
+
+
+# Promises, each a function and its clauses.
+
+
+def promised(text):
+    """Yields the functions of each promise, or types, and the clauses that it names: `F`: `a`, `b`, a definition in brackets left out."""
+    prose = re.sub(r"(?m)^    .*$|\*\*", "", text)
+    several = r"(?:`{}`(?: \([^)]*\))?(?:, | and |, and )?)+"
+    for functions, clauses in re.findall(rf"({several.format('[A-Za-z_:]+')}): ({several.format('[a-z_]+')})", prose):
+        yield tuple(re.findall(r"`([^`]+)`", re.sub(r"\([^)]*\)", "", it)) for it in (functions, clauses))
+
+
+@functools.cache
+def clauses_of_type(name):
+    """The clauses of all methods in the files that have an impl of a type."""
+    texts = [file.read_text(encoding="utf-8") for crate in crates.listed().values() for file in crate.files("src")]
+    return {clause for text in texts if re.search(rf"\bimpl\b[^{{]*\b{name}\b", text) for clause in re.findall(r"ensures (\w+)", text)}
+
+
+@functools.cache
+def promises(name, clause):
+    return any(has_clause(crate, name, clause) for crate in crates.listed()) or clause in clauses_of_type(name.split("::")[0])
+
+
+def check_promises():
+    for functions, clauses in promised((TOP / "docs" / "PROMISES.md").read_text(encoding="utf-8")):
+        for clause in clauses:
+            well = any(promises(name, clause) for name in functions)
+            yield None if well else f"docs/PROMISES.md: {', '.join(functions)}: no clause {clause}"
+
+
+# Links and pictures.
+
+
+def slug(heading):
+    """The name by which a host links to a heading."""
+    return re.sub(r"[^\w\- ]", "", re.sub(r"\[([^\]]*)\]\([^)]*\)", r"\1", heading).lower()).replace(" ", "-")
+
+
+def headings(text):
+    return {slug(it) for it in re.findall(r"(?m)^#+ (.*)$", re.sub(r"(?ms)^```.*?^```$", "", text))}
+
+
+def broken_links(document, text):
+    for target in re.findall(r"\]\(([^)\s]+)\)", re.sub(r"(?ms)^```.*?^```$", "", text)):
+        if re.match(r"\w+:", target):
+            continue
+        file, _, anchor = target.partition("#")
+        path = (TOP / document).parent / file if file else TOP / document
+        if not path.exists() or (anchor and anchor not in headings(path.read_text(encoding="utf-8"))):
+            yield target
+
+
+def check_links():
+    pages = documents()
+    for document, text in pages.items():
+        yield from (f"{document}: the link {it} leads nowhere" for it in broken_links(document, text))
+        yield None
+    linked = "\n".join(pages.values())
+    for picture in sorted(TOP.glob("docs/pictures/*.svg")):
+        yield None if f"pictures/{picture.name})" in linked else f"docs/pictures/{picture.name} is on no page"
+
+
+def check_pictures():
+    drawn = subprocess.run([sys.executable, TOP / "docs" / "pictures" / "draw.py", "--check"], capture_output=True, text=True)
+    yield None if drawn.returncode == 0 else drawn.stdout.strip()
+
+
+# The version.
+
+
+def versions():
+    """The version by each file that has it."""
+    patterns = {
+        "VERSION": r"(\S+)", "CHANGELOG.md": r"(?m)^## \[(\d[^\]]*)\]", "python/pyproject.toml": r'(?m)^version = "(.*)"$',
+        "python/pcm/__init__.py": r'(?m)^__version__ = "(.*)"$',
+    }
+    found = {file: re.search(pattern, (TOP / file).read_text(encoding="utf-8")) for file, pattern in patterns.items()}
+    return {file: it and it[1] for file, it in found.items()}
+
+
+def check_versions():
+    found = versions()
+    yield None if len(set(found.values())) == 1 else f"the version differs: {found}"

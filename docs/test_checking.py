@@ -1,0 +1,127 @@
+#!/usr/bin/env python3
+"""Tests of docs/checking.py: each part takes what is right, and names what is stale."""
+import pathlib
+import sys
+import tempfile
+import unittest
+from unittest import mock
+
+sys.dont_write_bytecode = True
+import checking
+
+
+class Commands(unittest.TestCase):
+    def test_a_command_has_its_further_lines_and_its_output(self):
+        lines = ["text", "    $ ./pcm run \\", "    > --psi 1", "    row,op", "    1,W", "    $ true", "", "    $ false"]
+        found = list(checking.blocks(lines))
+        self.assertEqual(found, [("./pcm run \\\n--psi 1", 3, 5), ("true", 6, 6), ("false", 8, 8)])
+
+    def test_digits_of_a_whole_line_are_cut_short(self):
+        self.assertEqual(checking.shortened("1,read," + "ab" * 64), ["1,read,ab..ab"])
+        self.assertEqual(checking.shortened("ab" * 60), ["ab" * 60])
+
+    def test_three_points_stand_for_any_lines(self):
+        self.assertTrue(checking.matches(["a", "...", "d"], ["a", "b", "c", "d"]))
+        self.assertTrue(checking.matches(["a", "..."], ["a"]))
+        self.assertFalse(checking.matches(["a", "...", "d"], ["a", "b"]))
+
+
+class Quotes(unittest.TestCase):
+    CODE = ["fn one() {", "    1", "}", "fn two() {", "    2", "}"]
+
+    def test_parts_stand_in_their_order_whatever_their_blanks(self):
+        self.assertTrue(checking.stands_in(["  fn one() {", "..", "    2"], self.CODE))
+
+    def test_another_order_and_another_word_are_refused(self):
+        self.assertFalse(checking.stands_in(["2", "..", "fn one() {"], self.CODE))
+        self.assertFalse(checking.stands_in(["fn one() {", "2"], self.CODE))
+
+    def test_a_block_is_quoted_behind_its_comment(self):
+        text = "<!-- quoted from a/b.rt -->\n```rust\nfn one() {\n```\n\n```rust\nfn other() {\n```\n"
+        self.assertEqual(list(checking.quoted(text)), [("a/b.rt", ["fn one() {"])])
+
+
+class Names(unittest.TestCase):
+    def test_what_stands_in_the_code_is_known(self):
+        text = "pcm_top has `pcm_run`, whose `done` is a field of `KeepsPromises`; `--psi` and `crates.txt`, in `crates/pcm_top/src/program.rt`."
+        self.assertEqual(checking.unknown_names(text), set())
+        self.assertEqual(checking.unknown_options(text), set())
+        self.assertEqual(checking.unknown_paths("docs/PROMISES.md", text), set())
+
+    def test_what_stands_nowhere_is_named(self):
+        gone = "bank_" + "clock"
+        self.assertEqual(checking.unknown_names(f"{gone} has `Clocked{'Bank'}`"), {gone, "Clocked" + "Bank"})
+        self.assertEqual(checking.unknown_options("`pcm run --p" + "sy 1`"), {"--p" + "sy"})
+        self.assertEqual(checking.unknown_paths("README.md", "`crates/" + gone + "/src/lib.rt`"), {f"crates/{gone}/src/lib.rt"})
+
+    def test_a_definition_stands_in_the_file_that_the_tree_names(self):
+        self.assertEqual(list(checking.misplaced("    └ Does    pcm_top/specs/Running.antt    what a job does")), [])
+        self.assertEqual(list(checking.misplaced("    └ Does    pcm_top/specs/Calls.antt    what a job does")), ["Does pcm_top/specs/Calls.antt"])
+
+
+class Requirements(unittest.TestCase):
+    def test_clauses_wrong_bodies_and_tests_that_are_there(self):
+        row = ("`start_gap Registers::place: apart`", "`start_gap place_one_off_behind_the_gap`", "`part_tests four_lines_turn_round_five_places`")
+        self.assertEqual(list(checking.faults_of_row(row)), [])
+
+    def test_what_is_gone_is_named(self):
+        found = list(checking.faults_of_row(("`start_gap Registers::place: nothing`", "`start_gap no_edit`", "`part_tests no_test`")))
+        self.assertEqual(found, ["clause start_gap Registers::place: nothing", "wrong body start_gap no_edit", "test part_tests no_test"])
+
+    def test_a_case_of_stored_input_is_a_test(self):
+        self.assertTrue(checking.is_test("played_tests", "a_header_alone_gives_a_header_alone"))
+
+
+class Promises(unittest.TestCase):
+    def test_a_promise_has_functions_and_clauses(self):
+        text = "- start_gap `Registers::place`: `after`, `apart` (`IsApart`): so. `read`, `write`: **`fault`**, `next`: and so."
+        found = [(["Registers::place"], ["after", "apart"]), (["read", "write"], ["fault", "next"])]
+        self.assertEqual(list(checking.promised(text)), found)
+
+    def test_clauses_are_those_of_a_function_a_record_or_a_type(self):
+        self.assertTrue(checking.promises("Registers::place", "apart"))
+        self.assertTrue(checking.promises("KeepsPromises", "done"))
+        self.assertTrue(checking.promises("LoggedArray", "passed"))
+        self.assertFalse(checking.promises("Registers::place", "done"))
+
+
+class Links(unittest.TestCase):
+    def test_a_heading_is_linked_by_its_words(self):
+        self.assertEqual(checking.slug("A bank, and its `clock` (bank_timing)"), "a-bank-and-its-clock-bank_timing")
+
+    def test_links_lead_to_files_and_headings(self):
+        with tempfile.TemporaryDirectory() as room:
+            pathlib.Path(room, "one.md").write_text("# One thing\n")
+            with mock.patch.object(checking, "TOP", pathlib.Path(room)):
+                good = "[a](one.md) [b](one.md#one-thing) [c](https://example.org/x)"
+                self.assertEqual(list(checking.broken_links("two.md", good)), [])
+                self.assertEqual(list(checking.broken_links("two.md", "[a](three.md) [b](one.md#two)")), ["three.md", "one.md#two"])
+
+
+class Versions(unittest.TestCase):
+    def test_all_files_have_the_version(self):
+        self.assertEqual(len(checking.versions()), 4)
+        self.assertNotIn(None, checking.versions().values())
+
+    def test_one_that_differs_is_named(self):
+        with mock.patch.object(checking, "versions", lambda: {"VERSION": "1.1.0", "CHANGELOG.md": "1.0.0"}):
+            self.assertEqual(len([it for it in checking.check_versions() if it]), 1)
+
+
+class Crates(unittest.TestCase):
+    def test_each_crate_has_one_row(self):
+        rows = [line for line in checking.list_of_crates().splitlines() if line.startswith("- [")]
+        self.assertEqual(len(rows), len(checking.crates.listed()))
+
+    def test_a_stale_list_is_named(self):
+        with tempfile.TemporaryDirectory() as room:
+            pathlib.Path(room, "crates").mkdir()
+            pathlib.Path(room, "crates", "README.md").write_text("<!-- crates -->\nold\n<!-- /crates -->\n")
+            with mock.patch.object(checking, "TOP", pathlib.Path(room)):
+                self.assertEqual(len([it for it in checking.check_crates(False) if it]), 1)
+                self.assertEqual([it for it in checking.check_crates(True) if it], [])
+                self.assertEqual([it for it in checking.check_crates(False) if it], [])
+
+
+if __name__ == "__main__":
+    unittest.main()
