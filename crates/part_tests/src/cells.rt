@@ -3,6 +3,7 @@ ghost use Rattle.cell_rows.specs.Device.{IsShape};
 
 use crate::comparing::compare;
 use pcm_cells::{Act, CellArray, Cells, LoggedArray, MemArray, Script, ScriptArray, Sense, Wear};
+use run_text::sum_pulses;
 use std::alloc::{AllocError, Global};
 use std::test::Fail;
 
@@ -19,6 +20,13 @@ const LONG: Wear = Wear {
     lo: 1000,
     hi: 2000,
     misses: 3,
+};
+// Cells live on, and none misses.
+const LASTING: Wear = Wear {
+    seed: 7,
+    lo: 1000,
+    hi: 2000,
+    misses: 0,
 };
 
 // Pulses the cells of the line that differ, if any do, and answers how many that were.
@@ -230,7 +238,7 @@ const WIDE_ONES: Cells<128, 16> = Cells {
 #[test]
 fn a_tear_reaches_even_cells_alone(rt: HostRuntime) -> Result<(), Fail> {
     let mut array: MemArray<128, 16> = MemArray::new();
-    array.power_up(rt.alloc(), 1, Wear { misses: 0, ..LONG })?;
+    array.power_up(rt.alloc(), 1, LASTING)?;
     tear(&mut array, 0, &WIDE_ONES, 0);
     let torn = seen(&mut array, 0, 1).bits[127];
     overwrite(&mut array, 0, &WIDE_ONES, 2);
@@ -274,5 +282,27 @@ fn a_line_is_drawn_by_its_number_whichever_is_pulsed_first(rt: HostRuntime) -> R
     let none = [before.is_none(), others[1].is_none()];
     compare(&rt, same, [true, true, false]);
     compare(&rt, (none, pulses), ([true, true], 0));
+    Ok(())
+}
+
+#[test]
+fn pulses_of_all_lines_are_summed(rt: HostRuntime) -> Result<(), Fail> {
+    let mut array: MemArray<64, 8> = MemArray::new();
+    let none = sum_pulses(&array);
+    array.power_up(rt.alloc(), 3, LASTING)?;
+    let unpulsed = sum_pulses(&array);
+    overwrite(&mut array, 0, &ONES, 0);
+    overwrite(&mut array, 2, &ONES, 1);
+    overwrite(&mut array, 2, &Cells::zero(), 2);
+    assert_eq!(rt; [none, unpulsed, sum_pulses(&array)], [0, 0, 3]);
+    Ok(())
+}
+
+#[test]
+fn pulses_of_a_wide_line_are_summed(rt: HostRuntime) -> Result<(), Fail> {
+    let mut wide: ScriptArray<128, 16> = ScriptArray::new(Vec::new(rt.alloc()));
+    wide.power_up(rt.alloc(), 1, LASTING)?;
+    overwrite(&mut wide, 0, &WIDE_ONES, 0);
+    assert_eq!(rt; sum_pulses(&wide), 1);
     Ok(())
 }

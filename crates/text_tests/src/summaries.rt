@@ -1,36 +1,9 @@
-ghost use Rattle.std.specs.Prelude.{◌≡◌, ◌<◌};
-ghost use Rattle.cell_rows.specs.Device.{IsShape};
-
 use crate::expected::assert_text;
-use pcm_cells::{CellArray, Cells, MemArray, ScriptArray, Wear};
 use pcm_io::Text;
 use result_rows::{Outcome, Results};
-use run_text::{Counts, add_pulses, any_short, is_short, print_summary, sum_pulses};
+use run_text::{Counts, add_pulses, any_short, is_short, print_summary};
 use std::alloc::{AllocError, Global};
 use std::test::Fail;
-
-// Pulses the cells of the line that differ, if any do.
-fn overwrite<A: CellArray<B, M>, const B: usize, const M: usize>(
-    array: &mut A,
-    line: u32,
-    want: &Cells<B, M>,
-)
-    requires exists { line < (A.state array.old).lines }
-    requires shape { IsShape B M }
-    ensures { (A.state array.new).lines ≡ (A.state array.old).lines }
-{
-    let mask = array.sense(line, 0).differ(want);
-    if !mask.is_none() {
-        array.pulse(line, &mask, want, 0);
-    }
-}
-
-const LASTING: Wear = Wear {
-    seed: 0,
-    lo: 1000,
-    hi: 1000,
-    misses: 0,
-};
 
 // The summary of a write and a read that was forwarded from the queue, and whether a row of them falls short.
 fn forwarded(alloc: Global) -> Result<(Text, bool), AllocError> {
@@ -110,34 +83,4 @@ fn a_sum_of_pulses_stays_at_the_greatest_number(rt: HostRuntime) {
         add_pulses(1, u64::MAX),
     ];
     assert_eq!(rt; sums, [67, u64::MAX, u64::MAX]);
-}
-
-#[test]
-fn pulses_of_all_lines_are_summed(rt: HostRuntime) -> Result<(), Fail> {
-    let mut array: MemArray<64, 8> = MemArray::new();
-    let none = sum_pulses(&array);
-    array.power_up(rt.alloc(), 3, LASTING)?;
-    let unpulsed = sum_pulses(&array);
-    let ones = Cells {
-        bits: [0xff; 64],
-        meta: [0; 8],
-    };
-    overwrite(&mut array, 0, &ones);
-    overwrite(&mut array, 2, &ones);
-    overwrite(&mut array, 2, &Cells::zero());
-    assert_eq!(rt; [none, unpulsed, sum_pulses(&array)], [0, 0, 3]);
-    Ok(())
-}
-
-#[test]
-fn pulses_of_a_wide_line_are_summed(rt: HostRuntime) -> Result<(), Fail> {
-    let mut wide: ScriptArray<128, 16> = ScriptArray::new(Vec::new(rt.alloc()));
-    wide.power_up(rt.alloc(), 1, LASTING)?;
-    let one = Cells {
-        bits: [1; 128],
-        meta: [0; 16],
-    };
-    overwrite(&mut wide, 0, &one);
-    assert_eq!(rt; sum_pulses(&wide), 1);
-    Ok(())
 }
