@@ -1,12 +1,9 @@
 -- How words and bytes decide the status of a call.
-use Rattle.std.proofs.Common.{◌≡◌, ◌≢◌, ℕ, ◌+◌, ◌-◌, ◌^◌, ◌<◌, ◌≤◌, ◌⊎◌, inl, inr, List, [], ◌++◌, length, true, false, Option, Some, None, refl, sym, ap, ◌∙◌, subst, arith}
-use Rattle.std.specs.Prelude.{Result, Ok, Err, IfOk, IfErr}
+use Rattle.std.proofs.Common.{◌≡◌, ◌≢◌, ℕ, ◌+◌, ◌-◌, ◌^◌, ◌<◌, ◌≤◌, ◌⊎◌, inl, inr, List, [], ◌++◌, length, true, Option, Some, None, refl, sym, ap, ◌∙◌, subst, arith}
+use Rattle.std.specs.Prelude.{Result, Ok, Err}
 use Rattle.std.specs.Io.KnownBytes.{Consumes, IsAtEnd}
-use Rattle.std.proofs.lemmas.Bool.{cases_eq}
 use Rattle.std.proofs.lemmas.List.{append-nil, length-append}
 use Rattle.pcm_io.specs.Faults.{Rose}
-use Rattle.pcm_io.proofs.ByteLemmas.{Takes-nothing}
-use Rattle.cell_rows.specs.Device.{ArrayState}
 use Rattle.trace_reader.specs.Trace.{trace_of}
 use Rattle.trace_reader.specs.declared.event.Event.{Event}
 use Rattle.trace_reader.specs.declared.fault.ParseFault.{ParseFault}
@@ -22,14 +19,15 @@ use Rattle.command_line.specs.declared.job.LineSize.{LineSize}
 use Rattle.command_line.specs.declared.job.LineSize.TheVariants.{Bytes64, Bytes128}
 use Rattle.command_line.specs.declared.job.Refusal.{Refusal}
 use Rattle.pcm_top.specs.Jobs.{bytes_in}
-use Rattle.pcm_top.specs.Reading.{IsReadFault, ReadsWhole, SourceChange, TakesNothing, TakesSome, trace_room}
-use Rattle.pcm_top.specs.Calls.{Deed, SinkChange}
+use Rattle.program_calls.specs.Calls.{SinkChange, SourceChange}
+use Rattle.pcm_top.specs.Reading.{IsReadFault, ReadsWhole, TakesSome, trace_room}
+use Rattle.pcm_top.specs.Calls.{Deed}
 use Rattle.pcm_top.specs.Inputs.{ComeFrom, IsFaultOf, is_source}
 use Rattle.command_line.specs.declared.job.CheckJob.{CheckJob}
 use Rattle.check_text.specs.declared.fault.TextFault.TheVariants as text
 use Rattle.pcm_top.specs.Checking.{IsCheckFault, TellsVerdict, pointers_in, room_line}
 use Rattle.pcm_top.specs.FaultLines.{status_of}
-use Rattle.pcm_top.specs.Running.{Does, HasCause, IsRefused, Runs, WritesRun, reads_source, status_done}
+use Rattle.pcm_top.specs.Running.{Does, HasCause, WritesRun, reads_source, status_done}
 use Rattle.pcm_top.specs.Showing.{IsShowFault, shown_of}
 use Rattle.pcm_top.specs.Statuses.{IsImageStatus, IsInputStatus, IsRunStatus, IsShowStatus, IsSourceStatus, IsStatusFor, IsTraceStatus, IsCheckStatus, IsTextStatus}
 use Rattle.pcm_top.specs.declared.run.Done.{Done}
@@ -218,54 +216,12 @@ is_write Read = inr (λ e. cc e)
 is_write TooLong = inr (λ e. cc e)
 is_write NoMemory = inr (λ e. cc e)
 
--- a source before and after nothing
-abbrev pub untouched : Option (List ℕ) → ℕ → ℕ → SourceChange
-untouched left taken faults = record { left_before = left; left_now = left; taken_before = taken; taken_now = taken; faults_before = faults; faults_now = faults }
-
-some-nothing : (n : ℕ) (left : Option (List ℕ)) (taken faults : ℕ) → TakesSome n (untouched left taken faults)
-some-nothing n left taken faults = ([], Takes-nothing left taken, omega arith)
-
-pub drawn-nothing : (left : Option (List ℕ)) (taken faults : ℕ) → TakesNothing (untouched left taken faults)
-drawn-nothing left taken faults = record { left = refl; taken = refl; faults = refl }
-
-input-memory : (n : ℕ) (job : RunJob) (input : Input) (left : Option (List ℕ)) (taken faults : ℕ) → IsFaultOf n job input NoMemory (untouched left taken faults)
-input-memory n job Source left taken faults = (refl, some-nothing n left taken faults)
-input-memory n job (Drawn mix) left taken faults = refl
-
-memory-cause : (asked : Result Job Refusal) (left : Option (List ℕ)) (taken faults : ℕ) → HasCause NoMemory asked (untouched left taken faults)
-memory-cause (Err e) left taken faults = inr refl
-memory-cause (Ok (Run job)) left taken faults = input-memory (bytes_in job.line) job job.input left taken faults
-memory-cause (Ok (Gen job)) left taken faults = refl
-memory-cause (Ok (Map job)) left taken faults = refl
-memory-cause (Ok (Moves job)) left taken faults = refl
-memory-cause (Ok Show) left taken faults = (refl, some-nothing 64 left taken faults)
-memory-cause (Ok (Check job)) left taken faults = (refl, some-nothing room_line left taken faults)
-
-pub refused-cause : (asked : Result Job Refusal) (fault : Fault) (left : Option (List ℕ)) (taken faults : ℕ) → IsRefused asked fault → HasCause fault asked (untouched left taken faults)
-refused-cause asked fault left taken faults (inl memory) = rw memory (memory-cause asked left taken faults)
-refused-cause asked fault left taken faults (inr usage) = rw usage.1 (inl usage.0)
-
--- neither is a fault of writing
-pub refused-before : (asked : Result Job Refusal) (fault : Fault) → IsRefused asked fault → fault ≢ Write
-refused-before asked fault (inl memory) = λ e. cc (sym memory ∙ e)
-refused-before asked fault (inr usage) = λ e. cc (sym usage.0 ∙ e)
-
 -- the count of taken bytes rises by no more than was taken
 within-count : (n : ℕ) (s : SourceChange) → TakesSome n s → s.taken_before + trace_room n < 2 ^ 64 - 1 → s.taken_before + trace_room n < s.taken_now → ⊥
 within-count n s some low over =
     let counted = some.1.counted in
     let within = some.2 in
     omega arith
-
-too-much : (n lines : ℕ) (fault : Fault) (s : SourceChange) → IsReadFault n lines fault s → s.taken_before + trace_room n < 2 ^ 64 - 1 → s.taken_before + trace_room n < s.taken_now → fault ≡ TooLong
-too-much n lines Usage s cause low over = absurd cause
-too-much n lines Write s cause low over = absurd cause
-too-much n lines (Image f) s cause low over = absurd cause
-too-much n lines (Results row) s cause low over = absurd cause
-too-much n lines Read s cause low over = absurd (within-count n s cause.1 low over)
-too-much n lines NoMemory s cause low over = absurd (within-count n s cause.1 low over)
-too-much n lines (Trace f) s cause low over = absurd (within-count n s (cause.0, cause.1.takes, cause.1.within) low over)
-too-much n lines TooLong s cause low over = refl
 
 -- memory may run out behind the events
 pub memory-after : (n : ℕ) (job : RunJob) (input : Input) (s : SourceChange) (events : List (Event n)) → ComeFrom n job input s events → s.faults_now ≡ s.faults_before
@@ -279,31 +235,3 @@ come-within n job Source s events come low over = within-count n s (come.bytes, 
 come-within n job (Drawn mix) s events come low over =
     let same = come.0.taken in
     omega arith
-
-input-too-much : (n : ℕ) (job : RunJob) (input : Input) (fault : Fault) (s : SourceChange) → (is_source input ≡ false → s.taken_now ≡ s.taken_before) → IsFaultOf n job input fault s
-    → s.taken_before + trace_room n < 2 ^ 64 - 1 → s.taken_before + trace_room n < s.taken_now → fault ≡ TooLong
-input-too-much n job Source fault s still cause low over = too-much n (total_of job.shape) fault s cause low over
-input-too-much n job (Drawn mix) fault s still cause low over =
-    let same = still refl in
-    absurd (omega arith)
-
--- a run over too many bytes ends with that fault
-pub run-too_long : {T : Type 0} (n m e : ℕ) (job : RunJob) (s : SourceChange) (array : ArrayState n m) (result : Result T Fault) → IfOk result (λ done. Runs n m e job s array) → (result ≡ Err Write → Runs n m e job s array)
-    → IfErr result (λ fault. fault ≢ Write → IsFaultOf n job job.input fault s) → (is_source job.input ≡ false → s.taken_now ≡ s.taken_before)
-    → s.taken_before + trace_room n < 2 ^ 64 - 1 → s.taken_before + trace_room n < s.taken_now → result ≡ Err TooLong
-run-too_long n m e job s array (Ok x) run write cause still low over = absurd (come-within n job job.input s run.events run.come low over)
-run-too_long n m e job s array (Err fault) run write cause still low over =
-    elim (is_write fault) [
-      | inl is ↦
-          let made = write (ap Err is) in
-          absurd (come-within n job job.input s made.events made.come low over)
-      | inr other ↦ ap Err (input-too-much n job job.input fault s still (cause other) low over)
-    ]
-
--- a fault over too many bytes is told as that, or can't be told
-pub too_long-told : (fault : Fault) (status : ℕ) (broken : Type 0) → fault ≡ TooLong → (status ≢ 5 → status ≡ status_of fault) → (status ≡ 5 → broken) → (status ≡ 6) ⊎ ((status ≡ 5) × broken)
-too_long-told fault status broken is told untold =
-    elim (cases_eq status 5) [
-      | inl five ↦ inr (five, untold five)
-      | inr other ↦ inl (told other ∙ ap status_of is)
-    ]

@@ -8,7 +8,7 @@ use Rattle.pcm_io.proofs.ByteLemmas.{Appends-Appends, Appends-nothing}
 use Rattle.trace_reader.specs.declared.event.Event.{Event}
 use Rattle.trace_gen.specs.EventText.{event_row, event_rows, trace_header, trace_text}
 use Rattle.run_text.specs.Gathering.{Flushes}
-use Rattle.pcm_top.proofs.Printing.{AppendsPrefix-after}
+use Rattle.program_calls.proofs.Written.{AppendsPrefix-after}
 
 -- all but these rows are printed: some bytes are gone, some are in the text, and these rows are left
 pub record HasDrawn {n : ℕ} (all left : List (Event n)) (text : Reserved) (before now : Option (List ℕ)) : Type 0 where

@@ -1,4 +1,3 @@
-pub mod Printing
 pub mod Reporting
 pub mod Shapes
 pub mod Drawing
@@ -7,7 +6,6 @@ pub mod Deciding
 pub mod Tables
 mod Replaying
 pub mod Printable
-mod Wearing
-mod Clocks
+mod Worn
 mod Saving
 mod Making

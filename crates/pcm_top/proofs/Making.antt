@@ -12,12 +12,13 @@ use Rattle.pcm_image.specs.Saved.{Saved}
 use Rattle.pcm_module.specs.State.{AreEndsOf, ModuleState}
 use Rattle.command_line.specs.declared.job.Print.TheVariants.{Image}
 use Rattle.command_line.specs.declared.job.RunJob.{RunJob}
-use Rattle.pcm_top.specs.Reading.{SourceChange}
-use Rattle.pcm_top.specs.Calls.{Gets, GetsPart, SinkChange}
+use Rattle.program_calls.specs.Calls.{Gets, GetsPart, SinkChange, SourceChange}
+use Rattle.module_prints.specs.WearReports.{HaveRoles}
+use Rattle.module_prints.specs.Images.{WritesRows}
 use Rattle.pcm_top.specs.Inputs.{ComeFrom}
 use Rattle.pcm_top.specs.Rows.{rows_of}
-use Rattle.pcm_top.specs.RunText.{HaveRoles, IsRunText}
-use Rattle.pcm_top.specs.Images.{WritesRows, senses_for}
+use Rattle.pcm_top.specs.RunText.{IsRunText}
+use Rattle.pcm_top.specs.Images.{senses_for}
 use Rattle.pcm_top.proofs.Saving.{LeavesWith}
 use Rattle.pcm_top.specs.Running.{RunIsWritten, RunIsWrittenInPart, Runs, done_by}
 use Rattle.pcm_top.specs.Laws.{CanBePrinted, PrintableLaw}

@@ -4,11 +4,11 @@ use Rattle.std.specs.Io.KnownBytes.{Appends}
 use Rattle.std.proofs.lemmas.Bool.{cases_eq}
 use Rattle.std.proofs.lemmas.List.{append-nil}
 use Rattle.pcm_io.specs.Giving.{AppendsPrefix}
-use Rattle.pcm_io.specs.Reserved.{Reserved, appended, reserved}
-use Rattle.pcm_io.proofs.ByteLemmas.{Appends-Appends, Appends-nothing}
+use Rattle.pcm_io.specs.Reserved.{Reserved, appended}
+use Rattle.pcm_io.proofs.ByteLemmas.{Appends-Appends}
 use Rattle.rotation_reports.specs.Rows.{rows_from}
 use Rattle.run_text.specs.Gathering.{Flushes}
-use Rattle.pcm_top.proofs.Printing.{AppendsPrefix-after}
+use Rattle.program_calls.proofs.Written.{AppendsPrefix-after}
 
 -- the header and the first i rows are printed: some bytes are gone, and the others are in the text
 pub record HasReported (header : List ℕ) (row : ℕ → List ℕ) (first i : ℕ) (text : Reserved) (before now : Option (List ℕ)) : Type 0 where
@@ -16,9 +16,6 @@ pub record HasReported (header : List ℕ) (row : ℕ → List ℕ) (first i : �
   pub sent : Appends before now gone
   pub is : gone ++ text.bytes ≡ header ++ rows_from row first i
   pub limit : text.limit ≡ 65536
-
-pub reported-header : (header : List ℕ) (row : ℕ → List ℕ) (first : ℕ) (a : Option (List ℕ)) → HasReported header row first 0 (appended (reserved 65536) header) a a
-reported-header header row first a = record { gone = []; sent = Appends-nothing a; is = sym (append-nil header); limit = refl }
 
 pub reported-flushed : (header : List ℕ) (row : ℕ → List ℕ) (first i room : ℕ) (old new : Reserved) (a b c : Option (List ℕ))
     → HasReported header row first i old a b → Flushes room old new b c → HasReported header row first i new a c

@@ -22,10 +22,12 @@ use Rattle.command_line.specs.declared.job.Print.{Print}
 use Rattle.command_line.specs.declared.job.Print.TheVariants.{Image}
 use Rattle.image_text.specs.Sensing.{SensesRows}
 use Rattle.image_text.proofs.Sensing.{senses-none}
-use Rattle.pcm_top.specs.Images.{kept_in, senses_for}
+use Rattle.module_prints.specs.WearReports.{HaveRoles}
+use Rattle.module_prints.specs.Images.{kept_in}
+use Rattle.pcm_top.specs.Images.{senses_for}
 use Rattle.pcm_top.specs.Played.{IsPlayed}
 use Rattle.pcm_top.specs.Rows.{rows_of}
-use Rattle.pcm_top.specs.RunText.{HaveRoles, IsRunText}
+use Rattle.pcm_top.specs.RunText.{IsRunText}
 
 -- of an array nothing was sensed for a text that needs no sense
 pub senses-nothing : {n m : ℕ} {T E : Type 0} (r : Result T E) (print : Print) (array : ArrayState n m) → ((lines : ℕ) → senses_for print lines ≡ 0) → OnOk r (SensesRows (senses_for print array.lines) array array)

@@ -9,8 +9,8 @@ use Rattle.check_text.specs.Checked.{HasVerdict, IsTextFault}
 use Rattle.check_text.specs.VerdictText.{verdict_text}
 use Rattle.check_text.specs.declared.fault.TextFault.{TextFault}
 use Rattle.check_text.specs.declared.fault.TextFault.TheVariants as text
-use Rattle.pcm_top.specs.Calls.{Gets, GetsPart, SinkChange}
-use Rattle.pcm_top.specs.Reading.{ReadsWhole, NeverFails, SourceChange, SourceFails, TakesMore, TakesSome}
+use Rattle.program_calls.specs.Calls.{Gets, GetsPart, SinkChange, SourceChange}
+use Rattle.pcm_top.specs.Reading.{ReadsWhole, NeverFails, SourceFails, TakesMore, TakesSome}
 use Rattle.pcm_top.specs.declared.run.Done.{Done}
 use Rattle.pcm_top.specs.declared.run.Done.TheVariants.{Whole, Short}
 use Rattle.pcm_top.specs.declared.fault.Fault.{Fault}

@@ -7,8 +7,9 @@ use Rattle.command_line.specs.declared.job.CheckJob.{CheckJob}
 use Rattle.command_line.specs.declared.job.LineSize.TheVariants.{Bytes64, Bytes128}
 use Rattle.command_line.specs.declared.job.RunJob.{RunJob}
 use Rattle.pcm_image.specs.declared.ImageFault.{ImageFault}
-use Rattle.pcm_top.specs.Reading.{NeverFails, OnOverflow, SourceChange, trace_room}
-use Rattle.pcm_top.specs.Calls.{AreArraysUntouched, Call, Gets, GetsPart, IsUntouched, Lent, SinkChange, SinkFails, deed_of}
+use Rattle.program_calls.specs.Calls.{Gets, GetsPart, IsUntouched, Lent, SinkChange, SinkFails, SourceChange}
+use Rattle.pcm_top.specs.Reading.{NeverFails, OnOverflow, trace_room}
+use Rattle.pcm_top.specs.Calls.{AreArraysUntouched, Call, deed_of}
 use Rattle.pcm_top.specs.Inputs.{ComeFrom, IsFaultOf, is_source}
 use Rattle.pcm_top.specs.Checking.{IsCheckFault, TellsVerdict, TellsVerdictInPart, room_line}
 use Rattle.pcm_top.specs.Showing.{IsImageFault, IsShowFault, ShowsImage, ShowsImageInPart, ShowsText, ShowsTextInPart}

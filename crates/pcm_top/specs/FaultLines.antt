@@ -1,22 +1,10 @@
 -- What a call that didn't do its work says: its status, and a line for the user.
-use Rattle.std.specs.Prelude.{ℕ, List, [], ◌∷◌, ◌++◌, codes, decimal}
-use Rattle.std.specs.Borrow.{Bor}
-use Rattle.trace_reader.specs.declared.fault.Kind.{Kind}
-use Rattle.trace_reader.specs.declared.fault.Kind.TheVariants as kind
+use Rattle.std.specs.Prelude.{ℕ, List, ◌++◌, codes, decimal}
 use Rattle.pcm_image.specs.declared.ImageKind.{ImageKind}
 use Rattle.pcm_image.specs.declared.ImageKind.TheVariants as image
+use Rattle.program_calls.specs.FaultLines.{trace_line}
 use Rattle.pcm_top.specs.declared.fault.Fault.{Fault}
 use Rattle.pcm_top.specs.declared.fault.Fault.TheVariants.{Usage, Trace, Image, Read, Write, TooLong, NoMemory, Results}
-
--- the word for what is wrong with a row of a trace
-abbrev pub kind_word : Kind → List ℕ
-kind_word kind.Header = codes "header"
-kind_word kind.Fields = codes "fields"
-kind_word kind.Tick = codes "tick"
-kind_word kind.Order = codes "order"
-kind_word kind.Op = codes "op"
-kind_word kind.Line = codes "line"
-kind_word kind.Payload = codes "payload"
 
 -- the word for how a field of an image fails
 abbrev pub image_word : ImageKind → List ℕ
@@ -35,8 +23,7 @@ usage_text = codes "usage: pcm run|gen|map|moves|show|check [options]\n"
 -- the line that is written for a fault
 unfoldable pub fault_line : Fault → List ℕ
 fault_line Usage = usage_text
-fault_line (Trace f) =
-    codes "trace row " ++ (decimal f.row ++ (codes ": " ++ (kind_word f.kind ++ codes "\n")))
+fault_line (Trace f) = trace_line f
 fault_line (Results row) = codes "results row " ++ (decimal row ++ codes "\n")
 fault_line (Image f) =
     codes "image byte " ++ (decimal f.at ++ (codes ": " ++ (image_word f.kind ++ codes "\n")))
@@ -55,8 +42,3 @@ status_of Read = 4
 status_of Write = 5
 status_of TooLong = 6
 status_of NoMemory = 7
-
--- texts one after the other
-abbrev pub joined : List (Bor (List ℕ)) → List ℕ
-joined [] = []
-joined (part ∷ parts) = part.now ++ joined parts

@@ -6,7 +6,8 @@ use Rattle.module_shape.specs.Limits.{total_of}
 use Rattle.command_line.specs.declared.job.Input.{Input}
 use Rattle.command_line.specs.declared.job.Input.TheVariants.{Source, Drawn}
 use Rattle.command_line.specs.declared.job.RunJob.{RunJob}
-use Rattle.pcm_top.specs.Reading.{IsReadFault, ReadsTrace, SourceChange, TakesNothing}
+use Rattle.program_calls.specs.Calls.{SourceChange}
+use Rattle.pcm_top.specs.Reading.{IsReadFault, ReadsTrace, TakesNothing}
 use Rattle.pcm_top.specs.declared.fault.Fault.{Fault}
 use Rattle.pcm_top.specs.declared.fault.Fault.TheVariants.{NoMemory}
 

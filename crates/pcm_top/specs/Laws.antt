@@ -10,7 +10,7 @@ use Rattle.end_laws.specs.Ends.{BankEnd}
 use Rattle.run_laws.specs.Runs.{RunsRight}
 use Rattle.run_text.specs.ResultText.{ArePrintable}
 use Rattle.pcm_top.specs.Rows.{rows_of}
-use Rattle.pcm_top.specs.RunText.{HaveRoles}
+use Rattle.module_prints.specs.WearReports.{HaveRoles}
 
 -- each row of a right run can be printed, and each array line has a role
 pub record CanBePrinted {n : ℕ} (raw : RawShape) (seed : ℕ)

@@ -2,8 +2,9 @@
 use Rattle.std.specs.Prelude.{◌≡◌, ◌≢◌, ◌⊎◌, ◌≤◌, ℕ, List, true, false, Some, Err}
 use Rattle.command_line.specs.declared.job.LineSize.TheVariants.{Bytes64, Bytes128}
 use Rattle.command_line.specs.declared.job.Refusal.TheVariants as refusal
+use Rattle.program_calls.specs.Calls.{IsUntouched, Lent, SinkChange, SinkFails}
 use Rattle.pcm_top.specs.Reading.{OnOverflow, SourceFails}
-use Rattle.pcm_top.specs.Calls.{AreArraysUntouched, Call, IsUntouched, Lent, SinkChange, SinkFails, deed_of}
+use Rattle.pcm_top.specs.Calls.{AreArraysUntouched, Call, deed_of}
 use Rattle.pcm_top.specs.FaultLines.{fault_line, status_of}
 use Rattle.pcm_top.specs.Running.{Does, DoesPart, IsTried, Tells, TellsPart, reads_source, room_of, runs_on, status_done}
 use Rattle.pcm_top.specs.Statuses.{IsStatusFor}

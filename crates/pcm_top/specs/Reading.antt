@@ -1,5 +1,5 @@
 -- What a run read of its source.
-use Rattle.std.specs.Prelude.{◌≡◌, ℕ, ◌+◌, ◌*◌, ◌-◌, ◌^◌, ◌<◌, ◌≤◌, ◌⊎◌, List, length, Option, Ok, Err}
+use Rattle.std.specs.Prelude.{◌≡◌, ℕ, ◌+◌, ◌*◌, ◌-◌, ◌^◌, ◌<◌, ◌≤◌, ◌⊎◌, List, length, Ok, Err}
 use Rattle.std.specs.Io.KnownBytes.{IsAtEnd}
 use Rattle.pcm_io.specs.Faults.{Rose}
 use Rattle.pcm_io.specs.Taking.{Takes}
@@ -7,27 +7,9 @@ use Rattle.trace_reader.specs.Trace.{trace_of}
 use Rattle.trace_reader.specs.declared.event.Event.{Event}
 use Rattle.trace_reader.specs.declared.fault.ParseFault.{ParseFault}
 use Rattle.trace_reader.specs.declared.fault.ParseFault.TheVariants as parsing
+use Rattle.program_calls.specs.Calls.{SourceChange}
 use Rattle.pcm_top.specs.declared.fault.Fault.{Fault}
 use Rattle.pcm_top.specs.declared.fault.Fault.TheVariants.{Usage, Trace, Image, Read, Write, TooLong, NoMemory, Results}
-
--- a source before and after a call: what is left, how much was taken, and how often it failed
-pub record SourceChange : Type 0 where
-  pub left_before : Option (List ℕ)
-  pub left_now : Option (List ℕ)
-  pub taken_before : ℕ
-  pub taken_now : ℕ
-  pub faults_before : ℕ
-  pub faults_now : ℕ
-
-abbrev pub source_change : {S : Type 0} → (S → Option (List ℕ)) → (S → ℕ) → (S → ℕ) → S → S → SourceChange
-source_change left taken faults old new = record {
-  left_before = left old;
-  left_now = left new;
-  taken_before = taken old;
-  taken_now = taken new;
-  faults_before = faults old;
-  faults_now = faults new;
-}
 
 -- a trace over lines of n bytes has at most so many bytes: 67,108,864 for lines of 64 bytes, 134,217,728 for
 -- lines of 128

@@ -19,11 +19,13 @@ use Rattle.command_line.specs.declared.job.LineSize.TheVariants.{Bytes64, Bytes1
 use Rattle.command_line.specs.declared.job.Refusal.{Refusal}
 use Rattle.command_line.specs.declared.job.Refusal.TheVariants as refusal
 use Rattle.pcm_top.specs.Jobs.{bytes_in, gen_text, map_options}
-use Rattle.pcm_top.specs.Reading.{SourceChange, trace_room}
-use Rattle.pcm_top.specs.Calls.{Deed, Gets, GetsPart, SinkChange, SinkFails}
+use Rattle.program_calls.specs.Calls.{Gets, GetsPart, SinkChange, SinkFails, SourceChange}
+use Rattle.module_prints.specs.Images.{WritesRows}
+use Rattle.pcm_top.specs.Reading.{trace_room}
+use Rattle.pcm_top.specs.Calls.{Deed}
 use Rattle.pcm_top.specs.Inputs.{ComeFrom, IsFaultOf, is_source}
 use Rattle.pcm_top.specs.Checking.{IsCheckFault, TellsVerdict, TellsVerdictInPart, pointers_in, room_line}
-use Rattle.pcm_top.specs.Images.{WritesRows, senses_for}
+use Rattle.pcm_top.specs.Images.{senses_for}
 use Rattle.pcm_top.specs.Rows.{rows_of}
 use Rattle.pcm_top.specs.RunText.{IsRunText}
 use Rattle.pcm_top.specs.Showing.{IsShowFault, ShowsImage, ShowsImageInPart}

@@ -6,8 +6,8 @@ use Rattle.pcm_image.specs.Saved.{Saved, total_in}
 use Rattle.pcm_image.specs.Reading.{◌>>=◌, image_of, size_of}
 use Rattle.pcm_image.specs.Standing.{stands_for}
 use Rattle.pcm_image.specs.declared.ImageFault.{ImageFault}
-use Rattle.pcm_top.specs.Calls.{Gets, GetsPart, SinkChange}
-use Rattle.pcm_top.specs.Reading.{ReadsWhole, NeverFails, SourceChange, SourceFails, TakesMore, TakesSome}
+use Rattle.program_calls.specs.Calls.{Gets, GetsPart, SinkChange, SourceChange}
+use Rattle.pcm_top.specs.Reading.{ReadsWhole, NeverFails, SourceFails, TakesMore, TakesSome}
 use Rattle.pcm_top.specs.declared.fault.Fault.{Fault}
 use Rattle.pcm_top.specs.declared.fault.Fault.TheVariants.{Usage, Trace, Results, Image, Read, Write, TooLong, NoMemory}
 

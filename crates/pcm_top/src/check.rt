@@ -2,8 +2,7 @@
 ghost use Rattle.std.specs.Prelude.{◌≡◌, ◌≤◌};
 ghost use Rattle.check_text.specs.VerdictText.{verdict_text};
 ghost use Rattle.pcm_top.specs.Jobs.{bytes_in};
-ghost use Rattle.pcm_top.specs.Reading.{source_change};
-ghost use Rattle.pcm_top.specs.Calls.{lent_sink};
+ghost use Rattle.program_calls.specs.Calls.{lent_sink, source_change};
 ghost use Rattle.pcm_top.specs.Checking.{IsCheckFault, ReadsVerdict, done_on, pointers_in};
 ghost use Rattle.pcm_top.specs.Ends.{EndsCheck, EndsText, Gives};
 

@@ -4,7 +4,7 @@ ghost use Rattle.pcm_io.specs.Reserved.{reserved};
 ghost use Rattle.trace_gen.specs.EventText.{trace_text};
 ghost use Rattle.trace_gen.specs.Generated.{IsMix, generated};
 ghost use Rattle.pcm_top.specs.Jobs.{gen_text};
-ghost use Rattle.pcm_top.specs.Calls.{Writes, lent_sink, sink_change};
+ghost use Rattle.program_calls.specs.Calls.{Writes, lent_sink, sink_change};
 ghost use Rattle.pcm_top.specs.Ends.{EndsText};
 
 use crate::fault::Fault;

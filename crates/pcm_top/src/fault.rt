@@ -1,12 +1,13 @@
 // Why a call ends without its work done, and what it says then.
 ghost use Rattle.std.specs.Prelude.{◌≡◌};
-ghost use Rattle.pcm_top.specs.Calls.{Writes, sink_change};
-ghost use Rattle.pcm_top.specs.FaultLines.{kind_word, image_word, fault_line, status_of, joined};
+ghost use Rattle.program_calls.specs.Calls.{Writes, sink_change};
+ghost use Rattle.pcm_top.specs.FaultLines.{image_word, fault_line, status_of};
 
 use itoa::Buffer;
 use pcm_image::{ImageFault, ImageKind};
 use pcm_io::{Sink, WriteFault, write_all};
-use trace_reader::{Kind, TraceFault};
+use program_calls::{tell_trace, write_parts};
+use trace_reader::TraceFault;
 
 /// Why a call of the program ends without its work done.
 #[derive(Clone, Copy, Debug, PartialEq)]
@@ -46,20 +47,6 @@ impl Fault {
     }
 }
 
-fn word(kind: Kind) -> &'static [u8]
-    ensures { result.now ≡ kind_word kind }
-{
-    match kind {
-        Kind::Header => b"header",
-        Kind::Fields => b"fields",
-        Kind::Tick => b"tick",
-        Kind::Order => b"order",
-        Kind::Op => b"op",
-        Kind::Line => b"line",
-        Kind::Payload => b"payload",
-    }
-}
-
 fn image_word_of(kind: ImageKind) -> &'static [u8]
     ensures { result.now ≡ image_word kind }
 {
@@ -72,32 +59,6 @@ fn image_word_of(kind: ImageKind) -> &'static [u8]
         ImageKind::Entry => b"entry",
         ImageKind::Extra => b"extra",
     }
-}
-
-// Writes texts one after the other.
-fn write_parts<F: Sink>(parts: &[&[u8]], err: &mut F) -> Result<(), WriteFault>
-    ensures { Writes (joined parts.now) (sink_change F.written F.faults err.old err.new) result }
-{
-    for part in parts {
-        write_all(err, part)?;
-    }
-    Ok(())
-}
-
-fn tell_trace<F: Sink>(fault: TraceFault, err: &mut F) -> Result<(), WriteFault>
-    ensures { Writes (fault_line (Fault.Trace fault))
-        (sink_change F.written F.faults err.old err.new) result }
-{
-    let mut digits = Buffer::new();
-    let row = digits.format(fault.row).as_bytes();
-    let parts = [
-        b"trace row ".as_slice(),
-        row,
-        b": ".as_slice(),
-        word(fault.kind),
-        b"\n".as_slice(),
-    ];
-    write_parts(&parts, err)
 }
 
 fn tell_image<F: Sink>(fault: ImageFault, err: &mut F) -> Result<(), WriteFault>

@@ -4,7 +4,8 @@ ghost use Rattle.trace_gen.specs.Generated.{IsMix, generated};
 ghost use Rattle.trace_reader.specs.Events.{AreEventsFor};
 ghost use Rattle.module_shape.specs.Limits.{IsShape, total_of};
 ghost use Rattle.command_line.specs.Jobs.{IsRun};
-ghost use Rattle.pcm_top.specs.Reading.{IsReadFault, ReadsTrace, source_change};
+ghost use Rattle.program_calls.specs.Calls.{source_change};
+ghost use Rattle.pcm_top.specs.Reading.{IsReadFault, ReadsTrace};
 ghost use Rattle.pcm_top.specs.Ends.{Gives};
 ghost use Rattle.pcm_top.specs.Inputs.{ComeFrom, IsFaultOf, is_source};
 

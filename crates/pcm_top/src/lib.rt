@@ -7,7 +7,6 @@ mod cause;
 mod check;
 mod drawn;
 mod fault;
-mod image;
 mod input;
 pub mod laws;
 mod memory;
@@ -17,7 +16,6 @@ mod replay;
 mod report;
 mod run;
 mod show;
-mod wear;
 
 pub use check::CHECK_ROOM;
 pub use fault::Fault;

@@ -1,7 +1,7 @@
 // The program's one call.
 ghost use Rattle.std.specs.Prelude.{◌≡◌, ◌⊎◌, map, string_bytes, Ok, Err, IfOk, IfErr, OnOk};
 ghost use Rattle.command_line.specs.Jobs.{IsJob, IsRun, job_of};
-ghost use Rattle.pcm_top.specs.Calls.{lent_array, lent_sink, lent_source, sink_change};
+ghost use Rattle.program_calls.specs.Calls.{lent_array, lent_sink, lent_source, sink_change};
 ghost use Rattle.pcm_top.specs.Ends.{EndsJob, IsToldOf};
 ghost use Rattle.pcm_top.specs.Promises.{KeepsPromises};
 ghost use Rattle.pcm_top.specs.Running.{IsRefused};

@@ -5,7 +5,7 @@ ghost use Rattle.rotation_reports.specs.MapText.{IsMapOptions, map_text};
 ghost use Rattle.rotation_reports.specs.MovesText.{moves_text};
 ghost use Rattle.command_line.specs.Jobs.{IsMoves};
 ghost use Rattle.pcm_top.specs.Jobs.{map_options};
-ghost use Rattle.pcm_top.specs.Calls.{Writes, lent_sink, sink_change};
+ghost use Rattle.program_calls.specs.Calls.{Writes, lent_sink, sink_change};
 ghost use Rattle.pcm_top.specs.Ends.{EndsText};
 
 use crate::fault::Fault;

@@ -5,7 +5,7 @@ ghost use Rattle.ecp_line.specs.Layout.{IsLayout};
 ghost use Rattle.command_line.specs.Jobs.{IsRun};
 ghost use Rattle.module_shape.specs.Limits.{total_of};
 ghost use Rattle.trace_reader.specs.Events.{AreEventsFor};
-ghost use Rattle.pcm_top.specs.Calls.{lent_array, lent_sink, lent_source, sink_change};
+ghost use Rattle.program_calls.specs.Calls.{lent_array, lent_sink, lent_source, sink_change};
 ghost use Rattle.pcm_top.specs.Ends.{EndsRun, Plays};
 ghost use Rattle.pcm_top.specs.Ready.{IsReady};
 ghost use Rattle.pcm_top.specs.Running.{done_by, status_done};

@@ -6,8 +6,8 @@ ghost use Rattle.ecp_line.specs.Layout.{IsLayout};
 ghost use Rattle.rotation_reports.specs.Rows.{row_of};
 ghost use Rattle.pcm_image.specs.Saved.{IsSaved, IsSize};
 ghost use Rattle.pcm_image.specs.Reading.{image_of};
-ghost use Rattle.pcm_top.specs.Reading.{ReadsWhole, source_change, trace_room};
-ghost use Rattle.pcm_top.specs.Calls.{Writes, lent_sink, sink_change};
+ghost use Rattle.program_calls.specs.Calls.{Writes, lent_sink, sink_change, source_change};
+ghost use Rattle.pcm_top.specs.Reading.{ReadsWhole, trace_room};
 ghost use Rattle.pcm_top.specs.Ends.{EndsShow, EndsShown, Gives, Reads};
 ghost use Rattle.pcm_top.specs.Showing.{IsImageFault, IsShowFault, shown_as, shown_of, shown_text};
 

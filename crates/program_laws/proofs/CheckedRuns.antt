@@ -31,11 +31,12 @@ use Rattle.command_line.specs.declared.job.Print.{Print}
 use Rattle.command_line.specs.declared.job.Print.TheVariants.{Results}
 use Rattle.command_line.specs.declared.job.RunJob.{RunJob}
 use Rattle.program_laws.specs.CheckedRuns.{CheckedLaw, IsTraceOf, SaysOk, check_with}
-use Rattle.pcm_top.specs.Calls.{Deed, Gets, GetsPart}
+use Rattle.program_calls.specs.Calls.{Gets, GetsPart, SourceChange}
+use Rattle.pcm_top.specs.Calls.{Deed}
 use Rattle.pcm_top.specs.Checking.{IsCheckFault, TellsVerdict, TellsVerdictInPart, done_on, pointers_in, room_line}
 use Rattle.pcm_top.specs.Inputs.{ComeFrom}
 use Rattle.pcm_top.specs.Jobs.{bytes_in}
-use Rattle.pcm_top.specs.Reading.{SourceChange, trace_room}
+use Rattle.pcm_top.specs.Reading.{trace_room}
 use Rattle.pcm_top.specs.RunText.{IsRunText}
 use Rattle.pcm_top.specs.Running.{RunIsWritten, WritesRun, status_done}
 use Rattle.pcm_top.specs.Statuses.{IsCheckStatus, status_without}

@@ -21,7 +21,7 @@ use Rattle.command_line.specs.Jobs.{IsInput}
 use Rattle.command_line.specs.declared.job.RunJob.{RunJob}
 use Rattle.command_line.specs.declared.job.Input.{Input}
 use Rattle.command_line.specs.declared.job.Input.TheVariants.{Source, Drawn}
-use Rattle.pcm_top.specs.Reading.{SourceChange}
+use Rattle.program_calls.specs.Calls.{SourceChange}
 use Rattle.pcm_top.specs.Inputs.{ComeFrom}
 use Rattle.pcm_top.specs.Rows.{rows_of}
 use Rattle.pcm_top.specs.Running.{done_by}

@@ -16,8 +16,9 @@ use Rattle.command_line.specs.declared.job.Input.TheVariants.{Drawn}
 use Rattle.command_line.specs.declared.job.LineSize.{LineSize}
 use Rattle.command_line.specs.declared.job.LineSize.TheVariants.{Bytes64, Bytes128}
 use Rattle.pcm_top.specs.Jobs.{bytes_in}
-use Rattle.pcm_top.specs.Reading.{ReadsTrace, SourceChange, TakesBytes, trace_room}
-use Rattle.pcm_top.specs.Calls.{Deed, SinkChange}
+use Rattle.program_calls.specs.Calls.{SinkChange, SourceChange}
+use Rattle.pcm_top.specs.Reading.{ReadsTrace, TakesBytes, trace_room}
+use Rattle.pcm_top.specs.Calls.{Deed}
 use Rattle.pcm_top.specs.Inputs.{ComeFrom}
 use Rattle.pcm_top.specs.Running.{RunIsWritten, RunIsWrittenInPart, Runs, WritesRun, WritesRunInPart}
 use Rattle.program_laws.specs.Laws.{DrawnLaw, run_of_source}

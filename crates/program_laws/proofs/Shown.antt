@@ -18,9 +18,10 @@ use Rattle.image_laws.specs.Sizes.{ShortImageLaw}
 use Rattle.command_line.specs.declared.job.Print.{Print}
 use Rattle.command_line.specs.declared.job.Print.TheVariants.{Image}
 use Rattle.command_line.specs.declared.job.RunJob.{RunJob}
-use Rattle.pcm_top.specs.Calls.{Deed, Gets, GetsPart, SinkChange}
+use Rattle.program_calls.specs.Calls.{Gets, GetsPart, SinkChange, SourceChange}
+use Rattle.pcm_top.specs.Calls.{Deed}
 use Rattle.pcm_top.specs.Images.{senses_for}
-use Rattle.pcm_top.specs.Reading.{SourceChange, trace_room}
+use Rattle.pcm_top.specs.Reading.{trace_room}
 use Rattle.pcm_top.specs.Rows.{rows_of}
 use Rattle.pcm_top.specs.RunText.{IsRunText}
 use Rattle.pcm_top.specs.Running.{RunIsWritten}

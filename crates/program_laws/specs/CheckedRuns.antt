@@ -8,10 +8,10 @@ use Rattle.command_line.specs.declared.job.Input.TheVariants.{Source, Drawn}
 use Rattle.command_line.specs.declared.job.Job.TheVariants.{Run, Check}
 use Rattle.command_line.specs.declared.job.Print.TheVariants.{Results}
 use Rattle.command_line.specs.declared.job.RunJob.{RunJob}
-use Rattle.pcm_top.specs.Calls.{Deed, Gets, GetsPart}
+use Rattle.program_calls.specs.Calls.{Gets, GetsPart, SourceChange}
+use Rattle.pcm_top.specs.Calls.{Deed}
 use Rattle.pcm_top.specs.Jobs.{gen_text}
 use Rattle.program_laws.specs.Laws.{gen_with}
-use Rattle.pcm_top.specs.Reading.{SourceChange}
 use Rattle.pcm_top.specs.Running.{Does, DoesPart, HasCause}
 use Rattle.pcm_top.specs.Statuses.{IsStatusFor}
 use Rattle.pcm_top.specs.declared.fault.Fault.{Fault}

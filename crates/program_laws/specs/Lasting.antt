@@ -6,7 +6,7 @@ use Rattle.ecp_line.specs.Layout.{IsLayout}
 use Rattle.command_line.specs.Jobs.{IsRun}
 use Rattle.command_line.specs.declared.job.RunJob.{RunJob}
 use Rattle.run_laws.specs.Lasting.{IsAlive, Outlasts, OutlastsAsked}
-use Rattle.pcm_top.specs.Reading.{SourceChange}
+use Rattle.program_calls.specs.Calls.{SourceChange}
 use Rattle.pcm_top.specs.Rows.{rows_of}
 use Rattle.pcm_top.specs.Running.{Runs}
 

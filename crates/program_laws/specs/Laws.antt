@@ -14,7 +14,8 @@ use Rattle.command_line.specs.declared.job.RunJob.{RunJob}
 use Rattle.command_line.specs.declared.job.GenJob.{GenJob}
 use Rattle.command_line.specs.declared.job.Input.TheVariants.{Source, Drawn}
 use Rattle.pcm_top.specs.Jobs.{gen_text}
-use Rattle.pcm_top.specs.Reading.{SourceChange, TakesBytes}
+use Rattle.program_calls.specs.Calls.{SourceChange}
+use Rattle.pcm_top.specs.Reading.{TakesBytes}
 use Rattle.pcm_top.specs.Calls.{Deed}
 use Rattle.pcm_top.specs.Rows.{rows_of}
 use Rattle.pcm_top.specs.Running.{Does, DoesPart, Runs, done_by}

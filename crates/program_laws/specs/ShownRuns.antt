@@ -9,8 +9,8 @@ use Rattle.module_shape.specs.Limits.{total_of}
 use Rattle.command_line.specs.declared.job.RunJob.{RunJob}
 use Rattle.command_line.specs.declared.job.Job.TheVariants.{Show}
 use Rattle.command_line.specs.declared.job.Print.TheVariants.{Image}
-use Rattle.pcm_top.specs.Reading.{SourceChange}
-use Rattle.pcm_top.specs.Calls.{Deed, Gets, GetsPart, SinkChange}
+use Rattle.program_calls.specs.Calls.{Gets, GetsPart, SinkChange, SourceChange}
+use Rattle.pcm_top.specs.Calls.{Deed}
 use Rattle.pcm_top.specs.Rows.{rows_of}
 use Rattle.pcm_top.specs.Running.{Does, DoesPart, HasCause, RunIsWritten}
 use Rattle.pcm_top.specs.Showing.{shown_header, shown_row}

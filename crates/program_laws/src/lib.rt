@@ -7,6 +7,8 @@ ghost use Rattle.program_laws.specs.Lasting.{LastingLaw, LastingTraceLaw, Seeded
 ghost use Rattle.program_laws.specs.Laws.{CompletenessLaw, DrawnLaw};
 ghost use Rattle.program_laws.specs.ShownRuns.{ShownLaw};
 
+mod whole;
+
 use check_text::{printed_results_are_short, right_runs_are_judged_ok};
 use image_laws::images_are_short;
 use run_laws::{
@@ -14,6 +16,7 @@ use run_laws::{
     runs_live_on,
 };
 use trace_gen::laws::{gen_text_is_short, gen_text_reads_back, generated_events_are_lawful};
+pub use whole::is_whole;
 
 /// Of whichever trace: without a power cut no read is lost; a write that finds room in a bank that isn't worn
 /// out and has no worn control line is accepted and leaves the queue; and where no power cut comes and each

@@ -36,27 +36,3 @@ returns g c = record {
   fault = search rules;
   never_falls = first_of (search rules, grind (arith, common_steps));
 }
-
-pub new-generator-requires : goal.new-generator-requires
-new-generator-requires g c = grind arith
-
-pub header-requires : goal.header-requires
-header-requires g c = grind arith
-
-pub push-requires : goal.push-requires
-push-requires g c = grind arith
-
-pub next_event-requires : goal.next_event-requires
-next_event-requires g c = grind arith
-
-pub print_event-requires : goal.print_event-requires
-print_event-requires g c = grind arith
-
-pub loop-event-smaller : goal.loop-event-smaller
-loop-event-smaller g c = grind arith
-
-pub bytes-rest-requires : goal.bytes-rest-requires
-bytes-rest-requires g c = grind arith
-
-pub write_all-requires : goal.write_all-requires
-write_all-requires g c κs = grind arith

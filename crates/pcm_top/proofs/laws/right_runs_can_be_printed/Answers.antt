@@ -1,4 +1,3 @@
-use Rattle.std.proofs.Common.{arith}
 use Rattle.pcm_top.proofs.Printable.{are-printable}
 use Rattle.pcm_top.proofs.laws.right_runs_can_be_printed.Goals as goal
 
@@ -10,15 +9,3 @@ returns c =
           c.rows_have_their_own_outcomes.ensures c.places_are_array_lines.ensures c.array_lines_are_few.ensures shape lawful size right;
       roles = λ bank at exists. c.array_lines_have_one_role.ensures n m e raw seed _ array ends bank at shape right exists;
     }
-
-pub rows_have_their_own_outcomes-requires : goal.rows_have_their_own_outcomes-requires
-rows_have_their_own_outcomes-requires c = grind arith
-
-pub places_are_array_lines-requires : goal.places_are_array_lines-requires
-places_are_array_lines-requires c = grind arith
-
-pub array_lines_are_few-requires : goal.array_lines_are_few-requires
-array_lines_are_few-requires c = grind arith
-
-pub array_lines_have_one_role-requires : goal.array_lines_have_one_role-requires
-array_lines_have_one_role-requires c = grind arith

@@ -4,9 +4,10 @@ use Rattle.run_text.proofs.Gathered.{on_err, on_ok}
 use Rattle.image_text.specs.Sensing.{SensesRows, SensesSome}
 use Rattle.image_text.proofs.Sensing.{senses-none}
 use Rattle.image_laws.specs.Saving.{saved_of}
-use Rattle.pcm_top.specs.Images.{WritesRows, kept_in, senses_for}
+use Rattle.module_prints.specs.Images.{WritesRows, kept_in}
+use Rattle.pcm_top.specs.Images.{senses_for}
 use Rattle.pcm_top.proofs.Saving.{image-text, no-image, senses-nothing}
-use Rattle.pcm_top.proofs.Wearing.{wear-text}
+use Rattle.pcm_top.proofs.Worn.{wear-text}
 use Rattle.pcm_top.proofs.print.print_run.Goals as goal
 
 pub returns-in-Wear-clause-ok : goal.returns-in-Wear-clause-ok
@@ -69,54 +70,6 @@ returns-in-Image-clause-prefix g c =
     (image-text c.images_are_of_their_runs.ensures c.args.pcm.now c.args.seed (g.A.CellArray.state c.args.array.now) (g.A.CellArray.state c.print_image.new.array) c.args.events.now c.args.results.now c.args.print _ c.in-Image.is
     c.requires.seed (omega arith) c.requires.shape c.requires.played c.print_image.ensures.sensed.0 c.print_image.ensures.sensed.2.since)
 
-pub images_are_of_their_runs-requires : goal.images_are_of_their_runs-requires
-images_are_of_their_runs-requires g c = grind arith
-
-pub print_results-requires : goal.print_results-requires
-print_results-requires g c = grind arith
-
-pub retired-requires : goal.retired-requires
-retired-requires g c = grind arith
-
-pub print_counts-requires : goal.print_counts-requires
-print_counts-requires g c = grind arith
-
-pub print_wear-requires : goal.print_wear-requires
-print_wear-requires g c = grind arith
-
-pub print_image-requires : goal.print_image-requires
-print_image-requires g c = grind arith
-
-pub returns-in-Results-clause-ok : goal.returns-in-Results-clause-ok
-returns-in-Results-clause-ok g c = grind arith
-
-pub returns-in-Results-clause-prefix : goal.returns-in-Results-clause-prefix
-returns-in-Results-clause-prefix g c = grind arith
-
-pub returns-in-Results-clause-fault : goal.returns-in-Results-clause-fault
-returns-in-Results-clause-fault g c = grind arith
-
-pub returns-in-Results-clause-never_falls : goal.returns-in-Results-clause-never_falls
-returns-in-Results-clause-never_falls g c = grind arith
-
-pub returns-in-Summary-clause-ok : goal.returns-in-Summary-clause-ok
-returns-in-Summary-clause-ok g c = grind arith
-
-pub returns-in-Summary-clause-prefix : goal.returns-in-Summary-clause-prefix
-returns-in-Summary-clause-prefix g c = grind arith
-
-pub returns-in-Summary-clause-fault : goal.returns-in-Summary-clause-fault
-returns-in-Summary-clause-fault g c = grind arith
-
-pub returns-in-Summary-clause-never_falls : goal.returns-in-Summary-clause-never_falls
-returns-in-Summary-clause-never_falls g c = grind arith
-
-pub returns-in-Wear-clause-fault : goal.returns-in-Wear-clause-fault
-returns-in-Wear-clause-fault g c = grind arith
-
-pub returns-in-Wear-clause-never_falls : goal.returns-in-Wear-clause-never_falls
-returns-in-Wear-clause-never_falls g c = grind arith
-
 pub returns-in-Image-clause-sensed : goal.returns-in-Image-clause-sensed
 returns-in-Image-clause-sensed g c =
     let first = g.A.CellArray.state c.args.array.now in
@@ -135,9 +88,3 @@ returns-in-Image-clause-all g c =
 
 pub returns-in-Image-clause-untouched : goal.returns-in-Image-clause-untouched
 returns-in-Image-clause-untouched g c = λ other. absurd (other c.in-Image.is)
-
-pub returns-in-Image-clause-fault : goal.returns-in-Image-clause-fault
-returns-in-Image-clause-fault g c = grind arith
-
-pub returns-in-Image-clause-never_falls : goal.returns-in-Image-clause-never_falls
-returns-in-Image-clause-never_falls g c = grind arith

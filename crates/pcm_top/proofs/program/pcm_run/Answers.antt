@@ -57,12 +57,3 @@ returns-in-Err g c =
           let other : fault ≢ Write = λ write. whole (c.give_up.ensures.write write) in
           told-decided _ _ bytes fault _ told calm (c.in-Err.ensures.ends.ends.cause other) (c.give_up.ensures.told whole).0;
     }
-
-pub work-requires : goal.work-requires
-work-requires g c κs = grind arith
-
-pub status-requires : goal.status-requires
-status-requires g c = grind arith
-
-pub give_up-requires : goal.give_up-requires
-give_up-requires g c κs = grind arith

@@ -73,30 +73,3 @@ returns-clause-played g c =
     c.loop-i-test.false c.loop-i.invariant.0 in
     let done = c.finish.ensures.finishes all.0 _ all.1 in
     record { history = λ bank. done.0 bank ++ all.0 bank; one_each = c.finish.ensures.table ∙ c.loop-i.invariant.0.size; finished = done.1 }
-
-pub offset_bounds-events-i : goal.offset_bounds-events-i
-offset_bounds-events-i g c = grind arith
-
-pub bounds-events-i : goal.bounds-events-i
-bounds-events-i g c = grind arith
-
-pub overflow_cast-i : goal.overflow_cast-i
-overflow_cast-i g c = grind arith
-
-pub overflow_add-i : goal.overflow_add-i
-overflow_add-i g c = grind arith
-
-pub loop-i-smaller : goal.loop-i-smaller
-loop-i-smaller g c = grind arith
-
-pub finish-requires : goal.finish-requires
-finish-requires g c = grind arith
-
-pub returns-clause-shape : goal.returns-clause-shape
-returns-clause-shape g c = grind arith
-
-pub returns-clause-seed : goal.returns-clause-seed
-returns-clause-seed g c = grind arith
-
-pub returns-clause-table : goal.returns-clause-table
-returns-clause-table g c = grind arith

@@ -1,12 +1,5 @@
-use Rattle.std.proofs.Common.{arith}
 use Rattle.pcm_top.proofs.Shapes.{map_in_range}
 use Rattle.pcm_top.proofs.report.options_of.Goals as goal
 
 pub returns-clause-in_range : goal.returns-clause-in_range
 returns-clause-in_range c = rw c.raw-sizes.ensures.same (map_in_range c.args.job.now c.raw-sizes.ensures.in_range)
-
-pub raw-sizes-requires : goal.raw-sizes-requires
-raw-sizes-requires c = grind arith
-
-pub returns-clause-same : goal.returns-clause-same
-returns-clause-same c = grind arith

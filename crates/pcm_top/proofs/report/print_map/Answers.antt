@@ -29,33 +29,3 @@ returns g c = record {
   fault = search rules;
   never_falls = first_of (search rules, grind (arith, common_steps));
 }
-
-pub new-map-requires : goal.new-map-requires
-new-map-requires g c = grind arith
-
-pub print_map_header-requires : goal.print_map_header-requires
-print_map_header-requires g c = grind arith
-
-pub overflow_mul-line-end : goal.overflow_mul-line-end
-overflow_mul-line-end g c = grind arith
-
-pub overflow_mul-line-end-2 : goal.overflow_mul-line-end-2
-overflow_mul-line-end-2 g c = grind arith
-
-pub make_room-requires : goal.make_room-requires
-make_room-requires g c = grind arith
-
-pub print_row-requires-clause-exists : goal.print_row-requires-clause-exists
-print_row-requires-clause-exists g c = grind arith
-
-pub print_row-requires-clause-room : goal.print_row-requires-clause-room
-print_row-requires-clause-room g c = grind arith
-
-pub loop-line-smaller : goal.loop-line-smaller
-loop-line-smaller g c = grind arith
-
-pub bytes-last-requires : goal.bytes-last-requires
-bytes-last-requires g c = grind arith
-
-pub write_all-requires : goal.write_all-requires
-write_all-requires g c κs = grind arith

@@ -29,39 +29,3 @@ returns g c = record {
   fault = search rules;
   never_falls = first_of (search rules, grind (arith, common_steps));
 }
-
-pub print_moves_header-requires : goal.print_moves_header-requires
-print_moves_header-requires g c = grind arith
-
-pub overflow_add-row-end : goal.overflow_add-row-end
-overflow_add-row-end g c = grind arith
-
-pub overflow_mul-row-end : goal.overflow_mul-row-end
-overflow_mul-row-end g c = grind arith
-
-pub make_room-requires : goal.make_room-requires
-make_room-requires g c = grind arith
-
-pub from-requires : goal.from-requires
-from-requires g c = grind arith
-
-pub overflow_add-first : goal.overflow_add-first
-overflow_add-first g c = grind arith
-
-pub print_move_row-requires-clause-some_lines : goal.print_move_row-requires-clause-some_lines
-print_move_row-requires-clause-some_lines g c = grind arith
-
-pub print_move_row-requires-clause-few_lines : goal.print_move_row-requires-clause-few_lines
-print_move_row-requires-clause-few_lines g c = grind arith
-
-pub print_move_row-requires-clause-room : goal.print_move_row-requires-clause-room
-print_move_row-requires-clause-room g c = grind arith
-
-pub loop-row-smaller : goal.loop-row-smaller
-loop-row-smaller g c = grind arith
-
-pub bytes-rest-requires : goal.bytes-rest-requires
-bytes-rest-requires g c = grind arith
-
-pub write_all-requires : goal.write_all-requires
-write_all-requires g c κs = grind arith

@@ -4,7 +4,8 @@ use Rattle.run_text.proofs.Gathered.{on_err_any}
 use Rattle.trace_reader.proofs.Sizes.{event_fits}
 use Rattle.pcm_top.proofs.Making.{can-print, ready-itself, run-part, run-written}
 use Rattle.command_line.specs.declared.job.Print.TheVariants.{Image}
-use Rattle.pcm_top.specs.Images.{WritesRows, senses_for}
+use Rattle.module_prints.specs.Images.{WritesRows}
+use Rattle.pcm_top.specs.Images.{senses_for}
 use Rattle.pcm_top.proofs.Saving.{leaves-with, right-now}
 use Rattle.pcm_top.proofs.run.play.Goals as goal
 

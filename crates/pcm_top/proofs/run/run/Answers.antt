@@ -26,18 +26,6 @@ returns-in-Err g c =
       unread = search rules;
     }
 
-pub events_of-requires : goal.events_of-requires
-events_of-requires g c = grind arith
-
-pub returns-in_err-events : goal.returns-in_err-events
-returns-in_err-events g c = grind arith
-
-pub overflow_cast-len : goal.overflow_cast-len
-overflow_cast-len g c = grind arith
-
-pub take_memory-taken-requires : goal.take_memory-taken-requires
-take_memory-taken-requires g c = grind arith
-
 pub drop-pcm-inside-requires-room-T-Destruct : goal.drop-pcm-inside-requires-room-T-Destruct
 drop-pcm-inside-requires-room-T-Destruct g c κs = timed_fits g.row.B g.row.M g.row.E c.requires.layout
 

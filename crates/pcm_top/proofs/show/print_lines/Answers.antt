@@ -32,27 +32,3 @@ returns g c = record {
   fault = search rules;
   never_falls = first_of (search rules, grind (arith, common_steps));
 }
-
-pub push-requires : goal.push-requires
-push-requires g c = grind arith
-
-pub total-line-end-requires : goal.total-line-end-requires
-total-line-end-requires g c = grind arith
-
-pub make_room-requires : goal.make_room-requires
-make_room-requires g c = grind arith
-
-pub stands-requires : goal.stands-requires
-stands-requires g c = grind arith
-
-pub print_row-requires : goal.print_row-requires
-print_row-requires g c = grind arith
-
-pub loop-line-smaller : goal.loop-line-smaller
-loop-line-smaller g c = grind arith
-
-pub bytes-rest-requires : goal.bytes-rest-requires
-bytes-rest-requires g c = grind arith
-
-pub write_all-requires : goal.write_all-requires
-write_all-requires g c κs = grind arith

@@ -1,4 +1,3 @@
-use Rattle.std.proofs.Common.{arith}
 use Rattle.ecp_line.proofs.Sizes.{layout_128, layout_64}
 use Rattle.pcm_top.proofs.show.show_bytes.Goals as goal
 
@@ -7,12 +6,3 @@ show_lines-requires-clause-layout g c = layout_64
 
 pub show_lines-requires-in_default-clause-layout : goal.show_lines-requires-in_default-clause-layout
 show_lines-requires-in_default-clause-layout g c = layout_128
-
-pub size_of_line-requires : goal.size_of_line-requires
-size_of_line-requires g c = grind arith
-
-pub show_lines-requires-clause-size : goal.show_lines-requires-clause-size
-show_lines-requires-clause-size g c = grind arith
-
-pub show_lines-requires-in_default-clause-size : goal.show_lines-requires-in_default-clause-size
-show_lines-requires-in_default-clause-size g c = grind arith

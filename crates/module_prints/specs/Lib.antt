@@ -1,0 +1,2 @@
+pub mod WearReports
+pub mod Images

@@ -1,0 +1,2 @@
+-- How texts are written.
+pub mod Written
