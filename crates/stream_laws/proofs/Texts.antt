@@ -7,7 +7,7 @@ use Rattle.csv.specs.declared.parser.State.TheVariants as st
 use Rattle.trace_reader.specs.Events.{AreEventsFor}
 use Rattle.trace_reader.specs.Trace.{is_header}
 use Rattle.trace_reader.specs.declared.event.Event.{Event}
-use Rattle.trace_gen.specs.EventText.{event_fields, trace_text}
+use Rattle.trace_gen.specs.EventText.{event_fields}
 use Rattle.trace_gen.specs.Generated.{generated}
 use Rattle.trace_gen.specs.Laws.{AllHaveBytes, most_lines}
 use Rattle.trace_gen.proofs.Lawful.{long_generated_law}

@@ -18,10 +18,10 @@ use Rattle.trace_stream.specs.declared.asked.Asked.TheVariants.{Happens, Settle}
 use Rattle.trace_stream.specs.declared.fault.StreamFault.{StreamFault}
 use Rattle.trace_stream.specs.declared.fault.StreamFault.TheVariants as fault
 use Rattle.trace_stream.specs.Asked.{asked_event, asked_of, asked_settle, is_settle, rows_after, settle_of, tick_asked}
-use Rattle.trace_stream.specs.Stream.{and_then_asked, asked_before, is_past, most_streamed, stream_fault_at, stream_of, stream_records, stream_rows}
+use Rattle.trace_stream.specs.Stream.{and_then_asked, asked_before, is_past, stream_fault_at, stream_of, stream_records, stream_rows}
 use Rattle.trace_stream.specs.Laws.{BareLaw, FaultBackLaw, all_events, events_asked, records_of}
 use Rattle.trace_stream.proofs.Lawful.{settle-lawful}
-use Rattle.trace_stream.proofs.Traces.{asked-ok, event-asked, event-four, row_by}
+use Rattle.trace_stream.proofs.Traces.{asked-ok, event-four, row_by}
 
 -- a row that happens does so behind any earlier tick
 earlier-at : {n : ℕ} (before early : ℕ) (tick : Option ℕ) (op : Result (EventOp n) Kind) (event : Event n) → early ≤ before → row_by before tick op ≡ Ok event → row_by early tick op ≡ Ok event

@@ -1,13 +1,11 @@
 -- What is kept of a record, in the room that was taken for it.
-use Rattle.std.proofs.Common.{◌≡◌, ℕ, zero, suc, ◌+◌, ◌-◌, ◌<◌, ◌≤◌, List, [], ◌∷◌, ◌++◌, length, take, map, set, get_or, min, replicate, Option, Some, None, unwrap_or, refl, sym, ap, ◌∙◌, arith}
-use Rattle.std.specs.Prelude.{All}
-use Rattle.std.proofs.Math.ListN.{length-set}
-use Rattle.std.proofs.lemmas.List.{get_or_past, get_or_read, get_or-set_same, length-append, length-map, length-replicate, length-take, map-append, take_all, take_more, take-set}
-use Rattle.std.proofs.lemmas.List.Elements.{All-get_or, All-replicate, All-set}
+use Rattle.std.proofs.Common.{◌≡◌, ℕ, zero, suc, ◌<◌, ◌≤◌, List, [], ◌∷◌, ◌++◌, length, take, map, set, get_or, min, replicate, Option, Some, None, unwrap_or, refl, sym, ap, ◌∙◌, arith}
+use Rattle.std.proofs.lemmas.List.{get_or_read, get_or-set_same, length-map, length-replicate, length-take, take-set}
+use Rattle.std.proofs.lemmas.List.Elements.{All-get_or, All-replicate}
 use Rattle.csv.specs.Records.{field_at}
 use Rattle.trace_reader.specs.Rows.{text_at}
 use Rattle.pcm_io.specs.Reserved.{Reserved, appended, reserved, room_in}
-use Rattle.trace_stream.specs.Kept.{Kept, most_bytes, with_bytes, with_field}
+use Rattle.trace_stream.specs.Kept.{Kept, most_bytes, with_bytes}
 use Rattle.trace_stream.specs.Room.{IsFieldRoom, IsRoom, bytes_at, first_bytes}
 use Rattle.trace_stream.proofs.Keeping.{room-takes}
 
@@ -25,10 +23,6 @@ kept-count whole texts room few =
     let five = room.five in
     let least : min whole (length texts) ≡ whole = omega (arith, five, few) in
     length-map (take whole texts) (λ (t : Reserved). t.bytes) ∙ length-take whole texts ∙ least
-
--- a text of its own takes the place of one
-pub set-room : (texts : List Reserved) (index : ℕ) (text : Reserved) → IsRoom texts → IsFieldRoom text → IsRoom (set texts index text)
-set-room texts index text room is = record { five = length-set texts index text ∙ room.five; each = All-set IsFieldRoom texts index text is room.each }
 
 pub text-room : (texts : List Reserved) (index : ℕ) (text : Reserved) → IsRoom texts → index < 5 → text ≡ get_or texts index text → IsFieldRoom text
 text-room texts index text room there is =
@@ -86,33 +80,3 @@ kept-more texts whole text run count room few is least =
     let limit = own.limit in
     let all : text.bytes ++ take count run ≡ with_bytes text.bytes run = room-takes most_bytes text.bytes run count own.within (omega (arith, least, limit)) in
     rw (first-set texts whole (appended text (take count run)), at-set texts whole (appended text (take count run)) room few, all, at-read texts whole text room few is) refl
-
-pub more-room : (text : Reserved) (run : List ℕ) (count : ℕ) → IsFieldRoom text → count ≡ min (length run) (room_in text) → IsFieldRoom (appended text (take count run))
-more-room text run count own least =
-    let limit = own.limit in
-    let within = own.within in
-    let joined = length-append text.bytes (take count run) in
-    let size = length-take count run in
-    record { limit = own.limit; within = omega (arith, joined, size, least, limit, within) }
-
--- the field at hand is whole
-whole-first : (texts : List Reserved) (whole : ℕ) → IsRoom texts → whole < 5 → first_bytes (whole + 1) texts ≡ with_field (first_bytes whole texts) (bytes_at texts whole)
-whole-first texts whole room few =
-    let five = room.five in
-    let there : whole < length texts = omega (arith, five, few) in
-    let joined : first_bytes (whole + 1) texts ≡ first_bytes whole texts ++ (bytes_at texts whole ∷ []) =
-    ap (map (λ (t : Reserved). t.bytes)) (take_more texts whole (reserved 257) there) ∙ map-append (λ (t : Reserved). t.bytes) (take whole texts) (get_or texts whole (reserved 257) ∷ []) in
-    let size : length (first_bytes (whole + 1) texts) ≡ whole + 1 = kept-count (whole + 1) texts room (omega (arith, few)) in
-    sym (take_all 5 (first_bytes (whole + 1) texts) (omega (arith, size, few))) ∙ ap (take 5) joined
-
-pub whole-clear : (texts : List Reserved) (whole : ℕ) (text : Reserved) → IsRoom texts → whole + 1 < 5 → text.bytes ≡ []
-    → kept_in (whole + 1) (set texts (whole + 1) text) ≡ record { fields = with_field (first_bytes whole texts) (bytes_at texts whole); field = [] }
-whole-clear texts whole text room few none =
-    rw (first-set texts (whole + 1) text, at-set texts (whole + 1) text room few, whole-first texts whole room (omega (arith, few)), none) refl
-
-pub whole-last : (texts : List Reserved) (whole : ℕ) → IsRoom texts → whole < 5 → 5 ≤ whole + 1
-    → kept_in (whole + 1) texts ≡ record { fields = with_field (first_bytes whole texts) (bytes_at texts whole); field = [] }
-whole-last texts whole room few last =
-    let five = room.five in
-    let none : bytes_at texts (whole + 1) ≡ [] = ap (λ (t : Reserved). t.bytes) (get_or_past texts (whole + 1) (reserved 257) (omega (arith, five, last))) in
-    rw (whole-first texts whole room few, none) refl

@@ -10,3 +10,4 @@ pub mod Lawful
 pub mod Runs
 pub mod Traces
 pub mod Bare
+pub mod Fronts

@@ -19,7 +19,7 @@ use Rattle.trace_stream.specs.declared.fault.StreamFault.TheVariants as fault
 use Rattle.trace_stream.specs.Arrived.{Arrived, Comes, StaysEnded}
 use Rattle.trace_stream.specs.Asked.{asked_event, asked_of, asked_settle, is_settle, rows_after, settle_of, tick_asked}
 use Rattle.trace_stream.specs.Kept.{FindsKept, IsKeptOf, kept_fields, most_fields}
-use Rattle.trace_stream.specs.Stream.{AsksNext, HasFault, Opens, Standing, asked_before, asked_from, is_past, most_streamed, records_left, stream_fault_at, stream_of, stream_records, stream_rows}
+use Rattle.trace_stream.specs.Stream.{AsksNext, HasFault, HasFront, Opens, Standing, asked_before, asked_from, front_from, front_of, front_records, front_rows, is_past, most_streamed, records_left, stream_fault_at, stream_of, stream_records, stream_rows}
 use Rattle.trace_stream.proofs.Judging.{asked-kept, header-kept, is_settle-kept}
 use Rattle.trace_stream.proofs.Steps.{comes-back}
 use Rattle.trace_stream.proofs.KeptRecords.{kept_read, next_kept-is, none-kept, some-is, some-kept}
@@ -116,24 +116,40 @@ goes-behind n lines before whole kept rest behind asked e (inr five) =
     cc clash
 
 -- a row
-row-asks : (n lines rows before : ℕ) (fields : List (List ℕ)) (rest : List (List (List ℕ))) (asked : Asked n) → is_past rows fields ≡ false → asked_of n lines before fields ≡ Ok asked
+pub row-asks : (n lines rows before : ℕ) (fields : List (List ℕ)) (rest : List (List (List ℕ))) (asked : Asked n) → is_past rows fields ≡ false → asked_of n lines before fields ≡ Ok asked
     → stream_rows n lines rows before (fields ∷ rest) ≡ asked_before asked (stream_rows n lines (rows_after rows asked) (tick_asked asked) rest)
 unfolding stream_rows
 row-asks n lines rows before fields rest asked within e = rw (within, e) refl
 
-row-faulty : (n lines rows before : ℕ) (fields : List (List ℕ)) (rest : List (List (List ℕ))) (kind : Kind) → is_past rows fields ≡ false → asked_of n lines before fields ≡ Err kind
+pub row-faulty : (n lines rows before : ℕ) (fields : List (List ℕ)) (rest : List (List (List ℕ))) (kind : Kind) → is_past rows fields ≡ false → asked_of n lines before fields ≡ Err kind
     → stream_rows n lines rows before (fields ∷ rest) ≡ stream_fault_at (rows + 1) kind
 unfolding stream_rows
 row-faulty n lines rows before fields rest kind within e = rw (within, e) refl
 
-row-past : (n lines rows before : ℕ) (fields : List (List ℕ)) (rest : List (List (List ℕ))) → is_past rows fields ≡ true
+pub row-past : (n lines rows before : ℕ) (fields : List (List ℕ)) (rest : List (List (List ℕ))) → is_past rows fields ≡ true
     → stream_rows n lines rows before (fields ∷ rest) ≡ Err fault.TooMany
 unfolding stream_rows
 row-past n lines rows before fields rest past = rw past refl
 
-row-none : (n lines rows before : ℕ) → stream_rows n lines rows before [] ≡ Ok []
+pub row-none : (n lines rows before : ℕ) → stream_rows n lines rows before [] ≡ Ok []
 unfolding stream_rows
 row-none n lines rows before = refl
+
+-- and what stands in front of the first fault
+pub front-asks : (n lines rows before : ℕ) (fields : List (List ℕ)) (rest : List (List (List ℕ))) (asked : Asked n) → is_past rows fields ≡ false → asked_of n lines before fields ≡ Ok asked
+    → front_rows n lines rows before (fields ∷ rest) ≡ asked ∷ front_rows n lines (rows_after rows asked) (tick_asked asked) rest
+unfolding front_rows
+front-asks n lines rows before fields rest asked within e = rw (within, e) refl
+
+pub front-faulty : (n lines rows before : ℕ) (fields : List (List ℕ)) (rest : List (List (List ℕ))) (kind : Kind) → is_past rows fields ≡ false → asked_of n lines before fields ≡ Err kind
+    → front_rows n lines rows before (fields ∷ rest) ≡ []
+unfolding front_rows
+front-faulty n lines rows before fields rest kind within e = rw (within, e) refl
+
+pub front-past : (n lines rows before : ℕ) (fields : List (List ℕ)) (rest : List (List (List ℕ))) → is_past rows fields ≡ true
+    → front_rows n lines rows before (fields ∷ rest) ≡ []
+unfolding front_rows
+front-past n lines rows before fields rest past = rw past refl
 
 past-judged : (rows : ℕ) (whole kept : List (List ℕ)) (b : Bool) → is_settle whole ≡ is_settle kept → is_past rows kept ≡ b → is_past rows whole ≡ b
 past-judged rows whole kept b same is = rw same is
@@ -146,18 +162,31 @@ from-rows n old bytes more rows e =
     ap (λ (t : List ℕ). stream_rows n old.lines old.rows old.tick (records_left old.state t)) (sym (append_assoc old.arrived.bytes bytes more))
     ∙ ap (stream_rows n old.lines old.rows old.tick) e
 
+front-rows : (n : ℕ) (old : Standing) (bytes more : List ℕ) (rows : List (List (List ℕ))) → records_left old.state ((old.arrived.bytes ++ bytes) ++ more) ≡ rows
+    → front_from n old (bytes ++ more) ≡ front_rows n old.lines old.rows old.tick rows
+unfolding front_from
+front-rows n old bytes more rows e =
+    ap (λ (t : List ℕ). front_rows n old.lines old.rows old.tick (records_left old.state t)) (sym (append_assoc old.arrived.bytes bytes more))
+    ∙ ap (front_rows n old.lines old.rows old.tick) e
+
 pub asks-some : (n : ℕ) (old new : Standing) (bytes : List ℕ) (kept : List (List ℕ)) (asked : Asked n) → n ≤ 128
     → FindsKept true old.state (old.arrived.bytes ++ bytes) kept new.state new.arrived → asked_of n old.lines old.tick kept ≡ Ok asked
     → is_past old.rows kept ≡ false → new.rows ≡ rows_after old.rows asked → new.tick ≡ tick_asked asked → new.lines ≡ old.lines → AsksNext old bytes (Some asked) new
-unfolding asked_from
+unfolding asked_from front_from
 asks-some n old new bytes kept asked small h e within rows tick lines = λ more comes.
     let found = left-found old.state new.state (old.arrived.bytes ++ bytes) more kept new.arrived h comes in
     let same = judged n old.lines old.tick found.0 kept (found.1 ≡ records_left new.state (new.arrived.bytes ++ more)) small found.3 in
-    from-rows n old bytes more _ found.2
-    ∙ row-asks n old.lines old.rows old.tick found.0 found.1 asked (past-judged old.rows found.0 kept false same.1 within) (same.0 ∙ e)
-    ∙ ap (λ (rest : List (List (List ℕ))). asked_before asked (stream_rows n old.lines (rows_after old.rows asked) (tick_asked asked) rest))
-    (goes-behind n old.lines old.tick found.0 kept found.1 _ asked e found.3)
-    ∙ rw (rows, tick, lines) refl
+    let not_past = past-judged old.rows found.0 kept false same.1 within in
+    let behind = goes-behind n old.lines old.tick found.0 kept found.1 _ asked e found.3 in (
+      from-rows n old bytes more _ found.2
+          ∙ row-asks n old.lines old.rows old.tick found.0 found.1 asked not_past (same.0 ∙ e)
+          ∙ ap (λ (rest : List (List (List ℕ))). asked_before asked (stream_rows n old.lines (rows_after old.rows asked) (tick_asked asked) rest)) behind
+          ∙ rw (rows, tick, lines) refl,
+      front-rows n old bytes more _ found.2
+          ∙ front-asks n old.lines old.rows old.tick found.0 found.1 asked not_past (same.0 ∙ e)
+          ∙ ap (λ (rest : List (List (List ℕ))). asked ∷ front_rows n old.lines (rows_after old.rows asked) (tick_asked asked) rest) behind
+          ∙ rw (rows, tick, lines) refl,
+    )
 
 pub asks-none : (n : ℕ) (old new : Standing) (bytes : List ℕ) (kept : List (List ℕ)) → FindsKept false old.state (old.arrived.bytes ++ bytes) kept new.state new.arrived
     → AsksNext {n = n} old bytes None new
@@ -181,6 +210,24 @@ asks-too_many n old new bytes kept small h past = λ more comes.
     let same = judged n old.lines old.tick found.0 kept (found.1 ≡ records_left new.state (new.arrived.bytes ++ more)) small found.3 in
     from-rows n old bytes more _ found.2
     ∙ row-past n old.lines old.rows old.tick found.0 found.1 (past-judged old.rows found.0 kept true same.1 past)
+
+-- behind the rows that were read stands the fault
+pub no-front : (n : ℕ) (old new : Standing) (bytes : List ℕ) (kept : List (List ℕ)) (kind : Kind) → n ≤ 128
+    → FindsKept true old.state (old.arrived.bytes ++ bytes) kept new.state new.arrived → asked_of n old.lines old.tick kept ≡ Err kind
+    → is_past old.rows kept ≡ false → HasFront (front_from n old) bytes [] new.arrived.ended
+no-front n old new bytes kept kind small h e within = λ more comes.
+    let found = left-found old.state new.state (old.arrived.bytes ++ bytes) more kept new.arrived h comes in
+    let same = judged n old.lines old.tick found.0 kept (found.1 ≡ records_left new.state (new.arrived.bytes ++ more)) small found.3 in
+    front-rows n old bytes more _ found.2
+    ∙ front-faulty n old.lines old.rows old.tick found.0 found.1 kind (past-judged old.rows found.0 kept false same.1 within) (same.0 ∙ e)
+
+pub no-front-past : (n : ℕ) (old new : Standing) (bytes : List ℕ) (kept : List (List ℕ)) → n ≤ 128 → FindsKept true old.state (old.arrived.bytes ++ bytes) kept new.state new.arrived
+    → is_past old.rows kept ≡ true → HasFront (front_from n old) bytes [] new.arrived.ended
+no-front-past n old new bytes kept small h past = λ more comes.
+    let found = left-found old.state new.state (old.arrived.bytes ++ bytes) more kept new.arrived h comes in
+    let same = judged n old.lines old.tick found.0 kept (found.1 ≡ records_left new.state (new.arrived.bytes ++ more)) small found.3 in
+    front-rows n old bytes more _ found.2
+    ∙ front-past n old.lines old.rows old.tick found.0 found.1 (past-judged old.rows found.0 kept true same.1 past)
 
 -- how many rows have a number stays within the greatest
 pub happens-counted : (n lines before : ℕ) (fields : List (List ℕ)) (asked : Asked n) (rows : ℕ) → asked_of n lines before fields ≡ Ok asked → rows ≤ most_streamed → is_past rows fields ≡ false
@@ -214,15 +261,31 @@ stream-rows : (n lines : ℕ) (bytes text : List ℕ) (rows : List (List (List �
 unfolding stream_of
 stream-rows n lines bytes text rows e f = ap (λ (t : List ℕ). stream_records n lines (records_left st.StartRecord t)) e ∙ ap (stream_records n lines) f
 
+front-records : (n lines : ℕ) (bytes text : List ℕ) (rows : List (List (List ℕ))) → strip_bom bytes ≡ text → records_left st.StartRecord text ≡ rows → front_of n lines bytes ≡ front_records n lines rows
+unfolding front_of
+front-records n lines bytes text rows e f = ap (λ (t : List ℕ). front_records n lines (records_left st.StartRecord t)) e ∙ ap (front_records n lines) f
+
+front-none : (n lines : ℕ) → front_records n lines [] ≡ []
+unfolding front_records
+front-none n lines = refl
+
+pub front-wrong : (n lines : ℕ) (first : List (List ℕ)) (rows : List (List (List ℕ))) → is_header first ≡ false → front_records n lines (first ∷ rows) ≡ []
+unfolding front_records
+front-wrong n lines first rows wrong = rw wrong refl
+
+pub front-read : (n lines : ℕ) (first : List (List ℕ)) (rows : List (List (List ℕ))) → is_header first ≡ true → front_records n lines (first ∷ rows) ≡ front_rows n lines 0 0 rows
+unfolding front_records
+front-read n lines first rows right = rw right refl
+
 header-none : (n lines : ℕ) → stream_records n lines [] ≡ stream_fault_at 0 kind.Header
 unfolding stream_records
 header-none n lines = refl
 
-header-wrong : (n lines : ℕ) (first : List (List ℕ)) (rows : List (List (List ℕ))) → is_header first ≡ false → stream_records n lines (first ∷ rows) ≡ stream_fault_at 0 kind.Header
+pub header-wrong : (n lines : ℕ) (first : List (List ℕ)) (rows : List (List (List ℕ))) → is_header first ≡ false → stream_records n lines (first ∷ rows) ≡ stream_fault_at 0 kind.Header
 unfolding stream_records
 header-wrong n lines first rows wrong = rw wrong refl
 
-header-read : (n lines : ℕ) (first : List (List ℕ)) (rows : List (List (List ℕ))) → is_header first ≡ true → stream_records n lines (first ∷ rows) ≡ stream_rows n lines 0 0 rows
+pub header-read : (n lines : ℕ) (first : List (List ℕ)) (rows : List (List (List ℕ))) → is_header first ≡ true → stream_records n lines (first ∷ rows) ≡ stream_rows n lines 0 0 rows
 unfolding stream_records
 header-read n lines first rows right = rw right refl
 
@@ -249,29 +312,43 @@ header-behind whole kept rest behind right (inr five) =
 pub opens : (lines : ℕ) (bytes xs : List ℕ) (begun : Arrived) (kept : List (List ℕ)) (new : Standing) → Begins bytes begun → StaysEnded begun.ended xs new.arrived.ended
     → FindsKept true st.StartRecord (begun.bytes ++ xs) kept new.state new.arrived → is_header kept ≡ true → new.rows ≡ 0 → new.tick ≡ 0 → new.lines ≡ lines
     → Opens lines (bytes ++ xs) new
-unfolding asked_from
+unfolding asked_from front_from
 opens lines bytes xs begun kept new begins stays h right rows tick is = λ n more comes.
     let found = left-found st.StartRecord new.state (begun.bytes ++ xs) more kept new.arrived h comes in
     let header : is_header found.0 ≡ true = header-judged found.0 kept (found.1 ≡ records_left new.state (new.arrived.bytes ++ more)) found.3 ∙ right in
-    stream-rows n lines ((bytes ++ xs) ++ more) _ _ (stripped bytes xs more begun new.arrived.ended begins stays comes) found.2
-    ∙ header-read n lines found.0 found.1 header
-    ∙ ap (stream_rows n lines 0 0) (header-behind found.0 kept found.1 _ right found.3)
-    ∙ rw (rows, tick, is) refl
+    let text = stripped bytes xs more begun new.arrived.ended begins stays comes in
+    let behind = header-behind found.0 kept found.1 _ right found.3 in (
+      stream-rows n lines ((bytes ++ xs) ++ more) _ _ text found.2 ∙ header-read n lines found.0 found.1 header ∙ ap (stream_rows n lines 0 0) behind ∙ rw (rows, tick, is) refl,
+      front-records n lines ((bytes ++ xs) ++ more) _ _ text found.2 ∙ front-read n lines found.0 found.1 header ∙ ap (front_rows n lines 0 0) behind ∙ rw (rows, tick, is) refl,
+    )
 
 pub opens-wrong : (n lines : ℕ) (bytes xs : List ℕ) (begun : Arrived) (kept : List (List ℕ)) (s : State) (new : Arrived) → Begins bytes begun → StaysEnded begun.ended xs new.ended
     → FindsKept true st.StartRecord (begun.bytes ++ xs) kept s new → is_header kept ≡ false
     → HasFault (stream_of n lines) (bytes ++ xs) (fault.Trace (record { row = 0; kind = kind.Header })) new.ended
-opens-wrong n lines bytes xs begun kept s new begins stays h wrong = λ more comes.
-    let found = left-found st.StartRecord s (begun.bytes ++ xs) more kept new h comes in
-    let header : is_header found.0 ≡ false = header-judged found.0 kept (found.1 ≡ records_left s (new.bytes ++ more)) found.3 ∙ wrong in
-    stream-rows n lines ((bytes ++ xs) ++ more) _ _ (stripped bytes xs more begun new.ended begins stays comes) found.2
-    ∙ header-wrong n lines found.0 found.1 header
+    × HasFront (front_of n lines) (bytes ++ xs) [] new.ended
+opens-wrong n lines bytes xs begun kept s new begins stays h wrong =
+    (λ more comes. (at more comes).0, λ more comes. (at more comes).1)
+  where
+    at : (more : List ℕ) → Comes new.ended more
+        → (stream_of n lines ((bytes ++ xs) ++ more) ≡ Err (fault.Trace (record { row = 0; kind = kind.Header }))) × (front_of n lines ((bytes ++ xs) ++ more) ≡ [])
+    at more comes =
+        let found = left-found st.StartRecord s (begun.bytes ++ xs) more kept new h comes in
+        let header : is_header found.0 ≡ false = header-judged found.0 kept (found.1 ≡ records_left s (new.bytes ++ more)) found.3 ∙ wrong in
+        let text = stripped bytes xs more begun new.ended begins stays comes in (
+          stream-rows n lines ((bytes ++ xs) ++ more) _ _ text found.2 ∙ header-wrong n lines found.0 found.1 header,
+          front-records n lines ((bytes ++ xs) ++ more) _ _ text found.2 ∙ front-wrong n lines found.0 found.1 header,
+        )
 
 pub opens-none : (n lines : ℕ) (bytes xs : List ℕ) (begun : Arrived) (kept : List (List ℕ)) (s : State) (new : Arrived) → Begins bytes begun → StaysEnded begun.ended xs new.ended
     → FindsKept false st.StartRecord (begun.bytes ++ xs) kept s new
     → HasFault (stream_of n lines) (bytes ++ xs) (fault.Trace (record { row = 0; kind = kind.Header })) new.ended
-opens-none n lines bytes xs begun kept s new begins stays h = λ more comes.
-    let nothing : more ≡ [] = comes h.1 in
-    let none = left-none st.StartRecord s (begun.bytes ++ xs) kept new h in
-    stream-rows n lines ((bytes ++ xs) ++ more) _ [] (stripped bytes xs more begun new.ended begins stays comes) (rw nothing (rw (append-nil (begun.bytes ++ xs)) none))
-    ∙ header-none n lines
+    × HasFront (front_of n lines) (bytes ++ xs) [] new.ended
+opens-none n lines bytes xs begun kept s new begins stays h = (
+  λ more comes. stream-rows n lines ((bytes ++ xs) ++ more) _ [] (stripped bytes xs more begun new.ended begins stays comes) (nothing more comes) ∙ header-none n lines,
+  λ more comes. front-records n lines ((bytes ++ xs) ++ more) _ [] (stripped bytes xs more begun new.ended begins stays comes) (nothing more comes) ∙ front-none n lines,
+)
+  where
+    nothing : (more : List ℕ) → Comes new.ended more → records_left st.StartRecord ((begun.bytes ++ xs) ++ more) ≡ []
+    nothing more comes =
+        let none = left-none st.StartRecord s (begun.bytes ++ xs) kept new h in
+        rw (comes h.1) (rw (append-nil (begun.bytes ++ xs)) none)

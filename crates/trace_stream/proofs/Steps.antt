@@ -4,7 +4,7 @@ use Rattle.std.specs.Prelude.{if◌then◌else◌, IsSomeAnd}
 use Rattle.std.specs.List.{list_all}
 use Rattle.std.proofs.lemmas.List.{take-append-drop, append-nil, length-take, length-take-le, length_push}
 use Rattle.std.proofs.lemmas.Bool.Decides.{nat_tests}
-use Rattle.csv.specs.Machine.{Read, ends_at_end, ends_with, in_field, is_end, start_field, start_record, step}
+use Rattle.csv.specs.Machine.{Read, ends_at_end, ends_with, in_field, is_end, step}
 use Rattle.csv.specs.Reading.{default_config}
 use Rattle.csv.specs.declared.parser.State.{State}
 use Rattle.csv.specs.declared.parser.State.TheVariants as st
@@ -16,9 +16,6 @@ use Rattle.trace_stream.specs.Machine.{is_plain, takes_plain}
 use Rattle.trace_stream.specs.Kept.{Decided, FindsKept, GoesOn, IsKeptOf, decides, fields_then, field_then, most_bytes, most_fields, next_kept, whole_then, with_bytes, with_field}
 
 -- steps one behind the other
-pub goes-nowhere : (s : State) (fields : List (List ℕ)) (field text : List ℕ) → GoesOn s fields field text s fields field text
-goes-nowhere s fields field text = record { same = λ more. refl; decided = λ few more. refl }
-
 pub goes-goes : (s0 s1 s2 : State) (fs0 fs1 fs2 : List (List ℕ)) (f0 f1 f2 t0 t1 t2 : List ℕ) → length fs1 < most_fields
     → GoesOn s0 fs0 f0 t0 s1 fs1 f1 t1 → GoesOn s1 fs1 f1 t1 s2 fs2 f2 t2 → GoesOn s0 fs0 f0 t0 s2 fs2 f2 t2
 goes-goes s0 s1 s2 fs0 fs1 fs2 f0 f1 f2 t0 t1 t2 few a b =
@@ -185,36 +182,6 @@ by-test : (P : State × Action → Type 0) (b : Bool) (x y : State × Action) �
 by-test P true x y p q = p
 by-test P false x y p q = q
 
--- behind the end of a field another one begins
-abbrev BeginsField : State × Action → Type 0
-BeginsField m = m.1 ≡ act.EndField → m.0 ≡ st.StartField
-
-begins-in : (byte : ℕ) → BeginsField (in_field default_config byte)
-begins-in byte =
-    by-test BeginsField (byte == 44) _ _ (λ is. refl)
-    (by-test BeginsField (ends_with term.CRLF byte) _ _ (λ is. cc is) (λ is. cc is))
-
-begins-start : (byte : ℕ) → BeginsField (start_field default_config byte)
-begins-start byte = by-test BeginsField (byte == 34) _ _ (λ is. cc is) (begins-in byte)
-
-begins-record : (byte : ℕ) → BeginsField (start_record default_config byte)
-begins-record byte = by-test BeginsField (ends_with term.CRLF byte) _ _ (λ is. cc is) (begins-start byte)
-
-begins-field : (s : State) (byte : ℕ) → BeginsField (step default_config s byte)
-begins-field st.StartRecord byte = begins-record byte
-begins-field st.StartField byte = begins-start byte
-begins-field st.InField byte = begins-in byte
-begins-field st.InQuoted byte = by-test BeginsField (byte == 34) _ _ (λ is. cc is) (λ is. cc is)
-begins-field st.InEscape byte = λ is. cc is
-begins-field st.AfterQuote byte = by-test BeginsField (byte == 34) _ _ (λ is. cc is) (begins-in byte)
-begins-field st.InComment byte = by-test BeginsField (byte == 10) _ _ (λ is. cc is) (λ is. cc is)
-begins-field st.AfterCr byte = by-test BeginsField (byte == 10) _ _ (λ is. cc is) (begins-record byte)
-
-pub field-begun : (s s2 : State) (byte : ℕ) → (s2, act.EndField) ≡ step default_config s byte → s2 ≡ st.StartField
-field-begun s s2 byte e =
-    let begins = begins-field s byte in
-    ap (λ (m : State × Action). m.0) e ∙ begins (sym (ap (λ (m : State × Action). m.1) e))
-
 -- a record that has begun a field has one wherever the text ends
 abbrev is_within : State → Bool
 is_within st.StartRecord = false
@@ -289,10 +256,6 @@ pub five-decide : (s : State) (fields : List (List ℕ)) (field text : List ℕ)
 five-decide s fields field text five is = record {
   same = λ more. inr (five, has-five s fields field (text ++ more) five (rw is refl));
 }
-
--- what is found
-pub finds-decided : (s0 : State) (text : List ℕ) (fields : List (List ℕ)) (s : State) (new : Arrived) → Decided s0 [] [] text fields s new.bytes → FindsKept true s0 text fields s new
-finds-decided s0 text fields s new h = λ more comes. h.same more
 
 finds-last : (s0 s1 s : State) (text : List ℕ) (fields1 fields : List (List ℕ)) (field1 t : List ℕ) (new : Arrived) → GoesOn s0 [] [] text s1 fields1 field1 t → t ≡ [] → new.bytes ≡ [] → new.ended ≡ true
     → next_kept s1 fields1 field1 [] ≡ Some (fields, s, []) → FindsKept true s0 text fields s new

@@ -35,6 +35,11 @@ module _ {n : ℕ} where
   and_then_asked row (Ok asked) behind = asked_before asked (behind asked)
   and_then_asked row (Err kind) behind = stream_fault_at row kind
 
+  -- the row that asks and what stands behind it, nothing from a fault on
+  abbrev pub up_to_fault : Result (Asked n) Kind → (Asked n → List (Asked n)) → List (Asked n)
+  up_to_fault (Ok asked) behind = asked ∷ behind asked
+  up_to_fault (Err kind) behind = []
+
 -- every record of a text, from a state of `csv`'s machine
 abbrev pub records_left : State → List ℕ → List (List (List ℕ))
 records_left s text = records_from default_config (length text + 1) s text
@@ -58,6 +63,21 @@ module _ (n lines : ℕ) where
   unfoldable pub stream_of : List ℕ → Result (List (Asked n)) StreamFault
   stream_of bytes = stream_records (records_left st.StartRecord (strip_bom bytes))
 
+  -- what the rows ask in front of the first fault: all rows where there is none
+  unfoldable pub front_rows : ℕ → ℕ → List (List (List ℕ)) → List (Asked n)
+  front_rows rows before [] = []
+  front_rows rows before (fields ∷ rest) =
+      if is_past rows fields then []
+      else up_to_fault (asked_of n lines before fields) (λ asked. front_rows (rows_after rows asked) (tick_asked asked) rest)
+
+  unfoldable pub front_records : List (List (List ℕ)) → List (Asked n)
+  front_records [] = []
+  front_records (first ∷ rows) = if is_header first then front_rows 0 0 rows else []
+
+  -- what a text asks in front of its first fault
+  unfoldable pub front_of : List ℕ → List (Asked n)
+  front_of bytes = front_records (records_left st.StartRecord (strip_bom bytes))
+
 -- where a reader of a streamed trace stands: the bytes that arrived and aren't read yet, the state of `csv`'s machine before
 -- them, how many rows with a number were read, the tick of the last row, and the number of lines
 pub record Standing : Type 0 where
@@ -71,10 +91,15 @@ pub record Standing : Type 0 where
 unfoldable pub asked_from : (n : ℕ) → Standing → List ℕ → Result (List (Asked n)) StreamFault
 asked_from n at more = stream_rows n at.lines at.rows at.tick (records_left at.state (at.arrived.bytes ++ more))
 
+-- and which of them stand in front of the first fault
+unfoldable pub front_from : (n : ℕ) → Standing → List ℕ → List (Asked n)
+front_from n at more = front_rows n at.lines at.rows at.tick (records_left at.state (at.arrived.bytes ++ more))
+
 -- the next row asks this, whatever may still come behind; or there is none, and the text is at its end
 abbrev pub AsksNext : {n : ℕ} → Standing → List ℕ → Option (Asked n) → Standing → Type 0
 AsksNext {n} old bytes (Some asked) new =
-    (more : List ℕ) → Comes new.arrived.ended more → asked_from n old (bytes ++ more) ≡ asked_before asked (asked_from n new more)
+    (more : List ℕ) → Comes new.arrived.ended more
+    → (asked_from n old (bytes ++ more) ≡ asked_before asked (asked_from n new more)) × (front_from n old (bytes ++ more) ≡ asked ∷ front_from n new more)
 AsksNext {n} old bytes None new = (asked_from n old bytes ≡ Ok []) × (new.arrived.ended ≡ true)
 
 -- a fault of the text, and not of the source, for want of an end or of memory
@@ -85,6 +110,12 @@ IsOfText e = (e ≢ fault.Read) × (e ≢ fault.Endless) × (e ≢ fault.NoMemor
 abbrev pub HasFault : {n : ℕ} → (List ℕ → Result (List (Asked n)) StreamFault) → List ℕ → StreamFault → Bool → Type 0
 HasFault meaning bytes e ended = (more : List ℕ) → Comes ended more → meaning (bytes ++ more) ≡ Err e
 
+-- exactly these rows stand in front of the text's first fault, whatever may still come behind
+abbrev pub HasFront : {n : ℕ} → (List ℕ → List (Asked n)) → List ℕ → List (Asked n) → Bool → Type 0
+HasFront front bytes asked ended = (more : List ℕ) → Comes ended more → front (bytes ++ more) ≡ asked
+
 -- the bytes that were taken are the beginning of a text whose rows are still to read
 abbrev pub Opens : ℕ → List ℕ → Standing → Type 0
-Opens lines bytes new = (n : ℕ) (more : List ℕ) → Comes new.arrived.ended more → stream_of n lines (bytes ++ more) ≡ asked_from n new more
+Opens lines bytes new =
+    (n : ℕ) (more : List ℕ) → Comes new.arrived.ended more
+    → (stream_of n lines (bytes ++ more) ≡ asked_from n new more) × (front_of n lines (bytes ++ more) ≡ front_from n new more)

@@ -1,6 +1,6 @@
 //! What a streamed trace has to do with a whole one. A law is what a function here ensures; the functions do nothing when
 //! they run.
-ghost use Rattle.trace_stream.specs.Laws.{BareLaw, FaultBackLaw, FaultLaw, StreamLaw, TraceLaw};
+ghost use Rattle.trace_stream.specs.Laws.{BareLaw, FaultBackLaw, FaultLaw, FrontFaultLaw, FrontLaw, StreamLaw, TraceLaw};
 
 /// Every trace is a streamed trace of the same events.
 pub fn traces_are_streams()
@@ -25,4 +25,14 @@ pub fn faults_come_back()
 /// A text without the rows that settle asks for the same events.
 pub fn settling_changes_no_event()
     ensures { BareLaw }
+{}
+
+/// Where no row has a fault, all rows stand in front of the first.
+pub fn all_rows_stand_in_front()
+    ensures { FrontLaw }
+{}
+
+/// What stands in front of a fault is asked by the records up to the one that has it, and the fault names the next number.
+pub fn a_fault_stands_behind_its_front()
+    ensures { FrontFaultLaw }
 {}

@@ -1,12 +1,12 @@
 //! A streamed trace, row by row.
-ghost use Rattle.std.specs.Prelude.{◌≡◌, ◌≢◌, ◌-◌, ◌^◌, ◌≤◌, ℕ, List, Bool, true, length, Ok, Err, IfOk, IfErr, IfSome, OnOk};
+ghost use Rattle.std.specs.Prelude.{◌≡◌, ◌≢◌, ◌-◌, ◌^◌, ◌≤◌, ℕ, List, [], Bool, true, length, Ok, Err, IfOk, IfErr, IfSome, OnOk};
 ghost use Rattle.std.specs.Io.KnownBytes.{IsAtEnd};
 ghost use Rattle.pcm_io.specs.Faults.{Rose};
 ghost use Rattle.pcm_io.specs.Taking.{Takes};
 ghost use Rattle.trace_stream.specs.Arrived.{StaysEnded};
 ghost use Rattle.trace_stream.specs.Asked.{IsAskedFor, rows_after, tick_asked};
 ghost use Rattle.trace_stream.specs.Kept.{decides};
-ghost use Rattle.trace_stream.specs.Stream.{AsksNext, HasFault, IsOfText, Opens, asked_from, is_past, stream_of};
+ghost use Rattle.trace_stream.specs.Stream.{AsksNext, HasFault, HasFront, IsOfText, Opens, asked_from, front_from, front_of, is_past, stream_of};
 
 use crate::asked::{Asked, is_header_row, is_settle_row, read_asked};
 use crate::fault::StreamFault;
@@ -59,7 +59,7 @@ impl TraceStream {
         ensures end { IfOk result (λ stream. stream.arrived.ended ≡ true → IsAtEnd (S.left source.new)) }
         ensures fault { IfErr result (λ e. IsOfText e → (bytes : List ℕ) × (ended : Bool) × Takes (S.left source.old)
             (S.left source.new) (S.taken source.old) (S.taken source.new) bytes × (ended ≡ true → IsAtEnd (S.left source.new))
-            × ((n : ℕ) → HasFault (stream_of n lines) bytes e ended)) }
+            × ((n : ℕ) → HasFault (stream_of n lines) bytes e ended × HasFront (front_of n lines) bytes [] ended)) }
         ensures read { result ≡ Err StreamFault.Read → Rose (S.faults source.old) (S.faults source.new) }
         ensures endless { result ≡ Err StreamFault.Endless → (bytes : List ℕ) × Takes (S.left source.old) (S.left source.new)
             (S.taken source.old) (S.taken source.new) bytes × (2 ^ 64 - 1 ≤ length bytes) }
@@ -113,7 +113,8 @@ impl TraceStream {
             × StaysEnded self.old.arrived.ended bytes self.new.arrived.ended
             × ((self.old.arrived.ended ≡ true → IsAtEnd (S.left source.old))
             → self.new.arrived.ended ≡ true → IsAtEnd (S.left source.new))
-            × HasFault (asked_from B self.old) bytes e self.new.arrived.ended) }
+            × HasFault (asked_from B self.old) bytes e self.new.arrived.ended
+            × HasFront (front_from B self.old) bytes [] self.new.arrived.ended) }
         ensures read { result ≡ Err StreamFault.Read → Rose (S.faults source.old) (S.faults source.new) }
         ensures endless { result ≡ Err StreamFault.Endless → (bytes : List ℕ) × Takes (S.left source.old) (S.left source.new)
             (S.taken source.old) (S.taken source.new) bytes × (2 ^ 64 - 1 ≤ length bytes) }

@@ -18,6 +18,13 @@ rows-init g c =
       no_fault = c.in_ok-stream.ensures.no_fault (λ e. cc e);
     }
 
+pub returns-in_err-stream-clause-fault : goal.returns-in_err-stream-clause-fault
+returns-in_err-stream-clause-fault g c =
+    let fault = err_from_is_err_and c.from_residual.result c.from_residual.ensures.1 in
+    rw (fault.1, fault.2) (λ text.
+    let first = c.in_err-stream.ensures.fault text in
+    (first.0, first.1, first.2, first.3, (first.4 g.row.B).0))
+
 pub returns-in_err-asked-clause-fault : goal.returns-in_err-asked-clause-fault
 returns-in_err-asked-clause-fault g c =
     let fault = err_from_is_err_and c.from_residual-in_err-asked.result c.from_residual-in_err-asked.ensures.1 in
@@ -57,6 +64,11 @@ returns-clause-ok g c =
       Takes-Takes _ _ _ _ _ _ _ _ before.1 next.1,
       asked-all g.row.B c.args.lines before.0 next.0 c.rows.all.items c.rows.stream c.next.new.self before.2 next.2 asks,
     )
+
+pub returns-clause-end : goal.returns-clause-end
+returns-clause-end g c =
+    let asks = rw c.in_default.is at c.in_ok-asked.ensures.ok.3 in
+    c.in_ok-asked.ensures.end c.rows.invariant.end asks.1
 
 pub returns-in_err-asked-clause-endless : goal.returns-in_err-asked-clause-endless
 returns-in_err-asked-clause-endless g c =

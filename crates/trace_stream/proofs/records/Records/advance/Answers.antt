@@ -1,4 +1,4 @@
-use Rattle.std.proofs.Common.{◌≡◌, ◌<◌, length, eqb-true, sym, ap, subst, ◌∙◌}
+use Rattle.std.proofs.Common.{◌≡◌, ◌<◌, length, eqb-true, sym, ◌∙◌}
 use Rattle.trace_stream.proofs.Steps.{five-decide, goes-decides, goes-goes}
 use Rattle.trace_stream.proofs.records.Records.advance.Goals as goal
 

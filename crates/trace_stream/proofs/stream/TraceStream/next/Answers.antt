@@ -2,7 +2,7 @@ use Rattle.std.proofs.Common.{refl, sym, ◌∙◌}
 use Rattle.trace_stream.specs.Machine.{state_of}
 use Rattle.trace_stream.specs.Stream.{Standing}
 use Rattle.trace_stream.proofs.Lawful.{asked-lawful}
-use Rattle.trace_stream.proofs.Rows.{asks-faulty, asks-none, asks-some, asks-too_many, happens-counted}
+use Rattle.trace_stream.proofs.Rows.{asks-faulty, asks-none, asks-some, asks-too_many, happens-counted, no-front, no-front-past}
 use Rattle.trace_stream.proofs.stream.TraceStream.next.Goals as goal
 
 pub returns-then-not-branch-clause-ok : goal.returns-then-not-branch-clause-ok
@@ -18,7 +18,7 @@ returns-then-is_past-clause-fault g c = λ text.
     let new : Standing = record { arrived = c.next.new.self.incoming; state = state_of c.next.new.self.place; rows = c.self.inside.rows; tick = c.self.inside.tick; lines = c.self.inside.lines } in
     let found = rw c.if-not-branch.false at c.in_ok-next.ensures.found in
     let past = sym c.is_past.ensures ∙ c.if-is_past.true in
-    rw (← c.self.view_is) (found.0, found.1, found.2, c.in_ok-next.ensures.end, asks-too_many g.row.B old new found.0 c.next.new.self.kept.fields c.requires found.3 past)
+    rw (← c.self.view_is) (found.0, found.1, found.2, c.in_ok-next.ensures.end, asks-too_many g.row.B old new found.0 c.next.new.self.kept.fields c.requires found.3 past, no-front-past g.row.B old new found.0 c.next.new.self.kept.fields c.requires found.3 past)
 
 pub returns-in-Ok-clause-ok : goal.returns-in-Ok-clause-ok
 returns-in-Ok-clause-ok g c =
@@ -41,7 +41,7 @@ returns-in-Err-clause-fault g c = λ text.
     let found = rw c.if-not-branch.false at c.in_ok-next.ensures.found in
     let asks = sym c.in-Err.ensures in
     let within = sym c.is_past.ensures ∙ c.if-is_past.false in
-    rw (← c.self.view_is) (found.0, found.1, found.2, c.in_ok-next.ensures.end, asks-faulty g.row.B old new found.0 c.next.new.self.kept.fields c.in-Err.kind c.requires found.3 asks within)
+    rw (← c.self.view_is) (found.0, found.1, found.2, c.in_ok-next.ensures.end, asks-faulty g.row.B old new found.0 c.next.new.self.kept.fields c.in-Err.kind c.requires found.3 asks within, no-front g.row.B old new found.0 c.next.new.self.kept.fields c.in-Err.kind c.requires found.3 asks within)
 
 pub invariant_of-self-in-Ok : goal.invariant_of-self-in-Ok
 invariant_of-self-in-Ok g c =
