@@ -1,15 +1,14 @@
 -- A power cut reaches one bank after the other.
-use Rattle.std.proofs.Common.{◌≡◌, ◌≢◌, ℕ, ◌+◌, ◌-◌, ◌*◌, ◌<◌, ◌≤◌, Bool, true, false, if◌then◌else◌, List, [], ◌∷◌, ◌++◌, length, Option, Some, None, refl, sym, ap, subst, ◌∙◌, append_assoc, arith}
-use Rattle.std.specs.Prelude.{All, IsSomeAnd, slice_get, slice_set, nat_lt, unwrap_or}
+use Rattle.std.proofs.Common.{◌≡◌, ◌≢◌, ℕ, ◌+◌, ◌*◌, ◌<◌, ◌≤◌, Bool, true, false, if◌then◌else◌, List, [], ◌∷◌, ◌++◌, length, Option, Some, None, refl, sym, ap, subst, ◌∙◌, append_assoc, arith}
+use Rattle.std.specs.Prelude.{All, IsSomeAnd, slice_get, slice_set, nat_lt}
 use Rattle.std.proofs.lemmas.Bool.{lt-ltb}
 use Rattle.std.proofs.lemmas.List.Elements.{All-tail, All-cons, All-weaker}
-use Rattle.std.proofs.Math.ListN.{length-set}
-use Rattle.circular_buffer.proofs.Places.{slice_get-set_same, slice_get-set_other}
+use Rattle.circular_buffer.proofs.Places.{slice_get-set_other}
 use Rattle.cell_rows.specs.Device.{ArrayState}
 use Rattle.masked_bytes.specs.Entries.{has_row}
 use Rattle.result_rows.specs.declared.Outcome.{Outcome}
 use Rattle.result_rows.specs.declared.Outcome.TheVariants as out
-use Rattle.result_rows.specs.Table.{HasRow, with_outcome}
+use Rattle.result_rows.specs.Table.{HasRow}
 use Rattle.row_rules.specs.declared.Asks.TheVariants.{Cuts}
 use Rattle.bank_shape.specs.declared.BankShape.{BankShape}
 use Rattle.bank_model.specs.Timing.{TimedEvent}
@@ -31,10 +30,11 @@ use Rattle.pcm_module.specs.Replaying.{BankReplays, Replays, IsReplayed, RowsFal
 use Rattle.pcm_module.specs.Taking.{Takes, StaysBeyond}
 use Rattle.pcm_module.proofs.Naming.{is_numbered, names, not_named, above_all, apart_rows, rows_of_bank_all}
 use Rattle.pcm_module.proofs.Moving.{untouched, left_alone, open_kept}
-use Rattle.pcm_module.proofs.Steps.{stays_replayed}
+use Rattle.pcm_module.proofs.Steps.{stays_replayed, later_replays}
 use Rattle.pcm_module.proofs.Banks.{AllReplay, changed, changed_at, changed_off, from_get, all_step, cuts_apart}
 use Rattle.pcm_module.proofs.Beyond.{stays_same, stays_both, stays_by}
 use Rattle.pcm_module.proofs.TakenRows.{row_kept, bank_there}
+use Rattle.pcm_module.proofs.AsIf.{as_if, rows_as_if, own_there, other_there}
 use Rattle.pcm_module.proofs.Draining.{not_below, below_next}
 
 -- what was asked of a bank while a cut has reached so many
@@ -50,7 +50,7 @@ module _ {n m e : ℕ} (a : Asked n) (old : ModuleState n m e) (before : ArraySt
     pub open_rows : (other : ℕ) → a.row < other → IsOpen results other → IsOpen recorded other
     pub replays : (h : ℕ → List (TimedEvent n m)) (asked : List (Asked n)) → Replays h asked old before results
         → (added : ℕ → List (TimedEvent n m))
-        × AllReplay (module_of old.shape) (pacing_in old.shape) a.tick (a.row + 1) (λ k. added k ++ h k) (λ k. asked_in_bank old k (up_to a reached k asked)) after recorded banks
+        × AllReplay (module_of old.shape) (pacing_in old.shape) a.tick a.row (λ k. added k ++ h k) (λ k. asked_in_bank old k (up_to a reached k asked)) after recorded banks
     pub others : (other : ℕ) → HasRow results other → other ≢ a.row → StandsNowhere old other → outcome_in recorded other ≡ outcome_in results other
     pub stays : StaysBeyond (old.shape.banks * array_lines_of (module_of old.shape)) before after
 
@@ -76,35 +76,31 @@ module _ {n m e : ℕ} (row tick : ℕ) (old : ModuleState n m e) (before : Arra
       All-cons (λ (c : Asked n). HasRow recorded c.row) the_cut asked (row_kept results recorded row rows fresh)
       (All-weaker (λ (c : Asked n). HasRow results c.row) (λ (c : Asked n). HasRow recorded c.row) (λ c has. row_kept results recorded c.row rows has) asked f.in_table)
 
-  -- before the first bank is reached the cut's row has its outcome
-  pub cut_none : IsOpen results row → (recorded : List (Outcome n)) → recorded ≡ with_outcome results row (out.Cut tick)
-      → CutsUpTo the_cut old before results 0 old.banks before recorded
-  cut_none is recorded set = record {
+  -- before the first bank is reached, as if the cut's row had its outcome
+  pub cut_none : CutsUpTo the_cut old before results 0 old.banks before (as_if row (out.Cut tick) results)
+  cut_none = record {
     ahead = λ k from. refl;
-    rows = rows;
-    outcome = ap (λ r. outcome_in r row) set ∙ ap (λ o. unwrap_or o out.Unset) (slice_get-set_same results (row - 1) (out.Cut tick) (omega (arith, fresh.above, fresh.within)));
-    open_rows = λ other higher open_before. open_kept results recorded other rows (same other open_before.exists.above (λ e. omega (arith, e, higher))) open_before;
+    rows = rows_as_if row (out.Cut tick) results;
+    outcome = own_there row (out.Cut tick) results fresh;
+    open_rows = λ other higher is. open_kept results (as_if row (out.Cut tick) results) other (rows_as_if row (out.Cut tick) results) (same other is.exists.above (λ e. omega (arith, e, higher))) is;
     replays = λ h asked f. ((λ k. []), λ k there. each h asked f k (slice_get old.banks k) (f.banks k there));
     others = λ other has off nowhere. same other has.above off;
     stays = stays_same _ before;
   }
     where
-      rows : length recorded ≡ length results
-      rows = ap (λ (r : List (Outcome n)). length r) set ∙ length-set results (row - 1) (out.Cut tick)
-
-      same : (other : ℕ) → 1 ≤ other → other ≢ row → outcome_in recorded other ≡ outcome_in results other
-      same other some off = ap (λ r. outcome_in r other) set ∙ ap (λ o. unwrap_or o out.Unset) (slice_get-set_other results (row - 1) (other - 1) (out.Cut tick) (λ e. off (omega (arith, e, some, fresh.above))))
+      same : (other : ℕ) → 1 ≤ other → other ≢ row → outcome_in (as_if row (out.Cut tick) results) other ≡ outcome_in results other
+      same other some off = other_there row (out.Cut tick) results other fresh.above some off
 
       each : (h : ℕ → List (TimedEvent n m)) (asked : List (Asked n)) → Replays h asked old before results → (k : ℕ) → (o : Option (ClockState n m e))
           → IsSomeAnd o (BankReplays (shape_of k) (pacing_in old.shape) old.tick old.rows_below (h k) (asked_in_bank old k asked) before results)
-          → IsSomeAnd o (BankReplays (shape_of k) (pacing_in old.shape) tick (row + 1) (h k) (asked_in_bank old k (up_to the_cut 0 k asked)) before recorded)
+          → IsSomeAnd o (BankReplays (shape_of k) (pacing_in old.shape) tick row (h k) (asked_in_bank old k (up_to the_cut 0 k asked)) before (as_if row (out.Cut tick) results))
       each h asked f k None is = is
       each h asked f k (Some c) is =
-          subst (λ rows. BankReplays (shape_of k) (pacing_in old.shape) tick (row + 1) (h k) (asked_in_bank old k rows) before recorded c)
+          subst (λ rows. BankReplays (shape_of k) (pacing_in old.shape) tick row (h k) (asked_in_bank old k rows) before (as_if row (out.Cut tick) results) c)
           (sym (ap (λ b. if b then the_cut ∷ asked else asked) (not_below k 0 (omega arith))))
-          (stays_replayed (shape_of k) (pacing_in old.shape) old.tick old.rows_below tick (row + 1) (h k) (asked_in_bank old k asked) c before before results recorded is is.leads is.logged rows
-          (rows_of_bank_all home number (λ r. outcome_in recorded r ≡ outcome_in results r) k asked
-          (All-weaker (λ (b : Asked n). HasRow results b.row × (b.row < old.rows_below)) (λ (b : Asked n). outcome_in recorded b.row ≡ outcome_in results b.row)
+          (stays_replayed (shape_of k) (pacing_in old.shape) old.tick old.rows_below tick row (h k) (asked_in_bank old k asked) c before before results (as_if row (out.Cut tick) results) is is.leads is.logged (rows_as_if row (out.Cut tick) results)
+          (rows_of_bank_all home number (λ r. outcome_in (as_if row (out.Cut tick) results) r ≡ outcome_in results r) k asked
+          (All-weaker (λ (b : Asked n). HasRow results b.row × (b.row < old.rows_below)) (λ (b : Asked n). outcome_in (as_if row (out.Cut tick) results) b.row ≡ outcome_in results b.row)
           (λ b known. same b.row known.0.above (λ e. omega (arith, e, known.1, above))) asked
           (λ j d within. (f.in_table j d within, f.below j d within)))) rises (omega (arith, above)))
 
@@ -145,17 +141,17 @@ module _ {n m e : ℕ} (row tick : ℕ) (old : ModuleState n m e) (before : Arra
       (so_far : CutsUpTo the_cut old before results reached banks between recorded) where
     -- the bank that is next replays what was asked of it
     pub cut_replays : (h : ℕ → List (TimedEvent n m)) (asked : List (Asked n)) (f : Replays h asked old before results)
-        → BankReplays (shape_of reached) (pacing_in old.shape) tick (row + 1) ((so_far.replays h asked f).0 reached ++ h reached) (asked_in_bank old reached asked) between recorded clock
+        → BankReplays (shape_of reached) (pacing_in old.shape) tick row ((so_far.replays h asked f).0 reached ++ h reached) (asked_in_bank old reached asked) between recorded clock
     cut_replays h asked f =
-        subst (λ own. BankReplays (shape_of reached) (pacing_in old.shape) tick (row + 1) ((so_far.replays h asked f).0 reached ++ h reached) own between recorded clock) (own_up_to reached asked)
-        (from_get (BankReplays (shape_of reached) (pacing_in old.shape) tick (row + 1) ((so_far.replays h asked f).0 reached ++ h reached) (asked_in_bank old reached (up_to the_cut reached reached asked)) between recorded)
+        subst (λ own. BankReplays (shape_of reached) (pacing_in old.shape) tick row ((so_far.replays h asked f).0 reached ++ h reached) own between recorded clock) (own_up_to reached asked)
+        (from_get (BankReplays (shape_of reached) (pacing_in old.shape) tick row ((so_far.replays h asked f).0 reached ++ h reached) (asked_in_bank old reached (up_to the_cut reached reached asked)) between recorded)
         (slice_get banks reached) clock is ((so_far.replays h asked f).1 reached exists))
 
-    module _ (after : ArrayState n m) (ended : List (Outcome n)) (next : ClockState n m e) (at : IsAt tick (row + 1) next ended)
+    module _ (after : ArrayState n m) (ended : List (Outcome n)) (next : ClockState n m e) (at : IsAt tick row next ended)
         (step : (xs : List (TimedEvent n m)) → Leads xs clock between → (added : List (TimedEvent n m)) × IsStep xs added the_cut clock next between after recorded ended) where
       replays_on : (h : ℕ → List (TimedEvent n m)) (asked : List (Asked n)) → Replays h asked old before results
           → (added : ℕ → List (TimedEvent n m))
-          × AllReplay (module_of old.shape) (pacing_in old.shape) tick (row + 1) (λ k. added k ++ h k) (λ k. asked_in_bank old k (up_to the_cut (reached + 1) k asked)) after ended (slice_set banks reached next)
+          × AllReplay (module_of old.shape) (pacing_in old.shape) tick row (λ k. added k ++ h k) (λ k. asked_in_bank old k (up_to the_cut (reached + 1) k asked)) after ended (slice_set banks reached next)
       replays_on h asked f =
           let went = so_far.replays h asked f in
           let first = cut_replays h asked f in
@@ -166,7 +162,7 @@ module _ {n m e : ℕ} (row tick : ℕ) (old : ModuleState n m e) (before : Arra
           let has : (k : ℕ) → All (λ c. HasRow recorded c.row) (asked_in_bank old k (up_to the_cut reached k asked)) =
           λ k. rows_of_bank_all home number (HasRow recorded) k (up_to the_cut reached k asked) (all_up_to (λ (c : Asked n). HasRow recorded c.row) reached k asked (rows_there h asked f recorded so_far.rows)) in (
             added,
-            all_step (module_of old.shape) (pacing_in old.shape) tick (row + 1) tick (row + 1) reached (λ k. went.0 k ++ h k) (λ k. added k ++ h k)
+            all_step (module_of old.shape) (pacing_in old.shape) tick row tick row reached (λ k. went.0 k ++ h k) (λ k. added k ++ h k)
                 (λ k. asked_in_bank old k (up_to the_cut reached k asked)) (λ k. asked_in_bank old k (up_to the_cut (reached + 1) k asked)) banks s.0 the_cut clock next between after recorded ended
                 went.1 exists is s.1 at
                 (ap (λ (a : List (TimedEvent n m)). a ++ h reached) (changed_at reached (s.0 ++ went.0 reached) went.0 reached refl) ∙ append_assoc s.0 (went.0 reached) (h reached))
@@ -201,7 +197,7 @@ module _ {n m e : ℕ} (row tick : ℕ) (old : ModuleState n m e) (before : Arra
           xs : List (TimedEvent n m)
           xs = (so_far.replays led.0 led.1 led.2).0 reached ++ led.0 reached
 
-          first : BankReplays (shape_of reached) (pacing_in old.shape) tick (row + 1) ((so_far.replays led.0 led.1 led.2).0 reached ++ led.0 reached) (asked_in_bank old reached led.1) between recorded clock
+          first : BankReplays (shape_of reached) (pacing_in old.shape) tick row ((so_far.replays led.0 led.1 led.2).0 reached ++ led.0 reached) (asked_in_bank old reached led.1) between recorded clock
           first = cut_replays led.0 led.1 led.2
 
           s : (added : List (TimedEvent n m)) × IsStep ((so_far.replays led.0 led.1 led.2).0 reached ++ led.0 reached) added the_cut clock next between after recorded ended
@@ -233,7 +229,9 @@ module _ {n m e : ℕ} (row tick : ℕ) (old : ModuleState n m e) (before : Arra
           record {
             size = so_far.stays.lines ∙ f.size;
             banks = λ k there. subst (λ rows. IsSomeAnd (slice_get banks k) (BankReplays (shape_of k) (pacing_in old.shape) tick (row + 1) (went.0 k ++ h k) (asked_in_bank old k rows) after recorded))
-                (ap (λ b. if b then the_cut ∷ asked else asked) (lt-ltb k reached (omega (arith, there, all)))) (went.1 k there);
+                (ap (λ b. if b then the_cut ∷ asked else asked) (lt-ltb k reached (omega (arith, there, all))))
+                (later_replays (shape_of k) (pacing_in old.shape) tick tick row (row + 1) (went.0 k ++ h k) (asked_in_bank old k (up_to the_cut reached k asked)) after recorded (slice_get banks k)
+                (omega arith) (omega arith) (went.1 k there));
             exist = All-cons (λ (c : Asked n). IsOfLines (total_of old.shape) c.asks) the_cut asked tt f.exist;
             ticks = (All-weaker (λ (c : Asked n). c.tick ≤ old.tick) (λ (c : Asked n). c.tick ≤ tick) (λ c le. omega (arith, le, rises)) asked f.in_time, f.ticks);
             in_time = All-cons (λ (c : Asked n). c.tick ≤ tick) the_cut asked (omega arith)
@@ -249,12 +247,13 @@ module _ {n m e : ℕ} (row tick : ℕ) (old : ModuleState n m e) (before : Arra
     stays = so_far.stays;
   }
 
--- while the cut goes from bank to bank, only the banks change
+-- while the cut goes from bank to bank, only the banks change; its own row is still open, and the banks are told of as if it weren't
 pub record IsCutting {n m e : ℕ} (row tick reached : ℕ) (raw : RawShape) (seed : ℕ) (network : Network) (banks : List (ClockState n m e)) (now rows : ℕ) (finished : Bool)
     (old : ModuleState n m e) (before after : ArrayState n m) (results recorded : List (Outcome n)) : Type 0 where
   pub is : IsModule raw seed network banks now
   pub same : record { shape = raw; seed = seed; banks = old.banks; tick = now; rows_below = rows; finished = finished } ≡ old
-  pub cuts : CutsUpTo (record { row = row; tick = tick; asks = Cuts }) old before results reached banks after recorded
+  pub cuts : CutsUpTo (record { row = row; tick = tick; asks = Cuts }) old before results reached banks after (as_if row (out.Cut tick) recorded)
+  pub fresh : IsOpen recorded row
 
 pub in_list : (at banks raw items : ℕ) → at < banks → raw ≡ banks → items ≡ raw → at < items
 in_list at banks raw items below same counted = omega arith

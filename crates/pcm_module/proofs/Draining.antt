@@ -18,13 +18,11 @@ use Rattle.clock_laws.specs.Leads.{Leads}
 use Rattle.clock_laws.specs.Standing.{has_waiting, arrives_with}
 use Rattle.module_laws.specs.Asking.{Asked, AreAsked, asked_of}
 use Rattle.module_laws.proofs.LastCuts.{cut-last}
-use Rattle.module_shape.specs.declared.raw.RawShape.{RawShape}
 use Rattle.module_shape.specs.Limits.{IsShape}
 use Rattle.bank_shape.specs.declared.pace.Pace.{Pace}
 use Rattle.bank_model.specs.Timing.{last_tick}
 use Rattle.row_rules.specs.declared.Asks.{Asks}
 use Rattle.row_rules.specs.declared.Asks.TheVariants.{Cuts}
-use Rattle.bank_laws.specs.Resting.{IsCutOff}
 use Rattle.bank_timing.specs.Extending.{LeavesOthers, outcome_in}
 use Rattle.bank_timing.specs.Draining.{DrainsTo}
 use Rattle.end_laws.specs.Ends.{BankEnd}

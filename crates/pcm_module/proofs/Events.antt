@@ -12,6 +12,7 @@ use Rattle.trace_rows.specs.Rows.{asks_of}
 use Rattle.pcm_module.specs.State.{ModuleState}
 use Rattle.pcm_module.specs.Replaying.{Replays}
 use Rattle.pcm_module.specs.Taking.{Takes}
+use Rattle.pcm_module.specs.Telling.{TellsInOrder, rows_taking}
 
 -- a row that was taken is the event's
 pub replays_event : {n m e : ℕ} (row : ℕ) (event : Event n) (op : EventOp n) (old new : ModuleState n m e) (before after : ArrayState n m) (results recorded : List (Outcome n))
@@ -21,6 +22,13 @@ pub replays_event : {n m e : ℕ} (row : ℕ) (event : Event n) (op : EventOp n)
 replays_event {n = n} {m = m} row event op old new before after results recorded is taken h asked f =
     subst (λ (o : EventOp n). (added : ℕ → List (TimedEvent n m)) × Replays (λ bank. added bank ++ h bank) (record { row = row; tick = event.tick; asks = asks_of o } ∷ asked) new after recorded)
     (sym is) (taken.replays h asked f)
+
+-- so is its order
+pub order_event : {n m e : ℕ} {R : Type 0} (goes_on : R → R → Type 0) (table : R → List (Outcome n)) (row : ℕ) (event : Event n) (op : EventOp n) (old : ModuleState n m e) (one two : R)
+    → event.op ≡ op → TellsInOrder goes_on table (rows_taking old row (asks_of op)) old.shape.banks row one two
+    → TellsInOrder goes_on table (rows_taking old row (asks_of event.op)) old.shape.banks row one two
+order_event {n = n} goes_on table row event op old one two is order =
+    subst (λ (o : EventOp n). TellsInOrder goes_on table (rows_taking old row (asks_of o)) old.shape.banks row one two) (sym is) order
 
 -- the operation of an event for a module's lines
 pub op_for : {n : ℕ} (lines : ℕ) (event : Event n) (op : EventOp n) → event.op ≡ op → IsOpFor lines event.op → IsOpFor lines op

@@ -6,6 +6,7 @@ mod Logging
 mod Steps
 mod Arriving
 pub mod Sizes
+pub mod Asked
 mod Banks
 mod Beyond
 mod TakenRows
@@ -13,6 +14,8 @@ mod Becoming
 mod Ending
 mod Draining
 mod Settles
+mod AsIf
+mod InOrder
 mod Cuts
 mod Serving
 mod Events

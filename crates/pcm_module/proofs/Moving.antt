@@ -53,7 +53,7 @@ module _ {n : ℕ} where
 
 module _ {n m e : ℕ} (xs : List (TimedEvent n m)) (clock : ClockState n m e) (array : ArrayState n m) (leads : Leads xs clock array) where
   -- a row that stands in a bank is one of those that were asked of it
-  no_entry : (row : ℕ) → arrives_with xs row ≡ false → (has_row clock.bank.kept.entries row ≡ false) × (has_waiting clock.bank.waiting row ≡ false)
+  pub no_entry : (row : ℕ) → arrives_with xs row ≡ false → (has_row clock.bank.kept.entries row ≡ false) × (has_waiting clock.bank.waiting row ≡ false)
   no_entry row off =
       let none : StandsNot clock.bank.kept.shape row xs = stands_not clock.bank.kept.shape row xs off in
       (ap (λ es. has_row es row) leads.holds.entries ∙ none.queued, ap (λ ws. has_waiting ws row) leads.holds.waiting ∙ none.waiting)
@@ -79,12 +79,16 @@ module _ {n m e : ℕ} (xs : List (TimedEvent n m)) (clock : ClockState n m e) (
         → outcome_in recorded row ≡ outcome_in results row
     left_alone row has queued waiting off = ext.outcomes row has ∙ other_rows_law n m e row added xs clock array (outcome_in results) leads lawful_whole queued waiting off
 
-    -- so does one that didn't arrive
-    pub untouched : (row : ℕ) → HasRow results row → arrives_with (added ++ xs) row ≡ false → outcome_in recorded row ≡ outcome_in results row
-    untouched row has off =
+    -- these events give no outcome to one that didn't arrive
+    pub unheard : (row : ℕ) (before : ℕ → Outcome n) → arrives_with (added ++ xs) row ≡ false → outcome_on clock.bank.kept.shape added xs before row ≡ before row
+    unheard row before off =
         let parts = off_both row added xs off in
         let none = no_entry row parts.1 in
-        left_alone row has none.0 none.1 parts.0
+        other_rows_law n m e row added xs clock array before leads lawful_whole none.0 none.1 parts.0
+
+    -- so it keeps the one that it has
+    pub untouched : (row : ℕ) → HasRow results row → arrives_with (added ++ xs) row ≡ false → outcome_in recorded row ≡ outcome_in results row
+    untouched row has off = ext.outcomes row has ∙ unheard row (outcome_in results) off
 
     -- a row with the outcome of the history has that of the longer one
     pub told_on : (row : ℕ) → HasRow results row → outcome_in results row ≡ outcome_of clock.bank.kept.shape xs row

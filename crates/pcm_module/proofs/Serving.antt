@@ -19,13 +19,15 @@ use Rattle.module_shape.specs.Limits.{total_of}
 use Rattle.module_shape.specs.Addresses.{module_of, lines_of, bank_shape}
 use Rattle.clock_laws.specs.State.{ClockState}
 use Rattle.clock_laws.specs.Leads.{Leads}
-use Rattle.bank_timing.specs.Extending.{IsOpen, last_tick}
+use Rattle.bank_timing.specs.Extending.{IsOpen, LeavesOthersThan, last_tick}
 use Rattle.run_laws.specs.Runs.{pacing_in, bank_of_line, line_in_bank}
 use Rattle.pcm_module.specs.State.{ModuleState}
 use Rattle.pcm_module.specs.Shaped.{IsModule, IsBankOf}
 use Rattle.pcm_module.specs.Stepping.{IsAt, IsStep}
 use Rattle.pcm_module.specs.Replaying.{BankReplays, IsReplayed, asked_in_bank}
 use Rattle.pcm_module.specs.Taking.{Takes}
+use Rattle.pcm_module.specs.Telling.{TellsInOrder, rows_taking}
+use Rattle.pcm_module.proofs.InOrder.{in_order, step_leaves_but}
 use Rattle.pcm_module.proofs.Banks.{from_get, at_get}
 use Rattle.pcm_module.proofs.TakenRows.{takes_one}
 
@@ -157,3 +159,25 @@ module _ {n m e row tick line bank at : ℕ} {old : ModuleState n m e} {before :
       (eq-eqb (bank_of_line old.shape old.seed line) bank (sym c.home)) (λ other off. ne_eqb (bank_of_line old.shape old.seed line) other (λ e. off (sym e ∙ sym c.home))) refl c.of_lines
       c.forward c.above c.fresh c.exists c.is there
       (λ xs leads. subst (λ (k : ℕ). (added : List (TimedEvent n m)) × IsStep xs added (record { row = row; tick = tick; asks = Writes k bytes given }) clock next before after results recorded) c.number (step xs leads)) c.led
+
+  -- what its bank told, and it, stand in order
+  module _ {R : Type 0} (goes_on : R → R → Type 0) (table : R → List (Outcome n)) (stands : (one : R) → goes_on one one) (one two : R) (same : table one ≡ results) (on : goes_on one two) where
+    pub read_in_order : {next : ClockState n m e} {after : ArrayState n m}
+        → ((xs : List (TimedEvent n m)) → Leads xs clock before
+        → (added : List (TimedEvent n m)) × IsStep xs added (record { row = row; tick = tick; asks = Reads at }) clock next before after results (table two))
+        → TellsInOrder goes_on table (rows_taking old row (Reads line)) old.shape.banks row one two
+    read_in_order {next = next} {after = after} step =
+        let s = step (c.led.0 bank) bank_replays.leads in
+        in_order goes_on table old stands bank row (Reads line) clock one two c.is c.exists (eq-eqb (bank_of_line old.shape old.seed line) bank (sym c.home)) on
+        (subst (λ (r : List (Outcome n)). LeavesOthersThan row clock.bank r (table two)) (sym same)
+        (step_leaves_but (c.led.0 bank) s.0 clock next before after results (table two) (record { row = row; tick = tick; asks = Reads at }) bank_replays.leads s.1))
+
+    pub write_in_order : {bytes : List ℕ} {given : List Bool} {next : ClockState n m e} {after : ArrayState n m}
+        → ((xs : List (TimedEvent n m)) → Leads xs clock before
+        → (added : List (TimedEvent n m)) × IsStep xs added (record { row = row; tick = tick; asks = Writes at bytes given }) clock next before after results (table two))
+        → TellsInOrder goes_on table (rows_taking old row (Writes line bytes given)) old.shape.banks row one two
+    write_in_order {bytes = bytes} {given = given} {next = next} {after = after} step =
+        let s = step (c.led.0 bank) bank_replays.leads in
+        in_order goes_on table old stands bank row (Writes line bytes given) clock one two c.is c.exists (eq-eqb (bank_of_line old.shape old.seed line) bank (sym c.home)) on
+        (subst (λ (r : List (Outcome n)). LeavesOthersThan row clock.bank r (table two)) (sym same)
+        (step_leaves_but (c.led.0 bank) s.0 clock next before after results (table two) (record { row = row; tick = tick; asks = Writes at bytes given }) bank_replays.leads s.1))

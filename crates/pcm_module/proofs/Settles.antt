@@ -1,5 +1,5 @@
 -- The banks of a module are brought to a tick one after the other.
-use Rattle.std.proofs.Common.{◌≡◌, ◌≢◌, ℕ, ◌+◌, ◌<◌, ◌≤◌, false, List, [], ◌++◌, Option, Some, None, refl, sym, ap, subst, ◌∙◌, inl, inr, append_assoc, arith}
+use Rattle.std.proofs.Common.{◌≡◌, ℕ, ◌+◌, ◌<◌, ◌≤◌, false, List, [], ◌++◌, Option, Some, None, refl, sym, ap, subst, ◌∙◌, inl, inr, append_assoc, arith}
 use Rattle.std.specs.Prelude.{All, IsSomeAnd, slice_get, slice_set}
 use Rattle.std.proofs.lemmas.Bool.{cases_eq}
 use Rattle.std.proofs.lemmas.List.Elements.{All-weaker}
@@ -10,7 +10,6 @@ use Rattle.masked_bytes.specs.Entries.{has_row}
 use Rattle.result_rows.specs.declared.Outcome.{Outcome}
 use Rattle.result_rows.specs.Table.{HasRow}
 use Rattle.bank_shape.specs.declared.BankShape.{BankShape}
-use Rattle.bank_shape.specs.declared.pace.Pace.{Pace}
 use Rattle.bank_model.specs.Timing.{TimedEvent}
 use Rattle.feistel_map.specs.Network.{Network}
 use Rattle.module_shape.specs.Addresses.{module_of, bank_shape}
@@ -18,7 +17,7 @@ use Rattle.clock_laws.specs.State.{ClockState}
 use Rattle.clock_laws.specs.Leads.{Leads}
 use Rattle.clock_laws.specs.Standing.{has_waiting}
 use Rattle.module_laws.specs.Asking.{Asked}
-use Rattle.bank_timing.specs.Extending.{Extends, IsOpen, IsQuiet, LeavesOthers, outcome_in, last_tick}
+use Rattle.bank_timing.specs.Extending.{Extends, IsOpen, IsQuiet, LeavesOthers, last_tick}
 use Rattle.run_laws.specs.Runs.{pacing_in, bank_of_line, line_in_bank}
 use Rattle.pcm_module.specs.State.{ModuleState}
 use Rattle.pcm_module.specs.Shaped.{IsModule, IsBankOf}
@@ -27,27 +26,11 @@ use Rattle.pcm_module.specs.Replaying.{BankReplays, Replays, ReplaysIn, IsReplay
 use Rattle.pcm_module.specs.Settling.{IsAtTick, MaySettle, AreSettled}
 use Rattle.pcm_module.proofs.Naming.{not_named, above_all, apart_rows, rows_of_bank_all}
 use Rattle.pcm_module.proofs.Moving.{untouched, open_kept}
+use Rattle.pcm_module.proofs.Steps.{later_replays}
 use Rattle.pcm_module.proofs.Arriving.{own_asked}
 use Rattle.pcm_module.proofs.Banks.{AllReplay, changed, changed_at, changed_off, at_get, from_get, all_extend, cuts_apart}
 use Rattle.pcm_module.proofs.Beyond.{stays_same, stays_both, stays_by}
 use Rattle.pcm_module.proofs.TakenRows.{row_kept, bank_there}
-
--- a bank that replays by a tick does so by a later one
-later_replays : {n m e : ℕ} (shape : BankShape) (pace : Pace) (tick later rows : ℕ) (xs : List (TimedEvent n m)) (asked : List (Asked n)) (array : ArrayState n m) (results : List (Outcome n))
-    (o : Option (ClockState n m e)) → tick ≤ later → IsSomeAnd o (BankReplays shape pace tick rows xs asked array results) → IsSomeAnd o (BankReplays shape pace later rows xs asked array results)
-later_replays shape pace tick later rows xs asked array results None forward f = f
-later_replays shape pace tick later rows xs asked array results (Some clock) forward f = record {
-  shaped = f.shaped;
-  paced = f.paced;
-  going = f.going;
-  in_time = omega (arith, f.in_time, forward);
-  below = f.below;
-  leads = f.leads;
-  logged = f.logged;
-  open_rows = f.open_rows;
-  arrived = f.arrived;
-  recorded = f.recorded;
-}
 
 module _ {n m e : ℕ} (tick : ℕ) (module_ : ModuleState n m e) (before : ArrayState n m) (results : List (Outcome n)) where
   abbrev home : ℕ → ℕ
@@ -69,7 +52,7 @@ module _ {n m e : ℕ} (tick : ℕ) (module_ : ModuleState n m e) (before : Arra
     replays = λ h asked f. (
       (λ bank. []),
       λ k there.
-          later_replays (shape_of k) (pacing_in module_.shape) module_.tick tick module_.rows_below (h k) (asked_in_bank module_ k asked) before results (slice_get banks k) may.forward
+          later_replays (shape_of k) (pacing_in module_.shape) module_.tick tick module_.rows_below module_.rows_below (h k) (asked_in_bank module_ k asked) before results (slice_get banks k) may.forward (omega arith)
           (subst (λ (cs : List (ClockState n m e)). IsSomeAnd (slice_get cs k) (ReplaysIn module_ k (h k) asked before results)) may.same (f.banks k there)),
     );
     open_rows = λ row above is. is;

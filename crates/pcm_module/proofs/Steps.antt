@@ -1,6 +1,6 @@
 -- What happens at one bank extends that bank's history, and the other banks' histories replay what was asked as before.
-use Rattle.std.proofs.Common.{◌≡◌, ◌⊎◌, ℕ, ◌≤◌, true, false, List, ◌++◌, length, refl, sym, subst, ◌∙◌, inl, inr, arith}
-use Rattle.std.specs.Prelude.{All}
+use Rattle.std.proofs.Common.{◌≡◌, ◌⊎◌, ℕ, ◌≤◌, true, false, List, ◌++◌, length, Option, Some, None, refl, sym, subst, ◌∙◌, inl, inr, arith}
+use Rattle.std.specs.Prelude.{All, IsSomeAnd}
 use Rattle.cell_rows.specs.Device.{ArrayState}
 use Rattle.masked_bytes.specs.Entries.{has_row}
 use Rattle.result_rows.specs.declared.Outcome.{Outcome}
@@ -23,6 +23,23 @@ use Rattle.pcm_module.specs.Replaying.{BankReplays, IsLogged, outcome_so_far}
 use Rattle.pcm_module.proofs.Naming.{is_numbered, names, not_named, of_named, All-both}
 use Rattle.pcm_module.proofs.Logging.{AreOff, IsOwnSense, logged_own, logged_off, added_within}
 use Rattle.pcm_module.proofs.Moving.{untouched, told_on, open_kept, standing_named}
+
+-- a bank that replays by a tick, with rows below a bound, does so by a later one, and below a greater one
+pub later_replays : {n m e : ℕ} (shape : BankShape) (pace : Pace) (tick later rows above : ℕ) (xs : List (TimedEvent n m)) (asked : List (Asked n)) (array : ArrayState n m) (results : List (Outcome n))
+    (o : Option (ClockState n m e)) → tick ≤ later → rows ≤ above → IsSomeAnd o (BankReplays shape pace tick rows xs asked array results) → IsSomeAnd o (BankReplays shape pace later above xs asked array results)
+later_replays shape pace tick later rows above xs asked array results None forward upward f = f
+later_replays shape pace tick later rows above xs asked array results (Some clock) forward upward f = record {
+  shaped = f.shaped;
+  paced = f.paced;
+  going = f.going;
+  in_time = omega (arith, f.in_time, forward);
+  below = omega (arith, f.below, upward);
+  leads = f.leads;
+  logged = f.logged;
+  open_rows = f.open_rows;
+  arrived = f.arrived;
+  recorded = f.recorded;
+}
 
 module _ {n m e : ℕ} where
   -- a bank that nothing came to replays as before, where its lines and the outcomes of its rows stay

@@ -3,6 +3,7 @@ pub mod Asking
 pub mod Replaying
 pub mod Stepping
 pub mod Taking
+pub mod Telling
 pub mod Draining
 pub mod Settling
 pub mod Shaped

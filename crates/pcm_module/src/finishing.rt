@@ -12,6 +12,7 @@ ghost use Rattle.run_laws.specs.Finishing.{IsFinished, IsStopped};
 ghost use Rattle.pcm_module.specs.State.{ModuleState, AreEndsOf, StandsNowhere, bank_at};
 ghost use Rattle.pcm_module.specs.Replaying.{Replays};
 ghost use Rattle.pcm_module.specs.Taking.{StaysBeyond};
+ghost use Rattle.pcm_module.specs.Telling.{TellsByBanks, rows_at};
 ghost use Rattle.pcm_module.specs.Draining.{MayFinish, AreDrained, IsLastCut};
 ghost use Rattle.cell_rows.specs.Device.{ArrayState};
 
@@ -49,6 +50,8 @@ impl<const B: usize, const M: usize, const E: usize> Module<B, M, E> {
         ensures stays { StaysBeyond (self.old.shape.banks * array_lines_of (module_of self.old.shape))
             (A.state array.old) (A.state array.new) }
         ensures goes_on { R.goes_on results.old results.new }
+        ensures order { TellsByBanks R.goes_on R.table (rows_at self.old) self.old.shape.banks
+            results.old results.new }
     {
         finished_runs_are_right();
         drain_all(&mut self.banks, array, results);
@@ -79,6 +82,8 @@ impl<const B: usize, const M: usize, const E: usize> Module<B, M, E> {
         ensures others { (row : ℕ) → HasRow (R.table results.old) row → StandsNowhere self.old row
             → outcome_in (R.table results.new) row ≡ outcome_in (R.table results.old) row }
         ensures goes_on { R.goes_on results.old results.new }
+        ensures order { TellsByBanks R.goes_on R.table (rows_at self.old) self.old.shape.banks
+            results.old results.new }
     {
         stopped_runs_are_right();
         stop_all(&mut self.banks, results);
@@ -98,6 +103,9 @@ fn stop_all<const B: usize, const M: usize, const E: usize, R: Outcomes<B>>(
         → MayFinish true of banks.old.items array (R.table results.old)
         → AreDrained true of of.shape.banks banks.new.items array array (R.table results.old) (R.table results.new) }
     ensures goes_on { R.goes_on results.old results.new }
+    ensures order { (of : ModuleState B M E) (array : ArrayState B M)
+        → MayFinish true of banks.old.items array (R.table results.old)
+        → TellsByBanks R.goes_on R.table (rows_at of) of.shape.banks results.old results.new }
 {
     for bank in 0..banks.len() {
         banks[bank].stop(results);
@@ -116,6 +124,9 @@ fn drain_all<const B: usize, const M: usize, const E: usize, A: CellArray<B, M>,
         → AreDrained false of of.shape.banks banks.new.items (A.state array.old) (A.state array.new)
         (R.table results.old) (R.table results.new) }
     ensures goes_on { R.goes_on results.old results.new }
+    ensures order { (of : ModuleState B M E)
+        → MayFinish false of banks.old.items (A.state array.old) (R.table results.old)
+        → TellsByBanks R.goes_on R.table (rows_at of) of.shape.banks results.old results.new }
 {
     for bank in 0..banks.len() {
         banks[bank].drain(array, results);

@@ -9,6 +9,7 @@ ghost use Rattle.bank_timing.specs.Extending.{IsOpen, outcome_in, last_tick};
 ghost use Rattle.pcm_module.specs.State.{ModuleState, StandsNowhere};
 ghost use Rattle.pcm_module.specs.Replaying.{Replays};
 ghost use Rattle.pcm_module.specs.Taking.{StaysBeyond};
+ghost use Rattle.pcm_module.specs.Telling.{TellsByBanks, rows_at};
 ghost use Rattle.pcm_module.specs.Settling.{IsAtTick, MaySettle, AreSettled};
 
 use crate::side_by_side::Module;
@@ -51,6 +52,8 @@ impl<const B: usize, const M: usize, const E: usize> Module<B, M, E> {
         ensures stays { StaysBeyond (self.old.shape.banks * array_lines_of (module_of self.old.shape))
             (A.state array.old) (A.state array.new) }
         ensures goes_on { R.goes_on results.old results.new }
+        ensures order { TellsByBanks R.goes_on R.table (rows_at self.old) self.old.shape.banks
+            results.old results.new }
     {
         settle_all(&mut self.banks, array, tick, results);
         self.tick = tick;
@@ -72,6 +75,9 @@ fn settle_all<const B: usize, const M: usize, const E: usize, A: CellArray<B, M>
         → AreSettled tick of of.shape.banks banks.new.items (A.state array.old) (A.state array.new)
         (R.table results.old) (R.table results.new) }
     ensures goes_on { R.goes_on results.old results.new }
+    ensures order { (of : ModuleState B M E)
+        → MaySettle tick of banks.old.items (A.state array.old) (R.table results.old)
+        → TellsByBanks R.goes_on R.table (rows_at of) of.shape.banks results.old results.new }
 {
     for bank in 0..banks.len() {
         banks[bank].advance(array, tick, results);

@@ -13,6 +13,8 @@ ghost use Rattle.pcm_module.specs.Asking.{asked_by};
 ghost use Rattle.pcm_module.specs.State.{StandsNowhere};
 ghost use Rattle.pcm_module.specs.Replaying.{Replays, IsReplayed};
 ghost use Rattle.pcm_module.specs.Taking.{Takes, StaysBeyond};
+ghost use Rattle.pcm_module.specs.Telling.{TellsInOrder, rows_taking};
+ghost use Rattle.trace_rows.specs.Rows.{asks_of};
 
 use crate::bank::{cut_at, read_at, write_at};
 use crate::side_by_side::Module;
@@ -57,6 +59,10 @@ impl<const B: usize, const M: usize, const E: usize> Module<B, M, E> {
         ensures stays { StaysBeyond (self.old.shape.banks * array_lines_of (module_of self.old.shape))
             (A.state array.old) (A.state array.new) }
         ensures goes_on { R.goes_on results.old results.new }
+
+        // bank by bank, and behind the banks the row's own outcome where it comes to none
+        ensures order { TellsInOrder R.goes_on R.table (rows_taking self.old row (asks_of event.now.op))
+            self.old.shape.banks row results.old results.new }
     {
         // A field that is read makes known what is true of every module.
         let _ = &self.shape;
@@ -97,6 +103,8 @@ impl<const B: usize, const M: usize, const E: usize> Module<B, M, E> {
         ensures takes { Takes (record { row = row; tick = tick; asks = Reads line }) self.old self.new
             (A.state array.old) (A.state array.new) (R.table results.old) (R.table results.new) }
         ensures goes_on { R.goes_on results.old results.new }
+        ensures order { TellsInOrder R.goes_on R.table (rows_taking self.old row (Reads line))
+            self.old.shape.banks row results.old results.new }
     {
         let place = self.place(line);
         let timed = &mut self.banks[place.bank as usize];
@@ -128,6 +136,9 @@ impl<const B: usize, const M: usize, const E: usize> Module<B, M, E> {
             })
             self.old self.new (A.state array.old) (A.state array.new) (R.table results.old) (R.table results.new) }
         ensures goes_on { R.goes_on results.old results.new }
+        ensures order { TellsInOrder R.goes_on R.table
+            (rows_taking self.old entry.entry.row (Writes entry.entry.line entry.entry.bytes entry.entry.given))
+            self.old.shape.banks entry.entry.row results.old results.new }
     {
         let place = self.place(entry.line);
         let mut here = entry;
@@ -138,7 +149,7 @@ impl<const B: usize, const M: usize, const E: usize> Module<B, M, E> {
         self.rows_below = entry.row as u64 + 1;
     }
 
-    // The power is cut: each bank is brought to the tick and cut, in order. The outcome of the cut's own row is known at once.
+    // The power is cut: each bank is brought to the tick and cut, in order. Behind them the cut's own row is told.
     fn cut<A: CellArray<B, M>, R: Outcomes<B>>(
         &mut self,
         array: &mut A,
@@ -154,12 +165,14 @@ impl<const B: usize, const M: usize, const E: usize> Module<B, M, E> {
         ensures takes { Takes (record { row = row; tick = tick; asks = Cuts }) self.old self.new
             (A.state array.old) (A.state array.new) (R.table results.old) (R.table results.new) }
         ensures goes_on { R.goes_on results.old results.new }
+        ensures order { TellsInOrder R.goes_on R.table (rows_taking self.old row Cuts)
+            self.old.shape.banks row results.old results.new }
     {
         let banks = self.shape.banks();
-        results.set(row, Outcome::Cut { tick });
         for bank in 0..banks {
             cut_at(&mut self.banks[bank as usize], array, tick, results);
         }
+        results.set(row, Outcome::Cut { tick });
         self.tick = tick;
         self.rows_below = row as u64 + 1;
     }

@@ -8,7 +8,7 @@ use Rattle.result_rows.specs.Table.{HasRow, outcome_at, with_outcome}
 use Rattle.result_rows.proofs.TableLemmas.{length-with_outcome, outcome_at-with_outcome, outcome_at-other}
 use Rattle.row_printer.specs.Telling.{recorded, tells, TellsOnce}
 
-or_false : (a b : Bool) → (a || b) ≡ false → (a ≡ false) × (b ≡ false)
+pub or_false : (a b : Bool) → (a || b) ≡ false → (a ≡ false) × (b ≡ false)
 or_false true b is = absurd (cc is)
 or_false false b is = (refl, is)
 
@@ -16,7 +16,7 @@ both_false : (a b : Bool) → a ≡ false → b ≡ false → (a || b) ≡ false
 both_false true b first second = absurd (cc first)
 both_false false b first second = second
 
-differs : (a b : ℕ) → (a == b) ≡ false → a ≢ b
+pub differs : (a b : ℕ) → (a == b) ≡ false → a ≢ b
 differs a b unlike same =
     let both : true ≡ false = sym (eq-eqb a b same) ∙ unlike in
     cc both

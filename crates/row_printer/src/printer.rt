@@ -138,6 +138,14 @@ impl<const B: usize, S: Sink + Drop> RowPrinter<B, S> {
         self.rows
     }
 
+    /// No row was told twice.
+    pub fn tells_once(&self)
+        ensures { TellsOnce self.now.rows (outcomes_in self.now.told) }
+    {
+        // A field that is read makes known what is true of every printer.
+        let _ = &self.rows;
+    }
+
     /// Whether a write failed.
     pub fn broken(&self) -> bool
         ensures { result ≡ self.now.broken }

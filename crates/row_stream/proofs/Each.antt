@@ -1,5 +1,5 @@
 -- That an outcome of each row was told.
-use Rattle.std.proofs.Common.{◌≡◌, ◌≢◌, ℕ, zero, suc, ◌-◌, ◌<◌, ◌≤◌, Bool, true, false, List, [], ◌∷◌, length, replicate, reverse, Some, refl, sym, ap, ◌∙◌, subst, arith}
+use Rattle.std.proofs.Common.{◌≡◌, ◌≢◌, ℕ, zero, suc, ◌-◌, ◌<◌, ◌≤◌, Bool, true, false, List, [], ◌∷◌, length, replicate, reverse, Some, refl, ap, ◌∙◌, subst, arith}
 use Rattle.std.specs.Prelude.{slice_get, All}
 use Rattle.std.proofs.lemmas.List.{reverse-reverse, length-replicate, length-reverse, get_or-replicate}
 use Rattle.std.proofs.lemmas.List.Elements.{All-get_or}
@@ -8,7 +8,6 @@ use Rattle.check_laws.proofs.Soon.{All-reverse}
 use Rattle.cell_rows.specs.Device.{ArrayState}
 use Rattle.trace_reader.specs.declared.event.Event.{Event}
 use Rattle.result_rows.specs.declared.Outcome.{Outcome}
-use Rattle.result_rows.specs.declared.Outcome.TheVariants.{Unset}
 use Rattle.result_rows.specs.Table.{HasRow}
 use Rattle.row_rules.specs.declared.Asks.{Asks}
 use Rattle.row_rules.specs.declared.Asks.TheVariants.{Reads, Writes, Cuts}
@@ -20,13 +19,13 @@ use Rattle.end_laws.specs.Ends.{BankEnd}
 use Rattle.run_laws.specs.Runs.{RunsRightTo}
 use Rattle.run_laws.proofs.Lifting.{each-all, each-passes}
 use Rattle.row_printer.specs.Printing.{table_of}
-use Rattle.row_printer.specs.Telling.{outcomes_in, recorded, tells, TellsOnce}
+use Rattle.row_printer.specs.Telling.{outcomes_in, tells, TellsOnce}
 use Rattle.row_printer.specs.declared.told.Told.{Told}
 use Rattle.row_printer.proofs.Once.{stays-told}
 use Rattle.row_stream.specs.Ending.{rows_of}
 use Rattle.row_stream.proofs.Growing.{none}
 
-some-at : {A : Type 0} (xs : List A) (i : ℕ) → i < length xs → (x : A) × (slice_get xs i ≡ Some x)
+pub some-at : {A : Type 0} (xs : List A) (i : ℕ) → i < length xs → (x : A) × (slice_get xs i ≡ Some x)
 some-at [] i below = absurd (omega arith)
 some-at (x ∷ xs) zero below = (x, refl)
 some-at (x ∷ xs) (suc i) below = some-at xs i (omega arith)

@@ -1,5 +1,5 @@
 -- How a stream ends.
-use Rattle.std.proofs.Common.{◌≡◌, ℕ, Bool, true, false, List, [], ◌∷◌, ◌++◌, length, map, ◌≤◌, arith, refl, sym, ◌∙◌, subst}
+use Rattle.std.proofs.Common.{◌≡◌, ℕ, Bool, List, [], ◌∷◌, ◌++◌, length, map, ◌≤◌, arith, refl, sym, ◌∙◌, subst}
 use Rattle.cell_rows.specs.Device.{ArrayState}
 use Rattle.trace_reader.specs.Events.{IsEventFor}
 use Rattle.trace_reader.specs.Rows.{latest_tick}
@@ -24,11 +24,10 @@ use Rattle.row_printer.specs.Telling.{became}
 use Rattle.row_printer.specs.declared.told.Told.{Told}
 use Rattle.trace_stream.specs.declared.asked.Asked.{Asked}
 use Rattle.trace_stream.specs.declared.asked.Asked.TheVariants.{Happens, Settle}
-use Rattle.row_stream.specs.declared.stop.Behind.{Behind}
-use Rattle.row_stream.specs.declared.stop.Behind.TheVariants.{Nothing, Going, Off}
+use Rattle.row_stream.specs.declared.stop.Behind.TheVariants.{Off}
 use Rattle.row_stream.specs.Asking.{behind_of, behind_op, events_in, tick_reached}
-use Rattle.row_stream.specs.Serving.{IsServing}
-use Rattle.row_stream.specs.Ending.{HasEnded, rows_of}
+use Rattle.row_stream.specs.Serving.{ComeByBanks, IsServing}
+use Rattle.row_stream.specs.Ending.{HasEnded}
 use Rattle.row_stream.proofs.Tables.{rows-are}
 
 -- an operation behind which the power is off is a cut
@@ -52,14 +51,14 @@ module _ {n m e : ℕ} (raw : RawShape) (seed : ℕ) (asked : List (Asked n)) (m
     (had : IsServing raw seed asked module_ array places told) where
   -- what is left, where the banks drained or the power stays off
   pub has-ended : (off : Bool) (new : ModuleState n m e) (after : ArrayState n m) (places2 : ℕ) (told2 : List (Told n))
-      → places2 ≡ places → (outcomes : List (ℕ × Outcome n)) → told2 ≡ told ++ became outcomes
+      → places2 ≡ places → (outcomes : List (ℕ × Outcome n)) → told2 ≡ told ++ became outcomes → ComeByBanks raw seed (events_in asked) raw.banks outcomes
       → new.shape ≡ module_.shape → new.seed ≡ module_.seed → length (table_of places2 told2) ≡ length (table_of places told)
       → ((added : ℕ → List (TimedEvent n m))
       × IsFinishedTo new.shape new.seed off (λ bank. added bank ++ had.history bank) (asked_for (events_in asked)) (bank_at new) after (outcome_in (table_of places2 told2)))
       → ((ends : ℕ → BankEnd) × AreEndsOf new ends
       × RunsRightTo e new.shape new.seed off (map (row_with (outcome_in (table_of places2 told2))) (asked_for (events_in asked))) after ends)
       → HasEnded raw seed off asked new after places2 told2
-  has-ended off new after places2 told2 same outcomes tells shape seeded size finished right =
+  has-ended off new after places2 told2 same outcomes tells order shape seeded size finished right =
       let whole : length (table_of places2 told2) ≡ length (events_in asked) = size ∙ had.served.size in
       let Right : List (Row n) → Type 0 = λ rows. RunsRightTo e raw seed off rows after right.0 in
       let same_shape : new.shape ≡ raw = shape ∙ had.served.shape in
@@ -77,6 +76,7 @@ module _ {n m e : ℕ} (raw : RawShape) (seed : ℕ) (asked : List (Asked n)) (m
         along = had.along;
         rest = outcomes;
         all = tells;
+        order = order;
         finished = subst (λ k. Done raw k) same_seed (subst (λ r. Done r new.seed) same_shape finished);
         ends = right.0;
         are = right.1;

@@ -1,5 +1,5 @@
 -- How a row of a stream is served.
-use Rattle.std.proofs.Common.{◌≡◌, ℕ, suc, ◌+◌, ◌≤◌, false, List, [], ◌∷◌, ◌++◌, length, refl, sym, ap, ◌∙◌, subst, arith, replicate}
+use Rattle.std.proofs.Common.{◌≡◌, ℕ, ◌+◌, ◌≤◌, false, List, [], ◌∷◌, ◌++◌, length, refl, sym, ap, ◌∙◌, subst, arith, replicate, true, Option}
 use Rattle.std.proofs.lemmas.List.{append-nil, length_push}
 use Rattle.cell_rows.specs.Device.{ArrayState}
 use Rattle.trace_reader.specs.Rows.{latest_tick}
@@ -12,14 +12,19 @@ use Rattle.bank_timing.specs.Extending.{IsOpen}
 use Rattle.pcm_module.specs.Asking.{asked_by, asked_for}
 use Rattle.pcm_module.specs.State.{ModuleState}
 use Rattle.pcm_module.specs.Replaying.{Replays}
-use Rattle.row_printer.specs.Printing.{table_of}
-use Rattle.row_printer.specs.Telling.{became, outcomes_in, recorded}
+use Rattle.pcm_module.specs.Telling.{TellsByBanks, TellsInOrder, is_asked_of, rows_at, rows_taking}
+use Rattle.pcm_module.proofs.Asked.{standing_asked, taking_asked}
+use Rattle.run_laws.specs.Runs.{bank_of_line}
+use Rattle.trace_rows.specs.Rows.{asks_of}
+use Rattle.row_printer.specs.Printing.{Printing, PrintsOn, table_of, table_told}
+use Rattle.row_printer.specs.Telling.{became, outcomes_in, recorded, TellsOnce}
 use Rattle.row_printer.specs.declared.told.Told.{Told}
 use Rattle.row_printer.specs.declared.told.Told.TheVariants.{Became, Settled}
 use Rattle.trace_stream.specs.declared.asked.Asked.{Asked}
 use Rattle.trace_stream.specs.declared.asked.Asked.TheVariants.{Happens, Settle}
 use Rattle.row_stream.specs.Asking.{events_in}
-use Rattle.row_stream.specs.Serving.{HasServed, IsServing}
+use Rattle.row_stream.specs.Serving.{ComeBehind, ComeByBanks, ComeInOrder, HasServed, IsServing}
+use Rattle.row_stream.proofs.Order.{ToldSo, come-by-banks, come-in-order}
 use Rattle.row_stream.proofs.Growing.{none, longer, open-last, replays-longer}
 
 -- a line that answers a settle tells no outcome
@@ -47,17 +52,50 @@ module _ {n m e : ℕ} (raw : RawShape) (seed : ℕ) (asked : List (Asked n)) (m
       let Q : ℕ → Type 0 = λ r. IsOpen (longer (table_of places told)) r in
       subst P (sym grown) (subst Q last (open-last (table_of places told)))
 
+  -- what is told of it comes in order
+  pub event-order : {S : Type 0} (written : S → Option (List ℕ)) (faults : S → ℕ) (event : Event n) (row : ℕ) (results : List (Outcome n)) (one two : Printing n S)
+      → results ≡ longer (table_of places told) → row ≡ places + 1 → TellsOnce two.rows (outcomes_in two.told)
+      → TellsInOrder (PrintsOn written faults) table_told (rows_taking module_ row (asks_of event.op)) module_.shape.banks row one two
+      → ToldSo (ComeInOrder raw seed (Happens event) (events_in asked)) one.told two.told
+  unfolding next-replayed
+  event-order {S = S} written faults event row results one two grown is once order =
+      let next = next-replayed results grown in
+      let number : row ≡ length (events_in asked) + 1 = omega (arith, is, had.counted) in
+      let home : ℕ → ℕ = bank_of_line module_.shape module_.seed in
+      let came =
+      come-in-order written faults module_.shape module_.seed (event ∷ events_in asked) (rows_taking module_ row (asks_of event.op))
+      (λ bank there other of.
+      let P : ℕ → Type 0 = λ k. is_asked_of home bank (asked_by k event ∷ asked_for (events_in asked)) other ≡ true in
+      subst P number (taking_asked next.0 next.1 module_ array results next.2 bank there (asked_by row event) other of)) row one two once order in
+      let Q : RawShape → ℕ → ℕ → Type 0 = λ r k at. ComeBehind r k (event ∷ events_in asked) at came.outcomes in
+      record {
+        outcomes = came.outcomes;
+        told = came.told;
+        are = subst (λ at. Q raw seed at) number (subst (λ k. Q raw k row) had.served.seeded (subst (λ r. Q r module_.seed row) had.served.shape came.are));
+      }
+
+  -- so does what the banks tell where no row comes
+  pub banks-order : {S : Type 0} (written : S → Option (List ℕ)) (faults : S → ℕ) (one two : Printing n S) → TellsOnce two.rows (outcomes_in two.told)
+      → TellsByBanks (PrintsOn written faults) table_told (rows_at module_) module_.shape.banks one two
+      → ToldSo (ComeByBanks raw seed (events_in asked) raw.banks) one.told two.told
+  banks-order {S = S} written faults one two once order =
+      let came =
+      come-by-banks written faults module_.shape module_.seed (events_in asked) (rows_at module_)
+      (λ bank there other of. standing_asked had.history (asked_for (events_in asked)) module_ array (table_of places told) had.served.replays bank there other of) module_.shape.banks one two (omega arith) once order in
+      let Q : RawShape → ℕ → Type 0 = λ r k. ComeByBanks r k (events_in asked) r.banks came.outcomes in
+      record { outcomes = came.outcomes; told = came.told; are = subst (λ k. Q raw k) had.served.seeded (subst (λ r. Q r module_.seed) had.served.shape came.are) }
+
   -- and then it is served
   pub serving-event : (event : Event n) (new : ModuleState n m e) (after : ArrayState n m) (places2 : ℕ) (told2 : List (Told n)) (row : ℕ) (results : List (Outcome n))
       → results ≡ longer (table_of places told) → row ≡ places + 1 → places2 ≡ places + 1
-      → (outcomes : List (ℕ × Outcome n)) → told2 ≡ told ++ became outcomes
+      → (outcomes : List (ℕ × Outcome n)) → told2 ≡ told ++ became outcomes → ComeInOrder raw seed (Happens event) (events_in asked) outcomes
       → new.shape ≡ module_.shape → new.seed ≡ module_.seed → new.finished ≡ false → new.tick ≡ event.tick → event.tick ≤ latest_tick → new.rows_below ≡ row + 1
       → length (table_of places2 told2) ≡ length results
       → ((h : ℕ → List (TimedEvent n m)) (rows : List (AskedRow n)) → Replays h rows module_ array results
       → (added : ℕ → List (TimedEvent n m)) × Replays (λ bank. added bank ++ h bank) (asked_by row event ∷ rows) new after (table_of places2 told2))
       → IsServing raw seed (Happens event ∷ asked) new after places2 told2
   unfolding next-replayed
-  serving-event event new after places2 told2 row results grown is counts outcomes tells shape seeded going tick in_time bound size leads =
+  serving-event event new after places2 told2 row results grown is counts outcomes tells order shape seeded going tick in_time bound size leads =
       let next = next-replayed results grown in
       let led = leads had.history (asked_for (events_in asked)) next.2 in
       let h : ℕ → List (TimedEvent n m) = λ bank. led.0 bank ++ had.history bank in
@@ -76,7 +114,7 @@ module _ {n m e : ℕ} (raw : RawShape) (seed : ℕ) (asked : List (Asked n)) (m
       let Q : ℕ → Type 0 = λ k. HasServed raw seed (event ∷ events_in asked) h new after (table_of k told2) in
       record {
         history = h;
-        along = (had.history, told, had.along, led.0, refl, outcomes, tells ∙ sym (append-nil (told ++ became outcomes)), record { module_ = new; array = after; served = subst Q counted served });
+        along = (had.history, told, had.along, led.0, refl, outcomes, tells ∙ sym (append-nil (told ++ became outcomes)), order, record { module_ = new; array = after; served = subst Q counted served });
         served = served;
         counted = counted;
         tick = tick;
@@ -85,13 +123,13 @@ module _ {n m e : ℕ} (raw : RawShape) (seed : ℕ) (asked : List (Asked n)) (m
 
   -- so is a settle
   pub serving-settle : (at : ℕ) (new : ModuleState n m e) (after : ArrayState n m) (places2 : ℕ) (told1 told2 : List (Told n))
-      → places2 ≡ places → (outcomes : List (ℕ × Outcome n)) → told1 ≡ told ++ became outcomes → told2 ≡ told1 ++ Settled at ∷ []
+      → places2 ≡ places → (outcomes : List (ℕ × Outcome n)) → told1 ≡ told ++ became outcomes → ComeByBanks raw seed (events_in asked) raw.banks outcomes → told2 ≡ told1 ++ Settled at ∷ []
       → new.shape ≡ module_.shape → new.seed ≡ module_.seed → new.finished ≡ false → new.tick ≡ at → at ≤ latest_tick → new.rows_below ≡ module_.rows_below
       → length (table_of places2 told1) ≡ length (table_of places told)
       → ((h : ℕ → List (TimedEvent n m)) (rows : List (AskedRow n)) → Replays h rows module_ array (table_of places told)
       → (added : ℕ → List (TimedEvent n m)) × Replays (λ bank. added bank ++ h bank) rows new after (table_of places2 told1))
       → IsServing raw seed (Settle at ∷ asked) new after places2 told2
-  serving-settle at new after places2 told1 told2 counts outcomes tells tells2 shape seeded going tick in_time bound size leads =
+  serving-settle at new after places2 told1 told2 counts outcomes tells order tells2 shape seeded going tick in_time bound size leads =
       let led = leads had.history (asked_for (events_in asked)) had.served.replays in
       let h : ℕ → List (TimedEvent n m) = λ bank. led.0 bank ++ had.history bank in
       let counted : places2 ≡ length (events_in asked) = counts ∙ had.counted in
@@ -119,6 +157,7 @@ module _ {n m e : ℕ} (raw : RawShape) (seed : ℕ) (asked : List (Asked n)) (m
           refl,
           outcomes,
           tells2 ∙ ap (λ t. t ++ Settled at ∷ []) tells,
+          order,
           record { module_ = new; array = after; served = subst Q counted now },
         );
         served = now;

@@ -1,8 +1,10 @@
--- A table with one place more, how a row is served, the table of a run, and how a stream ends.
+-- A table with one place more, that each row was told, in which order, how a row is served, the table of a run, and how a stream ends.
 mod Growing
+pub mod Each
+mod Order
 mod Going
-mod Tables
+pub mod Tables
 mod Ends
 mod Rows
 mod Draws
-pub mod Each
+mod Decided

@@ -1,5 +1,5 @@
 -- How the rows of a source are served.
-use Rattle.std.proofs.Common.{◌≡◌, ◌≢◌, ℕ, suc, ◌<◌, ◌+◌, ◌-◌, ◌*◌, ◌^◌, ◌≤◌, Bool, true, List, [], ◌∷◌, ◌++◌, length, reverse, Option, Some, None, refl, sym, ap, ◌∙◌, subst, arith, length-append}
+use Rattle.std.proofs.Common.{◌≡◌, ◌≢◌, ℕ, ◌<◌, ◌+◌, ◌-◌, ◌*◌, ◌^◌, ◌≤◌, Bool, true, false, List, [], ◌∷◌, ◌++◌, length, reverse, Option, Some, None, refl, sym, ap, ◌∙◌, subst, arith, length-append}
 use Prim.Native.Nat.{max}
 use prog.Memory.{up}
 use Rattle.std.specs.Prelude.{Result, Ok, Err, OnOk, OnErr}
@@ -14,19 +14,19 @@ use Rattle.module_shape.specs.Limits.{total_of}
 use Rattle.pcm_module.specs.State.{ModuleState}
 use Rattle.row_printer.specs.declared.told.Told.{Told}
 use Rattle.trace_stream.specs.Arrived.{StaysEnded}
-use Rattle.trace_stream.specs.Stream.{AsksNext, HasFault, IsOfText, Opens, Standing, asked_from, stream_of}
+use Rattle.trace_stream.specs.Stream.{AsksNext, HasFault, HasFront, IsOfText, Opens, Standing, asked_from, front_from, front_of, stream_of}
 use Rattle.trace_stream.specs.Asked.{IsAskedFor, rows_after, tick_asked}
 use Rattle.trace_stream.specs.declared.asked.Asked.{Asked}
 use Rattle.trace_stream.specs.declared.asked.Asked.TheVariants.{Happens, Settle}
 use Rattle.trace_stream.specs.declared.fault.StreamFault.{StreamFault}
 use Rattle.trace_stream.specs.declared.fault.StreamFault.TheVariants as fault
-use Rattle.trace_stream.proofs.Runs.{HasAsked, after_asked, asked-all, asked-faulty, asked-first, asked-more}
+use Rattle.trace_stream.proofs.Runs.{HasAsked, asked-all, asked-faulty, asked-first, asked-front, asked-more}
 use Rattle.row_stream.specs.declared.stop.Behind.{Behind}
 use Rattle.row_stream.specs.declared.stop.Behind.TheVariants.{Nothing}
 use Rattle.row_stream.specs.declared.stop.Stop.TheVariants.{Input}
 use Rattle.row_stream.specs.Asking.{behind_of, events_in, tick_reached}
 use Rattle.row_stream.specs.Serving.{IsServing}
-use Rattle.row_stream.specs.Sourcing.{BeginsWith, Fronts, HasCome, HasStopped, IsFaulty, IsRead}
+use Rattle.row_stream.specs.Sourcing.{Fronts, HasCome, HasStopped, IsFaulty, IsRead}
 
 -- what follows where a call went well, or didn't
 pub ok-so : {T E : Type 0} (r : Result T E) (P Q : Type 0) → (P → Q) → OnOk r P → OnOk r Q
@@ -54,13 +54,8 @@ pub record HasFed {n m e : ℕ} (raw : RawShape) (seed : ℕ) (module_ : ModuleS
   pub counted : length asked ≡ count
 
 -- what was asked stands in front of what is still asked
-begins-after : {n : ℕ} (asked : List (Asked n)) (r : Result (List (Asked n)) StreamFault) → BeginsWith asked (after_asked (reverse asked) r)
-begins-after asked (Ok behind) = (behind, refl)
-begins-after asked (Err e) = tt
-
 fronts : {n : ℕ} (lines : ℕ) (bytes : List ℕ) (asked : List (Asked n)) (stream : Standing) → HasAsked n lines bytes (reverse asked) stream → Fronts lines bytes stream.arrived.ended asked
-fronts {n} lines bytes asked stream has = λ more comes.
-    subst (BeginsWith asked) (sym (has.same more comes)) (begins-after asked (asked_from n stream more))
+fronts {n} lines bytes asked stream has = λ more comes. (front_from n stream more, has.front more comes)
 
 -- an asked row fits in memory
 row_le : (a b : ℕ) → a ≤ 136 → b ≤ 128 → up 8 (8 + up 4 (max 8 (max a (max (up 1 a + (b * 1)) 1)))) ≤ 284
@@ -80,10 +75,6 @@ pub behind-any : {n : ℕ} (asked : Asked n) (before : List (Asked n)) → behin
 behind-any (Happens event) before = refl
 behind-any (Settle at) before = refl
 
-begins-none : {n : ℕ} (r : Result (List (Asked n)) StreamFault) → BeginsWith {n = n} [] r
-begins-none (Ok all) = (all, refl)
-begins-none (Err e) = tt
-
 module _ (n lines : ℕ) {S : Type 0} (left : S → Option (List ℕ)) (taken faults : S → ℕ) (old : S) where
   -- nothing came
   pub come-none : (new : S) → HasCome {n = n} lines left taken faults old new []
@@ -91,24 +82,25 @@ module _ (n lines : ℕ) {S : Type 0} (left : S → Option (List ℕ)) (taken fa
     bytes = [];
     between = left old;
     came = (Takes-nothing (left old) 0).first;
-    ended = true;
-    front = λ more comes. begins-none (stream_of n lines ([] ++ more));
+    ended = false;
+    at_end = λ is. cc is;
+    front = λ more comes. (front_of n lines more, refl);
   }
 
   -- why there is no first row
   pub open-stopped : (new : S) (found : StreamFault)
       → (IsOfText found → (bytes : List ℕ) × (ended : Bool) × Takes (left old) (left new) (taken old) (taken new) bytes × (ended ≡ true → IsAtEnd (left new))
-      × ((k : ℕ) → HasFault (stream_of k lines) bytes found ended))
+      × ((k : ℕ) → HasFault (stream_of k lines) bytes found ended × HasFront (front_of k lines) bytes [] ended))
       → (found ≡ fault.Read → Rose (faults old) (faults new))
       → (found ≡ fault.Endless → (bytes : List ℕ) × Takes (left old) (left new) (taken old) (taken new) bytes × (2 ^ 64 - 1 ≤ length bytes))
       → (found ≢ fault.Read → faults new ≡ faults old)
       → HasStopped {n = n} lines left taken faults old new [] (Input found)
   open-stopped new (fault.Trace f) text fails past calm =
       let of = text ((λ is. cc is), (λ is. cc is), (λ is. cc is)) in
-      record { bytes = of.0; takes = of.2; ended = of.1; at_end = of.3; front = λ more comes. begins-none (stream_of n lines (of.0 ++ more)); fault = of.4 n; calm = calm (λ is. cc is) }
+      record { bytes = of.0; takes = of.2; ended = of.1; at_end = of.3; front = (of.4 n).1; fault = (of.4 n).0; calm = calm (λ is. cc is) }
   open-stopped new fault.TooMany text fails past calm =
       let of = text ((λ is. cc is), (λ is. cc is), (λ is. cc is)) in
-      record { bytes = of.0; takes = of.2; ended = of.1; at_end = of.3; front = λ more comes. begins-none (stream_of n lines (of.0 ++ more)); fault = of.4 n; calm = calm (λ is. cc is) }
+      record { bytes = of.0; takes = of.2; ended = of.1; at_end = of.3; front = (of.4 n).1; fault = (of.4 n).0; calm = calm (λ is. cc is) }
   open-stopped new fault.Read text fails past calm = (come-none new, fails refl)
   open-stopped new fault.Endless text fails past calm = (come-none new, calm (λ is. cc is), past refl)
   open-stopped new fault.NoMemory text fails past calm = (come-none new, calm (λ is. cc is))
@@ -194,34 +186,36 @@ module _ {n m e : ℕ} (raw : RawShape) (seed : ℕ) {S : Type 0} (left : S → 
     }
 
     -- what came so far
-    pub fed-come : (new : S) → HasCome (total_of raw) left taken faults old new had.asked
-    fed-come new = record {
+    pub fed-come : (new : S) → (stream.arrived.ended ≡ true → IsAtEnd (left mid)) → HasCome (total_of raw) left taken faults old new had.asked
+    fed-come new ends = record {
       bytes = had.bytes;
       between = left mid;
       came = had.takes.first;
       ended = stream.arrived.ended;
+      at_end = ends;
       front = fronts (total_of raw) had.bytes had.asked stream had.has;
     }
 
     fed-fault : (new : S) (now : Standing) (found : StreamFault) (bytes : List ℕ) → Takes (left mid) (left new) (taken mid) (taken new) bytes → StaysEnded stream.arrived.ended bytes now.arrived.ended
-        → (now.arrived.ended ≡ true → IsAtEnd (left new)) → HasFault (asked_from n stream) bytes found now.arrived.ended → faults new ≡ faults mid
+        → (now.arrived.ended ≡ true → IsAtEnd (left new)) → HasFault (asked_from n stream) bytes found now.arrived.ended
+        → HasFront (front_from n stream) bytes [] now.arrived.ended → faults new ≡ faults mid
         → IsFaulty (total_of raw) left taken faults old new had.asked found
-    fed-fault new now found bytes takes stays ends faulty calm =
-        let wrong = asked-faulty n (total_of raw) had.bytes bytes (reverse had.asked) stream found now.arrived.ended had.has stays faulty in
+    fed-fault new now found bytes takes stays ends faulty none calm =
         record {
           bytes = had.bytes ++ bytes;
           takes = Takes-Takes _ _ _ _ _ _ _ _ had.takes takes;
           ended = now.arrived.ended;
           at_end = ends;
-          front = λ more comes. subst (BeginsWith had.asked) (sym (wrong more comes)) tt;
-          fault = wrong;
+          front = asked-front n (total_of raw) had.bytes bytes (reverse had.asked) stream now.arrived.ended had.has stays none;
+          fault = asked-faulty n (total_of raw) had.bytes bytes (reverse had.asked) stream found now.arrived.ended had.has stays faulty;
           calm = calm ∙ had.calm;
         }
 
     -- why there is no row more
     pub fed-stopped : (new : S) (now : Standing) (found : StreamFault)
         → (IsOfText found → (bytes : List ℕ) × Takes (left mid) (left new) (taken mid) (taken new) bytes × StaysEnded stream.arrived.ended bytes now.arrived.ended
-        × ((stream.arrived.ended ≡ true → IsAtEnd (left mid)) → now.arrived.ended ≡ true → IsAtEnd (left new)) × HasFault (asked_from n stream) bytes found now.arrived.ended)
+        × ((stream.arrived.ended ≡ true → IsAtEnd (left mid)) → now.arrived.ended ≡ true → IsAtEnd (left new)) × HasFault (asked_from n stream) bytes found now.arrived.ended
+        × HasFront (front_from n stream) bytes [] now.arrived.ended)
         → (stream.arrived.ended ≡ true → IsAtEnd (left mid))
         → (found ≡ fault.Read → Rose (faults mid) (faults new))
         → (found ≡ fault.Endless → (bytes : List ℕ) × Takes (left mid) (left new) (taken mid) (taken new) bytes × (2 ^ 64 - 1 ≤ length bytes))
@@ -229,14 +223,14 @@ module _ {n m e : ℕ} (raw : RawShape) (seed : ℕ) {S : Type 0} (left : S → 
         → HasStopped (total_of raw) left taken faults old new had.asked (Input found)
     fed-stopped new now (fault.Trace f) text ends fails past calm =
         let of = text ((λ is. cc is), (λ is. cc is), (λ is. cc is)) in
-        fed-fault new now (fault.Trace f) of.0 of.1 of.2 (of.3 ends) of.4 (calm (λ is. cc is))
+        fed-fault new now (fault.Trace f) of.0 of.1 of.2 (of.3 ends) of.4 of.5 (calm (λ is. cc is))
     fed-stopped new now fault.TooMany text ends fails past calm =
         let of = text ((λ is. cc is), (λ is. cc is), (λ is. cc is)) in
-        fed-fault new now fault.TooMany of.0 of.1 of.2 (of.3 ends) of.4 (calm (λ is. cc is))
-    fed-stopped new now fault.Read text ends fails past calm = (fed-come new, subst (λ k. Rose k (faults new)) had.calm (fails refl))
+        fed-fault new now fault.TooMany of.0 of.1 of.2 (of.3 ends) of.4 of.5 (calm (λ is. cc is))
+    fed-stopped new now fault.Read text ends fails past calm = (fed-come new ends, subst (λ k. Rose k (faults new)) had.calm (fails refl))
     fed-stopped new now fault.Endless text ends fails past calm =
         let of = past refl in
         let more : length (had.bytes ++ of.0) ≡ length had.bytes + length of.0 = length-append had.bytes of.0 in
         let long : 2 ^ 64 - 1 ≤ length of.0 = of.2 in
-        (fed-come new, calm (λ is. cc is) ∙ had.calm, (had.bytes ++ of.0, Takes-Takes _ _ _ _ _ _ _ _ had.takes of.1, omega (arith, more, long)))
-    fed-stopped new now fault.NoMemory text ends fails past calm = (fed-come new, calm (λ is. cc is) ∙ had.calm)
+        (fed-come new ends, calm (λ is. cc is) ∙ had.calm, (had.bytes ++ of.0, Takes-Takes _ _ _ _ _ _ _ _ had.takes of.1, omega (arith, more, long)))
+    fed-stopped new now fault.NoMemory text ends fails past calm = (fed-come new ends, calm (λ is. cc is) ∙ had.calm)

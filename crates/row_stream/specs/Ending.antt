@@ -18,14 +18,14 @@ use Rattle.row_printer.specs.Telling.{became}
 use Rattle.row_printer.specs.declared.told.Told.{Told}
 use Rattle.trace_stream.specs.declared.asked.Asked.{Asked}
 use Rattle.row_stream.specs.Asking.{events_in}
-use Rattle.row_stream.specs.Serving.{TellsAlong}
+use Rattle.row_stream.specs.Serving.{ComeByBanks, TellsAlong}
 
 -- the table of events, the newest first, with the outcomes of the rows from the first on: the newest row first
 abbrev pub rows_of : {n : ℕ} → List (Event n) → List (Outcome n) → List (Row n)
 rows_of events outcomes = reverse (rows_with (reverse events) outcomes)
 
 -- rows that asked this were served to their end: the banks drained, or the power stayed off. Row by row the outcomes were told as they became known, and
--- in the end the rest; by them the rows are right over the array
+-- in the end the rest, bank by bank; by them the rows are right over the array
 pub record HasEnded {n m e : ℕ} (raw : RawShape) (seed : ℕ) (off : Bool) (asked : List (Asked n)) (module_ : ModuleState n m e) (array : ArrayState n m) (places : ℕ) (told : List (Told n)) : Type 0 where
   pub shape : module_.shape ≡ raw
   pub seeded : module_.seed ≡ seed
@@ -36,6 +36,7 @@ pub record HasEnded {n m e : ℕ} (raw : RawShape) (seed : ℕ) (off : Bool) (as
   pub along : TellsAlong e raw seed asked history said
   pub rest : List (ℕ × Outcome n)
   pub all : told ≡ said ++ became rest
+  pub order : ComeByBanks raw seed (events_in asked) raw.banks rest
   pub finished : (added : ℕ → List (TimedEvent n m))
       × IsFinishedTo raw seed off (λ bank. added bank ++ history bank) (asked_for (events_in asked))
       (bank_at module_) array (outcome_in (table_of places told))

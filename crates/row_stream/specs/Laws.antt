@@ -1,12 +1,20 @@
 -- What holds of every stream that has ended.
-use Rattle.std.specs.Prelude.{◌≡◌, ℕ, ◌≤◌, Bool, true, List}
+use Rattle.std.specs.Prelude.{◌≡◌, ℕ, ◌≤◌, Bool, true, List, [], ◌∷◌, ◌++◌, Option}
 use Rattle.cell_rows.specs.Device.{ArrayState}
 use Rattle.module_shape.specs.declared.raw.RawShape.{RawShape}
-use Rattle.pcm_module.specs.State.{ModuleState}
+use Rattle.end_laws.specs.Ends.{BankEnd}
+use Rattle.run_laws.specs.Runs.{RunsRightTo}
+use Rattle.pcm_module.specs.State.{AreEndsOf, ModuleState}
+use Rattle.row_printer.specs.Printing.{table_of}
 use Rattle.row_printer.specs.Telling.{outcomes_in, tells, TellsOnce}
 use Rattle.row_printer.specs.declared.told.Told.{Told}
+use Rattle.trace_stream.specs.Arrived.{Comes}
 use Rattle.trace_stream.specs.declared.asked.Asked.{Asked}
-use Rattle.row_stream.specs.Ending.{HasEnded}
+use Rattle.trace_stream.specs.declared.asked.Asked.TheVariants.{Happens, Settle}
+use Rattle.trace_stream.specs.declared.fault.StreamFault.{StreamFault}
+use Rattle.row_stream.specs.Sourcing.{IsFaulty, IsRead}
+use Rattle.row_stream.specs.Asking.{events_in}
+use Rattle.row_stream.specs.Ending.{HasEnded, rows_of}
 
 -- an outcome of each of so many rows was told
 abbrev pub TellsEach : {n : ℕ} → ℕ → List (Told n) → Type 0
@@ -17,3 +25,36 @@ abbrev pub EachToldLaw : Type 0
 EachToldLaw =
     (n m e : ℕ) (raw : RawShape) (seed : ℕ) (off : Bool) (asked : List (Asked n)) (module_ : ModuleState n m e) (array : ArrayState n m) (places : ℕ) (told : List (Told n))
     → TellsOnce places (outcomes_in told) → HasEnded raw seed off asked module_ array places told → TellsEach places told
+
+-- what rows ask that don't settle
+abbrev pub without_settles : {n : ℕ} → List (Asked n) → List (Asked n)
+without_settles [] = []
+without_settles (Happens event ∷ before) = Happens event ∷ without_settles before
+without_settles (Settle tick ∷ before) = without_settles before
+
+-- what a stream with settles leaves is a right run of its rows without them
+abbrev pub SettleLaw : Type 0
+SettleLaw =
+    (n m e : ℕ) (raw : RawShape) (seed : ℕ) (off : Bool) (asked : List (Asked n)) (module_ : ModuleState n m e) (array : ArrayState n m) (places : ℕ) (told : List (Told n))
+    → HasEnded raw seed off asked module_ array places told
+    → (ends : ℕ → BankEnd) × AreEndsOf module_ ends × RunsRightTo e raw seed off (rows_of (events_in (without_settles asked)) (table_of places told)) array ends
+
+-- a text begins with these bytes, and is these where nothing more may come
+abbrev pub IsText : List ℕ → List ℕ → Bool → Type 0
+IsText text bytes ended = (more : List ℕ) × Comes ended more × (bytes ++ more ≡ text)
+
+-- of two readings of one text
+module _ {S : Type 0} (left : S → Option (List ℕ)) (taken faults : S → ℕ) where
+  -- none stops at a fault where the other came to the end
+  abbrev pub ReadLaw : Type 0
+  ReadLaw =
+      (n lines : ℕ) (old new old2 new2 : S) (asked asked2 : List (Asked n)) (e : StreamFault)
+      (read : IsRead lines left taken faults old new asked) (faulty : IsFaulty lines left taken faults old2 new2 asked2 e)
+      → IsText read.bytes faulty.bytes faulty.ended → ⊥
+
+  -- both stop at the same fault, behind the same rows, where both stop at one
+  abbrev pub FaultyLaw : Type 0
+  FaultyLaw =
+      (n lines : ℕ) (old new old2 new2 : S) (asked asked2 : List (Asked n)) (e e2 : StreamFault)
+      (one : IsFaulty lines left taken faults old new asked e) (other : IsFaulty lines left taken faults old2 new2 asked2 e2)
+      (text : List ℕ) → IsText text one.bytes one.ended → IsText text other.bytes other.ended → (e ≡ e2) × (asked ≡ asked2)

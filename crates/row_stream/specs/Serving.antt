@@ -1,14 +1,16 @@
 -- What a module and what was told have to do with what the rows of a stream asked so far. What was asked stands with the newest first.
-use Rattle.std.specs.Prelude.{◌≡◌, ℕ, ◌+◌, ◌≤◌, false, List, [], ◌∷◌, ◌++◌, length}
+use Rattle.std.specs.Prelude.{◌≡◌, ℕ, zero, suc, ◌+◌, ◌≤◌, true, false, List, [], ◌∷◌, ◌++◌, length, All}
 use Rattle.cell_rows.specs.Device.{ArrayState}
 use Rattle.trace_reader.specs.Rows.{latest_tick}
 use Rattle.trace_reader.specs.declared.event.Event.{Event}
 use Rattle.result_rows.specs.declared.Outcome.{Outcome}
 use Rattle.bank_model.specs.Timing.{TimedEvent}
 use Rattle.module_shape.specs.declared.raw.RawShape.{RawShape}
+use Rattle.run_laws.specs.Runs.{bank_of_line}
 use Rattle.pcm_module.specs.Asking.{asked_for}
 use Rattle.pcm_module.specs.State.{ModuleState}
 use Rattle.pcm_module.specs.Replaying.{Replays}
+use Rattle.pcm_module.specs.Telling.{is_asked_of}
 use Rattle.row_printer.specs.Printing.{table_of}
 use Rattle.row_printer.specs.Telling.{became}
 use Rattle.row_printer.specs.declared.told.Told.{Told}
@@ -28,6 +30,26 @@ module _ {n m e : ℕ} (raw : RawShape) (seed : ℕ) where
     pub size : length outcomes ≡ length events
     pub replays : Replays h (asked_for events) module_ array outcomes
 
+module _ {n : ℕ} (raw : RawShape) (seed : ℕ) where
+  -- outcomes of rows that these events asked of so many banks, bank by bank from the first on
+  abbrev pub ComeByBanks : List (Event n) → ℕ → List (ℕ × Outcome n) → Type 0
+  ComeByBanks events zero outcomes = outcomes ≡ []
+  ComeByBanks events (suc bank) outcomes =
+      (earlier : List (ℕ × Outcome n)) × (own : List (ℕ × Outcome n)) × (outcomes ≡ earlier ++ own) × ComeByBanks events bank earlier
+      × All (λ one. is_asked_of (bank_of_line raw seed) bank (asked_for events) one.0 ≡ true) own
+
+  -- and behind the banks at most that of this row
+  abbrev pub ComeBehind : List (Event n) → ℕ → List (ℕ × Outcome n) → Type 0
+  ComeBehind events row outcomes =
+      (of_banks : List (ℕ × Outcome n)) × (own : List (ℕ × Outcome n)) × (outcomes ≡ of_banks ++ own) × ComeByBanks events raw.banks of_banks
+      × All (λ one. one.0 ≡ row) own
+
+  -- the outcomes that are told as a row is served, behind these events: bank by bank, and behind the banks at most that of the row itself, as
+  -- a cut's, which is asked of no bank alone
+  abbrev pub ComeInOrder : Asked n → List (Event n) → List (ℕ × Outcome n) → Type 0
+  ComeInOrder (Happens event) before outcomes = ComeBehind (event ∷ before) (length before + 1) outcomes
+  ComeInOrder (Settle tick) before outcomes = ComeByBanks before raw.banks outcomes
+
 -- the line that answers a row besides outcomes: only a settle has one
 abbrev pub line_of : {n : ℕ} → Asked n → List (Told n)
 line_of (Happens event) = []
@@ -41,13 +63,14 @@ module _ {n m : ℕ} (e : ℕ) (raw : RawShape) (seed : ℕ) where
     pub served : HasServed raw seed events h module_ array (table_of (length events) told)
 
   -- row by row: rows that asked this brought these histories about, and this was told of them. As each row was served, the outcomes were told that
-  -- the histories gave then and hadn't given before, no others, and behind them the line of the row
+  -- the histories gave then and hadn't given before, no others, bank by bank, and behind them the line of the row
   abbrev pub TellsAlong : List (Asked n) → (ℕ → List (TimedEvent n m)) → List (Told n) → Type 0
   TellsAlong [] h told = (h ≡ (λ bank. [])) × (told ≡ [])
   TellsAlong (asked ∷ before) h told =
       (earlier : ℕ → List (TimedEvent n m)) × (said : List (Told n)) × TellsAlong before earlier said
       × (added : ℕ → List (TimedEvent n m)) × (h ≡ (λ bank. added bank ++ earlier bank))
       × (outcomes : List (ℕ × Outcome n)) × (told ≡ (said ++ became outcomes) ++ line_of asked)
+      × ComeInOrder raw seed asked (events_in before) outcomes
       × AreKnown (events_in (asked ∷ before)) h told
 
 -- rows that asked this were served by a module over an array, and told by a printer that knows of so many rows

@@ -1,25 +1,20 @@
 -- What the rows that a source gave have to do with its bytes. What was asked stands with the newest first.
-use Rattle.std.specs.Prelude.{◌≡◌, ℕ, ◌≤◌, ◌^◌, ◌-◌, Bool, true, List, ◌++◌, length, reverse, Option, Result, Ok, Err}
+use Rattle.std.specs.Prelude.{◌≡◌, ℕ, ◌≤◌, ◌^◌, ◌-◌, Bool, true, List, ◌++◌, length, reverse, Option, Ok}
 use Rattle.std.specs.Io.KnownBytes.{Consumes, IsAtEnd}
 use Rattle.pcm_io.specs.Faults.{Rose}
 use Rattle.pcm_io.specs.Taking.{Takes}
 use Rattle.trace_stream.specs.Arrived.{Comes}
-use Rattle.trace_stream.specs.Stream.{HasFault, stream_of}
+use Rattle.trace_stream.specs.Stream.{HasFault, HasFront, front_of, stream_of}
 use Rattle.trace_stream.specs.declared.asked.Asked.{Asked}
 use Rattle.trace_stream.specs.declared.fault.StreamFault.{StreamFault}
 use Rattle.trace_stream.specs.declared.fault.StreamFault.TheVariants as fault
 use Rattle.row_stream.specs.declared.stop.Stop.{Stop}
 use Rattle.row_stream.specs.declared.stop.Stop.TheVariants.{Input, Endless, Output}
 
-module _ {n : ℕ} where
-  -- the first rows of a stream ask this, where it is one
-  abbrev pub BeginsWith : List (Asked n) → Result (List (Asked n)) StreamFault → Type 0
-  BeginsWith asked (Ok all) = (rest : List (Asked n)) × (all ≡ reverse asked ++ rest)
-  BeginsWith asked (Err e) = Unit {0}
-
-  -- the rows of a text that begins with these bytes ask this first, whatever comes behind
-  abbrev pub Fronts : ℕ → List ℕ → Bool → List (Asked n) → Type 0
-  Fronts lines bytes ended asked = (more : List ℕ) → Comes ended more → BeginsWith asked (stream_of n lines (bytes ++ more))
+-- the rows of a text that begins with these bytes, up to its first fault, begin with these, whatever comes behind
+abbrev pub Fronts : {n : ℕ} → ℕ → List ℕ → Bool → List (Asked n) → Type 0
+Fronts {n} lines bytes ended asked =
+    (more : List ℕ) → Comes ended more → (rest : List (Asked n)) × (front_of n lines (bytes ++ more) ≡ reverse asked ++ rest)
 
 -- of a source before and after, whose bytes are a trace for so many lines
 module _ {n : ℕ} (lines : ℕ) {S : Type 0} (left : S → Option (List ℕ)) (taken faults : S → ℕ) (old new : S) (asked : List (Asked n)) where
@@ -31,21 +26,22 @@ module _ {n : ℕ} (lines : ℕ) {S : Type 0} (left : S → Option (List ℕ)) (
     pub stream : stream_of n lines bytes ≡ Ok (reverse asked)
     pub calm : faults new ≡ faults old
 
-  -- it gave bytes whose first rows ask this
+  -- it gave bytes whose first rows ask this: they stand in front of the first fault, if there is one
   pub record HasCome : Type 0 where
     pub bytes : List ℕ
     pub between : Option (List ℕ)
     pub came : Consumes (left old) between bytes
     pub ended : Bool
+    pub at_end : ended ≡ true → IsAtEnd between
     pub front : Fronts lines bytes ended asked
 
-  -- behind those stands this fault, whatever may still come; no call failed
+  -- its bytes have this fault, and in front of it stand exactly the rows that ask this, whatever may still come; no call failed
   pub record IsFaulty (e : StreamFault) : Type 0 where
     pub bytes : List ℕ
     pub takes : Takes (left old) (left new) (taken old) (taken new) bytes
     pub ended : Bool
     pub at_end : ended ≡ true → IsAtEnd (left new)
-    pub front : Fronts lines bytes ended asked
+    pub front : HasFront (front_of n lines) bytes (reverse asked) ended
     pub fault : HasFault (stream_of n lines) bytes e ended
     pub calm : faults new ≡ faults old
 

@@ -118,6 +118,7 @@ fn drain<const B: usize, const M: usize, const E: usize, A: CellArray<B, M>, K: 
     ensures wear { (A.state array.new).wear ≡ (A.state array.old).wear }
 {
     pcm.finish(array, out);
+    out.tells_once();
 }
 
 // Leaves all as it is behind a power cut; the array, which is only looked at here, stays as the cut left it.
@@ -138,4 +139,5 @@ fn stop<const B: usize, const M: usize, const E: usize, A: CellArray<B, M>, K: S
 {
     let _ = array;
     pcm.stop(out);
+    out.tells_once();
 }

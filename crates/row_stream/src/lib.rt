@@ -10,7 +10,10 @@ mod stop;
 
 pub use drawing::serve_drawn;
 pub use ending::end;
-pub use laws::each_row_is_told;
+pub use laws::{
+    a_text_has_one_first_fault, a_text_that_is_read_has_no_fault, each_row_is_told,
+    settles_are_no_rows,
+};
 pub use reading::{feed, serve_source};
 pub use serving::{serve, serve_event};
 pub use stop::{Behind, Stop, behind_asked};

@@ -69,6 +69,7 @@ pub fn serve_event<
     out.add_row();
     let row = out.rows();
     pcm.event(array, row, event, out);
+    out.tells_once();
 }
 
 // Brings every bank to a tick, and tells that behind what became known by it.
@@ -92,5 +93,6 @@ fn serve_settle<const B: usize, const M: usize, const E: usize, A: CellArray<B, 
     ensures wear { (A.state array.new).wear ≡ (A.state array.old).wear }
 {
     pcm.settle(array, tick, out);
+    out.tells_once();
     out.settled(tick);
 }

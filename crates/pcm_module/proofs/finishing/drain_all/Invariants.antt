@@ -1,5 +1,6 @@
 use Rattle.std.proofs.Common.{false}
 use Rattle.pcm_module.specs.State.{ModuleState}
+use Rattle.pcm_module.specs.Telling.{TellsByBanks, rows_at}
 use Rattle.pcm_module.specs.Draining.{MayFinish, AreDrained}
 use Rattle.pcm_module.proofs.finishing.drain_all.Given as goal
 
@@ -8,3 +9,5 @@ invariant-loop-bank g l =
     ((of : ModuleState g.row.B g.row.M g.row.E) → MayFinish false of l.fn.banks.items (g.A.CellArray.state l.fn.array) (g.R.Outcomes.table l.fn.results)
     → AreDrained false of l.bank l.banks.items (g.A.CellArray.state l.fn.array) (g.A.CellArray.state l.array) (g.R.Outcomes.table l.fn.results) (g.R.Outcomes.table l.results))
     × g.R.Outcomes.goes_on l.fn.results l.results
+    × ((of : ModuleState g.row.B g.row.M g.row.E) → MayFinish false of l.fn.banks.items (g.A.CellArray.state l.fn.array) (g.R.Outcomes.table l.fn.results)
+    → TellsByBanks g.R.Outcomes.goes_on g.R.Outcomes.table (rows_at of) l.bank l.fn.results l.results)

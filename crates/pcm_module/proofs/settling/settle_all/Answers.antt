@@ -1,7 +1,9 @@
-use Rattle.std.proofs.Common.{arith, ◌≡◌, ℕ, ◌<◌, ◌++◌, length, Some, sym, subst, ◌∙◌}
+use Rattle.std.proofs.Common.{arith, ◌≡◌, ℕ, ◌<◌, ◌++◌, length, Some, refl, sym, subst, ◌∙◌}
 use Rattle.std.specs.Prelude.{slice_get}
 use Rattle.bank_timing.proofs.Sizes.{timed_fits}
 use Rattle.masked_bytes.proofs.Lists.{item-at}
+use Rattle.pcm_module.specs.Telling.{TellsByBanks, rows_at}
+use Rattle.pcm_module.proofs.InOrder.{next_bank, of_bank}
 use Rattle.pcm_module.specs.Settling.{AreSettled}
 use Rattle.pcm_module.proofs.Draining.{reached_bank, reached_all}
 use Rattle.pcm_module.proofs.Settles.{settle_none, settle_replays, settle_one}
@@ -11,6 +13,7 @@ pub loop-bank-init : goal.loop-bank-init
 loop-bank-init g c = (
   (λ of may. settle_none c.args.tick of (g.A.CellArray.state c.args.array.now) (g.R.Outcomes.table c.args.results.now) c.args.banks.now.items may),
   g.met.R.Outcomes.stands c.args.results.now,
+  λ of may. refl,
 )
 
 pub advance-requires : goal.advance-requires
@@ -51,6 +54,17 @@ loop-bank-preserved g c = (
       (record { now = c.advance.ensures.now; going = c.advance.ensures.going; below = omega (arith, c.advance.ensures.rows, f.below); open_rows = c.advance.ensures.unset })
       c.advance.ensures.extends may.led c.advance.ensures.others),
   g.met.R.Outcomes.follows _ _ _ c.loop-bank.invariant.1 c.advance.ensures.goes_on,
+  λ of may.
+      let bank = c.loop-bank.bank in
+      let banks = c.loop-bank.banks.items in
+      let clock = c.index_mut.result.now in
+      let so_far = c.loop-bank.invariant.0 of may in
+      let exists = reached_bank bank c.len-bank-end.result (length c.args.banks.now.items) of.shape.banks c.loop-bank-test.true (c.len-bank-end.ensures ∙ c.args.banks.now.ok.0) may.count in
+      let within : bank < length banks = subst (λ (k : ℕ). bank < k) (sym so_far.count) exists in
+      let is : slice_get banks bank ≡ Some clock = item-at banks bank clock within c.index_mut.ensures.value in
+      next_bank g.R.Outcomes.goes_on g.R.Outcomes.table of (rows_at of) bank _ c.args.results.now c.loop-bank.results c.advance.new.results refl (c.loop-bank.invariant.2 of may)
+      (of_bank g.R.Outcomes.goes_on g.R.Outcomes.table of (rows_at of bank) bank clock c.loop-bank.results c.advance.new.results (λ row none. none)
+      (sym (so_far.ahead bank (omega arith)) ∙ is) c.advance.ensures.goes_on c.advance.ensures.others),
 )
 
 pub returns : goal.returns
@@ -59,6 +73,9 @@ returns g c = record {
       let all = reached_all c.loop-bank.bank c.len-bank-end.result (length c.args.banks.now.items) of.shape.banks c.loop-bank.auto.bank-end c.loop-bank-test.false (c.len-bank-end.ensures ∙ c.args.banks.now.ok.0) may.count in
       subst (λ (k : ℕ). AreSettled c.args.tick of k c.loop-bank.banks.items (g.A.CellArray.state c.args.array.now) (g.A.CellArray.state c.loop-bank.array) (g.R.Outcomes.table c.args.results.now) (g.R.Outcomes.table c.loop-bank.results)) all (c.loop-bank.invariant.0 of may);
   goes_on = c.loop-bank.invariant.1;
+  order = λ of may.
+      let all = reached_all c.loop-bank.bank c.len-bank-end.result (length c.args.banks.now.items) of.shape.banks c.loop-bank.auto.bank-end c.loop-bank-test.false (c.len-bank-end.ensures ∙ c.args.banks.now.ok.0) may.count in
+      subst (λ (k : ℕ). TellsByBanks g.R.Outcomes.goes_on g.R.Outcomes.table (rows_at of) k c.args.results.now c.loop-bank.results) all (c.loop-bank.invariant.2 of may);
 }
 
 pub index_mut-requires : goal.index_mut-requires

@@ -1,6 +1,7 @@
 use Rattle.std.proofs.Common.{false}
 use Rattle.row_stream.specs.Asking.{events_in}
 use Rattle.pcm_module.specs.Asking.{asked_for}
+use Rattle.row_stream.proofs.Going.{banks-order}
 use Rattle.row_stream.proofs.Ends.{has-ended}
 use Rattle.row_stream.proofs.ending.drain.Goals as goal
 
@@ -8,6 +9,7 @@ pub returns-clause-ended : goal.returns-clause-ended
 returns-clause-ended g c = λ raw seed asked had.
     let on = c.finish.ensures.goes_on in
     let e = c.finish.ensures in
+    let order = banks-order raw seed asked c.args.pcm.now (g.A.CellArray.state c.args.array.now) c.args.out.now.rows c.args.out.now.told had g.K.Sink.written g.K.Sink.faults c.args.out.now c.finish.new.results c.tells_once.ensures e.order in
     has-ended raw seed asked c.args.pcm.now (g.A.CellArray.state c.args.array.now) c.args.out.now.rows c.args.out.now.told had false
-    c.finish.new.self (g.A.CellArray.state c.finish.new.array) c.finish.new.results.rows c.finish.new.results.told on.rows on.added on.told e.shape e.seed e.table
+    c.finish.new.self (g.A.CellArray.state c.finish.new.array) c.finish.new.results.rows c.finish.new.results.told on.rows order.outcomes order.told order.are e.shape e.seed e.table
     (e.finishes had.history (asked_for (events_in asked)) had.served.replays) (e.right had.history (asked_for (events_in asked)) had.served.replays)

@@ -1,4 +1,4 @@
-use Rattle.std.proofs.Common.{◌≡◌, Bool, sym, subst}
+use Rattle.std.proofs.Common.{Bool, sym, subst}
 use Rattle.row_stream.specs.Asking.{stays_off, with_cut}
 use Rattle.row_stream.specs.Ending.{HasEnded}
 use Rattle.row_stream.proofs.ending.end.Goals as goal

@@ -1,4 +1,4 @@
-use Rattle.std.proofs.Common.{◌≡◌, ◌∙◌, ◌∷◌, ℕ, arith, subst}
+use Rattle.std.proofs.Common.{◌∙◌, ◌∷◌, ℕ, arith, subst}
 use Rattle.trace_reader.specs.declared.event.EventOp.TheVariants.{Cut}
 use Rattle.trace_stream.specs.declared.asked.Asked.TheVariants.{Happens}
 use Rattle.row_stream.specs.Serving.{IsServing}

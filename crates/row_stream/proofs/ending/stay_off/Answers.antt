@@ -1,6 +1,6 @@
-use Rattle.std.proofs.Common.{◌≡◌, ◌∙◌, arith, refl, sym, subst}
+use Rattle.std.proofs.Common.{◌∙◌, arith, refl, sym, subst}
 use Rattle.row_stream.specs.declared.stop.Behind.{Behind}
-use Rattle.row_stream.specs.Asking.{behind_of, cut_behind, cut_if, off_behind}
+use Rattle.row_stream.specs.Asking.{cut_behind, cut_if, off_behind}
 use Rattle.row_stream.specs.Ending.{HasEnded}
 use Rattle.row_stream.proofs.ending.stay_off.Goals as goal
 

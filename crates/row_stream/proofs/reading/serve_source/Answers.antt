@@ -1,4 +1,4 @@
-use Rattle.std.proofs.Common.{◌≡◌, ◌∙◌, ◌∷◌, [], ℕ, List, Err, ap, refl, subst, arith}
+use Rattle.std.proofs.Common.{◌≡◌, ◌∙◌, ◌∷◌, [], ℕ, Err, ap, refl, subst, arith}
 use Rattle.module_shape.specs.Limits.{total_of}
 use Rattle.trace_stream.specs.Stream.{Opens}
 use Rattle.trace_stream.specs.declared.fault.StreamFault.TheVariants as fault
@@ -81,7 +81,7 @@ returns-in_default-feed-clause-stopped g c = λ raw seed start.
       more.asked,
       more.serving,
       (
-        fed-come raw seed g.S.Source.left g.S.Source.taken g.S.Source.faults c.args.source.now c.feed.new.pcm (g.A.CellArray.state c.feed.new.array) c.feed.new.out.rows c.feed.new.out.told c.next.new.source c.next.new.self (behind_of (c.in-Ok-Some.asked ∷ [])) _ more c.next.new.source,
+        fed-come raw seed g.S.Source.left g.S.Source.taken g.S.Source.faults c.args.source.now c.feed.new.pcm (g.A.CellArray.state c.feed.new.array) c.feed.new.out.rows c.feed.new.out.told c.next.new.source c.next.new.self (behind_of (c.in-Ok-Some.asked ∷ [])) _ more c.next.new.source (c.in-Ok-Some.ensures.end c.rows.invariant.end),
         more.calm,
       ),
     )
@@ -148,4 +148,4 @@ returns-clause-few g c =
 pub returns-clause-stopped : goal.returns-clause-stopped
 returns-clause-stopped g c = λ raw seed start.
     let had = c.rows.invariant.came raw seed start in
-    (had.asked, had.serving, (fed-come raw seed g.S.Source.left g.S.Source.taken g.S.Source.faults c.args.source.now c.rows.pcm (g.A.CellArray.state c.rows.array) c.rows.out.rows c.rows.out.told c.rows.source c.rows.stream c.rows.behind c.rows.counter had c.rows.source, c.rows.invariant.calm, omega (arith, had.counted, c.rows-test.false, c.rows.auto.counter-end)))
+    (had.asked, had.serving, (fed-come raw seed g.S.Source.left g.S.Source.taken g.S.Source.faults c.args.source.now c.rows.pcm (g.A.CellArray.state c.rows.array) c.rows.out.rows c.rows.out.told c.rows.source c.rows.stream c.rows.behind c.rows.counter had c.rows.source c.rows.invariant.end, c.rows.invariant.calm, omega (arith, had.counted, c.rows-test.false, c.rows.auto.counter-end)))

@@ -1,4 +1,4 @@
-use Rattle.std.proofs.Common.{◌≡◌, ◌≤◌, ◌-◌, ℕ, List, [], Option, true}
+use Rattle.std.proofs.Common.{◌≡◌, ℕ, List, [], Option, true}
 use Rattle.std.specs.Io.KnownBytes.{Appends, IsAtEnd}
 use Rattle.module_shape.specs.declared.raw.RawShape.{RawShape}
 use Rattle.row_printer.specs.Printing.{IsPrinting, stream_text}

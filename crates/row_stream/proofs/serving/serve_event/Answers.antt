@@ -2,7 +2,7 @@ use Rattle.std.proofs.Common.{◌≡◌, ◌∙◌, ◌+◌, ◌++◌, ap, arith
 use Rattle.row_printer.specs.Telling.{became}
 use Rattle.row_printer.specs.Printing.{table_told}
 use Rattle.trace_reader.proofs.Sizes.{event_fits}
-use Rattle.row_stream.proofs.Going.{next-bound, next-open, next-replayed, serving-event}
+use Rattle.row_stream.proofs.Going.{event-order, next-bound, next-open, next-replayed, serving-event}
 use Rattle.row_stream.proofs.serving.serve_event.Goals as goal
 
 pub event-requires : goal.event-requires
@@ -35,9 +35,11 @@ returns-clause-serving g c = λ raw seed before had.
     let row : c.rows-row.result ≡ c.args.out.now.rows + 1 = c.rows-row.ensures ∙ c.add_row.ensures.rows in
     let on = c.event.ensures.goes_on in
     let e = c.event.ensures in
+    let order = event-order raw seed before c.args.pcm.now (g.A.CellArray.state c.args.array.now) c.args.out.now.rows c.args.out.now.told had g.K.Sink.written g.K.Sink.faults c.args.event.now c.rows-row.result (table_told c.add_row.new.self)
+    c.add_row.new.self c.event.new.results c.add_row.ensures.table row c.tells_once.ensures e.order in
     serving-event raw seed before c.args.pcm.now (g.A.CellArray.state c.args.array.now) c.args.out.now.rows c.args.out.now.told had c.args.event.now
     c.event.new.self (g.A.CellArray.state c.event.new.array) c.event.new.results.rows c.event.new.results.told c.rows-row.result (table_told c.add_row.new.self)
-    c.add_row.ensures.table row (on.rows ∙ c.add_row.ensures.rows) on.added (on.told ∙ ap (λ t. t ++ became on.added) c.add_row.ensures.told)
+    c.add_row.ensures.table row (on.rows ∙ c.add_row.ensures.rows) order.outcomes (order.told ∙ ap (λ t. t ++ became order.outcomes) c.add_row.ensures.told) order.are
     e.shape e.seed e.going e.tick c.requires.event.in_time e.rows e.table e.replays
 
 pub returns-clause-prints : goal.returns-clause-prints

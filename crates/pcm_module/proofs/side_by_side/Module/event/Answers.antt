@@ -4,7 +4,7 @@ use Rattle.masked_bytes.proofs.Layering.{IsMasked-all_given}
 use Rattle.module_shape.specs.Limits.{total_of}
 use Rattle.bank_timing.proofs.Sizes.{entry_fits}
 use Rattle.pcm_module.proofs.Sizes.{module_fits}
-use Rattle.pcm_module.proofs.Events.{replays_event, op_for}
+use Rattle.pcm_module.proofs.Events.{replays_event, order_event, op_for}
 use Rattle.pcm_module.proofs.side_by_side.Module.event.Goals as goal
 
 pub write-requires : goal.write-requires
@@ -182,3 +182,15 @@ returns-in-Mask-clause-goes_on g c = c.write-in-Mask.ensures.goes_on
 
 pub returns-in-Cut-clause-goes_on : goal.returns-in-Cut-clause-goes_on
 returns-in-Cut-clause-goes_on g c = c.cut.ensures.goes_on
+
+pub returns-in-Read-clause-order : goal.returns-in-Read-clause-order
+returns-in-Read-clause-order g c = order_event g.R.Outcomes.goes_on g.R.Outcomes.table c.args.row c.args.event.now (Read c.in-Read.line) c.args.self.now c.args.results.now c.read.new.results c.in-Read.is c.read.ensures.order
+
+pub returns-in-Write-clause-order : goal.returns-in-Write-clause-order
+returns-in-Write-clause-order g c = order_event g.R.Outcomes.goes_on g.R.Outcomes.table c.args.row c.args.event.now (Write c.in-Write.line c.in-Write.bytes) c.args.self.now c.args.results.now c.write.new.results c.in-Write.is (rw c.whole-entry.ensures.entry at c.write.ensures.order)
+
+pub returns-in-Mask-clause-order : goal.returns-in-Mask-clause-order
+returns-in-Mask-clause-order g c = order_event g.R.Outcomes.goes_on g.R.Outcomes.table c.args.row c.args.event.now (Mask c.in-Mask.line c.in-Mask.bytes c.in-Mask.given) c.args.self.now c.args.results.now c.write-in-Mask.new.results c.in-Mask.is c.write-in-Mask.ensures.order
+
+pub returns-in-Cut-clause-order : goal.returns-in-Cut-clause-order
+returns-in-Cut-clause-order g c = order_event g.R.Outcomes.goes_on g.R.Outcomes.table c.args.row c.args.event.now Cut c.args.self.now c.args.results.now c.cut.new.results c.in-Cut.is c.cut.ensures.order

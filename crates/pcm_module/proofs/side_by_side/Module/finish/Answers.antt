@@ -62,3 +62,6 @@ returns-clause-seed g c = grind arith
 
 pub returns-clause-goes_on : goal.returns-clause-goes_on
 returns-clause-goes_on g c = c.drain_all.ensures.goes_on
+
+pub returns-clause-order : goal.returns-clause-order
+returns-clause-order g c = rw (← c.self.view_is) (c.drain_all.ensures.order (state_of c.self.inside) (may_finish c.self.view_is c.self.invariant c.requires.replays))

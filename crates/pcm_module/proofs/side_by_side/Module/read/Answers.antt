@@ -1,6 +1,6 @@
-use Rattle.std.proofs.Common.{arith}
+use Rattle.std.proofs.Common.{refl, arith}
 use Rattle.pcm_module.proofs.Views.{state_of}
-use Rattle.pcm_module.proofs.Serving.{ComesTo, comes, bank_replays, bank_forward, bank_has, bank_rises, taken_kept, read_taken}
+use Rattle.pcm_module.proofs.Serving.{ComesTo, comes, bank_replays, bank_forward, bank_has, bank_rises, taken_kept, read_taken, read_in_order}
 use Rattle.bank_timing.proofs.Sizes.{timed_fits}
 use Rattle.pcm_module.proofs.side_by_side.Module.read.Given.{Over}
 use Rattle.pcm_module.proofs.side_by_side.Module.read.Goals.{After-index_mut-timed}
@@ -24,7 +24,13 @@ pub invariant_of-self : goal.invariant_of-self
 invariant_of-self g c = taken_kept (arrives g (goal.at.invariant_of-self g c).After-index_mut-timed) c.self.invariant c.requires.within c.read_at.ensures.step
 
 pub returns : goal.returns
-returns g c = rw (← c.self.view_is) (record { goes_on = c.read_at.ensures.goes_on; takes = read_taken (arrives g (goal.at.returns g c).After-index_mut-timed) c.read_at.ensures.at c.read_at.ensures.step })
+returns g c =
+    let h = arrives g (goal.at.returns g c).After-index_mut-timed in
+    rw (← c.self.view_is) (record {
+      goes_on = c.read_at.ensures.goes_on;
+      takes = read_taken h c.read_at.ensures.at c.read_at.ensures.step;
+      order = read_in_order h g.R.Outcomes.goes_on g.R.Outcomes.table g.met.R.Outcomes.stands c.args.results.now c.read_at.new.results refl c.read_at.ensures.goes_on c.read_at.ensures.step;
+    })
 
 pub place-place-requires : goal.place-place-requires
 place-place-requires g c = grind arith

@@ -1,4 +1,4 @@
-use Rattle.std.proofs.Common.{arith, ◌≤◌, sym, subst}
+use Rattle.std.proofs.Common.{◌≤◌, sym, subst}
 use Rattle.pcm_module.specs.State.{ModuleState}
 use Rattle.pcm_module.specs.Replaying.{IsReplayed}
 use Rattle.pcm_module.specs.Settling.{AreSettled}
@@ -53,3 +53,7 @@ returns-clause-stays g c = rw (← c.self.view_is) (settled g (goal.at.returns-c
 
 pub returns-clause-goes_on : goal.returns-clause-goes_on
 returns-clause-goes_on g c = c.settle_all.ensures.goes_on
+
+pub returns-clause-order : goal.returns-clause-order
+returns-clause-order g c =
+    rw (← c.self.view_is) (c.settle_all.ensures.order (state_of c.self.inside) (may_settle c.self.view_is c.self.invariant c.requires.forward c.requires.within c.requires.replays))

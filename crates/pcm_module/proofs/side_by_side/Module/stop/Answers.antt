@@ -1,13 +1,10 @@
-use Rattle.std.proofs.Common.{◌++◌, true, sym, subst}
-use Rattle.cell_rows.specs.Device.{ArrayState}
+use Rattle.std.proofs.Common.{◌++◌, true}
 use Rattle.bank_timing.specs.Extending.{outcome_in}
 use Rattle.run_laws.specs.FinishedLaws.{ends_of}
 use Rattle.pcm_module.specs.State.{ModuleState, bank_at}
-use Rattle.pcm_module.specs.Draining.{AreDrained}
 use Rattle.pcm_module.proofs.Views.{state_of}
 use Rattle.pcm_module.proofs.Draining.{may_stop_all, drain_every, drained_ends, module_drained}
 use Rattle.bank_timing.proofs.Sizes.{timed_fits}
-use Rattle.pcm_module.proofs.side_by_side.Module.stop.Given.{Over}
 use Rattle.pcm_module.proofs.side_by_side.Module.stop.Goals.{After-stop_all}
 use Rattle.pcm_module.proofs.side_by_side.Module.stop.Goals as goal
 
@@ -52,3 +49,8 @@ returns-clause-others g c =
 
 pub returns-clause-goes_on : goal.returns-clause-goes_on
 returns-clause-goes_on g c = c.stop_all.ensures.goes_on
+
+pub returns-clause-order : goal.returns-clause-order
+returns-clause-order g c =
+    let led = rw (← c.self.view_is) at c.requires.replays in
+    rw (← c.self.view_is) (c.stop_all.ensures.order (state_of c.self.inside) led.0 (may_stop_all c.self.invariant led.1 led.2 led.3 led.4))

@@ -1,0 +1,92 @@
+-- That outcomes are told bank by bank.
+use Rattle.std.proofs.Common.{◌≡◌, ℕ, zero, suc, ◌+◌, ◌<◌, ◌==◌, ◌&&◌, Bool, true, false, List, Some, refl, sym, ap, subst, ◌∙◌, inl, inr, arith}
+use Rattle.std.specs.Prelude.{slice_get}
+use Rattle.std.proofs.lemmas.Bool.{cases_eq, eqb-false}
+use Rattle.masked_bytes.proofs.Truth.{neither_first, neither_second}
+use Rattle.cell_rows.specs.Device.{ArrayState}
+use Rattle.masked_bytes.specs.Entries.{has_row}
+use Rattle.result_rows.specs.declared.Outcome.{Outcome}
+use Rattle.result_rows.specs.Table.{HasRow, with_outcome}
+use Rattle.row_rules.specs.declared.Asks.{Asks}
+use Rattle.bank_model.specs.Timing.{TimedEvent}
+use Rattle.clock_laws.specs.State.{ClockState}
+use Rattle.clock_laws.specs.Leads.{Leads}
+use Rattle.clock_laws.specs.Standing.{has_waiting}
+use Rattle.module_laws.specs.Asking.{Asked}
+use Rattle.bank_timing.specs.Extending.{LeavesOthers, LeavesOthersThan, outcome_in}
+use Rattle.run_laws.specs.Runs.{bank_of_line}
+use Rattle.pcm_module.specs.State.{ModuleState}
+use Rattle.pcm_module.specs.Stepping.{IsStep}
+use Rattle.pcm_module.specs.Telling.{TellsOf, TellsByBanks, TellsInOrder, comes_to, has_standing, rows_at, rows_taking}
+use Rattle.pcm_module.proofs.Moving.{left_alone}
+use Rattle.pcm_module.proofs.AsIf.{other_there}
+use Rattle.pcm_module.proofs.TakenRows.{bank_there}
+
+-- a step that tells a bank's rows, whatever row arrives with it, leaves the others
+pub step_leaves : {n m e : ℕ} (xs : List (TimedEvent n m)) (clock next : ClockState n m e) (before after : ArrayState n m) (results recorded : List (Outcome n)) (a : ℕ → Asked n)
+    → ((row : ℕ) → (a row).row ≡ row) → Leads xs clock before
+    → ((row : ℕ) → (added : List (TimedEvent n m)) × IsStep xs added (a row) clock next before after results recorded) → LeavesOthers clock.bank results recorded
+step_leaves xs clock next before after results recorded a own leads step = λ row has queued waiting.
+    let s = step (row + 1) in
+    left_alone xs clock before leads s.0 next after results recorded s.1.extends row has queued waiting (s.1.alone row (λ e. absurd (omega (arith, e, own (row + 1)))))
+
+-- a step with which a row arrives leaves the others but that
+pub step_leaves_but : {n m e : ℕ} (xs added : List (TimedEvent n m)) (clock next : ClockState n m e) (before after : ArrayState n m) (results recorded : List (Outcome n)) (a : Asked n)
+    → Leads xs clock before → IsStep xs added a clock next before after results recorded → LeavesOthersThan a.row clock.bank results recorded
+step_leaves_but xs added clock next before after results recorded a leads s = λ row has off queued waiting.
+    left_alone xs clock before leads added next after results recorded s.extends row has queued waiting (s.alone row off)
+
+module _ {n m e : ℕ} {R : Type 0} (goes_on : R → R → Type 0) (table : R → List (Outcome n)) (old : ModuleState n m e) where
+  -- what the next bank tells is behind what those before it told
+  pub next_bank : (rows : ℕ → ℕ → Bool) (bank next : ℕ) (first one two : R) → next ≡ bank + 1 → TellsByBanks goes_on table rows bank first one
+      → TellsOf goes_on table (rows bank) one two → TellsByBanks goes_on table rows next first two
+  next_bank rows bank next first one two is so_far tells = let e : next ≡ suc bank = omega (arith, is) in rw e (one, so_far, tells)
+
+  -- a bank that leaves other rows tells of its own
+  pub of_bank : (rows : ℕ → Bool) (bank : ℕ) (clock : ClockState n m e) (one two : R) → ((row : ℕ) → rows row ≡ false → rows_at old bank row ≡ false)
+      → slice_get old.banks bank ≡ Some clock → goes_on one two → LeavesOthers clock.bank (table one) (table two) → TellsOf goes_on table rows one two
+  of_bank rows bank clock one two within is on leaves = record {
+    on = on;
+    others = λ row has none.
+        let off : has_standing clock.bank row ≡ false = subst (λ (c : ClockState n m e). has_standing c.bank row ≡ false) (bank_there old bank clock is) (within row none) in
+        leaves row has (neither_first (has_row clock.bank.kept.entries row) (has_waiting clock.bank.waiting row) off) (neither_second (has_row clock.bank.kept.entries row) (has_waiting clock.bank.waiting row) off);
+  }
+
+  -- one bank alone tells
+  pub one_bank : ((one : R) → goes_on one one) → (rows : ℕ → ℕ → Bool) (bank banks : ℕ) (one two : R) → bank < banks
+      → TellsOf goes_on table (rows bank) one two → TellsByBanks goes_on table rows banks one two
+  one_bank stands rows bank zero one two below tells = absurd (omega (arith, below))
+  one_bank stands rows bank (suc banks) one two below tells = elim (cases_eq banks bank) [
+    | inl same ↦ (one, none banks one, subst (λ (k : ℕ). TellsOf goes_on table (rows k) one two) (sym same) tells)
+    | inr off ↦ (two, one_bank stands rows bank banks one two (omega (arith, below, off)) tells, record { on = stands two; others = λ row has no. refl })
+  ]
+    where
+      none : (banks : ℕ) (one : R) → TellsByBanks goes_on table rows banks one one
+      none zero one = refl
+      none (suc banks) one = (one, none banks one, record { on = stands one; others = λ row has no. refl })
+
+  -- so does the bank to which a row comes
+  pub in_order : ((one : R) → goes_on one one) → (bank row : ℕ) (asks : Asks n) (clock : ClockState n m e) (one two : R) → slice_get old.banks bank ≡ Some clock → bank < old.shape.banks
+      → comes_to (bank_of_line old.shape old.seed) bank asks ≡ true → goes_on one two → LeavesOthersThan row clock.bank (table one) (table two)
+      → TellsInOrder goes_on table (rows_taking old row asks) old.shape.banks row one two
+  in_order stands bank row asks clock one two is there own on leaves = (
+    two,
+    one_bank stands (rows_taking old row asks) bank old.shape.banks one two there
+        (record {
+          on = on;
+          others = λ other has none.
+              let off = subst (λ (c : ClockState n m e). has_standing c.bank other ≡ false) (bank_there old bank clock is) (neither_first (rows_at old bank other) _ none) in
+              let apart : (row == other) ≡ false = subst (λ b. (b && row == other) ≡ false) own (neither_second (rows_at old bank other) _ none) in
+              leaves other has (λ same. eqb-false row other apart (sym same))
+              (neither_first (has_row clock.bank.kept.entries other) (has_waiting clock.bank.waiting other) off) (neither_second (has_row clock.bank.kept.entries other) (has_waiting clock.bank.waiting other) off);
+        }),
+    record { on = stands two; others = λ other has none. refl },
+  )
+
+-- a row that is told alone is told behind
+pub tells_own : {n : ℕ} {R : Type 0} (goes_on : R → R → Type 0) (table : R → List (Outcome n)) (row : ℕ) (o : Outcome n) (one two : R) → HasRow (table one) row
+    → table two ≡ with_outcome (table one) row o → goes_on one two → TellsOf goes_on table (λ other. row == other) one two
+tells_own goes_on table row o one two there set on = record {
+  on = on;
+  others = λ other has none. ap (λ r. outcome_in r other) set ∙ other_there row o (table one) other there.above has.above (λ same. eqb-false row other none (sym same));
+}

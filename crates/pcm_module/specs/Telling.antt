@@ -1,0 +1,52 @@
+-- In which order a module tells outcomes: bank by bank.
+use Rattle.std.specs.Prelude.{◌≡◌, ℕ, zero, suc, ◌==◌, ◌||◌, ◌&&◌, Bool, false, List, [], ◌∷◌}
+use Rattle.masked_bytes.specs.Entries.{has_row}
+use Rattle.result_rows.specs.declared.Outcome.{Outcome}
+use Rattle.result_rows.specs.Table.{HasRow}
+use Rattle.row_rules.specs.declared.Asks.{Asks}
+use Rattle.row_rules.specs.declared.Asks.TheVariants.{Reads, Writes, Cuts}
+use Rattle.bank_invariant.specs.State.{BankState}
+use Rattle.module_laws.specs.Asking.{Asked}
+use Rattle.clock_laws.specs.Standing.{has_waiting}
+use Rattle.bank_timing.specs.Extending.{outcome_in}
+use Rattle.run_laws.specs.Runs.{bank_of_line}
+use Rattle.pcm_module.specs.State.{ModuleState, bank_at}
+
+-- whether a row stands in the queue of a bank, or waits there
+abbrev pub has_standing : {n m e : ℕ} → BankState n m e → ℕ → Bool
+has_standing bank row = has_row bank.kept.entries row || has_waiting bank.waiting row
+
+-- whether what a row asks is of a line of a bank, where each line has its home: a cut is of none
+abbrev pub comes_to : {n : ℕ} → (ℕ → ℕ) → ℕ → Asks n → Bool
+comes_to home bank (Reads line) = home line == bank
+comes_to home bank (Writes line bytes given) = home line == bank
+comes_to home bank Cuts = false
+
+-- whether a row is one of those that were asked of a bank
+abbrev pub is_asked_of : {n : ℕ} → (ℕ → ℕ) → ℕ → List (Asked n) → ℕ → Bool
+is_asked_of home bank [] row = false
+is_asked_of home bank (a ∷ asked) row = (comes_to home bank a.asks && a.row == row) || is_asked_of home bank asked row
+
+module _ {n m e : ℕ} (module_ : ModuleState n m e) where
+  -- the rows of a bank: those that stand there
+  abbrev pub rows_at : ℕ → ℕ → Bool
+  rows_at bank = has_standing (bank_at module_ bank).bank
+
+  -- the rows of a bank as one is taken that asks this: those that stand there, and that one, where it comes to the bank
+  abbrev pub rows_taking : ℕ → Asks n → ℕ → ℕ → Bool
+  rows_taking row asks bank other = rows_at bank other || (comes_to (bank_of_line module_.shape module_.seed) bank asks && row == other)
+
+module _ {n : ℕ} {R : Type 0} (goes_on : R → R → Type 0) (table : R → List (Outcome n)) where
+  -- outcomes of these rows alone were told
+  pub record TellsOf (rows : ℕ → Bool) (old new : R) : Type 0 where
+    pub on : goes_on old new
+    pub others : (row : ℕ) → HasRow (table old) row → rows row ≡ false → outcome_in (table new) row ≡ outcome_in (table old) row
+
+  -- bank by bank, so many from the first on: with each, outcomes of its rows alone
+  abbrev pub TellsByBanks : (ℕ → ℕ → Bool) → ℕ → R → R → Type 0
+  TellsByBanks rows zero old new = old ≡ new
+  TellsByBanks rows (suc bank) old new = (between : R) × TellsByBanks rows bank old between × TellsOf (rows bank) between new
+
+  -- and behind the banks at most the outcome of a row that was taken
+  abbrev pub TellsInOrder : (ℕ → ℕ → Bool) → ℕ → ℕ → R → R → Type 0
+  TellsInOrder rows banks row old new = (between : R) × TellsByBanks rows banks old between × TellsOf (λ other. row == other) between new

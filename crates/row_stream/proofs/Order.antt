@@ -1,0 +1,189 @@
+-- That what a printer was told comes bank by bank.
+use Rattle.std.proofs.Common.{◌≡◌, ℕ, zero, suc, ◌-◌, ◌<◌, ◌≤◌, ◌==◌, ◌||◌, Bool, true, false, List, [], ◌∷◌, ◌++◌, length, replicate, Option, Some, refl, sym, ap, subst, ◌∙◌, eqb-true, eq-eqb, append_assoc, arith}
+use Rattle.std.specs.Prelude.{All, unwrap_or}
+use Rattle.std.proofs.lemmas.Bool.{or_from}
+use Rattle.std.proofs.lemmas.List.{append-nil, length-replicate, get_or-replicate}
+use Rattle.std.proofs.lemmas.List.Elements.{All-nil, All-cons, All-weaker}
+use Rattle.std.proofs.lemmas.Option.{slice_get-get_or}
+use Rattle.masked_bytes.proofs.Truth.{neither_first, neither_second}
+use Rattle.trace_reader.specs.declared.event.Event.{Event}
+use Rattle.result_rows.specs.declared.Outcome.{Outcome}
+use Rattle.result_rows.specs.Table.{HasRow, outcome_at}
+use Rattle.bank_timing.specs.Extending.{outcome_in}
+use Rattle.module_shape.specs.declared.raw.RawShape.{RawShape}
+use Rattle.run_laws.specs.Runs.{bank_of_line}
+use Rattle.pcm_module.specs.Asking.{asked_for}
+use Rattle.pcm_module.specs.Telling.{TellsOf, TellsByBanks, TellsInOrder, is_asked_of}
+use Rattle.row_printer.specs.Printing.{Printing, PrintsOn, table_told}
+use Rattle.row_printer.specs.Telling.{became, outcomes_in, recorded, tells, TellsOnce}
+use Rattle.row_printer.specs.declared.told.Told.{Told}
+use Rattle.row_printer.specs.declared.told.Told.TheVariants.{Became, Settled}
+use Rattle.row_printer.proofs.Telling.{length-recorded}
+use Rattle.row_printer.proofs.Once.{open-untold, stays-told}
+use Rattle.row_stream.specs.Serving.{ComeByBanks, ComeBehind}
+use Rattle.row_stream.proofs.Growing.{none}
+use Rattle.row_stream.proofs.Each.{some-at}
+
+in_rest : (a b : Bool) → b ≡ true → (a || b) ≡ true
+in_rest true b is = refl
+in_rest false b is = is
+
+module _ {n : ℕ} where
+  outcomes-became : (told : List (Told n)) (outcomes : List (ℕ × Outcome n)) → outcomes_in (told ++ became outcomes) ≡ outcomes_in told ++ outcomes
+  outcomes-became [] [] = refl
+  outcomes-became [] (one ∷ outcomes) = ap (λ (rest : List (ℕ × Outcome n)). one ∷ rest) (outcomes-became [] outcomes)
+  outcomes-became (Became row outcome ∷ told) outcomes = ap (λ (rest : List (ℕ × Outcome n)). (row, outcome) ∷ rest) (outcomes-became told outcomes)
+  outcomes-became (Settled tick ∷ told) outcomes = outcomes-became told outcomes
+
+  became-both : (xs ys : List (ℕ × Outcome n)) → became (xs ++ ys) ≡ became xs ++ became ys
+  became-both [] ys = refl
+  became-both (one ∷ xs) ys = ap (λ (rest : List (Told n)). Became one.0 one.1 ∷ rest) (became-both xs ys)
+
+  tells-right : (xs ys : List (ℕ × Outcome n)) (row : ℕ) → tells ys row ≡ true → tells (xs ++ ys) row ≡ true
+  tells-right [] ys row is = is
+  tells-right (x ∷ xs) ys row is = in_rest (x.0 == row) (tells (xs ++ ys) row) (tells-right xs ys row is)
+
+  untold-left : (xs ys : List (ℕ × Outcome n)) (row : ℕ) → tells (xs ++ ys) row ≡ false → tells xs row ≡ false
+  untold-left [] ys row is = refl
+  untold-left (x ∷ xs) ys row is =
+      or_from (x.0 == row) (tells xs row) (neither_first (x.0 == row) (tells (xs ++ ys) row) is) (untold-left xs ys row (neither_second (x.0 == row) (tells (xs ++ ys) row) is))
+
+  once-left : (most : ℕ) (xs ys : List (ℕ × Outcome n)) → TellsOnce most (xs ++ ys) → TellsOnce most xs
+  once-left most [] ys once = tt
+  once-left most (x ∷ xs) ys once = (once.0, once.1, once.2, untold-left xs ys x.0 once.3, once-left most xs ys once.4)
+
+  -- a row that is told later wasn't told before
+  later-untold : (most : ℕ) (xs ys : List (ℕ × Outcome n)) (row : ℕ) → TellsOnce most (xs ++ ys) → tells ys row ≡ true → tells xs row ≡ false
+  later-untold most [] ys row once is = refl
+  later-untold most (x ∷ xs) ys row once is = or_from (x.0 == row) (tells xs row) (by (x.0 == row) (eqb-true x.0 row)) (later-untold most xs ys row once.4 is)
+    where
+      by : (b : Bool) → (b ≡ true → x.0 ≡ row) → b ≡ false
+      by true same =
+          let no_way : false ≡ true = sym once.3 ∙ subst (λ (r : ℕ). tells (xs ++ ys) r ≡ true) (sym (same refl)) (tells-right xs ys row is) in absurd (cc no_way)
+      by false same = refl
+
+  -- a row that is told is one of the table
+  told-within : (most : ℕ) (told : List (ℕ × Outcome n)) (row : ℕ) → TellsOnce most told → tells told row ≡ true → (1 ≤ row) × (row ≤ most)
+  told-within most [] row once is = absurd (cc is)
+  told-within most (x ∷ told) row once is = by (x.0 == row) (eqb-true x.0 row) (told-within most told row once.4) is
+    where
+      by : (b : Bool) → (b ≡ true → x.0 ≡ row) → (tells told row ≡ true → (1 ≤ row) × (row ≤ most)) → (b || tells told row) ≡ true → (1 ≤ row) × (row ≤ most)
+      by true same rest is = subst (λ (r : ℕ). (1 ≤ r) × (r ≤ most)) (same refl) (once.0, once.1)
+      by false same rest is = rest is
+
+  each-told : (P : ℕ → Type 0) (told : List (ℕ × Outcome n)) → ((row : ℕ) → tells told row ≡ true → P row) → All (λ one. P one.0) told
+  each-told P [] so = All-nil (λ (one : ℕ × Outcome n). P one.0)
+  each-told P (x ∷ told) so =
+      All-cons (λ (one : ℕ × Outcome n). P one.0) x told (so x.0 (ap (λ b. b || tells told x.0) (eq-eqb x.0 x.0 refl)))
+      (each-told P told (λ row is. so row (in_rest (x.0 == row) (tells told row) is)))
+
+  abbrev table : ℕ → List (ℕ × Outcome n) → List (Outcome n)
+  table most told = recorded told (replicate most none)
+
+  -- where a table changes in these rows alone, outcomes of these alone were told
+  told-of : (most : ℕ) (xs ys : List (ℕ × Outcome n)) (rows : ℕ → Bool) → TellsOnce most (xs ++ ys)
+      → ((row : ℕ) → HasRow (table most xs) row → rows row ≡ false → outcome_in (table most (xs ++ ys)) row ≡ outcome_in (table most xs) row)
+      → All (λ one. rows one.0 ≡ true) ys
+  told-of most xs ys rows once others = each-told (λ row. rows row ≡ true) ys (λ row is. by row is (rows row) (others row))
+    where
+      blank : List (Outcome n)
+      blank = replicate most none
+
+      size : length blank ≡ most
+      size = length-replicate most none
+
+      there : (row : ℕ) (told : List (ℕ × Outcome n)) → (1 ≤ row) × (row ≤ most) → HasRow (table most told) row
+      there row told within = record { above = within.0; within = subst (λ (k : ℕ). row ≤ k) (sym (length-recorded told blank ∙ size)) within.1 }
+
+      clash : (row : ℕ) → tells ys row ≡ true → outcome_in (table most (xs ++ ys)) row ≡ outcome_in (table most xs) row → ⊥
+      clash row is same =
+          let within : (1 ≤ row) × (row ≤ most) = told-within most (xs ++ ys) row once (tells-right xs ys row is) in
+          let at_first : HasRow blank row = there row [] within in
+          let below : row - 1 < most = omega (arith, within.0, within.1) in
+          let here : row - 1 < length blank = rw size below in
+          let was : outcome_at blank row ≡ Some none = slice_get-get_or blank (row - 1) none here ∙ ap Some (get_or-replicate most (row - 1) none none below) in
+          let before : outcome_at (table most xs) row ≡ Some none = stays-told most xs blank row (once-left most xs ys once) size at_first (later-untold most xs ys row once is) ∙ was in
+          let unset : outcome_in (table most (xs ++ ys)) row ≡ none = same ∙ ap (λ (o : Option (Outcome n)). unwrap_or o none) before in
+          let now = some-at (table most (xs ++ ys)) (row - 1) (let w = there row (xs ++ ys) within in omega (arith, w.above, w.within)) in
+          let still : outcome_at (table most (xs ++ ys)) row ≡ Some none = now.1 ∙ ap Some (sym (ap (λ (o : Option (Outcome n)). unwrap_or o none) now.1) ∙ unset) in
+          let untold : tells (xs ++ ys) row ≡ false = open-untold most (xs ++ ys) blank row once size at_first still in
+          let no_way : false ≡ true = sym untold ∙ tells-right xs ys row is in
+          cc no_way
+
+      by : (row : ℕ) → tells ys row ≡ true → (b : Bool) → (HasRow (table most xs) row → b ≡ false → outcome_in (table most (xs ++ ys)) row ≡ outcome_in (table most xs) row) → b ≡ true
+      by row is true same = refl
+      by row is false same = absurd (clash row is (same (there row xs (told-within most (xs ++ ys) row once (tells-right xs ys row is))) refl))
+
+-- outcomes were told that are so
+pub record ToldSo {n : ℕ} (Are : List (ℕ × Outcome n) → Type 0) (old new : List (Told n)) : Type 0 where
+  pub outcomes : List (ℕ × Outcome n)
+  pub told : new ≡ old ++ became outcomes
+  pub are : Are outcomes
+
+told-both : {n : ℕ} (old between new : List (Told n)) (xs ys : List (ℕ × Outcome n)) → between ≡ old ++ became xs → new ≡ between ++ became ys → new ≡ old ++ became (xs ++ ys)
+told-both {n = n} old between new xs ys first second =
+    second ∙ ap (λ (t : List (Told n)). t ++ became ys) first ∙ append_assoc old (became xs) (became ys) ∙ ap (λ (t : List (Told n)). old ++ t) (sym (became-both xs ys))
+
+module _ {n : ℕ} {S : Type 0} (written : S → Option (List ℕ)) (faults : S → ℕ) where
+  abbrev Once : Printing n S → Type 0
+  Once p = TellsOnce p.rows (outcomes_in p.told)
+
+  -- what was told between two printers
+  outcomes-on : (old new : Printing n S) (on : PrintsOn written faults old new) → outcomes_in new.told ≡ outcomes_in old.told ++ on.added
+  outcomes-on old new on = ap outcomes_in on.told ∙ outcomes-became old.told on.added
+
+  once-before : (old new : Printing n S) → PrintsOn written faults old new → Once new → Once old
+  once-before old new on once =
+      subst (λ (most : ℕ). TellsOnce most (outcomes_in old.told)) on.rows
+      (once-left new.rows (outcomes_in old.told) on.added (subst (λ (told : List (ℕ × Outcome n)). TellsOnce new.rows told) (outcomes-on old new on) once))
+
+  own-told : (rows : ℕ → Bool) (old new : Printing n S) → Once new → (of : TellsOf (PrintsOn written faults) table_told rows old new) → All (λ one. rows one.0 ≡ true) of.on.added
+  own-told rows old new once of =
+      let whole = outcomes-on old new of.on in
+      told-of new.rows (outcomes_in old.told) of.on.added rows
+      (subst (λ (told : List (ℕ × Outcome n)). TellsOnce new.rows told) whole once)
+      (subst (λ (told : List (ℕ × Outcome n)). (row : ℕ) → HasRow (table new.rows (outcomes_in old.told)) row → rows row ≡ false → outcome_in (table new.rows told) row ≡ outcome_in (table new.rows (outcomes_in old.told)) row) whole
+      (subst (λ (most : ℕ). (row : ℕ) → HasRow (table most (outcomes_in old.told)) row → rows row ≡ false → outcome_in (table_told new) row ≡ outcome_in (table most (outcomes_in old.told)) row) (sym of.on.rows) of.others))
+
+  module _ (raw : RawShape) (seed : ℕ) (events : List (Event n)) (rows : ℕ → ℕ → Bool)
+      (asked : (bank : ℕ) → bank < raw.banks → (row : ℕ) → rows bank row ≡ true → is_asked_of (bank_of_line raw seed) bank (asked_for events) row ≡ true) where
+    -- what was told bank by bank comes so
+    pub come-by-banks : (banks : ℕ) (old new : Printing n S) → banks ≤ raw.banks → Once new → TellsByBanks (PrintsOn written faults) table_told rows banks old new
+        → ToldSo (ComeByBanks raw seed events banks) old.told new.told
+    come-by-banks zero old new few once same = record { outcomes = []; told = sym (ap (λ (p : Printing n S). p.told) same) ∙ sym (append-nil old.told); are = refl }
+    come-by-banks (suc bank) old new few once order =
+        let between = order.0 in
+        let of = order.2 in
+        let earlier = come-by-banks bank old between (omega (arith, few)) (once-before between new of.on once) order.1 in
+        record {
+          outcomes = earlier.outcomes ++ of.on.added;
+          told = told-both old.told between.told new.told earlier.outcomes of.on.added earlier.told of.on.told;
+          are = (
+            earlier.outcomes,
+            of.on.added,
+            refl,
+            earlier.are,
+            All-weaker (λ (one : ℕ × Outcome n). rows bank one.0 ≡ true) (λ (one : ℕ × Outcome n). is_asked_of (bank_of_line raw seed) bank (asked_for events) one.0 ≡ true)
+                (λ one is. asked bank (omega (arith, few)) one.0 is) of.on.added (own-told (rows bank) between new once of),
+          );
+        }
+
+    -- so does what was told of a row that was taken
+    pub come-in-order : (row : ℕ) (old new : Printing n S) → Once new → TellsInOrder (PrintsOn written faults) table_told rows raw.banks row old new
+        → ToldSo (ComeBehind raw seed events row) old.told new.told
+    come-in-order row old new once order =
+        let between = order.0 in
+        let of = order.2 in
+        let banks = come-by-banks raw.banks old between (omega arith) (once-before between new of.on once) order.1 in
+        record {
+          outcomes = banks.outcomes ++ of.on.added;
+          told = told-both old.told between.told new.told banks.outcomes of.on.added banks.told of.on.told;
+          are = (
+            banks.outcomes,
+            of.on.added,
+            refl,
+            banks.are,
+            All-weaker (λ (one : ℕ × Outcome n). (row == one.0) ≡ true) (λ (one : ℕ × Outcome n). one.0 ≡ row)
+                (λ one is. sym (eqb-true row one.0 is)) of.on.added (own-told (λ other. row == other) between new once of),
+          );
+        }
