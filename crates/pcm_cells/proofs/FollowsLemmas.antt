@@ -3,42 +3,6 @@ use Rattle.std.proofs.Common.{◌≡◌, ◌≢◌, ℕ, ◌+◌, ◌-◌, ◌*�
 use Rattle.std.proofs.lemmas.Bool.{cases_eq, cases_lt}
 use Rattle.pcm_cells.specs.Follows.{Follows, FollowsIn}
 
--- no cell yet
-pub followed_none : {X : Type 0} (low : ℕ) (mask : ℕ → Bool) (rule : ℕ → X → X) (old : ℕ → X) → FollowsIn low low mask rule old old
-followed_none low mask rule old = record {
-  inside = λ n from to. absurd (omega arith);
-  below = λ n h. refl;
-  above = λ n h. refl;
-}
-
--- one masked cell more
-pub followed_more : {X : Type 0} (low high : ℕ) (mask : ℕ → Bool) (rule : ℕ → X → X) (old mid new : ℕ → X)
-    → FollowsIn low high mask rule old mid → low ≤ high → mask high ≡ true → new high ≡ rule high (mid high)
-    → ((n : ℕ) → n ≢ high → new n ≡ mid n) → FollowsIn low (high + 1) mask rule old new
-followed_more {X} low high mask rule old mid new so_far from masked here others = record {
-  inside = λ n low_n high_n.
-      elim (cases_eq n high) as (λ _. new n ≡ cond (mask n) (rule n (old n)) (old n)) [
-        | inl same ↦
-            rw (same, masked) (here ∙ ap (rule high) (so_far.above high (omega arith)))
-        | inr apart ↦ others n apart ∙ so_far.inside n low_n (omega arith)
-      ];
-  below = λ n h. others n (omega arith) ∙ so_far.below n h;
-  above = λ n h. others n (omega arith) ∙ so_far.above n (omega arith);
-}
-
--- one cell more that is not masked
-pub followed_skip : {X : Type 0} (low high : ℕ) (mask : ℕ → Bool) (rule : ℕ → X → X) (old new : ℕ → X)
-    → FollowsIn low high mask rule old new → low ≤ high → mask high ≡ false → FollowsIn low (high + 1) mask rule old new
-followed_skip {X} low high mask rule old new so_far from unmasked = record {
-  inside = λ n low_n high_n.
-      elim (cases_eq n high) as (λ _. new n ≡ cond (mask n) (rule n (old n)) (old n)) [
-        | inl same ↦ rw (same, unmasked) (so_far.above high (omega arith))
-        | inr apart ↦ so_far.inside n low_n (omega arith)
-      ];
-  below = so_far.below;
-  above = λ n h. so_far.above n (omega arith);
-}
-
 -- one group more
 pub followed_group : {X : Type 0} (from mid_at to : ℕ) (mask : ℕ → Bool) (rule : ℕ → X → X) (old mid new : ℕ → X)
     → FollowsIn from mid_at mask rule old mid → FollowsIn mid_at to mask rule mid new → from ≤ mid_at → mid_at ≤ to

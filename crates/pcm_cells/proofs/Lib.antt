@@ -6,6 +6,7 @@ pub mod CountLemmas
 pub mod LevelLemmas
 pub mod ScriptedLemmas
 pub mod LifeLemmas
+pub mod WearLemmas
 pub mod SeededLemmas
 pub mod CalmLemmas
 pub mod PageLemmas

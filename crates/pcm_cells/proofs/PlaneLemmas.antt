@@ -1,4 +1,5 @@
 -- Numbers of cells by their binary digits.
+use mir.Val.{bool_byte}
 use Rattle.std.proofs.Common.{◌≡◌, ℕ, ◌+◌, ◌*◌, ◌/◌, ◌%◌, ◌<◌, ◌≤◌, ◌&&◌, Bool, true, false, not, cond, eqb, ltb, refl, sym, ◌∙◌, ap, inl, inr, arith, true≢false}
 use Rattle.std.proofs.lemmas.Bool.{cases_eq, cases_lt, lt-ltb, le-ltb}
 use Rattle.pcm_cells.specs.declared.digits.Digits.{Digits}
@@ -35,7 +36,7 @@ number_not_full false false true e = omega arith
 number_not_full false false false e = omega arith
 
 -- a number as the sum of its digits
-pub number_by_digits : (low middle high : Bool) → cond low 1 0 + 2 * cond middle 1 0 + 4 * cond high 1 0 ≡ number_of low middle high
+pub number_by_digits : (low middle high : Bool) → bool_byte low + 2 * bool_byte middle + 4 * bool_byte high ≡ number_of low middle high
 number_by_digits true true true = refl
 number_by_digits true true false = refl
 number_by_digits true false true = refl
@@ -57,42 +58,6 @@ digit-zeros B M n =
 chosen_number : (t a b c x y z : Bool) → number_of (cond t a x) (cond t b y) (cond t c z) ≡ cond t (number_of a b c) (number_of x y z)
 chosen_number true a b c x y z = refl
 chosen_number false a b c x y z = refl
-
--- one number is set
-pub digit_set : {B M : ℕ} (old new : Digits B M) (number value : ℕ) (a b c : Bool)
-    → ((n : ℕ) → cell new.low n ≡ cond (eqb n number) a (cell old.low n))
-    → ((n : ℕ) → cell new.middle n ≡ cond (eqb n number) b (cell old.middle n))
-    → ((n : ℕ) → cell new.high n ≡ cond (eqb n number) c (cell old.high n))
-    → number_of a b c ≡ value → (n : ℕ) → digit new n ≡ cond (eqb n number) value (digit old n)
-digit_set old new number value a b c low middle high is n =
-    digit-is new n
-    ∙ rw (low n, middle n, high n, digit-is old n, ← is) (chosen_number (eqb n number) a b c (cell old.low n) (cell old.middle n) (cell old.high n))
-
-one_of : (x : ℕ) → x < 2 → cond (eqb x 1) 1 0 ≡ x
-one_of x small =
-    elim (cases_eq x 1) as (λ _. cond (eqb x 1) 1 0 ≡ x) [
-      | inl one ↦ rw one refl
-      | inr none ↦ let zero : x ≡ 0 = omega arith in rw zero refl
-    ]
-
-two_of : (x : ℕ) → x < 2 → cond (eqb x 1) 2 0 ≡ 2 * x
-two_of x small =
-    elim (cases_eq x 1) as (λ _. cond (eqb x 1) 2 0 ≡ 2 * x) [
-      | inl one ↦ rw one refl
-      | inr none ↦ let zero : x ≡ 0 = omega arith in rw zero refl
-    ]
-
-four_of : (x : ℕ) → x < 2 → cond (eqb x 1) 4 0 ≡ 4 * x
-four_of x small =
-    elim (cases_eq x 1) as (λ _. cond (eqb x 1) 4 0 ≡ 4 * x) [
-      | inl one ↦ rw one refl
-      | inr none ↦ let zero : x ≡ 0 = omega arith in rw zero refl
-    ]
-
--- the digits of a number
-pub number_of_digits : (value : ℕ) → value ≤ 7 → number_of (eqb (value % 2) 1) (eqb (value / 2 % 2) 1) (eqb (value / 4 % 2) 1) ≡ value
-number_of_digits value few =
-    omega (arith, one_of (value % 2) (omega arith), two_of (value / 2 % 2) (omega arith), four_of (value / 4 % 2) (omega arith))
 
 -- two numbers compare by their highest digits, and where these agree by what stands below
 below_digit : (unit m n : ℕ) (a b : Bool) → m < unit → n < unit → ltb (m + cond a unit 0) (n + cond b unit 0) ≡ cond (xor a b) b (ltb m n)

@@ -1,11 +1,11 @@
 -- A line whose life isn't drawn yet, seen as if it were.
-use Rattle.std.specs.Prelude.{ℕ, zero, suc, ◌≡◌, ◌≢◌, ◌+◌, ◌*◌, ◌^◌, ◌<◌, ◌≤◌, Bool, cond, List, length, map, bit_xor, slice_index, slice_index_or}
+use Rattle.std.specs.Prelude.{ℕ, zero, suc, ◌≡◌, ◌≢◌, ◌+◌, ◌-◌, ◌*◌, ◌^◌, ◌<◌, ◌≤◌, Bool, cond, List, length, map, Option, None, Some, bit_xor, slice_index, slice_index_or}
 use Rattle.std.specs.List.{range_with_len, sum_by}
 use Rattle.cell_rows.specs.declared.array.Wear.{Wear}
 use Rattle.cell_rows.specs.declared.row.Cells.{Cells}
 use Rattle.pcm_cells.specs.declared.digits.Digits.{Digits}
 use Rattle.pcm_cells.specs.Planes.{bit_in, blank_planes}
-use Rattle.pcm_cells.specs.Seeded.{LifeLine, seeded_cell, endurance, miss_limit, stuck_value}
+use Rattle.pcm_cells.specs.Seeded.{LifeLine, SeededArray, seeded_cell, seeded_line, endurance, miss_limit, stuck_value}
 use Rattle.seeded_words.specs.Words.{xoshiro_of, word_at}
 
 -- the number of so many bits from one on, the first of them lowest
@@ -41,6 +41,18 @@ drawn_line B M wear line = record {
   limits = digits_of B M (λ n. miss_limit wear (word_of wear line n));
   ends = row_of B M (λ n. stuck_value (word_of wear line n));
 }
+
+-- how often a cell of the line changed: of the changes that its word lets it live through, those that it no longer has left
+abbrev pub changes_of : {B M : ℕ} → Wear → ℕ → LifeLine B M → ℕ → ℕ
+changes_of wear line row n = endurance wear (word_of wear line n) - slice_index row.left n
+
+-- the same of each cell of a line of an array that was powered up
+abbrev pub changes_with : {B M : ℕ} → Option Wear → ℕ → LifeLine B M → Option (ℕ → ℕ)
+changes_with None line row = None
+changes_with (Some wear) line row = Some (changes_of wear line row)
+
+abbrev pub seeded_changes : {B M : ℕ} → SeededArray B M → ℕ → Option (ℕ → ℕ)
+seeded_changes array line = changes_with array.wear line (seeded_line array line)
 
 -- two lines that hold the same, and each cell of which has the same life
 pub record HaveSameLife {B M : ℕ} (a b : LifeLine B M) : Type 0 where

@@ -25,6 +25,14 @@ fn read_counts(rows: &[[u32; 8]], block: usize) -> &[u32; 64]
     counts
 }
 
+// A number of the rows.
+fn count_at(rows: &[[u32; 8]], number: usize) -> u32
+    requires { number < 8 * length rows.now }
+    ensures { result ≡ count_in rows.now number }
+{
+    rows[number / 8][number % 8]
+}
+
 fn write_counts(rows: &mut [[u32; 8]], block: usize, counts: &[u32; 64])
     requires { 8 * block + 8 ≤ length rows.old }
     ensures here { (i : ℕ) → i < 64 → count_in rows.new (64 * block + i) ≡ slice_index counts.now i }
@@ -64,6 +72,19 @@ impl<const B: usize, const M: usize> Counts<B, M> {
             self.bits[group] = *row;
         } else {
             self.meta[group - B] = *row;
+        }
+    }
+
+    // The number of a cell.
+    pub(crate) fn get(&self, number: u16) -> u32
+        requires { number < 8 * (B + M) }
+        ensures { result ≡ count self.now number }
+    {
+        let index = number as usize;
+        if index / 8 < B {
+            count_at(&self.bits, index)
+        } else {
+            count_at(&self.meta, index - 8 * B)
         }
     }
 

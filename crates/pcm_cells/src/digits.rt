@@ -37,6 +37,17 @@ impl<const B: usize, const M: usize> Digits<B, M> {
         self.high.set_group(group, byte_at(planes, 2));
     }
 
+    // The number of a cell.
+    pub(crate) fn get(&self, number: u16) -> u32
+        requires { number < 8 * (B + M) }
+        ensures { result ≡ digit self.now number }
+    {
+        let low = self.low.get(number) as u32;
+        let middle = self.middle.get(number) as u32;
+        let high = self.high.get(number) as u32;
+        low + 2 * middle + 4 * high
+    }
+
     // As a mask over a block: the cells whose number is below their limit.
     pub(crate) fn below(&self, limits: &Digits<B, M>, block: usize) -> u64
         requires whole { IsWhole B M }

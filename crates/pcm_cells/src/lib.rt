@@ -14,6 +14,7 @@ mod script;
 mod seeded;
 
 pub use cell_rows::{CellArray, Cells, Sense, Wear};
+pub use cell_wear::{CellWear, TellsCells};
 pub use line::CellState;
 pub use logged::LoggedArray;
 pub use script::{Act, Script, ScriptArray};

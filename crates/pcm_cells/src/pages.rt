@@ -1,6 +1,7 @@
 // Lines that are kept from their first pulse on.
-ghost use Rattle.std.specs.Prelude.{◌≡◌, ◌≢◌, ℕ, ◌+◌, ◌<◌, length, slice_index, vec_capacity, IfOk, replicate};
-ghost use Rattle.cell_rows.specs.Rows.{cell};
+ghost use Rattle.std.specs.Prelude.{◌≡◌, ◌≢◌, ℕ, ◌+◌, ◌*◌, ◌<◌, length, slice_index, vec_capacity, IfOk, replicate};
+ghost use Rattle.cell_rows.specs.Rows.{cell, members};
+ghost use Rattle.cell_wear.specs.Told.{most};
 ghost use Rattle.cell_rows.specs.Shape.{IsShape, IsWhole};
 ghost use Rattle.cell_rows.specs.Device.{IsWear, counted};
 ghost use Rattle.pcm_cells.specs.Follows.{Follows};
@@ -9,6 +10,7 @@ ghost use Rattle.pcm_cells.specs.Pages.{IsPaging};
 
 use crate::seeded::SeededLine;
 use cell_rows::{Cells, Wear};
+use cell_wear::CellWear;
 use std::alloc::{AllocError, Global};
 
 /// The lines of an array, each with a page from its first pulse or tear on. A line without a page is as its
@@ -25,7 +27,7 @@ pub(crate) struct Pages<const B: usize, const M: usize> {
 }
 
 impl<const B: usize, const M: usize> Pages<B, M> {
-    ghost use Rattle.pcm_cells.specs.Pages.{HaveSameLife};
+    ghost use Rattle.pcm_cells.specs.Pages.{HaveSameLife, changes_of};
     ghost use Rattle.pcm_cells.specs.Paging.{seen};
 
     /// Lines without a page, and room for the pages of all.
@@ -69,6 +71,26 @@ impl<const B: usize, const M: usize> Pages<B, M> {
         match self.table[line as usize] {
             0 => 0,
             page => self.pages[page as usize - 1].pulses(),
+        }
+    }
+
+    /// How the cells of the line are worn. The words of a line with a page are drawn again.
+    pub(crate) fn cell_wear(&self, line: u32) -> CellWear
+        requires exists { line < length self.now.table.items }
+        requires shape { IsShape B M }
+        ensures stuck { result.stuck ≡ members (cell (seen self.now line).line.stuck) (8 * (B + M)) }
+        ensures changes { result.changes
+            ≡ most (changes_of self.now.wear line (seen self.now line)) (8 * (B + M)) }
+    {
+        match self.table[line as usize] {
+            0 => CellWear {
+                stuck: 0,
+                changes: 0,
+            },
+            page => {
+                let drawn = SeededLine::drawn(self.wear, line);
+                self.pages[page as usize - 1].cell_wear(&drawn)
+            }
         }
     }
 

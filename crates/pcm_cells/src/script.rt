@@ -4,6 +4,7 @@ ghost use Rattle.std.specs.Prelude.{◌≡◌, ◌≢◌, ℕ, ◌+◌, ◌*◌,
 use crate::CellState;
 use crate::line::{Line, has_end};
 use cell_rows::{CellArray, Cells, Wear};
+use cell_wear::{CellWear, TellsCells};
 use std::alloc::{AllocError, Global};
 use std::marker::Model;
 
@@ -337,5 +338,22 @@ impl<const B: usize, const M: usize> CellArray<B, M> for ScriptArray<B, M> {
             unreachable!()
         };
         lines[line as usize].line.pulses()
+    }
+}
+
+impl<const B: usize, const M: usize> TellsCells<B, M> for ScriptArray<B, M> {
+    ghost use Rattle.std.specs.Prelude.{None};
+
+    ghost changes = { λ array line. None };
+
+    fn held(&self, line: u32) -> Cells<B, M> {
+        let Some(lines) = &self.lines else {
+            unreachable!()
+        };
+        lines[line as usize].line.held()
+    }
+
+    fn cell_wear(&self, line: u32) -> Option<CellWear> {
+        None
     }
 }

@@ -1,5 +1,5 @@
 // The array whose cells wear out as a seed says.
-ghost use Rattle.std.specs.Prelude.{◌≡◌, ◌≢◌, ℕ, ◌+◌, ◌-◌, ◌*◌, ◌%◌, ◌<◌, ◌≤◌, true, false, length, OnOk, OnErr, slice_index};
+ghost use Rattle.std.specs.Prelude.{◌≡◌, ◌≢◌, ℕ, ◌+◌, ◌-◌, ◌*◌, ◌%◌, ◌<◌, ◌≤◌, max, true, false, length, OnOk, OnErr, slice_index};
 
 use crate::CellState;
 use crate::blocks::{are_many, byte_at, chosen, life, reached, spend, with_life, without};
@@ -9,6 +9,7 @@ use crate::digits::Digits;
 use crate::line::has_end;
 use crate::pages::Pages;
 use cell_rows::{CellArray, Cells, Wear};
+use cell_wear::{CellWear, TellsCells};
 use rand_core::{Rng, SeedableRng};
 use rand_xoshiro::Xoshiro256PlusPlus;
 use std::alloc::{AllocError, Global};
@@ -47,6 +48,12 @@ fn miss_limit(wear: Wear, word: u64) -> u8
     ((word >> 32) % 8).min(wear.misses as u64) as u8
 }
 
+fn greater(one: u32, other: u32) -> u32
+    ensures { result ≡ max one other }
+{
+    one.max(other)
+}
+
 /// The cells of one line, and the life of each.
 #[derive(Drop)]
 pub(crate) struct SeededLine<const B: usize, const M: usize> {
@@ -80,7 +87,8 @@ impl<const B: usize, const M: usize> Model for SeededLine<B, M> {
     ghost invariant = { λ l. IsShape B M × IsCalm l.calm l.stuck (count l.left) };
 }
 
-ghost use Rattle.cell_rows.specs.Rows.{cell};
+ghost use Rattle.cell_rows.specs.Rows.{cell, members};
+ghost use Rattle.cell_wear.specs.Told.{most};
 ghost use Rattle.cell_rows.specs.Shape.{IsShape, IsWhole};
 ghost use Rattle.cell_rows.specs.Device.{counted};
 ghost use Rattle.pcm_cells.specs.Follows.{Follows, FollowsIn};
@@ -318,6 +326,32 @@ impl<const B: usize, const M: usize> SeededLine<B, M> {
     {
         self.pulses
     }
+
+    // The changes that a cell has left.
+    fn left_at(&self, number: u16) -> u32
+        requires { number < 8 * (B + M) }
+        ensures { result ≡ slice_index self.now.left number }
+    {
+        self.left.get(number).saturating_sub(self.spent.get(number))
+    }
+
+    // How its cells are worn, by the same line before its first pulse.
+    pub(crate) fn cell_wear(&self, drawn: &SeededLine<B, M>) -> CellWear
+        requires { IsShape B M }
+        ensures stuck { result.stuck ≡ members (cell self.now.line.stuck) (8 * (B + M)) }
+        ensures changes { result.changes
+            ≡ most (λ n. slice_index drawn.now.left n - slice_index self.now.left n) (8 * (B + M)) }
+    {
+        let mut changes = 0;
+        for number in 0..8 * (B + M) as u16 {
+            let left = self.left_at(number);
+            changes = greater(changes, drawn.left_at(number).saturating_sub(left));
+        }
+        CellWear {
+            stuck: self.stuck.count(),
+            changes,
+        }
+    }
 }
 
 ghost use Rattle.std.specs.Prelude.{[]};
@@ -333,21 +367,20 @@ ghost use Rattle.pcm_cells.specs.Seeded.{bounds_of, seeded_line, seeded_state, W
 pub struct MemArray<const B: usize, const M: usize> {
     lines: Option<Pages<B, M>>,
     tears: u64,
-    wear: Option<Wear>,
 }
 
 impl<const B: usize, const M: usize> Model for MemArray<B, M> {
     ghost use Rattle.pcm_cells.specs.Endurance.{AreBounded, IsInRange};
-    ghost use Rattle.pcm_cells.specs.Paging.{seeded_lines};
+    ghost use Rattle.pcm_cells.specs.Paging.{seeded_lines, seeded_wear};
     ghost use Rattle.pcm_cells.specs.Seeded.{SeededArray, bounds_of};
     ghost use Rattle.cell_rows.specs.Shape.{IsShape, IsWhole};
 
     ghost Value = { SeededArray B M };
 
-    ghost view = { λ a. record { lines = seeded_lines a.lines; tears = a.tears; wear = a.wear } };
+    ghost view = { λ a. record { lines = seeded_lines a.lines; tears = a.tears; wear = seeded_wear a.lines } };
 
-    ghost invariant = { λ a. IsShape B M × IsWhole B M × IsInRange (bounds_of a.wear)
-        × AreBounded (bounds_of a.wear) (seeded_lines a.lines) };
+    ghost invariant = { λ a. IsShape B M × IsWhole B M × IsInRange (bounds_of (seeded_wear a.lines))
+        × AreBounded (bounds_of (seeded_wear a.lines)) (seeded_lines a.lines) };
 }
 
 impl<const B: usize, const M: usize> MemArray<B, M> {
@@ -362,7 +395,6 @@ impl<const B: usize, const M: usize> MemArray<B, M> {
         MemArray {
             lines: None,
             tears: 0,
-            wear: None,
         }
     }
 
@@ -400,7 +432,6 @@ impl<const B: usize, const M: usize> CellArray<B, M> for MemArray<B, M> {
     {
         self.lines = None;
         self.tears = 0;
-        self.wear = Some(wear);
         self.lines = Some(Pages::blank(alloc, lines, wear)?);
         Ok(())
     }
@@ -458,5 +489,26 @@ impl<const B: usize, const M: usize> CellArray<B, M> for MemArray<B, M> {
             unreachable!()
         };
         lines.pulses(line)
+    }
+}
+
+impl<const B: usize, const M: usize> TellsCells<B, M> for MemArray<B, M> {
+    ghost use Rattle.pcm_cells.specs.Pages.{seeded_changes};
+
+    ghost changes = { seeded_changes };
+
+    fn held(&self, line: u32) -> Cells<B, M> {
+        let Some(lines) = &self.lines else {
+            unreachable!()
+        };
+        lines.held(line)
+    }
+
+    // The words of the line are drawn again, which say how many changes each cell had at first.
+    fn cell_wear(&self, line: u32) -> Option<CellWear> {
+        let Some(lines) = &self.lines else {
+            unreachable!()
+        };
+        Some(lines.cell_wear(line))
     }
 }

@@ -1,6 +1,7 @@
-use Rattle.std.proofs.Common.{◌≡◌, ◌≤◌, ◌∙◌, rules, sym, subst, ap, arith, length, refl}
+use Rattle.std.proofs.Common.{◌≡◌, ◌≤◌, ◌∙◌, rules, sym, subst, ap, arith, length, refl, Option, Some}
+use Rattle.cell_rows.specs.declared.array.Wear.{Wear}
 use Rattle.pcm_cells.specs.Seeded.{SeededArray, bounds_of}
-use Rattle.pcm_cells.specs.Paging.{seeded_lines, lines_seen}
+use Rattle.pcm_cells.specs.Paging.{seeded_lines, seeded_wear, lines_seen}
 use Rattle.pcm_cells.specs.Endurance.{AreBounded, IsInRange}
 use Rattle.pcm_cells.proofs.EnduranceLemmas.{bounded_kept}
 use Rattle.pcm_cells.proofs.PagingLemmas.{lines_size, wears_lines}
@@ -38,7 +39,7 @@ returns-clause-bounded g c =
     let range : IsInRange bounds = subst (λ (a : SeededArray g.row.B g.row.M). IsInRange (bounds_of a.wear)) c.self.view_is c.self.invariant.2 in
     let here : AreBounded bounds c.args.self.now.lines = subst (λ (a : SeededArray g.row.B g.row.M). AreBounded (bounds_of a.wear) a.lines) c.self.view_is c.self.invariant.3 in
     let before : c.args.self.now.lines ≡ lines_seen old = ap (λ a. a.lines) (sym c.self.view_is) ∙ ap seeded_lines c.in-Some.is in
-    let new : SeededArray g.row.B g.row.M = record { lines = lines_seen c.wear.new.self; tears = c.self.inside.tears; wear = c.self.inside.wear } in
+    let new : SeededArray g.row.B g.row.M = record { lines = lines_seen c.wear.new.self; tears = c.self.inside.tears; wear = Some old.wear } in
     bounded_kept bounds c.args.line c.args.tearing c.args.mask.now c.args.want.now c.args.self.now new range.endures
     (wears_lines c.args.line c.args.tearing c.args.mask.now c.args.want.now old c.wear.new.self c.args.self.now new before refl
     (omega (arith, c.requires.exists, ap length before, lines_size old))
@@ -48,16 +49,22 @@ returns-clause-bounded g c =
 pub invariant_of-self : goal.invariant_of-self
 invariant_of-self g c =
     let old = c.in-Some.lines in
-    let bounds = bounds_of c.self.inside.wear in
+    let bounds = bounds_of (seeded_wear c.self.inside.lines) in
+    let wear : seeded_wear c.self.inside.lines ≡ Some c.wear.new.self.wear = ap seeded_wear c.in-Some.is ∙ ap Some (sym c.wear.ensures.wear) in
     let lines : seeded_lines c.self.inside.lines ≡ c.args.self.now.lines = ap (λ a. a.lines) c.self.view_is in
     let before : c.args.self.now.lines ≡ lines_seen old = sym lines ∙ ap seeded_lines c.in-Some.is in
-    let new : SeededArray g.row.B g.row.M = record { lines = lines_seen c.wear.new.self; tears = c.self.inside.tears; wear = c.self.inside.wear } in (
+    let new : SeededArray g.row.B g.row.M = record { lines = lines_seen c.wear.new.self; tears = c.self.inside.tears; wear = Some old.wear } in (
       c.self.invariant.0,
       c.self.invariant.1,
-      c.self.invariant.2,
-      bounded_kept bounds c.args.line c.args.tearing c.args.mask.now c.args.want.now c.args.self.now new c.self.invariant.2.endures
+      subst (λ (w : Option Wear). IsInRange (bounds_of w)) wear c.self.invariant.2,
+      subst (λ (w : Option Wear). AreBounded (bounds_of w) new.lines) wear
+          (bounded_kept bounds c.args.line c.args.tearing c.args.mask.now c.args.want.now c.args.self.now new c.self.invariant.2.endures
           (wears_lines c.args.line c.args.tearing c.args.mask.now c.args.want.now old c.wear.new.self c.args.self.now new before refl
           (omega (arith, c.requires.exists, ap length before, lines_size old))
           c.wear.ensures.cells c.wear.ensures.pulses c.wear.ensures.others c.wear.ensures.lines)
-          (subst (AreBounded bounds) lines c.self.invariant.3),
+          (subst (AreBounded bounds) lines c.self.invariant.3)),
     )
+
+pub returns-clause-wear : goal.returns-clause-wear
+returns-clause-wear g c =
+    ap Some c.wear.ensures.wear ∙ sym (ap seeded_wear c.in-Some.is) ∙ ap (λ (a : SeededArray g.row.B g.row.M). a.wear) c.self.view_is

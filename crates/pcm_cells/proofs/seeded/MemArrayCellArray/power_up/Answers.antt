@@ -1,4 +1,6 @@
-use Rattle.std.proofs.Common.{arith, ℕ, ◌∙◌, refl, ap, length, Some}
+use Rattle.std.proofs.Common.{◌≤◌, arith, ℕ, ◌∙◌, refl, sym, ap, subst, length, Some, None}
+use Rattle.cell_rows.specs.declared.array.Wear.{Wear}
+use Rattle.pcm_cells.specs.Endurance.{IsInRange}
 use Rattle.std.proofs.lemmas.List.{length-replicate}
 use Rattle.pcm_cells.specs.Paging.{lines_seen}
 use Rattle.pcm_cells.specs.Seeded.{bounds_of}
@@ -12,11 +14,11 @@ returns-clause-ok g c =
     let new = c.in_ok-blank.field-0 in
     record {
       count = lines_size new ∙ ap length c.in_ok-blank.ensures.table ∙ length-replicate c.args.lines 0;
-      blank = λ l h. drawn_is_blank c.args.wear l _ (blank_drawn new c.args.lines c.args.wear c.in_ok-blank.ensures.table c.in_ok-blank.ensures.wear l h);
+      blank = λ l h. drawn_is_blank new.wear l _ (blank_drawn new c.args.lines new.wear c.in_ok-blank.ensures.table refl l h);
       tears = refl;
       log = λ senses told. cc;
-      wear = refl;
-      few = c.requires.wear.3;
+      wear = ap Some c.in_ok-blank.ensures.wear;
+      few = subst (λ (w : Wear). w.misses ≤ 7) (sym c.in_ok-blank.ensures.wear) c.requires.wear.3;
     }
 
 pub returns-clause-drawn : goal.returns-clause-drawn
@@ -26,8 +28,8 @@ pub invariant_of-self : goal.invariant_of-self
 invariant_of-self g c = (
   c.self.invariant.0,
   c.self.invariant.1,
-  record { endures = omega arith; misses = c.requires.wear.3 },
-  bounded_none g.row.B g.row.M (bounds_of (Some c.args.wear)),
+  record { endures = omega arith; misses = omega arith },
+  bounded_none g.row.B g.row.M (bounds_of None),
 )
 
 pub invariant_of-self-2 : goal.invariant_of-self-2
@@ -35,9 +37,9 @@ invariant_of-self-2 g c =
     let new = c.in_ok-blank.field-0 in (
       c.self.invariant.0,
       c.self.invariant.1,
-      record { endures = omega arith; misses = c.requires.wear.3 },
-      bounded_new c.args.wear (lines_seen new)
+      subst (λ (w : Wear). IsInRange (bounds_of (Some w))) (sym c.in_ok-blank.ensures.wear) (record { endures = omega arith; misses = c.requires.wear.3 }),
+      bounded_new new.wear (lines_seen new)
           (λ l h.
-          blank_drawn new c.args.lines c.args.wear c.in_ok-blank.ensures.table c.in_ok-blank.ensures.wear l
+          blank_drawn new c.args.lines new.wear c.in_ok-blank.ensures.table refl l
           (omega (arith, h, lines_size new, ap length c.in_ok-blank.ensures.table, length-replicate {A = ℕ} c.args.lines 0))),
     )

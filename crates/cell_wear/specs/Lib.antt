@@ -1,0 +1,2 @@
+-- What the contracts of an array that tells of its cells cite.
+pub mod Told

@@ -1,0 +1,2 @@
+-- The bytes of the report on array lines.
+pub mod LinesText
