@@ -1,163 +1,247 @@
 -- What a stream that ended is, and what its call promises.
-use Rattle.std.proofs.Common.{◌≡◌, ◌≢◌, ◌⊎◌, inl, inr, ℕ, ◌≤◌, ◌++◌, Bool, false, List, length, Some, refl, sym, ap, ◌∙◌, subst, arith}
-use Rattle.std.specs.Prelude.{Result, Ok, Err, IfOk, IfErr}
+use Rattle.std.proofs.Common.{◌≡◌, ◌≢◌, ◌⊎◌, inl, inr, ℕ, ◌*◌, ◌^◌, ◌<◌, ◌≤◌, ◌++◌, Bool, List, [], Option, Some, refl, sym, ap, ◌∙◌, subst, arith}
+use Rattle.std.specs.Prelude.{Result, Ok, Err}
 use Rattle.std.specs.Io.KnownBytes.{Appends}
-use Rattle.pcm_io.specs.Faults.{Rose}
 use Rattle.pcm_io.specs.Giving.{AppendsPrefix}
 use Rattle.pcm_io.proofs.ByteLemmas.{Appends-Appends, Appends-AppendsPrefix, AppendsPrefix-longer}
+use Rattle.wear_report.specs.WearText.{wear_text}
+use Rattle.lines_report.specs.declared.row.LineCells.{LineCells}
+use Rattle.lines_report.specs.LinesText.{lines_text}
 use Rattle.module_shape.specs.declared.raw.RawShape.{RawShape}
+use Rattle.module_shape.specs.Limits.{IsShape}
+use Rattle.module_shape.specs.Addresses.{array_lines_of, module_of}
 use Rattle.end_laws.specs.Ends.{BankEnd}
-use Rattle.pcm_module.specs.Roles.{spares_used}
 use Rattle.run_text.specs.Counting.{counts_of}
 use Rattle.run_text.specs.Pulses.{pulses_in_all}
+use Rattle.run_text.specs.SummaryText.{summary_text}
 use Rattle.run_text.specs.declared.counts.Counts.{Counts}
 use Rattle.cell_rows.specs.Device.{ArrayState}
-use Rattle.pcm_module.specs.State.{AreEndsOf, ModuleState}
+use Rattle.pcm_image.specs.Saved.{Saved}
+use Rattle.pcm_image.specs.Spelling.{image_bytes}
+use Rattle.image_laws.specs.Saving.{first_rows, saved_of}
+use Rattle.image_text.specs.Sensing.{SensesRows}
+use Rattle.image_text.proofs.Sensing.{senses-none}
+use Rattle.pcm_module.specs.Roles.{spares_used}
+use Rattle.pcm_module.specs.State.{ModuleState}
+use Rattle.module_prints.specs.Images.{WritesRows, kept_in}
+use Rattle.module_prints.specs.WearReports.{HaveRoles, IsWearReport, cells_at}
+use Rattle.module_prints.proofs.Wearing.{worn-goes_on, worn-none}
+use Rattle.program_calls.specs.Calls.{GetsPart, IsUntouched, Lent, SinkChange, SinkFails}
 use Rattle.row_printer.specs.Printing.{stream_text, table_of}
 use Rattle.row_printer.specs.Telling.{outcomes_in, TellsOnce}
 use Rattle.row_printer.specs.declared.told.Told.{Told}
-use Rattle.row_stream.specs.Asking.{events_in, stays_off, with_cut}
+use Rattle.row_stream.specs.Asking.{stays_off, with_cut}
 use Rattle.row_stream.specs.Laws.{EachToldLaw}
 use Rattle.row_stream.specs.Serving.{IsServing}
 use Rattle.stream_words.specs.declared.job.StreamJob.{StreamJob}
+use Rattle.stream_words.specs.declared.job.StreamPrint.{StreamPrint}
+use Rattle.stream_words.specs.declared.job.StreamPrint.TheVariants.{Rows, Summary, Wear, Lines, Image}
 use Rattle.trace_stream.specs.declared.asked.Asked.{Asked}
-use Rattle.stream_top.specs.Calls.{Gets, GetsPart, LentSink, LentSource, SinkFails}
+use Rattle.stream_top.specs.Calls.{LentSource}
 use Rattle.stream_top.specs.FaultLines.{fault_line, status_of}
-use Rattle.stream_top.specs.Streams.{BreaksOff, Ends, HasPlayed, IsServed, IsServedInPart, StopsBy, closing, done_by, is_off, is_source, prints_rows, status_done, text_of}
+use Rattle.stream_top.specs.Leaving.{IsClosing, Leaves, LeavesLaw, senses_for}
+use Rattle.stream_top.proofs.EndText.{PrintsOf}
+use Rattle.stream_top.specs.Streams.{BreaksOff, Closes, HasPlayed, IsServed, IsServedInPart, StopsBy, Streams, StreamsUpTo, done_by, is_off, prints_rows, rows_told, status_done}
+use Rattle.command_line.specs.declared.job.LineSize.{LineSize}
+use Rattle.command_line.specs.declared.job.LineSize.TheVariants.{Bytes64, Bytes128}
 use Rattle.command_line.specs.declared.job.Refusal.{Refusal}
-use Rattle.stream_top.specs.Promises.{Call, EndsCall, IsAsleep, IsRefused, IsStatusOf, KeepsPromises, Stops}
+use Rattle.stream_top.specs.Promises.{Breaks, Call, EndsCall, IsAsleep, IsRefused, IsStatusOf, IsUnread, KeepsPromises, OthersOn, OthersUntouched, Stops}
 use Rattle.stream_top.specs.declared.done.Done.{Done}
 use Rattle.stream_top.specs.declared.done.Done.TheVariants.{Whole, Short}
 use Rattle.stream_top.specs.declared.fault.Fault.{Fault}
 use Rattle.stream_top.specs.declared.fault.Fault.TheVariants.{Usage, Trace, Read, Write, TooLong, NoMemory}
 
-module _ {S K : Type 0} (n m e : ℕ) (job : StreamJob) (source : LentSource S) (out : LentSink K) (array : ArrayState n m) (module_ : ModuleState n m e) (places : ℕ) (told : List (Told n))
-    (once : TellsOnce places (outcomes_in told)) where
-  served-of : EachToldLaw → array.wear ≡ Some job.wear → (asked : List (Asked n)) → HasPlayed n m e job source asked module_ array places told → IsServed n m e job source array told
-  served-of law wear asked played = record {
-    asked = asked;
-    come = played.0;
-    places = places;
-    module_ = module_;
-    ended = played.1;
-    once = once;
-    each = law n m e job.shape job.seed (stays_off (is_off job.end) asked) (with_cut (is_off job.end) asked) module_ array places told once played.1;
-    wear = wear;
-  }
+-- ---- what is written in the end
 
-  part-of : (asked : List (Asked n)) → IsServing job.shape job.seed asked module_ array places told → IsServedInPart n m e job source asked told
+module _ {n m : ℕ} (raw : RawShape) (seed rows places : ℕ) (counts all : Counts) (ends : ℕ → BankEnd) (before array : ArrayState n m) (cells cells_now : ℕ → LineCells) (saved : Saved n m) where
+  -- it is what is written of the array as it is now
+  closing-now : (print : StreamPrint) (text : List ℕ) → rows ≡ places → counts ≡ all → (print ≢ Image → array ≡ before) → (print ≢ Image → cells_now ≡ cells)
+      → IsClosing raw seed rows counts ends before cells saved print text → IsClosing raw seed places all ends array cells_now saved print text
+  closing-now Rows text same counted still told is = is
+  closing-now Summary text same counted still told is =
+      let stood : array ≡ before = still (λ p. cc p) in
+      rw (← same, ← counted, stood) is
+  closing-now Wear text same counted still told is =
+      let stood : array ≡ before = still (λ p. cc p) in
+      (is.0, subst (λ (a : ArrayState n m). IsWearReport raw seed ends a is.0) (sym stood) is.1, is.2)
+  closing-now Lines text same counted still told is =
+      let stood : array ≡ before = still (λ p. cc p) in
+      let alike : cells_now ≡ cells = told (λ p. cc p) in
+      (is.0, subst (λ (a : ArrayState n m). IsWearReport raw seed ends a is.0) (sym stood) is.1, is.2 ∙ ap (λ (w : ℕ → LineCells). lines_text w is.0) (sym alike))
+  closing-now Image text same counted still told is = is
+
+-- there is such a text, whatever is asked for
+some-closing : {n m : ℕ} (raw : RawShape) (seed rows : ℕ) (counts : Counts) (ends : ℕ → BankEnd) (array : ArrayState n m) (cells : ℕ → LineCells) (saved : Saved n m) (print : StreamPrint)
+    → IsShape raw → HaveRoles raw seed ends → array.lines ≡ raw.banks * array_lines_of (module_of raw) → (text : List ℕ) × IsClosing raw seed rows counts ends array cells saved print text
+some-closing raw seed rows counts ends array cells saved Rows is roles size = ([], refl)
+some-closing raw seed rows counts ends array cells saved Summary is roles size = (summary_text rows counts (spares_used raw ends) (pulses_in_all array), refl)
+some-closing raw seed rows counts ends array cells saved Wear is roles size =
+    let report = worn-goes_on raw seed ends array is roles 0 [] size (omega arith) (worn-none raw seed ends array) in
+    (wear_text ([] ++ report.0), ([] ++ report.0, report.1, refl))
+some-closing raw seed rows counts ends array cells saved Lines is roles size =
+    let report = worn-goes_on raw seed ends array is roles 0 [] size (omega arith) (worn-none raw seed ends array) in
+    (lines_text cells ([] ++ report.0), ([] ++ report.0, report.1, refl))
+some-closing raw seed rows counts ends array cells saved Image is roles size = (image_bytes saved, refl)
+
+-- before an image nothing is printed
+nothing-before : {n : ℕ} (print : StreamPrint) (told : List (Told n)) → print ≡ Image → stream_text (prints_rows print) told ≡ []
+nothing-before Rows told is = absurd (cc is)
+nothing-before Summary told is = absurd (cc is)
+nothing-before Wear told is = absurd (cc is)
+nothing-before Lines told is = absurd (cc is)
+nothing-before Image told is = refl
+
+module _ {S : Type 0} (n m e : ℕ) (job : StreamJob) (source : LentSource S) (module_ : ModuleState n m e) (before : ArrayState n m) (places : ℕ) (told : List (Told n))
+    (once : TellsOnce places (outcomes_in told)) where
+  part-of : (asked : List (Asked n)) → IsServing job.shape job.seed asked module_ before places told → IsServedInPart n m e job source asked told
   part-of asked serving = record {
     history = serving.history;
     along = serving.along;
     once = subst (λ (k : ℕ). TellsOnce k (outcomes_in told)) serving.counted once;
   }
 
-  -- a sink that had received what was printed, and then what is written in the end
-  module _ (law : EachToldLaw) (wear : array.wear ≡ Some job.wear) (mid : K) (prints : Bool) (same : prints ≡ prints_rows job.print) (counts : Counts) (counted : counts ≡ counts_of (table_of places told)) (rows : ℕ) (all_rows : rows ≡ places)
-      (falls : out.faults out.before ≤ out.faults mid) where
-    abbrev told_text : List ℕ
-    told_text = stream_text prints told
+  -- a stream that stopped at a fault
+  pub stream-stops : (out : SinkChange) (fault : Fault) (asked : List (Asked n)) → IsServing job.shape job.seed asked module_ before places told → StopsBy n m e job source job.input fault asked
+      → (prints : Bool) → prints ≡ prints_rows job.print → Appends out.written_before out.written_now (stream_text prints told) → StreamsUpTo n m e job source out fault
+  stream-stops out fault asked serving stops prints same gets = record {
+    asked = asked;
+    told = told;
+    served = part-of asked serving;
+    cause = stops;
+    written = subst (λ (p : Bool). Appends out.written_before out.written_now (stream_text p told)) same gets;
+  }
 
-    abbrev closed : ℕ → List ℕ
-    closed retired = closing job.print rows counts retired (pulses_in_all array)
+  module _ (array : ArrayState n m) (changes changes_now : ℕ → Option (ℕ → ℕ)) (stand : job.print ≢ Image → changes_now ≡ changes) (each : EachToldLaw) (law : LeavesLaw) (shape : IsShape job.shape) (low : job.seed < 2 ^ 64) (wear : array.wear ≡ Some job.wear)
+      (still : job.print ≢ Image → array ≡ before) (sensed : ℕ) (since : SensesRows sensed before array) (asked : List (Asked n)) (played : HasPlayed n m e job source asked module_ before places told) where
+    abbrev kept : Leaves (stays_off (is_off job.end) asked) e job.shape job.seed (rows_told n m e job source asked places told) played.1.ends sensed before array (saved_of job.shape job.seed (kept_in module_) before)
+        × HaveRoles job.shape job.seed played.1.ends
+    kept = law n m e job.shape job.seed (stays_off (is_off job.end) asked) (with_cut (is_off job.end) asked) module_ before array places told sensed shape low since played.1
 
-    abbrev IsRetired : ℕ → Type 0
-    IsRetired retired = (ends : ℕ → BankEnd) → AreEndsOf module_ ends → retired ≡ spares_used module_.shape ends
-
-    -- the text of a stream that was served, by its parts
-    text-is : (asked : List (Asked n)) (played : HasPlayed n m e job source asked module_ array places told) (retired : ℕ) → retired ≡ spares_used module_.shape played.1.ends
-        → told_text ++ closed retired ≡ text_of n m e job source array told (served-of law wear asked played)
-    unfolding served-of
-    text-is asked played retired used =
-        let spares : retired ≡ spares_used job.shape played.1.ends = used ∙ ap (λ (r : RawShape). spares_used r played.1.ends) played.1.shape in
-        rw (same, counted, spares, all_rows) refl
-
-    whole-breaks : (asked : List (Asked n)) (played : HasPlayed n m e job source asked module_ array places told) (retired : ℕ) → retired ≡ spares_used module_.shape played.1.ends
-        → GetsPart out (told_text ++ closed retired) → SinkFails out → BreaksOff n m e job source out array
-    whole-breaks asked played retired used part fails = record {
-      told = told;
-      text = told_text ++ closed retired;
-      served = inl (served-of law wear asked played, text-is asked played retired used);
-      part = part;
-      fails = fails;
+    served-of : IsServed n m e job source array told
+    served-of = record {
+      asked = asked;
+      come = played.0;
+      places = places;
+      module_ = module_;
+      before = before;
+      ended = played.1;
+      once = once;
+      each = each n m e job.shape job.seed (stays_off (is_off job.end) asked) (with_cut (is_off job.end) asked) module_ before places told once played.1;
+      sensed = sensed;
+      saved = saved_of job.shape job.seed (kept_in module_) before;
+      leaves = kept.0;
+      untouched = still;
+      wear = wear;
     }
 
-    part-breaks : (asked : List (Asked n)) → IsServing job.shape job.seed asked module_ array places told → StopsBy n m e job source job.input Write asked
-        → GetsPart out told_text → SinkFails out → BreaksOff n m e job source out array
-    part-breaks asked serving stops part fails = record {
-      told = told;
-      text = told_text;
-      served = inr (asked, part-of asked serving, stops, ap (λ (p : Bool). stream_text p told) same);
-      part = part;
-      fails = fails;
-    }
-
-    -- what a stream that was played is, by the parts of it that are known
-    pub play-ends : (ended result : Result Done Fault)
-        → IfOk ended (λ done. (asked : List (Asked n)) × HasPlayed n m e job source asked module_ array places told × (done ≡ done_by (table_of places told)))
-        → IfErr ended (λ fault. fault ≢ Write → (asked : List (Asked n)) × IsServing job.shape job.seed asked module_ array places told × StopsBy n m e job source job.input fault asked)
-        → (ended ≡ Err Write → (asked : List (Asked n)) × (HasPlayed n m e job source asked module_ array places told
-        ⊎ (IsServing job.shape job.seed asked module_ array places told × StopsBy n m e job source job.input Write asked)))
-        → (ended ≢ Err Write → Appends (out.written out.before) (out.written mid) told_text)
-        → (ended ≡ Err Write → AppendsPrefix (out.written out.before) (out.written mid) told_text × Rose (out.faults out.before) (out.faults mid))
-        → (is_source job.input ≡ false → source.now ≡ source.before)
-        → IfOk result (λ done. (ended ≡ Ok done) × ((retired : ℕ) × IsRetired retired × Appends (out.written mid) (out.written out.now) (closed retired)))
-        → IfErr result (λ fault. ((ended ≡ Err fault) × (out.now ≡ mid))
-        ⊎ ((fault ≡ Write) × (done : Done) × (ended ≡ Ok done) × (retired : ℕ) × IsRetired retired
-        × AppendsPrefix (out.written mid) (out.written out.now) (closed retired) × Rose (out.faults mid) (out.faults out.now)))
-        → Ends n m e job source out array result
+    -- the text of the end, as it was printed of the module and the array before, is what closes the stream
+    closes-of : (rows : ℕ) (counts : Counts) → rows ≡ places → counts ≡ counts_of (table_of places told) → (P : List ℕ → Type 0) → PrintsOf module_ before (cells_at e before changes) rows counts job.print P
+        → (whole : List ℕ) × Closes n m e job source array changes_now told served-of whole × P whole
     unfolding served-of
-    play-ends ended (Ok done) played stopped broken gets part unread ok err =
-        let p = rw ok.0 at played in
-        let text = text-is p.0 p.1 ok.1.0 (ok.1.1 p.1.1.ends p.1.1.are) in
-        let calm : ended ≢ Err Write = λ is. let both : Ok done ≡ Err Write = sym ok.0 ∙ is in cc both in
+    closes-of rows counts same counted P prints =
+        let ends = played.1.ends in
+        let For : RawShape → ℕ → Type 0 = λ raw seed. HaveRoles raw seed ends
+        → (whole : List ℕ) × IsClosing raw seed rows counts ends before (cells_at e before changes) (saved_of raw seed (kept_in module_) before) job.print whole × P whole in
+        let shaped : For job.shape module_.seed = subst (λ (raw : RawShape). For raw module_.seed) played.1.shape (prints ends played.1.are) in
+        let own : For job.shape job.seed = subst (λ (seed : ℕ). For job.shape seed) played.1.seeded shaped in
+        let got = own kept.1 in
+        let alike : job.print ≢ Image → cells_at e array changes_now ≡ cells_at e before changes = λ other. ap (λ (a : ArrayState n m). cells_at e a changes_now) (still other) ∙ ap (cells_at e before) (stand other) in
+        (got.0, closing-now job.shape job.seed rows places counts (counts_of (table_of places told)) ends before array (cells_at e before changes) (cells_at e array changes_now) (saved_of job.shape job.seed (kept_in module_) before) job.print got.0 same counted still alike got.1, got.2)
+
+    -- it was served to its end, and its whole text was written
+    pub stream-whole : (out : SinkChange) (mid : Option (List ℕ)) (prints : Bool) → prints ≡ prints_rows job.print → Appends out.written_before mid (stream_text prints told)
+        → (rows : ℕ) (counts : Counts) → rows ≡ places → counts ≡ counts_of (table_of places told) → PrintsOf module_ before (cells_at e before changes) rows counts job.print (λ whole. Appends mid out.written_now whole)
+        → sensed ≡ senses_for job.print before.lines → (done : Done) → done ≡ done_by (table_of places told) → Streams n m e job source out array changes_now done
+    unfolding served-of
+    stream-whole out mid prints alike gets rows counts same counted writes all done is =
+        let text = closes-of rows counts same counted (λ whole. Appends mid out.written_now whole) writes in
+        let first : Appends out.written_before mid (stream_text (prints_rows job.print) told) = subst (λ (p : Bool). Appends out.written_before mid (stream_text p told)) alike gets in
         record {
-          done = record {
-            told = told;
-            served = served-of law wear p.0 p.1;
-            written = subst (Gets out) text (Appends-Appends (out.written out.before) (out.written mid) (out.written out.now) told_text (closed ok.1.0) (gets calm) ok.1.2);
-            ending = p.2;
-          };
-          write = λ is. absurd (cc is);
-          cause = tt;
-          unread = unread;
+          told = told;
+          served = served-of;
+          text = text.0;
+          closes = text.1;
+          written = Appends-Appends out.written_before mid out.written_now (stream_text (prints_rows job.print) told) text.0 first text.2;
+          sensed = all ∙ ap (senses_for job.print) (sym since.since.lines);
+          ending = is;
         }
-    play-ends ended (Err fault) played stopped broken gets part unread ok (inl err) = record {
-      done = tt;
-      write = λ is.
-          let failed : ended ≡ Err Write = err.0 ∙ is in
-          let b = broken failed in
-          let p = part failed in
-          let first : GetsPart out told_text = subst (λ (k : K). AppendsPrefix (out.written out.before) (out.written k) told_text) (sym err.1) p.0 in
-          let fails : SinkFails out = subst (λ (k : K). Rose (out.faults out.before) (out.faults k)) (sym err.1) p.1 in
-          elim b.1 [
-            | inl whole ↦ whole-breaks b.0 whole (spares_used module_.shape whole.1.ends) refl (AppendsPrefix-longer (out.written out.before) (out.written out.now) told_text (closed (spares_used module_.shape whole.1.ends)) first) fails
-            | inr some ↦ part-breaks b.0 some.0 some.1 first fails
-          ];
-      cause = λ other.
-          let s = (rw err.0 at stopped) other in
-          let calm : ended ≢ Err Write = λ is. let both : Err fault ≡ Err Write = sym err.0 ∙ is in let w : fault ≡ Write = cc in other w in
-          inl (record {
-            asked = s.0;
+
+    -- so it was, and the output failed within the text of the end
+    pub stream-part : (out : SinkChange) (mid : Option (List ℕ)) (prints : Bool) → prints ≡ prints_rows job.print → Appends out.written_before mid (stream_text prints told)
+        → (rows : ℕ) (counts : Counts) → rows ≡ places → counts ≡ counts_of (table_of places told) → PrintsOf module_ before (cells_at e before changes) rows counts job.print (λ whole. AppendsPrefix mid out.written_now whole)
+        → sensed ≤ senses_for job.print before.lines
+        → (job.print ≡ Image → WritesRows array (saved_of module_.shape module_.seed (kept_in module_) before) mid out.written_now)
+        → SinkFails out → BreaksOff n m e job source out array changes_now
+    unfolding served-of
+    stream-part out mid prints alike gets rows counts same counted writes some image fails =
+        let text = closes-of rows counts same counted (λ whole. AppendsPrefix mid out.written_now whole) writes in
+        let first : Appends out.written_before mid (stream_text (prints_rows job.print) told) = subst (λ (p : Bool). Appends out.written_before mid (stream_text p told)) alike gets in
+        record {
+          served = inl (record {
             told = told;
-            served = part-of s.0 s.1;
-            cause = s.2;
-            written = subst (λ (t : Bool). Gets out (stream_text t told)) same (subst (λ (k : K). Appends (out.written out.before) (out.written k) told_text) (sym err.1) (gets calm));
+            served = served-of;
+            text = text.0;
+            closes = text.1;
+            part = Appends-AppendsPrefix out.written_before mid out.written_now (stream_text (prints_rows job.print) told) text.0 first text.2;
+            sensed = subst (λ (lines : ℕ). sensed ≤ senses_for job.print lines) (sym since.since.lines) some;
+            rows =
+                λ is.
+                let had = image is in
+                let none : Appends out.written_before mid [] = subst (Appends out.written_before mid) (nothing-before job.print told is) first in
+                let Of : RawShape → ℕ → Type 0 = λ raw seed. WritesRows array (saved_of raw seed (kept_in module_) before) out.written_before out.written_now in
+                let own : Of module_.shape module_.seed = record {
+                  count = had.count;
+                  rows = had.rows;
+                  part = Appends-AppendsPrefix out.written_before mid out.written_now [] (image_bytes (first_rows had.count (saved_of module_.shape module_.seed (kept_in module_) before))) none had.part;
+                } in
+                subst (λ (seed : ℕ). Of job.shape seed) played.1.seeded (subst (λ (raw : RawShape). Of raw module_.seed) played.1.shape own);
           });
-      unread = unread;
-    }
-    play-ends ended (Err fault) played stopped broken gets part unread ok (inr err) =
-        let p = rw err.2 at played in
-        let done : Done = err.1 in
-        let calm : ended ≢ Err Write = λ is. let both : Ok done ≡ Err Write = sym err.2 ∙ is in cc both in
-        record {
-          done = tt;
-          write = λ is.
-              whole-breaks p.0 p.1 err.3 (err.4 p.1.1.ends p.1.1.are) (Appends-AppendsPrefix (out.written out.before) (out.written mid) (out.written out.now) told_text (closed err.3) (gets calm) err.5)
-              (omega (arith, falls, err.6));
-          cause = λ other. absurd (other err.0);
-          unread = unread;
+          fails = fails;
         }
+
+    -- or before it, where first bytes of what was told were written
+    pub stream-unclosed : (out : SinkChange) (prints : Bool) → prints ≡ prints_rows job.print → AppendsPrefix out.written_before out.written_now (stream_text prints told)
+        → sensed ≡ 0 → SinkFails out → BreaksOff n m e job source out array changes_now
+    unfolding served-of
+    stream-unclosed out prints alike gets none fails =
+        let text = some-closing job.shape job.seed places (counts_of (table_of places told)) played.1.ends array (cells_at e array changes_now) (saved_of job.shape job.seed (kept_in module_) before) job.print shape kept.1 kept.0.right.size in
+        let first : AppendsPrefix out.written_before out.written_now (stream_text (prints_rows job.print) told) = subst (λ (p : Bool). AppendsPrefix out.written_before out.written_now (stream_text p told)) alike gets in
+        let saved = saved_of job.shape job.seed (kept_in module_) before in
+        record {
+          served = inl (record {
+            told = told;
+            served = served-of;
+            text = text.0;
+            closes = text.1;
+            part = AppendsPrefix-longer out.written_before out.written_now (stream_text (prints_rows job.print) told) text.0 first;
+            sensed = rw none (omega arith);
+            rows = λ is. record {
+              count = 0;
+              rows = λ line below. absurd (omega (arith, below));
+              part = AppendsPrefix-longer out.written_before out.written_now [] (image_bytes (first_rows 0 saved)) (subst (AppendsPrefix out.written_before out.written_now) (nothing-before job.print told is) first);
+            };
+          });
+          fails = fails;
+        }
+
+  -- the output failed before the last row was served, or behind it, before the text of the end
+  pub stream-breaks : (changes : ℕ → Option (ℕ → ℕ)) → EachToldLaw → LeavesLaw → IsShape job.shape → job.seed < 2 ^ 64 → before.wear ≡ Some job.wear → (out : SinkChange) (prints : Bool) → prints ≡ prints_rows job.print
+      → (asked : List (Asked n))
+      × (HasPlayed n m e job source asked module_ before places told
+      ⊎ (IsServing job.shape job.seed asked module_ before places told × StopsBy n m e job source job.input Write asked))
+      → AppendsPrefix out.written_before out.written_now (stream_text prints told) × SinkFails out → BreaksOff n m e job source out before changes
+  stream-breaks changes each law shape low wear out prints alike (asked, inl played) part =
+      stream-unclosed before changes changes (λ other. refl) each law shape low wear (λ other. refl) 0 (senses-none before) asked played out prints alike part.0 refl part.1
+  stream-breaks changes each law shape low wear out prints alike (asked, inr some) part = record {
+    served = inr (record {
+      asked = asked;
+      told = told;
+      served = part-of asked some.0;
+      cause = some.1;
+      part = subst (λ (p : Bool). AppendsPrefix out.written_before out.written_now (stream_text p told)) alike part.0;
+    });
+    fails = part.1;
+  }
 
 is_write : (fault : Fault) → (fault ≡ Write) ⊎ (fault ≢ Write)
 is_write Usage = inr (λ is. cc is)
@@ -171,8 +255,23 @@ done-low : (done : Done) → status_done done ≤ 1
 done-low Whole = omega arith
 done-low Short = omega arith
 
+-- a stream that ended otherwise than by a fault of writing
+pub calm-fault : (result : Result Done Fault) (fault : Fault) → result ≡ Err fault → fault ≢ Write → result ≢ Err Write
+calm-fault result fault is other failed =
+    let both : Err fault ≡ Err Write = sym is ∙ failed in
+    let same : fault ≡ Write = cc in
+    other same
+
+pub calm-done : (result : Result Done Fault) (done : Done) → result ≡ Ok done → result ≢ Err Write
+calm-done result done is failed =
+    let both : Ok done ≡ Err Write = sym is ∙ failed in
+    cc both
+
+pub never-failed : (done : Done) (P : Type 0) → Ok done ≡ Err Write → P
+never-failed done P is = absurd (cc is)
+
 -- what a call promises, by how it ended and what was said of that
-pub keeps : {A V S K F : Type 0} (call : Call A V S K) (err : LentSink F) (status : ℕ) (result : Result Done Fault) → EndsCall call result → IsStatusOf result err status → KeepsPromises call err status
+pub keeps : {A V S K F : Type 0} (call : Call A V S K) (err : Lent F SinkChange) (status : ℕ) (result : Result Done Fault) → EndsCall call result → IsStatusOf result err status → KeepsPromises call err status
 keeps call err status (Ok done) ends said =
     let low : status ≤ 1 = omega (arith, said.done.0, done-low done) in
     record {
@@ -180,6 +279,8 @@ keeps call err status (Ok done) ends said =
       silent = λ is. said.done.1;
       told = λ two other. absurd (omega (arith, low, two));
       broken = λ five. absurd (omega (arith, low, five));
+      unread = ends.unread;
+      others = ends.others;
     }
 keeps call err status (Err fault) ends said =
     let least = said.fault.least in
@@ -190,9 +291,11 @@ keeps call err status (Err fault) ends said =
           let t = said.fault.told other in
           (fault, ends.cause (λ is. other (t.0 ∙ ap status_of is)), t.0, t.1);
       broken = λ five. elim (is_write fault) [
-        | inl is ↦ inl (ends.write (ap Err is), subst (λ (f : Fault). GetsPart err (fault_line f)) is said.fault.part)
+        | inl is ↦ inl (ends.write (ap Err is), subst (λ (f : Fault). GetsPart err.seen (fault_line f)) is said.fault.part)
         | inr other ↦ inr (fault, ends.cause other, said.fault.part, said.fault.broken five other)
       ];
+      unread = ends.unread;
+      others = ends.others;
     }
 
 -- words that gave no job leave all as it was
@@ -202,6 +305,21 @@ refused call (Err e) fault (inr usage) asleep = (inl usage.0, asleep)
 refused call (Ok job) fault (inl none) asleep = inr (none, asleep)
 refused call (Ok job) fault (inr usage) asleep = absurd (cc usage.1)
 
-pub refused-unwritten : (asked : Result StreamJob Refusal) (fault : Fault) → IsRefused asked fault → fault ≢ Write
+refused-unwritten : (asked : Result StreamJob Refusal) (fault : Fault) → IsRefused asked fault → fault ≢ Write
 refused-unwritten asked fault (inl none) is = let clash : NoMemory ≡ Write = sym none ∙ is in cc clash
 refused-unwritten asked fault (inr usage) is = let clash : Usage ≡ Write = sym usage.0 ∙ is in cc clash
+
+pub refused-unread : {A V S K : Type 0} (call : Call A V S K) (asked : Result StreamJob Refusal) → call.source.now ≡ call.source.before → IsUnread call asked
+refused-unread call (Err e) same = same
+refused-unread call (Ok job) same = λ drawn. same
+
+pub refused-others : {A V S K : Type 0} (call : Call A V S K) (asked : Result StreamJob Refusal) → IsUntouched call.array → IsUntouched call.wide → OthersUntouched call asked
+refused-others call (Err e) narrow wide = (narrow, wide)
+refused-others call (Ok job) narrow wide = on job.line
+  where
+    on : (line : LineSize) → OthersOn call line
+    on Bytes64 = wide
+    on Bytes128 = narrow
+
+pub refused-breaks : {A V S K : Type 0} (call : Call A V S K) (asked : Result StreamJob Refusal) (fault : Fault) → IsRefused asked fault → (result : Result Done Fault) → result ≡ Err fault → result ≡ Err Write → Breaks call asked
+refused-breaks call asked fault refusal result is failed = absurd (calm-fault result fault is (refused-unwritten asked fault refusal) failed)

@@ -1,5 +1,6 @@
--- The line of a fault, how texts are written, how a stream is served, and what its call promises.
+-- The line of a fault, how a stream is served, what it leaves, and what its call promises.
 mod Telling
-mod Written
 mod Playing
+mod Leaving
+mod EndText
 mod Keeping

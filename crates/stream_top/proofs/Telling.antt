@@ -1,22 +1,19 @@
 -- The line of a fault, as it is written.
-use Rattle.std.proofs.Common.{◌≡◌, ℕ, List, Option, refl}
-use Rattle.std.specs.Prelude.{codes, Result, OnOk, OnErr}
-use Rattle.std.specs.Io.KnownBytes.{Appends}
-use Rattle.pcm_io.specs.Giving.{AppendsPrefix}
+use Rattle.std.proofs.Common.{◌≡◌, refl}
+use Rattle.std.specs.Prelude.{codes}
+use Rattle.trace_reader.specs.declared.fault.TraceFault.{TraceFault}
+use Rattle.program_calls.specs.FaultLines.{trace_line}
 use Rattle.stream_top.specs.FaultLines.{fault_line}
 use Rattle.stream_top.specs.declared.fault.Fault.{Fault}
-use Rattle.stream_top.specs.declared.fault.Fault.TheVariants.{Usage, Read, Write, TooLong, NoMemory}
-
--- what was written under another name
-pub told : {T E : Type 0} (r : Result T E) (a b : Option (List ℕ)) (xs ys : List ℕ) → xs ≡ ys → OnOk r (Appends a b xs) → OnOk r (Appends a b ys)
-told r a b xs ys e h = rw (← e) h
-
-pub told_part : {T E : Type 0} (r : Result T E) (a b : Option (List ℕ)) (xs ys : List ℕ) → xs ≡ ys → OnErr r (AppendsPrefix a b xs) → OnErr r (AppendsPrefix a b ys)
-told_part r a b xs ys e h = rw (← e) h
+use Rattle.stream_top.specs.declared.fault.Fault.TheVariants.{Usage, Trace, Read, Write, TooLong, NoMemory}
 
 pub usage_line : (f : Fault) → f ≡ Usage → codes "usage: pcm stream [options]\n" ≡ fault_line f
 unfolding fault_line
 usage_line f e = rw e refl
+
+pub line_of_trace : (f : Fault) (one : TraceFault) → f ≡ Trace one → trace_line one ≡ fault_line f
+unfolding fault_line
+line_of_trace f one e = rw e refl
 
 pub read_line : (f : Fault) → f ≡ Read → codes "read fault\n" ≡ fault_line f
 unfolding fault_line

@@ -1,4 +1,5 @@
 pub mod Calls
 pub mod FaultLines
+pub mod Leaving
 pub mod Streams
 pub mod Promises

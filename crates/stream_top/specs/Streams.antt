@@ -1,17 +1,18 @@
 -- What a stream does. What was asked stands with the newest row first.
-use Rattle.std.specs.Prelude.{◌≡◌, ◌≢◌, ◌⊎◌, ℕ, ◌≤◌, Bool, true, false, if◌then◌else◌, List, [], ◌++◌, length, reverse, Some, Result, Err, IfOk, IfErr}
+use Rattle.std.specs.Prelude.{◌≡◌, ◌≢◌, ◌⊎◌, ℕ, ◌≤◌, Bool, true, false, if◌then◌else◌, List, ◌++◌, length, reverse, Option, Some, Result, Err, IfOk, IfErr}
 use Rattle.cell_rows.specs.Device.{ArrayState}
 use Rattle.result_rows.specs.declared.Outcome.{Outcome}
+use Rattle.row_rules.specs.declared.Row.{Row}
 use Rattle.bank_model.specs.Timing.{TimedEvent}
 use Rattle.command_line.specs.declared.job.Input.{Input}
 use Rattle.command_line.specs.declared.job.Input.TheVariants.{Source, Drawn}
 use Rattle.module_shape.specs.Limits.{total_of}
+use Rattle.pcm_image.specs.Saved.{Saved}
 use Rattle.pcm_module.specs.State.{ModuleState}
-use Rattle.pcm_module.specs.Roles.{spares_used}
+use Rattle.module_prints.specs.Images.{WritesRows}
+use Rattle.module_prints.specs.WearReports.{cells_at}
+use Rattle.program_calls.specs.Calls.{Gets, GetsPart, IsUntouched, Lent, SinkChange, SinkFails}
 use Rattle.run_text.specs.Counting.{counts_of}
-use Rattle.run_text.specs.Pulses.{pulses_in_all}
-use Rattle.run_text.specs.SummaryText.{summary_text}
-use Rattle.run_text.specs.declared.counts.Counts.{Counts}
 use Rattle.run_text.specs.Shortfall.{any_short}
 use Rattle.row_printer.specs.Printing.{stream_text, table_of}
 use Rattle.row_printer.specs.Telling.{outcomes_in, TellsOnce}
@@ -20,7 +21,7 @@ use Rattle.stream_words.specs.declared.job.End.{End}
 use Rattle.stream_words.specs.declared.job.End.TheVariants.{Drain, Off}
 use Rattle.stream_words.specs.declared.job.StreamJob.{StreamJob}
 use Rattle.stream_words.specs.declared.job.StreamPrint.{StreamPrint}
-use Rattle.stream_words.specs.declared.job.StreamPrint.TheVariants.{Rows, Summary, Wear, Image}
+use Rattle.stream_words.specs.declared.job.StreamPrint.TheVariants.{Rows, Summary, Wear, Lines, Image}
 use Rattle.trace_gen.specs.Generated.{generated}
 use Rattle.trace_stream.specs.Laws.{all_events}
 use Rattle.trace_stream.specs.declared.asked.Asked.{Asked}
@@ -30,9 +31,10 @@ use Rattle.row_stream.specs.declared.stop.Stop.TheVariants.{Input as No, Endless
 use Rattle.row_stream.specs.Asking.{events_in, stays_off, with_cut}
 use Rattle.row_stream.specs.Serving.{TellsAlong}
 use Rattle.row_stream.specs.Sourcing.{HasStopped, IsRead}
-use Rattle.row_stream.specs.Ending.{HasEnded}
+use Rattle.row_stream.specs.Ending.{HasEnded, rows_of}
 use Rattle.row_stream.specs.Laws.{TellsEach}
-use Rattle.stream_top.specs.Calls.{Gets, GetsPart, LentSink, LentSource, SinkFails}
+use Rattle.stream_top.specs.Calls.{LentSource}
+use Rattle.stream_top.specs.Leaving.{IsClosing, Leaves, senses_for}
 use Rattle.stream_top.specs.declared.done.Done.{Done}
 use Rattle.stream_top.specs.declared.done.Done.TheVariants.{Whole, Short}
 use Rattle.stream_top.specs.declared.fault.Fault.{Fault}
@@ -53,14 +55,8 @@ abbrev pub prints_rows : StreamPrint → Bool
 prints_rows Rows = true
 prints_rows Summary = false
 prints_rows Wear = false
+prints_rows Lines = false
 prints_rows Image = false
-
--- what is written in the end, by the rows, how many had each outcome, the spares in use, and the pulses of all array lines
-abbrev pub closing : StreamPrint → ℕ → Counts → ℕ → ℕ → List ℕ
-closing Rows rows counts retired pulses = []
-closing Summary rows counts retired pulses = summary_text rows counts retired pulses
-closing Wear rows counts retired pulses = []
-closing Image rows counts retired pulses = []
 
 -- the fault of the program that a stop of a stream is
 abbrev pub stop_fault : Stop → Fault
@@ -114,23 +110,31 @@ module _ {S : Type 0} (n m e : ℕ) (job : StreamJob) (source : LentSource S) wh
       ComeFrom job.input asked
       × HasEnded job.shape job.seed (stays_off (is_off job.end) asked) (with_cut (is_off job.end) asked) module_ array places told
 
+  -- the table of rows that asked this and were told this, with the cut behind which the power stays off: the newest row first
+  abbrev pub rows_told : List (Asked n) → ℕ → List (Told n) → List (Row n)
+  rows_told asked places told = rows_of (events_in (with_cut (is_off job.end) asked)) (table_of places told)
+
   -- a stream was served to its end, and this was told: row by row what became known, in the end the rest, once of each row. By it the rows are right
-  -- over the array, which was powered up with the job's wear
+  -- over the array as it was left, and as it is now; the array was powered up with the job's wear, and only lines sensed for an image since
   pub record IsServed (array : ArrayState n m) (told : List (Told n)) : Type 0 where
     pub asked : List (Asked n)
     pub come : ComeFrom job.input asked
     pub places : ℕ
     pub module_ : ModuleState n m e
-    pub ended : HasEnded job.shape job.seed (stays_off (is_off job.end) asked) (with_cut (is_off job.end) asked) module_ array places told
+    pub before : ArrayState n m
+    pub ended : HasEnded job.shape job.seed (stays_off (is_off job.end) asked) (with_cut (is_off job.end) asked) module_ before places told
     pub once : TellsOnce places (outcomes_in told)
     pub each : TellsEach places told
+    pub sensed : ℕ
+    pub saved : Saved n m
+    pub leaves : Leaves (stays_off (is_off job.end) asked) e job.shape job.seed (rows_told asked places told) ended.ends sensed before array saved
+    pub untouched : job.print ≢ Image → array ≡ before
     pub wear : array.wear ≡ Some job.wear
 
-  -- the text of such a stream: what was printed as it became known, and what is written in the end
-  abbrev pub text_of : (array : ArrayState n m) (told : List (Told n)) → IsServed array told → List ℕ
-  text_of array told served =
-      stream_text (prints_rows job.print) told
-      ++ closing job.print served.places (counts_of (table_of served.places told)) (spares_used job.shape served.ended.ends) (pulses_in_all array)
+  -- what is written of it in the end, behind what was printed as it became known; the array tells these changes of its cells
+  abbrev pub Closes : (array : ArrayState n m) (changes : ℕ → Option (ℕ → ℕ)) (told : List (Told n)) → IsServed array told → List ℕ → Type 0
+  Closes array changes told served text =
+      IsClosing job.shape job.seed served.places (counts_of (table_of served.places told)) served.ended.ends array (cells_at e array changes) served.saved job.print text
 
   -- only its first rows were, which asked this, and this was told: row by row what became known, once of a row
   pub record IsServedInPart (asked : List (Asked n)) (told : List (Told n)) : Type 0 where
@@ -138,12 +142,16 @@ module _ {S : Type 0} (n m e : ℕ) (job : StreamJob) (source : LentSource S) wh
     pub along : TellsAlong e job.shape job.seed asked history told
     pub once : TellsOnce (length (events_in asked)) (outcomes_in told)
 
-  module _ {K : Type 0} (out : LentSink K) where
-    -- it was served to its end, and exactly what was told was written; whether a row fell short says how it was done
-    pub record Streams (array : ArrayState n m) (done : Done) : Type 0 where
+  module _ (out : SinkChange) where
+    -- it was served to its end, and exactly what was told was written, and then the text of the end, for which each line was sensed where it is an
+    -- image, and else none; whether a row fell short says how it was done
+    pub record Streams (array : ArrayState n m) (changes : ℕ → Option (ℕ → ℕ)) (done : Done) : Type 0 where
       pub told : List (Told n)
       pub served : IsServed array told
-      pub written : Gets out (text_of array told served)
+      pub text : List ℕ
+      pub closes : Closes array changes told served text
+      pub written : Gets out (stream_text (prints_rows job.print) told ++ text)
+      pub sensed : served.sensed ≡ senses_for job.print array.lines
       pub ending : done ≡ done_by (table_of served.places told)
 
     -- it stopped at this fault; exactly what was known by then was written
@@ -154,20 +162,35 @@ module _ {S : Type 0} (n m e : ℕ) (job : StreamJob) (source : LentSource S) wh
       pub cause : StopsBy job.input fault asked
       pub written : Gets out (stream_text (prints_rows job.print) told)
 
-    -- the output failed, and has first bytes of its text, or of what was told of its first rows
-    pub record BreaksOff (array : ArrayState n m) : Type 0 where
+    -- it was served to its end, and first bytes of all that were written, for which no more lines were sensed; of an image they are of rows that have the
+    -- bytes of a line
+    pub record StreamsInPart (array : ArrayState n m) (changes : ℕ → Option (ℕ → ℕ)) : Type 0 where
       pub told : List (Told n)
+      pub served : IsServed array told
       pub text : List ℕ
-      pub served : ((whole : IsServed array told) × (text ≡ text_of array told whole))
-          ⊎ ((asked : List (Asked n)) × IsServedInPart asked told × StopsBy job.input Write asked × (text ≡ stream_text (prints_rows job.print) told))
-      pub part : GetsPart out text
+      pub closes : Closes array changes told served text
+      pub part : GetsPart out (stream_text (prints_rows job.print) told ++ text)
+      pub sensed : served.sensed ≤ senses_for job.print array.lines
+      pub rows : job.print ≡ Image → WritesRows array served.saved out.written_before out.written_now
+
+    -- its first rows were served, and first bytes of what was told of them were written
+    pub record BeginsInPart : Type 0 where
+      pub asked : List (Asked n)
+      pub told : List (Told n)
+      pub served : IsServedInPart asked told
+      pub cause : StopsBy job.input Write asked
+      pub part : GetsPart out (stream_text (prints_rows job.print) told)
+
+    -- the output failed, behind the last row or before
+    pub record BreaksOff (array : ArrayState n m) (changes : ℕ → Option (ℕ → ℕ)) : Type 0 where
+      pub served : StreamsInPart array changes ⊎ BeginsInPart
       pub fails : SinkFails out
 
-    -- how a stream ends: it is served to its end; or the output fails; or it stops at a fault that has its cause; or there is no memory to begin with,
-    -- and nothing is read or written
-    pub record Ends (array : ArrayState n m) (result : Result Done Fault) : Type 0 where
-      pub done : IfOk result (Streams array)
-      pub write : result ≡ Err Write → BreaksOff array
-      pub cause : IfErr result (λ fault. fault ≢ Write
-          → StreamsUpTo fault ⊎ ((fault ≡ NoMemory) × (source.now ≡ source.before) × (out.now ≡ out.before)))
-      pub unread : is_source job.input ≡ false → source.now ≡ source.before
+  -- how a stream ends: it is served to its end; or the output fails; or it stops at a fault that has its cause; or there is no memory to begin with,
+  -- and nothing is read or written
+  pub record Ends {K : Type 0} (out : Lent K SinkChange) (array : ArrayState n m) (changes : ℕ → Option (ℕ → ℕ)) (result : Result Done Fault) : Type 0 where
+    pub done : IfOk result (Streams out.seen array changes)
+    pub write : result ≡ Err Write → BreaksOff out.seen array changes
+    pub cause : IfErr result (λ fault. fault ≢ Write
+        → StreamsUpTo out.seen fault ⊎ ((fault ≡ NoMemory) × (source.now ≡ source.before) × IsUntouched out))
+    pub unread : is_source job.input ≡ false → source.now ≡ source.before

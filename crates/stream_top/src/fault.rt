@@ -1,11 +1,11 @@
 // Why a call ends without its work done, and what it says then.
 ghost use Rattle.std.specs.Prelude.{◌≡◌};
-ghost use Rattle.stream_top.specs.Calls.{Writes, sink_between};
-ghost use Rattle.stream_top.specs.FaultLines.{kind_word, fault_line, status_of, joined};
+ghost use Rattle.program_calls.specs.Calls.{Writes, sink_change};
+ghost use Rattle.stream_top.specs.FaultLines.{fault_line, status_of};
 
-use itoa::Buffer;
 use pcm_io::{Sink, WriteFault, write_all};
-use trace_reader::{Kind, TraceFault};
+use program_calls::tell_trace;
+use trace_reader::TraceFault;
 
 /// Why a call of the program ends without its work done.
 #[derive(Clone, Copy, Debug, PartialEq)]
@@ -40,48 +40,9 @@ impl Fault {
     }
 }
 
-fn word(kind: Kind) -> &'static [u8]
-    ensures { result.now ≡ kind_word kind }
-{
-    match kind {
-        Kind::Header => b"header",
-        Kind::Fields => b"fields",
-        Kind::Tick => b"tick",
-        Kind::Order => b"order",
-        Kind::Op => b"op",
-        Kind::Line => b"line",
-        Kind::Payload => b"payload",
-    }
-}
-
-// Writes texts one after the other.
-fn write_parts<F: Sink>(parts: &[&[u8]], err: &mut F) -> Result<(), WriteFault>
-    ensures { Writes (joined parts.now) (sink_between F.written F.faults err.old err.new) result }
-{
-    for part in parts {
-        write_all(err, part)?;
-    }
-    Ok(())
-}
-
-fn tell_trace<F: Sink>(fault: TraceFault, err: &mut F) -> Result<(), WriteFault>
-    ensures { Writes (fault_line (Fault.Trace fault)) (sink_between F.written F.faults err.old err.new) result }
-{
-    let mut digits = Buffer::new();
-    let row = digits.format(fault.row).as_bytes();
-    let parts = [
-        b"trace row ".as_slice(),
-        row,
-        b": ".as_slice(),
-        word(fault.kind),
-        b"\n".as_slice(),
-    ];
-    write_parts(&parts, err)
-}
-
 /// Writes the line of a fault.
 pub fn tell<F: Sink>(fault: Fault, err: &mut F) -> Result<(), WriteFault>
-    ensures { Writes (fault_line fault) (sink_between F.written F.faults err.old err.new) result }
+    ensures { Writes (fault_line fault) (sink_change F.written F.faults err.old err.new) result }
 {
     match fault {
         Fault::Usage => write_all(err, b"usage: pcm stream [options]\n"),

@@ -2,8 +2,10 @@
 //! contract says what every stream prints as it goes and leaves in the array, and what each status means.
 #![tactic(auto)]
 
+mod closing;
 mod done;
 mod fault;
+mod laws;
 mod memory;
 mod program;
 mod serving;

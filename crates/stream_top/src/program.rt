@@ -1,21 +1,22 @@
 // The program's one call.
-ghost use Rattle.std.specs.Prelude.{◌≡◌, map, string_bytes, Ok, Err, IfOk, IfErr};
+ghost use Rattle.std.specs.Prelude.{◌≡◌, map, string_bytes, Ok, IfOk, IfErr};
 ghost use Rattle.stream_words.specs.Jobs.{IsStreamJob, stream_job_of};
-ghost use Rattle.stream_top.specs.Calls.{array_between, sink_between, source_between};
-ghost use Rattle.stream_top.specs.Promises.{EndsCall, IsRefused, IsStatusOf, IsToldOf, KeepsPromises, rows_job};
+ghost use Rattle.program_calls.specs.Calls.{lent_sink, sink_change};
+ghost use Rattle.stream_top.specs.Calls.{lent_telling, source_between};
+ghost use Rattle.stream_top.specs.Promises.{EndsCall, IsRefused, IsStatusOf, IsToldOf, KeepsPromises};
 
 use crate::done::Done;
 use crate::fault::{Fault, tell};
 use crate::serving::stream;
-use cell_rows::CellArray;
+use cell_wear::TellsCells;
 use command_line::{LineSize, Refusal};
 use pcm_io::{Sink, Source};
 use std::alloc::Global;
-use stream_words::{StreamJob, StreamPrint, read_stream_job};
+use stream_words::{StreamJob, read_stream_job};
 
 // The status of a fault, after its line was written; that of a fault of writing where the line couldn't be.
 fn give_up<F: Sink>(fault: Fault, err: &mut F) -> u8
-    ensures { IsToldOf fault (sink_between F.written F.faults err.old err.new) result }
+    ensures { IsToldOf fault (sink_change F.written F.faults err.old err.new) result }
 {
     match tell(fault, err) {
         Ok(()) => fault.status(),
@@ -25,7 +26,7 @@ fn give_up<F: Sink>(fault: Fault, err: &mut F) -> u8
 
 // The status of how a stream ended, after the line of its fault was written.
 fn say<F: Sink>(ended: Result<Done, Fault>, err: &mut F) -> u8
-    ensures { IsStatusOf ended (sink_between F.written F.faults err.old err.new) result }
+    ensures { IsStatusOf ended (lent_sink F.written F.faults err.old err.new) result }
 {
     match ended {
         Ok(done) => done.status(),
@@ -34,7 +35,7 @@ fn say<F: Sink>(ended: Result<Done, Fault>, err: &mut F) -> u8
 }
 
 // Serves a stream on the array of its lines; the other one stays as it is.
-fn stream_on<A: CellArray<64, 8>, V: CellArray<128, 16>, S: Source, K: Sink + Drop>(
+fn stream_on<A: TellsCells<64, 8>, V: TellsCells<128, 16>, S: Source, K: Sink + Drop>(
     alloc: Global,
     job: &StreamJob,
     array: &mut A,
@@ -45,10 +46,10 @@ fn stream_on<A: CellArray<64, 8>, V: CellArray<128, 16>, S: Source, K: Sink + Dr
     requires job { IsStreamJob job.now }
     ensures { EndsCall (record {
       asked = Ok job.now;
-      array = array_between A.state array.old array.new;
-      wide = array_between V.state wide.old wide.new;
+      array = lent_telling A.state A.changes array.old array.new;
+      wide = lent_telling V.state V.changes wide.old wide.new;
       source = source_between S.left S.taken S.faults source.old source.new;
-      out = sink_between K.written K.faults out.value result.1.value;
+      out = lent_sink K.written K.faults out.value result.1.value;
     }) result.0 }
 {
     match job.line {
@@ -57,36 +58,21 @@ fn stream_on<A: CellArray<64, 8>, V: CellArray<128, 16>, S: Source, K: Sink + Dr
     }
 }
 
-// A job that prints rows or a summary; what else may be printed isn't served yet.
-fn rows_alone(job: StreamJob) -> Result<StreamJob, Fault>
-    requires { IsStreamJob job }
-    ensures ok { IfOk result (λ own. rows_job (Ok job) ≡ Ok own) }
-    ensures err { IfErr result (λ fault. (fault ≡ Fault.Usage) × (rows_job (Ok job) ≡ Err Refusal.Usage)) }
-    ensures in_range { IfOk result IsStreamJob }
-{
-    match job.print {
-        StreamPrint::Rows => Ok(job),
-        StreamPrint::Summary => Ok(job),
-        StreamPrint::Wear => Err(Fault::Usage),
-        StreamPrint::Image => Err(Fault::Usage),
-    }
-}
-
 // The job of the words.
 fn read_words(alloc: Global, words: &[String]) -> Result<StreamJob, Fault>
-    ensures ok { IfOk result (λ job. rows_job (stream_job_of (map string_bytes words.now)) ≡ Ok job) }
-    ensures err { IfErr result (λ fault. IsRefused (rows_job (stream_job_of (map string_bytes words.now))) fault) }
+    ensures ok { IfOk result (λ job. stream_job_of (map string_bytes words.now) ≡ Ok job) }
+    ensures err { IfErr result (λ fault. IsRefused (stream_job_of (map string_bytes words.now)) fault) }
     ensures in_range { IfOk result IsStreamJob }
 {
     match read_stream_job(alloc, words) {
-        Ok(job) => rows_alone(job),
+        Ok(job) => Ok(job),
         Err(Refusal::Usage) => Err(Fault::Usage),
         Err(Refusal::NoMemory) => Err(Fault::NoMemory),
     }
 }
 
 // Does what the words ask for.
-fn work<A: CellArray<64, 8>, V: CellArray<128, 16>, S: Source, K: Sink + Drop>(
+fn work<A: TellsCells<64, 8>, V: TellsCells<128, 16>, S: Source, K: Sink + Drop>(
     alloc: Global,
     words: &[String],
     array: &mut A,
@@ -95,11 +81,11 @@ fn work<A: CellArray<64, 8>, V: CellArray<128, 16>, S: Source, K: Sink + Drop>(
     out: Box<K>,
 ) -> (Result<Done, Fault>, Box<K>)
     ensures { EndsCall (record {
-      asked = rows_job (stream_job_of (map string_bytes words.now));
-      array = array_between A.state array.old array.new;
-      wide = array_between V.state wide.old wide.new;
+      asked = stream_job_of (map string_bytes words.now);
+      array = lent_telling A.state A.changes array.old array.new;
+      wide = lent_telling V.state V.changes wide.old wide.new;
       source = source_between S.left S.taken S.faults source.old source.new;
-      out = sink_between K.written K.faults out.value result.1.value;
+      out = lent_sink K.written K.faults out.value result.1.value;
     }) result.0 }
 {
     match read_words(alloc, words) {
@@ -112,7 +98,7 @@ fn work<A: CellArray<64, 8>, V: CellArray<128, 16>, S: Source, K: Sink + Drop>(
 /// was and some row was refused, lost or left in a queue, 2 the words ask for nothing, 3 a row has a fault, 4 reading failed, 5 writing failed,
 /// 6 there are too many rows, 7 memory ran out. It is served on the array of its lines, which is powered up first: `array` for lines of 64
 /// bytes, `wide` for lines of 128.
-pub fn stream_run<A: CellArray<64, 8>, V: CellArray<128, 16>, S: Source, K: Sink + Drop, F: Sink>(
+pub fn stream_run<A: TellsCells<64, 8>, V: TellsCells<128, 16>, S: Source, K: Sink + Drop, F: Sink>(
     alloc: Global,
     words: &[String],
     array: &mut A,
@@ -123,12 +109,12 @@ pub fn stream_run<A: CellArray<64, 8>, V: CellArray<128, 16>, S: Source, K: Sink
 ) -> (u8, Box<K>)
     // What was asked for, what was lent, and what became of it: each promise is a field of `KeepsPromises`.
     ensures { KeepsPromises (record {
-      asked = rows_job (stream_job_of (map string_bytes words.now));
-      array = array_between A.state array.old array.new;
-      wide = array_between V.state wide.old wide.new;
+      asked = stream_job_of (map string_bytes words.now);
+      array = lent_telling A.state A.changes array.old array.new;
+      wide = lent_telling V.state V.changes wide.old wide.new;
       source = source_between S.left S.taken S.faults source.old source.new;
-      out = sink_between K.written K.faults out.value result.1.value;
-    }) (sink_between F.written F.faults err.old err.new) result.0 }
+      out = lent_sink K.written K.faults out.value result.1.value;
+    }) (lent_sink F.written F.faults err.old err.new) result.0 }
 {
     let (result, out) = work(alloc, words, array, wide, source, out);
     (say(result, err), out)

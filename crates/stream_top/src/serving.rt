@@ -1,32 +1,32 @@
 // A stream, served to its end or up to a fault.
-ghost use Rattle.std.specs.Prelude.{◌≡◌, ◌≢◌, ◌⊎◌, ◌≤◌, ◌<◌, ℕ, List, [], Option, true, false, Ok, Err, IfOk, IfErr, OnOk, Some};
+ghost use Rattle.std.specs.Prelude.{◌≡◌, ◌≢◌, ◌⊎◌, ◌≤◌, ◌<◌, ℕ, List, [], Option, true, false, Err, IfOk, IfErr, OnOk};
 ghost use Rattle.std.specs.Io.KnownBytes.{Appends};
 ghost use Rattle.pcm_io.specs.Faults.{Rose};
 ghost use Rattle.pcm_io.specs.Giving.{AppendsPrefix};
 ghost use Rattle.pcm_io.specs.Reserved.{reserved};
-ghost use Rattle.pcm_module.specs.Roles.{spares_used};
-ghost use Rattle.pcm_module.specs.State.{AreEndsOf};
-ghost use Rattle.end_laws.specs.Ends.{BankEnd};
-ghost use Rattle.run_text.specs.Pulses.{pulses_in_all};
+ghost use Rattle.program_calls.specs.Calls.{lent_sink};
 ghost use Rattle.ecp_line.specs.Layout.{IsLayout};
 ghost use Rattle.trace_stream.specs.declared.asked.Asked.{Asked as StreamAsked};
 ghost use Rattle.row_printer.specs.Printing.{IsPrinting, stream_text, table_told};
 ghost use Rattle.row_stream.specs.Asking.{behind_of};
 ghost use Rattle.row_stream.specs.Serving.{IsServing};
 ghost use Rattle.stream_words.specs.Jobs.{IsStreamJob};
-ghost use Rattle.stream_top.specs.Calls.{sink_between, source_between};
-ghost use Rattle.stream_top.specs.Streams.{ComeFrom, Ends, HasPlayed, StopsBy, closing, done_by, is_source, is_off, prints_rows, stop_fault};
+ghost use Rattle.stream_top.specs.Calls.{source_between};
+ghost use Rattle.stream_top.specs.Streams.{ComeFrom, Ends, HasPlayed, StopsBy, done_by, is_source, is_off, prints_rows, stop_fault};
 
+use crate::closing::print_closing;
 use crate::done::Done;
 use crate::fault::Fault;
+use crate::laws::ended_streams_are_kept;
 use crate::memory::take_memory;
 use cell_rows::CellArray;
+use cell_wear::TellsCells;
 use command_line::Input;
-use pcm_io::{Sink, Source, Text};
+use pcm_io::{Sink, Source};
 use pcm_module::Module;
 use row_printer::RowPrinter;
 use row_stream::{Behind, Stop, each_row_is_told, end, serve_drawn, serve_source};
-use run_text::{Counts, TEXT_ROOM, print_rest, print_summary, sum_pulses};
+use run_text::TEXT_ROOM;
 use std::alloc::Global;
 use stream_words::{End, StreamJob, StreamPrint};
 use trace_stream::StreamFault;
@@ -64,63 +64,8 @@ fn shows_rows(print: StreamPrint) -> bool
         StreamPrint::Rows => true,
         StreamPrint::Summary => false,
         StreamPrint::Wear => false,
+        StreamPrint::Lines => false,
         StreamPrint::Image => false,
-    }
-}
-
-// Writes what is asked for in the end of a stream that was served.
-fn close<const B: usize, const M: usize, const E: usize, A: CellArray<B, M>, K: Sink + Drop>(
-    print: StreamPrint,
-    ended: Result<Done, Fault>,
-    pcm: &Module<B, M, E>,
-    array: &A,
-    rows: u32,
-    counts: &Counts,
-    text: Text,
-    out: Box<K>,
-) -> (Result<Done, Fault>, Box<K>)
-    requires { OnOk ended (text ≡ reserved TEXT_ROOM) }
-    ensures ok { IfOk result.0 (λ done. (ended ≡ Ok done) × ((retired : ℕ)
-        × ((ends : ℕ → BankEnd) → AreEndsOf pcm.now ends → retired ≡ spares_used pcm.now.shape ends)
-        × Appends (K.written out.value) (K.written result.1.value) (closing print rows counts.now retired (pulses_in_all (A.state array.now))))) }
-    ensures err { IfErr result.0 (λ fault. ((ended ≡ Err fault) × (result.1.value ≡ out.value))
-        ⊎ ((fault ≡ Fault.Write) × (done : Done) × (ended ≡ Ok done) × (retired : ℕ)
-        × ((ends : ℕ → BankEnd) → AreEndsOf pcm.now ends → retired ≡ spares_used pcm.now.shape ends)
-        × AppendsPrefix (K.written out.value) (K.written result.1.value) (closing print rows counts.now retired (pulses_in_all (A.state array.now)))
-        × Rose (K.faults out.value) (K.faults result.1.value))) }
-{
-    let done = match ended {
-        Ok(done) => done,
-        Err(fault) => return (Err(fault), out),
-    };
-    let retired = pcm.retired();
-    let pulses = sum_pulses(array);
-    let mut text = text;
-    push_closing(print, rows, counts, retired, pulses, &mut text);
-    let mut out = out;
-    match print_rest(&text, &mut *out) {
-        Ok(()) => (Ok(done), out),
-        Err(_) => (Err(Fault::Write), out),
-    }
-}
-
-// The text of what is asked for in the end.
-fn push_closing(
-    print: StreamPrint,
-    rows: u32,
-    counts: &Counts,
-    retired: u32,
-    pulses: u64,
-    text: &mut Text,
-)
-    requires { text.old ≡ reserved TEXT_ROOM }
-    ensures { text.new.bytes ≡ closing print rows counts.now retired pulses }
-{
-    match print {
-        StreamPrint::Summary => print_summary(rows, counts, retired, pulses, text),
-        StreamPrint::Rows => {}
-        StreamPrint::Wear => {}
-        StreamPrint::Image => {}
     }
 }
 
@@ -234,7 +179,7 @@ pub fn stream<
     const B: usize,
     const M: usize,
     const E: usize,
-    A: CellArray<B, M>,
+    A: TellsCells<B, M>,
     S: Source,
     K: Sink + Drop,
 >(
@@ -248,17 +193,23 @@ pub fn stream<
     requires wide { 16 ≤ B }
     requires job { IsStreamJob job.now }
     ensures { Ends B M E job.now (source_between S.left S.taken S.faults source.old source.new)
-        (sink_between K.written K.faults out.value result.1.value) (A.state array.new) result.0 }
+        (lent_sink K.written K.faults out.value result.1.value) (A.state array.new) (A.changes array.new) result.0 }
 {
     each_row_is_told();
+    ended_streams_are_kept();
     let (mut pcm, text) = match take_memory::<B, M, E, A>(alloc, job, array) {
         Ok(taken) => taken,
         Err(_) => return (Err(Fault::NoMemory), out),
     };
     let mut printer = RowPrinter::<B, K>::new(out, text, shows_rows(job.print));
-    let result = play(alloc, job, &mut pcm, array, source, &mut printer);
-    let counts = printer.counts();
-    let rows = printer.rows();
-    let (out, text) = printer.end();
-    close(job.print, result, &pcm, array, rows, &counts, text, out)
+    let done = match play(alloc, job, &mut pcm, array, source, &mut printer) {
+        Ok(done) => done,
+        Err(fault) => return (Err(fault), printer.end().0),
+    };
+    let (rows, counts) = (printer.rows(), printer.counts());
+    let (mut out, mut text) = printer.end();
+    match print_closing(job, &pcm, array, rows, &counts, &mut text, &mut *out) {
+        Ok(()) => (Ok(done), out),
+        Err(_) => (Err(Fault::Write), out),
+    }
 }

@@ -6,7 +6,7 @@ use Rattle.trace_reader.specs.Rows.{latest_tick}
 use Rattle.trace_gen.specs.declared.mix.Mix.{Mix}
 use Rattle.command_line.specs.Options.{mix_within, one_of_two, with_some}
 use Rattle.stream_words.specs.declared.job.StreamPrint.{StreamPrint}
-use Rattle.stream_words.specs.declared.job.StreamPrint.TheVariants.{Rows, Summary, Wear, Image}
+use Rattle.stream_words.specs.declared.job.StreamPrint.TheVariants.{Rows, Summary, Wear, Lines, Image}
 use Rattle.stream_words.specs.declared.job.End.{End}
 use Rattle.stream_words.specs.declared.job.End.TheVariants.{Drain, Off}
 
@@ -17,7 +17,8 @@ print_of (Some text) =
     if bytes_eq text (codes "rows") then Some Rows
     else (if bytes_eq text (codes "summary") then Some Summary
     else (if bytes_eq text (codes "wear") then Some Wear
-    else (if bytes_eq text (codes "image") then Some Image else None)))
+    else (if bytes_eq text (codes "lines") then Some Lines
+    else (if bytes_eq text (codes "image") then Some Image else None))))
 
 -- what becomes of the module behind the last row
 abbrev pub end_of : Option Text → Option End

@@ -31,6 +31,8 @@ pub enum StreamPrint {
     Summary,
     /// A row for each array line.
     Wear,
+    /// The same, and what the cells of the line say.
+    Lines,
     /// The module as it stands in the end, as bytes.
     Image,
 }

@@ -19,6 +19,7 @@ pub(crate) fn print(matches: &ArgMatches<'_>) -> Option<StreamPrint>
         Some("rows") => Some(StreamPrint::Rows),
         Some("summary") => Some(StreamPrint::Summary),
         Some("wear") => Some(StreamPrint::Wear),
+        Some("lines") => Some(StreamPrint::Lines),
         Some("image") => Some(StreamPrint::Image),
         Some(_) => None,
     }

@@ -1,26 +1,29 @@
-use Rattle.std.proofs.Common.{◌≡◌, refl, sym}
+use Rattle.std.proofs.Common.{Err, refl}
 use Rattle.std.specs.Prelude.{map, string_bytes}
 use Rattle.stream_words.specs.Jobs.{stream_job_of}
-use Rattle.stream_top.specs.Calls.{array_between, sink_between, source_between}
-use Rattle.stream_top.specs.Promises.{rows_job}
-use Rattle.stream_top.specs.declared.fault.Fault.TheVariants.{Write}
-use Rattle.stream_top.proofs.Keeping.{refused, refused-unwritten}
+use Rattle.program_calls.specs.Calls.{lent_sink}
+use Rattle.stream_top.specs.Calls.{lent_telling, source_between}
+use Rattle.stream_top.specs.Promises.{Call}
+use Rattle.stream_top.proofs.Keeping.{refused, refused-breaks, refused-others, refused-unread}
 use Rattle.stream_top.proofs.program.work.Goals as goal
 
 pub returns-in-Ok : goal.returns-in-Ok
 returns-in-Ok g c = rw c.in-Ok.ensures.ok c.stream_on.ensures
 
 pub returns-in-Err : goal.returns-in-Err
-returns-in-Err g c = record {
-  done = tt;
-  write = λ is. let same : c.in-Err.fault ≡ Write = cc in absurd (refused-unwritten _ c.in-Err.fault c.in-Err.ensures.err same);
-  cause =
-      λ other.
-      refused (record {
-        asked = rows_job (stream_job_of (map string_bytes c.args.words.now));
-        array = array_between g.A.CellArray.state c.args.array.now c.args.array.now;
-        wide = array_between g.V.CellArray.state c.args.wide.now c.args.wide.now;
-        source = source_between g.S.Source.left g.S.Source.taken g.S.Source.faults c.args.source.now c.args.source.now;
-        out = sink_between g.K.Sink.written g.K.Sink.faults c.args.out.value c.args.out.value;
-      }) (rows_job (stream_job_of (map string_bytes c.args.words.now))) c.in-Err.fault c.in-Err.ensures.err (refl, refl);
-}
+returns-in-Err g c =
+    let asked = stream_job_of (map string_bytes c.args.words.now) in
+    let call : Call g.row.A.Denot g.row.V.Denot g.row.S.Denot g.row.K.Denot = record {
+      asked = asked;
+      array = lent_telling g.A.CellArray.state g.A.TellsCells.changes c.args.array.now c.args.array.now;
+      wide = lent_telling g.V.CellArray.state g.V.TellsCells.changes c.args.wide.now c.args.wide.now;
+      source = source_between g.S.Source.left g.S.Source.taken g.S.Source.faults c.args.source.now c.args.source.now;
+      out = lent_sink g.K.Sink.written g.K.Sink.faults c.args.out.value c.args.out.value;
+    } in
+    record {
+      done = tt;
+      write = refused-breaks call asked c.in-Err.fault c.in-Err.ensures.err (Err c.in-Err.fault) refl;
+      cause = λ other. refused call asked c.in-Err.fault c.in-Err.ensures.err (refl, refl);
+      unread = refused-unread call asked refl;
+      others = refused-others call asked refl refl;
+    }

@@ -1,6 +1,5 @@
 use Rattle.std.proofs.Common.{◌≡◌, ◌∙◌, Err, ap, refl, sym, subst}
 use Rattle.command_line.specs.declared.job.Input.{Input}
-use Rattle.row_stream.specs.declared.stop.Stop.{Stop}
 use Rattle.stream_top.specs.Calls.{source_between}
 use Rattle.stream_top.specs.Streams.{ComeFrom, HasCause, StopsBy}
 use Rattle.stream_top.specs.declared.fault.Fault.{Fault}

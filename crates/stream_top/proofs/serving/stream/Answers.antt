@@ -1,24 +1,91 @@
-use Rattle.std.proofs.Common.{◌∙◌}
+use Rattle.std.proofs.Common.{◌≡◌, ◌∙◌, ◌≤◌, inl, Err, Ok, ap, refl, arith}
 use Rattle.bank_timing.proofs.Sizes.{timed_fits}
-use Rattle.stream_top.specs.Calls.{sink_between, source_between}
-use Rattle.stream_top.proofs.Keeping.{play-ends}
+use Rattle.program_calls.specs.Calls.{sink_change}
+use Rattle.stream_top.specs.Calls.{source_between}
+use Rattle.stream_top.specs.Leaving.{senses_for}
+use Rattle.stream_top.specs.Streams.{prints_rows}
+use Rattle.stream_top.proofs.Keeping.{calm-done, calm-fault, never-failed, stream-breaks, stream-part, stream-stops, stream-whole}
 use Rattle.stream_top.proofs.serving.stream.Goals as goal
 
 pub drop-pcm-inside-requires-room-T-Destruct : goal.drop-pcm-inside-requires-room-T-Destruct
 drop-pcm-inside-requires-room-T-Destruct g c κs = timed_fits g.row.B g.row.M g.row.E c.requires.layout
 
+pub drop-pcm-inside-requires-in-Ok-print_closing-room-T-Destruct :
+    goal.drop-pcm-inside-requires-in-Ok-print_closing-room-T-Destruct
+drop-pcm-inside-requires-in-Ok-print_closing-room-T-Destruct g c κs = timed_fits g.row.B g.row.M g.row.E c.requires.layout
+
+pub drop-pcm-inside-requires-2-room-T-Destruct : goal.drop-pcm-inside-requires-2-room-T-Destruct
+drop-pcm-inside-requires-2-room-T-Destruct g c κs = timed_fits g.row.B g.row.M g.row.E c.requires.layout
+
+-- it stopped at a fault, or the output failed before the text of the end
+pub returns-in-Err-play : goal.returns-in-Err-play
+returns-in-Err-play g c =
+    let p = c.in-Err-play.ensures in
+    let new = c.play.new in
+    let source = source_between g.S.Source.left g.S.Source.taken g.S.Source.faults c.args.source.now new.source in
+    let out = sink_change g.K.Sink.written g.K.Sink.faults c.args.out.value c.end.result.0.value in
+    let state = g.A.CellArray.state new.array in
+    let prints : new.out.prints ≡ prints_rows c.args.job.now.print = p.prints ∙ c.new-printer.ensures.prints ∙ c.shows_rows.ensures in
+    record {
+      done = tt;
+      write = λ is.
+          stream-breaks g.row.B g.row.M g.row.E c.args.job.now source new.pcm state new.out.rows new.out.told c.end.ensures.once
+          (g.A.TellsCells.changes new.array) c.each_row_is_told.ensures c.ended_streams_are_kept.ensures c.requires.job.shape c.in-Ok.ensures.seed (p.wear ∙ c.in-Ok.ensures.wear) out new.out.prints prints
+          (p.broken is) (rw c.end.ensures.sink (p.part is _ _ c.new-printer.ensures.printing));
+      cause = λ other.
+          let calm = calm-fault (Err c.in-Err-play.fault) c.in-Err-play.fault refl other in
+          let s = p.stopped other in
+          inl (stream-stops g.row.B g.row.M g.row.E c.args.job.now source new.pcm state new.out.rows new.out.told c.end.ensures.once
+          out c.in-Err-play.fault s.0 s.1 s.2 new.out.prints prints (rw c.end.ensures.sink (p.written calm _ _ c.new-printer.ensures.printing)));
+      unread = p.unread;
+    }
+
+-- it was served to its end, and all was written
+pub returns-in-Ok-print_closing : goal.returns-in-Ok-print_closing
+returns-in-Ok-print_closing g c =
+    let p = c.in-Ok-play.ensures in
+    let new = c.play.new in
+    let source = source_between g.S.Source.left g.S.Source.taken g.S.Source.faults c.args.source.now new.source in
+    let out = sink_change g.K.Sink.written g.K.Sink.faults c.args.out.value c.print_closing.new.out in
+    let before = g.A.CellArray.state new.array in
+    let array = g.A.CellArray.state c.print_closing.new.array in
+    let all = c.in-Ok-print_closing.ensures.all in
+    let calm = calm-done (Ok c.in-Ok-play.done) c.in-Ok-play.done refl in
+    record {
+      done =
+          stream-whole g.row.B g.row.M g.row.E c.args.job.now source new.pcm before new.out.rows new.out.told c.end-out.ensures.once
+          array (g.A.TellsCells.changes new.array) (g.A.TellsCells.changes c.print_closing.new.array) (λ other. ap g.A.TellsCells.changes (c.print_closing.ensures.untouched other)) c.each_row_is_told.ensures c.ended_streams_are_kept.ensures c.requires.job.shape c.in-Ok.ensures.seed (all.since.wear ∙ p.wear ∙ c.in-Ok.ensures.wear)
+          (λ other. ap g.A.CellArray.state (c.print_closing.ensures.untouched other)) (senses_for c.args.job.now.print before.lines) all p.done.0 p.done.1
+          out (g.K.Sink.written c.deref_mut.result.now) new.out.prints (p.prints ∙ c.new-printer.ensures.prints ∙ c.shows_rows.ensures)
+          (rw (c.deref_mut.ensures.value, c.end-out.ensures.sink) (p.written calm _ _ c.new-printer.ensures.printing))
+          c.rows-rows.result c.counts-counts.result c.rows-rows.ensures c.counts-counts.ensures c.in-Ok-print_closing.ensures.ok refl c.in-Ok-play.done p.done.2;
+      write = never-failed c.in-Ok-play.done _;
+      cause = tt;
+      unread = p.unread;
+    }
+
+-- so it was, and the output failed within the text of the end
 pub returns : goal.returns
 returns g c =
-    let p = c.play-result.ensures in
-    let new = c.play-result.new in
-    let state = g.A.CellArray.state new.array in
-    let before = g.K.Sink.written c.args.out.value in
-    let printing = c.new-printer.ensures.printing in
-    play-ends g.row.B g.row.M g.row.E c.args.job.now (source_between g.S.Source.left g.S.Source.taken g.S.Source.faults c.args.source.now new.source)
-    (sink_between g.K.Sink.written g.K.Sink.faults c.args.out.value c.close.result.1.value) state new.pcm new.out.rows new.out.told c.end-out.ensures.once
-    c.each_row_is_told.ensures (p.wear ∙ c.in-Ok.ensures.wear) c.end-out.result.0.value new.out.prints (p.prints ∙ c.new-printer.ensures.prints ∙ c.shows_rows.ensures) c.counts-counts.result c.counts-counts.ensures c.rows-rows.result c.rows-rows.ensures
-    (rw c.end-out.ensures.sink (p.falls _ _ printing))
-    c.play-result.result c.close.result.0 p.done p.stopped p.broken
-    (λ other. rw c.end-out.ensures.sink (p.written other _ _ printing))
-    (λ is. rw c.end-out.ensures.sink (p.part is _ _ printing))
-    p.unread c.close.ensures.ok c.close.ensures.err
+    let p = c.in-Ok-play.ensures in
+    let new = c.play.new in
+    let source = source_between g.S.Source.left g.S.Source.taken g.S.Source.faults c.args.source.now new.source in
+    let out = sink_change g.K.Sink.written g.K.Sink.faults c.args.out.value c.print_closing.new.out in
+    let before = g.A.CellArray.state new.array in
+    let array = g.A.CellArray.state c.print_closing.new.array in
+    let some = c.print_closing.ensures.sensed in
+    let calm = calm-done (Ok c.in-Ok-play.done) c.in-Ok-play.done refl in
+    let falls : g.K.Sink.faults c.args.out.value ≤ g.K.Sink.faults c.deref_mut.result.now = rw (c.deref_mut.ensures.value, c.end-out.ensures.sink) (p.falls _ _ c.new-printer.ensures.printing) in
+    record {
+      done = tt;
+      write = λ is.
+          stream-part g.row.B g.row.M g.row.E c.args.job.now source new.pcm before new.out.rows new.out.told c.end-out.ensures.once
+          array (g.A.TellsCells.changes new.array) (g.A.TellsCells.changes c.print_closing.new.array) (λ other. ap g.A.TellsCells.changes (c.print_closing.ensures.untouched other)) c.each_row_is_told.ensures c.ended_streams_are_kept.ensures c.requires.job.shape c.in-Ok.ensures.seed (some.2.since.wear ∙ p.wear ∙ c.in-Ok.ensures.wear)
+          (λ other. ap g.A.CellArray.state (c.print_closing.ensures.untouched other)) some.0 some.2 p.done.0 p.done.1
+          out (g.K.Sink.written c.deref_mut.result.now) new.out.prints (p.prints ∙ c.new-printer.ensures.prints ∙ c.shows_rows.ensures)
+          (rw (c.deref_mut.ensures.value, c.end-out.ensures.sink) (p.written calm _ _ c.new-printer.ensures.printing))
+          c.rows-rows.result c.counts-counts.result c.rows-rows.ensures c.counts-counts.ensures c.in-Err-print_closing.ensures.prefix some.1 c.in-Err-print_closing.ensures.part
+          (omega (arith, falls, c.in-Err-print_closing.ensures.fault));
+      cause = λ other. absurd (other refl);
+      unread = p.unread;
+    }

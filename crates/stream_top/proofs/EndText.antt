@@ -1,0 +1,78 @@
+-- What is written in the end of a stream, by what is asked for.
+use Rattle.std.proofs.Common.{◌≡◌, ℕ, List, [], refl, sym, ap, ◌∙◌, subst}
+use Rattle.std.specs.Prelude.{Result, Ok, Err, OnErr, OnOk}
+use Rattle.pcm_io.specs.Reserved.{Reserved, appended, reserved}
+use Rattle.cell_rows.specs.Device.{ArrayState}
+use Rattle.wear_report.specs.declared.Role.{Role}
+use Rattle.wear_report.specs.WearText.{wear_text}
+use Rattle.lines_report.specs.declared.row.LineCells.{LineCells}
+use Rattle.lines_report.specs.LinesText.{lines_text}
+use Rattle.end_laws.specs.Ends.{BankEnd}
+use Rattle.pcm_image.specs.Saved.{Saved}
+use Rattle.pcm_image.specs.Spelling.{image_bytes}
+use Rattle.image_laws.specs.Saving.{saved_of}
+use Rattle.image_text.specs.Sensing.{SensesRows}
+use Rattle.image_text.proofs.Sensing.{senses-none}
+use Rattle.run_text.specs.Pulses.{pulses_in_all}
+use Rattle.run_text.specs.SummaryText.{summary_text}
+use Rattle.run_text.specs.declared.counts.Counts.{Counts}
+use Rattle.pcm_module.specs.Roles.{spares_used}
+use Rattle.pcm_module.specs.State.{AreEndsOf, ModuleState}
+use Rattle.module_prints.specs.Images.{kept_in}
+use Rattle.module_prints.specs.WearReports.{HaveRoles, IsWearReport}
+use Rattle.stream_words.specs.declared.job.StreamPrint.{StreamPrint}
+use Rattle.stream_words.specs.declared.job.StreamPrint.TheVariants.{Rows, Summary, Wear, Lines, Image}
+use Rattle.stream_top.specs.Leaving.{IsClosing, senses_for}
+
+module _ {n m e : ℕ} (module_ : ModuleState n m e) (array : ArrayState n m) (cells : ℕ → LineCells) (rows : ℕ) (counts : Counts) (print : StreamPrint) (P : List ℕ → Type 0) where
+  -- what is written is the text of the end, by whatever ends the module's banks have
+  abbrev pub PrintsOf : Type 0
+  PrintsOf =
+      (ends : ℕ → BankEnd) → AreEndsOf module_ ends → HaveRoles module_.shape module_.seed ends
+      → (whole : List ℕ) × IsClosing module_.shape module_.seed rows counts ends array cells (saved_of module_.shape module_.seed (kept_in module_) array) print whole × P whole
+
+  abbrev Closes : (ℕ → BankEnd) → List ℕ → StreamPrint → Type 0
+  Closes ends whole other = IsClosing module_.shape module_.seed rows counts ends array cells (saved_of module_.shape module_.seed (kept_in module_) array) other whole
+
+  pub nothing-closes : print ≡ Rows → P [] → PrintsOf
+  nothing-closes is written = λ ends are roles. ([], subst (Closes ends []) (sym is) refl, written)
+
+  pub summary-closes : print ≡ Summary → (retired pulses : ℕ) (bytes : List ℕ) → bytes ≡ summary_text rows counts retired pulses → pulses ≡ pulses_in_all array
+      → ((ends : ℕ → BankEnd) → AreEndsOf module_ ends → retired ≡ spares_used module_.shape ends) → P bytes → PrintsOf
+  summary-closes is retired pulses bytes text summed used written = λ ends are roles.
+      let own : bytes ≡ summary_text rows counts (spares_used module_.shape ends) (pulses_in_all array) =
+      text ∙ ap (λ (k : ℕ). summary_text rows counts k pulses) (used ends are) ∙ ap (λ (k : ℕ). summary_text rows counts (spares_used module_.shape ends) k) summed in
+      (bytes, subst (Closes ends bytes) (sym is) own, written)
+
+  pub wear-closes : print ≡ Wear
+      → ((ends : ℕ → BankEnd) → AreEndsOf module_ ends → HaveRoles module_.shape module_.seed ends
+      → (report : List (ℕ × ℕ × Role)) × IsWearReport module_.shape module_.seed ends array report × P (wear_text report)) → PrintsOf
+  wear-closes is writes = λ ends are roles.
+      let report = writes ends are roles in
+      (wear_text report.0, subst (Closes ends (wear_text report.0)) (sym is) ((report.0, report.1, refl)), report.2)
+
+  pub lines-closes : print ≡ Lines
+      → ((ends : ℕ → BankEnd) → AreEndsOf module_ ends → HaveRoles module_.shape module_.seed ends
+      → (report : List (ℕ × ℕ × Role)) × IsWearReport module_.shape module_.seed ends array report × P (lines_text cells report)) → PrintsOf
+  lines-closes is writes = λ ends are roles.
+      let report = writes ends are roles in
+      (lines_text cells report.0, subst (Closes ends (lines_text cells report.0)) (sym is) ((report.0, report.1, refl)), report.2)
+
+  pub image-closes : print ≡ Image → (seed : ℕ) → seed ≡ module_.seed → P (image_bytes (saved_of module_.shape seed (kept_in module_) array)) → PrintsOf
+  image-closes is seed same written = λ ends are roles.
+      let saved : Saved n m = saved_of module_.shape module_.seed (kept_in module_) array in
+      (image_bytes saved, subst (Closes ends (image_bytes saved)) (sym is) refl, subst (λ (k : ℕ). P (image_bytes (saved_of module_.shape k (kept_in module_) array))) same written)
+
+-- a summary that an empty text got
+pub summary-bytes : (old new : Reserved) (limit : ℕ) (text : List ℕ) → old ≡ reserved limit → new ≡ appended old text → new.bytes ≡ text
+summary-bytes old new limit text empty is = ap (λ (t : Reserved). t.bytes) is ∙ ap (λ (t : Reserved). (appended t text).bytes) empty
+
+-- of an array nothing was sensed for a text that needs no sense
+pub senses-nothing : {n m : ℕ} {T E : Type 0} (r : Result T E) (print : StreamPrint) (array : ArrayState n m) → senses_for print array.lines ≡ 0 → OnOk r (SensesRows (senses_for print array.lines) array array)
+senses-nothing (Ok x) print array none = subst (λ (count : ℕ). SensesRows count array array) (sym none) (senses-none array)
+senses-nothing (Err e) print array none = tt
+
+-- and of a text that isn't an image nothing is said of rows
+pub no-image : {T E : Type 0} (r : Result T E) (print : StreamPrint) (P : Type 0) → (print ≡ Image → ⊥) → OnErr r (print ≡ Image → P)
+no-image (Ok x) print P other = tt
+no-image (Err e) print P other = λ is. absurd (other is)

@@ -1,0 +1,141 @@
+use Rattle.std.proofs.Common.{◌∙◌, refl, sym, ap, subst, arith}
+use Rattle.std.specs.Prelude.{OnOk}
+use Rattle.std.specs.Io.KnownBytes.{Appends}
+use Rattle.pcm_io.specs.Giving.{AppendsPrefix}
+use Rattle.pcm_io.proofs.ByteLemmas.{Appends-nothing}
+use Rattle.run_text.proofs.Gathered.{on_err, on_ok}
+use Rattle.image_laws.specs.Saving.{saved_of}
+use Rattle.image_text.specs.Sensing.{SensesRows, SensesSome}
+use Rattle.image_text.proofs.Sensing.{senses-none}
+use Rattle.module_prints.specs.Images.{WritesRows, kept_in}
+use Rattle.module_prints.specs.WearReports.{cells_at}
+use Rattle.stream_top.specs.Leaving.{senses_for}
+use Rattle.stream_top.proofs.EndText.{image-closes, lines-closes, no-image, nothing-closes, senses-nothing, summary-bytes, summary-closes, wear-closes}
+use Rattle.stream_top.proofs.closing.print_closing.Goals as goal
+
+pub returns-in-Rows-clause-ok : goal.returns-in-Rows-clause-ok
+returns-in-Rows-clause-ok g c =
+    nothing-closes c.args.pcm.now (g.A.CellArray.state c.args.array.now) (cells_at g.row.E (g.A.CellArray.state c.args.array.now) (g.A.TellsCells.changes c.args.array.now)) c.args.rows c.args.counts.now c.args.job.now.print
+    (λ whole. Appends (g.K.Sink.written c.args.out.now) (g.K.Sink.written c.args.out.now) whole) c.in-Rows.is (Appends-nothing (g.K.Sink.written c.args.out.now))
+
+pub returns-in-Rows-clause-sensed : goal.returns-in-Rows-clause-sensed
+returns-in-Rows-clause-sensed g c = (0, omega arith, senses-none (g.A.CellArray.state c.args.array.now))
+
+pub returns-in-Rows-clause-all : goal.returns-in-Rows-clause-all
+returns-in-Rows-clause-all g c =
+    let array = g.A.CellArray.state c.args.array.now in
+    subst (λ p. SensesRows (senses_for p array.lines) array array) (sym c.in-Rows.is) (senses-none array)
+
+pub returns-in-Rows-clause-untouched : goal.returns-in-Rows-clause-untouched
+returns-in-Rows-clause-untouched g c = λ other. refl
+
+pub returns-in-Summary-clause-ok : goal.returns-in-Summary-clause-ok
+returns-in-Summary-clause-ok g c =
+    on_ok c.print_rest.result _ _ c.print_rest.ensures.ok
+    (summary-closes c.args.pcm.now (g.A.CellArray.state c.args.array.now) (cells_at g.row.E (g.A.CellArray.state c.args.array.now) (g.A.TellsCells.changes c.args.array.now)) c.args.rows c.args.counts.now c.args.job.now.print
+    (λ whole. Appends (g.K.Sink.written c.args.out.now) (g.K.Sink.written c.print_rest.new.out) whole) c.in-Summary.is c.retired.result c.sum_pulses.result c.print_summary.new.text.bytes
+    (summary-bytes c.args.text.now c.print_summary.new.text _ _ c.requires.room c.print_summary.ensures.after) c.sum_pulses.ensures c.retired.ensures)
+
+pub returns-in-Summary-clause-prefix : goal.returns-in-Summary-clause-prefix
+returns-in-Summary-clause-prefix g c =
+    on_err c.print_rest.result _ _ c.print_rest.ensures.prefix
+    (summary-closes c.args.pcm.now (g.A.CellArray.state c.args.array.now) (cells_at g.row.E (g.A.CellArray.state c.args.array.now) (g.A.TellsCells.changes c.args.array.now)) c.args.rows c.args.counts.now c.args.job.now.print
+    (λ whole. AppendsPrefix (g.K.Sink.written c.args.out.now) (g.K.Sink.written c.print_rest.new.out) whole) c.in-Summary.is c.retired.result c.sum_pulses.result c.print_summary.new.text.bytes
+    (summary-bytes c.args.text.now c.print_summary.new.text _ _ c.requires.room c.print_summary.ensures.after) c.sum_pulses.ensures c.retired.ensures)
+
+pub returns-in-Summary-clause-part : goal.returns-in-Summary-clause-part
+returns-in-Summary-clause-part g c = no-image c.print_rest.result c.args.job.now.print _ (λ is. absurd (cc (sym is ∙ c.in-Summary.is)))
+
+pub returns-in-Summary-clause-sensed : goal.returns-in-Summary-clause-sensed
+returns-in-Summary-clause-sensed g c = (0, omega arith, senses-none (g.A.CellArray.state c.args.array.now))
+
+pub returns-in-Summary-clause-all : goal.returns-in-Summary-clause-all
+returns-in-Summary-clause-all g c =
+    let array = g.A.CellArray.state c.args.array.now in
+    senses-nothing c.print_rest.result c.args.job.now.print array (ap (λ p. senses_for p array.lines) c.in-Summary.is)
+
+pub returns-in-Summary-clause-untouched : goal.returns-in-Summary-clause-untouched
+returns-in-Summary-clause-untouched g c = λ other. refl
+
+pub returns-in-Wear-clause-ok : goal.returns-in-Wear-clause-ok
+returns-in-Wear-clause-ok g c =
+    on_ok c.print_wear.result _ _ c.print_wear.ensures.ok
+    (wear-closes c.args.pcm.now (g.A.CellArray.state c.args.array.now) (cells_at g.row.E (g.A.CellArray.state c.args.array.now) (g.A.TellsCells.changes c.args.array.now)) c.args.rows c.args.counts.now c.args.job.now.print
+    (λ whole. Appends (g.K.Sink.written c.args.out.now) (g.K.Sink.written c.print_wear.new.out) whole) c.in-Wear.is)
+
+pub returns-in-Wear-clause-prefix : goal.returns-in-Wear-clause-prefix
+returns-in-Wear-clause-prefix g c =
+    on_err c.print_wear.result _ _ c.print_wear.ensures.prefix
+    (wear-closes c.args.pcm.now (g.A.CellArray.state c.args.array.now) (cells_at g.row.E (g.A.CellArray.state c.args.array.now) (g.A.TellsCells.changes c.args.array.now)) c.args.rows c.args.counts.now c.args.job.now.print
+    (λ whole. AppendsPrefix (g.K.Sink.written c.args.out.now) (g.K.Sink.written c.print_wear.new.out) whole) c.in-Wear.is)
+
+pub returns-in-Wear-clause-part : goal.returns-in-Wear-clause-part
+returns-in-Wear-clause-part g c = no-image c.print_wear.result c.args.job.now.print _ (λ is. absurd (cc (sym is ∙ c.in-Wear.is)))
+
+pub returns-in-Wear-clause-sensed : goal.returns-in-Wear-clause-sensed
+returns-in-Wear-clause-sensed g c = (0, omega arith, senses-none (g.A.CellArray.state c.args.array.now))
+
+pub returns-in-Wear-clause-all : goal.returns-in-Wear-clause-all
+returns-in-Wear-clause-all g c =
+    let array = g.A.CellArray.state c.args.array.now in
+    senses-nothing c.print_wear.result c.args.job.now.print array (ap (λ p. senses_for p array.lines) c.in-Wear.is)
+
+pub returns-in-Wear-clause-untouched : goal.returns-in-Wear-clause-untouched
+returns-in-Wear-clause-untouched g c = λ other. refl
+
+pub returns-in-Lines-clause-ok : goal.returns-in-Lines-clause-ok
+returns-in-Lines-clause-ok g c =
+    on_ok c.print_lines.result _ _ c.print_lines.ensures.ok
+    (lines-closes c.args.pcm.now (g.A.CellArray.state c.args.array.now) (cells_at g.row.E (g.A.CellArray.state c.args.array.now) (g.A.TellsCells.changes c.args.array.now)) c.args.rows c.args.counts.now c.args.job.now.print
+    (λ whole. Appends (g.K.Sink.written c.args.out.now) (g.K.Sink.written c.print_lines.new.out) whole) c.in-Lines.is)
+
+pub returns-in-Lines-clause-prefix : goal.returns-in-Lines-clause-prefix
+returns-in-Lines-clause-prefix g c =
+    on_err c.print_lines.result _ _ c.print_lines.ensures.prefix
+    (lines-closes c.args.pcm.now (g.A.CellArray.state c.args.array.now) (cells_at g.row.E (g.A.CellArray.state c.args.array.now) (g.A.TellsCells.changes c.args.array.now)) c.args.rows c.args.counts.now c.args.job.now.print
+    (λ whole. AppendsPrefix (g.K.Sink.written c.args.out.now) (g.K.Sink.written c.print_lines.new.out) whole) c.in-Lines.is)
+
+pub returns-in-Lines-clause-part : goal.returns-in-Lines-clause-part
+returns-in-Lines-clause-part g c = no-image c.print_lines.result c.args.job.now.print _ (λ is. absurd (cc (sym is ∙ c.in-Lines.is)))
+
+pub returns-in-Lines-clause-sensed : goal.returns-in-Lines-clause-sensed
+returns-in-Lines-clause-sensed g c = (0, omega arith, senses-none (g.A.CellArray.state c.args.array.now))
+
+pub returns-in-Lines-clause-all : goal.returns-in-Lines-clause-all
+returns-in-Lines-clause-all g c =
+    let array = g.A.CellArray.state c.args.array.now in
+    senses-nothing c.print_lines.result c.args.job.now.print array (ap (λ p. senses_for p array.lines) c.in-Lines.is)
+
+pub returns-in-Lines-clause-untouched : goal.returns-in-Lines-clause-untouched
+returns-in-Lines-clause-untouched g c = λ other. refl
+
+pub returns-in-Image-clause-ok : goal.returns-in-Image-clause-ok
+returns-in-Image-clause-ok g c =
+    on_ok c.print_image.result _ _ c.print_image.ensures.ok
+    (image-closes c.args.pcm.now (g.A.CellArray.state c.args.array.now) (cells_at g.row.E (g.A.CellArray.state c.args.array.now) (g.A.TellsCells.changes c.args.array.now)) c.args.rows c.args.counts.now c.args.job.now.print
+    (λ whole. Appends (g.K.Sink.written c.args.out.now) (g.K.Sink.written c.print_image.new.out) whole) c.in-Image.is c.args.job.now.seed c.requires.seed)
+
+pub returns-in-Image-clause-prefix : goal.returns-in-Image-clause-prefix
+returns-in-Image-clause-prefix g c =
+    on_err c.print_image.result _ _ c.print_image.ensures.prefix
+    (image-closes c.args.pcm.now (g.A.CellArray.state c.args.array.now) (cells_at g.row.E (g.A.CellArray.state c.args.array.now) (g.A.TellsCells.changes c.args.array.now)) c.args.rows c.args.counts.now c.args.job.now.print
+    (λ whole. AppendsPrefix (g.K.Sink.written c.args.out.now) (g.K.Sink.written c.print_image.new.out) whole) c.in-Image.is c.args.job.now.seed c.requires.seed)
+
+pub returns-in-Image-clause-part : goal.returns-in-Image-clause-part
+returns-in-Image-clause-part g c =
+    on_err c.print_image.result _ _ c.print_image.ensures.part
+    (λ part is.
+    subst (λ seed. WritesRows (g.A.CellArray.state c.print_image.new.array) (saved_of c.args.pcm.now.shape seed (kept_in c.args.pcm.now) (g.A.CellArray.state c.args.array.now)) (g.K.Sink.written c.args.out.now) (g.K.Sink.written c.print_image.new.out)) c.requires.seed part)
+
+pub returns-in-Image-clause-sensed : goal.returns-in-Image-clause-sensed
+returns-in-Image-clause-sensed g c =
+    let first = g.A.CellArray.state c.args.array.now in
+    subst (λ p. SensesSome (senses_for p first.lines) first (g.A.CellArray.state c.print_image.new.array)) (sym c.in-Image.is) c.print_image.ensures.sensed
+
+pub returns-in-Image-clause-all : goal.returns-in-Image-clause-all
+returns-in-Image-clause-all g c =
+    let first = g.A.CellArray.state c.args.array.now in
+    subst (λ p. OnOk c.print_image.result (SensesRows (senses_for p first.lines) first (g.A.CellArray.state c.print_image.new.array))) (sym c.in-Image.is) c.print_image.ensures.all
+
+pub returns-in-Image-clause-untouched : goal.returns-in-Image-clause-untouched
+returns-in-Image-clause-untouched g c = λ other. absurd (other c.in-Image.is)

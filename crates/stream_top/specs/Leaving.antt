@@ -1,0 +1,66 @@
+-- What a stream leaves that was served to its end, and what is written of it.
+use Rattle.std.specs.Prelude.{◌≡◌, ℕ, ◌^◌, ◌<◌, Bool, List, []}
+use Rattle.cell_rows.specs.Device.{ArrayState}
+use Rattle.row_rules.specs.declared.Row.{Row}
+use Rattle.wear_report.specs.declared.Role.{Role}
+use Rattle.wear_report.specs.WearText.{wear_text}
+use Rattle.lines_report.specs.declared.row.LineCells.{LineCells}
+use Rattle.lines_report.specs.LinesText.{lines_text}
+use Rattle.module_shape.specs.declared.raw.RawShape.{RawShape}
+use Rattle.module_shape.specs.Limits.{IsShape}
+use Rattle.end_laws.specs.Ends.{BankEnd}
+use Rattle.run_laws.specs.Runs.{RunsRightTo}
+use Rattle.pcm_image.specs.Saved.{Saved}
+use Rattle.pcm_image.specs.Spelling.{image_bytes}
+use Rattle.image_laws.specs.Saving.{saved_of}
+use Rattle.image_laws.specs.SavedRuns.{IsLeftTo, SavesRunTo}
+use Rattle.image_text.specs.Sensing.{SensesRows}
+use Rattle.run_text.specs.Pulses.{pulses_in_all}
+use Rattle.run_text.specs.SummaryText.{summary_text}
+use Rattle.run_text.specs.declared.counts.Counts.{Counts}
+use Rattle.pcm_module.specs.Roles.{spares_used}
+use Rattle.pcm_module.specs.State.{ModuleState}
+use Rattle.module_prints.specs.Images.{kept_in}
+use Rattle.module_prints.specs.WearReports.{HaveRoles, IsWearReport}
+use Rattle.row_printer.specs.Printing.{table_of}
+use Rattle.row_printer.specs.declared.told.Told.{Told}
+use Rattle.row_stream.specs.Asking.{events_in}
+use Rattle.row_stream.specs.Ending.{HasEnded, rows_of}
+use Rattle.stream_words.specs.declared.job.StreamPrint.{StreamPrint}
+use Rattle.stream_words.specs.declared.job.StreamPrint.TheVariants.{Rows, Summary, Wear, Lines, Image}
+use Rattle.trace_stream.specs.declared.asked.Asked.{Asked}
+
+-- rows left a module over an array, of whose lines the first, so many, were sensed since, each once and in their order, at tick 0: by the ends of its
+-- banks they are right over the array as it is now, and the module is saved as what these rows left, with each line's newest bytes
+pub record Leaves {n m : ℕ} (off : Bool) (e : ℕ) (raw : RawShape) (seed : ℕ) (rows : List (Row n)) (ends : ℕ → BankEnd) (sensed : ℕ) (before array : ArrayState n m) (saved : Saved n m) : Type 0 where
+  pub since : SensesRows sensed before array
+  pub right : RunsRightTo e raw seed off rows array ends
+  pub left : IsLeftTo off e raw seed rows array saved
+  pub saves : SavesRunTo off e raw seed rows array ends saved
+
+-- how many lines of an array that has so many are sensed for what is written in the end: each for an image, and none for anything else
+abbrev pub senses_for : StreamPrint → ℕ → ℕ
+senses_for Rows lines = 0
+senses_for Summary lines = 0
+senses_for Wear lines = 0
+senses_for Lines lines = 0
+senses_for Image lines = lines
+
+-- what is written in the end of so many rows, of which so many had each outcome: by the ends of the banks, the array, what the
+-- cells of its lines say, and the module that is saved
+abbrev pub IsClosing : {n m : ℕ} → RawShape → ℕ → ℕ → Counts → (ℕ → BankEnd) → ArrayState n m → (ℕ → LineCells) → Saved n m → StreamPrint → List ℕ → Type 0
+IsClosing raw seed rows counts ends array cells saved Rows text = text ≡ []
+IsClosing raw seed rows counts ends array cells saved Summary text = text ≡ summary_text rows counts (spares_used raw ends) (pulses_in_all array)
+IsClosing raw seed rows counts ends array cells saved Wear text =
+    (report : List (ℕ × ℕ × Role)) × IsWearReport raw seed ends array report × (text ≡ wear_text report)
+IsClosing raw seed rows counts ends array cells saved Lines text =
+    (report : List (ℕ × ℕ × Role)) × IsWearReport raw seed ends array report × (text ≡ lines_text cells report)
+IsClosing raw seed rows counts ends array cells saved Image text = text ≡ image_bytes saved
+
+-- a stream that has ended leaves all that, whether or not the power stays off, and each array line has one role
+abbrev pub LeavesLaw : Type 0
+LeavesLaw =
+    (n m e : ℕ) (raw : RawShape) (seed : ℕ) (off : Bool) (asked : List (Asked n)) (module_ : ModuleState n m e) (before array : ArrayState n m) (places : ℕ) (told : List (Told n)) (sensed : ℕ)
+    → IsShape raw → seed < 2 ^ 64 → SensesRows sensed before array → (ended : HasEnded raw seed off asked module_ before places told)
+    → Leaves off e raw seed (rows_of (events_in asked) (table_of places told)) ended.ends sensed before array (saved_of raw seed (kept_in module_) before)
+    × HaveRoles raw seed ended.ends

@@ -1,0 +1,67 @@
+// What a stream writes in the end, of what it left.
+ghost use Rattle.std.specs.Prelude.{◌≡◌, ◌≢◌, ◌*◌, ◌≤◌, ℕ, List, OnOk, OnErr};
+ghost use Rattle.std.specs.Io.KnownBytes.{Appends};
+ghost use Rattle.pcm_io.specs.Faults.{Rose};
+ghost use Rattle.pcm_io.specs.Giving.{AppendsPrefix};
+ghost use Rattle.pcm_io.specs.Reserved.{reserved};
+ghost use Rattle.ecp_line.specs.Layout.{IsLayout};
+ghost use Rattle.module_shape.specs.Addresses.{array_lines_of, module_of};
+ghost use Rattle.end_laws.specs.Ends.{BankEnd};
+ghost use Rattle.image_laws.specs.Saving.{saved_of};
+ghost use Rattle.image_text.specs.Sensing.{SensesRows, SensesSome};
+ghost use Rattle.pcm_module.specs.State.{AreEndsOf};
+ghost use Rattle.module_prints.specs.Images.{WritesRows, kept_in};
+ghost use Rattle.module_prints.specs.WearReports.{HaveRoles, cells_at};
+ghost use Rattle.stream_top.specs.Leaving.{IsClosing, senses_for};
+
+use cell_wear::TellsCells;
+use module_prints::{print_image, print_lines, print_wear};
+use pcm_io::{Sink, Text, WriteFault};
+use pcm_module::Module;
+use run_text::{Counts, TEXT_ROOM, print_rest, print_summary, sum_pulses};
+use stream_words::{StreamJob, StreamPrint};
+
+/// Writes what is asked for in the end of a stream that was served: its summary, a report with a row for each array line, or the image of what
+/// it left; behind rows nothing. For an image each line of the array is sensed once, in order, at tick 0; otherwise nothing happens to the array.
+pub fn print_closing<const B: usize, const M: usize, const E: usize, A: TellsCells<B, M>, K: Sink>(
+    job: &StreamJob,
+    pcm: &Module<B, M, E>,
+    array: &mut A,
+    rows: u32,
+    counts: &Counts,
+    text: &mut Text,
+    out: &mut K,
+) -> Result<(), WriteFault>
+    requires layout { IsLayout B M E }
+    requires room { text.old ≡ reserved TEXT_ROOM }
+    requires seed { job.now.seed ≡ pcm.now.seed }
+    requires size { (A.state array.old).lines ≡ pcm.now.shape.banks * array_lines_of (module_of pcm.now.shape) }
+    ensures ok { OnOk result ((ends : ℕ → BankEnd) → AreEndsOf pcm.now ends → HaveRoles pcm.now.shape pcm.now.seed ends
+        → (whole : List ℕ) × IsClosing pcm.now.shape pcm.now.seed rows counts.now ends (A.state array.old)
+        (cells_at E (A.state array.old) (A.changes array.old))
+        (saved_of pcm.now.shape pcm.now.seed (kept_in pcm.now) (A.state array.old)) job.now.print whole
+        × Appends (K.written out.old) (K.written out.new) whole) }
+    ensures prefix { OnErr result ((ends : ℕ → BankEnd) → AreEndsOf pcm.now ends → HaveRoles pcm.now.shape pcm.now.seed ends
+        → (whole : List ℕ) × IsClosing pcm.now.shape pcm.now.seed rows counts.now ends (A.state array.old)
+        (cells_at E (A.state array.old) (A.changes array.old))
+        (saved_of pcm.now.shape pcm.now.seed (kept_in pcm.now) (A.state array.old)) job.now.print whole
+        × AppendsPrefix (K.written out.old) (K.written out.new) whole) }
+    ensures part { OnErr result (job.now.print ≡ StreamPrint.Image → WritesRows (A.state array.new)
+        (saved_of pcm.now.shape pcm.now.seed (kept_in pcm.now) (A.state array.old)) (K.written out.old) (K.written out.new)) }
+    ensures sensed { SensesSome (senses_for job.now.print (A.state array.old).lines) (A.state array.old) (A.state array.new) }
+    ensures all { OnOk result (SensesRows (senses_for job.now.print (A.state array.old).lines) (A.state array.old) (A.state array.new)) }
+    ensures untouched { job.now.print ≢ StreamPrint.Image → array.new ≡ array.old }
+    ensures fault { OnErr result (Rose (K.faults out.old) (K.faults out.new)) }
+    ensures never_falls { K.faults out.old ≤ K.faults out.new }
+{
+    match job.print {
+        StreamPrint::Rows => Ok(()),
+        StreamPrint::Summary => {
+            print_summary(rows, counts, pcm.retired(), sum_pulses(array), text);
+            print_rest(text, out)
+        }
+        StreamPrint::Wear => print_wear(pcm, array, text, out),
+        StreamPrint::Lines => print_lines(pcm, array, text, out),
+        StreamPrint::Image => print_image(pcm, job.seed, array, text, out),
+    }
+}
