@@ -1,0 +1,4 @@
+mod Rows
+mod Queueing
+mod Moment
+mod Along

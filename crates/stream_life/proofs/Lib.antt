@@ -1,0 +1,2 @@
+mod Unworn
+mod Served
