@@ -2,7 +2,10 @@ ghost use Rattle.std.specs.Prelude.{◌≡◌, ◌<◌};
 ghost use Rattle.cell_rows.specs.Device.{IsShape};
 
 use crate::comparing::compare;
-use pcm_cells::{Act, CellArray, Cells, LoggedArray, MemArray, Script, ScriptArray, Sense, Wear};
+use pcm_cells::{
+    Act, CellArray, CellWear, Cells, LoggedArray, MemArray, Script, ScriptArray, Sense, TellsCells,
+    Wear,
+};
 use run_text::sum_pulses;
 use std::alloc::{AllocError, Global};
 use std::test::Fail;
@@ -304,5 +307,57 @@ fn pulses_of_a_wide_line_are_summed(rt: HostRuntime) -> Result<(), Fail> {
     wide.power_up(rt.alloc(), 1, LASTING)?;
     overwrite(&mut wide, 0, &WIDE_ONES, 0);
     assert_eq!(rt; sum_pulses(&wide), 1);
+    Ok(())
+}
+
+// Cells live through two changes or through three, and none misses.
+const BRIEF: Wear = Wear {
+    seed: 7,
+    lo: 2,
+    hi: 3,
+    misses: 0,
+};
+
+// What an array tells that counts changes.
+fn worn(stuck: u32, changes: u32) -> Option<CellWear> {
+    Some(CellWear { stuck, changes })
+}
+
+// By the generator's words 295 of the 576 cells live through two changes alone.
+#[test]
+fn an_array_tells_how_the_cells_of_a_line_are_worn(rt: HostRuntime) -> Result<(), Fail> {
+    let mut array: MemArray<64, 8> = MemArray::new();
+    array.power_up(rt.alloc(), 2, BRIEF)?;
+    let new = array.cell_wear(1);
+    overwrite(&mut array, 1, &ONES, 0);
+    let once = array.cell_wear(1);
+    overwrite(&mut array, 1, &Cells::zero(), 1);
+    let twice = array.cell_wear(1);
+    overwrite(&mut array, 1, &ONES, 2);
+    let thrice = array.cell_wear(1);
+    let told = [new, once, twice, thrice, array.cell_wear(0)];
+    let same = is_same(&array.held(1), &seen(&mut array, 1, 3));
+    let expected = [
+        worn(0, 0),
+        worn(0, 1),
+        worn(295, 2),
+        worn(576, 3),
+        worn(0, 0),
+    ];
+    compare(&rt, (told, same), (expected, true));
+    Ok(())
+}
+
+#[test]
+fn a_script_counts_no_changes(rt: HostRuntime) -> Result<(), Fail> {
+    let mut array: ScriptArray<128, 16> = ScriptArray::new(Vec::new(rt.alloc()));
+    array.power_up(rt.alloc(), 1, LONG)?;
+    overwrite(&mut array, 0, &WIDE_DATA, 0);
+    let held = array.held(0);
+    compare(
+        &rt,
+        (array.cell_wear(0), held.bits[127], held.meta[0]),
+        (None, 0xff, 0),
+    );
     Ok(())
 }

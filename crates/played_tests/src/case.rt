@@ -24,7 +24,7 @@ pub struct Case {
     pub source_fails: Vec<u32>,
     pub out_fails: Vec<u32>,
     pub err_fails: Vec<u32>,
-    /// Each sink takes one byte a call.
+    /// Each sink takes one byte a call, and the source gives one.
     pub one_byte: bool,
     /// The array lines that are shown behind the run.
     pub shown: Vec<u32>,
@@ -36,6 +36,10 @@ pub struct Case {
     pub cuts: Option<u32>,
     /// There is a run for each beginning of the source's bytes.
     pub beginnings: bool,
+    /// There is a run with a faulty row in each place of the trace.
+    pub faults: bool,
+    /// There is a run in which the output's first call fails, one in which the second does, and so on to this one.
+    pub failures: Option<u32>,
     /// The bytes of the source.
     pub trace: String,
     in_trace: bool,
@@ -61,6 +65,8 @@ impl Case {
             last: None,
             cuts: None,
             beginnings: false,
+            faults: false,
+            failures: None,
             trace: String::new(alloc),
             in_trace: false,
             is_whole: false,
@@ -111,6 +117,8 @@ impl Case {
             "last" => self.last = Some(rest.parse::<usize>()?),
             "cuts" => self.cuts = Some(rest.parse::<u32>()?),
             "beginnings" => self.beginnings = true,
+            "faults" => self.faults = true,
+            "failures" => self.failures = Some(rest.parse::<u32>()?),
             "trace" => self.in_trace = true,
             "rows" => {
                 self.trace.push_str(TRACE_HEADER)?;

@@ -1,11 +1,14 @@
-//! Plays rows that stand as data: whole runs of the program by its one call, over arrays whose cells do as a script says
-//! and over seeded arrays. It reads cases from standard input and prints what became of each.
+//! Plays rows that stand as data: whole runs and streams, each by its program's one call, over arrays whose cells do as a script says and
+//! over seeded arrays. It reads cases from standard input and prints what became of each. What a run prints as results is printed by a
+//! stream of the same rows, too.
 #![tactic(auto)]
 
 mod case;
 mod digits;
 mod play;
 mod sink;
+mod source;
+mod stream;
 mod tally;
 
 use case::Case;

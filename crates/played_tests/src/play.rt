@@ -4,12 +4,14 @@ ghost use Rattle.cell_rows.specs.Shape.{IsShape};
 use crate::case::Case;
 use crate::digits::in_short;
 use crate::sink::CaseSink;
+use crate::source::CaseSource;
+use crate::stream::{are_same, without_op};
 use crate::tally::Tally;
-use pcm_cells::{CellArray, Cells, MemArray, ScriptArray};
-use pcm_io::MemSource;
+use pcm_cells::{CellArray, Cells, MemArray, ScriptArray, TellsCells};
 use pcm_top::pcm_run;
 use std::alloc::{AllocError, Global};
 use std::str;
+use stream_top::stream_run;
 
 /// What a run answered.
 #[derive(Drop)]
@@ -32,14 +34,50 @@ pub fn played(alloc: Global, case: &Case) -> Result<String, AllocError> {
     } else if case.beginnings {
         let runs = short_runs(alloc, case)?;
         runs.push_to(&mut text)?;
+    } else if case.faults {
+        let runs = faulty_runs(alloc, case)?;
+        runs.push_to(&mut text)?;
+    } else if let Some(last) = case.failures {
+        let runs = failing_runs(alloc, case, last)?;
+        runs.push_to(&mut text)?;
     } else {
-        let answer = answer_of(alloc, case, case.trace.as_bytes())?;
-        push_answer(&mut text, case, &answer)?;
-        if !case.pieces.is_empty() {
-            push_stood_for(&mut text, case, answer.bytes.as_slice())?;
-        }
+        push_one(&mut text, case)?;
     }
     Ok(text)
+}
+
+// What one run wrote and left, and what a stream of the same rows made of it where it didn't print the same.
+fn push_one(text: &mut String, case: &Case) -> Result<(), AllocError> {
+    let alloc = *text.allocator();
+    let answer = answer_of(alloc, case, case.trace.as_bytes())?;
+    push_answer(text, case, &answer)?;
+    if !case.pieces.is_empty() {
+        push_stood_for(text, case, answer.bytes.as_slice())?;
+    }
+    if answer.status <= 1 && answer.out.as_str().starts_with("row,op,") {
+        let stream = stream_of(alloc, case)?;
+        let streamed = answer_of(alloc, &stream, case.trace.as_bytes())?;
+        let results = without_op(alloc, answer.out.as_str())?;
+        if !are_same(results.as_str(), streamed.out.as_str()) {
+            text.push_str("its stream differs\n")?;
+            push_answer(text, &stream, &streamed)?;
+        }
+    }
+    Ok(())
+}
+
+// A stream of a run's rows, over cells that do the same.
+fn stream_of(alloc: Global, case: &Case) -> Result<Case, AllocError> {
+    let mut stream = Case::new(alloc);
+    stream.words.push(String::from_str(alloc, "stream")?)?;
+    for word in case.words.iter().skip(1) {
+        stream.words.push(String::from_str(alloc, word.as_str())?)?;
+    }
+    stream.script = Vec::from_slice(alloc, case.script.as_slice())?;
+    stream.seeded = case.seeded;
+    stream.line_bytes = case.line_bytes;
+    stream.one_byte = case.one_byte;
+    Ok(stream)
 }
 
 // What `show` says of an image.
@@ -76,42 +114,49 @@ fn scripted<const B: usize, const M: usize>(
     Ok(ScriptArray::new(script))
 }
 
-fn answer_over<A: CellArray<64, 8>, V: CellArray<128, 16>>(
+fn answer_over<A: TellsCells<64, 8>, V: TellsCells<128, 16>>(
     alloc: Global,
     case: &Case,
     trace: &[u8],
     array: &mut A,
     wide: &mut V,
 ) -> Result<Answer, AllocError> {
-    let mut ends = Ends::new(alloc, case, trace)?;
-    let status = run(alloc, case, array, wide, &mut ends);
+    let ends = Ends::new(alloc, case, trace)?;
+    let (status, ends) = run(alloc, case, array, wide, ends);
     let arrays = arrays_of(alloc, case, array, wide)?;
     ends.answer(alloc, case, status, arrays)
 }
 
-fn run<A: CellArray<64, 8>, V: CellArray<128, 16>>(
+// Plays the words on the program of streams where the first one says so, or else on the other.
+fn run<A: TellsCells<64, 8>, V: TellsCells<128, 16>>(
     alloc: Global,
     case: &Case,
     array: &mut A,
     wide: &mut V,
-    ends: &mut Ends,
-) -> u8 {
-    pcm_run(
-        alloc,
-        case.words.as_slice(),
-        array,
-        wide,
-        &mut ends.source,
-        &mut ends.out,
-        &mut ends.err,
-    )
+    ends: Ends,
+) -> (u8, Ends) {
+    let Ends {
+        mut source,
+        mut out,
+        mut err,
+    } = ends;
+    let (status, out) = match case.words.as_slice() {
+        [first, words @ ..] if first.as_str() == "stream" => {
+            stream_run(alloc, words, array, wide, &mut source, out, &mut err)
+        }
+        words => {
+            let status = pcm_run(alloc, words, array, wide, &mut source, &mut *out, &mut err);
+            (status, out)
+        }
+    };
+    (status, Ends { source, out, err })
 }
 
 /// Where the bytes of a run come from and go to.
 #[derive(Drop)]
 struct Ends {
-    source: MemSource,
-    out: CaseSink,
+    source: CaseSource,
+    out: Box<CaseSink>,
     err: CaseSink,
 }
 
@@ -119,6 +164,7 @@ impl Ends {
     fn new(alloc: Global, case: &Case, trace: &[u8]) -> Result<Ends, AllocError> {
         let source = source(alloc, case, trace)?;
         let out = CaseSink::new(alloc, &case.out_fails, case.one_byte)?;
+        let out = Box::new(alloc, out)?;
         let err = CaseSink::new(alloc, &case.err_fails, case.one_byte)?;
         Ok(Ends { source, out, err })
     }
@@ -147,10 +193,10 @@ impl Ends {
     }
 }
 
-fn source(alloc: Global, case: &Case, trace: &[u8]) -> Result<MemSource, AllocError> {
+fn source(alloc: Global, case: &Case, trace: &[u8]) -> Result<CaseSource, AllocError> {
     let bytes = Vec::from_slice(alloc, trace)?;
     let fails = Vec::from_slice(alloc, case.source_fails.as_slice())?;
-    Ok(MemSource::new(bytes, fails))
+    Ok(CaseSource::new(bytes, fails, case.one_byte))
 }
 
 fn text_in(alloc: Global, sink: &CaseSink) -> Result<String, AllocError> {
@@ -316,6 +362,43 @@ fn short_runs(alloc: Global, case: &Case) -> Result<Runs, AllocError> {
     let bytes = case.trace.as_bytes();
     for count in 0..=bytes.len() {
         let answer = answer_of(alloc, case, &bytes[..count])?;
+        runs.count(alloc, case, &answer)?;
+    }
+    Ok(runs)
+}
+
+// A run with a faulty row before each line of the source behind the first, and one with it behind the last.
+fn faulty_runs(alloc: Global, case: &Case) -> Result<Runs, AllocError> {
+    let mut runs = Runs::new(alloc);
+    for place in 1..=case.trace.as_str().lines().count() {
+        let trace = with_fault(alloc, case.trace.as_str(), place)?;
+        let answer = answer_of(alloc, case, trace.as_str().as_bytes())?;
+        runs.count(alloc, case, &answer)?;
+    }
+    Ok(runs)
+}
+
+fn with_fault(alloc: Global, trace: &str, place: usize) -> Result<String, AllocError> {
+    let mut text = String::new(alloc);
+    for (i, row) in trace.lines().enumerate() {
+        if i == place {
+            text.push_str("no row\n")?;
+        }
+        writeln!(text, "{row}")?;
+    }
+    if place == trace.lines().count() {
+        text.push_str("no row\n")?;
+    }
+    Ok(text)
+}
+
+// A run in which the output's first call fails, one in which the second does, and so on.
+fn failing_runs(alloc: Global, case: &Case, last: u32) -> Result<Runs, AllocError> {
+    let mut runs = Runs::new(alloc);
+    for call in 1..=last {
+        let mut failing = stream_of(alloc, case)?;
+        failing.out_fails.push(call)?;
+        let answer = answer_of(alloc, &failing, case.trace.as_bytes())?;
         runs.count(alloc, case, &answer)?;
     }
     Ok(runs)

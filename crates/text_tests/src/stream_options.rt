@@ -125,6 +125,7 @@ fn a_stream_may_be_long_and_end_without_power(rt: HostRuntime) -> Result<(), Fai
         // Two dashes end the options.
         ends(rt.alloc(), "--print wear --input source --end off --")?,
         ends(rt.alloc(), "--print rows")?,
+        ends(rt.alloc(), "--print lines")?,
     ];
     let wanted = [
         (StreamPrint::Rows, Input::Source, End::Drain),
@@ -132,6 +133,7 @@ fn a_stream_may_be_long_and_end_without_power(rt: HostRuntime) -> Result<(), Fai
         (StreamPrint::Summary, Input::Drawn(latest), End::Drain),
         (StreamPrint::Wear, Input::Source, End::Off),
         (StreamPrint::Rows, Input::Source, End::Drain),
+        (StreamPrint::Lines, Input::Source, End::Drain),
     ];
     assert_eq!(rt; told, wanted);
     Ok(())

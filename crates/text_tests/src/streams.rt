@@ -7,7 +7,7 @@ use run_text::TEXT_ROOM;
 use std::alloc::Global;
 use std::test::Fail;
 use trace_reader::{Event, EventOp, Kind, TraceFault};
-use trace_stream::{Asked, StreamFault, read_stream};
+use trace_stream::{Asked, StreamFault, TraceStream, read_stream};
 
 // What a text asks, read from a source whose call with this number fails. The first call gives one byte, and the others
 // all that are left.
@@ -77,6 +77,42 @@ fn faults_are_told(rt: HostRuntime) -> Result<(), Fail> {
             row(1, Kind::Fields),
         ]
     );
+    Ok(())
+}
+
+// How many rows come before the fault of a text, and the fault: of its ten reads, each behind a settle, one is of a line that isn't there.
+fn front(alloc: Global, faulty: u32) -> Result<(u32, Option<StreamFault>), StreamFault> {
+    let mut text = Vec::from_slice(alloc, b"tick,op,arg,data\n")?;
+    for row in 1..11 {
+        text.extend_from_slice(if row == faulty {
+            b"3,S,,\n3,R,4,\n"
+        } else {
+            b"3,S,,\n3,R,1,\n"
+        })?;
+    }
+    let mut source = NeverFailSource::new(text);
+    let mut stream = TraceStream::open(alloc, &mut source, 4)?;
+    for rows in 0..30 {
+        match stream.next::<64, NeverFailSource>(&mut source) {
+            Ok(Some(_)) => {}
+            Ok(None) => return Ok((rows, None)),
+            Err(fault) => return Ok((rows, Some(fault))),
+        }
+    }
+    Ok((30, None))
+}
+
+#[test]
+fn a_fault_hides_no_row_before_it(rt: HostRuntime) -> Result<(), Fail> {
+    for faulty in 1..11 {
+        let fault = StreamFault::Trace(TraceFault {
+            row: faulty,
+            kind: Kind::Line,
+        });
+        let found = front(rt.alloc(), faulty).ok();
+        assert_eq!(rt; found, Some((2 * faulty - 1, Some(fault))));
+    }
+    assert_eq!(rt; front(rt.alloc(), 11).ok(), Some((20, None)));
     Ok(())
 }
 
