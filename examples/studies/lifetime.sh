@@ -17,26 +17,12 @@ here=$(dirname "$0")
 full=
 [ "$2" = --full ] && full=yes
 
-# attack LINES: the trace over a region of so many lines, in as many rows as one may have
-attack() {
-    "$pcm" map --banks 1 --regions 1 --spares 0 --lines "$1" | awk -F, '
-        # no spare: a line stands at the place of its number
-        function row(line, bytes) { printf "%d,W,%d,%s\n", 200 * rows++, line, bytes }
-        BEGIN {
-            print "tick,op,arg,data"
-            for (k = 0; k < 64; k++) { ones = ones "ff"; zeros = zeros "00" }
-        }
-        NR > 1 && $5 == 0 { hot = $1 }
-        NR > 1 && $5 % 2 == 1 { row($1, ones) }
-        END { for (i = 0; rows < 400000; i++) row(hot, i % 2 ? zeros : ones) }'
-}
-
 printf 'lines,psi,changes,misses,stays,promised,life,percent\n'
 while read -r lines psi changes misses; do
     [ $full ] && lines=$((2 * lines)) changes=$((changes / 2))
     others=$((lines / 2))
     promised=$("$here/promise" --lines "$lines" --psi "$psi" --lo "$changes" --others "$others")
-    attack "$lines" |
+    "$pcm" map --banks 1 --regions 1 --spares 0 --lines "$lines" | "$here/attack" 400000 |
         "$pcm" run --banks 1 --regions 1 --spares 0 --print summary --lines "$lines" --psi "$psi" --lo "$changes" --hi "$changes" --misses "$misses" |
         awk -v OFS=, -v lines="$lines" -v psi="$psi" -v changes="$changes" -v misses="$misses" -v promised="$promised" -v others="$others" '
             $1 == "stored" {
