@@ -15,6 +15,8 @@ Row by row, over a pipe to its second program, `stream`, with answers as they be
         for outcome in module.settle(1000):
             print(outcome)
 
+`python3 -m pcm report --help` tells how to make a page of pictures and numbers of runs.
+
 Ticks are the simulation's own unit of time, from 0 to 2**40, and never fall. A line is a line of the module, from 0. Options are those of
 the command line, with `_` for `-`: `docs/USING.md` of the repository has them all. A wrong option, a fault of the trace and an end of the
 program that isn't one of a whole run are exceptions (`PcmError`), which carry the program's status and its line.

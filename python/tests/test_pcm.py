@@ -8,12 +8,24 @@ import sys
 import tempfile
 import unittest
 
-sys.path.insert(0, str(pathlib.Path(__file__).resolve().parent.parent))
+PACKAGE = pathlib.Path(__file__).resolve().parent.parent
+sys.path.insert(0, str(PACKAGE))
 import pcm  # noqa: E402
 
 SMALL = {"banks": 1, "regions": 1, "lines": 4, "spares": 2, "write_queue": 4, "read_queue": 4}
 ONES = b"\xff" * 64
 WORN = {"banks": 2, "regions": 2, "lines": 8, "lo": 5, "hi": 40, "misses": 2, "psi": 3}
+# Hands 100,000 rows in and settles each hundred; prints the process's peak memory in KB behind 20,000 and behind all.
+PEAKS = """
+import pcm
+with pcm.Module(banks=1, regions=1, lines=4) as module:
+    for row in range(1, 100_001):
+        module.read(10 * row, row % 4)
+        if row % 100 == 0:
+            module.settle(10 * row)
+        if row in (20_000, 100_000):
+            print(next(line.split()[1] for line in open("/proc/self/status") if line.startswith("VmHWM")))
+"""
 
 
 def drawn(**options):
@@ -148,6 +160,13 @@ class Streams(unittest.TestCase):
                 module.read(10 * tick, tick % 4)
             self.assertEqual(40_000, len(module.finish()))
 
+    @unittest.skipUnless(pathlib.Path("/proc/self/status").exists(), "peak memory is told by /proc")
+    def test_memory_does_not_grow_with_the_rows(self):
+        # (a process of its own, whose peak no other test has raised)
+        done = subprocess.run([sys.executable, "-c", PEAKS], stdout=subprocess.PIPE, check=True, env={**os.environ, "PYTHONPATH": str(PACKAGE)})
+        soon, late = map(int, done.stdout.split())
+        self.assertLess(late - soon, 1000)
+
     def test_a_module_that_is_dropped_ends_its_program(self):
         module = pcm.Module(**SMALL)
         module.write(0, 0, ONES)
@@ -159,7 +178,7 @@ class Packages(unittest.TestCase):
     def test_the_wheel_installs_without_a_network(self):
         with tempfile.TemporaryDirectory() as folder:
             made = subprocess.run(
-                [sys.executable, "-m", "pip", "install", "--quiet", "--no-deps", "--target", folder, str(pathlib.Path(__file__).resolve().parent.parent)],
+                [sys.executable, "-m", "pip", "install", "--quiet", "--no-deps", "--target", folder, str(PACKAGE)],
                 stdout=subprocess.PIPE, stderr=subprocess.STDOUT, check=False, env={**os.environ, "PIP_NO_INDEX": "1"},
             )
             if b"No module named pip" in made.stdout:

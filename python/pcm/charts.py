@@ -1,0 +1,232 @@
+"""The pictures of a report. Those of several runs have one scale, which is handed in."""
+from typing import Dict, List, NamedTuple, Optional, Sequence, Tuple
+
+from .drawing import (
+    BLUE, GREEN, HEAT, ORANGE, PALE, PALE_BLUE, PAPER, PURPLE, RED, RULE, SOFT, VARIABLES, Picture, figure, width_of,
+)
+from .plots import Axis, Panel, Room, Series, fitting, of_names, plot, round_step, short, upright
+from .runs import OUTCOMES
+from .tallies import Group, Level, Pulses
+
+WIDTH = 460
+COLOURS = {
+    "stored": BLUE, "merged": BLUE, "queued": ORANGE, "full": ORANGE, "worn": ORANGE, "read": GREEN, "forwarded": GREEN, "busy": ORANGE,
+    "lost": RED, "cut": SOFT,
+}
+# The most cells of a row of the map, and the widest cell.
+_COLUMNS, _CELL = 66, 16.0
+_EDGES = {"gap": BLUE, "retired": RED, "control": GREEN, "free": RULE}
+
+
+def of_counts(counts: Dict[str, int], most: int, title: str) -> Picture:
+    """A bar for each outcome."""
+    told = ", ".join(f"{word} {counts[word]:,}" for word in OUTCOMES)
+    picture = Picture(WIDTH, 262, title, told, VARIABLES)
+    rows, y = max(1, sum(counts.values())), 4
+    for word in OUTCOMES:
+        group = {"stored": "writes", "read": "reads", "cut": "cuts"}.get(word)
+        if group:
+            y += 0 if word == "stored" else 10
+            picture.text(2, y + 15, group, 12, "start", SOFT, italic=True)
+        picture.text(118, y + 15, word, 13, "end")
+        picture.rectangle(125, y + 3, WIDTH - 250, 16, PALE)
+        picture.rectangle(125, y + 3, (WIDTH - 250) * counts[word] / max(1, most), 16, COLOURS[word])
+        picture.text(WIDTH - 57, y + 15, f"{counts[word]:,}", 13, "end")
+        picture.text(WIDTH - 4, y + 15, _share(counts[word], rows), 12, "end", SOFT)
+        y += 23
+    return picture
+
+
+def _share(count: int, rows: int) -> str:
+    """A part of all rows in per cent; one that isn't none isn't told as none."""
+    return "<0.1%" if 0 < 2000 * count < rows else f"{100 * count / rows:.1f}%"
+
+
+def heat(value: int, most: int) -> int:
+    """The step of the palette's heat for a value: 0 for none, 1 to 8 for equal parts up to the most, and 8 above."""
+    return 0 if value == 0 else min(8, 1 + (value - 1) * 8 // most)
+
+
+def bounds(step: int, most: int) -> Tuple[int, int]:
+    """The least and the greatest value of a step of heat from 1 on; the second is below the first where no value has it."""
+    return -(-(step - 1) * most // 8) + 1, -(-step * most // 8)
+
+
+def of_cells(groups: Sequence[Group], values: Sequence[int], most: int, title: str, told: str) -> Picture:
+    """A map of array lines: a row, or several, for each group, coloured by a value of each line."""
+    places = max((len(group.lines) for group in groups if group.words.startswith("region")), default=1)
+    columns = -(-places // -(-places // _COLUMNS))
+    wide = min(_CELL, (WIDTH - 64) / columns)
+    high = 14.0 if max(len(group.lines) for group in groups) <= columns else max(wide, 7.0)
+    heights = [max(14.0, -(-len(group.lines) // columns) * high) + 3 for group in groups]
+    picture = Picture(WIDTH, 30 + sum(heights), title, told, VARIABLES)
+    picture.text(0, 15, title, 14, "start", bold=True)
+    steps: List[List[str]] = [[] for _ in HEAT]
+    edges: Dict[str, List[str]] = {role: [] for role in _EDGES}
+    top = 28.0
+    for group, height in zip(groups, heights):
+        picture.text(56, top + max(high, 12) / 2 + 4, group.words, 12, "end", SOFT)
+        for at, line in enumerate(group.lines):
+            x, y = 62 + at % columns * wide, top + at // columns * high
+            steps[heat(values[line.array], most)].append(_square(x, y, wide - 1, high - 1))
+            if line.role in edges:
+                edges[line.role].append(_edge(line.role, x, y, wide - 1, high - 1))
+        top += height
+    _paint(picture, steps, edges)
+    return picture
+
+
+def _square(x: float, y: float, wide: float, high: float) -> str:
+    return f"M{figure(x)},{figure(y)}h{figure(wide)}v{figure(high)}h{figure(-wide)}z"
+
+
+def _edge(role: str, x: float, y: float, wide: float, high: float) -> str:
+    """The outline of a role; a retired line is struck through, too."""
+    around = _square(x + 0.5, y + 0.5, wide - 1, high - 1)
+    return around + (f"M{figure(x)},{figure(y + high)}l{figure(wide)},{figure(-high)}" if role == "retired" else "")
+
+
+def _paint(picture: Picture, steps: List[List[str]], edges: Dict[str, List[str]]) -> None:
+    for name, squares in zip(HEAT, steps):
+        if squares:
+            picture.path("".join(squares), name)
+    for role, outlines in edges.items():
+        _outline(picture, role, outlines)
+
+
+def _outline(picture: Picture, role: str, outlines: List[str]) -> None:
+    """Draws outlines of a role; that of retired lines stands on paper, so that it is seen on dark cells."""
+    if outlines and role == "retired":
+        picture.path("".join(outlines), None, PAPER, 3.2)
+    if outlines:
+        picture.path("".join(outlines), None, _EDGES[role], 1.5)
+
+
+def of_heat(most: int, unit: str) -> Picture:
+    """What the colours and outlines of the maps say."""
+    picture = Picture(WIDTH, 86, f"Colours and outlines of the maps, up to {most:,} {unit}", "", VARIABLES)
+    picture.text(2, 13, f"{unit}, up to (control lines may have more)", 12, "start", SOFT, italic=True)
+    x = 2.0
+    for step, name in enumerate(HEAT):
+        least, greatest = bounds(step, most) if step else (0, 0)
+        if least <= greatest:
+            words = f"{greatest:,}" if greatest < 100_000 else short(greatest)
+            picture.rectangle(x, 21, 47, 13, name)
+            picture.text(x + 23.5, 48, words, 11, "middle", SOFT)
+            x += 50
+    x = 2.0
+    for role, words in (("gap", "a region's gap"), ("retired", "retired"), ("free", "unused spare"), ("control", "control line")):
+        picture.path(_square(x, 64, 14, 14), HEAT[0])
+        _outline(picture, role, [_edge(role, x, 64, 14, 14)])
+        picture.text(x + 20, 75, words, 12, "start")
+        x += 34 + width_of(words, 12)
+    return picture
+
+
+class Bins(NamedTuple):
+    """Columns of a histogram: so many of a width from 0 on, and where `beyond` one more for all above."""
+
+    width: int
+    count: int
+    beyond: bool
+
+    def counted(self, ordered: Sequence[int]) -> List[int]:
+        """How many values stand in each column."""
+        found = [0] * (self.count + self.beyond)
+        for value in ordered:
+            found[min(len(found) - 1, value // self.width)] += 1
+        return found
+
+    def words(self, column: int) -> str:
+        """The values of a column."""
+        first = column * self.width
+        if column == self.count:
+            return f"{first:,} and more"
+        return f"{first:,}" if self.width == 1 else f"{first:,} to {first + self.width - 1:,}"
+
+
+def binned(limit: int, most: int) -> Bins:
+    """About 40 columns that reach a limit, and one for what is above."""
+    width = max(1, round(round_step((limit + 1) / 40)))
+    count = limit // width + 1
+    return Bins(width, count, most >= count * width)
+
+
+def of_waits(title: str, series: Sequence[Tuple[str, str, List[int]]], bins: Bins, top: float, marks: Sequence[Tuple[float, str]]) -> Picture:
+    """A histogram of ticks: of each series its name, colour, and the counts of the columns; `top` is the greatest share in per cent."""
+    every = max(1, sum(sum(counts) for _, _, counts in series))
+    told = f"{every:,} rows; " + ", ".join(words for _, words in marks)
+    picture = Picture(WIDTH, 290, title, told, VARIABLES)
+    reach = bins.count * bins.width
+    step, middle = max(1, round_step(reach / 8)), 0.5 * (bins.width == 1)
+    ticks: List[Tuple[float, str]] = [(step * k + middle, short(step * k)) for k in range(int(reach / step) + 1) if step * k < reach]
+    if bins.beyond:
+        ticks = [it for it in ticks if it[0] < 0.94 * reach] + [(reach + bins.width / 2, f"{short(reach)}+")]
+    across = Axis("ticks", 0, reach + (bins.width if bins.beyond else 0), ticks)
+    drawn = [
+        Series(name, colour, [(at * bins.width, 100 * number / every) for at, number in enumerate(counts)])
+        for name, colour, counts in series
+    ]
+    panel, room = Panel(title, across, fitting("% of them", top), drawn, "stacked", bins.width), Room(46, 72, WIDTH - 60, 168)
+    plot(picture, panel, room)
+    upright(picture, panel, room, [(value + 0.5, words) for value, words in marks if value < reach])
+    return picture
+
+
+def _over_time(title: str, told: str, up: Axis, span: int, series: List[Series]) -> Picture:
+    above = 72 if any(one.name for one in series) else 50
+    picture = Picture(WIDTH, above + 150, title, told, VARIABLES)
+    step = max(1, round_step(span / 5))
+    across = Axis("ticks", 0, span, [(step * k, short(step * k)) for k in range(int(span / step) + 1)])
+    plot(picture, Panel(title, across, up, series, stroke=1.5), Room(46, above, WIDTH - 70, 100))
+    return picture
+
+
+def _steps(values: Sequence[int], span: int) -> List[Tuple[float, float]]:
+    """A value in each of equal parts of the time, as points."""
+    return [(span * at / len(values), float(value)) for at, value in enumerate([*values, values[-1]])]
+
+
+def of_levels(bank: int, writes: Level, reads: Level, span: int, top: int) -> Picture:
+    """How many writes and reads wait at a bank over time."""
+    told = f"writes at most {max(writes.most)}, {writes.mean:.2f} in the mean; reads at most {max(reads.most)}, {reads.mean:.2f} in the mean"
+    series = [
+        Series("", PALE_BLUE, _steps(writes.most, span), steps=True, filled=True),
+        Series("writes in the queue", BLUE, _steps(writes.most, span), steps=True),
+        Series("reads that wait", ORANGE, _steps(reads.most, span), steps=True),
+    ]
+    return _over_time(f"bank {bank}", told, fitting("rows, the most in each part of the time", top, 4, True), span, series)
+
+
+def of_growth(title: str, values: Sequence[int], span: int, top: int, colour: str) -> Picture:
+    """A number that grows over time."""
+    told = f"{values[-1]:,} in the end; half of them by tick {_half(values, span):,}" if values[-1] else "none"
+    up = fitting("so far", max(1, top), 4, True)
+    return _over_time(title, told, up, span, [Series("", colour, _steps(values, span), steps=True)])
+
+
+def _half(values: Sequence[int], span: int) -> int:
+    """The end of the part of the time in which half of the last value is reached."""
+    part = next(at for at, value in enumerate(values) if 2 * value >= values[-1])
+    return span * (part + 1) // len(values)
+
+
+def of_pulses(banks: Sequence[Pulses], top: float) -> Picture:
+    """Pulses for each store, by bank."""
+    names = [str(at) for at in range(len(banks))]
+    shown = [("slots and spares", BLUE, [(bank.lines, bank.stores) for bank in banks])]
+    if any(bank.control for bank in banks):
+        shown.append(("control lines", PURPLE, [(bank.control, bank.stores) for bank in banks]))
+    series = [
+        Series(name, colour, [(at, round(number / stores, 2)) for at, (number, stores) in enumerate(pairs) if stores])
+        for name, colour, pairs in shown
+    ]
+    told = ", ".join(f"bank {at}: {_two(bank.a_store)}" for at, bank in enumerate(banks))
+    picture = Picture(WIDTH, 290, "Pulses for each store, by bank", told, VARIABLES)
+    panel = Panel("Pulses for each store", of_names("bank", names), fitting("pulses", top), series, "bars")
+    plot(picture, panel, Room(46, 72, WIDTH - 60, 168))
+    return picture
+
+
+def _two(number: Optional[float]) -> str:
+    return "no store" if number is None else f"{number:.2f}"

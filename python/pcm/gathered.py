@@ -1,0 +1,140 @@
+"""Gathers a run from its files, or by running the program, and holds the files to one another."""
+import subprocess
+from typing import Dict, List, NamedTuple, Optional
+
+from .errors import UsageError, error_of
+from .program import Program, program as find_program
+from .runs import (
+    DEFAULTS, DRAWN, STREAMS, Arrival, FileFault, Run, Source, arrivals_of, image_of, opened, results_of, shape_of_wear,
+    summary_of, wear_of,
+)
+
+# The options that `gen` takes, too.
+_GENERATED = ("banks", "regions", "lines", "line", "seed", *DRAWN)
+
+
+class Asked(NamedTuple):
+    """What a report is to be made of for one run: its options, and the names of its files; with `runs` the program makes all but the
+    trace."""
+
+    name: Optional[str]
+    options: Dict[str, str]
+    runs: bool
+    results: Optional[str]
+    trace: Optional[str] = None
+    wear: Optional[str] = None
+    image: Optional[str] = None
+    summary: Optional[str] = None
+
+
+def gather(asked: Asked, program: Program = None) -> Run:
+    """The run that is asked for. `FileFault` where a file isn't what it should be, or two aren't of one run."""
+    sources = _made(asked, program) if asked.runs else _read(asked)
+    by_kind = {source.kind: source for source in sources}
+    options, origins = {**DEFAULTS, **asked.options}, {name: "given" for name in asked.options}
+    if options["input"] == "drawn":
+        options = {**options, **{name: value for name, value in DRAWN.items() if name not in options}}
+    files = [source for source in sources if not asked.runs or source.kind in ("trace", "results")]
+    run = Run(asked.name or asked.results or asked.trace or "drawn", options, origins, files, results_of(by_kind["results"]))
+    for kind, read in (("trace", _add_trace), ("wear report", _add_wear), ("image", _add_image), ("summary", _add_summary)):
+        if kind in by_kind:
+            read(run, by_kind[kind])
+    _hold_places(run, by_kind["results"])
+    return run
+
+
+def _read(asked: Asked) -> List[Source]:
+    named = (("results", asked.results), ("trace", asked.trace), ("wear report", asked.wear), ("image", asked.image), ("summary", asked.summary))
+    return [opened(kind, name) for kind, name in named if name is not None]
+
+
+def _made(asked: Asked, program: Program) -> List[Source]:
+    """What the program makes of a trace, or of one that is drawn."""
+    words = find_program(program)
+    if "end" in asked.options:
+        raise UsageError(2, "--end is an option of streams: hand in what the stream printed")
+    if asked.options.get("input") == "drawn":
+        generated = [name for name in asked.options if name in _GENERATED]
+        told = " ".join(f"--{name} {asked.options[name]}" for name in generated)
+        trace = Source("trace", f"pcm gen {told}".strip(), _ran([*words, "gen"], {name: asked.options[name] for name in generated}, b""))
+    elif asked.trace is None:
+        raise UsageError(2, "a trace is wanted, or --input drawn")
+    else:
+        trace = opened("trace", asked.trace)
+    sources = [trace]
+    for kind, what in (("results", "results"), ("wear report", "wear"), ("image", "image"), ("summary", "summary")):
+        sources.append(Source(kind, f"pcm run --print {what}", _ran([*words, "run"], {**asked.options, "print": what}, trace.data)))
+    return sources
+
+
+def _ran(words: List[str], options: Dict[str, str], given: bytes) -> bytes:
+    full = [*words, *(word for name, value in options.items() for word in (f"--{name}", value))]
+    done = subprocess.run(full, input=given, stdout=subprocess.PIPE, stderr=subprocess.PIPE, check=False)
+    if done.returncode not in (0, 1):
+        raise error_of(done.returncode, done.stderr)
+    return done.stdout
+
+
+def _add_trace(run: Run, source: Source) -> None:
+    """The trace's rows must be those of the results; one cut may have been added behind them, where the power went."""
+    arrivals = arrivals_of(source)
+    if len(run.rows) == len(arrivals) + 1 and run.rows[-1].word == "cut":
+        arrivals.append(Arrival(run.rows[-1].tick, "C", None))
+    results = run.files[[file.kind for file in run.files].index("results")].name
+    if len(run.rows) != len(arrivals):
+        raise FileFault(f"{results}: {len(run.rows)} rows, where {source.name} has {len(arrivals)}")
+    for at, (row, arrival) in enumerate(zip(run.rows, arrivals), 1):
+        same_line = row.line == arrival.line or row.line is None
+        if row.op != arrival.op or not same_line or row.tick < arrival.tick:
+            raise FileFault(f"{results} row {at}: not an outcome of that row of {source.name}")
+    if run.rows and all(row.line is None for row in run.rows):
+        run.rows = [row._replace(line=arrival.line) for row, arrival in zip(run.rows, arrivals)]
+    run.arrivals = arrivals
+
+
+def _add_wear(run: Run, source: Source) -> None:
+    run.wear = wear_of(source)
+    _take_options(run, source, shape_of_wear(source, run.wear).options())
+
+
+def _add_image(run: Run, source: Source) -> None:
+    image = run.image = image_of(source)
+    home = "array" if image.registers_in_array else "guarded"
+    built = {"banks": len(image.banks), "regions": image.regions, "lines": image.lines, "spares": image.spares}
+    told = {**{name: str(number) for name, number in built.items()}, "line": str(image.line_bytes), "seed": str(image.seed), "registers": home}
+    _take_options(run, source, told)
+
+
+def _take_options(run: Run, source: Source, told: Dict[str, str]) -> None:
+    """Options that a file tells: they may not differ from those that are known."""
+    for name, value in told.items():
+        if name in run.origins and run.options[name].lstrip("0") != value.lstrip("0"):
+            raise FileFault(f"{source.name}: --{name} is {value} there, not {run.options[name]}")
+        run.origins.setdefault(name, source.kind)
+        run.options[name] = value
+
+
+def _add_summary(run: Run, source: Source) -> None:
+    """The summary's counts must be those of the results, and its pulses those of the wear report."""
+    summary = run.summary = summary_of(source)
+    here = {"rows": len(run.rows), **run.counts}
+    if run.wear is not None:
+        here["retired"] = sum(line.role == "retired" for line in run.wear)
+        here["pulses"] = sum(line.pulses for line in run.wear)
+    for word, number in here.items():
+        if summary[word] != number:
+            raise FileFault(f"{source.name}: {word} {summary[word]}, where the run's other files have {number}")
+
+
+def _hold_places(run: Run, source: Source) -> None:
+    """The places of results, and the lines, must be those of a module of these options."""
+    shape, lines = run.shape, run.shape.banks * run.shape.regions * run.shape.lines
+    for at, row in enumerate(run.rows, 1):
+        beyond = row.line is not None and row.line >= lines or row.place is not None and row.place >= shape.banks * shape.array_lines
+        if beyond or row.place is not None and row.line is not None and row.place // shape.array_lines != run.bank_of_line(row.line):
+            raise FileFault(f"{source.name} row {at}: not of a module of these options: hand in those of the run, as --options 'WORDS'")
+
+
+def known_options() -> List[str]:
+    """The options of a run, of a drawn trace and of a stream that a report may be told."""
+    return [*DEFAULTS, *DRAWN, *STREAMS]

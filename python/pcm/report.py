@@ -1,0 +1,136 @@
+"""Makes a report of runs: one page of HTML with pictures and numbers, which needs no network and no script.
+
+usage: python3 -m pcm report RESULTS.. [options] > report.html          of what `./pcm run` or `./pcm stream` printed
+       python3 -m pcm report --run [TRACE..] [options] > report.html    the program runs: once for each trace, or for each --options
+
+Each of these once for each run, in their order, or once for all:
+  --trace FILE      the run's trace: with it come latencies, times in the queue and queues over time
+  --wear FILE       its wear report, as `--print wear` (or `--print lines`) prints it: maps, and pulses for each store
+  --image FILE      its image, as `--print image` prints it: pointers
+  --summary FILE    its summary: spares in use and all pulses
+  --options WORDS   the options that it ran with, as one word: --options 'run --banks 1 --psi 8'
+  --name WORDS      its name on the page
+For all runs:
+  --banks N ..      any option of a run by itself
+  --title WORDS     the page's title
+  --output FILE     where the page is written, instead of standard output
+
+RESULTS may be -, standard input. Options that aren't given are those that a file tells, and else the program's defaults. Files that
+aren't of one run are refused. Status 0; 2 for words that ask for nothing that can be done, 3 for a file that isn't what it should be,
+4 and 5 where reading or writing failed, and with --run that of the program."""
+import shlex
+import sys
+from typing import Dict, List, Optional, Sequence
+
+from .errors import PcmError, UsageError, WriteFault
+from .gathered import Asked, gather, known_options
+from .page import page
+from .program import Program
+
+_OF_RUNS = ("trace", "wear", "image", "summary", "options", "name")
+_OF_ALL = ("title", "output")
+
+
+def report(asked: Sequence[Asked], title: str = "Report of pcm", program: Program = None) -> str:
+    """The page of some runs."""
+    from . import __version__
+
+    return page([gather(one, program) for one in asked], title, __version__)
+
+
+def main(words: Sequence[str]) -> int:
+    """`python3 -m pcm report`; answers the status."""
+    if "--help" in words or "-h" in words:
+        print(__doc__)
+        return 0
+    try:
+        given = _parsed(words)
+        text = report(_asked(given), (given["title"] or ["Report of pcm"])[-1])
+        _write(text, (given["output"] or [None])[-1])
+    except PcmError as wrong:
+        print(f"report: {wrong}", file=sys.stderr)
+        return wrong.status or 1
+    except FileNotFoundError as wrong:
+        print(f"report: {wrong}", file=sys.stderr)
+        return 4
+    return 0
+
+
+def _write(text: str, name: Optional[str]) -> None:
+    try:
+        if name is None:
+            sys.stdout.buffer.write(text.encode())
+            sys.stdout.flush()
+        else:
+            with open(name, "w", encoding="utf-8") as file:
+                file.write(text)
+    except OSError as wrong:
+        raise WriteFault(5, f"{name or 'standard output'}: {wrong.strerror}") from None
+
+
+def _parsed(words: Sequence[str]) -> Dict[str, List[str]]:
+    """The values of each word of the command line; those of no option stand under ''."""
+    given: Dict[str, List[str]] = {name: [] for name in ("", "run", *_OF_RUNS, *_OF_ALL, *known_options())}
+    rest = list(words)
+    while rest:
+        word = rest.pop(0)
+        name, equals, value = word[2:].partition("=")
+        if not word.startswith("--"):
+            given[""].append(word)
+        elif name not in given or not name:
+            raise UsageError(2, f"no option {word}; --help tells which there are")
+        elif name == "run":
+            given[name].append("")
+        elif equals or rest:
+            given[name].append(value if equals else rest.pop(0))
+        else:
+            raise UsageError(2, f"{word} wants a value")
+    return given
+
+
+def _asked(given: Dict[str, List[str]]) -> List[Asked]:
+    """What each run is to be made of."""
+    runs, files = bool(given["run"]), given[""]
+    if runs and given["trace"]:
+        raise UsageError(2, "--run takes traces without --trace")
+    if runs and any(given[name] for name in ("wear", "image", "summary")):
+        raise UsageError(2, "--run makes wear, image and summary itself")
+    if not files and not runs:
+        raise UsageError(2, "usage: python3 -m pcm report RESULTS.. [--trace FILE] [--wear FILE] .. (--help tells more)")
+    lists = {"files": files, **{name: given[name] for name in _OF_RUNS}}
+    count = max(1, *(len(values) for values in lists.values())) if runs else len(files)
+    for name, values in lists.items():
+        if len(values) not in (0, 1, count):
+            raise UsageError(2, f"{len(values)} times {'a file' if name == 'files' else '--' + name}, where there are {count} runs")
+    column = {name: values * (count if len(values) == 1 else 1) or [None] * count for name, values in lists.items()}
+    shared = {name: given[name][-1] for name in known_options() if given[name]}
+    made = [{**shared, **_words_of(words or "")} for words in column["options"]]
+    by_words = len(files) < 2 <= count
+    names = [name or (_short(words) if by_words else file) for name, file, words in zip(column["name"], column["files"], column["options"])]
+    if runs:
+        return [Asked(name, options, True, None, trace) for name, options, trace in zip(names, made, column["files"])]
+    others = zip(*(column[name] for name in ("files", "trace", "wear", "image", "summary")))
+    return [Asked(name, options, False, *rest) for name, options, rest in zip(names, made, others)]
+
+
+def _short(words: Optional[str]) -> Optional[str]:
+    """A run's name by its options, where all runs have one file."""
+    return " ".join(f"--{name} {value}" for name, value in _words_of(words).items()) if words else None
+
+
+def _words_of(words: str) -> Dict[str, str]:
+    """Options that stand in one word, behind `run` or not."""
+    parts, found = shlex.split(words), {}
+    if parts and parts[0] in ("run", "stream"):
+        parts.pop(0)
+    pairs: List[str] = []
+    for part in parts:
+        pairs += part.split("=", 1) if part.startswith("--") else [part]
+    for name, value in zip(pairs[::2], pairs[1::2]):
+        if not name.startswith("--") or name[2:] not in (*known_options(), "print"):
+            raise UsageError(2, f"--options: no option {name} of a run")
+        found[name[2:]] = value
+    if len(pairs) % 2:
+        raise UsageError(2, f"--options: {pairs[-1]} wants a value")
+    found.pop("print", None)
+    return found

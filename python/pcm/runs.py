@@ -1,0 +1,314 @@
+"""A run by the files that it left: its results, and where they are given its trace, wear report, image and summary."""
+import collections
+import csv
+import functools
+import hashlib
+import io
+import re
+import sys
+from dataclasses import dataclass, field
+from typing import Dict, Iterator, List, NamedTuple, Optional, Tuple
+
+from .errors import PcmError, ReadFault
+from .image import Image, ImageError, _feistel
+
+OUTCOMES = ("stored", "merged", "queued", "full", "worn", "read", "forwarded", "busy", "lost", "cut")
+# The operation of each outcome's row.
+OPERATIONS = {word: "W" if at < 5 else "R" if at < 9 else "C" for at, word in enumerate(OUTCOMES)}
+# The options of a run that say what it was, with their defaults.
+DEFAULTS: Dict[str, str] = {
+    "banks": "4", "regions": "2", "lines": "64", "line": "64", "spares": "8", "seed": "0", "write-queue": "32", "read-queue": "32",
+    "psi": "100", "policy": "pause", "registers": "guarded", "read-ticks": "5", "iter-ticks": "10", "lo": "100000000", "hi": "100000000",
+    "misses": "0", "input": "source",
+}
+# The options of a drawn trace, and that of a stream's end.
+DRAWN: Dict[str, str] = {"rows": "1000", "write-percent": "50", "cuts": "0", "step": "10", "hot": "0"}
+STREAMS: Dict[str, str] = {"end": "drain"}
+_ROLE = re.compile(r"line \d+|gap|free|retired|control")
+
+
+class FileFault(PcmError):
+    """A file isn't what a report is made of, or two files aren't of one run (status 3)."""
+
+    def __init__(self, line: str) -> None:
+        super().__init__(3, line)
+
+
+class Known(NamedTuple):
+    """What became of a row: its operation, its line (none of a cut, nor where a stream's trace isn't given), outcome, tick and place."""
+
+    op: str
+    line: Optional[int]
+    word: str
+    tick: int
+    place: Optional[int]
+
+
+class Arrival(NamedTuple):
+    """A row of a trace: its tick, its operation (`W` for masked writes, too) and its line (none of a cut)."""
+
+    tick: int
+    op: str
+    line: Optional[int]
+
+
+class Worn(NamedTuple):
+    """A row of a wear report; the last three, of `--print lines`, are None where they aren't told."""
+
+    array: int
+    bank: int
+    pulses: int
+    role: str
+    pointers: Optional[int]
+    stuck: Optional[int]
+    changes: Optional[int]
+
+
+@dataclass(frozen=True)
+class Shape:
+    """How a module is built: its banks, the regions of each, the lines of each region, the spares of each bank, and whether registers
+    stand in the array."""
+
+    banks: int
+    regions: int
+    lines: int
+    spares: int
+    in_array: bool
+
+    @functools.cached_property
+    def slots(self) -> int:
+        """The slots of a bank."""
+        return self.regions * (self.lines + 1)
+
+    @functools.cached_property
+    def array_lines(self) -> int:
+        """The array lines of a bank: slots, spares and control lines."""
+        return self.slots + self.spares + (self.regions + self.spares + 1) * self.in_array
+
+    def options(self) -> Dict[str, str]:
+        """The options that build it."""
+        home = "array" if self.in_array else "guarded"
+        return {"banks": str(self.banks), "regions": str(self.regions), "lines": str(self.lines), "spares": str(self.spares), "registers": home}
+
+
+class Source(NamedTuple):
+    """A file that a report is made of: what it is to the run, its name, and its bytes."""
+
+    kind: str
+    name: str
+    data: bytes
+
+    @property
+    def checksum(self) -> str:
+        """The SHA-256 of its bytes."""
+        return hashlib.sha256(self.data).hexdigest()
+
+
+@dataclass
+class Run:
+    """A run: its name, its options and where each is known from, its files, what became of each row of its trace, and what else is known
+    of it."""
+
+    name: str
+    options: Dict[str, str]
+    origins: Dict[str, str]
+    files: List[Source]
+    rows: List[Known]
+    arrivals: Optional[List[Arrival]] = None
+    wear: Optional[List[Worn]] = None
+    image: Optional[Image] = None
+    summary: Optional[Dict[str, int]] = None
+    _banks: Dict[int, int] = field(default_factory=dict)
+
+    @functools.cached_property
+    def shape(self) -> Shape:
+        """How the module is built, by the options; these must be whole by then."""
+        numbers = (int(self.options[name]) for name in ("banks", "regions", "lines", "spares"))
+        return Shape(*numbers, self.options["registers"] == "array")
+
+    @functools.cached_property
+    def banks(self) -> List[Optional[int]]:
+        """The bank of each row: by its place, or else by its line, where one is known."""
+        wide = self.shape.array_lines
+        return [
+            row.place // wide if row.place is not None else None if row.line is None else self.bank_of_line(row.line) for row in self.rows
+        ]
+
+    @functools.cached_property
+    def waits(self) -> Dict[Tuple[str, Optional[int]], List[int]]:
+        """The ticks from arrival to outcome, from the least on, by outcome and bank, and by outcome alone; none without a trace."""
+        found: Dict[Tuple[str, Optional[int]], List[int]] = collections.defaultdict(list)
+        for row, came, bank in zip(self.rows, self.arrivals or [], self.banks):
+            found[row.word, bank].append(row.tick - came.tick)
+        for (word, bank), ticks in list(found.items()):
+            ticks.sort()
+            if bank is not None:
+                found[word, None] += ticks
+        return {key: sorted(ticks) if key[1] is None else ticks for key, ticks in found.items()}
+
+    @functools.cached_property
+    def counts(self) -> Dict[str, int]:
+        """How often each outcome came."""
+        found = collections.Counter(row.word for row in self.rows)
+        return {word: found[word] for word in OUTCOMES}
+
+    def bank_of_line(self, line: int) -> int:
+        """The bank of a line of the module, by the randomiser."""
+        if line not in self._banks:
+            shape = self.shape
+            lines = shape.regions * shape.lines
+            bits = (shape.banks * lines).bit_length() - 1
+            self._banks[line] = _feistel(line, bits, int(self.options["seed"])) // lines
+        return self._banks[line]
+
+
+def opened(kind: str, name: str) -> Source:
+    """A file's bytes; `-` is standard input."""
+    try:
+        if name == "-":
+            return Source(kind, "standard input", sys.stdin.buffer.read())
+        with open(name, "rb") as file:
+            return Source(kind, name, file.read())
+    except OSError as wrong:
+        raise ReadFault(4, f"{name}: {wrong.strerror}") from None
+
+
+def results_of(source: Source) -> List[Known]:
+    """The rows of results, or those of a stream in the order of their numbers."""
+    records = _records(source)
+    header = next(records, (0, []))[1]
+    if header == ["row", "op", "line", "outcome", "tick", "place", "data"]:
+        return [_result(source, at, record) for at, record in records]
+    if header == ["row", "outcome", "tick", "place", "data"]:
+        return _streamed(source, records)
+    raise FileFault(f"{source.name} row 0: header")
+
+
+def arrivals_of(source: Source) -> List[Arrival]:
+    """The rows of a trace that have a number."""
+    records = _records(source)
+    if next(records, (0, []))[1] != ["tick", "op", "arg", "data"]:
+        raise FileFault(f"{source.name} row 0: header")
+    found: List[Arrival] = []
+    for at, record in records:
+        tick, op, line = _fields(source, at, record, 4)[:3]
+        if op not in ("R", "W", "M", "C", "S"):
+            raise FileFault(f"{source.name} row {at}: op")
+        if op != "S":
+            known = None if op == "C" else _natural(source, at, "line", line)
+            found.append(Arrival(_natural(source, at, "tick", tick), "W" if op == "M" else op, known))
+        if len(found) > 1 and found[-1].tick < found[-2].tick:
+            raise FileFault(f"{source.name} row {at}: order")
+    return found
+
+
+def wear_of(source: Source) -> List[Worn]:
+    """The rows of a wear report, with or without what `--print lines` adds."""
+    records = _records(source)
+    header = next(records, (0, []))[1]
+    if header[:4] != ["array", "bank", "pulses", "role"]:
+        raise FileFault(f"{source.name} row 0: header")
+    found: List[Worn] = []
+    for at, record in records:
+        fields = dict(zip(header, _fields(source, at, record, len(header))))
+        array, bank, pulses = (_natural(source, at, name, fields[name]) for name in ("array", "bank", "pulses"))
+        more = [_natural(source, at, name, fields[name]) if fields.get(name) else None for name in ("pointers", "stuck", "changes")]
+        if array != at - 1 or not _ROLE.fullmatch(fields["role"]):
+            raise FileFault(f"{source.name} row {at}: {'array' if array != at - 1 else 'role'}")
+        found.append(Worn(array, bank, pulses, fields["role"], *more))
+    return found
+
+
+def summary_of(source: Source) -> Dict[str, int]:
+    """The numbers of a summary, by their words."""
+    words = ("rows", *OUTCOMES, "retired", "pulses")
+    lines = source.data.decode("ascii", "replace").splitlines()
+    pairs = [line.split(" ") for line in lines]
+    if [pair[0] for pair in pairs] != list(words):
+        raise FileFault(f"{source.name}: not a summary")
+    return {pair[0]: _natural(source, at, pair[0], " ".join(pair[1:])) for at, pair in enumerate(pairs, 1)}
+
+
+def image_of(source: Source) -> Image:
+    """The module of an image."""
+    try:
+        return Image.read(source.data)
+    except ImageError as wrong:
+        raise FileFault(f"{source.name}: {wrong}") from None
+
+
+def shape_of_wear(source: Source, wear: List[Worn]) -> Shape:
+    """How the module of a wear report is built: it has a line of a slot for each line of the module, and a gap for each region."""
+    roles = [line.role.split(" ")[0] for line in wear]
+    banks = wear[-1].bank + 1 if wear else 0
+    regions, rest = divmod(roles.count("gap"), max(1, banks))
+    lines, over = divmod(roles.count("line"), max(1, banks * regions))
+    control = roles.count("control") > 0
+    spares = (len(wear) // max(1, banks) - regions * (lines + 1) - (regions + 1) * control) // (1 + control)
+    shape = Shape(banks, regions, lines, spares, control)
+    wanted = [at // max(1, shape.array_lines) for at in range(banks * shape.array_lines)]
+    if rest or over or not lines or spares < 0 or wanted != [line.bank for line in wear]:
+        raise FileFault(f"{source.name}: not the wear report of a whole module")
+    return shape
+
+
+def _records(source: Source) -> Iterator[Tuple[int, List[str]]]:
+    """The records of a file with commas, numbered from 0."""
+    reader = csv.reader(io.StringIO(source.data.decode("utf-8", "replace"), newline=""))
+    at = 0
+    try:
+        for record in reader:
+            if record:
+                yield at, record
+                at += 1
+    except csv.Error:
+        raise FileFault(f"{source.name} row {at}: fields") from None
+
+
+def _fields(source: Source, at: int, record: List[str], count: int) -> List[str]:
+    if len(record) != count:
+        raise FileFault(f"{source.name} row {at}: fields")
+    return record
+
+
+def _natural(source: Source, at: int, name: str, text: str) -> int:
+    if not (text.isascii() and text.isdigit() and len(text) <= 20):
+        raise FileFault(f"{source.name} row {at}: {name}")
+    return int(text)
+
+
+def _result(source: Source, at: int, record: List[str]) -> Known:
+    number, op, line, word, tick, place, _ = _fields(source, at, record, 7)
+    if number != str(at):
+        raise FileFault(f"{source.name} row {at}: row")
+    known = _outcome(source, at, word, tick, place)
+    if op != known.op:
+        raise FileFault(f"{source.name} row {at}: op")
+    if op == "C":
+        return known
+    return known._replace(line=_natural(source, at, "line", line))
+
+
+def _outcome(source: Source, at: int, word: str, tick: str, place: str) -> Known:
+    if word not in OPERATIONS:
+        raise FileFault(f"{source.name} row {at}: outcome")
+    if (place != "") != (word in ("stored", "read")):
+        raise FileFault(f"{source.name} row {at}: place")
+    known = _natural(source, at, "place", place) if place else None
+    return Known(OPERATIONS[word], None, word, _natural(source, at, "tick", tick), known)
+
+
+def _streamed(source: Source, records: Iterator[Tuple[int, List[str]]]) -> List[Known]:
+    found: Dict[int, Known] = {}
+    for at, record in records:
+        number, word, tick, place, _ = _fields(source, at, record, 5)
+        if word == "settled" and number == "":
+            continue
+        row = _natural(source, at, "row", number)
+        if row in found:
+            raise FileFault(f"{source.name} row {at}: row {row} comes twice")
+        found[row] = _outcome(source, at, word, tick, place)
+    for row in range(1, len(found) + 1):
+        if row not in found:
+            raise FileFault(f"{source.name}: row {row} is missing")
+    return [found[row] for row in range(1, len(found) + 1)]

@@ -1,0 +1,165 @@
+"""The numbers of a run that a report shows."""
+from typing import Dict, Iterable, List, NamedTuple, Optional, Sequence
+
+from .runs import Run, Worn
+
+QUANTILES = (50.0, 90.0, 99.0, 99.9)
+
+
+def waits(run: Run, word: str, bank: Optional[int] = None) -> List[int]:
+    """The ticks from arrival to outcome of the rows with an outcome (of one bank), from the least on; none without a trace."""
+    return run.waits.get((word, bank), [])
+
+
+def quantile(ordered: Sequence[int], percent: float) -> Optional[int]:
+    """The least of ordered values that at least so many per cent of them don't exceed."""
+    if not ordered:
+        return None
+    rank = -(-len(ordered) * round(percent * 10) // 1000)
+    return ordered[max(0, rank - 1)]
+
+
+class Level(NamedTuple):
+    """How many writes, or reads, wait: the most in each part of the time, and the mean over all of it."""
+
+    most: List[int]
+    mean: float
+
+
+def levels(run: Run, words: Iterable[str], ends: Iterable[str], span: int, parts: int) -> List[Level]:
+    """Bank by bank, how many rows of some outcomes wait at the end of each tick: from their arrival until the tick of those that `ends`
+    names. The span is parted into equal parts."""
+    changes: List[Dict[int, int]] = [{} for _ in range(run.shape.banks)]
+    begins, stops = set(words), set(ends)
+    for row, came, bank in zip(run.rows, run.arrivals or [], run.banks):
+        if row.word in begins and bank is not None:
+            here = changes[bank]
+            here[came.tick] = here.get(came.tick, 0) + 1
+            if row.word in stops:
+                here[row.tick] = here.get(row.tick, 0) - 1
+    return [_level(here, span, parts) for here in changes]
+
+
+def _level(changes: Dict[int, int], span: int, parts: int) -> Level:
+    most, now, part, before, area = [0] * parts, 0, 0, 0, 0
+    for tick in sorted(changes):
+        here = tick * parts // span
+        most[part + 1: here + 1] = [now] * (here - part)
+        area += now * (tick - before)
+        now += changes[tick]
+        part, before = here, tick
+        most[part] = max(most[part], now)
+    most[part + 1:] = [now] * (parts - part - 1)
+    return Level(most, (area + now * (span - before)) / span)
+
+
+def grown(ticks: Iterable[int], span: int, parts: int) -> List[int]:
+    """How many of some ticks have come by the end of each part of the time."""
+    found = [0] * parts
+    for tick in ticks:
+        found[tick * parts // span] += 1
+    total = 0
+    for part, number in enumerate(found):
+        total += number
+        found[part] = total
+    return found
+
+
+def spare_ticks(run: Run) -> List[int]:
+    """When each spare is first seen in use, by the places of stores and reads: at that tick or before it was given. Spares are given in
+    order, so those before it are in use by then too."""
+    shape, given, ticks = run.shape, [0] * run.shape.banks, []
+    placed = sorted((row.tick, row.place) for row in run.rows if row.place is not None)
+    for tick, place in placed:
+        bank, at = divmod(place, shape.array_lines)
+        more = at - shape.slots + 1 - given[bank]
+        if more > 0:
+            given[bank] += more
+            ticks += [tick] * more
+    return ticks
+
+
+def retired(run: Run) -> Optional[int]:
+    """The spares in use in the end, where the summary or the wear report is there."""
+    if run.wear is not None:
+        return sum(line.role == "retired" for line in run.wear)
+    return run.summary["retired"] if run.summary else None
+
+
+class Pulses(NamedTuple):
+    """Of a bank: its stores, the pulses of its slots and spares, and those of its control lines."""
+
+    stores: int
+    lines: int
+    control: int
+
+    @property
+    def a_store(self) -> Optional[float]:
+        """All pulses for each store."""
+        return (self.lines + self.control) / self.stores if self.stores else None
+
+
+def pulses(run: Run) -> List[Pulses]:
+    """Bank by bank, what the wear report tells."""
+    found = []
+    stores = [0] * run.shape.banks
+    for row in run.rows:
+        if row.word == "stored" and row.place is not None:
+            stores[row.place // run.shape.array_lines] += 1
+    for bank, number in enumerate(stores):
+        here = [line for line in run.wear or [] if line.bank == bank]
+        control = sum(line.pulses for line in here if line.role == "control")
+        found.append(Pulses(number, sum(line.pulses for line in here) - control, control))
+    return found
+
+
+class Group(NamedTuple):
+    """Array lines of a bank that stand together: a region's, the spares or the control lines."""
+
+    bank: int
+    words: str
+    lines: List[Worn]
+
+    @property
+    def pulses(self) -> int:
+        """Their pulses together."""
+        return sum(line.pulses for line in self.lines)
+
+    @property
+    def most(self) -> Worn:
+        """The one with the most pulses, the first of them."""
+        return max(self.lines, key=lambda line: line.pulses)
+
+    @property
+    def retired(self) -> int:
+        """How many of them are retired."""
+        return sum(line.role == "retired" for line in self.lines)
+
+
+def groups(run: Run, bank: int) -> List[Group]:
+    """A bank's regions, spares and control lines, but for those that are empty."""
+    shape, wear = run.shape, run.wear or []
+    here = wear[bank * shape.array_lines: (bank + 1) * shape.array_lines]
+    width = shape.lines + 1
+    found = [Group(bank, f"region {at}", here[at * width: (at + 1) * width]) for at in range(shape.regions)]
+    found.append(Group(bank, "spares", here[shape.slots: shape.slots + shape.spares]))
+    found.append(Group(bank, "control", here[shape.slots + shape.spares:]))
+    return [group for group in found if group.lines]
+
+
+def lost_at_cuts(run: Run) -> Dict[int, int]:
+    """How many reads were lost at each tick with a cut."""
+    found = {row.tick: 0 for row in run.rows if row.word == "cut"}
+    for row in run.rows:
+        if row.word == "lost":
+            found[row.tick] = found.get(row.tick, 0) + 1
+    return found
+
+
+def pointers(run: Run) -> Optional[List[int]]:
+    """The active pointers of each array line, by the wear report of `--print lines` or by the image."""
+    if run.wear and all(line.pointers is not None for line in run.wear):
+        return [line.pointers or 0 for line in run.wear]
+    if run.image is None:
+        return None
+    return [len(run.image.pointers(at)) for at in range(len(run.image.cells))]
