@@ -1,15 +1,21 @@
 """What the benches share: their words, one run's processor time and memory, the least of several, and tables."""
 import argparse
+import atexit
+import functools
 import os
 import pathlib
+import re
+import shutil
 import subprocess
 import sys
+import tempfile
 
 TOP = pathlib.Path(__file__).resolve().parent.parent
 # The module and the trace in which each write takes some four pulses: cells miss, wear out and get spares.
 FOUR_PULSES = "--banks 4 --regions 2 --lines 64 --spares 256 --lo 200 --hi 2000 --misses 3 --seed 7"
 FOUR_PULSES_TRACE = "--write-percent 50 --cuts 32 --step 40 --hot 16 --seed 7"
-LARGEST = "--banks 16 --regions 16 --lines 256 --spares 1024"
+LARGEST_SHAPE = "--banks 16 --regions 16 --lines 256"
+LARGEST = f"{LARGEST_SHAPE} --spares 1024"
 
 
 def parser(description, times=None, rows=None):
@@ -34,21 +40,40 @@ def programs_of(words):
     return programs
 
 
-def once(program, words, source=os.devnull, statuses=(0, 1)):
-    """One run: its processor time in seconds, user and system, its peak memory in MB, and what it printed, the errors too."""
-    with open(source, "rb") as stdin:
-        how = {"stdin": stdin, "stdout": subprocess.PIPE, "stderr": subprocess.STDOUT}
-        child = subprocess.Popen([program, *words.split()], **how)
-        said = []
-        # (what is printed is read and dropped, but for its beginning)
-        while piece := child.stdout.read(1 << 20):
-            said.append(piece if sum(map(len, said)) < 1000 else b"")
-        _, status, used = os.wait4(child.pid, 0)
-        child.returncode = os.waitstatus_to_exitcode(status)
+@functools.cache
+def starter():
+    """used.c, compiled (by CC, cc unless it is given)."""
+    room = tempfile.mkdtemp()
+    atexit.register(shutil.rmtree, room)
+    program = os.path.join(room, "used")
+    subprocess.run([os.environ.get("CC", "cc"), "-O1", "-o", program, str(TOP / "bench" / "used.c")], check=True)
+    return program
+
+
+def measured(words, stdin=subprocess.DEVNULL, statuses=(0, 1), **how):
+    """One run of a program and those that it waits for: the processor time of all in seconds, user and system, the peak memory of the
+    largest in MB, and what it printed, the errors too."""
+    reads, writes = os.pipe()
+    child = subprocess.Popen(
+        [starter(), str(writes), *map(str, words)], stdin=stdin, stdout=subprocess.PIPE, stderr=subprocess.STDOUT, pass_fds=[writes], **how
+    )
+    os.close(writes)
+    said = []
+    # (what is printed is read and dropped, but for its beginning)
+    while piece := child.stdout.read(1 << 20):
+        said.append(piece if sum(map(len, said)) < 1000 else b"")
+    with open(reads, encoding="ascii") as told:
+        used = told.read().split()
     text = b"".join(said)[:1000].decode(errors="replace").strip()
-    if child.returncode not in statuses:
-        sys.exit(f"{program} {words}: status {child.returncode}: {text}")
-    return used.ru_utime + used.ru_stime, used.ru_maxrss / 1024, text
+    if child.wait() not in statuses or len(used) != 2:
+        sys.exit(f"{' '.join(map(str, words))}: status {child.returncode}: {text}")
+    return int(used[0]) / 1e6, int(used[1]) / 1024, text
+
+
+def once(program, words, source=os.devnull):
+    """One run of the program over a file."""
+    with open(source, "rb") as stdin:
+        return measured([program, *words.split()], stdin)
 
 
 def least(programs, times, words, source=os.devnull):
@@ -60,6 +85,16 @@ def least(programs, times, words, source=os.devnull):
             best[place] = min(best[place][0], seconds), min(best[place][1], memory)
             said[place].add(text)
     return best, said
+
+
+def counted(program, words, source, kept):
+    """The instructions of a run, whose profile is left in a file."""
+    with open(source, "rb") as stdin:
+        asked = ["valgrind", "--tool=callgrind", f"--callgrind-out-file={kept}", program, *words.split()]
+        ran = subprocess.run(asked, stdin=stdin, stdout=subprocess.DEVNULL, stderr=subprocess.PIPE, text=True)
+    if not (total := re.search(r"Collected : (\d+)", ran.stderr)):
+        sys.exit(f"callgrind: {program} {words}: {ran.stderr.strip()[-300:]}")
+    return int(total[1])
 
 
 def print_head(*names):
