@@ -362,7 +362,7 @@ def check_links():
 
 def check_pictures():
     drawn = subprocess.run([sys.executable, TOP / "docs" / "pictures" / "draw.py", "--check"], capture_output=True, text=True)
-    yield None if drawn.returncode == 0 else drawn.stdout.strip()
+    yield None if drawn.returncode == 0 else drawn.stdout.strip() or f"docs/pictures/draw.py: {drawn.stderr.strip()}"
 
 
 # The version.

@@ -41,6 +41,13 @@ class Quotes(unittest.TestCase):
         self.assertEqual(list(checking.quoted(text)), [("a/b.rt", ["fn one() {"])])
 
 
+class Pictures(unittest.TestCase):
+    def test_a_script_that_breaks_off_is_named(self):
+        broken = mock.Mock(returncode=1, stdout="", stderr="NameError\n")
+        with mock.patch.object(checking.subprocess, "run", return_value=broken):
+            self.assertEqual(list(checking.check_pictures()), ["docs/pictures/draw.py: NameError"])
+
+
 class Names(unittest.TestCase):
     def test_what_stands_in_the_code_is_known(self):
         text = "pcm_top has `pcm_run`, whose `done` is a field of `KeepsPromises`; `--psi` and `crates.txt`, in `crates/pcm_top/src/program.rt`."
