@@ -22,11 +22,12 @@ asked --lines 16 --psi 1 --lo 20000 --others 8
 asked --lines 16 --psi 4 --lo 20000 --others 8
 asked --lines 16 --psi 4 --lo 20000 --others 8 --hot-lines 3 --cuts 10
 asked --lines 4 --psi 1 --lo 402
+asked --lines 64 --psi 64 --lo 1000000 --registers array
+asked --lines 4 --psi 4 --lo 1000 --cuts 3 --policy cancel --registers array
 echo
 for psi in 1 4 16 64 256 1024 4096 16384 65535 best; do
     asked --lines 64 --psi $psi --lo 1000000
 done
-asked --lines 64 --psi 64 --lo 1000000 --registers array
 asked --lines 64 --psi 64 --lo 1000000 --spares 8
 echo
 asked --lines 64 --psi 1 --lo 2

@@ -2,9 +2,10 @@
 use Rattle.std.specs.Prelude.{ℕ, ◌+◌, ◌<◌, ◌≤◌, min, IsTrue, IsFalse, List}
 use Rattle.cell_rows.specs.Device.{CellBounds, LineState, ArrayState}
 use Rattle.bank_shape.specs.declared.BankShape.{BankShape}
-use Rattle.bank_shape.specs.Shape.{slots_of, lines_in}
+use Rattle.bank_shape.specs.Shape.{slots_of, lines_in, controls_of, control_line}
 use Rattle.bank_model.specs.Events.{BankEvent}
-use Rattle.bank_model.specs.Works.{works_on, held_on}
+use Rattle.bank_model.specs.Timing.{TimedEvent}
+use Rattle.bank_model.specs.Works.{works_on, held_on, written_on, rounds_on}
 
 -- no cell of a line changed more often than so as its first one stuck: with no cell stuck none has spent more changes, and where one is,
 -- cells endure no more
@@ -33,3 +34,15 @@ pub record AreAged {n m : ℕ} (shape : BankShape) (h : List (BankEvent n)) (arr
       → Ages array.bounds (most_aged shape (shape.base + line) h) (array.line (shape.base + line))
   pub missed : (line : ℕ) → line < slots_of shape + shape.spares
       → MissesUnspent (held_on shape (shape.base + line) h) (works_on shape (shape.base + line) h) (array.line (shape.base + line))
+
+-- the most changes of a cell of a control line with no cell stuck, by the line writes on it in the same way
+abbrev pub most_written : {n m : ℕ} → BankShape → ℕ → List (TimedEvent n m) → ℕ
+most_written shape at xs = written_on shape at xs + min (rounds_on shape at xs) 1
+
+-- how the control lines of a bank have aged: by the line writes on each of them, in the same way
+pub record AreControlsAged {n m : ℕ} (shape : BankShape) (xs : List (TimedEvent n m)) (array : ArrayState n m) : Type 0 where
+  pub age : (item : ℕ) → item < controls_of shape
+      → Ages array.bounds (most_written shape (control_line shape item) xs) (array.line (control_line shape item))
+  pub missed : (item : ℕ) → item < controls_of shape
+      → MissesUnspent (rounds_on shape (control_line shape item) xs) (written_on shape (control_line shape item) xs)
+      (array.line (control_line shape item))

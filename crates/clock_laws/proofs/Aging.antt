@@ -77,14 +77,14 @@ module _ {n m : ℕ} (bounds : CellBounds) (old new : LineState n m) where
             so false is = is
 
     -- it has ended
-    struck-ended : IsAged bounds (works + 1) 0 new
+    pub struck-ended : IsAged bounds (works + 1) 0 new
     struck-ended = record {
       age = record { live = λ none c. omega (arith, struck-once.live none c); stuck = λ c is. omega (arith, struck-once.stuck c is) };
       missed = λ none c often. struck-once.live none c;
     }
 
     -- or it goes on
-    struck-going : IsFalse tearing → IsAged bounds works (held + 1) new
+    pub struck-going : IsFalse tearing → IsAged bounds works (held + 1) new
     struck-going whole = record {
       age = record { live = λ none c. omega (arith, struck-once.live none c); stuck = λ c is. omega (arith, struck-once.stuck c is) };
       missed = λ none c often. let were = was-live sticks none in by were c often ((strikes were).live c (none c));
@@ -107,12 +107,12 @@ module _ {n m : ℕ} (bounds : CellBounds) (old new : LineState n m) where
 -- a line that stays
 module _ {n m : ℕ} (bounds : CellBounds) (works held : ℕ) (line : LineState n m) (aged : IsAged bounds works held line) where
   -- with the line write as it was
-  aged-as : (next now : ℕ) → next ≡ works → now ≡ held → IsAged bounds next now line
+  pub aged-as : (next now : ℕ) → next ≡ works → now ≡ held → IsAged bounds next now line
   aged-as next now same alike =
       subst (λ (k : ℕ). IsAged bounds k now line) (sym same) (subst (λ (k : ℕ). IsAged bounds works k line) (sym alike) aged)
 
   -- or after one has ended
-  aged-ended : (next : ℕ) → works + min held 1 ≤ next → IsAged bounds next 0 line
+  pub aged-ended : (next : ℕ) → works + min held 1 ≤ next → IsAged bounds next 0 line
   aged-ended next more = record {
     age = record { live = λ none c. omega (arith, aged.age.live none c, more); stuck = λ c is. omega (arith, aged.age.stuck c is, more) };
     missed = λ none c often. omega (arith, aged.age.live none c, more);

@@ -261,6 +261,7 @@ write_law n m e row line index bytes given answer xs clock bank array leads belo
       touches = untouched clock.tick array;
       struck = λ line below is live. cc;
     })
+    refl
     (record {
       holds = holds;
       shape = keeps.shape;
@@ -292,6 +293,7 @@ read_law n m e row line answer xs clock bank array leads going answered below ke
       touches = untouched clock.tick array;
       struck = λ line below is live. cc;
     })
+    refl
     (record {
       holds = holds;
       shape = keeps.shape;

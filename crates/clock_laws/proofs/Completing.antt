@@ -119,7 +119,7 @@ module _ {n m : ℕ} (shape : BankShape) (xs : List (TimedEvent n m)) where
   ends-arrived (Cut tearing) doing first tick senses pulsed arrivals is before = absurd is
 
 pub completion_law : CompletionLaw
-completion_law n m e event action xs clock bank regs old new leads next is later alone holds shape taken touches struck right copies told control =
+completion_law n m e event action xs clock bank regs old new leads next is later alone holds shape taken touches struck right copies told control goes =
     let tick : ℕ = ends clock.pace action in
     let sensed : List ℕ = sensed_by clock.bank.kept.shape (core xs) [] event in
     let pulsed : Option ℕ = pulsed_by clock.bank.kept.shape (core xs) None event in
@@ -135,6 +135,7 @@ completion_law n m e event action xs clock bank regs old new leads next is later
       touches = touches;
       struck = struck;
     })
+    goes
     (record {
       holds = holds;
       shape = shape;
@@ -180,7 +181,7 @@ kept-holds xs clock event tick sensed tearing old new r touches =
     (λ line own. touches.others line (kept-apart clock.bank.kept.shape (item_of clock.regs.change) event line (change-known clock.bank.kept clock.regs r.control) own))
 
 pub keeping_law : KeepingLaw
-keeping_law n m e event action xs clock regs old new leads next is later stands may touches told control =
+keeping_law n m e event action xs clock regs old new leads next is later stands may touches told control goes =
     let tick : ℕ = ends clock.pace action in
     let r : Reaches xs clock old = leads-reaches xs clock old leads in
     let x : TimedEvent n m = keep_completed clock action event new in
@@ -197,6 +198,7 @@ keeping_law n m e event action xs clock regs old new leads next is later stands 
       pulses = refl;
       touches = touches;
     })
+    goes
     (record {
       holds = kept-holds xs clock event tick (kept_sensed (line_kept clock) event) false old new r touches;
       shape = refl;

@@ -75,7 +75,7 @@ told-cut {n} shape xs x regs h is change keeping halted told = record {
 }
 
 pub power_cut_law : PowerCutLaw
-power_cut_law n m e xs clock bank old new leads fit holds shape stopped taken control touches struck =
+power_cut_law n m e xs clock bank old new leads fit holds shape stopped taken control touches struck tears =
     let kind : BankShape = clock.bank.kept.shape in
     let event : BankEvent n = Cut (tears_now clock) in
     let x : TimedEvent n m = cut xs clock new in
@@ -102,6 +102,7 @@ power_cut_law n m e xs clock bank old new leads fit holds shape stopped taken co
       touches = touches;
       struck = struck;
     })
+    tears
     (record {
       holds = holds;
       shape = shape;
@@ -142,6 +143,7 @@ cancel_law n m e line xs clock bank old new leads would none holds shape stopped
       touches = touches;
       struck = struck;
     })
+    (λ change stands. absurd (cc (stands, none)))
     (record {
       holds = holds;
       shape = shape;
@@ -156,7 +158,7 @@ cancel_law n m e line xs clock bank old new leads would none holds shape stopped
     })
 
 pub keep_cancel_law : KeepCancelLaw
-keep_cancel_law n m e line xs clock old new leads would stands fit control touches =
+keep_cancel_law n m e line xs clock old new leads would stands fit control touches torn =
     let kind : BankShape = clock.bank.kept.shape in
     let tearing : Bool = is_doing Iterating clock.action in
     let x : TimedEvent n m = keep_cancel clock in
@@ -176,6 +178,7 @@ keep_cancel_law n m e line xs clock old new leads would stands fit control touch
       pulses = refl;
       touches = touches;
     })
+    torn
     (record {
       holds = kept-holds xs clock (KeepCut tearing) clock.tick [] tearing old new r touches;
       shape = refl;
@@ -221,6 +224,7 @@ cancelled_read_law n m e row line y xs clock bank array r none at below keeps ho
       touches = untouched clock.tick array;
       struck = λ line below is live. cc;
     })
+    refl
     (record {
       holds = holds;
       shape = keeps.shape;

@@ -22,7 +22,7 @@ use Rattle.bank_invariant.specs.Tied.{decoded, IsUnderWay, IsOf, IsRunning, AreS
 use Rattle.bank_invariant.specs.Holds.{Holds}
 use Rattle.bank_invariant.proofs.Awaiting.{waits-known}
 use Rattle.clock_laws.specs.Extending.{ElsewhereLaw}
-use Rattle.clock_laws.proofs.Aging.{aged-same}
+use Rattle.clock_laws.proofs.Wearing.{has-aged-same}
 use Rattle.clock_laws.proofs.Controls.{change-known, control-elsewhere}
 use Rattle.clock_laws.proofs.Ranges.{control-in, IsSlotOrSpare, array_line-in, stands_at-in, target-in, due-in, source-within, HasSource}
 
@@ -123,7 +123,7 @@ elsewhere_law n m e xs clock old new leads many bounds same = record {
       (λ item below. let is = control-in clock.bank.kept.shape item below in same (control_line clock.bank.kept.shape item) is.0 is.1);
   pulses = λ line below.
       ap (λ (l : LineState n m). l.pulses) (same (clock.bank.kept.shape.base + line) (omega arith) (omega (arith, below))) ∙ leads.pulses line below;
-  aged = aged-same clock.bank.kept.shape (core xs) old new bounds
+  aged = has-aged-same xs clock old new leads.control bounds
       (λ line below. same (clock.bank.kept.shape.base + line) (omega arith) (omega (arith, below))) leads.aged;
   copying = leads.copying;
   taken = leads.taken;

@@ -43,6 +43,8 @@ use Rattle.bank_invariant.proofs.Finishing.{next_store-line}
 use Rattle.bank_invariant.proofs.Naming.{AreNamed, queue-named, head-named}
 use Rattle.clock_laws.specs.State.{ClockState}
 use Rattle.clock_laws.specs.Leads.{Leads, CopiesWhatItSensed}
+use Rattle.clock_laws.specs.Tearing.{GoesOnWriting}
+use Rattle.clock_laws.specs.Putting.{item_with, put_if}
 use Rattle.clock_laws.specs.Completing.{completed, EndsDoing}
 use Rattle.clock_laws.specs.Extending.{is_tear}
 use Rattle.clock_laws.specs.Actions.{IsCompletion, GoesOn, ServeEndsLaw, WritesCopy, ReadsAsHead, BeginEndsLaw, IterateEndsLaw}
@@ -111,6 +113,16 @@ module _ {n m e : ℕ} (xs : List (TimedEvent n m)) (clock : ClockState n m e) (
       let past : MayAll clock.bank.kept.shape (most_steps e) (event ∷ core xs) = subst (λ (shape : BankShape). MayAll shape (most_steps e) (event ∷ core xs)) end.shape end.holds.past in
       past.0
 
+  -- a serve leaves the writing of the change that stands
+  aside : (event : BankEvent n) (doing : Doing) (tick : ℕ) (pulsed : Option ℕ) → EndsDoing event doing → regs ≡ put_if (item_with clock.bank.kept event) bank.kept clock.regs
+      → GoesOnWriting tick clock.regs regs (Core event) pulsed old new
+  aside (Write row line bytes given answer) doing tick pulsed is put = absurd is
+  aside (Read row line answer) doing tick pulsed is put = absurd is
+  aside (Serve answer) doing tick pulsed is put = put
+  aside (Begin answer) doing tick pulsed is put = tt
+  aside (Iterate answer) doing tick pulsed is put = tt
+  aside (Cut tearing) doing tick pulsed is put = absurd is
+
   -- where it senses and pulses what the history says, and reads it right
   finish : sensed ≡ sensed_by clock.bank.kept.shape (core xs) [] event → pulsed ≡ pulsed_by clock.bank.kept.shape (core xs) None event
       → IsReadRight e clock.bank.kept.shape xs event (shown (ends clock.pace action) sensed new)
@@ -128,7 +140,7 @@ module _ {n m e : ℕ} (xs : List (TimedEvent n m)) (clock : ClockState n m e) (
       record {
         leads =
             completion_law n m e event action xs clock bank regs old new leads end.next end.doing end.later end.alone end.holds end.shape end.taken touches struck
-            (subst (λ (sensed : List ℕ). IsReadRight e clock.bank.kept.shape xs event (shown (ends clock.pace action) sensed new)) senses right) copies told end.control;
+            (subst (λ (sensed : List ℕ). IsReadRight e clock.bank.kept.shape xs event (shown (ends clock.pace action) sensed new)) senses right) copies told end.control (aside event action.doing (ends clock.pace action) (pulsed_by clock.bank.kept.shape (core xs) None event) end.doing end.put);
         adds =
             one_added_law n m clock.bank.kept.shape x (sensed_by clock.bank.kept.shape (core xs) [] event) false old new refl
             (pulsed-in (core xs) clock.bank old leads.holds None event tt) (no_tear event (pulsed_by clock.bank.kept.shape (core xs) None event) action.doing end.doing) touches;

@@ -23,6 +23,7 @@ use Rattle.register_laws.specs.Telling.{AreTold, item_of}
 use Rattle.bank_invariant.proofs.Iterating.{under_way-steps}
 use Rattle.clock_laws.specs.State.{ClockState, next_action}
 use Rattle.clock_laws.specs.Leads.{Leads}
+use Rattle.clock_laws.specs.Tearing.{GoesOnWriting}
 use Rattle.clock_laws.specs.Completing.{EndsKeeping, line_kept, keep_completed, after_keep}
 use Rattle.clock_laws.specs.Extending.{is_tear}
 use Rattle.clock_laws.specs.Actions.{LeadsOn, KeepBeginEndsLaw, KeepIterateEndsLaw}
@@ -69,14 +70,15 @@ module _ {n m e : ℕ} (xs : List (TimedEvent n m)) (clock : ClockState n m e) (
       → next_action clock ≡ Some action → EndsKeeping event action.doing → clock.tick < ends clock.pace action → IsTrue (is_some clock.regs.change)
       → MayKeep clock.bank.kept.shape clock.pace (most_steps e) xs event → sensed ≡ kept_sensed (line_kept clock) event → pulsed ≡ kept_pulsed (line_kept clock) event
       → Touches (ends clock.pace action) sensed pulsed false old new → AreTold clock.bank.kept.shape (keep_completed clock action event new ∷ xs) regs → Control clock.bank.kept regs new
+      → GoesOnWriting (ends clock.pace action) clock.regs regs (Regs event) (kept_pulsed (line_kept clock) event) old new
       → LeadsOn clock.bank.kept.shape xs (keep_completed clock action event new) (after_keep clock regs action event) old new
-  keep-finish event action regs sensed pulsed new next is later stands may senses pulses touches told control =
+  keep-finish event action regs sensed pulsed new next is later stands may senses pulses touches told control goes =
       let x : TimedEvent n m = keep_completed clock action event new in
       let touched : Touches (ends clock.pace action) (kept_sensed (line_kept clock) event) (kept_pulsed (line_kept clock) event) false old new =
       subst (λ (sensed : List ℕ). Touches (ends clock.pace action) sensed (kept_pulsed (line_kept clock) event) false old new) senses
       (subst (λ (pulsed : Option ℕ). Touches (ends clock.pace action) sensed pulsed false old new) pulses touches) in
       record {
-        leads = keeping_law n m e event action xs clock regs old new leads next is later stands may touched told control;
+        leads = keeping_law n m e event action xs clock regs old new leads next is later stands may touched told control goes;
         adds = one_added_law n m clock.bank.kept.shape x (kept_sensed (line_kept clock) event) false old new refl
             (kept-pulsed-in clock.bank.kept.shape (line_kept clock) event line_known) (never event action.doing is) touched;
       }
@@ -144,7 +146,7 @@ keep_begin_ends_law n m e answer action writer xs clock regs old new leads idle 
     (kept-told xs clock old leads x (KeepBegin answer) answer writer 0 refl refl refl (stays answer not_halted) refl (λ is. omega (arith, few))) in
     keep-finish xs clock old leads (KeepBegin answer) action regs (lines_by clock.regs.base clock.regs.change) None new step.next step.doing step.later step.stands
     (sym leads.regs.writing ∙ ap (λ (w : Option (LineWriter n m e)). is_some w) idle, sym leads.regs.halted ∙ going, not_halted)
-    (begin_line xs clock old leads clock.regs.change answer clock.regs.base leads.control.own.base) refl (sensed clock.regs.change step.touches) told step.control
+    (begin_line xs clock old leads clock.regs.change answer clock.regs.base leads.control.own.base) refl (sensed clock.regs.change step.touches) told step.control tt
   where
     stays : (answer : Keep) → answer ≢ keep.Halted → halted_after xs ≡ halts_by answer (halted_after xs)
     stays keep.More not = refl
@@ -157,7 +159,7 @@ keep_begin_ends_law n m e answer action writer xs clock regs old new leads idle 
     sensed (Some change) touches = touches
 
 pub keep_iterate_ends_law : KeepIterateEndsLaw
-keep_iterate_ends_law n m e answer action before writer xs clock regs old new leads is step fewer =
+keep_iterate_ends_law n m e answer action before writer xs clock regs old new leads is step fewer iteration =
     let x : TimedEvent n m = keep_completed clock action (KeepIterate answer) new in
     let count : rounds_after xs + steps_left before ≤ most_steps e =
     subst (λ (w : Option (LineWriter n m e)). IfSome w (λ writer. rounds_after xs + steps_left writer ≤ most_steps e)) is leads.regs.steps in
@@ -171,7 +173,7 @@ keep_iterate_ends_law n m e answer action before writer xs clock regs old new le
       λ more. let left : 0 < steps_left writer = some_steps regs new writer step.control.held (writes answer more step.leaves) in omega (arith, count, fewer, left),
     )
     (iterate_line xs clock old leads clock.regs.change answer clock.regs.base leads.control.own.base)
-    (line_is xs clock old leads clock.regs.change clock.regs.base leads.control.own.base) (sensed clock.regs.change step.touches) told step.control
+    (line_is xs clock old leads clock.regs.change clock.regs.base leads.control.own.base) (sensed clock.regs.change step.touches) told step.control iteration
   where
     halts : (answer : Keep) → halted_by {n = n} (Regs (KeepIterate answer)) (halted_after xs) ≡ halts_by answer (halted_after xs)
     halts keep.More = refl

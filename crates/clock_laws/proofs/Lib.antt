@@ -1,6 +1,7 @@
 pub mod Ties
 pub mod Ranges
 pub mod Aging
+pub mod Wearing
 pub mod Controls
 pub mod Elsewhere
 pub mod Stepping

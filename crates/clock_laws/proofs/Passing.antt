@@ -12,7 +12,7 @@ use Rattle.bank_invariant.specs.State.{Operation}
 use Rattle.clock_laws.specs.Leads.{CopiesWhatItSensed}
 use Rattle.clock_laws.specs.Starting.{StartLaw}
 use Rattle.clock_laws.specs.Passing.{PassingLaw, IdleLaw, EndingLaterLaw}
-use Rattle.clock_laws.proofs.Aging.{aged-first}
+use Rattle.clock_laws.proofs.Wearing.{has-aged-first}
 use Rattle.clock_laws.proofs.Ties.{started-same, next-runs, next-none, ends-later}
 
 pub passing_law : PassingLaw
@@ -64,7 +64,7 @@ start_law n m e clock array holds idle taken unchanged going unwritten control n
   };
   control = control;
   pulses = λ line below. (fresh line below).pulses;
-  aged = aged-first clock.bank.kept.shape array fresh;
+  aged = has-aged-first clock.bank.kept.shape clock.regs array fresh;
   copying = subst (λ (r : Option (Operation n m e)). IfSome r (CopiesWhatItSensed {n = n} {m = m} [])) (sym idle) tt;
   taken = taken;
 }

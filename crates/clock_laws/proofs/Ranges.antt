@@ -123,6 +123,11 @@ module _ {n m e : ℕ} (h : List (BankEvent n)) (bank : BankState n m e) (array 
   pub target_after-in : IsIn bank.kept.shape (target_after bank.kept.shape h)
   target_after-in = subst (λ (at : ℕ). IsIn bank.kept.shape at) agreeing.target (slot-in bank.kept.shape _ (target-in bank.kept holds.kept))
 
+  pub target_after-low : target_after bank.kept.shape h < controls_from bank.kept.shape
+  target_after-low =
+      subst (λ (at : ℕ). at < controls_from bank.kept.shape) agreeing.target
+      (let is = target-in bank.kept holds.kept in omega (arith, is.1))
+
   -- each event senses lines of its bank
   pub sensed-in : (controls : List ℕ) (event : BankEvent n) → AreIn bank.kept.shape controls → AreIn bank.kept.shape (sensed_by bank.kept.shape h controls event)
   sensed-in controls (Write row line bytes given answer) own = tt

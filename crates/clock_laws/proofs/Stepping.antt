@@ -6,7 +6,6 @@ use Rattle.bank_shape.specs.declared.BankShape.{BankShape}
 use Rattle.bank_shape.specs.Shape.{controls_of}
 use Rattle.bank_shape.specs.declared.clock.Action.{Action}
 use Rattle.bank_model.specs.Events.{BankEvent}
-use Rattle.bank_model.specs.Aging.{AreAged}
 use Rattle.bank_model.specs.History.{queue}
 use Rattle.bank_model.specs.Answers.{MayAll}
 use Rattle.bank_model.specs.Changes.{change_after, line_of_change}
@@ -24,8 +23,10 @@ use Rattle.register_laws.specs.Telling.{AreTold, item_of}
 use Rattle.bank_invariant.specs.State.{BankState}
 use Rattle.bank_invariant.specs.Holds.{Holds}
 use Rattle.clock_laws.specs.State.{ClockState}
-use Rattle.clock_laws.specs.Leads.{Leads, Reaches, CopiesWhatItSensed}
+use Rattle.clock_laws.specs.Leads.{Leads, Reaches, HasAged, CopiesWhatItSensed}
+use Rattle.clock_laws.specs.Tearing.{GoesOnWriting}
 use Rattle.clock_laws.proofs.Aging.{IsStruckBy, aged-next}
+use Rattle.clock_laws.proofs.Wearing.{has-aged-next}
 use Rattle.clock_laws.proofs.Ties.{started-same}
 use Rattle.clock_laws.proofs.Controls.{change-known}
 use Rattle.clock_laws.proofs.Ranges.{AreIn, ArePulses, controls-in, sensed-in, kept-sensed-in, change-in, pulses-at, pulses-next, shown-all, shown-lines}
@@ -151,15 +152,16 @@ module _ {n m e : ℕ} where
         }
 
     -- the lines of the bank age on
-    pub still-aged : (x : TimedEvent n m) (sensed : List ℕ) (tearing : Bool) → MayCome clock.bank.kept.shape clock.pace e xs x x.happens
+    pub still-aged : (x : TimedEvent n m) (regs : RegsState n m e) (sensed : List ℕ) (tearing : Bool) → MayCome clock.bank.kept.shape clock.pace e xs x x.happens
         → Touches x.tick sensed x.pulsed tearing old new → IsStruckBy clock.bank.kept.shape (core xs) x.happens x.pulsed old new
-        → AreAged clock.bank.kept.shape (core (x ∷ xs)) new
-    still-aged x sensed tearing comes touches struck =
-        aged-next clock.bank.kept.shape clock.pace e xs x sensed tearing old new reached.holds.past reached.pulses touches comes struck reached.aged
+        → GoesOnWriting x.tick clock.regs regs x.happens x.pulsed old new → HasAged clock.bank.kept.shape (x ∷ xs) regs new
+    still-aged x regs sensed tearing comes touches struck goes =
+        has-aged-next xs clock x regs sensed tearing old new reached touches comes goes
+        (aged-next clock.bank.kept.shape clock.pace e xs x sensed tearing old new reached.holds.past reached.pulses touches comes struck reached.aged.lines)
 
   module _ (xs : List (TimedEvent n m)) (clock : ClockState n m e) (bank : BankState n m e) (regs : RegsState n m e) (x : TimedEvent n m) (action : Option Action) (arrivals : List ℕ) (count : ℕ)
       (old new : ArrayState n m) (reached : Reaches xs clock old) (comes : MayCome clock.bank.kept.shape clock.pace e xs x x.happens) (pulses : ArePulses clock.bank.kept.shape (x ∷ xs) new)
-      (aged : AreAged clock.bank.kept.shape (core (x ∷ xs)) new)
+      (aged : HasAged clock.bank.kept.shape (x ∷ xs) regs new)
       (s : Steps xs clock bank regs x action arrivals count new) where
     -- what depends on the shape
     record After (shape : BankShape) : Type 0 where
@@ -167,7 +169,7 @@ module _ {n m e : ℕ} where
       runs : action ≡ running_at shape clock.pace (x ∷ xs) x.tick
       arrived : arrivals ≡ map (λ entry. tick_of_row entry.row (x ∷ xs)) (queue shape (core (x ∷ xs)))
       counted : ArePulses shape (x ∷ xs) new
-      aging : AreAged shape (core (x ∷ xs)) new
+      aging : HasAged shape (x ∷ xs) regs new
       told : AreTold shape (x ∷ xs) regs
 
     after : After clock.bank.kept.shape
@@ -238,33 +240,36 @@ module _ {n m e : ℕ} where
   pub bank-reaches : (xs : List (TimedEvent n m)) (clock : ClockState n m e) (bank : BankState n m e) (regs : RegsState n m e) (event : BankEvent n) (first tick : ℕ) (action : Option Action)
       (arrivals : List ℕ) (count : ℕ) (flag tearing : Bool) (sensed : List ℕ) (pulsed : Option ℕ) (old new : ArrayState n m) → Reaches xs clock old
       → StepsBank xs clock event first tick flag tearing sensed pulsed old new
+      → GoesOnWriting tick clock.regs regs (Core event) pulsed old new
       → Steps xs clock bank regs (stepped_as flag (Core event) first tick sensed pulsed new) action arrivals count new
       → Reaches (stepped_as flag (Core event) first tick sensed pulsed new ∷ xs) (clock_at clock bank regs tick action arrivals count) new
-  bank-reaches xs clock bank regs event first tick action arrivals count flag tearing sensed pulsed old new reached b s =
+  bank-reaches xs clock bank regs event first tick action arrivals count flag tearing sensed pulsed old new reached b goes s =
       stepped-reaches xs clock bank regs (stepped_as flag (Core event) first tick sensed pulsed new) action arrivals count old new reached
       (bank-comes xs clock old new reached bank event first tick flag tearing sensed pulsed s.holds s.shape b)
       (pulses-next clock.bank.kept.shape xs (stepped_as flag (Core event) first tick sensed pulsed new) sensed tearing old new reached.pulses b.touches)
-      (still-aged xs clock old new reached (stepped_as flag (Core event) first tick sensed pulsed new) sensed tearing
-      (bank-comes xs clock old new reached bank event first tick flag tearing sensed pulsed s.holds s.shape b) b.touches b.struck) s
+      (still-aged xs clock old new reached (stepped_as flag (Core event) first tick sensed pulsed new) regs sensed tearing
+      (bank-comes xs clock old new reached bank event first tick flag tearing sensed pulsed s.holds s.shape b) b.touches b.struck goes) s
 
   pub bank-leads : (xs : List (TimedEvent n m)) (clock : ClockState n m e) (bank : BankState n m e) (regs : RegsState n m e) (event : BankEvent n) (first tick : ℕ) (action : Option Action)
       (arrivals : List ℕ) (count : ℕ) (tearing : Bool) (sensed : List ℕ) (pulsed : Option ℕ) (old new : ArrayState n m) → Reaches xs clock old
       → StepsBank xs clock event first tick false tearing sensed pulsed old new
+      → GoesOnWriting tick clock.regs regs (Core event) pulsed old new
       → Steps xs clock bank regs (stepped (Core event) first tick sensed pulsed new) action arrivals count new
       → Leads (stepped (Core event) first tick sensed pulsed new ∷ xs) (clock_at clock bank regs tick action arrivals count) new
-  bank-leads xs clock bank regs event first tick action arrivals count tearing sensed pulsed old new reached b s =
+  bank-leads xs clock bank regs event first tick action arrivals count tearing sensed pulsed old new reached b goes s =
       reaches-leads (stepped (Core event) first tick sensed pulsed new ∷ xs) (clock_at clock bank regs tick action arrivals count) new
-      (bank-reaches xs clock bank regs event first tick action arrivals count false tearing sensed pulsed old new reached b s) refl
+      (bank-reaches xs clock bank regs event first tick action arrivals count false tearing sensed pulsed old new reached b goes s) refl
 
   -- an event of the change that stands
   pub kept-reaches : (xs : List (TimedEvent n m)) (clock : ClockState n m e) (bank : BankState n m e) (regs : RegsState n m e) (event : Keeping) (first tick : ℕ) (action : Option Action)
       (arrivals : List ℕ) (count : ℕ) (flag tearing : Bool) (sensed : List ℕ) (pulsed : Option ℕ) (old new : ArrayState n m) → Reaches xs clock old
       → StepsKept xs clock event first tick flag tearing sensed pulsed old new
+      → GoesOnWriting tick clock.regs regs (Regs event) pulsed old new
       → Steps xs clock bank regs (stepped_as flag (Regs event) first tick sensed pulsed new) action arrivals count new
       → Reaches (stepped_as flag (Regs event) first tick sensed pulsed new ∷ xs) (clock_at clock bank regs tick action arrivals count) new
-  kept-reaches xs clock bank regs event first tick action arrivals count flag tearing sensed pulsed old new reached k s =
+  kept-reaches xs clock bank regs event first tick action arrivals count flag tearing sensed pulsed old new reached k goes s =
       stepped-reaches xs clock bank regs (stepped_as flag (Regs event) first tick sensed pulsed new) action arrivals count old new reached
       (kept-comes xs clock old new reached event first tick flag tearing sensed pulsed k)
       (pulses-next clock.bank.kept.shape xs (stepped_as flag (Regs event) first tick sensed pulsed new) sensed tearing old new reached.pulses k.touches)
-      (still-aged xs clock old new reached (stepped_as flag (Regs event) first tick sensed pulsed new) sensed tearing
-      (kept-comes xs clock old new reached event first tick flag tearing sensed pulsed k) k.touches tt) s
+      (still-aged xs clock old new reached (stepped_as flag (Regs event) first tick sensed pulsed new) regs sensed tearing
+      (kept-comes xs clock old new reached event first tick flag tearing sensed pulsed k) k.touches tt goes) s

@@ -1,6 +1,6 @@
 -- A power cut and a cancel, told by what the bank and the control lines keep.
-use Rattle.std.proofs.Common.{◌≡◌, ◌⊎◌, inl, inr, ℕ, ◌+◌, ◌||◌, not, is_some, Bool, true, false, cond, List, [], ◌∷◌, Option, Some, None, refl, sym, ap, subst, ◌∙◌}
-use Rattle.std.specs.Prelude.{IsTrue}
+use Rattle.std.proofs.Common.{◌≡◌, ◌⊎◌, inl, inr, ℕ, ◌+◌, ◌<◌, ◌||◌, not, is_some, Bool, true, false, cond, List, [], ◌∷◌, Option, Some, None, refl, sym, ap, subst, ◌∙◌}
+use Rattle.std.specs.Prelude.{IsTrue, IfSome}
 use Rattle.cell_rows.specs.Device.{ArrayState}
 use Rattle.bank_shape.specs.declared.BankShape.{BankShape}
 use Rattle.bank_shape.specs.declared.clock.Doing.{Doing}
@@ -12,15 +12,18 @@ use Rattle.bank_model.specs.Answers.{MayAll, MayHappen}
 use Rattle.bank_model.specs.Changes.{line_of_change, all_controls}
 use Rattle.bank_model.specs.Timing.{KeepCut, TimedEvent, core, same_doing, is_doing}
 use Rattle.bank_model.specs.Running.{busy_by, tears_bank}
-use Rattle.bank_model.specs.Sensing.{most_steps, pulsed_by, torn_control, kept_pulsed}
+use Rattle.bank_model.specs.Sensing.{is_at, most_steps, pulsed_by, torn_control, kept_pulsed}
 use Rattle.bank_model.specs.Touching.{Touches, AreStruck}
 use Rattle.reg_lines.specs.declared.Change.{Change}
+use Rattle.program_verify.specs.Programming.{IsTear}
 use Rattle.reg_lines.specs.Regs.{RegsState}
+use Rattle.reg_lines.specs.Keeping.{IsTorn}
 use Rattle.register_laws.specs.Telling.{item_of}
 use Rattle.bank_invariant.specs.State.{BankState, Operation}
 use Rattle.bank_invariant.specs.Holds.{Holds}
 use Rattle.clock_laws.specs.State.{ClockState}
 use Rattle.clock_laws.specs.Leads.{Leads}
+use Rattle.clock_laws.specs.Tearing.{TearsControl}
 use Rattle.clock_laws.specs.Completing.{line_kept}
 use Rattle.clock_laws.specs.Fitting.{Fits, IsFit}
 use Rattle.clock_laws.specs.Cutting.{tears_now, torn_now, cut, cancel, keep_cancel}
@@ -94,7 +97,7 @@ torn_some true regs None None some = absurd (by (some refl))
 torn_some false regs change r some = refl
 
 pub cut_ends_law : CutEndsLaw
-cut_ends_law n m e tearing xs clock bank old new leads fit tears holds shape stopped taken control touches struck =
+cut_ends_law n m e tearing xs clock bank old new leads fit tears holds shape stopped taken control touches struck tears_control =
     let event : BankEvent n = Cut (tears_now clock) in
     let past : MayAll clock.bank.kept.shape (most_steps e) (event ∷ core xs) = subst (λ (shape : BankShape). MayAll shape (most_steps e) (event ∷ core xs)) shape holds.past in
     let pulsed : torn_line tearing clock.regs clock.regs.change clock.bank.running ≡ torn_now xs clock =
@@ -104,7 +107,8 @@ cut_ends_law n m e tearing xs clock bank old new leads fit tears holds shape sto
     record {
       leads = power_cut_law n m e xs clock bank old new leads fit holds shape stopped taken control
           (subst (λ (tearing : Bool). Touches clock.tick (all_controls clock.bank.kept.shape) (torn_now xs clock) tearing old new) tears touched)
-          (subst (λ (pulsed : Option ℕ). AreStruck clock.bank.kept.shape (core xs) event pulsed old new) pulsed struck);
+          (subst (λ (pulsed : Option ℕ). AreStruck clock.bank.kept.shape (core xs) event pulsed old new) pulsed struck)
+          (subst (λ (pulsed : Option ℕ). TearsControl clock.regs pulsed old new) pulsed tears_control);
       adds =
           one_added_law n m clock.bank.kept.shape (cut xs clock new) (all_controls clock.bank.kept.shape) tearing old new refl
           (pulsed-in (core xs) clock.bank old leads.holds (torn_control clock.bank.kept.shape (item_of clock.regs.change) clock.action) event
@@ -138,14 +142,16 @@ cancel_ends_law n m e line tearing xs clock bank old new leads would none tears 
     by false = refl
 
 pub keep_cancel_ends_law : KeepCancelEndsLaw
-keep_cancel_ends_law n m e line tearing xs clock old new leads would stands fit tears control touches =
+keep_cancel_ends_law n m e line tearing xs clock old new leads would stands fit tears control touches tears_control =
     let now : Bool = is_doing Iterating clock.action in
     let pulsed : torn_line tearing clock.regs clock.regs.change clock.bank.running ≡ kept_pulsed (line_kept clock) (KeepCut tearing) = torn_so clock.regs.change stands in
     let touched : Touches clock.tick [] (kept_pulsed (line_kept clock) (KeepCut now)) now old new =
     subst (λ (b : Bool). Touches clock.tick [] (kept_pulsed (line_kept clock) (KeepCut b)) b old new) tears
     (subst (λ (pulsed : Option ℕ). Touches clock.tick [] pulsed tearing old new) pulsed touches) in
     record {
-      reaches = keep_cancel_law n m e line xs clock old new leads would stands fit control touched;
+      reaches = keep_cancel_law n m e line xs clock old new leads would stands fit control touched
+          (subst (λ (b : Bool). TearsControl clock.regs (kept_pulsed (line_kept clock) (KeepCut b)) old new) tears
+          (subst (λ (pulsed : Option ℕ). TearsControl clock.regs pulsed old new) pulsed tears_control));
       adds =
           one_added_law n m clock.bank.kept.shape (keep_cancel clock) [] now old new refl
           (kept-pulsed-in clock.bank.kept.shape (line_kept clock) (KeepCut now) (line_known xs clock old leads)) (by now clock.regs.change stands) touched;
@@ -160,3 +166,27 @@ keep_cancel_ends_law n m e line tearing xs clock old new leads would stands fit 
     by b None is = absurd (cc)
     by true (Some change) is = refl
     by false (Some change) is = refl
+
+-- where the calls of a cut tear the control line of the change that stands as its writing does, the cut does
+pub tears-control : {n m e : ℕ} (tearing : Bool) (regs : RegsState n m e) (running : Option (Operation n m e)) (old before behind new : ArrayState n m)
+    → IfSome regs.change (λ change. change.item < regs.items) → (IsTrue tearing → IsTrue (is_some regs.change) → IsTorn regs before behind)
+    → ((item : ℕ) → item < regs.items → before.line (regs.base + item) ≡ old.line (regs.base + item)) → before.bounds ≡ old.bounds
+    → ((line : ℕ) → new.line line ≡ behind.line line) → TearsControl regs (torn_line tearing regs regs.change running) old new
+tears-control tearing regs running old before behind new item torn first bounds last change stands hit =
+    let tear = torn (on tearing regs.change hit) (ap (λ (o : Option Change). is_some o) stands) in
+    let same : tear.change ≡ change = cc (stands, tear.stands) in (
+      tear.writer,
+      tear.runs,
+      record {
+        before = before;
+        behind = behind;
+        tear = subst (λ (c : Change). IsTear (regs.base + c.item) tear.writer.prog before behind) same tear.tear;
+        first = first change.item (subst (λ (o : Option Change). IfSome o (λ c. c.item < regs.items)) stands item);
+        last = last (regs.base + change.item);
+        bounds = bounds;
+      },
+    )
+  where
+    on : (b : Bool) (c : Option Change) → is_at (torn_line b regs c running) (regs.base + change.item) ≡ true → b ≡ true
+    on true c hit = refl
+    on false c hit = absurd (cc (hit))

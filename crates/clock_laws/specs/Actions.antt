@@ -34,6 +34,7 @@ use Rattle.bank_invariant.specs.Holds.{Holds}
 use Rattle.bank_invariant.specs.Beginning.{lines_sensed}
 use Rattle.clock_laws.specs.State.{ClockState, next_action}
 use Rattle.clock_laws.specs.Leads.{Leads, Reaches}
+use Rattle.clock_laws.specs.Tearing.{TearsControl}
 use Rattle.clock_laws.specs.Arriving.{cancels_for}
 use Rattle.clock_laws.specs.Completing.{EndsDoing, IsAlone, completed, after_action, keep_completed, after_keep}
 use Rattle.clock_laws.specs.Putting.{put_if, item_with}
@@ -158,7 +159,7 @@ KeepBeginEndsLaw =
     → answer ≢ keep.Halted → steps_left writer ≤ most_steps e
     → LeadsOn clock.bank.kept.shape xs (keep_completed clock action (KeepBegin answer) new) (after_keep clock regs action (KeepBegin answer)) old new
 
--- an iteration of it, after which fewer steps are left
+-- an iteration of it, by one step of its line write, after which fewer are left
 abbrev pub KeepIterateEndsLaw : Type 0
 KeepIterateEndsLaw =
     (n m e : ℕ) (answer : Keep) (action : Action) (before writer : LineWriter n m e) (xs : List (TimedEvent n m))
@@ -166,6 +167,7 @@ KeepIterateEndsLaw =
     → Leads xs clock old → clock.regs.writer ≡ Some before
     → IsKeepStep clock regs Iterating action answer writer (writing.line_of clock.regs clock.regs.change) (writing.target_of clock.regs clock.regs.change) old new
     → steps_left writer < steps_left before
+    → writing.IsIteration (ends clock.pace action) clock.regs regs answer old new
     → LeadsOn clock.bank.kept.shape xs (keep_completed clock action (KeepIterate answer) new) (after_keep clock regs action (KeepIterate answer)) old new
 
 -- Cuts
@@ -186,7 +188,8 @@ CutTouchesLaw =
     → Touches tick [] (writing.torn_line (tearing && is_some regs.change) regs) (tearing && is_some regs.change) between later
     → Touches tick controls None false later new → Touches tick controls (torn_line tearing regs regs.change running) tearing old new
 
--- a power cut, which tears exactly where an iteration runs, and after which every control line is read again
+-- a power cut, which tears exactly where an iteration runs, a control line as the writing of the change does, and after which every
+-- control line is read again
 abbrev pub CutEndsLaw : Type 0
 CutEndsLaw =
     (n m e : ℕ) (tearing : Bool) (xs : List (TimedEvent n m)) (clock : ClockState n m e) (bank : BankState n m e) (old new : ArrayState n m)
@@ -196,6 +199,7 @@ CutEndsLaw =
     → Touches clock.tick (all_controls clock.bank.kept.shape) (torn_line tearing clock.regs clock.regs.change clock.bank.running) tearing old new
     → AreStruck clock.bank.kept.shape (core xs) (Cut (tears_now clock))
     (torn_line tearing clock.regs clock.regs.change clock.bank.running) old new
+    → TearsControl clock.regs (torn_line tearing clock.regs clock.regs.change clock.bank.running) old new
     → LeadsOn clock.bank.kept.shape xs (cut xs clock new) (after_cut clock bank) old new
 
 -- a history reaches this clock and this array by a cancel, which adds what it touched
@@ -221,4 +225,5 @@ KeepCancelEndsLaw =
     → Leads xs clock old → IsTrue (cancels_for clock line) → IsTrue (is_some clock.regs.change) → IsFit clock.bank clock.regs clock.action
     → tearing ≡ is_doing Iterating clock.action → Control clock.bank.kept (broken_off clock.regs) new
     → Touches clock.tick [] (torn_line tearing clock.regs clock.regs.change clock.bank.running) tearing old new
+    → TearsControl clock.regs (torn_line tearing clock.regs clock.regs.change clock.bank.running) old new
     → ReachesBy clock.bank.kept.shape xs (keep_cancel clock) (after_cancel clock clock.bank (broken_off clock.regs)) old new

@@ -21,6 +21,7 @@ use Rattle.register_laws.specs.Telling.{AreTold, item_of}
 use Rattle.bank_invariant.specs.State.{BankState}
 use Rattle.bank_invariant.specs.Holds.{Holds}
 use Rattle.clock_laws.specs.State.{ClockState, next_action}
+use Rattle.clock_laws.specs.Tearing.{GoesOnWriting}
 use Rattle.clock_laws.specs.Leads.{Leads, CopiesWhatItSensed}
 
 -- what ends an action, which started at its first tick
@@ -86,8 +87,8 @@ module _ {n m e : ℕ} where
       record { bank = clock.bank; regs = regs; pace = clock.pace; tick = ends clock.pace action; action = None; arrivals = clock.arrivals; cancels = cancels_with {n = n} (Regs event) false clock.cancels; drained = clock.drained }
 
 -- the action that runs from now on ends by its event, which extends the history; that it ends later, that it strikes cells that missed
--- before, that what it sensed is read right, that a gap move in progress writes what its begin sensed, and that the control lines are
--- told by the history and hold what the bank keeps, are premises
+-- before, that what it sensed is read right, that a gap move in progress writes what its begin sensed, that the control lines are told by
+-- the history and hold what the bank keeps, and that a serve leaves the writing of the change that stands, are premises
 abbrev pub CompletionLaw : Type 0
 CompletionLaw =
     (n m e : ℕ) (event : BankEvent n) (action : Action) (xs : List (TimedEvent n m)) (clock : ClockState n m e) (bank : BankState n m e) (regs : RegsState n m e) (old new : ArrayState n m)
@@ -100,6 +101,7 @@ CompletionLaw =
     → IsReadRight e clock.bank.kept.shape xs event (shown tick (sensed_by clock.bank.kept.shape (core xs) [] event) new)
     → IfSome bank.running (CopiesWhatItSensed (completed xs clock action event new ∷ xs))
     → AreTold clock.bank.kept.shape (completed xs clock action event new ∷ xs) regs → Control bank.kept regs new
+    → GoesOnWriting tick clock.regs regs (Core event) (pulsed_by clock.bank.kept.shape (core xs) None event) old new
     → Leads (completed xs clock action event new ∷ xs) (after_action clock bank regs action event) new
 
 -- so it does where it is a step of the writing of the change that stands, which leaves the bank as it was
@@ -110,4 +112,5 @@ KeepingLaw =
     → IsTrue (is_some clock.regs.change) → MayKeep clock.bank.kept.shape clock.pace (most_steps e) xs event
     → Touches (ends clock.pace action) (kept_sensed (line_kept clock) event) (kept_pulsed (line_kept clock) event) false old new
     → AreTold clock.bank.kept.shape (keep_completed clock action event new ∷ xs) regs → Control clock.bank.kept regs new
+    → GoesOnWriting (ends clock.pace action) clock.regs regs (Regs event) (kept_pulsed (line_kept clock) event) old new
     → Leads (keep_completed clock action event new ∷ xs) (after_keep clock regs action event) new

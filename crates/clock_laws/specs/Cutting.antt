@@ -17,6 +17,7 @@ use Rattle.bank_invariant.specs.State.{BankState}
 use Rattle.bank_invariant.specs.Holds.{Holds}
 use Rattle.clock_laws.specs.State.{ClockState}
 use Rattle.clock_laws.specs.Leads.{Leads, Reaches}
+use Rattle.clock_laws.specs.Tearing.{TearsControl}
 use Rattle.clock_laws.specs.Arriving.{KeepsWork, arrival, after_read, cancels_for}
 use Rattle.clock_laws.specs.Completing.{completion, line_kept}
 use Rattle.clock_laws.specs.Fitting.{IsFit}
@@ -49,6 +50,7 @@ PowerCutLaw =
     → Control bank.kept (broken_off clock.regs) new
     → Touches clock.tick (all_controls clock.bank.kept.shape) (torn_now xs clock) (is_doing Iterating clock.action) old new
     → AreStruck clock.bank.kept.shape (core xs) (Cut (tears_now clock)) (torn_now xs clock) old new
+    → TearsControl clock.regs (torn_now xs clock) old new
     → Leads (cut xs clock new ∷ xs) (after_cut clock bank) new
 
 module _ {n m e : ℕ} where
@@ -86,6 +88,7 @@ KeepCancelLaw =
     → Leads xs clock old → IsTrue (cancels_for clock line) → IsTrue (is_some clock.regs.change) → IsFit clock.bank clock.regs clock.action
     → Control clock.bank.kept (broken_off clock.regs) new
     → Touches clock.tick [] (kept_pulsed (line_kept clock) (KeepCut (is_doing Iterating clock.action))) (is_doing Iterating clock.action) old new
+    → TearsControl clock.regs (kept_pulsed (line_kept clock) (KeepCut (is_doing Iterating clock.action))) old new
     → Reaches (keep_cancel clock ∷ xs) (after_cancel clock clock.bank (broken_off clock.regs)) new
 
 -- the read that made a cancel, which then waits, makes the history whole

@@ -8,6 +8,7 @@ pub mod Newest
 pub mod Remaining
 pub mod Completing
 pub mod Putting
+pub mod Tearing
 pub mod Cutting
 pub mod Actions
 pub mod Extending

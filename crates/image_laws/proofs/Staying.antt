@@ -98,7 +98,7 @@ module _ (logs : WholeLogLaw) (leaving : LeavingLaw) (by_bank : BankTableLaw) (o
       room = was.serves.room;
       places = λ bank few.
           let p = was.serves.places bank few in record { worn = p.worn; pulses = p.pulses; placed = p.placed; taken = p.taken };
-      lines = λ bank few. let p = was.serves.lines bank few in record { pulses = p.pulses; ages = p.ages; controls = p.controls; endure = p.endure };
+      lines = λ bank few. let p = was.serves.lines bank few in record { pulses = p.pulses; ages = p.ages; controls = p.controls; control_ages = p.control_ages };
     };
     sensed = λ log told bank few. keeps-log bank few log told;
     end = was.end;

@@ -14,15 +14,16 @@ use Rattle.bank_shape.specs.declared.Home.TheVariants as home
 use Rattle.bank_shape.specs.Shape.{slots_of, control_line}
 use Rattle.bank_shape.specs.declared.answer.Step.TheVariants as did
 use Rattle.bank_model.specs.Events.{BankEvent, Write, Read, Serve, Begin, Iterate, Cut, line_of_row}
-use Rattle.bank_model.specs.History.{first_or, stores, stored_in, moved_in, retired, has_exhausted, in_progress, waits}
+use Rattle.bank_model.specs.History.{first_or, stores, stored_in, moved_in, retired, has_exhausted, in_progress}
 use Rattle.bank_model.specs.After.{work_after}
 use Rattle.bank_model.specs.Answers.{MayAll}
-use Rattle.bank_model.specs.Changes.{item_if, change_after, keeping_after, rounds_after, halted_after}
-use Rattle.bank_shape.specs.Pausing.{gives_way}
-use Rattle.bank_model.specs.Running.{busy_by, busy_after, choice_after}
-use Rattle.bank_model.specs.Sensing.{most_steps, pulses_of}
+use Rattle.bank_model.specs.Changes.{item_if, change_after, keeping_after, rounds_after, halted_after, line_of_change}
+use Rattle.bank_shape.specs.Pausing.{is_cancelling}
+use Rattle.bank_model.specs.Running.{busy_by, busy_after, cancels_after}
+use Rattle.bank_model.specs.Works.{written_on, rounds_on}
+use Rattle.bank_model.specs.Sensing.{is_at, most_steps, pulses_of}
 use Rattle.bank_shape.specs.declared.pace.Pace.{Pace}
-use Rattle.bank_model.specs.Timing.{TimedEvent, core, is_empty}
+use Rattle.bank_model.specs.Timing.{TimedEvent, core}
 use Rattle.bank_model.specs.Lawful.{Lawful}
 use Rattle.bank_laws.specs.Laws.{IsSized}
 use Rattle.bank_laws.specs.Outcomes.{table_of}
@@ -34,14 +35,13 @@ use Rattle.place_laws.proofs.Storing.{stored-counted, region-stored}
 use Rattle.place_laws.proofs.Tables.{region-all}
 use Rattle.place_laws.proofs.Trying.{cuts_in, exhausted-idle}
 use Rattle.place_laws.proofs.Pulses.{cuts-counted, bounded}
-use Rattle.place_laws.proofs.WornOut.{none-ready}
 use Rattle.place_laws.proofs.Cancels.{cancels-kept}
 use Rattle.log_laws.proofs.Within.{row_line-within, last-within}
-use Rattle.lifetime_laws.specs.Works.{most_changes, most_kept, ControlPulsesLaw}
+use Rattle.lifetime_laws.specs.Works.{most_changes, most_kept, ControlPulsesLaw, ControlAgesLaw}
 use Rattle.masked_bytes.proofs.Counting.{one_if}
 use Rattle.lifetime_laws.proofs.Ended.{below_one}
 use Rattle.lifetime_laws.proofs.Broken.{by-policy}
-use Rattle.lifetime_laws.proofs.Keeping.{is_item, changes_of, Kept, kept, stops-cond}
+use Rattle.lifetime_laws.proofs.Keeping.{is_item, changes_of, IsKept, Kept, kept, Written, written, none-cond, stops-cond}
 
 -- a change is of this item, or of another
 some-item : (where_ : Home) (other item : ℕ) → one_if (is_item item (item_if where_ other)) ≤ one_if (other == item)
@@ -181,17 +181,25 @@ rests-kept : (item : ℕ) (change : Option ℕ) (keeping busy : Bool) (rounds : 
 rests-kept item None keeping busy rounds is = refl
 rests-kept item (Some other) keeping busy rounds is = ap (λ b. cond (other == item && b) rounds 0) is ∙ stops-cond (other == item) rounds
 
+-- the line writes of an item's control line, by the rows
+module _ {n m : ℕ} (shape : BankShape) (pace : Pace) (e item : ℕ) (sized : IsSized shape pace) (xs : List (TimedEvent n m)) (l : Lawful shape pace e xs) where
+  writes-few : (w pulses rounds : ℕ) (k : IsKept w pulses rounds (changes_of shape item (core xs)) (cuts_in xs) (cancels_after xs)
+      (is_item item (change_after shape xs)) (keeping_after xs) (halted_after xs) (is_cancelling pace.policy))
+      → k.ended + k.broken ≤ tries pace.policy * most_kept shape (table_of shape xs) item
+  writes-few w pulses rounds k =
+      let cuts : count_by (λ (q : Row n). is_cut q) (table_of shape xs) ≡ cuts_in xs = cuts-counted shape xs xs in
+      let few = changes-few shape pace e item sized xs l in
+      by-policy pace.policy (k.ended + k.broken) k.ended k.broken (cuts_in xs) k.held (most_kept shape (table_of shape xs) item) refl
+      (omega (arith, k.made, few, cuts)) k.plain k.cut (omega (arith, k.under, (cancels-kept shape pace e xs l).most))
+      (λ holds. let stands : one_if (is_item item (change_after shape xs) && not (halted_after xs)) ≡ 1 = ap one_if (k.alone holds) in omega (arith, k.made, stands, few, cuts))
+
 pub control_pulses_law : ControlPulsesLaw
 control_pulses_law n m e shape pace xs array item sized l idle leaves exists =
     let k : Kept shape pace e item xs = kept shape pace e item sized xs l in
     let resting : busy_after shape xs ≡ false = idle.rests in
     let rested = rests-kept item (change_after shape xs) (keeping_after xs) (in_progress (core xs)) (rounds_after xs) resting in
-    let cuts : count_by (λ (q : Row n). is_cut q) (table_of shape xs) ≡ cuts_in xs = cuts-counted shape xs xs in
-    let few = changes-few shape pace e item sized xs l in
     let works : k.ended + k.broken ≤ tries pace.policy * most_kept shape (table_of shape xs) item =
-    by-policy pace.policy (k.ended + k.broken) k.ended k.broken (cuts_in xs) k.held (most_kept shape (table_of shape xs) item) refl
-    (omega (arith, k.made, few, cuts)) k.plain k.cut (omega (arith, k.under, (cancels-kept shape pace e xs l).most))
-    (λ holds. let stands : one_if (is_item item (change_after shape xs) && not (halted_after xs)) ≡ 1 = ap one_if (k.alone holds) in omega (arith, k.made, stands, few, cuts)) in
+    writes-few shape pace e item sized xs l (most_steps e) (pulses_of xs (control_line shape item)) (rounds_after xs) k in
     let bound : most_steps e * (k.ended + k.broken) ≤ tries pace.policy * most_steps e * most_kept shape (table_of shape xs) item =
     bounded (most_steps e) (tries pace.policy) (k.ended + k.broken)
     (most_kept shape (table_of shape xs) item) works in
@@ -201,3 +209,23 @@ control_pulses_law n m e shape pace xs array item sized l idle leaves exists =
     let same : (array.line (control_line shape item)).pulses ≡ pulses_of xs (control_line shape item) =
     subst (λ line. (array.line line).pulses ≡ pulses_of xs line) (sym turned) own in
     omega (arith, same, k.few, rested, bound)
+
+-- a bank that rests writes no control line
+rests-written : (shape : BankShape) (at : ℕ) (change : Option ℕ) (keeping busy : Bool) (rounds : ℕ) → busy_by change keeping busy ≡ false
+    → ◌≡◌ {A = ℕ} (cond (keeping && is_at (line_of_change shape change) at) rounds 0) 0
+rests-written shape at None true busy rounds is = refl
+rests-written shape at None false busy rounds is = refl
+rests-written shape at (Some item) keeping busy rounds is = ap (λ b. cond (b && (control_line shape item == at)) rounds 0) is
+
+pub control_ages_law : ControlAgesLaw
+control_ages_law n m e shape pace xs array item sized l idle aged exists =
+    let at : ℕ = control_line shape item in
+    let k : Written shape pace e item xs = written shape pace e item sized xs l in
+    let resting : busy_after shape xs ≡ false = idle.rests in
+    let rested : rounds_on shape at xs ≡ 0 = rests-written shape at (change_after shape xs) (keeping_after xs) (in_progress (core xs)) (rounds_after xs) resting in
+    let works : k.ended + k.broken ≤ tries pace.policy * most_kept shape (table_of shape xs) item =
+    writes-few shape pace e item sized xs l 1 (written_on shape at xs) 0 k in
+    let few : written_on shape at xs ≤ tries pace.policy * most_kept shape (table_of shape xs) item =
+    omega (arith, k.few, works, none-cond (is_item item (change_after shape xs) && keeping_after xs)) in
+    let ages = aged.age item exists in
+    record { live = λ fine c. omega (arith, ages.live fine c, rested, few); stuck = λ c is. omega (arith, ages.stuck c is, rested, few) }

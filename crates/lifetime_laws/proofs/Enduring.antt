@@ -9,6 +9,8 @@ use Rattle.ecp_line.specs.Reading.{is_worn_line}
 use Rattle.line_writer.proofs.Orderly.{members-none}
 use Rattle.lifetime_laws.specs.Endurance.{UnwornLaw}
 use Rattle.lifetime_laws.specs.Lifetime.{ControlsLaw}
+use Rattle.lifetime_laws.specs.Works.{most_kept}
+use Rattle.row_rules.specs.Ticking.{tries}
 use Rattle.bank_shape.specs.Shape.{control_line}
 
 none-below : (p : ℕ → Bool) (j : ℕ) → ((k : ℕ) → k < j → p k ≡ false) → some_below p j ≡ false
@@ -49,6 +51,4 @@ unworn_law B M e array most line l late few =
 
 pub controls_law : ControlsLaw
 controls_law n m e shape array rules rows layout lines bears item lt =
-    let pulses : ℕ = (array.line (control_line shape item)).pulses in
-    unworn_law n m e array pulses (control_line shape item) layout (lines.endure item lt)
-    (omega (arith, lines.controls item lt, bears item lt))
+    unworn_law n m e array (tries rules.policy * most_kept shape rows item) (control_line shape item) layout (lines.control_ages item lt).stuck (bears item lt)

@@ -1,4 +1,4 @@
--- The pulses of one control line, by the changes of its item.
+-- The pulses of one control line, and its line writes, by the changes of its item.
 use Rattle.std.proofs.Common.{◌≡◌, ℕ, ◌+◌, ◌*◌, ◌<◌, ◌≤◌, ◌==◌, ◌&&◌, not, Bool, true, false, List, [], ◌∷◌, inl, inr, Option, Some, None, refl, sym, ap, ◌∙◌, subst, arith, cond}
 use Rattle.masked_bytes.proofs.Truth.{and_first, and_second}
 use Rattle.std.specs.Prelude.{is_some}
@@ -33,6 +33,7 @@ use Rattle.log_laws.proofs.Within.{work-own}
 use Rattle.lifetime_laws.proofs.Counting.{one-few}
 use Rattle.masked_bytes.proofs.Counting.{one_if}
 use Rattle.lifetime_laws.proofs.Ended.{below_one}
+use Rattle.bank_model.specs.Works.{ends_keeping, is_written, written_on}
 use Rattle.lifetime_laws.proofs.Writing.{pulsed-more}
 
 -- whether a change is of this item
@@ -69,7 +70,7 @@ pub stops-cond : (a : Bool) (r : ℕ) → cond (a && false) r 0 ≡ 0
 stops-cond true r = refl
 stops-cond false r = refl
 
-none-cond : (b : Bool) → ◌≡◌ {A = ℕ} (cond b 0 0) 0
+pub none-cond : (b : Bool) → ◌≡◌ {A = ℕ} (cond b 0 0) 0
 none-cond true = refl
 none-cond false = refl
 
@@ -362,6 +363,17 @@ module _ {n m : ℕ} (shape : BankShape) (pace : Pace) (e item : ℕ) where
       IsKept (most_steps e) (pulses_of xs (control_line shape item)) (rounds_after xs) (changes_of shape item (core xs)) (cuts_in xs) (cancels_after xs)
       (is_item item (change_after shape xs)) (keeping_after xs) (halted_after xs) (is_cancelling pace.policy)
 
+  -- the same of the line writes themselves, of which each counts one
+  abbrev pub Written : List (TimedEvent n m) → Type 0
+  Written xs =
+      IsKept 1 (written_on shape (control_line shape item) xs) 0 (changes_of shape item (core xs)) (cuts_in xs) (cancels_after xs)
+      (is_item item (change_after shape xs)) (keeping_after xs) (halted_after xs) (is_cancelling pace.policy)
+
+-- what has ended, and one more of this line
+spent-once : (p c q n : ℕ) (here keeping halted cancelling : Bool) (k : IsKept 1 p 0 c q n here keeping halted cancelling) (new : ℕ) → new ≤ p + one_if here
+    → new ≤ 1 * (k.ended + k.broken) + cond here 1 0
+spent-once p c q n here keeping halted cancelling k new more = omega (arith, k.few, more, none-cond (here && keeping))
+
 module _ {n m : ℕ} (shape : BankShape) (pace : Pace) (e item : ℕ) (sized : IsSized shape pace) where
   -- the bank's own line write writes no control line
   target-low : (xs : List (TimedEvent n m)) → Lawful shape pace e xs → target_after shape (core xs) < control_line shape item
@@ -487,3 +499,105 @@ module _ {n m : ℕ} (shape : BankShape) (pace : Pace) (e item : ℕ) (sized : I
               → (is_item item (change_after shape xs) && keeping_after xs) ≡ true
           torn true on its = ap (λ b. b && keeping_after xs) (sym (its-line shape item (change_after shape xs)) ∙ its) ∙ on refl
           torn false on its = absurd (cc (its))
+
+  pub written : (xs : List (TimedEvent n m)) → Lawful shape pace e xs → Written shape pace e item xs
+  written [] l = record {
+    ended = 0;
+    broken = 0;
+    held = 0;
+    few = omega arith;
+    room = λ is. absurd (cc (is));
+    made = omega arith;
+    cut = omega arith;
+    under = omega arith;
+    alone = λ le. absurd (omega (arith, le));
+    plain = λ is. omega arith;
+  }
+  written (x ∷ xs) l = by x.happens x.cancels refl l.0 (written xs l.1)
+    where
+      p : ℕ
+      p = written_on shape (control_line shape item) xs
+
+      here : Bool
+      here = is_item item (change_after shape xs)
+
+      on : Bool
+      on = is_written shape (control_line shape item) xs
+
+      its : on ≡ here
+      its = its-line shape item (change_after shape xs)
+
+      By : Happens n → Bool → Type 0
+      By h c =
+          IsKept 1 (one_if (ends_keeping h (keeping_after xs) && on) + p) 0 (changes_of shape item (core_of h (core xs))) (one_if (cuts_power h c) + cuts_in xs)
+          (cancels_with h c (cancels_after xs)) (is_item item (change_by shape (core xs) h (change_after shape xs))) (keeping_by h (keeping_after xs)) (halted_by h (halted_after xs))
+          (is_cancelling pace.policy)
+
+      four : cancels_after xs ≤ 4
+      four = (cancels-kept shape pace e xs l.1).most
+
+      same : 0 + p ≤ p
+      same = omega arith
+
+      -- the writing of a change that goes on has not halted
+      unhalted : keeping_after xs ≡ true → halted_after xs ≡ false
+      unhalted is_on = by_cases (halted_after xs) refl
+        where
+          by_cases : (b : Bool) → halted_after xs ≡ b → b ≡ false
+          by_cases true is = absurd (cc (halted-stops shape pace e xs l.1 is, is_on))
+          by_cases false is = refl
+
+      -- a line write of this line that is broken off counts one
+      turned : (a b c : Bool) → b ≡ c → one_if (a && b) ≤ one_if (c && a)
+      turned true true true is = omega arith
+      turned false true true is = omega arith
+      turned true false false is = omega arith
+      turned false false false is = omega arith
+      turned a true false is = absurd (cc (is))
+      turned a false true is = absurd (cc (is))
+
+      breaks : one_if (keeping_after xs && on) + p ≤ p + one_if (here && keeping_after xs)
+      breaks = omega (arith, turned (keeping_after xs) on here its)
+
+      -- one that is done or has halted counts one, if it is of this line
+      ends : one_if on + p ≤ p + one_if here
+      ends = omega (arith, ap one_if its)
+
+      brings : (answer : Step) (count : ℕ) → change_after shape xs ≡ None → Written shape pace e item xs
+          → IsKept 1 (0 + p) 0 (one_if (is_item item (changed_by shape (core xs) answer None)) + changes_of shape item (core xs)) (0 + cuts_in xs) count
+          (is_item item (changed_by shape (core xs) answer (change_after shape xs))) false (halted_after xs) (is_cancelling pace.policy)
+      brings answer count none k =
+          subst (λ b. IsKept 1 (0 + p) 0 (one_if (is_item item (changed_by shape (core xs) answer None)) + changes_of shape item (core xs)) (0 + cuts_in xs) count
+          b false (halted_after xs) (is_cancelling pace.policy)) (begun-item shape item (core xs) answer (change_after shape xs) none)
+          (kept-begun _ _ _ _ _ _ _ _ _ _ k (0 + p) count (is_item item (changed_by shape (core xs) answer None)) same (none-item item (change_after shape xs) none))
+
+      by : (h : Happens n) (c : Bool) → x.cancels ≡ c → MayCome shape pace e xs x h → Written shape pace e item xs → By h c
+      by (Core (Write row line bytes given answer)) c is may k = kept-passed _ _ _ _ _ _ _ _ _ _ k (0 + p) same
+      by (Core (Read row line answer)) c is may k = kept-passed _ _ _ _ _ _ _ _ _ _ k (0 + p) same
+      by (Core (Serve answer)) c is may k = kept-passed _ _ _ _ _ _ _ _ _ _ k (0 + p) same
+      by (Core (Begin answer)) c is may k = brings answer _ may.on_time.2 k
+      by (Core (Iterate answer)) c is may k = brings answer _ may.on_time.2 k
+      by (Core (Cut tearing)) false is may k =
+          kept-cut _ _ _ _ _ _ _ _ _ _ k (one_if (keeping_after xs && on) + p) (here && keeping_after xs) (here && keeping_after xs) refl breaks (λ torn. torn) four
+      by (Core (Cut tearing)) true is may k =
+          let none : change_after shape xs ≡ None = may.on_time.3 is in
+          let off : here ≡ false = none-item item (change_after shape xs) none in
+          kept-still _ _ _ _ _ _ _ _ _ _ k (one_if (keeping_after xs && on) + p)
+          (omega (arith, breaks, ap (λ b. one_if (b && keeping_after xs)) off)) off
+      by (Regs (KeepBegin keep.More)) c is may k = kept-writes _ _ _ _ _ _ _ _ _ _ k (0 + p) same may.may.0 (omega arith)
+      by (Regs (KeepBegin keep.Done)) c is may k =
+          kept-done _ _ _ _ _ _ _ _ _ _ k (one_if on + p) 0 here refl
+          (spent-once _ _ _ _ _ _ _ _ k (one_if on + p) ends) may.may.1 four
+      by (Regs (KeepBegin keep.Halted)) c is may k = absurd (may.may.2 refl)
+      by (Regs (KeepIterate keep.More)) c is may k =
+          subst (λ b. IsKept 1 (0 + p) 0 (changes_of shape item (core xs)) (0 + cuts_in xs) (cancels_after xs) here b (halted_after xs) (is_cancelling pace.policy)) may.may.0
+          (kept-passed _ _ _ _ _ _ _ _ _ _ k (0 + p) same)
+      by (Regs (KeepIterate keep.Done)) c is may k =
+          kept-done _ _ _ _ _ _ _ _ _ _ k (one_if on + p) 0 here refl
+          (spent-once _ _ _ _ _ _ _ _ k (one_if on + p) ends) (unhalted may.may.0) four
+      by (Regs (KeepIterate keep.Halted)) c is may k =
+          kept-halts _ _ _ _ _ _ _ _ _ _ k (one_if on + p) 0 here refl
+          (spent-once _ _ _ _ _ _ _ _ k (one_if on + p) ends) (unhalted may.may.0) four
+      by (Regs (KeepCut tearing)) c is may k =
+          kept-broken _ _ _ _ _ _ _ _ _ _ k (one_if (keeping_after xs && on) + p) (here && keeping_after xs) (here && keeping_after xs) refl breaks (λ torn. torn) unhalted
+          (and_first (is_cancelling pace.policy) _ may.on_time.3)

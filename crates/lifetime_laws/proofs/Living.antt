@@ -16,23 +16,19 @@ use Rattle.row_rules.specs.Rows.{each_row, asks_write, asks_write_of, line_of}
 use Rattle.row_rules.specs.declared.Rules.{Rules}
 use Rattle.row_rules.specs.Ticking.{is_in_time, tries}
 use Rattle.bank_shape.specs.declared.BankShape.{BankShape}
-use Rattle.bank_shape.specs.Shape.{slots_of, slot_moved, control_line}
-use Rattle.bank_model.specs.Aging.{Endures}
+use Rattle.bank_shape.specs.Shape.{slots_of, slot_moved}
 use Rattle.bank_shape.specs.declared.pace.Pace.{Pace}
 use Rattle.bank_model.specs.Timing.{TimedEvent, core}
 use Rattle.bank_model.specs.Lawful.{Lawful}
-use Rattle.bank_model.specs.History.{in_progress, waits}
+use Rattle.bank_model.specs.History.{in_progress}
 use Rattle.bank_model.specs.Changes.{change_after, keeping_after}
-use Rattle.bank_shape.specs.Pausing.{gives_way}
-use Rattle.bank_model.specs.Running.{busy_by, busy_after, choice_after}
+use Rattle.bank_model.specs.Running.{busy_by, busy_after}
 use Rattle.bank_laws.proofs.Changing.{changed-idle}
-use Rattle.bank_model.specs.Timing.{is_empty}
 use Rattle.bank_laws.specs.Places.{region_stores, is_place_after, is_placed}
 use Rattle.lifetime_laws.specs.Endurance.{KeepsControls}
 use Rattle.bank_laws.specs.Laws.{is_worn_at}
 use Rattle.bank_laws.specs.Outcomes.{table_of}
 use Rattle.bank_laws.specs.Resting.{IsStill}
-use Rattle.place_laws.proofs.WornOut.{none-ready}
 use Rattle.place_laws.proofs.Pulses.{bounded}
 use Rattle.bank_model.specs.Sensing.{most_steps, pulses_of}
 use Rattle.lifetime_laws.specs.Spread.{is_stored_on, stores_on, most_at, finding_at, stay}
@@ -49,7 +45,7 @@ use Rattle.lifetime_laws.proofs.Sound.{sound_rows_law}
 use Rattle.bank_laws.proofs.Works.{idle-held}
 use Rattle.lifetime_laws.proofs.Writing.{pulses_on_law}
 use Rattle.lifetime_laws.proofs.Broken.{works_law}
-use Rattle.lifetime_laws.proofs.Changed.{control_pulses_law}
+use Rattle.lifetime_laws.proofs.Changed.{control_pulses_law, control_ages_law}
 
 -- a bank that rests has no line write of its own in progress: while a change stands none is
 core-rests : (change : Option ℕ) (keeping busy : Bool) → (is_some change ≡ true → busy ≡ false) → busy_by change keeping busy ≡ false → busy ≡ false
@@ -83,13 +79,11 @@ line_ages_law n m e shape pace xs array slot sized l idle aged exists =
     record { live = λ fine c. omega (arith, ages.live fine c, none, more); stuck = λ c is. omega (arith, ages.stuck c is, none, more) }
 
 pub kept_lines_law : KeptLinesLaw
-kept_lines_law n m e shape pace xs array sized l idle leaves aged = record {
+kept_lines_law n m e shape pace xs array sized l idle leaves aged written = record {
   pulses = λ slot exists. line_pulses_law n m e shape pace xs array slot sized l idle leaves exists;
   ages = λ slot exists. line_ages_law n m e shape pace xs array slot sized l idle aged exists;
   controls = λ item exists. control_pulses_law n m e shape pace xs array item sized l idle leaves exists;
-  endure = λ item exists.
-      let turned : shape.base + (slots_of shape + shape.spares + item) ≡ control_line shape item = omega arith in
-      subst (λ line. Endures array.bounds (array.line line)) turned (aged.endure (slots_of shape + shape.spares + item) (omega (arith, exists)));
+  control_ages = λ item exists. control_ages_law n m e shape pace xs array item sized l idle written exists;
 }
 
 -- a slot's line is of the slot's region

@@ -11,7 +11,7 @@ use Rattle.row_rules.specs.Table.{KeepsRows}
 use Rattle.row_rules.specs.Ticking.{is_in_time, tries}
 use Rattle.bank_shape.specs.declared.BankShape.{BankShape}
 use Rattle.bank_shape.specs.Shape.{slots_of, controls_of, control_line}
-use Rattle.bank_model.specs.Aging.{Ages, AreAged, Endures}
+use Rattle.bank_model.specs.Aging.{Ages, AreAged, AreControlsAged}
 use Rattle.bank_shape.specs.declared.pace.Pace.{Pace}
 use Rattle.bank_model.specs.Timing.{TimedEvent, core}
 use Rattle.bank_model.specs.Lawful.{Lawful}
@@ -61,13 +61,15 @@ pub record KeepsLines {n m : ℕ} (shape : BankShape) (array : ArrayState n m) (
       → Ages array.bounds (tries rules.policy * most_works shape rows slot) (array.line (shape.base + slot))
   pub controls : (item : ℕ) → item < controls_of shape
       → (array.line (control_line shape item)).pulses ≤ most_each rules * most_kept shape rows item
-  pub endure : (item : ℕ) → item < controls_of shape → Endures array.bounds (array.line (control_line shape item))
+  pub control_ages : (item : ℕ) → item < controls_of shape
+      → Ages array.bounds (tries rules.policy * most_kept shape rows item) (array.line (control_line shape item))
 
 -- so it is for every history of a bank, and the array that it leaves
 abbrev pub KeptLinesLaw : Type 0
 KeptLinesLaw =
     (n m e : ℕ) (shape : BankShape) (pace : Pace) (xs : List (TimedEvent n m)) (array : ArrayState n m)
-    → IsSized shape pace → Lawful shape pace e xs → IsStill shape xs → LeavesArray e shape xs array → AreAged shape (core xs) array
+    → IsSized shape pace → Lawful shape pace e xs → IsStill shape xs → LeavesArray e shape xs array
+    → AreAged shape (core xs) array → AreControlsAged shape xs array
     → KeepsLines shape array (rules_of e shape pace) (table_of shape xs)
 
 -- the most line writes of any one slot's own line of a region, each begun once, by numbers: each of the hot lines brings at most its share
@@ -119,10 +121,10 @@ abbrev pub BearsAskedWorks : {n : ℕ} → CellBounds → BankShape → Rules �
 BearsAskedWorks bounds shape rules rows hot =
     (region : ℕ) → region < shape.regions → tries rules.policy * most_asked_works shape region (hot region) rows < bounds.endures
 
--- cells endure what the changes of each item may bring its control line. A bank whose registers are guarded has none; where they are
--- kept in the array, that of a region is written for each of its stores and moves, and no gap moves it: it wears out first
+-- cells endure more changes than each item's control line may take line writes, each as often as it may be begun. A bank whose registers
+-- are guarded has none; where they are kept in the array, that of a region is written for each of its stores and moves, and no gap moves it
 abbrev pub BearsControls : {n : ℕ} → CellBounds → BankShape → Rules → List (Row n) → Type 0
-BearsControls bounds shape rules rows = (item : ℕ) → item < controls_of shape → most_each rules * most_kept shape rows item < bounds.endures
+BearsControls bounds shape rules rows = (item : ℕ) → item < controls_of shape → tries rules.policy * most_kept shape rows item < bounds.endures
 
 -- then no control line is worn
 abbrev pub ControlsLaw : Type 0

@@ -9,7 +9,7 @@ use Rattle.row_rules.specs.declared.Rules.{Rules}
 use Rattle.row_rules.specs.Ticking.{tries}
 use Rattle.bank_shape.specs.declared.BankShape.{BankShape}
 use Rattle.bank_shape.specs.Shape.{slots_of, controls_from, controls_of, control_line}
-use Rattle.bank_model.specs.Aging.{Ages, AreAged}
+use Rattle.bank_model.specs.Aging.{Ages, AreAged, AreControlsAged}
 use Rattle.bank_model.specs.Works.{works_on, held_on}
 use Rattle.bank_model.specs.Sensing.{most_steps, pulses_of}
 use Rattle.bank_shape.specs.declared.pace.Pace.{Pace}
@@ -84,3 +84,10 @@ ControlPulsesLaw =
     (n m e : ℕ) (shape : BankShape) (pace : Pace) (xs : List (TimedEvent n m)) (array : ArrayState n m) (item : ℕ)
     → IsSized shape pace → Lawful shape pace e xs → IsStill shape xs → LeavesArray e shape xs array → item < controls_of shape
     → (array.line (control_line shape item)).pulses ≤ most_each (rules_of e shape pace) * most_kept shape (table_of shape xs) item
+
+-- and how it ages: as its first cell stuck, no cell of it had changed more than once in each line write, as often as it may be begun
+abbrev pub ControlAgesLaw : Type 0
+ControlAgesLaw =
+    (n m e : ℕ) (shape : BankShape) (pace : Pace) (xs : List (TimedEvent n m)) (array : ArrayState n m) (item : ℕ)
+    → IsSized shape pace → Lawful shape pace e xs → IsStill shape xs → AreControlsAged shape xs array → item < controls_of shape
+    → Ages array.bounds (tries pace.policy * most_kept shape (table_of shape xs) item) (array.line (control_line shape item))

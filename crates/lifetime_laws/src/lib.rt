@@ -6,7 +6,7 @@
 
 ghost use Rattle.lifetime_laws.specs.Spread.{AnyLineLaw, CopiesLaw, EvenLaw, FoundLaw, OneStayLaw, SpreadLaw, StayLaw, TightLaw};
 ghost use Rattle.lifetime_laws.specs.Endurance.{NoneRetiredLaw, SoundRowsLaw, UnwornLaw};
-ghost use Rattle.lifetime_laws.specs.Works.{ControlPulsesLaw, LineAgesLaw, LinePulsesLaw, PulsesOnLaw, WorksLaw};
+ghost use Rattle.lifetime_laws.specs.Works.{ControlAgesLaw, ControlPulsesLaw, LineAgesLaw, LinePulsesLaw, PulsesOnLaw, WorksLaw};
 ghost use Rattle.lifetime_laws.specs.Lifetime.{AskedLaw, AttackLaw, ControlsLaw, HotLinesLaw, KeptLinesLaw, LifetimeLaw};
 
 /// Whatever the trace: of the first so many stores of a region at most so many find a line at one slot.
@@ -73,7 +73,7 @@ pub fn unworn_banks_take_all()
     ensures { SoundRowsLaw }
 {}
 
-/// Over cells that endure what the changes of each item may bring its control line, no control line is worn.
+/// Over cells that endure more changes than each item's control line may take line writes, no control line is worn.
 pub fn spared_controls_are_unworn()
     ensures { ControlsLaw }
 {}
@@ -108,6 +108,11 @@ pub fn lines_age_slowly()
 /// that of a spare or of the mark is written once.
 pub fn control_pulses_are_few()
     ensures { ControlPulsesLaw }
+{}
+
+/// And until its first cell stuck each line write changed a cell of it at most once.
+pub fn control_lines_age_slowly()
+    ensures { ControlAgesLaw }
 {}
 
 /// The bounds on pulses and changes, as a law of a bank's finished table and array.

@@ -14,8 +14,8 @@ use Rattle.row_rules.specs.Table.{KeepsRows}
 use Rattle.bank_shape.specs.declared.BankShape.{BankShape}
 use Rattle.bank_shape.specs.Shape.{lines_in}
 use Rattle.bank_model.specs.Adding.{senses_of}
-use Rattle.bank_model.specs.Aging.{AreAged}
-use Rattle.bank_model.specs.Timing.{TimedEvent, core}
+use Rattle.clock_laws.specs.Leads.{HasAged}
+use Rattle.bank_model.specs.Timing.{TimedEvent}
 use Rattle.bank_model.specs.Lawful.{Lawful}
 use Rattle.bank_laws.specs.Laws.{IsSized, LeavesArray, KeepsPlacesTo, KeepsLogTo, is_worn_at}
 use Rattle.bank_laws.specs.Outcomes.{table_of}
@@ -92,8 +92,8 @@ module _ {n m e : ℕ} (off : Bool) (laws : BankLaws) (raw : RawShape) (seed : �
     left : LeavesArray e (shape_of bank) (h bank) array
     left = leaves (h bank) (banks bank) array (done.leads bank exists) (shape_of bank) (pacing_in raw) (done.shapes bank exists) (done.paces bank exists) laws.leaving
 
-    aged : AreAged (shape_of bank) (core (h bank)) array
-    aged = subst (λ (s : BankShape). AreAged s (core (h bank)) array) (done.shapes bank exists) (done.leads bank exists).aged
+    aged : HasAged (shape_of bank) (h bank) (banks bank).regs array
+    aged = subst (λ (s : BankShape). HasAged s (h bank) (banks bank).regs array) (done.shapes bank exists) (done.leads bank exists).aged
 
     -- its rows are the table of its history
     table : table_in raw seed bank rows ≡ table_of (shape_of bank) (h bank)
@@ -117,7 +117,7 @@ module _ {n m e : ℕ} (off : Bool) (laws : BankLaws) (raw : RawShape) (seed : �
     keeps_lines : KeepsLines (shape_of bank) array (rules_in e raw bank) (table_in raw seed bank rows)
     keeps_lines =
         subst (λ (rs : List (Row n)). KeepsLines (shape_of bank) array (rules_in e raw bank) rs) (sym table)
-        (laws.lines n m e (shape_of bank) (pacing_in raw) (h bank) array (sized raw bank is) lawful still left aged)
+        (laws.lines n m e (shape_of bank) (pacing_in raw) (h bank) array (sized raw bank is) lawful still left aged.lines aged.controls)
 
     keeps_log : (log : List (Sense n m)) → array.log ≡ Some log → KeepsLogTo e (shape_of bank) array off (rules_in e raw bank) (table_in raw seed bank rows) log
     keeps_log log told =

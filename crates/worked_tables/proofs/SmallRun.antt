@@ -99,7 +99,7 @@ first_lines = record {
   pulses = λ slot exists. omega (arith, few_pulses ((bank_shape (module_of small) 0).base + slot));
   ages = λ slot exists. record { live = λ none c. omega (arith, few_spent ((bank_shape (module_of small) 0).base + slot) c); stuck = λ c is. absurd (cc (is, none_stuck ((bank_shape (module_of small) 0).base + slot) c)) };
   controls = λ item exists. absurd (omega (arith, exists));
-  endure = λ item exists. absurd (omega (arith, exists));
+  control_ages = λ item exists. absurd (omega (arith, exists));
 }
 
 second_lines : KeepsLines (bank_shape (module_of small) 1) ended (rules_in 1 small 1) (second_bank 0x11)
@@ -107,7 +107,7 @@ second_lines = record {
   pulses = λ slot exists. omega (arith, few_pulses ((bank_shape (module_of small) 1).base + slot));
   ages = λ slot exists. record { live = λ none c. omega (arith, few_spent ((bank_shape (module_of small) 1).base + slot) c); stuck = λ c is. absurd (cc (is, none_stuck ((bank_shape (module_of small) 1).base + slot) c)) };
   controls = λ item exists. absurd (omega (arith, exists));
-  endure = λ item exists. absurd (omega (arith, exists));
+  control_ages = λ item exists. absurd (omega (arith, exists));
 }
 
 -- a line of a bank is shown by the log

@@ -15,6 +15,10 @@ use Rattle.lifetime_laws.specs.Lifetime.{most_works_by}
 abbrev pub two_lines : BankShape
 two_lines = record { base = 0; regions = 1; lines = 2; spares = 0; writes = 4; reads = 4; psi = 1; home = home.Guarded }
 
+-- the same with registers in the array
+abbrev pub two_in_array : BankShape
+two_in_array = record { base = 0; regions = 1; lines = 2; spares = 0; writes = 4; reads = 4; psi = 1; home = home.Array }
+
 -- so many stores of a bank of one region of two lines, one every 100 ticks, the k-th of the line that a rule gives; each lies where its line stands
 abbrev pub storing : (ℕ → ℕ) → ℕ → List (Row 2)
 storing rule zero = []
@@ -64,3 +68,13 @@ abbrev pub most_promised : Policy → (lines psi hot changes others cuts stores 
 most_promised policy lines psi hot changes others cuts stores =
     nat_lt (tries policy * most_works_by lines psi hot (stores + others) others cuts) changes
     && not (nat_lt (tries policy * most_works_by lines psi hot (stores + 1 + others) others cuts) changes)
+
+-- so with registers in the array, where the region's control line takes no more line writes than cells endure changes either
+abbrev pub bears_in_array : Policy → (lines psi hot changes others cuts stores : ℕ) → Bool
+bears_in_array policy lines psi hot changes others cuts stores =
+    nat_lt (tries policy * most_works_by lines psi hot (stores + others) others cuts) changes
+    && nat_lt (tries policy * (stores + others + (stores + others) / psi + cuts)) changes
+
+abbrev pub most_promised_in_array : Policy → (lines psi hot changes others cuts stores : ℕ) → Bool
+most_promised_in_array policy lines psi hot changes others cuts stores =
+    bears_in_array policy lines psi hot changes others cuts stores && not (bears_in_array policy lines psi hot changes others cuts (stores + 1))

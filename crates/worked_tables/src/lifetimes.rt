@@ -10,9 +10,9 @@ ghost use Rattle.bank_shape.specs.declared.pace.Policy.TheVariants.{Pause, Cance
 ghost use Rattle.bank_laws.specs.Places.{is_placed, region_stores};
 ghost use Rattle.worked_tables.specs.HistoryTables.{none_worn};
 ghost use Rattle.lifetime_laws.specs.Spread.{most_at, most_moves, stores_on};
-ghost use Rattle.lifetime_laws.specs.Works.{stores_at};
-ghost use Rattle.lifetime_laws.specs.Lifetime.{most_hot_works, most_asked_works, BearsWorks};
-ghost use Rattle.worked_tables.specs.Lifetimes.{two_lines, storing, always, waiting_for_slot_0, stores_of, sixteen_regions, one_hot_line_each, its_first, all_first, enduring, most_promised};
+ghost use Rattle.lifetime_laws.specs.Works.{stores_at, most_each, most_kept};
+ghost use Rattle.lifetime_laws.specs.Lifetime.{most_hot_works, most_asked_works, BearsControls, BearsWorks};
+ghost use Rattle.worked_tables.specs.Lifetimes.{two_in_array, two_lines, storing, always, waiting_for_slot_0, stores_of, sixteen_regions, one_hot_line_each, its_first, all_first, enduring, most_promised, most_promised_in_array};
 
 /// Sixteen lines, a gap move for each ten stores: of 20,000 and of 50,000 stores of one line at most 1,280 and 3,040 are on one
 /// array line, and 118 and 295 moves go into one place. Without moves all 50,000 are.
@@ -61,7 +61,8 @@ pub fn hot_lines_count_in_their_own_region()
 
 /// How many stores of hot lines are promised, as `examples/studies/promise` prints it: of one line of a region of 64 over cells of
 /// 100,000,000 changes, with a gap move for each hundred stores, for each one, and so seldom that none comes, and under the policy
-/// cancel; of one line of 16 beside 8 stores of others, as in the study of lifetimes; and of three lines of 16 through ten power cuts.
+/// cancel; of one line of 16 beside 8 stores of others, as in the study of lifetimes; of three lines of 16 through ten power cuts; and
+/// with registers in the array.
 pub fn promises_are_computed()
     ensures default { most_promised Pause 64 100 1 100000000 0 0 6435521917 ≡ true }
     ensures often { most_promised Pause 64 1 1 100000000 0 0 3249999870 ≡ true }
@@ -70,4 +71,15 @@ pub fn promises_are_computed()
     ensures study { most_promised Pause 16 1 1 20000 8 0 169822 ≡ true }
     ensures study_4 { most_promised Pause 16 4 1 20000 8 0 271315 ≡ true }
     ensures cuts { most_promised Pause 16 4 3 20000 8 10 104443 ≡ true }
+    ensures in_array { most_promised_in_array Pause 64 64 1 1000000 0 0 984615 ≡ true }
+    ensures in_array_cancelled { most_promised_in_array Cancel 4 4 1 1000 0 3 157 ≡ true }
+{}
+
+/// Two lines with registers in the array, a gap move after each of 24 stores: the region's control line takes at most 48 line writes,
+/// and the mark's one, so cells that endure 49 changes bear them. Of pulses they might take 7,680.
+pub fn control_lines_count_by_changes()
+    ensures region { most_kept two_in_array (storing always 24) 0 ≡ 48 }
+    ensures mark { most_kept two_in_array (storing always 24) 1 ≡ 1 }
+    ensures pulses { most_each (small Pause) * most_kept two_in_array (storing always 24) 0 ≡ 7680 }
+    ensures bears { BearsControls (enduring 49) two_in_array (small Pause) (storing always 24) }
 {}
