@@ -22,13 +22,16 @@ use Rattle.check_judging.specs.Keys.{reach, is_short, key, up_to}
 use Rattle.check_judging.specs.Rising.{falling}
 use Rattle.masked_bytes.proofs.Counting.{count-append, count-cons, one_if}
 use Rattle.check_judging.proofs.Cuts.{first_cut_law, cuts_of_bank_law}
-use Rattle.check_verdict.specs.Ahead.{four_kept, bound_kept, latest_kept, at_store}
+use Rattle.check_verdict.specs.declared.Rule.{Rule}
+use Rattle.check_verdict.specs.declared.known.Keys.{Keys}
+use Rattle.check_verdict.specs.Ahead.{four_kept, latest_kept, at_store}
 use Rattle.check_verdict.specs.Covering.{soonest, cover_kept}
 use Rattle.check_verdict.specs.Fitting.{at_head_kept, write_fits}
 use Rattle.check_verdict.specs.Judged.{first_broken, beside, a_write, a_read}
 use Rattle.check_verdict.specs.Keeping.{stored_early, read_timely, write_timely, delay_kept}
 use Rattle.check_verdict.specs.Kept.{apart_kept}
 use Rattle.check_verdict.specs.QueueLaws.{next_accepted}
+use Rattle.check_verdict.specs.RowVerdicts.{read_by}
 use Rattle.check_verdict.specs.States.{Facts}
 use Rattle.check_verdict.specs.Tables.{four_came}
 use Rattle.check_verdict.specs.Timely.{FindsTimes, first_of_ticks, latest_store}
@@ -45,40 +48,52 @@ own : {A : Type 0} (b : ℕ) (x : A) (xs : List A) → cond (b == b) (x ∷ xs) 
 own b x xs = ap (λ c. cond c (x ∷ xs) xs) (eq-eqb b b refl)
 
 module _ {n : ℕ} (rules : Rules) (banks : List ℕ) (line : ℕ) (before : List (Row n)) (r : Row n) (after : List (Row n)) (f : Facts) (comes : Comes rules banks line before r after f) where
-  times : FindsTimes rules (beside banks line before) r (beside banks line after) f.members f.waits f.lost f.last_answer f.last_store
+  abbrev bank : ℕ
+  bank = bank_in banks line
+
+  abbrev past : List (Row n)
+  past = beside banks line before
+
+  abbrev later : List (Row n)
+  later = beside banks line after
+
+  times : FindsTimes rules past r later f.members f.waits f.lost f.last_answer f.last_store
   times = record { kept = comes.stands.finds.kept; later = comes.later; short = comes.short; some = comes.some; small = comes.small }
 
-  cuts : (u : ℕ) → cuts_to u (beside banks line after) ≡ up_to u (cut_ticks after)
-  cuts u = (first_cut_law n r.tick u (beside banks line after) comes.later).number ∙ ap (λ ticks. count_by (λ c. nat_le c u) ticks) (cuts_of_bank_law n (bank_in banks) (bank_in banks line) after)
+  cuts : (u : ℕ) → cuts_to u later ≡ up_to u (cut_ticks after)
+  cuts u = (first_cut_law n r.tick u later comes.later).number ∙ ap (λ ticks. count_by (λ c. nat_le c u) ticks) (cuts_of_bank_law n (bank_in banks) bank after)
 
-  module _ (stores reads lines : List ℕ) (keys : HasKeys banks before r after stores reads lines) (mine : of_bank (bank_in banks) (bank_in banks line) (r ∷ after) ≡ r ∷ beside banks line after) where
+  module _ (keys : Keys) (has : HasKeys banks before r after keys) (mine : of_bank (bank_in banks) bank (r ∷ after) ≡ r ∷ later) where
+    abbrev stored_to : ℕ → ℕ
+    stored_to u = up_to (key bank u) keys.stores.items
+
+    abbrev read_to : ℕ → ℕ
+    read_to u = up_to (key bank u) keys.reads.items
+
     latest : (u : ℕ) → r.tick < u → u < reach
-        → latest_kept rules stores reads (cut_ticks after) (bank_in banks line) r.tick u ≡ latest_store rules u r (beside banks line before) (beside banks line after)
+        → latest_kept rules keys.stores.items keys.reads.items (cut_ticks after) bank r.tick u ≡ latest_store rules u r past later
     latest u lt below =
-        let c = counts_told_law n (bank_in banks) (bank_in banks line) r.tick u before r after stores reads keys.of_stores keys.of_reads (omega (arith, lt)) below keys.short in
-        let s : up_to (key (bank_in banks line) r.tick) stores + stores_in r.tick u (beside banks line before ++ r ∷ beside banks line after) ≡ up_to (key (bank_in banks line) u) stores =
-        subst (λ rows. up_to (key (bank_in banks line) r.tick) stores + stores_in r.tick u (beside banks line before ++ rows) ≡ up_to (key (bank_in banks line) u) stores) mine c.stored in
-        let d : up_to (key (bank_in banks line) r.tick) reads + reads_in r.tick u (beside banks line before ++ r ∷ beside banks line after) ≡ up_to (key (bank_in banks line) u) reads =
-        subst (λ rows. up_to (key (bank_in banks line) r.tick) reads + reads_in r.tick u (beside banks line before ++ rows) ≡ up_to (key (bank_in banks line) u) reads) mine c.read in
-        let w : up_to (key (bank_in banks line) u) stores - up_to (key (bank_in banks line) r.tick) stores ≡ stores_in r.tick u (beside banks line before ++ r ∷ beside banks line after) = omega (arith, s) in
-        let v : up_to (key (bank_in banks line) u) reads - up_to (key (bank_in banks line) r.tick) reads ≡ reads_in r.tick u (beside banks line before ++ r ∷ beside banks line after) = omega (arith, d) in
-        ap (λ k. r.tick + longest rules k (up_to (key (bank_in banks line) u) reads - up_to (key (bank_in banks line) r.tick) reads) (up_to u (cut_ticks after))) w
-        ∙ ap (λ k. r.tick + longest rules (stores_in r.tick u (beside banks line before ++ r ∷ beside banks line after)) k (up_to u (cut_ticks after))) v
-        ∙ ap (λ k. r.tick + longest rules (stores_in r.tick u (beside banks line before ++ r ∷ beside banks line after)) (reads_in r.tick u (beside banks line before ++ r ∷ beside banks line after)) k) (sym (cuts u))
+        let c = counts_told_law n (bank_in banks) bank r.tick u before r after keys.stores.items keys.reads.items has.of_stores has.of_reads (omega (arith, lt)) below has.short in
+        let s : stored_to r.tick + stores_in r.tick u (past ++ r ∷ later) ≡ stored_to u = subst (λ rows. stored_to r.tick + stores_in r.tick u (past ++ rows) ≡ stored_to u) mine c.stored in
+        let d : read_to r.tick + reads_in r.tick u (past ++ r ∷ later) ≡ read_to u = subst (λ rows. read_to r.tick + reads_in r.tick u (past ++ rows) ≡ read_to u) mine c.read in
+        let w : stored_to u - stored_to r.tick ≡ stores_in r.tick u (past ++ r ∷ later) = omega (arith, s) in
+        let v : read_to u - read_to r.tick ≡ reads_in r.tick u (past ++ r ∷ later) = omega (arith, d) in
+        ap (λ k. r.tick + longest rules k (read_to u - read_to r.tick) (up_to u (cut_ticks after))) w
+        ∙ ap (λ k. r.tick + longest rules (stores_in r.tick u (past ++ r ∷ later)) k (up_to u (cut_ticks after))) v
+        ∙ ap (λ k. r.tick + longest rules (stores_in r.tick u (past ++ r ∷ later)) (reads_in r.tick u (past ++ r ∷ later)) k) (sym (cuts u))
 
     -- four reads came
     four : asks_write r.asks ≡ false → (fourth : Option ℕ) → ((d : ℕ) → fourth ≡ Some d → d ≤ r.tick) → r.tick < reach
-        → four_came r.tick fourth (beside banks line before ++ beside banks line after) ≡ four_kept stores (bank_in banks line) r.tick fourth
+        → four_came r.tick fourth (past ++ later) ≡ four_kept keys.stores.items bank r.tick fourth
     four reading None le below = refl
     four reading (Some d) le below =
-        let c = counts_told_law n (bank_in banks) (bank_in banks line) d r.tick before r after stores reads keys.of_stores keys.of_reads (le d refl) below keys.short in
-        let s : up_to (key (bank_in banks line) d) stores + stores_in d r.tick (beside banks line before ++ r ∷ beside banks line after) ≡ up_to (key (bank_in banks line) r.tick) stores =
-        subst (λ rows. up_to (key (bank_in banks line) d) stores + stores_in d r.tick (beside banks line before ++ rows) ≡ up_to (key (bank_in banks line) r.tick) stores) mine c.stored in
-        let i = count-append (λ (q : Row n). asks_write q.asks && (stored_after d q.outcome && stored_by r.tick q.outcome)) (beside banks line before) (r ∷ beside banks line after) in
-        let j = count-append (λ (q : Row n). asks_write q.asks && (stored_after d q.outcome && stored_by r.tick q.outcome)) (beside banks line before) (beside banks line after) in
-        let k = count-cons (λ (q : Row n). asks_write q.asks && (stored_after d q.outcome && stored_by r.tick q.outcome)) r (beside banks line after) in
+        let c = counts_told_law n (bank_in banks) bank d r.tick before r after keys.stores.items keys.reads.items has.of_stores has.of_reads (le d refl) below has.short in
+        let s : stored_to d + stores_in d r.tick (past ++ r ∷ later) ≡ stored_to r.tick = subst (λ rows. stored_to d + stores_in d r.tick (past ++ rows) ≡ stored_to r.tick) mine c.stored in
+        let i = count-append (λ (q : Row n). asks_write q.asks && (stored_after d q.outcome && stored_by r.tick q.outcome)) past (r ∷ later) in
+        let j = count-append (λ (q : Row n). asks_write q.asks && (stored_after d q.outcome && stored_by r.tick q.outcome)) past later in
+        let k = count-cons (λ (q : Row n). asks_write q.asks && (stored_after d q.outcome && stored_by r.tick q.outcome)) r later in
         let z : one_if (asks_write r.asks && (stored_after d r.outcome && stored_by r.tick r.outcome)) ≡ one_if false = ap one_if (ap (λ b. b && (stored_after d r.outcome && stored_by r.tick r.outcome)) reading) in
-        same (stores_in d r.tick (beside banks line before ++ beside banks line after)) (up_to (key (bank_in banks line) d) stores) (up_to (key (bank_in banks line) r.tick) stores) (omega (arith, s, i, j, k, z))
+        same (stores_in d r.tick (past ++ later)) (stored_to d) (stored_to r.tick) (omega (arith, s, i, j, k, z))
       where
         same : (c a b : ℕ) → a + c ≡ b → (c == 0) ≡ (a == b)
         same c a b is = by (cases_eq c 0)
@@ -122,61 +137,70 @@ same_timely tick (out.Lost v) f g same short = refl
 same_timely tick (out.Cut v) f g same short = refl
 
 pub write_verdict_law : WriteVerdictLaw
-write_verdict_law n tick line bytes given outcome rules banks some before after f room stores reads lines comes room_is keys =
+write_verdict_law n tick line bytes given outcome rules banks some before after f room keys comes room_is has =
     judge_write_law n tick line bytes given outcome rules banks some before after f.members f.waits f.lost f.last_answer f.last_store room
-    (at_store (λ u. latest_store rules u (a_write tick line bytes given outcome) (beside banks line before) (beside banks line after)) outcome)
-    comes.stands.finds (times rules banks line before (a_write tick line bytes given outcome) after f comes) room_is
-    (λ u place is. ap (at_store (λ u. latest_store rules u (a_write tick line bytes given outcome) (beside banks line before) (beside banks line after))) is)
-    ∙ ap (λ b. first_broken (may_have tick (Writes line bytes given) some outcome) room
-    (write_fits rules.writes tick line f.members (next_accepted line (beside banks line after)) outcome)
-    (is_worn outcome || (not b && stored_early (first_worn (beside banks line after)) outcome))
-    (write_timely tick (at_store (λ u. latest_store rules u (a_write tick line bytes given outcome) (beside banks line before) (beside banks line after)) outcome) outcome
-    && apart_kept rules.read_ticks f.members f.waits f.last_answer f.last_store outcome)) (sym comes.stands.worn_is)
-    ∙ ap (λ b. first_broken (may_have tick (Writes line bytes given) some outcome) room
-    (write_fits rules.writes tick line f.members (next_accepted line (beside banks line after)) outcome)
-    (is_worn outcome || (not f.worn && stored_early (first_worn (beside banks line after)) outcome))
-    (b && apart_kept rules.read_ticks f.members f.waits f.last_answer f.last_store outcome))
-    (sym (same_timely tick outcome (latest_kept rules stores reads (cut_ticks after) (bank_in banks line) tick)
-    (λ u. latest_store rules u (a_write tick line bytes given outcome) (beside banks line before) (beside banks line after))
-    (λ u lt below. latest rules banks line before (a_write tick line bytes given outcome) after f comes stores reads lines keys
-    (own (bank_in banks line) (a_write tick line bytes given outcome) (beside banks line after)) u lt below) comes.short))
+    (at_store latest_at outcome) comes.stands.finds (times rules banks line before r after f comes) room_is (λ u place is. ap (at_store latest_at) is)
+    ∙ ap (λ worn. Told worn (write_timely tick (at_store latest_at outcome) outcome)) (sym comes.stands.worn_is)
+    ∙ ap (Told f.worn) (sym (same_timely tick outcome (latest_kept rules keys.stores.items keys.reads.items (cut_ticks after) (bank_in banks line) tick) latest_at
+    (latest rules banks line before r after f comes keys has (own (bank_in banks line) r (beside banks line after))) comes.short))
+  where
+    r : Row n
+    r = a_write tick line bytes given outcome
+
+    latest_at : ℕ → ℕ
+    latest_at u = latest_store rules u r (beside banks line before) (beside banks line after)
+
+    -- by whether a worn row came before it, and whether it is in time
+    Told : Bool → Bool → Option Rule
+    Told worn timely =
+        first_broken (may_have tick (Writes line bytes given) some outcome) room
+        (write_fits rules.writes tick line f.members (next_accepted line (beside banks line after)) outcome)
+        (is_worn outcome || (not worn && stored_early (first_worn (beside banks line after)) outcome))
+        (timely && apart_kept rules.read_ticks f.members f.waits f.last_answer f.last_store outcome)
 
 pub read_verdict_law : ReadVerdictLaw
-read_verdict_law n now tick line outcome rules banks bytes before after f room stores reads lines unclosed runs comes room_is keys kept le sized is =
-    judge_read_law n tick line outcome rules banks before after f.members f.waits lines f.lost f.last_answer f.last_store room
-    comes.stands.finds (times rules banks line before (a_read tick line outcome) after f comes) room_is
-    (line_keys_law n (bank_in banks) line tick before (a_read tick line outcome) after lines keys.of_lines keys.short refl)
-    ∙ ap (λ zs. first_broken (may_have tick (Reads line) zs outcome) room
-    (read_fits rules.reads (length f.waits + f.lost) (gives_all (cover tick line (beside banks line before) (beside banks line after))) (at_head_kept lines line tick f.members) outcome) true
-    (read_timely tick rules.read_ticks (bound rules tick (beside banks line before) (beside banks line after)) (first_of_ticks (cut_ticks (beside banks line after))) outcome
-    && apart_kept rules.read_ticks f.members f.waits f.last_answer f.last_store outcome)) (sym is)
-    ∙ ap (λ given. first_broken (may_have tick (Reads line) bytes outcome) room
-    (read_fits rules.reads (length f.waits + f.lost) (gives_all given) (at_head_kept lines line tick f.members) outcome) true
-    (read_timely tick rules.read_ticks (bound rules tick (beside banks line before) (beside banks line after)) (first_of_ticks (cut_ticks (beside banks line after))) outcome
-    && apart_kept rules.read_ticks f.members f.waits f.last_answer f.last_store outcome))
-    (cover_kept_law n now tick line (beside banks line before) (beside banks line after) bytes unclosed runs kept le sized)
-    ∙ ap (λ k. first_broken (may_have tick (Reads line) bytes outcome) room
-    (read_fits rules.reads (length f.waits + f.lost) (gives_all (cover_kept n tick (soonest line (beside banks line after)) unclosed runs)) (at_head_kept lines line tick f.members) outcome) true
-    (read_timely tick rules.read_ticks k (first_of_ticks (cut_ticks (beside banks line after))) outcome
-    && apart_kept rules.read_ticks f.members f.waits f.last_answer f.last_store outcome)) bounds
-    ∙ ap (λ ticks. first_broken (may_have tick (Reads line) bytes outcome) room
-    (read_fits rules.reads (length f.waits + f.lost) (gives_all (cover_kept n tick (soonest line (beside banks line after)) unclosed runs)) (at_head_kept lines line tick f.members) outcome) true
-    (read_timely tick rules.read_ticks (bound_kept rules stores (bank_in banks line) tick f.fourth (length f.waits + f.lost)) (first_of_ticks ticks) outcome
-    && apart_kept rules.read_ticks f.members f.waits f.last_answer f.last_store outcome)) (cuts_of_bank_law n (bank_in banks) (bank_in banks line) after)
+read_verdict_law n now tick line outcome rules banks before after f room keys kept comes room_is has line_kept le sized is =
+    judge_read_law n tick line outcome rules banks before after f.members f.waits keys.lines.items f.lost f.last_answer f.last_store room
+    comes.stands.finds (times rules banks line before r after f comes) room_is
+    (line_keys_law n (bank_in banks) line tick before r after keys.lines.items has.of_lines has.short refl)
+    ∙ ap (λ newest. Told newest (cover tick line past later) (bound rules tick past later) (cut_ticks later)) (sym is)
+    ∙ ap (λ given. Told kept.newest given (bound rules tick past later) (cut_ticks later))
+    (cover_kept_law n now tick line past later kept.newest kept.unclosed kept.runs.items line_kept le sized)
+    ∙ ap (λ by. Told kept.newest given by (cut_ticks later)) bounds
+    ∙ ap (Told kept.newest given (read_by rules (bank_in banks line) f keys tick)) (cuts_of_bank_law n (bank_in banks) (bank_in banks line) after)
   where
-    numbers : length (waiting tick [] (beside banks line before)) ≡ length f.waits + f.lost
-    numbers = (numbers_law n tick (beside banks line before) f.members f.waits f.lost f.last_answer f.last_store comes.stands.finds.kept).reads
+    r : Row n
+    r = a_read tick line outcome
 
-    delays : delay rules rules.policy tick (beside banks line before) (beside banks line after) ≡ delay_kept rules (four_kept stores (bank_in banks line) tick f.fourth)
+    past : List (Row n)
+    past = beside banks line before
+
+    later : List (Row n)
+    later = beside banks line after
+
+    given : List Bool
+    given = cover_kept n tick (soonest line later) kept.unclosed kept.runs.items
+
+    -- by the newest bytes, those that the queue gives, the tick by which it has ended, and the cuts to come
+    Told : List ℕ → List Bool → ℕ → List ℕ → Option Rule
+    Told newest given by ticks =
+        first_broken (may_have tick (Reads line) newest outcome) room
+        (read_fits rules.reads (length f.waits + f.lost) (gives_all given) (at_head_kept keys.lines.items line tick f.members) outcome) true
+        (read_timely tick rules.read_ticks by (first_of_ticks ticks) outcome
+        && apart_kept rules.read_ticks f.members f.waits f.last_answer f.last_store outcome)
+
+    numbers : length (waiting tick [] past) ≡ length f.waits + f.lost
+    numbers = (numbers_law n tick past f.members f.waits f.lost f.last_answer f.last_store comes.stands.finds.kept).reads
+
+    delays : delay rules rules.policy tick past later ≡ delay_kept rules (four_kept keys.stores.items (bank_in banks line) tick f.fourth)
     delays =
-        delay_law n tick tick rules (beside banks line before) (beside banks line after) f.first f.second f.third f.fourth comes.stands.four comes.stands.passed
-        ∙ ap (delay_kept rules)
-        (four rules banks line before (a_read tick line outcome) after f comes stores reads lines keys (own (bank_in banks line) (a_read tick line outcome) (beside banks line after)) refl f.fourth
-        (λ d is. came_below tick (beside banks line before) comes.stands.passed 3 d (sym comes.stands.four.at_4 ∙ is)) comes.reached)
+        delay_law n tick tick rules past later f.first f.second f.third f.fourth comes.stands.four comes.stands.passed
+        ∙ ap (delay_kept rules) (four rules banks line before r after f comes keys has (own (bank_in banks line) r later) refl f.fourth
+        (λ d is. came_below tick past comes.stands.passed 3 d (sym comes.stands.four.at_4 ∙ is)) comes.reached)
 
-    bounds : bound rules tick (beside banks line before) (beside banks line after) ≡ bound_kept rules stores (bank_in banks line) tick f.fourth (length f.waits + f.lost)
+    bounds : bound rules tick past later ≡ read_by rules (bank_in banks line) f keys tick
     bounds =
-        ap (λ k. tick + delay rules rules.policy tick (beside banks line before) (beside banks line after) + (k + 1) * rules.read_ticks) numbers
+        ap (λ k. tick + delay rules rules.policy tick past later + (k + 1) * rules.read_ticks) numbers
         ∙ ap (λ k. tick + k + (length f.waits + f.lost + 1) * rules.read_ticks) delays
 
 -- the newest bytes of a line are told by its bank's rows

@@ -17,4 +17,5 @@ pub mod Judged
 pub mod States
 pub mod Banks
 pub mod Ahead
+pub mod RowVerdicts
 pub mod VerdictLaws

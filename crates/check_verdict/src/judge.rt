@@ -1,28 +1,24 @@
 //! The verdict on one row, by what is kept of its bank and known of the rows behind it.
 
-ghost use Rattle.std.specs.Prelude.{◌≡◌, ◌+◌, ◌<◌, ◌≤◌, ◌^◌, ◌==◌, ◌&&◌, ◌||◌, ◌-◌, not, true, length, IsTrue, IfSome};
+ghost use Rattle.std.specs.Prelude.{◌≡◌, ◌+◌, ◌<◌, ◌≤◌, ◌-◌, length, IsTrue, IfSome};
 ghost use Rattle.std.specs.List.Sorted.{IsNonDecreasing};
-ghost use Rattle.masked_bytes.specs.Masked.{gives_all};
-ghost use Rattle.row_rules.specs.Answers.{is_worn};
 ghost use Rattle.row_rules.specs.Queueing as queueing;
-ghost use Rattle.row_rules.specs.Serving as serving;
 ghost use Rattle.check_judging.specs.Keys as spec;
 ghost use Rattle.check_judging.specs.Keys.{reach, is_short};
-ghost use Rattle.check_verdict.specs.Ahead.{four_kept, bound_kept, latest_kept, at_store};
+ghost use Rattle.check_verdict.specs.Ahead.{four_kept, latest_kept, at_store};
 ghost use Rattle.check_verdict.specs.Banks.{facts_of};
-ghost use Rattle.check_verdict.specs.Covering.{cover_kept};
-ghost use Rattle.check_verdict.specs.Fitting.{at_head_kept, write_fits};
-ghost use Rattle.check_verdict.specs.Judged.{first_broken};
-ghost use Rattle.check_verdict.specs.Keeping.{stored_early, read_timely, write_timely};
-ghost use Rattle.check_verdict.specs.Kept.{apart_kept};
-ghost use Rattle.check_verdict.specs.Timely.{first_of_ticks};
-ghost use Rattle.trace_rows.specs.Rows.{asks_of};
+ghost use Rattle.check_verdict.specs.Fitting.{at_head_kept};
+ghost use Rattle.check_verdict.specs.Judged.{a_row, first_broken};
+ghost use Rattle.check_verdict.specs.Keeping.{write_timely};
+ghost use Rattle.check_verdict.specs.RowVerdicts.{AreUsable, is_apart, write_verdict, read_verdict};
 ghost use Rattle.check_verdict.specs.Within.{AreWithin};
+ghost use Rattle.trace_rows.specs.Rows.{asks_of};
 
 use crate::Rule;
 use crate::bank::Bank;
 use crate::judging::lies_apart;
 use crate::keys::{between, key, up_to};
+use crate::known::{Arrival, Grounds, Keys};
 use crate::lines::{Line, is_covered};
 use crate::members::Member;
 use crate::queue::{is_at_head, write_fits};
@@ -63,65 +59,51 @@ fn number_between(keys: &[u64], above: u64, to: u64) -> u64
 }
 
 /// The latest tick for a write that arrived at one tick and is stored at another.
-fn latest_store(
-    rules: &Rules,
-    bank: u8,
-    arrived: u64,
-    at: u64,
-    stores: &[u64],
-    reads: &[u64],
-    cuts: &[u64],
-) -> u64
+fn latest_store(rules: &Rules, bank: u8, arrived: u64, at: u64, keys: &Keys, cuts: &[u64]) -> u64
     requires within { AreWithin rules.now }
-    requires stores { IsNonDecreasing stores.now }
-    requires reads { IsNonDecreasing reads.now }
+    requires keys { AreUsable keys.now }
     requires cuts { IsNonDecreasing cuts.now }
-    requires few_stores { length stores.now ≤ 400_000 }
-    requires few_reads { length reads.now ≤ 400_000 }
-    requires few_cuts { length cuts.now ≤ 400_000 }
+    requires few { length cuts.now ≤ 400_000 }
     requires order { arrived ≤ at }
     requires short { at < reach }
-    ensures { result ≡ latest_kept rules.now stores.now reads.now cuts.now bank arrived at }
+    ensures { result
+        ≡ latest_kept rules.now keys.now.stores.items keys.now.reads.items cuts.now bank arrived at }
 {
     let from = key(bank, arrived);
     let to = key(bank, at);
-    let stored = number_between(stores, from, to);
-    let read = number_between(reads, from, to);
+    let stored = number_between(&keys.stores, from, to);
+    let read = number_between(&keys.reads, from, to);
     arrived + longest(rules, stored, read, up_to(cuts, at) as u64)
 }
 
 /// Whether a write that arrived at a tick is stored behind it, and in time.
-pub fn write_in_time<const B: usize>(
+fn write_in_time<const B: usize>(
     rules: &Rules,
     bank: u8,
     arrived: u64,
-    stores: &[u64],
-    reads: &[u64],
+    keys: &Keys,
     cuts: &[u64],
     outcome: &Outcome<B>,
 ) -> bool
     requires within { AreWithin rules.now }
-    requires stores { IsNonDecreasing stores.now }
-    requires reads { IsNonDecreasing reads.now }
+    requires keys { AreUsable keys.now }
     requires cuts { IsNonDecreasing cuts.now }
-    requires few_stores { length stores.now ≤ 400_000 }
-    requires few_reads { length reads.now ≤ 400_000 }
-    requires few_cuts { length cuts.now ≤ 400_000 }
+    requires few { length cuts.now ≤ 400_000 }
     requires short { IsTrue (is_short outcome.now) }
-    ensures { let by = latest_kept rules.now stores.now reads.now cuts.now bank arrived in
+    ensures { let stores = keys.now.stores.items in
+        let by = latest_kept rules.now stores keys.now.reads.items cuts.now bank arrived in
         result ≡ write_timely arrived (at_store by outcome.now) outcome.now }
 {
     match outcome {
         Outcome::Stored { tick, .. } => {
-            arrived < *tick
-                && *tick <= latest_store(rules, bank, arrived, *tick, stores, reads, cuts)
+            arrived < *tick && *tick <= latest_store(rules, bank, arrived, *tick, keys, cuts)
         }
         _ => true,
     }
 }
 
 /// Whether no store of a bank lies between the fourth last arrival of a read and this tick.
-pub fn four_came(stores: &[u64], bank: u8, tick: u64, fourth: Option<u64>) -> bool
+fn four_came(stores: &[u64], bank: u8, tick: u64, fourth: Option<u64>) -> bool
     requires stores { IsNonDecreasing stores.now }
     requires short { tick < reach }
     requires fourth { IfSome fourth (λ d. d < reach) }
@@ -133,159 +115,117 @@ pub fn four_came(stores: &[u64], bank: u8, tick: u64, fourth: Option<u64>) -> bo
     }
 }
 
-/// What the queue and the reads that wait say of a read's answer.
+/// What the queue and the reads that wait say of a read's answer, by how many may wait and how many do.
 fn read_fits_queue<const B: usize>(
     reads: u32,
     count: u32,
     covered: bool,
     lines: &[u128],
-    line: u32,
-    tick: u64,
     members: &[Member],
+    row: Arrival,
     outcome: &Outcome<B>,
 ) -> bool
     requires { IsNonDecreasing lines.now }
-    ensures { result
-        ≡ queueing.read_fits reads count covered (at_head_kept lines.now line tick members.now) outcome.now }
+    ensures { let at_head = at_head_kept lines.now row.line row.tick members.now in
+        result ≡ queueing.read_fits reads count covered at_head outcome.now }
 {
     match outcome {
-        Outcome::Forwarded { .. } => covered || is_at_head(lines, line, tick, members),
+        Outcome::Forwarded { .. } => covered || is_at_head(lines, row.line, row.tick, members),
         _ => read_fits(reads, count, covered, false, outcome),
     }
 }
 
-/// The sorted keys of a whole table: of each bank's stores and reads, and of each line's stores.
-#[derive(Clone, Copy)]
-pub struct Keys<'a> {
-    pub stores: &'a [u64],
-    pub reads: &'a [u64],
-    pub lines: &'a [u128],
-}
-
-/// What is known of the rows behind a row of a line: when the next accepted write of the line comes, and when the first of the
-/// line's stores; when the first worn row of the bank comes; and the ticks of the cuts.
-#[derive(Clone, Copy)]
-pub struct Ahead<'a> {
-    pub next: Option<u64>,
-    pub soonest: Option<u64>,
-    pub worn: Option<u64>,
-    pub cuts: &'a [u64],
-}
-
-/// The verdict on a write, where each bank has room or not as it comes.
-pub fn judge_write<const B: usize>(
-    rules: &Rules,
-    room: bool,
-    number: u8,
-    bank: &Bank,
-    tick: u64,
-    line: u32,
-    op: &EventOp<B>,
-    newest: &[u8; B],
-    keys: Keys,
-    ahead: Ahead,
-    outcome: &Outcome<B>,
-) -> Option<Rule>
-    requires within { AreWithin rules.now }
-    requires stores { IsNonDecreasing keys.stores.now }
-    requires reads { IsNonDecreasing keys.reads.now }
-    requires cuts { IsNonDecreasing ahead.cuts.now }
-    requires few_stores { length keys.stores.now ≤ 400_000 }
-    requires few_reads { length keys.reads.now ≤ 400_000 }
-    requires few_cuts { length ahead.cuts.now ≤ 400_000 }
-    requires short { IsTrue (is_short outcome.now) }
-    ensures { let f = facts_of bank.now in
-        let by = latest_kept rules.now keys.entry.stores.now keys.entry.reads.now ahead.entry.cuts.now number tick in
-        result ≡ first_broken (serving.may_have tick (asks_of op.now) newest.now outcome.now) room
-        (write_fits rules.now.writes tick line f.members ahead.entry.next outcome.now)
-        (is_worn outcome.now || (not f.worn && stored_early ahead.entry.worn outcome.now))
-        (write_timely tick (at_store by outcome.now) outcome.now
-        && apart_kept rules.now.read_ticks f.members f.waits f.last_answer f.last_store outcome.now) }
+/// Whether a row's action lies apart from those that its bank still knows of.
+fn is_apart<const B: usize>(read: u32, bank: &Bank, outcome: &Outcome<B>) -> bool
+    requires { IsTrue (is_short outcome.now) }
+    ensures { result ≡ is_apart read (facts_of bank.now) outcome.now }
 {
-    let served = may_have(tick, op, newest, outcome);
-    let fits = write_fits(rules.writes, tick, line, &bank.members, ahead.next, outcome);
-    let keeps = keeps_worn(bank.worn, ahead.worn, outcome);
-    let in_time = write_in_time(
-        rules,
-        number,
-        tick,
-        keys.stores,
-        keys.reads,
-        ahead.cuts,
-        outcome,
-    );
-    let apart = lies_apart(
+    lies_apart(
         &bank.members,
         &bank.waits,
         bank.last_answer,
         bank.last_store,
-        rules.read_ticks,
+        read,
         outcome,
-    );
-    first_broken(served, room, fits, keeps, in_time && apart)
+    )
 }
 
-/// The verdict on a read, where each bank has room or not as it comes.
-pub fn judge_read<const B: usize>(
-    rules: &Rules,
-    room: bool,
+/// The verdict on a write, by the number of its line's bank, what is kept of that bank, and the line's newest bytes.
+pub fn judge_write<const B: usize>(
+    grounds: Grounds,
     number: u8,
     bank: &Bank,
-    tick: u64,
-    line: u32,
+    newest: &[u8; B],
+    row: Arrival,
     op: &EventOp<B>,
-    kept: &Line<B>,
-    keys: Keys,
-    ahead: Ahead,
     outcome: &Outcome<B>,
 ) -> Option<Rule>
-    requires within { AreWithin rules.now }
-    requires stores { IsNonDecreasing keys.stores.now }
-    requires lines { IsNonDecreasing keys.lines.now }
-    requires arrived { tick < reach }
-    requires fourth { IfSome bank.now.fourth (λ d. d < reach) }
+    requires within { AreWithin grounds.rules.now }
+    requires keys { AreUsable grounds.keys.now }
+    requires cuts { IsNonDecreasing grounds.cuts.now }
+    requires few { length grounds.cuts.now ≤ 400_000 }
+    requires short { IsTrue (is_short outcome.now) }
+    ensures { let rules = grounds.entry.rules.now in
+        let r = a_row row.tick (asks_of op.now) outcome.now in
+        result ≡ write_verdict rules number (facts_of bank.now) newest.now row.line r row.room
+        grounds.entry.keys.now grounds.entry.coming grounds.entry.cuts.now }
+{
+    let rules = grounds.rules;
+    let next = grounds.coming.next;
+    let served = may_have(row.tick, op, newest, outcome);
+    let fits = write_fits(
+        rules.writes,
+        row.tick,
+        row.line,
+        &bank.members,
+        next,
+        outcome,
+    );
+    let keeps = keeps_worn(bank.worn, grounds.coming.worn, outcome);
+    let in_time = write_in_time(rules, number, row.tick, grounds.keys, grounds.cuts, outcome);
+    let apart = is_apart(rules.read_ticks, bank, outcome);
+    first_broken(served, row.room, fits, keeps, in_time && apart)
+}
+
+/// The verdict on a read, by the number of its line's bank, and what is kept of that bank and of the line.
+pub fn judge_read<const B: usize>(
+    grounds: Grounds,
+    number: u8,
+    bank: &Bank,
+    line: &Line<B>,
+    row: Arrival,
+    op: &EventOp<B>,
+    outcome: &Outcome<B>,
+) -> Option<Rule>
+    requires within { AreWithin grounds.rules.now }
+    requires keys { AreUsable grounds.keys.now }
+    requires arrived { row.tick < reach }
+    requires fourth { IfSome bank.now.fourth (λ came. came < reach) }
     requires few { length bank.now.waits.items + bank.now.lost ≤ 400_000 }
     requires short { IsTrue (is_short outcome.now) }
-    ensures { let f = facts_of bank.now in
-        let count = length f.waits + f.lost in
-        let covered = gives_all (cover_kept B tick ahead.entry.soonest kept.now.unclosed kept.now.runs.items) in
-        let first = first_of_ticks ahead.entry.cuts.now in
-        let by = bound_kept rules.now keys.entry.stores.now number tick f.fourth count in
-        result ≡ first_broken (serving.may_have tick (asks_of op.now) kept.now.newest outcome.now) room
-        (queueing.read_fits rules.now.reads count covered (at_head_kept keys.entry.lines.now line tick f.members) outcome.now)
-        true
-        (read_timely tick rules.now.read_ticks by first outcome.now
-        && apart_kept rules.now.read_ticks f.members f.waits f.last_answer f.last_store outcome.now) }
+    ensures { let rules = grounds.entry.rules.now in
+        let r = a_row row.tick (asks_of op.now) outcome.now in
+        result ≡ read_verdict rules number (facts_of bank.now) line.now row.line r row.room
+        grounds.entry.keys.now grounds.entry.coming grounds.entry.cuts.now }
 {
-    let served = may_have(tick, op, &kept.newest, outcome);
+    let rules = grounds.rules;
+    let keys = grounds.keys;
+    let served = may_have(row.tick, op, &line.newest, outcome);
     let count = bank.waits.len() as u32 + bank.lost;
-    let covered = is_covered(tick, ahead.soonest, &kept.unclosed, &kept.runs);
+    let covered = is_covered(row.tick, grounds.coming.soonest, &line.unclosed, &line.runs);
     let fits = read_fits_queue(
         rules.reads,
         count,
         covered,
-        keys.lines,
-        line,
-        tick,
+        &keys.lines,
         &bank.members,
+        row,
         outcome,
     );
-    let four = four_came(keys.stores, number, tick, bank.fourth);
-    let latest = bound(rules, tick, count as u64, four);
-    let in_time = read_in_time(
-        tick,
-        rules.read_ticks,
-        latest,
-        ahead.cuts.first().copied(),
-        outcome,
-    );
-    let apart = lies_apart(
-        &bank.members,
-        &bank.waits,
-        bank.last_answer,
-        bank.last_store,
-        rules.read_ticks,
-        outcome,
-    );
-    first_broken(served, room, fits, true, in_time && apart)
+    let four = four_came(&keys.stores, number, row.tick, bank.fourth);
+    let latest = bound(rules, row.tick, count as u64, four);
+    let first_cut = grounds.cuts.first().copied();
+    let in_time = read_in_time(row.tick, rules.read_ticks, latest, first_cut, outcome);
+    let apart = is_apart(rules.read_ticks, bank, outcome);
+    first_broken(served, row.room, fits, true, in_time && apart)
 }

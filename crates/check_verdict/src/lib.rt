@@ -8,6 +8,7 @@ pub mod bank;
 pub mod judge;
 mod judging;
 pub mod keys;
+pub mod known;
 pub mod lines;
 pub mod members;
 pub mod queue;

@@ -21,8 +21,9 @@ use Rattle.check_verdict.specs.QueueLaws.{next_accepted}
 use Rattle.check_verdict.specs.Verdicts.{bank_in}
 use Rattle.check_verdict.specs.Worn.{first_worn}
 use Rattle.check_verdict.specs.Judged.{beside}
-use Rattle.result_check.specs.declared.ahead.Coming.{Coming}
-use Rattle.result_check.specs.Coming.{IsOutlook, sooner_of, coming_to, coming_of, coming_at}
+use Rattle.check_verdict.specs.declared.known.Coming.{Coming}
+use Rattle.check_verdict.specs.RowVerdicts.{coming_to}
+use Rattle.result_check.specs.Coming.{IsOutlook, sooner_of, coming_of, coming_at}
 use Rattle.result_check.specs.Finding.{line_asked, line_written}
 use Rattle.result_check.proofs.Lists.{get_set_same, get_set_other, some_same}
 

@@ -78,9 +78,9 @@ cut_front q rows = by (is_cut q)
 
 -- what was found in some rows: with what is in those behind, it is what is in all
 pub record IsFoundTo {n : ℕ} (banks : List ℕ) (rows : List (Row n)) (i : ℕ) (found : Found) : Type 0 where
-  pub stores : found.stores.items ++ store_keys (bank_in banks) (drop i rows) ≡ store_keys (bank_in banks) rows
-  pub reads : found.reads.items ++ read_keys (bank_in banks) (drop i rows) ≡ read_keys (bank_in banks) rows
-  pub lines : found.lines.items ++ store_keys (λ line. line) (drop i rows) ≡ store_keys (λ line. line) rows
+  pub stores : found.keys.stores.items ++ store_keys (bank_in banks) (drop i rows) ≡ store_keys (bank_in banks) rows
+  pub reads : found.keys.reads.items ++ read_keys (bank_in banks) (drop i rows) ≡ read_keys (bank_in banks) rows
+  pub lines : found.keys.lines.items ++ store_keys (λ line. line) (drop i rows) ≡ store_keys (λ line. line) rows
   pub cuts : found.cuts.items ++ cut_ticks (drop i rows) ≡ cut_ticks rows
 
 -- one row more
@@ -93,13 +93,13 @@ more f front r rows i here items new had is =
 
 pub found_more : {n : ℕ} (banks : List ℕ) (rows : List (Row n)) (i : ℕ) (r : Row n) (old new : Found) → drop i rows ≡ r ∷ drop (suc i) rows
     → IsFoundTo banks rows i old
-    → new.stores.items ≡ old.stores.items ++ store_keys (bank_in banks) (r ∷ []) → new.reads.items ≡ old.reads.items ++ read_keys (bank_in banks) (r ∷ [])
-    → new.lines.items ≡ old.lines.items ++ store_keys (λ line. line) (r ∷ []) → new.cuts.items ≡ old.cuts.items ++ cut_ticks (r ∷ [])
+    → new.keys.stores.items ≡ old.keys.stores.items ++ store_keys (bank_in banks) (r ∷ []) → new.keys.reads.items ≡ old.keys.reads.items ++ read_keys (bank_in banks) (r ∷ [])
+    → new.keys.lines.items ≡ old.keys.lines.items ++ store_keys (λ line. line) (r ∷ []) → new.cuts.items ≡ old.cuts.items ++ cut_ticks (r ∷ [])
     → IsFoundTo banks rows (suc i) new
 found_more banks rows i r old new here had s d l c = record {
-  stores = more (store_keys (bank_in banks)) (λ q rest. store_front (bank_in banks) q rest q.outcome) r rows i here old.stores.items new.stores.items had.stores s;
-  reads = more (read_keys (bank_in banks)) (λ q rest. read_front (bank_in banks) q rest q.outcome) r rows i here old.reads.items new.reads.items had.reads d;
-  lines = more (store_keys (λ line. line)) (λ q rest. store_front (λ line. line) q rest q.outcome) r rows i here old.lines.items new.lines.items had.lines l;
+  stores = more (store_keys (bank_in banks)) (λ q rest. store_front (bank_in banks) q rest q.outcome) r rows i here old.keys.stores.items new.keys.stores.items had.stores s;
+  reads = more (read_keys (bank_in banks)) (λ q rest. read_front (bank_in banks) q rest q.outcome) r rows i here old.keys.reads.items new.keys.reads.items had.reads d;
+  lines = more (store_keys (λ line. line)) (λ q rest. store_front (λ line. line) q rest q.outcome) r rows i here old.keys.lines.items new.keys.lines.items had.lines l;
   cuts = more cut_ticks cut_front r rows i here old.cuts.items new.cuts.items had.cuts c;
 }
 
@@ -113,10 +113,10 @@ all : {n : ℕ} (f : List (Row n) → List ℕ) → f [] ≡ [] → (rows : List
 all f empty rows i le items had = sym had ∙ ap (λ xs. items ++ xs) (ap f (none_left i rows le) ∙ empty) ∙ append-nil items
 
 pub found_all : {n : ℕ} (banks : List ℕ) (rows : List (Row n)) (i : ℕ) (found : Found) → length rows ≤ i → IsFoundTo banks rows i found
-    → (store_keys (bank_in banks) rows ≡ found.stores.items) × (read_keys (bank_in banks) rows ≡ found.reads.items) × (store_keys (λ line. line) rows ≡ found.lines.items) × (cut_ticks rows ≡ found.cuts.items)
+    → (store_keys (bank_in banks) rows ≡ found.keys.stores.items) × (read_keys (bank_in banks) rows ≡ found.keys.reads.items) × (store_keys (λ line. line) rows ≡ found.keys.lines.items) × (cut_ticks rows ≡ found.cuts.items)
 found_all banks rows i found le had = (
-  all (store_keys (bank_in banks)) refl rows i le found.stores.items had.stores,
-  all (read_keys (bank_in banks)) refl rows i le found.reads.items had.reads,
-  all (store_keys (λ line. line)) refl rows i le found.lines.items had.lines,
+  all (store_keys (bank_in banks)) refl rows i le found.keys.stores.items had.stores,
+  all (read_keys (bank_in banks)) refl rows i le found.keys.reads.items had.reads,
+  all (store_keys (λ line. line)) refl rows i le found.keys.lines.items had.lines,
   all cut_ticks refl rows i le found.cuts.items had.cuts,
 )

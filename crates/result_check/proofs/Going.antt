@@ -27,16 +27,16 @@ use Rattle.check_verdict.specs.declared.lines.Run.{Run}
 use Rattle.check_verdict.specs.States.{Facts, Stands, no_facts}
 use Rattle.check_verdict.specs.Tables.{around}
 use Rattle.check_verdict.specs.Verdicts.{bank_in, all_rules, broken_by, or_later, verdict_from, verdict_of, no}
-use Rattle.result_check.specs.declared.ahead.Coming.{Coming}
+use Rattle.check_verdict.specs.declared.known.Coming.{Coming}
 use Rattle.result_check.specs.declared.found.Found.{Found}
 use Rattle.result_check.specs.Coming.{coming_at, coming_of}
 use Rattle.result_check.specs.Keeping.{banks_from, facts_in, Knows, KnowsLines, HasPassed, Meets}
 use Rattle.result_check.specs.Going.{GoesOn}
-use Rattle.result_check.specs.Tables.{IsTable, IsRowOf, IsFound, IsUsable}
+use Rattle.check_verdict.specs.RowVerdicts.{AreUsable}
+use Rattle.result_check.specs.Tables.{IsTable, IsRowOf, IsFound}
 use Rattle.result_check.proofs.Finding.{none_left}
 use Rattle.result_check.proofs.Rows.{one_of_all, one_of_every, all_short_of_brief}
-use Rattle.result_check.specs.Lines.{IsFresh, AreFresh}
-use Rattle.result_check.proofs.Lists.{some_same}
+use Rattle.result_check.specs.Lines.{AreFresh}
 use Rattle.std.proofs.Math.Nat.{le-max_left, le-max_right}
 
 -- Keys and cuts
@@ -143,13 +143,13 @@ cuts_few {n} (q ∷ rows) = by (is_cut q) (cuts_few rows)
     by true le = omega (arith, le)
     by false le = omega (arith, le)
 
-pub usable : {n : ℕ} (banks : List ℕ) (rows : List (Row n)) (found : Found) → length rows ≤ 400000 → IsFound banks rows found → IsUsable found
+pub usable : {n : ℕ} (banks : List ℕ) (rows : List (Row n)) (found : Found) → length rows ≤ 400000 → IsFound banks rows found → AreUsable found.keys
 usable banks rows found few f = record {
   stores_sorted = f.stores_sorted;
   reads_sorted = f.reads_sorted;
   lines_sorted = f.lines_sorted;
-  few_stores = let a = store_key_few (bank_in banks) rows in let b = length_permutation (store_keys (bank_in banks) rows) found.stores.items f.stores in omega (arith, a, b, few);
-  few_reads = let a = read_key_few (bank_in banks) rows in let b = length_permutation (read_keys (bank_in banks) rows) found.reads.items f.reads in omega (arith, a, b, few);
+  few_stores = let a = store_key_few (bank_in banks) rows in let b = length_permutation (store_keys (bank_in banks) rows) found.keys.stores.items f.stores in omega (arith, a, b, few);
+  few_reads = let a = read_key_few (bank_in banks) rows in let b = length_permutation (read_keys (bank_in banks) rows) found.keys.reads.items f.reads in omega (arith, a, b, few);
 }
 
 -- The loop
@@ -204,26 +204,27 @@ module _ {n : ℕ} (rules : Rules) (banks : List ℕ) (rows : List (Row n)) (tab
       by false front is = (ap (λ k. drop k found.cuts.items) is ∙ h.cuts_left ∙ front, let le = h.cuts_within in omega (arith, is, le))
 
   pub meets : (next : ℕ) (piece : List ℕ) (coming : Coming) → next ≡ cond (asks_cut r.asks) (cuts + 1) cuts → piece ≡ drop next found.cuts.items → coming ≡ coming_at banks r.asks after
-      → Meets rules banks found before r after kept joined lines piece coming
+      → Meets rules banks found.keys before r after kept joined lines coming piece
   meets next piece coming is piece_is brings = record {
+    among = record {
+      has = record {
+        of_stores = subst (λ rs. IsPermutation (store_keys (bank_in banks) rs) found.keys.stores.items) (sym whole) finds.stores;
+        of_reads = subst (λ rs. IsPermutation (read_keys (bank_in banks) rs) found.keys.reads.items) (sym whole) finds.reads;
+        of_lines = subst (λ rs. IsPermutation (store_keys (λ line. line) rs) found.keys.lines.items) (sym whole) finds.lines;
+        short = ap all_short whole ∙ all_short_of_brief rows table.brief;
+      };
+      later = rises_after;
+      brief = one_of_all _ rows i r after here table.brief;
+      sized = All-cons (λ (q : Row n). GivesSized q) r before (one_of_every (λ (q : Row n). GivesSized q) rows i r after here table.sized) sized_before;
+      reached = (one_of_every (IsRowOf (length banks)) rows i r after here table.each).reached;
+      few = let a = length-reverse (take i rows) in let b = length-take i rows in let few_rows = table.few in omega (arith, a, b, few_rows);
+      brings = brings;
+      cuts_are = λ not_cut. piece_is ∙ (next_cuts next is).0;
+    };
     from = h.from;
     passed_by = passed_by;
     knows = h.knows;
     lines_known = h.lines_known;
-    keys = record {
-      of_stores = subst (λ rs. IsPermutation (store_keys (bank_in banks) rs) found.stores.items) (sym whole) finds.stores;
-      of_reads = subst (λ rs. IsPermutation (read_keys (bank_in banks) rs) found.reads.items) (sym whole) finds.reads;
-      of_lines = subst (λ rs. IsPermutation (store_keys (λ line. line) rs) found.lines.items) (sym whole) finds.lines;
-      short = ap all_short whole ∙ all_short_of_brief rows table.brief;
-    };
-    later = rises_after;
-    brief = one_of_all _ rows i r after here table.brief;
-    sized = All-cons (λ (q : Row n). GivesSized q) r before (one_of_every (λ (q : Row n). GivesSized q) rows i r after here table.sized) sized_before;
-    reached = (one_of_every (IsRowOf (length banks)) rows i r after here table.each).reached;
-    few = let a = length-reverse (take i rows) in let b = length-take i rows in let few_rows = table.few in omega (arith, a, b, few_rows);
-    exist = h.exist;
-    brings = brings;
-    cuts_are = λ not_cut. piece_is ∙ (next_cuts next is).0;
   }
 
   -- the row breaks a rule

@@ -1,5 +1,5 @@
 -- What is kept of the rows that have passed.
-use Rattle.std.proofs.Common.{◌≡◌, ℕ, ◌+◌, ◌<◌, ◌≤◌, ◌⊎◌, inl, inr, true, List, [], length, Option, Some, None, refl, sym, ap, ◌∙◌, cond, subst, arith}
+use Rattle.std.proofs.Common.{get_or, ◌≡◌, ℕ, ◌<◌, ◌≤◌, ◌⊎◌, inl, inr, true, List, [], length, Option, Some, None, refl, sym, ap, ◌∙◌, cond, subst, arith}
 use Rattle.std.specs.Prelude.{All, slice_get, slice_set, unwrap_or}
 use Rattle.std.proofs.lemmas.Bool.{cases_eq, cases_lt, eq-eqb, ne_eqb}
 use Rattle.std.proofs.lemmas.Option.{slice_get_past, unwrap_or-slice_get}
@@ -16,6 +16,7 @@ use Rattle.check_verdict.specs.States.{Facts, Stands, no_facts, settled, cut_off
 use Rattle.check_verdict.specs.Verdicts.{bank_in}
 use Rattle.check_verdict.proofs.Passing.{all_room_law, settle_one_law, room_seen_law}
 use Rattle.result_check.specs.Keeping.{facts_in, Knows}
+use Rattle.masked_bytes.proofs.Lists.{item-at}
 use Rattle.result_check.proofs.Lists.{get_set_same, get_set_other}
 
 facts_set_same : (kept : List Facts) (bank : ℕ) (f : Facts) → bank < length kept → facts_in (slice_set kept bank f) bank ≡ f
@@ -109,3 +110,23 @@ facts_settled kept new bank f lt is = ap (λ xs. facts_in xs bank) is ∙ facts_
 
 pub facts_got : (kept : List Facts) (bank : ℕ) (f : Facts) → slice_get kept bank ≡ Some f → facts_in kept bank ≡ f
 facts_got kept bank f is = ap (λ o. unwrap_or o no_facts) is
+
+-- the bank of a line, once it is settled, and what is kept of it
+pub record IsSettled (banks : List ℕ) (tick line : ℕ) (kept kept1 : List Facts) (number : ℕ) (f : Facts) : Type 0 where
+  pub here : number ≡ bank_in banks line
+  pub settles : kept1 ≡ slice_set kept (bank_in banks line) (settled tick (facts_in kept (bank_in banks line)))
+  pub is : f ≡ settled tick (facts_in kept (bank_in banks line))
+
+pub is_settled : (banks : List ℕ) (tick line : ℕ) (kept kept1 : List Facts) (number : ℕ) (f got : Facts) → line < length banks → All (λ bank. bank < length kept) banks
+    → number ≡ bank_in banks line → kept1 ≡ slice_set kept (bank_in banks line) (settled tick (facts_in kept (bank_in banks line))) → got ≡ get_or kept1 number got → f ≡ got
+    → IsSettled banks tick line kept kept1 number f
+is_settled banks tick line kept kept1 number f got within exist here settles read same =
+    let exists = bank_exists banks line (length kept) within exist in
+    let size : length kept1 ≡ length kept = ap length settles ∙ length-set kept _ _ in
+    record {
+      here = here;
+      settles = settles;
+      is =
+          same ∙ sym (facts_got kept1 number got (item-at kept1 number got (omega (arith, size, exists, here)) read)) ∙ ap (facts_in kept1) here
+          ∙ facts_settled kept kept1 (bank_in banks line) _ exists settles;
+    }

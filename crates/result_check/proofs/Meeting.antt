@@ -1,23 +1,28 @@
 -- A row meets what is known behind the last one before it.
-use Rattle.std.proofs.Common.{◌≡◌, ℕ, suc, ◌+◌, ◌<◌, ◌≤◌, Bool, true, false, List, [], ◌∷◌, length, Option, Some, None, refl, sym, ◌∙◌, subst, cond, arith}
-use Rattle.std.specs.Prelude.{IfSome}
+use Rattle.std.proofs.Common.{◌≡◌, ℕ, suc, ◌+◌, ◌<◌, ◌≤◌, Bool, true, false, List, [], ◌∷◌, length, Option, Some, None, refl, sym, ap, ◌∙◌, subst, cond, arith}
+use Rattle.std.specs.Prelude.{All, IfSome}
+use Rattle.result_rows.specs.declared.Outcome.{Outcome}
 use Rattle.row_rules.specs.declared.Row.{Row}
 use Rattle.row_rules.specs.declared.Rules.{Rules}
 use Rattle.row_rules.specs.Table.{is_of, of_bank}
 use Rattle.row_rules.specs.Queueing.{waiting, awaits}
 use Rattle.check_judging.specs.Keys.{reach}
 use Rattle.check_verdict.specs.declared.lines.Line.{Line}
+use Rattle.check_verdict.specs.Fitting.{is_brief}
 use Rattle.check_verdict.specs.Members.{never}
 use Rattle.check_verdict.specs.Passing.{joined_room}
+use Rattle.check_verdict.specs.RowVerdicts.{AreUsable}
 use Rattle.check_verdict.specs.States.{Facts, settled}
 use Rattle.check_verdict.specs.Verdicts.{bank_in}
+use Rattle.check_verdict.specs.Within.{AreWithin}
 use Rattle.check_verdict.proofs.Numbers.{numbers_law}
 use Rattle.check_verdict.proofs.Passing.{cut_room_law}
 use Rattle.check_verdict.proofs.States.{stands_later_law}
 use Rattle.check_verdict.proofs.VerdictLaws.{came_below}
-use Rattle.result_check.specs.declared.ahead.Coming.{Coming}
-use Rattle.result_check.specs.declared.found.Found.{Found}
-use Rattle.result_check.specs.Keeping.{facts_in, Knows, KnowsLines, IsNext, Meets}
+use Rattle.check_verdict.specs.declared.known.Coming.{Coming}
+use Rattle.check_verdict.specs.declared.known.Keys.{Keys}
+use Rattle.result_check.specs.Keeping.{facts_in, Knows, KnowsLines, MayTake, IsNext, Meets}
+use Rattle.result_check.proofs.Rows.{short_of_brief}
 
 -- lines are known later too
 pub lines_later : {n : ℕ} (banks : List ℕ) (from tick : ℕ) (lines : List (Line n)) (before : List (Row n)) → from ≤ tick → KnowsLines banks from lines before → KnowsLines banks tick lines before
@@ -28,23 +33,35 @@ lines_later banks from tick lines before le k = λ l line is. let h = k l line i
 }
 
 -- once the bank of the last row is settled
-pub next_of : {n : ℕ} (rules : Rules) (banks : List ℕ) (found : Found) (before : List (Row n)) (r : Row n) (after : List (Row n)) (kept new : List Facts) (joined joined2 : Option ℕ) (lines lines2 : List (Line n))
-    (cuts : List ℕ) (coming : Coming) (room : Bool) (h : Meets rules banks found before r after kept joined lines cuts coming)
-    → room ≡ joined_room rules banks r.tick (facts_in kept) joined → length new ≡ length kept → lines2 ≡ lines → joined2 ≡ joined
-    → Knows rules banks r.tick new joined before → (room ≡ true → Knows rules banks r.tick new None before)
-    → IsNext rules banks found before r after new joined2 lines2 room
-next_of {n} rules banks found before r after kept new joined joined2 lines lines2 cuts coming room h room_is size same like knows seen = record {
-  knows = subst (λ j. Knows rules banks r.tick new j before) (sym like) knows;
-  seen = seen;
-  all = let below = h.reached in cut_room_law n h.from rules banks h.knows.at (facts_in kept) joined before r after h.knows.passed h.passed_by (omega (arith, below)) ∙ sym room_is;
+pub next_of : {n : ℕ} {rules : Rules} {banks : List ℕ} {keys : Keys} {before : List (Row n)} {r : Row n} {after : List (Row n)} {kept : List Facts} {joined : Option ℕ} {lines : List (Line n)} {coming : Coming} {cuts : List ℕ}
+    (new : List Facts) (joined2 : Option ℕ) (lines2 : List (Line n)) (room : Bool) (h : Meets rules banks keys before r after kept joined lines coming cuts)
+    → room ≡ joined_room rules banks r.tick (facts_in kept) joined → lines2 ≡ lines → joined2 ≡ joined
+    → ((from : ℕ) (rows : List (Row n)) → from ≤ r.tick → r.tick < never → Knows rules banks from kept joined rows → Knows rules banks r.tick new joined rows)
+    → ((from : ℕ) (rows : List (Row n)) → from ≤ r.tick → r.tick < never → Knows rules banks from kept joined rows → room ≡ true → Knows rules banks r.tick new None rows)
+    → IsNext rules banks keys before r after new joined2 lines2 room coming cuts
+next_of {n} {rules} {banks} {keys} {before} {r} {after} {kept} {joined} {lines} {coming} {cuts} new joined2 lines2 room h room_is same like knows seen = record {
+  among = h.among;
+  knows = subst (λ j. Knows rules banks r.tick new j before) (sym like) (knows h.from before h.passed_by below h.knows);
+  seen = seen h.from before h.passed_by below h.knows;
+  all = cut_room_law n h.from rules banks h.knows.at (facts_in kept) joined before r after h.knows.passed h.passed_by below ∙ sym room_is;
   lines_known = subst (λ (xs : List (Line n)). KnowsLines banks r.tick xs before) (sym same) (lines_later banks h.from r.tick lines before h.passed_by h.lines_known);
-  keys = h.keys;
-  later = h.later;
-  brief = h.brief;
-  sized = h.sized;
-  reached = h.reached;
-  few = h.few;
-  exist = λ i d lt. let e = h.exist i d lt in omega (arith, e, size);
+}
+  where
+    below : r.tick < never
+    below = let reached = h.among.reached in omega (arith, reached)
+
+-- a row of a line may be judged then
+pub may_take : {n : ℕ} {rules : Rules} {banks : List ℕ} {keys : Keys} (tick line : ℕ) (outcome : Outcome n) (kept new : List Facts) (lines lines2 : List (Line n))
+    → AreWithin rules → AreUsable keys → line < length banks → All (λ bank. bank < length kept) banks → length lines ≡ length banks → is_brief outcome ≡ true → tick < reach
+    → length new ≡ length kept → lines2 ≡ lines → MayTake rules banks keys tick line outcome new lines2
+may_take tick line outcome kept new lines lines2 limits usable within exist long brief reached size same = record {
+  within = limits;
+  usable = usable;
+  listed = within;
+  exist = λ i d lt. let e = exist i d lt in omega (arith, e, size);
+  size = ap length same ∙ long;
+  short = short_of_brief outcome brief;
+  arrived = reached;
 }
 
 -- few reads wait

@@ -8,7 +8,6 @@ use Rattle.result_rows.specs.declared.Outcome.{Outcome}
 use Rattle.result_rows.specs.declared.Outcome.TheVariants as out
 use Rattle.row_rules.specs.declared.Row.{Row}
 use Rattle.check_judging.specs.Keys.{is_short, all_short}
-use Rattle.check_judging.specs.Rising.{rising}
 use Rattle.check_verdict.specs.Fitting.{is_brief, all_brief}
 
 -- what a test says of all rows, it says of one

@@ -1,49 +1,47 @@
 -- A row comes, and passes where it breaks no rule.
-use Rattle.std.proofs.Common.{◌≡◌, ℕ, suc, ◌+◌, ◌^◌, ◌<◌, ◌≤◌, ◌&&◌, ◌||◌, ◌⊎◌, inl, inr, Bool, true, false, List, [], ◌∷◌, length, Option, Some, None, refl, sym, ap, ◌∙◌, cond, subst, arith}
+use Rattle.std.proofs.Common.{◌≡◌, ℕ, suc, ◌+◌, ◌<◌, ◌≤◌, ◌&&◌, ◌⊎◌, inl, inr, Bool, true, false, List, [], ◌∷◌, length, Option, Some, None, refl, sym, ap, ◌∙◌, cond, subst, arith}
 use Rattle.masked_bytes.proofs.Truth.{and_first, and_second}
-use Rattle.std.specs.Prelude.{All, slice_get, slice_set, not, nat_lt}
+use Rattle.std.specs.Prelude.{All, slice_get, slice_set, nat_lt}
 use Rattle.std.proofs.lemmas.Bool.{eq-eqb, leb-true, le-leb}
 use Rattle.std.proofs.lemmas.List.Elements.{All-tail, All-filter}
-use Rattle.masked_bytes.specs.Masked.{gives_all}
+use Rattle.std.proofs.Math.ListN.{length-set}
 use Rattle.result_rows.specs.declared.Outcome.{Outcome}
 use Rattle.result_rows.specs.declared.Outcome.TheVariants as out
 use Rattle.row_rules.specs.declared.Asks.{Asks}
 use Rattle.row_rules.specs.declared.Asks.TheVariants.{Reads, Writes, Cuts}
 use Rattle.row_rules.specs.declared.Row.{Row}
-use Rattle.row_rules.specs.Answers.{is_worn}
 use Rattle.row_rules.specs.declared.Rules.{Rules}
 use Rattle.row_rules.specs.Serving.{may_have}
 use Rattle.row_rules.specs.Table.{is_of, of_bank}
-use Rattle.row_rules.specs.Queueing.{has_room, read_fits}
+use Rattle.row_rules.specs.Queueing.{has_room}
 use Rattle.check_judging.specs.Cutting.{cut_ticks}
 use Rattle.check_judging.specs.Distances.{ends_behind}
 use Rattle.check_judging.specs.Rising.{rising}
 use Rattle.check_judging.specs.Runs.{GivesSized}
 use Rattle.check_judging.proofs.Sublists.{room_stays_law}
-use Rattle.check_verdict.specs.Ahead.{at_store, latest_kept, bound_kept}
-use Rattle.check_verdict.specs.Covering.{KeptLine, cover_kept, soonest}
-use Rattle.check_verdict.specs.Fitting.{write_fits, at_head_kept}
-use Rattle.check_verdict.specs.Judged.{first_broken, beside, a_write, a_read, a_cut, RoomIs}
-use Rattle.check_verdict.specs.Keeping.{stored_early, write_timely, read_timely}
-use Rattle.check_verdict.specs.Kept.{apart_kept, sight, sight_of}
+use Rattle.check_verdict.specs.Covering.{KeptLine}
+use Rattle.check_verdict.specs.Judged.{first_broken, beside, a_row, a_write, a_read, a_cut, RoomIs}
+use Rattle.check_verdict.specs.Keeping.{write_timely, read_timely}
+use Rattle.check_verdict.specs.Kept.{sight, sight_of}
 use Rattle.check_verdict.specs.Members.{never}
 use Rattle.check_verdict.specs.Passing.{Passed, put}
-use Rattle.check_verdict.specs.QueueLaws.{next_accepted}
+use Rattle.check_verdict.specs.RowVerdicts.{coming_to, is_apart, read_by, write_verdict, read_verdict}
 use Rattle.check_verdict.specs.States.{Facts, Stands, settled, after_write, after_read, cut_off}
 use Rattle.check_verdict.specs.Verdicts.{bank_in, all_rules, broken_by}
 use Rattle.check_verdict.specs.Timely.{first_of_ticks}
 use Rattle.check_verdict.specs.VerdictLaws.{Comes}
-use Rattle.check_verdict.specs.Worn.{first_worn}
+use Rattle.check_verdict.specs.Within.{AreWithin}
 use Rattle.check_verdict.specs.declared.Rule.{Rule}
+use Rattle.check_verdict.specs.declared.known.Coming.{Coming}
+use Rattle.check_verdict.specs.declared.known.Keys.{Keys}
 use Rattle.check_verdict.specs.declared.lines.Line.{Line}
 use Rattle.check_verdict.specs.declared.members.Member.{Member}
 use Rattle.check_verdict.proofs.Judged.{judge_cut_law}
 use Rattle.check_verdict.proofs.Passing.{settle_one_law, row_passes_law, cut_passed_law}
 use Rattle.check_verdict.proofs.States.{stands_later_law, write_passes_law, read_passes_law}
 use Rattle.check_verdict.proofs.VerdictLaws.{write_verdict_law, read_verdict_law, newest_beside}
-use Rattle.result_check.specs.declared.found.Found.{Found}
-use Rattle.result_check.specs.Keeping.{facts_in, Knows, KnowsLines, IsNext, HasPassed}
-use Rattle.result_check.proofs.Keeping.{same_facts, put_set, facts_settled, bank_exists}
+use Rattle.result_check.specs.Keeping.{facts_in, Knows, KnowsLines, MayTake, IsNext, HasPassed}
+use Rattle.result_check.proofs.Keeping.{IsSettled, same_facts, put_set, facts_settled, bank_exists}
 use Rattle.result_check.proofs.Lines.{lines_stay}
 use Rattle.result_check.proofs.Rows.{short_of_brief}
 
@@ -80,41 +78,45 @@ none_broken true false fits wear timely is = absurd (cc)
 none_broken false room fits wear timely is = absurd (cc)
 
 -- a row of a line comes
-module _ {n : ℕ} (rules : Rules) (banks : List ℕ) (found : Found) (before : List (Row n)) (r : Row n) (after : List (Row n)) (kept : List Facts) (joined : Option ℕ) (lines : List (Line n)) (room : Bool)
-    (h : IsNext rules banks found before r after kept joined lines room) (line : ℕ) (within : line < length banks) (below : r.tick < never) where
+module _ {n : ℕ} {rules : Rules} {banks : List ℕ} {keys : Keys} {before : List (Row n)} {r : Row n} {after : List (Row n)} {kept : List Facts} {joined : Option ℕ} {lines : List (Line n)} {room : Bool} {coming : Coming} {cuts : List ℕ}
+    (h : IsNext rules banks keys before r after kept joined lines room coming cuts) (line : ℕ) (within : line < length banks) where
   abbrev own : ℕ
   own = bank_in banks line
 
   abbrev f : Facts
   f = settled r.tick (facts_in kept own)
 
+  below : r.tick < never
+  below = let reached = h.among.reached in omega (arith, reached)
+
   pub own_stands : Stands r.tick (beside banks line before) f
   own_stands = stands_later_law n (h.knows.at own) r.tick (beside banks line before) (facts_in kept own) (h.knows.passed.by own) below (h.knows.passed.stand own)
 
-  pub comes : 0 < rules.read_ticks → rules.read_ticks < 2 ^ 32 → Comes rules banks line before r after f
-  comes some small = record {
+  pub comes : AreWithin rules → Comes rules banks line before r after f
+  comes limits = record {
     stands = own_stands;
-    later = rising_of_bank (bank_in banks) own r.tick after h.later;
-    short = short_of_brief r.outcome h.brief;
-    reached = h.reached;
-    some = some;
-    small = small;
+    later = rising_of_bank (bank_in banks) own r.tick after h.among.later;
+    short = short_of_brief r.outcome h.among.brief;
+    reached = h.among.reached;
+    some = limits.some_read;
+    small = let few = limits.few_read in omega (arith, few);
   }
 
-  own_room : room ≡ true → has_room rules r.tick (beside banks line before) ≡ true
+  pub own_room : room ≡ true → has_room rules r.tick (beside banks line before) ≡ true
   own_room yes_room = let k = h.seen yes_room in room_stays_law n (k.at own) r.tick rules (beside banks line before) (k.passed.by own) (k.passed.room own refl)
 
   pub room_is : RoomIs rules banks line before r after room
   room_is = record { all = h.all; own = own_room }
 
   -- and passes
-  pub row_known : (kept1 kept2 : List Facts) (g : Facts) → own < length kept → kept1 ≡ slice_set kept own f → length kept1 ≡ length kept → kept2 ≡ slice_set kept1 own g → room ≡ true
+  pub row_known : (kept1 kept2 : List Facts) (number : ℕ) (fb g : Facts) → own < length kept → IsSettled banks r.tick line kept kept1 number fb → kept2 ≡ slice_set kept1 own g → room ≡ true
       → (r.asks ≡ Reads line) ⊎ ((bytes : List ℕ) × (given : List Bool) × (r.asks ≡ Writes line bytes given))
       → Stands r.tick (r ∷ beside banks line before) g → Knows rules banks r.tick kept2 (Some line) (r ∷ before)
-  row_known kept1 kept2 g exists is size are has of stands =
+  row_known kept1 kept2 number fb g exists bank are has of stands =
       let k = h.seen has in
+      let size : length kept1 ≡ length kept = ap length bank.settles ∙ length-set kept _ _ in
       let p1 = same_facts rules banks r.tick (put k.at own r.tick) (put (facts_in kept) own f) (facts_in kept1) None before
-      (λ j. put_set kept own f exists j ∙ ap (λ xs. facts_in xs j) (sym is))
+      (λ j. put_set kept own f exists j ∙ ap (λ xs. facts_in xs j) (sym bank.settles))
       (settle_one_law n r.tick r.tick own rules banks k.at (facts_in kept) None before k.passed (omega arith) below) in
       record {
         at = put k.at own r.tick;
@@ -156,29 +158,27 @@ read_ends tick line read bound cut some (out.Lost u) pos served timely = refl
 read_ends tick line read bound cut some (out.Cut u) pos served timely = refl
 
 -- a write: what the code finds, and what it leaves
-pub write_taken : {n : ℕ} (rules : Rules) (banks : List ℕ) (found : Found) (before : List (Row n)) (tick line : ℕ) (bytes : List ℕ) (given : List Bool) (o : Outcome n) (after : List (Row n))
-    (kept kept1 kept2 : List Facts) (joined joined2 : Option ℕ) (lines lines2 : List (Line n)) (room : Bool) (asks : Asks n) (some : List ℕ) (next worn : Option ℕ) (cuts stores reads : List ℕ) (number : ℕ) (broken : Option Rule) (fb : Facts)
-    → IsNext rules banks found before (a_write tick line bytes given o) after kept joined lines room
-    → line < length banks → line < length lines → tick < never → 0 < rules.read_ticks → rules.read_ticks < 2 ^ 32
-    → asks ≡ Writes line bytes given → next ≡ next_accepted line (beside banks line after) → worn ≡ first_worn (beside banks line after) → cuts ≡ cut_ticks after
-    → stores ≡ found.stores.items → reads ≡ found.reads.items → number ≡ bank_in banks line
-    → kept1 ≡ slice_set kept (bank_in banks line) (settled tick (facts_in kept (bank_in banks line))) → length kept1 ≡ length kept
-    → fb ≡ facts_in kept1 number
-    → broken ≡ first_broken (may_have tick asks some o) room (write_fits rules.writes tick line fb.members next o) (is_worn o || (not fb.worn && stored_early worn o))
-    (write_timely tick (at_store (latest_kept rules stores reads cuts number tick) o) o && apart_kept rules.read_ticks fb.members fb.waits fb.last_answer fb.last_store o)
+pub write_taken : {n : ℕ} (rules : Rules) (banks : List ℕ) (keys : Keys) (before : List (Row n)) (tick line : ℕ) (bytes : List ℕ) (given : List Bool) (o : Outcome n) (after : List (Row n))
+    (kept kept1 kept2 : List Facts) (joined joined2 : Option ℕ) (lines lines2 : List (Line n)) (room : Bool) (asks : Asks n) (some : List ℕ) (coming : Coming) (cuts : List ℕ) (number : ℕ) (broken : Option Rule) (fb : Facts)
+    → asks ≡ Writes line bytes given → IsNext rules banks keys before (a_row tick asks o) after kept joined lines room coming cuts
+    → MayTake rules banks keys tick line o kept lines → IsSettled banks tick line kept kept1 number fb
+    → broken ≡ write_verdict rules number fb some line (a_row tick asks o) room keys coming cuts
     → (broken ≡ None → (m : Member) × (sight m ≡ sight_of (a_write tick line [] [] o)) × (kept2 ≡ slice_set kept1 number (after_write line m o (facts_in kept1 number))))
     → (broken ≡ None → joined2 ≡ Some line)
-    → (broken ≡ None → KnowsLines banks tick lines2 (a_write tick line bytes given o ∷ before))
-    → HasPassed rules banks before (a_write tick line bytes given o) after broken kept2 joined2 lines2
-write_taken {n} rules banks found before tick line bytes given o after kept kept1 kept2 joined joined2 lines lines2 room asks some next worn cuts stores reads number broken fb h within there below pos small
-    asked next_is worn_is cuts_is stores_are reads_are here is size fb_is result pass joins known = record {
+    → (broken ≡ None → KnowsLines banks tick lines before → KnowsLines banks tick lines2 (a_write tick line bytes given o ∷ before))
+    → HasPassed rules banks before (a_row tick asks o) after broken kept2 joined2 lines2
+write_taken {n} rules banks keys before tick line bytes given o after kept kept1 kept2 joined joined2 lines lines2 room asks some coming cuts number broken fb
+    asked comes_next may bank result pass joins known = subst (λ (a : Asks n). HasPassed rules banks before (a_row tick a o) after broken kept2 joined2 lines2) (sym asked) (record {
       told = by_facts ∙ sym law;
       knows = λ none. knows none;
-      lines_known = known;
-    }
+      lines_known = λ none. known none h.lines_known;
+    })
   where
     r : Row n
     r = a_write tick line bytes given o
+
+    h : IsNext rules banks keys before r after kept joined lines room coming cuts
+    h = subst (λ (a : Asks n). IsNext rules banks keys before (a_row tick a o) after kept joined lines room coming cuts) asked comes_next
 
     b : ℕ
     b = bank_in banks line
@@ -187,73 +187,54 @@ write_taken {n} rules banks found before tick line bytes given o after kept kept
     f = settled tick (facts_in kept b)
 
     exists : b < length kept
-    exists = bank_exists banks line (length kept) within h.exist
+    exists = bank_exists banks line (length kept) may.listed may.exist
 
-    f_is : fb ≡ f
-    f_is = fb_is ∙ ap (facts_in kept1) here ∙ facts_settled kept kept1 b f exists is
+    Told : Asks n → ℕ → Facts → Coming → List ℕ → Option Rule
+    Told a k g x cs = write_verdict rules k g some line (a_row tick a o) room keys x cs
 
-    Told : Asks n → Option ℕ → Option ℕ → List ℕ → Facts → Option Rule
-    Told a nx wn cs g =
-        first_broken (may_have tick a some o) room (write_fits rules.writes tick line g.members nx o) (is_worn o || (not g.worn && stored_early wn o))
-        (write_timely tick (at_store (latest_kept rules found.stores.items found.reads.items cs b tick) o) o && apart_kept rules.read_ticks g.members g.waits g.last_answer g.last_store o)
+    law : broken_by rules banks all_rules before r after ≡ Told (Writes line bytes given) b f (coming_to banks line after) (cut_ticks after)
+    law = write_verdict_law n tick line bytes given o rules banks some before after f room keys (comes h line may.listed may.within) (room_is h line may.listed) h.among.has
 
-    -- by these keys of this bank
-    Above : List ℕ → List ℕ → ℕ → Option Rule
-    Above ss ds k =
-        first_broken (may_have tick asks some o) room (write_fits rules.writes tick line fb.members next o) (is_worn o || (not fb.worn && stored_early worn o))
-        (write_timely tick (at_store (latest_kept rules ss ds cuts k tick) o) o && apart_kept rules.read_ticks fb.members fb.waits fb.last_answer fb.last_store o)
-
-    law : broken_by rules banks all_rules before r after ≡ Told (Writes line bytes given) (next_accepted line (beside banks line after)) (first_worn (beside banks line after)) (cut_ticks after) f
-    law = write_verdict_law n tick line bytes given o rules banks some before after f room found.stores.items found.reads.items found.lines.items
-        (comes rules banks found before r after kept joined lines room h line within below pos small) (room_is rules banks found before r after kept joined lines room h line within below) h.keys
-
-    by_facts : broken ≡ Told (Writes line bytes given) (next_accepted line (beside banks line after)) (first_worn (beside banks line after)) (cut_ticks after) f
+    by_facts : broken ≡ Told (Writes line bytes given) b f (coming_to banks line after) (cut_ticks after)
     by_facts =
-        result
-        ∙ ap (λ ss. Above ss reads number) stores_are ∙ ap (λ ds. Above found.stores.items ds number) reads_are ∙ ap (Above found.stores.items found.reads.items) here
-        ∙ ap (λ a. Told a next worn cuts fb) asked ∙ ap (λ nx. Told (Writes line bytes given) nx worn cuts fb) next_is
-        ∙ ap (λ wn. Told (Writes line bytes given) (next_accepted line (beside banks line after)) wn cuts fb) worn_is
-        ∙ ap (λ cs. Told (Writes line bytes given) (next_accepted line (beside banks line after)) (first_worn (beside banks line after)) cs fb) cuts_is
-        ∙ ap (λ g. Told (Writes line bytes given) (next_accepted line (beside banks line after)) (first_worn (beside banks line after)) (cut_ticks after) g) f_is
+        result ∙ ap (λ a. Told a number fb coming cuts) asked ∙ ap (λ k. Told (Writes line bytes given) k fb coming cuts) bank.here
+        ∙ ap (λ g. Told (Writes line bytes given) b g coming cuts) bank.is ∙ ap (λ x. Told (Writes line bytes given) b f x cuts) h.among.brings
+        ∙ ap (Told (Writes line bytes given) b f (coming_to banks line after)) (h.among.cuts_are refl)
 
     knows : broken ≡ None → Knows rules banks tick kept2 joined2 (r ∷ before)
     knows none =
         let breaks = none_broken _ _ _ _ _ (sym by_facts ∙ none) in
         let p = pass none in
-        let g = after_write line p.0 o f in
-        let same : facts_in kept1 b ≡ f = facts_settled kept kept1 b f exists is in
+        let same : facts_in kept1 b ≡ f = facts_settled kept kept1 b f exists bank.settles in
         let stands = write_passes_law n tick line bytes given o rules (beside banks line before) f p.0 some
-        (own_stands rules banks found before r after kept joined lines room h line within below)
-        ((room_is rules banks found before r after kept joined lines room h line within below).own breaks.has_room) breaks.is_served h.brief
+        (own_stands h line may.listed) (own_room h line may.listed breaks.has_room) breaks.is_served h.among.brief
         (write_ends tick line bytes given some _ o breaks.is_served (and_first _ _ breaks.is_timely)) p.1 in
         subst (λ j. Knows rules banks tick kept2 j (r ∷ before)) (sym (joins none))
-        (row_known rules banks found before r after kept joined lines room h line within below kept1 kept2 g exists is size (p.2 ∙ ap (λ k. slice_set kept1 k (after_write line p.0 o (facts_in kept1 k))) here ∙ ap (λ x. slice_set kept1 b (after_write line p.0 o x)) same)
+        (row_known h line may.listed kept1 kept2 number fb (after_write line p.0 o f) exists bank
+        (p.2 ∙ ap (λ k. slice_set kept1 k (after_write line p.0 o (facts_in kept1 k))) bank.here ∙ ap (λ x. slice_set kept1 b (after_write line p.0 o x)) same)
         breaks.has_room (inr (bytes, given, refl)) stands)
 
 -- a read
-pub read_taken : {n : ℕ} (rules : Rules) (banks : List ℕ) (found : Found) (before : List (Row n)) (tick line : ℕ) (o : Outcome n) (after : List (Row n))
-    (kept kept1 kept2 : List Facts) (joined joined2 : Option ℕ) (lines lines2 : List (Line n)) (room : Bool) (asks : Asks n) (soon : Option ℕ) (cuts stores keys : List ℕ) (number : ℕ) (broken : Option Rule) (fb : Facts) (ln : Line n)
-    → IsNext rules banks found before (a_read tick line o) after kept joined lines room
-    → line < length banks → slice_get lines line ≡ Some ln → tick < never → 0 < rules.read_ticks → rules.read_ticks < 2 ^ 32
-    → asks ≡ Reads line → soon ≡ soonest line (beside banks line after) → cuts ≡ cut_ticks after
-    → stores ≡ found.stores.items → keys ≡ found.lines.items → number ≡ bank_in banks line
-    → kept1 ≡ slice_set kept (bank_in banks line) (settled tick (facts_in kept (bank_in banks line))) → length kept1 ≡ length kept
-    → fb ≡ facts_in kept1 number
-    → broken ≡ first_broken (may_have tick asks ln.newest o) room
-    (read_fits rules.reads (length fb.waits + fb.lost) (gives_all (cover_kept n tick soon ln.unclosed ln.runs.items)) (at_head_kept keys line tick fb.members) o) true
-    (read_timely tick rules.read_ticks (bound_kept rules stores number tick fb.fourth (length fb.waits + fb.lost)) (first_of_ticks cuts) o && apart_kept rules.read_ticks fb.members fb.waits fb.last_answer fb.last_store o)
+pub read_taken : {n : ℕ} (rules : Rules) (banks : List ℕ) (keys : Keys) (before : List (Row n)) (tick line : ℕ) (o : Outcome n) (after : List (Row n))
+    (kept kept1 kept2 : List Facts) (joined joined2 : Option ℕ) (lines lines2 : List (Line n)) (room : Bool) (asks : Asks n) (coming : Coming) (cuts : List ℕ) (number : ℕ) (broken : Option Rule) (fb : Facts) (ln : Line n)
+    → asks ≡ Reads line → IsNext rules banks keys before (a_row tick asks o) after kept joined lines room coming cuts
+    → MayTake rules banks keys tick line o kept lines → IsSettled banks tick line kept kept1 number fb → slice_get lines line ≡ Some ln
+    → broken ≡ read_verdict rules number fb ln line (a_row tick asks o) room keys coming cuts
     → (broken ≡ None → kept2 ≡ slice_set kept1 number (after_read tick o (facts_in kept1 number)))
     → (broken ≡ None → joined2 ≡ Some line) → (broken ≡ None → lines2 ≡ lines)
-    → HasPassed rules banks before (a_read tick line o) after broken kept2 joined2 lines2
-read_taken {n} rules banks found before tick line o after kept kept1 kept2 joined joined2 lines lines2 room asks soon cuts stores keys number broken fb ln h within there below pos small
-    asked soon_is cuts_is stores_are keys_are here is size fb_is result pass joins same_lines = record {
+    → HasPassed rules banks before (a_row tick asks o) after broken kept2 joined2 lines2
+read_taken {n} rules banks keys before tick line o after kept kept1 kept2 joined joined2 lines lines2 room asks coming cuts number broken fb ln
+    asked comes_next may bank there result pass joins same_lines = subst (λ (a : Asks n). HasPassed rules banks before (a_row tick a o) after broken kept2 joined2 lines2) (sym asked) (record {
       told = by_facts ∙ sym law;
       knows = λ none. knows none;
       lines_known = λ none. lines_stay banks tick r before lines lines2 (λ l. refl) (same_lines none) h.lines_known;
-    }
+    })
   where
     r : Row n
     r = a_read tick line o
+
+    h : IsNext rules banks keys before r after kept joined lines room coming cuts
+    h = subst (λ (a : Asks n). IsNext rules banks keys before (a_row tick a o) after kept joined lines room coming cuts) asked comes_next
 
     b : ℕ
     b = bank_in banks line
@@ -262,73 +243,55 @@ read_taken {n} rules banks found before tick line o after kept kept1 kept2 joine
     f = settled tick (facts_in kept b)
 
     exists : b < length kept
-    exists = bank_exists banks line (length kept) within h.exist
+    exists = bank_exists banks line (length kept) may.listed may.exist
 
-    f_is : fb ≡ f
-    f_is = fb_is ∙ ap (facts_in kept1) here ∙ facts_settled kept kept1 b f exists is
-
-    Told : Asks n → Option ℕ → List ℕ → Facts → Option Rule
-    Told a sn cs g =
-        first_broken (may_have tick a ln.newest o) room
-        (read_fits rules.reads (length g.waits + g.lost) (gives_all (cover_kept n tick sn ln.unclosed ln.runs.items)) (at_head_kept found.lines.items line tick g.members) o) true
-        (read_timely tick rules.read_ticks (bound_kept rules found.stores.items b tick g.fourth (length g.waits + g.lost)) (first_of_ticks cs) o && apart_kept rules.read_ticks g.members g.waits g.last_answer g.last_store o)
-
-    -- by these keys of this bank
-    Above : List ℕ → List ℕ → ℕ → Option Rule
-    Above ss ks j =
-        first_broken (may_have tick asks ln.newest o) room
-        (read_fits rules.reads (length fb.waits + fb.lost) (gives_all (cover_kept n tick soon ln.unclosed ln.runs.items)) (at_head_kept ks line tick fb.members) o) true
-        (read_timely tick rules.read_ticks (bound_kept rules ss j tick fb.fourth (length fb.waits + fb.lost)) (first_of_ticks cuts) o && apart_kept rules.read_ticks fb.members fb.waits fb.last_answer fb.last_store o)
-
-    fits : Bool
-    fits = read_fits rules.reads (length f.waits + f.lost) (gives_all (cover_kept n tick (soonest line (beside banks line after)) ln.unclosed ln.runs.items)) (at_head_kept found.lines.items line tick f.members) o
-
-    timely : Bool
-    timely = read_timely tick rules.read_ticks (bound_kept rules found.stores.items b tick f.fourth (length f.waits + f.lost)) (first_of_ticks (cut_ticks after)) o
-
-    apart : Bool
-    apart = apart_kept rules.read_ticks f.members f.waits f.last_answer f.last_store o
+    Told : Asks n → ℕ → Facts → Coming → List ℕ → Option Rule
+    Told a k g x cs = read_verdict rules k g ln line (a_row tick a o) room keys x cs
 
     k : KeptLine n tick line (beside banks line before) ln.newest ln.unclosed ln.runs.items
     k = h.lines_known line ln there
 
     sized : All (λ q. GivesSized q) (beside banks line before)
-    sized = All-filter (λ (q : Row n). is_of (bank_in banks) b q.asks) (λ (q : Row n). GivesSized q) before (All-tail (λ (q : Row n). GivesSized q) r before h.sized)
+    sized = All-filter (λ (q : Row n). is_of (bank_in banks) b q.asks) (λ (q : Row n). GivesSized q) before (All-tail (λ (q : Row n). GivesSized q) r before h.among.sized)
 
-    law : broken_by rules banks all_rules before r after ≡ Told (Reads line) (soonest line (beside banks line after)) (cut_ticks after) f
-    law = read_verdict_law n tick tick line o rules banks ln.newest before after f room found.stores.items found.reads.items found.lines.items ln.unclosed ln.runs.items
-        (comes rules banks found before r after kept joined lines room h line within below pos small) (room_is rules banks found before r after kept joined lines room h line within below) h.keys
+    law : broken_by rules banks all_rules before r after ≡ Told (Reads line) b f (coming_to banks line after) (cut_ticks after)
+    law = read_verdict_law n tick tick line o rules banks before after f room keys ln (comes h line may.listed may.within) (room_is h line may.listed) h.among.has
         k (omega arith) sized (k.newest_is ∙ newest_beside (bank_in banks) line before)
 
-    by_facts : broken ≡ Told (Reads line) (soonest line (beside banks line after)) (cut_ticks after) f
+    by_facts : broken ≡ Told (Reads line) b f (coming_to banks line after) (cut_ticks after)
     by_facts =
-        result
-        ∙ ap (λ ss. Above ss keys number) stores_are ∙ ap (λ ks. Above found.stores.items ks number) keys_are ∙ ap (Above found.stores.items found.lines.items) here
-        ∙ ap (λ a. Told a soon cuts fb) asked ∙ ap (λ sn. Told (Reads line) sn cuts fb) soon_is
-        ∙ ap (λ cs. Told (Reads line) (soonest line (beside banks line after)) cs fb) cuts_is
-        ∙ ap (λ g. Told (Reads line) (soonest line (beside banks line after)) (cut_ticks after) g) f_is
+        result ∙ ap (λ a. Told a number fb coming cuts) asked ∙ ap (λ j. Told (Reads line) j fb coming cuts) bank.here
+        ∙ ap (λ g. Told (Reads line) b g coming cuts) bank.is ∙ ap (λ x. Told (Reads line) b f x cuts) h.among.brings
+        ∙ ap (Told (Reads line) b f (coming_to banks line after)) (h.among.cuts_are refl)
+
+    timely : Bool
+    timely = read_timely tick rules.read_ticks (read_by rules b f keys tick) (first_of_ticks (cut_ticks after)) o
+
+    apart : Bool
+    apart = is_apart rules.read_ticks f o
 
     knows : broken ≡ None → Knows rules banks tick kept2 joined2 (r ∷ before)
     knows none =
-        let breaks = none_broken (may_have tick (Reads line) ln.newest o) room fits true (timely && apart) (sym by_facts ∙ none) in
-        let same : facts_in kept1 b ≡ f = facts_settled kept kept1 b f exists is in
+        let breaks = none_broken (may_have tick (Reads line) ln.newest o) room _ true (timely && apart) (sym by_facts ∙ none) in
+        let same : facts_in kept1 b ≡ f = facts_settled kept kept1 b f exists bank.settles in
+        let pos = may.within.some_read in
         let stands = read_passes_law n tick line o rules (beside banks line before) f ln.newest
-        (own_stands rules banks found before r after kept joined lines room h line within below)
-        ((room_is rules banks found before r after kept joined lines room h line within below).own breaks.has_room) breaks.is_served h.brief
-        (read_ends tick line rules.read_ticks (bound_kept rules found.stores.items b tick f.fourth (length f.waits + f.lost)) (first_of_ticks (cut_ticks after)) ln.newest o pos breaks.is_served (and_first timely apart breaks.is_timely)) in
+        (own_stands h line may.listed) (own_room h line may.listed breaks.has_room) breaks.is_served h.among.brief
+        (read_ends tick line rules.read_ticks (read_by rules b f keys tick) (first_of_ticks (cut_ticks after)) ln.newest o pos breaks.is_served (and_first timely apart breaks.is_timely)) in
         subst (λ j. Knows rules banks tick kept2 j (r ∷ before)) (sym (joins none))
-        (row_known rules banks found before r after kept joined lines room h line within below kept1 kept2 (after_read tick o f) exists is size (pass none ∙ ap (λ j. slice_set kept1 j (after_read tick o (facts_in kept1 j))) here ∙ ap (λ x. slice_set kept1 b (after_read tick o x)) same)
+        (row_known h line may.listed kept1 kept2 number fb (after_read tick o f) exists bank
+        (pass none ∙ ap (λ j. slice_set kept1 j (after_read tick o (facts_in kept1 j))) bank.here ∙ ap (λ x. slice_set kept1 b (after_read tick o x)) same)
         breaks.has_room (inl refl) stands)
 
 -- a cut
-pub cut_taken : {n : ℕ} (rules : Rules) (banks : List ℕ) (found : Found) (before : List (Row n)) (tick : ℕ) (o : Outcome n) (after : List (Row n))
-    (kept kept2 : List Facts) (joined joined2 : Option ℕ) (lines lines2 : List (Line n)) (room : Bool) (broken : Option Rule)
-    → IsNext rules banks found before (a_cut tick o) after kept joined lines room → tick < never
+pub cut_taken : {n : ℕ} (rules : Rules) (banks : List ℕ) (keys : Keys) (before : List (Row n)) (tick : ℕ) (o : Outcome n) (after : List (Row n))
+    (kept kept2 : List Facts) (joined joined2 : Option ℕ) (lines lines2 : List (Line n)) (room : Bool) (coming : Coming) (cuts : List ℕ) (broken : Option Rule)
+    → IsNext rules banks keys before (a_cut tick o) after kept joined lines room coming cuts → tick < never
     → broken ≡ first_broken (may_have tick Cuts [] o) room true true true
     → (broken ≡ None → (bank : ℕ) → facts_in kept2 bank ≡ cut_off (settled tick (facts_in kept bank)))
     → (broken ≡ None → joined2 ≡ None) → (broken ≡ None → lines2 ≡ lines)
     → HasPassed rules banks before (a_cut tick o) after broken kept2 joined2 lines2
-cut_taken {n} rules banks found before tick o after kept kept2 joined joined2 lines lines2 room broken h below result pass joins same_lines = record {
+cut_taken {n} rules banks keys before tick o after kept kept2 joined joined2 lines lines2 room coming cuts broken h below result pass joins same_lines = record {
   told = result ∙ sym law;
   knows = λ none. knows none;
   lines_known = λ none. lines_stay banks tick r before lines lines2 (λ l. refl) (same_lines none) h.lines_known;
@@ -354,5 +317,5 @@ cut_taken {n} rules banks found before tick o after kept kept2 joined joined2 li
           at = λ bank. tick;
           passed =
               same_facts rules banks tick (λ bank. tick) (λ bank. cut_off (settled tick (facts_in kept bank))) (facts_in kept2) None (r ∷ before) (λ bank. sym (pass none bank))
-              (cut_passed_law n tick o rules banks [] (λ bank. tick) (λ bank. settled tick (facts_in kept bank)) before settled_all (λ bank. refl) breaks.is_served h.brief);
+              (cut_passed_law n tick o rules banks [] (λ bank. tick) (λ bank. settled tick (facts_in kept bank)) before settled_all (λ bank. refl) breaks.is_served h.among.brief);
         })

@@ -1,29 +1,17 @@
 -- What the rows behind a row bring.
 use Rattle.std.specs.Prelude.{◌≡◌, ℕ, List, [], ◌∷◌, ◌++◌, length, Option, Some, None, slice_get, min}
-use Rattle.result_rows.specs.declared.Outcome.{Outcome}
 use Rattle.row_rules.specs.declared.Asks.{Asks}
 use Rattle.row_rules.specs.declared.Row.{Row}
 use Rattle.row_rules.specs.Table.{of_bank}
 use Rattle.check_verdict.specs.Covering.{soonest}
-use Rattle.check_verdict.specs.Judged.{beside}
 use Rattle.check_verdict.specs.QueueLaws.{next_accepted}
 use Rattle.check_verdict.specs.Verdicts.{bank_in}
 use Rattle.check_verdict.specs.Worn.{first_worn}
-use Rattle.result_check.specs.declared.ahead.Coming.{Coming}
+use Rattle.check_verdict.specs.declared.known.Coming.{Coming}
+use Rattle.check_verdict.specs.RowVerdicts.{coming_to}
 use Rattle.result_check.specs.Finding.{line_asked}
 
-abbrev pub a_row : {n : ℕ} → ℕ → Asks n → Outcome n → Row n
-a_row tick asks outcome = record { tick = tick; asks = asks; outcome = outcome }
-
--- to a row of a line: the next accepted write of the line, the first of the line's stores, and the first worn row of its bank
-abbrev pub coming_to : {n : ℕ} → List ℕ → ℕ → List (Row n) → Coming
-coming_to banks line after = record {
-  next = next_accepted line (beside banks line after);
-  soonest = soonest line (beside banks line after);
-  worn = first_worn (beside banks line after);
-}
-
--- to a row of a line, or of none
+-- what the rows behind a row bring to it, if it has a line
 abbrev pub coming_for : {n : ℕ} → List ℕ → Option ℕ → List (Row n) → Coming
 coming_for banks (Some line) after = coming_to banks line after
 coming_for banks None after = record { next = None; soonest = None; worn = None }

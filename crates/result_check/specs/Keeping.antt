@@ -1,24 +1,27 @@
 -- What is kept of the rows that have passed, and what a row that comes leaves.
 use Rattle.std.specs.Prelude.{◌≡◌, ◌<◌, ◌≤◌, ◌+◌, max, ℕ, Bool, true, false, IsTrue, List, [], ◌∷◌, Option, Some, None, All, length}
 use Rattle.std.specs.Prelude.{slice_get, unwrap_or}
+use Rattle.result_rows.specs.declared.Outcome.{Outcome}
 use Rattle.row_rules.specs.declared.Row.{Row}
 use Rattle.row_rules.specs.declared.Rules.{Rules}
-use Rattle.check_judging.specs.Keys.{reach}
+use Rattle.check_judging.specs.Keys.{reach, is_short}
 use Rattle.check_judging.specs.Rising.{rising}
 use Rattle.check_judging.specs.Runs.{GivesSized}
 use Rattle.check_verdict.specs.declared.Rule.{Rule}
+use Rattle.check_verdict.specs.declared.known.Coming.{Coming}
+use Rattle.check_verdict.specs.declared.known.Keys.{Keys}
 use Rattle.check_verdict.specs.declared.lines.Line.{Line}
 use Rattle.check_verdict.specs.Covering.{KeptLine}
 use Rattle.check_verdict.specs.Fitting.{is_brief}
 use Rattle.check_verdict.specs.Judged.{beside}
 use Rattle.check_verdict.specs.Passing.{Passed}
+use Rattle.check_verdict.specs.RowVerdicts.{AreUsable}
 use Rattle.check_verdict.specs.States.{Facts, no_facts}
 use Rattle.check_verdict.specs.VerdictLaws.{HasKeys}
 use Rattle.check_verdict.specs.Verdicts.{all_rules, broken_by, all_have_room}
+use Rattle.check_verdict.specs.Within.{AreWithin}
 use Rattle.row_rules.specs.Rows.{asks_cut}
 use Rattle.check_judging.specs.Cutting.{cut_ticks}
-use Rattle.result_check.specs.declared.ahead.Coming.{Coming}
-use Rattle.result_check.specs.declared.found.Found.{Found}
 use Rattle.result_check.specs.Coming.{coming_at}
 
 -- what is kept of a bank, these being the banks that are kept
@@ -42,20 +45,44 @@ KnowsLines {n} banks tick lines before =
     (l : ℕ) (line : Line n) → slice_get lines l ≡ Some line
     → KeptLine n tick l (beside banks l before) line.newest line.unclosed line.runs.items
 
--- a row comes between these rows; this is known of the rows before it at its tick, and whether each bank has room
-pub record IsNext {n : ℕ} (rules : Rules) (banks : List ℕ) (found : Found) (before : List (Row n)) (r : Row n) (after : List (Row n))
-    (kept : List Facts) (joined : Option ℕ) (lines : List (Line n)) (room : Bool) : Type 0 where
-  pub knows : Knows rules banks r.tick kept joined before
-  pub seen : room ≡ true → Knows rules banks r.tick kept None before
-  pub all : all_have_room banks rules before r after ≡ room
-  pub lines_known : KnowsLines banks r.tick lines before
-  pub keys : HasKeys banks before r after found.stores.items found.reads.items found.lines.items
+-- a row of a line may be judged: all is within its limits, and its bank and its line are kept
+pub record MayTake {n : ℕ} (rules : Rules) (banks : List ℕ) (keys : Keys) (tick line : ℕ) (outcome : Outcome n) (kept : List Facts) (lines : List (Line n)) : Type 0 where
+  pub within : AreWithin rules
+  pub usable : AreUsable keys
+  pub listed : line < length banks
+  pub exist : All (λ bank. bank < length kept) banks
+  pub size : length lines ≡ length banks
+  pub short : IsTrue (is_short outcome)
+  pub arrived : tick < reach
+
+-- a row comes between these rows of a table that has these keys; this is what the rows behind it bring, and these are the cuts among them
+pub record ComesAmong {n : ℕ} (banks : List ℕ) (keys : Keys) (before : List (Row n)) (r : Row n) (after : List (Row n)) (coming : Coming) (cuts : List ℕ) : Type 0 where
+  pub has : HasKeys banks before r after keys
   pub later : IsTrue (rising r.tick after)
   pub brief : IsTrue (is_brief r.outcome)
   pub sized : All (λ q. GivesSized q) (r ∷ before)
   pub reached : r.tick < reach
   pub few : length before ≤ 400000
-  pub exist : All (λ bank. bank < length kept) banks
+  pub brings : coming ≡ coming_at banks r.asks after
+  pub cuts_are : asks_cut r.asks ≡ false → cuts ≡ cut_ticks after
+
+-- such a row comes; this is known of the rows before it at its tick, and whether each bank has room
+pub record IsNext {n : ℕ} (rules : Rules) (banks : List ℕ) (keys : Keys) (before : List (Row n)) (r : Row n) (after : List (Row n))
+    (kept : List Facts) (joined : Option ℕ) (lines : List (Line n)) (room : Bool) (coming : Coming) (cuts : List ℕ) : Type 0 where
+  pub among : ComesAmong banks keys before r after coming cuts
+  pub knows : Knows rules banks r.tick kept joined before
+  pub seen : room ≡ true → Knows rules banks r.tick kept None before
+  pub all : all_have_room banks rules before r after ≡ room
+  pub lines_known : KnowsLines banks r.tick lines before
+
+-- such a row comes; this was known behind the last row before it
+pub record Meets {n : ℕ} (rules : Rules) (banks : List ℕ) (keys : Keys) (before : List (Row n)) (r : Row n) (after : List (Row n))
+    (kept : List Facts) (joined : Option ℕ) (lines : List (Line n)) (coming : Coming) (cuts : List ℕ) : Type 0 where
+  pub among : ComesAmong banks keys before r after coming cuts
+  pub from : ℕ
+  pub passed_by : from ≤ r.tick
+  pub knows : Knows rules banks from kept joined before
+  pub lines_known : KnowsLines banks from lines before
 
 -- the rule that the row breaks first, and what is known behind it where it breaks none
 pub record HasPassed {n : ℕ} (rules : Rules) (banks : List ℕ) (before : List (Row n)) (r : Row n) (after : List (Row n))
@@ -63,20 +90,3 @@ pub record HasPassed {n : ℕ} (rules : Rules) (banks : List ℕ) (before : List
   pub told : broken ≡ broken_by rules banks all_rules before r after
   pub knows : broken ≡ None → Knows rules banks r.tick kept joined (r ∷ before)
   pub lines_known : broken ≡ None → KnowsLines banks r.tick lines (r ∷ before)
-
--- a row comes between these rows, of which this was known behind the last one before it; this is what the rows behind it bring
-pub record Meets {n : ℕ} (rules : Rules) (banks : List ℕ) (found : Found) (before : List (Row n)) (r : Row n) (after : List (Row n))
-    (kept : List Facts) (joined : Option ℕ) (lines : List (Line n)) (cuts : List ℕ) (coming : Coming) : Type 0 where
-  pub from : ℕ
-  pub passed_by : from ≤ r.tick
-  pub knows : Knows rules banks from kept joined before
-  pub lines_known : KnowsLines banks from lines before
-  pub keys : HasKeys banks before r after found.stores.items found.reads.items found.lines.items
-  pub later : IsTrue (rising r.tick after)
-  pub brief : IsTrue (is_brief r.outcome)
-  pub sized : All (λ q. GivesSized q) (r ∷ before)
-  pub reached : r.tick < reach
-  pub few : length before ≤ 400000
-  pub exist : All (λ bank. bank < length kept) banks
-  pub brings : coming ≡ coming_at banks r.asks after
-  pub cuts_are : asks_cut r.asks ≡ false → cuts ≡ cut_ticks after

@@ -26,18 +26,10 @@ pub record IsTable {n : ℕ} (lines : ℕ) (rows : List (Row n)) : Type 0 where
 
 -- these are the sorted keys of a table, and its cuts
 pub record IsFound {n : ℕ} (banks : List ℕ) (rows : List (Row n)) (found : Found) : Type 0 where
-  pub stores : IsPermutation (store_keys (bank_in banks) rows) found.stores.items
-  pub stores_sorted : IsNonDecreasing found.stores.items
-  pub reads : IsPermutation (read_keys (bank_in banks) rows) found.reads.items
-  pub reads_sorted : IsNonDecreasing found.reads.items
-  pub lines : IsPermutation (store_keys (λ line. line) rows) found.lines.items
-  pub lines_sorted : IsNonDecreasing found.lines.items
+  pub stores : IsPermutation (store_keys (bank_in banks) rows) found.keys.stores.items
+  pub stores_sorted : IsNonDecreasing found.keys.stores.items
+  pub reads : IsPermutation (read_keys (bank_in banks) rows) found.keys.reads.items
+  pub reads_sorted : IsNonDecreasing found.keys.reads.items
+  pub lines : IsPermutation (store_keys (λ line. line) rows) found.keys.lines.items
+  pub lines_sorted : IsNonDecreasing found.keys.lines.items
   pub cuts : found.cuts.items ≡ cut_ticks rows
-
--- keys are sorted and few
-pub record IsUsable (found : Found) : Type 0 where
-  pub stores_sorted : IsNonDecreasing found.stores.items
-  pub reads_sorted : IsNonDecreasing found.reads.items
-  pub lines_sorted : IsNonDecreasing found.lines.items
-  pub few_stores : length found.stores.items ≤ 400000
-  pub few_reads : length found.reads.items ≤ 400000

@@ -7,22 +7,15 @@ ghost use Rattle.trace_rows.specs.Rows.{rows_with, asks_of, row_of};
 ghost use Rattle.result_check.specs.Finding.{line_asked, line_written};
 ghost use Rattle.row_rules.specs.Lines.{IsOfLines};
 ghost use Rattle.result_check.specs.Coming as spec;
-ghost use Rattle.result_check.specs.Coming.{a_row, coming_at, coming_of, IsOutlook};
+ghost use Rattle.check_verdict.specs.Judged.{a_row};
+ghost use Rattle.result_check.specs.Coming.{coming_at, coming_of, IsOutlook};
 ghost use Rattle.result_check.specs.Tables.{IsTable};
 
 use crate::found::bank_of;
+use check_verdict::known::Coming;
 use result_rows::{Outcome, Results};
 use std::alloc::{AllocError, Global};
 use trace_reader::{Event, EventOp};
-
-/// What the rows behind a row of a line bring: when the next accepted write of the line comes, when the first of the line's
-/// stores does, and when the first worn row of its bank does.
-#[derive(Clone, Copy, Debug)]
-pub struct Coming {
-    pub next: Option<u64>,
-    pub soonest: Option<u64>,
-    pub worn: Option<u64>,
-}
 
 /// What the rows behind a row bring to each line (`next`, `soonest`) and to each bank (`worn`).
 #[derive(Drop)]

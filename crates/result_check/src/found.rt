@@ -9,6 +9,7 @@ ghost use Rattle.row_rules.specs.Lines.{IsOfLines};
 ghost use Rattle.result_check.specs.Tables.{IsTable, IsFound};
 
 use check_verdict::keys::key;
+use check_verdict::known::Keys;
 use check_verdict::queue::line_key;
 use result_rows::{Outcome, Results};
 use std::alloc::{AllocError, Global};
@@ -22,12 +23,10 @@ pub fn bank_of(banks: &[u8], line: u32) -> u8
     banks[line as usize]
 }
 
-/// Keys of a table's stores, by their banks and by their lines, and of its reads, and the ticks of its cuts.
+/// The keys of a table, and the ticks of its cuts.
 #[derive(Drop)]
 pub struct Found {
-    pub stores: Vec<u64>,
-    pub lines: Vec<u128>,
-    pub reads: Vec<u64>,
+    pub keys: Keys,
     pub cuts: Vec<u64>,
 }
 
@@ -41,25 +40,25 @@ impl Found {
     ) -> Result<(), AllocError>
         requires line { IsOfLines (length banks.now) (asks_of event.now.op) }
         requires short { IsTrue (keys.is_short outcome.now) }
-        ensures stores { IfOk result (λ _. self.new.stores.items
-            ≡ self.old.stores.items ++ keys.store_keys (bank_in banks.now) (row_of event.now outcome.now ∷ [])) }
-        ensures lines { IfOk result (λ _. self.new.lines.items
-            ≡ self.old.lines.items ++ keys.store_keys (λ line. line) (row_of event.now outcome.now ∷ [])) }
-        ensures reads { IfOk result (λ _. self.new.reads.items
-            ≡ self.old.reads.items ++ keys.read_keys (bank_in banks.now) (row_of event.now outcome.now ∷ [])) }
+        ensures stores { IfOk result (λ _. self.new.keys.stores.items
+            ≡ self.old.keys.stores.items ++ keys.store_keys (bank_in banks.now) (row_of event.now outcome.now ∷ [])) }
+        ensures lines { IfOk result (λ _. self.new.keys.lines.items
+            ≡ self.old.keys.lines.items ++ keys.store_keys (λ line. line) (row_of event.now outcome.now ∷ [])) }
+        ensures reads { IfOk result (λ _. self.new.keys.reads.items
+            ≡ self.old.keys.reads.items ++ keys.read_keys (bank_in banks.now) (row_of event.now outcome.now ∷ [])) }
         ensures cuts { IfOk result (λ _. self.new.cuts.items
             ≡ self.old.cuts.items ++ cut_ticks (row_of event.now outcome.now ∷ [])) }
     {
         match event.op {
             EventOp::Write(line, _) | EventOp::Mask(line, _, _) => {
                 if let Outcome::Stored { tick, .. } = outcome {
-                    self.stores.push(key(bank_of(banks, line), *tick))?;
-                    self.lines.push(line_key(line, *tick))?;
+                    self.keys.stores.push(key(bank_of(banks, line), *tick))?;
+                    self.keys.lines.push(line_key(line, *tick))?;
                 }
             }
             EventOp::Read(line) => {
                 if let Outcome::Read { tick, .. } = outcome {
-                    self.reads.push(key(bank_of(banks, line), *tick))?;
+                    self.keys.reads.push(key(bank_of(banks, line), *tick))?;
                 }
             }
             EventOp::Cut => self.cuts.push(event.tick)?,
@@ -81,17 +80,19 @@ impl Found {
         ensures { IfOk result (λ found. IsFound banks.now (rows_with events.now results.now) found) }
     {
         let mut found = Found {
-            stores: Vec::new(alloc),
-            lines: Vec::new(alloc),
-            reads: Vec::new(alloc),
+            keys: Keys {
+                stores: Vec::new(alloc),
+                reads: Vec::new(alloc),
+                lines: Vec::new(alloc),
+            },
             cuts: Vec::new(alloc),
         };
         for (i, event) in events.iter().enumerate() {
             found.add(banks, event, results.get(i as u32 + 1))?;
         }
-        found.stores.sort_unstable();
-        found.lines.sort_unstable();
-        found.reads.sort_unstable();
+        found.keys.stores.sort_unstable();
+        found.keys.lines.sort_unstable();
+        found.keys.reads.sort_unstable();
         Ok(found)
     }
 }

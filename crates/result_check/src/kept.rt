@@ -8,8 +8,9 @@ ghost use Rattle.row_rules.specs.Serving.{may_have};
 ghost use Rattle.row_rules.specs.declared.Asks.TheVariants.{Reads, Writes, Cuts};
 ghost use Rattle.row_rules.specs.declared.Row.{Row};
 ghost use Rattle.row_rules.specs.declared.Rules as laws;
-ghost use Rattle.result_check.specs.declared.found.Found.{Found};
-ghost use Rattle.check_judging.specs.Keys.{reach, is_short};
+ghost use Rattle.check_verdict.specs.declared.known.Coming.{Coming};
+ghost use Rattle.check_verdict.specs.declared.known.Keys.{Keys};
+ghost use Rattle.check_judging.specs.Keys.{reach};
 ghost use Rattle.check_verdict.specs.Judged as judged;
 ghost use Rattle.check_verdict.specs.Kept.{sight, sight_of};
 ghost use Rattle.check_verdict.specs.Passing.{joined_room};
@@ -19,25 +20,20 @@ ghost use Rattle.check_verdict.specs.States.{no_facts, settled, cut_off, after_w
 ghost use Rattle.check_verdict.specs.Verdicts.{bank_in};
 ghost use Rattle.trace_rows.specs.Rows.{asks_of, row_of};
 ghost use Rattle.check_verdict.specs.Within.{AreWithin};
-ghost use Rattle.check_judging.specs.Cutting.{cut_ticks};
-ghost use Rattle.check_verdict.specs.Covering.{soonest};
-ghost use Rattle.check_verdict.specs.Judged.{beside, a_write, a_read, a_cut};
-ghost use Rattle.check_verdict.specs.QueueLaws.{next_accepted};
-ghost use Rattle.check_verdict.specs.Worn.{first_worn};
-ghost use Rattle.result_check.specs.Coming.{a_row};
-ghost use Rattle.result_check.specs.Tables.{IsUsable};
+ghost use Rattle.check_verdict.specs.Judged.{a_row, a_cut};
+ghost use Rattle.check_verdict.specs.RowVerdicts.{AreUsable};
 ghost use Rattle.result_check.specs.Lines.{AreFresh, IsLineBehind, LinePasses};
-ghost use Rattle.result_check.specs.Keeping.{banks_from, facts_in, Knows, IsNext, HasPassed, Meets};
+ghost use Rattle.result_check.specs.Keeping.{banks_from, facts_in, Knows, MayTake, IsNext, HasPassed, Meets};
 ghost use Rattle.row_rules.specs.Lines.{IsOfLines};
 ghost use Rattle.result_check.specs.Outcomes as spec;
 ghost use Rattle.check_verdict.specs.declared.members.Member.{Member};
 ghost use Rattle.check_verdict.specs.declared.lines.Line.{Line};
 
-use crate::ahead::Coming;
-use crate::found::{Found, bank_of};
+use crate::found::bank_of;
 use crate::watched::Watched;
 use check_verdict::Rule;
-use check_verdict::judge::{Ahead, Keys, judge_read, judge_write};
+use check_verdict::judge::{judge_read, judge_write};
+use check_verdict::known::{Arrival, Grounds};
 use check_verdict::lines::Line;
 use check_verdict::members::{Member, NEVER};
 use result_rows::Outcome;
@@ -279,141 +275,93 @@ impl<const B: usize> Kept<B> {
         Ok(())
     }
 
-    /// Judges a write of a line, and lets it pass where it breaks no rule; `cuts` are the ticks of the cuts behind it.
+    /// Judges a write of a line, and lets it pass where it breaks no rule.
     fn take_write(
         &mut self,
-        rules: &Rules,
-        banks: &[u8],
-        found: &Found,
-        cuts: &[u64],
-        coming: Coming,
-        room: bool,
-        tick: u64,
-        line: u32,
+        grounds: Grounds,
+        row: Arrival,
         op: &EventOp<B>,
         bytes: &[u8; B],
         given: &[bool; B],
         outcome: &Outcome<B>,
     ) -> Result<Option<Rule>, AllocError>
         requires small { B ≤ 128 }
-        requires within { AreWithin rules.now }
-        requires asked { asks_of op.now ≡ Writes line bytes.now given.now }
-        requires line { line < length banks.now }
-        requires exist { All (λ bank. bank < length self.old.banks.items) banks.now }
-        requires lines { length self.old.lines.items ≡ length banks.now }
-        requires usable { IsUsable found.now }
-        requires cuts { IsNonDecreasing cuts.now }
-        requires few { length cuts.now ≤ 400_000 }
-        requires short { IsTrue (is_short outcome.now) }
-        requires arrived { tick < reach }
+        requires asked { asks_of op.now ≡ Writes row.line bytes.now given.now }
+        requires may { MayTake grounds.rules.now grounds.banks.now grounds.keys.now row.tick row.line
+            outcome.now self.old.banks.items self.old.lines.items }
+        requires cuts { IsNonDecreasing grounds.cuts.now }
+        requires few { length grounds.cuts.now ≤ 400_000 }
         ensures number { IfOk result (λ _. length self.new.banks.items ≡ length self.old.banks.items) }
         ensures lines { IfOk result (λ _. length self.new.lines.items ≡ length self.old.lines.items) }
-        ensures passes { (before after : List (Row B)) → coming.next ≡ next_accepted line (beside banks.now line after)
-            → coming.worn ≡ first_worn (beside banks.now line after) → cuts.now ≡ cut_ticks after
-            → IsNext rules.now banks.now found.now before (a_write tick line bytes.now given.now outcome.now) after
-            self.old.banks.items self.old.joined self.old.lines.items room
-            → IfOk result (λ broken. HasPassed rules.now banks.now before (a_write tick line bytes.now given.now outcome.now) after
+        ensures passes { (before after : List (Row B))
+            → let r = a_row row.tick (asks_of op.now) outcome.now in
+            IsNext grounds.entry.rules.now grounds.entry.banks.now grounds.entry.keys.now before r after
+            self.old.banks.items self.old.joined self.old.lines.items row.room
+            grounds.entry.coming grounds.entry.cuts.now
+            → IfOk result (λ broken. HasPassed grounds.entry.rules.now grounds.entry.banks.now before r after
             broken self.new.banks.items self.new.joined self.new.lines.items) }
     {
-        let number = bank_of(banks, line);
-        self.settle(banks, tick, line);
-        let keys = Keys {
-            stores: &found.stores,
-            reads: &found.reads,
-            lines: &found.lines,
-        };
-        let ahead = Ahead {
-            next: coming.next,
-            soonest: coming.soonest,
-            worn: coming.worn,
-            cuts,
-        };
+        let number = bank_of(grounds.banks, row.line);
+        self.settle(grounds.banks, row.tick, row.line);
         let broken = judge_write(
-            rules,
-            room,
+            grounds,
             number,
             self.banks[number as usize].bank(),
-            tick,
-            line,
+            &self.lines[row.line as usize].newest,
+            row,
             op,
-            &self.lines[line as usize].newest,
-            keys,
-            ahead,
             outcome,
         );
         match broken {
             Some(rule) => Ok(Some(rule)),
             None => {
-                self.pass_write(number, tick, line, bytes, given, outcome)?;
+                self.pass_write(number, row.tick, row.line, bytes, given, outcome)?;
                 Ok(None)
             }
         }
     }
 
-    /// Judges a read of a line, and lets it pass where it breaks no rule; `cuts` are the ticks of the cuts behind it.
+    /// Judges a read of a line, and lets it pass where it breaks no rule.
     fn take_read(
         &mut self,
-        rules: &Rules,
-        banks: &[u8],
-        found: &Found,
-        cuts: &[u64],
-        coming: Coming,
-        room: bool,
-        tick: u64,
-        line: u32,
+        grounds: Grounds,
+        row: Arrival,
         op: &EventOp<B>,
         outcome: &Outcome<B>,
     ) -> Result<Option<Rule>, AllocError>
         requires small { B ≤ 128 }
-        requires within { AreWithin rules.now }
-        requires asked { asks_of op.now ≡ Reads line }
-        requires line { line < length banks.now }
-        requires exist { All (λ bank. bank < length self.old.banks.items) banks.now }
-        requires lines { length self.old.lines.items ≡ length banks.now }
-        requires usable { IsUsable found.now }
-        requires short { IsTrue (is_short outcome.now) }
-        requires arrived { tick < reach }
-        requires fourth { IfSome (facts_in self.old.banks.items (bank_in banks.now line)).fourth (λ came. came < reach) }
-        requires few { let f = settled tick (facts_in self.old.banks.items (bank_in banks.now line)) in length f.waits + f.lost ≤ 400_000 }
+        requires asked { asks_of op.now ≡ Reads row.line }
+        requires may { MayTake grounds.rules.now grounds.banks.now grounds.keys.now row.tick row.line
+            outcome.now self.old.banks.items self.old.lines.items }
+        requires fourth { let f = facts_in self.old.banks.items (bank_in grounds.banks.now row.line) in
+            IfSome f.fourth (λ came. came < reach) }
+        requires few { let f = facts_in self.old.banks.items (bank_in grounds.banks.now row.line) in
+            length (settled row.tick f).waits + (settled row.tick f).lost ≤ 400_000 }
         ensures number { IfOk result (λ _. length self.new.banks.items ≡ length self.old.banks.items) }
         ensures lines { IfOk result (λ _. length self.new.lines.items ≡ length self.old.lines.items) }
         ensures passes { (before after : List (Row B))
-            → coming.soonest ≡ soonest line (beside banks.now line after) → cuts.now ≡ cut_ticks after
-            → IsNext rules.now banks.now found.now before (a_read tick line outcome.now) after
-            self.old.banks.items self.old.joined self.old.lines.items room
-            → IfOk result (λ broken. HasPassed rules.now banks.now before (a_read tick line outcome.now) after
+            → let r = a_row row.tick (asks_of op.now) outcome.now in
+            IsNext grounds.entry.rules.now grounds.entry.banks.now grounds.entry.keys.now before r after
+            self.old.banks.items self.old.joined self.old.lines.items row.room
+            grounds.entry.coming grounds.entry.cuts.now
+            → IfOk result (λ broken. HasPassed grounds.entry.rules.now grounds.entry.banks.now before r after
             broken self.new.banks.items self.new.joined self.new.lines.items) }
     {
-        let number = bank_of(banks, line);
-        self.settle(banks, tick, line);
-        let keys = Keys {
-            stores: &found.stores,
-            reads: &found.reads,
-            lines: &found.lines,
-        };
-        let ahead = Ahead {
-            next: coming.next,
-            soonest: coming.soonest,
-            worn: coming.worn,
-            cuts,
-        };
+        let number = bank_of(grounds.banks, row.line);
+        self.settle(grounds.banks, row.tick, row.line);
         let broken = judge_read(
-            rules,
-            room,
+            grounds,
             number,
             self.banks[number as usize].bank(),
-            tick,
-            line,
+            &self.lines[row.line as usize],
+            row,
             op,
-            &self.lines[line as usize],
-            keys,
-            ahead,
             outcome,
         );
         match broken {
             Some(rule) => Ok(Some(rule)),
             None => {
-                self.pass_read(number, tick, line, outcome)?;
+                self.pass_read(number, row.tick, row.line, outcome)?;
                 Ok(None)
             }
         }
@@ -424,9 +372,13 @@ impl<const B: usize> Kept<B> {
         requires arrived { tick < reach }
         ensures number { length self.new.banks.items ≡ length self.old.banks.items }
         ensures lines { length self.new.lines.items ≡ length self.old.lines.items }
-        ensures passes { (rules : laws.Rules) (banks : List ℕ) (found : Found) (before after : List (Row B))
-            → IsNext rules banks found before (a_cut tick outcome.now) after self.old.banks.items self.old.joined self.old.lines.items room
-            → HasPassed rules banks before (a_cut tick outcome.now) after result self.new.banks.items self.new.joined self.new.lines.items }
+        ensures passes { (rules : laws.Rules) (banks : List ℕ) (keys : Keys) (before after : List (Row B))
+            (coming : Coming) (cuts : List ℕ)
+            → let r = a_cut tick outcome.now in
+            IsNext rules banks keys before r after
+            self.old.banks.items self.old.joined self.old.lines.items room coming cuts
+            → HasPassed rules banks before r after
+            result self.new.banks.items self.new.joined self.new.lines.items }
     {
         let broken = judge_cut(tick, room, outcome);
         match broken {
@@ -439,57 +391,62 @@ impl<const B: usize> Kept<B> {
         }
     }
 
-    /// Judges the next row, and lets it pass where it breaks no rule; `cuts` are the ticks of the cuts behind it, and `coming` what
-    /// the rows behind it bring.
+    /// Judges the next row, and lets it pass where it breaks no rule.
     pub fn take(
         &mut self,
-        rules: &Rules,
-        banks: &[u8],
-        found: &Found,
-        cuts: &[u64],
-        coming: Coming,
+        grounds: Grounds,
         event: &Event<B>,
         outcome: &Outcome<B>,
     ) -> Result<Option<Rule>, AllocError>
         requires small { B ≤ 128 }
-        requires within { AreWithin rules.now }
-        requires line { IsOfLines (length banks.now) (asks_of event.now.op) }
-        requires exist { All (λ bank. bank < length self.old.banks.items) banks.now }
-        requires lines { length self.old.lines.items ≡ length banks.now }
-        requires usable { IsUsable found.now }
-        requires cuts { IsNonDecreasing cuts.now }
-        requires few { length cuts.now ≤ 400_000 }
+        requires within { AreWithin grounds.rules.now }
+        requires line { IsOfLines (length grounds.banks.now) (asks_of event.now.op) }
+        requires exist { All (λ bank. bank < length self.old.banks.items) grounds.banks.now }
+        requires lines { length self.old.lines.items ≡ length grounds.banks.now }
+        requires usable { AreUsable grounds.keys.now }
+        requires cuts { IsNonDecreasing grounds.cuts.now }
+        requires few { length grounds.cuts.now ≤ 400_000 }
         requires met { (before : List (Row B)) × (after : List (Row B))
-            × Meets rules.now banks.now found.now before (row_of event.now outcome.now) after
-            self.old.banks.items self.old.joined self.old.lines.items cuts.now coming }
+            × Meets grounds.rules.now grounds.banks.now grounds.keys.now
+            before (row_of event.now outcome.now) after
+            self.old.banks.items self.old.joined self.old.lines.items grounds.coming grounds.cuts.now }
         ensures number { IfOk result (λ _. length self.new.banks.items ≡ length self.old.banks.items) }
         ensures lines { IfOk result (λ _. length self.new.lines.items ≡ length self.old.lines.items) }
         ensures passes { (before after : List (Row B))
-            → Meets rules.now banks.now found.now before (row_of event.now outcome.now) after
-            self.old.banks.items self.old.joined self.old.lines.items cuts.now coming
-            → IfOk result (λ broken. HasPassed rules.now banks.now before (row_of event.now outcome.now) after
+            → let r = row_of event.now outcome.now in
+            Meets grounds.entry.rules.now grounds.entry.banks.now grounds.entry.keys.now before r after
+            self.old.banks.items self.old.joined self.old.lines.items
+            grounds.entry.coming grounds.entry.cuts.now
+            → IfOk result (λ broken. HasPassed grounds.entry.rules.now grounds.entry.banks.now before r after
             broken self.new.banks.items self.new.joined self.new.lines.items) }
     {
         let tick = event.tick;
-        let room = self.find_room(rules, banks, tick);
+        let room = self.find_room(grounds.rules, grounds.banks, tick);
         match &event.op {
             EventOp::Read(line) => {
-                self.take_read(
-                    rules, banks, found, cuts, coming, room, tick, *line, &event.op, outcome,
-                )
+                let row = Arrival {
+                    tick,
+                    line: *line,
+                    room,
+                };
+                self.take_read(grounds, row, &event.op, outcome)
             }
             EventOp::Write(line, bytes) => {
+                let row = Arrival {
+                    tick,
+                    line: *line,
+                    room,
+                };
                 let given = [true; B];
-                self.take_write(
-                    rules, banks, found, cuts, coming, room, tick, *line, &event.op, bytes, &given,
-                    outcome,
-                )
+                self.take_write(grounds, row, &event.op, bytes, &given, outcome)
             }
             EventOp::Mask(line, bytes, given) => {
-                self.take_write(
-                    rules, banks, found, cuts, coming, room, tick, *line, &event.op, bytes, given,
-                    outcome,
-                )
+                let row = Arrival {
+                    tick,
+                    line: *line,
+                    room,
+                };
+                self.take_write(grounds, row, &event.op, bytes, given, outcome)
             }
             EventOp::Cut => Ok(self.take_cut(room, tick, outcome)),
         }

@@ -17,7 +17,8 @@ mod found;
 mod kept;
 pub mod watched;
 
-use ahead::{Coming, look_ahead};
+use ahead::look_ahead;
+use check_verdict::known::{Coming, Grounds};
 pub use check_verdict::{Rule, Verdict};
 use found::Found;
 use kept::Kept;
@@ -82,7 +83,14 @@ fn pass_rows<const B: usize>(
         cuts = cuts_with(cuts, &event.op);
         let behind = cuts_behind(&found.cuts, cuts);
         let ahead = item(coming, events.len() - 1 - i);
-        let broken = kept.take(rules, banks, found, behind, ahead, event, outcome)?;
+        let grounds = Grounds {
+            rules,
+            banks,
+            keys: &found.keys,
+            coming: ahead,
+            cuts: behind,
+        };
+        let broken = kept.take(grounds, event, outcome)?;
         if let Some(rule) = broken {
             return Ok(Verdict::No { row, rule });
         }

@@ -2,7 +2,8 @@ use Rattle.std.proofs.Common.{Some, length, refl, sym, ◌∷◌, ◌<◌, subst
 use Rattle.std.specs.Prelude.{slice_set}
 use Rattle.result_rows.specs.declared.Outcome.{Outcome}
 use Rattle.result_rows.specs.declared.Outcome.TheVariants as out
-use Rattle.result_check.specs.Coming.{IsOutlook, a_row}
+use Rattle.check_verdict.specs.Judged.{a_row}
+use Rattle.result_check.specs.Coming.{IsOutlook}
 use Rattle.result_check.proofs.Coming.{written_is, outlook_stored, outlook_accepted, outlook_worn}
 use Rattle.masked_bytes.proofs.Lists.{item-at}
 use Rattle.result_check.proofs.ahead.Outlook.add_write.Goals as goal

@@ -1,50 +1,46 @@
-use Rattle.std.proofs.Common.{◌≡◌, ◌<◌, ◌∙◌, List, length, sym, ap, arith}
+use Rattle.std.proofs.Common.{◌≡◌, ◌∙◌, List, length, sym, ap, arith}
 use Rattle.std.specs.Prelude.{slice_get}
-use Rattle.std.proofs.Math.ListN.{length-set}
 use Rattle.check_verdict.specs.Banks.{facts_of}
 use Rattle.check_verdict.specs.declared.lines.Line.{Line}
-use Rattle.result_check.proofs.Keeping.{bank_exists, facts_got}
+use Rattle.trace_rows.specs.Rows.{asks_of}
+use Rattle.result_check.proofs.Keeping.{is_settled}
 use Rattle.masked_bytes.proofs.Lists.{item-at}
 use Rattle.result_check.proofs.Taking.{read_taken}
 use Rattle.result_check.proofs.kept.Kept.take_read.Goals as goal
 
 pub returns-in-Some-clause-passes : goal.returns-in-Some-clause-passes
-returns-in-Some-clause-passes g c = λ before after soon cuts h.
-    let banks = c.args.banks.now in
+returns-in-Some-clause-passes g c = λ before after h.
+    let x = c.args.grounds in
+    let row = c.args.row in
     let old = c.args.self.now in
     let s = c.settle.new.self in
-    let exists = bank_exists banks c.args.line (length old.banks.items) c.requires.line c.requires.exist in
-    let size : length s.banks.items ≡ length old.banks.items = ap length c.settle.ensures.banks ∙ length-set old.banks.items _ _ in
-    let lines = c.requires.lines in
-    let at : c.bank_of-number.result < length s.banks.items = omega (arith, size, exists, c.bank_of-number.ensures) in
-    let got = facts_got s.banks.items c.bank_of-number.result c.index.result.now (item-at s.banks.items c.bank_of-number.result c.index.result.now at c.index.ensures) in
-    let same = c.settle.ensures.lines in
-    let long : length s.lines.items ≡ length old.lines.items = ap length same in
-    let there = ap (λ (xs : List (Line g.row.B)). slice_get xs c.args.line) (sym same) ∙ item-at s.lines.items c.args.line c.index-2.result.now (omega (arith, long, lines, c.requires.line)) c.index-2.ensures in
-    read_taken c.args.rules.now banks c.args.found.now before c.args.tick c.args.line c.args.outcome.now after
-    old.banks.items s.banks.items s.banks.items old.joined s.joined old.lines.items s.lines.items c.args.room _ c.args.coming.soonest c.args.cuts.now
-    c.deref.result.now c.deref-3.result.now c.bank_of-number.result _ (facts_of c.bank.result.now) c.index-2.result.now
-    h c.requires.line there (omega (arith, c.requires.arrived)) c.requires.within.some_read (omega (arith, c.requires.within.few_read))
-    c.requires.asked soon cuts c.deref.ensures.value c.deref-3.ensures.value c.bank_of-number.ensures c.settle.ensures.banks size (c.bank.ensures ∙ sym got)
+    let may = c.requires.may in
+    let bank = is_settled x.banks.now row.tick row.line old.banks.items s.banks.items c.bank_of-number.result (facts_of c.bank.result.now) c.index.result.now
+    may.listed may.exist c.bank_of-number.ensures c.settle.ensures.banks c.index.ensures c.bank.ensures in
+    let long : length s.lines.items ≡ length old.lines.items = ap length c.settle.ensures.lines in
+    let size = may.size in
+    let within = may.listed in
+    let there = ap (λ (xs : List (Line g.row.B)). slice_get xs row.line) (sym c.settle.ensures.lines) ∙ item-at s.lines.items row.line c.index-2.result.now (omega (arith, long, size, within)) c.index-2.ensures in
+    read_taken x.rules.now x.banks.now x.keys.now before row.tick row.line c.args.outcome.now after
+    old.banks.items s.banks.items s.banks.items old.joined s.joined old.lines.items s.lines.items row.room (asks_of c.args.op.now) x.coming x.cuts.now
+    c.bank_of-number.result _ (facts_of c.bank.result.now) c.index-2.result.now c.requires.asked h may bank there
     (sym c.in-Some.is ∙ c.judge_read-broken.ensures) (λ e. absurd (cc)) (λ e. absurd (cc)) (λ e. absurd (cc))
 
 pub returns-in_ok-pass_read-in-None-clause-passes : goal.returns-in_ok-pass_read-in-None-clause-passes
-returns-in_ok-pass_read-in-None-clause-passes g c = λ before after soon cuts h.
-    let banks = c.args.banks.now in
+returns-in_ok-pass_read-in-None-clause-passes g c = λ before after h.
+    let x = c.args.grounds in
+    let row = c.args.row in
     let old = c.args.self.now in
     let s = c.settle.new.self in
-    let exists = bank_exists banks c.args.line (length old.banks.items) c.requires.line c.requires.exist in
-    let size : length s.banks.items ≡ length old.banks.items = ap length c.settle.ensures.banks ∙ length-set old.banks.items _ _ in
-    let lines = c.requires.lines in
-    let at : c.bank_of-number.result < length s.banks.items = omega (arith, size, exists, c.bank_of-number.ensures) in
-    let got = facts_got s.banks.items c.bank_of-number.result c.index.result.now (item-at s.banks.items c.bank_of-number.result c.index.result.now at c.index.ensures) in
-    let same = c.settle.ensures.lines in
-    let long : length s.lines.items ≡ length old.lines.items = ap length same in
-    let there = ap (λ (xs : List (Line g.row.B)). slice_get xs c.args.line) (sym same) ∙ item-at s.lines.items c.args.line c.index-2.result.now (omega (arith, long, lines, c.requires.line)) c.index-2.ensures in
+    let may = c.requires.may in
+    let bank = is_settled x.banks.now row.tick row.line old.banks.items s.banks.items c.bank_of-number.result (facts_of c.bank.result.now) c.index.result.now
+    may.listed may.exist c.bank_of-number.ensures c.settle.ensures.banks c.index.ensures c.bank.ensures in
+    let long : length s.lines.items ≡ length old.lines.items = ap length c.settle.ensures.lines in
+    let size = may.size in
+    let within = may.listed in
+    let there = ap (λ (xs : List (Line g.row.B)). slice_get xs row.line) (sym c.settle.ensures.lines) ∙ item-at s.lines.items row.line c.index-2.result.now (omega (arith, long, size, within)) c.index-2.ensures in
     let p = c.in_ok-pass_read-in-None.ensures in
-    read_taken c.args.rules.now banks c.args.found.now before c.args.tick c.args.line c.args.outcome.now after
-    old.banks.items s.banks.items c.pass_read.new.self.banks.items old.joined c.pass_read.new.self.joined old.lines.items c.pass_read.new.self.lines.items c.args.room _ c.args.coming.soonest c.args.cuts.now
-    c.deref.result.now c.deref-3.result.now c.bank_of-number.result _ (facts_of c.bank.result.now) c.index-2.result.now
-    h c.requires.line there (omega (arith, c.requires.arrived)) c.requires.within.some_read (omega (arith, c.requires.within.few_read))
-    c.requires.asked soon cuts c.deref.ensures.value c.deref-3.ensures.value c.bank_of-number.ensures c.settle.ensures.banks size (c.bank.ensures ∙ sym got)
-    (sym c.in-None.is ∙ c.judge_read-broken.ensures) (λ e. p.banks) (λ e. p.joined) (λ e. p.lines ∙ same)
+    read_taken x.rules.now x.banks.now x.keys.now before row.tick row.line c.args.outcome.now after
+    old.banks.items s.banks.items c.pass_read.new.self.banks.items old.joined c.pass_read.new.self.joined old.lines.items c.pass_read.new.self.lines.items row.room (asks_of c.args.op.now) x.coming x.cuts.now
+    c.bank_of-number.result _ (facts_of c.bank.result.now) c.index-2.result.now c.requires.asked h may bank there
+    (sym c.in-None.is ∙ c.judge_read-broken.ensures) (λ e. p.banks) (λ e. p.joined) (λ e. p.lines ∙ c.settle.ensures.lines)
