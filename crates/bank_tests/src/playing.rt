@@ -119,7 +119,8 @@ fn powered<A: CellArray<64, 8>>(
     array: &mut A,
     shape: Shape,
 ) -> Result<Module<64, 8, 6>, AllocError>
-    ensures replayed { IfOk result (λ memory. (results : List (OutcomeOf 64)) → IsReplayed memory (A.state array.new) results) }
+    ensures replayed { IfOk result (λ memory. (results : List (OutcomeOf 64))
+        → IsReplayed memory (A.state array.new) results) }
     ensures going { IfOk result (λ memory. memory.finished ≡ false) }
     ensures rows { IfOk result (λ memory. memory.rows_below ≡ 0) }
 {

@@ -30,6 +30,7 @@ use Rattle.bank_invariant.specs.Steps.{cut_off}
 use Rattle.bank_invariant.specs.Serving.{read_from, waits_too}
 use Rattle.bank_model.proofs.Rising.{RowsBelow-more}
 use Rattle.bank_core.specs.Cutting.{torn_line, IsTorn}
+use Rattle.reg_lines.specs.Keeping.{IsTorn as IsTornControl}
 use Rattle.bank_core.specs.Steps.{after_read as bank_after_read}
 use Rattle.clock_laws.specs.State.{ClockState}
 use Rattle.clock_laws.specs.Leads.{Leads}
@@ -38,11 +39,11 @@ use Rattle.clock_laws.specs.Fitting.{IsFit}
 use Rattle.clock_laws.specs.Cutting.{after_cancel}
 use Rattle.clock_laws.specs.Actions.{ReachesBy, torn_line as line_torn}
 use Rattle.clock_laws.specs.Standing.{has_waiting}
-use Rattle.clock_laws.proofs.Tearing.{cancel_ends_law, keep_cancel_ends_law}
+use Rattle.clock_laws.proofs.Tearing.{cancel_ends_law, keep_cancel_ends_law, tears-control}
 use Rattle.clock_laws.proofs.Cutting.{cancelled_read_law}
 use Rattle.clock_laws.proofs.Extending.{arrival_added_law, both_added_law}
 use Rattle.clock_laws.proofs.Fitting.{needs_law}
-use Rattle.bank_timing.specs.Extending.{Extends, AreOpen, IsOpen, outcome_in}
+use Rattle.bank_timing.specs.Extending.{Extends, Arrives, AreOpen, IsOpen, outcome_in}
 use Rattle.bank_timing.specs.Cancelling.{cancel_by, cancelled_by, cancel_first}
 use Rattle.bank_timing.proofs.Losses.{iterating-fits, work-leaves, work-struck, same_torn}
 use Rattle.bank_timing.proofs.ReadArrivals.{read-keeps, waits-unset}
@@ -99,12 +100,14 @@ module _ {n m e : ℕ} (clock : ClockState n m e) (line : ℕ) (would : IsTrue (
 
       -- one of the change's
       pub cancels-change : (change : Change) → clock.regs.change ≡ Some change → Touches clock.tick [] (regs_torn tearing clock.regs) tearing old new → AreHeld (broken_off clock.regs) new
+          → (IsTrue tearing → IsTornControl clock.regs old new)
           → (xs : List (TimedEvent n m)) → Leads xs clock old → ReachesBy clock.bank.kept.shape xs (cancel_by clock.regs.change xs clock) (after_cancel clock clock.bank (broken_off clock.regs)) old new
-      cancels-change change is touches held xs leads =
+      cancels-change change is touches held torn xs leads =
           subst (λ (change : Option Change). ReachesBy clock.bank.kept.shape xs (cancel_by change xs clock) (after_cancel clock clock.bank (broken_off clock.regs)) old new) (sym is)
           (keep_cancel_ends_law n m e line tearing xs clock old new leads would (ap (λ (change : Option Change). is_some change) is) fit tears
           (broken_law n m e clock.tick tearing clock.bank.kept clock.regs old new leads.control touches held)
-          (subst (λ (pulsed : Option ℕ). Touches clock.tick [] pulsed tearing old new) (torn-same tearing) touches))
+          (subst (λ (pulsed : Option ℕ). Touches clock.tick [] pulsed tearing old new) (torn-same tearing) touches)
+          (tears-control tearing clock.regs clock.bank.running old old new new leads.control.item (λ on some. torn on) (λ item below. refl) refl (λ line. refl)))
         where
           torn-same : (b : Bool) → regs_torn b clock.regs ≡ line_torn b clock.regs clock.regs.change clock.bank.running
           torn-same false = refl
@@ -215,7 +218,7 @@ module _ {n m e row line : ℕ} {clock : ClockState n m e} {old new : ArrayState
   ended = with_bank bank behind
 
   -- each history that led to the clock goes on with the cancel and its read
-  pub cancel-extends : (results : List (Outcome n)) → (xs : List (TimedEvent n m)) → Leads xs clock old
+  cancel-extends : (results : List (Outcome n)) → (xs : List (TimedEvent n m)) → Leads xs clock old
       → Extends xs (arrival clock.tick (Read row line (read_from clock.bank line)) ∷ cancel_by clock.regs.change xs clock ∷ []) clock ended old new results results
   cancel-extends results xs leads =
       subst (λ (a : ReadAnswer n). Extends xs (arrival clock.tick (Read row line a) ∷ x ∷ []) clock ended old new results results) (sym waits-before)
@@ -262,10 +265,10 @@ module _ {n m e row line : ℕ} {clock : ClockState n m e} {old new : ArrayState
           by [] is = refl
           by (w ∷ ws) is = absurd (cc)
 
-  pub cancel-bound : bank.rows_below ≡ row + 1
+  cancel-bound : bank.rows_below ≡ row + 1
   cancel-bound = ap (λ (b : BankState n m e). b.rows_below) left-so
 
-  pub cancel-unset : (results : List (Outcome n)) → AreOpen clock.bank results → IsOpen results row → AreOpen bank results
+  cancel-unset : (results : List (Outcome n)) → AreOpen clock.bank results → IsOpen results row → AreOpen bank results
   cancel-unset results unset fresh =
       subst (λ (b : BankState n m e). AreOpen b results) (sym left-so) (waits-unset behind.bank row line results stand fresh)
     where
@@ -275,9 +278,33 @@ module _ {n m e row line : ℕ} {clock : ClockState n m e} {old new : ArrayState
         waiting = λ at there. absurd (false≢true (ap (λ (ws : List (Waiting n)). has_waiting ws at) (sym is_behind.waiting) ∙ there));
       }
 
+  -- all that both promise
+  pub cancel-arrives : (results : List (Outcome n)) → AreOpen clock.bank results → IsOpen results row
+      → Arrives row (Read row line (read_from clock.bank line)) (λ xs. cancel_by clock.regs.change xs clock ∷ []) clock ended old new results results
+  cancel-arrives results unset fresh = record {
+    now = is_behind.tick;
+    drained = is_behind.drained;
+    rows = cancel-bound;
+    extends = λ xs leads. cancel-extends results xs leads;
+    unset = cancel-unset results unset fresh;
+    others = λ row there other queued waits. refl;
+  }
+
 -- whether a cancel comes first
 pub first-then : {n m e : ℕ} (xs : List (TimedEvent n m)) (clock : ClockState n m e) (line : ℕ) → cancels_for clock line ≡ true → cancel_first xs clock line ≡ cancel_by clock.regs.change xs clock ∷ []
 first-then {n} {m} xs clock line would = ap (λ (b : Bool). if b then cancel_by clock.regs.change xs clock ∷ [] else []) would
 
 pub first-else : {n m e : ℕ} (xs : List (TimedEvent n m)) (clock : ClockState n m e) (line : ℕ) → cancels_for clock line ≡ false → cancel_first xs clock line ≡ []
 first-else {n} {m} xs clock line quiet = ap (λ (b : Bool). if b then cancel_by clock.regs.change xs clock ∷ [] else []) quiet
+
+-- what comes first, told in other words
+pub arrives-first : {n m e : ℕ} {row : ℕ} {event : BankEvent n} {first other : List (TimedEvent n m) → List (TimedEvent n m)} {clock new : ClockState n m e} {before after : ArrayState n m} {results recorded : List (Outcome n)}
+    → ((xs : List (TimedEvent n m)) → other xs ≡ first xs) → Arrives row event first clock new before after results recorded → Arrives row event other clock new before after results recorded
+arrives-first {n} {m} {e} {row} {event} {first} {other} {clock} {new} {before} {after} {results} {recorded} same a = record {
+  now = a.now;
+  drained = a.drained;
+  rows = a.rows;
+  extends = λ xs leads. subst (λ (f : List (TimedEvent n m)). Extends xs (arrival clock.tick event ∷ f) clock new before after results recorded) (sym (same xs)) (a.extends xs leads);
+  unset = a.unset;
+  others = a.others;
+}

@@ -137,7 +137,7 @@ module _ {n m e : ℕ} (clock : ClockState n m e) (action : Action) (next : next
           leaves = step.leaves;
           control = iterated_law n m e (ends clock.pace action) clock.bank.kept clock.regs regs old new answer leads.holds.kept leads.control step touches whole held;
         })
-        step.step.fewer)
+        step.step.fewer step)
       where
         less : (answer : Keep) → actions_left clock.bank (kept_on answer step.now clock.regs) < actions_left clock.bank clock.regs
         less keep.More = (falling_law n m e clock.bank clock.regs).after_keep_iteration step.writer step.now stands running step.runs step.step.fewer

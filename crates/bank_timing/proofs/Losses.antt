@@ -21,6 +21,9 @@ use Rattle.bank_invariant.specs.State.{BankState, Operation}
 use Rattle.bank_invariant.specs.Holds.{Holds}
 use Rattle.bank_invariant.specs.Steps.{cut_off}
 use Rattle.bank_core.specs.Cutting.{torn_line, IsTorn}
+use Rattle.reg_lines.specs.Keeping.{IsTorn as IsTornControl}
+use Rattle.clock_laws.specs.Tearing.{TearsControl}
+use Rattle.clock_laws.proofs.Tearing.{tears-control}
 use Rattle.bank_invariant.proofs.Fine.{strikes-tear}
 use Rattle.bank_shape.specs.Shape.{controls_from}
 use Rattle.power_recovery.specs.Kept.{KeptState}
@@ -258,7 +261,8 @@ module _ {n m e : ℕ} {clock : ClockState n m e} {old : ArrayState n m} {result
 
       module _ {new : ArrayState n m} (third : Touches clock.tick (all_controls clock.bank.kept.shape) None false later new)
           (holds : (h : List (BankEvent n)) → Holds h clock.bank old → Holds (Cut work ∷ h) after between)
-          (torn : IsTrue work → IfSome clock.bank.running (λ op. IsTorn op old between)) where
+          (torn : IsTrue work → IfSome clock.bank.running (λ op. IsTorn op old between))
+          (torn_change : IsTrue change → IsTornControl clock.regs between later) where
         read-control : Control clock.bank.kept (broken_off clock.regs) new
         read-control =
             (stays_law n m e clock.bank.kept (broken_off clock.regs) later new broken-control
@@ -309,6 +313,13 @@ module _ {n m e : ℕ} {clock : ClockState n m e} {old : ArrayState n m} {result
                 (work-struck h clock.bank old between work was torn line below own live)
             by (Some one) is line below hit live = absurd (false≢true (sym (apart_from iterating one (shape.base + line) (omega (arith, below))) ∙ hit))
 
+        -- the control line that is torn is so by the writing of the change that stands
+        torn_control : TearsControl clock.regs (line_torn iterating clock.regs clock.regs.change clock.bank.running) old new
+        torn_control =
+            tears-control iterating clock.regs clock.bank.running old between later new c.led.1.control.item
+            (λ on some. torn_change (change_is ∙ ap (λ (b : Bool). b && stands) on ∙ some))
+            (work-leaves c.led.0 clock old between clock.tick work c.led.1 first).controls first.bounds (λ line. third.others line refl)
+
         -- each history that led to the clock goes on with the cut
         pub cut-extends : (xs : List (TimedEvent n m)) → Leads xs clock old
             → Extends xs (cut xs clock new ∷ []) clock (after_cut clock after) old new results recorded
@@ -327,7 +338,7 @@ module _ {n m e : ℕ} {clock : ClockState n m e} {old : ArrayState n m} {result
             ends : CutEnds clock.bank.kept.shape xs (cut xs clock new) (after_cut clock after) old new
             ends =
                 cut_ends_law n m e iterating xs clock after old new leads c.fit refl
-                (subst (λ (b : Bool). Holds (Cut b ∷ core xs) after new) (work_is ∙ tears-same clock.regs.change) (holds-then (core xs) leads.holds)) refl refl refl read-control touched (struck (core xs) leads.holds)
+                (subst (λ (b : Bool). Holds (Cut b ∷ core xs) after new) (work_is ∙ tears-same clock.regs.change) (holds-then (core xs) leads.holds)) refl refl refl read-control touched (struck (core xs) leads.holds) torn_control
 
         -- each row that neither stood in the queue nor waited keeps its outcome
         pub cut-others : LeavesOthers clock.bank results recorded

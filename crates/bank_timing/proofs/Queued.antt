@@ -24,9 +24,6 @@ past-of i end len h is = omega (arith, h, is)
 pub opened : {A : Type 0} (P : A → Type 0) (x : Option A) (a : A) → Some a ≡ x → IsSomeAnd x P → P a
 opened P x a is has = subst (λ (x : Option _). IsSomeAnd x P) (sym is) has
 
-pub opening : {A : Type 0} (P : A → Type 0) (x : Option A) (a : A) → Some a ≡ x → P a → IsSomeAnd x P
-opening P x a is has = subst (λ (x : Option _). IsSomeAnd x P) is has
-
 pub not-past : {A : Type 0} (xs : List A) (i : ℕ) → i < length xs → None ≡ slice_get xs i → ⊥
 not-past [] i below none = omega arith
 not-past (x ∷ xs) zero below none = cc

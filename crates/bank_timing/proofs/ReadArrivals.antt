@@ -37,7 +37,7 @@ use Rattle.clock_laws.specs.Standing.{has_waiting, AreApart, is_arrival_of}
 use Rattle.clock_laws.proofs.Arriving.{read_law}
 use Rattle.clock_laws.proofs.Extending.{arrival_added_law}
 use Rattle.clock_laws.proofs.Others.{apart_law, other_rows_law}
-use Rattle.bank_timing.specs.Extending.{Extends, AreOpen, IsOpen, StandOpen, LeavesOthersThan, outcome_in}
+use Rattle.bank_timing.specs.Extending.{Extends, Arrives, AreOpen, IsOpen, StandOpen, LeavesOthersThan, outcome_in}
 use Rattle.bank_timing.proofs.Rows.{rows-set, in-set}
 use Rattle.bank_timing.specs.Clock.{IsClock}
 use Rattle.bank_timing.proofs.Standing.{stay-unset}
@@ -133,7 +133,7 @@ read-keeps bank row line came.Busy = record { shape = refl; items = λ item. ref
 
 module _ {n m e row line : ℕ} {clock : ClockState n m e} {results : List (Outcome n)} {answer : ReadAnswer n} {bank : BankState n m e} (r : TakesRead row line clock results answer bank) where
   -- each history that led to the clock goes on with the arrival of the read
-  pub read-extends : (xs : List (TimedEvent n m)) (array : ArrayState n m) → Leads xs clock array
+  read-extends : (xs : List (TimedEvent n m)) (array : ArrayState n m) → Leads xs clock array
       → Extends xs (arrival clock.tick (Read row line (read_from clock.bank line)) ∷ []) clock (after_read clock bank line answer) array array results (read_recorded answer clock.tick row results)
   read-extends xs array leads =
       subst (λ (a : ReadAnswer n). Extends xs (arrival clock.tick (Read row line a) ∷ []) clock (after_read clock bank line answer) array array results (read_recorded answer clock.tick row results)) (sym r.answered)
@@ -150,7 +150,7 @@ module _ {n m e row line : ℕ} {clock : ClockState n m e} {results : List (Outc
       keeps = subst (λ (b : BankState n m e). KeepsWork clock.bank b) (sym r.left) (read-keeps clock.bank row line answer)
 
   -- the rows that stand in the bank then have no outcome
-  pub read-unset : AreOpen bank (read_recorded answer clock.tick row results)
+  read-unset : AreOpen bank (read_recorded answer clock.tick row results)
   read-unset = subst (λ (b : BankState n m e). AreOpen b (read_recorded answer clock.tick row results)) (sym r.left) (by answer)
     where
       apart : AreApart clock.bank.kept.entries clock.bank.waiting clock.bank.rows_below
@@ -185,16 +185,28 @@ module _ {n m e row line : ℕ} {clock : ClockState n m e} {results : List (Outc
       by came.Busy = record { layout = inv.layout; paced = inv.paced; room = inv.room; begun = inv.begun; fit = fit-same clock.bank clock.regs (row + 1) clock.action inv.fit; idle = inv.idle }
 
   -- each other row that neither stood in the queue nor waited keeps its outcome
-  pub read-others : LeavesOthersThan row clock.bank results (read_recorded answer clock.tick row results)
+  read-others : LeavesOthersThan row clock.bank results (read_recorded answer clock.tick row results)
   read-others =
       arrival-others row (Read row line (read_from clock.bank line)) clock (after_read clock bank line answer) r.led.1 results (read_recorded answer clock.tick row results)
       (λ at other. no-other row at other) r.led.0 r.led.2 (read-extends r.led.0 r.led.1 r.led.2)
 
   -- the bound below which rows came is just above this row
-  pub read-bound : bank.rows_below ≡ row + 1
+  read-bound : bank.rows_below ≡ row + 1
   read-bound = ap (λ (b : BankState n m e). b.rows_below) r.left ∙ by answer
     where
       by : (answer : ReadAnswer n) → (bank_after_read clock.bank row line answer).rows_below ≡ row + 1
       by (came.Forwarded bytes) = refl
       by came.Waiting = refl
       by came.Busy = refl
+
+  -- all that the read promises
+  pub read-arrives : (array : ArrayState n m)
+      → Arrives row (Read row line (read_from clock.bank line)) (λ xs. []) clock (after_read clock bank line answer) array array results (read_recorded answer clock.tick row results)
+  read-arrives array = record {
+    now = refl;
+    drained = refl;
+    rows = read-bound;
+    extends = λ xs leads. read-extends xs array leads;
+    unset = read-unset;
+    others = read-others;
+  }

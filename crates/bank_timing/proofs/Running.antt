@@ -28,6 +28,9 @@ use Rattle.bank_timing.specs.Completing.{Completes}
 pub le-same : (a : ℕ) → a ≤ a
 le-same a = omega arith
 
+pub before-drain : (tick to : ℕ) → tick ≤ to → to ≤ 2 ^ 40 → tick ≤ 2 ^ 41
+before-drain tick to by within = omega (arith, by, within)
+
 pub ends-by : (new end to lasts : ℕ) → new ≡ lasts → end ≡ lasts → end ≤ to → new ≤ to
 ends-by new end to lasts is same by = omega (arith, is, same, by)
 

@@ -38,7 +38,7 @@ use Rattle.clock_laws.proofs.Fitting.{fit_write_law}
 use Rattle.clock_laws.proofs.Extending.{arrival_added_law}
 use Rattle.clock_laws.proofs.Others.{apart_law}
 use Rattle.bank_timing.specs.Clock.{IsClock}
-use Rattle.bank_timing.specs.Extending.{Extends, AreOpen, IsOpen, StandOpen, LeavesOthersThan, outcome_in}
+use Rattle.bank_timing.specs.Extending.{Extends, Arrives, AreOpen, IsOpen, StandOpen, LeavesOthersThan, outcome_in}
 use Rattle.bank_timing.proofs.Rows.{rows-set, in-set, open-set}
 use Rattle.bank_timing.proofs.Standing.{clash, apart-by, stay-unset}
 use Rattle.bank_timing.proofs.ReadArrivals.{no-other, fit-same, arrival-others}
@@ -159,7 +159,7 @@ module _ {n m e row line : ℕ} {bytes : List ℕ} {given : List Bool} {clock : 
       by wrote.Exhausted after = tt
 
   -- each history that led to the clock goes on with the arrival of the write
-  pub write-extends : (index : ℕ) → IsIndexOf bank.kept row index answer → (xs : List (TimedEvent n m)) (array : ArrayState n m) → Leads xs clock array
+  write-extends : (index : ℕ) → IsIndexOf bank.kept row index answer → (xs : List (TimedEvent n m)) (array : ArrayState n m) → Leads xs clock array
       → Extends xs (arrival clock.tick (Write row line bytes given (write_from clock.bank line)) ∷ []) clock (after_write clock bank index answer) array array results (write_recorded answer clock.tick row results)
   write-extends index at xs array leads =
       subst (λ (a : WriteAnswer). Extends xs (arrival clock.tick (Write row line bytes given a) ∷ []) clock (after_write clock bank index answer) array array results (write_recorded answer clock.tick row results)) (sym w.answered)
@@ -173,7 +173,7 @@ module _ {n m e row line : ℕ} {bytes : List ℕ} {given : List Bool} {clock : 
       })
 
   -- each other row that neither stood in the queue nor waited keeps its outcome
-  pub write-others : (index : ℕ) → IsIndexOf bank.kept row index answer → LeavesOthersThan row clock.bank results (write_recorded answer clock.tick row results)
+  write-others : (index : ℕ) → IsIndexOf bank.kept row index answer → LeavesOthersThan row clock.bank results (write_recorded answer clock.tick row results)
   write-others index at =
       arrival-others row (Write row line bytes given (write_from clock.bank line)) clock (after_write clock bank index answer) w.led.1 results (write_recorded answer clock.tick row results)
       (λ other apart. no-other row other apart) w.led.0 w.led.2 (write-extends index at w.led.0 w.led.1 w.led.2)
@@ -193,7 +193,7 @@ module _ {n m e row line : ℕ} {bytes : List ℕ} {given : List Bool} {clock : 
       by wrote.Exhausted = refl
 
   -- the rows that stand in the bank then have no outcome
-  pub write-unset : AreOpen bank (write_recorded answer clock.tick row results)
+  write-unset : AreOpen bank (write_recorded answer clock.tick row results)
   write-unset =
       subst (λ (ws : List (Waiting n)). StandOpen bank.kept.entries ws (write_recorded answer clock.tick row results)) (sym waiting-then)
       (subst (λ (es : List (Entry n)). StandOpen es clock.bank.waiting (write_recorded answer clock.tick row results)) (sym (entries-then w.led.0 w.led.1 w.led.2 ∙ now answer))
@@ -243,7 +243,7 @@ module _ {n m e row line : ℕ} {bytes : List ℕ} {given : List Bool} {clock : 
       by wrote.Exhausted = fit-same clock.bank clock.regs (row + 1) clock.action inv.fit
 
   -- the bound below which rows came is just above this row
-  pub write-bound : bank.rows_below ≡ row + 1
+  write-bound : bank.rows_below ≡ row + 1
   write-bound = ap (λ (b : BankState n m e). b.rows_below) w.left ∙ by answer
     where
       by : (answer : WriteAnswer) → (bank_after_write clock.bank entry_of answer).rows_below ≡ row + 1
@@ -251,6 +251,18 @@ module _ {n m e row line : ℕ} {bytes : List ℕ} {given : List Bool} {clock : 
       by (wrote.Merged old) = refl
       by wrote.Full = refl
       by wrote.Exhausted = refl
+
+  -- all that the write promises
+  pub write-arrives : (index : ℕ) → IsIndexOf bank.kept row index answer → (array : ArrayState n m)
+      → Arrives row (Write row line bytes given (write_from clock.bank line)) (λ xs. []) clock (after_write clock bank index answer) array array results (write_recorded answer clock.tick row results)
+  write-arrives index at array = record {
+    now = refl;
+    drained = refl;
+    rows = write-bound;
+    extends = λ xs leads. write-extends index at xs array leads;
+    unset = write-unset;
+    others = write-others index at;
+  }
 
 module _ {n m e row line old : ℕ} {bytes : List ℕ} {given : List Bool} {clock : ClockState n m e} {results : List (Outcome n)} {bank : BankState n m e}
     (w : TakesWrite row line bytes given clock results (wrote.Merged old) bank) where

@@ -1,5 +1,5 @@
 -- What the end of an action makes of a bank with its clock, of its array and of the results.
-use Rattle.std.specs.Prelude.{◌≡◌, ℕ, ◌+◌, ◌/◌, ◌<◌, List, [], ◌∷◌, Option, None}
+use Rattle.std.specs.Prelude.{◌≡◌, ℕ, ◌+◌, ◌/◌, ◌<◌, ◌≤◌, List, [], ◌∷◌, Option, None, Some}
 use Rattle.cell_rows.specs.Device.{ArrayState}
 use Rattle.result_rows.specs.declared.Outcome.{Outcome}
 use Rattle.result_rows.specs.declared.Outcome.TheVariants as out
@@ -11,15 +11,16 @@ use Rattle.bank_shape.specs.declared.answer.Step.{Step}
 use Rattle.bank_shape.specs.declared.answer.Step.TheVariants as did
 use Rattle.bank_shape.specs.declared.answer.Keep.{Keep}
 use Rattle.bank_shape.specs.declared.answer.Keep.TheVariants as keep
+use Rattle.bank_shape.specs.declared.clock.Doing.{Doing}
 use Rattle.bank_shape.specs.declared.clock.Action.{Action}
 use Rattle.bank_model.specs.Changes.{item_if}
 use Rattle.bank_model.specs.Timing.{TimedEvent, ends}
 use Rattle.reg_lines.specs.Regs.{RegsState}
-use Rattle.clock_laws.specs.State.{ClockState}
+use Rattle.clock_laws.specs.State.{ClockState, next_action}
 use Rattle.clock_laws.specs.Completing.{arrivals_by}
 use Rattle.clock_laws.specs.Leads.{Leads}
 use Rattle.clock_laws.specs.Remaining.{actions_left}
-use Rattle.bank_timing.specs.Extending.{Extends, AreOpen, IsOpen, IsQuiet}
+use Rattle.bank_timing.specs.Extending.{Extends, AreOpen, IsOpen, IsQuiet, last_tick_with_drain}
 
 -- the row of a write that is stored has no outcome yet
 abbrev pub IsRecordable : {n : ℕ} → Step → List (Outcome n) → Type 0
@@ -69,6 +70,14 @@ module _ {n m e : ℕ} where
   abbrev pub recorded_clock : Step → ClockState n m e → ClockState n m e
   recorded_clock step clock =
       record { bank = clock.bank; regs = clock.regs; pace = clock.pace; tick = clock.tick; action = clock.action; arrivals = arrivals_by step clock.arrivals; cancels = cancels_by_step step clock.cancels; drained = clock.drained }
+
+-- an action of a kind runs from now on and may be completed: some history leads to the bank over this array, and its tick is one that no
+-- drain passes
+pub record MayComplete {n m e : ℕ} (clock : ClockState n m e) (action : Action) (kind : Doing) (array : ArrayState n m) : Type 0 where
+  pub led : (xs : List (TimedEvent n m)) × Leads xs clock array
+  pub next : next_action clock ≡ Some action
+  pub doing : action.doing ≡ kind
+  pub within : clock.tick ≤ last_tick_with_drain
 
 -- the action ended at its last tick, and no action runs; each history that led to the bank is extended by one event, which ends an
 -- action; no row came, and less is left to do

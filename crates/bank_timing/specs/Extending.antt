@@ -1,5 +1,5 @@
 -- What a call makes of a bank with its clock, of its array and of the results, by the events that it adds to the history.
-use Rattle.std.specs.Prelude.{◌≡◌, ◌≢◌, ℕ, ◌^◌, true, false, IsTrue, List, [], ◌∷◌, ◌++◌, length, None, Some, All, unwrap_or}
+use Rattle.std.specs.Prelude.{◌≡◌, ◌≢◌, ℕ, ◌+◌, ◌^◌, true, false, IsTrue, List, [], ◌∷◌, ◌++◌, length, None, Some, All, unwrap_or}
 use Rattle.cell_rows.specs.Device.{ArrayState}
 use Rattle.result_rows.specs.declared.Outcome.{Outcome}
 use Rattle.result_rows.specs.declared.Outcome.TheVariants.{Unset}
@@ -9,6 +9,7 @@ use Rattle.masked_bytes.specs.Entries.{has_row}
 use Rattle.bank_shape.specs.declared.BankShape.{BankShape}
 use Rattle.bank_shape.specs.Shape.{controls_of, controls_from}
 use Rattle.bank_shape.specs.declared.pace.Pace.{Pace}
+use Rattle.bank_model.specs.Events.{BankEvent}
 use Rattle.bank_model.specs.Timing.{TimedEvent}
 use Rattle.reg_lines.specs.Regs.{RegsState}
 use Rattle.bank_model.specs.Adding.{Adds}
@@ -17,6 +18,7 @@ use Rattle.bank_shape.specs.declared.waiting.Waiting.{Waiting}
 use Rattle.bank_invariant.specs.State.{BankState, first_bank}
 use Rattle.clock_laws.specs.State.{ClockState}
 use Rattle.clock_laws.specs.Leads.{Leads}
+use Rattle.clock_laws.specs.Arriving.{arrival}
 use Rattle.clock_laws.specs.Recording.{outcome_on}
 use Rattle.clock_laws.specs.Standing.{has_waiting}
 
@@ -82,6 +84,25 @@ pub record Extends {n m e : ℕ} (xs added : List (TimedEvent n m)) (old new : C
   pub adds : Adds old.bank.kept.shape added before after
   pub rows : length recorded ≡ length results
   pub outcomes : (row : ℕ) → HasRow results row → outcome_in recorded row ≡ outcome_on old.bank.kept.shape added xs (outcome_in results) row
+
+-- a bank goes on, at this tick: no row came, those that stand have no outcome yet, and each other row keeps its own
+pub record GoesOn {n m e : ℕ} (tick : ℕ) (old new : ClockState n m e) (results recorded : List (Outcome n)) : Type 0 where
+  pub now : new.tick ≡ tick
+  pub drained : new.drained ≡ old.drained
+  pub rows : new.bank.rows_below ≡ old.bank.rows_below
+  pub unset : AreOpen new.bank recorded
+  pub others : LeavesOthers old.bank results recorded
+
+-- a row arrived with this event, at the tick at which the bank stands: each history that led to the bank goes on with the event, behind
+-- what comes first; the rows that stand have no outcome yet, and each row but this one and them keeps its own
+pub record Arrives {n m e : ℕ} (row : ℕ) (event : BankEvent n) (first : List (TimedEvent n m) → List (TimedEvent n m)) (old new : ClockState n m e) (before after : ArrayState n m) (results recorded : List (Outcome n)) : Type 0 where
+  pub now : new.tick ≡ old.tick
+  pub drained : new.drained ≡ old.drained
+  pub rows : new.bank.rows_below ≡ row + 1
+  pub extends : (xs : List (TimedEvent n m)) → Leads xs old before
+      → Extends xs (arrival old.tick event ∷ first xs) old new before after results recorded
+  pub unset : AreOpen new.bank recorded
+  pub others : LeavesOthersThan row old.bank results recorded
 
 -- a bank ran on: some history leads to what it is now, each history that led to what it was is extended by events that end actions,
 -- the rows that stand have no outcome yet, and the bound below which rows came is the same

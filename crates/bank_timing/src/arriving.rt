@@ -9,14 +9,14 @@ ghost use Rattle.bank_invariant.specs.Serving.{read_from};
 ghost use Rattle.bank_core.specs.Steps.{write_from};
 ghost use Rattle.clock_laws.specs.Leads.{Leads};
 ghost use Rattle.result_rows.specs.declared.Outcome.{Outcome as RowOutcome};
-ghost use Rattle.clock_laws.specs.Arriving.{arrival, cancels_for, drops};
+ghost use Rattle.clock_laws.specs.Arriving.{cancels_for, drops};
 ghost use Rattle.bank_timing.specs.Cancelling.{cancel_by, cancel_first};
 ghost use Rattle.bank_shape.specs.declared.clock.Doing.TheVariants.{Beginning};
 ghost use Rattle.bank_model.specs.Timing.{is_doing, is_writing};
 ghost use Rattle.bank_model.specs.After.{is_store_of};
 ghost use Rattle.power_recovery.specs.Kept.{next_work};
 ghost use Rattle.bank_timing.specs.Completing.{with_arrivals};
-ghost use Rattle.bank_timing.specs.Extending.{Extends, AreOpen, IsOpen, LeavesOthersThan};
+ghost use Rattle.bank_timing.specs.Extending.{Arrives, AreOpen, IsOpen};
 
 use crate::clocked::Timed;
 use bank_core::arriving::Arrived;
@@ -39,16 +39,11 @@ impl<const B: usize, const M: usize, const E: usize> Timed<B, M, E> {
         requires masked { IsMasked B entry.bytes entry.given }
         requires unset { AreOpen self.old.bank (R.table results.old) }
         requires fresh { IsOpen (R.table results.old) entry.row }
-        ensures now { self.new.tick ≡ self.old.tick }
-        ensures going { self.new.drained ≡ false }
-        ensures rows { self.new.bank.rows_below ≡ entry.entry.row + 1 }
-        ensures extends { (xs : List (TimedEvent B M)) (array : ArrayState B M) → Leads xs self.old array
-            → Extends xs
-            (arrival self.old.tick (Write entry.entry.row entry.entry.line entry.entry.bytes entry.entry.given
-            (write_from self.old.bank entry.entry.line)) ∷ [])
-            self.old self.new array array (R.table results.old) (R.table results.new) }
-        ensures unset { AreOpen self.new.bank (R.table results.new) }
-        ensures others { LeavesOthersThan entry.entry.row self.old.bank (R.table results.old) (R.table results.new) }
+        ensures arrives { (array : ArrayState B M)
+            → Arrives entry.entry.row
+            (Write entry.entry.row entry.entry.line entry.entry.bytes entry.entry.given
+            (write_from self.old.bank entry.entry.line))
+            (λ xs. []) self.old self.new array array (R.table results.old) (R.table results.new) }
         ensures goes_on { R.goes_on results.old results.new }
     {
         let row = entry.row;
@@ -100,16 +95,9 @@ impl<const B: usize, const M: usize, const E: usize> Timed<B, M, E> {
         requires rises { self.old.bank.rows_below ≤ row }
         requires unset { AreOpen self.old.bank (R.table results.old) }
         requires fresh { IsOpen (R.table results.old) row }
-        ensures now { self.new.tick ≡ self.old.tick }
-        ensures going { self.new.drained ≡ false }
-        ensures rows { self.new.bank.rows_below ≡ row + 1 }
-        ensures extends { (xs : List (TimedEvent B M)) → Leads xs self.old (A.state array.old)
-            → Extends xs
-            (arrival self.old.tick (Read row line (read_from self.old.bank line))
-            ∷ cancel_first xs self.old line)
-            self.old self.new (A.state array.old) (A.state array.new) (R.table results.old) (R.table results.new) }
-        ensures unset { AreOpen self.new.bank (R.table results.new) }
-        ensures others { LeavesOthersThan row self.old.bank (R.table results.old) (R.table results.new) }
+        ensures arrives { Arrives row (Read row line (read_from self.old.bank line))
+            (λ xs. cancel_first xs self.old line) self.old self.new (A.state array.old) (A.state array.new)
+            (R.table results.old) (R.table results.new) }
         ensures goes_on { R.goes_on results.old results.new }
     {
         if self.cancels_for(line) {
@@ -125,17 +113,10 @@ impl<const B: usize, const M: usize, const E: usize> Timed<B, M, E> {
         requires exists { line < bank_lines self.old.bank.kept.shape }
         requires rises { self.old.bank.rows_below ≤ row }
         requires cancels { IsTrue (cancels_for self.old line) }
-        ensures now { self.new.tick ≡ self.old.tick }
-        ensures drained { self.new.drained ≡ self.old.drained }
-        ensures rows { self.new.bank.rows_below ≡ row + 1 }
-        ensures extends { (results : List (RowOutcome B)) → AreOpen self.old.bank results → IsOpen results row
-            → (xs : List (TimedEvent B M)) → Leads xs self.old (A.state array.old)
-            → Extends xs
-            (arrival self.old.tick (Read row line (read_from self.old.bank line))
-            ∷ cancel_by self.old.regs.change xs self.old ∷ [])
-            self.old self.new (A.state array.old) (A.state array.new) results results }
-        ensures unset { (results : List (RowOutcome B)) → AreOpen self.old.bank results → IsOpen results row
-            → AreOpen self.new.bank results }
+        ensures arrives { (results : List (RowOutcome B)) → AreOpen self.old.bank results → IsOpen results row
+            → Arrives row (Read row line (read_from self.old.bank line))
+            (λ xs. cancel_by self.old.regs.change xs self.old ∷ []) self.old self.new
+            (A.state array.old) (A.state array.new) results results }
     {
         self.cancel(array, line);
         self.bank.read(row, line);
@@ -149,14 +130,9 @@ impl<const B: usize, const M: usize, const E: usize> Timed<B, M, E> {
         requires quiet { cancels_for self.old line ≡ false }
         requires unset { AreOpen self.old.bank (R.table results.old) }
         requires fresh { IsOpen (R.table results.old) row }
-        ensures now { self.new.tick ≡ self.old.tick }
-        ensures drained { self.new.drained ≡ self.old.drained }
-        ensures rows { self.new.bank.rows_below ≡ row + 1 }
-        ensures extends { (xs : List (TimedEvent B M)) (array : ArrayState B M) → Leads xs self.old array
-            → Extends xs (arrival self.old.tick (Read row line (read_from self.old.bank line)) ∷ [])
+        ensures arrives { (array : ArrayState B M)
+            → Arrives row (Read row line (read_from self.old.bank line)) (λ xs. [])
             self.old self.new array array (R.table results.old) (R.table results.new) }
-        ensures unset { AreOpen self.new.bank (R.table results.new) }
-        ensures others { LeavesOthersThan row self.old.bank (R.table results.old) (R.table results.new) }
         ensures goes_on { R.goes_on results.old results.new }
     {
         let drops = self.begins_store_of(line);

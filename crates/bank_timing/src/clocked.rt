@@ -10,7 +10,7 @@ ghost use Rattle.bank_shape.specs.declared.Home.TheVariants.{Array};
 ghost use Rattle.clock_laws.specs.State.{next_action, is_busy, may_start};
 ghost use Rattle.clock_laws.specs.Leads.{Leads};
 ghost use Rattle.clock_laws.specs.Passing.{at_tick};
-ghost use Rattle.bank_timing.specs.Extending.{Extends, AreOpen, IsQuiet, LeavesOthers, first_clock, last_tick};
+ghost use Rattle.bank_timing.specs.Extending.{Extends, GoesOn, AreOpen, IsQuiet, first_clock, last_tick};
 
 use bank_core::bank::Bank;
 use bank_shape::clock::{Action, Doing, choose};
@@ -117,15 +117,11 @@ impl<const B: usize, const M: usize, const E: usize> Timed<B, M, E> {
         requires forward { self.old.tick ≤ to }
         requires within { to ≤ last_tick }
         requires unset { AreOpen self.old.bank (R.table results.old) }
-        ensures now { self.new.tick ≡ to }
-        ensures going { self.new.drained ≡ false }
-        ensures rows { self.new.bank.rows_below ≡ self.old.bank.rows_below }
+        ensures ran { GoesOn to self.old self.new (R.table results.old) (R.table results.new) }
         ensures extends { (xs : List (TimedEvent B M)) → Leads xs self.old (A.state array.old)
             → (added : List (TimedEvent B M))
             × Extends xs added self.old self.new (A.state array.old) (A.state array.new)
             (R.table results.old) (R.table results.new) × IsQuiet added }
-        ensures unset { AreOpen self.new.bank (R.table results.new) }
-        ensures others { LeavesOthers self.old.bank (R.table results.old) (R.table results.new) }
         ensures goes_on { R.goes_on results.old results.new }
     {
         while self.tick < to {

@@ -1,17 +1,14 @@
 // The end of an action.
-ghost use Rattle.std.specs.Prelude.{◌≡◌, ◌<◌, ◌≤◌, List, [], ◌∷◌, None, Some, IfSome, IsTrue, is_some, slice_get};
+ghost use Rattle.std.specs.Prelude.{◌≡◌, ◌<◌, ◌≤◌, List, None, IfSome, IsTrue, is_some, slice_get};
 ghost use Rattle.bank_shape.specs.declared.clock.Doing.TheVariants.{Serving, Beginning, Iterating};
-ghost use Rattle.bank_model.specs.Timing.{TimedEvent, ends};
-ghost use Rattle.clock_laws.specs.State.{next_action};
-ghost use Rattle.clock_laws.specs.Leads.{Leads};
 ghost use Rattle.result_rows.specs.declared.Outcome.{Outcome as RowOutcome};
 ghost use Rattle.spare_pool.specs.Table.{used_by};
 ghost use Rattle.bank_shape.specs.Shape.{IsBankShape};
 ghost use Rattle.power_recovery.specs.Kept.{next_work};
 ghost use Rattle.register_laws.specs.Items.{items_of, item_values, region_values, spare_values, mark_values};
 ghost use Rattle.clock_laws.specs.Putting.{put_if};
-ghost use Rattle.bank_timing.specs.Extending.{AreOpen, last_tick_with_drain};
-ghost use Rattle.bank_timing.specs.Completing.{Completes, IsRecordable, step_recorded, recorded_clock, with_regs, region_of, item_from, cancels_by_step, cancels_by_keep};
+ghost use Rattle.bank_timing.specs.Extending.{AreOpen};
+ghost use Rattle.bank_timing.specs.Completing.{MayComplete, Completes, IsRecordable, step_recorded, recorded_clock, with_regs, region_of, item_from, cancels_by_step, cancels_by_keep};
 
 use crate::clocked::Timed;
 use bank_shape::answer::{Keep, Served, Step};
@@ -33,9 +30,7 @@ impl<const B: usize, const M: usize, const E: usize> Timed<B, M, E> {
         action: Action,
         results: &mut R,
     )
-        requires led { (xs : List (TimedEvent B M)) × Leads xs self.old (A.state array.old) }
-        requires next { next_action self.old ≡ Some action }
-        requires within { self.old.tick ≤ last_tick_with_drain }
+        requires due { MayComplete self.old action action.doing (A.state array.old) }
         requires unset { AreOpen self.old.bank (R.table results.old) }
         ensures completes { Completes self.old self.new action (A.state array.old) (A.state array.new)
             (R.table results.old) (R.table results.new) }
@@ -55,10 +50,7 @@ impl<const B: usize, const M: usize, const E: usize> Timed<B, M, E> {
         action: Action,
         results: &mut R,
     )
-        requires led { (xs : List (TimedEvent B M)) × Leads xs self.old (A.state array.old) }
-        requires next { next_action self.old ≡ Some action }
-        requires doing { action.doing ≡ Serving }
-        requires within { self.old.tick ≤ last_tick_with_drain }
+        requires due { MayComplete self.old action Serving (A.state array.old) }
         requires unset { AreOpen self.old.bank (R.table results.old) }
         ensures completes { Completes self.old self.new action (A.state array.old) (A.state array.new)
             (R.table results.old) (R.table results.new) }
@@ -84,10 +76,7 @@ impl<const B: usize, const M: usize, const E: usize> Timed<B, M, E> {
         action: Action,
         results: &mut R,
     )
-        requires led { (xs : List (TimedEvent B M)) × Leads xs self.old (A.state array.old) }
-        requires next { next_action self.old ≡ Some action }
-        requires doing { action.doing ≡ Beginning }
-        requires within { self.old.tick ≤ last_tick_with_drain }
+        requires due { MayComplete self.old action Beginning (A.state array.old) }
         requires unset { AreOpen self.old.bank (R.table results.old) }
         ensures completes { Completes self.old self.new action (A.state array.old) (A.state array.new)
             (R.table results.old) (R.table results.new) }
@@ -106,10 +95,7 @@ impl<const B: usize, const M: usize, const E: usize> Timed<B, M, E> {
         action: Action,
         results: &mut R,
     )
-        requires led { (xs : List (TimedEvent B M)) × Leads xs self.old (A.state array.old) }
-        requires next { next_action self.old ≡ Some action }
-        requires doing { action.doing ≡ Iterating }
-        requires within { self.old.tick ≤ last_tick_with_drain }
+        requires due { MayComplete self.old action Iterating (A.state array.old) }
         requires unset { AreOpen self.old.bank (R.table results.old) }
         ensures completes { Completes self.old self.new action (A.state array.old) (A.state array.new)
             (R.table results.old) (R.table results.new) }
@@ -123,10 +109,7 @@ impl<const B: usize, const M: usize, const E: usize> Timed<B, M, E> {
 
     // The writing of the change begins.
     fn begin_change<A: CellArray<B, M>>(&mut self, array: &mut A, action: Action)
-        requires led { (xs : List (TimedEvent B M)) × Leads xs self.old (A.state array.old) }
-        requires next { next_action self.old ≡ Some action }
-        requires doing { action.doing ≡ Beginning }
-        requires within { self.old.tick ≤ last_tick_with_drain }
+        requires due { MayComplete self.old action Beginning (A.state array.old) }
         requires stands { IsTrue (is_some self.old.regs.change) }
         ensures { (results : List (RowOutcome B)) → AreOpen self.old.bank results
             → Completes self.old self.new action (A.state array.old) (A.state array.new) results results }
@@ -139,10 +122,7 @@ impl<const B: usize, const M: usize, const E: usize> Timed<B, M, E> {
 
     // It goes on by an iteration.
     fn iterate_change<A: CellArray<B, M>>(&mut self, array: &mut A, action: Action)
-        requires led { (xs : List (TimedEvent B M)) × Leads xs self.old (A.state array.old) }
-        requires next { next_action self.old ≡ Some action }
-        requires doing { action.doing ≡ Iterating }
-        requires within { self.old.tick ≤ last_tick_with_drain }
+        requires due { MayComplete self.old action Iterating (A.state array.old) }
         requires stands { IsTrue (is_some self.old.regs.change) }
         ensures { (results : List (RowOutcome B)) → AreOpen self.old.bank results
             → Completes self.old self.new action (A.state array.old) (A.state array.new) results results }
@@ -160,10 +140,7 @@ impl<const B: usize, const M: usize, const E: usize> Timed<B, M, E> {
         action: Action,
         results: &mut R,
     )
-        requires led { (xs : List (TimedEvent B M)) × Leads xs self.old (A.state array.old) }
-        requires next { next_action self.old ≡ Some action }
-        requires doing { action.doing ≡ Beginning }
-        requires within { self.old.tick ≤ last_tick_with_drain }
+        requires due { MayComplete self.old action Beginning (A.state array.old) }
         requires unset { AreOpen self.old.bank (R.table results.old) }
         requires alone { self.old.regs.change ≡ None }
         ensures completes { Completes self.old self.new action (A.state array.old) (A.state array.new)
@@ -185,10 +162,7 @@ impl<const B: usize, const M: usize, const E: usize> Timed<B, M, E> {
         action: Action,
         results: &mut R,
     )
-        requires led { (xs : List (TimedEvent B M)) × Leads xs self.old (A.state array.old) }
-        requires next { next_action self.old ≡ Some action }
-        requires doing { action.doing ≡ Iterating }
-        requires within { self.old.tick ≤ last_tick_with_drain }
+        requires due { MayComplete self.old action Iterating (A.state array.old) }
         requires unset { AreOpen self.old.bank (R.table results.old) }
         requires alone { self.old.regs.change ≡ None }
         ensures completes { Completes self.old self.new action (A.state array.old) (A.state array.new)

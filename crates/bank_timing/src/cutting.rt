@@ -15,7 +15,7 @@ ghost use Rattle.clock_laws.specs.Arriving.{cancels_for};
 ghost use Rattle.clock_laws.specs.Actions.{ReachesBy};
 ghost use Rattle.bank_timing.specs.Cancelling.{cancel_by, cancelled_by};
 ghost use Rattle.clock_laws.specs.Cutting.{cut};
-ghost use Rattle.bank_timing.specs.Extending.{Extends, AreOpen, LeavesOthers};
+ghost use Rattle.bank_timing.specs.Extending.{Extends, GoesOn, AreOpen};
 ghost use Rattle.bank_timing.specs.Losing.{LosesOpen, lost_recorded, with_lost};
 
 use crate::clocked::Timed;
@@ -32,14 +32,10 @@ impl<const B: usize, const M: usize, const E: usize> Timed<B, M, E> {
         requires going { self.old.drained ≡ false }
         requires led { (xs : List (TimedEvent B M)) × Leads xs self.old (A.state array.old) }
         requires unset { AreOpen self.old.bank (R.table results.old) }
-        ensures now { self.new.tick ≡ self.old.tick }
-        ensures going { self.new.drained ≡ false }
-        ensures rows { self.new.bank.rows_below ≡ self.old.bank.rows_below }
+        ensures ran { GoesOn self.old.tick self.old self.new (R.table results.old) (R.table results.new) }
         ensures extends { (xs : List (TimedEvent B M)) → Leads xs self.old (A.state array.old)
             → Extends xs (cut xs self.old (A.state array.new) ∷ []) self.old self.new
             (A.state array.old) (A.state array.new) (R.table results.old) (R.table results.new) }
-        ensures unset { AreOpen self.new.bank (R.table results.new) }
-        ensures others { LeavesOthers self.old.bank (R.table results.old) (R.table results.new) }
         ensures kept { self.new.bank.kept ≡ self.old.bank.kept }
         ensures regs { self.new.regs ≡ broken_off self.old.regs }
         ensures goes_on { R.goes_on results.old results.new }

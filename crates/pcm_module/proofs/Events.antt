@@ -1,27 +1,22 @@
 -- What an event asks, by its operation.
-use Rattle.std.proofs.Common.{◌≡◌, ℕ, List, ◌∷◌, ◌++◌, sym, subst}
+use Rattle.std.proofs.Common.{◌≡◌, ℕ, List, sym, subst}
 use Rattle.cell_rows.specs.Device.{ArrayState}
 use Rattle.result_rows.specs.declared.Outcome.{Outcome}
 use Rattle.trace_reader.specs.declared.event.Event.{Event}
 use Rattle.trace_reader.specs.declared.event.EventOp.{EventOp}
 use Rattle.trace_reader.specs.Events.{IsOpFor}
-use Rattle.bank_model.specs.Timing.{TimedEvent}
-use Rattle.module_laws.specs.Asking.{Asked}
 use Rattle.pcm_module.specs.Asking.{asked_by}
 use Rattle.trace_rows.specs.Rows.{asks_of}
 use Rattle.pcm_module.specs.State.{ModuleState}
-use Rattle.pcm_module.specs.Replaying.{Replays}
 use Rattle.pcm_module.specs.Taking.{Takes}
 use Rattle.pcm_module.specs.Telling.{TellsInOrder, rows_taking}
 
 -- a row that was taken is the event's
-pub replays_event : {n m e : ℕ} (row : ℕ) (event : Event n) (op : EventOp n) (old new : ModuleState n m e) (before after : ArrayState n m) (results recorded : List (Outcome n))
+pub takes_event : {n m e : ℕ} (row : ℕ) (event : Event n) (op : EventOp n) (old new : ModuleState n m e) (before after : ArrayState n m) (results recorded : List (Outcome n))
     → event.op ≡ op → Takes (record { row = row; tick = event.tick; asks = asks_of op }) old new before after results recorded
-    → (h : ℕ → List (TimedEvent n m)) (asked : List (Asked n)) → Replays h asked old before results
-    → (added : ℕ → List (TimedEvent n m)) × Replays (λ bank. added bank ++ h bank) (asked_by row event ∷ asked) new after recorded
-replays_event {n = n} {m = m} row event op old new before after results recorded is taken h asked f =
-    subst (λ (o : EventOp n). (added : ℕ → List (TimedEvent n m)) × Replays (λ bank. added bank ++ h bank) (record { row = row; tick = event.tick; asks = asks_of o } ∷ asked) new after recorded)
-    (sym is) (taken.replays h asked f)
+    → Takes (asked_by row event) old new before after results recorded
+takes_event {n = n} row event op old new before after results recorded is taken =
+    subst (λ (o : EventOp n). Takes (record { row = row; tick = event.tick; asks = asks_of o }) old new before after results recorded) (sym is) taken
 
 -- so is its order
 pub order_event : {n m e : ℕ} {R : Type 0} (goes_on : R → R → Type 0) (table : R → List (Outcome n)) (row : ℕ) (event : Event n) (op : EventOp n) (old : ModuleState n m e) (one two : R)

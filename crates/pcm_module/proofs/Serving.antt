@@ -6,6 +6,7 @@ use Rattle.std.proofs.Math.ListN.{length-set}
 use Rattle.masked_bytes.proofs.Lists.{item-at}
 use Rattle.circular_buffer.proofs.Places.{slice_get-set_same, slice_get-set_other}
 use Rattle.cell_rows.specs.Device.{ArrayState}
+use Rattle.ecp_line.specs.Layout.{IsLayout}
 use Rattle.result_rows.specs.declared.Outcome.{Outcome}
 use Rattle.row_rules.specs.declared.Asks.TheVariants.{Reads, Writes}
 use Rattle.bank_model.specs.Timing.{TimedEvent}
@@ -23,7 +24,7 @@ use Rattle.bank_timing.specs.Extending.{IsOpen, LeavesOthersThan, last_tick}
 use Rattle.run_laws.specs.Runs.{pacing_in, bank_of_line, line_in_bank}
 use Rattle.pcm_module.specs.State.{ModuleState}
 use Rattle.pcm_module.specs.Shaped.{IsModule, IsBankOf}
-use Rattle.pcm_module.specs.Stepping.{IsAt, IsStep}
+use Rattle.pcm_module.specs.Stepping.{MayCome, MayArrive, IsAt, IsStep}
 use Rattle.pcm_module.specs.Replaying.{BankReplays, IsReplayed, asked_in_bank}
 use Rattle.pcm_module.specs.Taking.{Takes}
 use Rattle.pcm_module.specs.Telling.{TellsInOrder, rows_taking}
@@ -118,16 +119,27 @@ module _ {n m e row tick line bank at : ℕ} {old : ModuleState n m e} {before :
   bank_replays = replayed_at old before results bank clock c.led c.exists c.is
 
   -- the bank isn't past the row's tick
-  pub bank_forward : clock.tick ≤ tick
+  bank_forward : clock.tick ≤ tick
   bank_forward = omega (arith, bank_replays.in_time, c.forward)
 
   -- it has the line
-  pub bank_has : at < bank_lines clock.bank.kept.shape
+  bank_has : at < bank_lines clock.bank.kept.shape
   bank_has = subst (λ (b : BankShape). at < bank_lines b) (sym bank_replays.shaped) c.of_bank
 
   -- the rows that it took are below
-  pub bank_rises : clock.bank.rows_below ≤ row
+  bank_rises : clock.bank.rows_below ≤ row
   bank_rises = omega (arith, bank_replays.below, c.above)
+
+  -- so the row may arrive there
+  pub may_arrive : IsLayout n m e → tick ≤ last_tick → MayArrive row tick at clock before results
+  may_arrive layout in_time =
+      let b = bank_replays in
+      record {
+        comes = record { layout = layout; going = b.going; led = (c.led.0 bank, b.leads); forward = bank_forward; within = in_time; open_rows = b.open_rows };
+        exists = bank_has;
+        rises = bank_rises;
+        fresh = c.fresh;
+      }
 
   -- the module is still one with the bank that took the row
   pub taken_kept : {network : Network} {a : Asked n} {next : ClockState n m e} {after : ArrayState n m} {recorded : List (Outcome n)}

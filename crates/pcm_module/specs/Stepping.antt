@@ -1,12 +1,32 @@
 -- What one row does at one bank.
-use Rattle.std.specs.Prelude.{◌≡◌, ◌≢◌, ℕ, ◌≤◌, false, List, ◌∷◌, ◌++◌}
+use Rattle.std.specs.Prelude.{◌≡◌, ◌≢◌, ℕ, ◌<◌, ◌≤◌, false, List, ◌∷◌, ◌++◌}
 use Rattle.cell_rows.specs.Device.{ArrayState}
+use Rattle.ecp_line.specs.Layout.{IsLayout}
 use Rattle.result_rows.specs.declared.Outcome.{Outcome}
 use Rattle.bank_model.specs.Timing.{TimedEvent}
 use Rattle.module_laws.specs.Asking.{Asked, AreAsked}
+use Rattle.power_recovery.specs.Slots.{bank_lines}
 use Rattle.clock_laws.specs.State.{ClockState}
+use Rattle.clock_laws.specs.Leads.{Leads}
 use Rattle.clock_laws.specs.Standing.{arrives_with}
-use Rattle.bank_timing.specs.Extending.{Extends, AreOpen}
+use Rattle.bank_timing.specs.Extending.{Extends, AreOpen, IsOpen, last_tick}
+
+-- a bank may be brought to a tick: its lines are laid out, it goes on, some history leads to it over this array, the tick isn't past and is
+-- in time, and of the rows that stand there none has an outcome
+pub record MayCome {n m e : ℕ} (tick : ℕ) (clock : ClockState n m e) (array : ArrayState n m) (results : List (Outcome n)) : Type 0 where
+  pub layout : IsLayout n m e
+  pub going : clock.drained ≡ false
+  pub led : (xs : List (TimedEvent n m)) × Leads xs clock array
+  pub forward : clock.tick ≤ tick
+  pub within : tick ≤ last_tick
+  pub open_rows : AreOpen clock.bank results
+
+-- a row of one of its lines may arrive there then: its number is above those before it, and it has no outcome yet
+pub record MayArrive {n m e : ℕ} (row tick line : ℕ) (clock : ClockState n m e) (array : ArrayState n m) (results : List (Outcome n)) : Type 0 where
+  pub comes : MayCome tick clock array results
+  pub exists : line < bank_lines clock.bank.kept.shape
+  pub rises : clock.bank.rows_below ≤ row
+  pub fresh : IsOpen results row
 
 -- a bank is at a tick, and takes rows from a bound on; of the rows that stand there none has an outcome
 pub record IsAt {n m e : ℕ} (tick rows : ℕ) (clock : ClockState n m e) (results : List (Outcome n)) : Type 0 where

@@ -1,14 +1,10 @@
 // What a module asks of one of its banks.
-ghost use Rattle.std.specs.Prelude.{◌≡◌, ◌+◌, ◌<◌, ◌≤◌, ℕ, List, false};
-ghost use Rattle.cell_rows.specs.Device.{ArrayState};
-ghost use Rattle.ecp_line.specs.Layout.{IsLayout};
+ghost use Rattle.std.specs.Prelude.{◌+◌, ℕ, List};
 ghost use Rattle.masked_bytes.specs.Masked.{IsMasked};
 ghost use Rattle.row_rules.specs.declared.Asks.TheVariants.{Reads, Writes, Cuts};
-ghost use Rattle.power_recovery.specs.Slots.{bank_lines};
 ghost use Rattle.bank_model.specs.Timing.{TimedEvent};
 ghost use Rattle.clock_laws.specs.Leads.{Leads};
-ghost use Rattle.bank_timing.specs.Extending.{AreOpen, IsOpen, last_tick};
-ghost use Rattle.pcm_module.specs.Stepping.{IsAt, IsStep};
+ghost use Rattle.pcm_module.specs.Stepping.{MayCome, MayArrive, IsAt, IsStep};
 
 use bank_timing::clocked::Timed;
 use cell_rows::CellArray;
@@ -24,15 +20,7 @@ pub fn read_at<const B: usize, const M: usize, const E: usize, A: CellArray<B, M
     line: u32,
     results: &mut R,
 )
-    requires layout { IsLayout B M E }
-    requires going { timed.old.drained ≡ false }
-    requires led { (xs : List (TimedEvent B M)) × Leads xs timed.old (A.state array.old) }
-    requires forward { timed.old.tick ≤ tick }
-    requires within { tick ≤ last_tick }
-    requires exists { line < bank_lines timed.old.bank.kept.shape }
-    requires rises { timed.old.bank.rows_below ≤ row }
-    requires open { AreOpen timed.old.bank (R.table results.old) }
-    requires fresh { IsOpen (R.table results.old) row }
+    requires may { MayArrive row tick line timed.old (A.state array.old) (R.table results.old) }
     ensures at { IsAt tick (row + 1) timed.new (R.table results.new) }
     ensures step { (xs : List (TimedEvent B M)) → Leads xs timed.old (A.state array.old)
         → (added : List (TimedEvent B M))
@@ -52,16 +40,9 @@ pub fn write_at<const B: usize, const M: usize, const E: usize, A: CellArray<B, 
     entry: Entry<B>,
     results: &mut R,
 )
-    requires layout { IsLayout B M E }
-    requires going { timed.old.drained ≡ false }
-    requires led { (xs : List (TimedEvent B M)) × Leads xs timed.old (A.state array.old) }
-    requires forward { timed.old.tick ≤ tick }
-    requires within { tick ≤ last_tick }
-    requires exists { entry.line < bank_lines timed.old.bank.kept.shape }
-    requires rises { timed.old.bank.rows_below ≤ entry.row }
+    requires may { MayArrive entry.row tick entry.line timed.old (A.state array.old)
+        (R.table results.old) }
     requires masked { IsMasked B entry.bytes entry.given }
-    requires open { AreOpen timed.old.bank (R.table results.old) }
-    requires fresh { IsOpen (R.table results.old) entry.row }
     ensures at { IsAt tick (entry.entry.row + 1) timed.new (R.table results.new) }
     ensures step { (xs : List (TimedEvent B M)) → Leads xs timed.old (A.state array.old)
         → (added : List (TimedEvent B M))
@@ -71,7 +52,8 @@ pub fn write_at<const B: usize, const M: usize, const E: usize, A: CellArray<B, 
           tick = tick;
           asks = Writes entry.entry.line entry.entry.bytes entry.entry.given;
         })
-        timed.old timed.new (A.state array.old) (A.state array.new) (R.table results.old) (R.table results.new) }
+        timed.old timed.new (A.state array.old) (A.state array.new)
+        (R.table results.old) (R.table results.new) }
     ensures goes_on { R.goes_on results.old results.new }
 {
     timed.advance(array, tick, results);
@@ -85,12 +67,7 @@ pub fn cut_at<const B: usize, const M: usize, const E: usize, A: CellArray<B, M>
     tick: u64,
     results: &mut R,
 )
-    requires layout { IsLayout B M E }
-    requires going { timed.old.drained ≡ false }
-    requires led { (xs : List (TimedEvent B M)) × Leads xs timed.old (A.state array.old) }
-    requires forward { timed.old.tick ≤ tick }
-    requires within { tick ≤ last_tick }
-    requires open { AreOpen timed.old.bank (R.table results.old) }
+    requires may { MayCome tick timed.old (A.state array.old) (R.table results.old) }
     ensures at { IsAt tick timed.old.bank.rows_below timed.new (R.table results.new) }
     ensures step { (row : ℕ) (xs : List (TimedEvent B M)) → Leads xs timed.old (A.state array.old)
         → (added : List (TimedEvent B M))

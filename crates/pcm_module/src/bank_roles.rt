@@ -51,7 +51,8 @@ fn role_of_slot<const B: usize>(kept: &Kept<B>, slot: u32) -> Role
 /// How many of the bank's spares are used: those that were given to slots, though some are retired since.
 pub fn used_in<const B: usize>(kept: &Kept<B>) -> u32
     ensures given { result ≡ used_by kept.now.table }
-    ensures used { (end : BankEnd) → IsEndOf kept.now end → result ≡ used_spares kept.now.shape end.table }
+    ensures used { (end : BankEnd) → IsEndOf kept.now end
+        → result ≡ used_spares kept.now.shape end.table }
     ensures within { result ≤ kept.now.shape.spares }
 {
     kept.remap().used()

@@ -38,16 +38,19 @@ impl<const B: usize, const M: usize, const E: usize> Module<B, M, E> {
         ensures finishes { (h : ℕ → List (TimedEvent B M)) (asked : List (Asked B))
             → Replays h asked self.old (A.state array.old) (R.table results.old)
             → (added : ℕ → List (TimedEvent B M))
-            × IsFinished self.new.shape self.new.seed (λ bank. added bank ++ h bank) asked (bank_at self.new)
+            × IsFinished self.new.shape self.new.seed (λ bank. added bank ++ h bank) asked
+            (bank_at self.new)
             (A.state array.new) (outcome_in (R.table results.new)) }
         ensures right { (h : ℕ → List (TimedEvent B M)) (asked : List (Asked B))
             → Replays h asked self.old (A.state array.old) (R.table results.old)
             → (ends : ℕ → BankEnd) × AreEndsOf self.new ends
-            × RunsRight E self.new.shape self.new.seed (map (row_with (outcome_in (R.table results.new))) asked)
+            × RunsRight E self.new.shape self.new.seed
+            (map (row_with (outcome_in (R.table results.new))) asked)
             (A.state array.new) ends }
         ensures others { (row : ℕ) → HasRow (R.table results.old) row → StandsNowhere self.old row
             → outcome_in (R.table results.new) row ≡ outcome_in (R.table results.old) row }
-        ensures stays { StaysBeyond (self.old.shape.banks * array_lines_of (module_of self.old.shape))
+        ensures stays { StaysBeyond
+            (self.old.shape.banks * array_lines_of (module_of self.old.shape))
             (A.state array.old) (A.state array.new) }
         ensures goes_on { R.goes_on results.old results.new }
         ensures order { TellsByBanks R.goes_on R.table (rows_at self.old) self.old.shape.banks
@@ -64,21 +67,26 @@ impl<const B: usize, const M: usize, const E: usize> Module<B, M, E> {
     /// the banks as the cut left them keep every law of a run, but for those that say that work is finished.
     pub fn stop<R: Outcomes<B>>(&mut self, results: &mut R)
         requires going { self.old.finished ≡ false }
-        requires replays { (array : ArrayState B M) × (h : ℕ → List (TimedEvent B M)) × (asked : List (Asked B))
+        requires replays { (array : ArrayState B M) × (h : ℕ → List (TimedEvent B M))
+            × (asked : List (Asked B))
             × Replays h asked self.old array (R.table results.old) × IsLastCut self.old.tick asked }
         ensures finished { self.new.finished ≡ true }
         ensures shape { self.new.shape ≡ self.old.shape }
         ensures seed { self.new.seed ≡ self.old.seed }
         ensures table { length (R.table results.new) ≡ length (R.table results.old) }
-        ensures stops { (array : ArrayState B M) (h : ℕ → List (TimedEvent B M)) (asked : List (Asked B))
+        ensures stops { (array : ArrayState B M)
+            (h : ℕ → List (TimedEvent B M)) (asked : List (Asked B))
             → Replays h asked self.old array (R.table results.old) → IsLastCut self.old.tick asked
             → (added : ℕ → List (TimedEvent B M))
-            × IsStopped self.new.shape self.new.seed (λ bank. added bank ++ h bank) asked (bank_at self.new)
+            × IsStopped self.new.shape self.new.seed (λ bank. added bank ++ h bank) asked
+            (bank_at self.new)
             array (outcome_in (R.table results.new)) }
-        ensures right { (array : ArrayState B M) (h : ℕ → List (TimedEvent B M)) (asked : List (Asked B))
+        ensures right { (array : ArrayState B M)
+            (h : ℕ → List (TimedEvent B M)) (asked : List (Asked B))
             → Replays h asked self.old array (R.table results.old) → IsLastCut self.old.tick asked
             → (ends : ℕ → BankEnd) × AreEndsOf self.new ends
-            × StopsRight E self.new.shape self.new.seed (map (row_with (outcome_in (R.table results.new))) asked) array ends }
+            × StopsRight E self.new.shape self.new.seed
+            (map (row_with (outcome_in (R.table results.new))) asked) array ends }
         ensures others { (row : ℕ) → HasRow (R.table results.old) row → StandsNowhere self.old row
             → outcome_in (R.table results.new) row ≡ outcome_in (R.table results.old) row }
         ensures goes_on { R.goes_on results.old results.new }
@@ -101,7 +109,8 @@ fn stop_all<const B: usize, const M: usize, const E: usize, R: Outcomes<B>>(
         × MayFinish true of banks.old.items array (R.table results.old) }
     ensures stopped { (of : ModuleState B M E) (array : ArrayState B M)
         → MayFinish true of banks.old.items array (R.table results.old)
-        → AreDrained true of of.shape.banks banks.new.items array array (R.table results.old) (R.table results.new) }
+        → AreDrained true of of.shape.banks banks.new.items array array (R.table results.old)
+        (R.table results.new) }
     ensures goes_on { R.goes_on results.old results.new }
     ensures order { (of : ModuleState B M E) (array : ArrayState B M)
         → MayFinish true of banks.old.items array (R.table results.old)
@@ -119,8 +128,10 @@ fn drain_all<const B: usize, const M: usize, const E: usize, A: CellArray<B, M>,
     results: &mut R,
 )
     requires layout { IsLayout B M E }
-    requires ready { (of : ModuleState B M E) × MayFinish false of banks.old.items (A.state array.old) (R.table results.old) }
-    ensures drained { (of : ModuleState B M E) → MayFinish false of banks.old.items (A.state array.old) (R.table results.old)
+    requires ready { (of : ModuleState B M E)
+        × MayFinish false of banks.old.items (A.state array.old) (R.table results.old) }
+    ensures drained { (of : ModuleState B M E)
+        → MayFinish false of banks.old.items (A.state array.old) (R.table results.old)
         → AreDrained false of of.shape.banks banks.new.items (A.state array.old) (A.state array.new)
         (R.table results.old) (R.table results.new) }
     ensures goes_on { R.goes_on results.old results.new }

@@ -15,11 +15,13 @@ use wear_report::Role;
 impl<const B: usize, const M: usize, const E: usize> Module<B, M, E> {
     /// What an array line is used for; a line goes by its number in the module.
     pub fn role(&self, array_line: u32) -> Role
-        requires exists { array_line < self.now.shape.banks * array_lines_of (module_of self.now.shape) }
+        requires exists { array_line
+            < self.now.shape.banks * array_lines_of (module_of self.now.shape) }
         ensures { (ends : ℕ → BankEnd) → AreEndsOf self.now ends
             → IsRole (bank_shape (module_of self.now.shape)
             (array_line / array_lines_of (module_of self.now.shape)))
-            (line_named self.now.shape self.now.seed (array_line / array_lines_of (module_of self.now.shape)))
+            (line_named self.now.shape self.now.seed
+            (array_line / array_lines_of (module_of self.now.shape)))
             (ends (array_line / array_lines_of (module_of self.now.shape))) array_line result }
     {
         let bank = bank_of(&self.shape, array_line);
@@ -31,7 +33,8 @@ impl<const B: usize, const M: usize, const E: usize> Module<B, M, E> {
 
     /// How many spares of all banks are used, those included that are retired since.
     pub fn retired(&self) -> u32
-        ensures { (ends : ℕ → BankEnd) → AreEndsOf self.now ends → result ≡ spares_used self.now.shape ends }
+        ensures { (ends : ℕ → BankEnd) → AreEndsOf self.now ends
+            → result ≡ spares_used self.now.shape ends }
     {
         let mut used = 0;
         for bank in 0..self.shape.banks() {

@@ -44,12 +44,14 @@ impl<const B: usize, const M: usize, const E: usize> Module<B, M, E> {
         ensures replays { (h : ℕ → List (TimedEvent B M)) (asked : List (Asked B))
             → Replays h asked self.old (A.state array.old) (R.table results.old)
             → (added : ℕ → List (TimedEvent B M))
-            × Replays (λ bank. added bank ++ h bank) asked self.new (A.state array.new) (R.table results.new) }
+            × Replays (λ bank. added bank ++ h bank) asked self.new (A.state array.new)
+            (R.table results.new) }
         ensures open { (row : ℕ) → self.old.rows_below ≤ row → IsOpen (R.table results.old) row
             → IsOpen (R.table results.new) row }
         ensures others { (row : ℕ) → HasRow (R.table results.old) row → StandsNowhere self.old row
             → outcome_in (R.table results.new) row ≡ outcome_in (R.table results.old) row }
-        ensures stays { StaysBeyond (self.old.shape.banks * array_lines_of (module_of self.old.shape))
+        ensures stays { StaysBeyond
+            (self.old.shape.banks * array_lines_of (module_of self.old.shape))
             (A.state array.old) (A.state array.new) }
         ensures goes_on { R.goes_on results.old results.new }
         ensures order { TellsByBanks R.goes_on R.table (rows_at self.old) self.old.shape.banks

@@ -56,7 +56,8 @@ impl<const B: usize, const M: usize, const E: usize> Module<B, M, E> {
         ensures shape { IfOk result (λ m. (m.shape ≡ shape) × (m.seed ≡ seed) × (m.tick ≡ 0)
             × (m.rows_below ≡ 0) × (m.finished ≡ false)) }
         ensures banks { IfOk result (λ m. m.banks ≡ banks_from shape shape.banks 0) }
-        ensures begins { IfOk result (λ m. (array : ArrayState B M) (wear : Wear) (results : List (Outcome B))
+        ensures begins { IfOk result
+            (λ m. (array : ArrayState B M) (wear : Wear) (results : List (Outcome B))
             → IsFresh (shape.banks * array_lines_of (module_of shape)) wear array
             → Replays (λ bank. []) [] m array results) }
     {
@@ -107,7 +108,8 @@ impl<const B: usize, const M: usize, const E: usize> Module<B, M, E> {
             (module_of self.now.shape) + array_lines_of (module_of self.now.shape) }
 
         // no other line stands there
-        ensures apart { (other : ℕ) → other < total_of self.now.shape → stands_in self.now other ≡ result
+        ensures apart { (other : ℕ) → other < total_of self.now.shape
+            → stands_in self.now other ≡ result
             → other ≡ line }
     {
         // A field that is read makes known what is true of every module.

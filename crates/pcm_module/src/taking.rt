@@ -53,15 +53,41 @@ impl<const B: usize, const M: usize, const E: usize> Module<B, M, E> {
             → (added : ℕ → List (TimedEvent B M))
             × Replays (λ bank. added bank ++ h bank) (asked_by row event.now ∷ asked) self.new
             (A.state array.new) (R.table results.new) }
-        ensures open { (other : ℕ) → row < other → IsOpen (R.table results.old) other → IsOpen (R.table results.new) other }
-        ensures others { (other : ℕ) → HasRow (R.table results.old) other → other ≢ row → StandsNowhere self.old other
+        ensures open { (other : ℕ) → row < other → IsOpen (R.table results.old) other
+            → IsOpen (R.table results.new) other }
+        ensures others { (other : ℕ) → HasRow (R.table results.old) other → other ≢ row
+            → StandsNowhere self.old other
             → outcome_in (R.table results.new) other ≡ outcome_in (R.table results.old) other }
-        ensures stays { StaysBeyond (self.old.shape.banks * array_lines_of (module_of self.old.shape))
+        ensures stays { StaysBeyond
+            (self.old.shape.banks * array_lines_of (module_of self.old.shape))
             (A.state array.old) (A.state array.new) }
         ensures goes_on { R.goes_on results.old results.new }
 
         // bank by bank, and behind the banks the row's own outcome where it comes to none
-        ensures order { TellsInOrder R.goes_on R.table (rows_taking self.old row (asks_of event.now.op))
+        ensures order { TellsInOrder R.goes_on R.table
+            (rows_taking self.old row (asks_of event.now.op))
+            self.old.shape.banks row results.old results.new }
+    {
+        self.take(array, row, event, results);
+    }
+
+    // What its operation asks is taken.
+    fn take<A: CellArray<B, M>, R: Outcomes<B>>(
+        &mut self,
+        array: &mut A,
+        row: u32,
+        event: &Event<B>,
+        results: &mut R,
+    )
+        requires led { IsReplayed self.old (A.state array.old) (R.table results.old) }
+        requires event { IsEventFor (total_of self.old.shape) self.old.tick event.now }
+        requires rises { self.old.rows_below ≤ row }
+        requires fresh { IsOpen (R.table results.old) row }
+        ensures takes { Takes (asked_by row event.now) self.old self.new
+            (A.state array.old) (A.state array.new) (R.table results.old) (R.table results.new) }
+        ensures goes_on { R.goes_on results.old results.new }
+        ensures order { TellsInOrder R.goes_on R.table
+            (rows_taking self.old row (asks_of event.now.op))
             self.old.shape.banks row results.old results.new }
     {
         // A field that is read makes known what is true of every module.
@@ -100,8 +126,9 @@ impl<const B: usize, const M: usize, const E: usize> Module<B, M, E> {
         requires exists { line < total_of self.old.shape }
         requires rises { self.old.rows_below ≤ row }
         requires fresh { IsOpen (R.table results.old) row }
-        ensures takes { Takes (record { row = row; tick = tick; asks = Reads line }) self.old self.new
-            (A.state array.old) (A.state array.new) (R.table results.old) (R.table results.new) }
+        ensures takes { Takes (record { row = row; tick = tick; asks = Reads line })
+            self.old self.new (A.state array.old) (A.state array.new)
+            (R.table results.old) (R.table results.new) }
         ensures goes_on { R.goes_on results.old results.new }
         ensures order { TellsInOrder R.goes_on R.table (rows_taking self.old row (Reads line))
             self.old.shape.banks row results.old results.new }
@@ -134,10 +161,12 @@ impl<const B: usize, const M: usize, const E: usize> Module<B, M, E> {
               tick = tick;
               asks = Writes entry.entry.line entry.entry.bytes entry.entry.given;
             })
-            self.old self.new (A.state array.old) (A.state array.new) (R.table results.old) (R.table results.new) }
+            self.old self.new (A.state array.old) (A.state array.new) (R.table results.old)
+            (R.table results.new) }
         ensures goes_on { R.goes_on results.old results.new }
         ensures order { TellsInOrder R.goes_on R.table
-            (rows_taking self.old entry.entry.row (Writes entry.entry.line entry.entry.bytes entry.entry.given))
+            (rows_taking self.old entry.entry.row
+            (Writes entry.entry.line entry.entry.bytes entry.entry.given))
             self.old.shape.banks entry.entry.row results.old results.new }
     {
         let place = self.place(entry.line);

@@ -1,10 +1,14 @@
+use Rattle.std.proofs.Common.{◌∙◌}
 use Rattle.bank_tests.proofs.rows.cut.Goals as goal
 
 pub returns-clause-going : goal.returns-clause-going
 returns-clause-going g c =
     let led = c.requires.going.led in
     record {
-      running = c.power_cut.ensures.going;
+      running = c.power_cut.ensures.ran.drained ∙ c.requires.going.running;
       led = (_, (c.power_cut.ensures.extends led.0 led.1).leads);
-      unset = c.power_cut.ensures.unset;
+      unset = c.power_cut.ensures.ran.unset;
     }
+
+pub returns-clause-rises : goal.returns-clause-rises
+returns-clause-rises g c = c.power_cut.ensures.ran.rows

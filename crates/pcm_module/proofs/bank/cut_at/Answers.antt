@@ -9,23 +9,23 @@ use Rattle.pcm_module.proofs.bank.cut_at.Goals as goal
 
 pub power_cut-requires : goal.power_cut-requires
 power_cut-requires g c =
-    let run = c.advance.ensures.extends c.requires.led.0 c.requires.led.1 in (
-      timed_fits g.row.B g.row.M g.row.E c.requires.layout,
+    let run = c.advance.ensures.extends c.requires.may.led.0 c.requires.may.led.1 in (
+      timed_fits g.row.B g.row.M g.row.E c.requires.may.layout,
       (
-        c.advance.ensures.going,
+        c.advance.ensures.ran.drained ∙ c.requires.may.going,
         (
-          (run.0 ++ c.requires.led.0, run.1.leads),
-          c.advance.ensures.unset,
+          (run.0 ++ c.requires.may.led.0, run.1.leads),
+          c.advance.ensures.ran.unset,
         ),
       ),
     )
 
 pub returns-clause-at : goal.returns-clause-at
 returns-clause-at g c = record {
-  now = c.power_cut.ensures.now ∙ c.advance.ensures.now;
-  going = c.power_cut.ensures.going;
-  below = omega (arith, c.power_cut.ensures.rows, c.advance.ensures.rows);
-  open_rows = c.power_cut.ensures.unset;
+  now = c.power_cut.ensures.ran.now ∙ c.advance.ensures.ran.now;
+  going = c.power_cut.ensures.ran.drained ∙ c.advance.ensures.ran.drained ∙ c.requires.may.going;
+  below = omega (arith, c.power_cut.ensures.ran.rows, c.advance.ensures.ran.rows);
+  open_rows = c.power_cut.ensures.ran.unset;
 }
 
 pub returns-clause-step : goal.returns-clause-step
@@ -39,11 +39,13 @@ returns-clause-step g c row xs leads =
     let a : Asked g.row.B = record { row = row; tick = c.args.tick; asks = Cuts } in (
       event ∷ run.0,
       step_on xs run.0 c.args.timed.now c.advance.new.self c.power_cut.new.self before between after (g.R.Outcomes.table c.args.results.now) (g.R.Outcomes.table c.advance.new.results) (g.R.Outcomes.table c.power_cut.new.results) leads run.2 run.1 (event ∷ []) a next
-          (λ asked is. (sym c.advance.ensures.now, refl, is)) (λ other off. refl),
+          (λ asked is. (sym c.advance.ensures.ran.now, refl, is)) (λ other off. refl),
     )
 
 pub advance-requires : goal.advance-requires
-advance-requires g c = grind arith
+advance-requires g c =
+    let may = c.requires.may in
+    (timed_fits g.row.B g.row.M g.row.E may.layout, (may.going, (may.led, (may.forward, (may.within, may.open_rows)))))
 
 pub returns-clause-goes_on : goal.returns-clause-goes_on
 returns-clause-goes_on g c = g.met.R.Outcomes.follows _ _ _ c.advance.ensures.goes_on c.power_cut.ensures.goes_on

@@ -15,21 +15,21 @@ use Rattle.pcm_module.proofs.bank.read_at.Goals as goal
 
 pub arrive_read-requires : goal.arrive_read-requires
 arrive_read-requires g c =
-    let run = c.advance.ensures.extends c.requires.led.0 c.requires.led.1 in
+    let run = c.advance.ensures.extends c.requires.may.comes.led.0 c.requires.may.comes.led.1 in
     let before = g.A.CellArray.state c.args.array.now in
     let after = g.A.CellArray.state c.advance.new.array in
-    let stays = subst (λ (s : BankShape). c.args.line < bank_lines s) (sym run.1.shape) c.requires.exists in
-    let still = open_on c.requires.led.0 run.0 c.args.timed.now c.advance.new.self c.advance.new.self before after after (g.R.Outcomes.table c.args.results.now) (g.R.Outcomes.table c.advance.new.results) (g.R.Outcomes.table c.advance.new.results) c.requires.led.1 run.2 run.1 c.args.row c.requires.rises c.requires.fresh in (
-      timed_fits g.row.B g.row.M g.row.E c.requires.layout,
+    let stays = subst (λ (s : BankShape). c.args.line < bank_lines s) (sym run.1.shape) c.requires.may.exists in
+    let still = open_on c.requires.may.comes.led.0 run.0 c.args.timed.now c.advance.new.self c.advance.new.self before after after (g.R.Outcomes.table c.args.results.now) (g.R.Outcomes.table c.advance.new.results) (g.R.Outcomes.table c.advance.new.results) c.requires.may.comes.led.1 run.2 run.1 c.args.row c.requires.may.rises c.requires.may.fresh in (
+      timed_fits g.row.B g.row.M g.row.E c.requires.may.comes.layout,
       (
-        c.advance.ensures.going,
+        c.advance.ensures.ran.drained ∙ c.requires.may.comes.going,
         (
-          (run.0 ++ c.requires.led.0, run.1.leads),
+          (run.0 ++ c.requires.may.comes.led.0, run.1.leads),
           (
             stays,
             (
-              omega (arith, c.advance.ensures.rows, c.requires.rises),
-              (c.advance.ensures.unset, still),
+              omega (arith, c.advance.ensures.ran.rows, c.requires.may.rises),
+              (c.advance.ensures.ran.unset, still),
             ),
           ),
         ),
@@ -38,10 +38,10 @@ arrive_read-requires g c =
 
 pub returns-clause-at : goal.returns-clause-at
 returns-clause-at g c = record {
-  now = c.arrive_read.ensures.now ∙ c.advance.ensures.now;
-  going = c.arrive_read.ensures.going;
-  below = omega (arith, c.arrive_read.ensures.rows);
-  open_rows = c.arrive_read.ensures.unset;
+  now = c.arrive_read.ensures.arrives.now ∙ c.advance.ensures.ran.now;
+  going = c.arrive_read.ensures.arrives.drained ∙ c.advance.ensures.ran.drained ∙ c.requires.may.comes.going;
+  below = omega (arith, c.arrive_read.ensures.arrives.rows);
+  open_rows = c.arrive_read.ensures.arrives.unset;
 }
 
 pub returns-clause-step : goal.returns-clause-step
@@ -51,7 +51,7 @@ returns-clause-step g c xs leads =
     let between = g.A.CellArray.state c.advance.new.array in
     let after = g.A.CellArray.state c.arrive_read.new.array in
     let clock = c.advance.new.self in
-    let next = c.arrive_read.ensures.extends (run.0 ++ xs) run.1.leads in
+    let next = c.arrive_read.ensures.arrives.extends (run.0 ++ xs) run.1.leads in
     let event : TimedEvent g.row.B g.row.M = arrival clock.tick (Read c.args.row c.args.line (read_from clock.bank c.args.line)) in
     let extra : List (TimedEvent g.row.B g.row.M) = cancel_first (run.0 ++ xs) clock c.args.line in
     let a : Asked g.row.B = record { row = c.args.row; tick = c.args.tick; asks = Reads c.args.line } in (
@@ -59,14 +59,16 @@ returns-clause-step g c xs leads =
       step_on xs run.0 c.args.timed.now clock c.arrive_read.new.self before between after (g.R.Outcomes.table c.args.results.now) (g.R.Outcomes.table c.advance.new.results) (g.R.Outcomes.table c.arrive_read.new.results) leads run.2 run.1
           (event ∷ extra) a next
           (λ asked is. (
-            ap (λ (t : ℕ). let b : Asked g.row.B = record { row = c.args.row; tick = t; asks = Reads c.args.line } in b) (sym c.advance.ensures.now),
+            ap (λ (t : ℕ). let b : Asked g.row.B = record { row = c.args.row; tick = t; asks = Reads c.args.line } in b) (sym c.advance.ensures.ran.now),
             first_asked (run.0 ++ xs) clock c.args.line asked is,
           ))
           (λ other off. or_from (c.args.row == other) _ (ne_eqb c.args.row other (λ e. off (sym e))) (first_off (run.0 ++ xs) clock c.args.line other)),
     )
 
 pub advance-requires : goal.advance-requires
-advance-requires g c = grind arith
+advance-requires g c =
+    let may = c.requires.may.comes in
+    (timed_fits g.row.B g.row.M g.row.E may.layout, (may.going, (may.led, (may.forward, (may.within, may.open_rows)))))
 
 pub returns-clause-goes_on : goal.returns-clause-goes_on
 returns-clause-goes_on g c = g.met.R.Outcomes.follows _ _ _ c.advance.ensures.goes_on c.arrive_read.ensures.goes_on

@@ -14,23 +14,23 @@ use Rattle.pcm_module.proofs.bank.write_at.Goals as goal
 
 pub arrive_write-requires : goal.arrive_write-requires
 arrive_write-requires g c =
-    let run = c.advance.ensures.extends c.requires.led.0 c.requires.led.1 in
+    let run = c.advance.ensures.extends c.requires.may.comes.led.0 c.requires.may.comes.led.1 in
     let before = g.A.CellArray.state c.args.array.now in
     let after = g.A.CellArray.state c.advance.new.array in
-    let stays = subst (λ (s : BankShape). c.args.entry.line < bank_lines s) (sym run.1.shape) c.requires.exists in
-    let still = open_on c.requires.led.0 run.0 c.args.timed.now c.advance.new.self c.advance.new.self before after after (g.R.Outcomes.table c.args.results.now) (g.R.Outcomes.table c.advance.new.results) (g.R.Outcomes.table c.advance.new.results) c.requires.led.1 run.2 run.1 c.args.entry.row c.requires.rises c.requires.fresh in (
-      timed_fits g.row.B g.row.M g.row.E c.requires.layout,
+    let stays = subst (λ (s : BankShape). c.args.entry.line < bank_lines s) (sym run.1.shape) c.requires.may.exists in
+    let still = open_on c.requires.may.comes.led.0 run.0 c.args.timed.now c.advance.new.self c.advance.new.self before after after (g.R.Outcomes.table c.args.results.now) (g.R.Outcomes.table c.advance.new.results) (g.R.Outcomes.table c.advance.new.results) c.requires.may.comes.led.1 run.2 run.1 c.args.entry.row c.requires.may.rises c.requires.may.fresh in (
+      timed_fits g.row.B g.row.M g.row.E c.requires.may.comes.layout,
       (
-        entry_fits g.row.B c.requires.layout.shape.1,
+        entry_fits g.row.B c.requires.may.comes.layout.shape.1,
         (
-          c.advance.ensures.going,
+          c.advance.ensures.ran.drained ∙ c.requires.may.comes.going,
           (
-            (run.0 ++ c.requires.led.0, after, run.1.leads),
+            (run.0 ++ c.requires.may.comes.led.0, after, run.1.leads),
             (
               stays,
               (
-                omega (arith, c.advance.ensures.rows, c.requires.rises),
-                (c.requires.masked, (c.advance.ensures.unset, still)),
+                omega (arith, c.advance.ensures.ran.rows, c.requires.may.rises),
+                (c.requires.masked, (c.advance.ensures.ran.unset, still)),
               ),
             ),
           ),
@@ -39,29 +39,33 @@ arrive_write-requires g c =
     )
 
 pub returns-clause-at : goal.returns-clause-at
-returns-clause-at g c = record {
-  now = c.arrive_write.ensures.now ∙ c.advance.ensures.now;
-  going = c.arrive_write.ensures.going;
-  below = omega (arith, c.arrive_write.ensures.rows);
-  open_rows = c.arrive_write.ensures.unset;
-}
+returns-clause-at g c =
+    let arrived = c.arrive_write.ensures.arrives (g.A.CellArray.state c.advance.new.array) in
+    record {
+      now = arrived.now ∙ c.advance.ensures.ran.now;
+      going = arrived.drained ∙ c.advance.ensures.ran.drained ∙ c.requires.may.comes.going;
+      below = omega (arith, arrived.rows);
+      open_rows = arrived.unset;
+    }
 
 pub returns-clause-step : goal.returns-clause-step
 returns-clause-step g c xs leads =
     let run = c.advance.ensures.extends xs leads in
     let before = g.A.CellArray.state c.args.array.now in
     let after = g.A.CellArray.state c.advance.new.array in
-    let next = c.arrive_write.ensures.extends (run.0 ++ xs) after run.1.leads in
+    let next = (c.arrive_write.ensures.arrives after).extends (run.0 ++ xs) run.1.leads in
     let event : TimedEvent g.row.B g.row.M = arrival c.advance.new.self.tick (Write c.args.entry.row c.args.entry.line c.args.entry.bytes c.args.entry.given (write_from c.advance.new.self.bank c.args.entry.line)) in
     let a : Asked g.row.B = record { row = c.args.entry.row; tick = c.args.tick; asks = Writes c.args.entry.line c.args.entry.bytes c.args.entry.given } in (
       event ∷ run.0,
       step_on xs run.0 c.args.timed.now c.advance.new.self c.arrive_write.new.self before after after (g.R.Outcomes.table c.args.results.now) (g.R.Outcomes.table c.advance.new.results) (g.R.Outcomes.table c.arrive_write.new.results) leads run.2 run.1 (event ∷ []) a next
-          (λ asked is. (ap (λ (t : ℕ). let b : Asked g.row.B = record { row = c.args.entry.row; tick = t; asks = Writes c.args.entry.line c.args.entry.bytes c.args.entry.given } in b) (sym c.advance.ensures.now), is))
+          (λ asked is. (ap (λ (t : ℕ). let b : Asked g.row.B = record { row = c.args.entry.row; tick = t; asks = Writes c.args.entry.line c.args.entry.bytes c.args.entry.given } in b) (sym c.advance.ensures.ran.now), is))
           (λ other off. or_from (c.args.entry.row == other) _ (ne_eqb c.args.entry.row other (λ e. off (sym e))) refl),
     )
 
 pub advance-requires : goal.advance-requires
-advance-requires g c = grind arith
+advance-requires g c =
+    let may = c.requires.may.comes in
+    (timed_fits g.row.B g.row.M g.row.E may.layout, (may.going, (may.led, (may.forward, (may.within, may.open_rows)))))
 
 pub returns-clause-goes_on : goal.returns-clause-goes_on
 returns-clause-goes_on g c = g.met.R.Outcomes.follows _ _ _ c.advance.ensures.goes_on c.arrive_write.ensures.goes_on

@@ -51,8 +51,8 @@ loop-bank-preserved g c = (
       let f = settle_replays c.args.tick of (g.A.CellArray.state c.args.array.now) (g.R.Outcomes.table c.args.results.now) bank banks (g.A.CellArray.state c.loop-bank.array) (g.R.Outcomes.table c.loop-bank.results) clock so_far exists is may.led.0 may.led.1 may.led.2 in
       settle_one c.args.tick of (g.A.CellArray.state c.args.array.now) (g.R.Outcomes.table c.args.results.now) bank banks (g.A.CellArray.state c.loop-bank.array) (g.R.Outcomes.table c.loop-bank.results) clock so_far exists is
       (g.A.CellArray.state c.advance.new.array) (g.R.Outcomes.table c.advance.new.results) c.advance.new.self
-      (record { now = c.advance.ensures.now; going = c.advance.ensures.going; below = omega (arith, c.advance.ensures.rows, f.below); open_rows = c.advance.ensures.unset })
-      c.advance.ensures.extends may.led c.advance.ensures.others),
+      (record { now = c.advance.ensures.ran.now; going = c.advance.ensures.ran.drained ∙ f.going; below = omega (arith, c.advance.ensures.ran.rows, f.below); open_rows = c.advance.ensures.ran.unset })
+      c.advance.ensures.extends may.led c.advance.ensures.ran.others),
   g.met.R.Outcomes.follows _ _ _ c.loop-bank.invariant.1 c.advance.ensures.goes_on,
   λ of may.
       let bank = c.loop-bank.bank in
@@ -64,7 +64,7 @@ loop-bank-preserved g c = (
       let is : slice_get banks bank ≡ Some clock = item-at banks bank clock within c.index_mut.ensures.value in
       next_bank g.R.Outcomes.goes_on g.R.Outcomes.table of (rows_at of) bank _ c.args.results.now c.loop-bank.results c.advance.new.results refl (c.loop-bank.invariant.2 of may)
       (of_bank g.R.Outcomes.goes_on g.R.Outcomes.table of (rows_at of bank) bank clock c.loop-bank.results c.advance.new.results (λ row none. none)
-      (sym (so_far.ahead bank (omega arith)) ∙ is) c.advance.ensures.goes_on c.advance.ensures.others),
+      (sym (so_far.ahead bank (omega arith)) ∙ is) c.advance.ensures.goes_on c.advance.ensures.ran.others),
 )
 
 pub returns : goal.returns

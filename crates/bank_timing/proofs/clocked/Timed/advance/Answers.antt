@@ -1,13 +1,13 @@
-use Rattle.std.proofs.Common.{arith, sym, ◌∙◌, le_antisymm, ◌≤◌}
+use Rattle.std.proofs.Common.{arith, refl, sym, ◌∙◌, le_antisymm, ◌≤◌}
 use Rattle.clock_laws.specs.State.{ClockState}
 use Rattle.bank_timing.proofs.Sizes.{timed_fits}
 use Rattle.bank_timing.proofs.Acting.{begun-before}
-use Rattle.bank_timing.proofs.Running.{le-same, ends-by, first-fits, ran-none, ran-more, ran-pass, ran-others}
+use Rattle.bank_timing.proofs.Running.{le-same, before-drain, ends-by, first-fits, ran-none, ran-more, ran-pass, ran-others}
 use Rattle.bank_timing.proofs.clocked.Timed.advance.Goals as goal
 
 pub loop-self-init : goal.loop-self-init
 loop-self-init g c =
-    (ran-none c.args.self.now (g.A.CellArray.state c.args.array.now) (g.R.Outcomes.table c.args.results.now) c.requires.led c.requires.unset, c.requires.forward, c.requires.going, g.met.R.Outcomes.stands c.args.results.now)
+    (ran-none c.args.self.now (g.A.CellArray.state c.args.array.now) (g.R.Outcomes.table c.args.results.now) c.requires.led c.requires.unset, c.requires.forward, refl, g.met.R.Outcomes.stands c.args.results.now)
 
 pub loop-self-preserved-in-None : goal.loop-self-preserved-in-None
 loop-self-preserved-in-None g c =
@@ -50,13 +50,6 @@ loop-self-preserved g c =
     rw c.pass-else-end-to.ensures.clock
     (ran-pass c.args.to c.args.self.now c.loop-self.self (g.A.CellArray.state c.args.array.now) (g.A.CellArray.state c.loop-self.array) (g.R.Outcomes.table c.args.results.now) (g.R.Outcomes.table c.loop-self.results) kept.0 leads, le-same c.args.to, kept.2, kept.3)
 
-pub returns-clause-others : goal.returns-clause-others
-returns-clause-others g c =
-    ran-others c.args.self.now c.loop-self.self (g.A.CellArray.state c.args.array.now) (g.A.CellArray.state c.loop-self.array) (g.R.Outcomes.table c.args.results.now) (g.R.Outcomes.table c.loop-self.results) c.requires.led c.loop-self.invariant.0
-
-pub returns-clause-rows : goal.returns-clause-rows
-returns-clause-rows g c = c.loop-self.invariant.0.bound
-
 pub loop-self-smaller-in-None : goal.loop-self-smaller-in-None
 loop-self-smaller-in-None g c = grind arith
 
@@ -64,27 +57,13 @@ pub complete-requires : goal.complete-requires
 complete-requires g c =
     let next = sym c.next_action.ensures ∙ c.in-Some.is in
     let ran = c.loop-self.invariant.0 in
-    (timed_fits g.row.B g.row.M g.row.E c.self.invariant.layout, (ran.led, (next, (grind arith, ran.unset))))
+    (timed_fits g.row.B g.row.M g.row.E c.self.invariant.layout, (record { led = ran.led; next = next; doing = refl; within = before-drain c.loop-self.self.tick c.args.to c.loop-self.invariant.1 c.requires.within }, ran.unset))
 
 pub loop-self-smaller-then-end-to : goal.loop-self-smaller-then-end-to
 loop-self-smaller-then-end-to g c = grind arith
 
 pub loop-self-smaller : goal.loop-self-smaller
 loop-self-smaller g c = grind arith
-
-pub returns-clause-now : goal.returns-clause-now
-returns-clause-now g c =
-    let reached : c.args.to ≤ c.loop-self.self.tick = rw (← c.self.view_is) c.loop-self-test.false in
-    le_antisymm c.loop-self.invariant.1 reached
-
-pub returns-clause-going : goal.returns-clause-going
-returns-clause-going g c = c.loop-self.invariant.2
-
-pub returns-clause-extends : goal.returns-clause-extends
-returns-clause-extends g c = c.loop-self.invariant.0.extends
-
-pub returns-clause-unset : goal.returns-clause-unset
-returns-clause-unset g c = c.loop-self.invariant.0.unset
 
 pub next_action-requires : goal.next_action-requires
 next_action-requires g c = timed_fits g.row.B g.row.M g.row.E c.self.invariant.layout
@@ -95,5 +74,18 @@ pass-requires g c = (
   (sym c.in-None.is ∙ c.next_action.ensures, (rw (← c.self.view_is) c.loop-self-test.true, tt)),
 )
 
-pub returns-clause-goes_on : goal.returns-clause-goes_on
-returns-clause-goes_on g c = c.loop-self.invariant.3
+pub returns : goal.returns
+returns g c =
+    let reached : c.args.to ≤ c.loop-self.self.tick = rw (← c.self.view_is) c.loop-self-test.false in
+    let ran = c.loop-self.invariant.0 in
+    record {
+      ran = record {
+        now = le_antisymm c.loop-self.invariant.1 reached;
+        drained = c.loop-self.invariant.2;
+        rows = ran.bound;
+        unset = ran.unset;
+        others = ran-others c.args.self.now c.loop-self.self (g.A.CellArray.state c.args.array.now) (g.A.CellArray.state c.loop-self.array) (g.R.Outcomes.table c.args.results.now) (g.R.Outcomes.table c.loop-self.results) c.requires.led ran;
+      };
+      extends = ran.extends;
+      goes_on = c.loop-self.invariant.3;
+    }

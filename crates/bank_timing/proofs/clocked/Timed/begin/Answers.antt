@@ -12,14 +12,14 @@ pub begin_change-requires : goal.begin_change-requires
 begin_change-requires g c =
     let is = sym c.change.ensures ∙ c.in-Some.is in (
       timed_fits g.row.B g.row.M g.row.E c.self.invariant.layout,
-      (c.requires.led, (c.requires.next, (c.requires.doing, (c.requires.within, rw (← c.self.view_is, is) refl)))),
+      (c.requires.due, rw (← c.self.view_is, is) refl),
     )
 
 pub begin_work-requires : goal.begin_work-requires
 begin_work-requires g c =
     let is = sym c.change.ensures ∙ c.in-None.is in (
       timed_fits g.row.B g.row.M g.row.E c.self.invariant.layout,
-      (c.requires.led, (c.requires.next, (c.requires.doing, (c.requires.within, (c.requires.unset, rw (← c.self.view_is) is))))),
+      (c.requires.due, (c.requires.unset, rw (← c.self.view_is) is)),
     )
 
 pub returns-in-None-clause-completes : goal.returns-in-None-clause-completes

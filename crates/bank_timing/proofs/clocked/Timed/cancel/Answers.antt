@@ -36,7 +36,7 @@ returns-in-Some-clause-reaches g c =
     let would = rw (← c.self.view_is) at c.requires.cancels in
     let held = rw c.cut.ensures.regs at c.cut.ensures.held in
     let is = sym c.change.ensures ∙ c.in-Some.is in
-    let goes = cancels-change (clock_of c.self.inside) c.args.line would c.self.invariant.fit c.is_iterating-tearing.result c.is_iterating-tearing.ensures (g.A.CellArray.state c.args.array.now) (g.A.CellArray.state c.cut.new.array) _ is c.cut.ensures.touches held in
+    let goes = cancels-change (clock_of c.self.inside) c.args.line would c.self.invariant.fit c.is_iterating-tearing.result c.is_iterating-tearing.ensures (g.A.CellArray.state c.args.array.now) (g.A.CellArray.state c.cut.new.array) _ is c.cut.ensures.touches held c.cut.ensures.torn in
     rw (← c.self.view_is, c.cut.ensures.regs) goes
 
 pub returns-in-None-clause-reaches : goal.returns-in-None-clause-reaches

@@ -1,19 +1,25 @@
 use Rattle.bank_timing.proofs.clocked.Timed.complete.Goals as goal
 
-pub returns-in-Serving-clause-completes : goal.returns-in-Serving-clause-completes
-returns-in-Serving-clause-completes g c = c.serve.ensures.completes
+pub serve-requires : goal.serve-requires
+serve-requires g c =
+    let due = c.requires.due in
+    (assumption, (record { led = due.led; next = due.next; doing = c.in-Serving.is; within = due.within }, c.requires.unset))
 
-pub returns-in-Serving-clause-goes_on : goal.returns-in-Serving-clause-goes_on
-returns-in-Serving-clause-goes_on g c = c.serve.ensures.goes_on
+pub returns-in-Serving : goal.returns-in-Serving
+returns-in-Serving g c = record { completes = c.serve.ensures.completes; goes_on = c.serve.ensures.goes_on }
 
-pub returns-in-Beginning-clause-completes : goal.returns-in-Beginning-clause-completes
-returns-in-Beginning-clause-completes g c = c.begin.ensures.completes
+pub begin-requires : goal.begin-requires
+begin-requires g c =
+    let due = c.requires.due in
+    (assumption, (record { led = due.led; next = due.next; doing = c.in-Beginning.is; within = due.within }, c.requires.unset))
 
-pub returns-in-Beginning-clause-goes_on : goal.returns-in-Beginning-clause-goes_on
-returns-in-Beginning-clause-goes_on g c = c.begin.ensures.goes_on
+pub returns-in-Beginning : goal.returns-in-Beginning
+returns-in-Beginning g c = record { completes = c.begin.ensures.completes; goes_on = c.begin.ensures.goes_on }
 
-pub returns-in-Iterating-clause-completes : goal.returns-in-Iterating-clause-completes
-returns-in-Iterating-clause-completes g c = c.iterate.ensures.completes
+pub iterate-requires : goal.iterate-requires
+iterate-requires g c =
+    let due = c.requires.due in
+    (assumption, (record { led = due.led; next = due.next; doing = c.in-Iterating.is; within = due.within }, c.requires.unset))
 
-pub returns-in-Iterating-clause-goes_on : goal.returns-in-Iterating-clause-goes_on
-returns-in-Iterating-clause-goes_on g c = c.iterate.ensures.goes_on
+pub returns-in-Iterating : goal.returns-in-Iterating
+returns-in-Iterating g c = record { completes = c.iterate.ensures.completes; goes_on = c.iterate.ensures.goes_on }

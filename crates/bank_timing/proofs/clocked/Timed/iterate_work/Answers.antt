@@ -13,28 +13,28 @@ use Rattle.bank_timing.proofs.clocked.Timed.iterate_work.Goals.{After-iterate-st
 use Rattle.bank_timing.proofs.clocked.Timed.iterate_work.Goals as goal
 
 pub ends-self-inside-requires : goal.ends-self-inside-requires
-ends-self-inside-requires g c = omega (arith, due-begun c.self.inside c.self.view_is c.self.invariant c.requires.next, c.requires.within)
+ends-self-inside-requires g c = omega (arith, due-begun c.self.inside c.self.view_is c.self.invariant c.requires.due, c.requires.due.within)
 
 pub kept-requires : goal.kept-requires
 kept-requires g c = (bank_fits c.self.invariant.layout, kept_fits)
 
 pub iterate-step-requires : goal.iterate-step-requires
 iterate-step-requires g c =
-    let d = due c.self.inside c.self.view_is c.self.invariant c.requires.next c.requires.doing c.requires.led c.requires.unset in
+    let d = due c.self.inside c.self.view_is c.self.invariant c.requires.due c.requires.unset in
     let alone = rw (← c.self.view_is) at c.requires.alone in
     (bank_fits c.self.invariant.layout, (iterate-ready (clock_of c.self.inside) c.args.action d.next d.doing d.fit alone, d.led.1.holds.tied))
 
 -- the bank takes the step
 steps : (g : Over) (c : After-iterate-step g) → Steps c.self.inside.bank c.self.inside.regs c.iterate-step.new.self c.iterate-step.result (ends c.self.inside.pace c.args.action) (g.R.Outcomes.table c.args.results.now)
 steps g c =
-    let d = due c.self.inside c.self.view_is c.self.invariant c.requires.next c.requires.doing c.requires.led c.requires.unset in
+    let d = due c.self.inside c.self.view_is c.self.invariant c.requires.due c.requires.unset in
     let alone = rw (← c.self.view_is) at c.requires.alone in
     iterated-steps (clock_of c.self.inside) c.args.action d.next d.doing d.fit alone (g.A.CellArray.state c.args.array.now) (g.A.CellArray.state c.iterate-step.new.array) (g.R.Outcomes.table c.args.results.now) c.iterate-step.result c.iterate-step.new.self d.led d.unset (rw c.ends-self-inside.ensures at c.iterate-step.ensures.step)
 
 -- the item that the code names is that which the step changes
 item : (g : Over) (c : After-iterate-step g) → item_from c.iterate-step.new.self.kept.shape c.changes_next-region.result.0 c.changes_next-region.result.1 c.iterate-step.result ≡ item_by c.self.inside.bank.kept c.iterate-step.result
 item g c =
-    let d = due c.self.inside c.self.view_is c.self.invariant c.requires.next c.requires.doing c.requires.led c.requires.unset in
+    let d = due c.self.inside c.self.view_is c.self.invariant c.requires.due c.requires.unset in
     let alone = rw (← c.self.view_is) at c.requires.alone in
     rw (c.changes_next-region.ensures.region, c.changes_next-region.ensures.used, c.kept.ensures.kept)
     (iterated-item (clock_of c.self.inside) c.args.action d.next d.doing d.fit alone (g.A.CellArray.state c.args.array.now) (g.A.CellArray.state c.iterate-step.new.array) (g.R.Outcomes.table c.args.results.now) c.iterate-step.result c.iterate-step.new.self d.led d.unset (rw c.ends-self-inside.ensures at c.iterate-step.ensures.step))
@@ -50,7 +50,7 @@ invariant_of-self g c =
 -- its change may be put
 ready : (g : Over) (c : After-iterate-step g) → PutReady c.iterate-step.new.self c.self.inside.regs c.changes_next-region.result.0 c.changes_next-region.result.1 c.iterate-step.result
 ready g c =
-    let d = due c.self.inside c.self.view_is c.self.invariant c.requires.next c.requires.doing c.requires.led c.requires.unset in
+    let d = due c.self.inside c.self.view_is c.self.invariant c.requires.due c.requires.unset in
     let alone = rw (← c.self.view_is) at c.requires.alone in
     let done = steps g c in
     put-ready c.self.inside.bank.kept c.iterate-step.new.self c.self.inside.regs (g.A.CellArray.state c.args.array.now) c.changes_next-region.result.0 c.changes_next-region.result.1 c.iterate-step.result
@@ -63,7 +63,7 @@ put-requires g c =
 
 pub returns-clause-completes : goal.returns-clause-completes
 returns-clause-completes g c =
-    let d = due c.self.inside c.self.view_is c.self.invariant c.requires.next c.requires.doing c.requires.led c.requires.unset in
+    let d = due c.self.inside c.self.view_is c.self.invariant c.requires.due c.requires.unset in
     let alone = rw (← c.self.view_is) at c.requires.alone in
     let touches = rw c.ends-self-inside.ensures at c.iterate-step.ensures.touches in
     let put = rw (c.record.ensures.clock, c.ends-self-inside.ensures) at c.put.ensures in

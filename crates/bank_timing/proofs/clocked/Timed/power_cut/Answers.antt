@@ -71,18 +71,7 @@ returns-clause-extends g c =
     (subst (λ (now : ClockState g.row.B g.row.M g.row.E). CutExtends now (after_cut clock (bank_with_lost [] (cut_off clock.bank))) (g.A.CellArray.state c.args.array.now) (g.A.CellArray.state c.read_back.new.array)
     (g.R.Outcomes.table c.args.results.now) (lost_recorded clock.tick (rows_of clock.bank.waiting) (g.R.Outcomes.table c.args.results.now))) c.self.view_is
     (cut-extends (meets c.self.view_is c.self.invariant.fit c.requires.led c.requires.unset) c.tears_work-work.result (work-is g was) c.cut.ensures.touches c.tears_change-change.result (change-is g was) c.cut-2.ensures.touches held
-    (third g (goal.at.returns-clause-extends g c).After-read_back) (holds_on g (goal.at.returns-clause-extends g c).After-lose) c.cut.ensures.torn))
-
-pub returns-clause-unset : goal.returns-clause-unset
-returns-clause-unset g c = rw (c.lose.ensures.results, c.read_back.ensures.clock, c.lose.ensures.clock, c.cut.ensures.bank) (cut-unset (meets c.self.view_is c.self.invariant.fit c.requires.led c.requires.unset))
-
-pub returns-clause-others : goal.returns-clause-others
-returns-clause-others g c =
-    let was = (goal.at.returns-clause-others g c).After-tears_change-change in
-    let held : AreHeld (broken_off c.self.inside.regs) (g.A.CellArray.state c.cut-2.new.array) = rw c.cut-2.ensures.regs at c.cut-2.ensures.held in
-    rw (c.lose.ensures.results, c.cut.ensures.bank, ← c.self.view_is)
-    (cut-others (meets c.self.view_is c.self.invariant.fit c.requires.led c.requires.unset) c.tears_work-work.result (work-is g was) c.cut.ensures.touches c.tears_change-change.result (change-is g was) c.cut-2.ensures.touches held
-    (third g (goal.at.returns-clause-others g c).After-read_back) (holds_on g (goal.at.returns-clause-others g c).After-lose) c.cut.ensures.torn)
+    (third g (goal.at.returns-clause-extends g c).After-read_back) (holds_on g (goal.at.returns-clause-extends g c).After-lose) c.cut.ensures.torn c.cut-2.ensures.torn))
 
 pub change-requires : goal.change-requires
 change-requires g c = regs_fits g.row.B g.row.M g.row.E c.self.invariant.layout
@@ -96,17 +85,6 @@ tears_change-change-requires g c = tt
 pub invariant_of-self : goal.invariant_of-self
 invariant_of-self g c = grind arith
 
-pub returns-clause-now : goal.returns-clause-now
-returns-clause-now g c = rw (c.read_back.ensures.clock, c.lose.ensures.clock, ← c.self.view_is) refl
-
-pub returns-clause-going : goal.returns-clause-going
-returns-clause-going g c =
-    let going = rw (← c.self.view_is) at c.requires.going in
-    rw (c.read_back.ensures.clock, c.lose.ensures.clock) going
-
-pub returns-clause-rows : goal.returns-clause-rows
-returns-clause-rows g c = rw (c.read_back.ensures.clock, c.lose.ensures.clock, c.cut.ensures.bank, ← c.self.view_is) refl
-
 pub returns-clause-kept : goal.returns-clause-kept
 returns-clause-kept g c = rw (c.read_back.ensures.clock, c.lose.ensures.clock, c.cut.ensures.bank, ← c.self.view_is) refl
 
@@ -115,3 +93,18 @@ returns-clause-regs g c = rw (c.read_back.ensures.clock, c.lose.ensures.clock, c
 
 pub returns-clause-goes_on : goal.returns-clause-goes_on
 returns-clause-goes_on g c = c.lose.ensures.goes_on
+
+pub returns-clause-ran : goal.returns-clause-ran
+returns-clause-ran g c =
+    let m = meets c.self.view_is c.self.invariant.fit c.requires.led c.requires.unset in
+    let was = (goal.at.returns-clause-ran g c).After-tears_change-change in
+    let held : AreHeld (broken_off c.self.inside.regs) (g.A.CellArray.state c.cut-2.new.array) = rw c.cut-2.ensures.regs at c.cut-2.ensures.held in
+    rw (c.lose.ensures.results, c.read_back.ensures.clock, c.lose.ensures.clock, c.cut.ensures.bank, ← c.self.view_is)
+    (record {
+      now = refl;
+      drained = refl;
+      rows = refl;
+      unset = cut-unset m;
+      others = cut-others m c.tears_work-work.result (work-is g was) c.cut.ensures.touches c.tears_change-change.result (change-is g was) c.cut-2.ensures.touches held
+          (third g (goal.at.returns-clause-ran g c).After-read_back) (holds_on g (goal.at.returns-clause-ran g c).After-lose) c.cut.ensures.torn c.cut-2.ensures.torn;
+    })

@@ -2,14 +2,13 @@ use Rattle.std.proofs.Common.{[], ◌∷◌, sym, ap, subst, ◌∙◌}
 use Rattle.bank_model.specs.Events.{Read}
 use Rattle.bank_invariant.specs.Serving.{read_from}
 use Rattle.clock_laws.specs.State.{ClockState}
-use Rattle.clock_laws.specs.Arriving.{arrival}
 use Rattle.bank_timing.specs.Cancelling.{cancel_by}
-use Rattle.bank_timing.specs.Extending.{Extends}
+use Rattle.bank_timing.specs.Extending.{Arrives}
 use Rattle.bank_timing.proofs.Sizes.{bank_fits, read_fits}
 use Rattle.bank_timing.proofs.Views.{clock_of}
 use Rattle.bank_invariant.specs.State.{BankState}
 use Rattle.bank_timing.proofs.ReadArrivals.{read-keeps}
-use Rattle.bank_timing.proofs.Cancels.{CancelsRead, cancels-read, with_bank, cancel-extends, cancel-unset, cancel-bound, behind-cancel}
+use Rattle.bank_timing.proofs.Cancels.{CancelsRead, cancels-read, with_bank, cancel-arrives, behind-cancel}
 use Rattle.bank_timing.proofs.clocked.Timed.read_cancelled.Given.{Over}
 use Rattle.bank_timing.proofs.clocked.Timed.read_cancelled.Goals.{After-cancel, After-read}
 use Rattle.bank_timing.proofs.clocked.Timed.read_cancelled.Goals as goal
@@ -35,28 +34,13 @@ invariant_of-self g c =
     let none = ap (λ (k : ClockState g.row.B g.row.M g.row.E). k.action) same ∙ behind.none in
     rw none (record { layout = c.self.invariant.layout; paced = c.self.invariant.paced; room = c.self.invariant.room ∙ ap (λ shape. shape.writes) (sym (ap (λ (b : BankState g.row.B g.row.M g.row.E). b.kept.shape) c.read.ensures.bank ∙ (read-keeps c.self.inside.bank c.args.row c.args.line c.read.result).shape)); begun = tt; fit = tt; idle = c.self.invariant.idle })
 
-pub returns-clause-now : goal.returns-clause-now
-returns-clause-now g c =
-    let behind = behind-cancel c.args.self.now c.args.line c.requires.cancels c.args.self.now.regs.change in
-    ap (λ (k : ClockState g.row.B g.row.M g.row.E). k.tick) (c.self.view_is ∙ c.cancel.ensures.clock) ∙ behind.tick
-
-pub returns-clause-drained : goal.returns-clause-drained
-returns-clause-drained g c =
-    let behind = behind-cancel c.args.self.now c.args.line c.requires.cancels c.args.self.now.regs.change in
-    ap (λ (k : ClockState g.row.B g.row.M g.row.E). k.drained) (c.self.view_is ∙ c.cancel.ensures.clock) ∙ behind.drained
-
-pub returns-clause-rows : goal.returns-clause-rows
-returns-clause-rows g c = cancel-bound (reads g (goal.at.returns-clause-rows g c).After-read)
-
-pub returns-clause-unset : goal.returns-clause-unset
-returns-clause-unset g c = λ results unset fresh. cancel-unset (reads g (goal.at.returns-clause-unset g c).After-read) results unset fresh
-
-pub returns-clause-extends : goal.returns-clause-extends
-returns-clause-extends g c =
-    λ results unset fresh xs leads.
-    subst (λ (k : ClockState g.row.B g.row.M g.row.E). Extends xs (arrival c.args.self.now.tick (Read c.args.row c.args.line (read_from c.args.self.now.bank c.args.line)) ∷ cancel_by c.args.self.now.regs.change xs c.args.self.now ∷ [])
-    c.args.self.now (with_bank c.read.new.self k) (g.A.CellArray.state c.args.array.now) (g.A.CellArray.state c.cancel.new.array) results results) (sym (c.self.view_is ∙ c.cancel.ensures.clock))
-    (cancel-extends (reads g (goal.at.returns-clause-extends g c).After-read) results xs leads)
-
 pub cancel-requires : goal.cancel-requires
 cancel-requires g c = (assumption, (c.requires.led, c.requires.cancels))
+
+pub returns : goal.returns
+returns g c = record {
+  arrives = λ results unset fresh.
+      subst (λ (k : ClockState g.row.B g.row.M g.row.E). Arrives c.args.row (Read c.args.row c.args.line (read_from c.args.self.now.bank c.args.line)) (λ xs. cancel_by c.args.self.now.regs.change xs c.args.self.now ∷ [])
+      c.args.self.now (with_bank c.read.new.self k) (g.A.CellArray.state c.args.array.now) (g.A.CellArray.state c.cancel.new.array) results results) (sym (c.self.view_is ∙ c.cancel.ensures.clock))
+      (cancel-arrives (reads g (goal.at.returns g c).After-read) results unset fresh);
+}

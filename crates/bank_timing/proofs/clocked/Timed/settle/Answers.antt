@@ -19,11 +19,13 @@ complete-requires g c =
     let kept = c.loop-action.invariant in (
       timed_fits g.row.B g.row.M g.row.E c.self.invariant.layout,
       (
-        kept.0.led,
-        (
-          sym c.next_action.ensures ∙ c.in-Some.is,
-          (within-of c.loop-action.self.tick (actions_left c.loop-action.self.bank c.loop-action.self.regs) kept.1, kept.0.unset),
-        ),
+        record {
+          led = kept.0.led;
+          next = sym c.next_action.ensures ∙ c.in-Some.is;
+          doing = refl;
+          within = within-of c.loop-action.self.tick (actions_left c.loop-action.self.bank c.loop-action.self.regs) kept.1;
+        },
+        kept.0.unset,
       ),
     )
 

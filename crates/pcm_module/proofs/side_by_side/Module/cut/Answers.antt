@@ -53,19 +53,14 @@ cut_at-requires g c =
     let xs = (inv.cuts.replays led.0 led.1 led.2).0 c.loop-bank.bank ++ led.0 c.loop-bank.bank in
     let f = cut_replays c.args.row c.args.tick old (g.A.CellArray.state c.args.array.now) (g.R.Outcomes.table c.args.results.now) c.requires.forward c.requires.rises c.requires.fresh.exists c.loop-bank.bank items (g.A.CellArray.state c.loop-bank.array) (as_if c.args.row (out.Cut c.args.tick) (g.R.Outcomes.table c.loop-bank.results)) c.index_mut.result.now exists is inv.cuts led.0 led.1 led.2 in (
       timed_fits g.row.B g.row.M g.row.E inv.is.layout,
-      (
-        inv.is.layout,
-        (
-          f.going,
-          (
-            (xs, f.leads),
-            (
-              f.in_time,
-              (c.requires.within, opens_back c.args.row (out.Cut c.args.tick) (λ none. cc) c.index_mut.result.now (g.R.Outcomes.table c.loop-bank.results) inv.fresh.exists f.open_rows),
-            ),
-          ),
-        ),
-      ),
+      record {
+        layout = inv.is.layout;
+        going = f.going;
+        led = (xs, f.leads);
+        forward = f.in_time;
+        within = c.requires.within;
+        open_rows = opens_back c.args.row (out.Cut c.args.tick) (λ none. cc) c.index_mut.result.now (g.R.Outcomes.table c.loop-bank.results) inv.fresh.exists f.open_rows;
+      },
     )
 
 pub loop-bank-preserved : goal.loop-bank-preserved

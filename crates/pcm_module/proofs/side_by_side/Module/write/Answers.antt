@@ -1,6 +1,6 @@
 use Rattle.std.proofs.Common.{refl, arith}
 use Rattle.pcm_module.proofs.Views.{state_of}
-use Rattle.pcm_module.proofs.Serving.{ComesTo, comes, bank_replays, bank_forward, bank_has, bank_rises, taken_kept, write_taken, write_in_order}
+use Rattle.pcm_module.proofs.Serving.{ComesTo, comes, may_arrive, taken_kept, write_taken, write_in_order}
 use Rattle.bank_timing.proofs.Sizes.{timed_fits, entry_fits}
 use Rattle.pcm_module.proofs.side_by_side.Module.write.Given.{Over}
 use Rattle.pcm_module.proofs.side_by_side.Module.write.Goals.{After-index_mut-timed}
@@ -17,8 +17,7 @@ arrives g c =
 pub write_at-requires : goal.write_at-requires
 write_at-requires g c =
     let h = arrives g (goal.at.write_at-requires g c).After-index_mut-timed in
-    let b = bank_replays h in
-    (timed_fits g.row.B g.row.M g.row.E c.self.invariant.layout, (entry_fits g.row.B c.self.invariant.layout.shape.1, (c.self.invariant.layout, (b.going, ((h.led.0 c.place-place.result.bank, b.leads), (bank_forward h, (c.requires.within, (bank_has h, (bank_rises h, (c.requires.masked, (b.open_rows, c.requires.fresh)))))))))))
+    (timed_fits g.row.B g.row.M g.row.E c.self.invariant.layout, (entry_fits g.row.B c.self.invariant.layout.shape.1, (may_arrive h c.self.invariant.layout c.requires.within, c.requires.masked)))
 
 pub invariant_of-self : goal.invariant_of-self
 invariant_of-self g c = taken_kept (arrives g (goal.at.invariant_of-self g c).After-index_mut-timed) c.self.invariant c.requires.within c.write_at.ensures.step
