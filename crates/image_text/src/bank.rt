@@ -49,8 +49,10 @@ fn mark_of(exhausted: bool) -> u8
 // The slots of the used spares, in order.
 fn print_slots<K: Sink>(remap: &Remap, text: &mut Text, out: &mut K) -> Result<(), WriteFault>
     requires { ROW_ROOM ≤ text.old.limit }
-    ensures printed { OnOk result (PrintsMore text.old text.new (K.written out.old) (K.written out.new) (flat_map u32 remap.now.replaced)) }
-    ensures part { OnErr result (PrintsPart text.old (K.written out.old) (K.written out.new) (flat_map u32 remap.now.replaced)) }
+    ensures printed { OnOk result (PrintsMore text.old text.new (K.written out.old)
+        (K.written out.new) (flat_map u32 remap.now.replaced)) }
+    ensures part { OnErr result (PrintsPart text.old (K.written out.old) (K.written out.new)
+        (flat_map u32 remap.now.replaced)) }
     ensures limit { text.new.limit ≡ text.old.limit }
     ensures fault { OnErr result (Rose (K.faults out.old) (K.faults out.new)) }
     ensures never_falls { K.faults out.old ≤ K.faults out.new }
@@ -68,8 +70,10 @@ fn print_regions<const B: usize, K: Sink>(
     out: &mut K,
 ) -> Result<(), WriteFault>
     requires { ROW_ROOM ≤ text.old.limit }
-    ensures printed { OnOk result (PrintsMore text.old text.new (K.written out.old) (K.written out.new) (flat_map region_bytes (map saved_region kept.now.regions))) }
-    ensures part { OnErr result (PrintsPart text.old (K.written out.old) (K.written out.new) (flat_map region_bytes (map saved_region kept.now.regions))) }
+    ensures printed { OnOk result (PrintsMore text.old text.new (K.written out.old)
+        (K.written out.new) (flat_map region_bytes (map saved_region kept.now.regions))) }
+    ensures part { OnErr result (PrintsPart text.old (K.written out.old) (K.written out.new)
+        (flat_map region_bytes (map saved_region kept.now.regions))) }
     ensures limit { text.new.limit ≡ text.old.limit }
     ensures fault { OnErr result (Rose (K.faults out.old) (K.faults out.new)) }
     ensures never_falls { K.faults out.old ≤ K.faults out.new }
@@ -88,8 +92,10 @@ fn print_entries<const B: usize, K: Sink>(
 ) -> Result<(), WriteFault>
     requires limit { ROW_ROOM ≤ text.old.limit }
     requires small { B ≤ 128 }
-    ensures printed { OnOk result (PrintsMore text.old text.new (K.written out.old) (K.written out.new) (flat_map entry_bytes (map saved_entry kept.now.entries))) }
-    ensures part { OnErr result (PrintsPart text.old (K.written out.old) (K.written out.new) (flat_map entry_bytes (map saved_entry kept.now.entries))) }
+    ensures printed { OnOk result (PrintsMore text.old text.new (K.written out.old)
+        (K.written out.new) (flat_map entry_bytes (map saved_entry kept.now.entries))) }
+    ensures part { OnErr result (PrintsPart text.old (K.written out.old) (K.written out.new)
+        (flat_map entry_bytes (map saved_entry kept.now.entries))) }
     ensures limit { text.new.limit ≡ text.old.limit }
     ensures fault { OnErr result (Rose (K.faults out.old) (K.faults out.new)) }
     ensures never_falls { K.faults out.old ≤ K.faults out.new }
@@ -112,8 +118,8 @@ pub fn print_bank<const B: usize, K: Sink>(
     requires limit { ROW_ROOM ≤ text.old.limit }
     requires small { B ≤ 128 }
     requires in_range { IsKept kept.now }
-    ensures printed { OnOk result (PrintsMore text.old text.new (K.written out.old) (K.written out.new)
-        (bank_bytes (saved_bank kept.now))) }
+    ensures printed { OnOk result (PrintsMore text.old text.new (K.written out.old)
+        (K.written out.new) (bank_bytes (saved_bank kept.now))) }
     ensures part { OnErr result (PrintsPart text.old (K.written out.old) (K.written out.new)
         (bank_bytes (saved_bank kept.now))) }
     ensures limit { text.new.limit ≡ text.old.limit }

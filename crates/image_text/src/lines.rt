@@ -24,12 +24,14 @@ pub fn print_rows<const B: usize, const M: usize, A: CellArray<B, M>, K: Sink>(
     requires shape { IsShape B M }
     requires small { B ≤ 128 }
     requires checks { M ≤ 16 }
-    ensures printed { OnOk result (PrintsMore text.old text.new (K.written out.old) (K.written out.new)
+    ensures printed { OnOk result (PrintsMore text.old text.new (K.written out.old)
+        (K.written out.new)
         (flat_map cells_bytes (saved_cells (A.state array.old) (A.state array.old).lines))) }
     ensures part { OnErr result (PrintsRows (A.state array.old) text.old (K.written out.old)
         (K.written out.new)) }
     ensures sensed { SensesSome (A.state array.old).lines (A.state array.old) (A.state array.new) }
-    ensures all { OnOk result (SensesRows (A.state array.old).lines (A.state array.old) (A.state array.new)) }
+    ensures all { OnOk result (SensesRows (A.state array.old).lines (A.state array.old)
+        (A.state array.new)) }
     ensures limit { text.new.limit ≡ text.old.limit }
     ensures fault { OnErr result (Rose (K.faults out.old) (K.faults out.new)) }
     ensures never_falls { K.faults out.old ≤ K.faults out.new }

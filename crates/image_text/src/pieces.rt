@@ -9,8 +9,8 @@ ghost use Rattle.image_text.specs.Printing.{PrintsMore, PrintsPart};
 use cell_rows::Cells;
 use module_shape::{Home, Shape};
 use pcm_image::{
-    EntryImage, RegionImage, write_bank, write_cells, write_count, write_entry, write_head,
-    write_region, write_slot,
+    EntryImage, HeadImage, RegionImage, write_bank, write_cells, write_count, write_entry,
+    write_head, write_region, write_slot,
 };
 use pcm_io::{Sink, Text, WriteFault};
 use run_text::{ROW_ROOM, make_room};
@@ -31,17 +31,15 @@ fn push_head(size: u8, shape: &Shape, seed: u64, text: &mut Text)
     ensures { text.new ≡ appended text.old (head_bytes size (head_of shape.now seed)) }
 {
     let raw = shape.raw();
-    let home = number_of_home(raw.home);
-    write_head(
-        text,
-        size,
-        raw.banks as u8,
-        raw.regions as u8,
-        raw.lines as u16,
-        raw.spares as u16,
+    let head = HeadImage {
+        banks: raw.banks as u8,
+        regions: raw.regions as u8,
+        lines: raw.lines as u16,
+        spares: raw.spares as u16,
         seed,
-        home,
-    );
+        home: number_of_home(raw.home),
+    };
+    write_head(text, size, &head);
 }
 
 /// Writes the numbers of a module of these sizes, with lines of so many bytes.
@@ -53,8 +51,8 @@ pub fn print_head<K: Sink>(
     out: &mut K,
 ) -> Result<(), WriteFault>
     requires { ROW_ROOM ≤ text.old.limit }
-    ensures printed { OnOk result (PrintsMore text.old text.new (K.written out.old) (K.written out.new)
-        (head_bytes size (head_of shape.now seed))) }
+    ensures printed { OnOk result (PrintsMore text.old text.new (K.written out.old)
+        (K.written out.new) (head_bytes size (head_of shape.now seed))) }
     ensures part { OnErr result (PrintsPart text.old (K.written out.old) (K.written out.new)
         (head_bytes size (head_of shape.now seed))) }
     ensures limit { text.new.limit ≡ text.old.limit }
@@ -74,8 +72,10 @@ pub(crate) fn print_mark<K: Sink>(
     out: &mut K,
 ) -> Result<(), WriteFault>
     requires limit { ROW_ROOM ≤ text.old.limit }
-    ensures printed { OnOk result (PrintsMore text.old text.new (K.written out.old) (K.written out.new) (u8 mark ++ u16 used)) }
-    ensures part { OnErr result (PrintsPart text.old (K.written out.old) (K.written out.new) (u8 mark ++ u16 used)) }
+    ensures printed { OnOk result (PrintsMore text.old text.new (K.written out.old)
+        (K.written out.new) (u8 mark ++ u16 used)) }
+    ensures part { OnErr result (PrintsPart text.old (K.written out.old) (K.written out.new)
+        (u8 mark ++ u16 used)) }
     ensures limit { text.new.limit ≡ text.old.limit }
     ensures fault { OnErr result (Rose (K.faults out.old) (K.faults out.new)) }
     ensures never_falls { K.faults out.old ≤ K.faults out.new }
@@ -88,8 +88,10 @@ pub(crate) fn print_mark<K: Sink>(
 // The slot of a used spare.
 pub(crate) fn print_slot<K: Sink>(slot: u32, text: &mut Text, out: &mut K) -> Result<(), WriteFault>
     requires limit { ROW_ROOM ≤ text.old.limit }
-    ensures printed { OnOk result (PrintsMore text.old text.new (K.written out.old) (K.written out.new) (u32 slot)) }
-    ensures part { OnErr result (PrintsPart text.old (K.written out.old) (K.written out.new) (u32 slot)) }
+    ensures printed { OnOk result (PrintsMore text.old text.new (K.written out.old)
+        (K.written out.new) (u32 slot)) }
+    ensures part { OnErr result (PrintsPart text.old (K.written out.old) (K.written out.new)
+        (u32 slot)) }
     ensures limit { text.new.limit ≡ text.old.limit }
     ensures fault { OnErr result (Rose (K.faults out.old) (K.faults out.new)) }
     ensures never_falls { K.faults out.old ≤ K.faults out.new }
@@ -106,8 +108,10 @@ pub(crate) fn print_region<K: Sink>(
     out: &mut K,
 ) -> Result<(), WriteFault>
     requires limit { ROW_ROOM ≤ text.old.limit }
-    ensures printed { OnOk result (PrintsMore text.old text.new (K.written out.old) (K.written out.new) (region_bytes region.now)) }
-    ensures part { OnErr result (PrintsPart text.old (K.written out.old) (K.written out.new) (region_bytes region.now)) }
+    ensures printed { OnOk result (PrintsMore text.old text.new (K.written out.old)
+        (K.written out.new) (region_bytes region.now)) }
+    ensures part { OnErr result (PrintsPart text.old (K.written out.old) (K.written out.new)
+        (region_bytes region.now)) }
     ensures limit { text.new.limit ≡ text.old.limit }
     ensures fault { OnErr result (Rose (K.faults out.old) (K.faults out.new)) }
     ensures never_falls { K.faults out.old ≤ K.faults out.new }
@@ -124,8 +128,10 @@ pub(crate) fn print_count<K: Sink>(
     out: &mut K,
 ) -> Result<(), WriteFault>
     requires limit { ROW_ROOM ≤ text.old.limit }
-    ensures printed { OnOk result (PrintsMore text.old text.new (K.written out.old) (K.written out.new) (u16 entries)) }
-    ensures part { OnErr result (PrintsPart text.old (K.written out.old) (K.written out.new) (u16 entries)) }
+    ensures printed { OnOk result (PrintsMore text.old text.new (K.written out.old)
+        (K.written out.new) (u16 entries)) }
+    ensures part { OnErr result (PrintsPart text.old (K.written out.old) (K.written out.new)
+        (u16 entries)) }
     ensures limit { text.new.limit ≡ text.old.limit }
     ensures fault { OnErr result (Rose (K.faults out.old) (K.faults out.new)) }
     ensures never_falls { K.faults out.old ≤ K.faults out.new }
@@ -143,8 +149,10 @@ pub(crate) fn print_entry<const B: usize, K: Sink>(
 ) -> Result<(), WriteFault>
     requires limit { ROW_ROOM ≤ text.old.limit }
     requires small { B ≤ 128 }
-    ensures printed { OnOk result (PrintsMore text.old text.new (K.written out.old) (K.written out.new) (entry_bytes entry.now)) }
-    ensures part { OnErr result (PrintsPart text.old (K.written out.old) (K.written out.new) (entry_bytes entry.now)) }
+    ensures printed { OnOk result (PrintsMore text.old text.new (K.written out.old)
+        (K.written out.new) (entry_bytes entry.now)) }
+    ensures part { OnErr result (PrintsPart text.old (K.written out.old) (K.written out.new)
+        (entry_bytes entry.now)) }
     ensures limit { text.new.limit ≡ text.old.limit }
     ensures fault { OnErr result (Rose (K.faults out.old) (K.faults out.new)) }
     ensures never_falls { K.faults out.old ≤ K.faults out.new }
@@ -163,8 +171,10 @@ pub(crate) fn print_cells<const B: usize, const M: usize, K: Sink>(
     requires limit { ROW_ROOM ≤ text.old.limit }
     requires small { B ≤ 128 }
     requires checks { M ≤ 16 }
-    ensures printed { OnOk result (PrintsMore text.old text.new (K.written out.old) (K.written out.new) (cells_bytes cells.now)) }
-    ensures part { OnErr result (PrintsPart text.old (K.written out.old) (K.written out.new) (cells_bytes cells.now)) }
+    ensures printed { OnOk result (PrintsMore text.old text.new (K.written out.old)
+        (K.written out.new) (cells_bytes cells.now)) }
+    ensures part { OnErr result (PrintsPart text.old (K.written out.old) (K.written out.new)
+        (cells_bytes cells.now)) }
     ensures limit { text.new.limit ≡ text.old.limit }
     ensures fault { OnErr result (Rose (K.faults out.old) (K.faults out.new)) }
     ensures never_falls { K.faults out.old ≤ K.faults out.new }

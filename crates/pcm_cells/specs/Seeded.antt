@@ -9,6 +9,8 @@ use Rattle.cell_rows.specs.Rows.{cell, zero_row}
 use Rattle.cell_rows.specs.Device.{ArrayState, LineState, CellBounds, counted}
 use Rattle.pcm_cells.specs.declared.digits.Digits.{Digits}
 use Rattle.pcm_cells.specs.declared.counts.Counts.{Counts}
+use Rattle.pcm_cells.specs.declared.calm.Moving.{Moving}
+use Rattle.pcm_cells.specs.declared.calm.Settled.{Settled}
 use Rattle.pcm_cells.specs.Counts.{count}
 use Rattle.pcm_cells.specs.Planes.{PlaneLine, plane_cell, blank_planes, digit, zero_digits}
 use Rattle.pcm_cells.specs.Follows.{Follows}
@@ -64,13 +66,13 @@ pub record LifeLine (B M : ℕ) : Type 0 where
 unfoldable pub left_of : {B M : ℕ} → Digits B M → Counts B M → List ℕ
 left_of {B} {M} spent counts = map (λ n. count counts n - digit spent n) (range_with_len 0 (8 * (B + M)))
 
--- a line from its planes, as if it were never pulsed
-abbrev pub life_of : {B M : ℕ} → Cells B M → Cells B M → Digits B M → Digits B M → Counts B M → Digits B M → Cells B M → LifeLine B M
-life_of held stuck misses spent counts limits ends = record {
-  line = record { held = held; stuck = stuck; misses = misses; pulses = 0 };
-  left = left_of spent counts;
-  limits = limits;
-  ends = ends;
+-- a line from what a calm pulse changes and what it leaves, as if it were never pulsed
+abbrev pub life_of : {B M : ℕ} → Moving B M → Settled B M → LifeLine B M
+life_of moving settled = record {
+  line = record { held = moving.held; stuck = settled.stuck; misses = moving.misses; pulses = 0 };
+  left = left_of moving.spent settled.left;
+  limits = settled.limits;
+  ends = settled.ends;
 }
 
 -- each live cell of a calm block of the row has a count of at least eight

@@ -12,6 +12,24 @@ use crate::counts::Counts;
 use crate::digits::Digits;
 use cell_rows::Cells;
 
+/// What a calm pulse may change of a line's cells, which is one in which none of them is near its end.
+#[derive(Drop)]
+pub(crate) struct Moving<const B: usize, const M: usize> {
+    pub(crate) held: Cells<B, M>,
+    pub(crate) misses: Digits<B, M>,
+    // How often each cell changed since its count in `left` was last brought up to date.
+    pub(crate) spent: Digits<B, M>,
+}
+
+/// What a calm pulse leaves of them as it is.
+#[derive(Drop)]
+pub(crate) struct Settled<const B: usize, const M: usize> {
+    pub(crate) stuck: Cells<B, M>,
+    pub(crate) left: Counts<B, M>,
+    pub(crate) limits: Digits<B, M>,
+    pub(crate) ends: Cells<B, M>,
+}
+
 // Whether each block is calm.
 pub(crate) fn is_calm<const B: usize, const M: usize>(calm: &[bool; B]) -> bool
     requires whole { IsWhole B M }
@@ -71,13 +89,8 @@ fn reach(tearing: bool) -> u64
 // The masked cells of one block, of which none is near its end.
 #[inline(always)]
 fn wear_calm_block<const B: usize, const M: usize>(
-    held: &mut Cells<B, M>,
-    misses: &mut Digits<B, M>,
-    spent: &mut Digits<B, M>,
-    stuck: &Cells<B, M>,
-    left: &Counts<B, M>,
-    limits: &Digits<B, M>,
-    ends: &Cells<B, M>,
+    moving: &mut Moving<B, M>,
+    settled: &Settled<B, M>,
     tearing: bool,
     reach: u64,
     block: usize,
@@ -88,32 +101,29 @@ fn wear_calm_block<const B: usize, const M: usize>(
     requires shape { IsShape B M }
     requires whole { IsWhole B M }
     requires reach { (i : ℕ) → i < 64 → bit_in reach i ≡ not (tearing && nat_eq (i % 2) 1) }
-    requires many { (i : ℕ) → i < 64 → cell stuck.now (64 * block + i) ≡ false → 8 ≤ count left.now (64 * block + i) }
-    requires few { (i : ℕ) → i < 64 → cell mask.now (64 * block + i) ≡ true → digit spent.old (64 * block + i) < 7 }
-    ensures cells { FollowsIn (64 * block) (64 * block + 64) (cell mask.now) (seeded tearing (cell want.now))
-        (seeded_cell (life_of held.old stuck.now misses.old spent.old left.now limits.now ends.now))
-        (seeded_cell (life_of held.new stuck.now misses.new spent.new left.now limits.now ends.now)) }
-    ensures others { (n : ℕ) → n / 64 ≢ block → digit spent.new n ≡ digit spent.old n }
+    requires many { (i : ℕ) → i < 64 → cell settled.now.stuck (64 * block + i) ≡ false
+        → 8 ≤ count settled.now.left (64 * block + i) }
+    requires few { (i : ℕ) → i < 64 → cell mask.now (64 * block + i) ≡ true
+        → digit moving.old.spent (64 * block + i) < 7 }
+    ensures cells { FollowsIn (64 * block) (64 * block + 64) (cell mask.now)
+        (seeded tearing (cell want.now)) (seeded_cell (life_of moving.old settled.now))
+        (seeded_cell (life_of moving.new settled.now)) }
+    ensures others { (n : ℕ) → n / 64 ≢ block → digit moving.new.spent n ≡ digit moving.old.spent n }
 {
-    let live = without(mask.block(block) & reach, stuck.block(block));
-    let missing = live & misses.below(limits, block);
+    let live = without(mask.block(block) & reach, settled.stuck.block(block));
+    let missing = live & moving.misses.below(&settled.limits, block);
     let changing = without(live, missing);
-    spent.advance(block, changing, 0);
-    let now = chosen(held.block(block), changing, want.block(block));
-    held.set_block(block, now);
-    misses.advance(block, missing, changing);
+    moving.spent.advance(block, changing, 0);
+    let now = chosen(moving.held.block(block), changing, want.block(block));
+    moving.held.set_block(block, now);
+    moving.misses.advance(block, missing, changing);
 }
 
 // The masked cells of some blocks.
 #[inline(always)]
 fn wear_calm_in<const B: usize, const M: usize>(
-    held: &mut Cells<B, M>,
-    misses: &mut Digits<B, M>,
-    spent: &mut Digits<B, M>,
-    stuck: &Cells<B, M>,
-    left: &Counts<B, M>,
-    limits: &Digits<B, M>,
-    ends: &Cells<B, M>,
+    moving: &mut Moving<B, M>,
+    settled: &Settled<B, M>,
     tearing: bool,
     from: usize,
     to: usize,
@@ -124,18 +134,17 @@ fn wear_calm_in<const B: usize, const M: usize>(
     requires exists { 8 * to ≤ B + M }
     requires shape { IsShape B M }
     requires whole { IsWhole B M }
-    requires many { (n : ℕ) → n < 8 * (B + M) → cell stuck.now n ≡ false → 8 ≤ count left.now n }
-    requires few { (n : ℕ) → 64 * from ≤ n → n < 8 * (B + M) → cell mask.now n ≡ true → digit spent.old n < 7 }
+    requires many { (n : ℕ) → n < 8 * (B + M) → cell settled.now.stuck n ≡ false
+        → 8 ≤ count settled.now.left n }
+    requires few { (n : ℕ) → 64 * from ≤ n → n < 8 * (B + M) → cell mask.now n ≡ true
+        → digit moving.old.spent n < 7 }
     ensures cells { FollowsIn (64 * from) (64 * to) (cell mask.now) (seeded tearing (cell want.now))
-        (seeded_cell (life_of held.old stuck.now misses.old spent.old left.now limits.now ends.now))
-        (seeded_cell (life_of held.new stuck.now misses.new spent.new left.now limits.now ends.now)) }
-    ensures others { (n : ℕ) → 64 * to ≤ n → digit spent.new n ≡ digit spent.old n }
+        (seeded_cell (life_of moving.old settled.now)) (seeded_cell (life_of moving.new settled.now)) }
+    ensures others { (n : ℕ) → 64 * to ≤ n → digit moving.new.spent n ≡ digit moving.old.spent n }
 {
     let reach = reach(tearing);
     for block in from..to {
-        wear_calm_block(
-            held, misses, spent, stuck, left, limits, ends, tearing, reach, block, mask, want,
-        );
+        wear_calm_block(moving, settled, tearing, reach, block, mask, want);
     }
 }
 
@@ -143,51 +152,20 @@ fn wear_calm_in<const B: usize, const M: usize>(
 // have a loop each, so that neither asks which a block is.
 #[inline(always)]
 pub(crate) fn wear_calm<const B: usize, const M: usize>(
-    held: &mut Cells<B, M>,
-    misses: &mut Digits<B, M>,
-    spent: &mut Digits<B, M>,
-    stuck: &Cells<B, M>,
-    left: &Counts<B, M>,
-    limits: &Digits<B, M>,
-    ends: &Cells<B, M>,
+    moving: &mut Moving<B, M>,
+    settled: &Settled<B, M>,
     tearing: bool,
     mask: &Cells<B, M>,
     want: &Cells<B, M>,
 )
     requires shape { IsShape B M }
     requires whole { IsWhole B M }
-    requires many { (n : ℕ) → n < 8 * (B + M) → cell stuck.now n ≡ false → 8 ≤ count left.now n }
-    requires few { (n : ℕ) → n < 8 * (B + M) → cell mask.now n ≡ true → digit spent.old n < 7 }
+    requires many { (n : ℕ) → n < 8 * (B + M) → cell settled.now.stuck n ≡ false
+        → 8 ≤ count settled.now.left n }
+    requires few { (n : ℕ) → n < 8 * (B + M) → cell mask.now n ≡ true → digit moving.old.spent n < 7 }
     ensures { FollowsIn 0 (8 * (B + M)) (cell mask.now) (seeded tearing (cell want.now))
-        (seeded_cell (life_of held.old stuck.now misses.old spent.old left.now limits.now ends.now))
-        (seeded_cell (life_of held.new stuck.now misses.new spent.new left.now limits.now ends.now)) }
+        (seeded_cell (life_of moving.old settled.now)) (seeded_cell (life_of moving.new settled.now)) }
 {
-    wear_calm_in(
-        held,
-        misses,
-        spent,
-        stuck,
-        left,
-        limits,
-        ends,
-        tearing,
-        0,
-        B / 8,
-        mask,
-        want,
-    );
-    wear_calm_in(
-        held,
-        misses,
-        spent,
-        stuck,
-        left,
-        limits,
-        ends,
-        tearing,
-        B / 8,
-        (B + M) / 8,
-        mask,
-        want,
-    );
+    wear_calm_in(moving, settled, tearing, 0, B / 8, mask, want);
+    wear_calm_in(moving, settled, tearing, B / 8, (B + M) / 8, mask, want);
 }

@@ -3,7 +3,7 @@ ghost use Rattle.std.specs.Prelude.{◌≡◌, ◌≢◌, ℕ, ◌+◌, ◌-◌,
 
 use crate::CellState;
 use crate::blocks::{are_many, byte_at, chosen, life, reached, spend, with_life, without};
-use crate::calm::{has_room, is_calm, wear_calm};
+use crate::calm::{Moving, Settled, has_room, is_calm, wear_calm};
 use crate::counts::Counts;
 use crate::digits::Digits;
 use crate::line::has_end;
@@ -57,15 +57,9 @@ fn greater(one: u32, other: u32) -> u32
 /// The cells of one line, and the life of each.
 #[derive(Drop)]
 pub(crate) struct SeededLine<const B: usize, const M: usize> {
-    held: Cells<B, M>,
-    stuck: Cells<B, M>,
-    misses: Digits<B, M>,
+    moving: Moving<B, M>,
+    settled: Settled<B, M>,
     pulses: u64,
-    left: Counts<B, M>,
-    limits: Digits<B, M>,
-    ends: Cells<B, M>,
-    // How often each cell changed since its count in `left` was last brought up to date.
-    spent: Digits<B, M>,
     // Of each block, whether each live cell's count in `left` is at least eight.
     calm: [bool; B],
 }
@@ -78,13 +72,18 @@ impl<const B: usize, const M: usize> Model for SeededLine<B, M> {
     ghost Value = { LifeLine B M };
 
     ghost view = { λ l. record {
-      line = record { held = l.held; stuck = l.stuck; misses = l.misses; pulses = l.pulses };
-      left = left_of l.spent l.left;
-      limits = l.limits;
-      ends = l.ends;
+      line = record {
+        held = l.moving.held;
+        stuck = l.settled.stuck;
+        misses = l.moving.misses;
+        pulses = l.pulses;
+      };
+      left = left_of l.moving.spent l.settled.left;
+      limits = l.settled.limits;
+      ends = l.settled.ends;
     } };
 
-    ghost invariant = { λ l. IsShape B M × IsCalm l.calm l.stuck (count l.left) };
+    ghost invariant = { λ l. IsShape B M × IsCalm l.calm l.settled.stuck (count l.settled.left) };
 }
 
 ghost use Rattle.cell_rows.specs.Rows.{cell, members};
@@ -118,14 +117,18 @@ impl<const B: usize, const M: usize> SeededLine<B, M> {
         ensures no_ends { (n : ℕ) → 8 * (B + M) ≤ n → cell ends.entry n ≡ false }
     {
         SeededLine {
-            held: Cells::zero(),
-            stuck: Cells::zero(),
-            misses: Digits::zero(),
+            moving: Moving {
+                held: Cells::zero(),
+                misses: Digits::zero(),
+                spent: Digits::zero(),
+            },
+            settled: Settled {
+                stuck: Cells::zero(),
+                left,
+                limits,
+                ends,
+            },
             pulses: 0,
-            left,
-            limits,
-            ends,
-            spent: Digits::zero(),
             calm: [calm; B],
         }
     }
@@ -174,23 +177,23 @@ impl<const B: usize, const M: usize> SeededLine<B, M> {
         ensures limits { self.new.limits ≡ self.old.limits }
         ensures ends { self.new.ends ≡ self.old.ends }
     {
-        if self.calm[block] && self.spent.full(block) & changing == 0 {
-            self.spent.advance(block, changing, 0);
+        if self.calm[block] && self.moving.spent.full(block) & changing == 0 {
+            self.moving.spent.advance(block, changing, 0);
             return 0;
         }
-        let stuck = self.stuck.block(block);
-        let (low, middle, high) = self.spent.planes(block);
-        self.left.level(block, low, middle, high);
-        self.spent.clear(block);
-        let calm = are_many(self.left.block(block), stuck);
+        let stuck = self.settled.stuck.block(block);
+        let (low, middle, high) = self.moving.spent.planes(block);
+        self.settled.left.level(block, low, middle, high);
+        self.moving.spent.clear(block);
+        let calm = are_many(self.settled.left.block(block), stuck);
         self.calm[block] = calm;
         if calm {
-            self.spent.advance(block, changing, 0);
+            self.moving.spent.advance(block, changing, 0);
             return 0;
         }
-        let mut counts = *self.left.block(block);
+        let mut counts = *self.settled.left.block(block);
         let last = spend(&mut counts, changing);
-        self.left.set_block(block, &counts);
+        self.settled.left.set_block(block, &counts);
         last
     }
 
@@ -203,16 +206,16 @@ impl<const B: usize, const M: usize> SeededLine<B, M> {
             (seeded tearing (cell want.now)) (seeded_cell self.old) (seeded_cell self.new) }
         ensures pulses { self.new.line.pulses ≡ self.old.line.pulses }
     {
-        let stuck = self.stuck.block(block);
+        let stuck = self.settled.stuck.block(block);
         let live = without(reached(tearing, mask.block(block)), stuck);
-        let missing = live & self.misses.below(&self.limits, block);
+        let missing = live & self.moving.misses.below(&self.settled.limits, block);
         let changing = without(live, missing);
         let last = self.spend(block, changing);
-        let value = chosen(want.block(block), last, self.ends.block(block));
-        let held = chosen(self.held.block(block), changing, value);
-        self.held.set_block(block, held);
-        self.stuck.set_block(block, last | stuck);
-        self.misses.advance(block, missing, changing);
+        let value = chosen(want.block(block), last, self.settled.ends.block(block));
+        let held = chosen(self.moving.held.block(block), changing, value);
+        self.moving.held.set_block(block, held);
+        self.settled.stuck.set_block(block, last | stuck);
+        self.moving.misses.advance(block, missing, changing);
     }
 
     // Brings the counts of a block up to date.
@@ -222,11 +225,11 @@ impl<const B: usize, const M: usize> SeededLine<B, M> {
         requires whole { IsWhole B M }
         ensures { self.new ≡ self.old }
     {
-        let stuck = self.stuck.block(block);
-        let (low, middle, high) = self.spent.planes(block);
-        self.left.level(block, low, middle, high);
-        self.spent.clear(block);
-        self.calm[block] = are_many(self.left.block(block), stuck);
+        let stuck = self.settled.stuck.block(block);
+        let (low, middle, high) = self.moving.spent.planes(block);
+        self.settled.left.level(block, low, middle, high);
+        self.moving.spent.clear(block);
+        self.calm[block] = are_many(self.settled.left.block(block), stuck);
     }
 
     // Brings the counts up to date.
@@ -236,7 +239,7 @@ impl<const B: usize, const M: usize> SeededLine<B, M> {
         ensures { self.new ≡ self.old }
     {
         for block in 0..(B + M) / 8 {
-            let (low, middle, high) = self.spent.planes(block);
+            let (low, middle, high) = self.moving.spent.planes(block);
             if low | middle | high != 0 || !self.calm[block] {
                 self.level_block(block);
             }
@@ -282,21 +285,10 @@ impl<const B: usize, const M: usize> SeededLine<B, M> {
             (seeded_cell self.old) (seeded_cell self.new) }
         ensures pulses { self.new.line.pulses ≡ self.old.line.pulses }
     {
-        if is_calm::<B, M>(&self.calm) && has_room(&self.spent, mask) {
+        if is_calm::<B, M>(&self.calm) && has_room(&self.moving.spent, mask) {
             // Copies, so that LLVM sees that no write to the line changes them.
             let (mask, want) = (*mask, *want);
-            wear_calm(
-                &mut self.held,
-                &mut self.misses,
-                &mut self.spent,
-                &self.stuck,
-                &self.left,
-                &self.limits,
-                &self.ends,
-                tearing,
-                &mask,
-                &want,
-            );
+            wear_calm(&mut self.moving, &self.settled, tearing, &mask, &want);
         } else {
             self.wear_levelled(tearing, mask, want);
         }
@@ -318,7 +310,7 @@ impl<const B: usize, const M: usize> SeededLine<B, M> {
     pub(crate) fn held(&self) -> Cells<B, M>
         ensures { result ≡ self.now.line.held }
     {
-        self.held
+        self.moving.held
     }
 
     pub(crate) fn pulses(&self) -> u64
@@ -332,7 +324,10 @@ impl<const B: usize, const M: usize> SeededLine<B, M> {
         requires { number < 8 * (B + M) }
         ensures { result ≡ slice_index self.now.left number }
     {
-        self.left.get(number).saturating_sub(self.spent.get(number))
+        self.settled
+            .left
+            .get(number)
+            .saturating_sub(self.moving.spent.get(number))
     }
 
     // How its cells are worn, by the same line before its first pulse.
@@ -348,7 +343,7 @@ impl<const B: usize, const M: usize> SeededLine<B, M> {
             changes = greater(changes, drawn.left_at(number).saturating_sub(left));
         }
         CellWear {
-            stuck: self.stuck.count(),
+            stuck: self.settled.stuck.count(),
             changes,
         }
     }

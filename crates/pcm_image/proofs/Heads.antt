@@ -1,13 +1,13 @@
 -- What the tests of a head say of its numbers.
-use Rattle.std.proofs.Common.{◌≡◌, ℕ, ◌+◌, ◌*◌, ◌^◌, ◌/◌, ◌%◌, ◌<◌, ◌≤◌, true, ◌&&◌, nat_le, sym, ap, ◌∙◌, arith}
+use Rattle.std.proofs.Common.{◌≡◌, ℕ, ◌+◌, ◌*◌, ◌^◌, ◌<◌, ◌≤◌, true, ◌&&◌, nat_le, sym, ap, ◌∙◌, arith}
 use Rattle.masked_bytes.proofs.Truth.{and_first, and_second}
 use Rattle.std.specs.Int.{is_power_of_two}
 use Rattle.std.proofs.lemmas.Bool.Decides.{nat_tests}
-use Rattle.std.proofs.lemmas.Nat.{mul-le, div_below}
-use Rattle.std.proofs.Math.Nat.{mul_assoc, mul_comm, mul-add, mod-lt}
+use Rattle.std.proofs.lemmas.Nat.{mul-le}
+use Rattle.std.proofs.Math.Nat.{mul_comm, mul-add}
 use Rattle.feistel_map.specs.Log2.{log2}
 use Rattle.feistel_map.proofs.Powers.{log2-between}
-use Rattle.pcm_image.specs.Saved.{Head, IsHead, total_in, lines_in}
+use Rattle.pcm_image.specs.Saved.{Head, IsHead, total_in}
 use Rattle.module_shape.specs.Limits.{is_power_between}
 use Rattle.module_shape.proofs.Powers.{size_of_powers}
 
@@ -48,16 +48,6 @@ head-fits h is =
 -- the logarithm that the code finds
 pub is_log : (r n total : ℕ) → 2 ^ r ≤ n → n < 2 * 2 ^ r → n ≡ total → r ≡ log2 total
 is_log r n total low high is = sym (log2-between r n low high) ∙ ap log2 is
-
--- the bank of a line by its mixed number
-pub bank_below : (h : Head) → HeadFits h → (mixed : ℕ) → mixed < total_in h → mixed / lines_in h < h.banks
-bank_below h fit mixed lt =
-    let some = mul-le 1 4 h.regions h.lines fit.some_regions fit.some_lines in
-    div_below mixed (lines_in h) h.banks (omega (arith, some)) (omega (arith, lt, mul_assoc h.banks h.regions h.lines))
-
-pub own_below : (h : Head) → HeadFits h → (mixed : ℕ) → mixed % lines_in h < lines_in h
-own_below h fit mixed =
-    let some = mul-le 1 4 h.regions h.lines fit.some_regions fit.some_lines in mod-lt mixed (omega (arith, some))
 
 -- the array line of a bank's line
 pub row_below : (bank banks array line : ℕ) → bank < banks → line < array → bank * array + line < banks * array

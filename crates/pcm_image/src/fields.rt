@@ -5,7 +5,7 @@ ghost use Rattle.pcm_image.specs.declared.fields.ReadImage.TheVariants.{NoMemory
 ghost use Rattle.pcm_image.specs.declared.ImageKind.TheVariants as kind;
 ghost use Rattle.module_shape.specs.Limits.{is_power_between};
 ghost use Rattle.pcm_image.specs.Saved.{is_lines};
-ghost use Rattle.pcm_image.specs.Reading.{any, byte_at, number_at, is_size_of, size_at, head_at};
+ghost use Rattle.pcm_image.specs.Reading.{any, field, byte_at, number_at, is_size_of, size_at, head_at};
 ghost use Rattle.pcm_image.specs.Giving.{Gives, IsSmall, cursor, head_view};
 
 use crate::{ImageFault, ImageKind};
@@ -69,7 +69,8 @@ pub fn bad(fields: &Fields<'_>, kind: ImageKind) -> ReadImage
 /// The next byte.
 pub fn u8_at<'a>(fields: Fields<'a>) -> Result<(u8, Fields<'a>), ReadImage>
     requires { fields.at < 2 ^ 31 }
-    ensures gives { Gives (λ x. (x.0, cursor x.1)) result (byte_at kind.Short any (cursor fields.entry)) }
+    ensures gives { Gives (λ x. (x.0, cursor x.1)) result
+        (byte_at kind.Short any (cursor fields.entry)) }
     ensures at { IfOk result (λ x. x.1.at ≡ fields.entry.at + 1) }
 {
     match fields.left {
@@ -84,6 +85,21 @@ pub fn u8_at<'a>(fields: Fields<'a>) -> Result<(u8, Fields<'a>), ReadImage>
     }
 }
 
+// The next so many bytes.
+fn bytes_at<'a, const N: usize>(fields: Fields<'a>) -> Result<([u8; N], Fields<'a>), ReadImage>
+    requires at { fields.at < 2 ^ 31 }
+    requires few { N ≤ 8 }
+    ensures gives { Gives (λ x. (x.0, cursor x.1)) result
+        (field N kind.Short any (λ bytes. bytes) (cursor fields.entry)) }
+    ensures at { IfOk result (λ x. x.1.at ≡ fields.entry.at + N) }
+{
+    let Some((bytes, left)) = fields.left.split_first_chunk() else {
+        return Err(bad(&fields, ImageKind::Short));
+    };
+    let at = fields.at + N as u32;
+    Ok((*bytes, Fields { at, left }))
+}
+
 /// The next number of two bytes, the lowest byte first, as every number of an image.
 pub fn u16_at<'a>(fields: Fields<'a>) -> Result<(u16, Fields<'a>), ReadImage>
     requires { fields.at < 2 ^ 31 }
@@ -91,18 +107,8 @@ pub fn u16_at<'a>(fields: Fields<'a>) -> Result<(u16, Fields<'a>), ReadImage>
         (number_at w16 kind.Short any (cursor fields.entry)) }
     ensures at { IfOk result (λ x. x.1.at ≡ fields.entry.at + 2) }
 {
-    if fields.left.len() < 2 {
-        return Err(bad(&fields, ImageKind::Short));
-    }
-    let (front, left) = fields.left.split_at(2);
-    let number = u16::from_le_bytes([front[0], front[1]]);
-    Ok((
-        number,
-        Fields {
-            at: fields.at + 2,
-            left,
-        },
-    ))
+    let (bytes, rest) = bytes_at(fields)?;
+    Ok((u16::from_le_bytes(bytes), rest))
 }
 
 // Whether a number is a power of two between two others.
@@ -150,20 +156,8 @@ pub fn u32_at<'a>(fields: Fields<'a>) -> Result<(u32, Fields<'a>), ReadImage>
         (number_at w32 kind.Short any (cursor fields.entry)) }
     ensures at { IfOk result (λ x. x.1.at ≡ fields.entry.at + 4) }
 {
-    if fields.left.len() < 4 {
-        return Err(bad(&fields, ImageKind::Short));
-    }
-    let (front, left) = fields.left.split_at(4);
-    let mut bytes = [0; 4];
-    bytes.copy_from_slice(front);
-    let number = u32::from_le_bytes(bytes);
-    Ok((
-        number,
-        Fields {
-            at: fields.at + 4,
-            left,
-        },
-    ))
+    let (bytes, rest) = bytes_at(fields)?;
+    Ok((u32::from_le_bytes(bytes), rest))
 }
 
 /// The next number of eight bytes.
@@ -173,20 +167,8 @@ pub fn u64_at<'a>(fields: Fields<'a>) -> Result<(u64, Fields<'a>), ReadImage>
         (number_at w64 kind.Shape any (cursor fields.entry)) }
     ensures at { IfOk result (λ x. x.1.at ≡ fields.entry.at + 8) }
 {
-    if fields.left.len() < 8 {
-        return Err(bad(&fields, ImageKind::Short));
-    }
-    let (front, left) = fields.left.split_at(8);
-    let mut bytes = [0; 8];
-    bytes.copy_from_slice(front);
-    let number = u64::from_le_bytes(bytes);
-    Ok((
-        number,
-        Fields {
-            at: fields.at + 8,
-            left,
-        },
-    ))
+    let (bytes, rest) = bytes_at(fields)?;
+    Ok((u64::from_le_bytes(bytes), rest))
 }
 
 // Whether a region may have so many lines, in a module of so many banks of so many regions.
@@ -232,7 +214,8 @@ fn home_at<'a>(fields: Fields<'a>) -> Result<(u8, Fields<'a>), ReadImage>
 #[tactic(auto, unfolding(crate::specs::Reading::size_at))]
 fn size_is<'a>(fields: Fields<'a>, size: usize) -> Result<(u8, Fields<'a>), ReadImage>
     requires { fields.at < 2 ^ 31 - 8 }
-    ensures gives { Gives (λ x. (x.0, cursor x.1)) result (size_at (is_size_of size) (cursor fields.entry)) }
+    ensures gives { Gives (λ x. (x.0, cursor x.1)) result
+        (size_at (is_size_of size) (cursor fields.entry)) }
     ensures at { IfOk result (λ x. x.1.at ≡ fields.entry.at + 9) }
 {
     if fields.left.len() < 8 {
@@ -257,7 +240,8 @@ fn size_is<'a>(fields: Fields<'a>, size: usize) -> Result<(u8, Fields<'a>), Read
 #[tactic(auto, unfolding(crate::specs::Reading::head_at))]
 pub fn head<'a>(fields: Fields<'a>, size: usize) -> Result<(HeadImage, Fields<'a>), ReadImage>
     requires { fields.at ≡ 0 }
-    ensures gives { Gives (λ x. (head_view x.0, cursor x.1)) result (head_at size (cursor fields.entry)) }
+    ensures gives { Gives (λ x. (head_view x.0, cursor x.1)) result
+        (head_at size (cursor fields.entry)) }
     ensures at { IfOk result (λ x. x.1.at ≡ 24) }
     ensures small { IfOk result (λ x. IsSmall (head_view x.0)) }
 {

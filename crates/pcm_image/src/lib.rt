@@ -8,7 +8,7 @@ mod parts;
 mod standing;
 mod writing;
 
-pub use fields::ReadImage;
+pub use fields::{HeadImage, ReadImage};
 pub use image::{BankImage, Image};
 pub use parts::{read_image, size_of_line};
 pub use writing::{

@@ -88,7 +88,8 @@ fn region_of<'a>(
     head: HeadImage,
 ) -> Result<(RegionImage, Fields<'a>), ReadImage>
     requires { fields.at < 2 ^ 30 }
-    ensures gives { Gives (λ x. (x.0, cursor x.1)) result (region_at (head_view head) (cursor fields.entry)) }
+    ensures gives { Gives (λ x. (x.0, cursor x.1)) result
+        (region_at (head_view head) (cursor fields.entry)) }
     ensures at { IfOk result (λ x. x.1.at ≡ fields.entry.at + 6) }
 {
     let (start, rest) = start_at(fields, head.lines)?;
@@ -325,7 +326,8 @@ fn bank_of<'a, const B: usize>(
     requires few { B ≤ 128 }
     requires whole { B % 8 ≡ 0 }
     requires small { IsSmall (head_view head) }
-    ensures gives { Gives (λ x. (x.0, cursor x.1)) result (bank_at B (head_view head) (cursor fields.entry)) }
+    ensures gives { Gives (λ x. (x.0, cursor x.1)) result
+        (bank_at B (head_view head) (cursor fields.entry)) }
     ensures at { IfOk result (λ x. x.1.at ≤ fields.entry.at + 42093) }
 {
     let (mark, rest) = mark_at(fields)?;

@@ -88,7 +88,8 @@ impl<const B: usize> BankImage<B> {
         requires head { IsHead (head_view head) }
         requires saved { IsSavedBank (head_view head) self.now }
         requires exists { region < head.regions }
-        ensures { result ≡ rotation_of (head_view head) (slice_index_or self.now.regions region no_region) }
+        ensures { result ≡ rotation_of (head_view head)
+            (slice_index_or self.now.regions region no_region) }
     {
         let saved = &self.registers[region as usize];
         Registers::at(head.lines as u32, saved.start as u32, saved.gap as u32)

@@ -2,51 +2,36 @@
 ghost use Rattle.std.specs.Prelude.{◌≡◌, ℕ, ◌+◌, ◌*◌, ◌/◌, ◌^◌, ◌<◌, ◌≤◌, ◌++◌, false, length, slice_index_or};
 ghost use Rattle.pcm_io.specs.Reserved.{room_in, appended};
 ghost use Rattle.ecp_line.specs.Layout.{number};
-ghost use Rattle.pcm_image.specs.Spelling.{magic, u8, u16, u32, u64, packed, head_bytes, region_bytes, entry_bytes, cells_bytes};
+ghost use Rattle.pcm_image.specs.Spelling.{u8, u16, u32, u64, packed, head_bytes, region_bytes, entry_bytes, cells_bytes};
+ghost use Rattle.pcm_image.specs.Giving.{head_view};
 
+use crate::fields::HeadImage;
 use crate::{EntryImage, RegionImage};
 use cell_rows::Cells;
 use pcm_io::Text;
 
-/// The 24 bytes of a head.
-pub fn write_head(
-    text: &mut Text,
-    size: u8,
-    banks: u8,
-    regions: u8,
-    lines: u16,
-    spares: u16,
-    seed: u64,
-    home: u8,
-)
+/// The 24 bytes of a head: the size of its lines, and its other numbers.
+pub fn write_head(text: &mut Text, size: u8, head: &HeadImage)
     requires { 24 ≤ room_in text.old }
-    ensures after { text.new ≡ appended text.old (head_bytes size (record { banks = banks; regions = regions; lines = lines; spares = spares; seed = seed; home = home })) }
+    ensures after { text.new ≡ appended text.old (head_bytes size (head_view head.now)) }
     ensures room { room_in text.new + 24 ≡ room_in text.old }
 {
-    write_sizes(text, size, banks, regions);
-    write_limits(text, lines, spares, seed, home);
-}
-
-// The bytes at an image's beginning and its first three numbers.
-fn write_sizes(text: &mut Text, size: u8, banks: u8, regions: u8)
-    requires { 11 ≤ room_in text.old }
-    ensures after { text.new ≡ appended text.old (magic ++ (u8 size ++ (u8 banks ++ u8 regions))) }
-    ensures room { room_in text.new + 11 ≡ room_in text.old }
-{
     text.push(b"PCMIMG01");
-    text.push(&[size, banks, regions]);
+    text.push(&[size, head.banks, head.regions]);
+    write_limits(text, head);
 }
 
 // The other numbers of a module.
-fn write_limits(text: &mut Text, lines: u16, spares: u16, seed: u64, home: u8)
+fn write_limits(text: &mut Text, head: &HeadImage)
     requires { 13 ≤ room_in text.old }
-    ensures after { text.new ≡ appended text.old (u16 lines ++ (u16 spares ++ (u64 seed ++ u8 home))) }
+    ensures after { text.new ≡ appended text.old
+        (u16 head.now.lines ++ (u16 head.now.spares ++ (u64 head.now.seed ++ u8 head.now.home))) }
     ensures room { room_in text.new + 13 ≡ room_in text.old }
 {
-    text.push(&lines.to_le_bytes());
-    text.push(&spares.to_le_bytes());
-    text.push(&seed.to_le_bytes());
-    text.push(&[home]);
+    text.push(&head.lines.to_le_bytes());
+    text.push(&head.spares.to_le_bytes());
+    text.push(&head.seed.to_le_bytes());
+    text.push(&[head.home]);
 }
 
 /// The mark of a bank, and how many of its spares are used.

@@ -45,7 +45,8 @@ fn ending(verdict: Verdict) -> Done
 
 // Writes a verdict.
 fn write_verdict<K: Sink>(alloc: Global, verdict: Verdict, out: &mut K) -> Result<(), Fault>
-    ensures { EndsText (verdict_text verdict) (lent_sink K.written K.faults out.old out.new) result }
+    ensures { EndsText (verdict_text verdict)
+        (lent_sink K.written K.faults out.old out.new) result }
 {
     let mut text = Text::new(alloc, 32)?;
     print_verdict(verdict, &mut text);

@@ -21,7 +21,7 @@ ghost use Rattle.pcm_top.specs.Rows.{rows_of};
 ghost use Rattle.pcm_top.specs.RunText.{IsRunText};
 
 use cell_rows::CellArray;
-use command_line::Print;
+use command_line::{Print, RunJob};
 use image_laws::images_are_of_their_runs;
 use module_prints::{print_image, print_wear};
 use pcm_io::{Sink, Text, WriteFault};
@@ -34,9 +34,8 @@ use trace_reader::{Event, MOST_ROWS};
 /// For an image each line of the array is sensed once, in order, at tick 0; otherwise nothing happens to the
 /// array.
 pub fn print_run<const B: usize, const M: usize, const E: usize, A: CellArray<B, M>, K: Sink>(
-    print: Print,
+    job: &RunJob,
     pcm: &Module<B, M, E>,
-    seed: u64,
     array: &mut A,
     events: &[Event<B>],
     results: &Results<B>,
@@ -47,39 +46,43 @@ pub fn print_run<const B: usize, const M: usize, const E: usize, A: CellArray<B,
     requires room { text.old ≡ reserved TEXT_ROOM }
     requires rows { length events.now ≤ MOST_ROWS }
     requires printable { ArePrintable events.now results.now }
-    requires seed { seed ≡ pcm.now.seed }
+    requires seed { job.now.seed ≡ pcm.now.seed }
     requires shape { IsShape pcm.now.shape }
     requires played { IsPlayed pcm.now events.now results.now (A.state array.old) }
     requires size { (A.state array.old).lines
         ≡ pcm.now.shape.banks * array_lines_of (module_of pcm.now.shape) }
     ensures ok { OnOk result ((ends : ℕ → BankEnd) → AreEndsOf pcm.now ends
-        → RunsRight E pcm.now.shape pcm.now.seed (rows_of events.now results.now) (A.state array.new) ends
+        → RunsRight E pcm.now.shape pcm.now.seed (rows_of events.now results.now)
+        (A.state array.new) ends
         → HaveRoles pcm.now.shape pcm.now.seed ends
         → (whole : List ℕ)
-        × IsRunText pcm.now.shape pcm.now.seed E events.now results.now ends (A.state array.new) print whole
+        × IsRunText pcm.now.shape pcm.now.seed E events.now results.now ends (A.state array.new)
+        job.now.print whole
         × Appends (K.written out.old) (K.written out.new) whole) }
     ensures prefix { OnErr result ((ends : ℕ → BankEnd) → AreEndsOf pcm.now ends
-        → RunsRight E pcm.now.shape pcm.now.seed (rows_of events.now results.now) (A.state array.new) ends
+        → RunsRight E pcm.now.shape pcm.now.seed (rows_of events.now results.now)
+        (A.state array.new) ends
         → HaveRoles pcm.now.shape pcm.now.seed ends
         → (whole : List ℕ)
-        × IsRunText pcm.now.shape pcm.now.seed E events.now results.now ends (A.state array.new) print whole
+        × IsRunText pcm.now.shape pcm.now.seed E events.now results.now ends (A.state array.new)
+        job.now.print whole
         × AppendsPrefix (K.written out.old) (K.written out.new) whole) }
-    ensures part { OnErr result (print ≡ Print.Image → WritesRows (A.state array.new)
+    ensures part { OnErr result (job.now.print ≡ Print.Image → WritesRows (A.state array.new)
         (saved_of pcm.now.shape pcm.now.seed (kept_in pcm.now) (A.state array.old))
         (K.written out.old) (K.written out.new)) }
-    ensures sensed { SensesSome (senses_for print (A.state array.old).lines) (A.state array.old)
-        (A.state array.new) }
-    ensures all { OnOk result (SensesRows (senses_for print (A.state array.old).lines) (A.state array.old)
-        (A.state array.new)) }
-    ensures untouched { print ≢ Print.Image → array.new ≡ array.old }
+    ensures sensed { SensesSome (senses_for job.now.print (A.state array.old).lines)
+        (A.state array.old) (A.state array.new) }
+    ensures all { OnOk result (SensesRows (senses_for job.now.print (A.state array.old).lines)
+        (A.state array.old) (A.state array.new)) }
+    ensures untouched { job.now.print ≢ Print.Image → array.new ≡ array.old }
     ensures fault { OnErr result (Rose (K.faults out.old) (K.faults out.new)) }
     ensures never_falls { K.faults out.old ≤ K.faults out.new }
 {
     images_are_of_their_runs();
-    match print {
+    match job.print {
         Print::Results => print_results(events, results, text, out),
         Print::Summary => print_counts(results, pcm.retired(), sum_pulses(array), text, out),
         Print::Wear => print_wear(pcm, array, text, out),
-        Print::Image => print_image(pcm, seed, array, text, out),
+        Print::Image => print_image(pcm, job.seed, array, text, out),
     }
 }

@@ -31,7 +31,8 @@ pub fn replay<const B: usize, const M: usize, const E: usize, A: CellArray<B, M>
     ensures seed { pcm.new.seed ≡ pcm.old.seed }
     ensures table { length results.new ≡ length events.now }
     ensures right { (ends : ℕ → BankEnd) × AreEndsOf pcm.new ends
-        × RunsRight E pcm.new.shape pcm.new.seed (rows_of events.now results.new) (A.state array.new) ends }
+        × RunsRight E pcm.new.shape pcm.new.seed (rows_of events.now results.new)
+        (A.state array.new) ends }
     ensures played { IsPlayed pcm.new events.now results.new (A.state array.new) }
     ensures wear { (A.state array.new).wear ≡ (A.state array.old).wear }
 {

@@ -58,7 +58,8 @@ fn print_moves<K: Sink>(
     requires room { text.old ≡ reserved TEXT_ROOM }
     requires lines { (4 ≤ lines) × (lines ≤ 256) }
     requires first { first ≤ 16781312 }
-    ensures { Writes (moves_text lines first) (sink_change K.written K.faults out.old out.new) result }
+    ensures { Writes (moves_text lines first)
+        (sink_change K.written K.faults out.old out.new) result }
 {
     print_moves_header(text);
     for row in 0..lines * (lines + 1) {
@@ -71,7 +72,8 @@ fn print_moves<K: Sink>(
 
 /// Writes the report `map`.
 pub fn report_map<K: Sink>(alloc: Global, job: MapJob, out: &mut K) -> Result<(), Fault>
-    ensures { EndsText (map_text (map_options job)) (lent_sink K.written K.faults out.old out.new) result }
+    ensures { EndsText (map_text (map_options job))
+        (lent_sink K.written K.faults out.old out.new) result }
 {
     let mut text = Text::new(alloc, TEXT_ROOM)?;
     print_map(options_of(&job), &mut text, out)?;
@@ -81,7 +83,8 @@ pub fn report_map<K: Sink>(alloc: Global, job: MapJob, out: &mut K) -> Result<()
 /// Writes the report `moves`.
 pub fn report_moves<K: Sink>(alloc: Global, job: MovesJob, out: &mut K) -> Result<(), Fault>
     requires { IsMoves job }
-    ensures { EndsText (moves_text job.lines job.from) (lent_sink K.written K.faults out.old out.new) result }
+    ensures { EndsText (moves_text job.lines job.from)
+        (lent_sink K.written K.faults out.old out.new) result }
 {
     let mut text = Text::new(alloc, TEXT_ROOM)?;
     print_moves(job.lines, job.from, &mut text, out)?;

@@ -86,7 +86,7 @@ fn play<const B: usize, const M: usize, const E: usize, A: CellArray<B, M>, K: S
     right_runs_can_be_printed();
     sensed_runs_stay_right();
     replay(pcm, array, events, results);
-    print_run(job.print, pcm, job.seed, array, events, results, text, out)?;
+    print_run(job, pcm, array, events, results, text, out)?;
     Ok(ending(results))
 }
 

@@ -42,7 +42,8 @@ fn print_lines<const B: usize, const M: usize, const E: usize, K: Sink>(
     requires layout { IsLayout B M E }
     requires size { B ≤ 128 }
     requires saved { IsSaved image.now }
-    ensures { Writes (shown_text E image.now) (sink_change K.written K.faults out.old out.new) result }
+    ensures { Writes (shown_text E image.now)
+        (sink_change K.written K.faults out.old out.new) result }
 {
     text.push(b"line,data\n");
     for line in 0..image.total() {
@@ -62,7 +63,8 @@ fn read_saved<const B: usize, const M: usize>(
     ensures saved { IfOk result (λ image. IsSaved image) }
     ensures exact { IfOk result (λ image. image_of B M bytes.now ≡ Ok image) }
     ensures fault { IfErr result (λ fault. fault ≢ Fault.Write) }
-    ensures cause { (e : ℕ) → IfErr result (λ fault. IsImageFault fault (shown_as B M e bytes.now)) }
+    ensures cause { (e : ℕ) → IfErr result
+        (λ fault. IsImageFault fault (shown_as B M e bytes.now)) }
 {
     let image = read_image(alloc, bytes)?;
     Ok(image)
@@ -76,7 +78,8 @@ fn show_lines<const B: usize, const M: usize, const E: usize, K: Sink>(
 ) -> Result<(), Fault>
     requires layout { IsLayout B M E }
     requires size { IsSize B M }
-    ensures { EndsShown (shown_as B M E bytes.now) (lent_sink K.written K.faults out.old out.new) result }
+    ensures { EndsShown (shown_as B M E bytes.now)
+        (lent_sink K.written K.faults out.old out.new) result }
 {
     let image = read_saved::<B, M>(alloc, bytes)?;
     let mut text = Text::new(alloc, TEXT_ROOM)?;

@@ -22,12 +22,12 @@ advance-requires g c =
           c.requires.exists,
           λ i low more.
               let n : ℕ = 64 * c.args.block + i in
-              let live : bit_in c.without-live.result i ≡ (not (cell c.args.stuck.now n) && (not (c.args.tearing && eqb (i % 2) 1) && cell c.args.mask.now n)) =
+              let live : bit_in c.without-live.result i ≡ (not (cell c.args.settled.now.stuck n) && (not (c.args.tearing && eqb (i % 2) 1) && cell c.args.mask.now n)) =
               c.without-live.ensures i
               ∙ rw (c.block-2.ensures i low, digit_and c.block.result c.args.reach i, c.block.ensures i low, c.requires.reach i low)
-              (ap (λ b. not (cell c.args.stuck.now n) && b) (swapped (cell c.args.mask.now n) (not (c.args.tearing && eqb (i % 2) 1)))) in
+              (ap (λ b. not (cell c.args.settled.now.stuck n) && b) (swapped (cell c.args.mask.now n) (not (c.args.tearing && eqb (i % 2) 1)))) in
               c.requires.few i low
-              ((calm_parts (cell c.args.stuck.now n) (c.args.tearing && eqb (i % 2) 1) (cell c.args.mask.now n) (bit_in (bit_and c.without-live.result c.below.result) i)
+              ((calm_parts (cell c.args.settled.now.stuck n) (c.args.tearing && eqb (i % 2) 1) (cell c.args.mask.now n) (bit_in (bit_and c.without-live.result c.below.result) i)
               (bit_in c.without-live.result i) (bit_in c.without-changing.result i) live (c.without-changing.ensures i) more).1),
         ),
       ),
@@ -43,7 +43,7 @@ advance-requires-2 g c =
         (
           c.requires.exists,
           λ i low h.
-              missing_few c.args.misses.now c.args.limits.now (64 * c.args.block + i) (bit_in c.without-live.result i) (bit_in (bit_and c.without-live.result c.below.result) i)
+              missing_few c.args.moving.now.misses c.args.settled.now.limits (64 * c.args.block + i) (bit_in c.without-live.result i) (bit_in (bit_and c.without-live.result c.below.result) i)
               (digit_and c.without-live.result c.below.result i ∙ ap (λ b. bit_in c.without-live.result i && b) (c.below.ensures i low)) h,
         ),
       ),
@@ -52,11 +52,11 @@ advance-requires-2 g c =
 pub returns-clause-cells : goal.returns-clause-cells
 returns-clause-cells g c =
     let block = c.args.block in
-    let stuck = c.args.stuck.now in
+    let stuck = c.args.settled.now.stuck in
     let old : LifeLine g.row.B g.row.M =
-    life_of c.args.held.now stuck c.args.misses.now c.args.spent.now c.args.left.now c.args.limits.now c.args.ends.now in
+    life_of c.args.moving.now c.args.settled.now in
     let new : LifeLine g.row.B g.row.M =
-    life_of c.set_block.new.self stuck c.advance-2.new.self c.advance.new.self c.args.left.now c.args.limits.now c.args.ends.now in
+    life_of (record { held = c.set_block.new.self; misses = c.advance-2.new.self; spent = c.advance.new.self }) c.args.settled.now in
     followed_block block (cell c.args.mask.now) (seeded c.args.tearing (cell c.args.want.now)) (seeded_cell old) (seeded_cell new)
     (λ i low.
     let n : ℕ = 64 * block + i in
@@ -72,21 +72,21 @@ returns-clause-cells g c =
     let parts : changing ≡ true → (cell stuck n ≡ false) × (cell c.args.mask.now n ≡ true) =
     calm_parts (cell stuck n) torn (cell c.args.mask.now n) (bit_in (bit_and c.without-live.result c.below.result) i)
     (bit_in c.without-live.result i) changing live (c.without-changing.ensures i) in
-    let grown : digit c.advance.new.self n ≡ cond changing (digit c.args.spent.now n + 1) (digit c.args.spent.now n) =
-    c.advance.ensures.here i low ∙ ap (λ b. cond b 0 (cond changing (digit c.args.spent.now n + 1) (digit c.args.spent.now n))) none in
+    let grown : digit c.advance.new.self n ≡ cond changing (digit c.args.moving.now.spent n + 1) (digit c.args.moving.now.spent n) =
+    c.advance.ensures.here i low ∙ ap (λ b. cond b 0 (cond changing (digit c.args.moving.now.spent n + 1) (digit c.args.moving.now.spent n))) none in
     worn_follows c.args.mask.now c.args.want.now c.args.tearing old new n
     (bit_in c.without-live.result i) (bit_in (bit_and c.without-live.result c.below.result) i) changing false
     (live ∙ rw (parity) refl)
     (digit_and c.without-live.result c.below.result i ∙ ap (λ b. bit_in c.without-live.result i && b) (c.below.ensures i low))
     (c.without-changing.ensures i)
-    (calm_last changing (count c.args.left.now n) (digit c.args.spent.now n) (λ more. c.requires.many i low (parts more).0) (λ more. c.requires.few i low (parts more).1)
-    ∙ ap (λ k. changing && nat_le k 1) (sym (left_is c.args.spent.now c.args.left.now n within)))
+    (calm_last changing (count c.args.settled.now.left n) (digit c.args.moving.now.spent n) (λ more. c.requires.many i low (parts more).0) (λ more. c.requires.few i low (parts more).1)
+    ∙ ap (λ k. changing && nat_le k 1) (sym (left_is c.args.moving.now.spent c.args.settled.now.left n within)))
     (c.set_block.ensures.here i low ∙ c.chosen-now.ensures.bits i ∙ rw (c.block-3.ensures i low, c.block-4.ensures i low) refl)
     refl
     (c.advance-2.ensures.here i low)
-    (left_is c.advance.new.self c.args.left.now n within
-    ∙ calm_here changing (count c.args.left.now n) (digit c.args.spent.now n) (digit c.advance.new.self n) grown
-    ∙ ap (λ k. cond changing (k - 1) k) (sym (left_is c.args.spent.now c.args.left.now n within)))
+    (left_is c.advance.new.self c.args.settled.now.left n within
+    ∙ calm_here changing (count c.args.settled.now.left n) (digit c.args.moving.now.spent n) (digit c.advance.new.self n) grown
+    ∙ ap (λ k. cond changing (k - 1) k) (sym (left_is c.args.moving.now.spent c.args.settled.now.left n within)))
     refl refl)
     (λ n apart. worn_kept old new n (c.set_block.ensures.others n apart) refl (c.advance-2.ensures.others n apart)
-    (left_kept c.args.spent.now c.advance.new.self c.args.left.now c.args.left.now n refl (c.advance.ensures.others n apart)) refl refl)
+    (left_kept c.args.moving.now.spent c.advance.new.self c.args.settled.now.left c.args.settled.now.left n refl (c.advance.ensures.others n apart)) refl refl)

@@ -14,8 +14,8 @@ loop-block-preserved g c =
       cells =
           rw (next)
           (followed_group (64 * c.args.from) (64 * block) (64 * block + 64) (cell c.args.mask.now) (seeded c.args.tearing (cell c.args.want.now))
-          (seeded_cell (life_of c.args.held.now c.args.stuck.now c.args.misses.now c.args.spent.now c.args.left.now c.args.limits.now c.args.ends.now))
-          (seeded_cell (life_of c.loop-block.held c.args.stuck.now c.loop-block.misses c.loop-block.spent c.args.left.now c.args.limits.now c.args.ends.now))
+          (seeded_cell (life_of c.args.moving.now c.args.settled.now))
+          (seeded_cell (life_of c.loop-block.moving c.args.settled.now))
           _ i.cells c.wear_calm_block.ensures.cells (omega (arith, i.order)) (omega arith));
       others = λ n h. c.wear_calm_block.ensures.others n (λ e. absurd (omega arith)) ∙ i.others n (omega arith);
     }

@@ -10,7 +10,7 @@ abbrev pub invariant-loop-block : goal.invariant-loop-block
 invariant-loop-block g l = record {
   order : l.from ≤ l.block;
   cells : FollowsIn (64 * l.from) (64 * l.block) (cell l.mask) (seeded l.tearing (cell l.want))
-      (seeded_cell (life_of l.initial.held l.stuck l.initial.misses l.initial.spent l.left l.limits l.ends))
-      (seeded_cell (life_of l.held l.stuck l.misses l.spent l.left l.limits l.ends));
-  others : (n : ℕ) → 64 * l.block ≤ n → digit l.spent n ≡ digit l.initial.spent n;
+      (seeded_cell (life_of l.initial.moving l.settled))
+      (seeded_cell (life_of l.moving l.settled));
+  others : (n : ℕ) → 64 * l.block ≤ n → digit l.moving.spent n ≡ digit l.initial.moving.spent n;
 }

@@ -14,22 +14,22 @@ pub returns-in-Wear-clause-ok : goal.returns-in-Wear-clause-ok
 returns-in-Wear-clause-ok g c =
     on_ok c.print_wear.result _ _ c.print_wear.ensures.ok
     (λ report ends are right roles.
-    wear-text g.row.E c.args.pcm.now (g.A.CellArray.state c.args.array.now) c.args.events.now c.args.results.now c.args.print _ c.in-Wear.is report ends are roles)
+    wear-text g.row.E c.args.pcm.now (g.A.CellArray.state c.args.array.now) c.args.events.now c.args.results.now c.args.job.now.print _ c.in-Wear.is report ends are roles)
 
 pub returns-in-Wear-clause-prefix : goal.returns-in-Wear-clause-prefix
 returns-in-Wear-clause-prefix g c =
     on_err c.print_wear.result _ _ c.print_wear.ensures.prefix
     (λ report ends are right roles.
-    wear-text g.row.E c.args.pcm.now (g.A.CellArray.state c.args.array.now) c.args.events.now c.args.results.now c.args.print _ c.in-Wear.is report ends are roles)
+    wear-text g.row.E c.args.pcm.now (g.A.CellArray.state c.args.array.now) c.args.events.now c.args.results.now c.args.job.now.print _ c.in-Wear.is report ends are roles)
 
 pub returns-in-Results-clause-sensed : goal.returns-in-Results-clause-sensed
 returns-in-Results-clause-sensed g c = (0, omega arith, senses-none (g.A.CellArray.state c.args.array.now))
 
 pub returns-in-Results-clause-all : goal.returns-in-Results-clause-all
-returns-in-Results-clause-all g c = senses-nothing c.print_results.result c.args.print (g.A.CellArray.state c.args.array.now) (λ lines. ap (λ p. senses_for p lines) c.in-Results.is)
+returns-in-Results-clause-all g c = senses-nothing c.print_results.result c.args.job.now.print (g.A.CellArray.state c.args.array.now) (λ lines. ap (λ p. senses_for p lines) c.in-Results.is)
 
 pub returns-in-Results-clause-part : goal.returns-in-Results-clause-part
-returns-in-Results-clause-part g c = no-image c.print_results.result c.args.print _ (λ is. absurd (cc (sym is ∙ c.in-Results.is)))
+returns-in-Results-clause-part g c = no-image c.print_results.result c.args.job.now.print _ (λ is. absurd (cc (sym is ∙ c.in-Results.is)))
 
 pub returns-in-Results-clause-untouched : goal.returns-in-Results-clause-untouched
 returns-in-Results-clause-untouched g c = λ other. refl
@@ -38,10 +38,10 @@ pub returns-in-Summary-clause-sensed : goal.returns-in-Summary-clause-sensed
 returns-in-Summary-clause-sensed g c = (0, omega arith, senses-none (g.A.CellArray.state c.args.array.now))
 
 pub returns-in-Summary-clause-all : goal.returns-in-Summary-clause-all
-returns-in-Summary-clause-all g c = senses-nothing c.print_counts.result c.args.print (g.A.CellArray.state c.args.array.now) (λ lines. ap (λ p. senses_for p lines) c.in-Summary.is)
+returns-in-Summary-clause-all g c = senses-nothing c.print_counts.result c.args.job.now.print (g.A.CellArray.state c.args.array.now) (λ lines. ap (λ p. senses_for p lines) c.in-Summary.is)
 
 pub returns-in-Summary-clause-part : goal.returns-in-Summary-clause-part
-returns-in-Summary-clause-part g c = no-image c.print_counts.result c.args.print _ (λ is. absurd (cc (sym is ∙ c.in-Summary.is)))
+returns-in-Summary-clause-part g c = no-image c.print_counts.result c.args.job.now.print _ (λ is. absurd (cc (sym is ∙ c.in-Summary.is)))
 
 pub returns-in-Summary-clause-untouched : goal.returns-in-Summary-clause-untouched
 returns-in-Summary-clause-untouched g c = λ other. refl
@@ -50,10 +50,10 @@ pub returns-in-Wear-clause-sensed : goal.returns-in-Wear-clause-sensed
 returns-in-Wear-clause-sensed g c = (0, omega arith, senses-none (g.A.CellArray.state c.args.array.now))
 
 pub returns-in-Wear-clause-all : goal.returns-in-Wear-clause-all
-returns-in-Wear-clause-all g c = senses-nothing c.print_wear.result c.args.print (g.A.CellArray.state c.args.array.now) (λ lines. ap (λ p. senses_for p lines) c.in-Wear.is)
+returns-in-Wear-clause-all g c = senses-nothing c.print_wear.result c.args.job.now.print (g.A.CellArray.state c.args.array.now) (λ lines. ap (λ p. senses_for p lines) c.in-Wear.is)
 
 pub returns-in-Wear-clause-part : goal.returns-in-Wear-clause-part
-returns-in-Wear-clause-part g c = no-image c.print_wear.result c.args.print _ (λ is. absurd (cc (sym is ∙ c.in-Wear.is)))
+returns-in-Wear-clause-part g c = no-image c.print_wear.result c.args.job.now.print _ (λ is. absurd (cc (sym is ∙ c.in-Wear.is)))
 
 pub returns-in-Wear-clause-untouched : goal.returns-in-Wear-clause-untouched
 returns-in-Wear-clause-untouched g c = λ other. refl
@@ -61,13 +61,13 @@ returns-in-Wear-clause-untouched g c = λ other. refl
 pub returns-in-Image-clause-ok : goal.returns-in-Image-clause-ok
 returns-in-Image-clause-ok g c =
     on_ok c.print_image.result _ _ c.print_image.ensures.ok
-    (image-text c.images_are_of_their_runs.ensures c.args.pcm.now c.args.seed (g.A.CellArray.state c.args.array.now) (g.A.CellArray.state c.print_image.new.array) c.args.events.now c.args.results.now c.args.print _ c.in-Image.is
+    (image-text c.images_are_of_their_runs.ensures c.args.pcm.now c.args.job.now.seed (g.A.CellArray.state c.args.array.now) (g.A.CellArray.state c.print_image.new.array) c.args.events.now c.args.results.now c.args.job.now.print _ c.in-Image.is
     c.requires.seed (omega arith) c.requires.shape c.requires.played c.print_image.ensures.sensed.0 c.print_image.ensures.sensed.2.since)
 
 pub returns-in-Image-clause-prefix : goal.returns-in-Image-clause-prefix
 returns-in-Image-clause-prefix g c =
     on_err c.print_image.result _ _ c.print_image.ensures.prefix
-    (image-text c.images_are_of_their_runs.ensures c.args.pcm.now c.args.seed (g.A.CellArray.state c.args.array.now) (g.A.CellArray.state c.print_image.new.array) c.args.events.now c.args.results.now c.args.print _ c.in-Image.is
+    (image-text c.images_are_of_their_runs.ensures c.args.pcm.now c.args.job.now.seed (g.A.CellArray.state c.args.array.now) (g.A.CellArray.state c.print_image.new.array) c.args.events.now c.args.results.now c.args.job.now.print _ c.in-Image.is
     c.requires.seed (omega arith) c.requires.shape c.requires.played c.print_image.ensures.sensed.0 c.print_image.ensures.sensed.2.since)
 
 pub returns-in-Image-clause-sensed : goal.returns-in-Image-clause-sensed

@@ -10,7 +10,7 @@ use Rattle.pcm_cells.proofs.seeded.SeededLine.level_block.Goals as goal
 pub invariant_of-self : goal.invariant_of-self
 invariant_of-self g c = (
   c.self.invariant.0,
-  calm_kept c.self.inside.calm (cell c.self.inside.stuck) (count c.self.inside.left) (count c.level.new.self) (8 * (g.row.B + g.row.M)) c.args.block c.are_many.result
+  calm_kept c.self.inside.calm (cell c.self.inside.settled.stuck) (count c.self.inside.settled.left) (count c.level.new.self) (8 * (g.row.B + g.row.M)) c.args.block c.are_many.result
       (search rules) c.self.invariant.1
       (λ many i low live. subst (λ k. 8 ≤ k) (c.block.ensures i low) (c.are_many.ensures many i low (c.block-stuck.ensures i low ∙ live)))
       c.level.ensures.others,
@@ -19,18 +19,18 @@ invariant_of-self g c = (
 pub returns : goal.returns
 returns g c =
     let block = c.args.block in
-    let same : (n : ℕ) → count c.level.new.self n - digit c.clear.new.self n ≡ count c.self.inside.left n - digit c.self.inside.spent n =
+    let same : (n : ℕ) → count c.level.new.self n - digit c.clear.new.self n ≡ count c.self.inside.settled.left n - digit c.self.inside.moving.spent n =
     λ n.
-    elim (cases_eq (n / 64) block) as (λ _. count c.level.new.self n - digit c.clear.new.self n ≡ count c.self.inside.left n - digit c.self.inside.spent n) [
+    elim (cases_eq (n / 64) block) as (λ _. count c.level.new.self n - digit c.clear.new.self n ≡ count c.self.inside.settled.left n - digit c.self.inside.moving.spent n) [
       | inl here ↦
           let i : ℕ = n - 64 * block in
           let low : i < 64 = omega arith in
           let number : 64 * block + i ≡ n = omega arith in
-          subst (λ k. count c.level.new.self k - digit c.clear.new.self k ≡ count c.self.inside.left k - digit c.self.inside.spent k) number
+          subst (λ k. count c.level.new.self k - digit c.clear.new.self k ≡ count c.self.inside.settled.left k - digit c.self.inside.moving.spent k) number
           (rw (c.clear.ensures.here i low)
-          (less_none (count c.level.new.self (64 * block + i)) ∙ c.level.ensures.here i low ∙ ap (λ k. count c.self.inside.left (64 * block + i) - k) (c.planes-low.ensures i low)))
+          (less_none (count c.level.new.self (64 * block + i)) ∙ c.level.ensures.here i low ∙ ap (λ k. count c.self.inside.settled.left (64 * block + i) - k) (c.planes-low.ensures i low)))
       | inr apart ↦ rw (c.level.ensures.others n apart, c.clear.ensures.others n apart) refl
     ] in
-    ap (λ xs. record { line = record { held = c.self.inside.held; stuck = c.self.inside.stuck; misses = c.self.inside.misses; pulses = c.self.inside.pulses }; left = xs; limits = c.self.inside.limits; ends = c.self.inside.ends })
-    (left_same c.self.inside.spent c.clear.new.self c.self.inside.left c.level.new.self (λ n h. same n))
+    ap (λ xs. record { line = record { held = c.self.inside.moving.held; stuck = c.self.inside.settled.stuck; misses = c.self.inside.moving.misses; pulses = c.self.inside.pulses }; left = xs; limits = c.self.inside.settled.limits; ends = c.self.inside.settled.ends })
+    (left_same c.self.inside.moving.spent c.clear.new.self c.self.inside.settled.left c.level.new.self (λ n h. same n))
     ∙ c.self.view_is

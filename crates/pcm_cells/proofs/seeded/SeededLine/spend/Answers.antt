@@ -33,10 +33,10 @@ returns-then-full-changing-eq0-clause-last g c i low =
     let row : n / 64 ≡ c.args.block = in_block c.args.block i low in
     let clear : (bit_in c.full.result i && bit_in c.args.changing i) ≡ false =
     sym (digit_and c.full.result c.args.changing i) ∙ ap (λ x. bit_in x i) c.if-full-changing-eq0.true ∙ none in
-    none ∙ calm_last (bit_in c.args.changing i) (count c.self.inside.left n) (digit c.self.inside.spent n)
+    none ∙ calm_last (bit_in c.args.changing i) (count c.self.inside.settled.left n) (digit c.self.inside.moving.spent n)
     (λ more. c.self.invariant.1 n within (rw row c.if-self-block.true) (ap (λ s. cell s.line.stuck n) c.self.view_is ∙ c.requires.live i low more))
     (λ more. c.full.ensures i low (both_false _ _ clear more))
-    ∙ ap (λ k. bit_in c.args.changing i && nat_le k 1) (sym (left_is c.self.inside.spent c.self.inside.left n within))
+    ∙ ap (λ k. bit_in c.args.changing i && nat_le k 1) (sym (left_is c.self.inside.moving.spent c.self.inside.settled.left n within))
     ∙ ap (λ s. bit_in c.args.changing i && nat_le (slice_index s.left n) 1) c.self.view_is
 
 pub returns-then-full-changing-eq0-clause-here : goal.returns-then-full-changing-eq0-clause-here
@@ -44,16 +44,16 @@ returns-then-full-changing-eq0-clause-here g c i low =
     let n : ℕ = 64 * c.args.block + i in
     let none : bit_in 0 i ≡ false = ap (λ x. eqb x 1) (bit_at-zero i) in
     let within : n < 8 * (g.row.B + g.row.M) = in_row g.row.B g.row.M c.args.block i c.requires.whole c.requires.exists low in
-    let grown : digit c.advance.new.self n ≡ cond (bit_in c.args.changing i) (digit c.self.inside.spent n + 1) (digit c.self.inside.spent n) =
-    c.advance.ensures.here i low ∙ ap (λ b. cond b 0 (cond (bit_in c.args.changing i) (digit c.self.inside.spent n + 1) (digit c.self.inside.spent n))) none in
+    let grown : digit c.advance.new.self n ≡ cond (bit_in c.args.changing i) (digit c.self.inside.moving.spent n + 1) (digit c.self.inside.moving.spent n) =
+    c.advance.ensures.here i low ∙ ap (λ b. cond b 0 (cond (bit_in c.args.changing i) (digit c.self.inside.moving.spent n + 1) (digit c.self.inside.moving.spent n))) none in
     rw (← c.self.view_is)
-    (left_is c.advance.new.self c.self.inside.left n within
-    ∙ calm_here (bit_in c.args.changing i) (count c.self.inside.left n) (digit c.self.inside.spent n) (digit c.advance.new.self n) grown
-    ∙ ap (λ k. cond (bit_in c.args.changing i) (k - 1) k) (sym (left_is c.self.inside.spent c.self.inside.left n within)))
+    (left_is c.advance.new.self c.self.inside.settled.left n within
+    ∙ calm_here (bit_in c.args.changing i) (count c.self.inside.settled.left n) (digit c.self.inside.moving.spent n) (digit c.advance.new.self n) grown
+    ∙ ap (λ k. cond (bit_in c.args.changing i) (k - 1) k) (sym (left_is c.self.inside.moving.spent c.self.inside.settled.left n within)))
 
 pub returns-then-full-changing-eq0-clause-others : goal.returns-then-full-changing-eq0-clause-others
 returns-then-full-changing-eq0-clause-others g c n apart =
-    left_kept c.self.inside.spent c.advance.new.self c.self.inside.left c.self.inside.left n refl (c.advance.ensures.others n apart)
+    left_kept c.self.inside.moving.spent c.advance.new.self c.self.inside.settled.left c.self.inside.settled.left n refl (c.advance.ensures.others n apart)
     ∙ ap (λ s. slice_index s.left n) c.self.view_is
 
 pub returns-then-calm-clause-last : goal.returns-then-calm-clause-last
@@ -61,15 +61,15 @@ returns-then-calm-clause-last g c i low =
     let n : ℕ = 64 * c.args.block + i in
     let within : n < 8 * (g.row.B + g.row.M) = in_row g.row.B g.row.M c.args.block i c.requires.whole c.requires.exists low in
     let none : bit_in 0 i ≡ false = ap (λ x. eqb x 1) (bit_at-zero i) in
-    let levelled : count c.level.new.self n ≡ count c.self.inside.left n - digit c.self.inside.spent n =
-    c.level.ensures.here i low ∙ ap (λ k. count c.self.inside.left n - k) (c.planes-low.ensures i low) in
+    let levelled : count c.level.new.self n ≡ count c.self.inside.settled.left n - digit c.self.inside.moving.spent n =
+    c.level.ensures.here i low ∙ ap (λ k. count c.self.inside.settled.left n - k) (c.planes-low.ensures i low) in
     none ∙ calm_last (bit_in c.args.changing i) (count c.level.new.self n) 0
     (λ more.
     subst (λ k. 8 ≤ k) (c.block.ensures i low)
     (c.are_many-calm.ensures c.if-calm.true i low
     (c.block-stuck.ensures i low ∙ ap (λ s. cell s.line.stuck n) c.self.view_is ∙ c.requires.live i low more)))
     (λ more. none_few)
-    ∙ ap (λ k. bit_in c.args.changing i && nat_le k 1) (less_none (count c.level.new.self n) ∙ levelled ∙ sym (left_is c.self.inside.spent c.self.inside.left n within))
+    ∙ ap (λ k. bit_in c.args.changing i && nat_le k 1) (less_none (count c.level.new.self n) ∙ levelled ∙ sym (left_is c.self.inside.moving.spent c.self.inside.settled.left n within))
     ∙ ap (λ s. bit_in c.args.changing i && nat_le (slice_index s.left n) 1) c.self.view_is
 
 pub returns-then-calm-clause-here : goal.returns-then-calm-clause-here
@@ -77,27 +77,27 @@ returns-then-calm-clause-here g c i low =
     let n : ℕ = 64 * c.args.block + i in
     let none : bit_in 0 i ≡ false = ap (λ x. eqb x 1) (bit_at-zero i) in
     let within : n < 8 * (g.row.B + g.row.M) = in_row g.row.B g.row.M c.args.block i c.requires.whole c.requires.exists low in
-    let levelled : count c.level.new.self n ≡ count c.self.inside.left n - digit c.self.inside.spent n =
-    c.level.ensures.here i low ∙ ap (λ k. count c.self.inside.left n - k) (c.planes-low.ensures i low) in
+    let levelled : count c.level.new.self n ≡ count c.self.inside.settled.left n - digit c.self.inside.moving.spent n =
+    c.level.ensures.here i low ∙ ap (λ k. count c.self.inside.settled.left n - k) (c.planes-low.ensures i low) in
     let grown : digit c.advance-then-calm.new.self n ≡ cond (bit_in c.args.changing i) (digit c.clear.new.self n + 1) (digit c.clear.new.self n) =
     c.advance-then-calm.ensures.here i low ∙ ap (λ b. cond b 0 (cond (bit_in c.args.changing i) (digit c.clear.new.self n + 1) (digit c.clear.new.self n))) none in
     left_is c.advance-then-calm.new.self c.level.new.self n within
-    ∙ calm_level (bit_in c.args.changing i) (count c.self.inside.left n) (digit c.self.inside.spent n)
+    ∙ calm_level (bit_in c.args.changing i) (count c.self.inside.settled.left n) (digit c.self.inside.moving.spent n)
     (count c.level.new.self n) (digit c.clear.new.self n) (digit c.advance-then-calm.new.self n)
     levelled (c.clear.ensures.here i low) grown
-    ∙ ap (λ k. cond (bit_in c.args.changing i) (k - 1) k) (sym (left_is c.self.inside.spent c.self.inside.left n within))
+    ∙ ap (λ k. cond (bit_in c.args.changing i) (k - 1) k) (sym (left_is c.self.inside.moving.spent c.self.inside.settled.left n within))
     ∙ ap (λ s. cond (bit_in c.args.changing i) (slice_index s.left n - 1) (slice_index s.left n)) c.self.view_is
 
 pub returns-then-calm-clause-others : goal.returns-then-calm-clause-others
 returns-then-calm-clause-others g c n apart =
-    left_kept c.self.inside.spent c.advance-then-calm.new.self c.self.inside.left c.level.new.self n (c.level.ensures.others n apart)
+    left_kept c.self.inside.moving.spent c.advance-then-calm.new.self c.self.inside.settled.left c.level.new.self n (c.level.ensures.others n apart)
     (c.advance-then-calm.ensures.others n apart ∙ c.clear.ensures.others n apart)
     ∙ ap (λ s. slice_index s.left n) c.self.view_is
 
 pub invariant_of-self-2 : goal.invariant_of-self-2
 invariant_of-self-2 g c = (
   c.self.invariant.0,
-  calm_kept c.self.inside.calm (cell c.self.inside.stuck) (count c.self.inside.left) (count c.set_block.new.self) (8 * (g.row.B + g.row.M)) c.args.block c.are_many-calm.result
+  calm_kept c.self.inside.calm (cell c.self.inside.settled.stuck) (count c.self.inside.settled.left) (count c.set_block.new.self) (8 * (g.row.B + g.row.M)) c.args.block c.are_many-calm.result
       (search rules) c.self.invariant.1
       (λ many. absurd (true≢false (sym many ∙ c.if-calm.false)))
       (λ n apart. c.set_block.ensures.others n apart ∙ c.level.ensures.others n apart),
@@ -107,28 +107,28 @@ pub returns-clause-last : goal.returns-clause-last
 returns-clause-last g c i low =
     let n : ℕ = 64 * c.args.block + i in
     let within : n < 8 * (g.row.B + g.row.M) = in_row g.row.B g.row.M c.args.block i c.requires.whole c.requires.exists low in
-    let levelled : slice_index c.block-2.result.now i ≡ count c.self.inside.left n - digit c.self.inside.spent n =
-    c.block-2.ensures i low ∙ c.level.ensures.here i low ∙ ap (λ k. count c.self.inside.left n - k) (c.planes-low.ensures i low) in
+    let levelled : slice_index c.block-2.result.now i ≡ count c.self.inside.settled.left n - digit c.self.inside.moving.spent n =
+    c.block-2.ensures i low ∙ c.level.ensures.here i low ∙ ap (λ k. count c.self.inside.settled.left n - k) (c.planes-low.ensures i low) in
     c.spend-last.ensures.last i low
-    ∙ ap (λ k. bit_in c.args.changing i && nat_le k 1) (levelled ∙ sym (left_is c.self.inside.spent c.self.inside.left n within))
+    ∙ ap (λ k. bit_in c.args.changing i && nat_le k 1) (levelled ∙ sym (left_is c.self.inside.moving.spent c.self.inside.settled.left n within))
     ∙ ap (λ s. bit_in c.args.changing i && nat_le (slice_index s.left n) 1) c.self.view_is
 
 pub returns-clause-here : goal.returns-clause-here
 returns-clause-here g c i low =
     let n : ℕ = 64 * c.args.block + i in
     let within : n < 8 * (g.row.B + g.row.M) = in_row g.row.B g.row.M c.args.block i c.requires.whole c.requires.exists low in
-    let levelled : slice_index c.block-2.result.now i ≡ count c.self.inside.left n - digit c.self.inside.spent n =
-    c.block-2.ensures i low ∙ c.level.ensures.here i low ∙ ap (λ k. count c.self.inside.left n - k) (c.planes-low.ensures i low) in
+    let levelled : slice_index c.block-2.result.now i ≡ count c.self.inside.settled.left n - digit c.self.inside.moving.spent n =
+    c.block-2.ensures i low ∙ c.level.ensures.here i low ∙ ap (λ k. count c.self.inside.settled.left n - k) (c.planes-low.ensures i low) in
     left_is c.clear.new.self c.set_block.new.self n within
-    ∙ level_here (bit_in c.args.changing i) (count c.self.inside.left n) (slice_index c.block-2.result.now i)
-    (count c.set_block.new.self n) (digit c.self.inside.spent n) (digit c.clear.new.self n)
+    ∙ level_here (bit_in c.args.changing i) (count c.self.inside.settled.left n) (slice_index c.block-2.result.now i)
+    (count c.set_block.new.self n) (digit c.self.inside.moving.spent n) (digit c.clear.new.self n)
     levelled (c.set_block.ensures.here i low ∙ c.spend-last.ensures.here i low) (c.clear.ensures.here i low)
-    ∙ ap (λ k. cond (bit_in c.args.changing i) (k - 1) k) (sym (left_is c.self.inside.spent c.self.inside.left n within))
+    ∙ ap (λ k. cond (bit_in c.args.changing i) (k - 1) k) (sym (left_is c.self.inside.moving.spent c.self.inside.settled.left n within))
     ∙ ap (λ s. cond (bit_in c.args.changing i) (slice_index s.left n - 1) (slice_index s.left n)) c.self.view_is
 
 pub returns-clause-others : goal.returns-clause-others
 returns-clause-others g c n apart =
-    left_kept c.self.inside.spent c.clear.new.self c.self.inside.left c.set_block.new.self n
+    left_kept c.self.inside.moving.spent c.clear.new.self c.self.inside.settled.left c.set_block.new.self n
     (c.set_block.ensures.others n apart ∙ c.level.ensures.others n apart) (c.clear.ensures.others n apart)
     ∙ ap (λ s. slice_index s.left n) c.self.view_is
 
@@ -153,7 +153,7 @@ advance-requires-then-calm g c =
 pub invariant_of-self-then-calm : goal.invariant_of-self-then-calm
 invariant_of-self-then-calm g c = (
   c.self.invariant.0,
-  calm_kept c.self.inside.calm (cell c.self.inside.stuck) (count c.self.inside.left) (count c.level.new.self) (8 * (g.row.B + g.row.M)) c.args.block c.are_many-calm.result
+  calm_kept c.self.inside.calm (cell c.self.inside.settled.stuck) (count c.self.inside.settled.left) (count c.level.new.self) (8 * (g.row.B + g.row.M)) c.args.block c.are_many-calm.result
       (search rules) c.self.invariant.1
       (λ many i low live. subst (λ k. 8 ≤ k) (c.block.ensures i low) (c.are_many-calm.ensures many i low (c.block-stuck.ensures i low ∙ live)))
       c.level.ensures.others,

@@ -12,7 +12,7 @@ pub advance-requires : goal.advance-requires
 advance-requires g c =
     let few_bytes : g.row.B ≤ 128 = c.requires.shape.1 in
     let few_check : g.row.M ≤ 16 = c.requires.shape.3 in
-    let misses : c.self-2.inside.misses ≡ c.self.inside.misses =
+    let misses : c.self-2.inside.moving.misses ≡ c.self.inside.moving.misses =
     ap (λ s. s.line.misses) c.self-2.view_is ∙ ap (λ l. l.misses) c.spend-last.ensures.line ∙ sym (ap (λ s. s.line.misses) c.self.view_is) in
     let live = bit_in c.without-live.result in (
       search rules,
@@ -21,7 +21,7 @@ advance-requires g c =
         (
           c.requires.exists,
           λ i low h.
-              rw misses (missing_few c.self.inside.misses c.self.inside.limits (64 * c.args.block + i) (live i) (bit_in (bit_and c.without-live.result c.below.result) i)
+              rw misses (missing_few c.self.inside.moving.misses c.self.inside.settled.limits (64 * c.args.block + i) (live i) (bit_in (bit_and c.without-live.result c.below.result) i)
               (digit_and c.without-live.result c.below.result i ∙ ap (λ b. live i && b) (c.below.ensures i low)) h),
         ),
       ),
@@ -34,20 +34,20 @@ returns-clause-cells g c =
     let new : LifeLine g.row.B g.row.M =
     record {
       line = record { held = c.set_block.new.self; stuck = c.set_block-2.new.self; misses = c.advance.new.self; pulses = c.self-2.inside.pulses };
-      left = left_of c.self-2.inside.spent c.self-2.inside.left;
-      limits = c.self-2.inside.limits;
-      ends = c.self-2.inside.ends;
+      left = left_of c.self-2.inside.moving.spent c.self-2.inside.settled.left;
+      limits = c.self-2.inside.settled.limits;
+      ends = c.self-2.inside.settled.ends;
     } in
     let old : LifeLine g.row.B g.row.M = c.args.self.now in
-    let held : c.self-2.inside.held ≡ old.line.held = ap (λ s. s.line.held) c.self-2.view_is ∙ ap (λ l. l.held) c.spend-last.ensures.line in
-    let stuck : c.self.inside.stuck ≡ old.line.stuck = ap (λ s. s.line.stuck) c.self.view_is in
-    let stuck_2 : c.self-2.inside.stuck ≡ old.line.stuck = ap (λ s. s.line.stuck) c.self-2.view_is ∙ ap (λ l. l.stuck) c.spend-last.ensures.line in
-    let misses : c.self.inside.misses ≡ old.line.misses = ap (λ s. s.line.misses) c.self.view_is in
-    let misses_2 : c.self-2.inside.misses ≡ old.line.misses = ap (λ s. s.line.misses) c.self-2.view_is ∙ ap (λ l. l.misses) c.spend-last.ensures.line in
-    let limits : c.self.inside.limits ≡ old.limits = ap (λ s. s.limits) c.self.view_is in
-    let limits_2 : c.self-2.inside.limits ≡ old.limits = ap (λ s. s.limits) c.self-2.view_is ∙ c.spend-last.ensures.limits in
-    let ends_2 : c.self-2.inside.ends ≡ old.ends = ap (λ s. s.ends) c.self-2.view_is ∙ c.spend-last.ensures.ends in
-    let left : left_of c.self-2.inside.spent c.self-2.inside.left ≡ now.left = ap (λ s. s.left) c.self-2.view_is in
+    let held : c.self-2.inside.moving.held ≡ old.line.held = ap (λ s. s.line.held) c.self-2.view_is ∙ ap (λ l. l.held) c.spend-last.ensures.line in
+    let stuck : c.self.inside.settled.stuck ≡ old.line.stuck = ap (λ s. s.line.stuck) c.self.view_is in
+    let stuck_2 : c.self-2.inside.settled.stuck ≡ old.line.stuck = ap (λ s. s.line.stuck) c.self-2.view_is ∙ ap (λ l. l.stuck) c.spend-last.ensures.line in
+    let misses : c.self.inside.moving.misses ≡ old.line.misses = ap (λ s. s.line.misses) c.self.view_is in
+    let misses_2 : c.self-2.inside.moving.misses ≡ old.line.misses = ap (λ s. s.line.misses) c.self-2.view_is ∙ ap (λ l. l.misses) c.spend-last.ensures.line in
+    let limits : c.self.inside.settled.limits ≡ old.limits = ap (λ s. s.limits) c.self.view_is in
+    let limits_2 : c.self-2.inside.settled.limits ≡ old.limits = ap (λ s. s.limits) c.self-2.view_is ∙ c.spend-last.ensures.limits in
+    let ends_2 : c.self-2.inside.settled.ends ≡ old.ends = ap (λ s. s.ends) c.self-2.view_is ∙ c.spend-last.ensures.ends in
+    let left : left_of c.self-2.inside.moving.spent c.self-2.inside.settled.left ≡ now.left = ap (λ s. s.left) c.self-2.view_is in
     followed_block block (cell c.args.mask.now) (seeded c.args.tearing (cell c.args.want.now)) (seeded_cell old) (seeded_cell new)
     (λ i low.
     let n : ℕ = 64 * block + i in
@@ -69,12 +69,12 @@ returns-clause-cells g c =
 pub invariant_of-self : goal.invariant_of-self
 invariant_of-self g c =
     let block = c.args.block in
-    let stuck : c.self-2.inside.stuck ≡ c.self.inside.stuck =
+    let stuck : c.self-2.inside.settled.stuck ≡ c.self.inside.settled.stuck =
     ap (λ s. s.line.stuck) c.self-2.view_is ∙ ap (λ l. l.stuck) c.spend-last.ensures.line ∙ sym (ap (λ s. s.line.stuck) c.self.view_is) in (
       c.self-2.invariant.0,
       λ n low is live.
           c.self-2.invariant.1 n low is
-          (stuck_before block (cell c.self-2.inside.stuck) (cell c.set_block-2.new.self)
+          (stuck_before block (cell c.self-2.inside.settled.stuck) (cell c.set_block-2.new.self)
           (λ i low h. ap (λ s. cell s (64 * block + i)) stuck ∙ sym (c.block-stuck.ensures i low)
           ∙ or_false (bit_in c.spend-last.result i) (bit_in c.block-stuck.result i)
           (sym (c.set_block-2.ensures.here i low ∙ digit_or c.spend-last.result c.block-stuck.result i) ∙ h))
