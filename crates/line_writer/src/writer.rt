@@ -55,6 +55,7 @@ pub struct LineWriter<const B: usize, const M: usize, const E: usize> {
 
 impl<const B: usize, const M: usize, const E: usize> LineWriter<B, M, E> {
     /// A write of the bytes to a line that holds `seen`. Its status is `More` or `Stored`.
+    #[inline(always)]
     pub fn begin(seen: Cells<B, M>, bytes: [u8; B]) -> LineWriter<B, M, E>
         requires { IsLayout B M E }
         ensures writes { (line : LineState B M) → line.held ≡ seen.entry
@@ -174,7 +175,9 @@ impl<const B: usize, const M: usize, const E: usize> LineWriter<B, M, E> {
         }
     }
 
-    // A write of a line whose activity cells are in order: the sources of all bits are to be filled.
+    // A write of a line whose activity cells are in order: the sources of all bits are to be filled. It is made where
+    // it is to stand: a call would copy it five times.
+    #[inline(always)]
     fn filling(seen: Cells<B, M>, bytes: [u8; B], entries: u8) -> LineWriter<B, M, E>
         requires layout { IsLayout B M E }
         requires most { entries ≤ E }

@@ -178,6 +178,7 @@ impl<const B: usize> Kept<B> {
     }
 
     /// What the bank does next: nothing once it is exhausted, else the gap move that is due, else the store of the oldest write.
+    #[inline(always)]
     pub fn next_work(&self) -> Work
         ensures { result ≡ next_work self.now }
     {

@@ -33,6 +33,7 @@ pub enum Turn<const B: usize, const M: usize> {
 
 impl<const B: usize, const M: usize> Prog<B, M> {
     /// A programming of a line that holds `seen`, of the cells `which`, to their values in `want`.
+    #[inline(always)]
     pub fn new(seen: Cells<B, M>, want: Cells<B, M>, which: Cells<B, M>) -> Prog<B, M>
         ensures made { result ≡ record { seen = seen.entry; want = want.entry; which = which.entry; rounds = 0 } }
         ensures programs { (line : LineState B M) → line.held ≡ seen.entry → Programs result line }

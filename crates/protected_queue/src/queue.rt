@@ -72,10 +72,8 @@ impl<const B: usize> Queue<B> {
         let Some(slot) = self.ring.get_mut(index) else {
             unreachable!()
         };
-        let mut merged = *slot;
-        let old = merged.row;
-        merged.lay_on(newer);
-        *slot = merged;
+        let old = slot.row;
+        slot.lay_on(newer);
         old
     }
 
@@ -165,11 +163,9 @@ impl<const B: usize> Queue<B> {
         requires { 0 < length self.old.entries }
         ensures { self.new ≡ record self.old { entries = completed under.now self.old.entries } }
     {
-        let Some(slot) = self.ring.get_mut(0) else {
+        let Some(head) = self.ring.get_mut(0) else {
             unreachable!()
         };
-        let mut head = *slot;
         head.complete(under);
-        *slot = head;
     }
 }

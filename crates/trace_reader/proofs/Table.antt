@@ -1,11 +1,11 @@
 -- How the digits of a payload are read by what `hex` says of each character.
-use Rattle.std.proofs.Common.{◌≡◌, ℕ, suc, ◌+◌, ◌*◌, ◌/◌, ◌%◌, ◌<◌, ◌≤◌, ◌==◌, List, [], ◌∷◌, ◌++◌, length, get_or, take, drop, Bool, true, false, Option, Some, None, refl, sym, ap, ◌∙◌, arith, unwrap_or, max, inl, inr, ◌≢◌, get_or-set_same, get_or-set_other}
+use Rattle.std.proofs.Common.{◌≡◌, ℕ, suc, ◌+◌, ◌*◌, ◌/◌, ◌%◌, ◌<◌, ◌≤◌, ◌==◌, List, [], ◌∷◌, ◌++◌, length, get_or, take, drop, Bool, true, false, Option, Some, None, refl, sym, ap, ◌∙◌, arith, unwrap_or, max, inl, inr, ◌≢◌}
 use Rattle.std.specs.Prelude.{option_map, if◌then◌else◌, Result, Ok, Err}
 use Rattle.std.specs.Result.{result_ok}
 use Rattle.std.proofs.Math.ListN.{set}
 use Rattle.std.proofs.Math.Seq.{take-suc-set, drop-cons}
 use Rattle.std.proofs.lemmas.List.{append_assoc, append-nil, take_all, drop_all}
-use Rattle.std.proofs.lemmas.Bool.{cases_eq, cases_lt}
+use Rattle.std.proofs.lemmas.Bool.{cases_lt}
 use Rattle.std.proofs.lemmas.Bool.Decides.{nat_tests}
 use Rattle.std.proofs.lemmas.Nat.{or_lt, le_or_l, le_or_r}
 use Rattle.std.specs.Int.Bits.{bit_or}
@@ -22,9 +22,9 @@ digit-small c v h = grind (arith, nat_tests)
 abbrev or_none : Option ℕ → ℕ
 or_none found = unwrap_or found 255
 
-value_of-digit : (c : ℕ) → value_of c ≡ or_none (hex_digit_value c)
+pub value_of_digit : (c : ℕ) → value_of c ≡ or_none (hex_digit_value c)
 unfolding value_of
-value_of-digit c = go (hex_digit_value c)
+value_of_digit c = go (hex_digit_value c)
   where
     go : (found : Option ℕ) → unwrap_or (result_ok (digit_or_error c 1 found >>= (λ l. Ok (0 * 16 + l)))) 255 ≡ or_none found
     go (Some v) = omega arith
@@ -62,15 +62,15 @@ next-read : (i high low : ℕ) (rest : List ℕ) → value_of high < 16 → valu
     → read_from i (high ∷ low ∷ rest) ≡ byte_before (value_of high * 16 + value_of low) (read_from (i + 2) rest)
 unfolding decode_pairs
 next-read i high low rest p q =
-    let h = value_of-digit high in
-    let l = value_of-digit low in
+    let h = value_of_digit high in
+    let l = value_of_digit low in
     rw (h, l) (pair-read high low i (hex_digit_value high) (hex_digit_value low) (decode_pairs (i + 2) rest) (digit-small high) (digit-small low) (rw h at p) (rw l at q))
 
 next-bad : (i high low : ℕ) (rest : List ℕ) → 16 ≤ max (value_of high) (value_of low) → read_from i (high ∷ low ∷ rest) ≡ None
 unfolding decode_pairs
 next-bad i high low rest p =
-    let h = value_of-digit high in
-    let l = value_of-digit low in
+    let h = value_of_digit high in
+    let l = value_of_digit low in
     pair-bad high low i (hex_digit_value high) (hex_digit_value low) (decode_pairs (i + 2) rest) (digit-small high) (digit-small low) (rw (h, l) at p)
 
 -- bytes in front of bytes
@@ -194,14 +194,3 @@ bytes_of-read n text bytes most e sized h p =
 
 pub bytes_of-bad : (n : ℕ) (text bytes : List ℕ) (most : ℕ) → length text ≡ 2 * n → ReadsDigits text n bytes most → 16 ≤ most → bytes_of n text ≡ None
 bytes_of-bad n text bytes most e h p = sized_text n text e ∙ h.bad p
-
--- The table itself
-
--- one entry more
-pub entries_more : (of : List ℕ) (i v : ℕ) → i < length of → v ≡ value_of i → ((k : ℕ) → k < i → get_or of k 0 ≡ value_of k)
-    → (k : ℕ) → k < i + 1 → get_or (set of i v) k 0 ≡ value_of k
-entries_more of i v within is before k h =
-    elim (cases_eq k i) as (λ _. get_or (set of i v) k 0 ≡ value_of k) [
-      | inl same ↦ rw same (get_or-set_same of i v 0 within ∙ is)
-      | inr apart ↦ get_or-set_other of i k v 0 apart ∙ before k (omega arith)
-    ]

@@ -1,5 +1,5 @@
 //! The bytes that a write gives, as hexadecimal digits.
-ghost use Rattle.std.specs.Prelude.{◌≡◌, ◌<◌, ℕ, option_map, slice_index};
+ghost use Rattle.std.specs.Prelude.{◌≡◌, option_map};
 ghost use Rattle.std.specs.List.{list_any};
 ghost use Rattle.std.specs.Result.{result_ok};
 ghost use Rattle.trace_reader.specs.Payload.{bytes_of, value_of, pair_of, masked_of, Masked};
@@ -13,39 +13,27 @@ pub struct MaskedBytes<const B: usize> {
     pub given: [bool; B],
 }
 
-// What `hex` says of a character: the value of a digit, 255 of any other.
-#[tactic(auto, unfolding(crate::specs::Payload::value_of, hex::specs::Hex::decode_pairs))]
-fn value(character: u8) -> u8
-    ensures { result ≡ value_of character }
-{
-    let mut byte = [0; 1];
-    match hex::decode_to_slice([b'0', character], &mut byte) {
-        Ok(()) => byte[0],
-        Err(_) => 255,
-    }
-}
-
-/// What `hex` says of each character, asked once.
+/// What `hex` says of each character.
 #[derive(Drop)]
-pub struct Values {
-    of: [u8; 256],
-    ghost are_its: { (c : ℕ) → c < 256 → slice_index of c ≡ value_of c },
-}
+pub struct Values;
 
 impl Values {
-    /// The table, filled by `hex`.
+    /// The same for every text.
     pub fn new() -> Values {
-        let mut of = [0; 256];
-        for character in 0..256usize {
-            of[character] = value(character as u8);
-        }
-        Values { of }
+        Values
     }
 
+    // The value of a digit, 255 of any other character. Nothing is looked up, so that LLVM reads many digits at once.
+    #[tactic(auto, using(crate::proofs::Table::value_of_digit))]
     fn value(&self, character: u8) -> u8
         ensures { result ≡ value_of character }
     {
-        self.of[character as usize]
+        match character {
+            b'A'..=b'F' => character - 55,
+            b'a'..=b'f' => character - 87,
+            b'0'..=b'9' => character - 48,
+            _ => 255,
+        }
     }
 }
 
