@@ -1,5 +1,5 @@
 -- What one line more makes of a printer.
-use Rattle.std.proofs.Common.{◌≡◌, ℕ, ◌^◌, ◌<◌, ◌≤◌, Bool, List, [], ◌∷◌, ◌++◌, Option, true, false, Some, length, replicate, append_assoc, refl, ap, sym, subst, ◌∙◌, arith}
+use Rattle.std.proofs.Common.{◌≡◌, ℕ, ◌^◌, ◌<◌, ◌≤◌, List, [], ◌∷◌, ◌++◌, Option, true, false, Some, length, replicate, append_assoc, refl, ap, sym, subst, ◌∙◌, arith}
 use Rattle.std.specs.Prelude.{IsTrue, is_some}
 use Rattle.std.proofs.lemmas.List.{length-replicate}
 use Rattle.pcm_io.specs.Faults.{Rose}
@@ -15,12 +15,16 @@ use Rattle.run_text.specs.declared.counts.Counts.{Counts}
 use Rattle.run_text.specs.Counting.{counts_of}
 use Rattle.run_text.specs.Laws.{rows_counted}
 use Rattle.run_text.proofs.Gathered.{printed-more}
+use Rattle.row_printer.specs.declared.snapshot.Snapshot.{Snapshot}
+use Rattle.row_printer.specs.declared.told.Shown.{Shown}
+use Rattle.row_printer.specs.declared.told.Shown.TheVariants.{Nothing, Rows, Snapshots}
 use Rattle.row_printer.specs.declared.told.Told.{Told}
 use Rattle.row_printer.specs.declared.told.Told.TheVariants.{Became}
 use Rattle.row_printer.specs.Counting.{with_one}
 use Rattle.row_printer.specs.Telling.{told_header, told_line, told_text, outcomes_in, recorded, TellsOnce}
+use Rattle.row_printer.specs.Snapshots.{snapshot_line, snapshots_header, snapshots_text}
 use Rattle.row_printer.specs.Printing.{Prints, stream_text, table_of}
-use Rattle.row_printer.proofs.Telling.{told_text-more, outcomes-more, recorded-more, length-recorded}
+use Rattle.row_printer.proofs.Telling.{told_text-more, snapshots_text-more, outcomes-more, recorded-more, length-recorded}
 use Rattle.row_printer.proofs.Counted.{counts-more, counted-below}
 use Rattle.row_printer.proofs.Once.{once-more, open-untold}
 
@@ -59,30 +63,55 @@ module _ (before : Option (List ℕ)) (first : ℕ) where
     never_falls = omega (arith, h.never_falls, falls);
   }
 
-  module _ {n : ℕ} (told : List (Told n)) (line : Told n) where
-    -- the text of a stream that told one line more
-    stream-more : stream_text true told ++ told_line line ≡ stream_text true (told ++ line ∷ [])
-    stream-more =
-        append_assoc told_header (told_text told) (told_line line)
-        ∙ ap (λ (rest : List ℕ). told_header ++ rest) (sym (told_text-more told line))
+  -- a line more, wherever it stands
+  module _ (one two more : List ℕ) (is : one ++ more ≡ two) where
+    pub more-broken : (written : Option (List ℕ)) (faults : ℕ) (text : Reserved) → Prints before first written faults text one true
+        → Prints before first written faults text two true
+    more-broken written faults text h =
+        subst (λ (whole : List ℕ). Prints before first written faults text whole true) is (still-broken written faults text one more h)
 
-    pub line-broken : (prints : Bool) (written : Option (List ℕ)) (faults : ℕ) (text : Reserved) → Prints before first written faults text (stream_text prints told) true
-        → Prints before first written faults text (stream_text prints (told ++ line ∷ [])) true
-    line-broken true written faults text h =
-        subst (λ (whole : List ℕ). Prints before first written faults text whole true) stream-more (still-broken written faults text (stream_text true told) (told_line line) h)
-    line-broken false written faults text h = h
+    pub more-breaks : (was now : Option (List ℕ)) (faults left : ℕ) (text new : Reserved) → Prints before first was faults text one false
+        → AppendsPrefix before now one → Rose faults left → faults ≤ left → Prints before first now left new two true
+    more-breaks was now faults left text new h part rose falls =
+        subst (λ (whole : List ℕ). Prints before first now left new whole true) is (breaks was now faults left text new one more h part rose falls)
 
-    pub line-breaks : (was now : Option (List ℕ)) (faults left : ℕ) (text new : Reserved) → Prints before first was faults text (stream_text true told) false
-        → AppendsPrefix before now (stream_text true told) → Rose faults left → faults ≤ left → Prints before first now left new (stream_text true (told ++ line ∷ [])) true
-    line-breaks was now faults left text new h part rose falls =
-        subst (λ (whole : List ℕ). Prints before first now left new whole true) stream-more (breaks was now faults left text new (stream_text true told) (told_line line) h part rose falls)
+    pub more-goes : (was now : Option (List ℕ)) (faults left : ℕ) (text new : Reserved) → Prints before first was faults text one false
+        → Printed before now new one → faults ≤ left
+        → Prints before first now left (appended new more) two false
+    more-goes was now faults left text new h printed falls =
+        subst (λ (whole : List ℕ). Prints before first now left (appended new more) whole false) is
+        (goes was now faults left text new one more h printed falls)
 
-    pub line-goes : (was now : Option (List ℕ)) (faults left : ℕ) (text new : Reserved) → Prints before first was faults text (stream_text true told) false
-        → Printed before now new (stream_text true told) → faults ≤ left
-        → Prints before first now left (appended new (told_line line)) (stream_text true (told ++ line ∷ [])) false
-    line-goes was now faults left text new h printed falls =
-        subst (λ (whole : List ℕ). Prints before first now left (appended new (told_line line)) whole false) stream-more
-        (goes was now faults left text new (stream_text true told) (told_line line) h printed falls)
+module _ {n : ℕ} (told : List (Told n)) (line : Told n) (snapshots : List Snapshot) where
+  -- the text of a stream that told one line more
+  pub rows-more : stream_text Rows told snapshots ++ told_line line ≡ stream_text Rows (told ++ line ∷ []) snapshots
+  rows-more =
+      append_assoc told_header (told_text told) (told_line line)
+      ∙ ap (λ (rest : List ℕ). told_header ++ rest) (sym (told_text-more told line))
+
+  -- once a write failed none is printed, and none where others are
+  pub rows-broken : (before : Option (List ℕ)) (first : ℕ) (prints : Shown) (written : Option (List ℕ)) (faults : ℕ) (text : Reserved)
+      → Prints before first written faults text (stream_text prints told snapshots) true
+      → Prints before first written faults text (stream_text prints (told ++ line ∷ []) snapshots) true
+  rows-broken before first Nothing written faults text h = h
+  rows-broken before first Rows written faults text h =
+      more-broken before first (stream_text Rows told snapshots) (stream_text Rows (told ++ line ∷ []) snapshots) (told_line line) rows-more written faults text h
+  rows-broken before first (Snapshots every) written faults text h = h
+
+module _ {n : ℕ} (told : List (Told n)) (snapshots : List Snapshot) (one : Snapshot) where
+  -- the text of one that took one snapshot more
+  pub snapshots-more : (every : ℕ) → stream_text (Snapshots every) told snapshots ++ snapshot_line one ≡ stream_text (Snapshots every) told (snapshots ++ one ∷ [])
+  snapshots-more every =
+      append_assoc snapshots_header (snapshots_text snapshots) (snapshot_line one)
+      ∙ ap (λ (rest : List ℕ). snapshots_header ++ rest) (sym (snapshots_text-more snapshots one))
+
+  pub snapshots-broken : (before : Option (List ℕ)) (first : ℕ) (prints : Shown) (written : Option (List ℕ)) (faults : ℕ) (text : Reserved)
+      → Prints before first written faults text (stream_text prints told snapshots) true
+      → Prints before first written faults text (stream_text prints told (snapshots ++ one ∷ [])) true
+  snapshots-broken before first Nothing written faults text h = h
+  snapshots-broken before first Rows written faults text h = h
+  snapshots-broken before first (Snapshots every) written faults text h =
+      more-broken before first (stream_text (Snapshots every) told snapshots) (stream_text (Snapshots every) told (snapshots ++ one ∷ [])) (snapshot_line one) (snapshots-more every) written faults text h
 
 -- a row that was open is told once
 pub tells-next : {n : ℕ} (most : ℕ) (outcomes : List (ℕ × Outcome n)) (row : ℕ) (outcome : Outcome n) → TellsOnce most outcomes → HasRow (recorded outcomes (replicate most Unset)) row

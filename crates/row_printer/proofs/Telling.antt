@@ -6,7 +6,16 @@ use Rattle.result_rows.specs.Table.{with_outcome}
 use Rattle.result_rows.proofs.TableLemmas.{length-with_outcome}
 use Rattle.row_printer.specs.declared.told.Told.{Told}
 use Rattle.row_printer.specs.declared.told.Told.TheVariants.{Became, Settled}
+use Rattle.row_printer.specs.declared.snapshot.Snapshot.{Snapshot}
+use Rattle.row_printer.specs.Snapshots.{snapshot_line, snapshots_text}
 use Rattle.row_printer.specs.Telling.{told_line, told_text, outcomes_in, recorded}
+
+-- the text of snapshots has the last line at the end
+pub snapshots_text-more : (snapshots : List Snapshot) (one : Snapshot) → snapshots_text (snapshots ++ one ∷ []) ≡ snapshots_text snapshots ++ snapshot_line one
+snapshots_text-more [] one = append-nil (snapshot_line one)
+snapshots_text-more (first ∷ rest) one =
+    ap (λ (text : List ℕ). snapshot_line first ++ text) (snapshots_text-more rest one)
+    ∙ sym (append_assoc (snapshot_line first) (snapshots_text rest) (snapshot_line one))
 
 module _ {n : ℕ} where
   -- the text has its line at the end

@@ -12,12 +12,13 @@ became-more (x ∷ xs) ys = ap (λ t. Became x.0 x.1 ∷ t) (became-more xs ys)
 
 module _ {n : ℕ} {S : Type 0} (written : S → Option (List ℕ)) (faults : S → ℕ) where
   pub stands-on : (one : Printing n S) → PrintsOn written faults one one
-  stands-on one = record { added = []; told = sym (append-nil one.told); rows = refl; prints = refl; printing = λ before first h. h }
+  stands-on one = record { added = []; told = sym (append-nil one.told); snapshots = refl; rows = refl; prints = refl; printing = λ before first h. h }
 
   pub follows-on : (one two three : Printing n S) → PrintsOn written faults one two → PrintsOn written faults two three → PrintsOn written faults one three
   follows-on one two three a b = record {
     added = a.added ++ b.added;
     told = b.told ∙ ap (λ t. t ++ became b.added) a.told ∙ append_assoc one.told (became a.added) (became b.added) ∙ ap (λ t. one.told ++ t) (sym (became-more a.added b.added));
+    snapshots = b.snapshots ∙ a.snapshots;
     rows = b.rows ∙ a.rows;
     prints = b.prints ∙ a.prints;
     printing = λ before first h. b.printing before first (a.printing before first h);

@@ -1,5 +1,5 @@
 -- What contracts see of a printer of rows.
-use Rattle.std.specs.Prelude.{◌≡◌, ℕ, ◌≤◌, Bool, true, false, if◌then◌else◌, List, [], ◌++◌, Option, replicate}
+use Rattle.std.specs.Prelude.{◌≡◌, ℕ, ◌≤◌, Bool, true, false, List, [], ◌++◌, Option, replicate}
 use Rattle.pcm_io.specs.Faults.{Rose}
 use Rattle.pcm_io.specs.Giving.{AppendsPrefix}
 use Rattle.pcm_io.specs.Reserved.{Reserved}
@@ -9,17 +9,22 @@ use Rattle.run_text.specs.Counting.{counts_of}
 use Rattle.run_text.specs.Gathering.{Printed}
 use Rattle.run_text.specs.declared.counts.Counts.{Counts}
 use Rattle.run_text.specs.declared.room.TheConstants.{TEXT_ROOM}
+use Rattle.row_printer.specs.declared.snapshot.Snapshot.{Snapshot}
+use Rattle.row_printer.specs.declared.told.Shown.{Shown}
+use Rattle.row_printer.specs.declared.told.Shown.TheVariants.{Nothing, Rows, Snapshots}
 use Rattle.row_printer.specs.declared.told.Told.{Told}
+use Rattle.row_printer.specs.Snapshots.{IsShown, snapshots_header, snapshots_text}
 use Rattle.row_printer.specs.Telling.{told_header, told_text, outcomes_in, became, recorded, TellsOnce}
 
--- its sink, the text that is still to be written, what it was told, in order, how many rows came, whether lines are printed, and whether a
--- write failed
+-- its sink, the text that is still to be written, what it was told and the snapshots, in order, how many rows came, what is printed, and
+-- whether a write failed
 pub record Printing (n : ℕ) (S : Type 0) : Type 0 where
   pub sink : S
   pub text : Reserved
   pub told : List (Told n)
+  pub snapshots : List Snapshot
   pub rows : ℕ
-  pub prints : Bool
+  pub prints : Shown
   pub broken : Bool
 
 -- the table that outcomes make of so many rows
@@ -30,9 +35,15 @@ table_of rows told = recorded (outcomes_in told) (replicate rows Unset)
 abbrev pub table_told : {n : ℕ} {S : Type 0} → Printing n S → List (Outcome n)
 table_told printer = table_of printer.rows printer.told
 
--- the whole text of a stream that told this: the header and each line, or nothing where lines aren't printed
-abbrev pub stream_text : {n : ℕ} → Bool → List (Told n) → List ℕ
-stream_text prints told = if prints then told_header ++ told_text told else []
+-- the whole text of a stream that told this, with these snapshots: a header and each line, or a header and each snapshot, or nothing
+abbrev pub stream_text : {n : ℕ} → Shown → List (Told n) → List Snapshot → List ℕ
+stream_text Nothing told snapshots = []
+stream_text Rows told snapshots = told_header ++ told_text told
+stream_text (Snapshots every) told snapshots = snapshots_header ++ snapshots_text snapshots
+
+-- the whole text of what a printer was told
+abbrev pub text_told : {n : ℕ} {S : Type 0} → Printing n S → List ℕ
+text_told printer = stream_text printer.prints printer.told printer.snapshots
 
 -- this is printed, behind what was written before; once a write failed first bytes of it were written, and the count of faults rose
 pub record Prints (before : Option (List ℕ)) (first : ℕ) (written : Option (List ℕ)) (faults : ℕ) (text : Reserved) (whole : List ℕ) (broken : Bool) : Type 0 where
@@ -44,19 +55,21 @@ pub record Prints (before : Option (List ℕ)) (first : ℕ) (written : Option (
 module _ {n : ℕ} {S : Type 0} (written : S → Option (List ℕ)) (faults : S → ℕ) where
   -- a printer has printed what it was told, behind what its sink had received before, when so many of its calls had failed
   abbrev pub IsPrinting : Option (List ℕ) → ℕ → Printing n S → Type 0
-  IsPrinting before first p = Prints before first (written p.sink) (faults p.sink) p.text (stream_text p.prints p.told) p.broken
+  IsPrinting before first p = Prints before first (written p.sink) (faults p.sink) p.text (text_told p) p.broken
 
   -- one became the other by outcomes that it was told
   pub record PrintsOn (old new : Printing n S) : Type 0 where
     pub added : List (ℕ × Outcome n)
     pub told : new.told ≡ old.told ++ became added
+    pub snapshots : new.snapshots ≡ old.snapshots
     pub rows : new.rows ≡ old.rows
     pub prints : new.prints ≡ old.prints
     pub printing : (before : Option (List ℕ)) (first : ℕ) → IsPrinting before first old → IsPrinting before first new
 
 -- each row was told once, and the outcomes are counted
-pub record IsTold {n : ℕ} (text : Reserved) (told : List (Told n)) (rows : ℕ) (counts : Counts) : Type 0 where
+pub record IsTold {n : ℕ} (prints : Shown) (text : Reserved) (told : List (Told n)) (rows : ℕ) (counts : Counts) : Type 0 where
   pub few : n ≤ 128
+  pub shown : IsShown prints
   pub limit : text.limit ≡ TEXT_ROOM
   pub once : TellsOnce rows (outcomes_in told)
   pub counted : counts ≡ counts_of (table_of rows told)

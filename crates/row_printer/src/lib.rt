@@ -3,9 +3,11 @@
 
 mod counting;
 mod printer;
+mod snapshot;
 mod text;
 mod told;
 
 pub use printer::RowPrinter;
+pub use snapshot::{Snapshot, print_snapshot, snapshots_header};
 pub use text::{print_told, stream_header};
-pub use told::Told;
+pub use told::{Shown, Told};

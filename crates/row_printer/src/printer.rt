@@ -1,5 +1,5 @@
 // A printer of rows.
-ghost use Rattle.std.specs.Prelude.{◌≡◌, ℕ, ◌+◌, ◌<◌, ◌≤◌, List, [], ◌∷◌, ◌++◌, Option, Some, true, false, IsTrue, is_some, OnOk, OnErr};
+ghost use Rattle.std.specs.Prelude.{◌≡◌, ℕ, ◌+◌, ◌<◌, ◌≤◌, List, [], ◌∷◌, ◌++◌, Option, Some, false, IsTrue, is_some, OnOk, OnErr};
 ghost use Rattle.std.specs.Io.KnownBytes.{Appends};
 ghost use Rattle.pcm_io.specs.Faults.{Rose};
 ghost use Rattle.pcm_io.specs.Giving.{AppendsPrefix};
@@ -12,11 +12,14 @@ ghost use Rattle.run_text.specs.Shortfall.{any_short};
 ghost use Rattle.row_printer.specs.declared.told.Told.{Told as Line};
 ghost use Rattle.row_printer.specs.declared.told.Told.TheVariants.{Settled};
 ghost use Rattle.row_printer.specs.Telling.{outcomes_in, TellsOnce};
-ghost use Rattle.row_printer.specs.Printing.{IsPrinting, Prints, PrintsOn, stream_text, table_told};
+ghost use Rattle.row_printer.specs.declared.snapshot.Snapshot.{Snapshot as Taken};
+ghost use Rattle.row_printer.specs.Snapshots.{IsShown, is_due, takes_snapshots};
+ghost use Rattle.row_printer.specs.Printing.{IsPrinting, Prints, PrintsOn, stream_text, table_told, text_told};
 
 use crate::counting::{count, counts_short, no_counts};
+use crate::snapshot::{Snapshot, print_snapshot, snapshots_header};
 use crate::text::{print_told, stream_header};
-use crate::told::Told;
+use crate::told::{Shown, Told};
 use ghost_list::GhostList;
 use pcm_io::{Sink, Text, WriteFault};
 use result_rows::Outcome;
@@ -25,19 +28,20 @@ use run_text::{Counts, TEXT_ROOM, make_room, print_rest, short_rows_are_counted}
 use std::marker::Model;
 
 /// Prints a line for each outcome that it is told, behind a header and in the order in which they are told, and counts them; it
-/// keeps none. Or it prints nothing, and only counts. A text of 65,536 bytes is gathered and then written. After a fault of the
+/// keeps none. Or it prints snapshots, or nothing, and only counts. A text of 65,536 bytes is gathered and then written. After a fault of the
 /// sink it prints no more, and goes on counting.
 #[derive(Drop)]
 pub struct RowPrinter<const B: usize, S: Sink + Drop> {
     // In a box, so that the printer has one size whatever the sink.
     sink: Box<S>,
     text: Text,
-    // For contracts alone: one byte.
+    // For contracts alone: one byte each.
     told: GhostList<Told<B>>,
+    snapshots: GhostList<Snapshot>,
     // How many rows came.
     rows: u32,
-    // Whether lines are printed.
-    prints: bool,
+    // What is printed.
+    prints: Shown,
     // Whether a write failed.
     broken: bool,
     counts: Counts,
@@ -49,17 +53,19 @@ impl<const B: usize, S: Sink + Drop> Model for RowPrinter<B, S> {
 
     ghost Value = { Printing B S };
 
-    ghost view = { λ p. record { sink = p.sink.value; text = p.text; told = items p.told; rows = p.rows; prints = p.prints; broken = p.broken } };
+    ghost view = { λ p. record { sink = p.sink.value; text = p.text; told = items p.told; snapshots = items p.snapshots; rows = p.rows; prints = p.prints; broken = p.broken } };
 
-    ghost invariant = { λ p. IsTold p.text (items p.told) p.rows p.counts };
+    ghost invariant = { λ p. IsTold p.prints p.text (items p.told) p.rows p.counts };
 }
 
 impl<const B: usize, S: Sink + Drop> RowPrinter<B, S> {
-    /// A printer of no row yet, which prints lines or only counts. The text is what it gathers them in.
-    pub fn new(sink: Box<S>, text: Text, prints: bool) -> RowPrinter<B, S>
+    /// A printer of no row yet, which prints lines, or snapshots, or only counts. The text is what it gathers them in.
+    pub fn new(sink: Box<S>, text: Text, prints: Shown) -> RowPrinter<B, S>
         requires few { B ≤ 128 }
+        requires shown { IsShown prints }
         requires text { text ≡ reserved TEXT_ROOM }
         ensures told { result.told ≡ [] }
+        ensures snapshots { result.snapshots ≡ [] }
         ensures rows { result.rows ≡ 0 }
         ensures prints { result.prints ≡ prints }
         ensures broken { result.broken ≡ false }
@@ -70,6 +76,7 @@ impl<const B: usize, S: Sink + Drop> RowPrinter<B, S> {
             sink,
             text: begun(prints, text),
             told: GhostList::new(),
+            snapshots: GhostList::new(),
             rows: 0,
             prints,
             broken: false,
@@ -82,6 +89,7 @@ impl<const B: usize, S: Sink + Drop> RowPrinter<B, S> {
         requires few { self.old.rows < 4294967295 }
         ensures rows { self.new.rows ≡ self.old.rows + 1 }
         ensures told { self.new.told ≡ self.old.told }
+        ensures snapshots { self.new.snapshots ≡ self.old.snapshots }
         ensures prints { self.new.prints ≡ self.old.prints }
         ensures table { table_told self.new ≡ table_told self.old ++ Unset ∷ [] }
         ensures printing { (before : Option (List ℕ)) (first : ℕ) → IsPrinting S.written S.faults before first self.old
@@ -94,6 +102,7 @@ impl<const B: usize, S: Sink + Drop> RowPrinter<B, S> {
     pub fn settled(&mut self, tick: u64)
         ensures rows { self.new.rows ≡ self.old.rows }
         ensures told { self.new.told ≡ self.old.told ++ Settled tick ∷ [] }
+        ensures snapshots { self.new.snapshots ≡ self.old.snapshots }
         ensures prints { self.new.prints ≡ self.old.prints }
         ensures printing { (before : Option (List ℕ)) (first : ℕ) → IsPrinting S.written S.faults before first self.old
             → IsPrinting S.written S.faults before first self.new }
@@ -109,19 +118,59 @@ impl<const B: usize, S: Sink + Drop> RowPrinter<B, S> {
         self.told = self.told.and(&line);
     }
 
+    /// Whether a snapshot is to stand behind the rows that came.
+    pub fn is_due(&self) -> bool
+        ensures { result ≡ is_due self.now.prints self.now.rows }
+    {
+        match self.prints {
+            Shown::Snapshots(every) => self.rows % every == 0,
+            _ => false,
+        }
+    }
+
+    /// Whether snapshots are printed.
+    pub fn takes_snapshots(&self) -> bool
+        ensures { result ≡ takes_snapshots self.now.prints }
+    {
+        match self.prints {
+            Shown::Snapshots(_) => true,
+            _ => false,
+        }
+    }
+
+    /// Takes a snapshot, which is printed where snapshots are.
+    pub fn snapshot(&mut self, snapshot: &Snapshot)
+        ensures rows { self.new.rows ≡ self.old.rows }
+        ensures told { self.new.told ≡ self.old.told }
+        ensures snapshots { self.new.snapshots ≡ self.old.snapshots ++ snapshot.now ∷ [] }
+        ensures prints { self.new.prints ≡ self.old.prints }
+        ensures printing { (before : Option (List ℕ)) (first : ℕ) → IsPrinting S.written S.faults before first self.old
+            → IsPrinting S.written S.faults before first self.new }
+    {
+        self.broken = print_one(
+            snapshot,
+            self.prints,
+            self.broken,
+            &mut self.text,
+            &mut *self.sink,
+        );
+        self.snapshots = self.snapshots.and(snapshot);
+    }
+
     /// Writes what is gathered: all that was told is written then, unless a write fails now or failed before.
     pub fn flush(&mut self) -> Result<(), WriteFault>
         ensures rows { self.new.rows ≡ self.old.rows }
         ensures told { self.new.told ≡ self.old.told }
+        ensures snapshots { self.new.snapshots ≡ self.old.snapshots }
         ensures prints { self.new.prints ≡ self.old.prints }
         ensures broken { OnOk result (self.new.broken ≡ false) }
         ensures text { OnOk result (self.new.text ≡ reserved TEXT_ROOM) }
         ensures printing { (before : Option (List ℕ)) (first : ℕ) → IsPrinting S.written S.faults before first self.old
             → IsPrinting S.written S.faults before first self.new }
         ensures ok { OnOk result ((before : Option (List ℕ)) (first : ℕ) → IsPrinting S.written S.faults before first self.old
-            → Appends before (S.written self.new.sink) (stream_text self.new.prints self.new.told)) }
+            → Appends before (S.written self.new.sink) (text_told self.new)) }
         ensures err { OnErr result ((before : Option (List ℕ)) (first : ℕ) → IsPrinting S.written S.faults before first self.old
-            → AppendsPrefix before (S.written self.new.sink) (stream_text self.new.prints self.new.told)
+            → AppendsPrefix before (S.written self.new.sink) (text_told self.new)
             × Rose first (S.faults self.new.sink)) }
     {
         self.broken = print_all(self.broken, &mut self.text, &mut *self.sink);
@@ -210,14 +259,16 @@ impl<const B: usize, S: Sink + Drop> Outcomes<B> for RowPrinter<B, S> {
     }
 }
 
-// A text with the header, where lines are printed.
-fn begun(prints: bool, text: Text) -> Text
+// A text with the header of what is printed.
+fn begun(prints: Shown, text: Text) -> Text
     requires { text ≡ reserved TEXT_ROOM }
-    ensures { result ≡ appended text (stream_text {n = 0} prints []) }
+    ensures { result ≡ appended text (stream_text {n = 0} prints [] []) }
 {
     let mut text = text;
-    if prints {
-        text.push(stream_header());
+    match prints {
+        Shown::Nothing => {}
+        Shown::Rows => text.push(stream_header()),
+        Shown::Snapshots(_) => text.push(snapshots_header()),
     }
     text
 }
@@ -225,7 +276,7 @@ fn begun(prints: bool, text: Text) -> Text
 // Prints a line, where lines are printed, unless a write failed before; answers whether one failed.
 fn print_line<const B: usize, S: Sink>(
     line: &Told<B>,
-    prints: bool,
+    prints: Shown,
     broken: bool,
     text: &mut Text,
     sink: &mut S,
@@ -233,20 +284,50 @@ fn print_line<const B: usize, S: Sink>(
     requires few { B ≤ 128 }
     requires limit { text.old.limit ≡ TEXT_ROOM }
     ensures limit { text.new.limit ≡ TEXT_ROOM }
-    ensures printed { (before : Option (List ℕ)) (first : ℕ) (told : List (Line B))
-        → Prints before first (S.written sink.old) (S.faults sink.old) text.old (stream_text prints told) broken
+    ensures printed { (before : Option (List ℕ)) (first : ℕ) (told : List (Line B)) (snapshots : List Taken)
+        → Prints before first (S.written sink.old) (S.faults sink.old) text.old (stream_text prints told snapshots) broken
         → Prints before first (S.written sink.new) (S.faults sink.new) text.new
-        (stream_text prints (told ++ line.now ∷ [])) result }
+        (stream_text prints (told ++ line.now ∷ []) snapshots) result }
 {
     if broken {
         return true;
     }
-    if !prints {
+    let Shown::Rows = prints else {
         return false;
-    }
+    };
     match make_room(text, sink) {
         Ok(()) => {
             print_told(line, text);
+            false
+        }
+        Err(_) => true,
+    }
+}
+
+// Prints a snapshot, where snapshots are printed, unless a write failed before; answers whether one failed.
+fn print_one<S: Sink>(
+    snapshot: &Snapshot,
+    prints: Shown,
+    broken: bool,
+    text: &mut Text,
+    sink: &mut S,
+) -> bool
+    requires limit { text.old.limit ≡ TEXT_ROOM }
+    ensures limit { text.new.limit ≡ TEXT_ROOM }
+    ensures printed { (n : ℕ) (before : Option (List ℕ)) (first : ℕ) (told : List (Line n)) (snapshots : List Taken)
+        → Prints before first (S.written sink.old) (S.faults sink.old) text.old (stream_text prints told snapshots) broken
+        → Prints before first (S.written sink.new) (S.faults sink.new) text.new
+        (stream_text prints told (snapshots ++ snapshot.now ∷ [])) result }
+{
+    if broken {
+        return true;
+    }
+    let Shown::Snapshots(_) = prints else {
+        return false;
+    };
+    match make_room(text, sink) {
+        Ok(()) => {
+            print_snapshot(snapshot, text);
             false
         }
         Err(_) => true,

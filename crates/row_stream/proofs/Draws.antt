@@ -7,6 +7,8 @@ use Rattle.cell_rows.specs.Device.{ArrayState}
 use Rattle.module_shape.specs.declared.raw.RawShape.{RawShape}
 use Rattle.module_shape.specs.Limits.{IsShape, total_of}
 use Rattle.pcm_module.specs.State.{ModuleState}
+use Rattle.row_printer.specs.declared.snapshot.Snapshot.{Snapshot}
+use Rattle.row_printer.specs.declared.told.Shown.{Shown}
 use Rattle.row_printer.specs.declared.told.Told.{Told}
 use Rattle.trace_reader.specs.Events.{AreEventsFor, IsEventFor}
 use Rattle.trace_reader.specs.declared.event.Event.{Event}
@@ -29,24 +31,24 @@ total-some raw is =
     one-le-mul (one-le-mul is.some_banks is.some_regions) some
 
 -- of all drawn events the first were served, and these are left
-pub record HasDrawn {n m e : ℕ} (raw : RawShape) (seed : ℕ) (module_ : ModuleState n m e) (array : ArrayState n m) (places : ℕ) (told : List (Told n))
+pub record HasDrawn {n m e : ℕ} (raw : RawShape) (seed : ℕ) (module_ : ModuleState n m e) (array : ArrayState n m) (places : ℕ) (told : List (Told n)) (shown : Shown) (snaps : List Snapshot)
     (all left : List (Event n)) (behind : Behind) : Type 0 where
   pub asked : List (Asked n)
-  pub serving : IsServing raw seed asked module_ array places told
+  pub serving : IsServing raw seed asked module_ array places told shown snaps
   pub stands : behind ≡ behind_of asked
   pub drawn : reverse asked ++ all_events left ≡ all_events all
   pub lawful : AreEventsFor (total_of raw) module_.tick left
   pub few : length (events_in asked) + length left ≤ 4000000000
 
 module _ {n m e : ℕ} (raw : RawShape) (seed : ℕ) where
-  pub drawn-first : (module_ : ModuleState n m e) (array : ArrayState n m) (places : ℕ) (told : List (Told n)) (left : List (Event n)) (lines own : ℕ) (mix : Mix)
-      → IsServing raw seed [] module_ array places told → lines ≡ total_of raw → IsLongMix mix → IsGenerated lines mix (generated n own lines mix) → left ≡ generated n own lines mix
-      → HasDrawn raw seed module_ array places told (generated n own (total_of raw) mix) left Nothing
-  drawn-first module_ array places told left lines own mix serving is long drawn same =
+  pub drawn-first : (module_ : ModuleState n m e) (array : ArrayState n m) (places : ℕ) (told : List (Told n)) (shown : Shown) (snaps : List Snapshot) (left : List (Event n)) (lines own : ℕ) (mix : Mix)
+      → IsServing raw seed [] module_ array places told shown snaps → lines ≡ total_of raw → IsLongMix mix → IsGenerated lines mix (generated n own lines mix) → left ≡ generated n own lines mix
+      → HasDrawn raw seed module_ array places told shown snaps (generated n own (total_of raw) mix) left Nothing
+  drawn-first module_ array places told shown snaps left lines own mix serving is long drawn same =
       let all : List (Event n) = generated n own (total_of raw) mix in
       let P : ℕ → Type 0 = λ k. IsGenerated k mix (generated n own k mix) in
       let Q : ℕ → Type 0 = λ tick. AreEventsFor (total_of raw) tick all in
-      let R : List (Event n) → Type 0 = λ events. HasDrawn raw seed module_ array places told all events Nothing in
+      let R : List (Event n) → Type 0 = λ events. HasDrawn raw seed module_ array places told shown snaps all events Nothing in
       let right : IsGenerated (total_of raw) mix all = subst P is drawn in
       let left_is : left ≡ all = same ∙ ap (λ (k : ℕ). generated n own k mix) is in
       subst R (sym left_is) (record {
@@ -58,8 +60,8 @@ module _ {n m e : ℕ} (raw : RawShape) (seed : ℕ) where
         few = omega (arith, right.rows, long.few_rows);
       })
 
-  module _ (module_ : ModuleState n m e) (array : ArrayState n m) (places : ℕ) (told : List (Told n)) (all left : List (Event n)) (behind : Behind)
-      (had : HasDrawn raw seed module_ array places told all left behind) where
+  module _ (module_ : ModuleState n m e) (array : ArrayState n m) (places : ℕ) (told : List (Told n)) (shown : Shown) (snaps : List Snapshot) (all left : List (Event n)) (behind : Behind)
+      (had : HasDrawn raw seed module_ array places told shown snaps all left behind) where
     pub drawn-few : places < 4294967295
     drawn-few = omega (arith, had.serving.counted, had.few)
 
@@ -74,10 +76,10 @@ module _ {n m e : ℕ} (raw : RawShape) (seed : ℕ) where
         subst P (sym had.serving.served.shape) (next-drawn event rest is).0
 
     pub drawn-more : (event : Event n) (rest : List (Event n)) → left ≡ event ∷ rest
-        → (new : ModuleState n m e) (after : ArrayState n m) (places2 : ℕ) (told2 : List (Told n)) (stands : Behind)
-        → (IsServing raw seed had.asked module_ array places told → IsServing raw seed (Happens event ∷ had.asked) new after places2 told2) → stands ≡ behind_op event.op
-        → HasDrawn raw seed new after places2 told2 all rest stands
-    drawn-more event rest is new after places2 told2 stands serves behinds =
+        → (new : ModuleState n m e) (after : ArrayState n m) (places2 : ℕ) (told2 : List (Told n)) (shown2 : Shown) (snaps2 : List Snapshot) (stands : Behind)
+        → (IsServing raw seed had.asked module_ array places told shown snaps → IsServing raw seed (Happens event ∷ had.asked) new after places2 told2 shown2 snaps2) → stands ≡ behind_op event.op
+        → HasDrawn raw seed new after places2 told2 shown2 snaps2 all rest stands
+    drawn-more event rest is new after places2 told2 shown2 snaps2 stands serves behinds =
         let served = serves had.serving in
         let P : ℕ → Type 0 = λ tick. AreEventsFor (total_of raw) tick rest in
         let size : length left ≡ length rest + 1 = ap length is ∙ omega arith in

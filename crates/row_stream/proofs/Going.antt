@@ -17,13 +17,20 @@ use Rattle.pcm_module.proofs.Asked.{standing_asked, taking_asked}
 use Rattle.run_laws.specs.Runs.{bank_of_line}
 use Rattle.trace_rows.specs.Rows.{asks_of}
 use Rattle.row_printer.specs.Printing.{Printing, PrintsOn, table_of, table_told}
+use Rattle.row_printer.specs.Snapshots.{AddsDue, is_due}
 use Rattle.row_printer.specs.Telling.{became, outcomes_in, recorded, TellsOnce}
+use Rattle.row_printer.specs.declared.snapshot.Snapshot.{Snapshot}
+use Rattle.row_printer.specs.declared.told.Shown.{Shown}
 use Rattle.row_printer.specs.declared.told.Told.{Told}
 use Rattle.row_printer.specs.declared.told.Told.TheVariants.{Became, Settled}
 use Rattle.trace_stream.specs.declared.asked.Asked.{Asked}
 use Rattle.trace_stream.specs.declared.asked.Asked.TheVariants.{Happens, Settle}
 use Rattle.row_stream.specs.Asking.{events_in}
-use Rattle.row_stream.specs.Serving.{ComeBehind, ComeByBanks, ComeInOrder, HasServed, IsServing}
+use Rattle.row_stream.specs.Serving.{ComeBehind, ComeByBanks, ComeInOrder, HasServed, IsServing, SnapsAlong}
+use Rattle.row_stream.specs.Looking.{IsSnapshot}
+use Rattle.end_laws.specs.Ends.{BankEnd}
+use Rattle.pcm_module.specs.State.{AreEndsOf}
+use Rattle.row_stream.proofs.Standing.{ends-now}
 use Rattle.row_stream.proofs.Order.{ToldSo, come-by-banks, come-in-order}
 use Rattle.row_stream.proofs.Growing.{none, longer, open-last, replays-longer}
 
@@ -33,8 +40,8 @@ outcomes-settled [] tick = refl
 outcomes-settled (Became row outcome ∷ told) tick = ap (λ rest. (row, outcome) ∷ rest) (outcomes-settled told tick)
 outcomes-settled (Settled at ∷ told) tick = outcomes-settled told tick
 
-module _ {n m e : ℕ} (raw : RawShape) (seed : ℕ) (asked : List (Asked n)) (module_ : ModuleState n m e) (array : ArrayState n m) (places : ℕ) (told : List (Told n))
-    (had : IsServing raw seed asked module_ array places told) where
+module _ {n m e : ℕ} (raw : RawShape) (seed : ℕ) (asked : List (Asked n)) (module_ : ModuleState n m e) (array : ArrayState n m) (places : ℕ) (told : List (Told n)) (shown : Shown) (snaps : List Snapshot)
+    (had : IsServing raw seed asked module_ array places told shown snaps) where
   -- an event may be handed to the module once there is a place for its outcome
   pub next-replayed : (results : List (Outcome n)) → results ≡ longer (table_of places told)
       → (h : ℕ → List (TimedEvent n m)) × (rows : List (AskedRow n)) × Replays h rows module_ array results
@@ -86,16 +93,18 @@ module _ {n m e : ℕ} (raw : RawShape) (seed : ℕ) (asked : List (Asked n)) (m
       record { outcomes = came.outcomes; told = came.told; are = subst (λ k. Q raw k) had.served.seeded (subst (λ r. Q r module_.seed) had.served.shape came.are) }
 
   -- and then it is served
-  pub serving-event : (event : Event n) (new : ModuleState n m e) (after : ArrayState n m) (places2 : ℕ) (told2 : List (Told n)) (row : ℕ) (results : List (Outcome n))
+  pub serving-event : (event : Event n) (new : ModuleState n m e) (after : ArrayState n m) (places2 : ℕ) (told2 : List (Told n)) (shown2 : Shown) (snaps1 snaps2 : List Snapshot) (row : ℕ) (results : List (Outcome n))
       → results ≡ longer (table_of places told) → row ≡ places + 1 → places2 ≡ places + 1
       → (outcomes : List (ℕ × Outcome n)) → told2 ≡ told ++ became outcomes → ComeInOrder raw seed (Happens event) (events_in asked) outcomes
       → new.shape ≡ module_.shape → new.seed ≡ module_.seed → new.finished ≡ false → new.tick ≡ event.tick → event.tick ≤ latest_tick → new.rows_below ≡ row + 1
       → length (table_of places2 told2) ≡ length results
       → ((h : ℕ → List (TimedEvent n m)) (rows : List (AskedRow n)) → Replays h rows module_ array results
       → (added : ℕ → List (TimedEvent n m)) × Replays (λ bank. added bank ++ h bank) (asked_by row event ∷ rows) new after (table_of places2 told2))
-      → IsServing raw seed (Happens event ∷ asked) new after places2 told2
+      → shown2 ≡ shown → snaps1 ≡ snaps
+      → ((ends : ℕ → BankEnd) → AreEndsOf new ends → AddsDue (is_due shown2 places2) (IsSnapshot places2 new.tick told2 new after) snaps1 snaps2)
+      → IsServing raw seed (Happens event ∷ asked) new after places2 told2 shown2 snaps2
   unfolding next-replayed
-  serving-event event new after places2 told2 row results grown is counts outcomes tells order shape seeded going tick in_time bound size leads =
+  serving-event event new after places2 told2 shown2 snaps1 snaps2 row results grown is counts outcomes tells order shape seeded going tick in_time bound size leads shows snapped adds =
       let next = next-replayed results grown in
       let led = leads had.history (asked_for (events_in asked)) next.2 in
       let h : ℕ → List (TimedEvent n m) = λ bank. led.0 bank ++ had.history bank in
@@ -112,9 +121,15 @@ module _ {n m e : ℕ} (raw : RawShape) (seed : ℕ) (asked : List (Asked n)) (m
         replays = subst P number led.1;
       } in
       let Q : ℕ → Type 0 = λ k. HasServed raw seed (event ∷ events_in asked) h new after (table_of k told2) in
+      let ends = ends-now h (asked_for (event ∷ events_in asked)) new after (table_of places2 told2) served.replays in
+      let A : Shown → Type 0 = λ s. SnapsAlong e raw seed s asked had.history told had.along snaps in
+      let B : ℕ → ℕ → List Snapshot → Type 0 = λ k at was. AddsDue (is_due shown2 k) (IsSnapshot k at told2 new after) was snaps2 in
+      let added : B (length (event ∷ events_in asked)) event.tick snaps =
+      subst (B (length (event ∷ events_in asked)) event.tick) snapped (subst (λ at. B (length (event ∷ events_in asked)) at snaps1) tick (subst (λ k. B k new.tick snaps1) counted (adds ends.0 ends.1))) in
       record {
         history = h;
         along = (had.history, told, had.along, led.0, refl, outcomes, tells ∙ sym (append-nil (told ++ became outcomes)), order, record { module_ = new; array = after; served = subst Q counted served });
+        snaps = (snaps, subst A (sym shows) had.snaps, added);
         served = served;
         counted = counted;
         tick = tick;
@@ -122,14 +137,15 @@ module _ {n m e : ℕ} (raw : RawShape) (seed : ℕ) (asked : List (Asked n)) (m
       }
 
   -- so is a settle
-  pub serving-settle : (at : ℕ) (new : ModuleState n m e) (after : ArrayState n m) (places2 : ℕ) (told1 told2 : List (Told n))
+  pub serving-settle : (at : ℕ) (new : ModuleState n m e) (after : ArrayState n m) (places2 : ℕ) (told1 told2 : List (Told n)) (shown2 : Shown) (snaps2 : List Snapshot)
       → places2 ≡ places → (outcomes : List (ℕ × Outcome n)) → told1 ≡ told ++ became outcomes → ComeByBanks raw seed (events_in asked) raw.banks outcomes → told2 ≡ told1 ++ Settled at ∷ []
       → new.shape ≡ module_.shape → new.seed ≡ module_.seed → new.finished ≡ false → new.tick ≡ at → at ≤ latest_tick → new.rows_below ≡ module_.rows_below
       → length (table_of places2 told1) ≡ length (table_of places told)
       → ((h : ℕ → List (TimedEvent n m)) (rows : List (AskedRow n)) → Replays h rows module_ array (table_of places told)
       → (added : ℕ → List (TimedEvent n m)) × Replays (λ bank. added bank ++ h bank) rows new after (table_of places2 told1))
-      → IsServing raw seed (Settle at ∷ asked) new after places2 told2
-  serving-settle at new after places2 told1 told2 counts outcomes tells order tells2 shape seeded going tick in_time bound size leads =
+      → shown2 ≡ shown → snaps2 ≡ snaps
+      → IsServing raw seed (Settle at ∷ asked) new after places2 told2 shown2 snaps2
+  serving-settle at new after places2 told1 told2 shown2 snaps2 counts outcomes tells order tells2 shape seeded going tick in_time bound size leads shows snapped =
       let led = leads had.history (asked_for (events_in asked)) had.served.replays in
       let h : ℕ → List (TimedEvent n m) = λ bank. led.0 bank ++ had.history bank in
       let counted : places2 ≡ length (events_in asked) = counts ∙ had.counted in
@@ -160,6 +176,7 @@ module _ {n m e : ℕ} (raw : RawShape) (seed : ℕ) (asked : List (Asked n)) (m
           order,
           record { module_ = new; array = after; served = subst Q counted now },
         );
+        snaps = (snaps, subst (λ s. SnapsAlong e raw seed s asked had.history told had.along snaps) (sym shows) had.snaps, snapped);
         served = now;
         counted = counted;
         tick = tick;

@@ -12,6 +12,8 @@ use Rattle.pcm_io.proofs.ByteLemmas.{Takes-Takes, Takes-nothing}
 use Rattle.module_shape.specs.declared.raw.RawShape.{RawShape}
 use Rattle.module_shape.specs.Limits.{total_of}
 use Rattle.pcm_module.specs.State.{ModuleState}
+use Rattle.row_printer.specs.declared.snapshot.Snapshot.{Snapshot}
+use Rattle.row_printer.specs.declared.told.Shown.{Shown}
 use Rattle.row_printer.specs.declared.told.Told.{Told}
 use Rattle.trace_stream.specs.Arrived.{StaysEnded}
 use Rattle.trace_stream.specs.Stream.{AsksNext, HasFault, HasFront, IsOfText, Opens, Standing, asked_from, front_from, front_of, stream_of}
@@ -38,10 +40,10 @@ err-so (Ok x) P Q so had = tt
 err-so (Err e) P Q so had = so had
 
 -- of what a source gave, so many rows and settles were served, and the rest is still to read from here on
-pub record HasFed {n m e : ℕ} (raw : RawShape) (seed : ℕ) (module_ : ModuleState n m e) (array : ArrayState n m) (places : ℕ) (told : List (Told n))
+pub record HasFed {n m e : ℕ} (raw : RawShape) (seed : ℕ) (module_ : ModuleState n m e) (array : ArrayState n m) (places : ℕ) (told : List (Told n)) (shown : Shown) (snaps : List Snapshot)
     {S : Type 0} (left : S → Option (List ℕ)) (taken faults : S → ℕ) (old new : S) (stream : Standing) (behind : Behind) (count : ℕ) : Type 0 where
   pub asked : List (Asked n)
-  pub serving : IsServing raw seed asked module_ array places told
+  pub serving : IsServing raw seed asked module_ array places told shown snaps
   pub stands : behind ≡ behind_of asked
   pub bytes : List ℕ
   pub takes : Takes (left old) (left new) (taken old) (taken new) bytes
@@ -107,12 +109,12 @@ module _ (n lines : ℕ) {S : Type 0} (left : S → Option (List ℕ)) (taken fa
 
 module _ {n m e : ℕ} (raw : RawShape) (seed : ℕ) {S : Type 0} (left : S → Option (List ℕ)) (taken faults : S → ℕ) (old : S) where
   -- the header was read
-  pub fed-first : (module_ : ModuleState n m e) (array : ArrayState n m) (places : ℕ) (told : List (Told n)) (new : S) (stream : Standing)
-      → IsServing raw seed [] module_ array places told
+  pub fed-first : (module_ : ModuleState n m e) (array : ArrayState n m) (places : ℕ) (told : List (Told n)) (shown : Shown) (snaps : List Snapshot) (new : S) (stream : Standing)
+      → IsServing raw seed [] module_ array places told shown snaps
       → (bytes : List ℕ) → Takes (left old) (left new) (taken old) (taken new) bytes → Opens (total_of raw) bytes stream
       → stream.rows ≡ 0 → stream.tick ≡ 0 → stream.lines ≡ total_of raw → faults new ≡ faults old
-      → HasFed raw seed module_ array places told left taken faults old new stream Nothing 0
-  fed-first module_ array places told new stream serving bytes takes opens rows tick lines calm = record {
+      → HasFed raw seed module_ array places told shown snaps left taken faults old new stream Nothing 0
+  fed-first module_ array places told shown snaps new stream serving bytes takes opens rows tick lines calm = record {
     asked = [];
     serving = serving;
     stands = refl;
@@ -127,8 +129,8 @@ module _ {n m e : ℕ} (raw : RawShape) (seed : ℕ) {S : Type 0} (left : S → 
     counted = refl;
   }
 
-  module _ (module_ : ModuleState n m e) (array : ArrayState n m) (places : ℕ) (told : List (Told n)) (mid : S) (stream : Standing) (behind : Behind) (count : ℕ)
-      (had : HasFed raw seed module_ array places told left taken faults old mid stream behind count) where
+  module _ (module_ : ModuleState n m e) (array : ArrayState n m) (places : ℕ) (told : List (Told n)) (shown : Shown) (snaps : List Snapshot) (mid : S) (stream : Standing) (behind : Behind) (count : ℕ)
+      (had : HasFed raw seed module_ array places told shown snaps left taken faults old mid stream behind count) where
     -- a row more may be served
     pub next-few : places < 4294967295
     next-few = omega (arith, had.serving.counted, had.few, had.most)
@@ -145,13 +147,13 @@ module _ {n m e : ℕ} (raw : RawShape) (seed : ℕ) {S : Type 0} (left : S → 
     rows-next (Settle tick) rows is = omega (arith, is, had.few)
 
     -- a row more was served
-    pub fed-more : (new_module : ModuleState n m e) (after : ArrayState n m) (places2 : ℕ) (told2 : List (Told n)) (new : S) (now : Standing) (asked : Asked n) (stands : Behind)
-        → (IsServing raw seed had.asked module_ array places told → IsServing raw seed (asked ∷ had.asked) new_module after places2 told2)
+    pub fed-more : (new_module : ModuleState n m e) (after : ArrayState n m) (places2 : ℕ) (told2 : List (Told n)) (shown2 : Shown) (snaps2 : List Snapshot) (new : S) (now : Standing) (asked : Asked n) (stands : Behind)
+        → (IsServing raw seed had.asked module_ array places told shown snaps → IsServing raw seed (asked ∷ had.asked) new_module after places2 told2 shown2 snaps2)
         → ((before : List (Asked n)) → stands ≡ behind_of (asked ∷ before))
         → (bytes : List ℕ) → Takes (left mid) (left new) (taken mid) (taken new) bytes → StaysEnded stream.arrived.ended bytes now.arrived.ended → AsksNext stream bytes (Some asked) now
         → now.lines ≡ stream.lines → now.rows ≡ rows_after stream.rows asked → now.rows ≤ 4294967294 → now.tick ≡ tick_asked asked → faults new ≡ faults mid
-        → HasFed raw seed new_module after places2 told2 left taken faults old new now stands (count + 1)
-    fed-more new_module after places2 told2 new now asked stands serves behinds bytes takes stays asks lines rows most tick calm =
+        → HasFed raw seed new_module after places2 told2 shown2 snaps2 left taken faults old new now stands (count + 1)
+    fed-more new_module after places2 told2 shown2 snaps2 new now asked stands serves behinds bytes takes stays asks lines rows most tick calm =
         let turned : reverse (asked ∷ had.asked) ≡ reverse had.asked ++ asked ∷ [] = reverse-append (asked ∷ []) had.asked in
         let P : List (Asked n) → Type 0 = λ all. HasAsked n (total_of raw) (had.bytes ++ bytes) all now in
         record {

@@ -15,10 +15,14 @@ use Rattle.pcm_module.specs.Asking.{asked_for}
 use Rattle.pcm_module.specs.State.{AreEndsOf, ModuleState, bank_at}
 use Rattle.row_printer.specs.Printing.{table_of}
 use Rattle.row_printer.specs.Telling.{became}
+use Rattle.row_printer.specs.Snapshots.{AddsDue, takes_snapshots}
+use Rattle.row_printer.specs.declared.snapshot.Snapshot.{Snapshot}
+use Rattle.row_printer.specs.declared.told.Shown.{Shown}
 use Rattle.row_printer.specs.declared.told.Told.{Told}
 use Rattle.trace_stream.specs.declared.asked.Asked.{Asked}
-use Rattle.row_stream.specs.Asking.{events_in}
-use Rattle.row_stream.specs.Serving.{ComeByBanks, TellsAlong}
+use Rattle.row_stream.specs.Asking.{events_in, tick_reached}
+use Rattle.row_stream.specs.Looking.{IsSnapshot}
+use Rattle.row_stream.specs.Serving.{ComeByBanks, SnapsAlong, TellsAlong}
 
 -- the table of events, the newest first, with the outcomes of the rows from the first on: the newest row first
 abbrev pub rows_of : {n : ℕ} → List (Event n) → List (Outcome n) → List (Row n)
@@ -43,3 +47,25 @@ pub record HasEnded {n m e : ℕ} (raw : RawShape) (seed : ℕ) (off : Bool) (as
   pub ends : ℕ → BankEnd
   pub are : AreEndsOf module_ ends
   pub right : RunsRightTo e raw seed off (rows_of (events_in asked) (table_of places told)) array ends
+
+module _ {n m e : ℕ} {raw : RawShape} {seed : ℕ} {off : Bool} {asked : List (Asked n)} {module_ : ModuleState n m e} {array : ArrayState n m} {places : ℕ} {told : List (Told n)}
+    (shown : Shown) (ended : HasEnded raw seed off asked module_ array places told) where
+  -- the snapshots that were taken until the last row was served
+  abbrev pub SnapsRows : List Snapshot → Type 0
+  SnapsRows snapshots = SnapsAlong e raw seed shown asked ended.history ended.said ended.along snapshots
+
+  -- all of them: in the end, where snapshots are taken, one more says what then stands
+  abbrev pub SnapsAll : List Snapshot → Type 0
+  SnapsAll snapshots =
+      (before : List Snapshot) × SnapsRows before
+      × AddsDue (takes_snapshots shown) (IsSnapshot places (tick_reached asked) told module_ array) before snapshots
+
+module _ {n m e : ℕ} (raw : RawShape) (seed : ℕ) (off : Bool) (asked : List (Asked n)) (module_ : ModuleState n m e) (array : ArrayState n m) (places : ℕ) (told : List (Told n))
+    (shown : Shown) (snapshots : List Snapshot) where
+  -- rows were served to their end, and these snapshots were taken, but for the last one
+  abbrev pub IsLeft : Type 0
+  IsLeft = (ended : HasEnded raw seed off asked module_ array places told) × SnapsRows shown ended snapshots
+
+  -- and with the last one
+  abbrev pub EndsShowing : Type 0
+  EndsShowing = (ended : HasEnded raw seed off asked module_ array places told) × SnapsAll shown ended snapshots

@@ -1,4 +1,5 @@
 pub mod Asking
+pub mod Looking
 pub mod Serving
 pub mod Sourcing
 pub mod Ending

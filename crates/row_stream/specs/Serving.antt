@@ -1,5 +1,5 @@
 -- What a module and what was told have to do with what the rows of a stream asked so far. What was asked stands with the newest first.
-use Rattle.std.specs.Prelude.{◌≡◌, ℕ, zero, suc, ◌+◌, ◌≤◌, true, false, List, [], ◌∷◌, ◌++◌, length, All}
+use Rattle.std.specs.Prelude.{◌≡◌, ℕ, zero, suc, ◌+◌, ◌≤◌, Bool, true, false, List, [], ◌∷◌, ◌++◌, length, All}
 use Rattle.cell_rows.specs.Device.{ArrayState}
 use Rattle.trace_reader.specs.Rows.{latest_tick}
 use Rattle.trace_reader.specs.declared.event.Event.{Event}
@@ -13,11 +13,15 @@ use Rattle.pcm_module.specs.Replaying.{Replays}
 use Rattle.pcm_module.specs.Telling.{is_asked_of}
 use Rattle.row_printer.specs.Printing.{table_of}
 use Rattle.row_printer.specs.Telling.{became}
+use Rattle.row_printer.specs.Snapshots.{AddsDue, is_due}
+use Rattle.row_printer.specs.declared.snapshot.Snapshot.{Snapshot}
+use Rattle.row_printer.specs.declared.told.Shown.{Shown}
 use Rattle.row_printer.specs.declared.told.Told.{Told}
 use Rattle.row_printer.specs.declared.told.Told.TheVariants.{Settled}
 use Rattle.trace_stream.specs.declared.asked.Asked.{Asked}
 use Rattle.trace_stream.specs.declared.asked.Asked.TheVariants.{Happens, Settle}
 use Rattle.row_stream.specs.Asking.{events_in, tick_reached}
+use Rattle.row_stream.specs.Looking.{IsSnapshot}
 
 module _ {n m e : ℕ} (raw : RawShape) (seed : ℕ) where
   -- a module of these sizes and this seed was handed these events, and histories of its banks, which asked for exactly these, led to it over the
@@ -55,6 +59,11 @@ abbrev pub line_of : {n : ℕ} → Asked n → List (Told n)
 line_of (Happens event) = []
 line_of (Settle tick) = Settled tick ∷ []
 
+-- whether a snapshot is due behind a row, of so many with a number: a settle has none
+abbrev pub is_due_behind : {n : ℕ} → Shown → Asked n → ℕ → Bool
+is_due_behind shown (Happens event) rows = is_due shown rows
+is_due_behind shown (Settle tick) rows = false
+
 module _ {n m : ℕ} (e : ℕ) (raw : RawShape) (seed : ℕ) where
   -- of these events exactly those outcomes were told which these histories gave so far, at the module and the array to which they led
   pub record AreKnown (events : List (Event n)) (h : ℕ → List (TimedEvent n m)) (told : List (Told n)) : Type 0 where
@@ -73,10 +82,19 @@ module _ {n m : ℕ} (e : ℕ) (raw : RawShape) (seed : ℕ) where
       × ComeInOrder raw seed asked (events_in before) outcomes
       × AreKnown (events_in (asked ∷ before)) h told
 
--- rows that asked this were served by a module over an array, and told by a printer that knows of so many rows
-pub record IsServing {n m e : ℕ} (raw : RawShape) (seed : ℕ) (asked : List (Asked n)) (module_ : ModuleState n m e) (array : ArrayState n m) (places : ℕ) (told : List (Told n)) : Type 0 where
+  -- the snapshots that were taken of them: each stands behind a row with a number where one is due, and says what that row left
+  abbrev pub SnapsAlong : Shown → (asked : List (Asked n)) (h : ℕ → List (TimedEvent n m)) (told : List (Told n)) → TellsAlong asked h told → List Snapshot → Type 0
+  SnapsAlong shown [] h told along snapshots = snapshots ≡ []
+  SnapsAlong shown (asked ∷ before) h told along snapshots =
+      (earlier : List Snapshot) × SnapsAlong shown before along.0 along.1 along.2 earlier
+      × AddsDue (is_due_behind shown asked (length (events_in (asked ∷ before))))
+      (IsSnapshot (length (events_in (asked ∷ before))) (tick_reached (asked ∷ before)) told along.8.module_ along.8.array) earlier snapshots
+
+-- rows that asked this were served by a module over an array, and told by a printer that knows of so many rows and took these snapshots
+pub record IsServing {n m e : ℕ} (raw : RawShape) (seed : ℕ) (asked : List (Asked n)) (module_ : ModuleState n m e) (array : ArrayState n m) (places : ℕ) (told : List (Told n)) (shown : Shown) (snapshots : List Snapshot) : Type 0 where
   pub history : ℕ → List (TimedEvent n m)
   pub along : TellsAlong e raw seed asked history told
+  pub snaps : SnapsAlong e raw seed shown asked history told along snapshots
   pub served : HasServed raw seed (events_in asked) history module_ array (table_of places told)
   pub counted : places ≡ length (events_in asked)
   pub tick : module_.tick ≡ tick_reached asked

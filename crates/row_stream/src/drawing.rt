@@ -9,13 +9,13 @@ ghost use Rattle.module_shape.specs.Limits.{total_of};
 ghost use Rattle.trace_gen.specs.Generated.{IsLongMix, generated};
 ghost use Rattle.trace_stream.specs.Laws.{all_events};
 ghost use Rattle.trace_stream.specs.declared.asked.Asked.{Asked as StreamAsked};
-ghost use Rattle.row_printer.specs.Printing.{IsPrinting, stream_text};
+ghost use Rattle.row_printer.specs.Printing.{IsPrinting, text_told};
 ghost use Rattle.row_stream.specs.Asking.{behind_of};
 ghost use Rattle.row_stream.specs.Serving.{IsServing};
 
 use crate::serving::serve_event;
 use crate::stop::{Behind, behind_event};
-use cell_rows::CellArray;
+use cell_wear::TellsCells;
 use pcm_io::{Sink, WriteFault};
 use pcm_module::Module;
 use row_printer::RowPrinter;
@@ -28,7 +28,7 @@ pub fn serve_drawn<
     const B: usize,
     const M: usize,
     const E: usize,
-    A: CellArray<B, M>,
+    A: TellsCells<B, M>,
     K: Sink + Drop,
 >(
     pcm: &mut Module<B, M, E>,
@@ -39,23 +39,23 @@ pub fn serve_drawn<
 ) -> Result<Behind, WriteFault>
     requires layout { IsLayout B M E }
     requires mix { IsLongMix mix }
-    requires begins { (raw : RawShape) × (own : ℕ) × IsServing raw own [] pcm.old (A.state array.old) out.old.rows out.old.told }
+    requires begins { (raw : RawShape) × (own : ℕ) × IsServing raw own [] pcm.old (A.state array.old) out.old.rows out.old.told out.old.prints out.old.snapshots }
     ensures served { IfOk result (λ behind. (raw : RawShape) (own : ℕ)
-        → IsServing raw own [] pcm.old (A.state array.old) out.old.rows out.old.told
-        → (asked : List (StreamAsked B)) × IsServing raw own asked pcm.new (A.state array.new) out.new.rows out.new.told
+        → IsServing raw own [] pcm.old (A.state array.old) out.old.rows out.old.told out.old.prints out.old.snapshots
+        → (asked : List (StreamAsked B)) × IsServing raw own asked pcm.new (A.state array.new) out.new.rows out.new.told out.new.prints out.new.snapshots
         × (behind ≡ behind_of asked) × (reverse asked ≡ all_events (generated B seed (total_of raw) mix))) }
     ensures few { out.new.rows < 4294967295 }
     ensures stopped { OnErr result ((raw : RawShape) (own : ℕ)
-        → IsServing raw own [] pcm.old (A.state array.old) out.old.rows out.old.told
-        → (asked : List (StreamAsked B)) × IsServing raw own asked pcm.new (A.state array.new) out.new.rows out.new.told
+        → IsServing raw own [] pcm.old (A.state array.old) out.old.rows out.old.told out.old.prints out.old.snapshots
+        → (asked : List (StreamAsked B)) × IsServing raw own asked pcm.new (A.state array.new) out.new.rows out.new.told out.new.prints out.new.snapshots
         × (rest : List (StreamAsked B)) × (reverse asked ++ rest ≡ all_events (generated B seed (total_of raw) mix))) }
     ensures prints { out.new.prints ≡ out.old.prints }
     ensures printing { (before : Option (List ℕ)) (first : ℕ) → IsPrinting K.written K.faults before first out.old
         → IsPrinting K.written K.faults before first out.new }
     ensures written { OnOk result ((before : Option (List ℕ)) (first : ℕ) → IsPrinting K.written K.faults before first out.old
-        → Appends before (K.written out.new.sink) (stream_text out.new.prints out.new.told)) }
+        → Appends before (K.written out.new.sink) (text_told out.new)) }
     ensures part { OnErr result ((before : Option (List ℕ)) (first : ℕ) → IsPrinting K.written K.faults before first out.old
-        → AppendsPrefix before (K.written out.new.sink) (stream_text out.new.prints out.new.told) × Rose first (K.faults out.new.sink)) }
+        → AppendsPrefix before (K.written out.new.sink) (text_told out.new) × Rose first (K.faults out.new.sink)) }
     ensures wear { (A.state array.new).wear ≡ (A.state array.old).wear }
 {
     long_events_are_lawful();

@@ -7,19 +7,21 @@ ghost use Rattle.trace_stream.specs.declared.asked.Asked.{Asked as StreamAsked};
 ghost use Rattle.row_printer.specs.Printing.{IsPrinting};
 ghost use Rattle.row_stream.specs.Asking.{behind_of, cut_behind, cut_if, off_behind, stays_off, with_cut};
 ghost use Rattle.row_stream.specs.Serving.{IsServing};
-ghost use Rattle.row_stream.specs.Ending.{HasEnded};
+ghost use Rattle.row_stream.specs.Ending.{EndsShowing, IsLeft};
 
+use crate::looking::show_last;
 use crate::serving::serve_event;
 use crate::stop::Behind;
-use cell_rows::CellArray;
+use cell_wear::TellsCells;
 use pcm_io::Sink;
 use pcm_module::Module;
 use row_printer::RowPrinter;
 use trace_reader::{Event, EventOp};
 
 /// Ends a stream behind its last row: its banks drain, or, where the power is to stay off, it is cut where that is not its last row, and no
-/// bank goes on. What became known by it is told.
-pub fn end<const B: usize, const M: usize, const E: usize, A: CellArray<B, M>, K: Sink + Drop>(
+/// bank goes on. What became known by it is told, and where snapshots are taken,
+/// one more of what then stands.
+pub fn end<const B: usize, const M: usize, const E: usize, A: TellsCells<B, M>, K: Sink + Drop>(
     pcm: &mut Module<B, M, E>,
     array: &mut A,
     off: bool,
@@ -29,10 +31,35 @@ pub fn end<const B: usize, const M: usize, const E: usize, A: CellArray<B, M>, K
     requires layout { IsLayout B M E }
     requires few { out.old.rows < 4294967295 }
     requires serving { (raw : RawShape) × (seed : ℕ) × (asked : List (StreamAsked B))
-        × IsServing raw seed asked pcm.old (A.state array.old) out.old.rows out.old.told × (behind ≡ behind_of asked) }
+        × IsServing raw seed asked pcm.old (A.state array.old) out.old.rows out.old.told out.old.prints out.old.snapshots × (behind ≡ behind_of asked) }
     ensures ended { (raw : RawShape) (seed : ℕ) (asked : List (StreamAsked B))
-        → IsServing raw seed asked pcm.old (A.state array.old) out.old.rows out.old.told → behind ≡ behind_of asked
-        → HasEnded raw seed (stays_off off asked) (with_cut off asked) pcm.new (A.state array.new) out.new.rows out.new.told }
+        → IsServing raw seed asked pcm.old (A.state array.old) out.old.rows out.old.told out.old.prints out.old.snapshots → behind ≡ behind_of asked
+        → EndsShowing raw seed (stays_off off asked) (with_cut off asked) pcm.new (A.state array.new) out.new.rows out.new.told out.new.prints out.new.snapshots }
+    ensures prints { out.new.prints ≡ out.old.prints }
+    ensures printing { (before : Option (List ℕ)) (first : ℕ) → IsPrinting K.written K.faults before first out.old
+        → IsPrinting K.written K.faults before first out.new }
+    ensures wear { (A.state array.new).wear ≡ (A.state array.old).wear }
+{
+    let tick = pcm.tick();
+    leave(pcm, array, off, behind, out);
+    show_last(tick, pcm, array, out);
+}
+
+// Lets the banks drain, or leaves them with the power off.
+fn leave<const B: usize, const M: usize, const E: usize, A: TellsCells<B, M>, K: Sink + Drop>(
+    pcm: &mut Module<B, M, E>,
+    array: &mut A,
+    off: bool,
+    behind: Behind,
+    out: &mut RowPrinter<B, K>,
+)
+    requires layout { IsLayout B M E }
+    requires few { out.old.rows < 4294967295 }
+    requires serving { (raw : RawShape) × (seed : ℕ) × (asked : List (StreamAsked B))
+        × IsServing raw seed asked pcm.old (A.state array.old) out.old.rows out.old.told out.old.prints out.old.snapshots × (behind ≡ behind_of asked) }
+    ensures ended { (raw : RawShape) (seed : ℕ) (asked : List (StreamAsked B))
+        → IsServing raw seed asked pcm.old (A.state array.old) out.old.rows out.old.told out.old.prints out.old.snapshots → behind ≡ behind_of asked
+        → IsLeft raw seed (stays_off off asked) (with_cut off asked) pcm.new (A.state array.new) out.new.rows out.new.told out.new.prints out.new.snapshots }
     ensures prints { out.new.prints ≡ out.old.prints }
     ensures printing { (before : Option (List ℕ)) (first : ℕ) → IsPrinting K.written K.faults before first out.old
         → IsPrinting K.written K.faults before first out.new }
@@ -46,7 +73,7 @@ pub fn end<const B: usize, const M: usize, const E: usize, A: CellArray<B, M>, K
 }
 
 // The power is to stay off.
-fn stay_off<const B: usize, const M: usize, const E: usize, A: CellArray<B, M>, K: Sink + Drop>(
+fn stay_off<const B: usize, const M: usize, const E: usize, A: TellsCells<B, M>, K: Sink + Drop>(
     pcm: &mut Module<B, M, E>,
     array: &mut A,
     behind: Behind,
@@ -55,11 +82,11 @@ fn stay_off<const B: usize, const M: usize, const E: usize, A: CellArray<B, M>, 
     requires layout { IsLayout B M E }
     requires few { out.old.rows < 4294967295 }
     requires serving { (raw : RawShape) × (seed : ℕ) × (asked : List (StreamAsked B))
-        × IsServing raw seed asked pcm.old (A.state array.old) out.old.rows out.old.told × (behind ≡ behind_of asked) }
+        × IsServing raw seed asked pcm.old (A.state array.old) out.old.rows out.old.told out.old.prints out.old.snapshots × (behind ≡ behind_of asked) }
     ensures ended { (raw : RawShape) (seed : ℕ) (asked : List (StreamAsked B))
-        → IsServing raw seed asked pcm.old (A.state array.old) out.old.rows out.old.told → behind ≡ behind_of asked
-        → HasEnded raw seed (off_behind (behind_of asked)) (cut_if (behind_of asked) asked)
-        pcm.new (A.state array.new) out.new.rows out.new.told }
+        → IsServing raw seed asked pcm.old (A.state array.old) out.old.rows out.old.told out.old.prints out.old.snapshots → behind ≡ behind_of asked
+        → IsLeft raw seed (off_behind (behind_of asked)) (cut_if (behind_of asked) asked)
+        pcm.new (A.state array.new) out.new.rows out.new.told out.new.prints out.new.snapshots }
     ensures prints { out.new.prints ≡ out.old.prints }
     ensures printing { (before : Option (List ℕ)) (first : ℕ) → IsPrinting K.written K.faults before first out.old
         → IsPrinting K.written K.faults before first out.new }
@@ -76,7 +103,7 @@ fn stay_off<const B: usize, const M: usize, const E: usize, A: CellArray<B, M>, 
 }
 
 // Cuts the power at the tick that was reached.
-fn serve_cut<const B: usize, const M: usize, const E: usize, A: CellArray<B, M>, K: Sink + Drop>(
+fn serve_cut<const B: usize, const M: usize, const E: usize, A: TellsCells<B, M>, K: Sink + Drop>(
     pcm: &mut Module<B, M, E>,
     array: &mut A,
     out: &mut RowPrinter<B, K>,
@@ -84,10 +111,10 @@ fn serve_cut<const B: usize, const M: usize, const E: usize, A: CellArray<B, M>,
     requires layout { IsLayout B M E }
     requires few { out.old.rows < 4294967295 }
     requires serving { (raw : RawShape) × (seed : ℕ) × (before : List (StreamAsked B))
-        × IsServing raw seed before pcm.old (A.state array.old) out.old.rows out.old.told }
+        × IsServing raw seed before pcm.old (A.state array.old) out.old.rows out.old.told out.old.prints out.old.snapshots }
     ensures serving { (raw : RawShape) (seed : ℕ) (before : List (StreamAsked B))
-        → IsServing raw seed before pcm.old (A.state array.old) out.old.rows out.old.told
-        → IsServing raw seed (cut_behind before) pcm.new (A.state array.new) out.new.rows out.new.told }
+        → IsServing raw seed before pcm.old (A.state array.old) out.old.rows out.old.told out.old.prints out.old.snapshots
+        → IsServing raw seed (cut_behind before) pcm.new (A.state array.new) out.new.rows out.new.told out.new.prints out.new.snapshots }
     ensures prints { out.new.prints ≡ out.old.prints }
     ensures printing { (before : Option (List ℕ)) (first : ℕ) → IsPrinting K.written K.faults before first out.old
         → IsPrinting K.written K.faults before first out.new }
@@ -101,17 +128,17 @@ fn serve_cut<const B: usize, const M: usize, const E: usize, A: CellArray<B, M>,
 }
 
 // Lets the banks finish what is left to do.
-fn drain<const B: usize, const M: usize, const E: usize, A: CellArray<B, M>, K: Sink + Drop>(
+fn drain<const B: usize, const M: usize, const E: usize, A: TellsCells<B, M>, K: Sink + Drop>(
     pcm: &mut Module<B, M, E>,
     array: &mut A,
     out: &mut RowPrinter<B, K>,
 )
     requires layout { IsLayout B M E }
     requires serving { (raw : RawShape) × (seed : ℕ) × (asked : List (StreamAsked B))
-        × IsServing raw seed asked pcm.old (A.state array.old) out.old.rows out.old.told }
+        × IsServing raw seed asked pcm.old (A.state array.old) out.old.rows out.old.told out.old.prints out.old.snapshots }
     ensures ended { (raw : RawShape) (seed : ℕ) (asked : List (StreamAsked B))
-        → IsServing raw seed asked pcm.old (A.state array.old) out.old.rows out.old.told
-        → HasEnded raw seed false asked pcm.new (A.state array.new) out.new.rows out.new.told }
+        → IsServing raw seed asked pcm.old (A.state array.old) out.old.rows out.old.told out.old.prints out.old.snapshots
+        → IsLeft raw seed false asked pcm.new (A.state array.new) out.new.rows out.new.told out.new.prints out.new.snapshots }
     ensures prints { out.new.prints ≡ out.old.prints }
     ensures printing { (before : Option (List ℕ)) (first : ℕ) → IsPrinting K.written K.faults before first out.old
         → IsPrinting K.written K.faults before first out.new }
@@ -122,17 +149,17 @@ fn drain<const B: usize, const M: usize, const E: usize, A: CellArray<B, M>, K: 
 }
 
 // Leaves all as it is behind a power cut; the array, which is only looked at here, stays as the cut left it.
-fn stop<const B: usize, const M: usize, const E: usize, A: CellArray<B, M>, K: Sink + Drop>(
+fn stop<const B: usize, const M: usize, const E: usize, A: TellsCells<B, M>, K: Sink + Drop>(
     pcm: &mut Module<B, M, E>,
     array: &A,
     out: &mut RowPrinter<B, K>,
 )
     requires layout { IsLayout B M E }
     requires serving { (raw : RawShape) × (seed : ℕ) × (asked : List (StreamAsked B))
-        × IsServing raw seed asked pcm.old (A.state array.now) out.old.rows out.old.told × (behind_of asked ≡ Off) }
+        × IsServing raw seed asked pcm.old (A.state array.now) out.old.rows out.old.told out.old.prints out.old.snapshots × (behind_of asked ≡ Off) }
     ensures ended { (raw : RawShape) (seed : ℕ) (asked : List (StreamAsked B))
-        → IsServing raw seed asked pcm.old (A.state array.now) out.old.rows out.old.told → behind_of asked ≡ Off
-        → HasEnded raw seed true asked pcm.new (A.state array.now) out.new.rows out.new.told }
+        → IsServing raw seed asked pcm.old (A.state array.now) out.old.rows out.old.told out.old.prints out.old.snapshots → behind_of asked ≡ Off
+        → IsLeft raw seed true asked pcm.new (A.state array.now) out.new.rows out.new.told out.new.prints out.new.snapshots }
     ensures prints { out.new.prints ≡ out.old.prints }
     ensures printing { (before : Option (List ℕ)) (first : ℕ) → IsPrinting K.written K.faults before first out.old
         → IsPrinting K.written K.faults before first out.new }

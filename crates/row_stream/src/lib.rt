@@ -4,6 +4,7 @@
 mod drawing;
 mod ending;
 mod laws;
+mod looking;
 mod reading;
 mod serving;
 mod stop;

@@ -8,14 +8,14 @@ ghost use Rattle.module_shape.specs.declared.raw.RawShape.{RawShape};
 ghost use Rattle.module_shape.specs.Limits.{total_of};
 ghost use Rattle.trace_stream.specs.Asked.{IsAskedFor};
 ghost use Rattle.trace_stream.specs.declared.asked.Asked.{Asked as StreamAsked};
-ghost use Rattle.row_printer.specs.Printing.{IsPrinting, stream_text};
+ghost use Rattle.row_printer.specs.Printing.{IsPrinting, text_told};
 ghost use Rattle.row_stream.specs.Asking.{behind_of};
 ghost use Rattle.row_stream.specs.Serving.{IsServing};
 ghost use Rattle.row_stream.specs.Sourcing.{HasStopped, IsRead};
 
 use crate::serving::serve;
 use crate::stop::{Behind, Stop, behind_asked};
-use cell_rows::CellArray;
+use cell_wear::TellsCells;
 use pcm_io::{Sink, Source, WriteFault};
 use pcm_module::Module;
 use row_printer::RowPrinter;
@@ -24,7 +24,7 @@ use trace_stream::{Asked, TraceStream};
 
 /// Serves one row of a stream, and writes what became known by it: unless a write fails, exactly the outcomes that the histories of the banks
 /// gave so far were told, and the output has received them, whatever it had received before.
-pub fn feed<const B: usize, const M: usize, const E: usize, A: CellArray<B, M>, K: Sink + Drop>(
+pub fn feed<const B: usize, const M: usize, const E: usize, A: TellsCells<B, M>, K: Sink + Drop>(
     pcm: &mut Module<B, M, E>,
     array: &mut A,
     asked: &Asked<B>,
@@ -34,17 +34,17 @@ pub fn feed<const B: usize, const M: usize, const E: usize, A: CellArray<B, M>, 
     requires asked { IsAskedFor (total_of pcm.old.shape) pcm.old.tick asked.now }
     requires few { out.old.rows < 4294967295 }
     requires serving { (raw : RawShape) × (seed : ℕ) × (before : List (StreamAsked B))
-        × IsServing raw seed before pcm.old (A.state array.old) out.old.rows out.old.told }
+        × IsServing raw seed before pcm.old (A.state array.old) out.old.rows out.old.told out.old.prints out.old.snapshots }
     ensures serving { (raw : RawShape) (seed : ℕ) (before : List (StreamAsked B))
-        → IsServing raw seed before pcm.old (A.state array.old) out.old.rows out.old.told
-        → IsServing raw seed (asked.now ∷ before) pcm.new (A.state array.new) out.new.rows out.new.told }
+        → IsServing raw seed before pcm.old (A.state array.old) out.old.rows out.old.told out.old.prints out.old.snapshots
+        → IsServing raw seed (asked.now ∷ before) pcm.new (A.state array.new) out.new.rows out.new.told out.new.prints out.new.snapshots }
     ensures prints { out.new.prints ≡ out.old.prints }
     ensures printing { (before : Option (List ℕ)) (first : ℕ) → IsPrinting K.written K.faults before first out.old
         → IsPrinting K.written K.faults before first out.new }
     ensures written { OnOk result ((before : Option (List ℕ)) (first : ℕ) → IsPrinting K.written K.faults before first out.old
-        → Appends before (K.written out.new.sink) (stream_text out.new.prints out.new.told)) }
+        → Appends before (K.written out.new.sink) (text_told out.new)) }
     ensures part { OnErr result ((before : Option (List ℕ)) (first : ℕ) → IsPrinting K.written K.faults before first out.old
-        → AppendsPrefix before (K.written out.new.sink) (stream_text out.new.prints out.new.told) × Rose first (K.faults out.new.sink)) }
+        → AppendsPrefix before (K.written out.new.sink) (text_told out.new) × Rose first (K.faults out.new.sink)) }
     ensures wear { (A.state array.new).wear ≡ (A.state array.old).wear }
 {
     serve(pcm, array, asked, out);
@@ -57,7 +57,7 @@ pub fn serve_source<
     const B: usize,
     const M: usize,
     const E: usize,
-    A: CellArray<B, M>,
+    A: TellsCells<B, M>,
     S: Source,
     K: Sink + Drop,
 >(
@@ -68,23 +68,23 @@ pub fn serve_source<
     out: &mut RowPrinter<B, K>,
 ) -> Result<Behind, Stop>
     requires layout { IsLayout B M E }
-    requires begins { (raw : RawShape) × (seed : ℕ) × IsServing raw seed [] pcm.old (A.state array.old) out.old.rows out.old.told }
+    requires begins { (raw : RawShape) × (seed : ℕ) × IsServing raw seed [] pcm.old (A.state array.old) out.old.rows out.old.told out.old.prints out.old.snapshots }
     ensures served { IfOk result (λ behind. (raw : RawShape) (seed : ℕ)
-        → IsServing raw seed [] pcm.old (A.state array.old) out.old.rows out.old.told
-        → (asked : List (StreamAsked B)) × IsServing raw seed asked pcm.new (A.state array.new) out.new.rows out.new.told
+        → IsServing raw seed [] pcm.old (A.state array.old) out.old.rows out.old.told out.old.prints out.old.snapshots
+        → (asked : List (StreamAsked B)) × IsServing raw seed asked pcm.new (A.state array.new) out.new.rows out.new.told out.new.prints out.new.snapshots
         × (behind ≡ behind_of asked) × IsRead (total_of raw) S.left S.taken S.faults source.old source.new asked) }
     ensures few { out.new.rows < 4294967295 }
     ensures stopped { IfErr result (λ stop. (raw : RawShape) (seed : ℕ)
-        → IsServing raw seed [] pcm.old (A.state array.old) out.old.rows out.old.told
-        → (asked : List (StreamAsked B)) × IsServing raw seed asked pcm.new (A.state array.new) out.new.rows out.new.told
+        → IsServing raw seed [] pcm.old (A.state array.old) out.old.rows out.old.told out.old.prints out.old.snapshots
+        → (asked : List (StreamAsked B)) × IsServing raw seed asked pcm.new (A.state array.new) out.new.rows out.new.told out.new.prints out.new.snapshots
         × HasStopped (total_of raw) S.left S.taken S.faults source.old source.new asked stop) }
     ensures prints { out.new.prints ≡ out.old.prints }
     ensures printing { (before : Option (List ℕ)) (first : ℕ) → IsPrinting K.written K.faults before first out.old
         → IsPrinting K.written K.faults before first out.new }
     ensures written { result ≢ Err Stop.Output → (before : Option (List ℕ)) (first : ℕ) → IsPrinting K.written K.faults before first out.old
-        → Appends before (K.written out.new.sink) (stream_text out.new.prints out.new.told) }
+        → Appends before (K.written out.new.sink) (text_told out.new) }
     ensures part { result ≡ Err Stop.Output → (before : Option (List ℕ)) (first : ℕ) → IsPrinting K.written K.faults before first out.old
-        → AppendsPrefix before (K.written out.new.sink) (stream_text out.new.prints out.new.told) × Rose first (K.faults out.new.sink) }
+        → AppendsPrefix before (K.written out.new.sink) (text_told out.new) × Rose first (K.faults out.new.sink) }
     ensures wear { (A.state array.new).wear ≡ (A.state array.old).wear }
     ensures never_falls { S.faults source.old ≤ S.faults source.new }
 {

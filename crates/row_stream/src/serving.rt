@@ -11,7 +11,8 @@ ghost use Rattle.trace_stream.specs.declared.asked.Asked.TheVariants.{Happens, S
 ghost use Rattle.row_printer.specs.Printing.{IsPrinting};
 ghost use Rattle.row_stream.specs.Serving.{IsServing};
 
-use cell_rows::CellArray;
+use crate::looking::show_due;
+use cell_wear::TellsCells;
 use pcm_io::Sink;
 use pcm_module::Module;
 use row_printer::RowPrinter;
@@ -20,7 +21,7 @@ use trace_stream::Asked;
 
 /// Serves one row of a stream, and tells what became known by it: of an event what its bank did before it and what the event itself
 /// decides, at a power cut what all banks did, and at a settle too, behind which its tick is told. An event has the next number.
-pub fn serve<const B: usize, const M: usize, const E: usize, A: CellArray<B, M>, K: Sink + Drop>(
+pub fn serve<const B: usize, const M: usize, const E: usize, A: TellsCells<B, M>, K: Sink + Drop>(
     pcm: &mut Module<B, M, E>,
     array: &mut A,
     asked: &Asked<B>,
@@ -30,10 +31,10 @@ pub fn serve<const B: usize, const M: usize, const E: usize, A: CellArray<B, M>,
     requires asked { IsAskedFor (total_of pcm.old.shape) pcm.old.tick asked.now }
     requires few { out.old.rows < 4294967295 }
     requires serving { (raw : RawShape) × (seed : ℕ) × (before : List (StreamAsked B))
-        × IsServing raw seed before pcm.old (A.state array.old) out.old.rows out.old.told }
+        × IsServing raw seed before pcm.old (A.state array.old) out.old.rows out.old.told out.old.prints out.old.snapshots }
     ensures serving { (raw : RawShape) (seed : ℕ) (before : List (StreamAsked B))
-        → IsServing raw seed before pcm.old (A.state array.old) out.old.rows out.old.told
-        → IsServing raw seed (asked.now ∷ before) pcm.new (A.state array.new) out.new.rows out.new.told }
+        → IsServing raw seed before pcm.old (A.state array.old) out.old.rows out.old.told out.old.prints out.old.snapshots
+        → IsServing raw seed (asked.now ∷ before) pcm.new (A.state array.new) out.new.rows out.new.told out.new.prints out.new.snapshots }
     ensures prints { out.new.prints ≡ out.old.prints }
     ensures printing { (before : Option (List ℕ)) (first : ℕ) → IsPrinting K.written K.faults before first out.old
         → IsPrinting K.written K.faults before first out.new }
@@ -45,22 +46,22 @@ pub fn serve<const B: usize, const M: usize, const E: usize, A: CellArray<B, M>,
     }
 }
 
-/// Hands an event to the module, with the next number.
+/// Hands an event to the module, with the next number; where a snapshot is due then, it is taken.
 pub fn serve_event<
     const B: usize,
     const M: usize,
     const E: usize,
-    A: CellArray<B, M>,
+    A: TellsCells<B, M>,
     K: Sink + Drop,
 >(pcm: &mut Module<B, M, E>, array: &mut A, event: &Event<B>, out: &mut RowPrinter<B, K>)
     requires layout { IsLayout B M E }
     requires event { IsEventFor (total_of pcm.old.shape) pcm.old.tick event.now }
     requires few { out.old.rows < 4294967295 }
     requires serving { (raw : RawShape) × (seed : ℕ) × (before : List (StreamAsked B))
-        × IsServing raw seed before pcm.old (A.state array.old) out.old.rows out.old.told }
+        × IsServing raw seed before pcm.old (A.state array.old) out.old.rows out.old.told out.old.prints out.old.snapshots }
     ensures serving { (raw : RawShape) (seed : ℕ) (before : List (StreamAsked B))
-        → IsServing raw seed before pcm.old (A.state array.old) out.old.rows out.old.told
-        → IsServing raw seed (Happens event.now ∷ before) pcm.new (A.state array.new) out.new.rows out.new.told }
+        → IsServing raw seed before pcm.old (A.state array.old) out.old.rows out.old.told out.old.prints out.old.snapshots
+        → IsServing raw seed (Happens event.now ∷ before) pcm.new (A.state array.new) out.new.rows out.new.told out.new.prints out.new.snapshots }
     ensures prints { out.new.prints ≡ out.old.prints }
     ensures printing { (before : Option (List ℕ)) (first : ℕ) → IsPrinting K.written K.faults before first out.old
         → IsPrinting K.written K.faults before first out.new }
@@ -70,23 +71,25 @@ pub fn serve_event<
     let row = out.rows();
     pcm.event(array, row, event, out);
     out.tells_once();
+    show_due(pcm, array, out);
 }
 
 // Brings every bank to a tick, and tells that behind what became known by it.
-fn serve_settle<const B: usize, const M: usize, const E: usize, A: CellArray<B, M>, K: Sink + Drop>(
-    pcm: &mut Module<B, M, E>,
-    array: &mut A,
-    tick: u64,
-    out: &mut RowPrinter<B, K>,
-)
+fn serve_settle<
+    const B: usize,
+    const M: usize,
+    const E: usize,
+    A: TellsCells<B, M>,
+    K: Sink + Drop,
+>(pcm: &mut Module<B, M, E>, array: &mut A, tick: u64, out: &mut RowPrinter<B, K>)
     requires layout { IsLayout B M E }
     requires rises { pcm.old.tick ≤ tick }
     requires in_time { tick ≤ latest_tick }
     requires serving { (raw : RawShape) × (seed : ℕ) × (before : List (StreamAsked B))
-        × IsServing raw seed before pcm.old (A.state array.old) out.old.rows out.old.told }
+        × IsServing raw seed before pcm.old (A.state array.old) out.old.rows out.old.told out.old.prints out.old.snapshots }
     ensures serving { (raw : RawShape) (seed : ℕ) (before : List (StreamAsked B))
-        → IsServing raw seed before pcm.old (A.state array.old) out.old.rows out.old.told
-        → IsServing raw seed (Settle tick ∷ before) pcm.new (A.state array.new) out.new.rows out.new.told }
+        → IsServing raw seed before pcm.old (A.state array.old) out.old.rows out.old.told out.old.prints out.old.snapshots
+        → IsServing raw seed (Settle tick ∷ before) pcm.new (A.state array.new) out.new.rows out.new.told out.new.prints out.new.snapshots }
     ensures prints { out.new.prints ≡ out.old.prints }
     ensures printing { (before : Option (List ℕ)) (first : ℕ) → IsPrinting K.written K.faults before first out.old
         → IsPrinting K.written K.faults before first out.new }

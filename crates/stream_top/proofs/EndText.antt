@@ -21,7 +21,7 @@ use Rattle.pcm_module.specs.State.{AreEndsOf, ModuleState}
 use Rattle.module_prints.specs.Images.{kept_in}
 use Rattle.module_prints.specs.WearReports.{HaveRoles, IsWearReport}
 use Rattle.stream_words.specs.declared.job.StreamPrint.{StreamPrint}
-use Rattle.stream_words.specs.declared.job.StreamPrint.TheVariants.{Rows, Summary, Wear, Lines, Image}
+use Rattle.stream_words.specs.declared.job.StreamPrint.TheVariants.{Rows, Summary, Wear, Lines, Image, Snapshots}
 use Rattle.stream_top.specs.Leaving.{IsClosing, senses_for}
 
 module _ {n m e : ℕ} (module_ : ModuleState n m e) (array : ArrayState n m) (cells : ℕ → LineCells) (rows : ℕ) (counts : Counts) (print : StreamPrint) (P : List ℕ → Type 0) where
@@ -36,6 +36,9 @@ module _ {n m e : ℕ} (module_ : ModuleState n m e) (array : ArrayState n m) (c
 
   pub nothing-closes : print ≡ Rows → P [] → PrintsOf
   nothing-closes is written = λ ends are roles. ([], subst (Closes ends []) (sym is) refl, written)
+
+  pub snapshots-close : (every : ℕ) → print ≡ Snapshots every → P [] → PrintsOf
+  snapshots-close every is written = λ ends are roles. ([], subst (Closes ends []) (sym is) refl, written)
 
   pub summary-closes : print ≡ Summary → (retired pulses : ℕ) (bytes : List ℕ) → bytes ≡ summary_text rows counts retired pulses → pulses ≡ pulses_in_all array
       → ((ends : ℕ → BankEnd) → AreEndsOf module_ ends → retired ≡ spares_used module_.shape ends) → P bytes → PrintsOf

@@ -1,5 +1,5 @@
 -- What a stream that ended is, and what its call promises.
-use Rattle.std.proofs.Common.{◌≡◌, ◌≢◌, ◌⊎◌, inl, inr, ℕ, ◌*◌, ◌^◌, ◌<◌, ◌≤◌, ◌++◌, Bool, List, [], Option, Some, refl, sym, ap, ◌∙◌, subst, arith}
+use Rattle.std.proofs.Common.{◌≡◌, ◌≢◌, ◌⊎◌, inl, inr, ℕ, ◌*◌, ◌^◌, ◌<◌, ◌≤◌, ◌++◌, List, [], Option, Some, refl, sym, ap, ◌∙◌, subst, arith}
 use Rattle.std.specs.Prelude.{Result, Ok, Err}
 use Rattle.std.specs.Io.KnownBytes.{Appends}
 use Rattle.pcm_io.specs.Giving.{AppendsPrefix}
@@ -29,19 +29,22 @@ use Rattle.module_prints.proofs.Wearing.{worn-goes_on, worn-none}
 use Rattle.program_calls.specs.Calls.{GetsPart, IsUntouched, Lent, SinkChange, SinkFails}
 use Rattle.row_printer.specs.Printing.{stream_text, table_of}
 use Rattle.row_printer.specs.Telling.{outcomes_in, TellsOnce}
+use Rattle.row_printer.specs.declared.snapshot.Snapshot.{Snapshot}
+use Rattle.row_printer.specs.declared.told.Shown.{Shown}
 use Rattle.row_printer.specs.declared.told.Told.{Told}
 use Rattle.row_stream.specs.Asking.{stays_off, with_cut}
 use Rattle.row_stream.specs.Laws.{EachToldLaw}
-use Rattle.row_stream.specs.Serving.{IsServing}
+use Rattle.row_stream.specs.Ending.{SnapsAll}
+use Rattle.row_stream.specs.Serving.{IsServing, SnapsAlong}
 use Rattle.stream_words.specs.declared.job.StreamJob.{StreamJob}
 use Rattle.stream_words.specs.declared.job.StreamPrint.{StreamPrint}
-use Rattle.stream_words.specs.declared.job.StreamPrint.TheVariants.{Rows, Summary, Wear, Lines, Image}
+use Rattle.stream_words.specs.declared.job.StreamPrint.TheVariants.{Rows, Summary, Wear, Lines, Image, Snapshots}
 use Rattle.trace_stream.specs.declared.asked.Asked.{Asked}
 use Rattle.stream_top.specs.Calls.{LentSource}
 use Rattle.stream_top.specs.FaultLines.{fault_line, status_of}
 use Rattle.stream_top.specs.Leaving.{IsClosing, Leaves, LeavesLaw, senses_for}
 use Rattle.stream_top.proofs.EndText.{PrintsOf}
-use Rattle.stream_top.specs.Streams.{BreaksOff, Closes, HasPlayed, IsServed, IsServedInPart, StopsBy, Streams, StreamsUpTo, done_by, is_off, prints_rows, rows_told, status_done}
+use Rattle.stream_top.specs.Streams.{BreaksOff, Closes, HasPlayed, IsServed, IsServedInPart, StopsBy, Streams, StreamsUpTo, done_by, is_off, rows_told, shown_by, status_done}
 use Rattle.command_line.specs.declared.job.LineSize.{LineSize}
 use Rattle.command_line.specs.declared.job.LineSize.TheVariants.{Bytes64, Bytes128}
 use Rattle.command_line.specs.declared.job.Refusal.{Refusal}
@@ -69,6 +72,7 @@ module _ {n m : ℕ} (raw : RawShape) (seed rows places : ℕ) (counts all : Cou
       let alike : cells_now ≡ cells = told (λ p. cc p) in
       (is.0, subst (λ (a : ArrayState n m). IsWearReport raw seed ends a is.0) (sym stood) is.1, is.2 ∙ ap (λ (w : ℕ → LineCells). lines_text w is.0) (sym alike))
   closing-now Image text same counted still told is = is
+  closing-now (Snapshots every) text same counted still told is = is
 
 -- there is such a text, whatever is asked for
 some-closing : {n m : ℕ} (raw : RawShape) (seed rows : ℕ) (counts : Counts) (ends : ℕ → BankEnd) (array : ArrayState n m) (cells : ℕ → LineCells) (saved : Saved n m) (print : StreamPrint)
@@ -82,40 +86,45 @@ some-closing raw seed rows counts ends array cells saved Lines is roles size =
     let report = worn-goes_on raw seed ends array is roles 0 [] size (omega arith) (worn-none raw seed ends array) in
     (lines_text cells ([] ++ report.0), ([] ++ report.0, report.1, refl))
 some-closing raw seed rows counts ends array cells saved Image is roles size = (image_bytes saved, refl)
+some-closing raw seed rows counts ends array cells saved (Snapshots every) is roles size = ([], refl)
 
 -- before an image nothing is printed
-nothing-before : {n : ℕ} (print : StreamPrint) (told : List (Told n)) → print ≡ Image → stream_text (prints_rows print) told ≡ []
-nothing-before Rows told is = absurd (cc is)
-nothing-before Summary told is = absurd (cc is)
-nothing-before Wear told is = absurd (cc is)
-nothing-before Lines told is = absurd (cc is)
-nothing-before Image told is = refl
+nothing-before : {n : ℕ} (print : StreamPrint) (told : List (Told n)) (snaps : List Snapshot) → print ≡ Image → stream_text (shown_by print) told snaps ≡ []
+nothing-before Rows told snaps is = absurd (cc is)
+nothing-before Summary told snaps is = absurd (cc is)
+nothing-before Wear told snaps is = absurd (cc is)
+nothing-before Lines told snaps is = absurd (cc is)
+nothing-before Image told snaps is = refl
+nothing-before (Snapshots every) told snaps is = absurd (cc is)
 
-module _ {S : Type 0} (n m e : ℕ) (job : StreamJob) (source : LentSource S) (module_ : ModuleState n m e) (before : ArrayState n m) (places : ℕ) (told : List (Told n))
+module _ {S : Type 0} (n m e : ℕ) (job : StreamJob) (source : LentSource S) (module_ : ModuleState n m e) (before : ArrayState n m) (places : ℕ) (told : List (Told n)) (prints : Shown) (snaps : List Snapshot) (alike : prints ≡ shown_by job.print)
     (once : TellsOnce places (outcomes_in told)) where
-  part-of : (asked : List (Asked n)) → IsServing job.shape job.seed asked module_ before places told → IsServedInPart n m e job source asked told
+  part-of : (asked : List (Asked n)) → IsServing job.shape job.seed asked module_ before places told prints snaps → IsServedInPart n m e job source asked told
   part-of asked serving = record {
     history = serving.history;
     along = serving.along;
+    snapshots = snaps;
+    snaps = subst (λ (p : Shown). SnapsAlong e job.shape job.seed p asked serving.history told serving.along snaps) alike serving.snaps;
     once = subst (λ (k : ℕ). TellsOnce k (outcomes_in told)) serving.counted once;
   }
 
   -- a stream that stopped at a fault
-  pub stream-stops : (out : SinkChange) (fault : Fault) (asked : List (Asked n)) → IsServing job.shape job.seed asked module_ before places told → StopsBy n m e job source job.input fault asked
-      → (prints : Bool) → prints ≡ prints_rows job.print → Appends out.written_before out.written_now (stream_text prints told) → StreamsUpTo n m e job source out fault
-  stream-stops out fault asked serving stops prints same gets = record {
+  pub stream-stops : (out : SinkChange) (fault : Fault) (asked : List (Asked n)) → IsServing job.shape job.seed asked module_ before places told prints snaps → StopsBy n m e job source job.input fault asked
+      → Appends out.written_before out.written_now (stream_text prints told snaps) → StreamsUpTo n m e job source out fault
+  unfolding part-of
+  stream-stops out fault asked serving stops gets = record {
     asked = asked;
     told = told;
     served = part-of asked serving;
     cause = stops;
-    written = subst (λ (p : Bool). Appends out.written_before out.written_now (stream_text p told)) same gets;
+    written = subst (λ (p : Shown). Appends out.written_before out.written_now (stream_text p told snaps)) alike gets;
   }
 
   module _ (array : ArrayState n m) (changes changes_now : ℕ → Option (ℕ → ℕ)) (stand : job.print ≢ Image → changes_now ≡ changes) (each : EachToldLaw) (law : LeavesLaw) (shape : IsShape job.shape) (low : job.seed < 2 ^ 64) (wear : array.wear ≡ Some job.wear)
-      (still : job.print ≢ Image → array ≡ before) (sensed : ℕ) (since : SensesRows sensed before array) (asked : List (Asked n)) (played : HasPlayed n m e job source asked module_ before places told) where
-    abbrev kept : Leaves (stays_off (is_off job.end) asked) e job.shape job.seed (rows_told n m e job source asked places told) played.1.ends sensed before array (saved_of job.shape job.seed (kept_in module_) before)
-        × HaveRoles job.shape job.seed played.1.ends
-    kept = law n m e job.shape job.seed (stays_off (is_off job.end) asked) (with_cut (is_off job.end) asked) module_ before array places told sensed shape low since played.1
+      (still : job.print ≢ Image → array ≡ before) (sensed : ℕ) (since : SensesRows sensed before array) (asked : List (Asked n)) (played : HasPlayed n m e job source asked module_ before places told prints snaps) where
+    abbrev kept : Leaves (stays_off (is_off job.end) asked) e job.shape job.seed (rows_told n m e job source asked places told) played.1.0.ends sensed before array (saved_of job.shape job.seed (kept_in module_) before)
+        × HaveRoles job.shape job.seed played.1.0.ends
+    kept = law n m e job.shape job.seed (stays_off (is_off job.end) asked) (with_cut (is_off job.end) asked) module_ before array places told sensed shape low since played.1.0
 
     served-of : IsServed n m e job source array told
     served-of = record {
@@ -124,9 +133,11 @@ module _ {S : Type 0} (n m e : ℕ) (job : StreamJob) (source : LentSource S) (m
       places = places;
       module_ = module_;
       before = before;
-      ended = played.1;
+      ended = played.1.0;
+      snapshots = snaps;
+      snaps = subst (λ (p : Shown). SnapsAll p played.1.0 snaps) alike played.1.1;
       once = once;
-      each = each n m e job.shape job.seed (stays_off (is_off job.end) asked) (with_cut (is_off job.end) asked) module_ before places told once played.1;
+      each = each n m e job.shape job.seed (stays_off (is_off job.end) asked) (with_cut (is_off job.end) asked) module_ before places told once played.1.0;
       sensed = sensed;
       saved = saved_of job.shape job.seed (kept_in module_) before;
       leaves = kept.0;
@@ -139,73 +150,73 @@ module _ {S : Type 0} (n m e : ℕ) (job : StreamJob) (source : LentSource S) (m
         → (whole : List ℕ) × Closes n m e job source array changes_now told served-of whole × P whole
     unfolding served-of
     closes-of rows counts same counted P prints =
-        let ends = played.1.ends in
+        let ends = played.1.0.ends in
         let For : RawShape → ℕ → Type 0 = λ raw seed. HaveRoles raw seed ends
         → (whole : List ℕ) × IsClosing raw seed rows counts ends before (cells_at e before changes) (saved_of raw seed (kept_in module_) before) job.print whole × P whole in
-        let shaped : For job.shape module_.seed = subst (λ (raw : RawShape). For raw module_.seed) played.1.shape (prints ends played.1.are) in
-        let own : For job.shape job.seed = subst (λ (seed : ℕ). For job.shape seed) played.1.seeded shaped in
+        let shaped : For job.shape module_.seed = subst (λ (raw : RawShape). For raw module_.seed) played.1.0.shape (prints ends played.1.0.are) in
+        let own : For job.shape job.seed = subst (λ (seed : ℕ). For job.shape seed) played.1.0.seeded shaped in
         let got = own kept.1 in
         let alike : job.print ≢ Image → cells_at e array changes_now ≡ cells_at e before changes = λ other. ap (λ (a : ArrayState n m). cells_at e a changes_now) (still other) ∙ ap (cells_at e before) (stand other) in
         (got.0, closing-now job.shape job.seed rows places counts (counts_of (table_of places told)) ends before array (cells_at e before changes) (cells_at e array changes_now) (saved_of job.shape job.seed (kept_in module_) before) job.print got.0 same counted still alike got.1, got.2)
 
     -- it was served to its end, and its whole text was written
-    pub stream-whole : (out : SinkChange) (mid : Option (List ℕ)) (prints : Bool) → prints ≡ prints_rows job.print → Appends out.written_before mid (stream_text prints told)
+    pub stream-whole : (out : SinkChange) (mid : Option (List ℕ)) → Appends out.written_before mid (stream_text prints told snaps)
         → (rows : ℕ) (counts : Counts) → rows ≡ places → counts ≡ counts_of (table_of places told) → PrintsOf module_ before (cells_at e before changes) rows counts job.print (λ whole. Appends mid out.written_now whole)
         → sensed ≡ senses_for job.print before.lines → (done : Done) → done ≡ done_by (table_of places told) → Streams n m e job source out array changes_now done
     unfolding served-of
-    stream-whole out mid prints alike gets rows counts same counted writes all done is =
+    stream-whole out mid gets rows counts same counted writes all done is =
         let text = closes-of rows counts same counted (λ whole. Appends mid out.written_now whole) writes in
-        let first : Appends out.written_before mid (stream_text (prints_rows job.print) told) = subst (λ (p : Bool). Appends out.written_before mid (stream_text p told)) alike gets in
+        let first : Appends out.written_before mid (stream_text (shown_by job.print) told snaps) = subst (λ (p : Shown). Appends out.written_before mid (stream_text p told snaps)) alike gets in
         record {
           told = told;
           served = served-of;
           text = text.0;
           closes = text.1;
-          written = Appends-Appends out.written_before mid out.written_now (stream_text (prints_rows job.print) told) text.0 first text.2;
+          written = Appends-Appends out.written_before mid out.written_now (stream_text (shown_by job.print) told snaps) text.0 first text.2;
           sensed = all ∙ ap (senses_for job.print) (sym since.since.lines);
           ending = is;
         }
 
     -- so it was, and the output failed within the text of the end
-    pub stream-part : (out : SinkChange) (mid : Option (List ℕ)) (prints : Bool) → prints ≡ prints_rows job.print → Appends out.written_before mid (stream_text prints told)
+    pub stream-part : (out : SinkChange) (mid : Option (List ℕ)) → Appends out.written_before mid (stream_text prints told snaps)
         → (rows : ℕ) (counts : Counts) → rows ≡ places → counts ≡ counts_of (table_of places told) → PrintsOf module_ before (cells_at e before changes) rows counts job.print (λ whole. AppendsPrefix mid out.written_now whole)
         → sensed ≤ senses_for job.print before.lines
         → (job.print ≡ Image → WritesRows array (saved_of module_.shape module_.seed (kept_in module_) before) mid out.written_now)
         → SinkFails out → BreaksOff n m e job source out array changes_now
     unfolding served-of
-    stream-part out mid prints alike gets rows counts same counted writes some image fails =
+    stream-part out mid gets rows counts same counted writes some image fails =
         let text = closes-of rows counts same counted (λ whole. AppendsPrefix mid out.written_now whole) writes in
-        let first : Appends out.written_before mid (stream_text (prints_rows job.print) told) = subst (λ (p : Bool). Appends out.written_before mid (stream_text p told)) alike gets in
+        let first : Appends out.written_before mid (stream_text (shown_by job.print) told snaps) = subst (λ (p : Shown). Appends out.written_before mid (stream_text p told snaps)) alike gets in
         record {
           served = inl (record {
             told = told;
             served = served-of;
             text = text.0;
             closes = text.1;
-            part = Appends-AppendsPrefix out.written_before mid out.written_now (stream_text (prints_rows job.print) told) text.0 first text.2;
+            part = Appends-AppendsPrefix out.written_before mid out.written_now (stream_text (shown_by job.print) told snaps) text.0 first text.2;
             sensed = subst (λ (lines : ℕ). sensed ≤ senses_for job.print lines) (sym since.since.lines) some;
             rows =
                 λ is.
                 let had = image is in
-                let none : Appends out.written_before mid [] = subst (Appends out.written_before mid) (nothing-before job.print told is) first in
+                let none : Appends out.written_before mid [] = subst (Appends out.written_before mid) (nothing-before job.print told snaps is) first in
                 let Of : RawShape → ℕ → Type 0 = λ raw seed. WritesRows array (saved_of raw seed (kept_in module_) before) out.written_before out.written_now in
                 let own : Of module_.shape module_.seed = record {
                   count = had.count;
                   rows = had.rows;
                   part = Appends-AppendsPrefix out.written_before mid out.written_now [] (image_bytes (first_rows had.count (saved_of module_.shape module_.seed (kept_in module_) before))) none had.part;
                 } in
-                subst (λ (seed : ℕ). Of job.shape seed) played.1.seeded (subst (λ (raw : RawShape). Of raw module_.seed) played.1.shape own);
+                subst (λ (seed : ℕ). Of job.shape seed) played.1.0.seeded (subst (λ (raw : RawShape). Of raw module_.seed) played.1.0.shape own);
           });
           fails = fails;
         }
 
     -- or before it, where first bytes of what was told were written
-    pub stream-unclosed : (out : SinkChange) (prints : Bool) → prints ≡ prints_rows job.print → AppendsPrefix out.written_before out.written_now (stream_text prints told)
+    pub stream-unclosed : (out : SinkChange) → AppendsPrefix out.written_before out.written_now (stream_text prints told snaps)
         → sensed ≡ 0 → SinkFails out → BreaksOff n m e job source out array changes_now
     unfolding served-of
-    stream-unclosed out prints alike gets none fails =
-        let text = some-closing job.shape job.seed places (counts_of (table_of places told)) played.1.ends array (cells_at e array changes_now) (saved_of job.shape job.seed (kept_in module_) before) job.print shape kept.1 kept.0.right.size in
-        let first : AppendsPrefix out.written_before out.written_now (stream_text (prints_rows job.print) told) = subst (λ (p : Bool). AppendsPrefix out.written_before out.written_now (stream_text p told)) alike gets in
+    stream-unclosed out gets none fails =
+        let text = some-closing job.shape job.seed places (counts_of (table_of places told)) played.1.0.ends array (cells_at e array changes_now) (saved_of job.shape job.seed (kept_in module_) before) job.print shape kept.1 kept.0.right.size in
+        let first : AppendsPrefix out.written_before out.written_now (stream_text (shown_by job.print) told snaps) = subst (λ (p : Shown). AppendsPrefix out.written_before out.written_now (stream_text p told snaps)) alike gets in
         let saved = saved_of job.shape job.seed (kept_in module_) before in
         record {
           served = inl (record {
@@ -213,32 +224,33 @@ module _ {S : Type 0} (n m e : ℕ) (job : StreamJob) (source : LentSource S) (m
             served = served-of;
             text = text.0;
             closes = text.1;
-            part = AppendsPrefix-longer out.written_before out.written_now (stream_text (prints_rows job.print) told) text.0 first;
+            part = AppendsPrefix-longer out.written_before out.written_now (stream_text (shown_by job.print) told snaps) text.0 first;
             sensed = rw none (omega arith);
             rows = λ is. record {
               count = 0;
               rows = λ line below. absurd (omega (arith, below));
-              part = AppendsPrefix-longer out.written_before out.written_now [] (image_bytes (first_rows 0 saved)) (subst (AppendsPrefix out.written_before out.written_now) (nothing-before job.print told is) first);
+              part = AppendsPrefix-longer out.written_before out.written_now [] (image_bytes (first_rows 0 saved)) (subst (AppendsPrefix out.written_before out.written_now) (nothing-before job.print told snaps is) first);
             };
           });
           fails = fails;
         }
 
   -- the output failed before the last row was served, or behind it, before the text of the end
-  pub stream-breaks : (changes : ℕ → Option (ℕ → ℕ)) → EachToldLaw → LeavesLaw → IsShape job.shape → job.seed < 2 ^ 64 → before.wear ≡ Some job.wear → (out : SinkChange) (prints : Bool) → prints ≡ prints_rows job.print
+  pub stream-breaks : (changes : ℕ → Option (ℕ → ℕ)) → EachToldLaw → LeavesLaw → IsShape job.shape → job.seed < 2 ^ 64 → before.wear ≡ Some job.wear → (out : SinkChange)
       → (asked : List (Asked n))
-      × (HasPlayed n m e job source asked module_ before places told
-      ⊎ (IsServing job.shape job.seed asked module_ before places told × StopsBy n m e job source job.input Write asked))
-      → AppendsPrefix out.written_before out.written_now (stream_text prints told) × SinkFails out → BreaksOff n m e job source out before changes
-  stream-breaks changes each law shape low wear out prints alike (asked, inl played) part =
-      stream-unclosed before changes changes (λ other. refl) each law shape low wear (λ other. refl) 0 (senses-none before) asked played out prints alike part.0 refl part.1
-  stream-breaks changes each law shape low wear out prints alike (asked, inr some) part = record {
+      × (HasPlayed n m e job source asked module_ before places told prints snaps
+      ⊎ (IsServing job.shape job.seed asked module_ before places told prints snaps × StopsBy n m e job source job.input Write asked))
+      → AppendsPrefix out.written_before out.written_now (stream_text prints told snaps) × SinkFails out → BreaksOff n m e job source out before changes
+  unfolding part-of
+  stream-breaks changes each law shape low wear out (asked, inl played) part =
+      stream-unclosed before changes changes (λ other. refl) each law shape low wear (λ other. refl) 0 (senses-none before) asked played out part.0 refl part.1
+  stream-breaks changes each law shape low wear out (asked, inr some) part = record {
     served = inr (record {
       asked = asked;
       told = told;
       served = part-of asked some.0;
       cause = some.1;
-      part = subst (λ (p : Bool). AppendsPrefix out.written_before out.written_now (stream_text p told)) alike part.0;
+      part = subst (λ (p : Shown). AppendsPrefix out.written_before out.written_now (stream_text p told snaps)) alike part.0;
     });
     fails = part.1;
   }

@@ -1,5 +1,5 @@
 -- How a stream is served by a module that is new.
-use Rattle.std.proofs.Common.{◌≡◌, inl, inr, ℕ, Bool, true, false, List, [], refl, arith}
+use Rattle.std.proofs.Common.{◌≡◌, inl, inr, ℕ, Bool, true, false, List, [], refl, sym, subst, arith}
 use Rattle.std.specs.Prelude.{if◌then◌else◌}
 use Rattle.cell_rows.specs.Device.{ArrayState}
 use Rattle.result_rows.specs.declared.Outcome.{Outcome}
@@ -7,6 +7,9 @@ use Rattle.module_shape.specs.declared.raw.RawShape.{RawShape}
 use Rattle.module_shape.specs.Limits.{total_of}
 use Rattle.pcm_module.specs.State.{ModuleState}
 use Rattle.pcm_module.specs.Replaying.{Replays}
+use Rattle.row_printer.specs.declared.snapshot.Snapshot.{Snapshot}
+use Rattle.row_printer.specs.declared.told.Shown.{Shown}
+use Rattle.row_printer.specs.declared.told.Told.{Told}
 use Rattle.row_stream.specs.Serving.{IsServing}
 use Rattle.row_stream.specs.Sourcing.{HasStopped}
 use Rattle.row_stream.specs.declared.stop.Stop.{Stop}
@@ -20,17 +23,24 @@ use Rattle.stream_top.specs.declared.done.Done.TheVariants.{Whole, Short}
 use Rattle.stream_top.specs.declared.fault.Fault.TheVariants.{Write}
 
 -- a module to which nothing was handed yet has served nothing
-pub serves-none : {n m e : ℕ} (raw : RawShape) (seed : ℕ) (module_ : ModuleState n m e) (array : ArrayState n m) → module_.shape ≡ raw → module_.seed ≡ seed → module_.tick ≡ 0
+pub serves-none : {n m e : ℕ} (raw : RawShape) (seed : ℕ) (module_ : ModuleState n m e) (array : ArrayState n m) (shown : Shown) → module_.shape ≡ raw → module_.seed ≡ seed → module_.tick ≡ 0
     → module_.rows_below ≡ 0 → module_.finished ≡ false → ((results : List (Outcome n)) → Replays (λ bank. []) [] module_ array results)
-    → IsServing raw seed [] module_ array 0 []
-serves-none raw seed module_ array shape seeded tick below going begins = record {
+    → IsServing raw seed [] module_ array 0 [] shown []
+serves-none raw seed module_ array shown shape seeded tick below going begins = record {
   history = λ bank. [];
   along = (refl, refl);
+  snaps = refl;
   served = record { shape = shape; seeded = seeded; going = going; bound = omega (arith, below); size = refl; replays = begins [] };
   counted = refl;
   tick = tick;
   in_time = omega (arith, tick);
 }
+
+-- what holds of what a printer was told holds of one that was told the same
+pub told-same : {n : ℕ} (P : ℕ → List (Told n) → Shown → List Snapshot → Type 0) (rows rows2 : ℕ) (told told2 : List (Told n)) (prints prints2 : Shown) (snaps snaps2 : List Snapshot)
+    → rows2 ≡ rows → told2 ≡ told → prints2 ≡ prints → snaps2 ≡ snaps → P rows told prints snaps → P rows2 told2 prints2 snaps2
+told-same P rows rows2 told told2 prints prints2 snaps snaps2 r t p s had =
+    subst (λ k. P k told2 prints2 snaps2) (sym r) (subst (λ k. P rows k prints2 snaps2) (sym t) (subst (λ k. P rows told k snaps2) (sym p) (subst (λ k. P rows told prints k) (sym s) had)))
 
 -- why a stream stops is why the program does
 pub stop-cause : {S : Type 0} (n m e : ℕ) (job : StreamJob) (source : LentSource S) (asked : List (Asked n)) (stop : Stop)

@@ -27,7 +27,7 @@ use Rattle.row_printer.specs.declared.told.Told.{Told}
 use Rattle.row_stream.specs.Asking.{events_in}
 use Rattle.row_stream.specs.Ending.{HasEnded, rows_of}
 use Rattle.stream_words.specs.declared.job.StreamPrint.{StreamPrint}
-use Rattle.stream_words.specs.declared.job.StreamPrint.TheVariants.{Rows, Summary, Wear, Lines, Image}
+use Rattle.stream_words.specs.declared.job.StreamPrint.TheVariants.{Rows, Summary, Wear, Lines, Image, Snapshots}
 use Rattle.trace_stream.specs.declared.asked.Asked.{Asked}
 
 -- rows left a module over an array, of whose lines the first, so many, were sensed since, each once and in their order, at tick 0: by the ends of its
@@ -45,6 +45,7 @@ senses_for Summary lines = 0
 senses_for Wear lines = 0
 senses_for Lines lines = 0
 senses_for Image lines = lines
+senses_for (Snapshots every) lines = 0
 
 -- what is written in the end of so many rows, of which so many had each outcome: by the ends of the banks, the array, what the
 -- cells of its lines say, and the module that is saved
@@ -56,6 +57,7 @@ IsClosing raw seed rows counts ends array cells saved Wear text =
 IsClosing raw seed rows counts ends array cells saved Lines text =
     (report : List (ℕ × ℕ × Role)) × IsWearReport raw seed ends array report × (text ≡ lines_text cells report)
 IsClosing raw seed rows counts ends array cells saved Image text = text ≡ image_bytes saved
+IsClosing raw seed rows counts ends array cells saved (Snapshots every) text = text ≡ []
 
 -- a stream that has ended leaves all that, whether or not the power stays off, and each array line has one role
 abbrev pub LeavesLaw : Type 0

@@ -16,12 +16,15 @@ use Rattle.run_text.specs.Counting.{counts_of}
 use Rattle.run_text.specs.Shortfall.{any_short}
 use Rattle.row_printer.specs.Printing.{stream_text, table_of}
 use Rattle.row_printer.specs.Telling.{outcomes_in, TellsOnce}
+use Rattle.row_printer.specs.declared.snapshot.Snapshot.{Snapshot}
+use Rattle.row_printer.specs.declared.told.Shown.{Shown}
+use Rattle.row_printer.specs.declared.told.Shown.TheVariants as shown
 use Rattle.row_printer.specs.declared.told.Told.{Told}
 use Rattle.stream_words.specs.declared.job.End.{End}
 use Rattle.stream_words.specs.declared.job.End.TheVariants.{Drain, Off}
 use Rattle.stream_words.specs.declared.job.StreamJob.{StreamJob}
 use Rattle.stream_words.specs.declared.job.StreamPrint.{StreamPrint}
-use Rattle.stream_words.specs.declared.job.StreamPrint.TheVariants.{Rows, Summary, Wear, Lines, Image}
+use Rattle.stream_words.specs.declared.job.StreamPrint.TheVariants.{Rows, Summary, Wear, Lines, Image, Snapshots}
 use Rattle.trace_gen.specs.Generated.{generated}
 use Rattle.trace_stream.specs.Laws.{all_events}
 use Rattle.trace_stream.specs.declared.asked.Asked.{Asked}
@@ -29,9 +32,9 @@ use Rattle.trace_stream.specs.declared.fault.StreamFault.TheVariants as from
 use Rattle.row_stream.specs.declared.stop.Stop.{Stop}
 use Rattle.row_stream.specs.declared.stop.Stop.TheVariants.{Input as No, Endless, Output}
 use Rattle.row_stream.specs.Asking.{events_in, stays_off, with_cut}
-use Rattle.row_stream.specs.Serving.{TellsAlong}
+use Rattle.row_stream.specs.Serving.{SnapsAlong, TellsAlong}
 use Rattle.row_stream.specs.Sourcing.{HasStopped, IsRead}
-use Rattle.row_stream.specs.Ending.{HasEnded, rows_of}
+use Rattle.row_stream.specs.Ending.{EndsShowing, HasEnded, SnapsAll, rows_of}
 use Rattle.row_stream.specs.Laws.{TellsEach}
 use Rattle.stream_top.specs.Calls.{LentSource}
 use Rattle.stream_top.specs.Leaving.{IsClosing, Leaves, senses_for}
@@ -50,13 +53,14 @@ abbrev pub is_source : Input → Bool
 is_source Source = true
 is_source (Drawn mix) = false
 
--- whether what becomes known is printed as it does
-abbrev pub prints_rows : StreamPrint → Bool
-prints_rows Rows = true
-prints_rows Summary = false
-prints_rows Wear = false
-prints_rows Lines = false
-prints_rows Image = false
+-- what is printed as rows are served
+abbrev pub shown_by : StreamPrint → Shown
+shown_by Rows = shown.Rows
+shown_by Summary = shown.Nothing
+shown_by Wear = shown.Nothing
+shown_by Lines = shown.Nothing
+shown_by Image = shown.Nothing
+shown_by (Snapshots every) = shown.Snapshots every
 
 -- the fault of the program that a stop of a stream is
 abbrev pub stop_fault : Stop → Fault
@@ -105,16 +109,17 @@ module _ {S : Type 0} (n m e : ℕ) (job : StreamJob) (source : LentSource S) wh
       × (rest : List (Asked n)) × (reverse asked ++ rest ≡ all_events (generated n job.seed (total_of job.shape) mix))
 
   -- all rows were served, and the stream ended behind them
-  abbrev pub HasPlayed : List (Asked n) → ModuleState n m e → ArrayState n m → ℕ → List (Told n) → Type 0
-  HasPlayed asked module_ array places told =
+  abbrev pub HasPlayed : List (Asked n) → ModuleState n m e → ArrayState n m → ℕ → List (Told n) → Shown → List Snapshot → Type 0
+  HasPlayed asked module_ array places told shows snapshots =
       ComeFrom job.input asked
-      × HasEnded job.shape job.seed (stays_off (is_off job.end) asked) (with_cut (is_off job.end) asked) module_ array places told
+      × EndsShowing job.shape job.seed (stays_off (is_off job.end) asked) (with_cut (is_off job.end) asked) module_ array places told shows snapshots
 
   -- the table of rows that asked this and were told this, with the cut behind which the power stays off: the newest row first
   abbrev pub rows_told : List (Asked n) → ℕ → List (Told n) → List (Row n)
   rows_told asked places told = rows_of (events_in (with_cut (is_off job.end) asked)) (table_of places told)
 
-  -- a stream was served to its end, and this was told: row by row what became known, in the end the rest, once of each row. By it the rows are right
+  -- a stream was served to its end, and this was told: row by row what became known, in the end the rest, once of each row; and snapshots
+  -- were taken, each of what its row left, and one of what stands in the end. By what was told the rows are right
   -- over the array as it was left, and as it is now; the array was powered up with the job's wear, and only lines sensed for an image since
   pub record IsServed (array : ArrayState n m) (told : List (Told n)) : Type 0 where
     pub asked : List (Asked n)
@@ -123,6 +128,8 @@ module _ {S : Type 0} (n m e : ℕ) (job : StreamJob) (source : LentSource S) wh
     pub module_ : ModuleState n m e
     pub before : ArrayState n m
     pub ended : HasEnded job.shape job.seed (stays_off (is_off job.end) asked) (with_cut (is_off job.end) asked) module_ before places told
+    pub snapshots : List Snapshot
+    pub snaps : SnapsAll (shown_by job.print) ended snapshots
     pub once : TellsOnce places (outcomes_in told)
     pub each : TellsEach places told
     pub sensed : ℕ
@@ -136,10 +143,13 @@ module _ {S : Type 0} (n m e : ℕ) (job : StreamJob) (source : LentSource S) wh
   Closes array changes told served text =
       IsClosing job.shape job.seed served.places (counts_of (table_of served.places told)) served.ended.ends array (cells_at e array changes) served.saved job.print text
 
-  -- only its first rows were, which asked this, and this was told: row by row what became known, once of a row
+  -- only its first rows were, which asked this, and this was told: row by row what became known, once of a row; and
+  -- these snapshots were taken, each of what its row left
   pub record IsServedInPart (asked : List (Asked n)) (told : List (Told n)) : Type 0 where
     pub history : ℕ → List (TimedEvent n m)
     pub along : TellsAlong e job.shape job.seed asked history told
+    pub snapshots : List Snapshot
+    pub snaps : SnapsAlong e job.shape job.seed (shown_by job.print) asked history told along snapshots
     pub once : TellsOnce (length (events_in asked)) (outcomes_in told)
 
   module _ (out : SinkChange) where
@@ -150,7 +160,7 @@ module _ {S : Type 0} (n m e : ℕ) (job : StreamJob) (source : LentSource S) wh
       pub served : IsServed array told
       pub text : List ℕ
       pub closes : Closes array changes told served text
-      pub written : Gets out (stream_text (prints_rows job.print) told ++ text)
+      pub written : Gets out (stream_text (shown_by job.print) told served.snapshots ++ text)
       pub sensed : served.sensed ≡ senses_for job.print array.lines
       pub ending : done ≡ done_by (table_of served.places told)
 
@@ -160,7 +170,7 @@ module _ {S : Type 0} (n m e : ℕ) (job : StreamJob) (source : LentSource S) wh
       pub told : List (Told n)
       pub served : IsServedInPart asked told
       pub cause : StopsBy job.input fault asked
-      pub written : Gets out (stream_text (prints_rows job.print) told)
+      pub written : Gets out (stream_text (shown_by job.print) told served.snapshots)
 
     -- it was served to its end, and first bytes of all that were written, for which no more lines were sensed; of an image they are of rows that have the
     -- bytes of a line
@@ -169,7 +179,7 @@ module _ {S : Type 0} (n m e : ℕ) (job : StreamJob) (source : LentSource S) wh
       pub served : IsServed array told
       pub text : List ℕ
       pub closes : Closes array changes told served text
-      pub part : GetsPart out (stream_text (prints_rows job.print) told ++ text)
+      pub part : GetsPart out (stream_text (shown_by job.print) told served.snapshots ++ text)
       pub sensed : served.sensed ≤ senses_for job.print array.lines
       pub rows : job.print ≡ Image → WritesRows array served.saved out.written_before out.written_now
 
@@ -179,7 +189,7 @@ module _ {S : Type 0} (n m e : ℕ) (job : StreamJob) (source : LentSource S) wh
       pub told : List (Told n)
       pub served : IsServedInPart asked told
       pub cause : StopsBy job.input Write asked
-      pub part : GetsPart out (stream_text (prints_rows job.print) told)
+      pub part : GetsPart out (stream_text (shown_by job.print) told served.snapshots)
 
     -- the output failed, behind the last row or before
     pub record BreaksOff (array : ArrayState n m) (changes : ℕ → Option (ℕ → ℕ)) : Type 0 where

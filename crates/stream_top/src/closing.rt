@@ -22,7 +22,7 @@ use run_text::{Counts, TEXT_ROOM, print_rest, print_summary, sum_pulses};
 use stream_words::{StreamJob, StreamPrint};
 
 /// Writes what is asked for in the end of a stream that was served: its summary, a report with a row for each array line, or the image of what
-/// it left; behind rows nothing. For an image each line of the array is sensed once, in order, at tick 0; otherwise nothing happens to the array.
+/// it left; behind rows and snapshots nothing. For an image each line of the array is sensed once, in order, at tick 0; otherwise nothing happens to the array.
 pub fn print_closing<const B: usize, const M: usize, const E: usize, A: TellsCells<B, M>, K: Sink>(
     job: &StreamJob,
     pcm: &Module<B, M, E>,
@@ -56,6 +56,7 @@ pub fn print_closing<const B: usize, const M: usize, const E: usize, A: TellsCel
 {
     match job.print {
         StreamPrint::Rows => Ok(()),
+        StreamPrint::Snapshots(_) => Ok(()),
         StreamPrint::Summary => {
             print_summary(rows, counts, pcm.retired(), sum_pulses(array), text);
             print_rest(text, out)

@@ -7,24 +7,25 @@ ghost use Rattle.pcm_io.specs.Reserved.{reserved};
 ghost use Rattle.program_calls.specs.Calls.{lent_sink};
 ghost use Rattle.ecp_line.specs.Layout.{IsLayout};
 ghost use Rattle.trace_stream.specs.declared.asked.Asked.{Asked as StreamAsked};
-ghost use Rattle.row_printer.specs.Printing.{IsPrinting, stream_text, table_told};
+ghost use Rattle.row_printer.specs.Printing.{IsPrinting, table_told, text_told};
 ghost use Rattle.row_stream.specs.Asking.{behind_of};
 ghost use Rattle.row_stream.specs.Serving.{IsServing};
+ghost use Rattle.row_printer.specs.Snapshots.{IsShown};
 ghost use Rattle.stream_words.specs.Jobs.{IsStreamJob};
+ghost use Rattle.stream_words.specs.Options.{IsPrint};
 ghost use Rattle.stream_top.specs.Calls.{source_between};
-ghost use Rattle.stream_top.specs.Streams.{ComeFrom, Ends, HasPlayed, StopsBy, done_by, is_source, is_off, prints_rows, stop_fault};
+ghost use Rattle.stream_top.specs.Streams.{ComeFrom, Ends, HasPlayed, StopsBy, done_by, is_source, is_off, shown_by, stop_fault};
 
 use crate::closing::print_closing;
 use crate::done::Done;
 use crate::fault::Fault;
 use crate::laws::ended_streams_are_kept;
 use crate::memory::take_memory;
-use cell_rows::CellArray;
 use cell_wear::TellsCells;
 use command_line::Input;
 use pcm_io::{Sink, Source};
 use pcm_module::Module;
-use row_printer::RowPrinter;
+use row_printer::{RowPrinter, Shown};
 use row_stream::{Behind, Stop, each_row_is_told, end, serve_drawn, serve_source};
 use run_text::TEXT_ROOM;
 use std::alloc::Global;
@@ -56,16 +57,18 @@ fn stays_off(end: End) -> bool
     }
 }
 
-// Whether what becomes known is printed as it does.
-fn shows_rows(print: StreamPrint) -> bool
-    ensures { result ≡ prints_rows print }
+// What is printed as rows are served.
+fn shown_of(print: StreamPrint) -> Shown
+    ensures is { result ≡ shown_by print }
+    ensures lawful { IsPrint print → IsShown result }
 {
     match print {
-        StreamPrint::Rows => true,
-        StreamPrint::Summary => false,
-        StreamPrint::Wear => false,
-        StreamPrint::Lines => false,
-        StreamPrint::Image => false,
+        StreamPrint::Rows => Shown::Rows,
+        StreamPrint::Summary => Shown::Nothing,
+        StreamPrint::Wear => Shown::Nothing,
+        StreamPrint::Lines => Shown::Nothing,
+        StreamPrint::Image => Shown::Nothing,
+        StreamPrint::Snapshots(every) => Shown::Snapshots(every),
     }
 }
 
@@ -74,7 +77,7 @@ fn serve_rows<
     const B: usize,
     const M: usize,
     const E: usize,
-    A: CellArray<B, M>,
+    A: TellsCells<B, M>,
     S: Source,
     K: Sink + Drop,
 >(
@@ -87,22 +90,22 @@ fn serve_rows<
 ) -> Result<Behind, Fault>
     requires layout { IsLayout B M E }
     requires job { IsStreamJob job.now }
-    requires begins { IsServing job.now.shape job.now.seed [] pcm.old (A.state array.old) out.old.rows out.old.told }
+    requires begins { IsServing job.now.shape job.now.seed [] pcm.old (A.state array.old) out.old.rows out.old.told out.old.prints out.old.snapshots }
     ensures served { IfOk result (λ behind. (asked : List (StreamAsked B))
-        × IsServing job.now.shape job.now.seed asked pcm.new (A.state array.new) out.new.rows out.new.told
+        × IsServing job.now.shape job.now.seed asked pcm.new (A.state array.new) out.new.rows out.new.told out.new.prints out.new.snapshots
         × (behind ≡ behind_of asked)
         × ComeFrom B M E job.now (source_between S.left S.taken S.faults source.old source.new) job.now.input asked) }
     ensures few { out.new.rows < 4294967295 }
     ensures stopped { IfErr result (λ fault. (asked : List (StreamAsked B))
-        × IsServing job.now.shape job.now.seed asked pcm.new (A.state array.new) out.new.rows out.new.told
+        × IsServing job.now.shape job.now.seed asked pcm.new (A.state array.new) out.new.rows out.new.told out.new.prints out.new.snapshots
         × StopsBy B M E job.now (source_between S.left S.taken S.faults source.old source.new) job.now.input fault asked) }
     ensures prints { out.new.prints ≡ out.old.prints }
     ensures printing { (before : Option (List ℕ)) (first : ℕ) → IsPrinting K.written K.faults before first out.old
         → IsPrinting K.written K.faults before first out.new }
     ensures written { result ≢ Err Fault.Write → (before : Option (List ℕ)) (first : ℕ) → IsPrinting K.written K.faults before first out.old
-        → Appends before (K.written out.new.sink) (stream_text out.new.prints out.new.told) }
+        → Appends before (K.written out.new.sink) (text_told out.new) }
     ensures part { result ≡ Err Fault.Write → (before : Option (List ℕ)) (first : ℕ) → IsPrinting K.written K.faults before first out.old
-        → AppendsPrefix before (K.written out.new.sink) (stream_text out.new.prints out.new.told) × Rose first (K.faults out.new.sink) }
+        → AppendsPrefix before (K.written out.new.sink) (text_told out.new) × Rose first (K.faults out.new.sink) }
     ensures wear { (A.state array.new).wear ≡ (A.state array.old).wear }
     ensures unread { is_source job.now.input ≡ false → source.new ≡ source.old }
 {
@@ -123,7 +126,7 @@ fn play<
     const B: usize,
     const M: usize,
     const E: usize,
-    A: CellArray<B, M>,
+    A: TellsCells<B, M>,
     S: Source,
     K: Sink + Drop,
 >(
@@ -136,23 +139,23 @@ fn play<
 ) -> Result<Done, Fault>
     requires layout { IsLayout B M E }
     requires job { IsStreamJob job.now }
-    requires begins { IsServing job.now.shape job.now.seed [] pcm.old (A.state array.old) out.old.rows out.old.told }
+    requires begins { IsServing job.now.shape job.now.seed [] pcm.old (A.state array.old) out.old.rows out.old.told out.old.prints out.old.snapshots }
     ensures done { IfOk result (λ done. (asked : List (StreamAsked B))
         × HasPlayed B M E job.now (source_between S.left S.taken S.faults source.old source.new) asked pcm.new (A.state array.new)
-        out.new.rows out.new.told × (done ≡ done_by (table_told out.new))) }
+        out.new.rows out.new.told out.new.prints out.new.snapshots × (done ≡ done_by (table_told out.new))) }
     ensures stopped { IfErr result (λ fault. fault ≢ Fault.Write → (asked : List (StreamAsked B))
-        × IsServing job.now.shape job.now.seed asked pcm.new (A.state array.new) out.new.rows out.new.told
+        × IsServing job.now.shape job.now.seed asked pcm.new (A.state array.new) out.new.rows out.new.told out.new.prints out.new.snapshots
         × StopsBy B M E job.now (source_between S.left S.taken S.faults source.old source.new) job.now.input fault asked) }
     ensures broken { result ≡ Err Fault.Write → (asked : List (StreamAsked B))
         × (HasPlayed B M E job.now (source_between S.left S.taken S.faults source.old source.new) asked pcm.new (A.state array.new)
-        out.new.rows out.new.told
-        ⊎ (IsServing job.now.shape job.now.seed asked pcm.new (A.state array.new) out.new.rows out.new.told
+        out.new.rows out.new.told out.new.prints out.new.snapshots
+        ⊎ (IsServing job.now.shape job.now.seed asked pcm.new (A.state array.new) out.new.rows out.new.told out.new.prints out.new.snapshots
         × StopsBy B M E job.now (source_between S.left S.taken S.faults source.old source.new) job.now.input Fault.Write asked)) }
     ensures prints { out.new.prints ≡ out.old.prints }
     ensures written { result ≢ Err Fault.Write → (before : Option (List ℕ)) (first : ℕ) → IsPrinting K.written K.faults before first out.old
-        → Appends before (K.written out.new.sink) (stream_text out.new.prints out.new.told) }
+        → Appends before (K.written out.new.sink) (text_told out.new) }
     ensures part { result ≡ Err Fault.Write → (before : Option (List ℕ)) (first : ℕ) → IsPrinting K.written K.faults before first out.old
-        → AppendsPrefix before (K.written out.new.sink) (stream_text out.new.prints out.new.told) × Rose first (K.faults out.new.sink) }
+        → AppendsPrefix before (K.written out.new.sink) (text_told out.new) × Rose first (K.faults out.new.sink) }
     ensures text { OnOk result (out.new.text ≡ reserved TEXT_ROOM) }
     ensures falls { (before : Option (List ℕ)) (first : ℕ) → IsPrinting K.written K.faults before first out.old → first ≤ K.faults out.new.sink }
     ensures wear { (A.state array.new).wear ≡ (A.state array.old).wear }
@@ -201,7 +204,7 @@ pub fn stream<
         Ok(taken) => taken,
         Err(_) => return (Err(Fault::NoMemory), out),
     };
-    let mut printer = RowPrinter::<B, K>::new(out, text, shows_rows(job.print));
+    let mut printer = RowPrinter::<B, K>::new(out, text, shown_of(job.print));
     let done = match play(alloc, job, &mut pcm, array, source, &mut printer) {
         Ok(done) => done,
         Err(fault) => return (Err(fault), printer.end().0),

@@ -9,7 +9,7 @@ use Rattle.command_line.specs.Options.{with_some, line_of, shape_of, seed_of, we
 use Rattle.command_line.specs.declared.job.Input.{Input}
 use Rattle.command_line.specs.declared.job.Input.TheVariants.{Source, Drawn}
 use Rattle.command_line.specs.declared.job.Refusal.{Refusal}
-use Rattle.stream_words.specs.Options.{end_of, long_mix_of, print_of}
+use Rattle.stream_words.specs.Options.{IsPrint, end_of, long_mix_of, print_of}
 use Rattle.stream_words.specs.Table.{stream_app}
 use Rattle.stream_words.specs.declared.job.StreamJob.{StreamJob}
 
@@ -20,7 +20,7 @@ stream_of rows =
     with_some (shape_of rows) (λ shape.
     with_some (seed_of rows) (λ seed.
     with_some (wear_of seed rows) (λ wear.
-    with_some (print_of (first_of (codes "print") rows)) (λ print.
+    with_some (print_of rows) (λ print.
     with_some (long_mix_of rows) (λ mix.
     with_some (input_of mix (first_of (codes "input") rows)) (λ input.
     with_some (end_of (first_of (codes "end") rows)) (λ end.
@@ -48,4 +48,5 @@ pub record IsStreamJob (job : StreamJob) : Type 0 where
   pub shape : IsShape job.shape
   pub wear : IsWear job.wear
   pub one_seed : job.wear.seed ≡ job.seed
+  pub print : IsPrint job.print
   pub input : IsLongInput job.input

@@ -1,24 +1,56 @@
 -- What the options of a stream mean, where it isn't what those of a run mean.
-use Rattle.std.specs.Prelude.{◌*◌, nat_le, if◌then◌else◌, List, codes, Option, Some, None}
+use Rattle.std.specs.Prelude.{ℕ, ◌*◌, ◌≤◌, nat_le, Bool, false, if◌then◌else◌, List, codes, Option, Some, None}
 use Rattle.std.specs.Str.{bytes_eq}
-use Rattle.clap.specs.Words.{Row, Text}
+use Rattle.clap.specs.Words.{Row, Text, first_of}
+use Rattle.trace_reader.specs.Number.{number_of}
 use Rattle.trace_reader.specs.Rows.{latest_tick}
 use Rattle.trace_gen.specs.declared.mix.Mix.{Mix}
 use Rattle.command_line.specs.Options.{mix_within, one_of_two, with_some}
 use Rattle.stream_words.specs.declared.job.StreamPrint.{StreamPrint}
-use Rattle.stream_words.specs.declared.job.StreamPrint.TheVariants.{Rows, Summary, Wear, Lines, Image}
+use Rattle.stream_words.specs.declared.job.StreamPrint.TheVariants.{Rows, Summary, Wear, Lines, Image, Snapshots}
 use Rattle.stream_words.specs.declared.job.End.{End}
 use Rattle.stream_words.specs.declared.job.End.TheVariants.{Drain, Off}
 
--- what a stream writes
-abbrev pub print_of : Option Text → Option StreamPrint
-print_of None = Some Rows
-print_of (Some text) =
+-- what a stream writes but snapshots
+abbrev pub plain_of : Option Text → Option StreamPrint
+plain_of None = Some Rows
+plain_of (Some text) =
     if bytes_eq text (codes "rows") then Some Rows
     else (if bytes_eq text (codes "summary") then Some Summary
     else (if bytes_eq text (codes "wear") then Some Wear
     else (if bytes_eq text (codes "lines") then Some Lines
     else (if bytes_eq text (codes "image") then Some Image else None))))
+
+-- of how many rows more each snapshot stands
+abbrev pub every_of : Option Text → Option ℕ
+every_of None = Some 100000
+every_of (Some text) = with_some (number_of 20 4294967295 text) (λ every. if nat_le 1 every then Some every else None)
+
+-- whether snapshots are asked for
+abbrev pub asks_snapshots : Option Text → Bool
+asks_snapshots None = false
+asks_snapshots (Some text) = bytes_eq text (codes "snapshots")
+
+-- what may be asked for where an option isn't given
+abbrev pub without : {T : Type 0} → Option Text → Option T → Option T
+without None asked = asked
+without (Some text) asked = None
+
+-- what a stream writes: `--every` is for snapshots alone
+abbrev pub print_of : List Row → Option StreamPrint
+print_of rows =
+    if asks_snapshots (first_of (codes "print") rows)
+    then with_some (every_of (first_of (codes "every") rows)) (λ every. Some (Snapshots every))
+    else without (first_of (codes "every") rows) (plain_of (first_of (codes "print") rows))
+
+-- a snapshot stands of at least one row more
+abbrev pub IsPrint : StreamPrint → Type 0
+IsPrint Rows = Unit {0}
+IsPrint Summary = Unit {0}
+IsPrint Wear = Unit {0}
+IsPrint Lines = Unit {0}
+IsPrint Image = Unit {0}
+IsPrint (Snapshots every) = 1 ≤ every
 
 -- what becomes of the module behind the last row
 abbrev pub end_of : Option Text → Option End

@@ -3,9 +3,9 @@ use Rattle.std.specs.Prelude.{codes, true}
 use Rattle.clap.specs.Words.{App, with_rule}
 use Rattle.command_line.specs.Table.{leaf_app, option_rule, run_options}
 
--- the options of `run`, and one for the end
+-- the options of `run`, one for the end, and one for snapshots
 abbrev pub with_end : App
-with_end = with_rule (leaf_app (codes "pcm_stream") run_options) (option_rule (codes "end"))
+with_end = with_rule (with_rule (leaf_app (codes "pcm_stream") run_options) (option_rule (codes "end"))) (option_rule (codes "every"))
 
 -- the program: it has no help, and its words come without the program's name
 unfoldable pub stream_app : App

@@ -35,6 +35,8 @@ pub enum StreamPrint {
     Lines,
     /// The module as it stands in the end, as bytes.
     Image,
+    /// What stands behind each row whose number is a multiple of this, and in the end.
+    Snapshots(u32),
 }
 
 /// What becomes of the module behind the last row.

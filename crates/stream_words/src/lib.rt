@@ -1,5 +1,5 @@
 //! The words of the program of streams: options alone, as `clap` reads them. They are those of `pcm run`, with other
-//! values of `--print`, longer drawn traces, and `--end`.
+//! values of `--print`, longer drawn traces, `--end` and `--every`.
 #![tactic(auto)]
 
 mod job;

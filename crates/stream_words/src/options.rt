@@ -1,18 +1,49 @@
 // What the options of a stream mean, where it isn't what those of a run mean.
-ghost use Rattle.std.specs.Prelude.{◌≡◌, IfSome, codes};
+ghost use Rattle.std.specs.Prelude.{◌≡◌, ◌≤◌, IfSome, codes};
 ghost use Rattle.clap.specs.Words.{first_of, found_of, rows_of};
 ghost use Rattle.trace_gen.specs.Generated.{IsLongMix};
-ghost use Rattle.stream_words.specs.Options.{end_of, long_mix_of, print_of};
+ghost use Rattle.stream_words.specs.Options.{IsPrint, end_of, every_of, long_mix_of, plain_of, print_of};
 
 use crate::job::{End, StreamPrint};
 use clap::ArgMatches;
 use command_line::options::{mix_within, value};
 use trace_gen::Mix;
-use trace_reader::LATEST_TICK;
+use trace_reader::{LATEST_TICK, number};
+
+// Of how many rows more each snapshot stands.
+#[tactic(auto, using(trace_reader::proofs::Numbers::number_within))]
+fn every(matches: &ArgMatches<'_>) -> Option<u32>
+    ensures exact { result ≡ every_of (first_of (codes "every") (rows_of (found_of matches.now))) }
+    ensures some { IfSome result (λ every. 1 ≤ every) }
+{
+    match value(matches, "every") {
+        None => Some(100_000),
+        Some(text) => {
+            let every = number(text.as_bytes(), 20, 4_294_967_295)?;
+            if 1 <= every { Some(every as u32) } else { None }
+        }
+    }
+}
 
 // What a stream writes.
 pub(crate) fn print(matches: &ArgMatches<'_>) -> Option<StreamPrint>
-    ensures { result ≡ print_of (first_of (codes "print") (rows_of (found_of matches.now))) }
+    ensures exact { result ≡ print_of (rows_of (found_of matches.now)) }
+    ensures in_range { IfSome result IsPrint }
+{
+    if let Some("snapshots") = value(matches, "print") {
+        let every = every(matches)?;
+        return Some(StreamPrint::Snapshots(every));
+    }
+    match value(matches, "every") {
+        None => plain(matches),
+        Some(_) => None,
+    }
+}
+
+// What a stream writes but snapshots.
+fn plain(matches: &ArgMatches<'_>) -> Option<StreamPrint>
+    ensures exact { result ≡ plain_of (first_of (codes "print") (rows_of (found_of matches.now))) }
+    ensures in_range { IfSome result IsPrint }
 {
     match value(matches, "print") {
         None => Some(StreamPrint::Rows),

@@ -12,6 +12,7 @@ use std::alloc::{AllocError, Global};
 pub(crate) fn stream_command<'a>(alloc: Global) -> Result<Command<'a>, AllocError>
     ensures { IfOk result (λ c. app_of c ≡ stream_app) }
 {
-    let command = add_option(alloc, run_command(alloc, "pcm_stream")?, "end")?;
+    let run = run_command(alloc, "pcm_stream")?;
+    let command = add_option(alloc, add_option(alloc, run, "end")?, "every")?;
     Ok(command.disable_help_flag(true).no_binary_name(true))
 }

@@ -10,7 +10,15 @@ fn begin(text: &mut Text, spares: u16, replaced: &[u32], entries: &[EntryImage<6
     if text.room() < 600 || entries.len() > 4 || replaced.len() > 4 {
         return;
     }
-    write_head(text, 64, 1, 1, 4, spares, 0, 0);
+    let head = HeadImage {
+        banks: 1,
+        regions: 1,
+        lines: 4,
+        spares,
+        seed: 0,
+        home: 0,
+    };
+    write_head(text, 64, &head);
     write_bank(text, 0, replaced.len() as u16);
     for slot in replaced {
         if text.room() >= 4 {
@@ -174,7 +182,15 @@ fn an_image_has_each_of_its_bytes_and_no_more(rt: HostRuntime) -> Result<(), Fai
 #[test]
 fn numbers_alone_are_no_image(rt: HostRuntime) -> Result<(), Fail> {
     let mut alone = Text::new(rt.alloc(), 24)?;
-    write_head(&mut alone, 64, 16, 16, 256, 1024, 0, 1);
+    let head = HeadImage {
+        banks: 16,
+        regions: 16,
+        lines: 256,
+        spares: 1024,
+        seed: 0,
+        home: 1,
+    };
+    write_head(&mut alone, 64, &head);
     let fault = fault_of(rt.alloc(), alone.bytes());
     assert_fault(&rt, fault, (24, ImageKind::Short));
     Ok(())

@@ -126,6 +126,8 @@ fn a_stream_may_be_long_and_end_without_power(rt: HostRuntime) -> Result<(), Fai
         ends(rt.alloc(), "--print wear --input source --end off --")?,
         ends(rt.alloc(), "--print rows")?,
         ends(rt.alloc(), "--print lines")?,
+        ends(rt.alloc(), "--print snapshots")?,
+        ends(rt.alloc(), "--every 4294967295 --print=snapshots")?,
     ];
     let wanted = [
         (StreamPrint::Rows, Input::Source, End::Drain),
@@ -134,12 +136,14 @@ fn a_stream_may_be_long_and_end_without_power(rt: HostRuntime) -> Result<(), Fai
         (StreamPrint::Wear, Input::Source, End::Off),
         (StreamPrint::Rows, Input::Source, End::Drain),
         (StreamPrint::Lines, Input::Source, End::Drain),
+        (StreamPrint::Snapshots(100_000), Input::Source, End::Drain),
+        (StreamPrint::Snapshots(u32::MAX), Input::Source, End::Drain),
     ];
     assert_eq!(rt; told, wanted);
     Ok(())
 }
 
-static REFUSED: [&str; 25] = [
+static REFUSED: [&str; 29] = [
     "run",
     "3",
     "--help",
@@ -165,6 +169,10 @@ static REFUSED: [&str; 25] = [
     "--rows 67108865 --step 16384 --input source",
     "--hi 99999999",
     "--policy cancels",
+    "--every 7",
+    "--every 7 --print rows",
+    "--print snapshots --every 0",
+    "--print snapshots --every 4294967296",
 ];
 
 #[test]

@@ -1,7 +1,9 @@
+ghost use Rattle.row_printer.specs.Snapshots.{IsShown};
+
 use crate::expected::assert_text;
 use pcm_io::{MemSink, MemSource, NeverFailSource, Text};
 use result_rows::Outcome;
-use row_printer::RowPrinter;
+use row_printer::{RowPrinter, Shown, Snapshot};
 use row_telling::Outcomes;
 use run_text::TEXT_ROOM;
 use std::alloc::Global;
@@ -155,7 +157,9 @@ fn long_records_are_judged_as_they_are(rt: HostRuntime) -> Result<(), Fail> {
 
 // Two rows and a tick, told to a printer that prints or only counts: what is written, how many rows were stored and how many refused, and
 // whether one fell short.
-fn told(alloc: Global, prints: bool) -> Result<(Box<MemSink>, (u32, u32, bool)), Fail> {
+fn told(alloc: Global, prints: Shown) -> Result<(Box<MemSink>, (u32, u32, bool)), Fail>
+    requires { IsShown prints }
+{
     let fails = Vec::from_slice(alloc, &[9])?;
     let sink = Box::new(alloc, MemSink::new(alloc, 4096, fails)?)?;
     let mut out = RowPrinter::<64, MemSink>::new(sink, Text::new(alloc, TEXT_ROOM)?, prints);
@@ -173,7 +177,7 @@ fn told(alloc: Global, prints: bool) -> Result<(Box<MemSink>, (u32, u32, bool)),
 
 #[test]
 fn a_stream_tells_each_row_once_as_it_comes(rt: HostRuntime) -> Result<(), Fail> {
-    let (sink, counted) = told(rt.alloc(), true)?;
+    let (sink, counted) = told(rt.alloc(), Shown::Rows)?;
     assert_text(
         &rt,
         sink.written(),
@@ -185,8 +189,54 @@ fn a_stream_tells_each_row_once_as_it_comes(rt: HostRuntime) -> Result<(), Fail>
 
 #[test]
 fn a_stream_may_only_count(rt: HostRuntime) -> Result<(), Fail> {
-    let (sink, counted) = told(rt.alloc(), false)?;
+    let (sink, counted) = told(rt.alloc(), Shown::Nothing)?;
     assert_text(&rt, sink.written(), b"");
     assert_eq!(rt; counted, (1, 1, true));
+    Ok(())
+}
+
+// Tells a row, and takes a snapshot behind it.
+fn told_snapshot(out: &mut RowPrinter<64, MemSink>, row: u32, tick: u64) {
+    out.settled(tick);
+    let snapshot = Snapshot {
+        rows: row,
+        tick,
+        counts: out.counts(),
+        retired: u32::MAX,
+        pulses: 17,
+        most: 9,
+        mean: 0,
+        pointers: 2,
+    };
+    out.snapshot(&snapshot);
+}
+
+// Snapshots of two rows, of which one is told.
+fn taken(alloc: Global) -> Result<(Box<MemSink>, [bool; 2]), Fail> {
+    let fails = Vec::from_slice(alloc, &[9])?;
+    let sink = Box::new(alloc, MemSink::new(alloc, 4096, fails)?)?;
+    let text = Text::new(alloc, TEXT_ROOM)?;
+    let mut out = RowPrinter::<64, MemSink>::new(sink, text, Shown::Snapshots(2));
+    out.add_row();
+    let first = out.is_due();
+    out.add_row();
+    out.set(2, Outcome::Busy { tick: 5 });
+    let second = out.is_due();
+    told_snapshot(&mut out, 2, 5);
+    told_snapshot(&mut out, 2, u64::MAX);
+    let _done = out.flush();
+    let (sink, _text) = out.end();
+    Ok((sink, [first, second]))
+}
+
+#[test]
+fn snapshots_stand_behind_multiples(rt: HostRuntime) -> Result<(), Fail> {
+    let (sink, due) = taken(rt.alloc())?;
+    assert_text(
+        &rt,
+        sink.written(),
+        b"rows,tick,stored,merged,queued,full,worn,read,forwarded,busy,lost,cut,retired,pulses,most,mean,pointers\n2,5,0,0,0,0,0,0,0,1,0,0,4294967295,17,9,0,2\n2,18446744073709551615,0,0,0,0,0,0,0,1,0,0,4294967295,17,9,0,2\n",
+    );
+    assert_eq!(rt; due, [false, true]);
     Ok(())
 }

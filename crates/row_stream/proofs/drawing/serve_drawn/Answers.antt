@@ -1,11 +1,9 @@
-use Rattle.std.proofs.Common.{◌≡◌, ◌<◌, ◌∙◌, ◌∷◌, ℕ, List, ap, refl, sym, arith}
-use Rattle.module_shape.specs.declared.raw.RawShape.{RawShape}
+use Rattle.std.proofs.Common.{◌≡◌, ◌∙◌, ap, refl, sym, arith}
 use Rattle.module_shape.specs.Limits.{total_of}
 use Rattle.trace_gen.specs.Generated.{generated}
 use Rattle.trace_stream.specs.Laws.{all_events}
 use Rattle.trace_reader.proofs.Sizes.{event_fits}
-use Rattle.row_stream.specs.Serving.{IsServing}
-use Rattle.row_stream.proofs.Draws.{HasDrawn, drawn-all, drawn-few, drawn-first, drawn-more, drawn-next, total-some}
+use Rattle.row_stream.proofs.Draws.{drawn-all, drawn-few, drawn-first, drawn-more, drawn-next, total-some}
 use Rattle.row_stream.proofs.drawing.serve_drawn.Goals as goal
 
 pub rows-init : goal.rows-init
@@ -13,7 +11,7 @@ rows-init g c = record {
   drawn =
       λ raw own had.
       let lines : c.total.result ≡ total_of raw = c.total.ensures.number ∙ ap total_of c.shape.ensures.shape ∙ ap total_of had.served.shape in
-      drawn-first raw own c.args.pcm.now (g.A.CellArray.state c.args.array.now) c.args.out.now.rows c.args.out.now.told c.long-generator.result c.total.result c.args.seed c.args.mix had lines
+      drawn-first raw own c.args.pcm.now (g.A.CellArray.state c.args.array.now) c.args.out.now.rows c.args.out.now.told c.args.out.now.prints c.args.out.now.snapshots c.long-generator.result c.total.result c.args.seed c.args.mix had lines
       c.requires.mix (c.long_events_are_lawful.ensures g.row.B c.args.seed c.total.result c.args.mix (rw c.total.ensures.number (total-some c.shape.result.now c.total.ensures.in_range)) (rw c.total.ensures.number c.total.ensures.in_range.few_in_all) c.requires.mix) c.long-generator.ensures;
   prints = refl;
   printing = λ before first h. h;
@@ -33,9 +31,9 @@ serve_event-requires g c =
           (
             c.requires.layout,
             (
-              drawn-next s.0 s.1 c.rows.pcm state c.rows.out.rows c.rows.out.told _ c.rows.generator c.rows.behind had c.in-Some.event c.next_event.new.self c.in-Some.ensures,
+              drawn-next s.0 s.1 c.rows.pcm state c.rows.out.rows c.rows.out.told c.rows.out.prints c.rows.out.snapshots _ c.rows.generator c.rows.behind had c.in-Some.event c.next_event.new.self c.in-Some.ensures,
               (
-                drawn-few s.0 s.1 c.rows.pcm state c.rows.out.rows c.rows.out.told _ c.rows.generator c.rows.behind had,
+                drawn-few s.0 s.1 c.rows.pcm state c.rows.out.rows c.rows.out.told c.rows.out.prints c.rows.out.snapshots _ c.rows.generator c.rows.behind had,
                 (s.0, s.1, had.asked, had.serving),
               ),
             ),
@@ -48,9 +46,9 @@ pub rows-preserved : goal.rows-preserved
 rows-preserved g c = record {
   drawn =
       λ raw own had.
-      drawn-more raw own c.rows.pcm (g.A.CellArray.state c.rows.array) c.rows.out.rows c.rows.out.told (generated g.row.B c.args.seed (total_of raw) c.args.mix) c.rows.generator c.rows.behind
+      drawn-more raw own c.rows.pcm (g.A.CellArray.state c.rows.array) c.rows.out.rows c.rows.out.told c.rows.out.prints c.rows.out.snapshots (generated g.row.B c.args.seed (total_of raw) c.args.mix) c.rows.generator c.rows.behind
       (c.rows.invariant.drawn raw own had) c.in-Some.event c.next_event.new.self c.in-Some.ensures
-      c.serve_event.new.pcm (g.A.CellArray.state c.serve_event.new.array) c.serve_event.new.out.rows c.serve_event.new.out.told c.behind_event-behind.result
+      c.serve_event.new.pcm (g.A.CellArray.state c.serve_event.new.array) c.serve_event.new.out.rows c.serve_event.new.out.told c.serve_event.new.out.prints c.serve_event.new.out.snapshots c.behind_event-behind.result
       (λ served. c.serve_event.ensures.serving raw own (c.rows.invariant.drawn raw own had).asked served) c.behind_event-behind.ensures;
   prints = c.serve_event.ensures.prints ∙ c.rows.invariant.prints;
   printing = λ before first h. c.serve_event.ensures.printing before first (c.rows.invariant.printing before first h);
@@ -61,17 +59,17 @@ pub returns-then-broken-clause-few : goal.returns-then-broken-clause-few
 returns-then-broken-clause-few g c =
     let s = c.requires.begins in
     let all = generated g.row.B c.args.seed (total_of s.0) c.args.mix in
-    let more = drawn-more s.0 s.1 c.rows.pcm (g.A.CellArray.state c.rows.array) c.rows.out.rows c.rows.out.told all c.rows.generator c.rows.behind
+    let more = drawn-more s.0 s.1 c.rows.pcm (g.A.CellArray.state c.rows.array) c.rows.out.rows c.rows.out.told c.rows.out.prints c.rows.out.snapshots all c.rows.generator c.rows.behind
     (c.rows.invariant.drawn s.0 s.1 s.2) c.in-Some.event c.next_event.new.self c.in-Some.ensures
-    c.serve_event.new.pcm (g.A.CellArray.state c.serve_event.new.array) c.serve_event.new.out.rows c.serve_event.new.out.told c.behind_event-behind.result
+    c.serve_event.new.pcm (g.A.CellArray.state c.serve_event.new.array) c.serve_event.new.out.rows c.serve_event.new.out.told c.serve_event.new.out.prints c.serve_event.new.out.snapshots c.behind_event-behind.result
     (λ served. c.serve_event.ensures.serving s.0 s.1 (c.rows.invariant.drawn s.0 s.1 s.2).asked served) c.behind_event-behind.ensures in
-    drawn-few s.0 s.1 c.serve_event.new.pcm (g.A.CellArray.state c.serve_event.new.array) c.serve_event.new.out.rows c.serve_event.new.out.told all c.next_event.new.self c.behind_event-behind.result more
+    drawn-few s.0 s.1 c.serve_event.new.pcm (g.A.CellArray.state c.serve_event.new.array) c.serve_event.new.out.rows c.serve_event.new.out.told c.serve_event.new.out.prints c.serve_event.new.out.snapshots all c.next_event.new.self c.behind_event-behind.result more
 
 pub returns-then-broken-clause-stopped : goal.returns-then-broken-clause-stopped
 returns-then-broken-clause-stopped g c = λ raw own had.
-    let more = drawn-more raw own c.rows.pcm (g.A.CellArray.state c.rows.array) c.rows.out.rows c.rows.out.told (generated g.row.B c.args.seed (total_of raw) c.args.mix) c.rows.generator c.rows.behind
+    let more = drawn-more raw own c.rows.pcm (g.A.CellArray.state c.rows.array) c.rows.out.rows c.rows.out.told c.rows.out.prints c.rows.out.snapshots (generated g.row.B c.args.seed (total_of raw) c.args.mix) c.rows.generator c.rows.behind
     (c.rows.invariant.drawn raw own had) c.in-Some.event c.next_event.new.self c.in-Some.ensures
-    c.serve_event.new.pcm (g.A.CellArray.state c.serve_event.new.array) c.serve_event.new.out.rows c.serve_event.new.out.told c.behind_event-behind.result
+    c.serve_event.new.pcm (g.A.CellArray.state c.serve_event.new.array) c.serve_event.new.out.rows c.serve_event.new.out.told c.serve_event.new.out.prints c.serve_event.new.out.snapshots c.behind_event-behind.result
     (λ served. c.serve_event.ensures.serving raw own (c.rows.invariant.drawn raw own had).asked served) c.behind_event-behind.ensures in
     (more.asked, more.serving, all_events c.next_event.new.self, more.drawn)
 
@@ -88,15 +86,15 @@ pub returns-in-Ok-clause-served : goal.returns-in-Ok-clause-served
 returns-in-Ok-clause-served g c = λ raw own had.
     let d = c.rows.invariant.drawn raw own had in (
       d.asked,
-      rw (c.flush.ensures.rows, c.flush.ensures.told) d.serving,
+      rw (c.flush.ensures.rows, c.flush.ensures.told, c.flush.ensures.prints, c.flush.ensures.snapshots) d.serving,
       d.stands,
-      drawn-all raw own c.rows.pcm (g.A.CellArray.state c.rows.array) c.rows.out.rows c.rows.out.told _ c.rows.generator c.rows.behind d c.in_default.ensures.0,
+      drawn-all raw own c.rows.pcm (g.A.CellArray.state c.rows.array) c.rows.out.rows c.rows.out.told c.rows.out.prints c.rows.out.snapshots _ c.rows.generator c.rows.behind d c.in_default.ensures.0,
     )
 
 pub returns-in-Ok-clause-few : goal.returns-in-Ok-clause-few
 returns-in-Ok-clause-few g c =
     let s = c.requires.begins in
-    rw c.flush.ensures.rows (drawn-few s.0 s.1 c.rows.pcm (g.A.CellArray.state c.rows.array) c.rows.out.rows c.rows.out.told _ c.rows.generator c.rows.behind (c.rows.invariant.drawn s.0 s.1 s.2))
+    rw c.flush.ensures.rows (drawn-few s.0 s.1 c.rows.pcm (g.A.CellArray.state c.rows.array) c.rows.out.rows c.rows.out.told c.rows.out.prints c.rows.out.snapshots _ c.rows.generator c.rows.behind (c.rows.invariant.drawn s.0 s.1 s.2))
 
 pub returns-in-Ok-clause-printing : goal.returns-in-Ok-clause-printing
 returns-in-Ok-clause-printing g c = λ before first h. c.flush.ensures.printing before first (c.rows.invariant.printing before first h)
@@ -107,12 +105,12 @@ returns-in-Ok-clause-written g c = λ before first h. c.in-Ok.ensures.ok before 
 pub returns-in-Err-clause-few : goal.returns-in-Err-clause-few
 returns-in-Err-clause-few g c =
     let s = c.requires.begins in
-    rw c.flush.ensures.rows (drawn-few s.0 s.1 c.rows.pcm (g.A.CellArray.state c.rows.array) c.rows.out.rows c.rows.out.told _ c.rows.generator c.rows.behind (c.rows.invariant.drawn s.0 s.1 s.2))
+    rw c.flush.ensures.rows (drawn-few s.0 s.1 c.rows.pcm (g.A.CellArray.state c.rows.array) c.rows.out.rows c.rows.out.told c.rows.out.prints c.rows.out.snapshots _ c.rows.generator c.rows.behind (c.rows.invariant.drawn s.0 s.1 s.2))
 
 pub returns-in-Err-clause-stopped : goal.returns-in-Err-clause-stopped
 returns-in-Err-clause-stopped g c = λ raw own had.
     let d = c.rows.invariant.drawn raw own had in
-    (d.asked, rw (c.flush.ensures.rows, c.flush.ensures.told) d.serving, all_events c.rows.generator, d.drawn)
+    (d.asked, rw (c.flush.ensures.rows, c.flush.ensures.told, c.flush.ensures.prints, c.flush.ensures.snapshots) d.serving, all_events c.rows.generator, d.drawn)
 
 pub returns-in-Err-clause-printing : goal.returns-in-Err-clause-printing
 returns-in-Err-clause-printing g c = λ before first h. c.flush.ensures.printing before first (c.rows.invariant.printing before first h)

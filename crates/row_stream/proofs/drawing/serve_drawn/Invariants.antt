@@ -10,8 +10,8 @@ use Rattle.row_stream.proofs.drawing.serve_drawn.Given as goal
 -- the rows so far were served
 abbrev pub invariant-rows : goal.invariant-rows
 invariant-rows g l = record {
-  drawn : (raw : RawShape) (own : ℕ) → IsServing {n = g.row.B} {m = g.row.M} {e = g.row.E} raw own [] l.fn.pcm (g.A.CellArray.state l.fn.array) l.fn.out.rows l.fn.out.told
-      → HasDrawn {n = g.row.B} {m = g.row.M} {e = g.row.E} raw own l.pcm (g.A.CellArray.state l.array) l.out.rows l.out.told (generated g.row.B l.fn.seed (total_of raw) l.fn.mix) l.generator l.behind;
+  drawn : (raw : RawShape) (own : ℕ) → IsServing {n = g.row.B} {m = g.row.M} {e = g.row.E} raw own [] l.fn.pcm (g.A.CellArray.state l.fn.array) l.fn.out.rows l.fn.out.told l.fn.out.prints l.fn.out.snapshots
+      → HasDrawn {n = g.row.B} {m = g.row.M} {e = g.row.E} raw own l.pcm (g.A.CellArray.state l.array) l.out.rows l.out.told l.out.prints l.out.snapshots (generated g.row.B l.fn.seed (total_of raw) l.fn.mix) l.generator l.behind;
   prints : l.out.prints ≡ l.fn.out.prints;
   printing : (before : Option (List ℕ)) (first : ℕ) → IsPrinting g.K.Sink.written g.K.Sink.faults before first l.fn.out → IsPrinting g.K.Sink.written g.K.Sink.faults before first l.out;
   wear : (g.A.CellArray.state l.array).wear ≡ (g.A.CellArray.state l.fn.array).wear;

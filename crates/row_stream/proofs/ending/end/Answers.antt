@@ -1,14 +1,28 @@
-use Rattle.std.proofs.Common.{Bool, sym, subst}
-use Rattle.row_stream.specs.Asking.{stays_off, with_cut}
-use Rattle.row_stream.specs.Ending.{HasEnded}
+use Rattle.std.proofs.Common.{ℕ, List, ◌∙◌, sym, subst}
+use Rattle.row_printer.specs.Snapshots.{AddsDue, takes_snapshots}
+use Rattle.row_printer.specs.declared.told.Shown.{Shown}
+use Rattle.row_printer.specs.declared.told.Told.{Told}
+use Rattle.row_stream.specs.Asking.{stays_off, tick_reached, with_cut}
+use Rattle.row_stream.specs.Ending.{EndsShowing}
+use Rattle.row_stream.specs.Looking.{IsSnapshot}
+use Rattle.row_stream.proofs.Ends.{cut-tick}
 use Rattle.row_stream.proofs.ending.end.Goals as goal
 
-pub returns-then-off-clause-ended : goal.returns-then-off-clause-ended
-returns-then-off-clause-ended g c = λ raw seed asked had is.
-    let P : Bool → Type 0 = λ off. HasEnded raw seed (stays_off off asked) (with_cut off asked) c.stay_off.new.pcm (g.A.CellArray.state c.stay_off.new.array) c.stay_off.new.out.rows c.stay_off.new.out.told in
-    subst P (sym c.if-off.true) (c.stay_off.ensures.ended raw seed asked had is)
+pub returns-clause-ended : goal.returns-clause-ended
+returns-clause-ended g c = λ raw seed asked had is.
+    let left = c.leave.ensures.ended raw seed asked had is in
+    let out = c.leave.new.out in
+    let array = g.A.CellArray.state c.leave.new.array in
+    let Last : ℕ → Type 0 = λ tick. AddsDue (takes_snapshots out.prints) (IsSnapshot out.rows tick out.told c.leave.new.pcm array) out.snapshots c.show_last.new.out.snapshots in
+    let last : Last (tick_reached (with_cut c.args.off asked)) = subst Last (c.tick-tick.ensures ∙ had.tick ∙ sym (cut-tick c.args.off asked)) (c.show_last.ensures.snapshots left.0.ends left.0.are) in
+    let Ends : ℕ → List (Told g.row.B) → Shown → Type 0 = λ rows told prints.
+    EndsShowing raw seed (stays_off c.args.off asked) (with_cut c.args.off asked) c.leave.new.pcm array rows told prints c.show_last.new.out.snapshots in
+    subst (λ rows. Ends rows c.show_last.new.out.told c.show_last.new.out.prints) (sym c.show_last.ensures.rows)
+    (subst (λ told. Ends out.rows told c.show_last.new.out.prints) (sym c.show_last.ensures.told)
+    (subst (λ prints. Ends out.rows out.told prints) (sym c.show_last.ensures.prints) (left.0, (out.snapshots, left.1, last))))
 
-pub returns-else-off-clause-ended : goal.returns-else-off-clause-ended
-returns-else-off-clause-ended g c = λ raw seed asked had is.
-    let P : Bool → Type 0 = λ off. HasEnded raw seed (stays_off off asked) (with_cut off asked) c.drain.new.pcm (g.A.CellArray.state c.drain.new.array) c.drain.new.out.rows c.drain.new.out.told in
-    subst P (sym c.if-off.false) (c.drain.ensures.ended raw seed asked had)
+pub returns-clause-prints : goal.returns-clause-prints
+returns-clause-prints g c = c.show_last.ensures.prints ∙ c.leave.ensures.prints
+
+pub returns-clause-printing : goal.returns-clause-printing
+returns-clause-printing g c = λ before first h. c.show_last.ensures.printing before first (c.leave.ensures.printing before first h)

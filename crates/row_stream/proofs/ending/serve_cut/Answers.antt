@@ -21,5 +21,5 @@ serve_event-requires g c =
 
 pub returns-clause-serving : goal.returns-clause-serving
 returns-clause-serving g c = λ raw seed before had.
-    let P : ℕ → Type 0 = λ tick. IsServing raw seed (Happens (record { tick = tick; op = Cut }) ∷ before) c.serve_event.new.pcm (g.A.CellArray.state c.serve_event.new.array) c.serve_event.new.out.rows c.serve_event.new.out.told in
+    let P : ℕ → Type 0 = λ tick. IsServing raw seed (Happens (record { tick = tick; op = Cut }) ∷ before) c.serve_event.new.pcm (g.A.CellArray.state c.serve_event.new.array) c.serve_event.new.out.rows c.serve_event.new.out.told c.serve_event.new.out.prints c.serve_event.new.out.snapshots in
     subst P (c.tick.ensures ∙ had.tick) (c.serve_event.ensures.serving raw seed before had)

@@ -1,7 +1,7 @@
 use Rattle.std.proofs.Common.{◌∙◌, arith, refl, sym, subst}
 use Rattle.row_stream.specs.declared.stop.Behind.{Behind}
 use Rattle.row_stream.specs.Asking.{cut_behind, cut_if, off_behind}
-use Rattle.row_stream.specs.Ending.{HasEnded}
+use Rattle.row_stream.specs.Ending.{IsLeft}
 use Rattle.row_stream.proofs.ending.stay_off.Goals as goal
 
 pub stop-requires : goal.stop-requires
@@ -16,12 +16,12 @@ stop-requires-in-Off g c =
 
 pub returns-in-Nothing-clause-ended : goal.returns-in-Nothing-clause-ended
 returns-in-Nothing-clause-ended g c = λ raw seed asked had is.
-    let P : Behind → Type 0 = λ b. HasEnded raw seed (off_behind b) (cut_if b asked) c.drain.new.pcm (g.A.CellArray.state c.drain.new.array) c.drain.new.out.rows c.drain.new.out.told in
+    let P : Behind → Type 0 = λ b. IsLeft raw seed (off_behind b) (cut_if b asked) c.drain.new.pcm (g.A.CellArray.state c.drain.new.array) c.drain.new.out.rows c.drain.new.out.told c.drain.new.out.prints c.drain.new.out.snapshots in
     subst P (sym c.in-Nothing.is ∙ is) (c.drain.ensures.ended raw seed asked had)
 
 pub returns-in-Going-clause-ended : goal.returns-in-Going-clause-ended
 returns-in-Going-clause-ended g c = λ raw seed asked had is.
-    let P : Behind → Type 0 = λ b. HasEnded raw seed (off_behind b) (cut_if b asked) c.stop.new.pcm (g.A.CellArray.state c.serve_cut.new.array) c.stop.new.out.rows c.stop.new.out.told in
+    let P : Behind → Type 0 = λ b. IsLeft raw seed (off_behind b) (cut_if b asked) c.stop.new.pcm (g.A.CellArray.state c.serve_cut.new.array) c.stop.new.out.rows c.stop.new.out.told c.stop.new.out.prints c.stop.new.out.snapshots in
     subst P (sym c.in-Going.is ∙ is) (c.stop.ensures.ended raw seed (cut_behind asked) (c.serve_cut.ensures.serving raw seed asked had) refl)
 
 pub returns-in-Going-clause-printing : goal.returns-in-Going-clause-printing
@@ -29,5 +29,5 @@ returns-in-Going-clause-printing g c = λ before first h. c.stop.ensures.printin
 
 pub returns-in-Off-clause-ended : goal.returns-in-Off-clause-ended
 returns-in-Off-clause-ended g c = λ raw seed asked had is.
-    let P : Behind → Type 0 = λ b. HasEnded raw seed (off_behind b) (cut_if b asked) c.stop-in-Off.new.pcm (g.A.CellArray.state c.args.array.now) c.stop-in-Off.new.out.rows c.stop-in-Off.new.out.told in
+    let P : Behind → Type 0 = λ b. IsLeft raw seed (off_behind b) (cut_if b asked) c.stop-in-Off.new.pcm (g.A.CellArray.state c.args.array.now) c.stop-in-Off.new.out.rows c.stop-in-Off.new.out.told c.stop-in-Off.new.out.prints c.stop-in-Off.new.out.snapshots in
     subst P (sym c.in-Off.is ∙ is) (c.stop-in-Off.ensures.ended raw seed asked had (sym is ∙ c.in-Off.is))

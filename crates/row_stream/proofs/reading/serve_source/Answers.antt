@@ -8,14 +8,14 @@ use Rattle.row_stream.proofs.reading.serve_source.Goals as goal
 
 pub returns-in_default-clause-stopped : goal.returns-in_default-clause-stopped
 returns-in_default-clause-stopped g c = λ raw seed start.
-    ([], rw (c.flush.ensures.rows, c.flush.ensures.told) start, (come-none g.row.B (total_of raw) g.S.Source.left g.S.Source.taken g.S.Source.faults c.args.source.now c.args.source.now, refl))
+    ([], rw (c.flush.ensures.rows, c.flush.ensures.told, c.flush.ensures.prints, c.flush.ensures.snapshots) start, (come-none g.row.B (total_of raw) g.S.Source.left g.S.Source.taken g.S.Source.faults c.args.source.now c.args.source.now, refl))
 
 pub returns-in-Err-clause-stopped : goal.returns-in-Err-clause-stopped
 returns-in-Err-clause-stopped g c = λ raw seed start.
     let lines : c.total.result ≡ total_of raw = c.total.ensures.number ∙ ap total_of c.shape.ensures.shape ∙ ap total_of start.served.shape in
     let e = c.in-Err.ensures in (
       [],
-      rw (c.flush.ensures.rows, c.flush.ensures.told) start,
+      rw (c.flush.ensures.rows, c.flush.ensures.told, c.flush.ensures.prints, c.flush.ensures.snapshots) start,
       open-stopped g.row.B (total_of raw) g.S.Source.left g.S.Source.taken g.S.Source.faults c.args.source.now c.open.new.source c.in-Err.fault (rw lines at e.fault) (λ is. e.read (ap Err is)) (λ is. e.endless (ap Err is))
           (λ other. e.no_fault (λ is. let same : c.in-Err.fault ≡ fault.Read = cc in other same)),
     )
@@ -27,8 +27,8 @@ rows-init g c = record {
       let opened = c.in-Ok-open.ensures.ok in
       let begun = c.in-Ok-open.ensures.begun in
       let lines : c.total.result ≡ total_of raw = c.total.ensures.number ∙ ap total_of c.shape.ensures.shape ∙ ap total_of start.served.shape in
-      fed-first raw seed g.S.Source.left g.S.Source.taken g.S.Source.faults c.args.source.now c.args.pcm.now (g.A.CellArray.state c.args.array.now) c.flush.new.self.rows c.flush.new.self.told c.open.new.source c.in-Ok-open.stream
-      (rw (c.flush.ensures.rows, c.flush.ensures.told) start) opened.0 opened.1 (subst (λ (k : ℕ). Opens k opened.0 c.in-Ok-open.stream) lines opened.2) begun.0 begun.1 (begun.2 ∙ lines)
+      fed-first raw seed g.S.Source.left g.S.Source.taken g.S.Source.faults c.args.source.now c.args.pcm.now (g.A.CellArray.state c.args.array.now) c.flush.new.self.rows c.flush.new.self.told c.flush.new.self.prints c.flush.new.self.snapshots c.open.new.source c.in-Ok-open.stream
+      (rw (c.flush.ensures.rows, c.flush.ensures.told, c.flush.ensures.prints, c.flush.ensures.snapshots) start) opened.0 opened.1 (subst (λ (k : ℕ). Opens k opened.0 c.in-Ok-open.stream) lines opened.2) begun.0 begun.1 (begun.2 ∙ lines)
       (c.in-Ok-open.ensures.no_fault (λ is. cc is));
   «end» = c.in-Ok-open.ensures.end;
   prints = c.flush.ensures.prints;
@@ -51,8 +51,8 @@ feed-requires g c =
           (
             c.requires.layout,
             (
-              next-asked s.0 s.1 g.S.Source.left g.S.Source.taken g.S.Source.faults c.args.source.now c.rows.pcm (g.A.CellArray.state c.rows.array) c.rows.out.rows c.rows.out.told c.rows.source c.rows.stream c.rows.behind c.rows.counter had c.in-Ok-Some.asked lawful,
-              (next-few s.0 s.1 g.S.Source.left g.S.Source.taken g.S.Source.faults c.args.source.now c.rows.pcm (g.A.CellArray.state c.rows.array) c.rows.out.rows c.rows.out.told c.rows.source c.rows.stream c.rows.behind c.rows.counter had, (s.0, s.1, had.asked, had.serving)),
+              next-asked s.0 s.1 g.S.Source.left g.S.Source.taken g.S.Source.faults c.args.source.now c.rows.pcm (g.A.CellArray.state c.rows.array) c.rows.out.rows c.rows.out.told c.rows.out.prints c.rows.out.snapshots c.rows.source c.rows.stream c.rows.behind c.rows.counter had c.in-Ok-Some.asked lawful,
+              (next-few s.0 s.1 g.S.Source.left g.S.Source.taken g.S.Source.faults c.args.source.now c.rows.pcm (g.A.CellArray.state c.rows.array) c.rows.out.rows c.rows.out.told c.rows.out.prints c.rows.out.snapshots c.rows.source c.rows.stream c.rows.behind c.rows.counter had, (s.0, s.1, had.asked, had.serving)),
             ),
           ),
         ),
@@ -67,21 +67,21 @@ returns-in_default-feed-clause-few g c =
     let had = c.rows.invariant.came s.0 s.1 s.2 in
     let next = c.in-Ok-Some.ensures.ok in
     let row = rw c.in-Ok-Some.field-0-is at c.in-Ok-Some.ensures.row in
-    let more = fed-more raw seed g.S.Source.left g.S.Source.taken g.S.Source.faults c.args.source.now c.rows.pcm (g.A.CellArray.state c.rows.array) c.rows.out.rows c.rows.out.told c.rows.source c.rows.stream c.rows.behind c.rows.counter had c.feed.new.pcm (g.A.CellArray.state c.feed.new.array) c.feed.new.out.rows c.feed.new.out.told c.next.new.source c.next.new.self c.in-Ok-Some.asked (behind_of (c.in-Ok-Some.asked ∷ []))
+    let more = fed-more raw seed g.S.Source.left g.S.Source.taken g.S.Source.faults c.args.source.now c.rows.pcm (g.A.CellArray.state c.rows.array) c.rows.out.rows c.rows.out.told c.rows.out.prints c.rows.out.snapshots c.rows.source c.rows.stream c.rows.behind c.rows.counter had c.feed.new.pcm (g.A.CellArray.state c.feed.new.array) c.feed.new.out.rows c.feed.new.out.told c.feed.new.out.prints c.feed.new.out.snapshots c.next.new.source c.next.new.self c.in-Ok-Some.asked (behind_of (c.in-Ok-Some.asked ∷ []))
     (λ served. c.feed.ensures.serving raw seed had.asked served) (λ before. behind-any c.in-Ok-Some.asked before) next.0 next.1 next.2 (rw c.in-Ok-Some.field-0-is at next.3) c.in-Ok-Some.ensures.lines row.0 row.1 row.2 (c.in-Ok-Some.ensures.no_fault (λ is. cc is)) in
-    next-few raw seed g.S.Source.left g.S.Source.taken g.S.Source.faults c.args.source.now c.feed.new.pcm (g.A.CellArray.state c.feed.new.array) c.feed.new.out.rows c.feed.new.out.told c.next.new.source c.next.new.self (behind_of (c.in-Ok-Some.asked ∷ [])) _ more
+    next-few raw seed g.S.Source.left g.S.Source.taken g.S.Source.faults c.args.source.now c.feed.new.pcm (g.A.CellArray.state c.feed.new.array) c.feed.new.out.rows c.feed.new.out.told c.feed.new.out.prints c.feed.new.out.snapshots c.next.new.source c.next.new.self (behind_of (c.in-Ok-Some.asked ∷ [])) _ more
 
 pub returns-in_default-feed-clause-stopped : goal.returns-in_default-feed-clause-stopped
 returns-in_default-feed-clause-stopped g c = λ raw seed start.
     let had = c.rows.invariant.came raw seed start in
     let next = c.in-Ok-Some.ensures.ok in
     let row = rw c.in-Ok-Some.field-0-is at c.in-Ok-Some.ensures.row in
-    let more = fed-more raw seed g.S.Source.left g.S.Source.taken g.S.Source.faults c.args.source.now c.rows.pcm (g.A.CellArray.state c.rows.array) c.rows.out.rows c.rows.out.told c.rows.source c.rows.stream c.rows.behind c.rows.counter had c.feed.new.pcm (g.A.CellArray.state c.feed.new.array) c.feed.new.out.rows c.feed.new.out.told c.next.new.source c.next.new.self c.in-Ok-Some.asked (behind_of (c.in-Ok-Some.asked ∷ []))
+    let more = fed-more raw seed g.S.Source.left g.S.Source.taken g.S.Source.faults c.args.source.now c.rows.pcm (g.A.CellArray.state c.rows.array) c.rows.out.rows c.rows.out.told c.rows.out.prints c.rows.out.snapshots c.rows.source c.rows.stream c.rows.behind c.rows.counter had c.feed.new.pcm (g.A.CellArray.state c.feed.new.array) c.feed.new.out.rows c.feed.new.out.told c.feed.new.out.prints c.feed.new.out.snapshots c.next.new.source c.next.new.self c.in-Ok-Some.asked (behind_of (c.in-Ok-Some.asked ∷ []))
     (λ served. c.feed.ensures.serving raw seed had.asked served) (λ before. behind-any c.in-Ok-Some.asked before) next.0 next.1 next.2 (rw c.in-Ok-Some.field-0-is at next.3) c.in-Ok-Some.ensures.lines row.0 row.1 row.2 (c.in-Ok-Some.ensures.no_fault (λ is. cc is)) in (
       more.asked,
       more.serving,
       (
-        fed-come raw seed g.S.Source.left g.S.Source.taken g.S.Source.faults c.args.source.now c.feed.new.pcm (g.A.CellArray.state c.feed.new.array) c.feed.new.out.rows c.feed.new.out.told c.next.new.source c.next.new.self (behind_of (c.in-Ok-Some.asked ∷ [])) _ more c.next.new.source (c.in-Ok-Some.ensures.end c.rows.invariant.end),
+        fed-come raw seed g.S.Source.left g.S.Source.taken g.S.Source.faults c.args.source.now c.feed.new.pcm (g.A.CellArray.state c.feed.new.array) c.feed.new.out.rows c.feed.new.out.told c.feed.new.out.prints c.feed.new.out.snapshots c.next.new.source c.next.new.self (behind_of (c.in-Ok-Some.asked ∷ [])) _ more c.next.new.source (c.in-Ok-Some.ensures.end c.rows.invariant.end),
         more.calm,
       ),
     )
@@ -99,19 +99,19 @@ returns-in-Ok-None-clause-served g c = λ raw seed start.
       had.asked,
       had.serving,
       had.stands,
-      fed-all raw seed g.S.Source.left g.S.Source.taken g.S.Source.faults c.args.source.now c.rows.pcm (g.A.CellArray.state c.rows.array) c.rows.out.rows c.rows.out.told c.rows.source c.rows.stream c.rows.behind c.rows.counter had c.next.new.source c.next.new.self next.0 next.1 next.2 (rw c.in-Ok-None.field-0-is at next.3) (c.in-Ok-None.ensures.end c.rows.invariant.end)
+      fed-all raw seed g.S.Source.left g.S.Source.taken g.S.Source.faults c.args.source.now c.rows.pcm (g.A.CellArray.state c.rows.array) c.rows.out.rows c.rows.out.told c.rows.out.prints c.rows.out.snapshots c.rows.source c.rows.stream c.rows.behind c.rows.counter had c.next.new.source c.next.new.self next.0 next.1 next.2 (rw c.in-Ok-None.field-0-is at next.3) (c.in-Ok-None.ensures.end c.rows.invariant.end)
           (c.in-Ok-None.ensures.no_fault (λ is. cc is)),
     )
 
 pub returns-in-Ok-None-clause-few : goal.returns-in-Ok-None-clause-few
 returns-in-Ok-None-clause-few g c =
     let s = c.requires.begins in
-    next-few s.0 s.1 g.S.Source.left g.S.Source.taken g.S.Source.faults c.args.source.now c.rows.pcm (g.A.CellArray.state c.rows.array) c.rows.out.rows c.rows.out.told c.rows.source c.rows.stream c.rows.behind c.rows.counter (c.rows.invariant.came s.0 s.1 s.2)
+    next-few s.0 s.1 g.S.Source.left g.S.Source.taken g.S.Source.faults c.args.source.now c.rows.pcm (g.A.CellArray.state c.rows.array) c.rows.out.rows c.rows.out.told c.rows.out.prints c.rows.out.snapshots c.rows.source c.rows.stream c.rows.behind c.rows.counter (c.rows.invariant.came s.0 s.1 s.2)
 
 pub returns-in-Err-next-clause-few : goal.returns-in-Err-next-clause-few
 returns-in-Err-next-clause-few g c =
     let s = c.requires.begins in
-    next-few s.0 s.1 g.S.Source.left g.S.Source.taken g.S.Source.faults c.args.source.now c.rows.pcm (g.A.CellArray.state c.rows.array) c.rows.out.rows c.rows.out.told c.rows.source c.rows.stream c.rows.behind c.rows.counter (c.rows.invariant.came s.0 s.1 s.2)
+    next-few s.0 s.1 g.S.Source.left g.S.Source.taken g.S.Source.faults c.args.source.now c.rows.pcm (g.A.CellArray.state c.rows.array) c.rows.out.rows c.rows.out.told c.rows.out.prints c.rows.out.snapshots c.rows.source c.rows.stream c.rows.behind c.rows.counter (c.rows.invariant.came s.0 s.1 s.2)
 
 pub returns-in-Err-next-clause-stopped : goal.returns-in-Err-next-clause-stopped
 returns-in-Err-next-clause-stopped g c = λ raw seed start.
@@ -119,7 +119,7 @@ returns-in-Err-next-clause-stopped g c = λ raw seed start.
     let e = c.in-Err-next.ensures in (
       had.asked,
       had.serving,
-      fed-stopped raw seed g.S.Source.left g.S.Source.taken g.S.Source.faults c.args.source.now c.rows.pcm (g.A.CellArray.state c.rows.array) c.rows.out.rows c.rows.out.told c.rows.source c.rows.stream c.rows.behind c.rows.counter had c.next.new.source c.next.new.self c.in-Err-next.fault e.fault c.rows.invariant.end (λ is. e.read (ap Err is)) (λ is. e.endless (ap Err is))
+      fed-stopped raw seed g.S.Source.left g.S.Source.taken g.S.Source.faults c.args.source.now c.rows.pcm (g.A.CellArray.state c.rows.array) c.rows.out.rows c.rows.out.told c.rows.out.prints c.rows.out.snapshots c.rows.source c.rows.stream c.rows.behind c.rows.counter had c.next.new.source c.next.new.self c.in-Err-next.fault e.fault c.rows.invariant.end (λ is. e.read (ap Err is)) (λ is. e.endless (ap Err is))
           (λ other. e.no_fault (λ is. let same : c.in-Err-next.fault ≡ fault.Read = cc in other same)),
     )
 
@@ -130,7 +130,7 @@ rows-preserved g c = record {
       let had = c.rows.invariant.came raw seed start in
       let next = c.in-Ok-Some.ensures.ok in
       let row = rw c.in-Ok-Some.field-0-is at c.in-Ok-Some.ensures.row in
-      fed-more raw seed g.S.Source.left g.S.Source.taken g.S.Source.faults c.args.source.now c.rows.pcm (g.A.CellArray.state c.rows.array) c.rows.out.rows c.rows.out.told c.rows.source c.rows.stream c.rows.behind c.rows.counter had c.feed.new.pcm (g.A.CellArray.state c.feed.new.array) c.feed.new.out.rows c.feed.new.out.told c.next.new.source c.next.new.self c.in-Ok-Some.asked c.behind_asked-behind.result
+      fed-more raw seed g.S.Source.left g.S.Source.taken g.S.Source.faults c.args.source.now c.rows.pcm (g.A.CellArray.state c.rows.array) c.rows.out.rows c.rows.out.told c.rows.out.prints c.rows.out.snapshots c.rows.source c.rows.stream c.rows.behind c.rows.counter had c.feed.new.pcm (g.A.CellArray.state c.feed.new.array) c.feed.new.out.rows c.feed.new.out.told c.feed.new.out.prints c.feed.new.out.snapshots c.next.new.source c.next.new.self c.in-Ok-Some.asked c.behind_asked-behind.result
       (λ served. c.feed.ensures.serving raw seed had.asked served) c.behind_asked-behind.ensures next.0 next.1 next.2 (rw c.in-Ok-Some.field-0-is at next.3) c.in-Ok-Some.ensures.lines row.0 row.1 row.2 (c.in-Ok-Some.ensures.no_fault (λ is. cc is));
   «end» = c.in-Ok-Some.ensures.end c.rows.invariant.end;
   prints = c.feed.ensures.prints ∙ c.rows.invariant.prints;
@@ -143,9 +143,9 @@ rows-preserved g c = record {
 pub returns-clause-few : goal.returns-clause-few
 returns-clause-few g c =
     let s = c.requires.begins in
-    next-few s.0 s.1 g.S.Source.left g.S.Source.taken g.S.Source.faults c.args.source.now c.rows.pcm (g.A.CellArray.state c.rows.array) c.rows.out.rows c.rows.out.told c.rows.source c.rows.stream c.rows.behind c.rows.counter (c.rows.invariant.came s.0 s.1 s.2)
+    next-few s.0 s.1 g.S.Source.left g.S.Source.taken g.S.Source.faults c.args.source.now c.rows.pcm (g.A.CellArray.state c.rows.array) c.rows.out.rows c.rows.out.told c.rows.out.prints c.rows.out.snapshots c.rows.source c.rows.stream c.rows.behind c.rows.counter (c.rows.invariant.came s.0 s.1 s.2)
 
 pub returns-clause-stopped : goal.returns-clause-stopped
 returns-clause-stopped g c = λ raw seed start.
     let had = c.rows.invariant.came raw seed start in
-    (had.asked, had.serving, (fed-come raw seed g.S.Source.left g.S.Source.taken g.S.Source.faults c.args.source.now c.rows.pcm (g.A.CellArray.state c.rows.array) c.rows.out.rows c.rows.out.told c.rows.source c.rows.stream c.rows.behind c.rows.counter had c.rows.source c.rows.invariant.end, c.rows.invariant.calm, omega (arith, had.counted, c.rows-test.false, c.rows.auto.counter-end)))
+    (had.asked, had.serving, (fed-come raw seed g.S.Source.left g.S.Source.taken g.S.Source.faults c.args.source.now c.rows.pcm (g.A.CellArray.state c.rows.array) c.rows.out.rows c.rows.out.told c.rows.out.prints c.rows.out.snapshots c.rows.source c.rows.stream c.rows.behind c.rows.counter had c.rows.source c.rows.invariant.end, c.rows.invariant.calm, omega (arith, had.counted, c.rows-test.false, c.rows.auto.counter-end)))

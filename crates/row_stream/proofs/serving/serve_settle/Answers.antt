@@ -7,10 +7,11 @@ returns-clause-serving g c = λ raw seed before had.
     let on = c.settle.ensures.goes_on in
     let e = c.settle.ensures in
     let same = c.settled.ensures.rows in
-    let order = banks-order raw seed before c.args.pcm.now (g.A.CellArray.state c.args.array.now) c.args.out.now.rows c.args.out.now.told had g.K.Sink.written g.K.Sink.faults c.args.out.now c.settle.new.results c.tells_once.ensures e.order in
-    serving-settle raw seed before c.args.pcm.now (g.A.CellArray.state c.args.array.now) c.args.out.now.rows c.args.out.now.told had c.args.tick
-    c.settle.new.self (g.A.CellArray.state c.settle.new.array) c.settled.new.self.rows c.settle.new.results.told c.settled.new.self.told
+    let order = banks-order raw seed before c.args.pcm.now (g.A.CellArray.state c.args.array.now) c.args.out.now.rows c.args.out.now.told c.args.out.now.prints c.args.out.now.snapshots had g.K.Sink.written g.K.Sink.faults c.args.out.now c.settle.new.results c.tells_once.ensures e.order in
+    serving-settle raw seed before c.args.pcm.now (g.A.CellArray.state c.args.array.now) c.args.out.now.rows c.args.out.now.told c.args.out.now.prints c.args.out.now.snapshots had c.args.tick
+    c.settle.new.self (g.A.CellArray.state c.settle.new.array) c.settled.new.self.rows c.settle.new.results.told c.settled.new.self.told c.settled.new.self.prints c.settled.new.self.snapshots
     (same ∙ on.rows) order.outcomes order.told order.are c.settled.ensures.told e.shape e.seed e.going e.tick c.requires.in_time e.rows (rw same e.table) (rw same e.replays)
+    (c.settled.ensures.prints ∙ on.prints) (c.settled.ensures.snapshots ∙ on.snapshots)
 
 pub returns-clause-prints : goal.returns-clause-prints
 returns-clause-prints g c = c.settled.ensures.prints ∙ c.settle.ensures.goes_on.prints

@@ -10,7 +10,7 @@ use Rattle.image_text.proofs.Sensing.{senses-none}
 use Rattle.module_prints.specs.Images.{WritesRows, kept_in}
 use Rattle.module_prints.specs.WearReports.{cells_at}
 use Rattle.stream_top.specs.Leaving.{senses_for}
-use Rattle.stream_top.proofs.EndText.{image-closes, lines-closes, no-image, nothing-closes, senses-nothing, summary-bytes, summary-closes, wear-closes}
+use Rattle.stream_top.proofs.EndText.{image-closes, lines-closes, no-image, nothing-closes, senses-nothing, snapshots-close, summary-bytes, summary-closes, wear-closes}
 use Rattle.stream_top.proofs.closing.print_closing.Goals as goal
 
 pub returns-in-Rows-clause-ok : goal.returns-in-Rows-clause-ok
@@ -28,6 +28,22 @@ returns-in-Rows-clause-all g c =
 
 pub returns-in-Rows-clause-untouched : goal.returns-in-Rows-clause-untouched
 returns-in-Rows-clause-untouched g c = λ other. refl
+
+pub returns-in-Snapshots-clause-ok : goal.returns-in-Snapshots-clause-ok
+returns-in-Snapshots-clause-ok g c =
+    snapshots-close c.args.pcm.now (g.A.CellArray.state c.args.array.now) (cells_at g.row.E (g.A.CellArray.state c.args.array.now) (g.A.TellsCells.changes c.args.array.now)) c.args.rows c.args.counts.now c.args.job.now.print
+    (λ whole. Appends (g.K.Sink.written c.args.out.now) (g.K.Sink.written c.args.out.now) whole) c.in-Snapshots.field-0 c.in-Snapshots.is (Appends-nothing (g.K.Sink.written c.args.out.now))
+
+pub returns-in-Snapshots-clause-sensed : goal.returns-in-Snapshots-clause-sensed
+returns-in-Snapshots-clause-sensed g c = (0, omega arith, senses-none (g.A.CellArray.state c.args.array.now))
+
+pub returns-in-Snapshots-clause-all : goal.returns-in-Snapshots-clause-all
+returns-in-Snapshots-clause-all g c =
+    let array = g.A.CellArray.state c.args.array.now in
+    subst (λ p. SensesRows (senses_for p array.lines) array array) (sym c.in-Snapshots.is) (senses-none array)
+
+pub returns-in-Snapshots-clause-untouched : goal.returns-in-Snapshots-clause-untouched
+returns-in-Snapshots-clause-untouched g c = λ other. refl
 
 pub returns-in-Summary-clause-ok : goal.returns-in-Summary-clause-ok
 returns-in-Summary-clause-ok g c =

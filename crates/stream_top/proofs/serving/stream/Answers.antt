@@ -3,7 +3,7 @@ use Rattle.bank_timing.proofs.Sizes.{timed_fits}
 use Rattle.program_calls.specs.Calls.{sink_change}
 use Rattle.stream_top.specs.Calls.{source_between}
 use Rattle.stream_top.specs.Leaving.{senses_for}
-use Rattle.stream_top.specs.Streams.{prints_rows}
+use Rattle.stream_top.specs.Streams.{shown_by}
 use Rattle.stream_top.proofs.Keeping.{calm-done, calm-fault, never-failed, stream-breaks, stream-part, stream-stops, stream-whole}
 use Rattle.stream_top.proofs.serving.stream.Goals as goal
 
@@ -17,6 +17,21 @@ drop-pcm-inside-requires-in-Ok-print_closing-room-T-Destruct g c κs = timed_fit
 pub drop-pcm-inside-requires-2-room-T-Destruct : goal.drop-pcm-inside-requires-2-room-T-Destruct
 drop-pcm-inside-requires-2-room-T-Destruct g c κs = timed_fits g.row.B g.row.M g.row.E c.requires.layout
 
+pub play-requires : goal.play-requires
+play-requires g c = (
+  omega arith,
+  (
+    omega arith,
+    (
+      c.requires.layout,
+      (
+        c.requires.job,
+        rw (c.new-printer.ensures.rows, c.new-printer.ensures.told, c.new-printer.ensures.snapshots) (c.in-Ok.ensures.ready c.new-printer.result.prints),
+      ),
+    ),
+  ),
+)
+
 -- it stopped at a fault, or the output failed before the text of the end
 pub returns-in-Err-play : goal.returns-in-Err-play
 returns-in-Err-play g c =
@@ -25,18 +40,18 @@ returns-in-Err-play g c =
     let source = source_between g.S.Source.left g.S.Source.taken g.S.Source.faults c.args.source.now new.source in
     let out = sink_change g.K.Sink.written g.K.Sink.faults c.args.out.value c.end.result.0.value in
     let state = g.A.CellArray.state new.array in
-    let prints : new.out.prints ≡ prints_rows c.args.job.now.print = p.prints ∙ c.new-printer.ensures.prints ∙ c.shows_rows.ensures in
+    let prints : new.out.prints ≡ shown_by c.args.job.now.print = p.prints ∙ c.new-printer.ensures.prints ∙ c.shown_of.ensures.is in
     record {
       done = tt;
       write = λ is.
-          stream-breaks g.row.B g.row.M g.row.E c.args.job.now source new.pcm state new.out.rows new.out.told c.end.ensures.once
-          (g.A.TellsCells.changes new.array) c.each_row_is_told.ensures c.ended_streams_are_kept.ensures c.requires.job.shape c.in-Ok.ensures.seed (p.wear ∙ c.in-Ok.ensures.wear) out new.out.prints prints
+          stream-breaks g.row.B g.row.M g.row.E c.args.job.now source new.pcm state new.out.rows new.out.told new.out.prints new.out.snapshots prints c.end.ensures.once
+          (g.A.TellsCells.changes new.array) c.each_row_is_told.ensures c.ended_streams_are_kept.ensures c.requires.job.shape c.in-Ok.ensures.seed (p.wear ∙ c.in-Ok.ensures.wear) out
           (p.broken is) (rw c.end.ensures.sink (p.part is _ _ c.new-printer.ensures.printing));
       cause = λ other.
           let calm = calm-fault (Err c.in-Err-play.fault) c.in-Err-play.fault refl other in
           let s = p.stopped other in
-          inl (stream-stops g.row.B g.row.M g.row.E c.args.job.now source new.pcm state new.out.rows new.out.told c.end.ensures.once
-          out c.in-Err-play.fault s.0 s.1 s.2 new.out.prints prints (rw c.end.ensures.sink (p.written calm _ _ c.new-printer.ensures.printing)));
+          inl (stream-stops g.row.B g.row.M g.row.E c.args.job.now source new.pcm state new.out.rows new.out.told new.out.prints new.out.snapshots prints c.end.ensures.once
+          out c.in-Err-play.fault s.0 s.1 s.2 (rw c.end.ensures.sink (p.written calm _ _ c.new-printer.ensures.printing)));
       unread = p.unread;
     }
 
@@ -53,10 +68,10 @@ returns-in-Ok-print_closing g c =
     let calm = calm-done (Ok c.in-Ok-play.done) c.in-Ok-play.done refl in
     record {
       done =
-          stream-whole g.row.B g.row.M g.row.E c.args.job.now source new.pcm before new.out.rows new.out.told c.end-out.ensures.once
+          stream-whole g.row.B g.row.M g.row.E c.args.job.now source new.pcm before new.out.rows new.out.told new.out.prints new.out.snapshots (p.prints ∙ c.new-printer.ensures.prints ∙ c.shown_of.ensures.is) c.end-out.ensures.once
           array (g.A.TellsCells.changes new.array) (g.A.TellsCells.changes c.print_closing.new.array) (λ other. ap g.A.TellsCells.changes (c.print_closing.ensures.untouched other)) c.each_row_is_told.ensures c.ended_streams_are_kept.ensures c.requires.job.shape c.in-Ok.ensures.seed (all.since.wear ∙ p.wear ∙ c.in-Ok.ensures.wear)
           (λ other. ap g.A.CellArray.state (c.print_closing.ensures.untouched other)) (senses_for c.args.job.now.print before.lines) all p.done.0 p.done.1
-          out (g.K.Sink.written c.deref_mut.result.now) new.out.prints (p.prints ∙ c.new-printer.ensures.prints ∙ c.shows_rows.ensures)
+          out (g.K.Sink.written c.deref_mut.result.now)
           (rw (c.deref_mut.ensures.value, c.end-out.ensures.sink) (p.written calm _ _ c.new-printer.ensures.printing))
           c.rows-rows.result c.counts-counts.result c.rows-rows.ensures c.counts-counts.ensures c.in-Ok-print_closing.ensures.ok refl c.in-Ok-play.done p.done.2;
       write = never-failed c.in-Ok-play.done _;
@@ -79,10 +94,10 @@ returns g c =
     record {
       done = tt;
       write = λ is.
-          stream-part g.row.B g.row.M g.row.E c.args.job.now source new.pcm before new.out.rows new.out.told c.end-out.ensures.once
+          stream-part g.row.B g.row.M g.row.E c.args.job.now source new.pcm before new.out.rows new.out.told new.out.prints new.out.snapshots (p.prints ∙ c.new-printer.ensures.prints ∙ c.shown_of.ensures.is) c.end-out.ensures.once
           array (g.A.TellsCells.changes new.array) (g.A.TellsCells.changes c.print_closing.new.array) (λ other. ap g.A.TellsCells.changes (c.print_closing.ensures.untouched other)) c.each_row_is_told.ensures c.ended_streams_are_kept.ensures c.requires.job.shape c.in-Ok.ensures.seed (some.2.since.wear ∙ p.wear ∙ c.in-Ok.ensures.wear)
           (λ other. ap g.A.CellArray.state (c.print_closing.ensures.untouched other)) some.0 some.2 p.done.0 p.done.1
-          out (g.K.Sink.written c.deref_mut.result.now) new.out.prints (p.prints ∙ c.new-printer.ensures.prints ∙ c.shows_rows.ensures)
+          out (g.K.Sink.written c.deref_mut.result.now)
           (rw (c.deref_mut.ensures.value, c.end-out.ensures.sink) (p.written calm _ _ c.new-printer.ensures.printing))
           c.rows-rows.result c.counts-counts.result c.rows-rows.ensures c.counts-counts.ensures c.in-Err-print_closing.ensures.prefix some.1 c.in-Err-print_closing.ensures.part
           (omega (arith, falls, c.in-Err-print_closing.ensures.fault));

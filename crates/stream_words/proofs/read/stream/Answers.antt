@@ -31,7 +31,7 @@ returns-in_err-print-clause-exact c = c.from_residual-in_err-print.ensures ∙ s
     (some_step _ _ _ _ (sym c.in_ok-shape.ensures.exact)
     (some_step _ _ _ _ (sym c.in_ok-seed.ensures)
     (some_step _ _ _ _ (sym c.in_ok-wear.ensures.exact)
-    (none_step _ _ (sym c.in_err-print.ensures))))))
+    (none_step _ _ (sym c.in_err-print.ensures.exact))))))
 
 pub returns-in_err-mix-clause-exact : goal.returns-in_err-mix-clause-exact
 unfolding stream_of
@@ -39,7 +39,7 @@ returns-in_err-mix-clause-exact c = c.from_residual-in_err-mix.ensures ∙ sym (
     (some_step _ _ _ _ (sym c.in_ok-shape.ensures.exact)
     (some_step _ _ _ _ (sym c.in_ok-seed.ensures)
     (some_step _ _ _ _ (sym c.in_ok-wear.ensures.exact)
-    (some_step _ _ _ _ (sym c.in_ok-print.ensures)
+    (some_step _ _ _ _ (sym c.in_ok-print.ensures.exact)
     (none_step _ _ (sym c.in_err-mix.ensures.exact)))))))
 
 pub returns-in_err-input-clause-exact : goal.returns-in_err-input-clause-exact
@@ -48,7 +48,7 @@ returns-in_err-input-clause-exact c = c.from_residual-in_err-input.ensures ∙ s
     (some_step _ _ _ _ (sym c.in_ok-shape.ensures.exact)
     (some_step _ _ _ _ (sym c.in_ok-seed.ensures)
     (some_step _ _ _ _ (sym c.in_ok-wear.ensures.exact)
-    (some_step _ _ _ _ (sym c.in_ok-print.ensures)
+    (some_step _ _ _ _ (sym c.in_ok-print.ensures.exact)
     (some_step _ _ _ _ (sym c.in_ok-mix.ensures.exact)
     (none_step _ _ (sym c.in_err-input.ensures.exact))))))))
 
@@ -58,7 +58,7 @@ returns-in_err-end-clause-exact c = c.from_residual-in_err-end.ensures ∙ sym (
     (some_step _ _ _ _ (sym c.in_ok-shape.ensures.exact)
     (some_step _ _ _ _ (sym c.in_ok-seed.ensures)
     (some_step _ _ _ _ (sym c.in_ok-wear.ensures.exact)
-    (some_step _ _ _ _ (sym c.in_ok-print.ensures)
+    (some_step _ _ _ _ (sym c.in_ok-print.ensures.exact)
     (some_step _ _ _ _ (sym c.in_ok-mix.ensures.exact)
     (some_step _ _ _ _ (sym c.in_ok-input.ensures.exact)
     (none_step _ _ (sym c.in_err-end.ensures)))))))))
@@ -69,7 +69,7 @@ returns-clause-exact c = sym (some_step _ _ _ _ (sym c.in_ok-line.ensures)
     (some_step _ _ _ _ (sym c.in_ok-shape.ensures.exact)
     (some_step _ _ _ _ (sym c.in_ok-seed.ensures)
     (some_step _ _ _ _ (sym c.in_ok-wear.ensures.exact)
-    (some_step _ _ _ _ (sym c.in_ok-print.ensures)
+    (some_step _ _ _ _ (sym c.in_ok-print.ensures.exact)
     (some_step _ _ _ _ (sym c.in_ok-mix.ensures.exact)
     (some_step _ _ _ _ (sym c.in_ok-input.ensures.exact)
     (some_step _ _ _ _ (sym c.in_ok-end.ensures)

@@ -5,6 +5,7 @@ use Rattle.row_printer.proofs.printer.RowPrinter.add_row.Goals as goal
 pub invariant_of-self : goal.invariant_of-self
 invariant_of-self g c = record {
   few = c.self.invariant.few;
+  shown = c.self.invariant.shown;
   limit = c.self.invariant.limit;
   once = once-wider c.self.inside.rows _ c.self.invariant.once;
   counted = counted-longer c.self.inside.rows (items c.self.inside.told) c.self.inside.counts c.self.invariant.once c.self.invariant.counted;

@@ -9,7 +9,7 @@ pub returns-then-self-clause-err : goal.returns-then-self-clause-err
 returns-then-self-clause-err g c =
     rw (← c.self.view_is)
     (λ before first h.
-    let p = c.print_all-self-inside.ensures.printed before first (stream_text c.self.inside.prints (items c.self.inside.told)) (rw c.deref_mut.ensures.value h) in
+    let p = c.print_all-self-inside.ensures.printed before first (stream_text c.self.inside.prints (items c.self.inside.told) (items c.self.inside.snapshots)) (rw c.deref_mut.ensures.value h) in
     (p.part c.if-self.true, p.fault c.if-self.true))
 
 pub returns-clause-printing : goal.returns-clause-printing

@@ -6,6 +6,7 @@ pub invariant_of-self : goal.invariant_of-self
 invariant_of-self g c =
     rw c.and.ensures (record {
       few = c.self.invariant.few;
+      shown = c.self.invariant.shown;
       limit = c.print_line-self-inside.ensures.limit;
       once = rw (outcomes-same (items c.self.inside.told) c.args.tick) c.self.invariant.once;
       counted = rw (outcomes-same (items c.self.inside.told) c.args.tick) c.self.invariant.counted;
@@ -14,4 +15,4 @@ invariant_of-self g c =
 pub returns-clause-printing : goal.returns-clause-printing
 returns-clause-printing g c =
     rw (c.and.ensures, ← c.self.view_is)
-    (λ before first h. c.print_line-self-inside.ensures.printed before first (items c.self.inside.told) (rw c.deref_mut.ensures.value h))
+    (λ before first h. c.print_line-self-inside.ensures.printed before first (items c.self.inside.told) (items c.self.inside.snapshots) (rw c.deref_mut.ensures.value h))

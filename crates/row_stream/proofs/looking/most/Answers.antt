@@ -1,0 +1,12 @@
+use Rattle.std.proofs.Common.{sym}
+use Rattle.cell_wear.proofs.Most.{most-zero}
+use Rattle.row_stream.proofs.Standing.{most-on}
+use Rattle.row_stream.proofs.looking.most.Goals as goal
+
+pub loop-line-init : goal.loop-line-init
+loop-line-init g c = sym (most-zero _)
+
+pub loop-line-preserved : goal.loop-line-preserved
+loop-line-preserved g c =
+    most-on (λ line. ((g.A.CellArray.state c.args.array.now).line line).pulses) c.loop-line.line c.loop-line.most c.pulses.result c.greater-most.result
+    c.loop-line.invariant c.pulses.ensures c.greater-most.ensures

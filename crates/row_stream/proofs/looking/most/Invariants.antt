@@ -1,0 +1,7 @@
+use Rattle.std.proofs.Common.{◌≡◌}
+use Rattle.cell_wear.specs.Told.{most}
+use Rattle.row_stream.proofs.looking.most.Given as goal
+
+-- the lines so far are seen
+abbrev pub invariant-loop-line : goal.invariant-loop-line
+invariant-loop-line g l = l.most ≡ most (λ line. ((g.A.CellArray.state l.array).line line).pulses) l.line

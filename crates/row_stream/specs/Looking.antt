@@ -1,0 +1,39 @@
+-- What a snapshot of a stream says.
+use Rattle.std.specs.Prelude.{◌≡◌, ℕ, zero, suc, ◌+◌, ◌/◌, ◌==◌, if◌then◌else◌, List}
+use Rattle.cell_rows.specs.Device.{ArrayState}
+use Rattle.cell_rows.specs.Rows.{cell}
+use Rattle.cell_wear.specs.Told.{most}
+use Rattle.ecp_line.specs.Layout.{active}
+use Rattle.end_laws.specs.Ends.{BankEnd}
+use Rattle.run_text.specs.Counting.{counts_of}
+use Rattle.run_text.specs.Pulses.{pulses_in_all}
+use Rattle.pcm_module.specs.Roles.{spares_used}
+use Rattle.pcm_module.specs.State.{AreEndsOf, ModuleState}
+use Rattle.row_printer.specs.Printing.{table_of}
+use Rattle.row_printer.specs.declared.snapshot.Snapshot.{Snapshot}
+use Rattle.row_printer.specs.declared.told.Told.{Told}
+
+module _ {n m : ℕ} where
+  -- the pointers that are active in the first so many lines, by the check cells of each, where a line has e
+  unfoldable pub pointers_of_first : ℕ → ArrayState n m → ℕ → ℕ
+  pointers_of_first e array zero = 0
+  pointers_of_first e array (suc lines) = pointers_of_first e array lines + active n e (cell (array.line lines).held)
+
+  -- the pulses of the line that has most
+  abbrev pub most_pulses : ArrayState n m → ℕ
+  most_pulses array = most (λ line. (array.line line).pulses) array.lines
+
+-- the pulses of each of so many lines on average, rounded down; 0 of none
+abbrev pub mean_of : ℕ → ℕ → ℕ
+mean_of pulses lines = if lines == 0 then 0 else pulses / lines
+
+-- a snapshot says what stands at a tick behind so many rows of which this was told: the module, and the array
+pub record IsSnapshot {n m e : ℕ} (places at : ℕ) (told : List (Told n)) (module_ : ModuleState n m e) (array : ArrayState n m) (snapshot : Snapshot) : Type 0 where
+  pub rows : snapshot.rows ≡ places
+  pub tick : snapshot.tick ≡ at
+  pub counts : snapshot.counts ≡ counts_of (table_of places told)
+  pub retired : (ends : ℕ → BankEnd) × AreEndsOf module_ ends × (snapshot.retired ≡ spares_used module_.shape ends)
+  pub pulses : snapshot.pulses ≡ pulses_in_all array
+  pub most : snapshot.most ≡ most_pulses array
+  pub mean : snapshot.mean ≡ mean_of (pulses_in_all array) array.lines
+  pub pointers : snapshot.pointers ≡ pointers_of_first e array array.lines

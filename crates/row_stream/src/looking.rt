@@ -1,0 +1,128 @@
+// Snapshots of a module and its array, which are only looked at for them.
+ghost use Rattle.std.specs.Prelude.{◌≡◌, ℕ, List, Option, max, true};
+ghost use Rattle.ecp_line.specs.Layout.{IsLayout};
+ghost use Rattle.end_laws.specs.Ends.{BankEnd};
+ghost use Rattle.pcm_module.specs.State.{AreEndsOf};
+ghost use Rattle.row_printer.specs.Printing.{IsPrinting};
+ghost use Rattle.row_printer.specs.Snapshots.{AddsDue, is_due, takes_snapshots};
+ghost use Rattle.row_stream.specs.Looking.{IsSnapshot, mean_of, most_pulses, pointers_of_first};
+
+use cell_rows::CellArray;
+use cell_wear::TellsCells;
+use ecp_line::Ecp;
+use pcm_io::Sink;
+use pcm_module::Module;
+use row_printer::{RowPrinter, Snapshot};
+use run_text::sum_pulses;
+
+fn greater(one: u64, other: u64) -> u64
+    ensures { result ≡ max one other }
+{
+    if one < other { other } else { one }
+}
+
+// The pulses of the array line that has most.
+fn most<A: CellArray<B, M>, const B: usize, const M: usize>(array: &A) -> u64
+    ensures { result ≡ most_pulses (A.state array.now) }
+{
+    let mut most = 0;
+    for line in 0..array.lines() {
+        most = greater(most, array.pulses(line));
+    }
+    most
+}
+
+// The pointers that are active by the check cells of all lines.
+fn pointers<const B: usize, const M: usize, const E: usize, A: TellsCells<B, M>>(array: &A) -> u64
+    requires layout { IsLayout B M E }
+    ensures { result ≡ pointers_of_first E (A.state array.now) (A.state array.now).lines }
+{
+    let mut sum = 0;
+    for line in 0..array.lines() {
+        let held = array.held(line);
+        sum += Ecp::<B, M, E>::active(&held) as u64;
+    }
+    sum
+}
+
+fn mean(pulses: u64, lines: u32) -> u64
+    ensures { result ≡ mean_of pulses lines }
+{
+    if lines == 0 { 0 } else { pulses / lines as u64 }
+}
+
+// Takes a snapshot of what now stands, with this tick.
+fn show<const B: usize, const M: usize, const E: usize, A: TellsCells<B, M>, K: Sink + Drop>(
+    tick: u64,
+    pcm: &Module<B, M, E>,
+    array: &A,
+    out: &mut RowPrinter<B, K>,
+)
+    requires layout { IsLayout B M E }
+    ensures rows { out.new.rows ≡ out.old.rows }
+    ensures told { out.new.told ≡ out.old.told }
+    ensures prints { out.new.prints ≡ out.old.prints }
+    ensures snapshots { (ends : ℕ → BankEnd) → AreEndsOf pcm.now ends
+        → AddsDue true (IsSnapshot out.old.rows tick out.old.told pcm.now (A.state array.now)) out.old.snapshots out.new.snapshots }
+    ensures printing { (before : Option (List ℕ)) (first : ℕ) → IsPrinting K.written K.faults before first out.old
+        → IsPrinting K.written K.faults before first out.new }
+{
+    let pulses = sum_pulses(array);
+    let snapshot = Snapshot {
+        rows: out.rows(),
+        tick,
+        counts: out.counts(),
+        retired: pcm.retired(),
+        pulses,
+        most: most(array),
+        mean: mean(pulses, array.lines()),
+        pointers: pointers::<B, M, E, A>(array),
+    };
+    out.snapshot(&snapshot);
+}
+
+/// Takes a snapshot where one is due behind the rows that came.
+pub fn show_due<
+    const B: usize,
+    const M: usize,
+    const E: usize,
+    A: TellsCells<B, M>,
+    K: Sink + Drop,
+>(pcm: &Module<B, M, E>, array: &A, out: &mut RowPrinter<B, K>)
+    requires layout { IsLayout B M E }
+    ensures rows { out.new.rows ≡ out.old.rows }
+    ensures told { out.new.told ≡ out.old.told }
+    ensures prints { out.new.prints ≡ out.old.prints }
+    ensures snapshots { (ends : ℕ → BankEnd) → AreEndsOf pcm.now ends
+        → AddsDue (is_due out.old.prints out.old.rows)
+        (IsSnapshot out.old.rows pcm.now.tick out.old.told pcm.now (A.state array.now)) out.old.snapshots out.new.snapshots }
+    ensures printing { (before : Option (List ℕ)) (first : ℕ) → IsPrinting K.written K.faults before first out.old
+        → IsPrinting K.written K.faults before first out.new }
+{
+    if out.is_due() {
+        show(pcm.tick(), pcm, array, out);
+    }
+}
+
+/// Takes one in the end, with the tick that was reached, where snapshots are taken.
+pub fn show_last<
+    const B: usize,
+    const M: usize,
+    const E: usize,
+    A: TellsCells<B, M>,
+    K: Sink + Drop,
+>(tick: u64, pcm: &Module<B, M, E>, array: &A, out: &mut RowPrinter<B, K>)
+    requires layout { IsLayout B M E }
+    ensures rows { out.new.rows ≡ out.old.rows }
+    ensures told { out.new.told ≡ out.old.told }
+    ensures prints { out.new.prints ≡ out.old.prints }
+    ensures snapshots { (ends : ℕ → BankEnd) → AreEndsOf pcm.now ends
+        → AddsDue (takes_snapshots out.old.prints)
+        (IsSnapshot out.old.rows tick out.old.told pcm.now (A.state array.now)) out.old.snapshots out.new.snapshots }
+    ensures printing { (before : Option (List ℕ)) (first : ℕ) → IsPrinting K.written K.faults before first out.old
+        → IsPrinting K.written K.faults before first out.new }
+{
+    if out.takes_snapshots() {
+        show(tick, pcm, array, out);
+    }
+}
