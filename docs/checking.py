@@ -181,7 +181,8 @@ def vocabulary():
 def options():
     """The options of the program and of the scripts."""
     texts = [file.read_text(encoding="utf-8") for file in crates.named("command_line").files("src", "specs")]
-    scripts = (*TOP.glob("tools/*"), *TOP.glob("bench/*"), *TOP.glob("docs/check*"), *TOP.glob("docs/pictures/*.py"), *TOP.glob("examples/**/*"))
+    scripts = (*TOP.glob("tools/*"), *TOP.glob("bench/*"), *TOP.glob("docs/check*"), *TOP.glob("docs/pictures/*.py"))
+    scripts += (*TOP.glob("examples/**/*"), *TOP.glob("python/pcm/*.py"))
     texts += [it.read_text(encoding="utf-8") for it in scripts if it.is_file() and it.suffix in ("", ".py", ".sh")]
     return {word for text in texts for word in re.findall(r'(?:--|")([a-z][a-z-]+)', text)}
 

@@ -15,6 +15,11 @@ Row by row, over a pipe to its second program, `stream`, with answers as they be
         for outcome in module.settle(1000):
             print(outcome)
 
+How a module ages, as a stream goes on::
+
+    for snapshot in pcm.snapshots("trace.csv", every=10_000, lines=256):
+        print(snapshot.rows, snapshot.most, snapshot.mean, snapshot.retired)
+
 `python3 -m pcm report --help` tells how to make a page of pictures and numbers of runs.
 
 Ticks are the simulation's own unit of time, from 0 to 2**40, and never fall. A line is a line of the module, from 0. Options are those of
@@ -28,12 +33,13 @@ from .module import Module
 from .outcomes import Busy, Cut, Forwarded, Full, Lost, Merged, Outcome, Queued, Read as ReadOutcome, Settled, Stored, Worn
 from .program import program
 from .rows import MaskedWrite, PowerCut, Read, Settle, Write, read_trace, write_trace
+from .snapshots import Snapshot, SnapshotError, read_snapshots, snapshots
 from .whole import Result, ResultRow, WearLine, run
 
-__version__ = "1.1.0"
+__version__ = "1.2.0"
 __all__ = [
     "Bank", "Busy", "Cut", "Entry", "Forwarded", "Full", "Image", "ImageError", "Lost", "MaskedWrite", "Merged", "Module", "OutOfMemory",
     "Outcome", "PcmError", "PowerCut", "Queued", "Read", "ReadFault", "ReadOutcome", "Region", "Result", "ResultRow", "Settle", "Settled",
-    "Stored", "TooLong", "TraceError", "UsageError", "WearLine", "Worn", "Write", "WriteFault", "program", "read_trace", "run", "to_frame",
-    "write_trace",
+    "Snapshot", "SnapshotError", "Stored", "TooLong", "TraceError", "UsageError", "WearLine", "Worn", "Write", "WriteFault", "program",
+    "read_snapshots", "read_trace", "run", "snapshots", "to_frame", "write_trace",
 ]

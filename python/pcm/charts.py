@@ -4,7 +4,9 @@ from typing import Dict, List, NamedTuple, Optional, Sequence, Tuple
 from .drawing import (
     BLUE, GREEN, HEAT, ORANGE, PALE, PALE_BLUE, PAPER, PURPLE, RED, RULE, SOFT, VARIABLES, Picture, figure, width_of,
 )
-from .plots import Axis, Panel, Room, Series, fitting, of_names, plot, round_step, short, upright
+from .plots import (
+    Axis, Panel, Room, Series, at_the_ends, fitting, key_rows, keys, level, of_names, plot, round_step, short, upright,
+)
 from .runs import OUTCOMES
 from .tallies import Group, Level, Pulses
 
@@ -209,6 +211,47 @@ def _half(values: Sequence[int], span: int) -> int:
     """The end of the part of the time in which half of the last value is reached."""
     part = next(at for at, value in enumerate(values) if 2 * value >= values[-1])
     return span * (part + 1) // len(values)
+
+
+class Curve(NamedTuple):
+    """A curve over rows: its name, the words at its end, its colour, and its points."""
+
+    name: str
+    end: str
+    colour: str
+    points: Sequence[Tuple[float, float]]
+    dashed: bool = False
+
+
+def of_rows(
+    title: str, told: str, up: Axis, curves: Sequence[Curve], steps: bool = False, mark: Optional[Tuple[float, str]] = None
+) -> Picture:
+    """Curves over the rows served, with their names below; `mark` is a level of the axis with its words."""
+    span = max(1.0, *(curve.points[-1][0] for curve in curves))
+    series = [Series("", one.colour, one.points, one.dashed, steps, dotted=False) for one in curves]
+    named = [Series(shortened(one.name, 400), one.colour, (), one.dashed) for one in curves if one.name]
+    rows, right = key_rows(named, WIDTH - 8), max(54.0, *(12 + width_of(one.end, 12) for one in curves))
+    picture = Picture(WIDTH, 226 + 20 * len(rows) * bool(named), title, told, VARIABLES)
+    room = Room(46, 50, WIDTH - 46 - right, 130)
+    step = max(1, round_step(span / 5))
+    across = Axis("rows served", 0, span, [(step * k, short(step * k)) for k in range(int(span / step) + 1)])
+    panel = Panel(title, across, up, series, stroke=1.8)
+    if mark is not None:
+        level(picture, panel, room, *mark)
+    plot(picture, panel, room)
+    at_the_ends(picture, panel, room, [one.end for one in curves])
+    for number, row in enumerate(rows):
+        keys(picture, 4, 236 + 20 * number, row, 3)
+    return picture
+
+
+def shortened(words: str, width: float) -> str:
+    """Words that are no wider than so many pixels."""
+    if width_of(words, 12) <= width:
+        return words
+    while words and width_of(words + "..", 12) > width:
+        words = words[:-1]
+    return words + ".."
 
 
 def of_pulses(banks: Sequence[Pulses], top: float) -> Picture:

@@ -2,11 +2,12 @@
 import subprocess
 from typing import Dict, List, NamedTuple, Optional
 
+from . import tallies
 from .errors import UsageError, error_of
 from .program import Program, program as find_program
 from .runs import (
-    DEFAULTS, DRAWN, STREAMS, Arrival, FileFault, Run, Source, arrivals_of, image_of, opened, results_of, shape_of_wear,
-    summary_of, wear_of,
+    DEFAULTS, DRAWN, STREAMS, Arrival, FileFault, Run, Source, are_snapshots, arrivals_of, image_of, opened, results_of, shape_of_wear,
+    snapshots_of, summary_of, wear_of,
 )
 
 # The options that `gen` takes, too.
@@ -15,7 +16,7 @@ _GENERATED = ("banks", "regions", "lines", "line", "seed", *DRAWN)
 
 class Asked(NamedTuple):
     """What a report is to be made of for one run: its options, and the names of its files; with `runs` the program makes all but the
-    trace."""
+    trace, and snapshots where `every` tells each how many rows."""
 
     name: Optional[str]
     options: Dict[str, str]
@@ -25,6 +26,8 @@ class Asked(NamedTuple):
     wear: Optional[str] = None
     image: Optional[str] = None
     summary: Optional[str] = None
+    snapshots: Optional[str] = None
+    every: Optional[str] = None
 
 
 def gather(asked: Asked, program: Program = None) -> Run:
@@ -34,18 +37,30 @@ def gather(asked: Asked, program: Program = None) -> Run:
     options, origins = {**DEFAULTS, **asked.options}, {name: "given" for name in asked.options}
     if options["input"] == "drawn":
         options = {**options, **{name: value for name, value in DRAWN.items() if name not in options}}
-    files = [source for source in sources if not asked.runs or source.kind in ("trace", "results")]
-    run = Run(asked.name or asked.results or asked.trace or "drawn", options, origins, files, results_of(by_kind["results"]))
-    for kind, read in (("trace", _add_trace), ("wear report", _add_wear), ("image", _add_image), ("summary", _add_summary)):
+    files = [source for source in sources if not asked.runs or source.kind in ("trace", "results", "snapshots")]
+    rows = results_of(by_kind["results"]) if "results" in by_kind else []
+    run = Run(asked.name or asked.results or asked.trace or "drawn", options, origins, files, rows)
+    for kind, read in (
+        ("trace", _add_trace), ("wear report", _add_wear), ("image", _add_image), ("snapshots", _add_snapshots), ("summary", _add_summary),
+    ):
         if kind in by_kind:
             read(run, by_kind[kind])
-    _hold_places(run, by_kind["results"])
+    if run.has_rows:
+        _hold_places(run, by_kind["results"])
     return run
 
 
 def _read(asked: Asked) -> List[Source]:
-    named = (("results", asked.results), ("trace", asked.trace), ("wear report", asked.wear), ("image", asked.image), ("summary", asked.summary))
-    return [opened(kind, name) for kind, name in named if name is not None]
+    named = (
+        ("results", asked.results), ("trace", asked.trace), ("wear report", asked.wear), ("image", asked.image),
+        ("snapshots", asked.snapshots), ("summary", asked.summary),
+    )
+    sources = [opened(kind, name) for kind, name in named if name is not None]
+    if sources[0].kind == "results" and are_snapshots(sources[0]):
+        if asked.snapshots is not None:
+            raise UsageError(2, f"{sources[0].name}: snapshots, where --snapshots has some, too")
+        sources[0] = sources[0]._replace(kind="snapshots")
+    return sources
 
 
 def _made(asked: Asked, program: Program) -> List[Source]:
@@ -64,6 +79,10 @@ def _made(asked: Asked, program: Program) -> List[Source]:
     sources = [trace]
     for kind, what in (("results", "results"), ("wear report", "wear"), ("image", "image"), ("summary", "summary")):
         sources.append(Source(kind, f"pcm run --print {what}", _ran([*words, "run"], {**asked.options, "print": what}, trace.data)))
+    if asked.every is not None:
+        more = {"print": "snapshots", "every": asked.every}
+        told = f"pcm stream --print snapshots --every {asked.every}"
+        sources.append(Source("snapshots", told, _ran([*words, "stream"], {**asked.options, **more}, trace.data)))
     return sources
 
 
@@ -77,6 +96,8 @@ def _ran(words: List[str], options: Dict[str, str], given: bytes) -> bytes:
 
 def _add_trace(run: Run, source: Source) -> None:
     """The trace's rows must be those of the results; one cut may have been added behind them, where the power went."""
+    if not run.has_rows:
+        raise FileFault(f"{source.name}: a trace, where snapshots don't tell what became of each row")
     arrivals = arrivals_of(source)
     if len(run.rows) == len(arrivals) + 1 and run.rows[-1].word == "cut":
         arrivals.append(Arrival(run.rows[-1].tick, "C", None))
@@ -117,13 +138,41 @@ def _take_options(run: Run, source: Source, told: Dict[str, str]) -> None:
 def _add_summary(run: Run, source: Source) -> None:
     """The summary's counts must be those of the results, and its pulses those of the wear report."""
     summary = run.summary = summary_of(source)
-    here = {"rows": len(run.rows), **run.counts}
-    if run.wear is not None:
-        here["retired"] = sum(line.role == "retired" for line in run.wear)
-        here["pulses"] = sum(line.pulses for line in run.wear)
-    for word, number in here.items():
-        if summary[word] != number:
-            raise FileFault(f"{source.name}: {word} {summary[word]}, where the run's other files have {number}")
+    _compare(source, summary, _in_the_end(run))
+
+
+def _add_snapshots(run: Run, source: Source) -> None:
+    """The last snapshot's numbers must be those of the results and of the wear report."""
+    found, known = snapshots_of(source), _in_the_end(run)
+    pointers = tallies.pointers(run)
+    if pointers is not None:
+        known["pointers"] = sum(pointers)
+    _compare(source, found[-1]._asdict(), known)
+    run.snapshots = found
+    if run.spares is not None and found[-1].retired > run.spares:
+        words = "hand in those of the run, as --options 'WORDS'"
+        raise FileFault(f"{source.name}: {found[-1].retired} spares in use, where a module of these options has {run.spares}: {words}")
+
+
+def _in_the_end(run: Run) -> Dict[str, int]:
+    """What is known by now of a run in its end, by the words of summaries and snapshots."""
+    known: Dict[str, int] = {}
+    if run.snapshots:
+        known.update(run.snapshots[-1]._asdict())
+    if run.wear:
+        pulses = [line.pulses for line in run.wear]
+        known.update(retired=sum(line.role == "retired" for line in run.wear), pulses=sum(pulses), most=max(pulses))
+        known.update(mean=sum(pulses) // len(pulses))
+    if run.has_rows:
+        known.update(rows=len(run.rows), **run.counts)
+    return known
+
+
+def _compare(source: Source, told: Dict[str, int], known: Dict[str, int]) -> None:
+    """What a file tells may not differ from what is known."""
+    for word, number in told.items():
+        if known.get(word, number) != number:
+            raise FileFault(f"{source.name}: {word} {number}, where the run's other files have {known[word]}")
 
 
 def _hold_places(run: Run, source: Source) -> None:

@@ -2,7 +2,9 @@
 from typing import Callable, Iterable, List, Optional, Sequence, Tuple
 
 from . import charts, tallies
-from .drawing import BLUE, GREEN, ORANGE, PURPLE, RED, Picture, escaped
+from .aging import aging
+from .drawing import BLUE, GREEN, ORANGE, PURPLE, RED, escaped
+from .elements import Cell, Section, beside, folded, looked, placed, tabled, unbroken
 from .runs import OPERATIONS, OUTCOMES, Run
 from .style import LANDSCAPE, STYLE
 
@@ -10,15 +12,12 @@ from .style import LANDSCAPE, STYLE
 PARTS, TOGETHER = 120, 6
 _FALLS_SHORT = ("queued", "full", "worn", "busy", "lost")
 
-Cell = object
-Part = Callable[[Run], str]
-
 
 def page(runs: Sequence[Run], title: str, version: str) -> str:
     """The whole page."""
     span = 1 + max([row.tick for run in runs for row in run.rows] + [0])
     sections = [part for part in (
-        _ran(runs, version), _came(runs), _wear(runs), _pointers(runs), _reads(runs), _writes(runs), _queues(runs, span),
+        _ran(runs, version), _came(runs), aging(runs), _wear(runs), _pointers(runs), _reads(runs), _writes(runs), _queues(runs, span),
         _growth(runs, span), _pulses(runs),
     ) if part is not None]
     links = " ".join(f'<a href="#{name}">{escaped(words)}</a>' for name, words, _ in sections)
@@ -26,55 +25,11 @@ def page(runs: Sequence[Run], title: str, version: str) -> str:
     return (
         f'<!DOCTYPE html>\n<html lang="en"><head><meta charset="utf-8"><meta name="viewport" content="width=device-width,initial-scale=1">'
         f"<title>{escaped(title)}</title><style>{STYLE}{LANDSCAPE * (len(runs) > 1)}</style></head>\n"
-        f"<body><header><h1>{escaped(title)}</h1><nav>{links}</nav></header>\n"
-        f'<main class="{"alone" if len(runs) == 1 else "several"}">\n{body}</main>\n'
+        f'<body class="{"alone" if len(runs) == 1 else "several"}"><header><h1>{escaped(title)}</h1><nav>{links}</nav></header>\n'
+        f"<main>\n{body}</main>\n"
         f"<footer>Made by <code>python3 -m pcm report</code> {escaped(version)}. Ticks are the simulation's own unit of time.</footer>"
         "</body></html>\n"
     )
-
-
-Section = Optional[Tuple[str, str, str]]
-
-
-def _looked(words: str) -> str:
-    return f"<p>{escaped(words)}</p>"
-
-
-def _beside(runs: Sequence[Run], part: Part) -> str:
-    """What a part says of each run, side by side."""
-    named = len(runs) > 1
-    return '<div class="runs">' + "".join(
-        f'<div class="run">{f"<h3>{escaped(run.name)}</h3>" * named}{part(run)}</div>' for run in runs
-    ) + "</div>"
-
-
-def _pictures(pictures: Iterable[Picture], more: str = "") -> str:
-    """Pictures side by side, and behind them what stands there like one."""
-    figures = "".join(f"<figure>{picture.placed()}</figure>" for picture in pictures)
-    return f'<div class="pictures">{figures}{more}</div>'
-
-
-def _table(caption: str, head: Sequence[str], rows: Iterable[Sequence[Cell]], kind: str = "") -> str:
-    """A table; numbers have commas, and None is a dash."""
-    top = "".join(f'<th scope="col">{escaped(word)}</th>' for word in head)
-    body = "".join(
-        "<tr>" + "".join(f'<th scope="row">{_cell(cell)}</th>' if at == 0 else f"<td>{_cell(cell)}</td>" for at, cell in enumerate(row)) + "</tr>"
-        for row in rows
-    )
-    name = f' class="{kind}"' if kind else ""
-    return f'<div class="wide"><table{name}><caption>{escaped(caption)}</caption><thead><tr>{top}</tr></thead><tbody>{body}</tbody></table></div>'
-
-
-def _cell(cell: Cell) -> str:
-    if cell is None:
-        return "–"
-    if isinstance(cell, float):
-        return f"{cell:,.2f}"
-    return f"{cell:,}" if isinstance(cell, int) else escaped(str(cell))
-
-
-def _folded(words: str, *tables: str) -> str:
-    return f"<details><summary>{escaped(words)}</summary>{''.join(tables)}</details>"
 
 
 def _ran(runs: Sequence[Run], version: str) -> Section:
@@ -82,12 +37,12 @@ def _ran(runs: Sequence[Run], version: str) -> Section:
     names = list(dict.fromkeys(name for run in runs for name in run.options))
     told = [name for name in names if any(name in run.origins for run in runs)]
     rows = "".join(f'<tr><th scope="row"><code>--{escaped(name)}</code></th>{_values(runs, name)}</tr>' for name in told)
-    head = "".join(f'<th scope="col" class="words">{escaped(run.name)}</th>' for run in runs)
+    head = "".join(f'<th scope="col" class="words">{unbroken(run.name)}</th>' for run in runs)
     assumed = ", ".join(f"--{name} {run.options[name]}" for name in names for run in runs[:1] if name not in told)
     text = f'<div class="wide"><table class="options"><thead><tr><th scope="col">option</th>{head}</tr></thead><tbody>{rows}</tbody></table></div>'
-    text += _looked(f"Assumed, as the program's defaults: {assumed}.") if assumed else ""
+    text += f"<p>Assumed, as the program's defaults: {unbroken(assumed)}.</p>" if assumed else ""
     listed = "".join(
-        f'<tr><th scope="row">{escaped(run.name)}</th><td class="words">{escaped(file.kind)}</td><td class="words">{escaped(file.name)}</td>'
+        f'<tr><th scope="row">{unbroken(run.name)}</th><td class="words">{escaped(file.kind)}</td><td class="words path">{unbroken(file.name)}</td>'
         f'<td class="words"><code>{file.checksum}</code></td></tr>' for run in runs for file in run.files
     )
     columns = "".join(f'<th scope="col" class="words">{word}</th>' for word in ("run", "what", "file", "SHA-256"))
@@ -112,15 +67,17 @@ def _came(runs: Sequence[Run]) -> Section:
     def part(run: Run) -> str:
         counts = run.counts
         rows = [(word, {"W": "write", "R": "read", "C": "cut"}[OPERATIONS[word]], counts[word]) for word in OUTCOMES]
-        table = _table("Rows by outcome", ("outcome", "of a", "rows"), [*rows, ("all", "", len(run.rows))], "counts")
-        picture = charts.of_counts(counts, most, f"Outcomes of {len(run.rows):,} rows")
-        return _pictures([picture], _glance(runs) * (len(runs) == 1)) + _folded("The numbers", table)
+        table = tabled("Rows by outcome", ("outcome", "of a", "rows"), [*rows, ("all", "", run.total)], "counts")
+        picture = charts.of_counts(counts, most, f"Outcomes of {run.total:,} rows")
+        missing = run.total - sum(counts.values())
+        told = looked(f"The stream hadn't ended: {missing:,} of {run.total:,} rows had no outcome yet.") if missing else ""
+        return placed([picture], _glance(runs) * (len(runs) == 1)) + told + folded("The numbers", table)
 
     look = (
         "Look for orange and red: rows that fell short. Full: the bank's queue had no place; worn: the bank had no spare left; queued: "
         "accepted, and not stored in the end; busy: too many reads waited; lost: the power went before the read was served."
     )
-    return "came", "What came of it", _looked(look) + _glance(runs) * (len(runs) > 1) + _beside(runs, part)
+    return "came", "What came of it", looked(look) + _glance(runs) * (len(runs) > 1) + beside(runs, part)
 
 
 def _glance(runs: Sequence[Run]) -> str:
@@ -132,24 +89,27 @@ def _glance(runs: Sequence[Run]) -> str:
         if any(cell is not None for cell in cells):
             rows.append([words, *cells])
 
-    row("rows", lambda run: len(run.rows))
+    row("rows", lambda run: run.total)
     row("rows that fell short", lambda run: sum(run.counts[word] for word in _FALLS_SHORT))
     for word, words in (("read", "ticks of a read"), ("stored", "ticks until stored")):
         for percent in (50, 99):
             row(f"{words}, {percent}%", lambda run, word=word, at=percent: tallies.quantile(tallies.waits(run, word), at))
     row("spares in use", tallies.retired)
-    row("pulses", lambda run: _pulses_of(run))
-    row("pulses for each store", lambda run: _ratio(_pulses_of(run), run.counts["stored"]))
+    row("active pointers", lambda run: run.snapshots[-1].pointers if run.snapshots else None)
+    row("pulses", tallies.all_pulses)
+    row("pulses for each store", lambda run: _ratio(tallies.all_pulses(run), run.counts["stored"]))
+    row("most pulses of an array line", lambda run: run.snapshots[-1].most if run.snapshots and run.wear is None else None)
     row("most pulses of a slot or spare", lambda run: _most(run, False))
     row("most pulses of a control line", lambda run: _most(run, True))
-    row("mean pulses of an array line", lambda run: _ratio(_pulses_of(run), len(run.wear)) if run.wear else None)
-    return _table("Main numbers", ["", *(run.name for run in runs)], rows, "glance")
+    row("mean pulses of an array line", _mean)
+    return tabled("Main numbers", ["", *(run.name for run in runs)], rows, "glance")
 
 
-def _pulses_of(run: Run) -> Optional[int]:
-    if run.wear is not None:
-        return sum(line.pulses for line in run.wear)
-    return run.summary["pulses"] if run.summary else None
+def _mean(run: Run) -> Cell:
+    """The mean pulses of an array line; by snapshots alone, rounded down."""
+    if run.wear:
+        return _ratio(tallies.all_pulses(run), len(run.wear))
+    return run.snapshots[-1].mean if run.snapshots else None
 
 
 def _most(run: Run, control: bool) -> Optional[int]:
@@ -171,20 +131,20 @@ def _maps(runs: Sequence[Run], values: Callable[[Run], Optional[List[int]]], uni
     def part(run: Run) -> str:
         here = values(run)
         if here is None or run.wear is None:
-            return _looked("No wear report of this run.")
+            return looked("No wear report of this run.")
         banks = [tallies.groups(run, bank) for bank in range(run.shape.banks)]
         pictures = [charts.of_cells(groups, here, most, f"bank {bank}", _told(groups, here, unit)) for bank, groups in enumerate(banks)]
         rows = [_row_of(group, here) for groups in banks for group in groups]
-        by_group = _table(
+        by_group = tabled(
             f"{unit.capitalize()} by region", ("array lines", "bank", "number", unit, "mean", "most", "at", "retired"), rows, kind
         )
         worst = sorted(run.wear, key=lambda line: -here[line.array])[:20]
         rows = [(line.array, line.bank, here[line.array], line.role) for line in worst]
-        return _pictures(pictures) + _folded(
-            "The numbers", by_group, _table(f"The array lines with the most {unit}", ("array line", "bank", unit, "role"), rows)
+        return placed(pictures) + folded(
+            "The numbers", by_group, tabled(f"The array lines with the most {unit}", ("array line", "bank", unit, "role"), rows)
         )
 
-    return _beside(runs, part) + f"<figure>{charts.of_heat(most, unit).placed()}</figure>", every
+    return beside(runs, part) + f"<figure>{charts.of_heat(most, unit).placed()}</figure>", every
 
 
 def _row_of(group: tallies.Group, values: List[int]) -> Sequence[Cell]:
@@ -209,7 +169,7 @@ def _wear(runs: Sequence[Run]) -> Section:
         "all places. Red, struck through: retired lines; their slots stand in spares."
     )
     maps, _ = _maps(runs, lambda run: [line.pulses for line in run.wear] if run.wear else None, "pulses", "wear")
-    return "wear", "Wear", _looked(look) + maps
+    return "wear", "Wear", looked(look) + maps
 
 
 def _pointers(runs: Sequence[Run]) -> Section:
@@ -222,8 +182,8 @@ def _pointers(runs: Sequence[Run]) -> Section:
     )
     maps, every = _maps(runs, lambda run: told[id(run)], "pointers", "pointers")
     if not any(every):
-        maps = _looked("No pointer is in use.")
-    return "pointers", "Pointers", _looked(look) + maps
+        maps = looked("No pointer is in use.")
+    return "pointers", "Pointers", looked(look) + maps
 
 
 def _waits(runs: Sequence[Run], words: Sequence[Tuple[str, str]], title: str, kind: str) -> str:
@@ -237,15 +197,15 @@ def _waits(runs: Sequence[Run], words: Sequence[Tuple[str, str]], title: str, ki
     def part(run: Run) -> str:
         here = shown[id(run)]
         if not here:
-            return _looked("None, or no trace of this run.")
+            return looked("None, or no trace of this run.")
         marks = [(float(tallies.quantile(here, at) or 0), f"{at:g}%: {tallies.quantile(here, at):,}") for at in (50, 99)]
         series = [(word, colour, bins.counted(ordered[id(run), word])) for word, colour in words]
         picture = charts.of_waits(title, series, bins, max(tops), marks)
         columns = [(bins.words(at), *(counts[at] for _, _, counts in series)) for at in range(bins.count + bins.beyond)]
-        histogram = _table("Rows by ticks", ("ticks", *(word for word, _ in words)), columns, "columns")
-        return _pictures([picture], _quantiles(run, kind)) + _folded("The numbers", histogram, _by_bank(run, words))
+        histogram = tabled("Rows by ticks", ("ticks", *(word for word, _ in words)), columns, "columns")
+        return placed([picture], _quantiles(run, kind)) + folded("The numbers", histogram, _by_bank(run, words))
 
-    return _beside(runs, part)
+    return beside(runs, part)
 
 
 _HEAD = ("rows", "mean", "50%", "90%", "99%", "99.9%", "most")
@@ -257,7 +217,7 @@ def _quantiles(run: Run, kind: str) -> str:
     if kind == "reads":
         answered = sorted(tallies.waits(run, "read") + tallies.waits(run, "forwarded"))
         rows.insert(2, ("answered", *_spread(answered)))
-    return _table("Ticks; at most so many in 50, 90, .. of 100 rows", ("outcome", *_HEAD), rows, kind)
+    return tabled("Ticks; at most so many in 50, 90, .. of 100 rows", ("outcome", *_HEAD), rows, kind)
 
 
 def _spread(ordered: List[int]) -> List[Cell]:
@@ -267,7 +227,7 @@ def _spread(ordered: List[int]) -> List[Cell]:
 
 def _by_bank(run: Run, words: Sequence[Tuple[str, str]]) -> str:
     rows = [(f"{word}, bank {bank}", *_spread(tallies.waits(run, word, bank))) for word, _ in words for bank in range(run.shape.banks)]
-    return _table("Ticks by bank", ("outcome", *_HEAD), rows)
+    return tabled("Ticks by bank", ("outcome", *_HEAD), rows)
 
 
 def _reads(runs: Sequence[Run]) -> Section:
@@ -277,7 +237,7 @@ def _reads(runs: Sequence[Run]) -> Section:
         "From a read's arrival until the array's answer. The first column is a sense at once; look at how far the tail goes to the right: reads "
         "that waited behind writes (--policy) or behind other reads. Forwarded reads, which the queue answers, take no tick."
     )
-    return "reads", "Latency of reads", _looked(look) + _waits(runs, [("read", GREEN)], "Ticks until a read is answered by the array", "reads")
+    return "reads", "Latency of reads", looked(look) + _waits(runs, [("read", GREEN)], "Ticks until a read is answered by the array", "reads")
 
 
 def _writes(runs: Sequence[Run]) -> Section:
@@ -288,7 +248,7 @@ def _writes(runs: Sequence[Run]) -> Section:
         "that stood behind others in a long queue."
     )
     waits = _waits(runs, [("stored", BLUE), ("merged", PURPLE)], "Ticks in the queue", "writes")
-    return "writes", "Time of writes in the queue", _looked(look) + waits
+    return "writes", "Time of writes in the queue", looked(look) + waits
 
 
 def _queues(runs: Sequence[Run], span: int) -> Section:
@@ -300,21 +260,21 @@ def _queues(runs: Sequence[Run], span: int) -> Section:
 
     def part(run: Run) -> str:
         if run.arrivals is None:
-            return _looked("No trace of this run.")
+            return looked("No trace of this run.")
         writes, reads = found[id(run)]
         pictures = [charts.of_levels(bank, *both, span, max(1, top)) for bank, both in enumerate(zip(writes, reads))]
         rows = [(bank, max(w.most), w.mean, max(r.most), r.mean) for bank, (w, r) in enumerate(zip(writes, reads))]
-        by_bank = _table("Rows that wait", ("bank", "writes, most", "mean", "reads, most", "mean"), rows, "levels")
+        by_bank = tabled("Rows that wait", ("bank", "writes, most", "mean", "reads, most", "mean"), rows, "levels")
         parts = [(_until(at, span), *(max(w.most[at * TOGETHER: (at + 1) * TOGETHER]) for w in writes)) for at in range(PARTS // TOGETHER)]
-        over = _table("Most writes that wait, over time", ("until tick", *(f"bank {bank}" for bank in range(len(writes)))), parts)
-        return _pictures(pictures) + _folded("The numbers", by_bank, over)
+        over = tabled("Most writes that wait, over time", ("until tick", *(f"bank {bank}" for bank in range(len(writes)))), parts)
+        return placed(pictures) + folded("The numbers", by_bank, over)
 
     bounds = ", ".join(sorted({run.options["write-queue"] for run in runs}, key=int))
     look = (
         f"How many writes stand in each bank's queue, which holds {bounds}, and how many reads wait. Look for a bank that stays near its bound, "
         "since further writes are refused as full there, and for one that stands out: its lines are hot."
     )
-    return "queues", "Queues over time", _looked(look) + _beside(runs, part)
+    return "queues", "Queues over time", looked(look) + beside(runs, part)
 
 
 def _until(at: int, span: int) -> int:
@@ -323,6 +283,8 @@ def _until(at: int, span: int) -> int:
 
 
 def _growth(runs: Sequence[Run], span: int) -> Section:
+    if not any(run.has_rows for run in runs):
+        return None
     found = {}
     for run in runs:
         stored, lost = ([row.tick for row in run.rows if row.word == word] for word in ("stored", "lost"))
@@ -331,44 +293,46 @@ def _growth(runs: Sequence[Run], span: int) -> Section:
     titles = (("Writes stored", BLUE), ("Spares in use, by the places of stores and reads", ORANGE), ("Reads lost at power cuts", RED))
 
     def part(run: Run) -> str:
+        if not run.has_rows:
+            return looked("No results of this run.")
         curves = found[id(run)]
         pictures = [charts.of_growth(title, curve, span, top, colour) for (title, colour), curve, top in zip(titles, curves, tops)]
         at = [(at + 1) * TOGETHER - 1 for at in range(PARTS // TOGETHER)]
         rows = [(_until(number, span), *(curve[part] for curve in curves)) for number, part in enumerate(at)]
-        over = _table("So far, over time", ("until tick", "stored", "spares seen", "lost"), rows, "growth")
+        over = tabled("So far, over time", ("until tick", "stored", "spares seen", "lost"), rows, "growth")
         cuts = [(tick, lost) for tick, lost in tallies.lost_at_cuts(run).items() if lost]
         worst = sorted(cuts, key=lambda it: -it[1])[:20]
-        lost = _table(f"The cuts that lost most reads, of {len(cuts):,} that lost any", ("tick", "reads lost"), worst)
+        lost = tabled(f"The cuts that lost most reads, of {len(cuts):,} that lost any", ("tick", "reads lost"), worst)
         final = tallies.retired(run)
         unseen = 0 if final is None else final - curves[1][-1]
-        told = _looked(f"In the end {final} spares are in use; {unseen} of them were seen in no store and no read.") if unseen else ""
-        return _pictures(pictures) + told + _folded("The numbers", over, *[lost] * bool(cuts))
+        told = looked(f"In the end {final} spares are in use; {unseen} of them were seen in no store and no read.") if unseen else ""
+        return placed(pictures) + told + folded("The numbers", over, *[lost] * bool(cuts))
 
     look = (
         "Stored grows evenly while the load does; look for where it flattens. Spares: a steep stretch says that lines of one age fall together. "
         "Lost: each step is a power cut."
     )
-    return "growth", "Over time", _looked(look) + _beside(runs, part)
+    return "growth", "Over time", looked(look) + beside(runs, part)
 
 
 def _pulses(runs: Sequence[Run]) -> Section:
-    if not any(run.wear for run in runs):
+    found = {id(run): tallies.pulses(run) for run in runs if run.wear and run.has_rows}
+    if not found:
         return None
-    found = {id(run): tallies.pulses(run) for run in runs if run.wear}
     tops = [number / bank.stores for banks in found.values() for bank in banks for number in (bank.lines, bank.control) if bank.stores]
 
     def part(run: Run) -> str:
         banks = found.get(id(run))
         if banks is None:
-            return _looked("No wear report of this run.")
+            return looked("No wear report of this run, or no results.")
         rows: List[Sequence[Cell]] = [(at, bank.stores, bank.lines, bank.control, bank.a_store) for at, bank in enumerate(banks)]
         every = tallies.Pulses(*(sum(bank[at] for bank in banks) for at in range(3)))
         rows.append(("all", *every, every.a_store))
-        table = _table("Pulses by bank", ("bank", "stores", "pulses of slots and spares", "of control lines", "for each store"), rows, "pulses")
-        return _pictures([charts.of_pulses(banks, max(tops + [1]))]) + _folded("The numbers", table)
+        table = tabled("Pulses by bank", ("bank", "stores", "pulses of slots and spares", "of control lines", "for each store"), rows, "pulses")
+        return placed([charts.of_pulses(banks, max(tops + [1]))]) + folded("The numbers", table)
 
     look = (
         "A store that changes cells takes a pulse or more. Look at what is above that: missed pulses, new pointers, gap moves, pulses that were torn "
         "by cuts or cancelled, and with registers in the array the control lines."
     )
-    return "pulses", "Pulses for each store", _looked(look) + _beside(runs, part)
+    return "pulses", "Pulses for each store", looked(look) + beside(runs, part)

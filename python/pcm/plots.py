@@ -6,8 +6,8 @@ from .drawing import GRID, INK, PAPER, SOFT, Picture, Point, figure, width_of
 
 
 class Series(NamedTuple):
-    """A curve, or the bars of one colour: its name, colour, and points; `steps` holds a value until the next point, and `filled` fills
-    what is below."""
+    """A curve, or the bars of one colour: its name, colour, and points; `steps` holds a value until the next point, `filled` fills what is
+    below, and a curve of no steps has dots where `dotted`."""
 
     name: str
     colour: str
@@ -15,6 +15,7 @@ class Series(NamedTuple):
     dashed: bool = False
     steps: bool = False
     filled: bool = False
+    dotted: bool = True
 
 
 class Axis(NamedTuple):
@@ -119,6 +120,20 @@ def keys(picture: Picture, left: float, y: float, series: Sequence[Series], widt
         left += 29 + width_of(one.name, 12)
 
 
+def key_rows(series: Sequence[Series], width: float) -> List[List[Series]]:
+    """Series by rows of keys, of which none is wider than so many pixels, but where a single one is."""
+    rows: List[List[Series]] = [[]]
+    taken = 0.0
+    for one in series:
+        wide = 29 + width_of(one.name, 12)
+        if rows[-1] and taken + wide > width:
+            rows.append([])
+            taken = 0.0
+        rows[-1].append(one)
+        taken += wide
+    return rows
+
+
 def place(panel: Panel, room: Room, point: Point) -> Point:
     """Where a point of a panel stands in the picture."""
     return room.left + room.width * panel.across.share(point[0]), room.top + room.height * (1 - panel.up.share(point[1]))
@@ -154,7 +169,7 @@ def _curve(picture: Picture, panel: Panel, room: Room, series: Series) -> None:
         around = [(places[0][0], low), *places, (places[-1][0], low)]
         picture.path("M" + " ".join(f"{figure(x)},{figure(y)}" for x, y in around) + "z", series.colour)
         return
-    if not series.steps:
+    if series.dotted and not series.steps:
         for x, y in places:
             picture.dot(x, y, 3, series.colour)
     picture.line(places, series.colour, series.dashed, width=panel.stroke)
@@ -195,3 +210,26 @@ def upright(picture: Picture, panel: Panel, room: Room, marks: Sequence[Tuple[fl
         room_for = width_of(words, 11.5) + 7
         picture.rectangle(x - room_for - 2 if to_left else x + 2, top - 11, room_for, 15, PAPER)
         picture.text(x - 5 if to_left else x + 5, top, words, 11.5, "end" if to_left else "start")
+
+
+def at_the_ends(picture: Picture, panel: Panel, room: Room, words: Sequence[str]) -> None:
+    """Words behind the last point of each series, in its colour, moved up or down so far that none covers another."""
+    ends = [(*place(panel, room, one.points[-1]), one.colour, text) for one, text in zip(panel.series, words)]
+    ends.sort(key=lambda it: it[1])
+    heights = [min(max(y, room.top), room.top + room.height) for _, y, _, _ in ends]
+    for at in range(1, len(heights)):
+        heights[at] = max(heights[at], heights[at - 1] + 14)
+    # (those that would stand below the axis go up again)
+    low = room.top + room.height
+    for at in reversed(range(len(heights))):
+        heights[at] = min(heights[at], low)
+        low = heights[at] - 14
+    for (x, _, colour, text), y in zip(ends, heights):
+        picture.text(x + 6, y + 4, text, 12, "start", colour)
+
+
+def level(picture: Picture, panel: Panel, room: Room, value: float, words: str) -> None:
+    """A dashed line across at a value, with its words above its begin."""
+    y = place(panel, room, (panel.across.least, value))[1]
+    picture.line([(room.left, y), (room.left + room.width, y)], INK, dashed=True, width=1)
+    picture.text(room.left + 5, y - 6, words, 11.5, "start")

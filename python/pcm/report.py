@@ -1,6 +1,7 @@
 """Makes a report of runs: one page of HTML with pictures and numbers, which needs no network and no script.
 
-usage: python3 -m pcm report RESULTS.. [options] > report.html          of what `./pcm run` or `./pcm stream` printed
+usage: python3 -m pcm report RESULTS.. [options] > report.html          of what `./pcm run` or `./pcm stream` printed: results, rows,
+                                                                         or `--print snapshots`
        python3 -m pcm report --run [TRACE..] [options] > report.html    the program runs: once for each trace, or for each --options
 
 Each of these once for each run, in their order, or once for all:
@@ -8,10 +9,12 @@ Each of these once for each run, in their order, or once for all:
   --wear FILE       its wear report, as `--print wear` (or `--print lines`) prints it: maps, and pulses for each store
   --image FILE      its image, as `--print image` prints it: pointers
   --summary FILE    its summary: spares in use and all pulses
+  --snapshots FILE  its snapshots, beside results: how its lines age
   --options WORDS   the options that it ran with, as one word: --options 'run --banks 1 --psi 8'
   --name WORDS      its name on the page
 For all runs:
   --banks N ..      any option of a run by itself
+  --every N         with --run: snapshots each N rows, by the program of streams
   --title WORDS     the page's title
   --output FILE     where the page is written, instead of standard output
 
@@ -27,8 +30,8 @@ from .gathered import Asked, gather, known_options
 from .page import page
 from .program import Program
 
-_OF_RUNS = ("trace", "wear", "image", "summary", "options", "name")
-_OF_ALL = ("title", "output")
+_OF_RUNS = ("trace", "wear", "image", "summary", "snapshots", "options", "name")
+_OF_ALL = ("every", "title", "output")
 
 
 def report(asked: Sequence[Asked], title: str = "Report of pcm", program: Program = None) -> str:
@@ -93,8 +96,10 @@ def _asked(given: Dict[str, List[str]]) -> List[Asked]:
     runs, files = bool(given["run"]), given[""]
     if runs and given["trace"]:
         raise UsageError(2, "--run takes traces without --trace")
-    if runs and any(given[name] for name in ("wear", "image", "summary")):
-        raise UsageError(2, "--run makes wear, image and summary itself")
+    if runs and any(given[name] for name in ("wear", "image", "summary", "snapshots")):
+        raise UsageError(2, "--run makes wear, image, summary and (with --every) snapshots itself")
+    if given["every"] and not runs:
+        raise UsageError(2, "--every is for --run; a file of snapshots has its own")
     if not files and not runs:
         raise UsageError(2, "usage: python3 -m pcm report RESULTS.. [--trace FILE] [--wear FILE] .. (--help tells more)")
     lists = {"files": files, **{name: given[name] for name in _OF_RUNS}}
@@ -108,8 +113,9 @@ def _asked(given: Dict[str, List[str]]) -> List[Asked]:
     by_words = len(files) < 2 <= count
     names = [name or (_short(words) if by_words else file) for name, file, words in zip(column["name"], column["files"], column["options"])]
     if runs:
-        return [Asked(name, options, True, None, trace) for name, options, trace in zip(names, made, column["files"])]
-    others = zip(*(column[name] for name in ("files", "trace", "wear", "image", "summary")))
+        every = (given["every"] or [None])[-1]
+        return [Asked(name, options, True, None, trace, every=every) for name, options, trace in zip(names, made, column["files"])]
+    others = zip(*(column[name] for name in ("files", "trace", "wear", "image", "summary", "snapshots")))
     return [Asked(name, options, False, *rest) for name, options, rest in zip(names, made, others)]
 
 
@@ -127,10 +133,9 @@ def _words_of(words: str) -> Dict[str, str]:
     for part in parts:
         pairs += part.split("=", 1) if part.startswith("--") else [part]
     for name, value in zip(pairs[::2], pairs[1::2]):
-        if not name.startswith("--") or name[2:] not in (*known_options(), "print"):
+        if not name.startswith("--") or name[2:] not in (*known_options(), "print", "every"):
             raise UsageError(2, f"--options: no option {name} of a run")
         found[name[2:]] = value
     if len(pairs) % 2:
         raise UsageError(2, f"--options: {pairs[-1]} wants a value")
-    found.pop("print", None)
-    return found
+    return {name: value for name, value in found.items() if name not in ("print", "every")}

@@ -1,4 +1,4 @@
-"""A run by the files that it left: its results, and where they are given its trace, wear report, image and summary."""
+"""A run by the files that it left: its results or its snapshots, and where they are given its trace, wear report, image and summary."""
 import collections
 import csv
 import functools
@@ -11,6 +11,7 @@ from typing import Dict, Iterator, List, NamedTuple, Optional, Tuple
 
 from .errors import PcmError, ReadFault
 from .image import Image, ImageError, _feistel
+from .snapshots import Snapshot, SnapshotError, read_snapshots
 
 OUTCOMES = ("stored", "merged", "queued", "full", "worn", "read", "forwarded", "busy", "lost", "cut")
 # The operation of each outcome's row.
@@ -106,8 +107,8 @@ class Source(NamedTuple):
 
 @dataclass
 class Run:
-    """A run: its name, its options and where each is known from, its files, what became of each row of its trace, and what else is known
-    of it."""
+    """A run: its name, its options and where each is known from, its files, what became of each row of its trace (none of them, where
+    snapshots alone are known), and what else is known of it."""
 
     name: str
     options: Dict[str, str]
@@ -118,7 +119,23 @@ class Run:
     wear: Optional[List[Worn]] = None
     image: Optional[Image] = None
     summary: Optional[Dict[str, int]] = None
+    snapshots: List[Snapshot] = field(default_factory=list)
     _banks: Dict[int, int] = field(default_factory=dict)
+
+    @property
+    def has_rows(self) -> bool:
+        """Whether it is known what became of each row."""
+        return any(file.kind == "results" for file in self.files)
+
+    @property
+    def total(self) -> int:
+        """How many rows were served."""
+        return len(self.rows) if self.has_rows or not self.snapshots else self.snapshots[-1].rows
+
+    @property
+    def spares(self) -> Optional[int]:
+        """The spares of the module, where any of its options is known."""
+        return self.shape.banks * self.shape.spares if self.origins else None
 
     @functools.cached_property
     def shape(self) -> Shape:
@@ -149,6 +166,8 @@ class Run:
     @functools.cached_property
     def counts(self) -> Dict[str, int]:
         """How often each outcome came."""
+        if self.snapshots and not self.has_rows:
+            return {word: getattr(self.snapshots[-1], word) for word in OUTCOMES}
         found = collections.Counter(row.word for row in self.rows)
         return {word: found[word] for word in OUTCOMES}
 
@@ -182,6 +201,22 @@ def results_of(source: Source) -> List[Known]:
     if header == ["row", "outcome", "tick", "place", "data"]:
         return _streamed(source, records)
     raise FileFault(f"{source.name} row 0: header")
+
+
+def are_snapshots(source: Source) -> bool:
+    """Whether a file is one of snapshots, by its header."""
+    return source.data.split(b"\n", 1)[0].rstrip(b"\r") == ",".join(Snapshot._fields).encode()
+
+
+def snapshots_of(source: Source) -> List[Snapshot]:
+    """The snapshots of a file; there is at least one."""
+    try:
+        found = list(read_snapshots(source.data.decode("utf-8", "replace").splitlines()))
+    except SnapshotError as wrong:
+        raise FileFault(f"{source.name} {wrong}") from None
+    if not found:
+        raise FileFault(f"{source.name}: no snapshot")
+    return found
 
 
 def arrivals_of(source: Source) -> List[Arrival]:

@@ -9,7 +9,7 @@ STYLE = f"""
 *{{box-sizing:border-box}}
 body{{margin:0;background:var(--paper);color:var(--ink);font:15px/1.5 {FONT}}}
 header,main,footer{{max-width:78rem;margin:0 auto;padding:0 1.25rem}}
-main.several{{max-width:110rem}}
+.several>*{{max-width:110rem}}
 header{{padding-top:1.5rem}}
 h1{{font-size:1.6rem;margin:0}}
 h2{{font-size:1.2rem;margin:0 0 .3rem;border-top:2px solid var(--rule);padding-top:.8rem}}
@@ -25,6 +25,7 @@ footer{{padding-bottom:2rem;font-size:.85rem}}
 .alone .run{{grid-column:1/-1}}
 .pictures{{display:grid;gap:1rem 2rem;grid-template-columns:repeat(auto-fit,minmax(min(100%,24rem),1fr));align-items:start}}
 .several .pictures{{grid-template-columns:1fr}}
+.several .pictures.shared{{grid-template-columns:repeat(auto-fit,minmax(min(100%,24rem),1fr))}}
 figure{{margin:0;min-width:0}}
 svg{{display:block;width:100%;max-width:35rem;height:auto}}
 .wide{{overflow-x:auto}}
@@ -33,9 +34,10 @@ caption{{text-align:left;padding-bottom:.2rem}}
 th,td{{padding:.15rem .7rem .15rem 0;text-align:right;border-bottom:1px solid var(--grid);vertical-align:top}}
 th:first-child,td:first-child,.words{{text-align:left}}
 th,td .soft{{font-weight:normal}}
-code{{overflow-wrap:anywhere}}
+code,.path{{overflow-wrap:anywhere}}
 .several th,.several td{{padding-right:.4rem}}
 td.differs{{font-weight:bold}}
+.option,.options tbody th{{white-space:nowrap}}
 details{{margin:.5rem 0}}
 summary{{cursor:pointer}}
 @media (max-width:40rem){{
@@ -52,9 +54,10 @@ th,td{{padding-right:.4rem}}
 nav,details:not([open]){{display:none}}
 section,figure,table,tr{{break-inside:avoid}}
 h2,h3,h2+p{{break-after:avoid}}
-header,main,footer{{max-width:none;padding:0}}
+header,main,footer,.several>*{{max-width:none;padding:0}}
 .pictures{{grid-template-columns:1fr 1fr}}
 .several .pictures{{grid-template-columns:1fr}}
+.several .pictures.shared{{grid-template-columns:1fr 1fr}}
 .runs{{grid-template-columns:repeat(auto-fit,minmax(7.4cm,1fr))}}
 }}
 """

@@ -2,6 +2,7 @@
 from typing import Dict, Iterable, List, NamedTuple, Optional, Sequence
 
 from .runs import Run, Worn
+from .snapshots import BEGIN, Snapshot
 
 QUANTILES = (50.0, 90.0, 99.0, 99.9)
 
@@ -83,7 +84,18 @@ def retired(run: Run) -> Optional[int]:
     """The spares in use in the end, where the summary or the wear report is there."""
     if run.wear is not None:
         return sum(line.role == "retired" for line in run.wear)
-    return run.summary["retired"] if run.summary else None
+    if run.summary is not None:
+        return run.summary["retired"]
+    return run.snapshots[-1].retired if run.snapshots else None
+
+
+def all_pulses(run: Run) -> Optional[int]:
+    """The pulses of all array lines in the end, where a file tells them."""
+    if run.wear is not None:
+        return sum(line.pulses for line in run.wear)
+    if run.summary is not None:
+        return run.summary["pulses"]
+    return run.snapshots[-1].pulses if run.snapshots else None
 
 
 class Pulses(NamedTuple):
@@ -163,3 +175,24 @@ def pointers(run: Run) -> Optional[List[int]]:
     if run.image is None:
         return None
     return [len(run.image.pointers(at)) for at in range(len(run.image.cells))]
+
+
+def sampled(snapshots: Sequence[Snapshot], most: int) -> List[Snapshot]:
+    """The begin, and at most so many snapshots at equal distances, with the last; each has more rows than the one before it, but for the
+    last where there are no rows at all."""
+    # (the one before the last, where the drain behind it served no more rows)
+    apart = [one for one, after in zip(snapshots, snapshots[1:]) if one.rows < after.rows] + list(snapshots[-1:])
+    count = min(most, len(apart))
+    return [BEGIN, *(apart[(at + 1) * len(apart) // count - 1] for at in range(count))]
+
+
+def first_with(snapshots: Iterable[Snapshot], name: str, least: int) -> Optional[int]:
+    """The rows of the first snapshot in which a number is at least so many."""
+    return next((one.rows for one in snapshots if getattr(one, name) >= least), None)
+
+
+def shares(samples: Sequence[Snapshot], word: str) -> List[float]:
+    """Between each two samples, how many rows got an outcome, for each 100 rows served."""
+    return [
+        100 * (getattr(now, word) - getattr(before, word)) / max(1, now.rows - before.rows) for before, now in zip(samples, samples[1:])
+    ]
