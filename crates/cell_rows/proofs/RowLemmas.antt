@@ -144,10 +144,6 @@ members-zero has = refl
 pub members-more : (has : ℕ → Bool) (n : ℕ) → has n ≡ true → members has (n + 1) ≡ members has n + 1
 members-more has n is = members-suc has n ∙ ap (λ b. members has n + cond b 1 0) is
 
--- one more number that hasn't
-pub members-same : (has : ℕ → Bool) (n : ℕ) → has n ≡ false → members has (n + 1) ≡ members has n
-members-same has n isnt = members-suc has n ∙ ap (λ b. members has n + cond b 1 0) isnt ∙ add-zero _
-
 members_same : (has other : ℕ → Bool) (n : ℕ) → ((k : ℕ) → k < n → has k ≡ other k) → members has n ≡ members other n
 unfolding members
 members_same has other zero same = refl
