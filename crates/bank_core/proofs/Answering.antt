@@ -1,31 +1,18 @@
 -- That what a bank answers keeps the invariant.
 use Rattle.std.proofs.Common.{◌≡◌, ◌≢◌, ℕ, ◌<◌, ◌≤◌, ◌==◌, cond, refl, sym, ap, subst, ◌∙◌, arith, true, false, List, [], ◌∷◌, ◌++◌, drop, length, length-append, slice_get, Some, ltb, eq-eqb}
-use Rattle.std.specs.Prelude.{All}
-use Rattle.std.proofs.lemmas.Bool.{ne_eqb, ltb-true, ltb-false}
-use Rattle.std.proofs.lemmas.List.Elements.{All-push, All-drop}
-use Rattle.bank_model.proofs.Waits.{waits-some}
-use Rattle.masked_bytes.specs.Entries.{layer_of, AllMasked}
-use Rattle.masked_bytes.specs.Masked.{laid, gives_all}
+use Rattle.std.{specs.Prelude.All, proofs.lemmas.Bool.{ne_eqb, ltb-true, ltb-false}, proofs.lemmas.List.Elements.{All-push, All-drop}}
+use Rattle.bank_model.{specs.Answers.MayHappen, specs.Events.{BankEvent, Read, Serve}, proofs.Waits.waits-some}
+use Rattle.masked_bytes.specs.{Entries.{layer_of, AllMasked}, Masked.{laid, gives_all}}
 use Rattle.cell_rows.specs.Device.{ArrayState}
 use Rattle.ecp_line.specs.Reading.{decode}
 use Rattle.line_writer.specs.Writing.{most_steps}
-use Rattle.power_recovery.specs.Kept.{KeptState, IsKept, stands_at}
-use Rattle.power_recovery.specs.Events.{completed_kept}
-use Rattle.power_recovery.specs.Slots.{bank_lines}
-use Rattle.bank_shape.specs.declared.answer.ReadAnswer.{ReadAnswer}
+use Rattle.power_recovery.specs.{Events.completed_kept, Kept.{KeptState, IsKept, stands_at}, Slots.bank_lines}
+use Rattle.bank_shape.specs.{declared.answer.ReadAnswer.ReadAnswer, declared.answer.Served.Served, declared.waiting.Waiting.Waiting}
 use Rattle.bank_shape.specs.declared.answer.ReadAnswer.TheVariants as came
-use Rattle.bank_shape.specs.declared.answer.Served.{Served}
-use Rattle.bank_model.specs.Events.{BankEvent, Read, Serve}
-use Rattle.bank_model.specs.Answers.{MayHappen}
-use Rattle.bank_shape.specs.declared.waiting.Waiting.{Waiting}
-use Rattle.bank_invariant.specs.State.{BankState}
-use Rattle.bank_invariant.specs.Tied.{StandsAs, IsTied}
-use Rattle.bank_invariant.specs.Holds.{Holds}
-use Rattle.bank_invariant.specs.Serving.{kept_with, read_from, served_from, served}
-use Rattle.bank_invariant.proofs.Quiet.{same_said, forwarded_law, busy_law}
+use Rattle.bank_invariant.specs.{Holds.Holds, Serving.{kept_with, read_from, served_from, served}, State.BankState, Tied.{StandsAs, IsTied}}
 use Rattle.bank_invariant.proofs.Awaiting.{may_read_law, waiting_law, may_serve_law, served_law, tied_waiting, tied_sensed, gives_all-head}
-use Rattle.bank_core.specs.Bank.{IsBank}
-use Rattle.bank_core.specs.Steps.{after_read, lost_taken}
+use Rattle.bank_invariant.proofs.Quiet.{same_said, forwarded_law, busy_law}
+use Rattle.bank_core.specs.{Bank.IsBank, Steps.{after_read, lost_taken}}
 
 -- the first of a list stands before the others
 pub first_of : {n : ℕ} (ws : List (Waiting n)) (w : Waiting n) → Some w ≡ slice_get ws 0 → ws ≡ w ∷ drop 1 ws

@@ -1,48 +1,23 @@
 -- That the begin of a line write keeps the tie and the invariant.
 use Rattle.std.proofs.Common.{◌≡◌, ℕ, ◌<◌, ◌≤◌, not, refl, sym, ap, subst, ◌∙◌, arith, true, false, List, [], ◌∷◌, length, slice_get, Option, Some, None, is_some}
-use Rattle.std.proofs.lemmas.Bool.{and_parts}
-use Rattle.std.specs.Prelude.{IsSomeAnd, IfSome, IsTrue}
-use Rattle.masked_bytes.specs.Masked.{laid}
-use Rattle.masked_bytes.specs.Entries.{completed, head_line, head_row}
-use Rattle.masked_bytes.specs.declared.entry.Entry.{Entry}
-use Rattle.cell_rows.specs.declared.row.Cells.{Cells}
-use Rattle.cell_rows.specs.Device.{ArrayState, LineState}
+use Rattle.std.{specs.Prelude.{IsSomeAnd, IfSome, IsTrue}, proofs.lemmas.Bool.and_parts}
+use Rattle.masked_bytes.specs.{Entries.{completed, head_line, head_row}, Masked.laid, declared.entry.Entry.Entry}
+use Rattle.cell_rows.specs.{Device.{ArrayState, LineState}, declared.row.Cells.Cells}
 use Rattle.ecp_line.specs.Reading.{decode, IsSoundLine}
-use Rattle.start_gap.specs.declared.Move.{Move}
-use Rattle.start_gap.specs.Rotation.{move_by}
-use Rattle.bank_shape.specs.declared.Work.{Work}
-use Rattle.bank_shape.specs.declared.Work.TheVariants.{Nothing, Store, Copy}
-use Rattle.bank_shape.specs.declared.BankShape.{BankShape}
-use Rattle.bank_shape.specs.Shape.{slots_of, slot_at}
-use Rattle.line_writer.specs.declared.writer.LineWriter.{LineWriter}
-use Rattle.line_writer.specs.declared.writer.Progress.{Progress}
-use Rattle.line_writer.specs.declared.writer.Progress.TheVariants as progress
-use Rattle.line_writer.specs.Writing.{IsProgress, HasBegun, Writes, steps_left, most_steps}
-use Rattle.power_recovery.specs.Slots.{bank_lines}
-use Rattle.power_recovery.specs.Kept.{KeptState, IsKept, region_at, slot_of, array_line, due_region, next_work}
-use Rattle.power_recovery.specs.Events.{completed_kept, stored_kept}
-use Rattle.power_recovery.proofs.Bundle.{next_work-store, next_work-copy, head-known, due_region-Some}
-use Rattle.power_recovery.proofs.Placing.{slot_of-within}
-use Rattle.power_recovery.proofs.Frames.{next_work-completed}
-use Rattle.bank_shape.specs.declared.answer.Step.{Step}
+use Rattle.start_gap.specs.{Rotation.move_by, declared.Move.Move}
+use Rattle.bank_shape.specs.{Kinds.{is_store, is_copy}, Shape.{slots_of, slot_at}, declared.BankShape.BankShape, declared.Work.Work}
+use Rattle.bank_shape.specs.{declared.Work.TheVariants.{Nothing, Store, Copy}, declared.answer.Step.Step, declared.waiting.Waiting.Waiting}
 use Rattle.bank_shape.specs.declared.answer.Step.TheVariants as did
+use Rattle.line_writer.specs.{Writing.{IsProgress, HasBegun, Writes, steps_left, most_steps}, declared.writer.LineWriter.LineWriter, declared.writer.Progress.Progress}
+use Rattle.line_writer.specs.declared.writer.Progress.TheVariants as progress
+use Rattle.power_recovery.specs.{Events.{completed_kept, stored_kept}, Kept.{KeptState, IsKept, region_at, slot_of, array_line, due_region, next_work}, Slots.bank_lines}
+use Rattle.power_recovery.proofs.{Bundle.{next_work-store, next_work-copy, head-known, due_region-Some}, Frames.next_work-completed, Placing.slot_of-within}
 use Rattle.bank_model.specs.Events.{BankEvent, Begin}
-use Rattle.bank_shape.specs.declared.waiting.Waiting.{Waiting}
-use Rattle.bank_shape.specs.Kinds.{is_store, is_copy}
-use Rattle.bank_invariant.specs.State.{BankState, Operation, target_of, is_free, may_begin}
-use Rattle.bank_invariant.specs.Tied.{StandsAs, decoded, AreSound, IsOf, IsTied}
-use Rattle.bank_invariant.specs.Holds.{Holds}
-use Rattle.bank_invariant.specs.Beginning.{begun_with}
-use Rattle.bank_invariant.specs.Storing.{resting}
-use Rattle.bank_invariant.specs.Retiring.{ended}
-use Rattle.bank_invariant.proofs.Targets.{next_store-slot, next_copy-region}
-use Rattle.bank_invariant.proofs.Iterating.{from-within}
-use Rattle.bank_invariant.proofs.Awaiting.{tied_sensed}
-use Rattle.bank_invariant.proofs.Starting.{begun_store_law, begun_copy_law, whole-completed, free-off, AreSound-completed}
-use Rattle.bank_invariant.proofs.Finishing.{begun_stored_law, next_store-line}
-use Rattle.bank_invariant.proofs.Turned.{moved_at_once_law}
-use Rattle.bank_core.specs.Stepping.{with_kept, step_from, left_by, done_from, done_kept}
-use Rattle.bank_core.specs.Beginning.{head_over, bytes_for, begun_kept, IsBegin}
+use Rattle.bank_invariant.specs.{Beginning.begun_with, Holds.Holds, Retiring.ended, State.{BankState, Operation, target_of, is_free, may_begin}, Storing.resting}
+use Rattle.bank_invariant.{specs.Tied.{StandsAs, decoded, AreSound, IsOf, IsTied}, proofs.Awaiting.tied_sensed, proofs.Finishing.{begun_stored_law, next_store-line}}
+use Rattle.bank_invariant.proofs.{Iterating.from-within, Starting.{begun_store_law, begun_copy_law, whole-completed, free-off, AreSound-completed}}
+use Rattle.bank_invariant.proofs.{Targets.{next_store-slot, next_copy-region}, Turned.moved_at_once_law}
+use Rattle.bank_core.specs.{Beginning.{head_over, bytes_for, begun_kept, IsBegin}, Stepping.{with_kept, step_from, left_by, done_from, done_kept}}
 
 isn't-some : {A : Type 0} (x : Option A) → not (is_some x) ≡ true → x ≡ None
 isn't-some None h = refl

@@ -4,16 +4,9 @@ use Rattle.std.specs.Prelude.{IfSome, IsTrue, IsFalse}
 use Rattle.cell_rows.specs.Device.{ArrayState}
 use Rattle.power_recovery.specs.Kept.{IsKept, target_slot}
 use Rattle.bank_model.specs.Events.{BankEvent, Cut}
-use Rattle.bank_invariant.specs.State.{BankState, Operation}
-use Rattle.bank_invariant.specs.Tied.{IsTied, IsUnderWay}
-use Rattle.bank_invariant.specs.Holds.{Holds}
-use Rattle.bank_invariant.specs.Steps.{cut_off}
-use Rattle.bank_invariant.specs.Tearing.{DiffersAt}
-use Rattle.bank_invariant.proofs.Targets.{AreSound-differs, AreUntouched-differs, AreOrderly-differs, DiffersAt-tear}
-use Rattle.bank_invariant.proofs.Quiet.{cut_law}
-use Rattle.bank_invariant.proofs.Tearing.{torn_law}
-use Rattle.bank_core.specs.Cutting.{IsTorn, stopped, reads_lost}
-use Rattle.bank_core.proofs.Keeping.{tied-running, tied-target, tied-exists, some_running}
+use Rattle.bank_invariant.specs.{Holds.Holds, State.{BankState, Operation}, Steps.cut_off, Tearing.DiffersAt, Tied.{IsTied, IsUnderWay}}
+use Rattle.bank_invariant.proofs.{Quiet.cut_law, Targets.{AreSound-differs, AreUntouched-differs, AreOrderly-differs, DiffersAt-tear}, Tearing.torn_law}
+use Rattle.bank_core.{specs.Cutting.{IsTorn, stopped, reads_lost}, proofs.Keeping.{tied-running, tied-target, tied-exists, some_running}}
 
 no-rows : (xs : List ℕ) → length xs ≡ 0 → xs ≡ []
 no-rows [] none = refl

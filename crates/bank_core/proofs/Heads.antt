@@ -1,12 +1,8 @@
 -- The head of a bank whose next work is a store.
 use Rattle.std.proofs.Common.{◌≡◌, ◌<◌, ℕ, ap, sym, subst, arith, List, [], ◌∷◌, length}
-use Rattle.masked_bytes.specs.declared.entry.Entry.{Entry}
-use Rattle.masked_bytes.specs.Entries.{completed}
-use Rattle.bank_shape.specs.Kinds.{is_store}
-use Rattle.bank_shape.specs.declared.Work.TheVariants.{Store}
-use Rattle.power_recovery.specs.Kept.{KeptState, next_work}
-use Rattle.power_recovery.specs.Events.{completed_kept}
-use Rattle.power_recovery.proofs.Bundle.{next_work-store}
+use Rattle.masked_bytes.specs.{Entries.completed, declared.entry.Entry.Entry}
+use Rattle.bank_shape.specs.{Kinds.is_store, declared.Work.TheVariants.Store}
+use Rattle.power_recovery.{specs.Events.completed_kept, specs.Kept.{KeptState, next_work}, proofs.Bundle.next_work-store}
 
 module _ {n : ℕ} where
   completed-some : (under : List ℕ) (es : List (Entry n)) → 0 < length es → 0 < length (completed under es)

@@ -1,40 +1,23 @@
 -- What an iteration keeps: the tie of a bank to its array, and the invariant.
 use Rattle.std.proofs.Common.{◌≡◌, ℕ, ◌+◌, ◌<◌, ◌≤◌, cond, Bool, true, false, List, ◌∷◌, nat_lt, refl, Option, Some, None, is_some, sym, ap, ◌∙◌, subst, arith}
-use Rattle.std.specs.Prelude.{IfSome, IsTrue}
-use Rattle.std.proofs.lemmas.Bool.{ltb-true, ltb-false}
+use Rattle.std.{specs.Prelude.{IfSome, IsTrue}, proofs.lemmas.Bool.{ltb-true, ltb-false}}
 use Rattle.cell_rows.specs.Device.{ArrayState}
 use Rattle.spare_pool.specs.Table.{used_by}
-use Rattle.line_writer.specs.declared.writer.Progress.{Progress}
+use Rattle.line_writer.specs.{Orderly.AreOrderly, Untouched.AreUntouched, Writing.{IsProgress, IsWorn}, declared.writer.Progress.Progress}
 use Rattle.line_writer.specs.declared.writer.Progress.TheVariants as progress
-use Rattle.line_writer.specs.Writing.{IsProgress, IsWorn}
-use Rattle.line_writer.specs.Untouched.{AreUntouched}
-use Rattle.line_writer.specs.Orderly.{AreOrderly}
-use Rattle.bank_shape.specs.declared.Work.{Work}
-use Rattle.bank_shape.specs.declared.Work.TheVariants.{Nothing, Store, Copy}
-use Rattle.bank_shape.specs.Shape.{slots_of, lines_in}
-use Rattle.power_recovery.specs.Kept.{KeptState, IsKept, target_slot, due_region, due_work, next_work}
-use Rattle.power_recovery.specs.Events.{retired_kept, exhausted_kept}
-use Rattle.bank_shape.specs.declared.answer.Step.{Step}
-use Rattle.bank_shape.specs.declared.answer.Step.TheVariants as did
-use Rattle.bank_model.specs.Events.{BankEvent, Iterate}
-use Rattle.bank_invariant.specs.State.{BankState, Operation, target_of}
-use Rattle.bank_invariant.specs.Tied.{AreSound, IsOf, IsRunning, IsUnderWay, IsTied}
-use Rattle.bank_invariant.specs.Holds.{Holds}
-use Rattle.bank_invariant.specs.Tearing.{DiffersAt}
-use Rattle.bank_invariant.specs.Iterating.{going_on}
-use Rattle.bank_invariant.specs.Retiring.{ended}
-use Rattle.bank_invariant.proofs.Targets.{IsTargetOf, running-target, AreSound-differs, AreUntouched-differs, AreOrderly-differs, DiffersAt-round, target-exists}
-use Rattle.bank_invariant.proofs.Iterating.{iterated_law, IsOf-differs}
-use Rattle.bank_invariant.proofs.Finishing.{stored_law}
-use Rattle.bank_invariant.proofs.Turned.{moved_law}
-use Rattle.bank_invariant.proofs.Tearing.{running_of, in_progress_of}
-use Rattle.bank_invariant.proofs.Agreeing.{agree_law}
-use Rattle.bank_invariant.proofs.Retiring.{exhausted_law, retired_law, may_iterate, retired-count, unmarked, marked-target, AreSound-retired}
-use Rattle.bank_model.specs.After.{work_after, slot_of_work}
+use Rattle.bank_shape.specs.{Shape.{slots_of, lines_in}, declared.Work.Work, declared.Work.TheVariants.{Nothing, Store, Copy}, declared.answer.Step.Step}
 use Rattle.bank_shape.specs.declared.waiting.Waiting.{Waiting}
+use Rattle.bank_shape.specs.declared.answer.Step.TheVariants as did
+use Rattle.power_recovery.specs.{Events.{retired_kept, exhausted_kept}, Kept.{KeptState, IsKept, target_slot, due_region, due_work, next_work}}
+use Rattle.bank_model.specs.{After.{work_after, slot_of_work}, Events.{BankEvent, Iterate}}
+use Rattle.bank_invariant.specs.{Holds.Holds, Iterating.going_on, Retiring.ended, State.{BankState, Operation, target_of}, Tearing.DiffersAt}
+use Rattle.bank_invariant.{specs.Tied.{AreSound, IsOf, IsRunning, IsUnderWay, IsTied}, proofs.Agreeing.agree_law, proofs.Finishing.stored_law}
+use Rattle.bank_invariant.proofs.Iterating.{iterated_law, IsOf-differs}
+use Rattle.bank_invariant.proofs.Retiring.{exhausted_law, retired_law, may_iterate, retired-count, unmarked, marked-target, AreSound-retired}
+use Rattle.bank_invariant.proofs.Targets.{IsTargetOf, running-target, AreSound-differs, AreUntouched-differs, AreOrderly-differs, DiffersAt-round, target-exists}
+use Rattle.bank_invariant.proofs.{Tearing.{running_of, in_progress_of}, Turned.moved_law}
 use Rattle.ecp_line.specs.Reading.{IsWornLine}
-use Rattle.bank_core.specs.Steps.{is_some_work}
-use Rattle.bank_core.specs.Stepping.{done_from, done_kept, step_from, left_by, IsWriterStep, IsIteration}
+use Rattle.bank_core.specs.{Stepping.{done_from, done_kept, step_from, left_by, IsWriterStep, IsIteration}, Steps.is_some_work}
 
 -- a work writes the slot that the history says
 slot-agrees : {n : ℕ} (kept : KeptState n) (h : List (BankEvent n)) (work : Work) → target_slot kept work ≡ slot_of_work kept.shape h work

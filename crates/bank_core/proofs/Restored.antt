@@ -1,10 +1,8 @@
 -- That a bank whose kept part changes, but for its shape, stays in range.
 use Rattle.std.proofs.Common.{◌≡◌, ◌<◌, ℕ, sym, ap, subst, ◌∙◌, arith, List}
 use Rattle.std.specs.Prelude.{All}
-use Rattle.bank_shape.specs.declared.BankShape.{BankShape}
-use Rattle.bank_shape.specs.declared.waiting.Waiting.{Waiting}
-use Rattle.power_recovery.specs.Kept.{KeptState, IsKept}
-use Rattle.power_recovery.specs.Slots.{bank_lines}
+use Rattle.bank_shape.specs.{declared.BankShape.BankShape, declared.waiting.Waiting.Waiting}
+use Rattle.power_recovery.specs.{Kept.{KeptState, IsKept}, Slots.bank_lines}
 use Rattle.bank_core.specs.Bank.{IsBank}
 
 pub IsBank-by_shape : {n : ℕ} (m e : ℕ) (kept new : KeptState n) (waiting : List (Waiting n)) (capacity lost : ℕ)

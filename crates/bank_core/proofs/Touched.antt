@@ -3,11 +3,9 @@ use Rattle.std.proofs.Common.{◌≡◌, ℕ, refl, Bool, true, false, [], ◌�
 use Rattle.std.specs.Prelude.{IfSome, IsTrue, IsFalse}
 use Rattle.cell_rows.specs.Device.{ArrayState}
 use Rattle.bank_shape.specs.declared.answer.Step.{Step}
-use Rattle.bank_model.specs.Touching.{Touches}
-use Rattle.bank_model.proofs.Touched.{touches-nothing, touches-round, touches-tear}
+use Rattle.bank_model.{specs.Touching.Touches, proofs.Touched.{touches-nothing, touches-round, touches-tear}}
 use Rattle.bank_invariant.specs.State.{BankState, Operation}
-use Rattle.bank_core.specs.Stepping.{IsIteration}
-use Rattle.bank_core.specs.Cutting.{IsTorn, torn_line}
+use Rattle.bank_core.specs.{Cutting.{IsTorn, torn_line}, Stepping.IsIteration}
 
 module _ {n m e : ℕ} (before after : ArrayState n m) where
   -- an iteration

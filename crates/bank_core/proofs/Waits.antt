@@ -1,9 +1,7 @@
 -- Whether a read of a line waits.
 use Rattle.std.proofs.Common.{◌≡◌, ◌≢◌, ℕ, ◌+◌, ◌≤◌, ◌==◌, ◌||◌, refl, sym, ap, ◌∙◌, true, false, List, [], ◌∷◌, zero, suc, length, get_or, take, slice_get, Some, eq-eqb, arith}
-use Rattle.std.specs.List.{list_any}
-use Rattle.std.proofs.lemmas.Bool.{ne_eqb}
+use Rattle.std.{specs.List.list_any, proofs.lemmas.Bool.ne_eqb, proofs.lemmas.List.Folds.{list_any_at, list_any_more}}
 use Rattle.std.proofs.lemmas.Option.{slice_get_within, get_or_from_slice_get}
-use Rattle.std.proofs.lemmas.List.Folds.{list_any_at, list_any_more}
 use Rattle.bank_shape.specs.declared.waiting.Waiting.{Waiting}
 
 module _ {n : ℕ} (line : ℕ) (ws : List (Waiting n)) (index : ℕ) where

@@ -1,7 +1,6 @@
 -- What stands at an index of a list.
 use Rattle.std.proofs.Common.{◌≡◌, ℕ, ◌<◌, sym, subst, arith, List, [], ◌∷◌, zero, suc, length, slice_get, Some, None}
-use Rattle.std.specs.Prelude.{All}
-use Rattle.std.proofs.lemmas.Option.{none-some, slice_get_within, get_or_from_slice_get}
+use Rattle.std.{specs.Prelude.All, proofs.lemmas.Option.{none-some, slice_get_within, get_or_from_slice_get}}
 
 -- what is true of all is true of what stands there
 pub All-found : {X : Type 0} (P : X → Type 0) (xs : List X) (i : ℕ) (x : X)

@@ -1,32 +1,20 @@
 -- That what a bank answers to a write keeps the invariant.
 use Rattle.std.proofs.Common.{◌≡◌, ℕ, zero, suc, ◌+◌, ◌<◌, ◌≤◌, nat_lt, refl, sym, ap, subst, ◌∙◌, arith, Bool, true, false, if◌then◌else◌, List, [], ◌∷◌, length, slice_get, Option, Some, None}
 use Rattle.std.specs.Prelude.{IsSomeAnd}
-use Rattle.masked_bytes.specs.Masked.{IsMasked}
-use Rattle.masked_bytes.specs.Entries.{candidate_index, merged_at}
+use Rattle.masked_bytes.specs.{Entries.{candidate_index, merged_at}, Masked.IsMasked, declared.entry.Entry.Entry}
 use Rattle.masked_bytes.proofs.Queueing.{newest_index-within, candidate_index-newest}
-use Rattle.masked_bytes.specs.declared.entry.Entry.{Entry}
-use Rattle.protected_queue.specs.declared.accept.Accept.{Accept}
+use Rattle.protected_queue.specs.{Queue.{accept_answer, answer_by, accepted, accepted_by}, declared.accept.Accept.Accept}
 use Rattle.protected_queue.specs.declared.accept.Accept.TheVariants as became
-use Rattle.protected_queue.specs.Queue.{accept_answer, answer_by, accepted, accepted_by}
 use Rattle.cell_rows.specs.Device.{ArrayState}
 use Rattle.line_writer.specs.Writing.{most_steps}
-use Rattle.power_recovery.specs.Kept.{KeptState}
-use Rattle.power_recovery.specs.Slots.{bank_lines}
+use Rattle.power_recovery.specs.{Kept.KeptState, Slots.bank_lines}
 use Rattle.bank_shape.specs.declared.answer.WriteAnswer.{WriteAnswer}
 use Rattle.bank_shape.specs.declared.answer.WriteAnswer.TheVariants as wrote
-use Rattle.bank_model.specs.Events.{BankEvent, Write}
-use Rattle.bank_model.specs.Answers.{MayHappen, write_answer}
-use Rattle.bank_invariant.specs.State.{BankState, is_storing}
-use Rattle.bank_invariant.specs.Tied.{IsTied}
-use Rattle.bank_invariant.specs.Holds.{Holds}
-use Rattle.bank_invariant.specs.Writes.{taken}
-use Rattle.bank_invariant.specs.WriteAnswers.{written}
-use Rattle.bank_invariant.proofs.Agreeing.{agree_law}
-use Rattle.bank_invariant.proofs.Answering.{write_answer_law, refusal_law, kept-full}
+use Rattle.bank_model.specs.{Answers.{MayHappen, write_answer}, Events.{BankEvent, Write}}
+use Rattle.bank_invariant.{specs.Holds.Holds, specs.State.{BankState, is_storing}, specs.Tied.IsTied, specs.WriteAnswers.written, specs.Writes.taken, proofs.Agreeing.agree_law}
+use Rattle.bank_invariant.proofs.{Answering.{write_answer_law, refusal_law, kept-full}, Arriving.{accepted_write_law, merged_write_law}}
 use Rattle.bank_invariant.proofs.Taking.{full_law, exhausted_write_law, tied-taken}
-use Rattle.bank_invariant.proofs.Arriving.{accepted_write_law, merged_write_law}
-use Rattle.bank_core.specs.Steps.{write_from, after_write}
-use Rattle.bank_core.specs.Arriving.{arrived_as, IsMergedAt}
+use Rattle.bank_core.specs.{Arriving.{arrived_as, IsMergedAt}, Steps.{write_from, after_write}}
 
 module _ {n : ℕ} where
   laid_there : (es : List (Entry n)) (i row : ℕ) (bytes : List ℕ) (given : List Bool) → i < length es

@@ -5,8 +5,7 @@ use Rattle.protected_queue.specs.declared.accept.Accept.{Accept}
 use Rattle.protected_queue.specs.declared.accept.Accept.TheVariants as took
 use Rattle.bank_shape.specs.declared.answer.WriteAnswer.{WriteAnswer}
 use Rattle.bank_shape.specs.declared.answer.WriteAnswer.TheVariants as wrote
-use Rattle.bank_core.specs.declared.arriving.Arrived.{Arrived}
-use Rattle.bank_core.specs.declared.arriving.Arrived.TheVariants.{Accepted, Merged, Full, Exhausted}
+use Rattle.bank_core.specs.{declared.arriving.Arrived.Arrived, declared.arriving.Arrived.TheVariants.{Accepted, Merged, Full, Exhausted}}
 
 -- what the queue made of it, told by a bank that takes writes
 abbrev pub arrived_as : Accept → Arrived

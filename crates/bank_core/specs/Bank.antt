@@ -1,8 +1,7 @@
 -- What is true of every bank.
 use Rattle.std.specs.Prelude.{◌≡◌, ℕ, ◌<◌, ◌≤◌, List, length, All}
 use Rattle.ecp_line.specs.Layout.{IsLayout}
-use Rattle.power_recovery.specs.Kept.{KeptState, IsKept}
-use Rattle.power_recovery.specs.Slots.{bank_lines}
+use Rattle.power_recovery.specs.{Kept.{KeptState, IsKept}, Slots.bank_lines}
 use Rattle.bank_shape.specs.declared.waiting.Waiting.{Waiting}
 
 -- what a bank keeps is in range, and its rings have room for as many reads as may wait

@@ -1,18 +1,11 @@
 -- What the begin of a line write senses, writes, answers and leaves.
 use Rattle.std.specs.Prelude.{◌≡◌, ℕ, ◌≤◌, List, [], ◌∷◌}
-use Rattle.masked_bytes.specs.Masked.{laid}
-use Rattle.masked_bytes.specs.declared.entry.Entry.{Entry}
-use Rattle.cell_rows.specs.declared.row.Cells.{Cells}
-use Rattle.cell_rows.specs.Device.{ArrayState, LineState}
-use Rattle.bank_shape.specs.declared.Work.{Work}
-use Rattle.bank_shape.specs.declared.Work.TheVariants.{Nothing, Store, Copy}
-use Rattle.bank_shape.specs.Shape.{slot_at}
+use Rattle.masked_bytes.specs.{Masked.laid, declared.entry.Entry.Entry}
+use Rattle.cell_rows.specs.{Device.{ArrayState, LineState}, declared.row.Cells.Cells}
+use Rattle.bank_shape.specs.{Shape.slot_at, declared.Work.Work, declared.Work.TheVariants.{Nothing, Store, Copy}, declared.answer.Step.Step}
 use Rattle.line_writer.specs.Writing.{Writes, HasBegun, steps_left, most_steps}
-use Rattle.power_recovery.specs.Kept.{KeptState, array_line, next_work}
-use Rattle.power_recovery.specs.Events.{completed_kept}
-use Rattle.bank_shape.specs.declared.answer.Step.{Step}
-use Rattle.bank_invariant.specs.State.{BankState, Operation, target_of}
-use Rattle.bank_invariant.specs.Tied.{decoded}
+use Rattle.power_recovery.specs.{Events.completed_kept, Kept.{KeptState, array_line, next_work}}
+use Rattle.bank_invariant.specs.{State.{BankState, Operation, target_of}, Tied.decoded}
 use Rattle.ecp_line.specs.Reading.{IsSoundLine}
 use Rattle.bank_core.specs.Stepping.{with_kept, step_from, left_by}
 

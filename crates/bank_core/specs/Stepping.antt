@@ -2,23 +2,14 @@
 use Rattle.std.specs.Prelude.{◌≡◌, ℕ, ◌+◌, ◌<◌, if◌then◌else◌, nat_lt}
 use Rattle.cell_rows.specs.Device.{ArrayState}
 use Rattle.masked_bytes.specs.Entries.{head_row}
-use Rattle.program_verify.specs.declared.prog.Prog.{Prog}
-use Rattle.program_verify.specs.Programming.{IsRound}
+use Rattle.program_verify.specs.{Programming.IsRound, declared.prog.Prog.Prog}
 use Rattle.spare_pool.specs.Table.{used_by}
-use Rattle.bank_shape.specs.declared.Work.{Work}
-use Rattle.bank_shape.specs.declared.Work.TheVariants.{Nothing, Store, Copy}
-use Rattle.bank_shape.specs.Shape.{slots_of}
-use Rattle.line_writer.specs.declared.writer.Progress.{Progress}
-use Rattle.line_writer.specs.declared.writer.Progress.TheVariants as progress
-use Rattle.line_writer.specs.Writing.{Writes, IsWorn, steps_left}
-use Rattle.line_writer.specs.Untouched.{LeavesUnused}
-use Rattle.power_recovery.specs.Kept.{KeptState, target_slot}
-use Rattle.power_recovery.specs.Events.{stored_kept, moved_kept, retired_kept, exhausted_kept}
-use Rattle.bank_shape.specs.declared.answer.Step.{Step}
+use Rattle.bank_shape.specs.{Shape.slots_of, declared.Work.Work, declared.Work.TheVariants.{Nothing, Store, Copy}, declared.answer.Step.Step}
 use Rattle.bank_shape.specs.declared.answer.Step.TheVariants as did
-use Rattle.bank_invariant.specs.State.{BankState, Operation}
-use Rattle.bank_invariant.specs.Iterating.{going_on}
-use Rattle.bank_invariant.specs.Retiring.{ended}
+use Rattle.line_writer.specs.{Untouched.LeavesUnused, Writing.{Writes, IsWorn, steps_left}, declared.writer.Progress.Progress}
+use Rattle.line_writer.specs.declared.writer.Progress.TheVariants as progress
+use Rattle.power_recovery.specs.{Events.{stored_kept, moved_kept, retired_kept, exhausted_kept}, Kept.{KeptState, target_slot}}
+use Rattle.bank_invariant.specs.{Iterating.going_on, Retiring.ended, State.{BankState, Operation}}
 use Rattle.ecp_line.specs.Reading.{IsSoundLine, IsWornLine}
 
 module _ {n : ℕ} where

@@ -3,20 +3,12 @@ use Rattle.std.specs.Prelude.{ℕ, ◌+◌, ◌≤◌, ◌<◌, Bool, true, fals
 use Rattle.cell_rows.specs.Device.{ArrayState, IsBlank}
 use Rattle.protected_queue.specs.Queue.{accept_answer}
 use Rattle.masked_bytes.specs.declared.entry.Entry.{Entry}
-use Rattle.bank_shape.specs.declared.BankShape.{BankShape}
-use Rattle.bank_shape.specs.declared.Work.{Work}
-use Rattle.bank_shape.specs.declared.Work.TheVariants.{Nothing, Store, Copy}
-use Rattle.bank_shape.specs.Shape.{lines_in}
-use Rattle.power_recovery.specs.Kept.{next_work}
-use Rattle.bank_shape.specs.declared.answer.ReadAnswer.{ReadAnswer}
+use Rattle.bank_shape.specs.{Shape.lines_in, declared.BankShape.BankShape, declared.Work.Work, declared.Work.TheVariants.{Nothing, Store, Copy}}
+use Rattle.bank_shape.specs.{declared.answer.ReadAnswer.ReadAnswer, declared.answer.WriteAnswer.WriteAnswer}
 use Rattle.bank_shape.specs.declared.answer.ReadAnswer.TheVariants as came
-use Rattle.bank_shape.specs.declared.answer.WriteAnswer.{WriteAnswer}
 use Rattle.bank_shape.specs.declared.answer.WriteAnswer.TheVariants as wrote
-use Rattle.bank_invariant.specs.State.{BankState, is_storing}
-use Rattle.bank_invariant.specs.Steps.{answered}
-use Rattle.bank_invariant.specs.Serving.{waits_too}
-use Rattle.bank_invariant.specs.Writes.{taken}
-use Rattle.bank_invariant.specs.WriteAnswers.{written}
+use Rattle.power_recovery.specs.Kept.{next_work}
+use Rattle.bank_invariant.specs.{Serving.waits_too, State.{BankState, is_storing}, Steps.answered, WriteAnswers.written, Writes.taken}
 
 -- the array lines of a bank were just powered up
 pub record IsFreshFor {n m : ℕ} (shape : BankShape) (array : ArrayState n m) : Type 0 where

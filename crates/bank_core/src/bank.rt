@@ -50,7 +50,13 @@ impl<const B: usize, const M: usize, const E: usize> Model for Bank<B, M, E> {
     ghost use Rattle.bank_core.specs.Running.{operation_of};
     ghost use Rattle.bank_core.specs.Bank.{IsBank};
 
-    ghost view = { λ b. record { kept = b.kept; running = operation_of b.running; waiting = b.waiting.items; lost = b.lost.items; rows_below = b.rows_below } };
+    ghost view = { λ b. record {
+      kept = b.kept;
+      running = operation_of b.running;
+      waiting = b.waiting.items;
+      lost = b.lost.items;
+      rows_below = b.rows_below;
+    } };
 
     ghost invariant = { λ b. IsBank M E b.kept b.waiting.items b.waiting.capacity b.lost.capacity };
 }

@@ -67,7 +67,8 @@ impl<const B: usize, const M: usize, const E: usize> Bank<B, M, E> {
         requires ready { IsTrue (may_begin self.old) }
         requires tied { IsTied self.old (A.state array.old) }
         ensures begins { IsBegin self.old self.new result (A.state array.old) (A.state array.new) }
-        ensures touches { Touches tick (lines_sensed self.old.kept (next_work self.old.kept)) None false
+        ensures touches { Touches tick (lines_sensed self.old.kept (next_work self.old.kept)) None
+            false
             (A.state array.old) (A.state array.new) }
         ensures tied { IsTied self.new (A.state array.new) }
         ensures holds { (h : List (BankEvent B)) → Holds h self.old (A.state array.old)
@@ -81,7 +82,8 @@ impl<const B: usize, const M: usize, const E: usize> Bank<B, M, E> {
         requires ready { IsTrue (may_begin self.old) }
         requires tied { IsTied self.old (A.state array.old) }
         ensures begins { IsBegin self.old self.new result (A.state array.old) (A.state array.new) }
-        ensures touches { Touches tick (lines_sensed self.old.kept (next_work self.old.kept)) None false
+        ensures touches { Touches tick (lines_sensed self.old.kept (next_work self.old.kept)) None
+            false
             (A.state array.old) (A.state array.new) }
     {
         match self.kept.next_work() {
@@ -186,7 +188,8 @@ impl<const B: usize, const M: usize, const E: usize> Bank<B, M, E> {
         requires place { target ≡ target_of self.old.kept (Copy region step) }
         requires sound { IsOfSoundLine E seen }
         ensures { (old new : ArrayState B M)
-            → (old.line (array_line self.old.kept (slot_at self.old.kept.shape region step.from))).held
+            → (old.line (array_line self.old.kept (slot_at self.old.kept.shape region
+            step.from))).held
             ≡ copied.entry
             → (old.line target).held ≡ seen.entry → IsSoundLine E (old.line target)
             → new.line target ≡ old.line target → IsBegin self.old self.new result old new }
@@ -209,7 +212,8 @@ impl<const B: usize, const M: usize, const E: usize> Bank<B, M, E> {
         requires begun { HasBegun running.writer.progress }
         ensures answer { result ≡ step_from self.old.kept (running_of running.entry)
             running.entry.writer.progress }
-        ensures bank { self.new ≡ left_by self.old (running_of running.entry) (running_of running.entry)
+        ensures bank { self.new ≡ left_by self.old (running_of running.entry)
+            (running_of running.entry)
             running.entry.writer.progress }
     {
         match running.writer.status() {

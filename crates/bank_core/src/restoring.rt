@@ -28,7 +28,8 @@ impl<const B: usize, const M: usize, const E: usize> Bank<B, M, E> {
         requires gap { gap ≤ self.old.kept.shape.lines }
         requires counter { counter ≤ self.old.kept.shape.psi }
         requires one_due { IsOneDue (region_restored i start gap counter self.old.kept) }
-        ensures bank { self.new ≡ with_kept self.old (region_restored i start gap counter self.old.kept) }
+        ensures bank { self.new ≡ with_kept self.old
+            (region_restored i start gap counter self.old.kept) }
         ensures in_range { IsKept self.new.kept }
     {
         self.kept.restore_region(i, start, gap, counter);

@@ -1,30 +1,18 @@
 -- What follows from a bank's kept state is what follows from its history.
 use Rattle.std.proofs.Common.{◌≡◌, ◌≢◌, ℕ, ◌+◌, ◌*◌, ◌/◌, ◌<◌, ◌≤◌, ◌==◌, ◌&&◌, ◌||◌, nat_le, not, cond, inl, inr, refl, sym, ap, subst, ◌∙◌, arith, true, false, List, [], ◌∷◌, map, Option, Some, None, is_some, IfSome}
-use Rattle.std.specs.List.{list_any}
-use Rattle.std.proofs.lemmas.Bool.{cases_eq, le-leb, lt-leb}
-use Rattle.std.proofs.lemmas.Nat.{div_below}
-use Rattle.std.proofs.Math.Nat.{mul-le-mul_left}
+use Rattle.std.{specs.List.list_any, proofs.Math.Nat.mul-le-mul_left, proofs.lemmas.Bool.{cases_eq, le-leb, lt-leb}, proofs.lemmas.Nat.div_below}
 use Rattle.masked_bytes.specs.declared.entry.Entry.{Entry}
 use Rattle.cell_rows.specs.Device.{ArrayState}
-use Rattle.start_gap.specs.Rotation.{move_after}
-use Rattle.start_gap.proofs.Turning.{move-stands}
+use Rattle.start_gap.{specs.Rotation.move_after, proofs.Turning.move-stands}
 use Rattle.spare_pool.specs.Table.{line_by}
-use Rattle.bank_shape.specs.declared.Work.{Work}
-use Rattle.bank_shape.specs.declared.Work.TheVariants.{Nothing, Store, Copy}
+use Rattle.bank_shape.specs.{Kinds.is_store, declared.Work.Work, declared.Work.TheVariants.{Nothing, Store, Copy}}
 use Rattle.power_recovery.specs.Kept.{AllBelow, region_at, slot_of, array_line, stands_at, due_region, due_work, next_work, target_slot}
-use Rattle.power_recovery.proofs.Placing.{region-exists, slot_of-after}
-use Rattle.power_recovery.proofs.Bundle.{due_region-Some, due_region-is, due_region-None}
-use Rattle.bank_shape.specs.Kinds.{is_store}
-use Rattle.bank_model.specs.Events.{BankEvent}
-use Rattle.bank_model.specs.History.{Awaited, queue, waits, in_progress, stores, moved_in, stored_in, due_after, has_exhausted, first_or}
-use Rattle.bank_model.specs.After as after
-use Rattle.bank_model.specs.After.{slot_after, array_line_after, stands_at_after, work_after, slot_of_work, target_after, is_ready, may_begin_after}
-use Rattle.bank_model.specs.Answers.{head_busy_after}
+use Rattle.power_recovery.proofs.{Bundle.{due_region-Some, due_region-is, due_region-None}, Placing.{region-exists, slot_of-after}}
+use Rattle.bank_model.specs.{After.{slot_after, array_line_after, stands_at_after, work_after, slot_of_work, target_after, is_ready, may_begin_after}, Answers.head_busy_after}
+use Rattle.bank_model.specs.{Events.BankEvent, History.{Awaited, queue, waits, in_progress, stores, moved_in, stored_in, due_after, has_exhausted, first_or}}
 use Rattle.bank_model.proofs.Within.{last_store-known}
-use Rattle.bank_invariant.specs.State.{BankState, Operation, target_of, is_free, may_begin, is_storing}
-use Rattle.bank_invariant.specs.Tied.{IsRunning}
-use Rattle.bank_invariant.specs.Holds.{Holds, waiting_of}
-use Rattle.bank_invariant.specs.Bridge.{AgreeLaw}
+use Rattle.bank_model.specs.After as after
+use Rattle.bank_invariant.specs.{Bridge.AgreeLaw, Holds.{Holds, waiting_of}, State.{BankState, Operation, target_of, is_free, may_begin, is_storing}, Tied.IsRunning}
 
 -- Counters
 

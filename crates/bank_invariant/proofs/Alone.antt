@@ -1,21 +1,14 @@
 -- A head that isn't complete is the only entry of its line: entries of one line merge, except into a head that is being stored, and
 -- such a head is complete.
 use Rattle.std.proofs.Common.{◌≡◌, ℕ, ◌==◌, ◌&&◌, not, if◌then◌else◌, inl, inr, ◌⊎◌, Bool, true, false, List, [], ◌∷◌, ◌++◌, drop, Option, Some, None, refl, ap, ◌∙◌}
-use Rattle.masked_bytes.proofs.Truth.{and_first, and_second, differ_sym}
 use Rattle.std.specs.Prelude.{IsTrue}
-use Rattle.masked_bytes.specs.Masked.{joined, gives_all, all_given, IsMasked}
-use Rattle.masked_bytes.specs.Entries.{or_this, newest_row, candidate, laid_on, merged, no_layer, layer_of}
-use Rattle.masked_bytes.specs.declared.entry.Entry.{Entry}
-use Rattle.masked_bytes.proofs.Layering.{joined-all_given, gives_all-all_given}
-use Rattle.bank_shape.specs.declared.BankShape.{BankShape}
+use Rattle.masked_bytes.specs.{Entries.{or_this, newest_row, candidate, laid_on, merged, no_layer, layer_of}, Masked.{joined, gives_all, all_given, IsMasked}}
+use Rattle.masked_bytes.{specs.declared.entry.Entry.Entry, proofs.Layering.{joined-all_given, gives_all-all_given}, proofs.Truth.{and_first, and_second, differ_sym}}
+use Rattle.bank_shape.specs.{Kinds.is_store, declared.BankShape.BankShape, declared.Work.TheVariants.Nothing}
 use Rattle.bank_shape.specs.declared.answer.WriteAnswer.TheVariants as wrote
 use Rattle.bank_shape.specs.declared.answer.Step.TheVariants as did
-use Rattle.bank_model.specs.Events.{BankEvent, Write, Read, Serve, Begin, Iterate, Cut, newest}
+use Rattle.bank_model.specs.{After.{due_work, work_after, is_ready}, Answers.{MayAll, head_busy_after}, Events.{BankEvent, Write, Read, Serve, Begin, Iterate, Cut, newest}}
 use Rattle.bank_model.specs.History.{Awaited, queue, waits, begun, due_after, has_exhausted, in_progress}
-use Rattle.bank_model.specs.After.{due_work, work_after, is_ready}
-use Rattle.bank_model.specs.Answers.{MayAll, head_busy_after}
-use Rattle.bank_shape.specs.declared.Work.TheVariants.{Nothing}
-use Rattle.bank_shape.specs.Kinds.{is_store}
 use Rattle.bank_invariant.proofs.Taking.{answer_accepted}
 
 -- a head that doesn't give each byte of its line is the only entry of its line

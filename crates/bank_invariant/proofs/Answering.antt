@@ -1,18 +1,13 @@
 -- A bank answers a write as its history says.
 use Rattle.std.proofs.Common.{◌≡◌, ℕ, ◌<◌, ◌≤◌, ◌==◌, Bool, true, false, if◌then◌else◌, nat_lt, List, length, Option, Some, None, refl, sym, ap, ◌∙◌, arith, eq-eqb, ltb-true, ltb-false}
 use Rattle.std.proofs.lemmas.Bool.{ne_eqb}
-use Rattle.masked_bytes.specs.Entries.{candidate, candidate_index, row_at}
-use Rattle.masked_bytes.specs.declared.entry.Entry.{Entry}
+use Rattle.masked_bytes.{specs.Entries.{candidate, candidate_index, row_at}, specs.declared.entry.Entry.Entry, proofs.Queueing.{candidate-index, candidate-none}}
 use Rattle.protected_queue.specs.declared.accept.Accept.TheVariants as took
 use Rattle.protected_queue.specs.Queue as taking
-use Rattle.power_recovery.specs.Kept.{KeptState}
-use Rattle.power_recovery.specs.Events.{with_entries, accepted_kept}
+use Rattle.power_recovery.specs.{Events.{with_entries, accepted_kept}, Kept.KeptState}
 use Rattle.bank_shape.specs.declared.BankShape.{BankShape}
 use Rattle.bank_shape.specs.declared.answer.WriteAnswer.TheVariants as wrote
-use Rattle.bank_model.specs.Events.{BankEvent}
-use Rattle.bank_model.specs.History.{queue, has_exhausted}
-use Rattle.bank_model.specs.Answers.{accept_answer, head_busy_after}
-use Rattle.masked_bytes.proofs.Queueing.{candidate-index, candidate-none}
+use Rattle.bank_model.specs.{Answers.{accept_answer, head_busy_after}, Events.BankEvent, History.{queue, has_exhausted}}
 use Rattle.bank_invariant.specs.WriteAnswers.{written, WriteAnswerLaw, RefusalLaw}
 
 -- the queue answers by whether there is room and where the candidate stands, the history by whether it is full and by the candidate's row

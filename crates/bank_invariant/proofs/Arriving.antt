@@ -1,11 +1,8 @@
 -- Writes that the queue takes in, with nothing left to premise.
 use Rattle.std.proofs.Common.{refl}
 use Rattle.line_writer.specs.Writing.{most_steps}
-use Rattle.bank_invariant.specs.State.{is_storing}
-use Rattle.bank_invariant.specs.Writes.{AcceptedWriteLaw, MergedWriteLaw}
+use Rattle.bank_invariant.{specs.State.is_storing, specs.Writes.{AcceptedWriteLaw, MergedWriteLaw}, proofs.Agreeing.agree_law, proofs.Naming.rows-apart}
 use Rattle.bank_invariant.proofs.Taking.{accepted_law, merged_law}
-use Rattle.bank_invariant.proofs.Agreeing.{agree_law}
-use Rattle.bank_invariant.proofs.Naming.{rows-apart}
 
 pub accepted_write_law : AcceptedWriteLaw
 accepted_write_law n m e row line bytes given h bank array holds above may =

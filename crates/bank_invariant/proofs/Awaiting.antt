@@ -1,39 +1,19 @@
 -- Reads that begin to wait and are served, and arrays that were only sensed.
 use Rattle.std.proofs.Common.{◌≡◌, ◌≢◌, ℕ, ◌+◌, ◌*◌, ◌<◌, ◌≤◌, ◌==◌, cond, refl, sym, ap, subst, ◌∙◌, arith, Bool, true, false, List, [], ◌∷◌, ◌++◌, map, length, drop, get_or, slice_get, length-append, eq-eqb, Option, Some, None, IfSome, IsTrue}
-use Rattle.std.specs.Prelude.{IsSomeAnd, All}
-use Rattle.std.proofs.lemmas.Bool.{eqb-false}
-use Rattle.std.proofs.lemmas.List.{map_push, length-map, drop-map}
-use Rattle.std.proofs.lemmas.List.Elements.{All-push, All-drop}
-use Rattle.masked_bytes.specs.Masked.{laid, gives_all}
-use Rattle.masked_bytes.specs.Entries.{Layer, layer_of, AllMasked}
-use Rattle.masked_bytes.specs.declared.entry.Entry.{Entry}
-use Rattle.masked_bytes.proofs.Layering.{length-laid, laid-all_given, joined-all_given, gives_all-all_given, all_given-gives_all}
-use Rattle.masked_bytes.proofs.Queueing.{IsLayer-layer_of}
-use Rattle.cell_rows.specs.declared.array.Sense.{Sense}
-use Rattle.cell_rows.specs.Device.{ArrayState, LineState, Senses}
+use Rattle.std.{specs.Prelude.{IsSomeAnd, All}, proofs.lemmas.Bool.eqb-false, proofs.lemmas.List.{map_push, length-map, drop-map}, proofs.lemmas.List.Elements.{All-push, All-drop}}
+use Rattle.masked_bytes.specs.{Entries.{Layer, layer_of, AllMasked}, Masked.{laid, gives_all}, declared.entry.Entry.Entry}
+use Rattle.masked_bytes.proofs.{Layering.{length-laid, laid-all_given, joined-all_given, gives_all-all_given, all_given-gives_all}, Queueing.IsLayer-layer_of}
+use Rattle.cell_rows.specs.{Device.{ArrayState, LineState, Senses}, declared.array.Sense.Sense}
 use Rattle.ecp_line.specs.Reading.{decode, IsSoundLine, IsWornLine}
-use Rattle.line_writer.specs.Orderly.{IsLive}
-use Rattle.line_writer.proofs.Untouched.{AreUntouched-same}
-use Rattle.line_writer.proofs.Orderly.{AreOrderly-same}
-use Rattle.bank_shape.specs.declared.BankShape.{BankShape}
-use Rattle.bank_shape.specs.declared.Work.{Work}
-use Rattle.bank_shape.specs.declared.Work.TheVariants.{Nothing, Store, Copy}
-use Rattle.bank_shape.specs.Shape.{slot_at}
-use Rattle.power_recovery.specs.Kept.{KeptState, array_line, stands_at}
-use Rattle.bank_shape.specs.declared.answer.ReadAnswer.{ReadAnswer}
+use Rattle.line_writer.{specs.Orderly.IsLive, proofs.Orderly.AreOrderly-same, proofs.Untouched.AreUntouched-same}
+use Rattle.bank_shape.specs.{Shape.slot_at, declared.BankShape.BankShape, declared.Work.Work, declared.Work.TheVariants.{Nothing, Store, Copy}}
+use Rattle.bank_shape.specs.{declared.answer.ReadAnswer.ReadAnswer, declared.waiting.Waiting.Waiting}
 use Rattle.bank_shape.specs.declared.answer.ReadAnswer.TheVariants as came
-use Rattle.bank_model.proofs.Newest.{length-newest}
-use Rattle.bank_model.specs.Events.{BankEvent, Write, Read, Serve, Begin, Iterate, Cut, newest}
-use Rattle.bank_model.specs.History.{Awaited, awaited, queue, waits, iterated}
-use Rattle.bank_model.specs.Answers.{MayAll, IsServed}
-use Rattle.bank_model.specs.Touching.{Touches}
-use Rattle.bank_shape.specs.declared.waiting.Waiting.{Waiting}
-use Rattle.bank_invariant.specs.State.{BankState, Operation}
-use Rattle.bank_invariant.specs.Tied.{StandsAs, decoded, IsUnderWay, IsOf, IsRunning, AreSound, AreTied}
-use Rattle.bank_invariant.specs.Holds.{Holds, waiting_of}
-use Rattle.bank_invariant.specs.Serving.{kept_with, served_from, WaitingLaw, SensedLaw, MayReadLaw, MayServeLaw, ServedLaw}
-use Rattle.bank_model.proofs.Rising.{RowsBelow-more}
-use Rattle.bank_invariant.proofs.Agreeing.{agree_law}
+use Rattle.power_recovery.specs.Kept.{KeptState, array_line, stands_at}
+use Rattle.bank_model.specs.{Answers.{MayAll, IsServed}, Events.{BankEvent, Write, Read, Serve, Begin, Iterate, Cut, newest}, History.{Awaited, awaited, queue, waits, iterated}}
+use Rattle.bank_model.{specs.Touching.Touches, proofs.Newest.length-newest, proofs.Rising.RowsBelow-more}
+use Rattle.bank_invariant.specs.{Holds.{Holds, waiting_of}, Serving.{kept_with, served_from, WaitingLaw, SensedLaw, MayReadLaw, MayServeLaw, ServedLaw}}
+use Rattle.bank_invariant.{specs.State.{BankState, Operation}, specs.Tied.{StandsAs, decoded, IsUnderWay, IsOf, IsRunning, AreSound, AreTied}, proofs.Agreeing.agree_law}
 
 -- Arrays that stand as before
 

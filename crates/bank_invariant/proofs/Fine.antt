@@ -2,19 +2,11 @@
 use Rattle.std.proofs.Common.{◌≡◌, ◌∙◌, ℕ, ◌≤◌, true, false, List, Option, Some, sym, subst, arith}
 use Rattle.std.specs.Prelude.{IfSome}
 use Rattle.cell_rows.specs.Device.{ArrayState, LineState}
-use Rattle.program_verify.specs.declared.prog.Prog.{Prog}
-use Rattle.program_verify.specs.Programming.{IsRound, IsTear, is_wrong}
+use Rattle.program_verify.specs.{Programming.{IsRound, IsTear, is_wrong}, declared.prog.Prog.Prog}
 use Rattle.power_recovery.specs.Kept.{target_slot}
-use Rattle.line_writer.specs.Orderly.{IsLive, IsOrderly}
-use Rattle.line_writer.proofs.Rounds.{going}
-use Rattle.bank_model.specs.Events.{BankEvent}
-use Rattle.bank_model.specs.History.{iterated}
-use Rattle.bank_model.specs.Touching.{Strikes}
-use Rattle.bank_model.proofs.Sticking.{strikes-pulsed, strikes-torn}
-use Rattle.bank_invariant.specs.State.{BankState, Operation}
-use Rattle.bank_invariant.specs.Holds.{Holds}
-use Rattle.bank_invariant.specs.Fine.{FineWriteLaw}
-use Rattle.bank_invariant.proofs.Targets.{target-orderly}
+use Rattle.line_writer.{specs.Orderly.{IsLive, IsOrderly}, proofs.Rounds.going}
+use Rattle.bank_model.{specs.Events.BankEvent, specs.History.iterated, specs.Touching.Strikes, proofs.Sticking.{strikes-pulsed, strikes-torn}}
+use Rattle.bank_invariant.{specs.Fine.FineWriteLaw, specs.Holds.Holds, specs.State.{BankState, Operation}, proofs.Targets.target-orderly}
 use Rattle.bank_invariant.proofs.Tearing.{running_of, target_of_running}
 
 -- a cell of it that is wrong still has missed in each of them

@@ -1,44 +1,23 @@
 -- The end of a store.
 use Rattle.std.proofs.Common.{◌≡◌, ◌≢◌, ℕ, ◌+◌, ◌/◌, ◌<◌, ◌≤◌, ◌==◌, cond, if◌then◌else◌, inl, inr, Bool, true, false, List, [], ◌∷◌, length, drop, get_or, slice_get, slice_set, Option, Some, None, refl, sym, ap, subst, ◌∙◌, arith, eq-eqb, get_or-set_other}
-use Rattle.std.specs.Prelude.{IsSomeAnd, IsTrue, IfSome}
-use Rattle.std.proofs.lemmas.Bool.{cases_eq, ne_eqb}
-use Rattle.std.proofs.lemmas.Grind.{get_or-set_at}
-use Rattle.masked_bytes.specs.Masked.{laid, gives_all, IsMasked}
-use Rattle.masked_bytes.specs.Entries.{Layer, layer_of, completed, head_line, head_row, AllMasked}
-use Rattle.masked_bytes.specs.declared.entry.Entry.{Entry}
-use Rattle.masked_bytes.proofs.Layering.{laid-all_given, all_given-gives_all}
-use Rattle.masked_bytes.proofs.Standing.{layer_of-head, layer_of-head_other}
+use Rattle.std.{specs.Prelude.{IsSomeAnd, IsTrue, IfSome}, proofs.lemmas.Bool.{cases_eq, ne_eqb}, proofs.lemmas.Grind.get_or-set_at}
+use Rattle.masked_bytes.specs.{Entries.{Layer, layer_of, completed, head_line, head_row, AllMasked}, Masked.{laid, gives_all, IsMasked}, declared.entry.Entry.Entry}
+use Rattle.masked_bytes.proofs.{Layering.{laid-all_given, all_given-gives_all}, Standing.{layer_of-head, layer_of-head_other}}
 use Rattle.cell_rows.specs.Device.{ArrayState, LineState}
-use Rattle.ecp_line.specs.Reading.{decode}
-use Rattle.ecp_line.proofs.Bytes.{length-decode}
+use Rattle.ecp_line.{specs.Reading.decode, proofs.Bytes.length-decode}
 use Rattle.region_regs.specs.Region.{RegionState, after_store}
 use Rattle.line_writer.specs.Writing.{steps_left, most_steps}
-use Rattle.bank_shape.specs.declared.Work.{Work}
-use Rattle.bank_shape.specs.declared.Work.TheVariants.{Nothing, Store, Copy}
-use Rattle.bank_shape.specs.Shape.{slots_of}
-use Rattle.power_recovery.specs.Slots.{bank_lines}
-use Rattle.power_recovery.specs.Kept.{KeptState, no_region, region_at, slot_of, array_line, stands_at, due_region, due_work, next_work, target_slot}
-use Rattle.power_recovery.specs.Events.{with_entries, with_regions, completed_kept, stored_kept}
-use Rattle.power_recovery.proofs.Frames.{slot_of-stored}
-use Rattle.power_recovery.proofs.Placing.{slot_of-within, slot_of-apart}
-use Rattle.power_recovery.proofs.Bundle.{next_work-store, none_due, head-known, head_region-exists, IsKept-stored}
+use Rattle.bank_shape.specs.{Kinds.is_store, Shape.slots_of, declared.Work.Work, declared.Work.TheVariants.{Nothing, Store, Copy}}
 use Rattle.bank_shape.specs.declared.answer.Step.TheVariants as did
-use Rattle.bank_shape.specs.Kinds.{is_store}
-use Rattle.bank_model.specs.Events.{BankEvent, Begin, newest, line_of_row}
+use Rattle.power_recovery.specs.Events.{with_entries, with_regions, completed_kept, stored_kept}
+use Rattle.power_recovery.specs.{Kept.{KeptState, no_region, region_at, slot_of, array_line, stands_at, due_region, due_work, next_work, target_slot}, Slots.bank_lines}
+use Rattle.power_recovery.proofs.{Bundle.{next_work-store, none_due, head-known, head_region-exists, IsKept-stored}, Frames.slot_of-stored, Placing.{slot_of-within, slot_of-apart}}
+use Rattle.bank_model.specs.{After.work_after, Answers.{IsDone, IsIterated}, Events.{BankEvent, Begin, newest, line_of_row}}
 use Rattle.bank_model.specs.History.{Awaited, waits, iterated, stored_in, moved_in}
-use Rattle.bank_model.specs.After.{work_after}
-use Rattle.bank_model.specs.Answers.{IsDone, IsIterated}
-use Rattle.bank_invariant.specs.State.{BankState, Operation, target_of}
-use Rattle.bank_invariant.specs.Tied.{decoded, AreSound, IsOf}
-use Rattle.bank_invariant.specs.Holds.{Holds, IsRegionAfter, stands_for}
-use Rattle.bank_invariant.specs.Tearing.{DiffersAt}
-use Rattle.bank_invariant.specs.Storing.{StoredLaw, BegunStoredLaw, resting}
-use Rattle.bank_invariant.proofs.Targets.{next_store-slot, decoded-other, AreSound-differs, AreUntouched-differs, AreOrderly-differs}
+use Rattle.bank_invariant.specs.{Holds.{Holds, IsRegionAfter, stands_for}, State.{BankState, Operation, target_of}, Storing.{StoredLaw, BegunStoredLaw, resting}, Tearing.DiffersAt}
+use Rattle.bank_invariant.{specs.Tied.{decoded, AreSound, IsOf}, proofs.Agreeing.agree_law, proofs.Awaiting.sensed_law, proofs.Iterating.{under_way-steps, served-differs}}
+use Rattle.bank_invariant.proofs.{Naming.{AreNamed, queue-named, head-named}, Targets.{next_store-slot, decoded-other, AreSound-differs, AreUntouched-differs, AreOrderly-differs}}
 use Rattle.bank_invariant.proofs.Tearing.{running_of, target_of_running, in_progress_of}
-use Rattle.bank_invariant.proofs.Iterating.{under_way-steps, served-differs}
-use Rattle.bank_invariant.proofs.Agreeing.{agree_law}
-use Rattle.bank_invariant.proofs.Awaiting.{sensed_law}
-use Rattle.bank_invariant.proofs.Naming.{AreNamed, queue-named, head-named}
 
 -- The head
 

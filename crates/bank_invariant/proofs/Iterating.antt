@@ -1,39 +1,22 @@
 -- An iteration that goes on, and what every iteration leaves.
 use Rattle.std.proofs.Common.{◌≡◌, ◌≢◌, ℕ, ◌+◌, ◌-◌, ◌<◌, ◌≤◌, ◌==◌, inl, inr, List, [], ◌∷◌, map, get_or, refl, Option, Some, false, sym, ap, ◌∙◌, subst, arith}
-use Rattle.std.proofs.lemmas.Bool.{both_ways, cases_eq, ne_eqb, false_from_ne_true}
-use Rattle.std.proofs.lemmas.List.{length-map}
+use Rattle.std.{specs.Prelude.{IfSome, All}, proofs.Math.ListN.get_or-map, proofs.lemmas.Bool.{both_ways, cases_eq, ne_eqb, false_from_ne_true}, proofs.lemmas.List.length-map}
 use Rattle.std.proofs.lemmas.List.Elements.{All-push, All-drop}
-use Rattle.std.proofs.Math.ListN.{get_or-map}
-use Rattle.std.specs.Prelude.{IfSome, All}
 use Rattle.masked_bytes.specs.Masked.{laid}
 use Rattle.cell_rows.specs.Device.{ArrayState, LineState}
 use Rattle.start_gap.specs.Rotation.{Rotation, IsRotation, below_gap, move_by}
-use Rattle.line_writer.specs.declared.writer.LineWriter.{LineWriter}
-use Rattle.line_writer.specs.declared.writer.Progress.{Progress}
-use Rattle.line_writer.specs.Writing.{IsProgress, steps_left, most_steps}
-use Rattle.line_writer.specs.Orderly.{IsLive, IsOrderly}
+use Rattle.line_writer.specs.{Orderly.{IsLive, IsOrderly}, Writing.{IsProgress, steps_left, most_steps}, declared.writer.LineWriter.LineWriter, declared.writer.Progress.Progress}
 use Rattle.line_writer.proofs.Orderly.{plain}
-use Rattle.bank_shape.specs.declared.BankShape.{BankShape}
-use Rattle.bank_shape.specs.declared.Work.{Work}
-use Rattle.bank_shape.specs.declared.Work.TheVariants.{Nothing, Store, Copy}
-use Rattle.bank_shape.specs.Shape.{slot_at}
-use Rattle.power_recovery.specs.Slots.{bank_lines}
-use Rattle.power_recovery.specs.Kept.{KeptState, IsKept, region_at, slot_of, array_line, stands_at, target_slot, due_region, next_work}
-use Rattle.power_recovery.proofs.Placing.{slot_of-within, slot_at-place}
+use Rattle.bank_shape.specs.{Shape.slot_at, declared.BankShape.BankShape, declared.Work.Work, declared.Work.TheVariants.{Nothing, Store, Copy}, declared.waiting.Waiting.Waiting}
 use Rattle.bank_shape.proofs.Sizes.{slot_at-within}
-use Rattle.power_recovery.proofs.Bundle.{due_region-Some}
 use Rattle.bank_shape.specs.declared.answer.ReadAnswer.TheVariants as came
-use Rattle.bank_model.specs.Events.{BankEvent, Write, Read, Serve, Begin, Iterate, Cut}
-use Rattle.bank_model.specs.History.{Awaited, waits, iterated}
-use Rattle.bank_model.specs.Answers.{MayAll}
-use Rattle.bank_shape.specs.declared.waiting.Waiting.{Waiting}
-use Rattle.bank_invariant.specs.State.{BankState, Operation, target_of}
+use Rattle.power_recovery.specs.{Kept.{KeptState, IsKept, region_at, slot_of, array_line, stands_at, target_slot, due_region, next_work}, Slots.bank_lines}
+use Rattle.power_recovery.proofs.{Bundle.due_region-Some, Placing.{slot_of-within, slot_at-place}}
+use Rattle.bank_model.specs.{Answers.MayAll, Events.{BankEvent, Write, Read, Serve, Begin, Iterate, Cut}, History.{Awaited, waits, iterated}}
+use Rattle.bank_invariant.specs.{Holds.{Holds, waiting_of}, Iterating.{IteratedLaw, IsLater}, State.{BankState, Operation, target_of}, Tearing.DiffersAt}
 use Rattle.bank_invariant.specs.Tied.{decoded, AreSound, IsOf, IsRunning, IsUnderWay}
-use Rattle.bank_invariant.specs.Holds.{Holds, waiting_of}
-use Rattle.bank_invariant.specs.Tearing.{DiffersAt}
-use Rattle.bank_invariant.specs.Iterating.{IteratedLaw, IsLater}
-use Rattle.bank_invariant.proofs.Targets.{target-orderly, next_copy-region, decoded-other, decoded-off, stands_for-differs, AreSound-differs, AreUntouched-differs, AreOrderly-differs}
-use Rattle.bank_invariant.proofs.Tearing.{running_of, target_of_running, in_progress_of, not_exhausted_of}
+use Rattle.bank_invariant.proofs.Targets.{target-orderly, next_copy-region, decoded-other, decoded-off, stands_for-differs, AreSound-differs, AreUntouched-differs}
+use Rattle.bank_invariant.proofs.{Targets.AreOrderly-differs, Tearing.{running_of, target_of_running, in_progress_of, not_exhausted_of}}
 
 -- each read that waits is of a line of the bank
 pub waits-known : {n : ℕ} (shape : BankShape) (most : ℕ) (h : List (BankEvent n)) → MayAll shape most h

@@ -1,16 +1,13 @@
 -- Each entry of a history's queue has the row and the line of one of its writes.
 use Rattle.std.proofs.Common.{◌≡◌, ℕ, ◌<◌, ◌≤◌, ◌==◌, ◌&&◌, not, cond, if◌then◌else◌, Bool, true, false, List, [], ◌∷◌, ◌++◌, length, drop, Option, Some, None, refl, sym, ap, ◌∙◌, arith, eqb-true, eq-eqb}
 use Rattle.std.proofs.lemmas.Bool.{ne_eqb}
-use Rattle.masked_bytes.specs.Entries.{or_this, newest_row, candidate, laid_on, merged, head_row, head_line, has_row, RowsApart}
-use Rattle.masked_bytes.specs.declared.entry.Entry.{Entry}
+use Rattle.masked_bytes.specs.{Entries.{or_this, newest_row, candidate, laid_on, merged, head_row, head_line, has_row, RowsApart}, declared.entry.Entry.Entry}
 use Rattle.masked_bytes.proofs.Rows.{apart-push, apart-drop, apart-merged}
 use Rattle.bank_shape.specs.declared.BankShape.{BankShape}
 use Rattle.bank_shape.specs.declared.answer.WriteAnswer.TheVariants as wrote
 use Rattle.bank_shape.specs.declared.answer.Step.TheVariants as did
-use Rattle.bank_model.specs.Events.{BankEvent, Write, Read, Serve, Begin, Iterate, Cut, line_of_row, newest, RowsBelow}
-use Rattle.bank_model.specs.History.{queue, begun, due_after, has_exhausted}
-use Rattle.bank_model.specs.Answers.{MayAll, head_busy_after}
-use Rattle.bank_model.proofs.Begun.{apart-begun}
+use Rattle.bank_model.specs.{Answers.{MayAll, head_busy_after}, Events.{BankEvent, Write, Read, Serve, Begin, Iterate, Cut, line_of_row, newest, RowsBelow}}
+use Rattle.bank_model.{specs.History.{queue, begun, due_after, has_exhausted}, proofs.Begun.apart-begun}
 use Rattle.bank_invariant.proofs.Taking.{answer_merged}
 
 -- each entry's row is below a bound, and names its line

@@ -1,23 +1,15 @@
 -- Events that leave queue, registers and array as they are.
 use Rattle.std.proofs.Common.{◌≡◌, ℕ, ◌+◌, ◌/◌, ◌≤◌, Bool, List, [], ◌∷◌, map, is_some, refl, subst, arith}
 use Rattle.std.specs.Prelude.{All, IfSome}
-use Rattle.bank_model.proofs.Rising.{RowsBelow-more}
-use Rattle.masked_bytes.specs.Masked.{laid}
-use Rattle.masked_bytes.specs.declared.entry.Entry.{Entry}
+use Rattle.bank_model.specs.{Answers.MayAll, Events.{BankEvent, Read, newest, RowsBelow}}
+use Rattle.bank_model.{specs.History.{Awaited, queue, waits, in_progress, iterated, stores, stored_in, moved_in, retired, has_exhausted, first_or}, proofs.Rising.RowsBelow-more}
+use Rattle.masked_bytes.specs.{Masked.laid, declared.entry.Entry.Entry}
 use Rattle.cell_rows.specs.Device.{ArrayState}
-use Rattle.bank_shape.specs.declared.BankShape.{BankShape}
-use Rattle.bank_shape.specs.Shape.{slots_of}
-use Rattle.line_writer.specs.Writing.{steps_left, most_steps}
-use Rattle.line_writer.specs.Orderly.{IsLive}
-use Rattle.power_recovery.specs.Kept.{region_at, stands_at}
+use Rattle.bank_shape.specs.{Shape.slots_of, declared.BankShape.BankShape}
 use Rattle.bank_shape.specs.declared.answer.ReadAnswer.TheVariants as came
-use Rattle.bank_model.specs.Events.{BankEvent, Read, newest, RowsBelow}
-use Rattle.bank_model.specs.History.{Awaited, queue, waits, in_progress, iterated, stores, stored_in, moved_in, retired, has_exhausted, first_or}
-use Rattle.bank_model.specs.Answers.{MayAll}
-use Rattle.bank_invariant.specs.State.{BankState}
-use Rattle.bank_invariant.specs.Tied.{decoded}
-use Rattle.bank_invariant.specs.Holds.{Holds, IsRegionAfter, stands_for, waiting_of}
-use Rattle.bank_invariant.specs.Steps.{ForwardedLaw, BusyLaw, CutLaw}
+use Rattle.line_writer.specs.{Orderly.IsLive, Writing.{steps_left, most_steps}}
+use Rattle.power_recovery.specs.Kept.{region_at, stands_at}
+use Rattle.bank_invariant.specs.{Holds.{Holds, IsRegionAfter, stands_for, waiting_of}, State.BankState, Steps.{ForwardedLaw, BusyLaw, CutLaw}, Tied.decoded}
 
 -- what the invariant takes from a history, besides that its events may happen and its rows
 pub record Said (n : ℕ) : Type 0 where

@@ -1,36 +1,19 @@
 -- Iterations that find their line worn.
 use Rattle.std.proofs.Common.{◌≡◌, ◌≢◌, ℕ, ◌+◌, ◌<◌, ◌≤◌, cond, if◌then◌else◌, inl, inr, List, [], ◌∷◌, length, length-append, get_or, refl, Option, Some, None, Bool, true, false, sym, ap, ◌∙◌, subst, arith}
-use Rattle.std.proofs.lemmas.Bool.{cases_eq, ne_eqb, eq-eqb}
-use Rattle.std.specs.Prelude.{IfSome, IsTrue}
-use Rattle.masked_bytes.specs.Masked.{laid}
-use Rattle.masked_bytes.specs.Entries.{layer_of}
-use Rattle.masked_bytes.specs.declared.entry.Entry.{Entry}
+use Rattle.std.{specs.Prelude.{IfSome, IsTrue}, proofs.lemmas.Bool.{cases_eq, ne_eqb, eq-eqb}}
+use Rattle.masked_bytes.specs.{Entries.layer_of, Masked.laid, declared.entry.Entry.Entry}
 use Rattle.cell_rows.specs.Device.{ArrayState}
-use Rattle.spare_pool.specs.Table.{Table, line_by, used_by, retired_table}
-use Rattle.spare_pool.proofs.Lines.{line_by-apart}
+use Rattle.spare_pool.{specs.Table.{Table, line_by, used_by, retired_table}, proofs.Lines.line_by-apart}
 use Rattle.line_writer.specs.Writing.{steps_left, most_steps}
-use Rattle.bank_shape.specs.declared.Work.{Work}
-use Rattle.bank_shape.specs.declared.Work.TheVariants.{Nothing}
-use Rattle.bank_shape.specs.Shape.{slots_of}
-use Rattle.power_recovery.specs.Slots.{bank_lines}
-use Rattle.power_recovery.specs.Kept.{KeptState, IsKept, slot_of, array_line, stands_at, target_slot, due_region, due_work}
-use Rattle.power_recovery.specs.Events.{retired_kept, exhausted_kept}
-use Rattle.power_recovery.proofs.Placing.{slot_of-within}
-use Rattle.power_recovery.proofs.Bundle.{IsKept-exhausted, IsKept-retired}
-use Rattle.power_recovery.proofs.Frames.{array_line-retired}
-use Rattle.bank_model.specs.Events.{BankEvent}
-use Rattle.bank_model.specs.History.{Awaited, waits, iterated, retired}
-use Rattle.bank_shape.specs.declared.waiting.Waiting.{Waiting}
-use Rattle.ecp_line.specs.Reading.{IsSoundLine, IsWornLine}
-use Rattle.ecp_line.proofs.Bytes.{length-decode}
-use Rattle.bank_invariant.specs.State.{BankState, Operation, target_of}
-use Rattle.bank_invariant.specs.Tied.{decoded, AreSound}
-use Rattle.bank_invariant.specs.Holds.{Holds, stands_for}
-use Rattle.bank_invariant.specs.Tearing.{DiffersAt}
-use Rattle.bank_invariant.specs.Retiring.{ExhaustedLaw, RetiredLaw}
+use Rattle.bank_shape.specs.{Shape.slots_of, declared.Work.Work, declared.Work.TheVariants.Nothing, declared.waiting.Waiting.Waiting}
+use Rattle.power_recovery.specs.{Events.{retired_kept, exhausted_kept}, Kept.{KeptState, IsKept, slot_of, array_line, stands_at, target_slot, due_region, due_work}}
+use Rattle.power_recovery.{specs.Slots.bank_lines, proofs.Bundle.{IsKept-exhausted, IsKept-retired}, proofs.Frames.array_line-retired, proofs.Placing.slot_of-within}
+use Rattle.bank_model.specs.{Events.BankEvent, History.{Awaited, waits, iterated, retired}}
+use Rattle.ecp_line.{specs.Reading.{IsSoundLine, IsWornLine}, proofs.Bytes.length-decode}
+use Rattle.bank_invariant.specs.{Holds.{Holds, stands_for}, Retiring.{ExhaustedLaw, RetiredLaw}, State.{BankState, Operation, target_of}, Tearing.DiffersAt}
+use Rattle.bank_invariant.{specs.Tied.{decoded, AreSound}, proofs.Iterating.{under_way-steps, waits-off, served-differs}}
 use Rattle.bank_invariant.proofs.Targets.{IsTargetOf, laid-whole, decoded-off, stands_for-differs, AreSound-differs, AreUntouched-differs, AreOrderly-differs}
 use Rattle.bank_invariant.proofs.Tearing.{running_of, target_of_running, in_progress_of, not_exhausted_of}
-use Rattle.bank_invariant.proofs.Iterating.{under_way-steps, waits-off, served-differs}
 
 -- Exhaustion
 

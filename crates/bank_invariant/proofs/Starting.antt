@@ -1,39 +1,19 @@
 -- The begin of a line write that goes on.
 use Rattle.std.proofs.Common.{◌≡◌, ◌≢◌, ℕ, ◌<◌, ◌==◌, ◌||◌, not, inl, inr, ◌⊎◌, Bool, true, false, List, [], ◌∷◌, zero, suc, length, slice_get, None, is_some, refl, sym, ap, subst, ◌∙◌, arith, eq-eqb}
+use Rattle.std.{specs.List.list_any, specs.Prelude.{IsSomeAnd, IsTrue, All}, proofs.lemmas.Bool.{cases_eq, ne_eqb}}
+use Rattle.masked_bytes.specs.{Entries.{Layer, layer_of, no_layer, completed, head_line, AllMasked}, Masked.{laid, gives_all, all_given}, declared.entry.Entry.Entry}
+use Rattle.masked_bytes.proofs.{Layering.{length-laid, laid-none_given, gives_all-all_given, laid-again}, Standing.{layer_of-head, layer_of-completed, layer_of-completed_other}}
 use Rattle.masked_bytes.proofs.Truth.{and_second}
-use Rattle.std.specs.Prelude.{IsSomeAnd, IsTrue, All}
-use Rattle.std.specs.List.{list_any}
-use Rattle.std.proofs.lemmas.Bool.{cases_eq, ne_eqb}
-use Rattle.masked_bytes.specs.Masked.{laid, gives_all, all_given}
-use Rattle.masked_bytes.specs.Entries.{Layer, layer_of, no_layer, completed, head_line, AllMasked}
-use Rattle.masked_bytes.specs.declared.entry.Entry.{Entry}
-use Rattle.masked_bytes.proofs.Layering.{length-laid, laid-none_given, gives_all-all_given, laid-again}
-use Rattle.masked_bytes.proofs.Standing.{layer_of-head, layer_of-completed, layer_of-completed_other}
 use Rattle.cell_rows.specs.Device.{ArrayState, LineState}
-use Rattle.ecp_line.specs.Reading.{decode}
-use Rattle.ecp_line.proofs.Bytes.{length-decode}
+use Rattle.ecp_line.{specs.Reading.decode, proofs.Bytes.length-decode}
 use Rattle.line_writer.specs.Writing.{most_steps}
-use Rattle.bank_shape.specs.declared.Work.{Work}
-use Rattle.bank_shape.specs.declared.Work.TheVariants.{Store}
-use Rattle.bank_shape.specs.Shape.{slot_at}
-use Rattle.power_recovery.specs.Slots.{bank_lines}
-use Rattle.power_recovery.specs.Kept.{KeptState, slot_of, array_line, stands_at, due_region, next_work}
-use Rattle.power_recovery.specs.Events.{completed_kept}
-use Rattle.power_recovery.proofs.Frames.{next_work-completed}
-use Rattle.power_recovery.proofs.Bundle.{next_work-store, next_work-copy, head-known, IsKept-completed}
-use Rattle.bank_model.specs.Events.{newest}
-use Rattle.bank_model.specs.History.{begun, due_after}
-use Rattle.bank_shape.specs.declared.waiting.Waiting.{Waiting}
-use Rattle.bank_shape.specs.Kinds.{is_store, is_copy}
-use Rattle.bank_invariant.specs.State.{target_of, is_free}
-use Rattle.bank_invariant.specs.Tied.{decoded, AreSound, IsOf}
-use Rattle.bank_invariant.specs.Holds.{Holds}
-use Rattle.bank_invariant.specs.Beginning.{BegunStoreLaw, BegunCopyLaw}
+use Rattle.bank_shape.specs.{Kinds.{is_store, is_copy}, Shape.slot_at, declared.Work.Work, declared.Work.TheVariants.Store, declared.waiting.Waiting.Waiting}
+use Rattle.power_recovery.specs.{Events.completed_kept, Kept.{KeptState, slot_of, array_line, stands_at, due_region, next_work}, Slots.bank_lines}
+use Rattle.power_recovery.proofs.{Bundle.{next_work-store, next_work-copy, head-known, IsKept-completed}, Frames.next_work-completed}
+use Rattle.bank_model.specs.{Events.newest, History.{begun, due_after}}
+use Rattle.bank_invariant.specs.{Beginning.{BegunStoreLaw, BegunCopyLaw}, Holds.Holds, State.{target_of, is_free}, Tied.{decoded, AreSound, IsOf}}
+use Rattle.bank_invariant.proofs.{Agreeing.agree_law, Alone.{IsHeadAlone, head-alone}, Awaiting.sensed_law, Finishing.{whole-laid, next_store-line}}
 use Rattle.bank_invariant.proofs.Targets.{next_store-slot, next_copy-region}
-use Rattle.bank_invariant.proofs.Agreeing.{agree_law}
-use Rattle.bank_invariant.proofs.Alone.{IsHeadAlone, head-alone}
-use Rattle.bank_invariant.proofs.Awaiting.{sensed_law}
-use Rattle.bank_invariant.proofs.Finishing.{whole-laid, next_store-line}
 
 module _ {n : ℕ} where
   -- a store that may begin has no read of its line that waits

@@ -3,31 +3,19 @@ use Rattle.std.proofs.Common.{◌≡◌, ◌≢◌, ℕ, ◌+◌, ◌<◌, ◌==
 use Rattle.std.proofs.lemmas.Bool.{eqb-false, lt-ltb}
 use Rattle.cell_rows.specs.Device.{ArrayState}
 use Rattle.ecp_line.proofs.Bytes.{length-decode}
-use Rattle.masked_bytes.specs.Masked.{laid, IsMasked}
 use Rattle.masked_bytes.specs.Entries.{Layer, stacked, layer_of, candidate, candidate_index, newest_index, merged, merged_at, row_at, RowsApart, AllMasked}
-use Rattle.masked_bytes.specs.declared.entry.Entry.{Entry}
-use Rattle.masked_bytes.proofs.Layering.{laid-laid}
-use Rattle.masked_bytes.proofs.Queueing.{IsLayer, IsLayer-layer_of, layer_of-append, layer_of-append_other, newest_index-within, candidate_index-newest, candidate-index, candidate-none, merged-row_at}
-use Rattle.masked_bytes.proofs.Standing.{layer_of-merged_at, layer_of-merged_other}
+use Rattle.masked_bytes.{specs.Masked.{laid, IsMasked}, specs.declared.entry.Entry.Entry, proofs.Layering.laid-laid}
+use Rattle.masked_bytes.proofs.Queueing.{IsLayer, IsLayer-layer_of, layer_of-append, layer_of-append_other, newest_index-within, candidate_index-newest, candidate-index}
+use Rattle.masked_bytes.proofs.{Queueing.{candidate-none, merged-row_at}, Standing.{layer_of-merged_at, layer_of-merged_other}}
 use Rattle.protected_queue.specs.Queue.{accepted, accepted_by}
-use Rattle.bank_shape.specs.declared.BankShape.{BankShape}
-use Rattle.bank_shape.specs.declared.Work.{Work}
-use Rattle.bank_shape.specs.declared.Work.TheVariants.{Nothing, Store, Copy}
-use Rattle.power_recovery.specs.Kept.{KeptState, next_work, stands_at}
-use Rattle.power_recovery.specs.Events.{accepted_kept}
-use Rattle.power_recovery.proofs.Frames.{head-accepted_busy, next_work-accepted, next_work-due}
-use Rattle.power_recovery.proofs.Bundle.{IsKept-accepted, next_work-store, next_work-copy}
-use Rattle.bank_shape.specs.declared.answer.WriteAnswer.TheVariants as wrote
-use Rattle.bank_model.specs.Events.{BankEvent, Write, newest}
-use Rattle.bank_model.specs.History.{queue, has_exhausted}
-use Rattle.bank_model.specs.Answers.{accept_answer, head_busy_after}
+use Rattle.bank_shape.specs.{Kinds.{is_store, is_copy}, declared.BankShape.BankShape, declared.Work.Work, declared.Work.TheVariants.{Nothing, Store, Copy}}
 use Rattle.bank_shape.specs.declared.waiting.Waiting.{Waiting}
-use Rattle.bank_shape.specs.Kinds.{is_store, is_copy}
-use Rattle.bank_invariant.specs.State.{Operation, target_of, is_storing}
-use Rattle.bank_invariant.specs.Tied.{decoded, IsOf, IsRunning, AreTied}
-use Rattle.bank_invariant.specs.Writes.{FullLaw, ExhaustedWriteLaw, AcceptedLaw, MergedLaw}
+use Rattle.bank_shape.specs.declared.answer.WriteAnswer.TheVariants as wrote
+use Rattle.power_recovery.{specs.Events.accepted_kept, specs.Kept.{KeptState, next_work, stands_at}, proofs.Bundle.{IsKept-accepted, next_work-store, next_work-copy}}
+use Rattle.power_recovery.proofs.Frames.{head-accepted_busy, next_work-accepted, next_work-due}
+use Rattle.bank_model.{specs.Answers.{accept_answer, head_busy_after}, specs.Events.{BankEvent, Write, newest}, specs.History.{queue, has_exhausted}, proofs.Rising.RowsBelow-more}
+use Rattle.bank_invariant.specs.{State.{Operation, target_of, is_storing}, Tied.{decoded, IsOf, IsRunning, AreTied}, Writes.{FullLaw, ExhaustedWriteLaw, AcceptedLaw, MergedLaw}}
 use Rattle.bank_invariant.proofs.Quiet.{same_said}
-use Rattle.bank_model.proofs.Rising.{RowsBelow-more}
 
 -- Refused
 

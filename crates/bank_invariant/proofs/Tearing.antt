@@ -3,12 +3,8 @@ use Rattle.std.proofs.Common.{◌≡◌, ℕ, List, refl, Option, Some, None, tr
 use Rattle.std.specs.Prelude.{IfSome, IsTrue}
 use Rattle.cell_rows.specs.Device.{ArrayState}
 use Rattle.power_recovery.specs.Kept.{target_slot}
-use Rattle.bank_model.specs.Events.{BankEvent}
-use Rattle.bank_model.specs.History.{in_progress}
-use Rattle.bank_invariant.specs.State.{BankState, Operation}
-use Rattle.bank_invariant.specs.Tied.{IsRunning}
-use Rattle.bank_invariant.specs.Holds.{Holds}
-use Rattle.bank_invariant.specs.Tearing.{TornLaw}
+use Rattle.bank_model.specs.{Events.BankEvent, History.in_progress}
+use Rattle.bank_invariant.specs.{Holds.Holds, State.{BankState, Operation}, Tearing.TornLaw, Tied.IsRunning}
 use Rattle.bank_invariant.proofs.Targets.{IsTargetOf, running-target, stands_for-differs, AreSound-differs, AreUntouched-differs, AreOrderly-differs}
 
 module _ {n m e : ℕ} where

@@ -1,43 +1,23 @@
 -- A gap move that ends: the line that was copied stands in the old gap, and is read as it was; every other line stands where it did.
 use Rattle.std.proofs.Common.{◌≡◌, ◌≢◌, ℕ, ◌+◌, ◌/◌, ◌%◌, ◌<◌, ◌≤◌, ◌==◌, cond, not, ◌&&◌, inl, inr, true, false, List, ◌∷◌, get_or, Option, Some, None, is_some, refl, sym, ap, subst, ◌∙◌, arith, eq-eqb, get_or-set_other}
-use Rattle.std.specs.Prelude.{IfSome, IsTrue, All}
-use Rattle.std.proofs.lemmas.Bool.{cases_eq, ne_eqb}
-use Rattle.std.proofs.lemmas.Grind.{get_or-set_at}
-use Rattle.masked_bytes.specs.Masked.{laid}
-use Rattle.masked_bytes.specs.Entries.{layer_of}
+use Rattle.std.{specs.Prelude.{IfSome, IsTrue, All}, proofs.lemmas.Bool.{cases_eq, ne_eqb}, proofs.lemmas.Grind.get_or-set_at}
+use Rattle.masked_bytes.specs.{Entries.layer_of, Masked.laid}
 use Rattle.cell_rows.specs.Device.{ArrayState, LineState, CellBounds}
-use Rattle.start_gap.specs.declared.Move.{Move}
-use Rattle.start_gap.specs.Rotation.{StandsFor, place_by, move_by, advanced}
-use Rattle.start_gap.proofs.Turning.{stands-advanced}
+use Rattle.start_gap.{specs.Rotation.{StandsFor, place_by, move_by, advanced}, specs.declared.Move.Move, proofs.Turning.stands-advanced}
 use Rattle.region_regs.specs.Region.{RegionState, after_move}
-use Rattle.line_writer.specs.Writing.{steps_left, most_steps}
-use Rattle.line_writer.specs.Untouched.{HasUntouched}
-use Rattle.line_writer.specs.Orderly.{IsOrderly}
-use Rattle.bank_shape.specs.declared.Work.{Work}
-use Rattle.bank_shape.specs.declared.Work.TheVariants.{Copy}
-use Rattle.bank_shape.specs.Shape.{slots_of, slot_at}
-use Rattle.power_recovery.specs.Slots.{bank_lines}
-use Rattle.power_recovery.specs.Kept.{KeptState, IsKept, no_region, region_at, slot_of, array_line, stands_at, due_region, next_work}
-use Rattle.power_recovery.proofs.Placing.{slot_of-within, slot_of-off_gap}
-use Rattle.bank_shape.proofs.Sizes.{slot_at-within}
-use Rattle.power_recovery.proofs.Frames.{moved_at, moved_kept-at, slot_of-moved, slot_of-moved_region, slot_of-moved_other}
-use Rattle.power_recovery.proofs.Bundle.{due_region-Some, next_work-copy, IsKept-moved_at}
+use Rattle.line_writer.specs.{Orderly.IsOrderly, Untouched.HasUntouched, Writing.{steps_left, most_steps}}
+use Rattle.bank_shape.{specs.Kinds.is_copy, specs.Shape.{slots_of, slot_at}, specs.declared.Work.Work, specs.declared.Work.TheVariants.Copy, proofs.Sizes.slot_at-within}
 use Rattle.bank_shape.specs.declared.answer.Step.TheVariants as did
-use Rattle.bank_shape.specs.Kinds.{is_copy}
-use Rattle.bank_model.specs.Events.{BankEvent, Begin, Iterate, newest}
+use Rattle.power_recovery.specs.{Kept.{KeptState, IsKept, no_region, region_at, slot_of, array_line, stands_at, due_region, next_work}, Slots.bank_lines}
+use Rattle.power_recovery.proofs.Bundle.{due_region-Some, next_work-copy, IsKept-moved_at}
+use Rattle.power_recovery.proofs.{Frames.{moved_at, moved_kept-at, slot_of-moved, slot_of-moved_region, slot_of-moved_other}, Placing.{slot_of-within, slot_of-off_gap}}
+use Rattle.bank_model.specs.{After.{work_after, may_begin_after}, Answers.IsDone, Events.{BankEvent, Begin, Iterate, newest}}
 use Rattle.bank_model.specs.History.{Awaited, queue, begun, waits, in_progress, iterated, stores, stored_in, moved_in, due_after, first_or}
-use Rattle.bank_model.specs.After.{work_after, may_begin_after}
-use Rattle.bank_model.specs.Answers.{IsDone}
 use Rattle.ecp_line.specs.Reading.{IsSoundLine}
-use Rattle.bank_invariant.specs.State.{BankState, Operation, target_of, is_free}
-use Rattle.bank_invariant.specs.Tied.{decoded, AreTied}
-use Rattle.bank_invariant.specs.Holds.{Holds, IsRegionAfter, stands_for}
-use Rattle.bank_invariant.specs.Tearing.{DiffersAt}
-use Rattle.bank_invariant.specs.Moving.{MovedLaw, MovedAtOnceLaw, moved}
+use Rattle.bank_invariant.specs.{Holds.{Holds, IsRegionAfter, stands_for}, Moving.{MovedLaw, MovedAtOnceLaw, moved}, State.{BankState, Operation, target_of, is_free}}
+use Rattle.bank_invariant.{specs.Tearing.DiffersAt, specs.Tied.{decoded, AreTied}, proofs.Agreeing.agree_law, proofs.Iterating.{waits-known, under_way-steps}}
 use Rattle.bank_invariant.proofs.Targets.{IsTargetOf, next_copy-region, running-target, decoded-other, AreSound-differs, AreUntouched-differs, AreOrderly-differs}
 use Rattle.bank_invariant.proofs.Tearing.{running_of, in_progress_of}
-use Rattle.bank_invariant.proofs.Iterating.{waits-known, under_way-steps}
-use Rattle.bank_invariant.proofs.Agreeing.{agree_law}
 
 -- the gap that a move fills is a slot of the bank
 gap-within : {n : ℕ} (kept : KeptState n) (region : ℕ) (step : Move) → IsKept kept → next_work kept ≡ Copy region step

@@ -3,17 +3,12 @@ use Rattle.std.specs.Prelude.{◌≡◌, ℕ, ◌≤◌, List, [], ◌∷◌, �
 use Rattle.masked_bytes.specs.Masked.{laid}
 use Rattle.cell_rows.specs.Device.{ArrayState}
 use Rattle.start_gap.specs.declared.Move.{Move}
-use Rattle.bank_shape.specs.declared.Work.{Work}
-use Rattle.bank_shape.specs.declared.Work.TheVariants.{Nothing, Store, Copy}
-use Rattle.bank_shape.specs.Shape.{slot_at}
-use Rattle.line_writer.specs.Writing.{steps_left, most_steps}
-use Rattle.power_recovery.specs.Kept.{KeptState, array_line, next_work}
-use Rattle.power_recovery.specs.Events.{completed_kept}
+use Rattle.bank_shape.specs.{Shape.slot_at, declared.Work.Work, declared.Work.TheVariants.{Nothing, Store, Copy}}
 use Rattle.bank_shape.specs.declared.answer.Step.TheVariants as did
+use Rattle.line_writer.specs.Writing.{steps_left, most_steps}
+use Rattle.power_recovery.specs.{Events.completed_kept, Kept.{KeptState, array_line, next_work}}
 use Rattle.bank_model.specs.Events.{BankEvent, Begin}
-use Rattle.bank_invariant.specs.State.{BankState, Operation, may_begin, target_of}
-use Rattle.bank_invariant.specs.Tied.{StandsAs, decoded, IsUnderWay}
-use Rattle.bank_invariant.specs.Holds.{Holds}
+use Rattle.bank_invariant.specs.{Holds.Holds, State.{BankState, Operation, may_begin, target_of}, Tied.{StandsAs, decoded, IsUnderWay}}
 
 module _ {n : ℕ} where
   -- the array line that a work copies

@@ -2,12 +2,9 @@
 use Rattle.std.specs.Prelude.{◌≡◌, ℕ, ◌*◌, ◌<◌, List}
 use Rattle.cell_rows.specs.Device.{ArrayState}
 use Rattle.power_recovery.specs.Kept.{slot_of, array_line, stands_at, due_region, next_work}
-use Rattle.bank_model.specs.Events.{BankEvent}
+use Rattle.bank_model.specs.{After.{slot_after, array_line_after, stands_at_after, work_after, target_after, may_begin_after}, Answers.head_busy_after, Events.BankEvent}
 use Rattle.bank_model.specs.History.{due_after}
-use Rattle.bank_model.specs.After.{slot_after, array_line_after, stands_at_after, work_after, target_after, may_begin_after}
-use Rattle.bank_model.specs.Answers.{head_busy_after}
-use Rattle.bank_invariant.specs.State.{BankState, target_of, may_begin, is_storing}
-use Rattle.bank_invariant.specs.Holds.{Holds}
+use Rattle.bank_invariant.specs.{Holds.Holds, State.{BankState, target_of, may_begin, is_storing}}
 
 -- what follows from the state of a bank is what follows from this history
 pub record AgreesWith {n m e : ℕ} (h : List (BankEvent n)) (bank : BankState n m e) : Type 0 where

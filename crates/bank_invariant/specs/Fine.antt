@@ -2,10 +2,8 @@
 use Rattle.std.specs.Prelude.{◌≡◌, ℕ, ◌≤◌, List, Some}
 use Rattle.cell_rows.specs.Device.{ArrayState}
 use Rattle.line_writer.specs.Orderly.{IsLive}
-use Rattle.bank_model.specs.Events.{BankEvent}
-use Rattle.bank_model.specs.History.{iterated}
-use Rattle.bank_invariant.specs.State.{BankState, Operation}
-use Rattle.bank_invariant.specs.Holds.{Holds}
+use Rattle.bank_model.specs.{Events.BankEvent, History.iterated}
+use Rattle.bank_invariant.specs.{Holds.Holds, State.{BankState, Operation}}
 
 -- a line write in progress on a line of which no cell is stuck has had at most as many iterations as the cells of its array may miss:
 -- so with its last one it takes at most one more

@@ -1,20 +1,15 @@
 -- That a history leads to a bank over an array.
 use Rattle.std.specs.Prelude.{◌≡◌, ℕ, ◌+◌, ◌*◌, ◌/◌, ◌<◌, ◌≤◌, List, length, map, IfSome, is_some, All}
-use Rattle.masked_bytes.specs.Masked.{laid}
-use Rattle.masked_bytes.specs.Entries.{layer_of}
+use Rattle.masked_bytes.specs.{Entries.layer_of, Masked.laid}
 use Rattle.cell_rows.specs.Device.{ArrayState}
 use Rattle.start_gap.specs.Rotation.{StandsFor}
 use Rattle.region_regs.specs.Region.{RegionState}
-use Rattle.bank_shape.specs.Shape.{slots_of}
-use Rattle.line_writer.specs.Writing.{steps_left, most_steps}
-use Rattle.line_writer.specs.Orderly.{IsLive}
+use Rattle.bank_shape.specs.{Shape.slots_of, declared.waiting.Waiting.Waiting}
+use Rattle.line_writer.specs.{Orderly.IsLive, Writing.{steps_left, most_steps}}
 use Rattle.power_recovery.specs.Kept.{KeptState, IsKept, region_at, stands_at}
-use Rattle.bank_model.specs.Events.{BankEvent, newest, RowsBelow}
+use Rattle.bank_model.specs.{Answers.MayAll, Events.{BankEvent, newest, RowsBelow}}
 use Rattle.bank_model.specs.History.{Awaited, queue, waits, in_progress, iterated, stores, stored_in, moved_in, retired, has_exhausted, first_or}
-use Rattle.bank_model.specs.Answers.{MayAll}
-use Rattle.bank_shape.specs.declared.waiting.Waiting.{Waiting}
-use Rattle.bank_invariant.specs.State.{BankState}
-use Rattle.bank_invariant.specs.Tied.{decoded, IsTied}
+use Rattle.bank_invariant.specs.{State.BankState, Tied.{decoded, IsTied}}
 
 -- a region's registers and counter after so many moves and stores
 pub record IsRegionAfter (moves stores psi : ℕ) (state : RegionState) : Type 0 where

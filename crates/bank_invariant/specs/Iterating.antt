@@ -4,10 +4,7 @@ use Rattle.cell_rows.specs.Device.{ArrayState}
 use Rattle.line_writer.specs.Writing.{steps_left}
 use Rattle.bank_shape.specs.declared.answer.Step.TheVariants as did
 use Rattle.bank_model.specs.Events.{BankEvent, Iterate}
-use Rattle.bank_invariant.specs.State.{BankState, Operation}
-use Rattle.bank_invariant.specs.Tied.{IsUnderWay}
-use Rattle.bank_invariant.specs.Holds.{Holds}
-use Rattle.bank_invariant.specs.Tearing.{DiffersAt}
+use Rattle.bank_invariant.specs.{Holds.Holds, State.{BankState, Operation}, Tearing.DiffersAt, Tied.IsUnderWay}
 
 module _ {n m e : ℕ} where
   -- the bank with this line write in progress

@@ -2,16 +2,11 @@
 use Rattle.std.specs.Prelude.{◌≡◌, ℕ, List, ◌∷◌, Some, None}
 use Rattle.cell_rows.specs.Device.{ArrayState}
 use Rattle.start_gap.specs.declared.Move.{Move}
-use Rattle.bank_shape.specs.declared.Work.TheVariants.{Copy}
-use Rattle.bank_shape.specs.Shape.{slot_at}
-use Rattle.power_recovery.specs.Kept.{array_line, next_work}
-use Rattle.power_recovery.specs.Events.{moved_kept}
+use Rattle.bank_shape.specs.{Shape.slot_at, declared.Work.TheVariants.Copy}
 use Rattle.bank_shape.specs.declared.answer.Step.TheVariants as did
+use Rattle.power_recovery.specs.{Events.moved_kept, Kept.{array_line, next_work}}
 use Rattle.bank_model.specs.Events.{BankEvent, Begin, Iterate}
-use Rattle.bank_invariant.specs.State.{BankState, Operation, target_of}
-use Rattle.bank_invariant.specs.Tied.{StandsAs, decoded}
-use Rattle.bank_invariant.specs.Holds.{Holds}
-use Rattle.bank_invariant.specs.Tearing.{DiffersAt}
+use Rattle.bank_invariant.specs.{Holds.Holds, State.{BankState, Operation, target_of}, Tearing.DiffersAt, Tied.{StandsAs, decoded}}
 
 -- the bank after the gap move that was due: nothing is in progress
 abbrev pub moved : {n m e : ℕ} → BankState n m e → BankState n m e

@@ -3,15 +3,11 @@ use Rattle.std.specs.Prelude.{◌≡◌, ℕ, ◌<◌, List, ◌∷◌, None, So
 use Rattle.cell_rows.specs.Device.{ArrayState}
 use Rattle.spare_pool.specs.Table.{used_by}
 use Rattle.line_writer.specs.Writing.{most_steps}
-use Rattle.power_recovery.specs.Kept.{KeptState, target_slot}
-use Rattle.power_recovery.specs.Events.{retired_kept, exhausted_kept}
+use Rattle.power_recovery.specs.{Events.{retired_kept, exhausted_kept}, Kept.{KeptState, target_slot}}
 use Rattle.bank_shape.specs.declared.answer.Step.TheVariants as did
-use Rattle.bank_model.specs.Events.{BankEvent, Iterate}
-use Rattle.bank_model.specs.Answers.{MayHappen}
+use Rattle.bank_model.specs.{Answers.MayHappen, Events.{BankEvent, Iterate}}
 use Rattle.ecp_line.specs.Reading.{IsWornLine}
-use Rattle.bank_invariant.specs.State.{BankState, Operation}
-use Rattle.bank_invariant.specs.Holds.{Holds}
-use Rattle.bank_invariant.specs.Tearing.{DiffersAt}
+use Rattle.bank_invariant.specs.{Holds.Holds, State.{BankState, Operation}, Tearing.DiffersAt}
 
 module _ {n m e : ℕ} where
   -- the bank once its line write has ended, with what it keeps then

@@ -1,19 +1,13 @@
 -- How a read begins to wait, how it is served, and that the invariant is kept.
 use Rattle.std.specs.Prelude.{◌≡◌, ℕ, ◌+◌, ◌*◌, ◌<◌, ◌≤◌, ◌==◌, if◌then◌else◌, List, [], ◌∷◌, ◌++◌, drop, length}
-use Rattle.masked_bytes.specs.Masked.{laid, gives_all}
-use Rattle.masked_bytes.specs.Entries.{Layer, layer_of}
+use Rattle.masked_bytes.specs.{Entries.{Layer, layer_of}, Masked.{laid, gives_all}}
 use Rattle.cell_rows.specs.Device.{ArrayState}
 use Rattle.line_writer.specs.Writing.{most_steps}
 use Rattle.power_recovery.specs.Kept.{stands_at}
-use Rattle.bank_shape.specs.declared.answer.ReadAnswer.{ReadAnswer}
+use Rattle.bank_shape.specs.{declared.answer.ReadAnswer.ReadAnswer, declared.answer.Served.Served, declared.waiting.Waiting.Waiting}
 use Rattle.bank_shape.specs.declared.answer.ReadAnswer.TheVariants as came
-use Rattle.bank_shape.specs.declared.answer.Served.{Served}
-use Rattle.bank_model.specs.Events.{BankEvent, Read, Serve}
-use Rattle.bank_model.specs.Answers.{MayHappen}
-use Rattle.bank_shape.specs.declared.waiting.Waiting.{Waiting}
-use Rattle.bank_invariant.specs.State.{BankState}
-use Rattle.bank_invariant.specs.Tied.{StandsAs, decoded}
-use Rattle.bank_invariant.specs.Holds.{Holds}
+use Rattle.bank_model.specs.{Answers.MayHappen, Events.{BankEvent, Read, Serve}}
+use Rattle.bank_invariant.specs.{Holds.Holds, State.BankState, Tied.{StandsAs, decoded}}
 
 -- a read of a line, with what the queue gives of it
 abbrev pub kept_with : {n : ℕ} → ℕ → ℕ → Layer → Waiting n

@@ -1,15 +1,8 @@
 -- What contracts see of a bank.
-use Rattle.std.specs.Prelude.{ℕ, Bool, true, false, List, [], Option, Some, None, not, ◌&&◌, is_some}
-use Rattle.std.specs.List.{list_any}
-use Rattle.std.specs.Prelude.{◌==◌}
-use Rattle.bank_shape.specs.declared.BankShape.{BankShape}
-use Rattle.bank_shape.specs.declared.Work.{Work}
-use Rattle.bank_shape.specs.declared.Work.TheVariants.{Nothing, Store, Copy}
+use Rattle.std.specs.{List.list_any, Prelude.{ℕ, Bool, true, false, List, [], Option, Some, None, not, ◌&&◌, is_some, ◌==◌}}
+use Rattle.bank_shape.specs.{Kinds.is_store, declared.BankShape.BankShape, declared.Work.Work, declared.Work.TheVariants.{Nothing, Store, Copy}, declared.waiting.Waiting.Waiting}
 use Rattle.line_writer.specs.declared.writer.LineWriter.{LineWriter}
-use Rattle.power_recovery.specs.Kept.{KeptState, array_line, target_slot, next_work}
-use Rattle.power_recovery.specs.Events.{first_kept}
-use Rattle.bank_shape.specs.declared.waiting.Waiting.{Waiting}
-use Rattle.bank_shape.specs.Kinds.{is_store}
+use Rattle.power_recovery.specs.{Events.first_kept, Kept.{KeptState, array_line, target_slot, next_work}}
 
 -- a line write in progress: what it is for, the array line that it writes, and how far it has come
 pub record Operation (n m e : ℕ) : Type 0 where

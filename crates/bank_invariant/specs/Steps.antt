@@ -3,10 +3,8 @@ use Rattle.std.specs.Prelude.{ℕ, ◌+◌, ◌≤◌, false, List, [], ◌∷�
 use Rattle.cell_rows.specs.Device.{ArrayState}
 use Rattle.line_writer.specs.Writing.{most_steps}
 use Rattle.bank_shape.specs.declared.answer.ReadAnswer.TheVariants as came
-use Rattle.bank_model.specs.Events.{BankEvent, Read, Cut}
-use Rattle.bank_model.specs.Answers.{MayHappen}
-use Rattle.bank_invariant.specs.State.{BankState}
-use Rattle.bank_invariant.specs.Holds.{Holds}
+use Rattle.bank_model.specs.{Answers.MayHappen, Events.{BankEvent, Read, Cut}}
+use Rattle.bank_invariant.specs.{Holds.Holds, State.BankState}
 
 module _ {n m e : ℕ} where
   -- the bank after a read that was answered at once: only the bound above its rows has risen

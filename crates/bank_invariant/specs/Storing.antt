@@ -1,18 +1,12 @@
 -- How a store ends, by an iteration or as it is begun, and that the invariant is kept.
 use Rattle.std.specs.Prelude.{◌≡◌, ℕ, List, ◌∷◌, Some, None, IsTrue, slice_get}
-use Rattle.masked_bytes.specs.Masked.{laid}
-use Rattle.masked_bytes.specs.Entries.{head_row}
-use Rattle.masked_bytes.specs.declared.entry.Entry.{Entry}
+use Rattle.masked_bytes.specs.{Entries.head_row, Masked.laid, declared.entry.Entry.Entry}
 use Rattle.cell_rows.specs.Device.{ArrayState}
 use Rattle.bank_shape.specs.declared.Work.TheVariants.{Store}
-use Rattle.power_recovery.specs.Kept.{KeptState, array_line, next_work}
-use Rattle.power_recovery.specs.Events.{completed_kept, stored_kept}
 use Rattle.bank_shape.specs.declared.answer.Step.TheVariants as did
+use Rattle.power_recovery.specs.{Events.{completed_kept, stored_kept}, Kept.{KeptState, array_line, next_work}}
 use Rattle.bank_model.specs.Events.{BankEvent, Begin, Iterate}
-use Rattle.bank_invariant.specs.State.{BankState, Operation, may_begin}
-use Rattle.bank_invariant.specs.Tied.{StandsAs, decoded}
-use Rattle.bank_invariant.specs.Holds.{Holds}
-use Rattle.bank_invariant.specs.Tearing.{DiffersAt}
+use Rattle.bank_invariant.specs.{Holds.Holds, State.{BankState, Operation, may_begin}, Tearing.DiffersAt, Tied.{StandsAs, decoded}}
 
 module _ {n m e : ℕ} where
   -- the bank with no line write in progress that keeps this

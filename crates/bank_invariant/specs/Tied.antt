@@ -4,16 +4,10 @@ use Rattle.masked_bytes.specs.Masked.{gives_all}
 use Rattle.cell_rows.specs.Device.{ArrayState, LineState}
 use Rattle.ecp_line.specs.Reading.{decode, IsSoundLine, IsWornLine}
 use Rattle.spare_pool.specs.Table.{line_by, used_by}
-use Rattle.bank_shape.specs.declared.Work.{Work}
-use Rattle.bank_shape.specs.declared.Work.TheVariants.{Nothing, Store, Copy}
-use Rattle.bank_shape.specs.Shape.{slots_of, lines_in, slot_at}
-use Rattle.line_writer.specs.declared.writer.LineWriter.{LineWriter}
+use Rattle.bank_shape.specs.{Shape.{slots_of, lines_in, slot_at}, declared.Work.Work, declared.Work.TheVariants.{Nothing, Store, Copy}, declared.waiting.Waiting.Waiting}
+use Rattle.line_writer.specs.{Orderly.AreOrderly, Untouched.AreUntouched, Writing.Writes, declared.writer.LineWriter.LineWriter}
 use Rattle.line_writer.specs.declared.writer.Progress.TheVariants as progress
-use Rattle.line_writer.specs.Writing.{Writes}
-use Rattle.line_writer.specs.Untouched.{AreUntouched}
-use Rattle.line_writer.specs.Orderly.{AreOrderly}
 use Rattle.power_recovery.specs.Kept.{KeptState, array_line, due_region, due_work, next_work}
-use Rattle.bank_shape.specs.declared.waiting.Waiting.{Waiting}
 use Rattle.bank_invariant.specs.State.{BankState, Operation, target_of}
 
 -- an array stands as it was: it has as many lines, each of them is as it was, and its cells keep to the same bounds

@@ -1,15 +1,12 @@
 -- That a bank answers a write as its history says.
 use Rattle.std.specs.Prelude.{◌≡◌, ℕ, Bool, true, false, List}
 use Rattle.cell_rows.specs.Device.{ArrayState}
-use Rattle.protected_queue.specs.declared.accept.Accept.{Accept}
-use Rattle.protected_queue.specs.declared.accept.Accept.TheVariants.{Pushed, Merged, Full}
+use Rattle.protected_queue.specs.{declared.accept.Accept.Accept, declared.accept.Accept.TheVariants.{Pushed, Merged, Full}}
 use Rattle.protected_queue.specs.Queue as taking
 use Rattle.bank_shape.specs.declared.answer.WriteAnswer.{WriteAnswer}
 use Rattle.bank_shape.specs.declared.answer.WriteAnswer.TheVariants as wrote
-use Rattle.bank_model.specs.Events.{BankEvent}
-use Rattle.bank_model.specs.Answers.{write_answer, head_busy_after}
-use Rattle.bank_invariant.specs.State.{BankState}
-use Rattle.bank_invariant.specs.Holds.{Holds}
+use Rattle.bank_model.specs.{Answers.{write_answer, head_busy_after}, Events.BankEvent}
+use Rattle.bank_invariant.specs.{Holds.Holds, State.BankState}
 
 -- the answer of a bank to a write, by that of its queue
 abbrev pub written : Accept → WriteAnswer

@@ -1,17 +1,12 @@
 -- That each answer to a write keeps the invariant.
 use Rattle.std.specs.Prelude.{◌≡◌, ℕ, ◌+◌, ◌≤◌, Bool, List, ◌∷◌}
 use Rattle.cell_rows.specs.Device.{ArrayState}
-use Rattle.masked_bytes.specs.Entries.{RowsApart}
-use Rattle.masked_bytes.specs.declared.entry.Entry.{Entry}
+use Rattle.masked_bytes.specs.{Entries.RowsApart, declared.entry.Entry.Entry}
 use Rattle.line_writer.specs.Writing.{most_steps}
 use Rattle.power_recovery.specs.Events.{accepted_kept}
 use Rattle.bank_shape.specs.declared.answer.WriteAnswer.TheVariants as wrote
-use Rattle.bank_model.specs.Events.{BankEvent, Write}
-use Rattle.bank_model.specs.History.{queue}
-use Rattle.bank_model.specs.Answers.{MayHappen, head_busy_after}
-use Rattle.bank_invariant.specs.State.{BankState, is_storing}
-use Rattle.bank_invariant.specs.Holds.{Holds}
-use Rattle.bank_invariant.specs.Steps.{answered}
+use Rattle.bank_model.specs.{Answers.{MayHappen, head_busy_after}, Events.{BankEvent, Write}, History.queue}
+use Rattle.bank_invariant.specs.{Holds.Holds, State.{BankState, is_storing}, Steps.answered}
 
 module _ {n m e : ℕ} where
   -- the bank after its queue took a write: what it keeps is as `accepted_kept` says, and the bound above its rows has risen

@@ -1,17 +1,12 @@
 -- Which rows an event answers: they stand in the queue or wait.
 use Rattle.std.proofs.Common.{◌≡◌, ℕ, ◌==◌, ◌&&◌, not, Bool, true, false, List, [], ◌∷◌, Option, Some, None, drop, length, refl, sym, ap, ◌∙◌, subst, cond, eqb}
 use Rattle.std.proofs.lemmas.Bool.{eq-eqb, or_left, or_right}
-use Rattle.masked_bytes.specs.declared.entry.Entry.{Entry}
-use Rattle.masked_bytes.specs.Entries.{has_row, RowsApart, newest_row, candidate, or_this, head_row}
-use Rattle.bank_shape.specs.declared.BankShape.{BankShape}
-use Rattle.bank_shape.specs.declared.Work.TheVariants.{Nothing}
+use Rattle.masked_bytes.specs.{Entries.{has_row, RowsApart, newest_row, candidate, or_this, head_row}, declared.entry.Entry.Entry}
+use Rattle.bank_shape.specs.{declared.BankShape.BankShape, declared.Work.TheVariants.Nothing, declared.answer.Served.Served}
 use Rattle.bank_shape.specs.declared.answer.WriteAnswer.TheVariants as wrote
-use Rattle.bank_shape.specs.declared.answer.Served.{Served}
 use Rattle.bank_shape.specs.declared.answer.Step.TheVariants as did
-use Rattle.bank_model.specs.Events.{BankEvent}
+use Rattle.bank_model.specs.{After.{work_after, due_work}, Answers.{head_busy_after, accept_answer, write_answer, IsServed, IsDone}, Events.BankEvent}
 use Rattle.bank_model.specs.History.{Awaited, queue, due_after, has_exhausted}
-use Rattle.bank_model.specs.After.{work_after, due_work}
-use Rattle.bank_model.specs.Answers.{head_busy_after, accept_answer, write_answer, IsServed, IsDone}
 use Rattle.bank_laws.specs.Standing.{has_wait, WaitsApart}
 
 -- the first entry, or the first read that waits, has this row

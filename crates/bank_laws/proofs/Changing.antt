@@ -1,16 +1,12 @@
 -- While a change stands the bank's own line write rests, and one that has halted is written no more.
 use Rattle.std.proofs.Common.{◌≡◌, ℕ, Bool, true, false, List, [], ◌∷◌, Option, Some, None, refl}
 use Rattle.std.specs.Prelude.{is_some}
-use Rattle.bank_shape.specs.declared.BankShape.{BankShape}
+use Rattle.bank_shape.specs.{declared.BankShape.BankShape, declared.pace.Pace.Pace}
 use Rattle.bank_shape.specs.declared.answer.Step.TheVariants as did
 use Rattle.bank_shape.specs.declared.answer.Keep.TheVariants as keep
-use Rattle.bank_model.specs.Events.{Write, Read, Serve, Begin, Iterate, Cut}
-use Rattle.bank_model.specs.History.{in_progress}
-use Rattle.bank_shape.specs.declared.pace.Pace.{Pace}
+use Rattle.bank_model.specs.{Changes.{change_after, change_by, keeping_after, keeping_by, halted_after, halted_by}, Events.{Write, Read, Serve, Begin, Iterate, Cut}}
+use Rattle.bank_model.specs.{History.in_progress, Lawful.{Lawful, MayCome}, Running.{busy_by, made_by}}
 use Rattle.bank_model.specs.Timing.{Happens, Core, Regs, KeepBegin, KeepIterate, KeepCut, TimedEvent, core, core_of}
-use Rattle.bank_model.specs.Changes.{change_after, change_by, keeping_after, keeping_by, halted_after, halted_by}
-use Rattle.bank_model.specs.Running.{busy_by, made_by}
-use Rattle.bank_model.specs.Lawful.{Lawful, MayCome}
 
 pub busy-none : (change : Option ℕ) (keeping busy : Bool) → change ≡ None → busy_by change keeping busy ≡ busy
 busy-none None keeping busy is = refl

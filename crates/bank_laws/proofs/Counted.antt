@@ -1,11 +1,8 @@
 -- Pulses are counted up to the greatest u64.
 use Rattle.std.proofs.Common.{◌≡◌, ℕ, ◌+◌, ◌-◌, ◌<◌, ◌≤◌, ◌^◌, ◌⊎◌, inl, inr, Bool, true, false, List, [], ◌∷◌, cond, arith}
-use Rattle.std.proofs.Math.Nat.{min-le_right}
-use Rattle.std.specs.Prelude.{min}
-use Rattle.std.proofs.lemmas.Bool.{cases_lt}
+use Rattle.std.{specs.Prelude.min, proofs.Math.Nat.min-le_right, proofs.lemmas.Bool.cases_lt}
 use Rattle.cell_rows.specs.Device.{counted}
-use Rattle.bank_model.specs.Timing.{TimedEvent}
-use Rattle.bank_model.specs.Sensing.{is_at, pulses_of}
+use Rattle.bank_model.specs.{Sensing.{is_at, pulses_of}, Timing.TimedEvent}
 
 -- one more up to a bound is one more, or the same at the bound
 bounded : (most p : ℕ) → p ≤ most → (min (p + 1) most ≡ p) ⊎ (min (p + 1) most ≡ p + 1)

@@ -3,22 +3,12 @@ use Rattle.std.proofs.Common.{◌≡◌, ◌≢◌, ℕ, ◌⊎◌, inl, inr, Bo
 use Rattle.std.specs.Prelude.{unwrap_or}
 use Rattle.result_rows.specs.declared.Outcome.{Outcome}
 use Rattle.result_rows.specs.declared.Outcome.TheVariants as out
-use Rattle.row_rules.specs.declared.Asks.TheVariants.{Writes}
-use Rattle.row_rules.specs.Answers.{accepts}
-use Rattle.row_rules.specs.Serving.{may_have}
-use Rattle.bank_shape.specs.declared.BankShape.{BankShape}
-use Rattle.bank_shape.specs.declared.answer.WriteAnswer.{WriteAnswer}
+use Rattle.row_rules.specs.{Answers.accepts, Serving.may_have, declared.Asks.TheVariants.Writes}
+use Rattle.bank_shape.specs.{declared.BankShape.BankShape, declared.answer.WriteAnswer.WriteAnswer, declared.pace.Pace.Pace}
 use Rattle.bank_shape.specs.declared.answer.WriteAnswer.TheVariants as wrote
-use Rattle.bank_model.specs.Events.{Write}
-use Rattle.bank_model.specs.History.{queue}
-use Rattle.bank_shape.specs.declared.pace.Pace.{Pace}
-use Rattle.bank_model.specs.Timing.{Happens, Core, TimedEvent, core}
-use Rattle.bank_model.specs.Lawful.{Lawful, MayCome}
-use Rattle.bank_laws.specs.Outcomes.{on_row, outcome_with, outcome_of, ended}
-use Rattle.bank_laws.specs.Settling.{AreOpen}
-use Rattle.bank_laws.proofs.Answering.{merged-there}
-use Rattle.bank_laws.proofs.Settling.{stays}
-use Rattle.bank_laws.proofs.Fates.{IsLeft, WriteFate, WriteFateBy, ReadFate, ReadFateBy, write_fate, read_fate, new-push, new-merged}
+use Rattle.bank_model.specs.{Events.Write, History.queue, Lawful.{Lawful, MayCome}, Timing.{Happens, Core, TimedEvent, core}}
+use Rattle.bank_laws.{specs.Outcomes.{on_row, outcome_with, outcome_of, ended}, specs.Settling.AreOpen, proofs.Answering.merged-there}
+use Rattle.bank_laws.proofs.{Fates.{IsLeft, WriteFate, WriteFateBy, ReadFate, ReadFateBy, write_fate, read_fate, new-push, new-merged}, Settling.stays}
 
 -- what an event leaves stands in the end as said
 pub record Onwards {n m : ℕ} (shape : BankShape) (all ys : List (TimedEvent n m)) (tick : ℕ) (h : Happens n) : Type 0 where

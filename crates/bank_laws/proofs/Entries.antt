@@ -1,7 +1,7 @@
 -- The rows of waiting reads, as they come and go, and numbers that differ.
 use Rattle.std.proofs.Common.{◌≡◌, ℕ, ◌<◌, ◌==◌, Bool, true, false, List, [], ◌∷◌, ◌++◌, drop, refl, arith}
-use Rattle.masked_bytes.proofs.Truth.{neither_first, neither_second, differ_sym}
 use Rattle.std.proofs.lemmas.Bool.{ne_eqb, or_from}
+use Rattle.masked_bytes.proofs.Truth.{neither_first, neither_second, differ_sym}
 use Rattle.bank_model.specs.History.{Awaited}
 use Rattle.bank_laws.specs.Standing.{has_wait, WaitsApart}
 

@@ -1,27 +1,16 @@
 -- What becomes of a row: an accepted write leaves the queue or stays there, and a read that waits is answered or lost.
 use Rattle.std.proofs.Common.{◌≡◌, ◌≢◌, ℕ, ◌==◌, ◌||◌, ◌⊎◌, inl, inr, Bool, true, false, List, [], ◌∷◌, ◌++◌, Some, None, drop, refl, sym, ◌∙◌, subst, cond, eqb, eqb-true}
-use Rattle.std.specs.Prelude.{unwrap_or}
-use Rattle.std.proofs.lemmas.Bool.{eq-eqb, or_left, or_right}
+use Rattle.std.{specs.Prelude.unwrap_or, proofs.lemmas.Bool.{eq-eqb, or_left, or_right}}
 use Rattle.result_rows.specs.declared.Outcome.{Outcome}
 use Rattle.result_rows.specs.declared.Outcome.TheVariants as out
-use Rattle.masked_bytes.specs.declared.entry.Entry.{Entry}
-use Rattle.masked_bytes.specs.Entries.{has_row, merged, laid_on}
-use Rattle.bank_shape.specs.declared.BankShape.{BankShape}
+use Rattle.masked_bytes.specs.{Entries.{has_row, merged, laid_on}, declared.entry.Entry.Entry}
+use Rattle.bank_shape.specs.{declared.BankShape.BankShape, declared.answer.Served.Served, declared.pace.Pace.Pace}
 use Rattle.bank_shape.specs.declared.answer.WriteAnswer.TheVariants as wrote
 use Rattle.bank_shape.specs.declared.answer.ReadAnswer.TheVariants as came
-use Rattle.bank_shape.specs.declared.answer.Served.{Served}
 use Rattle.bank_shape.specs.declared.answer.Step.TheVariants as did
-use Rattle.bank_model.specs.Events.{Write, Read, Serve, Begin, Iterate, Cut, newest}
-use Rattle.bank_model.specs.History.{Awaited, queue, waits, due_after}
-use Rattle.bank_model.specs.Answers.{IsServed}
-use Rattle.bank_shape.specs.declared.pace.Pace.{Pace}
-use Rattle.bank_model.specs.Timing.{Happens, Core, Regs, TimedEvent, core, core_of}
-use Rattle.bank_model.specs.Lawful.{Lawful, MayCome}
-use Rattle.bank_model.proofs.Begun.{row-begun}
-use Rattle.bank_laws.specs.Outcomes.{on_row, outcome_with, outcome_of}
-use Rattle.bank_laws.specs.Standing.{has_wait}
-use Rattle.bank_laws.proofs.Answering.{IsHead, stored-head}
-use Rattle.bank_laws.proofs.Settling.{opens, step_stays}
+use Rattle.bank_model.specs.{Answers.IsServed, Events.{Write, Read, Serve, Begin, Iterate, Cut, newest}, History.{Awaited, queue, waits, due_after}, Lawful.{Lawful, MayCome}}
+use Rattle.bank_model.{specs.Timing.{Happens, Core, Regs, TimedEvent, core, core_of}, proofs.Begun.row-begun}
+use Rattle.bank_laws.{specs.Outcomes.{on_row, outcome_with, outcome_of}, specs.Standing.has_wait, proofs.Answering.{IsHead, stored-head}, proofs.Settling.{opens, step_stays}}
 
 module _ {n : ℕ} where
   -- the outcome of a write that has left the queue

@@ -1,15 +1,10 @@
 -- Which bytes the queue's entries of a line give, through each change of the queue.
 use Rattle.std.proofs.Common.{◌≡◌, ℕ, ◌==◌, ◌⊎◌, inl, inr, Bool, true, false, List, [], ◌∷◌, ◌++◌, Option, Some, None, length, refl, sym, ap, ◌∙◌, subst, cond, eqb, eq-eqb, eqb-true}
-use Rattle.masked_bytes.proofs.Truth.{neither_first, neither_second}
 use Rattle.std.proofs.lemmas.List.{length-replicate}
-use Rattle.masked_bytes.specs.declared.entry.Entry.{Entry}
-use Rattle.masked_bytes.specs.Masked.{joined, none_given}
-use Rattle.masked_bytes.specs.Entries.{layer_of, stacked, layer_by, newest_row, or_this, merged, laid_on, has_row, RowsApart}
-use Rattle.masked_bytes.proofs.Layering.{length-joined, joined-none_given, joined-none_right, joined-joined}
-use Rattle.bank_laws.specs.Pairs.{has_line}
-use Rattle.bank_laws.proofs.Pairs.{AllLong}
-use Rattle.bank_laws.proofs.Answering.{newest_row-there}
-use Rattle.bank_laws.proofs.Lines.{Stands, stands-row, newest-line}
+use Rattle.masked_bytes.specs.{Entries.{layer_of, stacked, layer_by, newest_row, or_this, merged, laid_on, has_row, RowsApart}, Masked.{joined, none_given}}
+use Rattle.masked_bytes.{specs.declared.entry.Entry.Entry, proofs.Layering.{length-joined, joined-none_given, joined-none_right, joined-joined}}
+use Rattle.masked_bytes.proofs.Truth.{neither_first, neither_second}
+use Rattle.bank_laws.{specs.Pairs.has_line, proofs.Answering.newest_row-there, proofs.Lines.{Stands, stands-row, newest-line}, proofs.Pairs.AllLong}
 
 module _ {n : ℕ} where
   -- the bytes that the entries of a line give

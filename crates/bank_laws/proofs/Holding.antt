@@ -1,17 +1,13 @@
 -- The queue and the waiting reads are never longer than they may be.
 use Rattle.std.proofs.Common.{◌≡◌, ℕ, ◌+◌, suc, ◌≤◌, Bool, true, false, List, [], ◌∷◌, ◌++◌, Option, Some, None, drop, length, refl, sym, ap, subst, arith, cond, eqb, length-append}
 use Rattle.std.proofs.lemmas.Bool.{eqb-false}
-use Rattle.masked_bytes.specs.declared.entry.Entry.{Entry}
-use Rattle.masked_bytes.specs.Masked.{gives_all}
-use Rattle.masked_bytes.specs.Entries.{merged, laid_on, candidate, layer_of}
-use Rattle.bank_shape.specs.declared.BankShape.{BankShape}
+use Rattle.masked_bytes.specs.{Entries.{merged, laid_on, candidate, layer_of}, Masked.gives_all, declared.entry.Entry.Entry}
+use Rattle.bank_shape.specs.{declared.BankShape.BankShape, declared.answer.ReadAnswer.ReadAnswer}
 use Rattle.bank_shape.specs.declared.answer.WriteAnswer.TheVariants as wrote
-use Rattle.bank_shape.specs.declared.answer.ReadAnswer.{ReadAnswer}
 use Rattle.bank_shape.specs.declared.answer.ReadAnswer.TheVariants as came
 use Rattle.bank_shape.specs.declared.answer.Step.TheVariants as did
-use Rattle.bank_model.specs.Events.{BankEvent, Write, Read, Serve, Begin, Iterate, Cut, newest}
+use Rattle.bank_model.specs.{Answers.{head_busy_after, accept_answer, write_answer, read_answer, MayAll}, Events.{BankEvent, Write, Read, Serve, Begin, Iterate, Cut, newest}}
 use Rattle.bank_model.specs.History.{begun, queue, waits, due_after, has_exhausted}
-use Rattle.bank_model.specs.Answers.{head_busy_after, accept_answer, write_answer, read_answer, MayAll}
 use Rattle.bank_laws.specs.Bounds.{HoldsFew, BoundLaw}
 
 length-push : {X : Type 0} (xs : List X) (x : X) → length (xs ++ x ∷ []) ≡ length xs + 1

@@ -1,14 +1,9 @@
 -- What comes behind some events: each end of an action is above their last tick, and so is what it stores.
 use Rattle.std.proofs.Common.{◌≡◌, ℕ, ◌<◌, ◌≤◌, ◌⊎◌, inl, inr, true, false, List, [], ◌∷◌, ◌++◌, arith}
 use Rattle.result_rows.specs.declared.Outcome.TheVariants as out
-use Rattle.bank_shape.specs.declared.BankShape.{BankShape}
-use Rattle.bank_shape.specs.declared.pace.Pace.{Pace}
-use Rattle.bank_model.specs.Timing.{TimedEvent, last_tick}
-use Rattle.bank_model.specs.Lawful.{Lawful}
-use Rattle.bank_laws.specs.Outcomes.{outcome_of}
-use Rattle.bank_laws.specs.Ticks.{ends_action}
-use Rattle.bank_laws.proofs.Ticks.{last_tick-rises, last-below}
-use Rattle.bank_laws.proofs.Wears.{stored_by}
+use Rattle.bank_shape.specs.{declared.BankShape.BankShape, declared.pace.Pace.Pace}
+use Rattle.bank_model.specs.{Lawful.Lawful, Timing.{TimedEvent, last_tick}}
+use Rattle.bank_laws.{specs.Outcomes.outcome_of, specs.Ticks.ends_action, proofs.Ticks.{last_tick-rises, last-below}, proofs.Wears.stored_by}
 
 -- each end of an action among these events is above a tick
 abbrev pub EndsAbove : {n m : ℕ} → ℕ → List (TimedEvent n m) → Type 0

@@ -1,17 +1,11 @@
 -- The entry of a row, with its line, and whether one of that line stands behind it.
 use Rattle.std.proofs.Common.{◌≡◌, ℕ, ◌==◌, ◌||◌, ◌&&◌, ◌⊎◌, inl, inr, not, Bool, true, false, List, [], ◌∷◌, ◌++◌, Option, Some, None, refl, sym, ap, ◌∙◌, subst, cond, eqb, eqb-true}
-use Rattle.std.proofs.lemmas.Bool.{eq-eqb, or_left, or_right}
-use Rattle.masked_bytes.specs.declared.entry.Entry.{Entry}
-use Rattle.masked_bytes.specs.Entries.{has_row, RowsApart, merged, laid_on, newest_row, candidate, or_this}
+use Rattle.std.{specs.Prelude.length, proofs.lemmas.Bool.{eq-eqb, or_left, or_right}}
+use Rattle.masked_bytes.specs.{Entries.{has_row, RowsApart, merged, laid_on, newest_row, candidate, or_this}, declared.entry.Entry.Entry}
 use Rattle.bank_shape.specs.declared.BankShape.{BankShape}
 use Rattle.bank_shape.specs.declared.answer.WriteAnswer.TheVariants as wrote
-use Rattle.bank_model.specs.Events.{BankEvent}
-use Rattle.bank_model.specs.History.{begun, queue, has_exhausted}
-use Rattle.bank_model.specs.Answers.{head_busy_after, accept_answer, write_answer}
-use Rattle.std.specs.Prelude.{length}
-use Rattle.bank_laws.specs.Pairs.{has_line}
-use Rattle.bank_laws.proofs.Answering.{newest_row-there}
-use Rattle.bank_laws.proofs.Pairs.{line-merged, no_candidate-rest}
+use Rattle.bank_model.specs.{Answers.{head_busy_after, accept_answer, write_answer}, Events.BankEvent, History.{begun, queue, has_exhausted}}
+use Rattle.bank_laws.{specs.Pairs.has_line, proofs.Answering.newest_row-there, proofs.Pairs.{line-merged, no_candidate-rest}}
 
 no_row : {A : Type 0} (a row : ℕ) → (a == row) ≡ false → a ≡ row → A
 no_row a row ne is = absurd (cc (ne, eq-eqb a row is))

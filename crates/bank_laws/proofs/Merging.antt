@@ -1,38 +1,21 @@
 -- What becomes of an accepted write, and what the rows behind it show of that.
 use Rattle.std.proofs.Common.{◌≡◌, ℕ, ◌==◌, ◌&&◌, ◌⊎◌, inl, inr, Bool, true, false, List, [], ◌∷◌, ◌++◌, Option, Some, None, drop, refl, sym, ap, ◌∙◌, subst, cond, eqb, eqb-true, append_assoc}
-use Rattle.masked_bytes.proofs.Truth.{neither_first, neither_second}
-use Rattle.std.specs.Prelude.{unwrap_or}
-use Rattle.std.specs.List.{list_any}
-use Rattle.std.proofs.lemmas.Bool.{eq-eqb, and_from, and_left, and_right, or_left, or_right, or_from}
+use Rattle.std.{specs.List.list_any, specs.Prelude.unwrap_or, proofs.lemmas.Bool.{eq-eqb, and_from, and_left, and_right, or_left, or_right, or_from}}
 use Rattle.std.proofs.lemmas.List.Folds.{list_any-append}
+use Rattle.masked_bytes.{specs.Entries.{RowsApart, merged}, specs.declared.entry.Entry.Entry, proofs.Truth.{neither_first, neither_second}}
 use Rattle.result_rows.specs.declared.Outcome.{Outcome}
 use Rattle.result_rows.specs.declared.Outcome.TheVariants as out
-use Rattle.masked_bytes.specs.declared.entry.Entry.{Entry}
-use Rattle.masked_bytes.specs.Entries.{RowsApart, merged}
-use Rattle.row_rules.specs.declared.Row.{Row}
-use Rattle.row_rules.specs.declared.Asks.TheVariants.{Writes}
-use Rattle.row_rules.specs.Answers.{accepts}
-use Rattle.row_rules.specs.Rows.{accepted_of}
-use Rattle.row_rules.specs.Queueing.{merges_at, merge_fits}
-use Rattle.bank_shape.specs.declared.BankShape.{BankShape}
-use Rattle.bank_shape.specs.declared.answer.WriteAnswer.{WriteAnswer}
+use Rattle.row_rules.specs.{Answers.accepts, Queueing.{merges_at, merge_fits}, Rows.accepted_of, declared.Asks.TheVariants.Writes, declared.Row.Row}
+use Rattle.bank_shape.specs.{declared.BankShape.BankShape, declared.answer.WriteAnswer.WriteAnswer, declared.pace.Pace.Pace}
 use Rattle.bank_shape.specs.declared.answer.WriteAnswer.TheVariants as wrote
 use Rattle.bank_shape.specs.declared.answer.Step.TheVariants as did
-use Rattle.bank_model.specs.Events.{Write, Read, Serve, Begin, Iterate, Cut, newest}
-use Rattle.bank_model.specs.History.{begun, queue, due_after}
-use Rattle.bank_shape.specs.declared.pace.Pace.{Pace}
+use Rattle.bank_model.specs.{Events.{Write, Read, Serve, Begin, Iterate, Cut, newest}, History.{begun, queue, due_after}, Lawful.{Lawful, MayCome}}
 use Rattle.bank_model.specs.Timing.{Happens, Core, Regs, TimedEvent, core, core_of}
-use Rattle.bank_model.specs.Lawful.{Lawful, MayCome}
-use Rattle.bank_laws.specs.Outcomes.{on_row, outcome_with, outcome_of, ended, row_with, rows_from}
-use Rattle.bank_laws.specs.Settling.{AreOpen}
-use Rattle.bank_laws.specs.RowLaws.{is_merge_fair, MergeLaw}
-use Rattle.bank_laws.proofs.Standing.{stand_apart}
-use Rattle.bank_laws.proofs.Answering.{IsHead, stored-head}
-use Rattle.bank_laws.proofs.Settling.{opens, above_all, lawful_before, step_stays}
-use Rattle.bank_laws.proofs.Walking.{Passes, walk, rows_after}
-use Rattle.bank_laws.proofs.Ending.{Onwards, IsOutcome, accepting, write_outcome, outcome-accepts}
-use Rattle.bank_laws.proofs.Serves.{may_at, onwards_at}
-use Rattle.bank_laws.proofs.Lines.{Stands, Covered, covered-stands, stands-row, stands-one, stands-push, stands-new, covered-push, covered-new, stands-begun, covered-begun, stands-rest, covered-rest, stands-merged, covered-merged, merged-new, merges-stands, merges-covers, merges-uncovered}
+use Rattle.bank_laws.specs.{Outcomes.{on_row, outcome_with, outcome_of, ended, row_with, rows_from}, RowLaws.{is_merge_fair, MergeLaw}, Settling.AreOpen}
+use Rattle.bank_laws.proofs.{Answering.{IsHead, stored-head}, Ending.{Onwards, IsOutcome, accepting, write_outcome, outcome-accepts}}
+use Rattle.bank_laws.proofs.Lines.{Stands, Covered, covered-stands, stands-row, stands-one, stands-push, stands-new, covered-push, covered-new, stands-begun, covered-begun}
+use Rattle.bank_laws.proofs.Lines.{stands-rest, covered-rest, stands-merged, covered-merged, merged-new, merges-stands, merges-covers, merges-uncovered}
+use Rattle.bank_laws.proofs.{Serves.{may_at, onwards_at}, Settling.{opens, above_all, lawful_before, step_stays}, Standing.stand_apart, Walking.{Passes, walk, rows_after}}
 
 module _ {n : ℕ} where
   any-more : (p : Row n → Bool) (xs ys : List (Row n)) → list_any p xs ≡ true → list_any p (xs ++ ys) ≡ true

@@ -1,23 +1,14 @@
 -- Two entries of one line stand only where the lower one is the head and gives all bytes.
 use Rattle.std.proofs.Common.{◌≡◌, ℕ, ◌==◌, ◌||◌, ◌&&◌, not, Bool, true, false, List, [], ◌∷◌, ◌++◌, Option, Some, None, drop, length, refl, sym, ap, ◌∙◌, subst, arith, cond, eqb, eqb-true}
-use Rattle.masked_bytes.proofs.Truth.{neither_first, neither_second, and_first, and_second, differ_sym}
-use Rattle.std.proofs.lemmas.Bool.{eq-eqb, or_from}
-use Rattle.std.proofs.lemmas.List.{length-replicate}
-use Rattle.masked_bytes.specs.declared.entry.Entry.{Entry}
-use Rattle.masked_bytes.specs.Masked.{joined, gives_all}
-use Rattle.masked_bytes.specs.Entries.{merged, laid_on, newest_row, candidate, or_this}
-use Rattle.masked_bytes.proofs.Layering.{length-joined, gives_all-all_given}
-use Rattle.bank_shape.specs.declared.BankShape.{BankShape}
-use Rattle.bank_shape.specs.declared.Work.TheVariants.{Nothing}
+use Rattle.std.proofs.{lemmas.Bool.{eq-eqb, or_from}, lemmas.List.length-replicate}
+use Rattle.masked_bytes.specs.{Entries.{merged, laid_on, newest_row, candidate, or_this}, Masked.{joined, gives_all}, declared.entry.Entry.Entry}
+use Rattle.masked_bytes.proofs.{Layering.{length-joined, gives_all-all_given}, Truth.{neither_first, neither_second, and_first, and_second, differ_sym}}
+use Rattle.bank_shape.specs.{Kinds.is_store, declared.BankShape.BankShape, declared.Work.TheVariants.Nothing}
 use Rattle.bank_shape.specs.declared.answer.WriteAnswer.TheVariants as wrote
 use Rattle.bank_shape.specs.declared.answer.Step.TheVariants as did
-use Rattle.bank_shape.specs.Kinds.{is_store}
-use Rattle.bank_model.specs.Events.{BankEvent, Write, Read, Serve, Begin, Iterate, Cut, newest}
-use Rattle.bank_model.specs.History.{Awaited, begun, queue, waits, due_after, has_exhausted, in_progress}
-use Rattle.bank_model.specs.After.{is_ready, due_work}
-use Rattle.bank_model.specs.Answers.{head_busy_after, accept_answer, write_answer, MayAll}
-use Rattle.bank_laws.specs.Pairs.{has_line, LinesApart, ArePaired, PairLaw}
-use Rattle.bank_laws.proofs.Entries.{either}
+use Rattle.bank_model.specs.{After.{is_ready, due_work}, Answers.{head_busy_after, accept_answer, write_answer, MayAll}}
+use Rattle.bank_model.specs.{Events.{BankEvent, Write, Read, Serve, Begin, Iterate, Cut, newest}, History.{Awaited, begun, queue, waits, due_after, has_exhausted, in_progress}}
+use Rattle.bank_laws.{specs.Pairs.{has_line, LinesApart, ArePaired, PairLaw}, proofs.Entries.either}
 
 pub gives_all-joined : (given other : List Bool) → length given ≡ length other → gives_all other ≡ true → gives_all (joined given other) ≡ true
 gives_all-joined [] other e h = h

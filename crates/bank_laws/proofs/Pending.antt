@@ -1,47 +1,22 @@
 -- The writes that stand in the queue, by the rows and by the events.
 use Rattle.std.proofs.Common.{◌≡◌, ◌≢◌, ℕ, ◌<◌, ◌≤◌, ◌==◌, ◌&&◌, ◌||◌, ◌⊎◌, inl, inr, not, Bool, true, false, List, [], ◌∷◌, ◌++◌, Option, Some, None, drop, length, refl, sym, ap, ◌∙◌, subst, arith, cond, eqb, append_assoc}
-use Rattle.std.specs.Prelude.{unwrap_or, nat_lt, nat_le}
-use Rattle.std.specs.List.{list_any}
-use Rattle.std.proofs.lemmas.Bool.{lt-ltb, le-ltb, le-leb, or_left, or_right, and_from}
+use Rattle.std.{specs.List.list_any, specs.Prelude.{unwrap_or, nat_lt, nat_le}, proofs.lemmas.Bool.{lt-ltb, le-ltb, le-leb, or_left, or_right, and_from}}
 use Rattle.result_rows.specs.declared.Outcome.{Outcome}
 use Rattle.result_rows.specs.declared.Outcome.TheVariants as out
-use Rattle.masked_bytes.specs.Entries.{has_row, candidate}
-use Rattle.masked_bytes.proofs.Rows.{lacks-push, lacks-drop, lacks-merged}
-use Rattle.masked_bytes.proofs.Truth.{implied}
-use Rattle.row_rules.specs.declared.Row.{Row}
-use Rattle.row_rules.specs.Answers.{accepts, is_full, is_merged, is_queued, stored_after}
-use Rattle.row_rules.specs.Rows.{accepted_of}
-use Rattle.row_rules.specs.Queueing.{merges_at, pending}
-use Rattle.bank_shape.specs.declared.BankShape.{BankShape}
-use Rattle.bank_shape.specs.declared.answer.WriteAnswer.{WriteAnswer}
+use Rattle.masked_bytes.{specs.Entries.{has_row, candidate}, proofs.Rows.{lacks-push, lacks-drop, lacks-merged}, proofs.Truth.implied}
+use Rattle.row_rules.specs.{Answers.{accepts, is_full, is_merged, is_queued, stored_after}, Queueing.{merges_at, pending}, Rows.accepted_of, declared.Row.Row}
+use Rattle.bank_shape.specs.{declared.BankShape.BankShape, declared.answer.WriteAnswer.WriteAnswer, declared.pace.Pace.Pace}
 use Rattle.bank_shape.specs.declared.answer.WriteAnswer.TheVariants as wrote
 use Rattle.bank_shape.specs.declared.answer.Step.TheVariants as did
-use Rattle.bank_model.specs.Events.{BankEvent, Write, Read, Serve, Begin, Iterate, Cut, RowsBelow, newest}
-use Rattle.bank_model.specs.History.{queue, due_after, has_exhausted}
-use Rattle.bank_model.specs.Answers.{head_busy_after, accept_answer, write_answer}
-use Rattle.bank_model.specs.Sensing.{most_steps}
-use Rattle.bank_shape.specs.declared.pace.Pace.{Pace}
-use Rattle.bank_model.specs.Timing.{Happens, Core, Regs, TimedEvent, core, core_of, last_tick}
-use Rattle.bank_model.specs.Lawful.{Lawful, MayCome}
-use Rattle.bank_model.proofs.Begun.{row-begun}
-use Rattle.bank_laws.specs.Outcomes.{outcome_with, outcome_of, ended, row_with, rows_from}
-use Rattle.bank_laws.specs.Ticks.{ends_action}
-use Rattle.bank_laws.specs.RowLaws.{is_room_fair, QueueLaw}
-use Rattle.bank_laws.proofs.Entries.{either}
-use Rattle.bank_laws.proofs.Standing.{stand_apart}
-use Rattle.bank_laws.proofs.Ticks.{last_tick-rises}
-use Rattle.bank_laws.proofs.Settling.{opens, above_all, lawful_before, step_stays, stays}
-use Rattle.bank_laws.proofs.Fates.{IsLeft, WriteFate, write_fate}
-use Rattle.bank_laws.proofs.Walking.{Passes, walk, rows_after, rows_after-more}
-use Rattle.bank_laws.proofs.Ending.{Onwards, IsOutcome, accepting, own_row, write_outcome, outcome-accepts}
-use Rattle.bank_laws.proofs.Serves.{may_at, onwards_at}
-use Rattle.bank_laws.proofs.Wears.{stored_up_to}
-use Rattle.bank_laws.proofs.Later.{EndsAbove, ends_at_row, stored_over}
-use Rattle.bank_laws.proofs.Holding.{bound_law}
-use Rattle.bank_laws.proofs.Lines.{Stands, Covered, covered-stands, stands-row}
-use Rattle.bank_laws.proofs.Merging.{Fate, covered-kept, stays_there, spares_covered, FateBy, fate, fate_new}
-use Rattle.bank_laws.proofs.Counting.{among, Falling, falling-more, hits, entries-counted}
-use Rattle.bank_laws.proofs.Waiting.{may_all, cond_length}
+use Rattle.bank_model.specs.{Answers.{head_busy_after, accept_answer, write_answer}, Events.{BankEvent, Write, Read, Serve, Begin, Iterate, Cut, RowsBelow, newest}}
+use Rattle.bank_model.specs.{History.{queue, due_after, has_exhausted}, Lawful.{Lawful, MayCome}, Sensing.most_steps}
+use Rattle.bank_model.{specs.Timing.{Happens, Core, Regs, TimedEvent, core, core_of, last_tick}, proofs.Begun.row-begun}
+use Rattle.bank_laws.specs.{Outcomes.{outcome_with, outcome_of, ended, row_with, rows_from}, RowLaws.{is_room_fair, QueueLaw}, Ticks.ends_action}
+use Rattle.bank_laws.proofs.{Counting.{among, Falling, falling-more, hits, entries-counted}, Ending.{Onwards, IsOutcome, accepting, own_row, write_outcome, outcome-accepts}}
+use Rattle.bank_laws.proofs.{Entries.either, Fates.{IsLeft, WriteFate, write_fate}, Holding.bound_law, Later.{EndsAbove, ends_at_row, stored_over}}
+use Rattle.bank_laws.proofs.{Lines.{Stands, Covered, covered-stands, stands-row}, Merging.{Fate, covered-kept, stays_there, spares_covered, FateBy, fate, fate_new}}
+use Rattle.bank_laws.proofs.{Serves.{may_at, onwards_at}, Settling.{opens, above_all, lawful_before, step_stays, stays}, Standing.stand_apart, Ticks.last_tick-rises}
+use Rattle.bank_laws.proofs.{Waiting.{may_all, cond_length}, Walking.{Passes, walk, rows_after, rows_after-more}, Wears.stored_up_to}
 
 module _ {n : ℕ} where
   -- whether a write with this outcome stands at tick t, where an accepted write of its line came since, or none

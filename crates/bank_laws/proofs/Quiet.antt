@@ -1,35 +1,18 @@
 -- A bank that never accepted a write has nothing to do, and so the laws of worn rows.
 use Rattle.std.proofs.Common.{◌≡◌, ℕ, ◌+◌, ◌*◌, ◌/◌, ◌<◌, ◌≤◌, ◌&&◌, not, Bool, true, false, List, [], ◌∷◌, ◌++◌, Option, Some, None, refl, sym, ap, ◌∙◌, arith, cond, append_assoc}
-use Rattle.masked_bytes.proofs.Truth.{neither_first, neither_second, implied}
-use Rattle.std.specs.Prelude.{nat_le}
-use Rattle.std.specs.List.{list_any}
-use Rattle.std.proofs.lemmas.Bool.{lt-leb, and_from}
+use Rattle.std.{specs.List.list_any, specs.Prelude.nat_le, proofs.lemmas.Bool.{lt-leb, and_from}}
+use Rattle.masked_bytes.{specs.declared.entry.Entry.Entry, proofs.Truth.{neither_first, neither_second, implied}}
 use Rattle.result_rows.specs.declared.Outcome.{Outcome}
 use Rattle.result_rows.specs.declared.Outcome.TheVariants as out
-use Rattle.masked_bytes.specs.declared.entry.Entry.{Entry}
-use Rattle.row_rules.specs.declared.Row.{Row}
-use Rattle.row_rules.specs.Answers.{is_worn, accepts}
-use Rattle.row_rules.specs.Rows.{accepted}
-use Rattle.row_rules.specs.Wearing.{worn_row, worn_by, store_fits, is_wear_final, is_wear_earned}
-use Rattle.bank_shape.specs.declared.BankShape.{BankShape}
-use Rattle.bank_shape.specs.declared.Work.TheVariants.{Nothing}
-use Rattle.bank_shape.specs.declared.answer.WriteAnswer.{WriteAnswer}
+use Rattle.row_rules.specs.{Answers.{is_worn, accepts}, Rows.accepted, Wearing.{worn_row, worn_by, store_fits, is_wear_final, is_wear_earned}, declared.Row.Row}
+use Rattle.bank_shape.specs.{declared.BankShape.BankShape, declared.Work.TheVariants.Nothing, declared.answer.WriteAnswer.WriteAnswer, declared.pace.Pace.Pace}
 use Rattle.bank_shape.specs.declared.answer.WriteAnswer.TheVariants as wrote
-use Rattle.bank_model.specs.Events.{BankEvent, Write, Read, Serve, Begin, Iterate, Cut}
-use Rattle.bank_model.specs.History.{first_or, stores, stored_in, moved_in, due_after, queue, waits, has_exhausted, in_progress}
-use Rattle.bank_model.specs.After.{is_ready, due_work, may_begin_after}
-use Rattle.bank_shape.specs.declared.pace.Pace.{Pace}
+use Rattle.bank_model.specs.{After.{is_ready, due_work, may_begin_after}, Events.{BankEvent, Write, Read, Serve, Begin, Iterate, Cut}}
+use Rattle.bank_model.specs.{History.{first_or, stores, stored_in, moved_in, due_after, queue, waits, has_exhausted, in_progress}, Lawful.{Lawful, MayCome}}
 use Rattle.bank_model.specs.Timing.{Happens, Core, Regs, TimedEvent, core, core_of}
-use Rattle.bank_model.specs.Lawful.{Lawful, MayCome}
-use Rattle.bank_laws.specs.Outcomes.{outcome_of, ended, row_with, rows_from}
-use Rattle.bank_laws.specs.Settling.{AreOpen}
-use Rattle.bank_laws.specs.RowLaws.{WearLaw}
-use Rattle.bank_laws.proofs.Entries.{either}
-use Rattle.bank_laws.proofs.Settling.{opens}
-use Rattle.bank_laws.proofs.Walking.{Passes, walk, rows_after}
-use Rattle.bank_laws.proofs.Ending.{Onwards, IsOutcome, accepting, write_outcome, outcome-accepts}
-use Rattle.bank_laws.proofs.Serves.{may_at, onwards_at}
-use Rattle.bank_laws.proofs.Wears.{refused-exhausted, exhausted-refused, worn_outcome, worn_rows-exhausted, none_worn_before, none_worn_after}
+use Rattle.bank_laws.specs.{Outcomes.{outcome_of, ended, row_with, rows_from}, RowLaws.WearLaw, Settling.AreOpen}
+use Rattle.bank_laws.proofs.{Ending.{Onwards, IsOutcome, accepting, write_outcome, outcome-accepts}, Entries.either, Serves.{may_at, onwards_at}, Settling.opens}
+use Rattle.bank_laws.proofs.{Walking.{Passes, walk, rows_after}, Wears.{refused-exhausted, exhausted-refused, worn_outcome, worn_rows-exhausted, none_worn_before, none_worn_after}}
 
 -- a bank with nothing in its queue, nothing stored, and no line write
 record IsQuiet {n : ℕ} (shape : BankShape) (h : List (BankEvent n)) : Type 0 where

@@ -1,19 +1,10 @@
 -- A bank with nothing left to do is still, and so is one behind a power cut.
 use Rattle.std.proofs.Common.{◌≡◌, ℕ, ◌&&◌, not, Bool, true, false, List, [], ◌∷◌, Option, Some, None, refl, sym, ap, ◌∙◌, cond}
-use Rattle.bank_shape.specs.declared.BankShape.{BankShape}
+use Rattle.bank_shape.specs.{Acting.{Choice, chosen_by}, Pausing.gives_way, declared.BankShape.BankShape, declared.pace.Pace.Pace}
 use Rattle.bank_shape.specs.declared.clock.Doing.TheVariants as doing
-use Rattle.bank_shape.specs.declared.pace.Pace.{Pace}
-use Rattle.bank_shape.specs.Pausing.{gives_way}
-use Rattle.bank_shape.specs.Acting.{Choice, chosen_by}
-use Rattle.bank_model.specs.Events.{Cut}
-use Rattle.bank_model.specs.History.{waits, in_progress}
-use Rattle.bank_model.specs.Changes.{change_after, keeping_after}
-use Rattle.bank_model.specs.Timing.{Happens, Core, TimedEvent, core, core_of, is_empty}
-use Rattle.bank_model.specs.Changes.{change_by, keeping_by}
-use Rattle.bank_model.specs.Running.{busy_by, busy_after, choice_after}
-use Rattle.bank_model.specs.Lawful.{IsIdle}
-use Rattle.bank_laws.specs.Resting.{IsStill, IsCutOff, EndsIn}
-use Rattle.bank_laws.proofs.Serves.{idle-waits}
+use Rattle.bank_model.specs.{Changes.{change_after, keeping_after, change_by, keeping_by}, Events.Cut, History.{waits, in_progress}, Lawful.IsIdle}
+use Rattle.bank_model.specs.{Running.{busy_by, busy_after, choice_after}, Timing.{Happens, Core, TimedEvent, core, core_of, is_empty}}
+use Rattle.bank_laws.{specs.Resting.{IsStill, IsCutOff, EndsIn}, proofs.Serves.idle-waits}
 
 none-busy : (way reads : Bool) (c : Choice) → chosen_by way reads c ≡ None → c.busy ≡ false
 none-busy way reads c is = by way reads c.busy c.ready is

@@ -3,34 +3,19 @@ use Rattle.std.proofs.Common.{◌≡◌, ℕ, ◌==◌, ◌&&◌, not, inl, inr,
 use Rattle.std.proofs.lemmas.Bool.{and_from}
 use Rattle.result_rows.specs.declared.Outcome.{Outcome}
 use Rattle.result_rows.specs.declared.Outcome.TheVariants as out
-use Rattle.masked_bytes.specs.Masked.{laid, gives_all}
-use Rattle.masked_bytes.specs.Entries.{layer_of}
-use Rattle.row_rules.specs.declared.Asks.TheVariants.{Reads}
-use Rattle.row_rules.specs.Answers.{accepts}
+use Rattle.masked_bytes.specs.{Entries.layer_of, Masked.{laid, gives_all}}
+use Rattle.row_rules.specs.{Answers.accepts, Serving.{may_have, same_bytes, is_served}, declared.Asks.TheVariants.Reads}
 use Rattle.row_rules.specs.Rows as rows
-use Rattle.row_rules.specs.Serving.{may_have, same_bytes, is_served}
-use Rattle.bank_shape.specs.declared.BankShape.{BankShape}
-use Rattle.bank_shape.specs.declared.answer.WriteAnswer.{WriteAnswer}
+use Rattle.bank_shape.specs.{Acting.{Choice, chosen_by}, Pausing.gives_way, declared.BankShape.BankShape, declared.answer.ReadAnswer.ReadAnswer}
+use Rattle.bank_shape.specs.{declared.answer.WriteAnswer.WriteAnswer, declared.pace.Pace.Pace}
 use Rattle.bank_shape.specs.declared.answer.WriteAnswer.TheVariants as wrote
-use Rattle.bank_shape.specs.declared.answer.ReadAnswer.{ReadAnswer}
 use Rattle.bank_shape.specs.declared.answer.ReadAnswer.TheVariants as came
 use Rattle.bank_shape.specs.declared.clock.Doing.TheVariants as doing
-use Rattle.bank_model.specs.Events.{BankEvent, Write, Read, Serve, Begin, Iterate, Cut, newest}
-use Rattle.bank_model.specs.History.{Awaited, awaited, queue, waits}
-use Rattle.bank_model.specs.Answers.{read_answer}
-use Rattle.bank_shape.specs.declared.pace.Pace.{Pace}
-use Rattle.bank_model.specs.Timing.{Happens, Core, Regs, TimedEvent, core, core_of, is_empty}
-use Rattle.bank_shape.specs.Pausing.{gives_way}
-use Rattle.bank_shape.specs.Acting.{Choice, chosen_by}
-use Rattle.bank_model.specs.Running.{choice_after}
-use Rattle.bank_model.specs.Lawful.{Lawful, IsIdle, MayCome}
-use Rattle.bank_laws.specs.Outcomes.{outcome_of, ended, row_with, rows_from}
-use Rattle.bank_laws.specs.Settling.{AreOpen}
-use Rattle.bank_laws.specs.RowLaws.{ServedLaw}
-use Rattle.bank_laws.proofs.Settling.{opens, lawful_before}
-use Rattle.bank_laws.proofs.Fates.{Awaits, IsSettled, ReadFate, awaits-new}
-use Rattle.bank_laws.proofs.Walking.{Passes, walk, rows_after}
-use Rattle.bank_laws.proofs.Ending.{Onwards, onwards, accepting, outcome-accepts, outcome-may, own_answer, write_outcome}
+use Rattle.bank_model.specs.{Answers.read_answer, Events.{BankEvent, Write, Read, Serve, Begin, Iterate, Cut, newest}, History.{Awaited, awaited, queue, waits}}
+use Rattle.bank_model.specs.{Lawful.{Lawful, IsIdle, MayCome}, Running.choice_after, Timing.{Happens, Core, Regs, TimedEvent, core, core_of, is_empty}}
+use Rattle.bank_laws.specs.{Outcomes.{outcome_of, ended, row_with, rows_from}, RowLaws.ServedLaw, Settling.AreOpen}
+use Rattle.bank_laws.proofs.{Ending.{Onwards, onwards, accepting, outcome-accepts, outcome-may, own_answer, write_outcome}, Fates.{Awaits, IsSettled, ReadFate, awaits-new}}
+use Rattle.bank_laws.proofs.{Settling.{opens, lawful_before}, Walking.{Passes, walk, rows_after}}
 
 pub same_bytes-same : (xs ys : List ℕ) → xs ≡ ys → same_bytes xs ys ≡ true
 same_bytes-same xs ys e = subst (λ ys. same_bytes xs ys ≡ true) e (itself xs)

@@ -1,31 +1,18 @@
 -- A row has no outcome while it stands, and keeps the one that it gets.
 use Rattle.std.proofs.Common.{◌≡◌, ◌≢◌, ℕ, ◌+◌, ◌<◌, ◌==◌, ◌⊎◌, inl, inr, Bool, true, false, List, [], ◌∷◌, ◌++◌, Some, None, drop, refl, sym, ◌∙◌, subst, arith, cond, eqb, eqb-true}
-use Rattle.std.specs.Prelude.{unwrap_or}
-use Rattle.std.proofs.lemmas.Bool.{ne_eqb}
-use Rattle.bank_model.proofs.Rising.{RowsBelow-more}
+use Rattle.std.{specs.Prelude.unwrap_or, proofs.lemmas.Bool.ne_eqb}
+use Rattle.bank_model.specs.{Events.{Write, Read, Serve, Begin, Iterate, Cut, RowsBelow, newest}, History.{awaited, begun, queue, waits, due_after}, Lawful.{Lawful, MayCome}}
+use Rattle.bank_model.{specs.Timing.{Happens, Core, Regs, TimedEvent, core, core_of}, proofs.Begun.row-begun, proofs.Rising.RowsBelow-more}
 use Rattle.result_rows.specs.declared.Outcome.{Outcome}
 use Rattle.result_rows.specs.declared.Outcome.TheVariants as out
-use Rattle.masked_bytes.specs.declared.entry.Entry.{Entry}
-use Rattle.bank_shape.specs.declared.answer.Served.{Served}
-use Rattle.bank_shape.specs.declared.answer.Step.{Step}
-use Rattle.masked_bytes.specs.Entries.{has_row, merged}
-use Rattle.masked_bytes.proofs.Rows.{lacks-push, lacks-drop, lacks-merged, lacks-old}
-use Rattle.bank_shape.specs.declared.BankShape.{BankShape}
+use Rattle.masked_bytes.{specs.Entries.{has_row, merged}, specs.declared.entry.Entry.Entry, proofs.Rows.{lacks-push, lacks-drop, lacks-merged, lacks-old}}
+use Rattle.bank_shape.specs.{declared.BankShape.BankShape, declared.answer.Served.Served, declared.answer.Step.Step, declared.pace.Pace.Pace}
 use Rattle.bank_shape.specs.declared.answer.WriteAnswer.TheVariants as wrote
 use Rattle.bank_shape.specs.declared.answer.ReadAnswer.TheVariants as came
 use Rattle.bank_shape.specs.declared.answer.Step.TheVariants as did
-use Rattle.bank_model.specs.Events.{Write, Read, Serve, Begin, Iterate, Cut, RowsBelow, newest}
-use Rattle.bank_model.specs.History.{awaited, begun, queue, waits, due_after}
-use Rattle.bank_shape.specs.declared.pace.Pace.{Pace}
-use Rattle.bank_model.specs.Timing.{Happens, Core, Regs, TimedEvent, core, core_of}
-use Rattle.bank_model.specs.Lawful.{Lawful, MayCome}
-use Rattle.bank_model.proofs.Begun.{row-begun}
-use Rattle.bank_laws.specs.Outcomes.{on_row, outcome_with, outcome_of}
-use Rattle.bank_laws.specs.Standing.{has_wait}
-use Rattle.bank_laws.specs.Settling.{AreOpen, OpenLaw, SetOnceLaw}
-use Rattle.bank_laws.proofs.Entries.{differ, no_wait-push, no_wait-drop, either}
-use Rattle.bank_laws.proofs.Standing.{stand_apart}
+use Rattle.bank_laws.specs.{Outcomes.{on_row, outcome_with, outcome_of}, Settling.{AreOpen, OpenLaw, SetOnceLaw}, Standing.has_wait}
 use Rattle.bank_laws.proofs.Answering.{IsHead, IsFirst, head-there, head-gone, first-there, first-gone, merged-there, stored-head, served-first}
+use Rattle.bank_laws.proofs.{Entries.{differ, no_wait-push, no_wait-drop, either}, Standing.stand_apart}
 
 -- a row that is there is another than one that isn't
 unlike : (f : ℕ → Bool) (a b : ℕ) → f a ≡ true → f b ≡ false → (a == b) ≡ false

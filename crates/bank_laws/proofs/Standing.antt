@@ -1,18 +1,15 @@
 -- The rows that stand are below the next row, and apart.
 use Rattle.std.proofs.Common.{◌≡◌, ℕ, ◌<◌, ◌≤◌, Bool, true, false, List, [], ◌∷◌, ◌++◌, Option, drop, refl, sym, ◌∙◌, subst, arith, eqb, eqb-true}
 use Rattle.std.proofs.lemmas.Bool.{ne_eqb}
-use Rattle.masked_bytes.specs.declared.entry.Entry.{Entry}
-use Rattle.masked_bytes.specs.Entries.{has_row, merged}
+use Rattle.masked_bytes.specs.{Entries.{has_row, merged}, declared.entry.Entry.Entry}
 use Rattle.masked_bytes.proofs.Rows.{lacks-push, lacks-drop, lacks-merged, apart-push, apart-drop, apart-merged}
 use Rattle.bank_shape.specs.declared.BankShape.{BankShape}
 use Rattle.bank_shape.specs.declared.answer.WriteAnswer.TheVariants as wrote
 use Rattle.bank_shape.specs.declared.answer.ReadAnswer.TheVariants as came
 use Rattle.bank_shape.specs.declared.answer.Step.TheVariants as did
-use Rattle.bank_model.specs.Events.{BankEvent, Write, Read, Serve, Begin, Iterate, Cut, RowsBelow}
-use Rattle.bank_model.specs.History.{Awaited, awaited, begun, queue, waits}
+use Rattle.bank_model.specs.{Events.{BankEvent, Write, Read, Serve, Begin, Iterate, Cut, RowsBelow}, History.{Awaited, awaited, begun, queue, waits}}
 use Rattle.bank_model.proofs.Begun.{row-begun, apart-begun}
-use Rattle.bank_laws.specs.Standing.{has_wait, AreRowsApart, RowLaw}
-use Rattle.bank_laws.proofs.Entries.{differ, no_wait-push, no_wait-drop, waits_apart-push, waits_apart-drop}
+use Rattle.bank_laws.{specs.Standing.{has_wait, AreRowsApart, RowLaw}, proofs.Entries.{differ, no_wait-push, no_wait-drop, waits_apart-push, waits_apart-drop}}
 
 -- a row that is there is no row that isn't
 there : {A : Type 0} (b : Bool) → b ≡ true → b ≡ false → A

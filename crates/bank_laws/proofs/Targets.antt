@@ -1,16 +1,12 @@
 -- The array line that a line write has as its target stays so until the write ends.
 use Rattle.std.proofs.Common.{◌≡◌, ℕ, ◌&&◌, not, Bool, true, false, List, [], ◌∷◌, ◌++◌, Option, Some, None, refl, ap, ◌∙◌, cond, eqb}
-use Rattle.masked_bytes.proofs.Truth.{and_second}
-use Rattle.masked_bytes.specs.declared.entry.Entry.{Entry}
-use Rattle.masked_bytes.specs.Entries.{merged, laid_on}
-use Rattle.bank_shape.specs.declared.BankShape.{BankShape}
-use Rattle.bank_shape.specs.declared.Work.TheVariants.{Nothing}
+use Rattle.masked_bytes.{specs.Entries.{merged, laid_on}, specs.declared.entry.Entry.Entry, proofs.Truth.and_second}
+use Rattle.bank_shape.specs.{declared.BankShape.BankShape, declared.Work.TheVariants.Nothing}
 use Rattle.bank_shape.specs.declared.answer.WriteAnswer.TheVariants as wrote
 use Rattle.bank_shape.specs.declared.answer.Step.TheVariants as did
+use Rattle.bank_model.specs.{After.{is_ready, due_work, work_after, slot_of_work, array_line_after, target_after, may_begin_after}, Answers.MayAll}
 use Rattle.bank_model.specs.Events.{BankEvent, Write, Read, Serve, Begin, Iterate, Cut, newest}
 use Rattle.bank_model.specs.History.{Awaited, begun, goes_on, queue, waits, due_after, has_exhausted, in_progress}
-use Rattle.bank_model.specs.After.{is_ready, due_work, work_after, slot_of_work, array_line_after, target_after, may_begin_after}
-use Rattle.bank_model.specs.Answers.{MayAll}
 use Rattle.bank_laws.proofs.Pairs.{HasWork, keeps_pairs}
 
 -- a bank that isn't exhausted has a work to do

@@ -1,19 +1,12 @@
 -- The ticks of a lawful history never fall, and an action ends above every earlier event.
 use Rattle.std.proofs.Common.{◌≡◌, ℕ, ◌<◌, ◌≤◌, Bool, true, false, List, [], ◌∷◌, Option, Some, None, subst, arith, cond}
-use Rattle.std.specs.Prelude.{IsTrue, IfSome, All, nat_lt}
-use Rattle.std.proofs.lemmas.List.Elements.{All-nil, All-cons, All-weaker}
-use Rattle.bank_shape.specs.declared.BankShape.{BankShape}
+use Rattle.std.{specs.Prelude.{IsTrue, IfSome, All, nat_lt}, proofs.lemmas.List.Elements.{All-nil, All-cons, All-weaker}}
+use Rattle.bank_shape.specs.{Acting.lasts, declared.BankShape.BankShape, declared.clock.Action.Action, declared.clock.Doing.Doing}
+use Rattle.bank_shape.specs.{declared.clock.Doing.TheVariants.{Serving, Beginning, Iterating}, declared.pace.Pace.Pace}
 use Rattle.bank_shape.specs.declared.answer.ReadAnswer.TheVariants as came
-use Rattle.bank_shape.specs.declared.clock.Doing.{Doing}
-use Rattle.bank_shape.specs.declared.clock.Doing.TheVariants.{Serving, Beginning, Iterating}
-use Rattle.bank_shape.specs.declared.clock.Action.{Action}
-use Rattle.bank_model.specs.Events.{Write, Read, Serve, Begin, Iterate, Cut}
-use Rattle.bank_shape.specs.declared.pace.Pace.{Pace}
-use Rattle.bank_shape.specs.Acting.{lasts}
-use Rattle.bank_model.specs.Timing.{Happens, Core, Regs, KeepBegin, KeepIterate, KeepCut, TimedEvent, ends, core, last_tick}
+use Rattle.bank_model.specs.{Changes.change_after, Events.{Write, Read, Serve, Begin, Iterate, Cut}, Lawful.{Lawful, MayCome}}
 use Rattle.bank_model.specs.Running.{drops_begin, started, left_by, running, running_at, chosen_after}
-use Rattle.bank_model.specs.Changes.{change_after}
-use Rattle.bank_model.specs.Lawful.{Lawful, MayCome}
+use Rattle.bank_model.specs.Timing.{Happens, Core, Regs, KeepBegin, KeepIterate, KeepCut, TimedEvent, ends, core, last_tick}
 use Rattle.bank_laws.specs.Ticks.{ends_action, TickLaw}
 
 pub lasts_some : (read iter : ℕ) (doing : Doing) → 1 ≤ read → 1 ≤ iter → 1 ≤ lasts read iter doing

@@ -1,45 +1,21 @@
 -- The reads that wait, by the rows and by the events.
 use Rattle.std.proofs.Common.{◌≡◌, ◌≢◌, ℕ, ◌<◌, ◌≤◌, ◌==◌, ◌&&◌, ◌||◌, ◌⊎◌, inl, inr, not, suc, Bool, true, false, List, [], ◌∷◌, ◌++◌, Some, None, drop, length, refl, sym, ap, ◌∙◌, subst, arith, cond, eqb, append_assoc}
-use Rattle.std.specs.Prelude.{unwrap_or, nat_lt, nat_le}
-use Rattle.std.specs.List.{list_any}
-use Rattle.std.proofs.lemmas.Bool.{eq-eqb, lt-ltb, le-ltb, le-leb, or_left, or_right, and_from, or_from}
+use Rattle.std.{specs.List.list_any, specs.Prelude.{unwrap_or, nat_lt, nat_le}, proofs.lemmas.Bool.{eq-eqb, lt-ltb, le-ltb, le-leb, or_left, or_right, and_from, or_from}}
 use Rattle.std.proofs.lemmas.List.Folds.{list_any-append}
 use Rattle.result_rows.specs.declared.Outcome.{Outcome}
 use Rattle.result_rows.specs.declared.Outcome.TheVariants as out
-use Rattle.row_rules.specs.declared.Row.{Row}
-use Rattle.row_rules.specs.Answers.{is_lost, read_after}
-use Rattle.row_rules.specs.Rows.{is_cut}
-use Rattle.row_rules.specs.Queueing.{waiting}
-use Rattle.bank_shape.specs.declared.BankShape.{BankShape}
-use Rattle.bank_shape.specs.Pausing.{is_cancelling, most_cancels}
-use Rattle.bank_shape.specs.declared.answer.ReadAnswer.{ReadAnswer}
+use Rattle.row_rules.specs.{Answers.{is_lost, read_after}, Queueing.waiting, Rows.is_cut, declared.Row.Row}
+use Rattle.bank_shape.specs.{Pausing.{is_cancelling, most_cancels}, declared.BankShape.BankShape, declared.answer.ReadAnswer.ReadAnswer, declared.pace.Pace.Pace}
 use Rattle.bank_shape.specs.declared.answer.ReadAnswer.TheVariants as came
-use Rattle.bank_model.specs.Events.{BankEvent, Write, Read, Serve, Begin, Iterate, Cut, RowsBelow, newest}
-use Rattle.bank_model.specs.History.{Awaited, awaited, queue, waits}
-use Rattle.bank_shape.specs.declared.pace.Pace.{Pace}
+use Rattle.bank_model.specs.{Answers.{read_answer, MayAll}, Events.{BankEvent, Write, Read, Serve, Begin, Iterate, Cut, RowsBelow, newest}}
+use Rattle.bank_model.specs.{History.{Awaited, awaited, queue, waits}, Lawful.{Lawful, MayCome, would_cancel}, Running.{running_at, cancels_after}, Sensing.most_steps}
 use Rattle.bank_model.specs.Timing.{Happens, Core, Regs, TimedEvent, core, core_of, last_tick, is_empty, is_writing}
-use Rattle.bank_model.specs.Running.{running_at, cancels_after}
-use Rattle.bank_model.specs.Lawful.{Lawful, MayCome, would_cancel}
-use Rattle.bank_laws.specs.Outcomes.{on_row, outcome_with, outcome_of, row_with, rows_from}
-use Rattle.masked_bytes.specs.Masked.{gives_all}
-use Rattle.masked_bytes.specs.Entries.{layer_of}
-use Rattle.bank_model.specs.Answers.{read_answer, MayAll}
-use Rattle.bank_model.specs.Sensing.{most_steps}
-use Rattle.bank_laws.specs.RowLaws.{waits_fit, is_wait_fair, WaitLaw}
-use Rattle.bank_laws.proofs.Holding.{bound_law}
-use Rattle.bank_laws.proofs.Fates.{Awaits, IsSettled, ReadFate, awaits-new}
-use Rattle.bank_laws.specs.Standing.{has_wait}
-use Rattle.bank_laws.specs.Ticks.{ends_action}
-use Rattle.bank_laws.proofs.Entries.{either, no_wait-push, no_wait-drop}
-use Rattle.bank_laws.proofs.Standing.{stand_apart}
-use Rattle.bank_laws.proofs.Ticks.{last_tick-rises}
-use Rattle.bank_laws.proofs.Answering.{IsFirst, served-first}
-use Rattle.bank_laws.proofs.Settling.{opens, above_all, lawful_before, step_stays, stays}
+use Rattle.bank_laws.specs.{Outcomes.{on_row, outcome_with, outcome_of, row_with, rows_from}, RowLaws.{waits_fit, is_wait_fair, WaitLaw}, Standing.has_wait, Ticks.ends_action}
+use Rattle.bank_laws.proofs.{Answering.{IsFirst, served-first}, Counting.{among, Falling, falling-more, hits, waits-counted}, Ending.{Onwards, own_row, own_answer}}
+use Rattle.bank_laws.proofs.{Entries.{either, no_wait-push, no_wait-drop}, Fates.{Awaits, IsSettled, ReadFate, awaits-new}, Holding.bound_law, Later.{EndsAbove, ends_at_row}}
+use Rattle.bank_laws.proofs.{Serves.{may_at, onwards_at, idle-waits}, Settling.{opens, above_all, lawful_before, step_stays, stays}, Standing.stand_apart, Ticks.last_tick-rises}
 use Rattle.bank_laws.proofs.Walking.{Passes, walk, rows_after, rows_after-more}
-use Rattle.bank_laws.proofs.Ending.{Onwards, own_row, own_answer}
-use Rattle.bank_laws.proofs.Serves.{may_at, onwards_at, idle-waits}
-use Rattle.bank_laws.proofs.Later.{EndsAbove, ends_at_row}
-use Rattle.bank_laws.proofs.Counting.{among, Falling, falling-more, hits, waits-counted}
+use Rattle.masked_bytes.specs.{Entries.layer_of, Masked.gives_all}
 
 not_and : (a b : Bool) → b ≡ true → (a && not b) ≡ false
 not_and true true h = refl

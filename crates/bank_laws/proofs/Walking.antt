@@ -1,12 +1,9 @@
 -- A law of rows, proved event by event.
 use Rattle.std.proofs.Common.{◌≡◌, ℕ, Bool, true, false, List, [], ◌∷◌, ◌++◌, refl, sym, ap, ◌∙◌, subst, append_assoc}
-use Rattle.std.proofs.lemmas.Bool.{and_from}
-use Rattle.std.proofs.lemmas.List.{append-nil}
-use Rattle.row_rules.specs.declared.Row.{Row}
-use Rattle.row_rules.specs.Rows.{RowTest, each_row}
+use Rattle.std.proofs.{lemmas.Bool.and_from, lemmas.List.append-nil}
+use Rattle.row_rules.specs.{Rows.{RowTest, each_row}, declared.Row.Row}
 use Rattle.bank_shape.specs.declared.BankShape.{BankShape}
-use Rattle.bank_model.specs.Events.{Write, Read, Serve, Begin, Iterate, Cut}
-use Rattle.bank_model.specs.Timing.{Happens, Core, Regs, TimedEvent}
+use Rattle.bank_model.specs.{Events.{Write, Read, Serve, Begin, Iterate, Cut}, Timing.{Happens, Core, Regs, TimedEvent}}
 use Rattle.bank_laws.specs.Outcomes.{row_with, rows_from}
 
 -- the row of an event, if it has one, passes a test

@@ -1,39 +1,20 @@
 -- Once a worn line found no spare nothing more is stored, and every write is refused.
 use Rattle.std.proofs.Common.{◌≡◌, ◌≢◌, ℕ, ◌<◌, ◌≤◌, ◌&&◌, ◌⊎◌, inl, inr, Bool, true, false, List, [], ◌∷◌, ◌++◌, Option, Some, None, length, refl, sym, ap, ◌∙◌, subst, arith, cond, eqb, append_assoc}
-use Rattle.std.specs.Prelude.{unwrap_or, nat_le}
-use Rattle.std.specs.List.{list_any}
-use Rattle.std.proofs.lemmas.Bool.{lt-leb, and_left, and_right, or_from}
-use Rattle.std.proofs.lemmas.List.Folds.{list_any-append}
+use Rattle.std.{specs.List.list_any, specs.Prelude.{unwrap_or, nat_le}, proofs.lemmas.Bool.{lt-leb, and_left, and_right, or_from}, proofs.lemmas.List.Folds.list_any-append}
 use Rattle.result_rows.specs.declared.Outcome.{Outcome}
 use Rattle.result_rows.specs.declared.Outcome.TheVariants as out
-use Rattle.masked_bytes.specs.Entries.{candidate}
-use Rattle.masked_bytes.proofs.Truth.{or_rest}
-use Rattle.row_rules.specs.declared.Row.{Row}
-use Rattle.row_rules.specs.Answers.{is_worn, accepts}
-use Rattle.row_rules.specs.Wearing.{worn_row, worn_by}
-use Rattle.bank_shape.specs.declared.BankShape.{BankShape}
-use Rattle.bank_shape.specs.declared.Work.TheVariants.{Nothing}
-use Rattle.bank_shape.specs.declared.answer.WriteAnswer.{WriteAnswer}
+use Rattle.masked_bytes.{specs.Entries.candidate, proofs.Truth.or_rest}
+use Rattle.row_rules.specs.{Answers.{is_worn, accepts}, Wearing.{worn_row, worn_by}, declared.Row.Row}
+use Rattle.bank_shape.specs.{declared.BankShape.BankShape, declared.Work.TheVariants.Nothing, declared.answer.WriteAnswer.WriteAnswer, declared.pace.Pace.Pace}
 use Rattle.bank_shape.specs.declared.answer.WriteAnswer.TheVariants as wrote
 use Rattle.bank_shape.specs.declared.answer.ReadAnswer.TheVariants as came
 use Rattle.bank_shape.specs.declared.answer.Step.TheVariants as did
-use Rattle.bank_model.specs.Events.{BankEvent, Write, Read, Serve, Begin, Iterate, Cut}
-use Rattle.bank_model.specs.History.{queue, waits, has_exhausted, due_after}
-use Rattle.bank_model.specs.After.{due_work, work_after}
-use Rattle.bank_model.specs.Answers.{head_busy_after, accept_answer, write_answer, IsDone}
-use Rattle.bank_shape.specs.declared.pace.Pace.{Pace}
+use Rattle.bank_model.specs.{After.{due_work, work_after}, Answers.{head_busy_after, accept_answer, write_answer, IsDone}}
+use Rattle.bank_model.specs.{Events.{BankEvent, Write, Read, Serve, Begin, Iterate, Cut}, History.{queue, waits, has_exhausted, due_after}, Lawful.{Lawful, MayCome}}
 use Rattle.bank_model.specs.Timing.{Happens, Core, Regs, TimedEvent, core, core_of, last_tick}
-use Rattle.bank_model.specs.Lawful.{Lawful, MayCome}
-use Rattle.bank_laws.specs.Outcomes.{on_row, outcome_with, outcome_of, ended, row_with, rows_from}
-use Rattle.bank_laws.specs.Standing.{has_wait}
-use Rattle.bank_laws.specs.Settling.{AreOpen}
-use Rattle.bank_laws.specs.Ticks.{ends_action}
-use Rattle.bank_laws.proofs.Entries.{either}
-use Rattle.bank_laws.proofs.Settling.{lawful_before}
-use Rattle.bank_laws.proofs.Ticks.{last_tick-rises, last-below}
-use Rattle.bank_laws.proofs.Walking.{rows_after}
-use Rattle.bank_laws.proofs.Ending.{Onwards, IsOutcome, write_outcome, outcome-accepts}
-use Rattle.bank_laws.proofs.Serves.{may_at, onwards_at}
+use Rattle.bank_laws.specs.{Outcomes.{on_row, outcome_with, outcome_of, ended, row_with, rows_from}, Settling.AreOpen, Standing.has_wait, Ticks.ends_action}
+use Rattle.bank_laws.proofs.{Ending.{Onwards, IsOutcome, write_outcome, outcome-accepts}, Entries.either, Serves.{may_at, onwards_at}, Settling.lawful_before}
+use Rattle.bank_laws.proofs.{Ticks.{last_tick-rises, last-below}, Walking.rows_after}
 
 module _ {n : ℕ} where
   -- another outcome than a store leaves a store as it was

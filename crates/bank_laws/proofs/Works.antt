@@ -1,22 +1,12 @@
 -- The line write in progress on one array line, over events that leave it, and what no control line's pulse touches.
 use Rattle.std.proofs.Common.{◌≡◌, ℕ, zero, ◌+◌, ◌<◌, ◌≤◌, ◌==◌, ◌&&◌, ◌||◌, not, Bool, true, false, List, ◌∷◌, Option, Some, None, refl, sym, ap, ◌∙◌, arith, cond}
-use Rattle.std.proofs.Math.Nat.{min-le_left}
-use Rattle.std.proofs.lemmas.Bool.{ne_eqb}
+use Rattle.std.proofs.{Math.Nat.min-le_left, lemmas.Bool.ne_eqb}
 use Rattle.cell_rows.specs.Device.{counted}
-use Rattle.bank_shape.specs.declared.BankShape.{BankShape}
-use Rattle.bank_shape.specs.Shape.{controls_from, control_line}
-use Rattle.bank_shape.specs.declared.answer.Step.{Step}
-use Rattle.bank_shape.specs.declared.answer.Step.TheVariants as did
-use Rattle.bank_shape.specs.declared.clock.Action.{Action}
+use Rattle.bank_shape.specs.{Shape.{controls_from, control_line}, declared.BankShape.BankShape, declared.answer.Step.Step, declared.clock.Action.Action}
 use Rattle.bank_shape.specs.declared.clock.Doing.TheVariants.{Iterating}
-use Rattle.bank_model.specs.Events.{BankEvent}
-use Rattle.bank_model.specs.History.{goes_on, in_progress, iterated}
-use Rattle.bank_model.specs.After.{target_after}
-use Rattle.bank_model.specs.Answers.{MayAll}
-use Rattle.bank_model.specs.Changes.{line_of_change}
-use Rattle.bank_model.specs.Sensing.{is_at, torn_control, kept_pulsed}
-use Rattle.bank_model.specs.Timing.{Keeping, KeepBegin, KeepIterate, KeepCut, is_doing}
-use Rattle.bank_model.specs.Works.{held_on}
+use Rattle.bank_shape.specs.declared.answer.Step.TheVariants as did
+use Rattle.bank_model.specs.{After.target_after, Answers.MayAll, Changes.line_of_change, Events.BankEvent, History.{goes_on, in_progress, iterated}}
+use Rattle.bank_model.specs.{Sensing.{is_at, torn_control, kept_pulsed}, Timing.{Keeping, KeepBegin, KeepIterate, KeepCut, is_doing}, Works.held_on}
 use Rattle.bank_laws.proofs.Targets.{WorkAfter, spares_work, working, target-same}
 
 pub counted-few : (k : ℕ) → counted k ≤ k + 1

@@ -1,9 +1,7 @@
 -- How much a bank holds.
 use Rattle.std.specs.Prelude.{ℕ, ◌≤◌, List, length}
 use Rattle.bank_shape.specs.declared.BankShape.{BankShape}
-use Rattle.bank_model.specs.Events.{BankEvent}
-use Rattle.bank_model.specs.History.{queue, waits}
-use Rattle.bank_model.specs.Answers.{MayAll}
+use Rattle.bank_model.specs.{Answers.MayAll, Events.BankEvent, History.{queue, waits}}
 
 -- no more writes stand in the queue, and no more reads wait, than may
 pub record HoldsFew {n : ℕ} (shape : BankShape) (h : List (BankEvent n)) : Type 0 where

@@ -1,27 +1,14 @@
 -- The laws of a bank, over a lawful history at whose end the bank has no work.
 use Rattle.std.specs.Prelude.{◌≡◌, ◌≢◌, ◌&&◌, nat_le, nat_lt, length, ℕ, ◌+◌, ◌<◌, ◌≤◌, Bool, false, IsTrue, List, [], filter, ◌++◌, All, IfSome}
-use Rattle.cell_rows.specs.Device.{ArrayState}
-use Rattle.cell_rows.specs.declared.array.Sense.{Sense}
+use Rattle.cell_rows.specs.{Device.ArrayState, declared.array.Sense.Sense}
 use Rattle.ecp_line.specs.Reading.{decode, is_worn_line}
-use Rattle.row_rules.specs.declared.Row.{Row}
-use Rattle.row_rules.specs.Rows.{each_row}
-use Rattle.row_rules.specs.declared.Rules.{Rules}
-use Rattle.row_rules.specs.Table.{KeepsRows}
-use Rattle.bank_shape.specs.declared.BankShape.{BankShape}
+use Rattle.row_rules.specs.{Rows.each_row, Table.KeepsRows, declared.Row.Row, declared.Rules.Rules}
+use Rattle.bank_shape.specs.{Shape.{slots_of, controls_of, control_line, lines_in}, declared.BankShape.BankShape, declared.pace.Pace.Pace}
 use Rattle.spare_pool.specs.Table.{line_from}
-use Rattle.bank_shape.specs.Shape.{slots_of, controls_of, control_line, lines_in}
-use Rattle.bank_model.specs.After.{array_line_after, slot_of_work, due_work}
-use Rattle.bank_model.specs.History.{retired, has_exhausted, due_after, queue}
-use Rattle.bank_shape.specs.declared.pace.Pace.{Pace}
-use Rattle.bank_model.specs.Timing.{TimedEvent, core}
-use Rattle.bank_model.specs.Sensing.{pulses_of, most_steps}
-use Rattle.bank_model.specs.Adding.{senses_of}
-use Rattle.bank_model.specs.Lawful.{Lawful}
-use Rattle.bank_laws.specs.Outcomes.{table_of}
+use Rattle.bank_model.specs.{Adding.senses_of, After.{array_line_after, slot_of_work, due_work}, Changes.{change_after, halted_after}}
+use Rattle.bank_model.specs.{History.{retired, has_exhausted, due_after, queue}, Lawful.Lawful, Sensing.{pulses_of, most_steps}, Timing.{TimedEvent, core}}
+use Rattle.bank_laws.specs.{Logs.{has_sense, has_controls, is_line_fair_to}, Outcomes.table_of, Places.{is_placed, is_wear_true_to, is_taken_to, most_pulses, pulses_among}}
 use Rattle.bank_laws.specs.Resting.{IsStill, EndsIn}
-use Rattle.bank_laws.specs.Places.{is_placed, is_wear_true_to, is_taken_to, most_pulses, pulses_among}
-use Rattle.bank_laws.specs.Logs.{has_sense, has_controls, is_line_fair_to}
-use Rattle.bank_model.specs.Changes.{change_after, halted_after}
 
 -- the rules of a bank. A line write takes at most `8 * (3 * e + 2)` steps
 abbrev pub rules_of : ℕ → BankShape → Pace → Rules

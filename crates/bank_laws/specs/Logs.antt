@@ -1,20 +1,12 @@
 -- What the senses of a log show of a bank's rows and of its lines.
-use Rattle.std.specs.Prelude.{ℕ, ◌+◌, ◌==◌, ◌&&◌, ◌||◌, not, nat_lt, nat_le, Bool, true, false, List, [], ◌∷◌, filter}
-use Rattle.std.specs.List.{list_any, list_all}
-use Rattle.cell_rows.specs.declared.row.Cells.{Cells}
-use Rattle.cell_rows.specs.declared.array.Sense.{Sense}
+use Rattle.std.specs.{List.{list_any, list_all}, Prelude.{ℕ, ◌+◌, ◌==◌, ◌&&◌, ◌||◌, not, nat_lt, nat_le, Bool, true, false, List, [], ◌∷◌, filter}}
+use Rattle.cell_rows.specs.{declared.array.Sense.Sense, declared.row.Cells.Cells}
 use Rattle.masked_bytes.specs.Masked.{laid}
-use Rattle.bank_shape.specs.Pausing.{is_cancelling}
-use Rattle.bank_shape.specs.declared.BankShape.{BankShape}
+use Rattle.bank_shape.specs.{Pausing.is_cancelling, declared.BankShape.BankShape}
 use Rattle.bank_model.specs.Changes.{all_controls}
 use Rattle.result_rows.specs.declared.Outcome.{Outcome}
 use Rattle.result_rows.specs.declared.Outcome.TheVariants as out
-use Rattle.row_rules.specs.declared.Row.{Row}
-use Rattle.row_rules.specs.Rows.{RowTest, line_of, asks_read, is_cut, newest}
-use Rattle.row_rules.specs.Serving.{same_bytes}
-use Rattle.row_rules.specs.declared.Rules.{Rules}
-use Rattle.row_rules.specs.Queueing.{cover}
-use Rattle.row_rules.specs.Wearing.{worn_row}
+use Rattle.row_rules.specs.{Queueing.cover, Rows.{RowTest, line_of, asks_read, is_cut, newest}, Serving.same_bytes, Wearing.worn_row, declared.Row.Row, declared.Rules.Rules}
 
 module _ {n m : ℕ} (read_as : Cells n m → List ℕ) (log : List (Sense n m)) where
   -- a sense of the place at the tick, whose cells give these bytes

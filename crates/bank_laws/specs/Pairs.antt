@@ -1,11 +1,8 @@
 -- When two entries of the queue have one line.
 use Rattle.std.specs.Prelude.{◌≡◌, ℕ, ◌==◌, ◌||◌, Bool, true, false, List, [], ◌∷◌}
-use Rattle.masked_bytes.specs.declared.entry.Entry.{Entry}
-use Rattle.masked_bytes.specs.Masked.{gives_all}
+use Rattle.masked_bytes.specs.{Masked.gives_all, declared.entry.Entry.Entry}
 use Rattle.bank_shape.specs.declared.BankShape.{BankShape}
-use Rattle.bank_model.specs.Events.{BankEvent}
-use Rattle.bank_model.specs.History.{queue}
-use Rattle.bank_model.specs.Answers.{MayAll}
+use Rattle.bank_model.specs.{Answers.MayAll, Events.BankEvent, History.queue}
 
 module _ {n : ℕ} where
   -- whether an entry has this line

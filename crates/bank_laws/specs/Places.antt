@@ -2,15 +2,9 @@
 use Rattle.std.specs.Prelude.{ℕ, zero, suc, ◌+◌, ◌-◌, ◌*◌, ◌/◌, ◌%◌, ◌==◌, ◌&&◌, ◌||◌, not, nat_lt, nat_le, Bool, true, false, if◌then◌else◌, List, [], ◌∷◌, ◌++◌, count_by, length}
 use Rattle.result_rows.specs.declared.Outcome.{Outcome}
 use Rattle.result_rows.specs.declared.Outcome.TheVariants as out
-use Rattle.row_rules.specs.declared.Row.{Row}
-use Rattle.row_rules.specs.Answers.{accepts, is_stored, is_queued, stored_before}
-use Rattle.row_rules.specs.Rows.{RowTest, line_of, asks_write, is_cut}
-use Rattle.row_rules.specs.declared.Rules.{Rules}
-use Rattle.row_rules.specs.Queueing.{pending}
-use Rattle.row_rules.specs.Ticking.{tries, writings}
-use Rattle.row_rules.specs.Wearing.{worn_row}
-use Rattle.bank_shape.specs.declared.BankShape.{BankShape}
-use Rattle.bank_shape.specs.Shape.{slots_of, slot_moved, controls_of}
+use Rattle.row_rules.specs.{Answers.{accepts, is_stored, is_queued, stored_before}, Queueing.pending, Rows.{RowTest, line_of, asks_write, is_cut}, Ticking.{tries, writings}}
+use Rattle.row_rules.specs.{Wearing.worn_row, declared.Row.Row, declared.Rules.Rules}
+use Rattle.bank_shape.specs.{Shape.{slots_of, slot_moved, controls_of}, declared.BankShape.BankShape}
 
 -- a region's stores, by this test of outcomes
 abbrev pub region_stores : {n : ℕ} → (Outcome n → Bool) → BankShape → ℕ → List (Row n) → ℕ

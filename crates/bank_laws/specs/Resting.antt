@@ -1,12 +1,7 @@
 -- How a bank's history may end.
 use Rattle.std.specs.Prelude.{◌≡◌, ℕ, Bool, true, false, IsFalse, List, [], ◌∷◌}
-use Rattle.bank_shape.specs.declared.BankShape.{BankShape}
-use Rattle.bank_shape.specs.declared.pace.Pace.{Pace}
-use Rattle.bank_model.specs.Events.{Cut}
-use Rattle.bank_model.specs.History.{waits}
-use Rattle.bank_model.specs.Timing.{Core, TimedEvent, core}
-use Rattle.bank_model.specs.Running.{busy_after}
-use Rattle.bank_model.specs.Lawful.{IsIdle}
+use Rattle.bank_shape.specs.{declared.BankShape.BankShape, declared.pace.Pace.Pace}
+use Rattle.bank_model.specs.{Events.Cut, History.waits, Lawful.IsIdle, Running.busy_after, Timing.{Core, TimedEvent, core}}
 
 -- no read waits, and no line write is in progress: so it is where nothing is left to do, and just behind a power cut
 pub record IsStill {n m : ℕ} (shape : BankShape) (xs : List (TimedEvent n m)) : Type 0 where

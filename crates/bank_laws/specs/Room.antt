@@ -1,13 +1,9 @@
 -- What any tick between its rows finds of a bank.
 use Rattle.std.specs.Prelude.{ℕ, ◌≤◌, ◌++◌, IsTrue, List, All}
 use Rattle.row_rules.specs.Queueing.{has_room}
-use Rattle.bank_shape.specs.declared.BankShape.{BankShape}
-use Rattle.bank_shape.specs.declared.pace.Pace.{Pace}
-use Rattle.bank_model.specs.Timing.{TimedEvent, last_tick}
-use Rattle.bank_model.specs.Lawful.{Lawful}
-use Rattle.bank_laws.specs.Outcomes.{rows_from}
-use Rattle.bank_laws.specs.Resting.{IsStill}
-use Rattle.bank_laws.specs.Laws.{IsSized, rules_of}
+use Rattle.bank_shape.specs.{declared.BankShape.BankShape, declared.pace.Pace.Pace}
+use Rattle.bank_model.specs.{Lawful.Lawful, Timing.{TimedEvent, last_tick}}
+use Rattle.bank_laws.specs.{Laws.{IsSized, rules_of}, Outcomes.rows_from, Resting.IsStill}
 
 -- at any tick between two of its events, a bank holds no more than it may
 abbrev pub RoomLaw : (n m : ℕ) → Type 0

@@ -1,18 +1,11 @@
 -- The laws of a bank's rows, one by one: those of a whole table, as far as they are proved.
 use Rattle.std.specs.Prelude.{ℕ, Bool, not, ◌&&◌, ◌||◌, ◌==◌, nat_le, if◌then◌else◌, length, IsTrue, List, []}
 use Rattle.result_rows.specs.declared.Outcome.{Outcome}
-use Rattle.row_rules.specs.Answers.{is_answered, is_busy, is_forwarded, is_full, is_lost}
-use Rattle.row_rules.specs.Rows.{RowTest, each_row, asks_read, asks_write, line_of}
-use Rattle.row_rules.specs.Queueing.{merge_fits, pending, waiting}
-use Rattle.row_rules.specs.Serving.{is_served}
-use Rattle.row_rules.specs.Wearing.{is_wear_final, is_wear_earned}
-use Rattle.bank_shape.specs.declared.BankShape.{BankShape}
-use Rattle.bank_shape.specs.declared.pace.Pace.{Pace}
-use Rattle.bank_model.specs.Timing.{TimedEvent}
-use Rattle.bank_model.specs.Lawful.{Lawful}
-use Rattle.bank_laws.specs.Laws.{IsSized}
-use Rattle.bank_laws.specs.Outcomes.{table_of}
-use Rattle.bank_laws.specs.Resting.{IsStill}
+use Rattle.row_rules.specs.{Answers.{is_answered, is_busy, is_forwarded, is_full, is_lost}, Queueing.{merge_fits, pending, waiting}}
+use Rattle.row_rules.specs.{Rows.{RowTest, each_row, asks_read, asks_write, line_of}, Serving.is_served, Wearing.{is_wear_final, is_wear_earned}}
+use Rattle.bank_shape.specs.{declared.BankShape.BankShape, declared.pace.Pace.Pace}
+use Rattle.bank_model.specs.{Lawful.Lawful, Timing.TimedEvent}
+use Rattle.bank_laws.specs.{Laws.IsSized, Outcomes.table_of, Resting.IsStill}
 
 -- each row has an outcome of its own operation, and each read that is answered has the newest bytes of its line
 abbrev pub ServedLaw : Type 0

@@ -2,14 +2,9 @@
 use Rattle.std.specs.Prelude.{◌≡◌, ◌≢◌, ℕ, true, List, ◌++◌}
 use Rattle.result_rows.specs.declared.Outcome.TheVariants.{Unset}
 use Rattle.masked_bytes.specs.Entries.{has_row}
-use Rattle.bank_shape.specs.declared.BankShape.{BankShape}
-use Rattle.bank_model.specs.Events.{RowsBelow}
-use Rattle.bank_model.specs.History.{queue, waits}
-use Rattle.bank_shape.specs.declared.pace.Pace.{Pace}
-use Rattle.bank_model.specs.Timing.{TimedEvent, core}
-use Rattle.bank_model.specs.Lawful.{Lawful}
-use Rattle.bank_laws.specs.Outcomes.{outcome_of}
-use Rattle.bank_laws.specs.Standing.{has_wait}
+use Rattle.bank_shape.specs.{declared.BankShape.BankShape, declared.pace.Pace.Pace}
+use Rattle.bank_model.specs.{Events.RowsBelow, History.{queue, waits}, Lawful.Lawful, Timing.{TimedEvent, core}}
+use Rattle.bank_laws.specs.{Outcomes.outcome_of, Standing.has_wait}
 
 -- a row has no outcome while it stands in the queue or waits, nor before it came
 pub record AreOpen {n m : ℕ} (shape : BankShape) (xs : List (TimedEvent n m)) : Type 0 where

@@ -1,11 +1,8 @@
 -- The rows that stand in the queue and among the waiting reads.
-use Rattle.std.specs.Prelude.{◌≡◌, ℕ, ◌≤◌, ◌==◌, Bool, true, false, List, [], ◌∷◌}
-use Rattle.std.specs.List.{list_any}
-use Rattle.masked_bytes.specs.declared.entry.Entry.{Entry}
-use Rattle.masked_bytes.specs.Entries.{has_row, RowsApart}
+use Rattle.std.specs.{List.list_any, Prelude.{◌≡◌, ℕ, ◌≤◌, ◌==◌, Bool, true, false, List, [], ◌∷◌}}
+use Rattle.masked_bytes.specs.{Entries.{has_row, RowsApart}, declared.entry.Entry.Entry}
 use Rattle.bank_shape.specs.declared.BankShape.{BankShape}
-use Rattle.bank_model.specs.Events.{BankEvent, RowsBelow}
-use Rattle.bank_model.specs.History.{Awaited, queue, waits}
+use Rattle.bank_model.specs.{Events.{BankEvent, RowsBelow}, History.{Awaited, queue, waits}}
 
 -- whether a read of this row waits
 abbrev pub has_wait : List Awaited → ℕ → Bool

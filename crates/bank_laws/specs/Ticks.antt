@@ -1,10 +1,7 @@
 -- How the ticks of a lawful history go on.
 use Rattle.std.specs.Prelude.{ℕ, ◌<◌, ◌≤◌, Bool, true, false, IsTrue, List, ◌∷◌, All}
-use Rattle.bank_shape.specs.declared.BankShape.{BankShape}
-use Rattle.bank_model.specs.Events.{Write, Read, Serve, Begin, Iterate, Cut}
-use Rattle.bank_shape.specs.declared.pace.Pace.{Pace}
-use Rattle.bank_model.specs.Timing.{Happens, Core, Regs, KeepBegin, KeepIterate, KeepCut, TimedEvent}
-use Rattle.bank_model.specs.Lawful.{Lawful}
+use Rattle.bank_shape.specs.{declared.BankShape.BankShape, declared.pace.Pace.Pace}
+use Rattle.bank_model.specs.{Events.{Write, Read, Serve, Begin, Iterate, Cut}, Lawful.Lawful, Timing.{Happens, Core, Regs, KeepBegin, KeepIterate, KeepCut, TimedEvent}}
 
 -- the end of an action: a serve, a begin or an iteration
 abbrev pub ends_action : {n : ℕ} → Happens n → Bool

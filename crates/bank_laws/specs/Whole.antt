@@ -1,7 +1,6 @@
 -- The laws of a bank, whatever the sizes of its lines.
 use Rattle.std.specs.Prelude.{ℕ}
-use Rattle.bank_laws.specs.Laws.{TableLaw, PlaceLaw, LogLaw}
-use Rattle.bank_laws.specs.Room.{RoomLaw}
+use Rattle.bank_laws.specs.{Laws.{TableLaw, PlaceLaw, LogLaw}, Room.RoomLaw}
 
 -- of its rows
 abbrev pub WholeTableLaw : Type 0

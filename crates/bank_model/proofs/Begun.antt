@@ -1,7 +1,6 @@
 -- The rows of the entries of a queue whose head is begun.
 use Rattle.std.proofs.Common.{◌≡◌, ℕ, List, [], ◌∷◌, Option, Some, None, refl}
-use Rattle.masked_bytes.specs.declared.entry.Entry.{Entry}
-use Rattle.masked_bytes.specs.Entries.{has_row, RowsApart}
+use Rattle.masked_bytes.specs.{Entries.{has_row, RowsApart}, declared.entry.Entry.Entry}
 use Rattle.bank_model.specs.History.{begun}
 
 module _ {n : ℕ} where

@@ -1,8 +1,7 @@
 -- A line's newest bytes have the length of a line.
 use Rattle.std.proofs.Common.{◌≡◌, ℕ, ◌==◌, cond, ◌∙◌, Bool, true, false, List, [], ◌∷◌, length}
 use Rattle.std.proofs.lemmas.List.{length-replicate}
-use Rattle.masked_bytes.specs.Masked.{laid}
-use Rattle.masked_bytes.proofs.Layering.{length-laid}
+use Rattle.masked_bytes.{specs.Masked.laid, proofs.Layering.length-laid}
 use Rattle.bank_shape.specs.declared.answer.WriteAnswer.TheVariants as wrote
 use Rattle.bank_model.specs.Events.{BankEvent, Write, Read, Serve, Begin, Iterate, Cut, newest}
 

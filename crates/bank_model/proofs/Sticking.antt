@@ -1,9 +1,7 @@
 -- A pulse or a tear leaves stuck what was stuck, and its cells stick no earlier than they endure.
 use Rattle.std.proofs.Common.{◌≡◌, ◌⊎◌, inl, inr, ℕ, ◌+◌, ◌≤◌, Bool, true, false, refl, arith}
 use Rattle.std.specs.Prelude.{IsFalse}
-use Rattle.cell_rows.specs.declared.row.Cells.{Cells}
-use Rattle.cell_rows.specs.Rows.{cell}
-use Rattle.cell_rows.specs.Device.{CellBounds, LineState, IsCellKept, CellPulsed, CellTorn, DeviceStep, TornStep}
+use Rattle.cell_rows.specs.{Device.{CellBounds, LineState, IsCellKept, CellPulsed, CellTorn, DeviceStep, TornStep}, Rows.cell, declared.row.Cells.Cells}
 use Rattle.bank_model.specs.Touching.{Sticks, Strikes}
 
 module _ {n m : ℕ} (bounds : CellBounds) (mask : Cells n m) (old new : LineState n m) where

@@ -1,13 +1,9 @@
 -- What senses, a pulse or a tear of one line do to an array.
 use Rattle.std.proofs.Common.{◌≡◌, ℕ, refl, sym, ap, subst, ◌∙◌, true, false, List, [], ◌∷◌, ◌++◌, append_assoc, Some, None}
-use Rattle.std.proofs.lemmas.Bool.{eqb-true, eqb-false}
-use Rattle.std.proofs.lemmas.List.{append-nil}
-use Rattle.cell_rows.specs.declared.array.Sense.{Sense}
-use Rattle.cell_rows.specs.Device.{ArrayState, LineState, Senses, counted, sense_of}
-use Rattle.program_verify.specs.declared.prog.Prog.{Prog}
-use Rattle.program_verify.specs.Programming.{IsRound, IsTear}
-use Rattle.bank_model.specs.Touching.{Sticks, Touches, shown}
-use Rattle.bank_model.proofs.Sticking.{sticks-pulsed, sticks-torn}
+use Rattle.std.proofs.{lemmas.Bool.{eqb-true, eqb-false}, lemmas.List.append-nil}
+use Rattle.cell_rows.specs.{Device.{ArrayState, LineState, Senses, counted, sense_of}, declared.array.Sense.Sense}
+use Rattle.program_verify.specs.{Programming.{IsRound, IsTear}, declared.prog.Prog.Prog}
+use Rattle.bank_model.{specs.Touching.{Sticks, Touches, shown}, proofs.Sticking.{sticks-pulsed, sticks-torn}}
 
 module _ {n m : ℕ} where
   -- nothing

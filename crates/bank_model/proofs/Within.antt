@@ -2,10 +2,7 @@
 use Rattle.std.proofs.Common.{ℕ, ◌*◌, ◌<◌, ◌≤◌, ◌==◌, cond, arith, Bool, true, false, List, [], ◌∷◌, Option, Some, None}
 use Rattle.bank_shape.specs.declared.BankShape.{BankShape}
 use Rattle.bank_shape.specs.declared.answer.Step.TheVariants as did
-use Rattle.bank_model.specs.Events.{BankEvent, Write, Read, Serve, Begin, Iterate, Cut, line_of_row}
-use Rattle.bank_model.specs.History.{stores, first_or}
-use Rattle.bank_model.specs.After.{due_moves}
-use Rattle.bank_model.specs.Answers.{MayAll}
+use Rattle.bank_model.specs.{After.due_moves, Answers.MayAll, Events.{BankEvent, Write, Read, Serve, Begin, Iterate, Cut, line_of_row}, History.{stores, first_or}}
 
 module _ {n : ℕ} (shape : BankShape) (most : ℕ) (some : 0 < shape.regions * shape.lines) where
   -- each write is of a line of the bank

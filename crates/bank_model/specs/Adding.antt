@@ -1,12 +1,8 @@
 -- What the events of a call do to an array, besides its cells.
 use Rattle.std.specs.Prelude.{◌≡◌, ◌⊎◌, ℕ, ◌+◌, ◌<◌, ◌≤◌, if◌then◌else◌, List, [], ◌∷◌, ◌++◌, Option, Some}
-use Rattle.cell_rows.specs.declared.array.Sense.{Sense}
-use Rattle.cell_rows.specs.Device.{ArrayState, counted}
-use Rattle.bank_shape.specs.declared.BankShape.{BankShape}
-use Rattle.bank_model.specs.Events.{Cut}
-use Rattle.bank_shape.specs.Shape.{lines_in}
-use Rattle.bank_model.specs.Timing.{Happens, Core, Regs, KeepCut, TimedEvent}
-use Rattle.bank_model.specs.Sensing.{is_at}
+use Rattle.cell_rows.specs.{Device.{ArrayState, counted}, declared.array.Sense.Sense}
+use Rattle.bank_shape.specs.{Shape.lines_in, declared.BankShape.BankShape}
+use Rattle.bank_model.specs.{Events.Cut, Sensing.is_at, Timing.{Happens, Core, Regs, KeepCut, TimedEvent}}
 
 -- the senses, the oldest first
 abbrev pub senses_of : {n m : ℕ} → List (TimedEvent n m) → List (Sense n m)

@@ -1,15 +1,10 @@
 -- What a bank does next after its events, and which array lines that touches.
-use Rattle.std.specs.Prelude.{ℕ, ◌+◌, ◌/◌, ◌==◌, ◌&&◌, not, Bool, true, false, if◌then◌else◌, List, [], ◌∷◌, Option, Some, None}
-use Rattle.std.specs.List.{list_any}
+use Rattle.std.specs.{List.list_any, Prelude.{ℕ, ◌+◌, ◌/◌, ◌==◌, ◌&&◌, not, Bool, true, false, if◌then◌else◌, List, [], ◌∷◌, Option, Some, None}}
 use Rattle.masked_bytes.specs.declared.entry.Entry.{Entry}
 use Rattle.start_gap.specs.Rotation.{move_after}
 use Rattle.spare_pool.specs.Table.{line_from}
-use Rattle.bank_shape.specs.declared.BankShape.{BankShape}
-use Rattle.bank_shape.specs.declared.Work.{Work}
-use Rattle.bank_shape.specs.declared.Work.TheVariants.{Nothing, Store, Copy}
-use Rattle.bank_shape.specs.Shape.{slots_of, slot_at, slot_moved}
-use Rattle.bank_model.specs.Events.{BankEvent}
-use Rattle.bank_model.specs.History.{Awaited, queue, waits, moved_in, due_after, retired, has_exhausted, in_progress}
+use Rattle.bank_shape.specs.{Shape.{slots_of, slot_at, slot_moved}, declared.BankShape.BankShape, declared.Work.Work, declared.Work.TheVariants.{Nothing, Store, Copy}}
+use Rattle.bank_model.specs.{Events.BankEvent, History.{Awaited, queue, waits, moved_in, due_after, retired, has_exhausted, in_progress}}
 
 -- whether a work may be begun while these reads wait: a store may not while one of its line waits
 abbrev pub is_ready : List Awaited → Work → Bool

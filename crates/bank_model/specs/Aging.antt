@@ -1,11 +1,8 @@
 -- How the lines of an array age, whose cells keep to bounds: what the changes of their cells are to the line writes on them.
 use Rattle.std.specs.Prelude.{ℕ, ◌+◌, ◌<◌, ◌≤◌, min, IsTrue, IsFalse, List}
 use Rattle.cell_rows.specs.Device.{CellBounds, LineState, ArrayState}
-use Rattle.bank_shape.specs.declared.BankShape.{BankShape}
-use Rattle.bank_shape.specs.Shape.{slots_of, lines_in, controls_of, control_line}
-use Rattle.bank_model.specs.Events.{BankEvent}
-use Rattle.bank_model.specs.Timing.{TimedEvent}
-use Rattle.bank_model.specs.Works.{works_on, held_on, written_on, rounds_on}
+use Rattle.bank_shape.specs.{Shape.{slots_of, lines_in, controls_of, control_line}, declared.BankShape.BankShape}
+use Rattle.bank_model.specs.{Events.BankEvent, Timing.TimedEvent, Works.{works_on, held_on, written_on, rounds_on}}
 
 -- no cell of a line changed more often than so as its first one stuck: with no cell stuck none has spent more changes, and where one is,
 -- cells endure no more

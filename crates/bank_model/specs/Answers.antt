@@ -1,22 +1,13 @@
 -- What a bank may answer after its events.
 use Rattle.std.specs.Prelude.{◌≡◌, ℕ, ◌+◌, ◌*◌, ◌<◌, ◌==◌, ◌&&◌, ◌||◌, not, Bool, IsTrue, if◌then◌else◌, List, [], ◌∷◌, length, Option, Some, None}
-use Rattle.masked_bytes.specs.Masked.{gives_all, IsMasked}
-use Rattle.masked_bytes.specs.Entries.{layer_of, head_row, candidate}
-use Rattle.bank_shape.specs.declared.BankShape.{BankShape}
-use Rattle.bank_shape.specs.declared.Work.{Work}
-use Rattle.bank_shape.specs.declared.Work.TheVariants.{Store, Copy}
-use Rattle.bank_shape.specs.Shape.{slots_of}
-use Rattle.bank_shape.specs.declared.answer.WriteAnswer.{WriteAnswer}
+use Rattle.masked_bytes.specs.{Entries.{layer_of, head_row, candidate}, Masked.{gives_all, IsMasked}}
+use Rattle.bank_shape.specs.{Kinds.is_store, Shape.slots_of, declared.BankShape.BankShape, declared.Work.Work, declared.Work.TheVariants.{Store, Copy}}
+use Rattle.bank_shape.specs.{declared.answer.ReadAnswer.ReadAnswer, declared.answer.Served.Served, declared.answer.Step.Step, declared.answer.WriteAnswer.WriteAnswer}
 use Rattle.bank_shape.specs.declared.answer.WriteAnswer.TheVariants as wrote
-use Rattle.bank_shape.specs.declared.answer.ReadAnswer.{ReadAnswer}
 use Rattle.bank_shape.specs.declared.answer.ReadAnswer.TheVariants as came
-use Rattle.bank_shape.specs.declared.answer.Served.{Served}
-use Rattle.bank_shape.specs.declared.answer.Step.{Step}
 use Rattle.bank_shape.specs.declared.answer.Step.TheVariants as did
-use Rattle.bank_shape.specs.Kinds.{is_store}
-use Rattle.bank_model.specs.Events.{BankEvent, Write, Read, Serve, Begin, Iterate, Cut, newest}
-use Rattle.bank_model.specs.History.{Awaited, queue, waits, retired, has_exhausted, in_progress, iterated}
 use Rattle.bank_model.specs.After.{work_after, slot_of_work, array_line_after, stands_at_after, may_begin_after}
+use Rattle.bank_model.specs.{Events.{BankEvent, Write, Read, Serve, Begin, Iterate, Cut, newest}, History.{Awaited, queue, waits, retired, has_exhausted, in_progress, iterated}}
 
 module _ {n : ℕ} (shape : BankShape) (h : List (BankEvent n)) where
   -- a store is in progress, so nothing merges into the head of the queue

@@ -1,15 +1,11 @@
 -- The change that stands after a timed history, and how far its writing has come.
 use Rattle.std.specs.Prelude.{ℕ, zero, suc, ◌+◌, ◌/◌, Bool, true, false, List, [], ◌∷◌, length, Option, Some, None}
-use Rattle.bank_shape.specs.declared.BankShape.{BankShape}
-use Rattle.bank_shape.specs.declared.Home.{Home}
-use Rattle.bank_shape.specs.declared.Home.TheVariants as home
-use Rattle.bank_shape.specs.Shape.{controls_from, controls_of, control_line}
+use Rattle.bank_shape.specs.{Shape.{controls_from, controls_of, control_line}, declared.BankShape.BankShape, declared.Home.Home, declared.answer.Keep.Keep}
 use Rattle.bank_shape.specs.declared.answer.Step.{Step}
+use Rattle.bank_shape.specs.declared.Home.TheVariants as home
 use Rattle.bank_shape.specs.declared.answer.Step.TheVariants as did
-use Rattle.bank_shape.specs.declared.answer.Keep.{Keep}
 use Rattle.bank_shape.specs.declared.answer.Keep.TheVariants as keep
-use Rattle.bank_model.specs.Events.{BankEvent, Begin, Iterate, Cut, line_of_row}
-use Rattle.bank_model.specs.History.{stores, retired, first_or}
+use Rattle.bank_model.specs.{Events.{BankEvent, Begin, Iterate, Cut, line_of_row}, History.{stores, retired, first_or}}
 use Rattle.bank_model.specs.Timing.{Happens, Core, Regs, KeepBegin, KeepIterate, KeepCut, TimedEvent, core}
 
 -- an item of a bank whose registers are kept in the array

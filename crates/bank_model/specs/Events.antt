@@ -1,11 +1,8 @@
 -- The events of a bank since power-up, the newest first, and what an accepted write leaves.
 use Rattle.std.specs.Prelude.{ℕ, ◌<◌, ◌==◌, Bool, if◌then◌else◌, List, [], ◌∷◌, replicate}
 use Rattle.masked_bytes.specs.Masked.{laid}
-use Rattle.bank_shape.specs.declared.answer.WriteAnswer.{WriteAnswer}
+use Rattle.bank_shape.specs.{declared.answer.ReadAnswer.ReadAnswer, declared.answer.Served.Served, declared.answer.Step.Step, declared.answer.WriteAnswer.WriteAnswer}
 use Rattle.bank_shape.specs.declared.answer.WriteAnswer.TheVariants as wrote
-use Rattle.bank_shape.specs.declared.answer.ReadAnswer.{ReadAnswer}
-use Rattle.bank_shape.specs.declared.answer.Served.{Served}
-use Rattle.bank_shape.specs.declared.answer.Step.{Step}
 
 -- an event of a bank of lines of n bytes, with its arguments and its answer.
 -- A write gives those bytes that `given` says; a cut may tear the line write that runs

@@ -1,11 +1,9 @@
 -- What a list of a bank's events leaves: the stores and moves of its regions, its retired slots, its queue and its waiting reads.
 use Rattle.std.specs.Prelude.{ℕ, ◌+◌, ◌*◌, ◌/◌, ◌==◌, nat_le, Bool, true, false, if◌then◌else◌, List, [], ◌∷◌, ◌++◌, drop, Option, Some, None}
-use Rattle.masked_bytes.specs.Entries.{Layer, merged, completed, layer_of}
-use Rattle.masked_bytes.specs.declared.entry.Entry.{Entry}
-use Rattle.bank_shape.specs.declared.BankShape.{BankShape}
+use Rattle.masked_bytes.specs.{Entries.{Layer, merged, completed, layer_of}, declared.entry.Entry.Entry}
+use Rattle.bank_shape.specs.{declared.BankShape.BankShape, declared.answer.Step.Step}
 use Rattle.bank_shape.specs.declared.answer.WriteAnswer.TheVariants as wrote
 use Rattle.bank_shape.specs.declared.answer.ReadAnswer.TheVariants as came
-use Rattle.bank_shape.specs.declared.answer.Step.{Step}
 use Rattle.bank_shape.specs.declared.answer.Step.TheVariants as did
 use Rattle.bank_model.specs.Events.{BankEvent, Write, Read, Serve, Begin, Iterate, Cut, newest, line_of_row}
 

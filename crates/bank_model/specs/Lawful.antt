@@ -1,22 +1,14 @@
 -- Which timed histories a bank may have.
 use Rattle.std.specs.Prelude.{◌≡◌, ◌≢◌, ℕ, ◌+◌, ◌<◌, ◌≤◌, ◌&&◌, nat_lt, Bool, IsTrue, IsFalse, List, [], ◌∷◌, map, Option, Some, None, IfSome, is_some, All}
-use Rattle.bank_shape.specs.declared.pace.Policy.{Policy}
-use Rattle.bank_shape.specs.Pausing.{is_cancelling, most_cancels}
-use Rattle.bank_shape.specs.declared.BankShape.{BankShape}
-use Rattle.bank_shape.specs.declared.answer.ReadAnswer.{ReadAnswer}
+use Rattle.bank_shape.specs.{Pausing.{is_cancelling, most_cancels}, declared.BankShape.BankShape, declared.answer.ReadAnswer.ReadAnswer, declared.clock.Action.Action}
+use Rattle.bank_shape.specs.{declared.clock.Doing.Doing, declared.clock.Doing.TheVariants.{Serving, Beginning, Iterating}, declared.pace.Pace.Pace, declared.pace.Policy.Policy}
 use Rattle.bank_shape.specs.declared.answer.ReadAnswer.TheVariants as came
-use Rattle.bank_shape.specs.declared.clock.Doing.{Doing}
-use Rattle.bank_shape.specs.declared.clock.Doing.TheVariants.{Serving, Beginning, Iterating}
-use Rattle.bank_shape.specs.declared.clock.Action.{Action}
-use Rattle.bank_model.specs.Events.{BankEvent, Write, Read, Serve, Begin, Iterate, Cut, RowsBelow}
-use Rattle.bank_model.specs.History.{waits}
-use Rattle.bank_model.specs.Answers.{MayHappen}
 use Rattle.bank_shape.specs.declared.answer.Keep.TheVariants as keep
-use Rattle.bank_shape.specs.declared.pace.Pace.{Pace}
-use Rattle.bank_model.specs.Timing.{Happens, Core, Regs, Keeping, KeepBegin, KeepIterate, KeepCut, TimedEvent, ends, is_doing, is_writing, is_empty, core, last_tick}
-use Rattle.bank_model.specs.Changes.{change_after, keeping_after, rounds_after, halted_after, line_of_change}
+use Rattle.bank_model.specs.{Answers.MayHappen, Changes.{change_after, keeping_after, rounds_after, halted_after, line_of_change}}
+use Rattle.bank_model.specs.{Events.{BankEvent, Write, Read, Serve, Begin, Iterate, Cut, RowsBelow}, History.waits}
 use Rattle.bank_model.specs.Running.{tears_bank, chosen_after, running, running_at, cancels_after}
 use Rattle.bank_model.specs.Sensing.{most_steps, pulses_of, sensed_by, pulsed_by, read_again, torn_control, kept_sensed, kept_pulsed, IsReadRight}
+use Rattle.bank_model.specs.Timing.{Happens, Core, Regs, Keeping, KeepBegin, KeepIterate, KeepCut, TimedEvent, ends, is_doing, is_writing, is_empty, core, last_tick}
 
 -- a read was answered at once, from the queue
 abbrev pub IsForwarded : {n : ℕ} → ReadAnswer n → Type 0

@@ -1,20 +1,13 @@
 -- Which action runs after a timed history, and which is chosen next.
 use Rattle.std.specs.Prelude.{ℕ, ◌+◌, ◌&&◌, ◌||◌, not, nat_lt, Bool, true, false, if◌then◌else◌, List, [], ◌∷◌, Option, Some, None}
-use Rattle.bank_shape.specs.declared.BankShape.{BankShape}
-use Rattle.bank_shape.specs.Acting.{Choice, choice, chosen_by}
-use Rattle.bank_shape.specs.Pausing.{gives_way}
+use Rattle.bank_shape.specs.{Acting.{Choice, choice, chosen_by}, Pausing.gives_way, declared.BankShape.BankShape, declared.clock.Action.Action, declared.clock.Doing.Doing}
+use Rattle.bank_shape.specs.{declared.clock.Doing.TheVariants.{Beginning, Iterating}, declared.pace.Pace.Pace}
 use Rattle.bank_shape.specs.declared.answer.Step.TheVariants as did
 use Rattle.bank_shape.specs.declared.answer.ReadAnswer.TheVariants as came
-use Rattle.bank_shape.specs.declared.clock.Doing.{Doing}
-use Rattle.bank_shape.specs.declared.clock.Doing.TheVariants.{Beginning, Iterating}
-use Rattle.bank_shape.specs.declared.clock.Action.{Action}
-use Rattle.bank_model.specs.Events.{BankEvent, Write, Read, Serve, Begin, Iterate, Cut}
-use Rattle.bank_model.specs.History.{waits, in_progress, iterated, has_exhausted}
-use Rattle.bank_model.specs.After.{work_after, may_begin_after, is_store_of}
-use Rattle.bank_shape.specs.declared.pace.Pace.{Pace}
-use Rattle.bank_model.specs.Timing.{Happens, Core, Regs, KeepBegin, KeepIterate, KeepCut, TimedEvent, is_doing, is_empty, core, last_tick}
 use Rattle.bank_shape.specs.declared.answer.Keep.TheVariants as keep
-use Rattle.bank_model.specs.Changes.{change_after, keeping_after, rounds_after, halted_after}
+use Rattle.bank_model.specs.{After.{work_after, may_begin_after, is_store_of}, Changes.{change_after, keeping_after, rounds_after, halted_after}}
+use Rattle.bank_model.specs.{Events.{BankEvent, Write, Read, Serve, Begin, Iterate, Cut}, History.{waits, in_progress, iterated, has_exhausted}}
+use Rattle.bank_model.specs.Timing.{Happens, Core, Regs, KeepBegin, KeepIterate, KeepCut, TimedEvent, is_doing, is_empty, core, last_tick}
 
 -- the action that runs at a later tick: that which ran, or else the one that was chosen
 abbrev pub started : Option Action → Option Doing → ℕ → ℕ → Option Action

@@ -1,20 +1,14 @@
 -- Which array lines an event senses and pulses, and what the cells that it sensed are read as.
 use Rattle.std.specs.Prelude.{◌≡◌, ℕ, ◌==◌, Bool, true, false, if◌then◌else◌, List, [], ◌∷◌, ◌++◌, Option, Some, None, IsSomeAnd}
-use Rattle.cell_rows.specs.declared.array.Sense.{Sense}
-use Rattle.cell_rows.specs.declared.row.Cells.{Cells}
-use Rattle.cell_rows.specs.Device.{counted}
+use Rattle.cell_rows.specs.{Device.counted, declared.array.Sense.Sense, declared.row.Cells.Cells}
 use Rattle.ecp_line.specs.Reading.{decode}
 pub use Rattle.ecp_line.specs.Steps.{most_steps}
 use Rattle.masked_bytes.specs.Masked.{laid}
-use Rattle.bank_shape.specs.declared.BankShape.{BankShape}
+use Rattle.bank_shape.specs.{declared.BankShape.BankShape, declared.clock.Action.Action, declared.clock.Doing.TheVariants.Iterating}
 use Rattle.bank_shape.specs.declared.answer.Step.TheVariants as did
-use Rattle.bank_model.specs.Events.{BankEvent, Serve, Begin, Iterate, Cut, newest, up_to, line_of_row}
-use Rattle.bank_model.specs.History.{Awaited, waits}
-use Rattle.bank_model.specs.After.{work_after, target_after, sources_of, stands_at_after}
+use Rattle.bank_model.specs.{After.{work_after, target_after, sources_of, stands_at_after}, Changes.{line_of_change, all_controls}}
+use Rattle.bank_model.specs.{Events.{BankEvent, Serve, Begin, Iterate, Cut, newest, up_to, line_of_row}, History.{Awaited, waits}}
 use Rattle.bank_model.specs.Timing.{Happens, Core, Keeping, KeepBegin, KeepIterate, KeepCut, TimedEvent, core, is_doing}
-use Rattle.bank_shape.specs.declared.clock.Doing.TheVariants.{Iterating}
-use Rattle.bank_shape.specs.declared.clock.Action.{Action}
-use Rattle.bank_model.specs.Changes.{line_of_change, all_controls}
 
 -- a line, if there is one, is this one
 abbrev pub is_at : Option ℕ → ℕ → Bool

@@ -1,14 +1,9 @@
 -- Events with their times, the newest first, and the actions of a bank.
 use Rattle.std.specs.Prelude.{ℕ, ◌||◌, Bool, true, false, List, [], ◌∷◌, Option, Some, None}
 use Rattle.cell_rows.specs.declared.array.Sense.{Sense}
-use Rattle.bank_shape.specs.Acting.{ends_with}
-use Rattle.bank_shape.specs.declared.pace.Pace.{Pace}
-use Rattle.bank_shape.specs.declared.clock.Doing.{Doing}
-use Rattle.bank_shape.specs.declared.clock.Doing.TheVariants.{Serving, Beginning, Iterating}
-use Rattle.bank_shape.specs.declared.clock.Action.{Action}
-use Rattle.bank_shape.specs.declared.answer.Keep.{Keep}
-use Rattle.bank_model.specs.Events.{BankEvent}
-use Rattle.bank_model.specs.History.{Awaited}
+use Rattle.bank_shape.specs.{Acting.ends_with, declared.answer.Keep.Keep, declared.clock.Action.Action, declared.clock.Doing.Doing}
+use Rattle.bank_shape.specs.{declared.clock.Doing.TheVariants.{Serving, Beginning, Iterating}, declared.pace.Pace.Pace}
+use Rattle.bank_model.specs.{Events.BankEvent, History.Awaited}
 
 -- what happens at the control lines of a bank: the writing of the change that stands begins, goes on by an iteration, or is broken off
 -- by a read. A power cut of it is one with that of the bank

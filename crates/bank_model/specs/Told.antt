@@ -1,12 +1,7 @@
 -- What a bank with its times keeps of its history.
 use Rattle.std.specs.Prelude.{◌≡◌, ℕ, ◌<◌, ◌≤◌, ◌==◌, IsFalse, if◌then◌else◌, List, [], ◌∷◌, map, Option, IfSome}
-use Rattle.bank_shape.specs.declared.BankShape.{BankShape}
-use Rattle.bank_shape.specs.declared.clock.Action.{Action}
-use Rattle.bank_model.specs.Events.{Write}
-use Rattle.bank_model.specs.History.{queue}
-use Rattle.bank_shape.specs.declared.pace.Pace.{Pace}
-use Rattle.bank_model.specs.Timing.{Happens, Core, TimedEvent, ends, core, last_tick}
-use Rattle.bank_model.specs.Running.{running_at, cancels_after}
+use Rattle.bank_shape.specs.{declared.BankShape.BankShape, declared.clock.Action.Action, declared.pace.Pace.Pace}
+use Rattle.bank_model.specs.{Events.Write, History.queue, Running.{running_at, cancels_after}, Timing.{Happens, Core, TimedEvent, ends, core, last_tick}}
 
 -- the tick at which the write of a row arrived
 abbrev pub tick_by : {n : ℕ} → ℕ → Happens n → ℕ → ℕ → ℕ

@@ -1,12 +1,8 @@
 -- What one event does to an array, besides what the cells that it pulses then hold.
 use Rattle.std.specs.Prelude.{◌≡◌, ℕ, ◌+◌, ◌<◌, ◌≤◌, ◌⊎◌, ◌++◌, Bool, true, false, if◌then◌else◌, IsTrue, IsFalse, List, map, Option, Some}
-use Rattle.cell_rows.specs.declared.array.Sense.{Sense}
-use Rattle.cell_rows.specs.Device.{CellBounds, LineState, ArrayState, counted, sense_of}
-use Rattle.bank_shape.specs.declared.BankShape.{BankShape}
-use Rattle.bank_shape.specs.Shape.{slots_of}
-use Rattle.bank_model.specs.Events.{BankEvent, Cut}
-use Rattle.bank_model.specs.History.{iterated}
-use Rattle.bank_model.specs.Sensing.{is_at}
+use Rattle.cell_rows.specs.{Device.{CellBounds, LineState, ArrayState, counted, sense_of}, declared.array.Sense.Sense}
+use Rattle.bank_shape.specs.{Shape.slots_of, declared.BankShape.BankShape}
+use Rattle.bank_model.specs.{Events.{BankEvent, Cut}, History.iterated, Sensing.is_at}
 
 -- what senses of these lines, in this order, show at a tick
 abbrev pub shown : {n m : ℕ} → ℕ → List ℕ → ArrayState n m → List (Sense n m)

@@ -1,13 +1,8 @@
 -- How many line writes an array line takes, by the events of its bank.
 use Rattle.std.specs.Prelude.{ℕ, ◌+◌, ◌==◌, ◌&&◌, not, Bool, false, if◌then◌else◌, List, [], ◌∷◌}
-use Rattle.bank_shape.specs.declared.BankShape.{BankShape}
-use Rattle.bank_shape.specs.declared.answer.Step.{Step}
-use Rattle.bank_model.specs.Events.{BankEvent, Begin, Iterate, Cut}
-use Rattle.bank_model.specs.History.{goes_on, in_progress, iterated}
-use Rattle.bank_model.specs.After.{target_after}
-use Rattle.bank_model.specs.Timing.{Happens, Core, Regs, KeepBegin, KeepIterate, KeepCut, TimedEvent}
-use Rattle.bank_model.specs.Changes.{change_after, keeping_after, keeps_on, rounds_after, line_of_change}
-use Rattle.bank_model.specs.Sensing.{is_at}
+use Rattle.bank_shape.specs.{declared.BankShape.BankShape, declared.answer.Step.Step}
+use Rattle.bank_model.specs.{After.target_after, Changes.{change_after, keeping_after, keeps_on, rounds_after, line_of_change}, Events.{BankEvent, Begin, Iterate, Cut}}
+use Rattle.bank_model.specs.{History.{goes_on, in_progress, iterated}, Sensing.is_at, Timing.{Happens, Core, Regs, KeepBegin, KeepIterate, KeepCut, TimedEvent}}
 
 module _ {n : ℕ} where
   -- how many answers of begins and iterations pass a test, and how many cuts one, each after the events before it

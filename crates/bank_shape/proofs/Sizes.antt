@@ -1,10 +1,7 @@
 -- Slots and control lines of a bank are no more than its sizes allow; for the crates above.
 use Rattle.std.proofs.Common.{ℕ, ◌+◌, ◌*◌, ◌<◌, ◌≤◌, arith}
 use Rattle.std.proofs.lemmas.Nat.{mul-add-lt}
-use Rattle.bank_shape.specs.declared.BankShape.{BankShape}
-use Rattle.bank_shape.specs.declared.Home.{Home}
-use Rattle.bank_shape.specs.declared.Home.TheVariants.{Guarded, Array}
-use Rattle.bank_shape.specs.Shape.{slots_of, slot_at, if_array}
+use Rattle.bank_shape.specs.{Shape.{slots_of, slot_at, if_array}, declared.BankShape.BankShape, declared.Home.Home, declared.Home.TheVariants.{Guarded, Array}}
 
 -- the slot of a place is one of the bank
 pub slot_at-within : (shape : BankShape) (region place : ℕ) → region < shape.regions → place ≤ shape.lines → slot_at shape region place < slots_of shape

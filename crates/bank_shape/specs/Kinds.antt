@@ -1,7 +1,6 @@
 -- Of which kind a work is.
 use Rattle.std.specs.Prelude.{Bool, true, false}
-use Rattle.bank_shape.specs.declared.Work.{Work}
-use Rattle.bank_shape.specs.declared.Work.TheVariants.{Nothing, Store, Copy}
+use Rattle.bank_shape.specs.{declared.Work.Work, declared.Work.TheVariants.{Nothing, Store, Copy}}
 
 -- whether a work is the store of a write
 abbrev pub is_store : Work → Bool

@@ -1,8 +1,6 @@
 -- How fast a bank works, and when its line writes give way to reads.
 use Rattle.std.specs.Prelude.{ℕ, ◌≤◌, Bool, true, false}
-use Rattle.bank_shape.specs.declared.pace.Pace.{Pace}
-use Rattle.bank_shape.specs.declared.pace.Policy.{Policy}
-use Rattle.bank_shape.specs.declared.pace.Policy.TheVariants.{Pause, Plain, Cancel}
+use Rattle.bank_shape.specs.{declared.pace.Pace.Pace, declared.pace.Policy.Policy, declared.pace.Policy.TheVariants.{Pause, Plain, Cancel}}
 
 -- a sense and an iteration take 1 to 255 ticks each
 pub record IsPace (pace : Pace) : Type 0 where

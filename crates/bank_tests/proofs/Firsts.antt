@@ -2,11 +2,9 @@
 use Rattle.std.proofs.Common.{◌≡◌, ℕ, List, [], ap, sym, subst}
 use Rattle.cell_rows.specs.Device.{ArrayState}
 use Rattle.result_rows.specs.declared.Outcome.{Outcome}
-use Rattle.bank_shape.specs.declared.BankShape.{BankShape}
-use Rattle.bank_shape.specs.declared.pace.Pace.{Pace}
+use Rattle.bank_shape.specs.{declared.BankShape.BankShape, declared.pace.Pace.Pace}
 use Rattle.bank_invariant.specs.State.{first_bank}
-use Rattle.clock_laws.specs.State.{ClockState}
-use Rattle.clock_laws.specs.Leads.{Leads}
+use Rattle.clock_laws.specs.{Leads.Leads, State.ClockState}
 use Rattle.bank_timing.specs.Extending.{AreOpen, first_clock}
 use Rattle.bank_tests.specs.Going.{IsGoing}
 

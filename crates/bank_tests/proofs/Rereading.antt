@@ -3,17 +3,10 @@ use Rattle.std.proofs.Common.{◌≡◌, ℕ, ◌+◌, false, [], Option, Some, 
 use Rattle.std.specs.Prelude.{is_some}
 use Rattle.cell_rows.specs.Device.{ArrayState}
 use Rattle.ecp_line.specs.Reading.{decode}
-use Rattle.bank_shape.specs.declared.BankShape.{BankShape}
-use Rattle.bank_shape.specs.declared.Home.{Home}
-use Rattle.bank_shape.specs.declared.Home.TheVariants.{Guarded, Array}
-use Rattle.bank_shape.specs.Shape.{controls_of, controls_from}
-use Rattle.power_recovery.specs.Kept.{KeptState, IsKept}
-use Rattle.power_recovery.specs.Events.{first_kept, with_entries}
-use Rattle.reg_lines.specs.declared.Change.{Change}
-use Rattle.reg_lines.specs.Values.{values_in}
-use Rattle.reg_lines.specs.Regs.{RegsState, values_by}
-use Rattle.register_laws.specs.Control.{Control}
-use Rattle.register_laws.specs.Recovering.{IsReadable, IsOnLines}
+use Rattle.bank_shape.specs.{Shape.{controls_of, controls_from}, declared.BankShape.BankShape, declared.Home.Home, declared.Home.TheVariants.{Guarded, Array}}
+use Rattle.power_recovery.specs.{Events.{first_kept, with_entries}, Kept.{KeptState, IsKept}}
+use Rattle.reg_lines.specs.{Regs.{RegsState, values_by}, Values.values_in, declared.Change.Change}
+use Rattle.register_laws.specs.{Control.Control, Recovering.{IsReadable, IsOnLines}}
 use Rattle.bank_timing.specs.Extending.{first_regs}
 
 pub none-stands : (change : Option Change) → is_some change ≡ false → change ≡ None

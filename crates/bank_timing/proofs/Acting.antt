@@ -2,16 +2,10 @@
 use Rattle.std.proofs.Common.{◌≡◌, ℕ, ◌<◌, ◌≤◌, List, Option, Some, None, sym, subst, arith}
 use Rattle.std.specs.Prelude.{IfSome}
 use Rattle.cell_rows.specs.Device.{ArrayState}
-use Rattle.bank_shape.specs.declared.pace.Pace.{Pace}
-use Rattle.bank_shape.specs.declared.clock.Doing.{Doing}
-use Rattle.bank_shape.specs.declared.clock.Action.{Action}
+use Rattle.bank_shape.specs.{declared.clock.Action.Action, declared.clock.Doing.Doing, declared.pace.Pace.Pace}
 use Rattle.bank_model.specs.Timing.{TimedEvent, ends}
-use Rattle.clock_laws.specs.State.{ClockState, or_else, started_at, chosen, next_action}
-use Rattle.clock_laws.specs.Leads.{Leads}
-use Rattle.clock_laws.specs.Fitting.{Fits, IsFit}
-use Rattle.clock_laws.proofs.Fitting.{chosen_law}
-use Rattle.clock_laws.specs.Passing.{at_tick}
-use Rattle.clock_laws.proofs.Passing.{passing_law, ending_later_law}
+use Rattle.clock_laws.specs.{Fitting.{Fits, IsFit}, Leads.Leads, Passing.at_tick, State.{ClockState, or_else, started_at, chosen, next_action}}
+use Rattle.clock_laws.proofs.{Fitting.chosen_law, Passing.{passing_law, ending_later_law}}
 use Rattle.bank_timing.specs.Clock.{IsClock}
 
 pub some-of : {A : Type 0} (P : A → Type 0) (x : Option A) (a : A) → x ≡ Some a → IfSome x P → P a

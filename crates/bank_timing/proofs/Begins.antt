@@ -1,46 +1,22 @@
 -- The begin of a line write ends.
 use Rattle.std.proofs.Common.{◌≡◌, ℕ, ◌+◌, ◌<◌, ◌≤◌, ◌&&◌, not, Bool, true, false, List, ◌∷◌, Option, Some, None, is_some, refl, sym, ap, subst, ◌∙◌}
-use Rattle.std.proofs.lemmas.Bool.{false≢true}
-use Rattle.std.specs.Prelude.{IsTrue}
+use Rattle.std.{specs.Prelude.IsTrue, proofs.lemmas.Bool.false≢true}
 use Rattle.cell_rows.specs.Device.{ArrayState, LineState}
 use Rattle.ecp_line.specs.Reading.{decode}
 use Rattle.result_rows.specs.declared.Outcome.{Outcome}
-use Rattle.bank_shape.specs.declared.Work.{Work}
-use Rattle.line_writer.specs.declared.writer.LineWriter.{LineWriter}
-use Rattle.line_writer.specs.declared.writer.Progress.{Progress}
+use Rattle.bank_shape.specs.{declared.Work.Work, declared.answer.Step.Step, declared.clock.Action.Action, declared.clock.Doing.Doing, declared.clock.Doing.TheVariants.Beginning}
+use Rattle.line_writer.specs.{Writing.IsProgress, declared.writer.LineWriter.LineWriter, declared.writer.Progress.Progress}
 use Rattle.line_writer.specs.declared.writer.Progress.TheVariants as progress
-use Rattle.line_writer.specs.Writing.{IsProgress}
 use Rattle.power_recovery.specs.Kept.{next_work}
-use Rattle.bank_shape.specs.declared.answer.Step.{Step}
-use Rattle.bank_shape.specs.declared.clock.Doing.{Doing}
-use Rattle.bank_shape.specs.declared.clock.Doing.TheVariants.{Beginning}
-use Rattle.bank_shape.specs.declared.clock.Action.{Action}
-use Rattle.bank_model.specs.Events.{BankEvent, Begin}
-use Rattle.bank_model.specs.Timing.{TimedEvent, core, ends}
-use Rattle.bank_model.specs.Touching.{Touches}
-use Rattle.bank_invariant.specs.State.{BankState, is_free, may_begin}
-use Rattle.bank_invariant.specs.Tied.{decoded}
-use Rattle.bank_invariant.specs.Holds.{Holds}
-use Rattle.bank_invariant.specs.Beginning.{lines_sensed}
-use Rattle.bank_core.specs.Stepping.{step_from}
-use Rattle.bank_core.specs.Beginning.{IsBegin}
-use Rattle.clock_laws.specs.State.{ClockState, next_action}
-use Rattle.clock_laws.specs.Leads.{Leads}
-use Rattle.clock_laws.specs.Fitting.{Fits, IsFit}
-use Rattle.clock_laws.specs.Completing.{after_action}
-use Rattle.clock_laws.specs.Actions.{IsCompletion, GoesOn, LeavesBegun}
+use Rattle.bank_model.specs.{Events.{BankEvent, Begin}, Timing.{TimedEvent, core, ends}, Touching.Touches}
+use Rattle.bank_invariant.specs.{Beginning.lines_sensed, Holds.Holds, State.{BankState, is_free, may_begin}, Tied.decoded}
+use Rattle.bank_core.specs.{Beginning.IsBegin, Stepping.step_from}
+use Rattle.clock_laws.specs.{Actions.{IsCompletion, GoesOn, LeavesBegun}, Completing.after_action, Fitting.{Fits, IsFit}, Leads.Leads, Putting.{item_by, put_if}}
+use Rattle.clock_laws.{specs.State.{ClockState, next_action}, proofs.Ending.begin_ends_law, proofs.Fitting.needs_law, proofs.Others.apart_law, proofs.Putting.no_writer}
 use Rattle.reg_lines.specs.Regs.{IsWritingOf}
-use Rattle.clock_laws.specs.Putting.{item_by, put_if}
-use Rattle.clock_laws.proofs.Fitting.{needs_law}
-use Rattle.clock_laws.proofs.Putting.{no_writer}
-use Rattle.clock_laws.proofs.Ending.{begin_ends_law}
-use Rattle.clock_laws.proofs.Others.{apart_law}
-use Rattle.bank_timing.specs.Extending.{AreOpen}
-use Rattle.spare_pool.specs.Table.{used_by}
-use Rattle.bank_timing.specs.Completing.{Completes, step_recorded, region_of, item_from}
-use Rattle.bank_timing.proofs.Changes.{item-named}
-use Rattle.bank_timing.proofs.Acting.{next-fits, next-ends}
+use Rattle.bank_timing.{specs.Completing.{Completes, step_recorded, region_of, item_from}, specs.Extending.AreOpen, proofs.Acting.{next-fits, next-ends}, proofs.Changes.item-named}
 use Rattle.bank_timing.proofs.LineWrites.{Steps, step-completes, begin-steps, begin-leaves}
+use Rattle.spare_pool.specs.Table.{used_by}
 
 -- where a line write may be begun, none is in progress, and the work is free
 free-parts : {A : Type 0} (r : Option A) (free : Bool) → (not (is_some r) && free) ≡ true → (r ≡ None) × (free ≡ true)

@@ -1,52 +1,25 @@
 -- A read cancels what runs of a line write, and then waits: what becomes of the clock and of the array.
 use Rattle.std.proofs.Common.{◌≡◌, ℕ, ◌+◌, ◌<◌, ◌≤◌, ◌&&◌, ◌==◌, not, nat_lt, Bool, true, false, List, [], ◌∷◌, length, map, Option, Some, None, is_some, refl, sym, ap, subst, ◌∙◌, arith, ltb-true}
-use Rattle.masked_bytes.proofs.Truth.{and_first, and_second}
-use Rattle.std.proofs.lemmas.Bool.{false≢true, ne_eqb, lt-ltb, not-true}
-use Rattle.std.specs.Prelude.{unwrap_or, IsTrue, IfSome, if◌then◌else◌}
+use Rattle.std.{specs.Prelude.{unwrap_or, IsTrue, IfSome, if◌then◌else◌}, proofs.lemmas.Bool.{false≢true, ne_eqb, lt-ltb, not-true}}
+use Rattle.masked_bytes.{specs.Entries.{layer_of, has_row}, specs.Masked.gives_all, proofs.Truth.{and_first, and_second}}
 use Rattle.cell_rows.specs.Device.{ArrayState}
-use Rattle.masked_bytes.specs.Masked.{gives_all}
-use Rattle.masked_bytes.specs.Entries.{layer_of, has_row}
 use Rattle.result_rows.specs.declared.Outcome.{Outcome}
-use Rattle.bank_shape.specs.Pausing.{is_cancelling, most_cancels}
-use Rattle.bank_shape.specs.declared.answer.ReadAnswer.{ReadAnswer}
-use Rattle.bank_shape.specs.declared.answer.ReadAnswer.TheVariants as came
-use Rattle.bank_shape.specs.declared.clock.Doing.TheVariants.{Iterating}
-use Rattle.bank_model.specs.Events.{BankEvent, Read, Cut}
-use Rattle.bank_model.specs.History.{Awaited, waits}
-use Rattle.bank_shape.specs.declared.clock.Action.{Action}
-use Rattle.bank_model.specs.Timing.{TimedEvent, core, is_doing, is_writing}
-use Rattle.bank_laws.specs.Outcomes.{outcome_with}
-use Rattle.bank_model.specs.Touching.{Touches, AreStruck}
-use Rattle.reg_lines.specs.declared.Change.{Change}
-use Rattle.reg_lines.specs.Regs.{AreHeld}
-use Rattle.reg_lines.specs.Keeping.{broken_off, torn_line as regs_torn}
-use Rattle.register_laws.proofs.Staying.{stays_law}
-use Rattle.register_laws.proofs.Writing.{broken_law}
-use Rattle.power_recovery.specs.Kept.{KeptState}
+use Rattle.bank_shape.specs.{Pausing.{is_cancelling, most_cancels}, declared.answer.ReadAnswer.ReadAnswer, declared.clock.Action.Action, declared.clock.Doing.TheVariants.Iterating}
 use Rattle.bank_shape.specs.declared.waiting.Waiting.{Waiting}
-use Rattle.bank_invariant.specs.State.{BankState}
-use Rattle.bank_invariant.specs.Holds.{Holds, waiting_of}
-use Rattle.bank_invariant.specs.Steps.{cut_off}
-use Rattle.bank_invariant.specs.Serving.{read_from, waits_too}
+use Rattle.bank_shape.specs.declared.answer.ReadAnswer.TheVariants as came
+use Rattle.bank_model.specs.{Events.{BankEvent, Read, Cut}, History.{Awaited, waits}, Timing.{TimedEvent, core, is_doing, is_writing}, Touching.{Touches, AreStruck}}
 use Rattle.bank_model.proofs.Rising.{RowsBelow-more}
-use Rattle.bank_core.specs.Cutting.{torn_line, IsTorn}
-use Rattle.reg_lines.specs.Keeping.{IsTorn as IsTornControl}
-use Rattle.bank_core.specs.Steps.{after_read as bank_after_read}
-use Rattle.clock_laws.specs.State.{ClockState}
-use Rattle.clock_laws.specs.Leads.{Leads}
-use Rattle.clock_laws.specs.Arriving.{cancels_for, arrival, after_read, action_after_read, drops, KeepsWork}
-use Rattle.clock_laws.specs.Fitting.{IsFit}
-use Rattle.clock_laws.specs.Cutting.{after_cancel}
-use Rattle.clock_laws.specs.Actions.{ReachesBy, torn_line as line_torn}
-use Rattle.clock_laws.specs.Standing.{has_waiting}
-use Rattle.clock_laws.proofs.Tearing.{cancel_ends_law, keep_cancel_ends_law, tears-control}
-use Rattle.clock_laws.proofs.Cutting.{cancelled_read_law}
-use Rattle.clock_laws.proofs.Extending.{arrival_added_law, both_added_law}
-use Rattle.clock_laws.proofs.Fitting.{needs_law}
-use Rattle.bank_timing.specs.Extending.{Extends, Arrives, AreOpen, IsOpen, outcome_in}
-use Rattle.bank_timing.specs.Cancelling.{cancel_by, cancelled_by, cancel_first}
-use Rattle.bank_timing.proofs.Losses.{iterating-fits, work-leaves, work-struck, same_torn}
-use Rattle.bank_timing.proofs.ReadArrivals.{read-keeps, waits-unset}
+use Rattle.bank_laws.specs.Outcomes.{outcome_with}
+use Rattle.reg_lines.specs.{Keeping.{broken_off, torn_line as regs_torn, IsTorn as IsTornControl}, Regs.AreHeld, declared.Change.Change}
+use Rattle.register_laws.proofs.{Staying.stays_law, Writing.broken_law}
+use Rattle.power_recovery.specs.Kept.{KeptState}
+use Rattle.bank_invariant.specs.{Holds.{Holds, waiting_of}, Serving.{read_from, waits_too}, State.BankState, Steps.cut_off}
+use Rattle.bank_core.specs.{Cutting.{torn_line, IsTorn}, Steps.after_read as bank_after_read}
+use Rattle.clock_laws.specs.{Actions.{ReachesBy, torn_line as line_torn}, Arriving.{cancels_for, arrival, after_read, action_after_read, drops, KeepsWork}, Cutting.after_cancel}
+use Rattle.clock_laws.{specs.Fitting.IsFit, specs.Leads.Leads, specs.Standing.has_waiting, specs.State.ClockState, proofs.Cutting.cancelled_read_law}
+use Rattle.clock_laws.proofs.{Extending.{arrival_added_law, both_added_law}, Fitting.needs_law, Tearing.{cancel_ends_law, keep_cancel_ends_law, tears-control}}
+use Rattle.bank_timing.specs.{Cancelling.{cancel_by, cancelled_by, cancel_first}, Extending.{Extends, Arrives, AreOpen, IsOpen, outcome_in}}
+use Rattle.bank_timing.proofs.{Losses.{iterating-fits, work-leaves, work-struck, same_torn}, ReadArrivals.{read-keeps, waits-unset}}
 
 module _ {n m e : ℕ} (clock : ClockState n m e) (line : ℕ) (would : IsTrue (cancels_for clock line)) where
   -- what a read that cancels finds: a begin or an iteration runs, no read waits, the count is below the most, and the queue lacks a byte

@@ -1,43 +1,24 @@
 -- The change that a step of the bank's line write brings, and that the control lines go on to hold what the bank keeps.
 use Rattle.std.proofs.Common.{◌≡◌, ℕ, ◌+◌, ◌/◌, ◌<◌, ◌≤◌, nat_lt, if◌then◌else◌, Bool, true, false, List, [], ◌∷◌, Option, Some, None, refl, sym, ap, subst, ◌∙◌, arith, ltb-true}
 use Rattle.std.specs.Prelude.{IfSome}
-use Rattle.masked_bytes.specs.declared.entry.Entry.{Entry}
-use Rattle.masked_bytes.specs.Entries.{head_line}
+use Rattle.masked_bytes.specs.{Entries.head_line, declared.entry.Entry.Entry}
 use Rattle.cell_rows.specs.Device.{ArrayState}
 use Rattle.spare_pool.specs.Table.{used_by}
-use Rattle.bank_shape.specs.declared.BankShape.{BankShape}
-use Rattle.bank_shape.specs.declared.Home.{Home}
+use Rattle.bank_shape.specs.{Kinds.{is_store, is_copy}, Shape.{controls_of, controls_from, slots_of}, declared.BankShape.BankShape, declared.Home.Home, declared.Work.Work}
+use Rattle.bank_shape.specs.{declared.Work.TheVariants.{Nothing, Store, Copy}, declared.answer.Step.Step, declared.clock.Action.Action}
 use Rattle.bank_shape.specs.declared.Home.TheVariants as home
-use Rattle.bank_shape.specs.declared.Work.{Work}
-use Rattle.bank_shape.specs.declared.Work.TheVariants.{Nothing, Store, Copy}
-use Rattle.bank_shape.specs.Shape.{controls_of, controls_from, slots_of}
+use Rattle.bank_shape.specs.declared.answer.Step.TheVariants as did
 use Rattle.line_writer.specs.declared.writer.Progress.{Progress}
 use Rattle.line_writer.specs.declared.writer.Progress.TheVariants as progress
-use Rattle.power_recovery.specs.Kept.{KeptState, IsKept, due_region, due_work, next_work, target_slot}
 use Rattle.power_recovery.specs.Events.{completed_kept, stored_kept, moved_kept, retired_kept, exhausted_kept}
-use Rattle.power_recovery.proofs.Bundle.{next_work-store, next_work-copy}
-use Rattle.bank_shape.specs.declared.answer.Step.{Step}
-use Rattle.bank_shape.specs.declared.answer.Step.TheVariants as did
-use Rattle.bank_model.specs.Changes.{item_if}
+use Rattle.power_recovery.{specs.Kept.{KeptState, IsKept, due_region, due_work, next_work, target_slot}, proofs.Bundle.{next_work-store, next_work-copy}}
+use Rattle.bank_model.specs.{Changes.item_if, Events.{Begin, Iterate}, Timing.ends}
 use Rattle.reg_lines.specs.Regs.{RegsState}
-use Rattle.register_laws.specs.Items.{items_of, item_values}
-use Rattle.register_laws.specs.Control.{Control, LeavesControls}
-use Rattle.register_laws.specs.Changing.{ChangesItem}
-use Rattle.register_laws.proofs.Changing.{changes_law}
-use Rattle.register_laws.proofs.Holding.{controls-items}
-use Rattle.register_laws.proofs.Determining.{all-items}
-use Rattle.register_laws.proofs.Putting.{put_law}
-use Rattle.register_laws.proofs.Staying.{stays_law}
+use Rattle.register_laws.{specs.Changing.ChangesItem, specs.Control.{Control, LeavesControls}, specs.Items.{items_of, item_values}, proofs.Changing.changes_law}
+use Rattle.register_laws.proofs.{Determining.all-items, Holding.controls-items, Putting.put_law, Staying.stays_law}
 use Rattle.bank_invariant.specs.State.{BankState, Operation}
-use Rattle.bank_shape.specs.declared.clock.Action.{Action}
-use Rattle.bank_shape.specs.Kinds.{is_store, is_copy}
-use Rattle.bank_model.specs.Events.{Begin, Iterate}
-use Rattle.bank_model.specs.Timing.{ends}
-use Rattle.clock_laws.specs.State.{ClockState}
-use Rattle.clock_laws.specs.Completing.{after_action}
+use Rattle.clock_laws.{specs.Completing.after_action, specs.Putting.{item_by, put_if, region_due}, specs.State.ClockState, proofs.Controls.control-kept}
 use Rattle.bank_core.specs.Stepping.{step_from}
-use Rattle.clock_laws.specs.Putting.{item_by, put_if, region_due}
-use Rattle.clock_laws.proofs.Controls.{control-kept}
 use Rattle.bank_timing.specs.Completing.{region_of, item_from, with_regs, recorded_clock}
 
 -- what a bank keeps after a step that is answered so, with the change of its item put: the item has a control line, and the control

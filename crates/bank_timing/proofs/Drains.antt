@@ -1,30 +1,17 @@
 -- What a drain leaves: a settled bank, whose queued writes are told.
 use Rattle.std.proofs.Common.{◌≡◌, ℕ, if◌then◌else◌, true, false, List, [], ◌∷◌, ◌++◌, length, map, None, refl, sym, ap, ◌∙◌, arith}
-use Rattle.std.specs.Prelude.{IsTrue, unwrap_or}
-use Rattle.std.proofs.lemmas.List.{length-map}
-use Rattle.std.proofs.lemmas.List.Elements.{All-head, All-tail, All-nil}
+use Rattle.std.{specs.Prelude.{IsTrue, unwrap_or}, proofs.lemmas.List.length-map, proofs.lemmas.List.Elements.{All-head, All-tail, All-nil}}
 use Rattle.cell_rows.specs.Device.{ArrayState}
-use Rattle.result_rows.specs.declared.Outcome.{Outcome}
-use Rattle.result_rows.specs.declared.Outcome.TheVariants.{Queued}
-use Rattle.masked_bytes.specs.declared.entry.Entry.{Entry}
-use Rattle.masked_bytes.specs.Entries.{has_row}
+use Rattle.result_rows.specs.{declared.Outcome.Outcome, declared.Outcome.TheVariants.Queued}
+use Rattle.masked_bytes.specs.{Entries.has_row, declared.entry.Entry.Entry}
 use Rattle.bank_shape.specs.declared.BankShape.{BankShape}
-use Rattle.bank_model.specs.Events.{BankEvent}
-use Rattle.bank_model.specs.History.{queue}
-use Rattle.bank_model.specs.Timing.{Happens, Core, Regs, TimedEvent, core, core_of}
-use Rattle.bank_model.specs.Told.{tick_of_row}
-use Rattle.bank_laws.specs.Ticks.{ends_action}
-use Rattle.clock_laws.specs.State.{ClockState, next_action}
-use Rattle.clock_laws.specs.Leads.{Leads}
-use Rattle.clock_laws.proofs.Absent.{queue-lacks}
-use Rattle.clock_laws.proofs.Others.{apart_law}
+use Rattle.bank_model.specs.{Events.BankEvent, History.queue, Timing.{Happens, Core, Regs, TimedEvent, core, core_of}, Told.tick_of_row}
+use Rattle.bank_laws.specs.{Resting.IsCutOff, Ticks.ends_action}
+use Rattle.clock_laws.{specs.Leads.Leads, specs.State.{ClockState, next_action}, proofs.Absent.queue-lacks, proofs.Extending.nothing_added_law, proofs.Others.apart_law}
 use Rattle.clock_laws.proofs.Passing.{idle_law}
-use Rattle.bank_laws.specs.Resting.{IsCutOff}
-use Rattle.clock_laws.proofs.Extending.{nothing_added_law}
-use Rattle.bank_timing.specs.Extending.{RunsDown, AreOpen, LeavesOthers, EndsAction, IsQuiet, outcome_in}
 use Rattle.bank_timing.specs.Draining.{Drains, DrainsTo, closed, AreQueueable, AreQueued, queued_outcome}
+use Rattle.bank_timing.{specs.Extending.{RunsDown, AreOpen, LeavesOthers, EndsAction, IsQuiet, outcome_in}, proofs.Queued.{none-left, queued-told}}
 use Rattle.bank_timing.proofs.Running.{end-brings_none, ran-others, runs-on}
-use Rattle.bank_timing.proofs.Queued.{none-left, queued-told}
 
 -- A row that doesn't stand in the queue does not come to stand there where actions end
 

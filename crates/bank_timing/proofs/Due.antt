@@ -2,18 +2,11 @@
 use Rattle.std.proofs.Common.{◌≡◌, ℕ, ◌≤◌, List, Some, sym, subst}
 use Rattle.cell_rows.specs.Device.{ArrayState}
 use Rattle.result_rows.specs.declared.Outcome.{Outcome}
-use Rattle.bank_shape.specs.declared.clock.Doing.{Doing}
-use Rattle.bank_shape.specs.declared.clock.Action.{Action}
+use Rattle.bank_shape.specs.{declared.clock.Action.Action, declared.clock.Doing.Doing}
 use Rattle.bank_model.specs.Timing.{TimedEvent}
-use Rattle.clock_laws.specs.State.{ClockState, next_action}
-use Rattle.clock_laws.specs.Leads.{Leads}
-use Rattle.clock_laws.specs.Fitting.{IsFit}
-use Rattle.bank_timing.specs.Clock.{IsClock}
-use Rattle.bank_timing.specs.Extending.{AreOpen}
-use Rattle.bank_timing.specs.Completing.{MayComplete}
-use Rattle.bank_timing.specs.declared.clocked.Timed.TheInside.{Inside}
+use Rattle.clock_laws.specs.{Fitting.IsFit, Leads.Leads, State.{ClockState, next_action}}
+use Rattle.bank_timing.{specs.Clock.IsClock, specs.Completing.MayComplete, specs.Extending.AreOpen, specs.declared.clocked.Timed.TheInside.Inside, proofs.Acting.begun-before}
 use Rattle.bank_timing.proofs.Views.{clock_of}
-use Rattle.bank_timing.proofs.Acting.{begun-before}
 
 -- an action of a kind runs from now on and has what it needs; some history leads to the clock over an array, and the rows that stand
 -- have no outcome yet

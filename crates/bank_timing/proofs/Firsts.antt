@@ -1,18 +1,12 @@
 -- That the empty history leads to a clock that was just made.
 use Rattle.std.proofs.Common.{◌≡◌, ℕ, ◌+◌, ◌^◌, ◌<◌, ◌≤◌, refl, subst, arith, []}
 use Rattle.cell_rows.specs.Device.{ArrayState, IsBlank}
-use Rattle.bank_shape.specs.declared.Home.{Home}
+use Rattle.bank_shape.specs.{Shape.{IsBankShape, slots_of, controls_of, controls_from, control_line}, declared.BankShape.BankShape, declared.Home.Home, declared.pace.Pace.Pace}
 use Rattle.bank_shape.specs.declared.Home.TheVariants as home
-use Rattle.bank_shape.specs.Shape.{IsBankShape, slots_of, controls_of, controls_from, control_line}
-use Rattle.register_laws.proofs.Staying.{start_law as control_law}
-use Rattle.register_laws.proofs.Determining.{all-items}
-use Rattle.bank_shape.specs.declared.BankShape.{BankShape}
-use Rattle.bank_shape.specs.declared.pace.Pace.{Pace}
-use Rattle.bank_invariant.specs.State.{first_bank}
-use Rattle.bank_invariant.specs.Holds.{Holds}
+use Rattle.register_laws.proofs.{Determining.all-items, Staying.start_law as control_law}
+use Rattle.bank_invariant.specs.{Holds.Holds, State.first_bank}
 use Rattle.bank_core.specs.Steps.{IsFreshFor}
-use Rattle.clock_laws.specs.Leads.{Leads}
-use Rattle.clock_laws.proofs.Passing.{start_law}
+use Rattle.clock_laws.{specs.Leads.Leads, proofs.Passing.start_law}
 use Rattle.bank_timing.specs.Extending.{first_clock}
 
 place : (shape : BankShape) (item : ℕ) → shape.base + (slots_of shape + shape.spares + item) ≡ control_line shape item

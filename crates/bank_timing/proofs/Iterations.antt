@@ -1,47 +1,23 @@
 -- An iteration of the line write in progress ends.
 use Rattle.std.proofs.Common.{◌≡◌, ℕ, ◌+◌, ◌<◌, ◌≤◌, Bool, true, false, List, [], ◌∷◌, Option, Some, None, is_some, refl, sym, ap, subst, ◌∙◌}
-use Rattle.std.proofs.lemmas.Bool.{false≢true, eqb-true}
-use Rattle.std.specs.Prelude.{IfSome, IsTrue}
+use Rattle.std.{specs.Prelude.{IfSome, IsTrue}, proofs.lemmas.Bool.{false≢true, eqb-true}}
 use Rattle.cell_rows.specs.Device.{ArrayState}
 use Rattle.result_rows.specs.declared.Outcome.{Outcome}
-use Rattle.bank_shape.specs.declared.Work.{Work}
-use Rattle.bank_shape.specs.declared.Work.TheVariants.{Nothing}
+use Rattle.bank_shape.specs.{declared.Work.Work, declared.Work.TheVariants.Nothing, declared.answer.Step.Step, declared.clock.Action.Action, declared.clock.Doing.Doing}
+use Rattle.bank_shape.specs.declared.clock.Doing.TheVariants.{Iterating}
+use Rattle.line_writer.specs.Orderly.{IsLive}
 use Rattle.line_writer.specs.declared.writer.Progress.TheVariants as progress
 use Rattle.power_recovery.specs.Kept.{next_work}
-use Rattle.bank_shape.specs.declared.answer.Step.{Step}
-use Rattle.bank_shape.specs.declared.clock.Doing.{Doing}
-use Rattle.bank_shape.specs.declared.clock.Doing.TheVariants.{Iterating}
-use Rattle.bank_shape.specs.declared.clock.Action.{Action}
-use Rattle.bank_model.specs.Events.{BankEvent, Iterate}
-use Rattle.bank_model.specs.Timing.{TimedEvent, core, ends}
-use Rattle.bank_model.specs.History.{iterated}
-use Rattle.bank_model.specs.Touching.{Touches, Strikes, AreStruck}
-use Rattle.line_writer.specs.Orderly.{IsLive}
-use Rattle.bank_invariant.specs.State.{BankState, Operation}
-use Rattle.bank_invariant.specs.Tied.{decoded, IsOf}
-use Rattle.bank_invariant.specs.Holds.{Holds}
-use Rattle.bank_invariant.proofs.Fine.{strikes-round}
-use Rattle.bank_invariant.proofs.Tearing.{running_of}
+use Rattle.bank_model.specs.{Events.{BankEvent, Iterate}, History.iterated, Timing.{TimedEvent, core, ends}, Touching.{Touches, Strikes, AreStruck}}
+use Rattle.bank_invariant.{specs.Holds.Holds, specs.State.{BankState, Operation}, specs.Tied.{decoded, IsOf}, proofs.Fine.strikes-round, proofs.Tearing.running_of}
 use Rattle.bank_core.specs.Stepping.{IsIteration, step_from}
-use Rattle.clock_laws.specs.State.{ClockState, next_action}
-use Rattle.clock_laws.specs.Leads.{Leads}
-use Rattle.clock_laws.specs.Fitting.{Fits, IsFit}
-use Rattle.clock_laws.specs.Completing.{after_action}
-use Rattle.clock_laws.specs.Actions.{IsCompletion, GoesOn, LeavesIterated}
-use Rattle.reg_lines.specs.Regs.{RegsState, IsWritingOf}
-use Rattle.clock_laws.specs.Putting.{item_by, put_if}
-use Rattle.clock_laws.proofs.Fitting.{needs_law}
-use Rattle.clock_laws.proofs.Putting.{no_writer}
+use Rattle.clock_laws.specs.{Actions.{IsCompletion, GoesOn, LeavesIterated}, Completing.after_action, Fitting.{Fits, IsFit}, Leads.Leads, Putting.{item_by, put_if}}
+use Rattle.clock_laws.{specs.State.{ClockState, next_action}, proofs.Ending.iterate_ends_law, proofs.Fitting.needs_law, proofs.Others.apart_law, proofs.Putting.no_writer}
 use Rattle.clock_laws.proofs.Together.{controls_stay_law}
-use Rattle.clock_laws.proofs.Ending.{iterate_ends_law}
-use Rattle.clock_laws.proofs.Others.{apart_law}
-use Rattle.bank_timing.specs.Extending.{AreOpen}
+use Rattle.reg_lines.specs.Regs.{RegsState, IsWritingOf}
+use Rattle.bank_timing.{specs.Completing.{Completes, step_recorded, region_of, item_from}, specs.Extending.AreOpen, proofs.Acting.{next-fits, next-ends}}
+use Rattle.bank_timing.proofs.{Begins.stored-reads, Changes.item-named, LineWrites.{Steps, step-completes, iterate-steps, iterate-leaves}}
 use Rattle.spare_pool.specs.Table.{used_by}
-use Rattle.bank_timing.specs.Completing.{Completes, step_recorded, region_of, item_from}
-use Rattle.bank_timing.proofs.Changes.{item-named}
-use Rattle.bank_timing.proofs.Acting.{next-fits, next-ends}
-use Rattle.bank_timing.proofs.Begins.{stored-reads}
-use Rattle.bank_timing.proofs.LineWrites.{Steps, step-completes, iterate-steps, iterate-leaves}
 
 module _ {n m e : ℕ} (clock : ClockState n m e) (action : Action) (next : next_action clock ≡ Some action) (doing : action.doing ≡ Iterating) (fit : IsFit clock.bank clock.regs clock.action) (alone : clock.regs.change ≡ None) where
   pub iterate-ready : IsTrue (is_some clock.bank.running)

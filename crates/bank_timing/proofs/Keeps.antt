@@ -1,36 +1,18 @@
 -- A step of the writing of a change ends: what becomes of the clock and the array.
 use Rattle.std.proofs.Common.{◌≡◌, ◌≢◌, ℕ, ◌<◌, ◌≤◌, Bool, true, false, List, [], Option, Some, None, is_some, refl, sym, subst, ◌∙◌}
-use Rattle.std.proofs.lemmas.Bool.{false≢true}
-use Rattle.std.specs.Prelude.{IsTrue}
-use Rattle.std.proofs.lemmas.List.Elements.{All-nil, All-cons}
+use Rattle.std.{specs.Prelude.IsTrue, proofs.lemmas.Bool.false≢true, proofs.lemmas.List.Elements.{All-nil, All-cons}}
 use Rattle.cell_rows.specs.Device.{ArrayState}
 use Rattle.result_rows.specs.declared.Outcome.{Outcome}
 use Rattle.line_writer.specs.declared.writer.LineWriter.{LineWriter}
-use Rattle.bank_shape.specs.declared.answer.Keep.{Keep}
+use Rattle.bank_shape.specs.{declared.answer.Keep.Keep, declared.clock.Action.Action, declared.clock.Doing.Doing, declared.clock.Doing.TheVariants.{Beginning, Iterating}}
 use Rattle.bank_shape.specs.declared.answer.Keep.TheVariants as keep
-use Rattle.bank_shape.specs.declared.clock.Doing.{Doing}
-use Rattle.bank_shape.specs.declared.clock.Doing.TheVariants.{Beginning, Iterating}
-use Rattle.bank_shape.specs.declared.clock.Action.{Action}
-use Rattle.bank_model.specs.Timing.{TimedEvent, Keeping, KeepBegin, KeepIterate, Regs, ends}
-use Rattle.bank_model.specs.Touching.{Touches}
-use Rattle.bank_model.specs.Running.{cancels_with}
+use Rattle.bank_model.specs.{Running.cancels_with, Timing.{TimedEvent, Keeping, KeepBegin, KeepIterate, Regs, ends}, Touching.Touches}
 use Rattle.bank_laws.specs.Ticks.{ends_action}
-use Rattle.reg_lines.specs.Regs.{RegsState, AreHeld}
-use Rattle.reg_lines.specs.Keeping.{line_of, target_of, kept_on, IsBegin, IsIteration}
-use Rattle.register_laws.specs.Writing.{IsWrittenWhole}
-use Rattle.register_laws.proofs.Writing.{begun_law, iterated_law}
-use Rattle.clock_laws.specs.State.{ClockState, next_action}
-use Rattle.clock_laws.specs.Leads.{Leads}
-use Rattle.clock_laws.specs.Fitting.{Fits, IsFit}
-use Rattle.clock_laws.specs.Completing.{after_keep, keep_completed}
-use Rattle.clock_laws.specs.Actions.{LeadsOn}
-use Rattle.clock_laws.specs.Remaining.{actions_left}
-use Rattle.clock_laws.proofs.Fitting.{needs_law}
-use Rattle.clock_laws.proofs.Keeping.{keep_begin_ends_law, keep_iterate_ends_law}
-use Rattle.clock_laws.proofs.Remaining.{falling_law, one_write_law}
-use Rattle.bank_timing.specs.Extending.{AreOpen, EndsAction}
-use Rattle.bank_timing.specs.Completing.{Completes, cancels_by_keep}
-use Rattle.bank_timing.proofs.Acting.{next-fits, next-ends}
+use Rattle.reg_lines.specs.{Keeping.{line_of, target_of, kept_on, IsBegin, IsIteration}, Regs.{RegsState, AreHeld}}
+use Rattle.register_laws.{specs.Writing.IsWrittenWhole, proofs.Writing.{begun_law, iterated_law}}
+use Rattle.clock_laws.specs.{Actions.LeadsOn, Completing.{after_keep, keep_completed}, Fitting.{Fits, IsFit}, Leads.Leads, Remaining.actions_left, State.{ClockState, next_action}}
+use Rattle.clock_laws.proofs.{Fitting.needs_law, Keeping.{keep_begin_ends_law, keep_iterate_ends_law}, Remaining.{falling_law, one_write_law}}
+use Rattle.bank_timing.{specs.Completing.{Completes, cancels_by_keep}, specs.Extending.{AreOpen, EndsAction}, proofs.Acting.{next-fits, next-ends}}
 
 -- what is written has not halted
 pub not-halted : {n m e : ℕ} (regs : RegsState n m e) → (IsTrue regs.halted → regs.writer ≡ None) → IsTrue (is_some regs.writer) → regs.halted ≡ false

@@ -2,13 +2,9 @@
 use Rattle.std.proofs.Common.{◌≡◌, ℕ, ◌≤◌, false, List, None}
 use Rattle.cell_rows.specs.Device.{ArrayState}
 use Rattle.bank_model.specs.Timing.{TimedEvent}
-use Rattle.bank_laws.proofs.Resting.{idle-still}
-use Rattle.bank_laws.specs.Laws.{TableLaw, PlaceLaw, LogLaw, IsSized}
+use Rattle.bank_laws.{specs.Laws.{TableLaw, PlaceLaw, LogLaw, IsSized}, proofs.Resting.idle-still}
 use Rattle.tick_laws.specs.TickLaws.{FewCancelsLaw}
-use Rattle.clock_laws.specs.State.{ClockState, next_action}
-use Rattle.clock_laws.specs.Leads.{Leads}
-use Rattle.clock_laws.proofs.Passing.{idle_law}
-use Rattle.clock_laws.proofs.Leaving.{leaving_law}
+use Rattle.clock_laws.{specs.Leads.Leads, specs.State.{ClockState, next_action}, proofs.Leaving.leaving_law, proofs.Passing.idle_law}
 use Rattle.bank_timing.specs.Laws.{KeepsLaws}
 
 pub keeps-laws : (n m e : ℕ) → TableLaw n m → PlaceLaw n m → LogLaw n m → FewCancelsLaw

@@ -1,54 +1,28 @@
 -- A begin or an iteration of a line write ends: what becomes of the clock, the array and the results.
 use Rattle.std.proofs.Common.{◌≡◌, ℕ, ◌+◌, ◌<◌, ◌≤◌, nat_lt, if◌then◌else◌, Bool, true, false, List, [], ◌∷◌, length, drop, Option, Some, None, refl, sym, ap, subst, ◌∙◌, arith, ltb-true}
-use Rattle.std.proofs.lemmas.Bool.{false≢true}
-use Rattle.std.specs.Prelude.{unwrap_or, IsSomeAnd, IsTrue, slice_get}
-use Rattle.std.proofs.lemmas.List.Elements.{All-nil, All-cons}
-use Rattle.masked_bytes.specs.Masked.{laid}
-use Rattle.masked_bytes.specs.declared.entry.Entry.{Entry}
-use Rattle.masked_bytes.specs.Entries.{head_row, completed}
+use Rattle.std.{specs.Prelude.{unwrap_or, IsSomeAnd, IsTrue, slice_get}, proofs.lemmas.Bool.false≢true, proofs.lemmas.List.Elements.{All-nil, All-cons}}
+use Rattle.masked_bytes.specs.{Entries.{head_row, completed}, Masked.laid, declared.entry.Entry.Entry}
 use Rattle.cell_rows.specs.Device.{ArrayState}
-use Rattle.result_rows.specs.declared.Outcome.{Outcome}
+use Rattle.result_rows.specs.{Table.{HasRow, with_outcome}, declared.Outcome.Outcome}
 use Rattle.result_rows.specs.declared.Outcome.TheVariants as out
-use Rattle.result_rows.specs.Table.{HasRow, with_outcome}
 use Rattle.spare_pool.specs.Table.{used_by}
-use Rattle.bank_shape.specs.declared.Work.{Work}
-use Rattle.bank_shape.specs.declared.Work.TheVariants.{Nothing, Store, Copy}
-use Rattle.bank_shape.specs.Shape.{slots_of}
-use Rattle.line_writer.specs.declared.writer.LineWriter.{LineWriter}
-use Rattle.line_writer.specs.declared.writer.Progress.{Progress}
-use Rattle.line_writer.specs.declared.writer.Progress.TheVariants as progress
-use Rattle.line_writer.specs.Writing.{HasBegun, steps_left, most_steps}
-use Rattle.power_recovery.specs.Kept.{KeptState, IsKept, target_slot, next_work}
-use Rattle.power_recovery.specs.Events.{stored_kept, moved_kept, retired_kept, exhausted_kept}
-use Rattle.power_recovery.proofs.Bundle.{next_work-store}
-use Rattle.bank_shape.specs.declared.answer.Step.{Step}
-use Rattle.bank_shape.specs.declared.answer.Step.TheVariants as did
+use Rattle.bank_shape.specs.{Kinds.{is_store, is_copy}, Shape.slots_of, declared.Work.Work, declared.Work.TheVariants.{Nothing, Store, Copy}, declared.answer.Step.Step}
 use Rattle.bank_shape.specs.declared.clock.Action.{Action}
-use Rattle.bank_shape.specs.Kinds.{is_store, is_copy}
-use Rattle.bank_model.specs.Events.{BankEvent}
-use Rattle.bank_model.specs.History.{Awaited}
-use Rattle.bank_model.specs.Timing.{TimedEvent, Core, ends}
-use Rattle.bank_laws.specs.Outcomes.{outcome_by, step_outcome}
-use Rattle.bank_laws.specs.Ticks.{ends_action}
-use Rattle.bank_invariant.specs.State.{BankState, Operation, is_free, target_of}
-use Rattle.bank_invariant.specs.Tied.{decoded}
+use Rattle.bank_shape.specs.declared.answer.Step.TheVariants as did
+use Rattle.line_writer.specs.{Writing.{HasBegun, steps_left, most_steps}, declared.writer.LineWriter.LineWriter, declared.writer.Progress.Progress}
+use Rattle.line_writer.specs.declared.writer.Progress.TheVariants as progress
+use Rattle.power_recovery.specs.{Events.{stored_kept, moved_kept, retired_kept, exhausted_kept}, Kept.{KeptState, IsKept, target_slot, next_work}}
+use Rattle.power_recovery.proofs.Bundle.{next_work-store}
+use Rattle.bank_model.specs.{Events.BankEvent, History.Awaited, Timing.{TimedEvent, Core, ends}}
+use Rattle.bank_laws.specs.{Outcomes.{outcome_by, step_outcome}, Ticks.ends_action}
+use Rattle.bank_invariant.specs.{State.{BankState, Operation, is_free, target_of}, Tied.decoded}
 use Rattle.reg_lines.specs.Regs.{RegsState}
-use Rattle.clock_laws.specs.Putting.{item_by, put_if}
-use Rattle.bank_core.specs.Stepping.{with_kept, step_from, left_by}
-use Rattle.bank_core.specs.Beginning.{bytes_for, begun_kept, head_over}
-use Rattle.clock_laws.specs.State.{ClockState}
-use Rattle.clock_laws.specs.Leads.{Leads}
-use Rattle.clock_laws.specs.Completing.{completed as completed_event, after_action}
-use Rattle.clock_laws.specs.Actions.{GoesOn, LeavesBegun, LeavesIterated}
-use Rattle.clock_laws.specs.Standing.{AreApart}
-use Rattle.clock_laws.specs.Remaining.{actions_left}
-use Rattle.clock_laws.proofs.Remaining.{falling_law}
-use Rattle.bank_timing.specs.Extending.{outcome_in, StandOpen, AreOpen, EndsAction}
-use Rattle.bank_timing.specs.Completing.{Completes, IsRecordable, step_recorded}
-use Rattle.bank_timing.proofs.Rows.{rows-set, in-set}
+use Rattle.clock_laws.specs.{Actions.{GoesOn, LeavesBegun, LeavesIterated}, Completing.{completed as completed_event, after_action}, Leads.Leads, Putting.{item_by, put_if}}
+use Rattle.clock_laws.{specs.Remaining.actions_left, specs.Standing.AreApart, specs.State.ClockState, proofs.Remaining.falling_law}
+use Rattle.bank_core.specs.{Beginning.{bytes_for, begun_kept, head_over}, Stepping.{with_kept, step_from, left_by}}
+use Rattle.bank_timing.specs.{Completing.{Completes, IsRecordable, step_recorded}, Extending.{outcome_in, StandOpen, AreOpen, EndsAction}}
+use Rattle.bank_timing.proofs.{Changes.{Puts, puts-more, puts-completed, puts-store, puts-store-completed, puts-copy, puts-worn}, Rows.{rows-set, in-set}, Serves.end-extends}
 use Rattle.bank_timing.proofs.Standing.{head-there, completed-unset, stored-unset}
-use Rattle.bank_timing.proofs.Changes.{Puts, puts-more, puts-completed, puts-store, puts-store-completed, puts-copy, puts-worn}
-use Rattle.bank_timing.proofs.Serves.{end-extends}
 
 -- What is recorded
 

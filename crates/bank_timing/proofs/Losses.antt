@@ -1,59 +1,26 @@
 -- A power cut: what becomes of the clock, the array and the results.
 use Rattle.std.proofs.Common.{◌≡◌, ℕ, ◌+◌, ◌<◌, ◌==◌, ◌||◌, ◌&&◌, not, Bool, true, false, List, [], ◌∷◌, length, map, drop, Option, Some, None, is_some, refl, sym, ap, subst, ◌∙◌, arith, eq-eqb}
+use Rattle.std.{specs.Prelude.{unwrap_or, IsTrue, IfSome, if◌then◌else◌, slice_get}, proofs.lemmas.Bool.{false≢true, eqb-true, ne_eqb, or_right, not-true}}
 use Rattle.masked_bytes.proofs.Truth.{neither_first, neither_second, and_first, and_second, and_true, and_false}
-use Rattle.std.proofs.lemmas.Bool.{false≢true, eqb-true, ne_eqb, or_right, not-true}
-use Rattle.std.specs.Prelude.{unwrap_or, IsTrue, IfSome, if◌then◌else◌, slice_get}
 use Rattle.cell_rows.specs.Device.{ArrayState, LineState}
-use Rattle.result_rows.specs.declared.Outcome.{Outcome}
+use Rattle.result_rows.specs.{Table.{HasRow, with_outcome}, declared.Outcome.Outcome}
 use Rattle.result_rows.specs.declared.Outcome.TheVariants as out
-use Rattle.result_rows.specs.Table.{HasRow, with_outcome}
-use Rattle.bank_shape.specs.declared.clock.Doing.{Doing}
-use Rattle.bank_shape.specs.declared.clock.Doing.TheVariants.{Serving, Beginning, Iterating}
-use Rattle.bank_shape.specs.declared.clock.Action.{Action}
-use Rattle.bank_model.specs.Events.{BankEvent, Cut}
-use Rattle.bank_model.specs.History.{iterated, waits}
-use Rattle.bank_model.specs.Timing.{TimedEvent, core, is_doing, same_doing}
-use Rattle.bank_model.specs.Touching.{Touches, Strikes, AreStruck}
+use Rattle.bank_shape.specs.{Shape.controls_from, declared.BankShape.BankShape, declared.clock.Action.Action, declared.clock.Doing.Doing}
+use Rattle.bank_shape.specs.{declared.clock.Doing.TheVariants.{Serving, Beginning, Iterating}, declared.pace.Pace.Pace, declared.waiting.Waiting.Waiting}
+use Rattle.bank_model.specs.{Changes.all_controls, Events.{BankEvent, Cut}, History.{iterated, waits}, Running.tears_bank, Sensing.is_at}
+use Rattle.bank_model.specs.{Timing.{TimedEvent, core, is_doing, same_doing}, Touching.{Touches, Strikes, AreStruck}}
 use Rattle.line_writer.specs.Orderly.{IsLive}
-use Rattle.bank_shape.specs.declared.BankShape.{BankShape}
-use Rattle.bank_shape.specs.declared.waiting.Waiting.{Waiting}
-use Rattle.bank_invariant.specs.State.{BankState, Operation}
-use Rattle.bank_invariant.specs.Holds.{Holds}
-use Rattle.bank_invariant.specs.Steps.{cut_off}
+use Rattle.bank_invariant.{specs.Holds.Holds, specs.State.{BankState, Operation}, specs.Steps.cut_off, proofs.Fine.strikes-tear}
 use Rattle.bank_core.specs.Cutting.{torn_line, IsTorn}
-use Rattle.reg_lines.specs.Keeping.{IsTorn as IsTornControl}
-use Rattle.clock_laws.specs.Tearing.{TearsControl}
-use Rattle.clock_laws.proofs.Tearing.{tears-control}
-use Rattle.bank_invariant.proofs.Fine.{strikes-tear}
-use Rattle.bank_shape.specs.Shape.{controls_from}
-use Rattle.power_recovery.specs.Kept.{KeptState}
-use Rattle.bank_model.specs.Changes.{all_controls}
-use Rattle.bank_model.specs.Running.{tears_bank}
-use Rattle.bank_model.specs.Sensing.{is_at}
-use Rattle.reg_lines.specs.declared.Change.{Change}
-use Rattle.reg_lines.specs.Regs.{RegsState, AreHeld}
-use Rattle.reg_lines.specs.Keeping.{broken_off, torn_line as regs_torn, target_of as regs_target}
-use Rattle.register_laws.specs.Control.{Control, LeavesControls}
-use Rattle.register_laws.specs.Telling.{item_of}
-use Rattle.register_laws.proofs.Staying.{stays_law}
-use Rattle.register_laws.proofs.Writing.{broken_law}
-use Rattle.clock_laws.specs.State.{ClockState}
-use Rattle.clock_laws.specs.Leads.{Leads}
-use Rattle.clock_laws.specs.Fitting.{Fits, IsFit}
-use Rattle.clock_laws.specs.Cutting.{cut, after_cut}
-use Rattle.clock_laws.specs.Actions.{torn_line as line_torn, LeadsOn as CutEnds}
-use Rattle.clock_laws.specs.Standing.{has_waiting, WaitingApart, AreApart}
-use Rattle.clock_laws.proofs.Tearing.{cut_ends_law}
-use Rattle.clock_laws.proofs.Fitting.{needs_law, no_one}
-use Rattle.clock_laws.proofs.Elsewhere.{holds-same}
+use Rattle.reg_lines.specs.{Keeping.{IsTorn as IsTornControl, broken_off, torn_line as regs_torn, target_of as regs_target}, Regs.{RegsState, AreHeld}, declared.Change.Change}
+use Rattle.clock_laws.specs.{Actions.{torn_line as line_torn, LeadsOn as CutEnds}, Cutting.{cut, after_cut}, Fitting.{Fits, IsFit}, Leads.Leads}
+use Rattle.clock_laws.{specs.Standing.{has_waiting, WaitingApart, AreApart}, specs.State.ClockState, specs.Tearing.TearsControl, proofs.Elsewhere.holds-same}
+use Rattle.clock_laws.proofs.{Fitting.{needs_law, no_one}, Others.{apart_law, same_wait, other_rows_law}, Tearing.{tears-control, cut_ends_law}}
 use Rattle.clock_laws.proofs.Together.{controls_stay_law, cut_touches_law}
-use Rattle.clock_laws.proofs.Others.{apart_law, same_wait, other_rows_law}
-use Rattle.bank_timing.specs.Extending.{Extends, AreOpen, IsOpen, LeavesOthers, outcome_in}
-use Rattle.bank_shape.specs.declared.pace.Pace.{Pace}
-use Rattle.bank_timing.specs.Clock.{IsClock}
-use Rattle.bank_timing.specs.Losing.{lost_recorded, LosesOpen, bank_with_lost}
-use Rattle.bank_timing.proofs.Rows.{rows-set, has-set, in-set, open-set}
-use Rattle.bank_timing.proofs.Standing.{waits-head, apart-by}
+use Rattle.power_recovery.specs.Kept.{KeptState}
+use Rattle.register_laws.{specs.Control.{Control, LeavesControls}, specs.Telling.item_of, proofs.Staying.stays_law, proofs.Writing.broken_law}
+use Rattle.bank_timing.specs.{Clock.IsClock, Extending.{Extends, AreOpen, IsOpen, LeavesOthers, outcome_in}, Losing.{lost_recorded, LosesOpen, bank_with_lost}}
+use Rattle.bank_timing.proofs.{Rows.{rows-set, has-set, in-set, open-set}, Standing.{waits-head, apart-by}}
 
 -- the rows of waiting reads
 abbrev pub rows_of : {n : ℕ} → List (Waiting n) → List ℕ

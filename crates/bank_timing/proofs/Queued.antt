@@ -1,17 +1,9 @@
 -- The writes that stand in the queue of a settled bank are queued, with the ticks of their arrival.
 use Rattle.std.proofs.Common.{◌≡◌, ℕ, suc, zero, ◌+◌, ◌<◌, ◌≤◌, ◌==◌, ◌||◌, if◌then◌else◌, Bool, true, false, List, [], ◌∷◌, length, drop, map, Option, Some, None, slice_get, refl, sym, ap, subst, ◌∙◌, arith, eqb-true}
-use Rattle.std.proofs.lemmas.Bool.{or_right}
-use Rattle.std.specs.Prelude.{unwrap_or, IsSomeAnd}
-use Rattle.std.proofs.lemmas.List.{drop-drop, length-drop}
-use Rattle.std.proofs.Math.ListN.{drop_of_length-le}
-use Rattle.result_rows.specs.declared.Outcome.{Outcome}
-use Rattle.result_rows.specs.declared.Outcome.TheVariants.{Queued}
-use Rattle.result_rows.specs.Table.{HasRow, with_outcome}
-use Rattle.masked_bytes.specs.declared.entry.Entry.{Entry}
-use Rattle.masked_bytes.specs.Entries.{has_row}
-use Rattle.bank_timing.specs.Extending.{outcome_in, IsOpen}
-use Rattle.bank_timing.specs.Draining.{AreQueueable, AreQueued, queued_outcome}
-use Rattle.bank_timing.proofs.Rows.{rows-set, in-set, open-set}
+use Rattle.std.{specs.Prelude.{unwrap_or, IsSomeAnd}, proofs.Math.ListN.drop_of_length-le, proofs.lemmas.Bool.or_right, proofs.lemmas.List.{drop-drop, length-drop}}
+use Rattle.result_rows.specs.{Table.{HasRow, with_outcome}, declared.Outcome.Outcome, declared.Outcome.TheVariants.Queued}
+use Rattle.masked_bytes.specs.{Entries.has_row, declared.entry.Entry.Entry}
+use Rattle.bank_timing.{specs.Draining.{AreQueueable, AreQueued, queued_outcome}, specs.Extending.{outcome_in, IsOpen}, proofs.Rows.{rows-set, in-set, open-set}}
 use Rattle.bank_timing.proofs.Standing.{has-head, apart-by}
 
 pub below-of : (i end len : ℕ) → i < end → end ≡ len → i < len

@@ -1,45 +1,22 @@
 -- A read arrives: what becomes of the clock and of the results.
 use Rattle.std.proofs.Common.{◌≡◌, ◌≢◌, ℕ, ◌+◌, ◌≤◌, ◌==◌, ◌||◌, Bool, true, false, List, [], ◌∷◌, ◌++◌, length, Option, Some, None, ◌⊎◌, inl, inr, refl, sym, ap, subst, ◌∙◌, eqb-true}
-use Rattle.std.specs.Prelude.{unwrap_or, IfSome, if◌then◌else◌}
-use Rattle.std.proofs.lemmas.Bool.{ne_eqb}
+use Rattle.std.{specs.Prelude.{unwrap_or, IfSome, if◌then◌else◌}, proofs.lemmas.Bool.ne_eqb}
 use Rattle.cell_rows.specs.Device.{ArrayState}
-use Rattle.result_rows.specs.declared.Outcome.{Outcome}
+use Rattle.result_rows.specs.{Table.{HasRow, with_outcome}, declared.Outcome.Outcome}
 use Rattle.result_rows.specs.declared.Outcome.TheVariants as out
-use Rattle.result_rows.specs.Table.{HasRow, with_outcome}
-use Rattle.masked_bytes.specs.Entries.{layer_of}
-use Rattle.masked_bytes.proofs.Truth.{or_false}
-use Rattle.bank_shape.specs.declared.BankShape.{BankShape}
-use Rattle.reg_lines.specs.Regs.{RegsState}
-use Rattle.bank_shape.specs.declared.answer.ReadAnswer.{ReadAnswer}
+use Rattle.masked_bytes.{specs.Entries.layer_of, proofs.Truth.or_false}
+use Rattle.bank_shape.specs.{declared.BankShape.BankShape, declared.answer.ReadAnswer.ReadAnswer, declared.clock.Action.Action, declared.clock.Doing.Doing}
+use Rattle.bank_shape.specs.{declared.clock.Doing.TheVariants.{Serving, Beginning, Iterating}, declared.pace.Pace.Pace, declared.waiting.Waiting.Waiting}
 use Rattle.bank_shape.specs.declared.answer.ReadAnswer.TheVariants as came
-use Rattle.bank_model.specs.Events.{BankEvent, Read}
-use Rattle.bank_model.specs.History.{Awaited, waits}
-use Rattle.bank_shape.specs.declared.pace.Pace.{Pace}
-use Rattle.bank_model.specs.Timing.{TimedEvent, Core, core}
-use Rattle.bank_model.specs.Lawful.{Lawful}
+use Rattle.reg_lines.specs.Regs.{RegsState}
+use Rattle.bank_model.{specs.Events.{BankEvent, Read}, specs.History.{Awaited, waits}, specs.Lawful.Lawful, specs.Timing.{TimedEvent, Core, core}, proofs.Rising.RowsBelow-more}
 use Rattle.bank_laws.specs.Outcomes.{outcome_by}
-use Rattle.bank_shape.specs.declared.waiting.Waiting.{Waiting}
-use Rattle.bank_invariant.specs.State.{BankState}
-use Rattle.bank_invariant.specs.Holds.{Holds}
-use Rattle.bank_invariant.specs.Serving.{kept_with, read_from, waits_too}
-use Rattle.bank_model.proofs.Rising.{RowsBelow-more}
+use Rattle.bank_invariant.specs.{Holds.Holds, Serving.{kept_with, read_from, waits_too}, State.BankState}
 use Rattle.bank_core.specs.Steps.{after_read as bank_after_read}
-use Rattle.clock_laws.specs.State.{ClockState}
-use Rattle.clock_laws.specs.Leads.{Leads}
-use Rattle.bank_shape.specs.declared.pace.Pace.{Pace}
-use Rattle.bank_shape.specs.declared.clock.Doing.{Doing}
-use Rattle.bank_shape.specs.declared.clock.Doing.TheVariants.{Serving, Beginning, Iterating}
-use Rattle.bank_shape.specs.declared.clock.Action.{Action}
-use Rattle.clock_laws.specs.Fitting.{Fits, IsFit}
-use Rattle.clock_laws.proofs.Fitting.{fit_read_law}
-use Rattle.clock_laws.specs.Arriving.{arrival, cancels_for, action_after_read, after_read, KeepsWork}
-use Rattle.clock_laws.specs.Standing.{has_waiting, AreApart, is_arrival_of}
-use Rattle.clock_laws.proofs.Arriving.{read_law}
-use Rattle.clock_laws.proofs.Extending.{arrival_added_law}
-use Rattle.clock_laws.proofs.Others.{apart_law, other_rows_law}
-use Rattle.bank_timing.specs.Extending.{Extends, Arrives, AreOpen, IsOpen, StandOpen, LeavesOthersThan, outcome_in}
-use Rattle.bank_timing.proofs.Rows.{rows-set, in-set}
-use Rattle.bank_timing.specs.Clock.{IsClock}
+use Rattle.clock_laws.specs.{Arriving.{arrival, cancels_for, action_after_read, after_read, KeepsWork}, Fitting.{Fits, IsFit}, Leads.Leads}
+use Rattle.clock_laws.{specs.Standing.{has_waiting, AreApart, is_arrival_of}, specs.State.ClockState, proofs.Arriving.read_law, proofs.Extending.arrival_added_law}
+use Rattle.clock_laws.proofs.{Fitting.fit_read_law, Others.{apart_law, other_rows_law}}
+use Rattle.bank_timing.{specs.Clock.IsClock, specs.Extending.{Extends, Arrives, AreOpen, IsOpen, StandOpen, LeavesOthersThan, outcome_in}, proofs.Rows.{rows-set, in-set}}
 use Rattle.bank_timing.proofs.Standing.{stay-unset}
 
 -- the results after a read was answered

@@ -2,11 +2,9 @@
 use Rattle.std.proofs.Common.{◌≡◌, ap, ◌∙◌}
 use Rattle.cell_rows.specs.Device.{ArrayState}
 use Rattle.bank_shape.specs.declared.Home.TheVariants.{Array}
-use Rattle.power_recovery.specs.Kept.{KeptState, IsKept}
-use Rattle.power_recovery.specs.Restoring.{stripped_kept}
+use Rattle.power_recovery.specs.{Kept.{KeptState, IsKept}, Restoring.stripped_kept}
 use Rattle.reg_lines.specs.Regs.{RegsState}
-use Rattle.register_laws.specs.Control.{Control}
-use Rattle.register_laws.specs.Recovering.{IsOnLines}
+use Rattle.register_laws.specs.{Control.Control, Recovering.IsOnLines}
 use Rattle.bank_invariant.specs.State.{BankState}
 use Rattle.bank_core.specs.Stepping.{with_kept}
 

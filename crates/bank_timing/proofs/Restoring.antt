@@ -1,18 +1,14 @@
 -- That each item that is read back brings what was kept one step nearer.
 use Rattle.std.proofs.Common.{◌≡◌, ◌≢◌, ℕ, ◌+◌, ◌-◌, ◌<◌, ◌≤◌, Bool, true, false, List, [], ◌∷◌, ◌++◌, zero, suc, length, take, replicate, slice_get, slice_set, Option, Some, None, refl, sym, ap, subst, ◌∙◌, arith, inl, inr, add-one}
-use Rattle.std.specs.Prelude.{slice_index}
-use Rattle.std.proofs.lemmas.Bool.{cases_lt}
-use Rattle.std.proofs.lemmas.List.{length-replicate, get_or-replicate}
+use Rattle.std.{specs.Prelude.slice_index, proofs.lemmas.Bool.cases_lt, proofs.lemmas.List.{length-replicate, get_or-replicate}}
 use Rattle.std.proofs.lemmas.Option.{get_or_from_slice_get, slice_get_within}
 use Rattle.region_regs.specs.Region.{RegionState, first_region}
 use Rattle.spare_pool.specs.Table.{used_by}
 use Rattle.bank_shape.specs.Shape.{slots_of}
-use Rattle.power_recovery.specs.Kept.{KeptState, IsKept, no_region, region_at}
-use Rattle.power_recovery.specs.Events.{with_regions, retired_kept, exhausted_kept}
+use Rattle.power_recovery.specs.{Events.{with_regions, retired_kept, exhausted_kept}, Kept.{KeptState, IsKept, no_region, region_at}}
 use Rattle.power_recovery.specs.Restoring.{IsOneDue, stripped_kept, region_with, region_restored}
 use Rattle.register_laws.specs.Items.{region_values, spare_values, mark_values}
-use Rattle.bank_timing.specs.Reading.{merged, regions_back, spares_back, mark_back}
-use Rattle.bank_timing.proofs.Merging.{merged-all, merged-more, merged-low, merged-high}
+use Rattle.bank_timing.{specs.Reading.{merged, regions_back, spares_back, mark_back}, proofs.Merging.{merged-all, merged-more, merged-low, merged-high}}
 
 -- Lists
 

@@ -1,11 +1,7 @@
 -- Outcomes in a table.
 use Rattle.std.proofs.Common.{◌≡◌, ◌≢◌, ℕ, zero, suc, ◌-◌, ◌<◌, ◌≤◌, ◌==◌, true, false, List, [], ◌∷◌, length, Option, Some, slice_get, refl, sym, ap, ◌∙◌, arith, inl, inr, eq-eqb}
-use Rattle.std.specs.Prelude.{unwrap_or}
-use Rattle.std.proofs.Math.ListN.{set, length-set}
-use Rattle.std.proofs.lemmas.Bool.{cases_eq, ne_eqb}
-use Rattle.result_rows.specs.declared.Outcome.{Outcome}
-use Rattle.result_rows.specs.declared.Outcome.TheVariants.{Unset}
-use Rattle.result_rows.specs.Table.{HasRow, outcome_at, with_outcome}
+use Rattle.std.{specs.Prelude.unwrap_or, proofs.Math.ListN.{set, length-set}, proofs.lemmas.Bool.{cases_eq, ne_eqb}}
+use Rattle.result_rows.specs.{Table.{HasRow, outcome_at, with_outcome}, declared.Outcome.Outcome, declared.Outcome.TheVariants.Unset}
 use Rattle.bank_laws.specs.Outcomes.{on_row}
 use Rattle.bank_timing.specs.Extending.{outcome_in, IsOpen}
 

@@ -1,29 +1,14 @@
 -- A bank runs on: action after action, and time between them.
 use Rattle.std.proofs.Common.{◌≡◌, ℕ, ◌+◌, ◌^◌, ◌<◌, ◌≤◌, false, List, [], ◌∷◌, ◌++◌, Some, refl, sym, ap, subst, ◌∙◌, arith}
-use Rattle.std.proofs.lemmas.Bool.{or_from}
-use Rattle.std.specs.Prelude.{IsTrue, unwrap_or}
-use Rattle.std.proofs.lemmas.List.Elements.{All-nil, All-cons, All-head, All-tail}
+use Rattle.std.{specs.Prelude.{IsTrue, unwrap_or}, proofs.lemmas.Bool.or_from, proofs.lemmas.List.Elements.{All-nil, All-cons, All-head, All-tail}}
 use Rattle.cell_rows.specs.Device.{ArrayState}
-use Rattle.result_rows.specs.declared.Outcome.{Outcome}
-use Rattle.result_rows.specs.Table.{HasRow}
-use Rattle.bank_shape.specs.declared.BankShape.{BankShape}
-use Rattle.bank_shape.specs.declared.clock.Action.{Action}
-use Rattle.bank_model.specs.Events.{Write, Read, Serve, Begin, Iterate, Cut}
-use Rattle.bank_shape.specs.declared.pace.Pace.{Pace}
-use Rattle.bank_model.specs.Timing.{Happens, Core, Regs, TimedEvent}
-use Rattle.bank_model.specs.Lawful.{Lawful}
-use Rattle.bank_model.specs.Adding.{Adds}
-use Rattle.bank_laws.specs.Outcomes.{outcome_with}
-use Rattle.bank_laws.specs.Ticks.{ends_action}
-use Rattle.clock_laws.specs.State.{ClockState, next_action}
-use Rattle.clock_laws.specs.Leads.{Leads}
-use Rattle.clock_laws.specs.Passing.{at_tick}
-use Rattle.clock_laws.specs.Standing.{is_arrival_of, arrives_with}
-use Rattle.clock_laws.proofs.Draining.{ends-at}
-use Rattle.clock_laws.proofs.Extending.{nothing_added_law, both_added_law}
-use Rattle.clock_laws.proofs.Others.{other_rows_law}
-use Rattle.bank_timing.specs.Extending.{Extends, RunsOn, RunsDown, AreOpen, EndsAction, IsQuiet, LeavesOthers, outcome_in}
-use Rattle.bank_timing.specs.Completing.{Completes}
+use Rattle.result_rows.specs.{Table.HasRow, declared.Outcome.Outcome}
+use Rattle.bank_shape.specs.{declared.BankShape.BankShape, declared.clock.Action.Action, declared.pace.Pace.Pace}
+use Rattle.bank_model.specs.{Adding.Adds, Events.{Write, Read, Serve, Begin, Iterate, Cut}, Lawful.Lawful, Timing.{Happens, Core, Regs, TimedEvent}}
+use Rattle.bank_laws.specs.{Outcomes.outcome_with, Ticks.ends_action}
+use Rattle.clock_laws.{specs.Leads.Leads, specs.Passing.at_tick, specs.Standing.{is_arrival_of, arrives_with}, specs.State.{ClockState, next_action}, proofs.Draining.ends-at}
+use Rattle.clock_laws.proofs.{Extending.{nothing_added_law, both_added_law}, Others.other_rows_law}
+use Rattle.bank_timing.specs.{Completing.Completes, Extending.{Extends, RunsOn, RunsDown, AreOpen, EndsAction, IsQuiet, LeavesOthers, outcome_in}}
 
 pub le-same : (a : ℕ) → a ≤ a
 le-same a = omega arith

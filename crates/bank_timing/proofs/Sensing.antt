@@ -1,19 +1,11 @@
 -- That all control lines are sensed, one after another, and what a sense of one reads.
 use Rattle.std.proofs.Common.{◌≡◌, ℕ, ◌+◌, ◌<◌, false, List, [], ◌∷◌, ◌++◌, zero, suc, None, refl, sym, ap, subst, ◌∙◌, arith}
 use Rattle.cell_rows.specs.Device.{ArrayState}
-use Rattle.bank_shape.specs.declared.Home.{Home}
-use Rattle.bank_shape.specs.declared.Home.TheVariants.{Guarded}
-use Rattle.bank_shape.specs.Shape.{controls_from, controls_of, if_array}
-use Rattle.bank_model.specs.Touching.{Touches}
-use Rattle.bank_model.proofs.Touched.{touches-both, touches-nothing}
-use Rattle.bank_model.specs.Changes.{numbers_from, all_controls}
+use Rattle.bank_shape.specs.{Shape.{controls_from, controls_of, if_array}, declared.BankShape.BankShape, declared.Home.Home, declared.Home.TheVariants.Guarded}
+use Rattle.bank_model.{specs.Changes.{numbers_from, all_controls}, specs.Touching.Touches, proofs.Touched.{touches-both, touches-nothing}}
 use Rattle.power_recovery.specs.Kept.{KeptState}
 use Rattle.reg_lines.specs.Regs.{RegsState, values_held}
-use Rattle.bank_shape.specs.declared.BankShape.{BankShape}
-use Rattle.register_laws.specs.Items.{items_of, item_values}
-use Rattle.register_laws.specs.Recovering.{IsOnLines}
-use Rattle.register_laws.proofs.Holding.{values-stay, read-same}
-use Rattle.register_laws.proofs.Determining.{all-items}
+use Rattle.register_laws.{specs.Items.{items_of, item_values}, specs.Recovering.IsOnLines, proofs.Determining.all-items, proofs.Holding.{values-stay, read-same}}
 
 -- a bank whose registers are guarded has no control line to sense
 pub senses-none : {n m : ℕ} (tick : ℕ) (shape : BankShape) (array : ArrayState n m) → shape.home ≡ Guarded

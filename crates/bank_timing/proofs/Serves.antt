@@ -1,40 +1,21 @@
 -- An action ends: what becomes of the clock, the array and the results.
 use Rattle.std.proofs.Common.{◌≡◌, ℕ, ◌+◌, ◌<◌, ◌≤◌, true, false, List, [], ◌∷◌, length, drop, Some, None, refl, sym, ap, subst, arith}
-use Rattle.std.specs.Prelude.{unwrap_or, IfSome, slice_get}
-use Rattle.std.proofs.lemmas.List.Elements.{All-nil, All-cons}
+use Rattle.std.{specs.Prelude.{unwrap_or, IfSome, slice_get}, proofs.lemmas.List.Elements.{All-nil, All-cons}}
 use Rattle.cell_rows.specs.Device.{ArrayState}
-use Rattle.result_rows.specs.declared.Outcome.{Outcome}
+use Rattle.result_rows.specs.{Table.{HasRow, with_outcome}, declared.Outcome.Outcome}
 use Rattle.result_rows.specs.declared.Outcome.TheVariants as out
-use Rattle.result_rows.specs.Table.{HasRow, with_outcome}
-use Rattle.bank_shape.specs.declared.answer.Served.{Served}
-use Rattle.bank_shape.specs.declared.clock.Doing.{Doing}
-use Rattle.bank_shape.specs.declared.clock.Doing.TheVariants.{Serving}
-use Rattle.bank_shape.specs.declared.clock.Action.{Action}
-use Rattle.bank_model.specs.Events.{BankEvent, Serve}
-use Rattle.bank_model.specs.History.{waits}
-use Rattle.bank_model.specs.Timing.{TimedEvent, core, ends}
-use Rattle.bank_model.specs.Touching.{Touches}
-use Rattle.bank_laws.specs.Outcomes.{outcome_by}
+use Rattle.bank_shape.specs.{declared.answer.Served.Served, declared.clock.Action.Action, declared.clock.Doing.Doing, declared.clock.Doing.TheVariants.Serving}
 use Rattle.bank_shape.specs.declared.waiting.Waiting.{Waiting}
-use Rattle.bank_invariant.specs.State.{BankState}
-use Rattle.bank_invariant.specs.Serving.{served, served_from}
-use Rattle.bank_invariant.specs.Holds.{Holds}
+use Rattle.bank_model.specs.{Events.{BankEvent, Serve}, History.waits, Timing.{TimedEvent, core, ends}, Touching.Touches}
+use Rattle.bank_laws.specs.Outcomes.{outcome_by}
+use Rattle.bank_invariant.specs.{Holds.Holds, Serving.{served, served_from}, State.BankState}
 use Rattle.reg_lines.specs.Regs.{RegsState}
 use Rattle.register_laws.proofs.Staying.{stays_law}
-use Rattle.clock_laws.specs.State.{ClockState, next_action}
-use Rattle.clock_laws.specs.Leads.{Leads}
-use Rattle.clock_laws.specs.Fitting.{Fits, IsFit}
-use Rattle.clock_laws.specs.Completing.{completed as completed_event, after_action}
-use Rattle.clock_laws.specs.Actions.{IsCompletion, GoesOn}
-use Rattle.clock_laws.specs.Standing.{AreApart, has_waiting}
-use Rattle.clock_laws.proofs.Ending.{serve_ends_law}
-use Rattle.clock_laws.proofs.Others.{apart_law}
+use Rattle.clock_laws.specs.{Actions.{IsCompletion, GoesOn}, Completing.{completed as completed_event, after_action}, Fitting.{Fits, IsFit}, Leads.Leads}
+use Rattle.clock_laws.{specs.Standing.{AreApart, has_waiting}, specs.State.{ClockState, next_action}, proofs.Ending.serve_ends_law, proofs.Others.apart_law}
 use Rattle.clock_laws.proofs.Remaining.{falling_law}
-use Rattle.bank_timing.specs.Extending.{Extends, outcome_in, IsOpen, StandOpen, AreOpen, EndsAction}
-use Rattle.bank_timing.specs.Completing.{Completes}
-use Rattle.bank_timing.proofs.Rows.{rows-set, in-set}
-use Rattle.bank_timing.proofs.Acting.{next-fits, next-ends}
-use Rattle.bank_timing.proofs.Standing.{waits-head, served-unset}
+use Rattle.bank_timing.{specs.Completing.Completes, specs.Extending.{Extends, outcome_in, IsOpen, StandOpen, AreOpen, EndsAction}, proofs.Acting.{next-fits, next-ends}}
+use Rattle.bank_timing.proofs.{Rows.{rows-set, in-set}, Standing.{waits-head, served-unset}}
 
 module _ {n m e : ℕ} (xs : List (TimedEvent n m)) (clock : ClockState n m e) (bank : BankState n m e) (regs : RegsState n m e) (action : Action) (event : BankEvent n) (old new : ArrayState n m) (results recorded : List (Outcome n)) where
   -- the event that ends an action, with the outcome that it makes

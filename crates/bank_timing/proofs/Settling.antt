@@ -1,28 +1,16 @@
 -- A bank settles: how many ticks its actions take at most, if nothing arrives.
 use Rattle.std.proofs.Common.{◌≡◌, ℕ, ◌+◌, ◌-◌, ◌*◌, ◌^◌, ◌<◌, ◌≤◌, Bool, true, false, List, length, Option, Some, None, arith}
-use Rattle.std.specs.Prelude.{IfSome}
-use Rattle.std.proofs.lemmas.Nat.{mul-le}
-use Rattle.std.proofs.Math.Nat.{le-mul_of_pos_right}
+use Rattle.std.{specs.Prelude.IfSome, proofs.Math.Nat.le-mul_of_pos_right, proofs.lemmas.Nat.mul-le}
 use Rattle.ecp_line.specs.Layout.{IsLayout, width}
-use Rattle.line_writer.specs.Writing.{steps_left, most_steps}
+use Rattle.line_writer.specs.{Writing.{steps_left, most_steps}, declared.writer.LineWriter.LineWriter}
 use Rattle.spare_pool.specs.Table.{used_by}
 use Rattle.power_recovery.specs.Kept.{KeptState, IsKept, due_region}
-use Rattle.bank_shape.specs.declared.clock.Doing.{Doing}
-use Rattle.bank_shape.specs.declared.clock.Doing.TheVariants.{Serving, Beginning, Iterating}
-use Rattle.bank_shape.specs.declared.clock.Action.{Action}
-use Rattle.bank_shape.specs.Acting.{lasts}
-use Rattle.bank_model.specs.Timing.{ends, TimedEvent}
+use Rattle.bank_shape.specs.{Acting.lasts, Pausing.IsPace, declared.clock.Action.Action, declared.clock.Doing.Doing}
+use Rattle.bank_shape.specs.{declared.clock.Doing.TheVariants.{Serving, Beginning, Iterating}, declared.pace.Pace.Pace}
+use Rattle.bank_model.{specs.After.due_moves, specs.Changes.rounds_after, specs.Timing.{ends, TimedEvent}, proofs.Within.due_moves-few}
 use Rattle.cell_rows.specs.Device.{ArrayState}
-use Rattle.bank_shape.specs.declared.pace.Pace.{Pace}
-use Rattle.bank_shape.specs.Pausing.{IsPace}
 use Rattle.bank_invariant.specs.State.{Operation}
-use Rattle.clock_laws.specs.State.{ClockState}
-use Rattle.clock_laws.specs.Leads.{Leads}
-use Rattle.clock_laws.specs.Remaining.{actions_left, attempts_left, attempt_left, keeping_left, present_left, last_attempts}
-use Rattle.line_writer.specs.declared.writer.LineWriter.{LineWriter}
-use Rattle.bank_model.specs.Changes.{rounds_after}
-use Rattle.bank_model.specs.After.{due_moves}
-use Rattle.bank_model.proofs.Within.{due_moves-few}
+use Rattle.clock_laws.specs.{Leads.Leads, Remaining.{actions_left, attempts_left, attempt_left, keeping_left, present_left, last_attempts}, State.ClockState}
 use Rattle.register_laws.specs.Telling.{item_of}
 
 few-pointers : (e w m : ℕ) → m ≤ 16 → e * (w + 1) + 1 ≤ 8 * m → e ≤ 127

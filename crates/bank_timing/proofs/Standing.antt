@@ -1,14 +1,11 @@
 -- Rows that stand have no outcome still while others are set.
 use Rattle.std.proofs.Common.{◌≡◌, ◌≢◌, ℕ, ◌<◌, ◌==◌, Bool, true, false, List, [], ◌∷◌, length, drop, refl, sym, ap, ◌∙◌, arith, eq-eqb}
 use Rattle.std.proofs.lemmas.Bool.{or_left, or_right}
-use Rattle.result_rows.specs.declared.Outcome.{Outcome}
-use Rattle.result_rows.specs.Table.{HasRow, with_outcome}
-use Rattle.masked_bytes.specs.declared.entry.Entry.{Entry}
-use Rattle.masked_bytes.specs.Entries.{has_row, head_row, completed}
+use Rattle.result_rows.specs.{Table.{HasRow, with_outcome}, declared.Outcome.Outcome}
+use Rattle.masked_bytes.specs.{Entries.{has_row, head_row, completed}, declared.entry.Entry.Entry}
 use Rattle.bank_shape.specs.declared.waiting.Waiting.{Waiting}
 use Rattle.clock_laws.specs.Standing.{has_waiting, AreApart}
-use Rattle.bank_timing.specs.Extending.{StandOpen}
-use Rattle.bank_timing.proofs.Rows.{open-set}
+use Rattle.bank_timing.{specs.Extending.StandOpen, proofs.Rows.open-set}
 
 pub clash : (b : Bool) → b ≡ true → b ≡ false → ⊥
 clash true here there = cc

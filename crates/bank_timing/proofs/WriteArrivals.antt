@@ -1,47 +1,22 @@
 -- A write arrives: what becomes of the clock and of the results.
 use Rattle.std.proofs.Common.{◌≡◌, ◌≢◌, ℕ, zero, suc, slice_get, ◌+◌, ◌<◌, ◌≤◌, ◌==◌, Bool, true, false, List, [], ◌∷◌, ◌++◌, length, ◌⊎◌, inl, inr, refl, sym, ap, subst, ◌∙◌, arith, eqb-true, length-append}
-use Rattle.std.specs.Prelude.{unwrap_or, IsSomeAnd}
-use Rattle.std.proofs.lemmas.List.{length-map}
-use Rattle.std.proofs.lemmas.Bool.{ne_eqb}
+use Rattle.std.{specs.Prelude.{unwrap_or, IsSomeAnd}, proofs.lemmas.Bool.ne_eqb, proofs.lemmas.List.length-map}
 use Rattle.cell_rows.specs.Device.{ArrayState}
-use Rattle.result_rows.specs.declared.Outcome.{Outcome}
+use Rattle.result_rows.specs.{Table.{HasRow, with_outcome}, declared.Outcome.Outcome}
 use Rattle.result_rows.specs.declared.Outcome.TheVariants as out
-use Rattle.result_rows.specs.Table.{HasRow, with_outcome}
-use Rattle.masked_bytes.specs.declared.entry.Entry.{Entry}
-use Rattle.masked_bytes.specs.Entries.{has_row, merged, candidate}
-use Rattle.masked_bytes.proofs.Rows.{lacks-push, lacks-merged, lacks-old}
-use Rattle.bank_shape.specs.declared.BankShape.{BankShape}
-use Rattle.line_writer.specs.Writing.{most_steps}
-use Rattle.bank_shape.specs.declared.pace.Pace.{Pace}
-use Rattle.bank_shape.specs.declared.answer.WriteAnswer.{WriteAnswer}
+use Rattle.masked_bytes.{specs.Entries.{has_row, merged, candidate}, specs.declared.entry.Entry.Entry, proofs.Rows.{lacks-push, lacks-merged, lacks-old}}
+use Rattle.bank_shape.specs.{declared.BankShape.BankShape, declared.answer.WriteAnswer.WriteAnswer, declared.pace.Pace.Pace, declared.waiting.Waiting.Waiting}
 use Rattle.bank_shape.specs.declared.answer.WriteAnswer.TheVariants as wrote
-use Rattle.bank_model.specs.Events.{BankEvent, Write}
-use Rattle.bank_model.specs.History.{Awaited, queue, waits, has_exhausted}
-use Rattle.bank_model.specs.Answers.{MayAll, head_busy_after}
-use Rattle.bank_model.specs.Timing.{TimedEvent, core}
-use Rattle.bank_laws.specs.Outcomes.{outcome_by}
-use Rattle.bank_laws.proofs.Answering.{candidate-there}
-use Rattle.bank_laws.proofs.Holding.{length-merged}
-use Rattle.bank_shape.specs.declared.waiting.Waiting.{Waiting}
-use Rattle.bank_invariant.specs.State.{BankState}
-use Rattle.bank_invariant.specs.Holds.{Holds}
+use Rattle.line_writer.specs.Writing.{most_steps}
+use Rattle.bank_model.specs.{Answers.{MayAll, head_busy_after}, Events.{BankEvent, Write}, History.{Awaited, queue, waits, has_exhausted}, Timing.{TimedEvent, core}}
 use Rattle.bank_model.proofs.Rising.{RowsBelow-more}
-use Rattle.bank_invariant.proofs.Taking.{answer_merged}
+use Rattle.bank_laws.{specs.Outcomes.outcome_by, proofs.Answering.candidate-there, proofs.Holding.length-merged}
+use Rattle.bank_invariant.{specs.Holds.Holds, specs.State.BankState, proofs.Taking.answer_merged}
 use Rattle.bank_core.specs.Steps.{write_from, after_write as bank_after_write}
-use Rattle.clock_laws.specs.State.{ClockState}
-use Rattle.clock_laws.specs.Leads.{Leads}
-use Rattle.clock_laws.specs.Fitting.{IsFit}
-use Rattle.clock_laws.specs.Arriving.{arrival, after_write, KeepsWork, IsIndexOf}
-use Rattle.clock_laws.specs.Standing.{has_waiting, AreApart}
-use Rattle.clock_laws.proofs.Arriving.{write_law}
-use Rattle.clock_laws.proofs.Fitting.{fit_write_law}
-use Rattle.clock_laws.proofs.Extending.{arrival_added_law}
-use Rattle.clock_laws.proofs.Others.{apart_law}
-use Rattle.bank_timing.specs.Clock.{IsClock}
-use Rattle.bank_timing.specs.Extending.{Extends, Arrives, AreOpen, IsOpen, StandOpen, LeavesOthersThan, outcome_in}
-use Rattle.bank_timing.proofs.Rows.{rows-set, in-set, open-set}
-use Rattle.bank_timing.proofs.Standing.{clash, apart-by, stay-unset}
-use Rattle.bank_timing.proofs.ReadArrivals.{no-other, fit-same, arrival-others}
+use Rattle.clock_laws.specs.{Arriving.{arrival, after_write, KeepsWork, IsIndexOf}, Fitting.IsFit, Leads.Leads, Standing.{has_waiting, AreApart}, State.ClockState}
+use Rattle.clock_laws.proofs.{Arriving.write_law, Extending.arrival_added_law, Fitting.fit_write_law, Others.apart_law}
+use Rattle.bank_timing.specs.{Clock.IsClock, Extending.{Extends, Arrives, AreOpen, IsOpen, StandOpen, LeavesOthersThan, outcome_in}}
+use Rattle.bank_timing.proofs.{ReadArrivals.{no-other, fit-same, arrival-others}, Rows.{rows-set, in-set, open-set}, Standing.{clash, apart-by, stay-unset}}
 
 -- the results after a write was answered
 abbrev pub write_recorded : {n : ℕ} → WriteAnswer → ℕ → ℕ → List (Outcome n) → List (Outcome n)

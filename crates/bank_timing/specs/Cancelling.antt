@@ -1,12 +1,9 @@
 -- The cancel that a read makes before it arrives.
 use Rattle.std.specs.Prelude.{ℕ, if◌then◌else◌, List, [], ◌∷◌, Option, Some, None}
-use Rattle.reg_lines.specs.declared.Change.{Change}
-use Rattle.reg_lines.specs.Keeping.{broken_off}
+use Rattle.reg_lines.specs.{Keeping.broken_off, declared.Change.Change}
 use Rattle.bank_model.specs.Timing.{TimedEvent}
 use Rattle.bank_invariant.specs.Steps.{cut_off}
-use Rattle.clock_laws.specs.State.{ClockState}
-use Rattle.clock_laws.specs.Arriving.{cancels_for}
-use Rattle.clock_laws.specs.Cutting.{cancel, keep_cancel, after_cancel}
+use Rattle.clock_laws.specs.{Arriving.cancels_for, Cutting.{cancel, keep_cancel, after_cancel}, State.ClockState}
 
 module _ {n m e : ℕ} where
   -- the event: of the bank's line write, or while a change stands of the change's

@@ -1,9 +1,7 @@
 -- What is true of every bank with its clock.
 use Rattle.std.specs.Prelude.{ℕ, ◌≡◌, ◌≤◌, Option, None, IfSome, IsTrue}
 use Rattle.ecp_line.specs.Layout.{IsLayout}
-use Rattle.bank_shape.specs.declared.pace.Pace.{Pace}
-use Rattle.bank_shape.specs.Pausing.{IsPace}
-use Rattle.bank_shape.specs.declared.clock.Action.{Action}
+use Rattle.bank_shape.specs.{Pausing.IsPace, declared.clock.Action.Action, declared.pace.Pace.Pace}
 use Rattle.reg_lines.specs.Regs.{RegsState}
 use Rattle.bank_invariant.specs.State.{BankState}
 use Rattle.clock_laws.specs.Fitting.{IsFit}

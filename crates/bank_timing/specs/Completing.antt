@@ -1,25 +1,15 @@
 -- What the end of an action makes of a bank with its clock, of its array and of the results.
 use Rattle.std.specs.Prelude.{◌≡◌, ℕ, ◌+◌, ◌/◌, ◌<◌, ◌≤◌, List, [], ◌∷◌, Option, None, Some}
 use Rattle.cell_rows.specs.Device.{ArrayState}
-use Rattle.result_rows.specs.declared.Outcome.{Outcome}
+use Rattle.result_rows.specs.{Table.with_outcome, declared.Outcome.Outcome}
 use Rattle.result_rows.specs.declared.Outcome.TheVariants as out
-use Rattle.result_rows.specs.Table.{with_outcome}
-use Rattle.bank_shape.specs.declared.BankShape.{BankShape}
-use Rattle.bank_shape.specs.declared.Work.{Work}
-use Rattle.bank_shape.specs.declared.Work.TheVariants.{Nothing, Store, Copy}
-use Rattle.bank_shape.specs.declared.answer.Step.{Step}
+use Rattle.bank_shape.specs.{declared.BankShape.BankShape, declared.Work.Work, declared.Work.TheVariants.{Nothing, Store, Copy}, declared.answer.Keep.Keep}
+use Rattle.bank_shape.specs.{declared.answer.Step.Step, declared.clock.Action.Action, declared.clock.Doing.Doing}
 use Rattle.bank_shape.specs.declared.answer.Step.TheVariants as did
-use Rattle.bank_shape.specs.declared.answer.Keep.{Keep}
 use Rattle.bank_shape.specs.declared.answer.Keep.TheVariants as keep
-use Rattle.bank_shape.specs.declared.clock.Doing.{Doing}
-use Rattle.bank_shape.specs.declared.clock.Action.{Action}
-use Rattle.bank_model.specs.Changes.{item_if}
-use Rattle.bank_model.specs.Timing.{TimedEvent, ends}
+use Rattle.bank_model.specs.{Changes.item_if, Timing.{TimedEvent, ends}}
 use Rattle.reg_lines.specs.Regs.{RegsState}
-use Rattle.clock_laws.specs.State.{ClockState, next_action}
-use Rattle.clock_laws.specs.Completing.{arrivals_by}
-use Rattle.clock_laws.specs.Leads.{Leads}
-use Rattle.clock_laws.specs.Remaining.{actions_left}
+use Rattle.clock_laws.specs.{Completing.arrivals_by, Leads.Leads, Remaining.actions_left, State.{ClockState, next_action}}
 use Rattle.bank_timing.specs.Extending.{Extends, AreOpen, IsOpen, IsQuiet, last_tick_with_drain}
 
 -- the row of a write that is stored has no outcome yet

@@ -1,18 +1,11 @@
 -- What a drain leaves.
 use Rattle.std.specs.Prelude.{◌≡◌, ℕ, ◌==◌, List, [], ◌∷◌, ◌++◌, length, Option, Some, None, unwrap_or, Bool, true, false, if◌then◌else◌}
 use Rattle.cell_rows.specs.Device.{ArrayState}
-use Rattle.result_rows.specs.declared.Outcome.{Outcome}
-use Rattle.result_rows.specs.declared.Outcome.TheVariants.{Queued}
-use Rattle.result_rows.specs.Table.{HasRow}
-use Rattle.masked_bytes.specs.declared.entry.Entry.{Entry}
-use Rattle.masked_bytes.specs.Entries.{has_row, RowsApart}
-use Rattle.bank_model.specs.Timing.{TimedEvent}
-use Rattle.bank_model.specs.Told.{tick_of_row}
-use Rattle.bank_model.specs.Adding.{Adds}
+use Rattle.result_rows.specs.{Table.HasRow, declared.Outcome.Outcome, declared.Outcome.TheVariants.Queued}
+use Rattle.masked_bytes.specs.{Entries.{has_row, RowsApart}, declared.entry.Entry.Entry}
+use Rattle.bank_model.specs.{Adding.Adds, Timing.TimedEvent, Told.tick_of_row}
 use Rattle.bank_laws.specs.Resting.{EndsIn}
-use Rattle.clock_laws.specs.State.{ClockState}
-use Rattle.clock_laws.specs.Leads.{Leads}
-use Rattle.clock_laws.specs.Recording.{outcome_on}
+use Rattle.clock_laws.specs.{Leads.Leads, Recording.outcome_on, State.ClockState}
 use Rattle.bank_timing.specs.Extending.{outcome_in, IsOpen, IsQuiet, ended_at}
 
 -- the outcome of the row of an entry that stays in the queue, with its arrival tick

@@ -1,26 +1,14 @@
 -- What a call makes of a bank with its clock, of its array and of the results, by the events that it adds to the history.
 use Rattle.std.specs.Prelude.{◌≡◌, ◌≢◌, ℕ, ◌+◌, ◌^◌, true, false, IsTrue, List, [], ◌∷◌, ◌++◌, length, None, Some, All, unwrap_or}
 use Rattle.cell_rows.specs.Device.{ArrayState}
-use Rattle.result_rows.specs.declared.Outcome.{Outcome}
-use Rattle.result_rows.specs.declared.Outcome.TheVariants.{Unset}
-use Rattle.result_rows.specs.Table.{HasRow, outcome_at}
-use Rattle.masked_bytes.specs.declared.entry.Entry.{Entry}
-use Rattle.masked_bytes.specs.Entries.{has_row}
-use Rattle.bank_shape.specs.declared.BankShape.{BankShape}
-use Rattle.bank_shape.specs.Shape.{controls_of, controls_from}
-use Rattle.bank_shape.specs.declared.pace.Pace.{Pace}
-use Rattle.bank_model.specs.Events.{BankEvent}
-use Rattle.bank_model.specs.Timing.{TimedEvent}
+use Rattle.result_rows.specs.{Table.{HasRow, outcome_at}, declared.Outcome.Outcome, declared.Outcome.TheVariants.Unset}
+use Rattle.masked_bytes.specs.{Entries.has_row, declared.entry.Entry.Entry}
+use Rattle.bank_shape.specs.{Shape.{controls_of, controls_from}, declared.BankShape.BankShape, declared.pace.Pace.Pace, declared.waiting.Waiting.Waiting}
+use Rattle.bank_model.specs.{Adding.Adds, Events.BankEvent, Timing.TimedEvent}
 use Rattle.reg_lines.specs.Regs.{RegsState}
-use Rattle.bank_model.specs.Adding.{Adds}
 use Rattle.bank_laws.specs.Ticks.{ends_action}
-use Rattle.bank_shape.specs.declared.waiting.Waiting.{Waiting}
 use Rattle.bank_invariant.specs.State.{BankState, first_bank}
-use Rattle.clock_laws.specs.State.{ClockState}
-use Rattle.clock_laws.specs.Leads.{Leads}
-use Rattle.clock_laws.specs.Arriving.{arrival}
-use Rattle.clock_laws.specs.Recording.{outcome_on}
-use Rattle.clock_laws.specs.Standing.{has_waiting}
+use Rattle.clock_laws.specs.{Arriving.arrival, Leads.Leads, Recording.outcome_on, Standing.has_waiting, State.ClockState}
 
 -- the control lines of a bank that was just made, with no change
 abbrev pub first_regs : {n m e : ℕ} → BankShape → RegsState n m e

@@ -1,8 +1,7 @@
 -- What becomes of the reads that a power cut takes away.
 use Rattle.std.specs.Prelude.{ℕ, List, [], ◌∷◌}
-use Rattle.result_rows.specs.declared.Outcome.{Outcome}
+use Rattle.result_rows.specs.{Table.with_outcome, declared.Outcome.Outcome}
 use Rattle.result_rows.specs.declared.Outcome.TheVariants as out
-use Rattle.result_rows.specs.Table.{with_outcome}
 use Rattle.bank_invariant.specs.State.{BankState}
 use Rattle.clock_laws.specs.State.{ClockState}
 use Rattle.bank_timing.specs.Extending.{IsOpen}

@@ -1,9 +1,7 @@
 -- How far what a bank kept has been read back.
 use Rattle.std.specs.Prelude.{ℕ, zero, suc, List, [], ◌∷◌, take, replicate, false}
 use Rattle.region_regs.specs.Region.{first_region}
-use Rattle.power_recovery.specs.Kept.{KeptState}
-use Rattle.power_recovery.specs.Events.{with_regions}
-use Rattle.power_recovery.specs.Restoring.{stripped_kept}
+use Rattle.power_recovery.specs.{Events.with_regions, Kept.KeptState, Restoring.stripped_kept}
 
 -- the first so many of one list, and the rest of another
 abbrev pub merged : {A : Type 0} → ℕ → List A → List A → List A

@@ -33,7 +33,8 @@ impl<const B: usize, const M: usize, const E: usize> Timed<B, M, E> {
     /// A write of a bank line arrives now; the number of its row is above those of all before it.
     pub fn arrive_write<R: Outcomes<B>>(&mut self, entry: Entry<B>, results: &mut R)
         requires going { self.old.drained ≡ false }
-        requires led { (xs : List (TimedEvent B M)) × (array : ArrayState B M) × Leads xs self.old array }
+        requires led { (xs : List (TimedEvent B M)) × (array : ArrayState B M)
+            × Leads xs self.old array }
         requires exists { entry.line < bank_lines self.old.bank.kept.shape }
         requires rises { self.old.bank.rows_below ≤ entry.row }
         requires masked { IsMasked B entry.bytes entry.given }
@@ -72,7 +73,8 @@ impl<const B: usize, const M: usize, const E: usize> Timed<B, M, E> {
     // The entry of the queue at an index, into which a write was merged, arrived now.
     fn arrive_again(&mut self, index: usize)
         requires there { index < length self.old.arrivals }
-        ensures { self.new ≡ with_arrivals (slice_set self.old.arrivals index self.old.tick) self.old }
+        ensures { self.new ≡ with_arrivals (slice_set self.old.arrivals index self.old.tick)
+            self.old }
     {
         let Some(tick) = self.arrivals.get_mut(index) else {
             unreachable!()
@@ -96,7 +98,8 @@ impl<const B: usize, const M: usize, const E: usize> Timed<B, M, E> {
         requires unset { AreOpen self.old.bank (R.table results.old) }
         requires fresh { IsOpen (R.table results.old) row }
         ensures arrives { Arrives row (Read row line (read_from self.old.bank line))
-            (λ xs. cancel_first xs self.old line) self.old self.new (A.state array.old) (A.state array.new)
+            (λ xs. cancel_first xs self.old line) self.old self.new (A.state array.old)
+            (A.state array.new)
             (R.table results.old) (R.table results.new) }
         ensures goes_on { R.goes_on results.old results.new }
     {
@@ -113,7 +116,8 @@ impl<const B: usize, const M: usize, const E: usize> Timed<B, M, E> {
         requires exists { line < bank_lines self.old.bank.kept.shape }
         requires rises { self.old.bank.rows_below ≤ row }
         requires cancels { IsTrue (cancels_for self.old line) }
-        ensures arrives { (results : List (RowOutcome B)) → AreOpen self.old.bank results → IsOpen results row
+        ensures arrives { (results : List (RowOutcome B)) → AreOpen self.old.bank results
+            → IsOpen results row
             → Arrives row (Read row line (read_from self.old.bank line))
             (λ xs. cancel_by self.old.regs.change xs self.old ∷ []) self.old self.new
             (A.state array.old) (A.state array.new) results results }
@@ -124,7 +128,8 @@ impl<const B: usize, const M: usize, const E: usize> Timed<B, M, E> {
 
     // A read that leaves what runs, or drops a begin.
     fn take_read<R: Outcomes<B>>(&mut self, row: u32, line: u32, results: &mut R)
-        requires led { (xs : List (TimedEvent B M)) × (array : ArrayState B M) × Leads xs self.old array }
+        requires led { (xs : List (TimedEvent B M)) × (array : ArrayState B M)
+            × Leads xs self.old array }
         requires exists { line < bank_lines self.old.bank.kept.shape }
         requires rises { self.old.bank.rows_below ≤ row }
         requires quiet { cancels_for self.old line ≡ false }

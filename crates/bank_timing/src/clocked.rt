@@ -46,7 +46,16 @@ impl<const B: usize, const M: usize, const E: usize> Model for Timed<B, M, E> {
 
     ghost use Rattle.bank_timing.specs.Clock.{IsClock};
 
-    ghost view = { λ t. record { bank = t.bank; regs = t.regs; pace = t.pace; tick = t.tick; action = t.action; arrivals = t.arrivals.items; cancels = t.cancels; drained = t.drained } };
+    ghost view = { λ t. record {
+      bank = t.bank;
+      regs = t.regs;
+      pace = t.pace;
+      tick = t.tick;
+      action = t.action;
+      arrivals = t.arrivals.items;
+      cancels = t.cancels;
+      drained = t.drained;
+    } };
 
     ghost invariant = { λ t. IsClock t.bank t.regs t.pace t.tick t.action t.arrivals.capacity };
 }
@@ -197,7 +206,8 @@ impl<const B: usize, const M: usize, const E: usize> Timed<B, M, E> {
         requires later { self.old.tick < to }
         requires runs { IfSome action (λ a. to < ends self.old.pace a) }
         ensures clock { self.new ≡ at_tick to (next_action self.old) self.old }
-        ensures leads { (xs : List (TimedEvent B M)) (array : ArrayState B M) → Leads xs self.old array
+        ensures leads { (xs : List (TimedEvent B M)) (array : ArrayState B M)
+            → Leads xs self.old array
             → Leads xs self.new array }
     {
         self.action = action;

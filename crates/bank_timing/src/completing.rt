@@ -32,7 +32,8 @@ impl<const B: usize, const M: usize, const E: usize> Timed<B, M, E> {
     )
         requires due { MayComplete self.old action action.doing (A.state array.old) }
         requires unset { AreOpen self.old.bank (R.table results.old) }
-        ensures completes { Completes self.old self.new action (A.state array.old) (A.state array.new)
+        ensures completes { Completes self.old self.new action (A.state array.old)
+            (A.state array.new)
             (R.table results.old) (R.table results.new) }
         ensures goes_on { R.goes_on results.old results.new }
     {
@@ -52,7 +53,8 @@ impl<const B: usize, const M: usize, const E: usize> Timed<B, M, E> {
     )
         requires due { MayComplete self.old action Serving (A.state array.old) }
         requires unset { AreOpen self.old.bank (R.table results.old) }
-        ensures completes { Completes self.old self.new action (A.state array.old) (A.state array.new)
+        ensures completes { Completes self.old self.new action (A.state array.old)
+            (A.state array.new)
             (R.table results.old) (R.table results.new) }
         ensures goes_on { R.goes_on results.old results.new }
     {
@@ -78,7 +80,8 @@ impl<const B: usize, const M: usize, const E: usize> Timed<B, M, E> {
     )
         requires due { MayComplete self.old action Beginning (A.state array.old) }
         requires unset { AreOpen self.old.bank (R.table results.old) }
-        ensures completes { Completes self.old self.new action (A.state array.old) (A.state array.new)
+        ensures completes { Completes self.old self.new action (A.state array.old)
+            (A.state array.new)
             (R.table results.old) (R.table results.new) }
         ensures goes_on { R.goes_on results.old results.new }
     {
@@ -97,7 +100,8 @@ impl<const B: usize, const M: usize, const E: usize> Timed<B, M, E> {
     )
         requires due { MayComplete self.old action Iterating (A.state array.old) }
         requires unset { AreOpen self.old.bank (R.table results.old) }
-        ensures completes { Completes self.old self.new action (A.state array.old) (A.state array.new)
+        ensures completes { Completes self.old self.new action (A.state array.old)
+            (A.state array.new)
             (R.table results.old) (R.table results.new) }
         ensures goes_on { R.goes_on results.old results.new }
     {
@@ -112,7 +116,8 @@ impl<const B: usize, const M: usize, const E: usize> Timed<B, M, E> {
         requires due { MayComplete self.old action Beginning (A.state array.old) }
         requires stands { IsTrue (is_some self.old.regs.change) }
         ensures { (results : List (RowOutcome B)) → AreOpen self.old.bank results
-            → Completes self.old self.new action (A.state array.old) (A.state array.new) results results }
+            → Completes self.old self.new action (A.state array.old) (A.state array.new) results
+            results }
     {
         self.tick = action.ends(self.pace.read, self.pace.iter);
         self.action = None;
@@ -125,7 +130,8 @@ impl<const B: usize, const M: usize, const E: usize> Timed<B, M, E> {
         requires due { MayComplete self.old action Iterating (A.state array.old) }
         requires stands { IsTrue (is_some self.old.regs.change) }
         ensures { (results : List (RowOutcome B)) → AreOpen self.old.bank results
-            → Completes self.old self.new action (A.state array.old) (A.state array.new) results results }
+            → Completes self.old self.new action (A.state array.old) (A.state array.new) results
+            results }
     {
         self.tick = action.ends(self.pace.read, self.pace.iter);
         self.action = None;
@@ -143,7 +149,8 @@ impl<const B: usize, const M: usize, const E: usize> Timed<B, M, E> {
         requires due { MayComplete self.old action Beginning (A.state array.old) }
         requires unset { AreOpen self.old.bank (R.table results.old) }
         requires alone { self.old.regs.change ≡ None }
-        ensures completes { Completes self.old self.new action (A.state array.old) (A.state array.new)
+        ensures completes { Completes self.old self.new action (A.state array.old)
+            (A.state array.new)
             (R.table results.old) (R.table results.new) }
         ensures goes_on { R.goes_on results.old results.new }
     {
@@ -165,7 +172,8 @@ impl<const B: usize, const M: usize, const E: usize> Timed<B, M, E> {
         requires due { MayComplete self.old action Iterating (A.state array.old) }
         requires unset { AreOpen self.old.bank (R.table results.old) }
         requires alone { self.old.regs.change ≡ None }
-        ensures completes { Completes self.old self.new action (A.state array.old) (A.state array.new)
+        ensures completes { Completes self.old self.new action (A.state array.old)
+            (A.state array.new)
             (R.table results.old) (R.table results.new) }
         ensures goes_on { R.goes_on results.old results.new }
     {
@@ -181,7 +189,8 @@ impl<const B: usize, const M: usize, const E: usize> Timed<B, M, E> {
     fn record<R: Outcomes<B>>(&mut self, step: Step, results: &mut R)
         requires unset { IsRecordable step (R.table results.old) }
         ensures clock { self.new ≡ recorded_clock step self.old }
-        ensures results { (R.table results.new) ≡ step_recorded step self.old.tick (R.table results.old) }
+        ensures results { (R.table results.new)
+            ≡ step_recorded step self.old.tick (R.table results.old) }
         ensures goes_on { R.goes_on results.old results.new }
     {
         self.cancels = cancels_by_step(step, self.cancels);

@@ -32,7 +32,8 @@ impl<const B: usize, const M: usize, const E: usize> Timed<B, M, E> {
         requires going { self.old.drained ≡ false }
         requires led { (xs : List (TimedEvent B M)) × Leads xs self.old (A.state array.old) }
         requires unset { AreOpen self.old.bank (R.table results.old) }
-        ensures ran { GoesOn self.old.tick self.old self.new (R.table results.old) (R.table results.new) }
+        ensures ran { GoesOn self.old.tick self.old self.new (R.table results.old)
+            (R.table results.new) }
         ensures extends { (xs : List (TimedEvent B M)) → Leads xs self.old (A.state array.old)
             → Extends xs (cut xs self.old (A.state array.new) ∷ []) self.old self.new
             (A.state array.old) (A.state array.new) (R.table results.old) (R.table results.new) }
@@ -78,7 +79,8 @@ impl<const B: usize, const M: usize, const E: usize> Timed<B, M, E> {
         requires cancels { IsTrue (cancels_for self.old line) }
         ensures clock { self.new ≡ cancelled_by self.old.regs.change self.old }
         ensures reaches { (xs : List (TimedEvent B M)) → Leads xs self.old (A.state array.old)
-            → ReachesBy self.old.bank.kept.shape xs (cancel_by self.old.regs.change xs self.old) self.new
+            → ReachesBy self.old.bank.kept.shape xs (cancel_by self.old.regs.change xs self.old)
+            self.new
             (A.state array.old) (A.state array.new) }
     {
         let tearing = is_iterating(self.action);
@@ -94,8 +96,10 @@ impl<const B: usize, const M: usize, const E: usize> Timed<B, M, E> {
     fn lose<R: Outcomes<B>>(&mut self, results: &mut R)
         requires unset { LosesOpen self.old.tick self.old.bank.lost (R.table results.old) }
         ensures clock { self.new ≡ with_lost [] self.old }
-        ensures results { (R.table results.new) ≡ lost_recorded self.old.tick self.old.bank.lost (R.table results.old) }
-        ensures holds { (h : List (BankEvent B)) (array : ArrayState B M) → Holds h self.old.bank array
+        ensures results { (R.table results.new)
+            ≡ lost_recorded self.old.tick self.old.bank.lost (R.table results.old) }
+        ensures holds { (h : List (BankEvent B)) (array : ArrayState B M)
+            → Holds h self.old.bank array
             → Holds h self.new.bank array }
         ensures goes_on { R.goes_on results.old results.new }
     {

@@ -60,11 +60,14 @@ impl<const B: usize, const M: usize, const E: usize> Timed<B, M, E> {
     /// arrival. Every history that leads here and ends with a power cut is then a whole one.
     pub fn stop<R: Outcomes<B>>(&mut self, results: &mut R)
         requires going { self.old.drained ≡ false }
-        requires led { (array : ArrayState B M) × (xs : List (TimedEvent B M)) × Leads xs self.old array }
+        requires led { (array : ArrayState B M) × (xs : List (TimedEvent B M))
+            × Leads xs self.old array }
         requires unset { AreOpen self.old.bank (R.table results.old) }
         ensures clock { self.new ≡ closed self.old }
-        ensures stops { (xs : List (TimedEvent B M)) (array : ArrayState B M) → Leads xs self.old array → IsCutOff xs
-            → DrainsTo true xs [] self.old self.new array array (R.table results.old) (R.table results.new) }
+        ensures stops { (xs : List (TimedEvent B M)) (array : ArrayState B M)
+            → Leads xs self.old array → IsCutOff xs
+            → DrainsTo true xs [] self.old self.new array array (R.table results.old)
+            (R.table results.new) }
         ensures others { LeavesOthers self.old.bank (R.table results.old) (R.table results.new) }
         ensures goes_on { R.goes_on results.old results.new }
     {
@@ -99,7 +102,8 @@ fn leave_queued<const B: usize, R: Outcomes<B>>(
 )
     requires few { B ≤ 128 }
     requires ready { AreQueueable kept.now.entries arrivals.now.items (R.table results.old) }
-    ensures queued { AreQueued kept.now.entries arrivals.now.items (R.table results.old) (R.table results.new) }
+    ensures queued { AreQueued kept.now.entries arrivals.now.items (R.table results.old)
+        (R.table results.new) }
     ensures goes_on { R.goes_on results.old results.new }
 {
     for index in 0..kept.len() {
@@ -117,7 +121,8 @@ fn queue_at<const B: usize, R: Outcomes<B>>(
     requires few { B ≤ 128 }
     requires there { index < length kept.now.entries }
     requires told { index < length arrivals.now.items }
-    requires unset { IsSomeAnd (slice_get kept.now.entries index) (λ entry. IsOpen (R.table results.old) entry.row) }
+    requires unset { IsSomeAnd (slice_get kept.now.entries index)
+        (λ entry. IsOpen (R.table results.old) entry.row) }
     ensures queued { IsSomeAnd (slice_get kept.now.entries index)
         (λ entry. IsSomeAnd (slice_get arrivals.now.items index) (λ tick.
         (R.table results.new) ≡ with_outcome (R.table results.old) entry.row (Queued tick))) }

@@ -25,13 +25,15 @@ pub fn recover<A: CellArray<B, M>, const B: usize, const M: usize, const E: usiz
     requires idle { bank.old.running ≡ None }
     requires served { bank.old.waiting ≡ [] }
     requires taken { bank.old.lost ≡ [] }
-    requires readable { (kept : KeptState B) × IsReadable kept bank.old.kept regs.now (A.state array.old) }
+    requires readable { (kept : KeptState B) × IsReadable kept bank.old.kept regs.now
+        (A.state array.old) }
     ensures kept { (kept : KeptState B) → IsReadable kept bank.old.kept regs.now (A.state array.old)
         → bank.new ≡ with_kept bank.old kept }
     ensures touches { Touches tick (all_controls bank.old.kept.shape) None false
         (A.state array.old) (A.state array.new) }
     ensures tied { (kept : KeptState B) → IsReadable kept bank.old.kept regs.now (A.state array.old)
-        → IsTied (with_kept bank.old kept) (A.state array.old) → IsTied bank.new (A.state array.new) }
+        → IsTied (with_kept bank.old kept) (A.state array.old)
+        → IsTied bank.new (A.state array.new) }
 {
     recover_regions(bank, regs, array, tick);
     recover_spares(bank, regs, array, tick);
@@ -46,10 +48,12 @@ fn recover_regions<A: CellArray<B, M>, const B: usize, const M: usize, const E: 
     tick: u64,
 )
     requires layout { IsLayout B M E }
-    requires readable { (kept : KeptState B) × IsReadable kept bank.old.kept regs.now (A.state array.old) }
+    requires readable { (kept : KeptState B) × IsReadable kept bank.old.kept regs.now
+        (A.state array.old) }
     ensures kept { (kept : KeptState B) → IsReadable kept bank.old.kept regs.now (A.state array.old)
         → bank.new ≡ with_kept bank.old (spares_back 0 kept) }
-    ensures touches { Touches tick (numbers_from regs.now.base bank.old.kept.shape.regions) None false
+    ensures touches { Touches tick (numbers_from regs.now.base bank.old.kept.shape.regions) None
+        false
         (A.state array.old) (A.state array.new) }
 {
     let shape = *bank.kept().shape();
@@ -70,7 +74,8 @@ fn recover_spares<A: CellArray<B, M>, const B: usize, const M: usize, const E: u
     requires readable { (kept : KeptState B) × (bank.old.kept ≡ spares_back 0 kept)
         × IsOnLines kept regs.now (A.state array.old) }
     ensures kept { (kept : KeptState B) → bank.old.kept ≡ spares_back 0 kept
-        → IsOnLines kept regs.now (A.state array.old) → bank.new ≡ with_kept bank.old (mark_back kept) }
+        → IsOnLines kept regs.now (A.state array.old)
+        → bank.new ≡ with_kept bank.old (mark_back kept) }
     ensures touches { Touches tick (numbers_from (regs.now.base + bank.old.kept.shape.regions)
         bank.old.kept.shape.spares) None false (A.state array.old) (A.state array.new) }
 {
@@ -96,7 +101,8 @@ fn recover_mark<A: CellArray<B, M>, const B: usize, const M: usize, const E: usi
     ensures kept { (kept : KeptState B) → bank.old.kept ≡ mark_back kept
         → IsOnLines kept regs.now (A.state array.old) → bank.new ≡ with_kept bank.old kept }
     ensures touches { Touches tick
-        ((regs.now.base + (bank.old.kept.shape.regions + bank.old.kept.shape.spares)) ∷ []) None false
+        ((regs.now.base + (bank.old.kept.shape.regions + bank.old.kept.shape.spares))
+        ∷ []) None false
         (A.state array.old) (A.state array.new) }
 {
     let shape = *bank.kept().shape();

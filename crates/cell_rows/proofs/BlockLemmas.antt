@@ -1,15 +1,9 @@
 -- Blocks of 64 cells as the bits of a number.
 use Rattle.std.proofs.Common.{◌≡◌, ℕ, zero, suc, ◌+◌, ◌-◌, ◌*◌, ◌/◌, ◌%◌, ◌^◌, ◌<◌, ◌≤◌, Bool, true, false, cond, eqb, List, [], ◌∷◌, length, get_or, refl, sym, ◌∙◌, ap, inl, inr, arith, add-zero, add-one, subst, w8, Fits}
-use Rattle.std.proofs.lemmas.Bool.{cases_lt}
-use Rattle.std.proofs.lemmas.List.{get_or_past}
-use Rattle.std.proofs.lemmas.Nat.{shr_split, shr_below, ones-le}
-use Rattle.std.proofs.lemmas.Nat.Bits.{bit_at-zero, bit_at-suc, bit_at_lowest, bit_at_cat_low, bit_at_cat_high}
+use Rattle.std.{specs.Int.RustNames.count_ones, specs.Simd.Lanes.{Each1, chunk, number_l}, proofs.lemmas.Bool.cases_lt, proofs.lemmas.List.get_or_past}
+use Rattle.std.proofs.{lemmas.Nat.{shr_split, shr_below, ones-le}, lemmas.Nat.Bits.{bit_at-zero, bit_at-suc, bit_at_lowest, bit_at_cat_low, bit_at_cat_high}}
 use Rattle.std.proofs.lemmas.Simd.{chunk-fits, get_or-chunk, length-chunk, Each1-get_or}
-use Rattle.std.specs.Int.RustNames.{count_ones}
-use Rattle.std.specs.Simd.Lanes.{Each1, chunk, number_l}
-use Rattle.cell_rows.specs.Rows.{bit_in, bit_of, members}
-use Rattle.cell_rows.proofs.ByteLemmas.{bit_of_byte}
-use Rattle.cell_rows.proofs.RowLemmas.{members-suc}
+use Rattle.cell_rows.{specs.Rows.{bit_in, bit_of, members}, proofs.ByteLemmas.bit_of_byte, proofs.RowLemmas.members-suc}
 use lib.Count.{ones_step}
 
 -- a byte, moved up

@@ -1,12 +1,9 @@
 -- Lists of bytes, bit by bit.
 use Rattle.std.proofs.Common.{◌≡◌, ◌≢◌, ℕ, ◌+◌, ◌-◌, ◌*◌, ◌/◌, ◌%◌, ◌<◌, ◌≤◌, ◌&&◌, Bool, true, false, cond, eqb, List, ◌++◌, length, get_or, set, refl, sym, ◌∙◌, ap, inl, inr, arith, ext_get_or, get_or-set_same, get_or-set_other, eq-eqb, ne_eqb, w8, true≢false, not, min, max, bit_and, bit_or, bit_xor}
-use Rattle.std.proofs.Math.ListN.{get_or-append}
+use Rattle.std.{specs.Int.{bit_at, trailing_zeros}, proofs.Math.ListN.get_or-append, proofs.lemmas.Bool.{cases_eq, cases_lt, eqb-true}}
 use Rattle.std.proofs.lemmas.List.{get_or-append_right, get_or_past}
-use Rattle.std.proofs.lemmas.Bool.{cases_eq, cases_lt, eqb-true}
 use Rattle.std.proofs.lemmas.Nat.Bits.{bit_at-zero, bit_at-lt, bit_at_xor, bit_at_and, bit_at_or, bit_at-trailing_zeros, same_from_bits_below}
-use Rattle.std.specs.Int.{bit_at, trailing_zeros}
-use Rattle.cell_rows.specs.Rows.{bit_of, xor}
-use Rattle.cell_rows.specs.Rows.{bit_in}
+use Rattle.cell_rows.specs.Rows.{bit_of, xor, bit_in}
 
 -- the bits of the first list come first
 pub bit_of-append : (a b : List ℕ) (n : ℕ) → n < 8 * length a → bit_of (a ++ b) n ≡ bit_of a n

@@ -1,10 +1,7 @@
 -- Lists of bytes that are gone over sixteen at a time, and then one by one.
 use Rattle.std.proofs.Common.{◌≡◌, ◌≢◌, ℕ, ◌+◌, ◌-◌, ◌*◌, ◌/◌, ◌%◌, ◌<◌, ◌≤◌, List, length, get_or, set, refl, sym, ◌∙◌, ap, inl, inr, arith, get_or-set_same, get_or-set_other, bit_or, [], ◌∷◌, replicate, zero, suc}
-use Rattle.std.proofs.lemmas.Bool.{cases_eq, cases_lt}
-use Rattle.std.proofs.lemmas.Nat.{le_or_l, le_or_r}
-use Rattle.std.specs.Int.Bits.{or_zero_r}
+use Rattle.std.{specs.Int.Bits.or_zero_r, specs.Simd.Lanes.{zip2, chunk, put_chunk, fold_l}, proofs.lemmas.Bool.{cases_eq, cases_lt}, proofs.lemmas.Nat.{le_or_l, le_or_r}}
 use Rattle.std.proofs.lemmas.Simd.{length-chunk, length-zip2, get_or-replicate, get_or-chunk, get_or-zip2, get_or-put_chunk_below, get_or-put_chunk_at, get_or-put_chunk_above}
-use Rattle.std.specs.Simd.Lanes.{zip2, chunk, put_chunk, fold_l}
 
 -- the bytes of c below n are made of those of a and b, and the others are those of a
 pub record Joins (join : ℕ → ℕ → ℕ) (a b c : List ℕ) (n : ℕ) : Type 0 where

@@ -1,12 +1,7 @@
 -- Rows of cells, by their data bytes and their check bytes.
 use Rattle.std.proofs.Common.{◌≡◌, ℕ, ◌+◌, ◌-◌, ◌*◌, ◌/◌, ◌%◌, ◌<◌, ◌≤◌, Bool, true, false, cond, eqb, length, replicate, ◌≢◌, refl, sym, ◌∙◌, ap, inl, inr, arith, eq-eqb, ne_eqb, add-one, add-zero, subst, zero, suc}
-use Rattle.std.proofs.lemmas.List.{get_or-replicate, length-replicate}
-use Rattle.std.proofs.lemmas.Bool.{cases_eq, cases_lt}
-use Rattle.std.proofs.lemmas.Nat.Bits.{bit_at-zero}
-use Rattle.std.specs.Int.{bit_at}
-use Rattle.cell_rows.specs.declared.row.Cells.{Cells}
-use Rattle.cell_rows.specs.Rows.{bit_of, cell, members}
-use Rattle.cell_rows.proofs.ByteLemmas.{bit_of-append, bit_of-append_right, bit_of_past}
+use Rattle.std.{specs.Int.bit_at, proofs.lemmas.Bool.{cases_eq, cases_lt}, proofs.lemmas.List.{get_or-replicate, length-replicate}, proofs.lemmas.Nat.Bits.bit_at-zero}
+use Rattle.cell_rows.{specs.Rows.{bit_of, cell, members}, specs.declared.row.Cells.Cells, proofs.ByteLemmas.{bit_of-append, bit_of-append_right, bit_of_past}}
 
 -- a data cell is a bit of the data bytes
 pub cell-bits : {B M : ℕ} (row : Cells B M) (n : ℕ) → length row.bits ≡ B → n < 8 * B → cell row n ≡ bit_of row.bits n

@@ -1,12 +1,8 @@
 -- The eight bytes of a number, written at once.
 use Rattle.std.proofs.Common.{◌≡◌, ◌≢◌, ℕ, zero, suc, ◌+◌, ◌*◌, ◌/◌, ◌%◌, ◌<◌, ◌≤◌, eqb, List, [], ◌∷◌, length, get_or, sym, ◌∙◌, ap, inl, inr, arith, add-zero}
-use Rattle.std.proofs.lemmas.Bool.{cases_lt}
-use Rattle.std.proofs.lemmas.Nat.{shr-shr, shr_split}
-use Rattle.std.proofs.lemmas.Nat.Bits.{bit_at_cat_low}
+use Rattle.std.{specs.Simd.Lanes.put_chunk, proofs.lemmas.Bool.cases_lt, proofs.lemmas.Nat.{shr-shr, shr_split}, proofs.lemmas.Nat.Bits.bit_at_cat_low}
 use Rattle.std.proofs.lemmas.Simd.{get_or-put_chunk_below, get_or-put_chunk_at, get_or-put_chunk_above}
-use Rattle.std.specs.Simd.Lanes.{put_chunk}
-use Rattle.cell_rows.specs.Rows.{bit_of}
-use Rattle.cell_rows.specs.Rows.{bit_in}
+use Rattle.cell_rows.specs.Rows.{bit_of, bit_in}
 
 -- the number without its lowest bytes
 abbrev ups : ℕ → ℕ → ℕ

@@ -1,6 +1,5 @@
 -- What a row of cells is, cell by cell.
-use Rattle.std.specs.Prelude.{ℕ, zero, suc, ◌+◌, ◌/◌, ◌%◌, Bool, true, false, not, cond, List, ◌++◌, nat_eq, replicate, slice_index}
-use Rattle.std.specs.Int.{bit_at}
+use Rattle.std.specs.{Int.bit_at, Prelude.{ℕ, zero, suc, ◌+◌, ◌/◌, ◌%◌, Bool, true, false, not, cond, List, ◌++◌, nat_eq, replicate, slice_index}}
 use Rattle.cell_rows.specs.declared.row.Cells.{Cells}
 
 -- whether bit i of a number is 1

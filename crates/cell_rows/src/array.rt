@@ -63,7 +63,8 @@ pub trait CellArray<const B: usize, const M: usize> {
         requires exists { line < (state self.old).lines }
         requires lawful { IsPulse mask.now want.now ((state self.old).line line).held }
         requires shape { IsShape B M }
-        ensures step { DeviceStep (state self.old).bounds mask.now want.now ((state self.old).line line)
+        ensures step { DeviceStep (state self.old).bounds mask.now want.now
+            ((state self.old).line line)
             ((state self.new).line line) }
         ensures others { ChangesOnly line (state self.old) (state self.new) }
         ensures tears { (state self.new).tears ≡ (state self.old).tears };

@@ -30,7 +30,8 @@ fn with_bit(byte: u8, index: usize, value: bool) -> u8
 
 pub(crate) fn set_bit(bytes: &mut [u8], number: usize, value: bool)
     requires { number < 8 * length bytes.old }
-    ensures { (n : ℕ) → bit_of bytes.new n ≡ (if nat_eq n number then value else bit_of bytes.old n) }
+    ensures { (n : ℕ) → bit_of bytes.new n ≡ (if nat_eq n number then value else bit_of bytes.old
+        n) }
 {
     bytes[number / 8] = with_bit(bytes[number / 8], number % 8, value);
 }
@@ -66,7 +67,8 @@ pub(crate) fn and_with(bytes: &mut [u8], other: &[u8])
 
 pub(crate) fn is_zero(bytes: &[u8]) -> bool
     ensures none { IsTrue result → (n : ℕ) → bit_of bytes.now n ≡ false }
-    ensures some { IsFalse result → (n : ℕ) × (n < 8 * length bytes.now) × (bit_of bytes.now n ≡ true) }
+    ensures some { IsFalse result → (n : ℕ) × (n < 8 * length bytes.now)
+        × (bit_of bytes.now n ≡ true) }
 {
     let mut lanes = u8x16::splat(0);
     for step in 0..bytes.len() / LANES {

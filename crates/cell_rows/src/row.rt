@@ -117,7 +117,8 @@ impl<const B: usize, const M: usize> Cells<B, M> {
     /// As a mask: whether no cell of this group of eight is in it.
     pub fn is_clear(&self, group: usize) -> bool
         requires { group < B + M }
-        ensures { IsTrue result → (n : ℕ) → 8 * group ≤ n → n < 8 * group + 8 → cell self.now n ≡ false }
+        ensures { IsTrue result → (n : ℕ) → 8 * group ≤ n → n < 8 * group + 8
+            → cell self.now n ≡ false }
     {
         if group < B {
             self.bits[group] == 0

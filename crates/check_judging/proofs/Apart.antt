@@ -1,15 +1,12 @@
 -- How far a row's action lies from those before it, by the last that is over and those still to come.
 use Rattle.std.proofs.Common.{◌≡◌, ℕ, ◌+◌, ◌<◌, ◌≤◌, ◌==◌, ◌&&◌, ◌||◌, ◌⊎◌, inl, inr, Bool, true, false, List, [], ◌∷◌, Option, Some, None, refl, sym, ap, ◌∙◌, cond, arith}
-use Rattle.std.specs.Prelude.{nat_le, nat_lt, not}
-use Rattle.std.specs.List.{list_all}
-use Rattle.std.proofs.lemmas.Bool.{le-leb, lt-leb, lt-ltb, ltb-true, le-ltb, ne_eqb, cases_lt}
-use Rattle.masked_bytes.proofs.Turning.{and_turn, and_group}
+use Rattle.std.{specs.List.list_all, specs.Prelude.{nat_le, nat_lt, not}, proofs.lemmas.Bool.{le-leb, lt-leb, lt-ltb, ltb-true, le-ltb, ne_eqb, cases_lt}}
+use Rattle.masked_bytes.proofs.{Truth.and_true, Turning.{and_turn, and_group}}
 use Rattle.result_rows.specs.declared.Outcome.{Outcome}
 use Rattle.result_rows.specs.declared.Outcome.TheVariants as out
-use Rattle.row_rules.specs.declared.Row.{Row}
-use Rattle.row_rules.specs.Ticking.{apart}
-use Rattle.masked_bytes.proofs.Truth.{and_true}
-use Rattle.check_judging.specs.Distances.{later_of, is_far_below, end_above, ends_above, wait_above, waits_above, end_to, last_end, read_to, last_read, is_apart, ends_behind, ApartLaw}
+use Rattle.row_rules.specs.{Ticking.apart, declared.Row.Row}
+use Rattle.check_judging.specs.Distances.{later_of, is_far_below, end_above, ends_above, wait_above, waits_above, end_to, last_end, read_to, last_read, is_apart, ends_behind}
+use Rattle.check_judging.specs.Distances.{ApartLaw}
 
 or_false : (a b : Bool) → a ≡ false → (a || b) ≡ b
 or_false true b h = absurd (cc)

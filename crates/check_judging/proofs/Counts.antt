@@ -1,22 +1,14 @@
 -- Counts of stores, and what follows for the next and the last of them.
 use Rattle.std.proofs.Common.{◌≡◌, ℕ, ◌+◌, ◌<◌, ◌≤◌, ◌==◌, ◌&&◌, ◌||◌, ◌⊎◌, inl, inr, Bool, true, false, List, [], ◌∷◌, ◌++◌, Option, Some, None, refl, sym, ap, ◌∙◌, cond, arith}
-use Rattle.std.specs.Prelude.{nat_le, nat_lt, not, max, reverse, filter, count_by}
-use Rattle.std.specs.List.{list_all}
-use Rattle.std.specs.List.Sorted.{IsPermutation}
+use Rattle.std.specs.{List.list_all, List.Sorted.IsPermutation, Prelude.{nat_le, nat_lt, not, max, reverse, filter, count_by}}
 use Rattle.std.proofs.lemmas.Bool.{le-leb, lt-leb, lt-ltb, le-ltb, cases_lt, ne_eqb, or_right}
 use Rattle.std.proofs.lemmas.List.Sorted.{sum_by-IsPermutation, IsPermutation-reverse, IsPermutation-append_left}
-use Rattle.masked_bytes.proofs.Counting.{one_if, count-cons}
-use Rattle.masked_bytes.proofs.Turning.{either_least}
+use Rattle.masked_bytes.proofs.{Counting.{one_if, count-cons}, Truth.{or_false, and_true}, Turning.either_least}
 use Rattle.result_rows.specs.declared.Outcome.{Outcome}
 use Rattle.result_rows.specs.declared.Outcome.TheVariants as out
-use Rattle.row_rules.specs.declared.Row.{Row}
-use Rattle.row_rules.specs.Answers.{is_stored, stored_after, stored_by, stored_before}
-use Rattle.row_rules.specs.Rows.{asks_write, write_of}
-use Rattle.row_rules.specs.Queueing.{least, store_of, next_store, is_first}
-use Rattle.row_rules.specs.Ticking.{store_up_to, last_store, stores_in}
-use Rattle.masked_bytes.proofs.Truth.{or_false, and_true}
-use Rattle.check_judging.specs.Standing.{at_end}
-use Rattle.check_judging.specs.Counting.{line_stores, FirstByCountLaw, LastByCountLaw}
+use Rattle.row_rules.specs.{Answers.{is_stored, stored_after, stored_by, stored_before}, Queueing.{least, store_of, next_store, is_first}, Rows.{asks_write, write_of}}
+use Rattle.row_rules.specs.{Ticking.{store_up_to, last_store, stores_in}, declared.Row.Row}
+use Rattle.check_judging.specs.{Counting.{line_stores, FirstByCountLaw, LastByCountLaw}, Standing.at_end}
 
 pub count-same : {A : Type 0} (p q : A → Bool) → ((x : A) → p x ≡ q x) → (xs : List A) → count_by p xs ≡ count_by q xs
 count-same p q same [] = refl

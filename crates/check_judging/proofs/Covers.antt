@@ -1,19 +1,11 @@
 -- What a checker keeps of a line's bytes is what the queue gives.
 use Rattle.std.proofs.Common.{◌≡◌, ℕ, ◌&&◌, Bool, true, false, List, [], ◌∷◌, length, refl, sym, ap, ◌∙◌, cond, arith}
-use Rattle.masked_bytes.proofs.Truth.{and_first}
-use Rattle.std.specs.Prelude.{All, nat_le}
-use Rattle.std.proofs.lemmas.List.Elements.{All-head, All-tail}
-use Rattle.std.proofs.lemmas.List.{length-replicate}
-use Rattle.masked_bytes.specs.Masked.{joined, none_given}
-use Rattle.masked_bytes.proofs.Layering.{length-joined, joined-none_given, joined-joined}
+use Rattle.std.{specs.Prelude.{All, nat_le}, proofs.lemmas.List.length-replicate, proofs.lemmas.List.Elements.{All-head, All-tail}}
+use Rattle.masked_bytes.{specs.Masked.{joined, none_given}, proofs.Layering.{length-joined, joined-none_given, joined-joined}, proofs.Truth.and_first}
 use Rattle.result_rows.specs.declared.Outcome.{Outcome}
 use Rattle.result_rows.specs.declared.Outcome.TheVariants as out
-use Rattle.row_rules.specs.declared.Asks.{Asks}
-use Rattle.row_rules.specs.declared.Asks.TheVariants.{Reads, Writes, Cuts}
-use Rattle.row_rules.specs.declared.Row.{Row}
-use Rattle.row_rules.specs.Answers.{accepts, is_stored, stored_by}
-use Rattle.row_rules.specs.Rows.{asks_write, asks_write_of, accepted_of, given_of}
-use Rattle.row_rules.specs.Queueing.{unstored}
+use Rattle.row_rules.specs.{Answers.{accepts, is_stored, stored_by}, Queueing.unstored, Rows.{asks_write, asks_write_of, accepted_of, given_of}, declared.Asks.Asks}
+use Rattle.row_rules.specs.{declared.Asks.TheVariants.{Reads, Writes, Cuts}, declared.Row.Row}
 use Rattle.check_judging.specs.Runs.{run, held, GivesSized, CoverLaw}
 
 none_long : (n : ℕ) → length (none_given n) ≡ n

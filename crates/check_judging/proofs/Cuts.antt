@@ -1,17 +1,10 @@
 -- The rules on later cuts, by the ticks of the cut rows.
 use Rattle.std.proofs.Common.{◌≡◌, ℕ, ◌+◌, ◌≤◌, ◌==◌, ◌&&◌, ◌||◌, Bool, true, false, List, [], ◌∷◌, refl, sym, ap, ◌∙◌, cond, arith}
-use Rattle.masked_bytes.proofs.Truth.{and_first, and_second}
-use Rattle.std.specs.Prelude.{nat_le, not, count_by}
-use Rattle.std.proofs.lemmas.Bool.{le-leb, leb-true, and_from, or_right}
-use Rattle.masked_bytes.proofs.Counting.{count-cons}
-use Rattle.row_rules.specs.declared.Asks.{Asks}
-use Rattle.row_rules.specs.declared.Asks.TheVariants.{Reads, Writes, Cuts}
-use Rattle.row_rules.specs.declared.Row.{Row}
-use Rattle.row_rules.specs.Rows.{asks_cut, is_cut}
-use Rattle.row_rules.specs.Table.{is_of, of_bank}
-use Rattle.row_rules.specs.Ticking.{no_cut_below, first_cut_at, cuts_to}
-use Rattle.check_judging.specs.Rising.{rising}
-use Rattle.check_judging.specs.Cutting.{cut_ticks, first_from, first_is, FirstCutLaw, CutsOfBankLaw}
+use Rattle.std.{specs.Prelude.{nat_le, not, count_by}, proofs.lemmas.Bool.{le-leb, leb-true, and_from, or_right}}
+use Rattle.masked_bytes.proofs.{Counting.count-cons, Truth.{and_first, and_second}}
+use Rattle.row_rules.specs.{Rows.{asks_cut, is_cut}, Table.{is_of, of_bank}, Ticking.{no_cut_below, first_cut_at, cuts_to}, declared.Asks.Asks}
+use Rattle.row_rules.specs.{declared.Asks.TheVariants.{Reads, Writes, Cuts}, declared.Row.Row}
+use Rattle.check_judging.specs.{Cutting.{cut_ticks, first_from, first_is, FirstCutLaw, CutsOfBankLaw}, Rising.rising}
 
 module _ {n : ℕ} where
   -- no cut comes below a tick at or below which no row comes

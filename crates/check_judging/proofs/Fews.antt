@@ -1,14 +1,9 @@
 -- At most one element of a kind, told by their number and by a test of each.
 use Rattle.std.proofs.Common.{◌≡◌, ℕ, ◌+◌, ◌&&◌, ◌||◌, Bool, true, false, List, [], ◌∷◌, length, refl, sym, ap, ◌∙◌, cond, arith}
-use Rattle.std.specs.Prelude.{nat_le, nat_lt, not, filter, count_by}
-use Rattle.std.specs.List.{list_all}
-use Rattle.std.proofs.lemmas.Bool.{le-leb, lt-leb}
-use Rattle.std.proofs.lemmas.List.Sums.{length-filter}
-use Rattle.row_rules.specs.declared.Row.{Row}
-use Rattle.row_rules.specs.Queueing.{none_before, is_older, has_few, is_refused}
-use Rattle.masked_bytes.proofs.Truth.{and_true}
+use Rattle.std.{specs.List.list_all, specs.Prelude.{nat_le, nat_lt, not, filter, count_by}, proofs.lemmas.Bool.{le-leb, lt-leb}, proofs.lemmas.List.Sums.length-filter}
+use Rattle.row_rules.specs.{Queueing.{none_before, is_older, has_few, is_refused}, declared.Row.Row}
+use Rattle.masked_bytes.proofs.{Counting.count-cons, Truth.and_true}
 use Rattle.check_judging.specs.Few.{few_by}
-use Rattle.masked_bytes.proofs.Counting.{count-cons}
 
 -- where no element is an own one, each of its own passes
 none_own : {A : Type 0} (own one : A → Bool) (xs : List A) → filter own xs ≡ [] → list_all (λ x. not (own x) || one x) xs ≡ true

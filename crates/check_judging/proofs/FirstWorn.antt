@@ -1,17 +1,11 @@
 -- The rules on worn rows, by the first of them.
 use Rattle.std.proofs.Common.{◌≡◌, ℕ, ◌<◌, ◌≤◌, ◌&&◌, ◌||◌, Bool, true, false, List, [], ◌∷◌, refl, sym, ap, ◌∙◌, cond, arith}
+use Rattle.std.{specs.List.list_any, specs.Prelude.{nat_le, not}, proofs.lemmas.Bool.{leb-true, leb-false, lt-leb, and_right, or_from}}
 use Rattle.masked_bytes.proofs.Truth.{and_first, and_second}
-use Rattle.std.specs.Prelude.{nat_le, not}
-use Rattle.std.specs.List.{list_any}
-use Rattle.std.proofs.lemmas.Bool.{leb-true, leb-false, lt-leb, and_right, or_from}
 use Rattle.result_rows.specs.declared.Outcome.{Outcome}
 use Rattle.result_rows.specs.declared.Outcome.TheVariants as out
-use Rattle.row_rules.specs.declared.Row.{Row}
-use Rattle.row_rules.specs.Answers.{is_worn}
-use Rattle.row_rules.specs.Rows.{asks_write}
-use Rattle.row_rules.specs.Wearing.{worn_row, worn_by, store_fits}
-use Rattle.check_judging.specs.Rising.{rising}
-use Rattle.check_judging.specs.Worn.{first_worn_by, store_precedes, WornLaw}
+use Rattle.row_rules.specs.{Answers.is_worn, Rows.asks_write, Wearing.{worn_row, worn_by, store_fits}, declared.Row.Row}
+use Rattle.check_judging.specs.{Rising.rising, Worn.{first_worn_by, store_precedes, WornLaw}}
 
 plain : (b : Bool) → ((not b || false) && true) ≡ (not b && true)
 plain true = refl

@@ -1,15 +1,9 @@
 -- Whether four reads came since a tick, by the fourth last of them.
 use Rattle.std.proofs.Common.{◌≡◌, ℕ, ◌+◌, ◌<◌, ◌≤◌, ◌&&◌, ◌||◌, ◌⊎◌, inl, inr, Bool, true, false, List, [], ◌∷◌, refl, sym, ap, ◌∙◌, cond, arith}
-use Rattle.masked_bytes.proofs.Truth.{and_first, and_second}
-use Rattle.std.specs.Prelude.{nat_le, nat_lt, not, count_by}
-use Rattle.std.proofs.lemmas.Bool.{le-leb, leb-true, leb-false, lt-leb, lt-ltb, le-ltb, cases_lt, and_from}
-use Rattle.row_rules.specs.declared.Row.{Row}
-use Rattle.row_rules.specs.Answers.{is_answered, is_lost}
-use Rattle.row_rules.specs.Rows.{asks_read}
-use Rattle.row_rules.specs.Ticking.{came_since}
-use Rattle.check_judging.specs.Rising.{falling}
-use Rattle.check_judging.specs.Coming.{came, fourth_from, FourthLaw}
-use Rattle.masked_bytes.proofs.Counting.{count-cons, one_if}
+use Rattle.std.{specs.Prelude.{nat_le, nat_lt, not, count_by}, proofs.lemmas.Bool.{le-leb, leb-true, leb-false, lt-leb, lt-ltb, le-ltb, cases_lt, and_from}}
+use Rattle.masked_bytes.proofs.{Counting.{count-cons, one_if}, Truth.{and_first, and_second}}
+use Rattle.row_rules.specs.{Answers.{is_answered, is_lost}, Rows.asks_read, Ticking.came_since, declared.Row.Row}
+use Rattle.check_judging.specs.{Coming.{came, fourth_from, FourthLaw}, Rising.falling}
 
 -- these are at most t and don't rise
 abbrev sinking : ℕ → List ℕ → Bool

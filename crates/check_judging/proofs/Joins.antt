@@ -1,17 +1,13 @@
 -- A write that joins the queue leaves its pairs in order exactly where it isn't stored before them.
 use Rattle.std.proofs.Common.{◌≡◌, ℕ, ◌<◌, ◌≤◌, ◌&&◌, ◌||◌, ◌⊎◌, inl, inr, Bool, true, false, List, [], ◌∷◌, ◌++◌, refl, sym, ap, ◌∙◌, subst, cond, arith, append_assoc}
-use Rattle.masked_bytes.proofs.Truth.{and_first, and_second}
-use Rattle.std.specs.Prelude.{All, nat_lt, nat_le, not, filter}
-use Rattle.std.specs.List.{list_all, list_any}
+use Rattle.std.specs.{List.{list_all, list_any}, Prelude.{All, nat_lt, nat_le, not, filter}}
 use Rattle.std.proofs.lemmas.Bool.{le-leb, leb-true, lt-ltb, le-ltb, lt-leb, cases_lt, or_from, or_left, or_right, not-true}
-use Rattle.std.proofs.lemmas.List.Elements.{All-nil, All-cons, All-head, All-tail}
-use Rattle.std.proofs.lemmas.List.Folds.{list_any-append}
+use Rattle.std.proofs.{lemmas.List.Elements.{All-nil, All-cons, All-head, All-tail}, lemmas.List.Folds.list_any-append}
+use Rattle.masked_bytes.proofs.Truth.{and_first, and_second}
 use Rattle.result_rows.specs.declared.Outcome.{Outcome}
 use Rattle.result_rows.specs.declared.Outcome.TheVariants as out
+use Rattle.row_rules.specs.{Answers.{is_merged, is_stored, stored_before, stored_by}, Queueing.{none_before, is_older, has_few, pairs_few}, Rows.{accepted_of, line_of}}
 use Rattle.row_rules.specs.declared.Row.{Row}
-use Rattle.row_rules.specs.Answers.{is_merged, is_stored, stored_before, stored_by}
-use Rattle.row_rules.specs.Rows.{accepted_of, line_of}
-use Rattle.row_rules.specs.Queueing.{none_before, is_older, has_few, pairs_few}
 use Rattle.check_judging.specs.Joining.{has_pair, comes_behind, JoinLaw}
 
 module _ {n : ℕ} where

@@ -1,17 +1,11 @@
 -- Whether a write is first to leave the queue, by the least tick at which one is stored.
 use Rattle.std.proofs.Common.{◌≡◌, ℕ, ◌<◌, ◌≤◌, ◌&&◌, ◌||◌, ◌⊎◌, inl, inr, Bool, true, false, List, [], ◌∷◌, Option, Some, None, sym, ap, ◌∙◌, cond, arith}
+use Rattle.std.{specs.List.list_all, specs.Prelude.{nat_le, not, min}, proofs.lemmas.Bool.{le-leb, lt-leb, ltb-true, cases_lt}}
 use Rattle.masked_bytes.proofs.Truth.{and_first, and_second}
-use Rattle.std.specs.Prelude.{nat_le, not, min}
-use Rattle.std.specs.List.{list_all}
-use Rattle.std.proofs.lemmas.Bool.{le-leb, lt-leb, ltb-true, cases_lt}
 use Rattle.result_rows.specs.declared.Outcome.{Outcome}
 use Rattle.result_rows.specs.declared.Outcome.TheVariants as out
-use Rattle.row_rules.specs.declared.Row.{Row}
-use Rattle.row_rules.specs.Answers.{is_stored, stored_before}
-use Rattle.row_rules.specs.Rows.{write_of}
-use Rattle.row_rules.specs.Queueing.{none_before, is_first}
-use Rattle.check_judging.specs.Heads.{end_of, leave_of, least_end, least_other, next_of, stored_below, all_stored_below, NoneBeforeLaw, FirstLaw}
-use Rattle.check_judging.proofs.Counts.{before_next}
+use Rattle.row_rules.specs.{Answers.{is_stored, stored_before}, Queueing.{none_before, is_first}, Rows.write_of, declared.Row.Row}
+use Rattle.check_judging.{specs.Heads.{end_of, leave_of, least_end, least_other, next_of, stored_below, all_stored_below, NoneBeforeLaw, FirstLaw}, proofs.Counts.before_next}
 
 -- at most the lesser of two is at most both
 under_both : (u v w : ℕ) → nat_le u (min v w) ≡ (nat_le u v && nat_le u w)

@@ -1,17 +1,11 @@
 -- How many reads wait.
 use Rattle.std.proofs.Common.{◌≡◌, ℕ, ◌+◌, ◌&&◌, ◌||◌, Bool, true, false, List, [], ◌∷◌, length, refl, cond, arith}
+use Rattle.std.specs.{List.{list_all, list_any}, Prelude.{nat_lt, not}}
 use Rattle.masked_bytes.proofs.Truth.{and_first, and_second}
-use Rattle.std.specs.Prelude.{nat_lt, not}
-use Rattle.std.specs.List.{list_all, list_any}
 use Rattle.result_rows.specs.declared.Outcome.{Outcome}
 use Rattle.result_rows.specs.declared.Outcome.TheVariants as out
-use Rattle.row_rules.specs.declared.Row.{Row}
-use Rattle.row_rules.specs.Answers.{is_stored, is_answered, read_after, is_lost}
-use Rattle.row_rules.specs.Rows.{asks_read, asks_write, is_cut}
-use Rattle.row_rules.specs.Queueing.{waiting}
-use Rattle.check_judging.specs.Distances.{wait_above, waits_above}
-use Rattle.check_judging.specs.Standing.{is_own}
-use Rattle.check_judging.specs.Lost.{lost_since, WaitingLaw}
+use Rattle.row_rules.specs.{Answers.{is_stored, is_answered, read_after, is_lost}, Queueing.waiting, Rows.{asks_read, asks_write, is_cut}, declared.Row.Row}
+use Rattle.check_judging.specs.{Distances.{wait_above, waits_above}, Lost.{lost_since, WaitingLaw}, Standing.is_own}
 
 module _ {n : ℕ} (t : ℕ) where
   -- no read that waits, and none that is lost

@@ -1,14 +1,9 @@
 -- Pairs that are in order stay so as time passes and, but for the newest, behind one row more.
 use Rattle.std.proofs.Common.{◌≡◌, ℕ, ◌≤◌, Bool, true, false, List, [], ◌∷◌, inl, inr, refl, sym, ap, subst, cond}
-use Rattle.masked_bytes.proofs.Truth.{and_second}
 use Rattle.std.specs.Prelude.{drop, filter}
-use Rattle.row_rules.specs.declared.Row.{Row}
-use Rattle.row_rules.specs.declared.Rules.{Rules}
-use Rattle.row_rules.specs.Queueing.{stands, pending, pairs_few, has_room}
-use Rattle.check_judging.specs.Near.{NearRoom}
-use Rattle.check_judging.specs.Steps.{stays_behind}
-use Rattle.check_judging.proofs.Steps.{step_law}
-use Rattle.check_judging.proofs.Sublists.{Sub, pairs-sub, pending-later}
+use Rattle.masked_bytes.proofs.Truth.{and_second}
+use Rattle.row_rules.specs.{Queueing.{stands, pending, pairs_few, has_room}, declared.Row.Row, declared.Rules.Rules}
+use Rattle.check_judging.{specs.Near.NearRoom, specs.Steps.stays_behind, proofs.Steps.step_law, proofs.Sublists.{Sub, pairs-sub, pending-later}}
 
 sub-whole : {A : Type 0} (xs : List A) → Sub xs xs
 sub-whole [] = refl

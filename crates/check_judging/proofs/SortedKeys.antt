@@ -1,20 +1,13 @@
 -- Counts of a bank's rows by sorted keys.
 use Rattle.std.proofs.Common.{◌≡◌, ℕ, zero, suc, ◌+◌, ◌<◌, ◌≤◌, ◌==◌, ◌&&◌, ◌⊎◌, inl, inr, Bool, true, false, List, [], ◌∷◌, length, refl, ap, ◌∙◌, cond, arith}
-use Rattle.masked_bytes.proofs.Truth.{and_first, and_second, and_false}
-use Rattle.std.specs.Prelude.{nat_le, nat_lt, count_by, slice_index_or}
-use Rattle.std.proofs.lemmas.Bool.{le-leb, lt-leb, lt-ltb, ltb-true, le-ltb, cases_lt, cases_order, eq-eqb, ne_eqb}
+use Rattle.std.{specs.Prelude.{nat_le, nat_lt, count_by, slice_index_or}, proofs.lemmas.Bool.{le-leb, lt-leb, lt-ltb, ltb-true, le-ltb, cases_lt, cases_order, eq-eqb, ne_eqb}}
 use Rattle.std.proofs.lemmas.List.Sorted.{sum_by-IsPermutation}
+use Rattle.masked_bytes.proofs.{Counting.{count-cons, one_if}, Truth.{and_first, and_second, and_false}}
 use Rattle.result_rows.specs.declared.Outcome.{Outcome}
 use Rattle.result_rows.specs.declared.Outcome.TheVariants as out
-use Rattle.row_rules.specs.declared.Asks.{Asks}
-use Rattle.row_rules.specs.declared.Asks.TheVariants.{Reads, Writes, Cuts}
-use Rattle.row_rules.specs.declared.Row.{Row}
-use Rattle.row_rules.specs.Answers.{stored_after, stored_by, read_after, read_by}
-use Rattle.row_rules.specs.Rows.{asks_read, asks_write}
-use Rattle.row_rules.specs.Table.{is_of, of_bank}
-use Rattle.row_rules.specs.Ticking.{stores_in, reads_in}
+use Rattle.row_rules.specs.{Answers.{stored_after, stored_by, read_after, read_by}, Rows.{asks_read, asks_write}, Table.{is_of, of_bank}, Ticking.{stores_in, reads_in}}
+use Rattle.row_rules.specs.{declared.Asks.Asks, declared.Asks.TheVariants.{Reads, Writes, Cuts}, declared.Row.Row}
 use Rattle.check_judging.specs.Keys.{reach, key, up_to, is_short, all_short, store_key, store_keys, read_key, read_keys, IndexLaw, CountLaw}
-use Rattle.masked_bytes.proofs.Counting.{count-cons, one_if}
 
 -- behind the first index that fails, none passes
 none_passes : (p : ℕ → Bool) (keys : List ℕ) → ((k d : ℕ) → k < length keys → p (slice_index_or keys k d) ≡ false) → count_by p keys ≡ 0

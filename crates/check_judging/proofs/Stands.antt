@@ -1,16 +1,12 @@
 -- Ticks still to come are those of the writes that stand and of the reads that wait.
 use Rattle.std.proofs.Common.{◌≡◌, ℕ, ◌&&◌, ◌||◌, Bool, true, false, List, [], ◌∷◌, refl, sym, ap, ◌∙◌, cond}
+use Rattle.std.specs.{List.{list_all, list_any}, Prelude.{nat_lt, not}}
 use Rattle.masked_bytes.proofs.Truth.{and_first, and_second}
-use Rattle.std.specs.Prelude.{nat_lt, not}
-use Rattle.std.specs.List.{list_all, list_any}
 use Rattle.result_rows.specs.declared.Outcome.{Outcome}
 use Rattle.result_rows.specs.declared.Outcome.TheVariants as out
-use Rattle.row_rules.specs.declared.Row.{Row}
-use Rattle.row_rules.specs.Answers.{accepts, is_stored, is_answered, stored_after, read_after, is_queued, is_merged, is_lost}
-use Rattle.row_rules.specs.Rows.{asks_write, asks_read, accepted_of, is_cut, line_of}
-use Rattle.row_rules.specs.Queueing.{pending, waiting}
-use Rattle.check_judging.specs.Distances.{end_above, ends_above, wait_above, waits_above}
-use Rattle.check_judging.specs.Standing.{is_own, at_end, at_read, StandLaw}
+use Rattle.row_rules.specs.{Answers.{accepts, is_stored, is_answered, stored_after, read_after, is_queued, is_merged, is_lost}, Queueing.{pending, waiting}}
+use Rattle.row_rules.specs.{Rows.{asks_write, asks_read, accepted_of, is_cut, line_of}, declared.Row.Row}
+use Rattle.check_judging.specs.{Distances.{end_above, ends_above, wait_above, waits_above}, Standing.{is_own, at_end, at_read, StandLaw}}
 
 module _ {n : ℕ} (t : ℕ) (test : ℕ → Bool) where
   -- what passes anyway adds nothing

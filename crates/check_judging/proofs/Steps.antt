@@ -1,14 +1,10 @@
 -- How the writes that stand and the reads that wait change.
 use Rattle.std.proofs.Common.{◌≡◌, ℕ, ◌<◌, ◌≤◌, ◌&&◌, ◌||◌, ◌⊎◌, inl, inr, Bool, true, false, List, [], ◌∷◌, refl, sym, ap, ◌∙◌, cond, arith}
-use Rattle.std.specs.Prelude.{nat_le, nat_lt, not, filter}
-use Rattle.std.specs.List.{list_any}
-use Rattle.std.proofs.lemmas.Bool.{le-leb, lt-leb, lt-ltb, le-ltb, cases_lt}
+use Rattle.std.{specs.List.list_any, specs.Prelude.{nat_le, nat_lt, not, filter}, proofs.lemmas.Bool.{le-leb, lt-leb, lt-ltb, le-ltb, cases_lt}}
 use Rattle.result_rows.specs.declared.Outcome.{Outcome}
 use Rattle.result_rows.specs.declared.Outcome.TheVariants as out
-use Rattle.row_rules.specs.declared.Row.{Row}
-use Rattle.row_rules.specs.Answers.{stored_after, stored_by, read_after, read_by, is_queued, is_merged, is_lost}
-use Rattle.row_rules.specs.Rows.{accepted, accepted_of, asks_read, is_cut, line_of}
-use Rattle.row_rules.specs.Queueing.{stands, pending, awaits, waiting}
+use Rattle.row_rules.specs.{Answers.{stored_after, stored_by, read_after, read_by, is_queued, is_merged, is_lost}, Queueing.{stands, pending, awaits, waiting}}
+use Rattle.row_rules.specs.{Rows.{accepted, accepted_of, asks_read, is_cut, line_of}, declared.Row.Row}
 use Rattle.masked_bytes.proofs.Truth.{or_false, and_true, and_false}
 use Rattle.check_judging.specs.Steps.{stays, stays_behind, waits_on, waits_behind, SettleLaw, StepLaw}
 

@@ -1,17 +1,13 @@
 -- A bank's writes and reads only leave as time passes, and what leaves breaks nothing.
 use Rattle.std.proofs.Common.{◌≡◌, ℕ, ◌<◌, ◌≤◌, ◌&&◌, ◌||◌, ◌⊎◌, inl, inr, Bool, true, false, List, [], ◌∷◌, length, refl, sym, ap, ◌∙◌, subst, cond, arith}
+use Rattle.std.{specs.List.{list_all, list_any}, specs.Prelude.{nat_lt, nat_le, not, filter}, proofs.lemmas.Bool.{le-leb, leb-true, lt-ltb, ltb-true, and_from}}
 use Rattle.masked_bytes.proofs.Truth.{and_first, and_second}
-use Rattle.std.specs.Prelude.{nat_lt, nat_le, not, filter}
-use Rattle.std.specs.List.{list_all, list_any}
-use Rattle.std.proofs.lemmas.Bool.{le-leb, leb-true, lt-ltb, ltb-true, and_from}
 use Rattle.result_rows.specs.declared.Outcome.{Outcome}
 use Rattle.result_rows.specs.declared.Outcome.TheVariants as out
-use Rattle.row_rules.specs.declared.Asks.{Asks}
-use Rattle.row_rules.specs.declared.Asks.TheVariants.{Reads, Writes, Cuts}
-use Rattle.row_rules.specs.declared.Row.{Row}
 use Rattle.row_rules.specs.Answers.{accepts, stored_after, read_after, is_merged, is_queued, is_lost, is_stored, stored_before}
-use Rattle.row_rules.specs.Rows.{accepted, accepted_of, line_of, asks_read, asks_write, asks_write_of, asks_cut, is_cut}
 use Rattle.row_rules.specs.Queueing.{stands, pending, awaits, waiting, none_before, is_older, has_few, pairs_few}
+use Rattle.row_rules.specs.{Rows.{accepted, accepted_of, line_of, asks_read, asks_write, asks_write_of, asks_cut, is_cut}, declared.Asks.Asks}
+use Rattle.row_rules.specs.{declared.Asks.TheVariants.{Reads, Writes, Cuts}, declared.Row.Row}
 use Rattle.check_judging.specs.Staying.{RoomStaysLaw, RoomBehindCutLaw}
 
 -- the second list is the first one with some left out

@@ -1,9 +1,6 @@
 -- How many reads arrived since a tick, told by the fourth last of them.
 use Rattle.std.specs.Prelude.{◌≡◌, ℕ, not, ◌&&◌, ◌||◌, Bool, false, IsTrue, if◌then◌else◌, List, [], ◌∷◌, nat_le, nat_lt}
-use Rattle.row_rules.specs.declared.Row.{Row}
-use Rattle.row_rules.specs.Answers.{is_answered, is_lost}
-use Rattle.row_rules.specs.Rows.{asks_read}
-use Rattle.row_rules.specs.Ticking.{came_since}
+use Rattle.row_rules.specs.{Answers.{is_answered, is_lost}, Rows.asks_read, Ticking.came_since, declared.Row.Row}
 use Rattle.check_judging.specs.Rising.{falling}
 
 -- the ticks at which those reads of these rows arrived that are read or lost, the newest first

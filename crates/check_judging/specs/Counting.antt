@@ -1,11 +1,6 @@
 -- The next and the last of a bank's stores, told by how many there are.
-use Rattle.std.specs.Prelude.{◌≡◌, ℕ, ◌==◌, ◌&&◌, ◌||◌, List, nat_le, nat_lt, count_by}
-use Rattle.std.specs.List.{list_all}
-use Rattle.row_rules.specs.declared.Row.{Row}
-use Rattle.row_rules.specs.Answers.{stored_after, stored_by}
-use Rattle.row_rules.specs.Rows.{write_of}
-use Rattle.row_rules.specs.Queueing.{next_store, is_first}
-use Rattle.row_rules.specs.Ticking.{last_store, stores_in}
+use Rattle.std.specs.{List.list_all, Prelude.{◌≡◌, ℕ, ◌==◌, ◌&&◌, ◌||◌, List, nat_le, nat_lt, count_by}}
+use Rattle.row_rules.specs.{Answers.{stored_after, stored_by}, Queueing.{next_store, is_first}, Rows.write_of, Ticking.{last_store, stores_in}, declared.Row.Row}
 use Rattle.check_judging.specs.Standing.{at_end}
 
 -- how many of these are writes of a line that are stored above tick t and up to e

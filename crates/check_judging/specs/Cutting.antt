@@ -1,9 +1,6 @@
 -- The cuts behind a row, by their ticks.
 use Rattle.std.specs.Prelude.{◌≡◌, ℕ, ◌==◌, Bool, true, false, IsTrue, if◌then◌else◌, List, [], ◌∷◌, nat_le, count_by}
-use Rattle.row_rules.specs.declared.Row.{Row}
-use Rattle.row_rules.specs.Rows.{is_cut}
-use Rattle.row_rules.specs.Table.{of_bank}
-use Rattle.row_rules.specs.Ticking.{no_cut_below, first_cut_at, cuts_to}
+use Rattle.row_rules.specs.{Rows.is_cut, Table.of_bank, Ticking.{no_cut_below, first_cut_at, cuts_to}, declared.Row.Row}
 use Rattle.check_judging.specs.Rising.{rising}
 
 -- the ticks of the cut rows among these

@@ -1,10 +1,8 @@
 -- How far a row's action lies from those of the rows before it.
-use Rattle.std.specs.Prelude.{◌≡◌, ℕ, ◌+◌, ◌==◌, not, ◌&&◌, ◌||◌, Bool, true, IsTrue, if◌then◌else◌, List, [], ◌∷◌, Option, Some, None, nat_le, nat_lt}
-use Rattle.std.specs.List.{list_all}
+use Rattle.std.specs.{List.list_all, Prelude.{◌≡◌, ℕ, ◌+◌, ◌==◌, not, ◌&&◌, ◌||◌, Bool, true, IsTrue, if◌then◌else◌, List, [], ◌∷◌, Option, Some, None, nat_le, nat_lt}}
 use Rattle.result_rows.specs.declared.Outcome.{Outcome}
 use Rattle.result_rows.specs.declared.Outcome.TheVariants as out
-use Rattle.row_rules.specs.declared.Row.{Row}
-use Rattle.row_rules.specs.Ticking.{apart}
+use Rattle.row_rules.specs.{Ticking.apart, declared.Row.Row}
 
 -- the greater of a tick and another, if there is one
 abbrev pub later_of : ℕ → Option ℕ → Option ℕ

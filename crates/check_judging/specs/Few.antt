@@ -1,6 +1,5 @@
 -- At most one element of a kind.
-use Rattle.std.specs.Prelude.{◌&&◌, ◌||◌, not, Bool, List, nat_le, count_by}
-use Rattle.std.specs.List.{list_all}
+use Rattle.std.specs.{List.list_all, Prelude.{◌&&◌, ◌||◌, not, Bool, List, nat_le, count_by}}
 
 -- at most one of these is an own one, and it passes a test
 abbrev pub few_by : {A : Type 0} → (A → Bool) → (A → Bool) → List A → Bool

@@ -1,11 +1,8 @@
 -- Tests of the queue by the least tick at which one of its writes is stored.
-use Rattle.std.specs.Prelude.{◌≡◌, ℕ, ◌≤◌, Bool, true, IsTrue, if◌then◌else◌, List, [], ◌∷◌, Option, Some, None, nat_le, nat_lt, min}
-use Rattle.std.specs.List.{list_all}
+use Rattle.std.specs.{List.list_all, Prelude.{◌≡◌, ℕ, ◌≤◌, Bool, true, IsTrue, if◌then◌else◌, List, [], ◌∷◌, Option, Some, None, nat_le, nat_lt, min}}
 use Rattle.result_rows.specs.declared.Outcome.{Outcome}
 use Rattle.result_rows.specs.declared.Outcome.TheVariants as out
-use Rattle.row_rules.specs.declared.Row.{Row}
-use Rattle.row_rules.specs.Rows.{write_of}
-use Rattle.row_rules.specs.Queueing.{none_before, is_first}
+use Rattle.row_rules.specs.{Queueing.{none_before, is_first}, Rows.write_of, declared.Row.Row}
 
 module _ {n : ℕ} (never : ℕ) where
   -- the tick at which a write is stored, or never

@@ -1,13 +1,9 @@
 -- Counting by the keys of a module's stored and read rows.
+use Rattle.std.specs.{List.list_all, List.Sorted.IsPartitionPoint}
 use Rattle.std.specs.Prelude.{◌≡◌, ℕ, ◌+◌, ◌*◌, ◌^◌, ◌<◌, ◌≤◌, Bool, true, false, IsTrue, if◌then◌else◌, List, [], ◌∷◌, nat_le, nat_lt, count_by, IsPermutation, length}
-use Rattle.std.specs.List.{list_all}
-use Rattle.std.specs.List.Sorted.{IsPartitionPoint}
 use Rattle.result_rows.specs.declared.Outcome.{Outcome}
 use Rattle.result_rows.specs.declared.Outcome.TheVariants as out
-use Rattle.row_rules.specs.declared.Row.{Row}
-use Rattle.row_rules.specs.Rows.{asks_read, asks_write, line_of}
-use Rattle.row_rules.specs.Table.{of_bank}
-use Rattle.row_rules.specs.Ticking.{stores_in, reads_in}
+use Rattle.row_rules.specs.{Rows.{asks_read, asks_write, line_of}, Table.of_bank, Ticking.{stores_in, reads_in}, declared.Row.Row}
 
 -- ticks lie below this
 abbrev pub reach : ℕ

@@ -1,12 +1,7 @@
 -- How many reads wait: those that are read later, and those that a cut will lose.
-use Rattle.std.specs.Prelude.{◌≡◌, ℕ, ◌+◌, ◌&&◌, not, IsTrue, if◌then◌else◌, List, [], ◌∷◌, length}
-use Rattle.std.specs.List.{list_all, list_any}
-use Rattle.row_rules.specs.declared.Row.{Row}
-use Rattle.row_rules.specs.Answers.{is_lost}
-use Rattle.row_rules.specs.Rows.{asks_read, is_cut}
-use Rattle.row_rules.specs.Queueing.{waiting}
-use Rattle.check_judging.specs.Distances.{waits_above}
-use Rattle.check_judging.specs.Standing.{is_own}
+use Rattle.std.specs.{List.{list_all, list_any}, Prelude.{◌≡◌, ℕ, ◌+◌, ◌&&◌, not, IsTrue, if◌then◌else◌, List, [], ◌∷◌, length}}
+use Rattle.row_rules.specs.{Answers.is_lost, Queueing.waiting, Rows.{asks_read, is_cut}, declared.Row.Row}
+use Rattle.check_judging.specs.{Distances.waits_above, Standing.is_own}
 
 -- how many of these reads are lost, and no cut has come since
 abbrev pub lost_since : {n : ℕ} → List (Row n) → List (Row n) → ℕ

@@ -1,12 +1,8 @@
 -- What is told by the writes that stand and the reads that wait, where each row has an outcome of its own operation.
-use Rattle.std.specs.Prelude.{◌≡◌, ℕ, Bool, true, IsTrue, not, ◌&&◌, ◌||◌, List, []}
-use Rattle.std.specs.List.{list_all}
+use Rattle.std.specs.{List.list_all, Prelude.{◌≡◌, ℕ, Bool, true, IsTrue, not, ◌&&◌, ◌||◌, List, []}}
 use Rattle.result_rows.specs.declared.Outcome.{Outcome}
 use Rattle.result_rows.specs.declared.Outcome.TheVariants as out
-use Rattle.row_rules.specs.declared.Row.{Row}
-use Rattle.row_rules.specs.Answers.{is_stored, is_answered}
-use Rattle.row_rules.specs.Rows.{asks_write, asks_read}
-use Rattle.row_rules.specs.Queueing.{pending, waiting}
+use Rattle.row_rules.specs.{Answers.{is_stored, is_answered}, Queueing.{pending, waiting}, Rows.{asks_write, asks_read}, declared.Row.Row}
 use Rattle.check_judging.specs.Distances.{ends_above, waits_above}
 
 module _ {n : ℕ} where

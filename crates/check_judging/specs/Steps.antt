@@ -1,9 +1,6 @@
 -- How the writes that stand and the reads that wait change, as time passes and with each row.
 use Rattle.std.specs.Prelude.{◌≡◌, ℕ, ◌≤◌, ◌&&◌, not, Bool, if◌then◌else◌, List, [], ◌∷◌, filter}
-use Rattle.row_rules.specs.declared.Row.{Row}
-use Rattle.row_rules.specs.Answers.{is_lost, is_merged, stored_by, read_by}
-use Rattle.row_rules.specs.Rows.{accepted_of, is_cut, line_of}
-use Rattle.row_rules.specs.Queueing.{stands, pending, awaits, waiting}
+use Rattle.row_rules.specs.{Answers.{is_lost, is_merged, stored_by, read_by}, Queueing.{stands, pending, awaits, waiting}, Rows.{accepted_of, is_cut, line_of}, declared.Row.Row}
 
 module _ {n : ℕ} where
   -- a write of these stays in the queue up to tick u

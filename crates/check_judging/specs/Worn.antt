@@ -1,12 +1,8 @@
 -- What follows from the first worn row.
-use Rattle.std.specs.Prelude.{◌≡◌, ℕ, not, ◌&&◌, ◌||◌, Bool, true, false, IsTrue, if◌then◌else◌, List, [], ◌∷◌, nat_le}
-use Rattle.std.specs.List.{list_any}
+use Rattle.std.specs.{List.list_any, Prelude.{◌≡◌, ℕ, not, ◌&&◌, ◌||◌, Bool, true, false, IsTrue, if◌then◌else◌, List, [], ◌∷◌, nat_le}}
 use Rattle.result_rows.specs.declared.Outcome.{Outcome}
 use Rattle.result_rows.specs.declared.Outcome.TheVariants as out
-use Rattle.row_rules.specs.declared.Row.{Row}
-use Rattle.row_rules.specs.Answers.{is_worn}
-use Rattle.row_rules.specs.Rows.{asks_write}
-use Rattle.row_rules.specs.Wearing.{worn_row, is_wear_final}
+use Rattle.row_rules.specs.{Answers.is_worn, Rows.asks_write, Wearing.{worn_row, is_wear_final}, declared.Row.Row}
 use Rattle.check_judging.specs.Rising.{rising}
 
 module _ {n : ℕ} where

@@ -1,23 +1,12 @@
 -- What each row of each bank's table keeps, the row of the module keeps in the table of its bank.
 use Rattle.std.proofs.Common.{◌≡◌, ℕ, ◌<◌, ◌==◌, Bool, true, false, List, [], ◌∷◌, map, refl, sym, ap, ◌∙◌, subst, cond, eqb-true, eq-eqb}
+use Rattle.std.{specs.List.list_all, specs.Prelude.All, proofs.lemmas.Bool.and_from, proofs.lemmas.List.Elements.{All-head, All-tail}}
 use Rattle.masked_bytes.proofs.Truth.{and_first, and_second}
-use Rattle.std.specs.Prelude.{All}
-use Rattle.std.specs.List.{list_all}
-use Rattle.std.proofs.lemmas.Bool.{and_from}
-use Rattle.std.proofs.lemmas.List.Elements.{All-head, All-tail}
 use Rattle.result_rows.specs.declared.Outcome.{Outcome}
-use Rattle.row_rules.specs.declared.Asks.{Asks}
-use Rattle.row_rules.specs.declared.Asks.TheVariants.{Reads, Writes, Cuts}
-use Rattle.row_rules.specs.declared.Row.{Row}
-use Rattle.row_rules.specs.Rows.{RowTest, each_row}
-use Rattle.row_rules.specs.Lines.{IsOfLines}
-use Rattle.row_rules.specs.declared.Rules.{Rules}
-use Rattle.row_rules.specs.Queueing.{has_room}
-use Rattle.row_rules.specs.Table.{is_of, of_bank}
+use Rattle.row_rules.specs.{Lines.IsOfLines, Queueing.has_room, Rows.{RowTest, each_row}, Table.{is_of, of_bank}, declared.Asks.Asks}
+use Rattle.row_rules.specs.{declared.Asks.TheVariants.{Reads, Writes, Cuts}, declared.Row.Row, declared.Rules.Rules}
 use Rattle.check_verdict.specs.Verdicts.{bank_in, in_bank, all_have_room}
-use Rattle.module_laws.specs.Asking.{row_in, bank_table}
-use Rattle.module_laws.specs.Serves.{AreLines, finds_room_in}
-use Rattle.module_laws.proofs.Serving.{same_line}
+use Rattle.module_laws.{specs.Asking.{row_in, bank_table}, specs.Serves.{AreLines, finds_room_in}, proofs.Serving.same_line}
 use Rattle.check_laws.proofs.Renaming.{IsIn, AreIn, room-named}
 
 -- a line of a bank

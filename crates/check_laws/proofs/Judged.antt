@@ -1,32 +1,17 @@
 -- Each row of a right run keeps each rule.
 use Rattle.std.proofs.Common.{◌≡◌, ℕ, zero, suc, ◌+◌, ◌<◌, ◌&&◌, true, List, [], ◌∷◌, map, refl, sym, ◌∙◌, subst, arith}
-use Rattle.std.specs.Prelude.{nat_le, reverse}
-use Rattle.std.specs.List.{range_with_len}
-use Rattle.std.proofs.lemmas.List.{reverse-reverse}
-use Rattle.std.proofs.lemmas.Bool.{le-leb, and_from}
-use Rattle.std.proofs.lemmas.List.FromFn.{get_or-map-range_with_len}
-use Rattle.std.proofs.lemmas.Option.{unwrap_or-slice_get}
-use Rattle.row_rules.proofs.Passing.{passes_both}
+use Rattle.std.{specs.List.range_with_len, specs.Prelude.{nat_le, reverse}, proofs.lemmas.Bool.{le-leb, and_from}, proofs.lemmas.List.reverse-reverse}
+use Rattle.std.proofs.{lemmas.List.FromFn.get_or-map-range_with_len, lemmas.Option.unwrap_or-slice_get}
+use Rattle.row_rules.specs.{Queueing.{has_room, is_queue_fair}, Rows.{RowTest, each_row}, Serving.is_served, Ticking.is_in_time, Wearing.is_wear_final, declared.Row.Row}
+use Rattle.row_rules.{specs.declared.Rules.Rules, proofs.Passing.passes_both}
 use Rattle.cell_rows.specs.Device.{ArrayState}
-use Rattle.row_rules.specs.declared.Row.{Row}
-use Rattle.row_rules.specs.Rows.{RowTest, each_row}
-use Rattle.row_rules.specs.declared.Rules.{Rules}
-use Rattle.row_rules.specs.Serving.{is_served}
-use Rattle.row_rules.specs.Queueing.{has_room, is_queue_fair}
-use Rattle.row_rules.specs.Wearing.{is_wear_final}
-use Rattle.row_rules.specs.Ticking.{is_in_time}
-use Rattle.check_verdict.specs.Judging.{VerdictLaw}
-use Rattle.check_verdict.specs.Verdicts.{bank_in, in_bank, all_have_room, keeps_all}
-use Rattle.module_shape.specs.declared.raw.RawShape.{RawShape}
-use Rattle.module_shape.specs.Limits.{total_of}
+use Rattle.check_verdict.specs.{Judging.VerdictLaw, Verdicts.{bank_in, in_bank, all_have_room, keeps_all}}
+use Rattle.module_shape.specs.{Limits.total_of, declared.raw.RawShape.RawShape}
 use Rattle.module_laws.specs.Serves.{AreLines}
 use Rattle.end_laws.specs.Ends.{BankEnd}
-use Rattle.run_laws.specs.FinishedLaws.{LinesLaw}
-use Rattle.run_laws.specs.Runs.{bank_of_line, line_in_bank, rules_in, table_in, RunsRight}
-use Rattle.check_laws.specs.Verdicts.{banks_of, RulesKeptLaw, YesLaw}
-use Rattle.check_laws.proofs.Renaming.{queue-named}
-use Rattle.check_laws.proofs.Timing.{wear-named, ticks-named}
-use Rattle.check_laws.proofs.InBanks.{Exist, exist-all, AreBanks, IsOfBank, apart, IsOfTables, all_rooms, in_tables}
+use Rattle.run_laws.specs.{FinishedLaws.LinesLaw, Runs.{bank_of_line, line_in_bank, rules_in, table_in, RunsRight}}
+use Rattle.check_laws.{specs.Verdicts.{banks_of, RulesKeptLaw, YesLaw}, proofs.InBanks.{Exist, exist-all, AreBanks, IsOfBank, apart, IsOfTables, all_rooms, in_tables}}
+use Rattle.check_laws.proofs.{Renaming.queue-named, Timing.{wear-named, ticks-named}}
 
 module _ {n : ℕ} where
   -- the test that is always passed

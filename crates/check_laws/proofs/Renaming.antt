@@ -1,21 +1,16 @@
 -- What a bank's rows show of its queue and of its waiting reads doesn't go by the numbers of its lines.
 use Rattle.std.proofs.Common.{◌≡◌, ℕ, ◌==◌, ◌&&◌, ◌||◌, Bool, true, false, List, [], ◌∷◌, ◌++◌, Option, Some, None, map, length, refl, sym, ap, ◌∙◌, cond}
-use Rattle.std.specs.Prelude.{filter, nat_lt, nat_le, not}
-use Rattle.std.specs.List.{list_all, list_any}
-use Rattle.std.proofs.lemmas.List.{length-map, map-append}
+use Rattle.std.{specs.List.{list_all, list_any}, specs.Prelude.{filter, nat_lt, nat_le, not}, proofs.lemmas.List.{length-map, map-append}}
 use Rattle.masked_bytes.specs.Masked.{joined, none_given, gives_all}
 use Rattle.result_rows.specs.declared.Outcome.{Outcome}
 use Rattle.result_rows.specs.declared.Outcome.TheVariants as out
-use Rattle.row_rules.specs.declared.Asks.{Asks}
-use Rattle.row_rules.specs.declared.Asks.TheVariants.{Reads, Writes, Cuts}
-use Rattle.row_rules.specs.declared.Row.{Row}
 use Rattle.row_rules.specs.Answers.{accepts, is_merged, is_queued, is_stored, is_full, is_lost, stored_after, stored_by, stored_before, read_after}
-use Rattle.row_rules.specs.declared.Rules.{Rules}
-use Rattle.row_rules.specs.Rows.{asks_read, asks_write, asks_write_of, line_of, given_of, accepted_of, write_of, is_cut}
+use Rattle.row_rules.specs.Queueing.{stands, pending, awaits, waiting, unstored, cover, none_before, is_older, has_few, pairs_few, is_refused, merges_at, store_of, next_store}
+use Rattle.row_rules.specs.Queueing.{is_first, is_at_head, read_fits, merge_fits, queue_fits, has_room, is_queue_fair}
+use Rattle.row_rules.specs.{Rows.{asks_read, asks_write, asks_write_of, line_of, given_of, accepted_of, write_of, is_cut}, declared.Asks.Asks}
+use Rattle.row_rules.specs.{declared.Asks.TheVariants.{Reads, Writes, Cuts}, declared.Row.Row, declared.Rules.Rules}
 use Rattle.row_rules.specs.Queueing as queue
-use Rattle.row_rules.specs.Queueing.{stands, pending, awaits, waiting, unstored, cover, none_before, is_older, has_few, pairs_few, is_refused, merges_at, store_of, next_store, is_first, is_at_head, read_fits, merge_fits, queue_fits, has_room, is_queue_fair}
-use Rattle.module_laws.specs.Asking.{asks_in, row_in}
-use Rattle.module_laws.proofs.Serving.{cuts-named}
+use Rattle.module_laws.{specs.Asking.{asks_in, row_in}, proofs.Serving.cuts-named}
 
 module _ {n : ℕ} where
   -- a test of the rows with other numbers is a test of the rows

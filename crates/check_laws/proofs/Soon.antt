@@ -1,27 +1,16 @@
 -- By when the outcomes of rows that keep the rules have come.
 use Rattle.std.proofs.Common.{◌≡◌, ℕ, ◌+◌, ◌*◌, ◌≤◌, ◌==◌, Bool, true, false, List, [], ◌∷◌, ◌++◌, length, refl, ◌∙◌, subst, cond, arith, eqb-true}
-use Rattle.masked_bytes.proofs.Truth.{and_first, and_second}
-use Rattle.std.specs.Prelude.{All, filter, max, nat_le, nat_lt, reverse}
-use Rattle.std.specs.Option.{ForSome}
-use Rattle.std.proofs.lemmas.Bool.{leb-true}
-use Rattle.std.proofs.lemmas.Nat.{mul-le}
+use Rattle.std.{specs.Option.ForSome, specs.Prelude.{All, filter, max, nat_le, nat_lt, reverse}, proofs.lemmas.Bool.leb-true}
 use Rattle.std.proofs.lemmas.List.{length-append, length-reverse, reverse-append, reverse-reverse}
-use Rattle.std.proofs.lemmas.List.Elements.{All-nil, All-cons, All-head, All-tail, All-push, All-same}
-use Rattle.std.proofs.lemmas.List.Sums.{count_by-le-length}
-use Rattle.bank_shape.specs.declared.pace.Policy.{Policy}
-use Rattle.bank_shape.specs.declared.pace.Policy.TheVariants.{Pause, Plain, Cancel}
-use Rattle.result_rows.specs.declared.Outcome.{Outcome}
+use Rattle.std.proofs.{lemmas.List.Elements.{All-nil, All-cons, All-head, All-tail, All-push, All-same}, lemmas.List.Sums.count_by-le-length, lemmas.Nat.mul-le}
+use Rattle.masked_bytes.proofs.Truth.{and_first, and_second}
+use Rattle.bank_shape.specs.{declared.pace.Policy.Policy, declared.pace.Policy.TheVariants.{Pause, Plain, Cancel}}
+use Rattle.result_rows.specs.{Outcomes.tick_of, declared.Outcome.Outcome}
 use Rattle.result_rows.specs.declared.Outcome.TheVariants as out
-use Rattle.result_rows.specs.Outcomes.{tick_of}
-use Rattle.row_rules.specs.declared.Asks.{Asks}
-use Rattle.row_rules.specs.declared.Asks.TheVariants.{Reads, Writes, Cuts}
-use Rattle.row_rules.specs.declared.Row.{Row}
-use Rattle.row_rules.specs.Rows.{each_row, is_cut, accepted_of}
-use Rattle.row_rules.specs.declared.Rules.{Rules}
-use Rattle.row_rules.specs.Serving.{is_served, may_have, owed}
-use Rattle.row_rules.specs.Queueing.{awaits, has_room, merges_at, pending, queue_fits, waiting}
-use Rattle.row_rules.specs.Ticking.{asks_in_time, attempt, bound, came_since, cuts_to, delay, first_cut_at, last_store, longest, reads_in, stores_in, tries, writings}
+use Rattle.row_rules.specs.{Queueing.{awaits, has_room, merges_at, pending, queue_fits, waiting}, Rows.{each_row, is_cut, accepted_of}, Serving.{is_served, may_have, owed}}
 use Rattle.row_rules.specs.Table.{of_bank, is_of}
+use Rattle.row_rules.specs.Ticking.{asks_in_time, attempt, bound, came_since, cuts_to, delay, first_cut_at, last_store, longest, reads_in, stores_in, tries, writings}
+use Rattle.row_rules.specs.{declared.Asks.Asks, declared.Asks.TheVariants.{Reads, Writes, Cuts}, declared.Row.Row, declared.Rules.Rules}
 use Rattle.check_verdict.specs.Verdicts.{all_have_room, bank_in, keeps, keeps_all}
 use Rattle.check_verdict.specs.declared.Rule.TheVariants as rule
 use Rattle.check_laws.specs.Ticks.{longest_among, SoonLaw}

@@ -1,24 +1,15 @@
 -- What a bank's rows show of its times and of its wear doesn't look at lines.
 use Rattle.std.proofs.Common.{◌≡◌, ℕ, ◌+◌, ◌*◌, ◌==◌, ◌&&◌, ◌||◌, Bool, List, [], ◌∷◌, ◌++◌, map, length, refl, sym, ap, ◌∙◌, cond}
-use Rattle.std.specs.Prelude.{count_by, max, nat_lt, nat_le, not}
-use Rattle.std.specs.List.{list_all, list_any}
-use Rattle.std.proofs.lemmas.List.{length-map, map-append}
+use Rattle.std.{specs.List.{list_all, list_any}, specs.Prelude.{count_by, max, nat_lt, nat_le, not}, proofs.lemmas.List.{length-map, map-append}}
 use Rattle.std.proofs.lemmas.List.Sums.{sum_by-cons}
-use Rattle.bank_shape.specs.declared.pace.Policy.{Policy}
-use Rattle.bank_shape.specs.declared.pace.Policy.TheVariants.{Pause, Plain, Cancel}
+use Rattle.bank_shape.specs.{declared.pace.Policy.Policy, declared.pace.Policy.TheVariants.{Pause, Plain, Cancel}}
 use Rattle.result_rows.specs.declared.Outcome.{Outcome}
 use Rattle.result_rows.specs.declared.Outcome.TheVariants as out
-use Rattle.row_rules.specs.declared.Asks.{Asks}
-use Rattle.row_rules.specs.declared.Asks.TheVariants.{Reads, Writes, Cuts}
-use Rattle.row_rules.specs.declared.Row.{Row}
-use Rattle.row_rules.specs.Answers.{is_answered, is_lost, is_worn, stored_after, stored_by, read_after, read_by}
-use Rattle.row_rules.specs.declared.Rules.{Rules}
-use Rattle.row_rules.specs.Rows.{asks_read, asks_write, is_cut}
-use Rattle.row_rules.specs.Queueing.{waiting}
-use Rattle.row_rules.specs.Ticking.{longest, store_up_to, last_store, came_since, delay, bound, no_cut_below, first_cut_at, read_in_time, stores_in, reads_in, cuts_to, store_in_time, apart, asks_in_time, is_in_time}
-use Rattle.row_rules.specs.Wearing.{worn_row, worn_by, store_fits, is_wear_final}
-use Rattle.module_laws.specs.Asking.{asks_in, row_in}
-use Rattle.module_laws.proofs.Serving.{cuts-named}
+use Rattle.row_rules.specs.{Answers.{is_answered, is_lost, is_worn, stored_after, stored_by, read_after, read_by}, Queueing.waiting, Rows.{asks_read, asks_write, is_cut}}
+use Rattle.row_rules.specs.Ticking.{longest, store_up_to, last_store, came_since, delay, bound, no_cut_below, first_cut_at, read_in_time, stores_in, reads_in, cuts_to}
+use Rattle.row_rules.specs.{Ticking.{store_in_time, apart, asks_in_time, is_in_time}, Wearing.{worn_row, worn_by, store_fits, is_wear_final}, declared.Asks.Asks}
+use Rattle.row_rules.specs.{declared.Asks.TheVariants.{Reads, Writes, Cuts}, declared.Row.Row, declared.Rules.Rules}
+use Rattle.module_laws.{specs.Asking.{asks_in, row_in}, proofs.Serving.cuts-named}
 use Rattle.check_laws.proofs.Renaming.{any-same, all-same, reads-named, writes-named, waiting-named}
 
 count-same : {n : ℕ} (f : Row n → Row n) (test other : Row n → Bool) → ((q : Row n) → test (f q) ≡ other q) → (rows : List (Row n)) → count_by test (map f rows) ≡ count_by other rows

@@ -1,10 +1,7 @@
 -- By when the outcomes of rows have come.
-use Rattle.std.specs.Prelude.{ℕ, ◌+◌, ◌*◌, ◌≤◌, List, All, length, max}
-use Rattle.std.specs.Option.{ForSome}
+use Rattle.std.specs.{Option.ForSome, Prelude.{ℕ, ◌+◌, ◌*◌, ◌≤◌, List, All, length, max}}
 use Rattle.result_rows.specs.Outcomes.{tick_of}
-use Rattle.row_rules.specs.declared.Row.{Row}
-use Rattle.row_rules.specs.declared.Rules.{Rules}
-use Rattle.row_rules.specs.Ticking.{attempt, longest}
+use Rattle.row_rules.specs.{Ticking.{attempt, longest}, declared.Row.Row, declared.Rules.Rules}
 use Rattle.check_verdict.specs.Verdicts.{RowsOk}
 
 -- the longest time until the row of a table of so many is read, stored or lost

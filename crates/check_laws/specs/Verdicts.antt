@@ -1,15 +1,11 @@
 -- The verdict on the rows of a right run.
-use Rattle.std.specs.Prelude.{◌≡◌, ℕ, List, map, reverse}
-use Rattle.std.specs.List.{range_with_len}
+use Rattle.std.specs.{List.range_with_len, Prelude.{◌≡◌, ℕ, List, map, reverse}}
 use Rattle.cell_rows.specs.Device.{ArrayState}
 use Rattle.row_rules.specs.declared.Row.{Row}
-use Rattle.check_verdict.specs.declared.Verdict.TheVariants.{Yes}
-use Rattle.check_verdict.specs.Verdicts.{verdict_of, RowsOk}
-use Rattle.module_shape.specs.declared.raw.RawShape.{RawShape}
-use Rattle.module_shape.specs.Limits.{IsShape, total_of}
+use Rattle.check_verdict.specs.{Verdicts.{verdict_of, RowsOk}, declared.Verdict.TheVariants.Yes}
+use Rattle.module_shape.specs.{Limits.{IsShape, total_of}, declared.raw.RawShape.RawShape}
 use Rattle.end_laws.specs.Ends.{BankEnd}
-use Rattle.run_laws.specs.Runs.{bank_of_line, rules_in, RunsRight}
-use Rattle.run_laws.specs.RowsOfRuns.{LinesExist}
+use Rattle.run_laws.specs.{RowsOfRuns.LinesExist, Runs.{bank_of_line, rules_in, RunsRight}}
 
 -- the bank of each line of a module
 abbrev pub banks_of : RawShape → ℕ → List ℕ

@@ -1,11 +1,7 @@
 -- Where the line is that is the header of results.
 use Rattle.std.proofs.Common.{◌≡◌, ℕ, ◌<◌, inl, inr, List, ◌++◌, length, drop, take, get_or, Bool, true, sym, ◌∙◌, arith}
-use Rattle.std.specs.Prelude.{IsTrue, ◌↔◌}
-use Rattle.std.specs.Str.{bytes_eq}
-use Rattle.std.proofs.Math.Seq.{drop-cons}
-use Rattle.check_reader.specs.Splitting.{BeginsWithHeader, BeginResultsAt, EndsLine, IsHeaderAt, header_line}
-use Rattle.check_reader.proofs.Whole.{begins_with}
-use Rattle.check_reader.proofs.Once.{same_rest}
+use Rattle.std.{specs.Prelude.{IsTrue, ◌↔◌}, specs.Str.bytes_eq, proofs.Math.Seq.drop-cons}
+use Rattle.check_reader.{specs.Splitting.{BeginsWithHeader, BeginResultsAt, EndsLine, IsHeaderAt, header_line}, proofs.Once.same_rest, proofs.Whole.begins_with}
 
 -- the header's first byte
 pub first_byte : (bytes : List ℕ) (at : ℕ) → at < length bytes → BeginsWithHeader (drop at bytes) → get_or bytes at 0 ≡ 114

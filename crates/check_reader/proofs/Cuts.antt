@@ -1,11 +1,7 @@
 -- Cutting bytes at the first byte of a kind, and a row into its fields.
 use Rattle.std.proofs.Common.{◌≡◌, ℕ, zero, suc, ◌+◌, ◌-◌, ◌<◌, ◌==◌, eq-eqb, eqb-true, length-drop, append_assoc, List, [], ◌∷◌, ◌++◌, length, take, drop, Bool, true, false, Option, Some, None, refl, ap, subst, ◌∙◌, arith, option_map, not}
-use Rattle.std.specs.Prelude.{if◌then◌else◌, codes, slice_index}
-use Rattle.std.specs.List.{list_all, join_with_byte}
-use Rattle.std.specs.Option.{option_and_then}
-use Rattle.std.proofs.lemmas.Bool.Decides.{nat_tests}
-use Rattle.std.proofs.lemmas.Grind.{common_steps}
-use Rattle.std.proofs.lemmas.List.{take_all}
+use Rattle.std.{specs.List.{list_all, join_with_byte}, specs.Option.option_and_then, specs.Prelude.{if◌then◌else◌, codes, slice_index}, proofs.lemmas.Bool.Decides.nat_tests}
+use Rattle.std.proofs.{lemmas.Grind.common_steps, lemmas.List.take_all}
 use Rattle.memchr.specs.Find.{IsFirstByte, is_byte}
 use Rattle.check_reader.specs.Fields.{Fields, cut_at, fields_of}
 

@@ -1,11 +1,7 @@
 -- Digits are what is printed of the bytes that they decode to, where they are what is printed at all.
 use Rattle.std.proofs.Common.{◌≡◌, ◌≢◌, ℕ, ◌<◌, List, length, Option, Some, None, refl, sym, ap, ◌∙◌, arith}
-use Rattle.std.specs.Prelude.{IfNone, Result, Ok, Err, MatchResult}
-use Rattle.std.specs.Option.{ForSome}
-use Rattle.std.specs.Result.{result_ok}
-use Rattle.hex.specs.Hex.{encode_lower, decode_sized}
-use Rattle.hex.specs.declared.error.FromHexError.{FromHexError}
-use Rattle.hex.proofs.HexLemmas.{decode_sized-encode_lower}
+use Rattle.std.specs.{Option.ForSome, Prelude.{IfNone, Result, Ok, Err, MatchResult}, Result.result_ok}
+use Rattle.hex.{specs.Hex.{encode_lower, decode_sized}, specs.declared.error.FromHexError.FromHexError, proofs.HexLemmas.decode_sized-encode_lower}
 use Rattle.result_rows.specs.RowText.{hex_or_empty}
 use Rattle.check_reader.specs.ResultRows.{AreBytes}
 

@@ -1,14 +1,10 @@
 -- Numbers without leading zeros are what is printed of their values.
 use Rattle.std.proofs.Common.{◌≡◌, ◌≢◌, ℕ, zero, suc, ◌^◌, ◌<◌, ◌≤◌, ◌==◌, lit<, eq-eqb, eqb-true, List, [], ◌∷◌, length, get_or, true, Option, Some, None, refl, sym, ap, ◌∙◌, arith}
-use Rattle.std.specs.Prelude.{decimal, IfSome, IfNone, IsTrue, ◌↔◌}
-use Rattle.std.specs.List.{list_all}
-use Rattle.std.specs.Char.{is_ascii_digit}
-use Rattle.std.specs.Str.Parse.{digits_value}
+use Rattle.std.specs.{Char.is_ascii_digit, List.list_all, Prelude.{decimal, IfSome, IfNone, IsTrue, ◌↔◌}, Str.Parse.digits_value}
 use Rattle.std.proofs.lemmas.Bool.Decides.{nat_tests}
 use Rattle.std.proofs.lemmas.Fmt.{decimal-digits_value, digits_value-decimal, digits_decimal, decimal_injective, decimal_nonempty, decimal_digit, first_decimal, length-decimal-le}
 use Rattle.std.proofs.lemmas.Str.Parse.{IsDigitsTest, IsNumeralModel, numerals_by_value}
-use Rattle.trace_reader.specs.Number.{is_number, number_of}
-use Rattle.trace_reader.proofs.Numbers.{number_of-some, number_within}
+use Rattle.trace_reader.{specs.Number.{is_number, number_of}, proofs.Numbers.{number_of-some, number_within}}
 
 -- all characters are digits
 abbrev pub AllDigits : List ℕ → Type 0

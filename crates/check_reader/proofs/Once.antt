@@ -1,17 +1,10 @@
 -- Bytes are read in one way: a row by its fields, and so all rows.
 use Rattle.std.proofs.Common.{◌≡◌, ℕ, suc, ◌+◌, ◌^◌, ◌<◌, ◌≤◌, inl, inr, List, [], ◌∷◌, ◌++◌, length, drop, refl, sym, ap, ◌∙◌, arith}
 use Rattle.std.proofs.Math.Seq.{drop-append_seam}
-use Rattle.result_rows.specs.declared.Op.{Op}
-use Rattle.result_rows.specs.declared.Outcome.{Outcome}
-use Rattle.result_rows.specs.RowText.{header_text, rows_text}
-use Rattle.check_reader.specs.Fields.{Fields}
-use Rattle.check_reader.specs.Parts.{Shows}
-use Rattle.check_reader.specs.ResultRows.{EachMayStand, rows_of, AreResults, IsRow, FailsAt, IsFault, Header, Later}
-use Rattle.check_reader.specs.declared.fault.ResultFault.{ResultFault}
+use Rattle.result_rows.specs.{RowText.{header_text, rows_text}, declared.Op.Op, declared.Outcome.Outcome}
+use Rattle.check_reader.specs.{Fields.Fields, Parts.Shows, ReadOnce.{AreAsks, ReadOnceLaw}, ResultRows.{EachMayStand, rows_of, AreResults, IsRow, FailsAt, IsFault, Header, Later}}
+use Rattle.check_reader.{specs.declared.fault.ResultFault.ResultFault, proofs.Rows.{row_fields_of, row_has_fields, row_tells}, proofs.Shown.shown_once}
 use Rattle.check_reader.specs.declared.fault.ResultFault.TheVariants as fault
-use Rattle.check_reader.specs.ReadOnce.{AreAsks, ReadOnceLaw}
-use Rattle.check_reader.proofs.Shown.{shown_once}
-use Rattle.check_reader.proofs.Rows.{row_fields_of, row_has_fields, row_tells}
 
 -- what stands behind the same beginning
 pub same_rest : {A : Type 0} (front one other : List A) → front ++ one ≡ front ++ other → one ≡ other

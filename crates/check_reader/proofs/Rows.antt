@@ -1,21 +1,13 @@
 -- A row of results is told by its fields.
 use Rattle.std.proofs.Common.{◌≡◌, ℕ, zero, suc, ◌/◌, ◌%◌, ◌^◌, ◌<◌, ◌≤◌, ◌==◌, List, [], ◌∷◌, ◌++◌, true, false, Option, Some, None, refl, ap, ◌∙◌, arith, subst}
-use Rattle.std.specs.Prelude.{decimal, slice_index}
-use Rattle.std.specs.Option.{ForSome}
-use Rattle.std.proofs.lemmas.Bool.Decides.{nat_tests}
-use Rattle.std.proofs.lemmas.Fmt.{digits_decimal}
+use Rattle.std.{specs.Option.ForSome, specs.Prelude.{decimal, slice_index}, proofs.lemmas.Bool.Decides.nat_tests, proofs.lemmas.Fmt.digits_decimal}
 use Rattle.hex.specs.Hex.{encode_with, lower_digits}
-use Rattle.result_rows.specs.declared.Op.{Op}
-use Rattle.result_rows.specs.declared.Op.TheVariants as op
+use Rattle.result_rows.specs.{Outcomes.{outcome_word, tick_of, place_of, bytes_of}, RowText.{op_letter, line_of, decimal_or_empty, hex_or_empty, row_text}, declared.Op.Op}
 use Rattle.result_rows.specs.declared.Outcome.{Outcome}
+use Rattle.result_rows.specs.declared.Op.TheVariants as op
 use Rattle.result_rows.specs.declared.Outcome.TheVariants as out
-use Rattle.result_rows.specs.Outcomes.{outcome_word, tick_of, place_of, bytes_of}
-use Rattle.result_rows.specs.RowText.{op_letter, line_of, decimal_or_empty, hex_or_empty, row_text}
-use Rattle.check_reader.specs.ResultRows.{MayStand, IsRow, IsNoRow}
-use Rattle.check_reader.specs.Fields.{Fields, fields_of}
-use Rattle.check_reader.specs.Parts.{HasHead, Shows}
-use Rattle.check_reader.proofs.Cuts.{lacks, joined, fields_of-some, fields_of-text}
-use Rattle.check_reader.proofs.Numerals.{AllDigits, own}
+use Rattle.check_reader.specs.{Fields.{Fields, fields_of}, Parts.{HasHead, Shows}, ResultRows.{MayStand, IsRow, IsNoRow}}
+use Rattle.check_reader.proofs.{Cuts.{lacks, joined, fields_of-some, fields_of-text}, Numerals.{AllDigits, own}}
 
 -- printed fields have no comma, and printed bytes no LF
 digits_lack : (end : ℕ) (text : List ℕ) → end < 48 → AllDigits text → lacks end text ≡ true

@@ -1,19 +1,10 @@
 -- The last four fields show one outcome.
 use Rattle.std.proofs.Common.{◌≡◌, ◌≢◌, ℕ, ◌^◌, ◌<◌, ◌≤◌, List, [], length, Option, Some, None, refl, sym, ap, ◌∙◌, arith}
-use Rattle.std.specs.Prelude.{IfNone, decimal, codes, if◌then◌else◌, unwrap_or}
-use Rattle.std.specs.Str.{bytes_eq}
-use Rattle.std.specs.Option.{ForSome}
-use Rattle.std.proofs.lemmas.Fmt.{decimal_injective, decimal_nonempty}
-use Rattle.hex.specs.Hex.{encode_lower, lower_digits}
-use Rattle.hex.proofs.HexLemmas.{length-encode_with, decode_of-encode_lower, decode_of-same}
-use Rattle.result_rows.specs.declared.Op.{Op}
-use Rattle.result_rows.specs.declared.Outcome.{Outcome}
+use Rattle.std.{specs.Option.ForSome, specs.Prelude.{IfNone, decimal, codes, if◌then◌else◌, unwrap_or}, specs.Str.bytes_eq, proofs.lemmas.Fmt.{decimal_injective, decimal_nonempty}}
+use Rattle.hex.{specs.Hex.{encode_lower, lower_digits}, proofs.HexLemmas.{length-encode_with, decode_of-encode_lower, decode_of-same}}
+use Rattle.result_rows.specs.{Outcomes.{op_of, outcome_word, tick_of, place_of, bytes_of}, RowText.{decimal_or_empty, hex_or_empty}, declared.Op.Op, declared.Outcome.Outcome}
 use Rattle.result_rows.specs.declared.Outcome.TheVariants as out
-use Rattle.result_rows.specs.Outcomes.{op_of, outcome_word, tick_of, place_of, bytes_of}
-use Rattle.result_rows.specs.RowText.{decimal_or_empty, hex_or_empty}
-use Rattle.check_reader.specs.ResultRows.{MayStand, IsPlace, AreBytes}
-use Rattle.check_reader.specs.Fields.{Fields}
-use Rattle.check_reader.specs.Parts.{HasParts, Shows}
+use Rattle.check_reader.specs.{Fields.Fields, Parts.{HasParts, Shows}, ResultRows.{MayStand, IsPlace, AreBytes}}
 
 -- what is known where there is no value
 pub if_none_then : {T : Type 0} (o : Option T) {P Q : Type 0} → IfNone o P → (P → Q) → IfNone o Q

@@ -1,6 +1,5 @@
 -- The fields of the first row of some bytes.
-use Rattle.std.specs.Prelude.{ℕ, ◌==◌, if◌then◌else◌, List, [], ◌∷◌, Option, Some, None, option_map}
-use Rattle.std.specs.Option.{option_and_then}
+use Rattle.std.specs.{Option.option_and_then, Prelude.{ℕ, ◌==◌, if◌then◌else◌, List, [], ◌∷◌, Option, Some, None, option_map}}
 use Rattle.check_reader.specs.declared.fields.Fields as code
 
 -- the bytes before the first that is this one, and those behind it

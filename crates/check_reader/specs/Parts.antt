@@ -1,9 +1,7 @@
 -- What single fields say.
 use Rattle.std.specs.Prelude.{◌≡◌, ℕ, List, Option, Some, decimal}
-use Rattle.result_rows.specs.declared.Op.{Op}
+use Rattle.result_rows.specs.{Outcomes.{op_of, outcome_word, tick_of, place_of, bytes_of}, RowText.{op_letter, line_of, decimal_or_empty, hex_or_empty}, declared.Op.Op}
 use Rattle.result_rows.specs.declared.Outcome.{Outcome}
-use Rattle.result_rows.specs.Outcomes.{op_of, outcome_word, tick_of, place_of, bytes_of}
-use Rattle.result_rows.specs.RowText.{op_letter, line_of, decimal_or_empty, hex_or_empty}
 use Rattle.check_reader.specs.Fields.{Fields}
 
 -- the first three fields are those of this row

@@ -1,9 +1,7 @@
 -- Bytes are read in one way.
 use Rattle.std.specs.Prelude.{◌≡◌, ℕ, ◌^◌, ◌<◌, ◌≤◌, List, length, Some, slice_get}
-use Rattle.result_rows.specs.declared.Op.{Op}
-use Rattle.result_rows.specs.declared.Outcome.{Outcome}
-use Rattle.check_reader.specs.declared.fault.ResultFault.{ResultFault}
-use Rattle.check_reader.specs.ResultRows.{AreResults, IsFault}
+use Rattle.result_rows.specs.{declared.Op.Op, declared.Outcome.Outcome}
+use Rattle.check_reader.specs.{ResultRows.{AreResults, IsFault}, declared.fault.ResultFault.ResultFault}
 
 -- the operations and lines of so few rows that each has a number, and each line one of 32 bits
 pub record AreAsks (asks : List (Op × ℕ)) : Type 0 where

@@ -1,11 +1,7 @@
 -- The bytes that a run would print for the rows of a trace, and where others cease to be such bytes.
-use Rattle.std.specs.Prelude.{◌≡◌, ◌≢◌, ℕ, ◌+◌, ◌^◌, ◌<◌, ◌≤◌, ◌⊎◌, List, [], ◌∷◌, ◌++◌, length, Some}
-use Rattle.std.specs.Option.{ForSome}
+use Rattle.std.specs.{Option.ForSome, Prelude.{◌≡◌, ◌≢◌, ℕ, ◌+◌, ◌^◌, ◌<◌, ◌≤◌, ◌⊎◌, List, [], ◌∷◌, ◌++◌, length, Some}}
 use Rattle.hex.specs.Hex.{IsBytes}
-use Rattle.result_rows.specs.declared.Op.{Op}
-use Rattle.result_rows.specs.declared.Outcome.{Outcome}
-use Rattle.result_rows.specs.Outcomes.{op_of, tick_of, place_of, bytes_of}
-use Rattle.result_rows.specs.RowText.{header_text, row_text, results_text}
+use Rattle.result_rows.specs.{Outcomes.{op_of, tick_of, place_of, bytes_of}, RowText.{header_text, row_text, results_text}, declared.Op.Op, declared.Outcome.Outcome}
 use Rattle.check_reader.specs.declared.fault.ResultFault.{ResultFault}
 use Rattle.check_reader.specs.declared.fault.ResultFault.TheVariants as fault
 

@@ -11,7 +11,8 @@ use crate::fields::is_same;
 fn read_bytes<const B: usize>(digits: &[u8]) -> Option<[u8; B]>
     requires size { B ≤ 128 }
     ensures some { IfSome result (λ bytes. AreBytes B bytes × (digits.now ≡ encode_lower bytes)) }
-    ensures none { IfNone result ((bytes : List ℕ) → AreBytes B bytes → digits.now ≢ encode_lower bytes) }
+    ensures none { IfNone result ((bytes : List ℕ) → AreBytes B bytes
+        → digits.now ≢ encode_lower bytes) }
 {
     let mut bytes = [0; B];
     hex::decode_to_slice(digits, &mut bytes).ok()?;
@@ -40,7 +41,8 @@ fn is_printed(bytes: &[u8], digits: &[u8]) -> bool
 pub fn read_digits<const B: usize>(digits: &[u8]) -> Option<Option<[u8; B]>>
     requires some_size { 1 ≤ B }
     requires size { B ≤ 128 }
-    ensures some { IfSome result (λ bytes. ForSome bytes (AreBytes B) × (digits.now ≡ hex_or_empty bytes)) }
+    ensures some { IfSome result (λ bytes. ForSome bytes (AreBytes B)
+        × (digits.now ≡ hex_or_empty bytes)) }
     ensures none { IfNone result ((bytes : Option (List ℕ)) → ForSome bytes (AreBytes B)
         → digits.now ≢ hex_or_empty bytes) }
 {

@@ -39,7 +39,8 @@ pub fn is_number(text: &[u8], value: u64) -> bool
 
 /// The place that a text is, or none where the text is empty.
 pub fn read_place(text: &[u8]) -> Option<Option<u32>>
-    ensures some { IfSome result (λ place. ForSome place IsPlace × (text.now ≡ decimal_or_empty place)) }
+    ensures some { IfSome result (λ place. ForSome place IsPlace
+        × (text.now ≡ decimal_or_empty place)) }
     ensures none { IfNone result ((place : Option ℕ) → ForSome place IsPlace
         → text.now ≢ decimal_or_empty place) }
 {

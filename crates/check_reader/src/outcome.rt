@@ -16,7 +16,8 @@ const LAST_TICK: u64 = 999_999_999_999_999;
 // The outcome of a write with this word, tick and place.
 fn write_outcome<const B: usize>(word: &[u8], tick: u64, place: Option<u32>) -> Option<Outcome<B>>
     ensures some { IfSome result (λ o. HasParts Op.Write word.now tick place None o) }
-    ensures none { IfNone result ((o : Outcome B) → ¬ HasParts Op.Write word.now tick place None o) }
+    ensures none { IfNone result ((o : Outcome B)
+        → ¬ HasParts Op.Write word.now tick place None o) }
 {
     match place {
         Some(place) if is_same(word, b"stored") => Some(Outcome::Stored { tick, place }),
@@ -36,7 +37,8 @@ fn read_outcome<const B: usize>(
     bytes: Option<[u8; B]>,
 ) -> Option<Outcome<B>>
     ensures some { IfSome result (λ o. HasParts Op.Read word.now tick place bytes.entry o) }
-    ensures none { IfNone result ((o : Outcome B) → ¬ HasParts Op.Read word.now tick place bytes.entry o) }
+    ensures none { IfNone result ((o : Outcome B)
+        → ¬ HasParts Op.Read word.now tick place bytes.entry o) }
 {
     match (place, bytes) {
         (Some(place), Some(bytes)) if is_same(word, b"read") => Some(Outcome::Read {
@@ -63,7 +65,8 @@ fn outcome_with<const B: usize>(
     bytes: Option<[u8; B]>,
 ) -> Option<Outcome<B>>
     ensures some { IfSome result (λ o. HasParts op word.now tick place bytes.entry o) }
-    ensures none { IfNone result ((o : Outcome B) → ¬ HasParts op word.now tick place bytes.entry o) }
+    ensures none { IfNone result ((o : Outcome B)
+        → ¬ HasParts op word.now tick place bytes.entry o) }
 {
     match (op, bytes) {
         (Op::Write, None) => write_outcome(word, tick, place),

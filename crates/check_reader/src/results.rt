@@ -19,7 +19,8 @@ pub fn parse_results<const B: usize>(
     requires rows { length of.now ≤ most_rows }
     ensures ok { IfOk result (λ results. AreResults of.now bytes.now results) }
     ensures rows { IfOk result (λ results. length results ≡ length of.now) }
-    ensures fault { IfErr result (λ fault. fault ≢ ResultFault.NoMemory → IsFault B of.now bytes.now fault) }
+    ensures fault { IfErr result (λ fault. fault ≢ ResultFault.NoMemory
+        → IsFault B of.now bytes.now fault) }
 {
     let Some(behind) = bytes.strip_prefix(header()) else {
         return Err(ResultFault::Row(0));

@@ -1,16 +1,11 @@
 -- Results that stand behind a trace begin where it ends.
 use Rattle.std.proofs.Common.{◌≡◌, ◌≢◌, ℕ, ◌+◌, ◌-◌, ◌<◌, ◌≤◌, ◌||◌, Bool, true, false, inl, inr, List, [], ◌∷◌, ◌++◌, length, take, drop, refl, sym, ap, ◌∙◌, subst, arith, append_assoc, length-append, cond}
-use Rattle.std.specs.Prelude.{Ok, slice_index}
-use Rattle.std.proofs.lemmas.Bool.{cases_eq, cases_lt}
-use Rattle.std.proofs.lemmas.Bool.Decides.{nat_tests}
+use Rattle.std.{specs.Prelude.{Ok, slice_index}, proofs.lemmas.Bool.{cases_eq, cases_lt}, proofs.lemmas.Bool.Decides.nat_tests}
 use Rattle.std.proofs.lemmas.List.{drop-append-le, drop_at, get_or_append_left, take-append-drop, take-append-le, take_more, take_all}
 use Rattle.csv.specs.Reading.{default_config, is_bom, records, strip_bom}
-use Rattle.trace_reader.specs.Trace.{trace_of}
-use Rattle.trace_reader.specs.declared.event.Event.{Event}
+use Rattle.trace_reader.specs.{Trace.trace_of, declared.event.Event.Event}
 use Rattle.check_reader.specs.Splitting.{BeginsLine, BeginsWithHeader, EndsLine, IsHeaderAt, header_line}
-use Rattle.check_text.specs.SplitLaw.{EndsItsLine, SplitLaw}
-use Rattle.check_text.proofs.Plain.{ArePlain, is_broken, is_break, records-ok}
-use Rattle.check_text.proofs.Breaking.{IsBreak, header-behind, header-first}
+use Rattle.check_text.{specs.SplitLaw.{EndsItsLine, SplitLaw}, proofs.Breaking.{IsBreak, header-behind, header-first}, proofs.Plain.{ArePlain, is_broken, is_break, records-ok}}
 use Rattle.masked_bytes.proofs.Truth.{neither_second}
 
 -- ---- a line that ends

@@ -1,13 +1,9 @@
 -- Behind the end of a line of a trace a record begins.
 use Rattle.std.proofs.Common.{◌≡◌, ℕ, zero, suc, ◌+◌, ◌≤◌, ◌==◌, ◌||◌, Bool, true, false, inl, inr, List, [], ◌∷◌, ◌++◌, length, Some, refl, sym, ap, ◌∙◌, subst, cond, arith}
-use Rattle.std.proofs.lemmas.Bool.{or_left, or_right, or_cases}
-use Rattle.std.specs.Prelude.{◌⊎◌}
-use Rattle.std.proofs.lemmas.List.Folds.{list_any-append}
-use Rattle.csv.specs.Machine.{field_after, fields_after, is_end, next_record, step}
-use Rattle.csv.specs.Reading.{default_config, records, records_from, records_next}
-use Rattle.csv.specs.declared.parser.Action.{Action}
-use Rattle.csv.specs.declared.parser.Action.TheVariants as act
+use Rattle.std.{specs.Prelude.{◌⊎◌}, proofs.lemmas.Bool.{or_left, or_right, or_cases}, proofs.lemmas.List.Folds.list_any-append}
+use Rattle.csv.specs.{Machine.{field_after, fields_after, is_end, next_record, step}, Reading.{default_config, records, records_from, records_next}, declared.parser.Action.Action}
 use Rattle.csv.specs.declared.parser.State.{State}
+use Rattle.csv.specs.declared.parser.Action.TheVariants as act
 use Rattle.csv.specs.declared.parser.State.TheVariants as st
 use Rattle.check_reader.specs.Splitting.{header_line}
 use Rattle.masked_bytes.proofs.Truth.{or_false}

@@ -1,17 +1,11 @@
 -- Outcomes that were read are ones that can be checked.
 use Rattle.std.proofs.Common.{◌≡◌, ℕ, zero, suc, ◌+◌, ◌≤◌, List, [], ◌∷◌, ◌++◌, length, map, refl, sym, arith}
-use Rattle.std.specs.Prelude.{All}
-use Rattle.std.specs.List.{range_with_len}
-use Rattle.std.proofs.lemmas.List.FromFn.{length-map-range_with_len, map-range_with_len_more}
-use Rattle.trace_reader.specs.Events.{AreEventsFor}
-use Rattle.trace_reader.specs.Trace.{most_rows}
-use Rattle.trace_reader.specs.declared.event.Event.{Event}
-use Rattle.result_rows.specs.declared.Op.{Op}
-use Rattle.result_rows.specs.declared.Outcome.{Outcome}
+use Rattle.std.{specs.List.range_with_len, specs.Prelude.All, proofs.lemmas.List.FromFn.{length-map-range_with_len, map-range_with_len_more}}
+use Rattle.trace_reader.specs.{Events.AreEventsFor, Trace.most_rows, declared.event.Event.Event}
+use Rattle.result_rows.specs.{declared.Op.Op, declared.Outcome.Outcome}
 use Rattle.result_rows.specs.declared.Outcome.TheVariants as out
 use Rattle.check_reader.specs.ResultRows.{MayStand, EachMayStand}
-use Rattle.module_shape.specs.declared.raw.RawShape.{RawShape}
-use Rattle.module_shape.specs.Limits.{total_of}
+use Rattle.module_shape.specs.{Limits.total_of, declared.raw.RawShape.RawShape}
 use Rattle.run_laws.specs.Runs.{bank_of_line}
 use Rattle.row_rules.specs.declared.Rules.{Rules}
 use Rattle.check_verdict.specs.Within.{AreWithin}

@@ -1,45 +1,25 @@
 -- The text of a trace and of the results that a right run of it printed is judged ok.
 use Rattle.std.proofs.Common.{◌≡◌, ℕ, zero, suc, ◌+◌, ◌*◌, ◌<◌, ◌≤◌, inl, inr, List, [], ◌∷◌, ◌++◌, length, take, drop, Some, refl, sym, ap, ◌∙◌, subst, arith, rules}
-use Rattle.std.specs.Prelude.{reverse, Ok, slice_get}
-use Rattle.std.proofs.lemmas.Bool.{cases_lt}
-use Rattle.std.proofs.lemmas.List.{drop_at, length-append, length-map, reverse-reverse, take_at}
+use Rattle.std.{specs.Prelude.{reverse, Ok, slice_get}, proofs.lemmas.Bool.cases_lt, proofs.lemmas.List.{drop_at, length-append, length-map, reverse-reverse, take_at}}
 use Rattle.cell_rows.specs.Device.{ArrayState}
 use Rattle.csv.specs.Reading.{default_config, records, strip_bom}
-use Rattle.trace_reader.specs.Events.{AreEventsFor, IsOpFor}
-use Rattle.trace_reader.specs.Trace.{most_rows, trace_of}
-use Rattle.trace_reader.specs.declared.event.Event.{Event}
-use Rattle.trace_reader.specs.declared.event.EventOp.{EventOp}
-use Rattle.trace_reader.specs.declared.event.EventOp.TheVariants.{Read, Write, Mask, Cut}
-use Rattle.trace_reader.proofs.Lawful.{trace_of-lawful}
-use Rattle.result_rows.specs.declared.Op.{Op}
-use Rattle.result_rows.specs.declared.Outcome.{Outcome}
-use Rattle.check_reader.specs.ReadOnce.{AreAsks, IsReadOnce, ReadOnceLaw}
-use Rattle.check_reader.specs.ResultRows.{AreResults, EachMayStand}
-use Rattle.check_reader.specs.Splitting.{BeginResultsAt, BeginsWithHeader}
+use Rattle.trace_reader.specs.{Events.{AreEventsFor, IsOpFor}, Trace.{most_rows, trace_of}, declared.event.Event.Event, declared.event.EventOp.EventOp}
+use Rattle.trace_reader.{specs.declared.event.EventOp.TheVariants.{Read, Write, Mask, Cut}, proofs.Lawful.trace_of-lawful}
+use Rattle.result_rows.{specs.RowText.{header_text, row_text}, specs.declared.Op.Op, specs.declared.Outcome.Outcome, proofs.RowLemmas.length-row_text-le}
+use Rattle.check_reader.specs.{ReadOnce.{AreAsks, IsReadOnce, ReadOnceLaw}, ResultRows.{AreResults, EachMayStand}, Splitting.{BeginResultsAt, BeginsWithHeader}}
 use Rattle.check_reader.specs.declared.fault.ResultFault.TheVariants as reading
-use Rattle.result_rows.specs.RowText.{header_text, row_text}
-use Rattle.result_rows.proofs.RowLemmas.{length-row_text-le}
 use Rattle.run_text.specs.ResultText.{asked, named_line, results_text, rows_text}
 use Rattle.end_laws.specs.Ends.{BankEnd}
-use Rattle.module_shape.specs.declared.raw.RawShape.{RawShape}
-use Rattle.module_shape.specs.Limits.{IsShape, total_of}
+use Rattle.module_shape.specs.{Limits.{IsShape, total_of}, declared.raw.RawShape.RawShape}
 use Rattle.row_rules.specs.declared.Row.{Row}
-use Rattle.run_laws.specs.Runs.{rules_in}
-use Rattle.run_laws.specs.RowsOfRuns.{FewArrayLinesLaw, OwnOutcomesLaw, PlacesExistLaw}
-use Rattle.check_verdict.specs.declared.Verdict.{Verdict}
-use Rattle.check_verdict.specs.declared.Verdict.TheVariants.{Yes}
-use Rattle.check_verdict.specs.Verdicts.{RowsOk, verdict_of}
+use Rattle.run_laws.specs.{RowsOfRuns.{FewArrayLinesLaw, OwnOutcomesLaw, PlacesExistLaw}, Runs.rules_in}
+use Rattle.check_verdict.specs.{Verdicts.{RowsOk, verdict_of}, declared.Verdict.Verdict, declared.Verdict.TheVariants.Yes}
 use Rattle.trace_rows.specs.Rows.{rows_with}
-use Rattle.check_laws.specs.Ticks.{SoonLaw}
-use Rattle.check_laws.specs.Verdicts.{RulesKeptLaw, YesLaw, banks_of}
+use Rattle.check_laws.specs.{Ticks.SoonLaw, Verdicts.{RulesKeptLaw, YesLaw, banks_of}}
 use Rattle.check_text.specs.Checked.{HasTrace, HasVerdict, IsResultsFault, IsTextFault, IsTraceFault, ask_of, asks_in, verdict_on}
-use Rattle.check_text.specs.JudgedRuns.{IsJudgedOk, IsRunOf, JudgedRunsLaw, MayStandLaw, ShortLaw}
-use Rattle.check_text.specs.PrintedLaw.{PrintedLaw}
-use Rattle.check_text.specs.SplitLaw.{SplitLaw}
-use Rattle.check_text.specs.declared.fault.TextFault.{TextFault}
+use Rattle.check_text.specs.{JudgedRuns.{IsJudgedOk, IsRunOf, JudgedRunsLaw, MayStandLaw, ShortLaw}, PrintedLaw.PrintedLaw, SplitLaw.SplitLaw, declared.fault.TextFault.TextFault}
+use Rattle.check_text.proofs.{Plain.{AllGiveBytes, records-ok}, Standing.{exist, may_stand}}
 use Rattle.check_text.specs.declared.fault.TextFault.TheVariants as fault
-use Rattle.check_text.proofs.Plain.{AllGiveBytes, records-ok}
-use Rattle.check_text.proofs.Standing.{exist, may_stand}
 
 -- results begin at one byte
 begins-once : (bytes : List ℕ) (one other : ℕ) → BeginResultsAt bytes one → BeginResultsAt bytes other → one ≡ other

@@ -1,36 +1,20 @@
 -- Each record of a trace has four fields, and no field has an end of a line in it.
 use Rattle.std.proofs.Common.{◌≡◌, ℕ, zero, suc, ◌+◌, ◌*◌, ◌<◌, ◌==◌, eqb-true, lit<, ◌&&◌, ◌||◌, Bool, true, false, List, [], ◌∷◌, length, map, Option, Some, None, refl, sym, ap, ◌∙◌, subst, arith, nat_lt, nat_le, unwrap_or, is_some}
-use Rattle.std.proofs.lemmas.Bool.{or_from}
+use Rattle.std.specs.{Char.is_ascii_digit, List.{list_all, list_any, AllPass}, Option.option_and_then, Prelude.{codes, if◌then◌else◌, not, option_map, Result, Ok, Err}}
+use Rattle.std.{specs.Result.result_ok, specs.Str.bytes_eq, specs.Str.Parse.digits_value, proofs.lemmas.Bool.or_from, proofs.lemmas.Bool.Decides.nat_tests}
+use Rattle.std.proofs.{lemmas.List.length-map, lemmas.List.Elements.{All-head, All-tail}, lemmas.Slice.Eq.bytes_eq-Decides}
 use Rattle.masked_bytes.proofs.Truth.{and_first, and_second}
-use Rattle.std.specs.Prelude.{codes, if◌then◌else◌, not, option_map, Result, Ok, Err}
-use Rattle.std.specs.Char.{is_ascii_digit}
-use Rattle.std.specs.List.{list_all, list_any, AllPass}
-use Rattle.std.specs.Option.{option_and_then}
-use Rattle.std.specs.Result.{result_ok}
-use Rattle.std.specs.Str.{bytes_eq}
-use Rattle.std.specs.Str.Parse.{digits_value}
-use Rattle.std.proofs.lemmas.Bool.Decides.{nat_tests}
-use Rattle.std.proofs.lemmas.List.{length-map}
-use Rattle.std.proofs.lemmas.List.Elements.{All-head, All-tail}
-use Rattle.std.proofs.lemmas.Slice.Eq.{bytes_eq-Decides}
 use Rattle.csv.specs.Records.{field_at}
-use Rattle.hex.specs.Hex.{◌>>=◌, IsBytes, decode_sized, digit_or_error, hex_digit_value, is_hex_digit, pair_value}
-use Rattle.hex.specs.declared.error.FromHexError.{FromHexError}
+use Rattle.hex.specs.{Hex.{◌>>=◌, IsBytes, decode_sized, digit_or_error, hex_digit_value, is_hex_digit, pair_value}, declared.error.FromHexError.FromHexError}
 use Rattle.hex.proofs.HexLemmas.{decode_of-ok, decode_sized-ok, decode_sized-twice}
 use Rattle.check_reader.specs.ResultRows.{AreBytes}
-use Rattle.trace_reader.specs.Number.{is_number, number_of}
-use Rattle.trace_reader.specs.Payload.{Masked, bytes_of, masked_by, masked_of, pair_of, pairs_of}
+use Rattle.trace_reader.specs.{Number.{is_number, number_of}, Payload.{Masked, bytes_of, masked_by, masked_of, pair_of, pairs_of}}
 use Rattle.trace_reader.specs.Rows.{cut_of, event_at, event_of, latest_tick, line_of, mask_of, op_of, or_fault, read_of, text_at, tick_of, write_of}
-use Rattle.trace_reader.specs.Trace.{and_then_rows, event_before, events_of, fault_at, is_header, most_rows, rows_from}
-use Rattle.trace_reader.specs.declared.event.Event.{Event}
-use Rattle.trace_reader.specs.declared.event.EventOp.{EventOp}
-use Rattle.trace_reader.specs.declared.event.EventOp.TheVariants.{Read, Write, Mask, Cut}
-use Rattle.trace_reader.specs.declared.fault.Kind.{Kind}
+use Rattle.trace_reader.specs.{Trace.{and_then_rows, event_before, events_of, fault_at, is_header, most_rows, rows_from}, declared.event.Event.Event}
+use Rattle.trace_reader.specs.{declared.event.EventOp.EventOp, declared.event.EventOp.TheVariants.{Read, Write, Mask, Cut}, declared.fault.Kind.Kind}
+use Rattle.trace_reader.{specs.declared.fault.ParseFault.ParseFault, proofs.Lawful.or_fault-ok, proofs.Table.digit-small}
 use Rattle.trace_reader.specs.declared.fault.Kind.TheVariants as kind
-use Rattle.trace_reader.specs.declared.fault.ParseFault.{ParseFault}
 use Rattle.trace_reader.specs.declared.fault.ParseFault.TheVariants as fault
-use Rattle.trace_reader.proofs.Lawful.{or_fault-ok}
-use Rattle.trace_reader.proofs.Table.{digit-small}
 
 -- an LF or a CR
 abbrev pub is_break : ℕ → Bool

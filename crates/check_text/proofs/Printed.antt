@@ -1,13 +1,11 @@
 -- The text of a run's results by the rows that are read.
 use Rattle.std.proofs.Common.{◌≡◌, ℕ, ◌+◌, List, [], ◌∷◌, ◌++◌, refl, ap}
 use Rattle.trace_reader.specs.declared.event.Event.{Event}
-use Rattle.result_rows.specs.declared.Outcome.{Outcome}
-use Rattle.result_rows.specs.RowText.{header_text, row_text}
+use Rattle.result_rows.specs.{RowText.{header_text, row_text}, declared.Outcome.Outcome}
 use Rattle.result_rows.specs.RowText as rows
 use Rattle.check_reader.specs.ResultRows.{rows_of}
 use Rattle.run_text.specs.ResultText.{asked, named_line, rows_text, results_text}
-use Rattle.check_text.specs.Checked.{asks_in}
-use Rattle.check_text.specs.PrintedLaw.{PrintedLaw}
+use Rattle.check_text.specs.{Checked.asks_in, PrintedLaw.PrintedLaw}
 
 same_rows : {n : ℕ} (row : ℕ) (events : List (Event n)) (outcomes : List (Outcome n)) → rows_text row events outcomes ≡ rows.rows_text row (rows_of (asks_in events) outcomes)
 unfolding rows_text rows_of

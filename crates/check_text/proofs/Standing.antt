@@ -1,51 +1,27 @@
 -- The outcomes of a right run may stand in results.
 use Rattle.std.proofs.Common.{◌≡◌, ℕ, suc, ◌+◌, ◌*◌, ◌^◌, ◌<◌, ◌≤◌, ◌==◌, ◌&&◌, Bool, true, false, inl, inr, List, [], ◌∷◌, ◌++◌, length, replicate, Some, refl, sym, ap, ◌∙◌, subst, cond, arith, eqb-true, lit<}
-use Rattle.masked_bytes.proofs.Truth.{and_first, and_second}
-use Rattle.std.specs.Prelude.{All, if◌then◌else◌, reverse}
-use Rattle.std.specs.Option.{ForSome}
-use Rattle.std.proofs.lemmas.Bool.{cases_lt}
-use Rattle.std.proofs.lemmas.Nat.{mul-le}
+use Rattle.std.{specs.Option.ForSome, specs.Prelude.{All, if◌then◌else◌, reverse}, proofs.lemmas.Bool.cases_lt}
 use Rattle.std.proofs.lemmas.List.{get_or-replicate, get_or_past, length-replicate, reverse-append, reverse-reverse}
-use Rattle.std.proofs.lemmas.List.Elements.{All-nil, All-cons, All-head, All-tail, All-weaker}
+use Rattle.std.proofs.{lemmas.List.Elements.{All-nil, All-cons, All-head, All-tail, All-weaker}, lemmas.Nat.mul-le}
+use Rattle.masked_bytes.{specs.Masked.laid, proofs.Layering.length-laid, proofs.Truth.{and_first, and_second}}
 use Rattle.hex.specs.Hex.{IsBytes}
-use Rattle.masked_bytes.specs.Masked.{laid}
-use Rattle.masked_bytes.proofs.Layering.{length-laid}
 use Rattle.cell_rows.specs.Device.{ArrayState}
-use Rattle.bank_shape.specs.declared.pace.Policy.{Policy}
-use Rattle.bank_shape.specs.declared.pace.Policy.TheVariants.{Pause, Plain, Cancel}
-use Rattle.trace_reader.specs.Events.{AreEventsFor}
-use Rattle.trace_reader.specs.Rows.{latest_tick}
-use Rattle.trace_reader.specs.Trace.{most_rows}
-use Rattle.trace_reader.specs.declared.event.Event.{Event}
-use Rattle.trace_reader.specs.declared.event.EventOp.{EventOp}
+use Rattle.bank_shape.specs.{declared.pace.Policy.Policy, declared.pace.Policy.TheVariants.{Pause, Plain, Cancel}}
+use Rattle.trace_reader.specs.{Events.AreEventsFor, Rows.latest_tick, Trace.most_rows, declared.event.Event.Event, declared.event.EventOp.EventOp}
 use Rattle.trace_reader.specs.declared.event.EventOp.TheVariants.{Read, Write, Mask, Cut}
-use Rattle.result_rows.specs.declared.Outcome.{Outcome}
+use Rattle.result_rows.specs.{Outcomes.{bytes_of, op_of, place_of, tick_of}, declared.Outcome.Outcome}
 use Rattle.result_rows.specs.declared.Outcome.TheVariants as out
-use Rattle.result_rows.specs.Outcomes.{bytes_of, op_of, place_of, tick_of}
 use Rattle.check_reader.specs.ResultRows.{AreBytes, EachMayStand}
-use Rattle.row_rules.specs.declared.Asks.{Asks}
-use Rattle.row_rules.specs.declared.Asks.TheVariants.{Reads, Writes, Cuts}
-use Rattle.row_rules.specs.declared.Row.{Row}
-use Rattle.row_rules.specs.Answers.{accepts}
-use Rattle.row_rules.specs.Rows.{each_row, newest}
-use Rattle.row_rules.specs.Lines.{IsOfLines}
-use Rattle.row_rules.specs.declared.Rules.{Rules}
-use Rattle.row_rules.specs.Serving.{is_served, may_have, owed, same_bytes}
-use Rattle.row_rules.specs.Ticking.{attempt, tries, writings}
+use Rattle.row_rules.specs.{Answers.accepts, Lines.IsOfLines, Rows.{each_row, newest}, Serving.{is_served, may_have, owed, same_bytes}, Ticking.{attempt, tries, writings}}
+use Rattle.row_rules.specs.{declared.Asks.Asks, declared.Asks.TheVariants.{Reads, Writes, Cuts}, declared.Row.Row, declared.Rules.Rules}
 use Rattle.check_verdict.specs.Verdicts.{RowsOk}
-use Rattle.trace_rows.specs.Rows.{rows_with, row_of, asks_of}
-use Rattle.trace_rows.proofs.Lines.{lines-exist}
+use Rattle.trace_rows.{specs.Rows.{rows_with, row_of, asks_of}, proofs.Lines.lines-exist}
 use Rattle.run_text.specs.ResultText.{asked}
-use Rattle.module_shape.specs.declared.raw.RawShape.{RawShape}
-use Rattle.module_shape.specs.Limits.{IsShape, total_of}
-use Rattle.module_shape.specs.Addresses.{array_lines_of, module_of}
+use Rattle.module_shape.specs.{Addresses.{array_lines_of, module_of}, Limits.{IsShape, total_of}, declared.raw.RawShape.RawShape}
 use Rattle.end_laws.specs.Ends.{BankEnd}
-use Rattle.run_laws.specs.Runs.{RunsRight, rules_in}
-use Rattle.run_laws.specs.RowsOfRuns.{FewArrayLinesLaw, LinesExist, OwnOutcomesLaw, PlacesExistLaw, op_asked}
-use Rattle.check_laws.specs.Ticks.{SoonLaw, longest_among}
-use Rattle.check_laws.proofs.Soon.{All-reverse}
-use Rattle.check_text.specs.Checked.{asks_in}
-use Rattle.check_text.proofs.Plain.{AllGiveBytes, GivesBytes, IsBytes-cons}
+use Rattle.run_laws.specs.{RowsOfRuns.{FewArrayLinesLaw, LinesExist, OwnOutcomesLaw, PlacesExistLaw, op_asked}, Runs.{RunsRight, rules_in}}
+use Rattle.check_laws.{specs.Ticks.{SoonLaw, longest_among}, proofs.Soon.All-reverse}
+use Rattle.check_text.{specs.Checked.asks_in, proofs.Plain.{AllGiveBytes, GivesBytes, IsBytes-cons}}
 
 -- ---- bytes
 

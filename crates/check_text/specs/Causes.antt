@@ -3,8 +3,7 @@ use Rattle.trace_reader.specs.declared.fault.ParseFault.{ParseFault}
 use Rattle.trace_reader.specs.declared.fault.ParseFault.TheVariants as parsing
 use Rattle.check_reader.specs.declared.fault.ResultFault.{ResultFault}
 use Rattle.check_reader.specs.declared.fault.ResultFault.TheVariants as reading
-use Rattle.check_text.specs.declared.fault.TextFault.{TextFault}
-use Rattle.check_text.specs.declared.fault.TextFault.TheVariants.{Trace, TooMany, Results, NoMemory}
+use Rattle.check_text.specs.{declared.fault.TextFault.TextFault, declared.fault.TextFault.TheVariants.{Trace, TooMany, Results, NoMemory}}
 
 -- a text whose trace is none has this fault
 abbrev pub no_trace : ParseFault → TextFault

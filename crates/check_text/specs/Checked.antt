@@ -1,21 +1,14 @@
 -- The verdict on a text that has a trace and then its results.
 use Rattle.std.specs.Prelude.{◌≡◌, ◌⊎◌, ℕ, List, map, take, drop, Result, Ok, Err}
-use Rattle.trace_reader.specs.Trace.{trace_of}
-use Rattle.trace_reader.specs.declared.event.Event.{Event}
-use Rattle.trace_reader.specs.declared.event.EventOp.{EventOp}
-use Rattle.trace_reader.specs.declared.fault.ParseFault.{ParseFault}
+use Rattle.trace_reader.specs.{Trace.trace_of, declared.event.Event.Event, declared.event.EventOp.EventOp, declared.fault.ParseFault.ParseFault}
 use Rattle.trace_reader.specs.declared.fault.ParseFault.TheVariants as parsing
-use Rattle.result_rows.specs.declared.Op.{Op}
-use Rattle.result_rows.specs.declared.Outcome.{Outcome}
-use Rattle.check_reader.specs.ResultRows.{AreResults, IsFault}
-use Rattle.check_reader.specs.Splitting.{BeginResultsAt}
+use Rattle.result_rows.specs.{declared.Op.Op, declared.Outcome.Outcome}
+use Rattle.check_reader.specs.{ResultRows.{AreResults, IsFault}, Splitting.BeginResultsAt}
 use Rattle.check_reader.specs.declared.fault.ResultFault.TheVariants as reading
 use Rattle.run_text.specs.ResultText.{asked, named_line}
-use Rattle.module_shape.specs.declared.raw.RawShape.{RawShape}
-use Rattle.module_shape.specs.Limits.{total_of}
+use Rattle.module_shape.specs.{Limits.total_of, declared.raw.RawShape.RawShape}
 use Rattle.run_laws.specs.Runs.{rules_in}
-use Rattle.check_verdict.specs.declared.Verdict.{Verdict}
-use Rattle.check_verdict.specs.Verdicts.{verdict_of}
+use Rattle.check_verdict.specs.{Verdicts.verdict_of, declared.Verdict.Verdict}
 use Rattle.trace_rows.specs.Rows.{rows_with}
 use Rattle.check_laws.specs.Verdicts.{banks_of}
 use Rattle.check_text.specs.declared.fault.TextFault.{TextFault}

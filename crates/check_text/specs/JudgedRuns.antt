@@ -1,21 +1,16 @@
 -- What the results that a run of a trace printed are read and judged as.
 use Rattle.std.specs.Prelude.{◌≡◌, ℕ, ◌+◌, ◌*◌, ◌≤◌, List, ◌++◌, length, reverse, Ok}
 use Rattle.cell_rows.specs.Device.{ArrayState}
-use Rattle.trace_reader.specs.Trace.{trace_of}
-use Rattle.trace_reader.specs.declared.event.Event.{Event}
+use Rattle.trace_reader.specs.{Trace.trace_of, declared.event.Event.Event}
 use Rattle.result_rows.specs.declared.Outcome.{Outcome}
 use Rattle.check_reader.specs.ResultRows.{EachMayStand}
 use Rattle.run_text.specs.ResultText.{results_text}
-use Rattle.module_shape.specs.declared.raw.RawShape.{RawShape}
-use Rattle.module_shape.specs.Limits.{IsShape, total_of}
+use Rattle.module_shape.specs.{Limits.{IsShape, total_of}, declared.raw.RawShape.RawShape}
 use Rattle.end_laws.specs.Ends.{BankEnd}
 use Rattle.run_laws.specs.Runs.{RunsRight}
-use Rattle.check_verdict.specs.declared.Verdict.{Verdict}
-use Rattle.check_verdict.specs.declared.Verdict.TheVariants.{Yes}
+use Rattle.check_verdict.specs.{declared.Verdict.Verdict, declared.Verdict.TheVariants.Yes}
 use Rattle.trace_rows.specs.Rows.{rows_with}
-use Rattle.check_text.specs.Checked.{HasVerdict, IsTextFault, asks_in}
-use Rattle.check_text.specs.SplitLaw.{EndsItsLine}
-use Rattle.check_text.specs.declared.fault.TextFault.{TextFault}
+use Rattle.check_text.specs.{Checked.{HasVerdict, IsTextFault, asks_in}, SplitLaw.EndsItsLine, declared.fault.TextFault.TextFault}
 use Rattle.check_text.specs.declared.fault.TextFault.TheVariants as fault
 
 -- these are the events of a trace and the outcomes of a right run of it, over lines with e error-correcting pointers

@@ -1,7 +1,6 @@
 -- Where results begin that stand behind a trace.
 use Rattle.std.specs.Prelude.{◌≡◌, ℕ, List, ◌++◌, length, Ok}
-use Rattle.trace_reader.specs.Trace.{trace_of}
-use Rattle.trace_reader.specs.declared.event.Event.{Event}
+use Rattle.trace_reader.specs.{Trace.trace_of, declared.event.Event.Event}
 use Rattle.check_reader.specs.Splitting.{BeginsLine, BeginsWithHeader, BeginResultsAt}
 
 -- the last line of a text is ended: what stands behind it begins a line

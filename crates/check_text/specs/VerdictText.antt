@@ -1,9 +1,7 @@
 -- The line of a verdict.
 use Rattle.std.specs.Prelude.{ℕ, List, ◌++◌, codes, decimal}
-use Rattle.check_verdict.specs.declared.Rule.{Rule}
+use Rattle.check_verdict.specs.{declared.Rule.Rule, declared.Verdict.Verdict, declared.Verdict.TheVariants.{Yes, No}}
 use Rattle.check_verdict.specs.declared.Rule.TheVariants as rule
-use Rattle.check_verdict.specs.declared.Verdict.{Verdict}
-use Rattle.check_verdict.specs.declared.Verdict.TheVariants.{Yes, No}
 
 -- the word for a rule
 abbrev pub rule_word : Rule → List ℕ

@@ -64,7 +64,8 @@ fn judge<const B: usize, const E: usize>(
     requires rows { length events.now ≤ MOST_ROWS }
     requires one_each { length results.now ≡ length events.now }
     requires may_stand { EachMayStand (asks_in events.now) results.now }
-    ensures exact { IfOk result (λ verdict. verdict ≡ verdict_on E shape.now seed events.now results.now) }
+    ensures exact { IfOk result (λ verdict. verdict
+        ≡ verdict_on E shape.now seed events.now results.now) }
     ensures memory { IfErr result (λ fault. fault ≡ TextFault.NoMemory) }
 {
     let banks = banks(alloc, shape, seed)?;

@@ -1,23 +1,13 @@
 -- The distances of a row from those before it, by what is kept.
 use Rattle.std.proofs.Common.{◌≡◌, ℕ, ◌+◌, ◌^◌, ◌<◌, ◌==◌, ◌&&◌, ◌||◌, Bool, true, false, List, [], ◌∷◌, Option, refl, sym, ap, ◌∙◌, arith}
-use Rattle.std.specs.Prelude.{nat_le, not, reverse, map}
-use Rattle.std.specs.List.{list_all}
-use Rattle.std.proofs.lemmas.Bool.{le-leb, ltb-true, ne_eqb}
-use Rattle.std.proofs.lemmas.List.{reverse-append}
+use Rattle.std.{specs.List.list_all, specs.Prelude.{nat_le, not, reverse, map}, proofs.lemmas.Bool.{le-leb, ltb-true, ne_eqb}, proofs.lemmas.List.reverse-append}
 use Rattle.std.proofs.lemmas.List.Folds.{list_all-append, list_all-map}
 use Rattle.result_rows.specs.declared.Outcome.{Outcome}
 use Rattle.result_rows.specs.declared.Outcome.TheVariants as out
-use Rattle.row_rules.specs.declared.Row.{Row}
-use Rattle.row_rules.specs.Queueing.{pending}
-use Rattle.check_judging.specs.Distances.{is_far_below, ends_above, waits_above, is_apart}
-use Rattle.check_judging.specs.Heads.{end_of}
-use Rattle.check_judging.specs.Keys.{reach, is_short}
-use Rattle.check_judging.specs.Standing.{at_end}
-use Rattle.check_judging.proofs.Apart.{apart_law}
-use Rattle.check_judging.proofs.Stands.{stand_law}
-use Rattle.check_verdict.specs.declared.members.Member.{Member}
-use Rattle.check_verdict.specs.Members.{never, ends_apart}
-use Rattle.check_verdict.specs.Kept.{Sight, sight, sight_of, Shows, KeptBank, apart_kept, ApartKeptLaw}
+use Rattle.row_rules.specs.{Queueing.pending, declared.Row.Row}
+use Rattle.check_judging.specs.{Distances.{is_far_below, ends_above, waits_above, is_apart}, Heads.end_of, Keys.{reach, is_short}, Standing.at_end}
+use Rattle.check_judging.proofs.{Apart.apart_law, Stands.stand_law}
+use Rattle.check_verdict.specs.{Kept.{Sight, sight, sight_of, Shows, KeptBank, apart_kept, ApartKeptLaw}, Members.{never, ends_apart}, declared.members.Member.Member}
 
 and_swap : (a b : Bool) → (a && (b && true)) ≡ (b && a)
 and_swap true true = refl

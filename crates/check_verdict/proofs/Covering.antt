@@ -1,22 +1,12 @@
 -- What is kept of a line.
 use Rattle.std.proofs.Common.{◌≡◌, ℕ, ◌<◌, ◌≤◌, ◌&&◌, ◌||◌, ◌⊎◌, inl, inr, Bool, true, false, List, [], ◌∷◌, ◌++◌, Option, Some, None, refl, sym, ap, ◌∙◌, cond, arith}
-use Rattle.masked_bytes.proofs.Truth.{or_false}
-use Rattle.std.specs.Prelude.{nat_le, reverse, min}
-use Rattle.std.specs.List.{list_any}
-use Rattle.std.proofs.lemmas.Bool.{le-leb, lt-leb, cases_lt}
-use Rattle.std.proofs.lemmas.List.{reverse-append, reverse-reverse}
-use Rattle.masked_bytes.proofs.Turning.{either_least}
-use Rattle.masked_bytes.specs.Masked.{joined, laid, none_given}
+use Rattle.std.{specs.List.list_any, specs.Prelude.{nat_le, reverse, min}, proofs.lemmas.Bool.{le-leb, lt-leb, cases_lt}, proofs.lemmas.List.{reverse-append, reverse-reverse}}
+use Rattle.masked_bytes.{specs.Masked.{joined, laid, none_given}, proofs.Truth.or_false, proofs.Turning.either_least}
 use Rattle.result_rows.specs.declared.Outcome.{Outcome}
 use Rattle.result_rows.specs.declared.Outcome.TheVariants as out
-use Rattle.row_rules.specs.declared.Row.{Row}
-use Rattle.row_rules.specs.Answers.{is_stored, stored_by}
-use Rattle.row_rules.specs.Rows.{accepted_of, write_of, newest, bytes_of, given_of}
-use Rattle.row_rules.specs.Queueing.{unstored}
-use Rattle.check_judging.specs.Runs.{run, held}
-use Rattle.check_judging.proofs.Covers.{cover_law}
-use Rattle.check_verdict.specs.declared.lines.Run.{Run}
-use Rattle.check_verdict.specs.Covering.{held_by, KeptLine, sooner, soonest, comes_by, closed, CoverKeptLaw, LineStaysLaw, LineJoinsLaw}
+use Rattle.row_rules.specs.{Answers.{is_stored, stored_by}, Queueing.unstored, Rows.{accepted_of, write_of, newest, bytes_of, given_of}, declared.Row.Row}
+use Rattle.check_judging.{specs.Runs.{run, held}, proofs.Covers.cover_law}
+use Rattle.check_verdict.specs.{Covering.{held_by, KeptLine, sooner, soonest, comes_by, closed, CoverKeptLaw, LineStaysLaw, LineJoinsLaw}, declared.lines.Run.Run}
 
 module _ {n : ℕ} where
   -- whether a write of the line is stored by a tick

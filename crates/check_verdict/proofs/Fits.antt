@@ -1,36 +1,18 @@
 -- The queue's rule, by what is kept of a bank.
 use Rattle.std.proofs.Common.{◌≡◌, ℕ, suc, ◌+◌, ◌-◌, ◌<◌, ◌≤◌, ◌==◌, ◌&&◌, ◌||◌, ◌⊎◌, inl, inr, Bool, true, false, List, [], ◌∷◌, ◌++◌, Option, Some, None, length, refl, sym, ap, ◌∙◌, cond, arith}
-use Rattle.masked_bytes.proofs.Truth.{and_first, and_second, and_true}
-use Rattle.std.specs.Prelude.{nat_le, nat_lt, not, reverse, map, filter, drop, take, slice_get, count_by}
-use Rattle.std.specs.List.{list_all, list_any}
-use Rattle.std.proofs.lemmas.Bool.{lt-leb, lt-ltb, ltb-true, eq-eqb, ne_eqb, cases_eq}
-use Rattle.std.proofs.lemmas.List.{reverse-append, reverse-reverse, map-append}
-use Rattle.std.proofs.lemmas.List.Folds.{list_any-append, list_all-map}
-use Rattle.std.proofs.lemmas.List.Sorted.{IsPermutation-reverse}
+use Rattle.std.specs.{List.{list_all, list_any}, Prelude.{nat_le, nat_lt, not, reverse, map, filter, drop, take, slice_get, count_by}}
+use Rattle.std.proofs.{lemmas.Bool.{lt-leb, lt-ltb, ltb-true, eq-eqb, ne_eqb, cases_eq}, lemmas.List.{reverse-append, reverse-reverse, map-append}}
+use Rattle.std.proofs.{lemmas.List.Folds.{list_any-append, list_all-map}, lemmas.List.Sorted.IsPermutation-reverse}
+use Rattle.masked_bytes.proofs.{Counting.{count-cons, one_if}, Truth.{and_first, and_second, and_true}}
 use Rattle.result_rows.specs.declared.Outcome.{Outcome}
 use Rattle.result_rows.specs.declared.Outcome.TheVariants as out
-use Rattle.row_rules.specs.declared.Asks.{Asks}
-use Rattle.row_rules.specs.declared.Asks.TheVariants.{Reads, Writes, Cuts}
-use Rattle.row_rules.specs.declared.Row.{Row}
-use Rattle.row_rules.specs.Answers.{accepts, is_merged, stored_by}
-use Rattle.row_rules.specs.declared.Rules.{Rules}
-use Rattle.row_rules.specs.Rows.{asks_write, asks_write_of, accepted, accepted_of, write_of, line_of}
-use Rattle.row_rules.specs.Queueing.{stands, pending, waiting, none_before, is_older, has_few, pairs_few, is_refused, has_room}
-use Rattle.check_judging.specs.Few.{few_by}
-use Rattle.check_judging.specs.Heads.{end_of, leave_of, stored_below, all_stored_below}
-use Rattle.check_judging.specs.Joining.{has_pair, comes_behind}
-use Rattle.check_judging.specs.Keys.{reach}
-use Rattle.check_judging.specs.Near.{NearRoom}
-use Rattle.check_judging.proofs.Counts.{count-same, count-permuted}
-use Rattle.masked_bytes.proofs.Counting.{count-cons, one_if}
-use Rattle.check_judging.proofs.Fews.{few_is, refused_is}
-use Rattle.check_judging.proofs.Joins.{join_law}
-use Rattle.check_judging.proofs.LeastEnd.{none_before_all}
-use Rattle.check_verdict.specs.declared.members.Member.{Member}
+use Rattle.row_rules.specs.{Answers.{accepts, is_merged, stored_by}, Queueing.{stands, pending, waiting, none_before, is_older, has_few, pairs_few, is_refused, has_room}}
+use Rattle.row_rules.specs.{Rows.{asks_write, asks_write_of, accepted, accepted_of, write_of, line_of}, declared.Asks.Asks, declared.Asks.TheVariants.{Reads, Writes, Cuts}}
+use Rattle.row_rules.specs.{declared.Row.Row, declared.Rules.Rules}
+use Rattle.check_judging.specs.{Few.few_by, Heads.{end_of, leave_of, stored_below, all_stored_below}, Joining.{has_pair, comes_behind}, Keys.reach, Near.NearRoom}
+use Rattle.check_judging.proofs.{Counts.{count-same, count-permuted}, Fews.{few_is, refused_is}, Joins.join_law, LeastEnd.none_before_all}
 use Rattle.check_verdict.specs.Fitting.{is_of, leaves_first, precedes, has_twins, follows, joins_well, newest_fits, in_order, room_kept, refused_kept, is_brief, all_brief}
-use Rattle.check_verdict.specs.Members.{never}
-use Rattle.check_verdict.specs.Kept.{Sight, sight, sight_of, Shows, KeptBank}
-use Rattle.check_verdict.proofs.Apart.{all-reverse, all-same}
+use Rattle.check_verdict.{specs.Kept.{Sight, sight, sight_of, Shows, KeptBank}, specs.Members.never, specs.declared.members.Member.Member, proofs.Apart.{all-reverse, all-same}}
 use Rattle.check_verdict.proofs.Numbers.{numbers_law}
 
 -- Tests of lists in either order

@@ -1,27 +1,15 @@
 -- What is kept of a bank, with one row more.
 use Rattle.std.proofs.Common.{◌≡◌, ℕ, ◌+◌, ◌==◌, ◌&&◌, ◌||◌, Bool, true, false, List, [], ◌∷◌, ◌++◌, Option, refl, sym, ap, ◌∙◌, cond, arith}
-use Rattle.std.proofs.lemmas.Bool.{and_from}
+use Rattle.std.{specs.List.list_any, specs.Prelude.{nat_lt, not, reverse, map, filter}, proofs.lemmas.Bool.and_from, proofs.lemmas.List.{reverse-append, map-append}}
 use Rattle.masked_bytes.proofs.Truth.{and_first, and_second, and_true, or_false}
-use Rattle.std.specs.Prelude.{nat_lt, not, reverse, map, filter}
-use Rattle.std.specs.List.{list_any}
-use Rattle.std.proofs.lemmas.List.{reverse-append, map-append}
 use Rattle.result_rows.specs.declared.Outcome.{Outcome}
 use Rattle.result_rows.specs.declared.Outcome.TheVariants as out
-use Rattle.row_rules.specs.declared.Asks.{Asks}
-use Rattle.row_rules.specs.declared.Asks.TheVariants.{Reads, Writes, Cuts}
-use Rattle.row_rules.specs.declared.Row.{Row}
-use Rattle.row_rules.specs.Answers.{accepts, is_stored, is_answered, is_merged, is_queued, is_lost, stored_after}
-use Rattle.row_rules.specs.Rows.{asks_read, asks_write, asks_write_of, asks_cut, accepted, accepted_of, is_cut, line_of}
-use Rattle.row_rules.specs.Queueing.{pending}
-use Rattle.check_judging.specs.Distances.{later_of, is_far_below, wait_above, waits_above, end_to, last_end, read_to, last_read}
-use Rattle.check_judging.specs.Lost.{lost_since}
-use Rattle.check_judging.specs.Standing.{is_own}
-use Rattle.check_judging.specs.Steps.{stays_behind}
-use Rattle.check_judging.proofs.Steps.{step_law}
-use Rattle.check_judging.proofs.Sublists.{cut_accepts, cut_stands}
-use Rattle.check_verdict.specs.declared.members.Member.{Member}
-use Rattle.check_verdict.specs.Kept.{sight, sight_of, Shows}
-use Rattle.check_verdict.specs.Joined.{stays_beside, JoinKeptLaw, CutKeptLaw}
+use Rattle.row_rules.specs.{Answers.{accepts, is_stored, is_answered, is_merged, is_queued, is_lost, stored_after}, Queueing.pending}
+use Rattle.row_rules.specs.{Rows.{asks_read, asks_write, asks_write_of, asks_cut, accepted, accepted_of, is_cut, line_of}, declared.Asks.Asks}
+use Rattle.row_rules.specs.{declared.Asks.TheVariants.{Reads, Writes, Cuts}, declared.Row.Row}
+use Rattle.check_judging.specs.{Distances.{later_of, is_far_below, wait_above, waits_above, end_to, last_end, read_to, last_read}, Lost.lost_since, Standing.is_own}
+use Rattle.check_judging.{specs.Steps.stays_behind, proofs.Steps.step_law, proofs.Sublists.{cut_accepts, cut_stands}}
+use Rattle.check_verdict.specs.{Joined.{stays_beside, JoinKeptLaw, CutKeptLaw}, Kept.{sight, sight_of, Shows}, declared.members.Member.Member}
 use Rattle.check_verdict.proofs.Settles.{filter-map, filter-same, filter-reverse}
 
 pub filter-all : {A : Type 0} (xs : List A) (p : A → Bool) → ((x : A) → p x ≡ true) → filter p xs ≡ xs

@@ -1,34 +1,17 @@
 -- A row's verdict, by what is kept of its bank and known of the rows behind it.
 use Rattle.std.proofs.Common.{◌≡◌, ℕ, ◌+◌, ◌&&◌, ◌||◌, Bool, true, false, List, [], Option, Some, None, length, refl, ap, ◌∙◌, cond, arith}
-use Rattle.std.specs.Prelude.{not, nat_le}
-use Rattle.std.specs.List.{list_any}
-use Rattle.std.proofs.lemmas.Bool.{le-leb}
+use Rattle.std.{specs.List.list_any, specs.Prelude.{not, nat_le}, proofs.lemmas.Bool.le-leb}
 use Rattle.masked_bytes.specs.Masked.{gives_all}
 use Rattle.result_rows.specs.declared.Outcome.{Outcome}
 use Rattle.result_rows.specs.declared.Outcome.TheVariants as out
+use Rattle.row_rules.specs.{Answers.is_worn, Queueing.{cover, read_fits, has_room}, Rows.newest, Serving.may_have, Ticking.bound, Wearing.worn_row}
 use Rattle.row_rules.specs.declared.Asks.TheVariants.{Reads, Writes, Cuts}
-use Rattle.row_rules.specs.Answers.{is_worn}
-use Rattle.row_rules.specs.Rows.{newest}
-use Rattle.row_rules.specs.Serving.{may_have}
-use Rattle.row_rules.specs.Queueing.{cover, read_fits, has_room}
-use Rattle.row_rules.specs.Ticking.{bound}
-use Rattle.row_rules.specs.Wearing.{worn_row}
-use Rattle.check_judging.specs.Cutting.{cut_ticks}
-use Rattle.check_judging.proofs.FirstWorn.{worn_law}
-use Rattle.check_verdict.specs.declared.Rule.{Rule}
+use Rattle.check_judging.{specs.Cutting.cut_ticks, proofs.FirstWorn.worn_law}
+use Rattle.check_verdict.specs.{Fitting.{at_head_kept, write_fits}, Judged.{first_broken, beside, a_write, a_read, a_cut, JudgeWriteLaw, JudgeReadLaw, JudgeCutLaw}}
+use Rattle.check_verdict.specs.{Keeping.{stored_early, read_timely, write_timely}, Kept.apart_kept, QueueLaws.next_accepted, Timely.first_of_ticks, Verdicts.all_have_room}
+use Rattle.check_verdict.{specs.Worn.first_worn, specs.declared.Rule.Rule, proofs.Queueing.{write_fits_law, read_fits_law}, proofs.Tables.own_law}
+use Rattle.check_verdict.proofs.{Times.{read_times_law, write_times_law}, Wears.worn_kept_law}
 use Rattle.check_verdict.specs.declared.Rule.TheVariants as rule
-use Rattle.check_verdict.specs.Fitting.{at_head_kept, write_fits}
-use Rattle.check_verdict.specs.Keeping.{stored_early, read_timely, write_timely}
-use Rattle.check_verdict.specs.Kept.{apart_kept}
-use Rattle.check_verdict.specs.QueueLaws.{next_accepted}
-use Rattle.check_verdict.specs.Timely.{first_of_ticks}
-use Rattle.check_verdict.specs.Verdicts.{all_have_room}
-use Rattle.check_verdict.specs.Worn.{first_worn}
-use Rattle.check_verdict.specs.Judged.{first_broken, beside, a_write, a_read, a_cut, JudgeWriteLaw, JudgeReadLaw, JudgeCutLaw}
-use Rattle.check_verdict.proofs.Queueing.{write_fits_law, read_fits_law}
-use Rattle.check_verdict.proofs.Tables.{own_law}
-use Rattle.check_verdict.proofs.Times.{read_times_law, write_times_law}
-use Rattle.check_verdict.proofs.Wears.{worn_kept_law}
 
 -- the rules in their order
 abbrev broken : Bool → Bool → Bool → Bool → Option Rule

@@ -1,20 +1,10 @@
 -- A verdict names the lowest row that breaks a rule.
 use Rattle.std.proofs.Common.{◌≡◌, ℕ, ◌+◌, ◌&&◌, Bool, true, false, List, [], ◌∷◌, ◌++◌, length, Option, Some, None, refl, sym, ap, ◌∙◌, subst, cond, arith}
-use Rattle.std.proofs.lemmas.Bool.{and_from}
-use Rattle.masked_bytes.proofs.Truth.{and_first, and_second, and_true}
-use Rattle.std.specs.Prelude.{reverse}
-use Rattle.std.specs.List.{list_all}
-use Rattle.std.proofs.lemmas.List.{append-nil}
-use Rattle.masked_bytes.proofs.Lists.{turned}
-use Rattle.masked_bytes.proofs.Turning.{and_mid}
-use Rattle.row_rules.specs.declared.Row.{Row}
-use Rattle.row_rules.specs.declared.Rules.{Rules}
-use Rattle.row_rules.specs.Rows.{RowTest, each_row}
-use Rattle.check_verdict.specs.declared.Rule.{Rule}
-use Rattle.check_verdict.specs.declared.Verdict.{Verdict}
+use Rattle.std.{specs.List.list_all, specs.Prelude.reverse, proofs.lemmas.Bool.and_from, proofs.lemmas.List.append-nil}
+use Rattle.masked_bytes.proofs.{Lists.turned, Truth.{and_first, and_second, and_true}, Turning.and_mid}
+use Rattle.row_rules.specs.{Rows.{RowTest, each_row}, declared.Row.Row, declared.Rules.Rules}
+use Rattle.check_verdict.specs.{Judging.VerdictLaw, Verdicts.{keeps, all_rules, broken_by, or_later, verdict_from, keeps_all}, declared.Rule.Rule, declared.Verdict.Verdict}
 use Rattle.check_verdict.specs.declared.Verdict.TheVariants.{Yes, No}
-use Rattle.check_verdict.specs.Verdicts.{keeps, all_rules, broken_by, or_later, verdict_from, keeps_all}
-use Rattle.check_verdict.specs.Judging.{VerdictLaw}
 
 module _ {n : ℕ} (test : RowTest n) where
   -- each of these rows, the oldest first, passes behind those before them

@@ -1,8 +1,6 @@
 -- The next of some sorted keys.
 use Rattle.std.proofs.Common.{◌≡◌, ℕ, zero, suc, ◌+◌, ◌<◌, ◌≤◌, ◌⊎◌, inl, inr, List, [], ◌∷◌, length, refl, sym, ap, ◌∙◌, arith}
-use Rattle.std.specs.Prelude.{nat_le, nat_lt, slice_get, slice_index_or}
-use Rattle.std.specs.List.Sorted.{IsNonDecreasing}
-use Rattle.std.proofs.lemmas.Bool.{le-leb, lt-leb, lt-ltb, le-ltb, cases_lt}
+use Rattle.std.{specs.List.Sorted.IsNonDecreasing, specs.Prelude.{nat_le, nat_lt, slice_get, slice_index_or}, proofs.lemmas.Bool.{le-leb, lt-leb, lt-ltb, le-ltb, cases_lt}}
 use Rattle.check_judging.specs.Keys.{up_to}
 use Rattle.masked_bytes.proofs.Counting.{count-cons, one_if}
 use Rattle.check_verdict.specs.Covering.{comes_by}

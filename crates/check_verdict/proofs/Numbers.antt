@@ -1,13 +1,9 @@
 -- How many writes stand and how many reads wait, by what is kept.
 use Rattle.std.proofs.Common.{◌≡◌, ◌+◌, [], length, sym, ap, ◌∙◌, arith}
-use Rattle.std.specs.Prelude.{map}
-use Rattle.std.proofs.lemmas.List.{length-reverse, length-map}
+use Rattle.std.{specs.Prelude.map, proofs.lemmas.List.{length-reverse, length-map}}
 use Rattle.row_rules.specs.Queueing.{pending, waiting}
-use Rattle.check_judging.specs.Distances.{waits_above}
-use Rattle.check_judging.specs.Lost.{lost_since}
-use Rattle.check_judging.proofs.Losing.{waiting_law}
-use Rattle.check_verdict.specs.Kept.{sight, sight_of}
-use Rattle.check_verdict.specs.Queues.{NumbersLaw}
+use Rattle.check_judging.{specs.Distances.waits_above, specs.Lost.lost_since, proofs.Losing.waiting_law}
+use Rattle.check_verdict.specs.{Kept.{sight, sight_of}, Queues.NumbersLaw}
 
 pub numbers_law : NumbersLaw
 numbers_law n t rows members waits lost last_answer last_store kept = record {

@@ -1,24 +1,14 @@
 -- What is kept of a bank, behind a row that changes nothing.
 use Rattle.std.proofs.Common.{◌≡◌, ℕ, ◌+◌, ◌&&◌, ◌||◌, ◌==◌, Bool, true, false, [], ◌∷◌, Option, refl, sym, ap, ◌∙◌, cond, arith}
-use Rattle.masked_bytes.proofs.Truth.{and_false}
-use Rattle.std.proofs.lemmas.Bool.{and_from}
-use Rattle.std.specs.Prelude.{not, reverse, map, filter}
-use Rattle.masked_bytes.proofs.Counting.{one_if}
+use Rattle.std.{specs.Prelude.{not, reverse, map, filter}, proofs.lemmas.Bool.and_from}
+use Rattle.masked_bytes.proofs.{Counting.one_if, Truth.and_false}
 use Rattle.result_rows.specs.declared.Outcome.{Outcome}
 use Rattle.result_rows.specs.declared.Outcome.TheVariants as out
-use Rattle.row_rules.specs.declared.Asks.{Asks}
-use Rattle.row_rules.specs.declared.Asks.TheVariants.{Reads, Writes, Cuts}
-use Rattle.row_rules.specs.Answers.{accepts, is_stored, is_merged, is_queued, stored_after}
-use Rattle.row_rules.specs.Rows.{asks_read, asks_write, asks_write_of, line_of}
-use Rattle.row_rules.specs.Queueing.{pending}
-use Rattle.check_judging.specs.Distances.{is_far_below, waits_above, end_to, last_end, last_read}
-use Rattle.check_judging.specs.Lost.{lost_since}
-use Rattle.check_judging.specs.Standing.{is_own}
-use Rattle.check_judging.specs.Steps.{stays_behind}
+use Rattle.row_rules.specs.{Answers.{accepts, is_stored, is_merged, is_queued, stored_after}, Queueing.pending, Rows.{asks_read, asks_write, asks_write_of, line_of}}
+use Rattle.row_rules.specs.{declared.Asks.Asks, declared.Asks.TheVariants.{Reads, Writes, Cuts}}
+use Rattle.check_judging.specs.{Distances.{is_far_below, waits_above, end_to, last_end, last_read}, Lost.lost_since, Standing.is_own, Steps.stays_behind}
 use Rattle.check_judging.proofs.Steps.{step_law}
-use Rattle.check_verdict.specs.Kept.{sight_of}
-use Rattle.check_verdict.specs.Joined.{OtherKeptLaw}
-use Rattle.check_verdict.proofs.Joins.{filter-all, not_both, lost_same, no_wait, no_answer}
+use Rattle.check_verdict.{specs.Joined.OtherKeptLaw, specs.Kept.sight_of, proofs.Joins.{filter-all, not_both, lost_same, no_wait, no_answer}}
 
 no_loss : (a : Bool) → one_if (a && false) ≡ one_if false
 no_loss true = refl

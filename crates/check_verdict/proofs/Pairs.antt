@@ -1,18 +1,12 @@
 -- The line of which two members may stand in a queue.
 use Rattle.std.proofs.Common.{◌≡◌, ℕ, zero, suc, ◌+◌, ◌<◌, ◌≤◌, ◌==◌, ◌&&◌, ◌||◌, ◌⊎◌, inl, inr, Bool, true, false, List, [], ◌∷◌, ◌++◌, refl, sym, ap, ◌∙◌, subst, cond, length, arith}
-use Rattle.masked_bytes.proofs.Truth.{and_first, and_second, and_true, and_false, differ_sym, neither_first, neither_second}
-use Rattle.std.specs.Prelude.{nat_le, nat_lt, not, filter, take, count_by}
-use Rattle.std.specs.List.{list_all, list_any}
+use Rattle.std.specs.{List.{list_all, list_any}, Prelude.{nat_le, nat_lt, not, filter, take, count_by}}
 use Rattle.std.proofs.lemmas.Bool.{le-leb, leb-true, lt-leb, lt-ltb, ltb-false, eq-eqb, ne_eqb, eqb-true, cases_eq, cases_lt, or_right, not-true, not_from_false}
-use Rattle.std.proofs.lemmas.List.{take_at}
-use Rattle.std.proofs.lemmas.List.Folds.{list_any-append}
+use Rattle.std.proofs.{lemmas.List.take_at, lemmas.List.Folds.list_any-append}
+use Rattle.masked_bytes.proofs.{Counting.count-cons, Truth.{and_first, and_second, and_true, and_false, differ_sym, neither_first, neither_second}}
 use Rattle.check_judging.specs.Few.{few_by}
-use Rattle.masked_bytes.proofs.Counting.{count-cons}
-use Rattle.check_verdict.specs.declared.members.Member.{Member}
-use Rattle.check_verdict.specs.declared.members.Twins.{Twins}
-use Rattle.check_verdict.specs.declared.members.Twins.TheVariants.{Nowhere, Only, Anywhere}
-use Rattle.check_verdict.specs.Fitting.{is_of, is_staying, has_twins, pairs_only, may_have_two, twins_with, IsKnown}
-use Rattle.check_verdict.specs.Joined.{stays_beside}
+use Rattle.check_verdict.specs.{Fitting.{is_of, is_staying, has_twins, pairs_only, may_have_two, twins_with, IsKnown}, Joined.stays_beside, declared.members.Member.Member}
+use Rattle.check_verdict.specs.{declared.members.Twins.Twins, declared.members.Twins.TheVariants.{Nowhere, Only, Anywhere}}
 
 -- whether one of a kind is there, by the number of these
 any-count : {X : Type 0} (p : X → Bool) (xs : List X) → list_any p xs ≡ nat_lt 0 (count_by p xs)

@@ -1,23 +1,12 @@
 -- What the pass over the rows keeps of all banks.
 use Rattle.std.proofs.Common.{◌≡◌, ℕ, zero, suc, ◌<◌, ◌≤◌, ◌==◌, ◌&&◌, ◌⊎◌, inl, inr, Bool, true, false, List, [], ◌∷◌, Option, Some, None, length, refl, sym, ap, ◌∙◌, subst, cond, arith}
+use Rattle.std.{specs.List.list_all, specs.Prelude.unwrap_or, proofs.lemmas.Bool.{eq-eqb, ne_eqb, cases_eq}}
 use Rattle.masked_bytes.proofs.Truth.{and_first, and_second}
-use Rattle.std.specs.Prelude.{unwrap_or}
-use Rattle.std.specs.List.{list_all}
-use Rattle.std.proofs.lemmas.Bool.{eq-eqb, ne_eqb, cases_eq}
-use Rattle.row_rules.specs.declared.Asks.TheVariants.{Reads, Writes}
-use Rattle.row_rules.specs.declared.Row.{Row}
-use Rattle.row_rules.specs.declared.Rules.{Rules}
-use Rattle.row_rules.specs.Table.{is_of, of_bank}
-use Rattle.row_rules.specs.Queueing.{has_room}
+use Rattle.row_rules.specs.{Queueing.has_room, Table.{is_of, of_bank}, declared.Asks.TheVariants.{Reads, Writes}, declared.Row.Row, declared.Rules.Rules}
 use Rattle.check_judging.proofs.Sublists.{room_stays_law, room_behind_cut_law}
-use Rattle.check_verdict.specs.Fitting.{room_kept}
-use Rattle.check_verdict.specs.Judged.{a_cut}
-use Rattle.check_verdict.specs.Members.{never}
-use Rattle.check_verdict.specs.States.{Facts, Stands, settled, cut_off}
-use Rattle.check_verdict.specs.Verdicts.{bank_in}
+use Rattle.check_verdict.specs.{Fitting.room_kept, Judged.a_cut, Members.never}
 use Rattle.check_verdict.specs.Passing.{is_joined, Passed, joined_room, put, AllRoomLaw, CutRoomLaw, SettleOneLaw, RoomSeenLaw, RowPassesLaw, CutPassedLaw}
-use Rattle.check_verdict.proofs.Fits.{room_shown}
-use Rattle.check_verdict.proofs.States.{stands_later_law, cut_passes_law}
+use Rattle.check_verdict.{specs.States.{Facts, Stands, settled, cut_off}, specs.Verdicts.bank_in, proofs.Fits.room_shown, proofs.States.{stands_later_law, cut_passes_law}}
 
 -- what holds of all banks holds of a line's
 at_line : (p : ℕ → Bool) (banks : List ℕ) (line : ℕ) → line < length banks → list_all p banks ≡ true → p (bank_in banks line) ≡ true

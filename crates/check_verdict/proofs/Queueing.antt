@@ -1,28 +1,15 @@
 -- The rule on the queue, by what is kept of a bank.
 use Rattle.std.proofs.Common.{◌≡◌, ℕ, ◌+◌, ◌<◌, ◌==◌, ◌&&◌, ◌||◌, Bool, true, false, List, [], ◌∷◌, ◌++◌, Some, length, refl, sym, ap, ◌∙◌, cond, arith}
-use Rattle.masked_bytes.proofs.Truth.{and_first, and_second, or_false}
-use Rattle.std.specs.Prelude.{nat_lt, not, reverse, filter}
-use Rattle.std.specs.List.{list_all, list_any}
-use Rattle.std.proofs.lemmas.Bool.{ltb-true, ne_eqb}
-use Rattle.masked_bytes.specs.Masked.{gives_all}
+use Rattle.std.{specs.List.{list_all, list_any}, specs.Prelude.{nat_lt, not, reverse, filter}, proofs.lemmas.Bool.{ltb-true, ne_eqb}}
+use Rattle.masked_bytes.{specs.Masked.gives_all, proofs.Truth.{and_first, and_second, or_false}}
 use Rattle.result_rows.specs.declared.Outcome.{Outcome}
 use Rattle.result_rows.specs.declared.Outcome.TheVariants as out
-use Rattle.row_rules.specs.declared.Row.{Row}
 use Rattle.row_rules.specs.Answers.{accepts, is_full, is_merged, is_queued, stored_after}
-use Rattle.row_rules.specs.Rows.{asks_write, accepted, accepted_of, write_of, line_of}
 use Rattle.row_rules.specs.Queueing.{stands, pending, cover, merges_at, merge_fits, next_store, is_first, is_refused, read_fits}
-use Rattle.check_judging.specs.Counting.{line_stores}
-use Rattle.check_judging.specs.Distances.{ends_behind}
-use Rattle.check_judging.specs.Heads.{end_of}
-use Rattle.check_judging.specs.Keys.{reach}
-use Rattle.check_judging.specs.Standing.{at_end}
-use Rattle.check_judging.proofs.Counts.{first_by_count_law}
-use Rattle.check_verdict.specs.declared.members.Member.{Member}
-use Rattle.check_verdict.specs.Fitting.{comes_at, is_of, stores_between, at_head_kept, merge_kept, refused_kept, is_brief, all_brief}
-use Rattle.check_verdict.specs.Kept.{Shows}
-use Rattle.check_verdict.specs.Members.{never}
-use Rattle.check_verdict.specs.QueueLaws.{next_accepted, KeysTell, RoomKeptLaw, WriteFitsLaw, ReadFitsLaw}
-use Rattle.check_verdict.proofs.Apart.{shown}
+use Rattle.row_rules.specs.{Rows.{asks_write, accepted, accepted_of, write_of, line_of}, declared.Row.Row}
+use Rattle.check_judging.{specs.Counting.line_stores, specs.Distances.ends_behind, specs.Heads.end_of, specs.Keys.reach, specs.Standing.at_end, proofs.Counts.first_by_count_law}
+use Rattle.check_verdict.specs.{Fitting.{comes_at, is_of, stores_between, at_head_kept, merge_kept, refused_kept, is_brief, all_brief}, Kept.Shows, Members.never}
+use Rattle.check_verdict.{specs.QueueLaws.{next_accepted, KeysTell, RoomKeptLaw, WriteFitsLaw, ReadFitsLaw}, specs.declared.members.Member.Member, proofs.Apart.shown}
 use Rattle.check_verdict.proofs.Fits.{all-where, any-where, any-reverse, flat_any, turned, stands_accepted, stands_all, write_of_line, refusal_shown, room_shown}
 use Rattle.check_verdict.proofs.Numbers.{numbers_law}
 

@@ -1,25 +1,13 @@
 -- What is kept of a bank, with a read more.
 use Rattle.std.proofs.Common.{◌≡◌, ℕ, ◌+◌, ◌&&◌, ◌||◌, true, false, List, [], ◌∷◌, ◌++◌, refl, sym, ap, ◌∙◌, cond, arith}
-use Rattle.std.specs.Prelude.{nat_le, not, reverse, map, filter}
-use Rattle.std.proofs.lemmas.Bool.{lt-ltb, and_from, or_right}
-use Rattle.std.proofs.lemmas.List.{reverse-append}
+use Rattle.std.{specs.Prelude.{nat_le, not, reverse, map, filter}, proofs.lemmas.Bool.{lt-ltb, and_from, or_right}, proofs.lemmas.List.reverse-append}
 use Rattle.result_rows.specs.declared.Outcome.{Outcome}
 use Rattle.result_rows.specs.declared.Outcome.TheVariants as out
-use Rattle.row_rules.specs.declared.Asks.{Asks}
-use Rattle.row_rules.specs.declared.Asks.TheVariants.{Reads, Writes, Cuts}
-use Rattle.row_rules.specs.declared.Row.{Row}
-use Rattle.row_rules.specs.Answers.{accepts, is_stored, is_answered, is_merged, is_queued, is_lost, stored_after}
-use Rattle.row_rules.specs.Rows.{asks_read, asks_write, asks_write_of, asks_cut, line_of}
-use Rattle.row_rules.specs.Queueing.{stands, pending}
-use Rattle.check_judging.specs.Distances.{is_far_below, wait_above, waits_above, end_to, last_end, read_to, last_read}
-use Rattle.check_judging.specs.Lost.{lost_since}
-use Rattle.check_judging.specs.Standing.{is_own}
-use Rattle.check_judging.specs.Steps.{stays_behind}
-use Rattle.check_judging.proofs.Apart.{far_later}
-use Rattle.check_judging.proofs.Steps.{step_law}
-use Rattle.check_verdict.specs.Kept.{sight_of}
-use Rattle.check_verdict.specs.Joined.{AnswerKeptLaw, LossKeptLaw}
-use Rattle.check_verdict.proofs.Joins.{filter-all, not_both, lost_same}
+use Rattle.row_rules.specs.{Answers.{accepts, is_stored, is_answered, is_merged, is_queued, is_lost, stored_after}, Queueing.{stands, pending}}
+use Rattle.row_rules.specs.{Rows.{asks_read, asks_write, asks_write_of, asks_cut, line_of}, declared.Asks.Asks, declared.Asks.TheVariants.{Reads, Writes, Cuts}, declared.Row.Row}
+use Rattle.check_judging.specs.{Distances.{is_far_below, wait_above, waits_above, end_to, last_end, read_to, last_read}, Lost.lost_since, Standing.is_own, Steps.stays_behind}
+use Rattle.check_judging.proofs.{Apart.far_later, Steps.step_law}
+use Rattle.check_verdict.{specs.Joined.{AnswerKeptLaw, LossKeptLaw}, specs.Kept.sight_of, proofs.Joins.{filter-all, not_both, lost_same}}
 
 module _ {n : ℕ} where
   reads_only : (asks : Asks n) → asks_read asks ≡ true → (asks_write asks ≡ false) × (asks_cut asks ≡ false) × ((line : ℕ) → asks_write_of line asks ≡ false)

@@ -1,25 +1,14 @@
 -- What is kept of a bank, as time passes.
 use Rattle.std.proofs.Common.{◌≡◌, ℕ, ◌+◌, ◌<◌, ◌≤◌, ◌&&◌, ◌||◌, ◌⊎◌, inl, inr, Bool, true, false, List, [], ◌∷◌, ◌++◌, Option, refl, sym, ap, ◌∙◌, cond, arith}
-use Rattle.masked_bytes.proofs.Truth.{and_true}
-use Rattle.std.specs.Prelude.{nat_le, nat_lt, not, reverse, map, filter}
-use Rattle.std.specs.List.{list_all}
-use Rattle.std.proofs.lemmas.Bool.{le-leb, lt-leb, lt-ltb, le-ltb, cases_lt}
+use Rattle.std.{specs.List.list_all, specs.Prelude.{nat_le, nat_lt, not, reverse, map, filter}, proofs.lemmas.Bool.{le-leb, lt-leb, lt-ltb, le-ltb, cases_lt}}
 use Rattle.std.proofs.lemmas.List.{reverse-append, append-nil}
-use Rattle.masked_bytes.proofs.Turning.{and_turn, and_mid, and_group}
+use Rattle.masked_bytes.proofs.{Truth.and_true, Turning.{and_turn, and_mid, and_group}}
 use Rattle.result_rows.specs.declared.Outcome.{Outcome}
 use Rattle.result_rows.specs.declared.Outcome.TheVariants as out
-use Rattle.row_rules.specs.declared.Row.{Row}
-use Rattle.row_rules.specs.Answers.{stored_by}
-use Rattle.row_rules.specs.Queueing.{pending}
-use Rattle.check_judging.specs.Distances.{later_of, is_far_below, end_above, ends_above, wait_above, waits_above, end_to, last_end}
-use Rattle.check_judging.specs.Heads.{end_of}
-use Rattle.check_judging.specs.Steps.{stays}
-use Rattle.check_judging.proofs.Apart.{far_later}
-use Rattle.check_judging.proofs.Steps.{settle_law}
-use Rattle.check_verdict.specs.declared.members.Member.{Member}
-use Rattle.check_verdict.specs.Members.{never}
-use Rattle.check_verdict.specs.Kept.{sight, sight_of, Shows, ended, SettleKeptLaw}
-use Rattle.check_verdict.proofs.Apart.{by_members}
+use Rattle.row_rules.specs.{Answers.stored_by, Queueing.pending, declared.Row.Row}
+use Rattle.check_judging.specs.{Distances.{later_of, is_far_below, end_above, ends_above, wait_above, waits_above, end_to, last_end}, Heads.end_of, Steps.stays}
+use Rattle.check_judging.proofs.{Apart.far_later, Steps.settle_law}
+use Rattle.check_verdict.{specs.Kept.{sight, sight_of, Shows, ended, SettleKeptLaw}, specs.Members.never, specs.declared.members.Member.Member, proofs.Apart.by_members}
 
 pub filter-map : {A B : Type 0} (g : B → Bool) (f : A → B) (xs : List A) → map f (filter (λ x. g (f x)) xs) ≡ filter g (map f xs)
 filter-map g f [] = refl

@@ -1,33 +1,16 @@
 -- What is kept of a bank, as rows pass.
 use Rattle.std.proofs.Common.{◌≡◌, ℕ, ◌≤◌, ◌&&◌, ◌||◌, Bool, true, false, List, [], ◌∷◌, refl, sym, ap, ◌∙◌, cond, arith}
+use Rattle.std.{specs.List.list_any, specs.Prelude.{nat_le, nat_lt, not}, proofs.lemmas.Bool.{le-leb, leb-true, ltb-true, and_from, or_left}}
 use Rattle.masked_bytes.proofs.Truth.{and_first, and_second}
-use Rattle.std.specs.Prelude.{nat_le, nat_lt, not}
-use Rattle.std.specs.List.{list_any}
-use Rattle.std.proofs.lemmas.Bool.{le-leb, leb-true, ltb-true, and_from, or_left}
 use Rattle.result_rows.specs.declared.Outcome.{Outcome}
 use Rattle.result_rows.specs.declared.Outcome.TheVariants as out
-use Rattle.row_rules.specs.declared.Asks.TheVariants.{Reads, Writes, Cuts}
-use Rattle.row_rules.specs.declared.Row.{Row}
-use Rattle.row_rules.specs.Answers.{accepts, is_stored, is_answered, is_lost, is_merged, is_queued, is_worn, stored_after}
-use Rattle.row_rules.specs.declared.Rules.{Rules}
-use Rattle.row_rules.specs.Queueing.{has_room}
-use Rattle.row_rules.specs.Serving.{may_have}
-use Rattle.row_rules.specs.Wearing.{worn_row}
-use Rattle.check_judging.specs.Coming.{came}
-use Rattle.check_judging.specs.Distances.{ends_behind}
-use Rattle.check_judging.specs.Keys.{reach}
-use Rattle.check_judging.specs.Rising.{falling}
-use Rattle.check_judging.proofs.Nears.{near_stays, near_behind}
-use Rattle.check_verdict.specs.declared.members.Member.{Member}
-use Rattle.check_verdict.specs.Fitting.{is_brief}
-use Rattle.check_verdict.specs.Judged.{a_write, a_read, a_cut}
-use Rattle.check_verdict.specs.Kept.{sight, sight_of}
+use Rattle.row_rules.specs.{Answers.{accepts, is_stored, is_answered, is_lost, is_merged, is_queued, is_worn, stored_after}, Queueing.has_room, Serving.may_have, Wearing.worn_row}
+use Rattle.row_rules.specs.{declared.Asks.TheVariants.{Reads, Writes, Cuts}, declared.Row.Row, declared.Rules.Rules}
+use Rattle.check_judging.{specs.Coming.came, specs.Distances.ends_behind, specs.Keys.reach, specs.Rising.falling, proofs.Nears.{near_stays, near_behind}}
+use Rattle.check_verdict.specs.{Fitting.is_brief, Judged.{a_write, a_read, a_cut}, Kept.{sight, sight_of}}
 use Rattle.check_verdict.specs.States.{Facts, Stands, with_member, cut_off, after_write, after_read, StandsLaterLaw, WritePassesLaw, ReadPassesLaw, CutPassesLaw}
-use Rattle.check_verdict.proofs.Joins.{join_kept_law, cut_kept_law}
-use Rattle.check_verdict.proofs.OtherJoins.{other_kept_law}
-use Rattle.check_verdict.proofs.ReadJoins.{answer_kept_law, loss_kept_law}
-use Rattle.check_verdict.proofs.Settles.{settle_kept_law}
-use Rattle.check_verdict.proofs.Tables.{four_law}
+use Rattle.check_verdict.{specs.declared.members.Member.Member, proofs.Joins.{join_kept_law, cut_kept_law}, proofs.OtherJoins.other_kept_law}
+use Rattle.check_verdict.proofs.{ReadJoins.{answer_kept_law, loss_kept_law}, Settles.settle_kept_law, Tables.four_law}
 
 -- ticks that don't rise from one on don't from a later one
 falls_later : {n : ℕ} (t u : ℕ) → t ≤ u → (rows : List (Row n)) → falling t rows ≡ true → falling u rows ≡ true

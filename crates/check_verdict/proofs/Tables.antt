@@ -1,29 +1,15 @@
 -- What sorted keys of a whole table tell of a row of it.
 use Rattle.std.proofs.Common.{◌≡◌, ℕ, ◌+◌, ◌<◌, ◌≤◌, ◌==◌, ◌&&◌, ◌||◌, ◌⊎◌, inl, inr, Bool, true, false, List, [], ◌∷◌, ◌++◌, Option, Some, None, refl, sym, ap, ◌∙◌, cond, arith}
-use Rattle.masked_bytes.proofs.Truth.{and_false}
-use Rattle.std.specs.Prelude.{nat_le, nat_lt, not, reverse, filter, count_by, max, slice_get}
-use Rattle.std.proofs.lemmas.Bool.{lt-ltb, le-ltb, eq-eqb, eqb-true, cases_lt}
+use Rattle.std.{specs.Prelude.{nat_le, nat_lt, not, reverse, filter, count_by, max, slice_get}, proofs.lemmas.Bool.{lt-ltb, le-ltb, eq-eqb, eqb-true, cases_lt}}
+use Rattle.masked_bytes.proofs.{Counting.{count-append, count-cons, one_if}, Truth.and_false}
 use Rattle.result_rows.specs.declared.Outcome.{Outcome}
 use Rattle.result_rows.specs.declared.Outcome.TheVariants as out
-use Rattle.row_rules.specs.declared.Asks.{Asks}
-use Rattle.row_rules.specs.declared.Asks.TheVariants.{Reads, Writes, Cuts}
-use Rattle.row_rules.specs.declared.Row.{Row}
-use Rattle.row_rules.specs.Answers.{is_stored, is_answered, stored_after, stored_by, read_after, read_by}
-use Rattle.row_rules.specs.Rows.{asks_write, asks_read, asks_write_of, write_of}
-use Rattle.row_rules.specs.Serving.{may_have}
-use Rattle.row_rules.specs.Table.{is_of, of_bank}
-use Rattle.row_rules.specs.Ticking.{stores_in, delay, last_store}
-use Rattle.bank_shape.specs.declared.pace.Policy.{Policy}
-use Rattle.bank_shape.specs.declared.pace.Policy.TheVariants.{Pause, Plain, Cancel}
-use Rattle.check_judging.specs.Coming.{came, fourth_from}
-use Rattle.check_judging.specs.Counting.{line_stores}
-use Rattle.check_judging.specs.Keys.{key, up_to, store_keys, read_keys}
-use Rattle.check_judging.proofs.Counts.{count-same, count-filter, count-permuted, count-turned, last_by_count_law}
-use Rattle.masked_bytes.proofs.Counting.{count-append, count-cons, one_if}
-use Rattle.check_judging.proofs.Fourth.{fourth_law}
-use Rattle.check_judging.proofs.SortedKeys.{count_law}
-use Rattle.check_verdict.specs.Keeping.{delay_by}
-use Rattle.check_verdict.specs.Tables.{around, CountsToldLaw, LineKeysLaw, OwnLaw, four_came, DelayLaw, FourLaw}
+use Rattle.row_rules.specs.{Answers.{is_stored, is_answered, stored_after, stored_by, read_after, read_by}, Rows.{asks_write, asks_read, asks_write_of, write_of}, Serving.may_have}
+use Rattle.row_rules.specs.{Table.{is_of, of_bank}, Ticking.{stores_in, delay, last_store}, declared.Asks.Asks, declared.Asks.TheVariants.{Reads, Writes, Cuts}, declared.Row.Row}
+use Rattle.bank_shape.specs.{declared.pace.Policy.Policy, declared.pace.Policy.TheVariants.{Pause, Plain, Cancel}}
+use Rattle.check_judging.specs.{Coming.{came, fourth_from}, Counting.line_stores, Keys.{key, up_to, store_keys, read_keys}}
+use Rattle.check_judging.proofs.{Counts.{count-same, count-filter, count-permuted, count-turned, last_by_count_law}, Fourth.fourth_law, SortedKeys.count_law}
+use Rattle.check_verdict.specs.{Keeping.delay_by, Tables.{around, CountsToldLaw, LineKeysLaw, OwnLaw, four_came, DelayLaw, FourLaw}}
 
 -- the fourth came at v or later
 abbrev at_fourth : ℕ → Option ℕ → Bool

@@ -1,28 +1,14 @@
 -- The times of a row, by what is kept of its bank.
 use Rattle.std.proofs.Common.{◌≡◌, ℕ, ◌+◌, ◌^◌, ◌<◌, ◌≤◌, ◌&&◌, ◌||◌, ◌⊎◌, inl, inr, Bool, true, false, List, [], ◌∷◌, Option, refl, sym, ap, ◌∙◌, arith}
+use Rattle.std.{specs.List.list_all, specs.Prelude.{nat_le, nat_lt, not}, proofs.lemmas.Bool.{lt-leb, lt-ltb, cases_lt}}
 use Rattle.masked_bytes.proofs.Truth.{and_first, and_second}
-use Rattle.std.specs.Prelude.{nat_le, nat_lt, not}
-use Rattle.std.specs.List.{list_all}
-use Rattle.std.proofs.lemmas.Bool.{lt-leb, lt-ltb, cases_lt}
 use Rattle.result_rows.specs.declared.Outcome.{Outcome}
 use Rattle.result_rows.specs.declared.Outcome.TheVariants as out
-use Rattle.row_rules.specs.declared.Asks.{Asks}
-use Rattle.row_rules.specs.declared.Asks.TheVariants.{Reads, Writes, Cuts}
-use Rattle.row_rules.specs.declared.Row.{Row}
-use Rattle.row_rules.specs.Answers.{is_stored, is_answered}
-use Rattle.row_rules.specs.declared.Rules.{Rules}
-use Rattle.row_rules.specs.Rows.{asks_read, asks_write}
-use Rattle.row_rules.specs.Ticking.{bound, read_in_time, store_in_time, asks_in_time, apart}
-use Rattle.check_judging.specs.Rising.{rising}
-use Rattle.check_judging.specs.Cutting.{cut_ticks, first_from, first_is}
-use Rattle.check_judging.specs.Keys.{is_short}
-use Rattle.check_judging.specs.Distances.{ends_behind}
-use Rattle.check_judging.proofs.Cuts.{first_cut_law}
-use Rattle.check_verdict.specs.declared.members.Member.{Member}
-use Rattle.check_verdict.specs.Keeping.{before_cut, at_cut, read_timely, write_timely}
-use Rattle.check_verdict.specs.Kept.{KeptBank, apart_kept}
-use Rattle.check_verdict.specs.Timely.{first_of_ticks, latest_store, ReadTimesLaw, WriteTimesLaw}
-use Rattle.check_verdict.proofs.Apart.{apart_kept_law}
+use Rattle.row_rules.specs.{Answers.{is_stored, is_answered}, Rows.{asks_read, asks_write}, Ticking.{bound, read_in_time, store_in_time, asks_in_time, apart}, declared.Asks.Asks}
+use Rattle.row_rules.specs.{declared.Asks.TheVariants.{Reads, Writes, Cuts}, declared.Row.Row, declared.Rules.Rules}
+use Rattle.check_judging.{specs.Cutting.{cut_ticks, first_from, first_is}, specs.Distances.ends_behind, specs.Keys.is_short, specs.Rising.rising, proofs.Cuts.first_cut_law}
+use Rattle.check_verdict.specs.{Keeping.{before_cut, at_cut, read_timely, write_timely}, Kept.{KeptBank, apart_kept}}
+use Rattle.check_verdict.{specs.Timely.{first_of_ticks, latest_store, ReadTimesLaw, WriteTimesLaw}, specs.declared.members.Member.Member, proofs.Apart.apart_kept_law}
 
 -- where the first test passes, the last two are the same
 under : (a b x y : Bool) → (a ≡ true → x ≡ y) → ((a && b) && x) ≡ ((a && b) && y)

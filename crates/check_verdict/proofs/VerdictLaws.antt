@@ -1,47 +1,19 @@
 -- A row's verdict in the words of the code.
 use Rattle.std.proofs.Common.{◌≡◌, ℕ, zero, suc, ◌+◌, ◌-◌, ◌*◌, ◌<◌, ◌≤◌, ◌==◌, ◌&&◌, ◌||◌, ◌⊎◌, inl, inr, Bool, true, false, List, [], ◌∷◌, ◌++◌, Option, Some, None, length, refl, sym, ap, ◌∙◌, subst, cond, arith}
-use Rattle.masked_bytes.proofs.Truth.{and_first, and_second}
-use Rattle.std.specs.Prelude.{nat_le, nat_lt, not, slice_get, unwrap_or, count_by}
-use Rattle.std.proofs.lemmas.Bool.{leb-true, ltb-true, le-ltb, eq-eqb, eqb-true, ne_eqb, cases_lt, cases_eq}
-use Rattle.masked_bytes.specs.Masked.{gives_all, laid}
+use Rattle.std.{specs.Prelude.{nat_le, nat_lt, not, slice_get, unwrap_or, count_by}, proofs.lemmas.Bool.{leb-true, ltb-true, le-ltb, eq-eqb, eqb-true, ne_eqb, cases_lt, cases_eq}}
+use Rattle.masked_bytes.{specs.Masked.{gives_all, laid}, proofs.Counting.{count-append, count-cons, one_if}, proofs.Truth.{and_first, and_second}}
 use Rattle.result_rows.specs.declared.Outcome.{Outcome}
 use Rattle.result_rows.specs.declared.Outcome.TheVariants as out
-use Rattle.row_rules.specs.declared.Asks.{Asks}
-use Rattle.row_rules.specs.declared.Asks.TheVariants.{Reads, Writes, Cuts}
-use Rattle.row_rules.specs.declared.Row.{Row}
-use Rattle.row_rules.specs.Answers.{accepts, is_worn, is_answered, is_lost, stored_after, stored_by}
+use Rattle.row_rules.specs.{Answers.{accepts, is_worn, is_answered, is_lost, stored_after, stored_by}, Queueing.{waiting, cover, read_fits}}
+use Rattle.row_rules.specs.{Rows.{newest, asks_write, asks_read, asks_write_of, lay_row, bytes_of, given_of}, Serving.may_have, Table.{is_of, of_bank}}
+use Rattle.row_rules.specs.{Ticking.{bound, delay, longest, stores_in, reads_in, cuts_to}, declared.Asks.Asks, declared.Asks.TheVariants.{Reads, Writes, Cuts}, declared.Row.Row}
 use Rattle.row_rules.specs.declared.Rules.{Rules}
-use Rattle.row_rules.specs.Rows.{newest, asks_write, asks_read, asks_write_of, lay_row, bytes_of, given_of}
-use Rattle.row_rules.specs.Serving.{may_have}
-use Rattle.row_rules.specs.Table.{is_of, of_bank}
-use Rattle.row_rules.specs.Queueing.{waiting, cover, read_fits}
-use Rattle.row_rules.specs.Ticking.{bound, delay, longest, stores_in, reads_in, cuts_to}
-use Rattle.check_judging.specs.Coming.{came}
-use Rattle.check_judging.specs.Cutting.{cut_ticks}
-use Rattle.check_judging.specs.Keys.{reach, is_short, key, up_to}
-use Rattle.check_judging.specs.Rising.{falling}
-use Rattle.masked_bytes.proofs.Counting.{count-append, count-cons, one_if}
-use Rattle.check_judging.proofs.Cuts.{first_cut_law, cuts_of_bank_law}
-use Rattle.check_verdict.specs.declared.Rule.{Rule}
-use Rattle.check_verdict.specs.declared.known.Keys.{Keys}
-use Rattle.check_verdict.specs.Ahead.{four_kept, latest_kept, at_store}
-use Rattle.check_verdict.specs.Covering.{soonest, cover_kept}
-use Rattle.check_verdict.specs.Fitting.{at_head_kept, write_fits}
-use Rattle.check_verdict.specs.Judged.{first_broken, beside, a_write, a_read}
-use Rattle.check_verdict.specs.Keeping.{stored_early, read_timely, write_timely, delay_kept}
-use Rattle.check_verdict.specs.Kept.{apart_kept}
-use Rattle.check_verdict.specs.QueueLaws.{next_accepted}
-use Rattle.check_verdict.specs.RowVerdicts.{read_by}
-use Rattle.check_verdict.specs.States.{Facts}
-use Rattle.check_verdict.specs.Tables.{four_came}
-use Rattle.check_verdict.specs.Timely.{FindsTimes, first_of_ticks, latest_store}
-use Rattle.check_verdict.specs.VerdictLaws.{HasKeys, Comes, WriteVerdictLaw, ReadVerdictLaw}
-use Rattle.check_verdict.specs.Verdicts.{bank_in}
-use Rattle.check_verdict.specs.Worn.{first_worn}
-use Rattle.check_verdict.proofs.Covering.{cover_kept_law}
-use Rattle.check_verdict.proofs.Judged.{judge_write_law, judge_read_law}
-use Rattle.check_verdict.proofs.Numbers.{numbers_law}
-use Rattle.check_verdict.proofs.Tables.{counts_told_law, line_keys_law, delay_law}
+use Rattle.check_judging.{specs.Coming.came, specs.Cutting.cut_ticks, specs.Keys.{reach, is_short, key, up_to}, specs.Rising.falling, proofs.Cuts.{first_cut_law, cuts_of_bank_law}}
+use Rattle.check_verdict.specs.{Ahead.{four_kept, latest_kept, at_store}, Covering.{soonest, cover_kept}, Fitting.{at_head_kept, write_fits}}
+use Rattle.check_verdict.specs.{Judged.{first_broken, beside, a_write, a_read}, Keeping.{stored_early, read_timely, write_timely, delay_kept}, Kept.apart_kept}
+use Rattle.check_verdict.specs.{QueueLaws.next_accepted, RowVerdicts.read_by, States.Facts, Tables.four_came, Timely.{FindsTimes, first_of_ticks, latest_store}}
+use Rattle.check_verdict.specs.{VerdictLaws.{HasKeys, Comes, WriteVerdictLaw, ReadVerdictLaw}, Verdicts.bank_in, Worn.first_worn, declared.Rule.Rule, declared.known.Keys.Keys}
+use Rattle.check_verdict.proofs.{Covering.cover_kept_law, Judged.{judge_write_law, judge_read_law}, Numbers.numbers_law, Tables.{counts_told_law, line_keys_law, delay_law}}
 
 -- a row stands among those of its line's bank
 own : {A : Type 0} (b : ℕ) (x : A) (xs : List A) → cond (b == b) (x ∷ xs) xs ≡ x ∷ xs

@@ -1,16 +1,11 @@
 -- The rule on worn rows, by what is kept.
 use Rattle.std.proofs.Common.{◌≡◌, ℕ, ◌&&◌, ◌||◌, Bool, true, false, List, [], ◌∷◌, Some, refl, ap, ◌∙◌, cond}
-use Rattle.std.specs.Prelude.{nat_le, not}
-use Rattle.std.specs.List.{list_any}
+use Rattle.std.specs.{List.list_any, Prelude.{nat_le, not}}
 use Rattle.result_rows.specs.declared.Outcome.{Outcome}
 use Rattle.result_rows.specs.declared.Outcome.TheVariants as out
-use Rattle.row_rules.specs.declared.Row.{Row}
-use Rattle.row_rules.specs.Answers.{is_worn}
-use Rattle.row_rules.specs.Wearing.{worn_row}
-use Rattle.check_judging.specs.Worn.{first_worn_by, store_precedes}
-use Rattle.check_judging.proofs.FirstWorn.{worn_law}
-use Rattle.check_verdict.specs.Keeping.{before_worn, stored_early}
-use Rattle.check_verdict.specs.Worn.{first_worn, WornKeptLaw}
+use Rattle.row_rules.specs.{Answers.is_worn, Wearing.worn_row, declared.Row.Row}
+use Rattle.check_judging.{specs.Worn.{first_worn_by, store_precedes}, proofs.FirstWorn.worn_law}
+use Rattle.check_verdict.specs.{Keeping.{before_worn, stored_early}, Worn.{first_worn, WornKeptLaw}}
 
 module _ {n : ℕ} where
   early : (u : ℕ) (rows : List (Row n)) → not (first_worn_by u rows) ≡ before_worn u (first_worn rows)

@@ -2,8 +2,7 @@
 use Rattle.std.specs.Prelude.{ℕ, ◌+◌, ◌-◌, ◌*◌, ◌==◌, Bool, false, List, Option, Some, None}
 use Rattle.result_rows.specs.declared.Outcome.{Outcome}
 use Rattle.result_rows.specs.declared.Outcome.TheVariants as out
-use Rattle.row_rules.specs.declared.Rules.{Rules}
-use Rattle.row_rules.specs.Ticking.{longest}
+use Rattle.row_rules.specs.{Ticking.longest, declared.Rules.Rules}
 use Rattle.check_judging.specs.Keys.{key, up_to}
 use Rattle.check_verdict.specs.Keeping.{delay_kept}
 

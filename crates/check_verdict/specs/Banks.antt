@@ -1,6 +1,5 @@
 -- What the code keeps of a bank, as the laws know it.
-use Rattle.check_verdict.specs.declared.bank.Bank.{Bank}
-use Rattle.check_verdict.specs.States.{Facts}
+use Rattle.check_verdict.specs.{States.Facts, declared.bank.Bank.Bank}
 
 abbrev pub facts_of : Bank → Facts
 facts_of b = record {

@@ -3,9 +3,7 @@ use Rattle.std.specs.Prelude.{◌≡◌, ℕ, ◌≤◌, Bool, true, false, if�
 use Rattle.masked_bytes.specs.Masked.{joined, laid, none_given}
 use Rattle.result_rows.specs.declared.Outcome.{Outcome}
 use Rattle.result_rows.specs.declared.Outcome.TheVariants as out
-use Rattle.row_rules.specs.declared.Row.{Row}
-use Rattle.row_rules.specs.Rows.{accepted_of, write_of, newest, bytes_of, given_of}
-use Rattle.row_rules.specs.Queueing.{cover}
+use Rattle.row_rules.specs.{Queueing.cover, Rows.{accepted_of, write_of, newest, bytes_of, given_of}, declared.Row.Row}
 use Rattle.check_judging.specs.Runs.{run, held, GivesSized}
 use Rattle.check_verdict.specs.declared.lines.Run.{Run}
 

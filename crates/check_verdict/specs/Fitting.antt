@@ -1,17 +1,13 @@
 -- The queue's rule in the words of what is kept of a bank.
-use Rattle.std.specs.Prelude.{◌≡◌, ℕ, ◌+◌, ◌==◌, ◌&&◌, ◌||◌, Bool, true, false, IsTrue, not, List, [], ◌∷◌, Option, Some, None, length, reverse, nat_le, nat_lt, count_by, if◌then◌else◌}
 use Rattle.std.specs.List.{list_all, list_any}
+use Rattle.std.specs.Prelude.{◌≡◌, ℕ, ◌+◌, ◌==◌, ◌&&◌, ◌||◌, Bool, true, false, IsTrue, not, List, [], ◌∷◌, Option, Some, None, length, reverse, nat_le, nat_lt, count_by}
+use Rattle.std.specs.Prelude.{if◌then◌else◌}
 use Rattle.result_rows.specs.declared.Outcome.{Outcome}
 use Rattle.result_rows.specs.declared.Outcome.TheVariants as out
-use Rattle.row_rules.specs.declared.Row.{Row}
-use Rattle.check_judging.specs.Few.{few_by}
-use Rattle.row_rules.specs.Answers.{is_full}
-use Rattle.check_judging.specs.Keys.{reach, key, up_to}
-use Rattle.check_verdict.specs.declared.members.Member.{Member}
-use Rattle.check_verdict.specs.declared.members.Twins.{Twins}
+use Rattle.row_rules.specs.{Answers.is_full, declared.Row.Row}
+use Rattle.check_judging.specs.{Few.few_by, Keys.{reach, key, up_to}}
+use Rattle.check_verdict.specs.{Covering.comes_by, Members.never, declared.members.Member.Member, declared.members.Twins.Twins}
 use Rattle.check_verdict.specs.declared.members.Twins.TheVariants.{Nowhere, Only, Anywhere}
-use Rattle.check_verdict.specs.Covering.{comes_by}
-use Rattle.check_verdict.specs.Members.{never}
 
 -- a member is of this line
 abbrev pub is_of : ℕ → Member → Bool

@@ -1,15 +1,9 @@
 -- What is kept of a bank, with one row more.
-use Rattle.row_rules.specs.Answers.{is_stored, is_answered, is_lost}
-use Rattle.row_rules.specs.Rows.{asks_read}
-use Rattle.check_judging.specs.Distances.{later_of}
+use Rattle.row_rules.specs.{Answers.{is_stored, is_answered, is_lost}, Queueing.stands, Rows.{asks_read, accepted, asks_cut, line_of}, declared.Row.Row}
+use Rattle.check_judging.specs.{Distances.later_of, Standing.is_own}
 use Rattle.std.specs.Prelude.{◌≡◌, ℕ, ◌+◌, ◌<◌, ◌==◌, ◌&&◌, not, Bool, true, false, IsTrue, List, [], ◌∷◌, ◌++◌, Option, filter}
 use Rattle.result_rows.specs.declared.Outcome.TheVariants as out
-use Rattle.row_rules.specs.declared.Row.{Row}
-use Rattle.row_rules.specs.Rows.{accepted, asks_cut, line_of}
-use Rattle.row_rules.specs.Queueing.{stands}
-use Rattle.check_judging.specs.Standing.{is_own}
-use Rattle.check_verdict.specs.declared.members.Member.{Member}
-use Rattle.check_verdict.specs.Kept.{sight, sight_of, KeptBank}
+use Rattle.check_verdict.specs.{Kept.{sight, sight_of, KeptBank}, declared.members.Member.Member}
 
 -- a member isn't merged into a write of this line
 abbrev pub stays_beside : ℕ → Member → Bool

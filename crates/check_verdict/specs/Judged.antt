@@ -1,31 +1,15 @@
 -- A row's verdict, by what is kept of its bank and known of the rows behind it.
-use Rattle.std.specs.Prelude.{◌≡◌, ℕ, ◌+◌, ◌&&◌, ◌||◌, not, Bool, true, IsTrue, if◌then◌else◌, List, ◌++◌, Option, Some, None, length}
-use Rattle.std.specs.List.{list_any}
+use Rattle.std.specs.{List.list_any, Prelude.{◌≡◌, ℕ, ◌+◌, ◌&&◌, ◌||◌, not, Bool, true, IsTrue, if◌then◌else◌, List, ◌++◌, Option, Some, None, length}}
 use Rattle.masked_bytes.specs.Masked.{gives_all}
 use Rattle.result_rows.specs.declared.Outcome.{Outcome}
 use Rattle.result_rows.specs.declared.Outcome.TheVariants as out
-use Rattle.row_rules.specs.declared.Asks.{Asks}
-use Rattle.row_rules.specs.declared.Asks.TheVariants.{Reads, Writes, Cuts}
-use Rattle.row_rules.specs.declared.Row.{Row}
-use Rattle.row_rules.specs.Answers.{is_worn}
-use Rattle.row_rules.specs.declared.Rules.{Rules}
-use Rattle.row_rules.specs.Rows.{newest}
-use Rattle.row_rules.specs.Serving.{may_have}
-use Rattle.row_rules.specs.Table.{of_bank}
-use Rattle.row_rules.specs.Queueing.{cover, read_fits, has_room}
-use Rattle.row_rules.specs.Ticking.{bound}
-use Rattle.row_rules.specs.Wearing.{worn_row}
+use Rattle.row_rules.specs.{Answers.is_worn, Queueing.{cover, read_fits, has_room}, Rows.newest, Serving.may_have, Table.of_bank, Ticking.bound, Wearing.worn_row}
+use Rattle.row_rules.specs.{declared.Asks.Asks, declared.Asks.TheVariants.{Reads, Writes, Cuts}, declared.Row.Row, declared.Rules.Rules}
 use Rattle.check_judging.specs.Cutting.{cut_ticks}
-use Rattle.check_verdict.specs.declared.Rule.{Rule}
-use Rattle.check_verdict.specs.declared.Rule.TheVariants as rule
+use Rattle.check_verdict.specs.{Fitting.{at_head_kept, write_fits}, Keeping.{stored_early, read_timely, write_timely}, Kept.apart_kept, QueueLaws.{Finds, KeysTell, next_accepted}}
+use Rattle.check_verdict.specs.{Timely.{FindsTimes, first_of_ticks, latest_store}, Verdicts.{bank_in, all_have_room, all_rules, broken_by}, Worn.first_worn, declared.Rule.Rule}
 use Rattle.check_verdict.specs.declared.members.Member.{Member}
-use Rattle.check_verdict.specs.Fitting.{at_head_kept, write_fits}
-use Rattle.check_verdict.specs.Keeping.{stored_early, read_timely, write_timely}
-use Rattle.check_verdict.specs.Kept.{apart_kept}
-use Rattle.check_verdict.specs.QueueLaws.{Finds, KeysTell, next_accepted}
-use Rattle.check_verdict.specs.Timely.{FindsTimes, first_of_ticks, latest_store}
-use Rattle.check_verdict.specs.Verdicts.{bank_in, all_have_room, all_rules, broken_by}
-use Rattle.check_verdict.specs.Worn.{first_worn}
+use Rattle.check_verdict.specs.declared.Rule.TheVariants as rule
 
 -- the first rule that is broken, by whether a row is served, each bank has room, and the row's answer, wear and times are as they must be
 abbrev pub first_broken : Bool → Bool → Bool → Bool → Bool → Option Rule

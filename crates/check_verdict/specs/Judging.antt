@@ -1,11 +1,7 @@
 -- What a verdict says.
 use Rattle.std.specs.Prelude.{◌≡◌, ℕ, ◌+◌, List, ◌∷◌, ◌++◌, length, reverse, Some, true}
-use Rattle.row_rules.specs.declared.Row.{Row}
-use Rattle.row_rules.specs.declared.Rules.{Rules}
-use Rattle.row_rules.specs.Rows.{each_row}
-use Rattle.check_verdict.specs.declared.Rule.{Rule}
-use Rattle.check_verdict.specs.declared.Verdict.TheVariants.{Yes, No}
-use Rattle.check_verdict.specs.Verdicts.{all_rules, broken_by, keeps_all, verdict_of, RowsOk}
+use Rattle.row_rules.specs.{Rows.each_row, declared.Row.Row, declared.Rules.Rules}
+use Rattle.check_verdict.specs.{Verdicts.{all_rules, broken_by, keeps_all, verdict_of, RowsOk}, declared.Rule.Rule, declared.Verdict.TheVariants.{Yes, No}}
 
 -- Yes comes exactly where each row keeps each rule
 pub record IsYesExactly {n : ℕ} (rules : Rules) (banks : List ℕ) (rows : List (Row n)) : Type 0 where

@@ -1,20 +1,12 @@
 -- What a checker keeps of a bank, beside the rows that it stands for.
-use Rattle.std.specs.Prelude.{◌≡◌, ℕ, ◌<◌, ◌≤◌, ◌^◌, ◌==◌, ◌&&◌, Bool, true, IsTrue, not, List, [], ◌∷◌, Option, nat_le, nat_lt, if◌then◌else◌, filter, reverse, map, min}
 use Rattle.std.specs.List.{list_all}
+use Rattle.std.specs.Prelude.{◌≡◌, ℕ, ◌<◌, ◌≤◌, ◌^◌, ◌==◌, ◌&&◌, Bool, true, IsTrue, not, List, [], ◌∷◌, Option, nat_le, nat_lt, if◌then◌else◌, filter, reverse, map, min}
 use Rattle.result_rows.specs.declared.Outcome.{Outcome}
 use Rattle.result_rows.specs.declared.Outcome.TheVariants as out
-use Rattle.row_rules.specs.declared.Row.{Row}
-use Rattle.row_rules.specs.Answers.{is_merged}
-use Rattle.row_rules.specs.Rows.{line_of}
-use Rattle.row_rules.specs.Queueing.{pending}
-use Rattle.row_rules.specs.Ticking.{apart}
-use Rattle.check_judging.specs.Distances.{is_far_below, later_of, waits_above, last_end, last_read, ends_behind}
-use Rattle.check_judging.specs.Heads.{end_of, leave_of}
-use Rattle.check_judging.specs.Keys.{is_short}
-use Rattle.check_judging.specs.Lost.{lost_since}
+use Rattle.row_rules.specs.{Answers.is_merged, Queueing.pending, Rows.line_of, Ticking.apart, declared.Row.Row}
+use Rattle.check_judging.specs.{Distances.{is_far_below, later_of, waits_above, last_end, last_read, ends_behind}, Heads.{end_of, leave_of}, Keys.is_short, Lost.lost_since}
 use Rattle.check_judging.specs.Standing.{is_own}
-use Rattle.check_verdict.specs.declared.members.Member.{Member}
-use Rattle.check_verdict.specs.Members.{never, ends_elsewhere, ends_apart}
+use Rattle.check_verdict.specs.{Members.{never, ends_elsewhere, ends_apart}, declared.members.Member.Member}
 
 -- what a member says of its row
 pub record Sight : Type 0 where

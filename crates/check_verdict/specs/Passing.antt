@@ -1,17 +1,8 @@
 -- What the pass over the rows keeps, once some of them are passed.
 use Rattle.std.specs.Prelude.{◌≡◌, ℕ, ◌<◌, ◌≤◌, ◌==◌, ◌⊎◌, Bool, true, false, IsTrue, if◌then◌else◌, List, ◌∷◌, Option, Some, None, length}
 use Rattle.result_rows.specs.declared.Outcome.{Outcome}
-use Rattle.row_rules.specs.declared.Asks.TheVariants.{Reads, Writes, Cuts}
-use Rattle.row_rules.specs.declared.Row.{Row}
-use Rattle.row_rules.specs.declared.Rules.{Rules}
-use Rattle.row_rules.specs.Table.{of_bank}
-use Rattle.row_rules.specs.Queueing.{has_room}
-use Rattle.row_rules.specs.Serving.{may_have}
-use Rattle.check_verdict.specs.Fitting.{room_kept, is_brief}
-use Rattle.check_verdict.specs.Judged.{RoomIs, a_cut}
-use Rattle.check_verdict.specs.Members.{never}
-use Rattle.check_verdict.specs.States.{Facts, Stands, settled, cut_off}
-use Rattle.check_verdict.specs.Verdicts.{bank_in, all_have_room}
+use Rattle.row_rules.specs.{Queueing.has_room, Serving.may_have, Table.of_bank, declared.Asks.TheVariants.{Reads, Writes, Cuts}, declared.Row.Row, declared.Rules.Rules}
+use Rattle.check_verdict.specs.{Fitting.{room_kept, is_brief}, Judged.{RoomIs, a_cut}, Members.never, States.{Facts, Stands, settled, cut_off}, Verdicts.{bank_in, all_have_room}}
 
 -- a bank is that of the line of the last row, if that has one
 abbrev pub is_joined : List ℕ → Option ℕ → ℕ → Bool

@@ -1,17 +1,10 @@
 -- The rule on the queue is told by what is kept of a bank.
 use Rattle.std.specs.Prelude.{◌≡◌, ℕ, ◌+◌, ◌<◌, ◌≤◌, IsTrue, if◌then◌else◌, List, [], ◌∷◌, ◌++◌, Bool, Option, Some, None, length, nat_lt}
 use Rattle.masked_bytes.specs.Masked.{gives_all}
-use Rattle.row_rules.specs.declared.Asks.TheVariants.{Reads, Writes}
-use Rattle.row_rules.specs.declared.Row.{Row}
+use Rattle.row_rules.specs.{Queueing.{pending, waiting, cover, read_fits, queue_fits, has_room}, Rows.accepted_of, declared.Asks.TheVariants.{Reads, Writes}, declared.Row.Row}
 use Rattle.row_rules.specs.declared.Rules.{Rules}
-use Rattle.row_rules.specs.Rows.{accepted_of}
-use Rattle.row_rules.specs.Queueing.{pending, waiting, cover, read_fits, queue_fits, has_room}
-use Rattle.check_judging.specs.Counting.{line_stores}
-use Rattle.check_judging.specs.Keys.{reach}
-use Rattle.check_judging.specs.Near.{NearRoom}
-use Rattle.check_verdict.specs.declared.members.Member.{Member}
-use Rattle.check_verdict.specs.Fitting.{stores_between, at_head_kept, write_fits, room_kept, all_brief}
-use Rattle.check_verdict.specs.Kept.{KeptBank}
+use Rattle.check_judging.specs.{Counting.line_stores, Keys.reach, Near.NearRoom}
+use Rattle.check_verdict.specs.{Fitting.{stores_between, at_head_kept, write_fits, room_kept, all_brief}, Kept.KeptBank, declared.members.Member.Member}
 
 -- the tick of the first accepted write of a line
 abbrev pub next_accepted : {n : ℕ} → ℕ → List (Row n) → Option ℕ

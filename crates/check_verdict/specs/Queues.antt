@@ -1,9 +1,7 @@
 -- The rule on the queue, by what is kept of a bank.
 use Rattle.std.specs.Prelude.{◌≡◌, ℕ, ◌+◌, List, [], Option, length}
-use Rattle.row_rules.specs.declared.Row.{Row}
-use Rattle.row_rules.specs.Queueing.{pending, waiting}
-use Rattle.check_verdict.specs.declared.members.Member.{Member}
-use Rattle.check_verdict.specs.Kept.{KeptBank}
+use Rattle.row_rules.specs.{Queueing.{pending, waiting}, declared.Row.Row}
+use Rattle.check_verdict.specs.{Kept.KeptBank, declared.members.Member.Member}
 
 -- the numbers of the writes that stand and of the reads that wait are those of what is kept
 pub record NumbersTold {n : ℕ} (t : ℕ) (rows : List (Row n)) (members : List Member) (waits : List ℕ) (lost : ℕ) : Type 0 where

@@ -1,27 +1,11 @@
 -- A row's verdict in the words of the code: what is kept of its bank, sorted keys of the whole table, and what is known of later rows.
-use Rattle.std.specs.Prelude.{ℕ, ◌+◌, ◌≤◌, ◌&&◌, ◌||◌, not, Bool, true, List, Option, length}
-use Rattle.std.specs.List.Sorted.{IsNonDecreasing}
+use Rattle.std.specs.{List.Sorted.IsNonDecreasing, Prelude.{ℕ, ◌+◌, ◌≤◌, ◌&&◌, ◌||◌, not, Bool, true, List, Option, length}}
 use Rattle.masked_bytes.specs.Masked.{gives_all}
 use Rattle.result_rows.specs.declared.Outcome.{Outcome}
-use Rattle.row_rules.specs.declared.Row.{Row}
-use Rattle.row_rules.specs.declared.Rules.{Rules}
-use Rattle.row_rules.specs.Answers.{is_worn}
-use Rattle.row_rules.specs.Queueing.{read_fits}
-use Rattle.row_rules.specs.Serving.{may_have}
-use Rattle.check_verdict.specs.declared.Rule.{Rule}
-use Rattle.check_verdict.specs.declared.known.Coming.{Coming}
-use Rattle.check_verdict.specs.declared.known.Keys.{Keys}
-use Rattle.check_verdict.specs.declared.lines.Line.{Line}
-use Rattle.check_verdict.specs.Ahead.{bound_kept, latest_kept, at_store}
-use Rattle.check_verdict.specs.Covering.{soonest, cover_kept}
-use Rattle.check_verdict.specs.Fitting.{at_head_kept, write_fits}
-use Rattle.check_verdict.specs.Judged.{beside, first_broken}
-use Rattle.check_verdict.specs.Keeping.{stored_early, read_timely, write_timely}
-use Rattle.check_verdict.specs.Kept.{apart_kept}
-use Rattle.check_verdict.specs.QueueLaws.{next_accepted}
-use Rattle.check_verdict.specs.States.{Facts}
-use Rattle.check_verdict.specs.Timely.{first_of_ticks}
-use Rattle.check_verdict.specs.Worn.{first_worn}
+use Rattle.row_rules.specs.{Answers.is_worn, Queueing.read_fits, Serving.may_have, declared.Row.Row, declared.Rules.Rules}
+use Rattle.check_verdict.specs.{Ahead.{bound_kept, latest_kept, at_store}, Covering.{soonest, cover_kept}, Fitting.{at_head_kept, write_fits}, Judged.{beside, first_broken}}
+use Rattle.check_verdict.specs.{Keeping.{stored_early, read_timely, write_timely}, Kept.apart_kept, QueueLaws.next_accepted, States.Facts, Timely.first_of_ticks, Worn.first_worn}
+use Rattle.check_verdict.specs.{declared.Rule.Rule, declared.known.Coming.Coming, declared.known.Keys.Keys, declared.lines.Line.Line}
 
 -- keys of a table are sorted, and few
 pub record AreUsable (keys : Keys) : Type 0 where

@@ -1,25 +1,11 @@
 -- What is kept of a bank, as rows pass.
-use Rattle.std.specs.Prelude.{◌≡◌, ℕ, ◌+◌, ◌<◌, ◌≤◌, not, Bool, true, false, IsTrue, List, [], ◌∷◌, ◌++◌, Option, Some, None, filter, nat_le, nat_lt}
-use Rattle.std.specs.List.{list_any}
+use Rattle.std.specs.{List.list_any, Prelude.{◌≡◌, ℕ, ◌+◌, ◌<◌, ◌≤◌, not, Bool, true, false, IsTrue, List, [], ◌∷◌, ◌++◌, Option, Some, None, filter, nat_le, nat_lt}}
 use Rattle.result_rows.specs.declared.Outcome.{Outcome}
 use Rattle.result_rows.specs.declared.Outcome.TheVariants as out
-use Rattle.row_rules.specs.declared.Asks.TheVariants.{Reads, Writes, Cuts}
-use Rattle.row_rules.specs.declared.Row.{Row}
-use Rattle.row_rules.specs.declared.Rules.{Rules}
-use Rattle.row_rules.specs.Queueing.{has_room}
-use Rattle.row_rules.specs.Serving.{may_have}
-use Rattle.row_rules.specs.Wearing.{worn_row}
-use Rattle.check_judging.specs.Distances.{later_of, ends_behind}
-use Rattle.check_judging.specs.Near.{NearRoom}
-use Rattle.check_judging.specs.Rising.{falling}
-use Rattle.check_verdict.specs.declared.members.Member.{Member}
-use Rattle.check_verdict.specs.Fitting.{is_brief}
-use Rattle.check_verdict.specs.Joined.{stays_beside}
-use Rattle.check_verdict.specs.Judged.{a_write, a_read, a_cut}
-use Rattle.check_verdict.specs.Kept.{sight, sight_of, ended}
-use Rattle.check_verdict.specs.Members.{never}
-use Rattle.check_verdict.specs.QueueLaws.{Finds}
-use Rattle.check_verdict.specs.Tables.{KeptFour}
+use Rattle.row_rules.specs.{Queueing.has_room, Serving.may_have, Wearing.worn_row, declared.Asks.TheVariants.{Reads, Writes, Cuts}, declared.Row.Row, declared.Rules.Rules}
+use Rattle.check_judging.specs.{Distances.{later_of, ends_behind}, Near.NearRoom, Rising.falling}
+use Rattle.check_verdict.specs.{Fitting.is_brief, Joined.stays_beside, Judged.{a_write, a_read, a_cut}, Kept.{sight, sight_of, ended}, Members.never, QueueLaws.Finds}
+use Rattle.check_verdict.specs.{Tables.KeptFour, declared.members.Member.Member}
 
 -- what is kept of a bank: the writes in its queue, the ticks of the reads that wait, how many a cut will lose, the last read and the
 -- last store, whether a row was worn, and the last four of the reads that came

@@ -1,17 +1,8 @@
 -- What sorted keys of a whole table tell of a row of it, and what the reads that came tell.
 use Rattle.std.specs.Prelude.{◌≡◌, ℕ, ◌+◌, ◌<◌, ◌≤◌, ◌==◌, Bool, false, IsTrue, List, ◌∷◌, ◌++◌, Option, Some, None, IsPermutation, reverse, slice_get}
-use Rattle.row_rules.specs.declared.Row.{Row}
-use Rattle.row_rules.specs.declared.Rules.{Rules}
-use Rattle.row_rules.specs.Rows.{asks_write}
-use Rattle.row_rules.specs.Serving.{may_have}
-use Rattle.row_rules.specs.Table.{of_bank}
-use Rattle.row_rules.specs.Ticking.{stores_in, reads_in, delay}
-use Rattle.check_judging.specs.Coming.{came}
-use Rattle.check_judging.specs.Keys.{reach, key, up_to, store_keys, read_keys, all_short}
-use Rattle.check_judging.specs.Rising.{falling}
-use Rattle.check_judging.specs.Standing.{is_own}
-use Rattle.check_verdict.specs.Keeping.{delay_kept}
-use Rattle.check_verdict.specs.QueueLaws.{KeysTell}
+use Rattle.row_rules.specs.{Rows.asks_write, Serving.may_have, Table.of_bank, Ticking.{stores_in, reads_in, delay}, declared.Row.Row, declared.Rules.Rules}
+use Rattle.check_judging.specs.{Coming.came, Keys.{reach, key, up_to, store_keys, read_keys, all_short}, Rising.falling, Standing.is_own}
+use Rattle.check_verdict.specs.{Keeping.delay_kept, QueueLaws.KeysTell}
 
 -- a whole table, the oldest row first, around one of its rows
 abbrev pub around : {n : ℕ} → List (Row n) → Row n → List (Row n) → List (Row n)

@@ -1,16 +1,8 @@
 -- The times of a row, by what is kept of its bank.
 use Rattle.std.specs.Prelude.{◌≡◌, ℕ, ◌+◌, ◌<◌, ◌^◌, ◌&&◌, true, IsTrue, List, [], ◌∷◌, ◌++◌, Option, Some, None}
-use Rattle.row_rules.specs.declared.Row.{Row}
-use Rattle.row_rules.specs.declared.Rules.{Rules}
-use Rattle.row_rules.specs.Rows.{asks_read, asks_write}
-use Rattle.row_rules.specs.Ticking.{bound, longest, stores_in, reads_in, cuts_to, is_in_time}
-use Rattle.check_judging.specs.Rising.{rising}
-use Rattle.check_judging.specs.Cutting.{cut_ticks}
-use Rattle.check_judging.specs.Keys.{is_short}
-use Rattle.check_judging.specs.Standing.{is_own}
-use Rattle.check_verdict.specs.declared.members.Member.{Member}
-use Rattle.check_verdict.specs.Keeping.{read_timely, write_timely}
-use Rattle.check_verdict.specs.Kept.{KeptBank, apart_kept}
+use Rattle.row_rules.specs.{Rows.{asks_read, asks_write}, Ticking.{bound, longest, stores_in, reads_in, cuts_to, is_in_time}, declared.Row.Row, declared.Rules.Rules}
+use Rattle.check_judging.specs.{Cutting.cut_ticks, Keys.is_short, Rising.rising, Standing.is_own}
+use Rattle.check_verdict.specs.{Keeping.{read_timely, write_timely}, Kept.{KeptBank, apart_kept}, declared.members.Member.Member}
 use Rattle.result_rows.specs.declared.Outcome.TheVariants as out
 
 -- the first of some ticks

@@ -1,21 +1,10 @@
 -- A row's verdict in the words of the code is the rule that the row breaks first.
 use Rattle.std.specs.Prelude.{◌≡◌, ℕ, ◌<◌, ◌≤◌, ◌^◌, Bool, IsTrue, List, IsPermutation, All}
 use Rattle.result_rows.specs.declared.Outcome.{Outcome}
-use Rattle.row_rules.specs.declared.Row.{Row}
-use Rattle.row_rules.specs.declared.Rules.{Rules}
-use Rattle.row_rules.specs.Rows.{newest}
-use Rattle.check_judging.specs.Cutting.{cut_ticks}
-use Rattle.check_judging.specs.Keys.{reach, is_short, all_short, store_keys, read_keys}
-use Rattle.check_judging.specs.Rising.{rising}
-use Rattle.check_judging.specs.Runs.{GivesSized}
-use Rattle.check_verdict.specs.declared.known.Keys.{Keys}
-use Rattle.check_verdict.specs.declared.lines.Line.{Line}
-use Rattle.check_verdict.specs.Covering.{KeptLine}
-use Rattle.check_verdict.specs.Judged.{beside, a_write, a_read, RoomIs}
-use Rattle.check_verdict.specs.RowVerdicts.{coming_to, write_verdict, read_verdict}
-use Rattle.check_verdict.specs.States.{Facts, Stands}
-use Rattle.check_verdict.specs.Tables.{around}
-use Rattle.check_verdict.specs.Verdicts.{bank_in, all_rules, broken_by}
+use Rattle.row_rules.specs.{Rows.newest, declared.Row.Row, declared.Rules.Rules}
+use Rattle.check_judging.specs.{Cutting.cut_ticks, Keys.{reach, is_short, all_short, store_keys, read_keys}, Rising.rising, Runs.GivesSized}
+use Rattle.check_verdict.specs.{Covering.KeptLine, Judged.{beside, a_write, a_read, RoomIs}, RowVerdicts.{coming_to, write_verdict, read_verdict}, States.{Facts, Stands}}
+use Rattle.check_verdict.specs.{Tables.around, Verdicts.{bank_in, all_rules, broken_by}, declared.known.Keys.Keys, declared.lines.Line.Line}
 
 -- keys of a whole table, around one of its rows
 pub record HasKeys {n : ℕ} (banks : List ℕ) (before : List (Row n)) (r : Row n) (after : List (Row n)) (keys : Keys) : Type 0 where

@@ -1,20 +1,9 @@
 -- The verdict on a finished table of several banks: the lowest row that breaks a rule, and the first rule that it breaks.
-use Rattle.std.specs.Prelude.{ℕ, ◌+◌, ◌&&◌, IsTrue, if◌then◌else◌, List, [], ◌∷◌, reverse, Option, Some, None, slice_get, unwrap_or}
-use Rattle.std.specs.List.{list_all}
-use Rattle.row_rules.specs.declared.Asks.{Asks}
-use Rattle.row_rules.specs.declared.Asks.TheVariants.{Reads, Writes, Cuts}
-use Rattle.row_rules.specs.declared.Row.{Row}
-use Rattle.row_rules.specs.declared.Rules.{Rules}
-use Rattle.row_rules.specs.Rows.{RowTest, each_row}
-use Rattle.row_rules.specs.Table.{of_bank}
-use Rattle.row_rules.specs.Serving.{is_served}
-use Rattle.row_rules.specs.Queueing.{has_room, is_queue_fair}
-use Rattle.row_rules.specs.Wearing.{is_wear_final}
-use Rattle.row_rules.specs.Ticking.{is_in_time}
-use Rattle.check_verdict.specs.declared.Rule.{Rule}
+use Rattle.std.specs.{List.list_all, Prelude.{ℕ, ◌+◌, ◌&&◌, IsTrue, if◌then◌else◌, List, [], ◌∷◌, reverse, Option, Some, None, slice_get, unwrap_or}}
+use Rattle.row_rules.specs.{Queueing.{has_room, is_queue_fair}, Rows.{RowTest, each_row}, Serving.is_served, Table.of_bank, Ticking.is_in_time, Wearing.is_wear_final}
+use Rattle.row_rules.specs.{declared.Asks.Asks, declared.Asks.TheVariants.{Reads, Writes, Cuts}, declared.Row.Row, declared.Rules.Rules}
+use Rattle.check_verdict.specs.{declared.Rule.Rule, declared.Verdict.Verdict, declared.Verdict.TheVariants.{Yes, No}}
 use Rattle.check_verdict.specs.declared.Rule.TheVariants as rule
-use Rattle.check_verdict.specs.declared.Verdict.{Verdict}
-use Rattle.check_verdict.specs.declared.Verdict.TheVariants.{Yes, No}
 
 -- the bank of a line, these being the banks of all lines
 abbrev pub bank_in : List ℕ → ℕ → ℕ

@@ -1,10 +1,6 @@
 -- The rule on worn rows, by what is kept.
-use Rattle.std.specs.Prelude.{◌≡◌, ℕ, ◌&&◌, ◌||◌, not, true, IsTrue, if◌then◌else◌, List, [], ◌∷◌, Option, Some, None}
-use Rattle.std.specs.List.{list_any}
-use Rattle.row_rules.specs.declared.Row.{Row}
-use Rattle.row_rules.specs.Answers.{is_worn}
-use Rattle.row_rules.specs.Rows.{asks_write}
-use Rattle.row_rules.specs.Wearing.{worn_row, is_wear_final}
+use Rattle.std.specs.{List.list_any, Prelude.{◌≡◌, ℕ, ◌&&◌, ◌||◌, not, true, IsTrue, if◌then◌else◌, List, [], ◌∷◌, Option, Some, None}}
+use Rattle.row_rules.specs.{Answers.is_worn, Rows.asks_write, Wearing.{worn_row, is_wear_final}, declared.Row.Row}
 use Rattle.check_judging.specs.Rising.{rising}
 use Rattle.check_verdict.specs.Keeping.{stored_early}
 

@@ -98,7 +98,8 @@ impl<const B: usize> Line<B> {
         bytes: &[u8; B],
         given: &[bool; B],
     ) -> Result<(), AllocError>
-        ensures newest { IfOk result (λ _. self.new.newest ≡ laid bytes.now given.now self.old.newest) }
+        ensures newest { IfOk result (λ _. self.new.newest
+            ≡ laid bytes.now given.now self.old.newest) }
         ensures unclosed { IfOk result (λ _. self.new.unclosed
             ≡ unclosed_behind B stored given.now self.old.unclosed) }
         ensures runs { IfOk result (λ _. self.new.runs.items

@@ -54,7 +54,8 @@ fn precedes(all: &[Member], newer: &Member, older: &Member) -> bool
 /// Whether a member is of another line than the newest, or precedes it.
 fn is_apart_or_precedes(all: &[Member], newest: &Member, other: &Member) -> bool
     ensures { result
-        ≡ (not (spec.is_of newest.now.line other.now) || spec.precedes all.now newest.now other.now) }
+        ≡ (not (spec.is_of newest.now.line other.now)
+        || spec.precedes all.now newest.now other.now) }
 {
     other.line != newest.line || precedes(all, newest, other)
 }
@@ -82,7 +83,8 @@ fn may_have_two(twins: Twins, line: u32) -> bool
 
 /// Whether at most one of the others is of the newest member's line, and that one precedes it.
 fn few_precede(all: &[Member], newest: &Member, others: &[Member]) -> bool
-    ensures { result ≡ few_by (spec.is_of newest.now.line) (spec.precedes all.now newest.now) others.now }
+    ensures { result ≡ few_by (spec.is_of newest.now.line) (spec.precedes all.now newest.now)
+        others.now }
 {
     match count_of(others, newest.line) {
         0 => true,
@@ -95,7 +97,8 @@ fn few_precede(all: &[Member], newest: &Member, others: &[Member]) -> bool
 /// members, the others and the newest together, is known, so that most lines aren't counted.
 fn finds_few(all: &[Member], newest: &Member, others: &[Member], twins: Twins) -> bool
     requires { IsKnown twins (others.now ++ newest.now ∷ []) }
-    ensures { result ≡ few_by (spec.is_of newest.now.line) (spec.precedes all.now newest.now) others.now }
+    ensures { result ≡ few_by (spec.is_of newest.now.line) (spec.precedes all.now newest.now)
+        others.now }
 {
     !may_have_two(twins, newest.line) || few_precede(all, newest, others)
 }

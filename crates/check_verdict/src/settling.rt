@@ -27,7 +27,8 @@ pub struct Ends {
 /// The ends of these members at a tick, where a write was last stored before them at this one.
 pub fn ends_at(members: &[Member], tick: u64, last: Option<u64>) -> Ends
     ensures last { result.last ≡ ended tick members.now last }
-    ensures first { result.first ≡ least_end never (filter (λ m. not (nat_le m.end tick)) members.now) }
+    ensures first { result.first ≡ least_end never
+        (filter (λ m. not (nat_le m.end tick)) members.now) }
 {
     let mut latest = last;
     let mut first = NEVER;

@@ -43,7 +43,8 @@ fn line_writes(rules: &Rules, stores: u64, cuts: u64) -> u64
     requires within { AreWithin rules.now }
     requires stores { stores ≤ 400_000 }
     requires cuts { cuts ≤ 400_000 }
-    ensures value { result ≡ ticking.writings rules.now.twice * (2 * stores + rules.now.spares) + cuts }
+    ensures value { result ≡ ticking.writings rules.now.twice * (2 * stores + rules.now.spares)
+        + cuts }
     ensures bound { result < 2 ^ 31 }
 {
     if rules.twice {
@@ -90,7 +91,8 @@ pub fn bound(rules: &Rules, arrived: u64, waiting: u64, four_came: bool) -> u64
     requires within { AreWithin rules.now }
     requires arrived { arrived < 2 ^ 50 }
     requires waiting { waiting ≤ 400_000 }
-    ensures value { result ≡ arrived + delay_kept rules.now four_came + (waiting + 1) * rules.now.read_ticks }
+    ensures value { result ≡ arrived + delay_kept rules.now four_came
+        + (waiting + 1) * rules.now.read_ticks }
     ensures bound { result < 2 ^ 63 }
 {
     arrived + delay(rules, four_came) + times(waiting + 1, rules.read_ticks as u64)

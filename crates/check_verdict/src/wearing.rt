@@ -12,7 +12,8 @@ pub fn keeps_worn<const B: usize>(
     first_worn: Option<u64>,
     outcome: &Outcome<B>,
 ) -> bool
-    ensures { result ≡ (is_worn outcome.now || (not behind_worn && stored_early first_worn outcome.now)) }
+    ensures { result ≡ (is_worn outcome.now || (not behind_worn
+        && stored_early first_worn outcome.now)) }
 {
     match outcome {
         Outcome::Worn { .. } => true,

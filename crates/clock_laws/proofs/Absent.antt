@@ -1,17 +1,12 @@
 -- Rows that stand nowhere: a row comes into a bank by its own event alone.
 use Rattle.std.proofs.Common.{◌≡◌, ℕ, false, List, [], ◌∷◌, Option, Some, None, refl}
-use Rattle.masked_bytes.specs.declared.entry.Entry.{Entry}
-use Rattle.masked_bytes.specs.Entries.{has_row}
-use Rattle.masked_bytes.proofs.Rows.{lacks-push, lacks-drop, lacks-merged}
+use Rattle.masked_bytes.{specs.Entries.has_row, specs.declared.entry.Entry.Entry, proofs.Rows.{lacks-push, lacks-drop, lacks-merged}}
 use Rattle.bank_shape.specs.declared.BankShape.{BankShape}
 use Rattle.bank_shape.specs.declared.answer.WriteAnswer.TheVariants as wrote
 use Rattle.bank_shape.specs.declared.answer.ReadAnswer.TheVariants as came
 use Rattle.bank_shape.specs.declared.answer.Step.TheVariants as did
-use Rattle.bank_model.specs.Events.{BankEvent, Write, Read, Serve, Begin, Iterate, Cut, newest}
-use Rattle.bank_model.specs.History.{queue, waits, begun, due_after}
-use Rattle.bank_model.specs.Timing.{Core}
-use Rattle.bank_laws.specs.Standing.{has_wait}
-use Rattle.bank_laws.proofs.Entries.{no_wait-push, no_wait-drop}
+use Rattle.bank_model.specs.{Events.{BankEvent, Write, Read, Serve, Begin, Iterate, Cut, newest}, History.{queue, waits, begun, due_after}, Timing.Core}
+use Rattle.bank_laws.{specs.Standing.has_wait, proofs.Entries.{no_wait-push, no_wait-drop}}
 use Rattle.clock_laws.specs.Standing.{is_arrival_of}
 
 module _ {n : ℕ} where

@@ -1,25 +1,13 @@
 -- How the lines of a bank age over one event.
 use Rattle.std.proofs.Common.{◌≡◌, ◌⊎◌, inl, inr, ℕ, ◌+◌, ◌-◌, ◌^◌, ◌<◌, ◌≤◌, ◌==◌, ◌&&◌, not, Bool, true, false, List, [], ◌∷◌, Option, Some, None, min, refl, sym, ap, ◌∙◌, subst, arith, cond}
-use Rattle.std.specs.Prelude.{IsFalse}
-use Rattle.std.proofs.lemmas.Bool.{cases_lt}
+use Rattle.std.{specs.Prelude.IsFalse, proofs.lemmas.Bool.cases_lt}
 use Rattle.cell_rows.specs.Device.{CellBounds, LineState, ArrayState, IsBlank, counted}
-use Rattle.bank_shape.specs.declared.BankShape.{BankShape}
-use Rattle.bank_shape.specs.Shape.{slots_of, lines_in, controls_from}
-use Rattle.bank_model.specs.Events.{BankEvent, Write, Read, Serve, Begin, Iterate, Cut}
-use Rattle.bank_model.specs.History.{goes_on, in_progress, iterated}
-use Rattle.bank_model.specs.After.{target_after}
-use Rattle.bank_model.specs.Answers.{MayAll}
-use Rattle.bank_model.specs.Aging.{Ages, Endures, MissesUnspent, AreAged, most_aged}
-use Rattle.bank_model.specs.Changes.{change_after}
-use Rattle.bank_model.specs.Lawful.{MayCome}
-use Rattle.bank_model.specs.Running.{running_at}
-use Rattle.bank_model.specs.Sensing.{is_at, most_steps, pulsed_by, torn_control}
-use Rattle.bank_shape.specs.declared.pace.Pace.{Pace}
-use Rattle.bank_model.specs.Timing.{TimedEvent, Happens, Core, Regs, core, core_of}
-use Rattle.bank_model.specs.Touching.{Sticks, Strikes, AreStruck, Touches, breaks_off}
-use Rattle.bank_model.specs.Works.{works_on, held_on}
-use Rattle.bank_laws.proofs.Counted.{counted-cases, pulses-few}
-use Rattle.bank_laws.proofs.Targets.{WorkAfter, spares_work, working, target-same}
+use Rattle.bank_shape.specs.{Shape.{slots_of, lines_in, controls_from}, declared.BankShape.BankShape, declared.pace.Pace.Pace}
+use Rattle.bank_model.specs.{After.target_after, Aging.{Ages, Endures, MissesUnspent, AreAged, most_aged}, Answers.MayAll, Changes.change_after}
+use Rattle.bank_model.specs.{Events.{BankEvent, Write, Read, Serve, Begin, Iterate, Cut}, History.{goes_on, in_progress, iterated}, Lawful.MayCome, Running.running_at}
+use Rattle.bank_model.specs.{Sensing.{is_at, most_steps, pulsed_by, torn_control}, Timing.{TimedEvent, Happens, Core, Regs, core, core_of}}
+use Rattle.bank_model.specs.{Touching.{Sticks, Strikes, AreStruck, Touches, breaks_off}, Works.{works_on, held_on}}
+use Rattle.bank_laws.proofs.{Counted.{counted-cases, pulses-few}, Targets.{WorkAfter, spares_work, working, target-same}}
 use Rattle.bank_laws.proofs.Works.{tearing-going, kept-elsewhere, torn-elsewhere, idle-held, busy-held, held-same, going-held}
 use Rattle.place_laws.proofs.Pulsing.{begins-idle}
 use Rattle.clock_laws.proofs.Ranges.{ArePulses}

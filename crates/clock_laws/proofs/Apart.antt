@@ -1,8 +1,7 @@
 -- Rows that are apart stay so.
 use Rattle.std.proofs.Common.{◌≡◌, ℕ, ◌+◌, ◌<◌, ◌≤◌, ◌==◌, ◌||◌, nat_lt, Bool, true, false, List, [], ◌∷◌, ◌++◌, length, map, drop, Option, Some, None, refl, sym, ap, subst, ◌∙◌, arith}
 use Rattle.std.proofs.lemmas.List.{map_push, drop-map}
-use Rattle.masked_bytes.specs.declared.entry.Entry.{Entry}
-use Rattle.masked_bytes.specs.Entries.{candidate_index, completed, merged, row_at}
+use Rattle.masked_bytes.specs.{Entries.{candidate_index, completed, merged, row_at}, declared.entry.Entry.Entry}
 use Rattle.masked_bytes.proofs.Queueing.{newest_index-within, candidate_index-newest, merged-row_at}
 use Rattle.protected_queue.specs.Queue.{accepted, accepted_by}
 use Rattle.bank_model.specs.History.{Awaited}

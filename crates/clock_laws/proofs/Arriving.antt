@@ -1,43 +1,24 @@
 -- A write or a read that arrives.
 use Rattle.std.proofs.Common.{◌≡◌, ℕ, ◌<◌, ◌==◌, ◌&&◌, nat_lt, Bool, true, false, cond, if◌then◌else◌, List, [], ◌∷◌, ◌++◌, zero, suc, map, slice_get, slice_set, Option, Some, None, refl, sym, ap, subst, ◌∙◌, arith, eq-eqb, append-nil}
+use Rattle.std.{specs.Prelude.{IfSome, IsSomeAnd, not, length}, proofs.lemmas.List.map_push}
+use Rattle.masked_bytes.specs.{Entries.{has_row, merged, laid_on, layer_of}, Masked.gives_all, declared.entry.Entry.Entry}
 use Rattle.masked_bytes.proofs.Truth.{neither_first, neither_second, differ_sym}
-use Rattle.std.specs.Prelude.{IfSome, IsSomeAnd, not, length}
-use Rattle.std.proofs.lemmas.List.{map_push}
-use Rattle.masked_bytes.specs.declared.entry.Entry.{Entry}
-use Rattle.masked_bytes.specs.Masked.{gives_all}
-use Rattle.masked_bytes.specs.Entries.{has_row, merged, laid_on, layer_of}
 use Rattle.cell_rows.specs.Device.{ArrayState}
-use Rattle.bank_shape.specs.declared.BankShape.{BankShape}
-use Rattle.bank_shape.specs.Pausing.{is_cancelling, most_cancels}
-use Rattle.power_recovery.specs.Kept.{KeptState}
-use Rattle.bank_shape.specs.declared.answer.WriteAnswer.{WriteAnswer}
+use Rattle.bank_shape.specs.{Pausing.{is_cancelling, most_cancels}, declared.BankShape.BankShape, declared.answer.ReadAnswer.ReadAnswer, declared.answer.WriteAnswer.WriteAnswer}
+use Rattle.bank_shape.specs.{declared.clock.Action.Action, declared.clock.Doing.TheVariants.Beginning}
 use Rattle.bank_shape.specs.declared.answer.WriteAnswer.TheVariants as wrote
-use Rattle.bank_shape.specs.declared.answer.ReadAnswer.{ReadAnswer}
 use Rattle.bank_shape.specs.declared.answer.ReadAnswer.TheVariants as came
-use Rattle.bank_shape.specs.declared.clock.Doing.TheVariants.{Beginning}
-use Rattle.bank_shape.specs.declared.clock.Action.{Action}
-use Rattle.bank_model.specs.Events.{BankEvent, Write, Read, RowsBelow}
-use Rattle.bank_model.specs.Changes.{change_after}
-use Rattle.bank_model.specs.History.{queue, waits}
-use Rattle.bank_model.specs.After.{is_store_of}
-use Rattle.bank_model.specs.Timing.{TimedEvent, Core, ends, is_doing, is_writing, is_empty, core, last_tick}
-use Rattle.bank_model.specs.Running.{drops_begin, left, running_at, cancels_after}
-use Rattle.bank_model.specs.Lawful.{IsArrival, IsForwarded, would_cancel}
-use Rattle.bank_model.specs.Told.{tick_of_row}
-use Rattle.bank_model.specs.Touching.{Touches}
+use Rattle.power_recovery.specs.Kept.{KeptState}
+use Rattle.bank_model.specs.{After.is_store_of, Changes.change_after, Events.{BankEvent, Write, Read, RowsBelow}, History.{queue, waits}}
+use Rattle.bank_model.specs.{Lawful.{IsArrival, IsForwarded, would_cancel}, Running.{drops_begin, left, running_at, cancels_after}}
+use Rattle.bank_model.specs.{Timing.{TimedEvent, Core, ends, is_doing, is_writing, is_empty, core, last_tick}, Told.tick_of_row, Touching.Touches}
 use Rattle.bank_laws.proofs.Standing.{stand_apart}
-use Rattle.bank_invariant.specs.State.{BankState, Operation}
-use Rattle.bank_invariant.specs.Serving.{read_from}
+use Rattle.bank_invariant.specs.{Serving.read_from, State.{BankState, Operation}}
 use Rattle.reg_lines.specs.declared.Change.{Change}
-use Rattle.register_laws.specs.Control.{Control}
-use Rattle.register_laws.specs.Telling.{item_of}
-use Rattle.clock_laws.specs.State.{ClockState}
-use Rattle.clock_laws.specs.Leads.{Leads, CopiesWhatItSensed}
-use Rattle.clock_laws.specs.Arriving.{WriteLaw, ReadLaw, KeepsWork, arrivals_after, IsIndexOf, drops, action_after_read, cancels_for}
+use Rattle.register_laws.specs.{Control.Control, Telling.item_of}
+use Rattle.clock_laws.specs.{Arriving.{WriteLaw, ReadLaw, KeepsWork, arrivals_after, IsIndexOf, drops, action_after_read, cancels_for}, Leads.{Leads, CopiesWhatItSensed}}
+use Rattle.clock_laws.{specs.State.ClockState, proofs.Controls.control-kept, proofs.Putting.told-on, proofs.Stepping.{follows, stepped, leads-reaches, bank-leads}}
 use Rattle.clock_laws.proofs.Ties.{agrees, same_reads}
-use Rattle.clock_laws.proofs.Controls.{control-kept}
-use Rattle.clock_laws.proofs.Stepping.{follows, stepped, leads-reaches, bank-leads}
-use Rattle.clock_laws.proofs.Putting.{told-on}
 
 -- Arrival ticks
 

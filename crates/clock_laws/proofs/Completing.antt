@@ -1,40 +1,22 @@
 -- An action that ends.
 use Rattle.std.proofs.Common.{◌≡◌, ℕ, ◌<◌, Bool, true, false, List, [], ◌∷◌, map, drop, Option, Some, None, refl, sym, ap, subst, ◌∙◌, arith}
-use Rattle.std.specs.Prelude.{IfSome, IsSomeAnd}
-use Rattle.std.proofs.lemmas.Bool.{ne_eqb}
-use Rattle.std.proofs.lemmas.List.{drop-map}
+use Rattle.std.{specs.Prelude.{IfSome, IsSomeAnd}, proofs.lemmas.Bool.ne_eqb, proofs.lemmas.List.drop-map}
 use Rattle.masked_bytes.specs.declared.entry.Entry.{Entry}
-use Rattle.cell_rows.specs.declared.array.Sense.{Sense}
-use Rattle.cell_rows.specs.Device.{ArrayState}
+use Rattle.cell_rows.specs.{Device.ArrayState, declared.array.Sense.Sense}
 use Rattle.ecp_line.specs.Reading.{decode}
-use Rattle.bank_shape.specs.declared.BankShape.{BankShape}
-use Rattle.bank_shape.specs.Shape.{controls_of, control_line}
+use Rattle.bank_shape.specs.{Shape.{controls_of, control_line}, declared.BankShape.BankShape, declared.clock.Action.Action, declared.clock.Doing.Doing}
+use Rattle.bank_shape.specs.{declared.clock.Doing.TheVariants.{Serving, Beginning, Iterating}, declared.pace.Pace.Pace}
 use Rattle.bank_shape.specs.declared.answer.Step.TheVariants as did
-use Rattle.bank_shape.specs.declared.clock.Doing.{Doing}
-use Rattle.bank_shape.specs.declared.clock.Doing.TheVariants.{Serving, Beginning, Iterating}
-use Rattle.bank_shape.specs.declared.clock.Action.{Action}
-use Rattle.bank_model.specs.Events.{BankEvent, Write, Read, Serve, Begin, Iterate, Cut, newest}
-use Rattle.bank_model.specs.History.{queue, begun, due_after}
-use Rattle.bank_model.specs.Changes.{change_after, line_of_change}
-use Rattle.bank_shape.specs.declared.pace.Pace.{Pace}
-use Rattle.bank_model.specs.Timing.{TimedEvent, Happens, Core, Regs, Keeping, KeepBegin, KeepIterate, KeepCut, ends, core}
-use Rattle.bank_model.specs.Running.{left, cancels_by, cancels_with, running_at}
-use Rattle.bank_model.specs.Lawful.{IsAsked, IsOnTime, IsKeptOnTime}
+use Rattle.bank_model.specs.{Changes.{change_after, line_of_change}, Events.{BankEvent, Write, Read, Serve, Begin, Iterate, Cut, newest}, History.{queue, begun, due_after}}
+use Rattle.bank_model.specs.{Lawful.{IsAsked, IsOnTime, IsKeptOnTime}, Running.{left, cancels_by, cancels_with, running_at}}
 use Rattle.bank_model.specs.Sensing.{is_at, sensed_by, pulsed_by, read_again, kept_sensed, kept_pulsed, copied, begun_with}
-use Rattle.bank_model.specs.Told.{tick_of_row}
-use Rattle.bank_model.specs.Touching.{Touches, shown}
+use Rattle.bank_model.specs.{Timing.{TimedEvent, Happens, Core, Regs, Keeping, KeepBegin, KeepIterate, KeepCut, ends, core}, Told.tick_of_row, Touching.{Touches, shown}}
 use Rattle.reg_lines.specs.declared.Change.{Change}
 use Rattle.register_laws.specs.Telling.{item_of}
-use Rattle.bank_invariant.specs.State.{Operation}
-use Rattle.bank_invariant.specs.Holds.{Holds}
-use Rattle.clock_laws.specs.State.{ClockState}
-use Rattle.clock_laws.specs.Leads.{Reaches, CopiesWhatItSensed}
+use Rattle.bank_invariant.specs.{Holds.Holds, State.Operation}
 use Rattle.clock_laws.specs.Completing.{CompletionLaw, KeepingLaw, EndsDoing, EndsKeeping, IsAlone, arrivals_with, completion, line_kept, keep_completed, after_keep}
-use Rattle.clock_laws.proofs.Ties.{next-runs}
-use Rattle.clock_laws.proofs.Ranges.{IsSlotOrSpare}
-use Rattle.clock_laws.proofs.Controls.{change-known}
-use Rattle.clock_laws.proofs.Elsewhere.{holds-same}
-use Rattle.clock_laws.proofs.Stepping.{follows, uncancelled, leads-reaches, reaches-leads, bank-leads, kept-reaches}
+use Rattle.clock_laws.{specs.Leads.{Reaches, CopiesWhatItSensed}, specs.State.ClockState, proofs.Controls.change-known, proofs.Elsewhere.holds-same, proofs.Ranges.IsSlotOrSpare}
+use Rattle.clock_laws.proofs.{Stepping.{follows, uncancelled, leads-reaches, reaches-leads, bank-leads, kept-reaches}, Ties.next-runs}
 
 -- no event that ends an action has a row of its own
 ends-asked : {n : ℕ} (h : List (BankEvent n)) (event : BankEvent n) (doing : Doing) → EndsDoing event doing → IsAsked h event

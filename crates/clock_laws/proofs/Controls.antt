@@ -1,21 +1,13 @@
 -- The control lines and the change that stands, over arrays and banks that differ elsewhere.
 use Rattle.std.proofs.Common.{◌≡◌, ℕ, ◌+◌, ◌<◌, ◌≤◌, Option, Some, None, sym, ap, subst, ◌∙◌}
 use Rattle.std.specs.Prelude.{IfSome, IsSomeAnd, IsTrue}
-use Rattle.cell_rows.specs.Rows.{cell}
-use Rattle.cell_rows.specs.Device.{ArrayState, LineState}
-use Rattle.ecp_line.specs.Layout.{Sound}
-use Rattle.ecp_line.specs.Reading.{decode, is_worn_line}
-use Rattle.bank_shape.specs.declared.BankShape.{BankShape}
-use Rattle.bank_shape.specs.Shape.{controls_of, controls_from, control_line}
-use Rattle.line_writer.specs.declared.writer.LineWriter.{LineWriter}
-use Rattle.line_writer.proofs.Untouched.{AreUntouched-same}
+use Rattle.cell_rows.specs.{Device.{ArrayState, LineState}, Rows.cell}
+use Rattle.ecp_line.specs.{Layout.Sound, Reading.{decode, is_worn_line}}
+use Rattle.bank_shape.specs.{Shape.{controls_of, controls_from, control_line}, declared.BankShape.BankShape}
+use Rattle.line_writer.{specs.declared.writer.LineWriter.LineWriter, proofs.Untouched.AreUntouched-same}
 use Rattle.power_recovery.specs.Kept.{KeptState}
-use Rattle.reg_lines.specs.declared.Change.{Change}
-use Rattle.reg_lines.specs.Regs.{RegsState, AreHeld, IsWritingOf, values_by}
-use Rattle.reg_lines.specs.Values.{values_in}
-use Rattle.register_laws.specs.Items.{item_values}
-use Rattle.register_laws.specs.Control.{Control}
-use Rattle.register_laws.specs.Telling.{item_of}
+use Rattle.reg_lines.specs.{Regs.{RegsState, AreHeld, IsWritingOf, values_by}, Values.values_in, declared.Change.Change}
+use Rattle.register_laws.specs.{Control.Control, Items.item_values, Telling.item_of}
 
 -- the change that stands is of an item of the bank
 pub change-known : {n m e : ℕ} (kept : KeptState n) (regs : RegsState n m e) {array : ArrayState n m} → Control kept regs array → IfSome (item_of regs.change) (λ item. item < controls_of kept.shape)

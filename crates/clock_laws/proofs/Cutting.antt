@@ -1,34 +1,21 @@
 -- A power cut, and a cancel with its read.
 use Rattle.std.proofs.Common.{◌≡◌, ℕ, ◌+◌, ◌<◌, ◌&&◌, nat_lt, Bool, true, false, cond, List, [], ◌∷◌, Option, Some, None, refl, sym, ap, subst, ◌∙◌}
 use Rattle.std.specs.Prelude.{IfSome, is_some}
-use Rattle.bank_shape.specs.declared.BankShape.{BankShape}
-use Rattle.bank_shape.specs.Pausing.{is_cancelling, most_cancels}
-use Rattle.bank_shape.specs.declared.answer.ReadAnswer.TheVariants as came
-use Rattle.bank_shape.specs.declared.clock.Doing.{Doing}
+use Rattle.bank_shape.specs.{Pausing.{is_cancelling, most_cancels}, declared.BankShape.BankShape, declared.clock.Action.Action, declared.clock.Doing.Doing}
 use Rattle.bank_shape.specs.declared.clock.Doing.TheVariants.{Serving, Beginning, Iterating}
-use Rattle.bank_shape.specs.declared.clock.Action.{Action}
-use Rattle.bank_model.specs.Events.{BankEvent, Read, Cut}
-use Rattle.bank_model.specs.Changes.{change_after, change_by, keeping_after, keeping_by, halted_after, halted_by, line_of_change, all_controls}
-use Rattle.bank_model.specs.History.{waits}
-use Rattle.bank_model.specs.Timing.{TimedEvent, Happens, Core, Regs, KeepCut, ends, same_doing, is_doing, is_empty, core}
-use Rattle.bank_model.specs.Running.{busy_by, drops_begin, running_at, tears_bank, cancels_after}
+use Rattle.bank_shape.specs.declared.answer.ReadAnswer.TheVariants as came
+use Rattle.bank_model.specs.{Changes.{change_after, change_by, keeping_after, keeping_by, halted_after, halted_by, line_of_change, all_controls}, Events.{BankEvent, Read, Cut}}
+use Rattle.bank_model.specs.{History.waits, Lawful.would_cancel, Running.{busy_by, drops_begin, running_at, tears_bank, cancels_after}}
 use Rattle.bank_model.specs.Sensing.{pulsed_by, torn_control, kept_sensed, kept_pulsed}
-use Rattle.bank_model.specs.Lawful.{would_cancel}
+use Rattle.bank_model.specs.Timing.{TimedEvent, Happens, Core, Regs, KeepCut, ends, same_doing, is_doing, is_empty, core}
 use Rattle.bank_invariant.specs.State.{BankState, Operation}
-use Rattle.reg_lines.specs.declared.Change.{Change}
-use Rattle.reg_lines.specs.Regs.{RegsState}
-use Rattle.reg_lines.specs.Keeping.{broken_off}
+use Rattle.reg_lines.specs.{Keeping.broken_off, Regs.RegsState, declared.Change.Change}
 use Rattle.register_laws.specs.Telling.{AreTold, item_of}
-use Rattle.clock_laws.specs.Leads.{Reaches, CopiesWhatItSensed}
-use Rattle.clock_laws.specs.Arriving.{drops, action_after_read}
-use Rattle.clock_laws.specs.Completing.{line_kept}
-use Rattle.clock_laws.specs.Fitting.{Fits, IsFit}
-use Rattle.clock_laws.specs.Cutting.{PowerCutLaw, CancelLaw, KeepCancelLaw, CancelledReadLaw, tears_now, torn_now, cut, cancel, keep_cancel}
-use Rattle.clock_laws.proofs.Controls.{control-kept}
+use Rattle.clock_laws.specs.{Arriving.{drops, action_after_read}, Completing.line_kept}
+use Rattle.clock_laws.specs.{Cutting.{PowerCutLaw, CancelLaw, KeepCancelLaw, CancelledReadLaw, tears_now, torn_now, cut, cancel, keep_cancel}, Fitting.{Fits, IsFit}}
+use Rattle.clock_laws.{specs.Leads.{Reaches, CopiesWhatItSensed}, proofs.Arriving.{arrives, goes_on_with, off_idle, copies-on, read-to_come, untouched}}
+use Rattle.clock_laws.proofs.{Completing.{kept-holds, copies-kept}, Controls.control-kept, Putting.{told-on, put-told}}
 use Rattle.clock_laws.proofs.Stepping.{follows, uncancelled, stepped, leads-reaches, bank-reaches, bank-leads, kept-reaches}
-use Rattle.clock_laws.proofs.Putting.{told-on, put-told}
-use Rattle.clock_laws.proofs.Completing.{kept-holds, copies-kept}
-use Rattle.clock_laws.proofs.Arriving.{arrives, goes_on_with, off_idle, copies-on, read-to_come, untouched}
 
 -- Cuts
 

@@ -1,29 +1,16 @@
 -- A bank to which nothing comes runs on without a gap, and rests with registers that its stores give.
 use Rattle.std.proofs.Common.{◌≡◌, ℕ, ◌+◌, ◌<◌, ◌≤◌, nat_lt, Bool, true, false, cond, List, [], ◌∷◌, ◌++◌, Option, Some, None, refl, sym, ap, subst, ◌∙◌, arith, ltb-false}
-use Rattle.std.specs.Prelude.{IsTrue, IfSome, IsSomeAnd, All}
-use Rattle.std.proofs.lemmas.List.Elements.{All-head, All-tail}
+use Rattle.std.{specs.Prelude.{IsTrue, IfSome, IsSomeAnd, All}, proofs.lemmas.List.Elements.{All-head, All-tail}}
 use Rattle.cell_rows.specs.Device.{ArrayState}
-use Rattle.bank_shape.specs.declared.BankShape.{BankShape}
-use Rattle.bank_shape.specs.declared.clock.Doing.{Doing}
-use Rattle.bank_shape.specs.declared.clock.Doing.TheVariants.{Serving, Beginning, Iterating}
-use Rattle.bank_shape.specs.declared.clock.Action.{Action}
-use Rattle.bank_model.specs.Changes.{change_after}
-use Rattle.bank_model.specs.Events.{Write, Read, Serve, Begin, Iterate, Cut}
-use Rattle.bank_model.specs.History.{moved_in}
-use Rattle.bank_model.specs.Lawful.{Lawful, MayCome}
+use Rattle.bank_shape.specs.{declared.BankShape.BankShape, declared.clock.Action.Action, declared.clock.Doing.Doing}
+use Rattle.bank_shape.specs.{declared.clock.Doing.TheVariants.{Serving, Beginning, Iterating}, declared.pace.Pace.Pace}
+use Rattle.bank_model.specs.{Changes.change_after, Events.{Write, Read, Serve, Begin, Iterate, Cut}, History.moved_in, Lawful.{Lawful, MayCome}}
 use Rattle.bank_model.specs.Running.{started, left_by, running, running_at, chosen_after}
-use Rattle.bank_shape.specs.declared.pace.Pace.{Pace}
 use Rattle.bank_model.specs.Timing.{Happens, Core, Regs, KeepBegin, KeepIterate, KeepCut, TimedEvent, ends, core, last_tick}
-use Rattle.bank_laws.specs.Laws.{IsSized}
-use Rattle.bank_laws.specs.Ticks.{ends_action}
-use Rattle.bank_laws.proofs.Ticks.{last-below}
+use Rattle.bank_laws.{specs.Laws.IsSized, specs.Ticks.ends_action, proofs.Ticks.last-below}
 use Rattle.place_laws.proofs.Moved.{moved_law}
-use Rattle.clock_laws.specs.State.{ClockState, next_action}
-use Rattle.clock_laws.specs.Leads.{Leads}
-use Rattle.clock_laws.specs.Draining.{ticks_of, ticks_in, NoGapLaw, RestingRegistersLaw}
-use Rattle.clock_laws.proofs.Leaving.{leaving_law}
-use Rattle.clock_laws.proofs.Passing.{idle_law}
-use Rattle.clock_laws.proofs.Ties.{next-runs}
+use Rattle.clock_laws.{specs.Draining.{ticks_of, ticks_in, NoGapLaw, RestingRegistersLaw}, specs.Leads.Leads, specs.State.{ClockState, next_action}, proofs.Leaving.leaving_law}
+use Rattle.clock_laws.proofs.{Passing.idle_law, Ties.next-runs}
 
 -- Actions
 

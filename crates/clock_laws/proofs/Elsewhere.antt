@@ -1,30 +1,17 @@
 -- What a history is to a bank depends on the array's lines that are the bank's own, and on how many lines there are.
 use Rattle.std.proofs.Common.{◌≡◌, ℕ, ◌+◌, ◌<◌, ◌≤◌, List, get_or, Option, Some, None, sym, ap, subst, ◌∙◌, arith}
 use Rattle.std.specs.Prelude.{IfSome}
-use Rattle.masked_bytes.specs.Masked.{laid}
-use Rattle.masked_bytes.specs.Entries.{Layer, layer_of}
+use Rattle.masked_bytes.specs.{Entries.{Layer, layer_of}, Masked.laid}
 use Rattle.cell_rows.specs.Device.{ArrayState, LineState}
 use Rattle.ecp_line.specs.Reading.{decode, IsSoundLine, IsWornLine}
-use Rattle.line_writer.specs.Orderly.{IsLive}
-use Rattle.line_writer.proofs.Orderly.{AreOrderly-same}
-use Rattle.line_writer.proofs.Untouched.{AreUntouched-same}
-use Rattle.bank_shape.specs.declared.Work.{Work}
-use Rattle.bank_shape.specs.declared.Work.TheVariants.{Nothing, Store, Copy}
-use Rattle.bank_shape.specs.Shape.{slots_of, slot_at, control_line}
-use Rattle.power_recovery.specs.Slots.{bank_lines}
-use Rattle.power_recovery.specs.Kept.{KeptState, IsKept, array_line, stands_at, due_region, due_work}
-use Rattle.bank_model.specs.Events.{BankEvent}
-use Rattle.bank_model.specs.History.{Awaited, waits, iterated}
-use Rattle.bank_model.specs.Timing.{core}
-use Rattle.bank_shape.specs.declared.waiting.Waiting.{Waiting}
-use Rattle.bank_invariant.specs.State.{BankState, Operation, target_of}
-use Rattle.bank_invariant.specs.Tied.{decoded, IsUnderWay, IsOf, IsRunning, AreSound, AreTied}
-use Rattle.bank_invariant.specs.Holds.{Holds}
+use Rattle.line_writer.{specs.Orderly.IsLive, proofs.Orderly.AreOrderly-same, proofs.Untouched.AreUntouched-same}
+use Rattle.bank_shape.specs.{Shape.{slots_of, slot_at, control_line}, declared.Work.Work, declared.Work.TheVariants.{Nothing, Store, Copy}, declared.waiting.Waiting.Waiting}
+use Rattle.power_recovery.specs.{Kept.{KeptState, IsKept, array_line, stands_at, due_region, due_work}, Slots.bank_lines}
+use Rattle.bank_model.specs.{Events.BankEvent, History.{Awaited, waits, iterated}, Timing.core}
+use Rattle.bank_invariant.specs.{Holds.Holds, State.{BankState, Operation, target_of}, Tied.{decoded, IsUnderWay, IsOf, IsRunning, AreSound, AreTied}}
 use Rattle.bank_invariant.proofs.Awaiting.{waits-known}
-use Rattle.clock_laws.specs.Extending.{ElsewhereLaw}
-use Rattle.clock_laws.proofs.Wearing.{has-aged-same}
-use Rattle.clock_laws.proofs.Controls.{change-known, control-elsewhere}
-use Rattle.clock_laws.proofs.Ranges.{control-in, IsSlotOrSpare, array_line-in, stands_at-in, target-in, due-in, source-within, HasSource}
+use Rattle.clock_laws.{specs.Extending.ElsewhereLaw, proofs.Controls.{change-known, control-elsewhere}}
+use Rattle.clock_laws.proofs.{Ranges.{control-in, IsSlotOrSpare, array_line-in, stands_at-in, target-in, due-in, source-within, HasSource}, Wearing.has-aged-same}
 
 module _ {n m : ℕ} (e : ℕ) (kept : KeptState n) (range : IsKept kept) (old new : ArrayState n m) (many : new.lines ≡ old.lines) (bounds : new.bounds ≡ old.bounds)
     (same : (line : ℕ) → IsSlotOrSpare kept.shape line → new.line line ≡ old.line line) where

@@ -1,59 +1,27 @@
 -- Each action of the bank that ends, told by what the bank keeps.
 use Rattle.std.proofs.Common.{◌≡◌, ℕ, ◌<◌, false, List, [], ◌∷◌, ◌++◌, map, length, slice_get, Option, Some, None, refl, sym, ap, subst, ◌∙◌, arith}
 use Rattle.std.specs.Prelude.{IfSome, IsSomeAnd, IsTrue, All}
-use Rattle.masked_bytes.specs.Masked.{laid}
-use Rattle.masked_bytes.specs.Entries.{layer_of, head_row, head_line}
-use Rattle.masked_bytes.specs.declared.entry.Entry.{Entry}
+use Rattle.masked_bytes.specs.{Entries.{layer_of, head_row, head_line}, Masked.laid, declared.entry.Entry.Entry}
 use Rattle.cell_rows.specs.Device.{ArrayState, LineState}
-use Rattle.ecp_line.specs.Reading.{decode}
-use Rattle.ecp_line.proofs.Bytes.{length-decode}
+use Rattle.ecp_line.{specs.Reading.decode, proofs.Bytes.length-decode}
 use Rattle.start_gap.specs.declared.Move.{Move}
-use Rattle.bank_shape.specs.declared.BankShape.{BankShape}
-use Rattle.bank_shape.specs.declared.Work.{Work}
-use Rattle.bank_shape.specs.declared.Work.TheVariants.{Nothing, Store, Copy}
-use Rattle.bank_shape.specs.Shape.{slot_at}
-use Rattle.power_recovery.specs.Slots.{bank_lines}
-use Rattle.power_recovery.specs.Kept.{KeptState, slot_of, array_line, stands_at, due_region, next_work}
-use Rattle.power_recovery.proofs.Bundle.{head-known}
-use Rattle.bank_shape.specs.declared.answer.Step.{Step}
+use Rattle.bank_shape.specs.{Kinds.is_copy, Shape.slot_at, declared.BankShape.BankShape, declared.Work.Work, declared.Work.TheVariants.{Nothing, Store, Copy}}
+use Rattle.bank_shape.specs.{declared.answer.Step.Step, declared.clock.Action.Action, declared.clock.Doing.Doing, declared.waiting.Waiting.Waiting}
 use Rattle.bank_shape.specs.declared.answer.Step.TheVariants as did
-use Rattle.bank_shape.specs.declared.clock.Doing.{Doing}
-use Rattle.bank_shape.specs.declared.clock.Action.{Action}
-use Rattle.bank_model.specs.Events.{BankEvent, Write, Read, Serve, Begin, Iterate, Cut, newest, up_to, line_of_row}
-use Rattle.bank_model.specs.History.{Awaited, queue, waits}
-use Rattle.bank_model.specs.After.{work_after, sources_of, stands_at_after, target_after}
-use Rattle.bank_model.specs.Answers.{IsDone, IsIterated, MayAll, MayHappen}
-use Rattle.bank_model.specs.Timing.{Core, TimedEvent, core, ends}
-use Rattle.bank_model.specs.Sensing.{is_at, most_steps, stand_of, sensed_by, pulsed_by, IsReadRight, IsLaid, copied, begun_with}
+use Rattle.power_recovery.{specs.Kept.{KeptState, slot_of, array_line, stands_at, due_region, next_work}, specs.Slots.bank_lines, proofs.Bundle.head-known}
+use Rattle.bank_model.specs.{After.{work_after, sources_of, stands_at_after, target_after}, Answers.{IsDone, IsIterated, MayAll, MayHappen}}
+use Rattle.bank_model.specs.{Events.{BankEvent, Write, Read, Serve, Begin, Iterate, Cut, newest, up_to, line_of_row}, History.{Awaited, queue, waits}}
+use Rattle.bank_model.specs.{Sensing.{is_at, most_steps, stand_of, sensed_by, pulsed_by, IsReadRight, IsLaid, copied, begun_with}, Timing.{Core, TimedEvent, core, ends}}
 use Rattle.bank_model.specs.Touching.{AreStruck, Touches, shown}
-use Rattle.bank_laws.specs.Pairs.{ArePaired}
-use Rattle.bank_laws.proofs.Pairs.{pair_law}
+use Rattle.bank_laws.{specs.Pairs.ArePaired, proofs.Pairs.pair_law}
 use Rattle.reg_lines.specs.Regs.{RegsState}
 use Rattle.register_laws.specs.Telling.{AreTold}
-use Rattle.bank_shape.specs.declared.waiting.Waiting.{Waiting}
-use Rattle.bank_shape.specs.Kinds.{is_copy}
-use Rattle.bank_invariant.specs.State.{BankState, Operation, target_of}
-use Rattle.bank_invariant.specs.Tied.{decoded, IsOf}
-use Rattle.bank_invariant.specs.Holds.{waiting_of}
-use Rattle.bank_invariant.specs.Beginning.{sources, lines_sensed}
-use Rattle.bank_invariant.proofs.Targets.{next_store-slot}
-use Rattle.bank_invariant.proofs.Tearing.{running_of}
-use Rattle.bank_invariant.proofs.Awaiting.{waits-known}
-use Rattle.bank_invariant.proofs.Finishing.{next_store-line}
-use Rattle.bank_invariant.proofs.Naming.{AreNamed, queue-named, head-named}
-use Rattle.clock_laws.specs.State.{ClockState}
-use Rattle.clock_laws.specs.Leads.{Leads, CopiesWhatItSensed}
-use Rattle.clock_laws.specs.Tearing.{GoesOnWriting}
-use Rattle.clock_laws.specs.Putting.{item_with, put_if}
-use Rattle.clock_laws.specs.Completing.{completed, EndsDoing}
-use Rattle.clock_laws.specs.Extending.{is_tear}
-use Rattle.clock_laws.specs.Actions.{IsCompletion, GoesOn, ServeEndsLaw, WritesCopy, ReadsAsHead, BeginEndsLaw, IterateEndsLaw}
-use Rattle.clock_laws.proofs.Ties.{agrees}
-use Rattle.clock_laws.proofs.Ranges.{pulsed-in}
-use Rattle.clock_laws.proofs.Putting.{put_law}
-use Rattle.clock_laws.proofs.Completing.{completion_law}
-use Rattle.clock_laws.proofs.Extending.{one_added_law}
-use Rattle.clock_laws.proofs.Freshness.{AreFresh, newest_at, queue-fresh, head-bytes, head-under}
+use Rattle.bank_invariant.specs.{Beginning.{sources, lines_sensed}, Holds.waiting_of, State.{BankState, Operation, target_of}, Tied.{decoded, IsOf}}
+use Rattle.bank_invariant.proofs.{Awaiting.waits-known, Finishing.next_store-line, Naming.{AreNamed, queue-named, head-named}, Targets.next_store-slot, Tearing.running_of}
+use Rattle.clock_laws.specs.{Actions.{IsCompletion, GoesOn, ServeEndsLaw, WritesCopy, ReadsAsHead, BeginEndsLaw, IterateEndsLaw}, Completing.{completed, EndsDoing}}
+use Rattle.clock_laws.specs.{Extending.is_tear, Leads.{Leads, CopiesWhatItSensed}, Putting.{item_with, put_if}, State.ClockState, Tearing.GoesOnWriting}
+use Rattle.clock_laws.proofs.{Completing.completion_law, Extending.one_added_law, Freshness.{AreFresh, newest_at, queue-fresh, head-bytes, head-under}, Putting.put_law}
+use Rattle.clock_laws.proofs.{Ranges.pulsed-in, Ties.agrees}
 
 -- What is sensed and pulsed
 

@@ -1,17 +1,11 @@
 -- How the events of several calls add up, and what a bank does not touch.
 use Rattle.std.proofs.Common.{◌≡◌, ◌⊎◌, inl, inr, ℕ, ◌+◌, ◌<◌, ◌≤◌, ◌==◌, Bool, true, false, cond, List, [], ◌∷◌, ◌++◌, Option, Some, None, refl, sym, ap, ◌∙◌, arith, eqb-true, append-nil, append_assoc}
 use Rattle.std.specs.Prelude.{IfSome}
-use Rattle.cell_rows.specs.declared.array.Sense.{Sense}
-use Rattle.cell_rows.specs.Device.{counted}
-use Rattle.bank_shape.specs.declared.BankShape.{BankShape}
-use Rattle.bank_shape.specs.Shape.{lines_in}
-use Rattle.bank_model.specs.Events.{BankEvent, Write, Read, Serve, Begin, Iterate, Cut}
+use Rattle.cell_rows.specs.{Device.counted, declared.array.Sense.Sense}
+use Rattle.bank_shape.specs.{Shape.lines_in, declared.BankShape.BankShape}
+use Rattle.bank_model.specs.{Adding.{senses_of, pulses_on, torn_by, tears_on}, Events.{BankEvent, Write, Read, Serve, Begin, Iterate, Cut}, Sensing.is_at}
 use Rattle.bank_model.specs.Timing.{Happens, Core, Regs, KeepBegin, KeepIterate, KeepCut, TimedEvent}
-use Rattle.bank_model.specs.Sensing.{is_at}
-use Rattle.bank_model.specs.Adding.{senses_of, pulses_on, torn_by, tears_on}
-use Rattle.clock_laws.specs.Extending.{NothingAddedLaw, OneAddedLaw, ArrivalAddedLaw, BothAddedLaw, is_tear}
-use Rattle.clock_laws.specs.Arriving.{arrival}
-use Rattle.clock_laws.proofs.Arriving.{untouched}
+use Rattle.clock_laws.{specs.Arriving.arrival, specs.Extending.{NothingAddedLaw, OneAddedLaw, ArrivalAddedLaw, BothAddedLaw, is_tear}, proofs.Arriving.untouched}
 
 pub nothing_added_law : NothingAddedLaw
 nothing_added_law n m shape array = record {

@@ -1,37 +1,19 @@
 -- What an action needs of its bank.
 use Rattle.std.proofs.Common.{◌≡◌, inl, inr, ℕ, ◌<◌, ◌==◌, ◌||◌, ◌&&◌, not, nat_lt, if◌then◌else◌, Bool, true, false, List, [], ◌∷◌, ◌++◌, length, Option, Some, None, is_some, refl, sym, ap, subst, ◌∙◌, arith, ltb-true, lt-ltb}
-use Rattle.std.proofs.lemmas.Bool.{and_from, not-true, not-false, or_parts}
-use Rattle.masked_bytes.proofs.Truth.{and_first, and_second, differ_sym, or_rest}
-use Rattle.std.specs.Prelude.{IfSome}
-use Rattle.std.specs.List.{list_any}
-use Rattle.std.proofs.lemmas.List.{length-append}
-use Rattle.masked_bytes.specs.declared.entry.Entry.{Entry}
-use Rattle.masked_bytes.specs.Entries.{layer_of}
+use Rattle.std.{specs.List.list_any, specs.Prelude.IfSome, proofs.lemmas.Bool.{and_from, not-true, not-false, or_parts}, proofs.lemmas.List.length-append}
+use Rattle.masked_bytes.{specs.Entries.layer_of, specs.declared.entry.Entry.Entry, proofs.Truth.{and_first, and_second, differ_sym, or_rest}}
 use Rattle.protected_queue.specs.Queue.{accepted}
-use Rattle.bank_shape.specs.declared.Work.{Work}
-use Rattle.bank_shape.specs.declared.Work.TheVariants.{Nothing, Store, Copy}
-use Rattle.power_recovery.specs.Kept.{KeptState, next_work}
-use Rattle.power_recovery.specs.Events.{accepted_kept}
-use Rattle.power_recovery.proofs.Frames.{next_work-accepted, next_work-due}
-use Rattle.power_recovery.proofs.Bundle.{next_work-store, next_work-copy}
-use Rattle.bank_shape.specs.declared.clock.Doing.{Doing}
-use Rattle.bank_shape.specs.declared.clock.Doing.TheVariants.{Serving, Beginning, Iterating}
-use Rattle.bank_shape.specs.declared.clock.Action.{Action}
-use Rattle.bank_model.specs.After.{is_store_of}
-use Rattle.bank_shape.specs.Pausing.{gives_way}
-use Rattle.bank_shape.specs.Acting.{choice, chosen_by}
-use Rattle.bank_model.specs.Running.{busy_by, ready_by}
-use Rattle.reg_lines.specs.declared.Change.{Change}
-use Rattle.reg_lines.specs.Regs.{RegsState}
-use Rattle.register_laws.specs.Telling.{item_of}
+use Rattle.bank_shape.specs.{Acting.{choice, chosen_by}, Kinds.{is_store, is_copy}, Pausing.gives_way, declared.Work.Work, declared.Work.TheVariants.{Nothing, Store, Copy}}
+use Rattle.bank_shape.specs.{declared.clock.Action.Action, declared.clock.Doing.Doing, declared.clock.Doing.TheVariants.{Serving, Beginning, Iterating}}
 use Rattle.bank_shape.specs.declared.waiting.Waiting.{Waiting}
-use Rattle.bank_shape.specs.Kinds.{is_store, is_copy}
-use Rattle.bank_invariant.specs.State.{BankState, is_free, may_begin}
-use Rattle.bank_invariant.specs.Serving.{kept_with, waits_too}
-use Rattle.bank_invariant.specs.Writes.{taken}
+use Rattle.power_recovery.{specs.Events.accepted_kept, specs.Kept.{KeptState, next_work}, proofs.Bundle.{next_work-store, next_work-copy}}
+use Rattle.power_recovery.proofs.Frames.{next_work-accepted, next_work-due}
+use Rattle.bank_model.specs.{After.is_store_of, Running.{busy_by, ready_by}}
+use Rattle.reg_lines.specs.{Regs.RegsState, declared.Change.Change}
+use Rattle.register_laws.specs.Telling.{item_of}
+use Rattle.bank_invariant.specs.{Serving.{kept_with, waits_too}, State.{BankState, is_free, may_begin}, Writes.taken}
+use Rattle.clock_laws.specs.{Arriving.drops, Fitting.{Fits, IsFit, HasEnded, NeedsLaw, ChosenLaw, RestLaw, FitWriteLaw, FitReadLaw}}
 use Rattle.clock_laws.specs.State.{is_busy, may_start, or_else, started_at, chosen}
-use Rattle.clock_laws.specs.Arriving.{drops}
-use Rattle.clock_laws.specs.Fitting.{Fits, IsFit, HasEnded, NeedsLaw, ChosenLaw, RestLaw, FitWriteLaw, FitReadLaw}
 
 -- Choices
 

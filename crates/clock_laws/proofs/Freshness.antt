@@ -1,27 +1,18 @@
 -- Each entry of a history's queue gives the newest bytes of its line as of its own write.
 use Rattle.std.proofs.Common.{◌≡◌, ℕ, ◌==◌, ◌||◌, Bool, true, false, cond, if◌then◌else◌, List, [], ◌∷◌, ◌++◌, length, drop, slice_get, Option, Some, None, refl, sym, ap, subst, ◌∙◌, arith, eqb-true, eq-eqb}
-use Rattle.std.proofs.lemmas.Bool.{or_from, or_right}
-use Rattle.masked_bytes.proofs.Truth.{neither_first, neither_second, differ_sym}
-use Rattle.std.specs.Prelude.{IsTrue, IsSomeAnd}
-use Rattle.std.proofs.lemmas.List.{length-replicate}
-use Rattle.masked_bytes.specs.declared.entry.Entry.{Entry}
-use Rattle.masked_bytes.specs.Masked.{laid, joined, gives_all, IsMasked}
-use Rattle.masked_bytes.specs.Entries.{Layer, no_layer, stacked, layer_by, layer_of, head_row, head_line, AllMasked, or_this, newest_row, candidate, laid_on, merged, has_row, RowsApart}
+use Rattle.std.{specs.Prelude.{IsTrue, IsSomeAnd}, proofs.lemmas.Bool.{or_from, or_right}, proofs.lemmas.List.length-replicate}
+use Rattle.masked_bytes.specs.Entries.{Layer, no_layer, stacked, layer_by, layer_of, head_row, head_line, AllMasked, or_this, newest_row, candidate, laid_on, merged, has_row}
+use Rattle.masked_bytes.specs.{Entries.RowsApart, Masked.{laid, joined, gives_all, IsMasked}, declared.entry.Entry.Entry}
 use Rattle.masked_bytes.proofs.Layering.{length-laid, laid-again, laid-between, length-joined, laid-all_given, laid-none_given, all_given-gives_all, laid-laid}
-use Rattle.masked_bytes.proofs.Queueing.{candidate-newest}
-use Rattle.masked_bytes.proofs.Standing.{layer_of-head}
+use Rattle.masked_bytes.proofs.{Queueing.candidate-newest, Standing.layer_of-head, Truth.{neither_first, neither_second, differ_sym}}
 use Rattle.bank_shape.specs.declared.BankShape.{BankShape}
 use Rattle.bank_shape.specs.declared.answer.WriteAnswer.TheVariants as wrote
 use Rattle.bank_shape.specs.declared.answer.Step.TheVariants as did
-use Rattle.bank_model.specs.Events.{BankEvent, Write, Read, Serve, Begin, Iterate, Cut, newest, up_to, RowsBelow}
-use Rattle.bank_model.specs.History.{queue, begun, due_after, has_exhausted}
-use Rattle.bank_model.specs.Answers.{MayAll, head_busy_after}
-use Rattle.bank_laws.specs.Pairs.{has_line, ArePaired}
-use Rattle.bank_laws.proofs.Pairs.{no_candidate-rest, pair_law}
-use Rattle.bank_laws.proofs.Standing.{stand_apart}
+use Rattle.bank_model.specs.{Answers.{MayAll, head_busy_after}, Events.{BankEvent, Write, Read, Serve, Begin, Iterate, Cut, newest, up_to, RowsBelow}}
+use Rattle.bank_model.{specs.History.{queue, begun, due_after, has_exhausted}, proofs.Newest.length-newest}
+use Rattle.bank_laws.{specs.Pairs.{has_line, ArePaired}, proofs.Pairs.{no_candidate-rest, pair_law}, proofs.Standing.stand_apart}
 use Rattle.bank_invariant.proofs.Taking.{answer_merged}
 use Rattle.clock_laws.specs.Newest.{GiveNewest, EntryLaw}
-use Rattle.bank_model.proofs.Newest.{length-newest}
 
 -- an entry of n bytes changes nothing of what was newest as of its write; and if it is the newest of its line, that is newest now
 pub record IsFresh {n : ℕ} (was now : List ℕ) (behind : Bool) (entry : Entry n) : Type 0 where

@@ -2,35 +2,19 @@
 use Rattle.std.proofs.Common.{◌≡◌, ◌≢◌, ℕ, ◌+◌, ◌<◌, ◌≤◌, not, is_some, Bool, true, false, List, [], ◌∷◌, Option, Some, None, refl, sym, ap, subst, ◌∙◌, arith}
 use Rattle.std.specs.Prelude.{IfSome, IsSomeAnd, IsTrue}
 use Rattle.cell_rows.specs.Device.{ArrayState}
-use Rattle.bank_shape.specs.Shape.{controls_from, IsIn}
-use Rattle.bank_shape.specs.declared.answer.Keep.{Keep}
+use Rattle.bank_shape.specs.{Shape.{controls_from, IsIn}, declared.answer.Keep.Keep, declared.clock.Action.Action, declared.clock.Doing.Doing}
 use Rattle.bank_shape.specs.declared.answer.Keep.TheVariants as keep
-use Rattle.bank_shape.specs.declared.clock.Doing.{Doing}
-use Rattle.bank_shape.specs.declared.clock.Action.{Action}
 use Rattle.bank_model.specs.Changes.{change_by, change_after, written_by, keeps_on, keeping_by, keeping_after, halted_by, halted_after, rounds_by, rounds_after, line_of_change}
-use Rattle.bank_model.specs.Timing.{Happens, Regs, Keeping, KeepBegin, KeepIterate, KeepCut, TimedEvent, core, ends}
-use Rattle.bank_model.specs.Lawful.{MayKeep}
-use Rattle.bank_model.specs.Sensing.{most_steps, kept_sensed, kept_pulsed}
-use Rattle.bank_model.specs.Touching.{Touches}
-use Rattle.line_writer.specs.declared.writer.LineWriter.{LineWriter}
-use Rattle.line_writer.specs.Writing.{steps_left}
-use Rattle.reg_lines.specs.declared.Change.{Change}
-use Rattle.reg_lines.specs.Regs.{RegsState, AreHeld, IsWritingOf}
-use Rattle.reg_lines.specs.Keeping.{kept_on}
+use Rattle.bank_model.specs.{Lawful.MayKeep, Sensing.{most_steps, kept_sensed, kept_pulsed}}
+use Rattle.bank_model.specs.{Timing.{Happens, Regs, Keeping, KeepBegin, KeepIterate, KeepCut, TimedEvent, core, ends}, Touching.Touches}
+use Rattle.line_writer.specs.{Writing.steps_left, declared.writer.LineWriter.LineWriter}
+use Rattle.reg_lines.specs.{Keeping.kept_on, Regs.{RegsState, AreHeld, IsWritingOf}, declared.Change.Change}
 use Rattle.reg_lines.specs.Keeping as writing
-use Rattle.register_laws.specs.Control.{Control}
-use Rattle.register_laws.specs.Telling.{AreTold, item_of}
+use Rattle.register_laws.specs.{Control.Control, Telling.{AreTold, item_of}}
 use Rattle.bank_invariant.proofs.Iterating.{under_way-steps}
-use Rattle.clock_laws.specs.State.{ClockState, next_action}
-use Rattle.clock_laws.specs.Leads.{Leads}
-use Rattle.clock_laws.specs.Tearing.{GoesOnWriting}
-use Rattle.clock_laws.specs.Completing.{EndsKeeping, line_kept, keep_completed, after_keep}
-use Rattle.clock_laws.specs.Extending.{is_tear}
-use Rattle.clock_laws.specs.Actions.{LeadsOn, KeepBeginEndsLaw, KeepIterateEndsLaw}
-use Rattle.clock_laws.proofs.Ranges.{change-in, kept-pulsed-in}
-use Rattle.clock_laws.proofs.Controls.{change-known}
-use Rattle.clock_laws.proofs.Completing.{keeping_law}
-use Rattle.clock_laws.proofs.Extending.{one_added_law}
+use Rattle.clock_laws.specs.{Actions.{LeadsOn, KeepBeginEndsLaw, KeepIterateEndsLaw}, Completing.{EndsKeeping, line_kept, keep_completed, after_keep}, Extending.is_tear}
+use Rattle.clock_laws.{specs.Leads.Leads, specs.State.{ClockState, next_action}, specs.Tearing.GoesOnWriting, proofs.Completing.keeping_law, proofs.Controls.change-known}
+use Rattle.clock_laws.proofs.{Extending.one_added_law, Ranges.{change-in, kept-pulsed-in}}
 
 -- the control line of a change, by the first of them, and whether a change stands halted after a step
 abbrev line_by : ℕ → Option Change → Option ℕ

@@ -1,34 +1,21 @@
 -- The rows that stand, and that no other outcome is touched.
 use Rattle.std.proofs.Common.{◌≡◌, ℕ, ◌==◌, ◌||◌, Bool, true, false, cond, if◌then◌else◌, List, [], ◌∷◌, ◌++◌, map, Option, Some, None, refl, sym, ap, subst, ◌∙◌, eqb-true}
-use Rattle.masked_bytes.proofs.Truth.{neither_first, neither_second}
 use Rattle.std.specs.Prelude.{unwrap_or}
+use Rattle.masked_bytes.{specs.Entries.{candidate, has_row, head_row}, specs.declared.entry.Entry.Entry, proofs.Truth.{neither_first, neither_second}}
 use Rattle.result_rows.specs.declared.Outcome.{Outcome}
 use Rattle.result_rows.specs.declared.Outcome.TheVariants as out
-use Rattle.masked_bytes.specs.declared.entry.Entry.{Entry}
-use Rattle.masked_bytes.specs.Entries.{candidate, has_row, head_row}
-use Rattle.bank_shape.specs.declared.BankShape.{BankShape}
-use Rattle.bank_shape.specs.declared.Work.TheVariants.{Nothing}
+use Rattle.bank_shape.specs.{declared.BankShape.BankShape, declared.Work.TheVariants.Nothing, declared.answer.Served.Served, declared.pace.Pace.Pace}
+use Rattle.bank_shape.specs.declared.waiting.Waiting.{Waiting}
 use Rattle.bank_shape.specs.declared.answer.WriteAnswer.TheVariants as wrote
 use Rattle.bank_shape.specs.declared.answer.ReadAnswer.TheVariants as came
-use Rattle.bank_shape.specs.declared.answer.Served.{Served}
 use Rattle.bank_shape.specs.declared.answer.Step.TheVariants as did
-use Rattle.bank_model.specs.Events.{BankEvent, Write, Read, Serve, Begin, Iterate, Cut}
-use Rattle.bank_model.specs.History.{Awaited, queue, waits, due_after, has_exhausted}
-use Rattle.bank_model.specs.After.{due_work}
-use Rattle.bank_model.specs.Answers.{MayHappen, IsServed, IsDone, head_busy_after}
-use Rattle.bank_shape.specs.declared.pace.Pace.{Pace}
+use Rattle.bank_model.specs.{After.due_work, Answers.{MayHappen, IsServed, IsDone, head_busy_after}, Events.{BankEvent, Write, Read, Serve, Begin, Iterate, Cut}}
+use Rattle.bank_model.specs.{History.{Awaited, queue, waits, due_after, has_exhausted}, Lawful.{Lawful, MayCome}, Sensing.most_steps}
 use Rattle.bank_model.specs.Timing.{Happens, Core, Regs, TimedEvent, core, core_of}
-use Rattle.bank_model.specs.Lawful.{Lawful, MayCome}
-use Rattle.bank_model.specs.Sensing.{most_steps}
-use Rattle.bank_laws.specs.Outcomes.{outcome_by, outcome_with, on_row}
-use Rattle.bank_laws.specs.Standing.{has_wait, WaitsApart, AreRowsApart}
+use Rattle.bank_laws.{specs.Outcomes.{outcome_by, outcome_with, on_row}, specs.Standing.{has_wait, WaitsApart, AreRowsApart}, proofs.Answering.candidate-there}
 use Rattle.bank_laws.proofs.Standing.{stand_apart}
-use Rattle.bank_laws.proofs.Answering.{candidate-there}
-use Rattle.bank_shape.specs.declared.waiting.Waiting.{Waiting}
-use Rattle.bank_invariant.specs.Holds.{waiting_of}
-use Rattle.bank_invariant.proofs.Taking.{answer_merged}
-use Rattle.clock_laws.specs.Recording.{outcome_on}
-use Rattle.clock_laws.specs.Standing.{has_waiting, WaitingApart, AreApart, ApartLaw, is_arrival_of, arrives_with, OtherRowsLaw}
+use Rattle.bank_invariant.{specs.Holds.waiting_of, proofs.Taking.answer_merged}
+use Rattle.clock_laws.specs.{Recording.outcome_on, Standing.{has_waiting, WaitingApart, AreApart, ApartLaw, is_arrival_of, arrives_with, OtherRowsLaw}}
 use Rattle.clock_laws.proofs.Absent.{queue-lacks, waits-lack}
 
 -- Rows that stand

@@ -2,18 +2,13 @@
 use Rattle.std.proofs.Common.{◌+◌, ◌<◌, ◌≤◌, [], Option, None, is_some, sym, ap, subst, ◌∙◌, arith}
 use Rattle.std.specs.Prelude.{IfSome}
 use Rattle.bank_shape.specs.declared.clock.Action.{Action}
-use Rattle.bank_model.specs.Timing.{ends}
-use Rattle.bank_model.specs.Running.{chosen_after, running_at}
-use Rattle.line_writer.specs.declared.writer.LineWriter.{LineWriter}
-use Rattle.line_writer.specs.Writing.{steps_left, most_steps}
+use Rattle.bank_model.specs.{Running.{chosen_after, running_at}, Timing.ends}
+use Rattle.line_writer.specs.{Writing.{steps_left, most_steps}, declared.writer.LineWriter.LineWriter}
 use Rattle.reg_lines.specs.declared.Change.{Change}
 use Rattle.register_laws.specs.Telling.{item_of}
 use Rattle.bank_invariant.specs.State.{Operation}
-use Rattle.clock_laws.specs.Leads.{CopiesWhatItSensed}
-use Rattle.clock_laws.specs.Starting.{StartLaw}
-use Rattle.clock_laws.specs.Passing.{PassingLaw, IdleLaw, EndingLaterLaw}
-use Rattle.clock_laws.proofs.Wearing.{has-aged-first}
-use Rattle.clock_laws.proofs.Ties.{started-same, next-runs, next-none, ends-later}
+use Rattle.clock_laws.specs.{Leads.CopiesWhatItSensed, Passing.{PassingLaw, IdleLaw, EndingLaterLaw}, Starting.StartLaw}
+use Rattle.clock_laws.proofs.{Ties.{started-same, next-runs, next-none, ends-later}, Wearing.has-aged-first}
 
 pub passing_law : PassingLaw
 passing_law n m e to xs clock array leads later above = record {

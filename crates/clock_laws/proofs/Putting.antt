@@ -1,37 +1,23 @@
 -- The control lines are told by the history after each event.
 use Rattle.std.proofs.Common.{◌≡◌, ℕ, ◌+◌, ◌/◌, ◌<◌, ◌≤◌, Bool, true, false, cond, List, ◌∷◌, length, Option, Some, None, is_some, refl, sym, ap, subst, ◌∙◌}
 use Rattle.std.specs.Prelude.{IfSome, IsSomeAnd}
-use Rattle.masked_bytes.specs.declared.entry.Entry.{Entry}
-use Rattle.masked_bytes.specs.Entries.{head_row, head_line}
+use Rattle.masked_bytes.specs.{Entries.{head_row, head_line}, declared.entry.Entry.Entry}
 use Rattle.cell_rows.specs.Device.{ArrayState}
 use Rattle.spare_pool.specs.Table.{Table, used_by}
-use Rattle.line_writer.specs.declared.writer.LineWriter.{LineWriter}
-use Rattle.line_writer.specs.Writing.{steps_left, most_steps}
-use Rattle.bank_shape.specs.declared.BankShape.{BankShape}
-use Rattle.bank_shape.specs.declared.Home.{Home}
-use Rattle.bank_shape.specs.declared.Home.TheVariants as home
-use Rattle.bank_shape.specs.declared.Work.{Work}
-use Rattle.bank_shape.specs.declared.Work.TheVariants.{Nothing, Store, Copy}
-use Rattle.start_gap.specs.declared.Move.{Move}
-use Rattle.power_recovery.specs.Kept.{KeptState, due_region}
-use Rattle.power_recovery.proofs.Bundle.{next_work-store, next_work-copy}
+use Rattle.line_writer.specs.{Writing.{steps_left, most_steps}, declared.writer.LineWriter.LineWriter}
+use Rattle.bank_shape.specs.{Kinds.{is_store, is_copy}, declared.BankShape.BankShape, declared.Home.Home, declared.Work.Work, declared.Work.TheVariants.{Nothing, Store, Copy}}
 use Rattle.bank_shape.specs.declared.answer.Step.{Step}
+use Rattle.bank_shape.specs.declared.Home.TheVariants as home
 use Rattle.bank_shape.specs.declared.answer.Step.TheVariants as did
-use Rattle.bank_shape.specs.Kinds.{is_store, is_copy}
-use Rattle.bank_model.specs.Events.{Write, Read, Serve, Begin, Iterate, Cut, line_of_row}
-use Rattle.bank_model.specs.History.{queue, stores, first_or}
-use Rattle.bank_model.specs.After.{work_after}
-use Rattle.bank_model.specs.Answers.{IsDone, MayHappen}
+use Rattle.start_gap.specs.declared.Move.{Move}
+use Rattle.power_recovery.{specs.Kept.{KeptState, due_region}, proofs.Bundle.{next_work-store, next_work-copy}}
+use Rattle.bank_model.specs.{After.work_after, Answers.{IsDone, MayHappen}}
 use Rattle.bank_model.specs.Changes.{item_if, changed_by, change_by, change_after, keeping_by, keeping_after, rounds_by, rounds_after, halted_by, halted_after}
-use Rattle.bank_model.specs.Timing.{TimedEvent, Happens, Core, core}
-use Rattle.reg_lines.specs.declared.Change.{Change}
-use Rattle.reg_lines.specs.Regs.{RegsState, IsWritingOf}
+use Rattle.bank_model.specs.{Events.{Write, Read, Serve, Begin, Iterate, Cut, line_of_row}, History.{queue, stores, first_or}, Timing.{TimedEvent, Happens, Core, core}}
+use Rattle.reg_lines.specs.{Regs.{RegsState, IsWritingOf}, declared.Change.Change}
 use Rattle.register_laws.specs.Telling.{AreTold, item_of}
 use Rattle.bank_invariant.proofs.Naming.{AreNamed, queue-named, head-named}
-use Rattle.clock_laws.specs.State.{ClockState}
-use Rattle.clock_laws.specs.Leads.{Leads}
-use Rattle.clock_laws.specs.Putting.{PutLaw, region_due, item_by, put_if}
-use Rattle.clock_laws.proofs.Ties.{agrees}
+use Rattle.clock_laws.{specs.Leads.Leads, specs.Putting.{PutLaw, region_due, item_by, put_if}, specs.State.ClockState, proofs.Ties.agrees}
 
 -- What is put
 

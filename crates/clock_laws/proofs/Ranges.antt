@@ -1,38 +1,19 @@
 -- The array lines that a bank senses and pulses are its own.
 use Rattle.std.proofs.Common.{◌≡◌, ℕ, ◌+◌, ◌-◌, ◌<◌, ◌≤◌, Bool, true, false, cond, zero, suc, List, [], ◌∷◌, ◌++◌, map, Option, Some, None, refl, sym, ap, subst, ◌∙◌, arith}
-use Rattle.std.specs.Prelude.{All, IfSome}
-use Rattle.std.proofs.lemmas.List.Elements.{All-nil, All-cons}
-use Rattle.std.proofs.Math.Nat.{mul-le-mul_left}
+use Rattle.std.{specs.Prelude.{All, IfSome}, proofs.Math.Nat.mul-le-mul_left, proofs.lemmas.List.Elements.{All-nil, All-cons}}
 use Rattle.masked_bytes.specs.declared.entry.Entry.{Entry}
-use Rattle.cell_rows.specs.declared.array.Sense.{Sense}
-use Rattle.cell_rows.specs.Device.{ArrayState, counted, sense_of}
-use Rattle.start_gap.specs.Rotation.{Rotation, below_gap}
-use Rattle.start_gap.proofs.Places.{below_gap-within}
-use Rattle.spare_pool.specs.Table.{line_by, used_by}
-use Rattle.spare_pool.proofs.Lines.{line_by-within}
-use Rattle.bank_shape.specs.declared.BankShape.{BankShape}
-use Rattle.bank_shape.specs.declared.Work.{Work}
-use Rattle.bank_shape.specs.declared.Work.TheVariants.{Nothing, Store, Copy}
-use Rattle.bank_shape.specs.Shape.{slots_of, slot_at, lines_in, controls_of, controls_from, control_line, IsIn}
-use Rattle.power_recovery.specs.Slots.{bank_lines}
-use Rattle.power_recovery.specs.Kept.{KeptState, IsKept, AllBelow, region_at, slot_of, array_line, stands_at, due_region, due_work, next_work, target_slot}
-use Rattle.power_recovery.proofs.Placing.{slot_of-within}
+use Rattle.cell_rows.specs.{Device.{ArrayState, counted, sense_of}, declared.array.Sense.Sense}
+use Rattle.start_gap.{specs.Rotation.{Rotation, below_gap}, proofs.Places.below_gap-within}
+use Rattle.spare_pool.{specs.Table.{line_by, used_by}, proofs.Lines.line_by-within}
+use Rattle.bank_shape.specs.{Shape.{slots_of, slot_at, lines_in, controls_of, controls_from, control_line, IsIn}, declared.BankShape.BankShape, declared.Work.Work}
+use Rattle.bank_shape.specs.{declared.Work.TheVariants.{Nothing, Store, Copy}, declared.clock.Action.Action, declared.clock.Doing.TheVariants.Iterating}
 use Rattle.bank_shape.proofs.Sizes.{slot_at-within}
-use Rattle.power_recovery.proofs.Bundle.{due_region-Some}
-use Rattle.bank_model.specs.Events.{BankEvent, Write, Read, Serve, Begin, Iterate, Cut}
-use Rattle.bank_model.specs.History.{Awaited, waits}
-use Rattle.bank_model.specs.After.{work_after, target_after, sources_of}
-use Rattle.bank_shape.specs.declared.clock.Doing.TheVariants.{Iterating}
-use Rattle.bank_shape.specs.declared.clock.Action.{Action}
-use Rattle.bank_model.specs.Changes.{line_of_change, numbers_from}
-use Rattle.bank_model.specs.Timing.{TimedEvent, Keeping, KeepBegin, KeepIterate, KeepCut, is_doing}
-use Rattle.bank_model.specs.Sensing.{is_at, pulses_of, stand_of, sensed_by, pulsed_by, read_again, torn_control, kept_sensed, kept_pulsed}
-use Rattle.bank_model.specs.Touching.{Touches, shown}
-use Rattle.bank_invariant.specs.State.{BankState, target_of}
-use Rattle.bank_invariant.specs.Holds.{Holds}
-use Rattle.bank_invariant.specs.Bridge.{AgreesWith}
-use Rattle.bank_invariant.proofs.Awaiting.{waits-known}
-use Rattle.bank_invariant.proofs.Agreeing.{agree_law}
+use Rattle.power_recovery.specs.{Kept.{KeptState, IsKept, AllBelow, region_at, slot_of, array_line, stands_at, due_region, due_work, next_work, target_slot}, Slots.bank_lines}
+use Rattle.power_recovery.proofs.{Bundle.due_region-Some, Placing.slot_of-within}
+use Rattle.bank_model.specs.{After.{work_after, target_after, sources_of}, Changes.{line_of_change, numbers_from}, Events.{BankEvent, Write, Read, Serve, Begin, Iterate, Cut}}
+use Rattle.bank_model.specs.{History.{Awaited, waits}, Sensing.{is_at, pulses_of, stand_of, sensed_by, pulsed_by, read_again, torn_control, kept_sensed, kept_pulsed}}
+use Rattle.bank_model.specs.{Timing.{TimedEvent, Keeping, KeepBegin, KeepIterate, KeepCut, is_doing}, Touching.{Touches, shown}}
+use Rattle.bank_invariant.{specs.Bridge.AgreesWith, specs.Holds.Holds, specs.State.{BankState, target_of}, proofs.Agreeing.agree_law, proofs.Awaiting.waits-known}
 
 -- one that is no control line
 abbrev pub IsSlotOrSpare : BankShape → ℕ → Type 0

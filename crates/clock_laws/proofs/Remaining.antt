@@ -1,36 +1,22 @@
 -- Each action leaves fewer to be taken.
 use Rattle.std.proofs.Common.{◌≡◌, ◌≢◌, inl, inr, ℕ, ◌+◌, ◌*◌, ◌<◌, ◌≤◌, Bool, true, false, List, [], ◌∷◌, length, drop, Option, Some, None, is_some, refl, sym, ap, subst, ◌∙◌, arith, get_or-set_other}
-use Rattle.std.proofs.lemmas.Bool.{cases_eq}
-use Rattle.std.proofs.lemmas.Grind.{get_or-set_at}
-use Rattle.std.proofs.lemmas.List.{length-append}
-use Rattle.std.specs.Prelude.{IsTrue}
-use Rattle.std.proofs.Math.Nat.{mul-le-mul_left, mul-add}
-use Rattle.masked_bytes.specs.Entries.{completed}
-use Rattle.masked_bytes.specs.declared.entry.Entry.{Entry}
+use Rattle.std.{specs.Prelude.IsTrue, proofs.Math.Nat.{mul-le-mul_left, mul-add}, proofs.lemmas.Bool.cases_eq, proofs.lemmas.Grind.get_or-set_at, proofs.lemmas.List.length-append}
+use Rattle.masked_bytes.specs.{Entries.completed, declared.entry.Entry.Entry}
 use Rattle.region_regs.specs.Region.{RegionState, after_move}
 use Rattle.spare_pool.specs.Table.{used_by}
-use Rattle.line_writer.specs.Writing.{steps_left, most_steps}
-use Rattle.power_recovery.specs.Kept.{KeptState, IsKept, no_region, region_at, due_region, next_work}
+use Rattle.line_writer.specs.{Writing.{steps_left, most_steps}, declared.writer.LineWriter.LineWriter}
 use Rattle.power_recovery.specs.Events.{completed_kept, stored_kept, moved_kept, retired_kept, exhausted_kept}
-use Rattle.power_recovery.proofs.Frames.{moved_at, moved_kept-at, next_work-completed}
-use Rattle.power_recovery.proofs.Bundle.{due_region-Some, due_region-None, next_work-store, next_work-copy, IsKept-moved}
-use Rattle.bank_invariant.specs.State.{BankState, Operation}
-use Rattle.bank_invariant.specs.Retiring.{ended}
-use Rattle.bank_invariant.specs.Beginning.{begun_with}
-use Rattle.bank_shape.specs.declared.waiting.Waiting.{Waiting}
-use Rattle.line_writer.specs.declared.writer.LineWriter.{LineWriter}
+use Rattle.power_recovery.specs.Kept.{KeptState, IsKept, no_region, region_at, due_region, next_work}
+use Rattle.power_recovery.proofs.{Bundle.{due_region-Some, due_region-None, next_work-store, next_work-copy, IsKept-moved}, Frames.{moved_at, moved_kept-at, next_work-completed}}
+use Rattle.bank_invariant.specs.{Beginning.begun_with, Retiring.ended, State.{BankState, Operation}}
+use Rattle.bank_shape.specs.{Kinds.{is_store, is_copy}, declared.waiting.Waiting.Waiting}
 use Rattle.bank_shape.specs.declared.answer.Keep.TheVariants as keep
-use Rattle.bank_shape.specs.Kinds.{is_store, is_copy}
 use Rattle.bank_laws.proofs.Changing.{changed-idle}
-use Rattle.reg_lines.specs.declared.Change.{Change}
-use Rattle.reg_lines.specs.Regs.{RegsState}
-use Rattle.reg_lines.specs.Keeping.{kept_on}
+use Rattle.reg_lines.specs.{Keeping.kept_on, Regs.RegsState, declared.Change.Change}
 use Rattle.register_laws.specs.Telling.{item_of}
-use Rattle.bank_model.specs.After.{due_moves}
-use Rattle.bank_model.proofs.Within.{due_moves-few}
-use Rattle.clock_laws.specs.Remaining.{last_attempts, attempts_left, attempt_left, keeping_left, present_left, actions_left, FallingLaw, OneWriteLaw}
+use Rattle.bank_model.{specs.After.due_moves, proofs.Within.due_moves-few}
+use Rattle.clock_laws.{specs.Remaining.{last_attempts, attempts_left, attempt_left, keeping_left, present_left, actions_left, FallingLaw, OneWriteLaw}, proofs.Fitting.no_one}
 use Rattle.clock_laws.proofs.Stepping.{some_item}
-use Rattle.clock_laws.proofs.Fitting.{no_one}
 
 length-rest : {n : ℕ} (es : List (Entry n)) → 0 < length es → length (drop 1 es) + 1 ≡ length es
 length-rest [] some = grind arith

@@ -1,36 +1,20 @@
 -- Each row that came has its outcome, unless it stands or waits.
 use Rattle.std.proofs.Common.{◌≡◌, ◌≢◌, ◌⊎◌, inl, inr, ℕ, ◌<◌, ◌==◌, ◌||◌, Bool, true, false, cond, if◌then◌else◌, List, [], ◌∷◌, ◌++◌, drop, Option, Some, None, refl, sym, ap, subst, ◌∙◌, arith, eqb-true, eq-eqb}
-use Rattle.std.specs.Prelude.{unwrap_or}
-use Rattle.std.proofs.lemmas.Bool.{ne_eqb, or_left, or_right}
+use Rattle.std.{specs.Prelude.unwrap_or, proofs.lemmas.Bool.{ne_eqb, or_left, or_right}}
 use Rattle.result_rows.specs.declared.Outcome.{Outcome}
 use Rattle.result_rows.specs.declared.Outcome.TheVariants as out
-use Rattle.masked_bytes.specs.declared.entry.Entry.{Entry}
-use Rattle.masked_bytes.specs.Entries.{candidate, laid_on, merged, has_row, head_row}
-use Rattle.masked_bytes.proofs.Truth.{or_rest}
-use Rattle.bank_shape.specs.declared.BankShape.{BankShape}
-use Rattle.bank_shape.specs.declared.Work.{Work}
-use Rattle.bank_shape.specs.declared.Work.TheVariants.{Nothing, Store, Copy}
-use Rattle.bank_shape.specs.declared.answer.WriteAnswer.{WriteAnswer}
+use Rattle.masked_bytes.{specs.Entries.{candidate, laid_on, merged, has_row, head_row}, specs.declared.entry.Entry.Entry, proofs.Truth.or_rest}
+use Rattle.bank_shape.specs.{declared.BankShape.BankShape, declared.Work.Work, declared.Work.TheVariants.{Nothing, Store, Copy}, declared.answer.Served.Served}
+use Rattle.bank_shape.specs.{declared.answer.WriteAnswer.WriteAnswer, declared.pace.Pace.Pace}
 use Rattle.bank_shape.specs.declared.answer.WriteAnswer.TheVariants as wrote
 use Rattle.bank_shape.specs.declared.answer.ReadAnswer.TheVariants as came
-use Rattle.bank_shape.specs.declared.answer.Served.{Served}
 use Rattle.bank_shape.specs.declared.answer.Step.TheVariants as did
-use Rattle.bank_model.specs.Events.{BankEvent, Write, Read, Serve, Begin, Iterate, Cut, newest, RowsBelow}
-use Rattle.bank_model.specs.History.{Awaited, queue, waits, begun, due_after, has_exhausted}
-use Rattle.bank_model.specs.After.{work_after}
-use Rattle.bank_model.specs.Answers.{MayHappen, IsServed, IsDone, head_busy_after}
-use Rattle.bank_shape.specs.declared.pace.Pace.{Pace}
-use Rattle.bank_model.specs.Timing.{Happens, Core, Regs, TimedEvent, core, core_of}
-use Rattle.bank_model.specs.Lawful.{Lawful, MayCome}
-use Rattle.bank_model.specs.Sensing.{most_steps}
-use Rattle.bank_model.specs.Told.{tick_by, tick_of_row}
-use Rattle.bank_laws.specs.Outcomes.{outcome_by, outcome_with, outcome_of, on_row}
-use Rattle.bank_laws.specs.Standing.{has_wait}
-use Rattle.bank_laws.proofs.Answering.{candidate-there}
-use Rattle.bank_laws.proofs.Waiting.{wait-push}
+use Rattle.bank_model.specs.{After.work_after, Answers.{MayHappen, IsServed, IsDone, head_busy_after}}
+use Rattle.bank_model.specs.{Events.{BankEvent, Write, Read, Serve, Begin, Iterate, Cut, newest, RowsBelow}, History.{Awaited, queue, waits, begun, due_after, has_exhausted}}
+use Rattle.bank_model.specs.{Lawful.{Lawful, MayCome}, Sensing.most_steps, Timing.{Happens, Core, Regs, TimedEvent, core, core_of}, Told.{tick_by, tick_of_row}}
+use Rattle.bank_laws.{specs.Outcomes.{outcome_by, outcome_with, outcome_of, on_row}, specs.Standing.has_wait, proofs.Answering.candidate-there, proofs.Waiting.wait-push}
 use Rattle.bank_invariant.proofs.Taking.{answer_merged}
-use Rattle.clock_laws.specs.Standing.{has_waiting, is_arrival_of, arrives_with, SettledLaw, LostRowsLaw, ArrivalTickLaw}
-use Rattle.clock_laws.proofs.Others.{same_wait}
+use Rattle.clock_laws.{specs.Standing.{has_waiting, is_arrival_of, arrives_with, SettledLaw, LostRowsLaw, ArrivalTickLaw}, proofs.Others.same_wait}
 
 -- whether a row has its outcome
 abbrev is_set : {n : ℕ} → Outcome n → Bool

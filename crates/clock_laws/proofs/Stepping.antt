@@ -2,34 +2,18 @@
 use Rattle.std.proofs.Common.{◌≡◌, ℕ, ◌<◌, Bool, true, false, List, [], ◌∷◌, map, Option, Some, None, is_some, refl, sym, ap, subst, ◌∙◌, arith}
 use Rattle.std.specs.Prelude.{All, IfSome, IsTrue}
 use Rattle.cell_rows.specs.Device.{ArrayState}
-use Rattle.bank_shape.specs.declared.BankShape.{BankShape}
-use Rattle.bank_shape.specs.Shape.{controls_of}
-use Rattle.bank_shape.specs.declared.clock.Action.{Action}
-use Rattle.bank_model.specs.Events.{BankEvent}
-use Rattle.bank_model.specs.History.{queue}
-use Rattle.bank_model.specs.Answers.{MayAll}
-use Rattle.bank_model.specs.Changes.{change_after, line_of_change}
-use Rattle.bank_shape.specs.declared.pace.Pace.{Pace}
-use Rattle.bank_model.specs.Timing.{TimedEvent, Happens, Core, Regs, Keeping, ends, core}
-use Rattle.bank_model.specs.Running.{left_by, running_at, running, chosen_after, cancels_with}
+use Rattle.bank_shape.specs.{Shape.controls_of, declared.BankShape.BankShape, declared.clock.Action.Action, declared.pace.Pace.Pace}
+use Rattle.bank_model.specs.{Answers.MayAll, Changes.{change_after, line_of_change}, Events.BankEvent, History.queue}
 use Rattle.bank_model.specs.Lawful.{IsAsked, IsOnTime, IsKeptOnTime, IsUncancelled, MayKeep, MayCome, Lawful, FollowsCancel}
+use Rattle.bank_model.specs.Running.{left_by, running_at, running, chosen_after, cancels_with}
 use Rattle.bank_model.specs.Sensing.{most_steps, pulses_of, sensed_by, pulsed_by, read_again, torn_control, kept_sensed, kept_pulsed, IsReadRight}
-use Rattle.bank_model.specs.Told.{IsWhole, tick_of_row}
-use Rattle.bank_model.specs.Touching.{Touches, AreStruck, shown}
-use Rattle.reg_lines.specs.declared.Change.{Change}
-use Rattle.reg_lines.specs.Regs.{RegsState}
-use Rattle.register_laws.specs.Control.{Control}
-use Rattle.register_laws.specs.Telling.{AreTold, item_of}
-use Rattle.bank_invariant.specs.State.{BankState}
-use Rattle.bank_invariant.specs.Holds.{Holds}
-use Rattle.clock_laws.specs.State.{ClockState}
-use Rattle.clock_laws.specs.Leads.{Leads, Reaches, HasAged, CopiesWhatItSensed}
-use Rattle.clock_laws.specs.Tearing.{GoesOnWriting}
-use Rattle.clock_laws.proofs.Aging.{IsStruckBy, aged-next}
-use Rattle.clock_laws.proofs.Wearing.{has-aged-next}
-use Rattle.clock_laws.proofs.Ties.{started-same}
-use Rattle.clock_laws.proofs.Controls.{change-known}
-use Rattle.clock_laws.proofs.Ranges.{AreIn, ArePulses, controls-in, sensed-in, kept-sensed-in, change-in, pulses-at, pulses-next, shown-all, shown-lines}
+use Rattle.bank_model.specs.{Timing.{TimedEvent, Happens, Core, Regs, Keeping, ends, core}, Told.{IsWhole, tick_of_row}, Touching.{Touches, AreStruck, shown}}
+use Rattle.reg_lines.specs.{Regs.RegsState, declared.Change.Change}
+use Rattle.register_laws.specs.{Control.Control, Telling.{AreTold, item_of}}
+use Rattle.bank_invariant.specs.{Holds.Holds, State.BankState}
+use Rattle.clock_laws.{specs.Leads.{Leads, Reaches, HasAged, CopiesWhatItSensed}, specs.State.ClockState, specs.Tearing.GoesOnWriting, proofs.Aging.{IsStruckBy, aged-next}}
+use Rattle.clock_laws.proofs.{Controls.change-known, Ranges.{AreIn, ArePulses, controls-in, sensed-in, kept-sensed-in, change-in, pulses-at, pulses-next, shown-all, shown-lines}}
+use Rattle.clock_laws.proofs.{Ties.started-same, Wearing.has-aged-next}
 
 -- the last event is no cancel, so nothing has to follow it
 pub follows : {n m : ℕ} (shape : BankShape) (pace : Pace) (xs : List (TimedEvent n m)) (tick : ℕ) (event : BankEvent n) → IsWhole xs → FollowsCancel shape pace xs tick event

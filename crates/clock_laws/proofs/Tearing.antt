@@ -2,38 +2,19 @@
 use Rattle.std.proofs.Common.{◌≡◌, ◌⊎◌, inl, inr, ℕ, ◌+◌, ◌<◌, ◌||◌, not, is_some, Bool, true, false, cond, List, [], ◌∷◌, Option, Some, None, refl, sym, ap, subst, ◌∙◌}
 use Rattle.std.specs.Prelude.{IsTrue, IfSome}
 use Rattle.cell_rows.specs.Device.{ArrayState}
-use Rattle.bank_shape.specs.declared.BankShape.{BankShape}
-use Rattle.bank_shape.specs.declared.clock.Doing.{Doing}
+use Rattle.bank_shape.specs.{declared.BankShape.BankShape, declared.clock.Action.Action, declared.clock.Doing.Doing}
 use Rattle.bank_shape.specs.declared.clock.Doing.TheVariants.{Serving, Beginning, Iterating}
-use Rattle.bank_shape.specs.declared.clock.Action.{Action}
-use Rattle.bank_model.specs.Events.{BankEvent, Cut}
-use Rattle.bank_model.specs.History.{in_progress}
-use Rattle.bank_model.specs.Answers.{MayAll, MayHappen}
-use Rattle.bank_model.specs.Changes.{line_of_change, all_controls}
-use Rattle.bank_model.specs.Timing.{KeepCut, TimedEvent, core, same_doing, is_doing}
-use Rattle.bank_model.specs.Running.{busy_by, tears_bank}
-use Rattle.bank_model.specs.Sensing.{is_at, most_steps, pulsed_by, torn_control, kept_pulsed}
+use Rattle.bank_model.specs.{Answers.{MayAll, MayHappen}, Changes.{line_of_change, all_controls}, Events.{BankEvent, Cut}, History.in_progress, Running.{busy_by, tears_bank}}
+use Rattle.bank_model.specs.{Sensing.{is_at, most_steps, pulsed_by, torn_control, kept_pulsed}, Timing.{KeepCut, TimedEvent, core, same_doing, is_doing}}
 use Rattle.bank_model.specs.Touching.{Touches, AreStruck}
-use Rattle.reg_lines.specs.declared.Change.{Change}
+use Rattle.reg_lines.specs.{Keeping.IsTorn, Regs.RegsState, declared.Change.Change}
 use Rattle.program_verify.specs.Programming.{IsTear}
-use Rattle.reg_lines.specs.Regs.{RegsState}
-use Rattle.reg_lines.specs.Keeping.{IsTorn}
 use Rattle.register_laws.specs.Telling.{item_of}
-use Rattle.bank_invariant.specs.State.{BankState, Operation}
-use Rattle.bank_invariant.specs.Holds.{Holds}
-use Rattle.clock_laws.specs.State.{ClockState}
-use Rattle.clock_laws.specs.Leads.{Leads}
-use Rattle.clock_laws.specs.Tearing.{TearsControl}
-use Rattle.clock_laws.specs.Completing.{line_kept}
-use Rattle.clock_laws.specs.Fitting.{Fits, IsFit}
-use Rattle.clock_laws.specs.Cutting.{tears_now, torn_now, cut, cancel, keep_cancel}
-use Rattle.clock_laws.specs.Actions.{torn_line, CutEndsLaw, CancelEndsLaw, KeepCancelEndsLaw}
+use Rattle.bank_invariant.specs.{Holds.Holds, State.{BankState, Operation}}
+use Rattle.clock_laws.specs.{Actions.{torn_line, CutEndsLaw, CancelEndsLaw, KeepCancelEndsLaw}, Completing.line_kept, Cutting.{tears_now, torn_now, cut, cancel, keep_cancel}}
+use Rattle.clock_laws.{specs.Fitting.{Fits, IsFit}, specs.Leads.Leads, specs.State.ClockState, specs.Tearing.TearsControl, proofs.Controls.change-known}
+use Rattle.clock_laws.proofs.{Cutting.{power_cut_law, cancel_law, keep_cancel_law}, Ending.op-target, Extending.one_added_law, Keeping.line_known}
 use Rattle.clock_laws.proofs.Ranges.{pulsed-in, torn-in, kept-pulsed-in}
-use Rattle.clock_laws.proofs.Controls.{change-known}
-use Rattle.clock_laws.proofs.Cutting.{power_cut_law, cancel_law, keep_cancel_law}
-use Rattle.clock_laws.proofs.Extending.{one_added_law}
-use Rattle.clock_laws.proofs.Ending.{op-target}
-use Rattle.clock_laws.proofs.Keeping.{line_known}
 
 -- an action that iterates has a line write in progress, of the change or of the bank
 fits_some : {n m e : ℕ} (bank : BankState n m e) (regs : RegsState n m e) (action : Option Action) → IsFit bank regs action → is_doing Iterating action ≡ true

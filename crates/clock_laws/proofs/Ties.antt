@@ -1,23 +1,13 @@
 -- What a bank with its clock and its history say of each other.
 use Rattle.std.proofs.Common.{◌≡◌, ℕ, ◌<◌, ◌≤◌, ◌||◌, not, nat_lt, Bool, true, false, cond, List, [], ◌∷◌, length, map, Option, Some, None, is_some, refl, sym, ap, ◌∙◌, arith, lt-ltb, ltb-false}
-use Rattle.std.specs.Prelude.{IfSome}
-use Rattle.std.proofs.lemmas.Bool.{le-ltb}
+use Rattle.std.{specs.Prelude.IfSome, proofs.lemmas.Bool.le-ltb}
 use Rattle.cell_rows.specs.Device.{ArrayState}
-use Rattle.bank_shape.specs.declared.clock.Doing.{Doing}
-use Rattle.bank_shape.specs.declared.clock.Action.{Action}
-use Rattle.bank_model.specs.History.{Awaited, waits}
-use Rattle.bank_model.specs.Changes.{change_after, keeping_after, halted_after}
-use Rattle.bank_model.specs.Timing.{TimedEvent, ends, core, is_empty, last_tick}
-use Rattle.bank_shape.specs.Pausing.{gives_way}
-use Rattle.bank_shape.specs.Acting.{choice, chosen_by}
-use Rattle.bank_model.specs.Running.{busy_by, ready_by, busy_after, ready_after, started, chosen_after, running, running_at}
-use Rattle.bank_invariant.specs.State.{may_begin}
-use Rattle.bank_invariant.specs.Holds.{waiting_of}
-use Rattle.bank_invariant.specs.Bridge.{AgreesWith}
-use Rattle.bank_invariant.proofs.Agreeing.{agree_law}
+use Rattle.bank_shape.specs.{Acting.{choice, chosen_by}, Pausing.gives_way, declared.clock.Action.Action, declared.clock.Doing.Doing}
+use Rattle.bank_model.specs.{Changes.{change_after, keeping_after, halted_after}, History.{Awaited, waits}}
+use Rattle.bank_model.specs.{Running.{busy_by, ready_by, busy_after, ready_after, started, chosen_after, running, running_at}, Timing.{TimedEvent, ends, core, is_empty, last_tick}}
+use Rattle.bank_invariant.{specs.Bridge.AgreesWith, specs.Holds.waiting_of, specs.State.may_begin, proofs.Agreeing.agree_law}
 use Rattle.bank_laws.proofs.Ticks.{lasts_some}
-use Rattle.clock_laws.specs.State.{ClockState, is_busy, may_start, started_at, or_else, chosen, next_action}
-use Rattle.clock_laws.specs.Leads.{Leads}
+use Rattle.clock_laws.specs.{Leads.Leads, State.{ClockState, is_busy, may_start, started_at, or_else, chosen, next_action}}
 
 -- Ticks
 

@@ -1,19 +1,14 @@
 -- What the calls of one step touch together, and what the bank and the control lines are to each other's lines.
 use Rattle.std.proofs.Common.{◌≡◌, ◌&&◌, not, is_some, ℕ, ◌+◌, Bool, true, false, cond, Option, Some, None, List, [], ◌∷◌, ◌++◌, refl, sym, ap, subst, ◌∙◌, arith, append-nil}
 use Rattle.std.proofs.lemmas.Bool.{ne_eqb}
-use Rattle.cell_rows.specs.declared.array.Sense.{Sense}
-use Rattle.cell_rows.specs.Device.{CellBounds, ArrayState, LineState, counted, sense_of}
+use Rattle.cell_rows.specs.{Device.{CellBounds, ArrayState, LineState, counted, sense_of}, declared.array.Sense.Sense}
 use Rattle.bank_shape.specs.Shape.{control_line}
-use Rattle.bank_model.specs.Timing.{core}
-use Rattle.bank_model.specs.Touching.{Sticks, Touches, shown}
-use Rattle.bank_invariant.specs.State.{target_of}
-use Rattle.bank_invariant.proofs.Tearing.{running_of}
+use Rattle.bank_model.specs.{Timing.core, Touching.{Sticks, Touches, shown}}
+use Rattle.bank_invariant.{specs.State.target_of, proofs.Tearing.running_of}
 use Rattle.reg_lines.specs.declared.Change.{Change}
 use Rattle.reg_lines.specs.Keeping as writing
-use Rattle.clock_laws.specs.Actions.{torn_line, CutTouchesLaw}
-use Rattle.clock_laws.specs.Extending.{BeforeLaw, BehindLaw, ControlsStayLaw, BankStaysLaw}
+use Rattle.clock_laws.{specs.Actions.{torn_line, CutTouchesLaw}, specs.Extending.{BeforeLaw, BehindLaw, ControlsStayLaw, BankStaysLaw}, proofs.Elsewhere.holds-same}
 use Rattle.clock_laws.proofs.Ranges.{IsSlotOrSpare, target-in}
-use Rattle.clock_laws.proofs.Elsewhere.{holds-same}
 
 -- senses of lines that are the same show the same
 shown-same : {n m : ℕ} (tick : ℕ) (sensed : List ℕ) (old new : ArrayState n m) → ((line : ℕ) → new.line line ≡ old.line line) → shown tick sensed old ≡ shown tick sensed new

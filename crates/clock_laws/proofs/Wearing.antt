@@ -1,41 +1,23 @@
 -- How the control lines of a bank age over one event.
 use Rattle.std.proofs.Common.{◌≡◌, ℕ, ◌+◌, ◌<◌, ◌≤◌, ◌&&◌, not, is_some, Bool, true, false, cond, List, [], ◌∷◌, Option, Some, None, min, refl, sym, ap, ◌∙◌, subst, arith}
-use Rattle.std.specs.Prelude.{IfSome, IsSomeAnd}
-use Rattle.std.proofs.lemmas.Bool.{both_ways, eqb-true, ne_eqb, false_from_ne_true}
+use Rattle.std.{specs.Prelude.{IfSome, IsSomeAnd}, proofs.lemmas.Bool.{both_ways, eqb-true, ne_eqb, false_from_ne_true}}
 use Rattle.cell_rows.specs.Device.{CellBounds, LineState, ArrayState, IsBlank}
 use Rattle.program_verify.specs.Programming.{IsRound, is_wrong}
-use Rattle.line_writer.specs.declared.writer.LineWriter.{LineWriter}
-use Rattle.line_writer.specs.declared.writer.Progress.{Progress}
+use Rattle.line_writer.specs.{Orderly.{IsLive, IsOrderly}, declared.writer.LineWriter.LineWriter, declared.writer.Progress.Progress}
+use Rattle.line_writer.proofs.{Orderly.{plain, orderly-round, orderly-tear, orderly-blank, AreOrderly-same}, Rounds.leaves-round}
 use Rattle.line_writer.specs.declared.writer.Progress.TheVariants as progress
-use Rattle.line_writer.specs.Orderly.{IsLive, IsOrderly}
-use Rattle.line_writer.proofs.Orderly.{plain, orderly-round, orderly-tear, orderly-blank, AreOrderly-same}
-use Rattle.line_writer.proofs.Rounds.{leaves-round}
-use Rattle.bank_shape.specs.declared.BankShape.{BankShape}
-use Rattle.bank_shape.specs.Shape.{slots_of, lines_in, controls_from, controls_of, control_line}
+use Rattle.bank_shape.specs.{Shape.{slots_of, lines_in, controls_from, controls_of, control_line}, declared.BankShape.BankShape, declared.answer.Keep.Keep}
 use Rattle.bank_shape.specs.declared.clock.Doing.TheVariants.{Iterating}
-use Rattle.bank_shape.specs.declared.answer.Keep.{Keep}
 use Rattle.bank_shape.specs.declared.answer.Keep.TheVariants as keep
-use Rattle.bank_model.specs.Events.{Write, Read, Serve, Begin, Iterate, Cut}
-use Rattle.bank_model.specs.After.{target_after}
-use Rattle.bank_model.specs.Aging.{Ages, MissesUnspent, AreAged, most_written}
+use Rattle.bank_model.specs.{After.target_after, Aging.{Ages, MissesUnspent, AreAged, most_written}}
 use Rattle.bank_model.specs.Changes.{change_after, change_by, keeping_after, keeping_by, keeps_on, written_by, rounds_after, rounds_by, line_of_change}
-use Rattle.bank_model.specs.Lawful.{MayCome}
-use Rattle.bank_model.specs.Running.{running_at}
-use Rattle.bank_model.specs.Sensing.{is_at, torn_control}
-use Rattle.bank_model.specs.Timing.{TimedEvent, Happens, Core, Regs, KeepBegin, KeepIterate, KeepCut, core, is_doing}
-use Rattle.bank_model.specs.Touching.{Strikes, Touches}
-use Rattle.bank_model.specs.Works.{ends_keeping, is_written, written_on, rounds_on}
-use Rattle.bank_model.proofs.Sticking.{strikes-pulsed, strikes-torn}
-use Rattle.reg_lines.specs.declared.Change.{Change}
-use Rattle.reg_lines.specs.Regs.{RegsState, IsWritingOf}
-use Rattle.reg_lines.specs.Keeping.{keep_from, IsIteration}
-use Rattle.register_laws.specs.Control.{Control}
-use Rattle.register_laws.specs.Telling.{item_of}
-use Rattle.clock_laws.specs.State.{ClockState}
-use Rattle.clock_laws.specs.Leads.{HasAged, Reaches}
-use Rattle.clock_laws.specs.Tearing.{TearsBetween, TearsControl, GoesOnWriting}
-use Rattle.clock_laws.proofs.Aging.{IsAged, struck-ended, struck-going, aged-as, aged-ended, aged-same, aged-first}
-use Rattle.clock_laws.proofs.Ranges.{target_after-low}
+use Rattle.bank_model.specs.{Events.{Write, Read, Serve, Begin, Iterate, Cut}, Lawful.MayCome, Running.running_at, Sensing.{is_at, torn_control}}
+use Rattle.bank_model.specs.{Timing.{TimedEvent, Happens, Core, Regs, KeepBegin, KeepIterate, KeepCut, core, is_doing}, Touching.{Strikes, Touches}}
+use Rattle.bank_model.{specs.Works.{ends_keeping, is_written, written_on, rounds_on}, proofs.Sticking.{strikes-pulsed, strikes-torn}}
+use Rattle.reg_lines.specs.{Keeping.{keep_from, IsIteration}, Regs.{RegsState, IsWritingOf}, declared.Change.Change}
+use Rattle.register_laws.specs.{Control.Control, Telling.item_of}
+use Rattle.clock_laws.specs.{Leads.{HasAged, Reaches}, State.ClockState, Tearing.{TearsBetween, TearsControl, GoesOnWriting}}
+use Rattle.clock_laws.proofs.{Aging.{IsAged, struck-ended, struck-going, aged-as, aged-ended, aged-same, aged-first}, Ranges.target_after-low}
 
 -- One line
 

@@ -2,44 +2,22 @@
 use Rattle.std.specs.Prelude.{◌≡◌, ◌≢◌, ℕ, ◌+◌, ◌<◌, ◌≤◌, ◌&&◌, not, Bool, true, false, IsTrue, List, [], ◌∷◌, Option, Some, None, IsSomeAnd, slice_get, is_some}
 use Rattle.masked_bytes.specs.Masked.{laid}
 use Rattle.cell_rows.specs.Device.{ArrayState}
-use Rattle.bank_shape.specs.declared.BankShape.{BankShape}
-use Rattle.bank_shape.specs.declared.Work.{Work}
-use Rattle.bank_shape.specs.declared.Work.TheVariants.{Nothing, Store, Copy}
-use Rattle.bank_shape.specs.Shape.{slot_at}
-use Rattle.power_recovery.specs.Kept.{KeptState, array_line, stands_at, next_work}
-use Rattle.bank_shape.specs.declared.answer.Served.{Served}
-use Rattle.bank_shape.specs.declared.answer.Step.{Step}
+use Rattle.bank_shape.specs.{Shape.slot_at, declared.BankShape.BankShape, declared.Work.Work, declared.Work.TheVariants.{Nothing, Store, Copy}, declared.answer.Keep.Keep}
+use Rattle.bank_shape.specs.{declared.answer.Served.Served, declared.answer.Step.Step, declared.clock.Action.Action, declared.clock.Doing.Doing}
+use Rattle.bank_shape.specs.{declared.clock.Doing.TheVariants.{Beginning, Iterating}, declared.waiting.Waiting.Waiting}
 use Rattle.bank_shape.specs.declared.answer.Step.TheVariants as did
-use Rattle.bank_shape.specs.declared.answer.Keep.{Keep}
 use Rattle.bank_shape.specs.declared.answer.Keep.TheVariants as keep
-use Rattle.bank_shape.specs.declared.clock.Doing.{Doing}
-use Rattle.bank_shape.specs.declared.clock.Doing.TheVariants.{Beginning, Iterating}
-use Rattle.bank_shape.specs.declared.clock.Action.{Action}
-use Rattle.bank_model.specs.Events.{BankEvent, Serve, Begin, Iterate, Cut}
-use Rattle.bank_model.specs.Changes.{all_controls}
-use Rattle.bank_model.specs.Timing.{TimedEvent, KeepBegin, KeepIterate, core, ends, is_doing}
+use Rattle.power_recovery.specs.Kept.{KeptState, array_line, stands_at, next_work}
+use Rattle.bank_model.specs.{Adding.Adds, Changes.all_controls, Events.{BankEvent, Serve, Begin, Iterate, Cut}, Timing.{TimedEvent, KeepBegin, KeepIterate, core, ends, is_doing}}
 use Rattle.bank_model.specs.Touching.{Touches, AreStruck}
-use Rattle.bank_model.specs.Adding.{Adds}
-use Rattle.line_writer.specs.declared.writer.LineWriter.{LineWriter}
-use Rattle.line_writer.specs.Writing.{steps_left, most_steps}
-use Rattle.reg_lines.specs.declared.Change.{Change}
-use Rattle.reg_lines.specs.Regs.{RegsState}
-use Rattle.reg_lines.specs.Keeping.{kept_on, broken_off}
+use Rattle.line_writer.specs.{Writing.{steps_left, most_steps}, declared.writer.LineWriter.LineWriter}
+use Rattle.reg_lines.specs.{Keeping.{kept_on, broken_off}, Regs.RegsState, declared.Change.Change}
 use Rattle.reg_lines.specs.Keeping as writing
 use Rattle.register_laws.specs.Control.{Control}
-use Rattle.bank_shape.specs.declared.waiting.Waiting.{Waiting}
-use Rattle.bank_invariant.specs.State.{BankState, Operation, target_of}
-use Rattle.bank_invariant.specs.Tied.{decoded}
-use Rattle.bank_invariant.specs.Holds.{Holds}
-use Rattle.bank_invariant.specs.Beginning.{lines_sensed}
-use Rattle.clock_laws.specs.State.{ClockState, next_action}
-use Rattle.clock_laws.specs.Leads.{Leads, Reaches}
-use Rattle.clock_laws.specs.Tearing.{TearsControl}
-use Rattle.clock_laws.specs.Arriving.{cancels_for}
-use Rattle.clock_laws.specs.Completing.{EndsDoing, IsAlone, completed, after_action, keep_completed, after_keep}
-use Rattle.clock_laws.specs.Putting.{put_if, item_with}
-use Rattle.clock_laws.specs.Fitting.{IsFit}
-use Rattle.clock_laws.specs.Cutting.{tears_now, cut, after_cut, cancel, keep_cancel, after_cancel}
+use Rattle.bank_invariant.specs.{Beginning.lines_sensed, Holds.Holds, State.{BankState, Operation, target_of}, Tied.decoded}
+use Rattle.clock_laws.specs.{Arriving.cancels_for, Completing.{EndsDoing, IsAlone, completed, after_action, keep_completed, after_keep}}
+use Rattle.clock_laws.specs.{Cutting.{tears_now, cut, after_cut, cancel, keep_cancel, after_cancel}, Fitting.IsFit, Leads.{Leads, Reaches}, Putting.{put_if, item_with}}
+use Rattle.clock_laws.specs.{State.{ClockState, next_action}, Tearing.TearsControl}
 
 -- a history leads on to this clock and this array by one more event, which adds what it touched
 pub record LeadsOn {n m e : ℕ} (shape : BankShape) (xs : List (TimedEvent n m)) (x : TimedEvent n m) (clock : ClockState n m e) (old new : ArrayState n m) : Type 0 where

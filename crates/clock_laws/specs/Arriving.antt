@@ -1,26 +1,17 @@
 -- The laws of a write and of a read that arrive.
 use Rattle.std.specs.Prelude.{◌≡◌, ℕ, ◌&&◌, not, nat_lt, length, false, Bool, if◌then◌else◌, List, [], ◌∷◌, ◌++◌, Option, Some, None, IsSomeAnd, slice_get, slice_set}
 use Rattle.cell_rows.specs.Device.{ArrayState}
-use Rattle.masked_bytes.specs.Masked.{gives_all}
-use Rattle.masked_bytes.specs.Entries.{layer_of}
-use Rattle.bank_shape.specs.Pausing.{is_cancelling, most_cancels}
-use Rattle.bank_invariant.specs.Serving.{read_from}
-use Rattle.power_recovery.specs.Kept.{KeptState, next_work}
-use Rattle.bank_shape.specs.declared.answer.WriteAnswer.{WriteAnswer}
-use Rattle.bank_shape.specs.declared.answer.WriteAnswer.TheVariants as wrote
-use Rattle.bank_shape.specs.declared.answer.ReadAnswer.{ReadAnswer}
-use Rattle.bank_shape.specs.declared.answer.ReadAnswer.TheVariants as came
+use Rattle.masked_bytes.specs.{Entries.layer_of, Masked.gives_all}
+use Rattle.bank_shape.specs.{Pausing.{is_cancelling, most_cancels}, declared.answer.ReadAnswer.ReadAnswer, declared.answer.WriteAnswer.WriteAnswer, declared.clock.Action.Action}
 use Rattle.bank_shape.specs.declared.clock.Doing.TheVariants.{Beginning}
-use Rattle.bank_shape.specs.declared.clock.Action.{Action}
-use Rattle.bank_model.specs.Events.{BankEvent, Write, Read, RowsBelow}
-use Rattle.bank_model.specs.After.{is_store_of}
-use Rattle.bank_model.specs.Timing.{TimedEvent, Core, core, is_doing, is_writing}
+use Rattle.bank_shape.specs.declared.answer.WriteAnswer.TheVariants as wrote
+use Rattle.bank_shape.specs.declared.answer.ReadAnswer.TheVariants as came
+use Rattle.bank_invariant.specs.{Holds.Holds, Serving.read_from, State.BankState}
+use Rattle.power_recovery.specs.Kept.{KeptState, next_work}
+use Rattle.bank_model.specs.{After.is_store_of, Events.{BankEvent, Write, Read, RowsBelow}, Timing.{TimedEvent, Core, core, is_doing, is_writing}}
 use Rattle.reg_lines.specs.declared.Change.{Change}
 use Rattle.register_laws.specs.Items.{item_values}
-use Rattle.bank_invariant.specs.State.{BankState}
-use Rattle.bank_invariant.specs.Holds.{Holds}
-use Rattle.clock_laws.specs.State.{ClockState}
-use Rattle.clock_laws.specs.Leads.{Leads}
+use Rattle.clock_laws.specs.{Leads.Leads, State.ClockState}
 
 -- an event that arrives at a tick: nothing is sensed and nothing is pulsed
 abbrev pub arrival : {n m : ℕ} → ℕ → BankEvent n → TimedEvent n m

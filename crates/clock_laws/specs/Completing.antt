@@ -1,28 +1,15 @@
 -- The laws of an action that ends: a serve, or a begin or an iteration of the bank's line write or of the change's.
 use Rattle.std.specs.Prelude.{◌≡◌, ℕ, ◌<◌, false, IsTrue, List, [], ◌∷◌, drop, Option, Some, None, IfSome, is_some}
-use Rattle.cell_rows.specs.declared.array.Sense.{Sense}
-use Rattle.cell_rows.specs.Device.{ArrayState}
-use Rattle.bank_shape.specs.declared.answer.Step.{Step}
+use Rattle.cell_rows.specs.{Device.ArrayState, declared.array.Sense.Sense}
+use Rattle.bank_shape.specs.{declared.answer.Step.Step, declared.clock.Action.Action, declared.clock.Doing.Doing, declared.clock.Doing.TheVariants.{Serving, Beginning, Iterating}}
 use Rattle.bank_shape.specs.declared.answer.Step.TheVariants as did
-use Rattle.bank_shape.specs.declared.clock.Doing.{Doing}
-use Rattle.bank_shape.specs.declared.clock.Doing.TheVariants.{Serving, Beginning, Iterating}
-use Rattle.bank_shape.specs.declared.clock.Action.{Action}
-use Rattle.bank_model.specs.Events.{BankEvent, Serve, Begin, Iterate}
-use Rattle.bank_model.specs.Changes.{line_of_change}
-use Rattle.bank_model.specs.Running.{cancels_by, cancels_with}
-use Rattle.bank_model.specs.Timing.{TimedEvent, Happens, Core, Regs, Keeping, KeepBegin, KeepIterate, KeepCut, core, ends}
-use Rattle.bank_model.specs.Lawful.{MayKeep}
+use Rattle.bank_model.specs.{Changes.line_of_change, Events.{BankEvent, Serve, Begin, Iterate}, Lawful.MayKeep, Running.{cancels_by, cancels_with}}
 use Rattle.bank_model.specs.Sensing.{most_steps, sensed_by, pulsed_by, kept_sensed, kept_pulsed, IsReadRight}
-use Rattle.bank_model.specs.Touching.{Touches, AreStruck, shown}
-use Rattle.reg_lines.specs.declared.Change.{Change}
-use Rattle.reg_lines.specs.Regs.{RegsState}
-use Rattle.register_laws.specs.Control.{Control}
-use Rattle.register_laws.specs.Telling.{AreTold, item_of}
-use Rattle.bank_invariant.specs.State.{BankState}
-use Rattle.bank_invariant.specs.Holds.{Holds}
-use Rattle.clock_laws.specs.State.{ClockState, next_action}
-use Rattle.clock_laws.specs.Tearing.{GoesOnWriting}
-use Rattle.clock_laws.specs.Leads.{Leads, CopiesWhatItSensed}
+use Rattle.bank_model.specs.{Timing.{TimedEvent, Happens, Core, Regs, Keeping, KeepBegin, KeepIterate, KeepCut, core, ends}, Touching.{Touches, AreStruck, shown}}
+use Rattle.reg_lines.specs.{Regs.RegsState, declared.Change.Change}
+use Rattle.register_laws.specs.{Control.Control, Telling.{AreTold, item_of}}
+use Rattle.bank_invariant.specs.{Holds.Holds, State.BankState}
+use Rattle.clock_laws.specs.{Leads.{Leads, CopiesWhatItSensed}, State.{ClockState, next_action}, Tearing.GoesOnWriting}
 
 -- what ends an action, which started at its first tick
 abbrev pub completion : {n m : ℕ} → ℕ → ℕ → Happens n → List (Sense n m) → Option ℕ → TimedEvent n m

@@ -3,24 +3,13 @@ use Rattle.std.specs.Prelude.{◌≡◌, ℕ, ◌+◌, Bool, true, IsTrue, List,
 use Rattle.cell_rows.specs.Device.{ArrayState}
 use Rattle.bank_shape.specs.declared.clock.Doing.TheVariants.{Iterating}
 use Rattle.bank_shape.specs.declared.answer.ReadAnswer.TheVariants as came
-use Rattle.bank_model.specs.Events.{Read, Cut, RowsBelow}
-use Rattle.bank_model.specs.Changes.{all_controls}
-use Rattle.bank_model.specs.Running.{tears_bank}
-use Rattle.bank_model.specs.Timing.{TimedEvent, Core, Regs, KeepCut, core, is_doing}
-use Rattle.bank_model.specs.Sensing.{pulsed_by, torn_control, kept_pulsed}
-use Rattle.bank_model.specs.Touching.{Touches, AreStruck, shown}
-use Rattle.reg_lines.specs.Regs.{RegsState}
-use Rattle.reg_lines.specs.Keeping.{broken_off}
-use Rattle.register_laws.specs.Control.{Control}
-use Rattle.register_laws.specs.Telling.{item_of}
-use Rattle.bank_invariant.specs.State.{BankState}
-use Rattle.bank_invariant.specs.Holds.{Holds}
-use Rattle.clock_laws.specs.State.{ClockState}
-use Rattle.clock_laws.specs.Leads.{Leads, Reaches}
+use Rattle.bank_model.specs.{Changes.all_controls, Events.{Read, Cut, RowsBelow}, Running.tears_bank, Sensing.{pulsed_by, torn_control, kept_pulsed}}
+use Rattle.bank_model.specs.{Timing.{TimedEvent, Core, Regs, KeepCut, core, is_doing}, Touching.{Touches, AreStruck, shown}}
+use Rattle.reg_lines.specs.{Keeping.broken_off, Regs.RegsState}
+use Rattle.register_laws.specs.{Control.Control, Telling.item_of}
+use Rattle.bank_invariant.specs.{Holds.Holds, State.BankState}
+use Rattle.clock_laws.specs.{Arriving.{KeepsWork, arrival, after_read, cancels_for}, Completing.{completion, line_kept}, Fitting.IsFit, Leads.{Leads, Reaches}, State.ClockState}
 use Rattle.clock_laws.specs.Tearing.{TearsControl}
-use Rattle.clock_laws.specs.Arriving.{KeepsWork, arrival, after_read, cancels_for}
-use Rattle.clock_laws.specs.Completing.{completion, line_kept}
-use Rattle.clock_laws.specs.Fitting.{IsFit}
 
 module _ {n m e : ℕ} where
   -- whether a cut now tears the bank's own line write; and the line that it tears, which may be that of the change

@@ -3,16 +3,10 @@ use Rattle.std.specs.Prelude.{◌≡◌, ℕ, ◌+◌, ◌<◌, ◌≤◌, IsTru
 use Rattle.cell_rows.specs.Device.{ArrayState}
 use Rattle.start_gap.specs.Rotation.{StandsFor}
 use Rattle.power_recovery.specs.Kept.{region_at}
-use Rattle.bank_model.specs.Events.{Serve, Begin, Iterate}
+use Rattle.bank_model.specs.{Events.{Serve, Begin, Iterate}, Lawful.Lawful, Timing.{Happens, Core, Regs, KeepBegin, KeepIterate, TimedEvent}}
 use Rattle.bank_shape.specs.declared.pace.Pace.{Pace}
-use Rattle.bank_model.specs.Timing.{Happens, Core, Regs, KeepBegin, KeepIterate, TimedEvent}
-use Rattle.bank_model.specs.Lawful.{Lawful}
-use Rattle.bank_laws.specs.Laws.{is_worn_at}
-use Rattle.bank_laws.specs.Outcomes.{table_of}
-use Rattle.bank_laws.specs.Places.{is_moved}
-use Rattle.bank_laws.specs.Ticks.{ends_action}
-use Rattle.clock_laws.specs.State.{ClockState, next_action}
-use Rattle.clock_laws.specs.Leads.{Leads}
+use Rattle.bank_laws.specs.{Laws.is_worn_at, Outcomes.table_of, Places.is_moved, Ticks.ends_action}
+use Rattle.clock_laws.specs.{Leads.Leads, State.{ClockState, next_action}}
 
 -- how many ticks the action lasted that this ended; an arrival or a cut ends none
 abbrev pub ticks_of : {n : ℕ} → Pace → Happens n → ℕ

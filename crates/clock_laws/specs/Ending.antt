@@ -5,8 +5,7 @@ use Rattle.line_writer.specs.Untouched.{AreUntouched}
 use Rattle.bank_shape.specs.Shape.{lines_in}
 use Rattle.bank_model.specs.Timing.{TimedEvent}
 use Rattle.bank_laws.specs.Laws.{LeavesArray}
-use Rattle.clock_laws.specs.State.{ClockState}
-use Rattle.clock_laws.specs.Leads.{Leads}
+use Rattle.clock_laws.specs.{Leads.Leads, State.ClockState}
 
 -- a history that leads to a bank over an array leaves that array with its pulses, and with its retired lines worn
 abbrev pub LeavingLaw : Type 0

@@ -1,17 +1,10 @@
 -- How the events of several calls add up, and what a bank does not touch.
 use Rattle.std.specs.Prelude.{◌≡◌, ℕ, ◌+◌, ◌<◌, ◌≤◌, Bool, false, List, [], ◌∷◌, ◌++◌, Option, Some, None, IfSome, is_some}
 use Rattle.cell_rows.specs.Device.{ArrayState}
-use Rattle.bank_shape.specs.declared.BankShape.{BankShape}
-use Rattle.bank_shape.specs.Shape.{lines_in, controls_of, control_line}
-use Rattle.bank_model.specs.Events.{BankEvent, Cut}
-use Rattle.bank_model.specs.Timing.{TimedEvent, Happens, Core, Regs, KeepCut}
-use Rattle.bank_model.specs.Touching.{Touches, shown}
-use Rattle.bank_model.specs.Adding.{Adds}
-use Rattle.bank_invariant.specs.State.{BankState, Operation}
-use Rattle.bank_invariant.specs.Holds.{Holds}
-use Rattle.clock_laws.specs.State.{ClockState}
-use Rattle.clock_laws.specs.Leads.{Leads}
-use Rattle.clock_laws.specs.Arriving.{arrival}
+use Rattle.bank_shape.specs.{Shape.{lines_in, controls_of, control_line}, declared.BankShape.BankShape}
+use Rattle.bank_model.specs.{Adding.Adds, Events.{BankEvent, Cut}, Timing.{TimedEvent, Happens, Core, Regs, KeepCut}, Touching.{Touches, shown}}
+use Rattle.bank_invariant.specs.{Holds.Holds, State.{BankState, Operation}}
+use Rattle.clock_laws.specs.{Arriving.arrival, Leads.Leads, State.ClockState}
 
 -- no event leaves an array as it was
 abbrev pub NothingAddedLaw : Type 0

@@ -1,18 +1,13 @@
 -- What an action needs of its bank and its control lines, whatever its history was.
 use Rattle.std.specs.Prelude.{◌≡◌, ◌⊎◌, ℕ, ◌<◌, false, IsTrue, [], length, Option, None, IfSome, is_some}
-use Rattle.bank_shape.specs.declared.Work.TheVariants.{Nothing}
+use Rattle.bank_shape.specs.{declared.Work.TheVariants.Nothing, declared.clock.Action.Action, declared.clock.Doing.Doing}
+use Rattle.bank_shape.specs.declared.clock.Doing.TheVariants.{Serving, Beginning, Iterating}
+use Rattle.bank_shape.specs.declared.answer.ReadAnswer.TheVariants as came
 use Rattle.power_recovery.specs.Kept.{next_work}
 use Rattle.masked_bytes.specs.declared.entry.Entry.{Entry}
-use Rattle.bank_shape.specs.declared.answer.ReadAnswer.TheVariants as came
-use Rattle.bank_shape.specs.declared.clock.Doing.{Doing}
-use Rattle.bank_shape.specs.declared.clock.Doing.TheVariants.{Serving, Beginning, Iterating}
-use Rattle.bank_shape.specs.declared.clock.Action.{Action}
 use Rattle.reg_lines.specs.Regs.{RegsState}
-use Rattle.bank_invariant.specs.State.{BankState, may_begin, is_storing}
-use Rattle.bank_invariant.specs.Serving.{waits_too}
-use Rattle.bank_invariant.specs.Writes.{taken}
-use Rattle.clock_laws.specs.State.{ClockState, is_busy, may_start, next_action}
-use Rattle.clock_laws.specs.Arriving.{action_after_read}
+use Rattle.bank_invariant.specs.{Serving.waits_too, State.{BankState, may_begin, is_storing}, Writes.taken}
+use Rattle.clock_laws.specs.{Arriving.action_after_read, State.{ClockState, is_busy, may_start, next_action}}
 
 module _ {n m e : ℕ} where
   -- a read waits, a line write may be begun, or one is in progress. While a change stands it is the change's

@@ -2,25 +2,13 @@
 use Rattle.std.specs.Prelude.{◌≡◌, ℕ, ◌+◌, ◌<◌, ◌≤◌, IsTrue, List, [], map, Some, IfSome, IsSomeAnd}
 use Rattle.cell_rows.specs.Device.{ArrayState}
 use Rattle.ecp_line.specs.Reading.{decode}
-use Rattle.line_writer.specs.declared.writer.LineWriter.{LineWriter}
-use Rattle.line_writer.specs.Orderly.{IsLive, AreOrderly}
-use Rattle.bank_shape.specs.declared.BankShape.{BankShape}
-use Rattle.bank_shape.specs.Shape.{lines_in, controls_from, controls_of}
-use Rattle.bank_shape.specs.Kinds.{is_copy}
-use Rattle.bank_model.specs.Aging.{AreAged, AreControlsAged}
-use Rattle.bank_model.specs.Changes.{rounds_after}
-use Rattle.bank_model.specs.History.{queue}
-use Rattle.bank_model.specs.Running.{running_at, cancels_after}
-use Rattle.bank_model.specs.Timing.{TimedEvent, ends, core, last_tick}
-use Rattle.bank_model.specs.Lawful.{Lawful}
-use Rattle.bank_model.specs.Sensing.{pulses_of, copied}
-use Rattle.bank_model.specs.Told.{IsTold, tick_of_row}
-use Rattle.bank_invariant.specs.State.{Operation}
-use Rattle.bank_invariant.specs.Holds.{Holds}
-use Rattle.reg_lines.specs.declared.Change.{Change}
-use Rattle.reg_lines.specs.Regs.{RegsState}
-use Rattle.register_laws.specs.Control.{Control}
-use Rattle.register_laws.specs.Telling.{AreTold}
+use Rattle.line_writer.specs.{Orderly.{IsLive, AreOrderly}, declared.writer.LineWriter.LineWriter}
+use Rattle.bank_shape.specs.{Kinds.is_copy, Shape.{lines_in, controls_from, controls_of}, declared.BankShape.BankShape}
+use Rattle.bank_model.specs.{Aging.{AreAged, AreControlsAged}, Changes.rounds_after, History.queue, Lawful.Lawful, Running.{running_at, cancels_after}, Sensing.{pulses_of, copied}}
+use Rattle.bank_model.specs.{Timing.{TimedEvent, ends, core, last_tick}, Told.{IsTold, tick_of_row}}
+use Rattle.bank_invariant.specs.{Holds.Holds, State.Operation}
+use Rattle.reg_lines.specs.{Regs.RegsState, declared.Change.Change}
+use Rattle.register_laws.specs.{Control.Control, Telling.AreTold}
 use Rattle.clock_laws.specs.State.{ClockState}
 
 -- a gap move in progress writes what the line that it copies was read as when its begin sensed it

@@ -1,11 +1,8 @@
 -- What the entries of a queue give.
 use Rattle.std.specs.Prelude.{◌≡◌, ℕ, List, [], ◌∷◌}
-use Rattle.masked_bytes.specs.Masked.{laid}
-use Rattle.masked_bytes.specs.declared.entry.Entry.{Entry}
+use Rattle.masked_bytes.specs.{Masked.laid, declared.entry.Entry.Entry}
 use Rattle.bank_shape.specs.declared.BankShape.{BankShape}
-use Rattle.bank_model.specs.Events.{BankEvent, newest, up_to, RowsBelow}
-use Rattle.bank_model.specs.History.{queue}
-use Rattle.bank_model.specs.Answers.{MayAll}
+use Rattle.bank_model.specs.{Answers.MayAll, Events.{BankEvent, newest, up_to, RowsBelow}, History.queue}
 
 -- each of these entries changes nothing of the newest bytes of its line as of its own write: where it gives a byte, it gives that one
 abbrev pub GiveNewest : {n : ℕ} → List (BankEvent n) → List (Entry n) → Type 0

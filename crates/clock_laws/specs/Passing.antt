@@ -2,10 +2,8 @@
 use Rattle.std.specs.Prelude.{◌≡◌, ℕ, ◌<◌, ◌≤◌, List, Option, None, IfSome}
 use Rattle.cell_rows.specs.Device.{ArrayState}
 use Rattle.bank_shape.specs.declared.clock.Action.{Action}
-use Rattle.bank_model.specs.Timing.{TimedEvent, ends}
-use Rattle.bank_model.specs.Lawful.{IsIdle}
-use Rattle.clock_laws.specs.State.{ClockState, next_action}
-use Rattle.clock_laws.specs.Leads.{Leads}
+use Rattle.bank_model.specs.{Lawful.IsIdle, Timing.{TimedEvent, ends}}
+use Rattle.clock_laws.specs.{Leads.Leads, State.{ClockState, next_action}}
 
 -- the clock at another tick, with this action running
 abbrev pub at_tick : {n m e : ℕ} → ℕ → Option Action → ClockState n m e → ClockState n m e

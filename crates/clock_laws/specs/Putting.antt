@@ -4,21 +4,12 @@ use Rattle.masked_bytes.specs.Entries.{head_line}
 use Rattle.cell_rows.specs.Device.{ArrayState}
 use Rattle.spare_pool.specs.Table.{used_by}
 use Rattle.power_recovery.specs.Kept.{KeptState, due_region}
-use Rattle.bank_shape.specs.declared.answer.Step.{Step}
+use Rattle.bank_shape.specs.{declared.answer.Step.Step, declared.clock.Doing.Doing}
 use Rattle.bank_shape.specs.declared.answer.Step.TheVariants as did
-use Rattle.bank_model.specs.Answers.{MayHappen}
-use Rattle.bank_model.specs.Changes.{item_if}
-use Rattle.bank_model.specs.Events.{BankEvent, Begin, Iterate}
-use Rattle.bank_model.specs.Sensing.{most_steps}
-use Rattle.bank_model.specs.Timing.{TimedEvent, Core, core}
-use Rattle.reg_lines.specs.Regs.{RegsState}
-use Rattle.reg_lines.specs.Keeping.{with_change}
-use Rattle.register_laws.specs.Items.{item_values}
-use Rattle.register_laws.specs.Telling.{AreTold}
-use Rattle.clock_laws.specs.State.{ClockState}
-use Rattle.clock_laws.specs.Leads.{Leads}
-use Rattle.clock_laws.specs.Completing.{EndsDoing, IsAlone}
-use Rattle.bank_shape.specs.declared.clock.Doing.{Doing}
+use Rattle.bank_model.specs.{Answers.MayHappen, Changes.item_if, Events.{BankEvent, Begin, Iterate}, Sensing.most_steps, Timing.{TimedEvent, Core, core}}
+use Rattle.reg_lines.specs.{Keeping.with_change, Regs.RegsState}
+use Rattle.register_laws.specs.{Items.item_values, Telling.AreTold}
+use Rattle.clock_laws.specs.{Completing.{EndsDoing, IsAlone}, Leads.Leads, State.ClockState}
 
 -- the region that is due to move
 abbrev pub region_due : Option ℕ → ℕ

@@ -2,26 +2,15 @@
 use Rattle.std.specs.Prelude.{◌≡◌, ℕ, ◌+◌, ◌-◌, ◌*◌, ◌<◌, ◌≤◌, Bool, true, false, IsTrue, List, length, Option, Some, None, is_some}
 use Rattle.cell_rows.specs.Device.{ArrayState}
 use Rattle.spare_pool.specs.Table.{used_by}
-use Rattle.line_writer.specs.declared.writer.LineWriter.{LineWriter}
-use Rattle.line_writer.specs.Writing.{steps_left, most_steps}
-use Rattle.power_recovery.specs.Kept.{KeptState, IsKept, due_region, next_work}
-use Rattle.power_recovery.specs.Events.{completed_kept, stored_kept, retired_kept, exhausted_kept}
-use Rattle.bank_invariant.specs.State.{BankState, Operation}
-use Rattle.bank_invariant.specs.Iterating.{going_on}
-use Rattle.bank_invariant.specs.Serving.{served}
-use Rattle.bank_invariant.specs.Beginning.{begun_with}
-use Rattle.bank_invariant.specs.Storing.{resting}
-use Rattle.bank_invariant.specs.Moving.{moved}
-use Rattle.bank_invariant.specs.Retiring.{ended}
-use Rattle.bank_model.specs.Timing.{TimedEvent}
-use Rattle.bank_model.specs.After.{due_moves}
-use Rattle.bank_shape.specs.declared.answer.Keep.TheVariants as keep
+use Rattle.line_writer.specs.{Writing.{steps_left, most_steps}, declared.writer.LineWriter.LineWriter}
+use Rattle.power_recovery.specs.{Events.{completed_kept, stored_kept, retired_kept, exhausted_kept}, Kept.{KeptState, IsKept, due_region, next_work}}
+use Rattle.bank_invariant.specs.{Beginning.begun_with, Iterating.going_on, Moving.moved, Retiring.ended, Serving.served, State.{BankState, Operation}, Storing.resting}
+use Rattle.bank_model.specs.{After.due_moves, Timing.TimedEvent}
 use Rattle.bank_shape.specs.Kinds.{is_store, is_copy}
-use Rattle.reg_lines.specs.Regs.{RegsState}
-use Rattle.reg_lines.specs.Keeping.{kept_on}
+use Rattle.bank_shape.specs.declared.answer.Keep.TheVariants as keep
+use Rattle.reg_lines.specs.{Keeping.kept_on, Regs.RegsState}
 use Rattle.register_laws.specs.Telling.{item_of}
-use Rattle.clock_laws.specs.State.{ClockState}
-use Rattle.clock_laws.specs.Leads.{Leads}
+use Rattle.clock_laws.specs.{Leads.Leads, State.ClockState}
 
 -- one, if no line has yet found no spare
 abbrev pub last_attempts : Bool → ℕ

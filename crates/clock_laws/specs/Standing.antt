@@ -1,22 +1,14 @@
 -- The rows that stand in a bank's queue or wait there, and that no other outcome is touched.
-use Rattle.std.specs.Prelude.{◌≡◌, ◌≢◌, ℕ, ◌+◌, ◌≤◌, ◌==◌, Bool, true, false, if◌then◌else◌, List, [], ◌∷◌, ◌++◌, drop, Some, None}
-use Rattle.std.specs.List.{list_any}
+use Rattle.std.specs.{List.list_any, Prelude.{◌≡◌, ◌≢◌, ℕ, ◌+◌, ◌≤◌, ◌==◌, Bool, true, false, if◌then◌else◌, List, [], ◌∷◌, ◌++◌, drop, Some, None}}
 use Rattle.result_rows.specs.declared.Outcome.{Outcome}
 use Rattle.result_rows.specs.declared.Outcome.TheVariants as out
 use Rattle.cell_rows.specs.Device.{ArrayState}
-use Rattle.masked_bytes.specs.declared.entry.Entry.{Entry}
-use Rattle.masked_bytes.specs.Entries.{completed, has_row, RowsApart}
+use Rattle.masked_bytes.specs.{Entries.{completed, has_row, RowsApart}, declared.entry.Entry.Entry}
 use Rattle.protected_queue.specs.Queue.{accepted}
-use Rattle.bank_model.specs.Events.{Write, Read, Cut, RowsBelow}
-use Rattle.bank_shape.specs.declared.answer.WriteAnswer.{WriteAnswer}
-use Rattle.bank_model.specs.Timing.{Happens, Core, TimedEvent, core}
-use Rattle.bank_model.specs.Lawful.{Lawful}
-use Rattle.bank_model.specs.Told.{tick_of_row}
+use Rattle.bank_model.specs.{Events.{Write, Read, Cut, RowsBelow}, Lawful.Lawful, Timing.{Happens, Core, TimedEvent, core}, Told.tick_of_row}
+use Rattle.bank_shape.specs.{declared.answer.WriteAnswer.WriteAnswer, declared.waiting.Waiting.Waiting}
 use Rattle.bank_laws.specs.Outcomes.{outcome_of, outcome_with}
-use Rattle.bank_shape.specs.declared.waiting.Waiting.{Waiting}
-use Rattle.clock_laws.specs.State.{ClockState}
-use Rattle.clock_laws.specs.Leads.{Leads}
-use Rattle.clock_laws.specs.Recording.{outcome_on}
+use Rattle.clock_laws.specs.{Leads.Leads, Recording.outcome_on, State.ClockState}
 
 module _ {n : ℕ} where
   -- whether a read of this row waits

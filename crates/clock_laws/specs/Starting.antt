@@ -4,8 +4,7 @@ use Rattle.cell_rows.specs.Device.{ArrayState, IsBlank}
 use Rattle.bank_shape.specs.Shape.{lines_in}
 use Rattle.bank_invariant.specs.Holds.{Holds}
 use Rattle.register_laws.specs.Control.{Control}
-use Rattle.clock_laws.specs.State.{ClockState}
-use Rattle.clock_laws.specs.Leads.{Leads}
+use Rattle.clock_laws.specs.{Leads.Leads, State.ClockState}
 
 -- no event leads to a clock at tick 0 in which nothing runs or stands and there is no change, over blank lines and control lines that
 -- hold what the bank keeps

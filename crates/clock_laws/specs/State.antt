@@ -1,10 +1,6 @@
 -- What contracts see of a bank with its clock.
 use Rattle.std.specs.Prelude.{ℕ, ◌||◌, Bool, nat_lt, List, length, Option, Some, None, is_some}
-use Rattle.bank_shape.specs.declared.clock.Doing.{Doing}
-use Rattle.bank_shape.specs.declared.clock.Action.{Action}
-use Rattle.bank_shape.specs.declared.pace.Pace.{Pace}
-use Rattle.bank_shape.specs.Pausing.{gives_way}
-use Rattle.bank_shape.specs.Acting.{chosen_by, choice}
+use Rattle.bank_shape.specs.{Acting.{chosen_by, choice}, Pausing.gives_way, declared.clock.Action.Action, declared.clock.Doing.Doing, declared.pace.Pace.Pace}
 use Rattle.bank_model.specs.Running.{busy_by, ready_by}
 use Rattle.reg_lines.specs.Regs.{RegsState}
 use Rattle.register_laws.specs.Telling.{item_of}

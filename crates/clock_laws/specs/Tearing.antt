@@ -3,12 +3,8 @@ use Rattle.std.specs.Prelude.{◌≡◌, ℕ, ◌+◌, IsTrue, Option, Some}
 use Rattle.cell_rows.specs.Device.{ArrayState}
 use Rattle.program_verify.specs.Programming.{IsTear}
 use Rattle.line_writer.specs.declared.writer.LineWriter.{LineWriter}
-use Rattle.bank_model.specs.Events.{Write, Read, Serve, Begin, Iterate, Cut}
-use Rattle.bank_model.specs.Sensing.{is_at}
-use Rattle.bank_model.specs.Timing.{Happens, Core, Regs, KeepBegin, KeepIterate, KeepCut}
-use Rattle.reg_lines.specs.declared.Change.{Change}
-use Rattle.reg_lines.specs.Regs.{RegsState}
-use Rattle.reg_lines.specs.Keeping.{IsIteration}
+use Rattle.bank_model.specs.{Events.{Write, Read, Serve, Begin, Iterate, Cut}, Sensing.is_at, Timing.{Happens, Core, Regs, KeepBegin, KeepIterate, KeepCut}}
+use Rattle.reg_lines.specs.{Keeping.IsIteration, Regs.RegsState, declared.Change.Change}
 
 module _ {n m e : ℕ} where
   -- somewhere between two arrays a line was torn as a line write tears it: its line was before as in the first, and is behind as in the

@@ -1,16 +1,10 @@
 -- What clap's answer says of the words.
 use Rattle.std.proofs.Common.{◌≡◌, ◌≢◌, ◌⊎◌, inl, inr, List, [], ◌∷◌, true, Option, refl, sym, ap, ◌∙◌}
 use Rattle.std.specs.Prelude.{codes, Result, Ok, Err, IfOk, IfErr}
-use Rattle.clap.specs.Words.{App, IsAmong, Kinds, Row, Text, fault_of, is_simple, is_simple_and_free, kind_of, subcommand_of}
-use Rattle.clap.specs.declared.error.Error.{Error}
-use Rattle.clap.specs.declared.error.kind.ErrorKind.{ErrorKind}
-use Rattle.clap.specs.declared.error.kind.ErrorKind.TheVariants.{OutOfMemory}
-use Rattle.command_line.specs.Table.{leaf_app, pcm_app}
-use Rattle.command_line.specs.Jobs.{answer_of, command_at, faults_at, job_at, job_met, job_of, or_usage}
-use Rattle.command_line.specs.declared.job.Job.{Job}
-use Rattle.command_line.specs.declared.job.Refusal.{Refusal}
-use Rattle.command_line.specs.declared.job.Refusal.TheVariants.{Usage, NoMemory}
-use Rattle.command_line.specs.Refusals.{refusal_by}
+use Rattle.clap.specs.{Words.{App, IsAmong, Kinds, Row, Text, fault_of, is_simple, is_simple_and_free, kind_of, subcommand_of}, declared.error.Error.Error}
+use Rattle.clap.specs.{declared.error.kind.ErrorKind.ErrorKind, declared.error.kind.ErrorKind.TheVariants.OutOfMemory}
+use Rattle.command_line.specs.{Jobs.{answer_of, command_at, faults_at, job_at, job_met, job_of, or_usage}, Refusals.refusal_by, Table.{leaf_app, pcm_app}, declared.job.Job.Job}
+use Rattle.command_line.specs.{declared.job.Refusal.Refusal, declared.job.Refusal.TheVariants.{Usage, NoMemory}}
 
 -- clap gives the matches and the faults of the program's command
 simple : is_simple pcm_app ≡ true

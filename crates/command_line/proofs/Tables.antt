@@ -1,9 +1,7 @@
 -- A command that gets its options one by one.
 use Rattle.std.proofs.Common.{◌≡◌, ℕ, suc, ◌+◌, ◌<◌, List, [], map, length, get_or, drop, Bor, refl, ap, ◌∙◌, false, arith}
-use Rattle.std.specs.Prelude.{codes, Result, Ok, Err, IfOk}
-use Rattle.std.proofs.Math.Seq.{drop-cons}
-use Rattle.clap.specs.Words.{App, Text, AddsSubcommand, app_of, new_app, with_rule, with_subcommand}
-use Rattle.clap.specs.declared.builder.command.Command.{Command}
+use Rattle.std.{specs.Prelude.{codes, Result, Ok, Err, IfOk}, proofs.Math.Seq.drop-cons}
+use Rattle.clap.specs.{Words.{App, Text, AddsSubcommand, app_of, new_app, with_rule, with_subcommand}, declared.builder.command.Command.Command}
 use Rattle.clap.specs.declared.builder.command.Command.TheViews.{out-Command}
 use Rattle.command_line.specs.Table.{leaf_app, option_rule, with_options, top_app, pcm_app, run_options, gen_options, map_options, moves_options, check_options}
 

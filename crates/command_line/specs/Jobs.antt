@@ -1,24 +1,13 @@
 -- What the words of the program ask for.
-use Rattle.std.specs.Prelude.{◌≡◌, ◌≤◌, true, if◌then◌else◌, List, [], ◌∷◌, codes, Option, Some, None, Result, Ok, Err}
-use Rattle.std.specs.Int.{is_power_of_two}
-use Rattle.std.specs.Str.{bytes_eq}
+use Rattle.std.specs.{Int.is_power_of_two, Prelude.{◌≡◌, ◌≤◌, true, if◌then◌else◌, List, [], ◌∷◌, codes, Option, Some, None, Result, Ok, Err}, Str.bytes_eq}
 use Rattle.clap.specs.Words.{App, Kinds, Row, Text, fault_of, first_of, subcommand_of}
 use Rattle.cell_rows.specs.Device.{IsWear}
 use Rattle.trace_gen.specs.Generated.{IsMix}
 use Rattle.module_shape.specs.Limits.{IsShape}
-use Rattle.command_line.specs.Table.{pcm_app}
-use Rattle.command_line.specs.Options.{with_some, number_option, line_of, shape_of, seed_of, wear_of, mix_of, print_of, input_of, from_of}
-use Rattle.command_line.specs.declared.job.Job.{Job}
-use Rattle.command_line.specs.declared.job.Job.TheVariants.{Run, Gen, Map, Moves, Show, Check}
-use Rattle.command_line.specs.declared.job.RunJob.{RunJob}
-use Rattle.command_line.specs.declared.job.GenJob.{GenJob}
-use Rattle.command_line.specs.declared.job.MapJob.{MapJob}
-use Rattle.command_line.specs.declared.job.MovesJob.{MovesJob}
-use Rattle.command_line.specs.declared.job.CheckJob.{CheckJob}
-use Rattle.command_line.specs.declared.job.Input.{Input}
-use Rattle.command_line.specs.declared.job.Input.TheVariants.{Source, Drawn}
-use Rattle.command_line.specs.declared.job.Refusal.{Refusal}
-use Rattle.command_line.specs.declared.job.Refusal.TheVariants.{Usage}
+use Rattle.command_line.specs.{Options.{with_some, number_option, line_of, shape_of, seed_of, wear_of, mix_of, print_of, input_of, from_of}, Table.pcm_app}
+use Rattle.command_line.specs.{declared.job.CheckJob.CheckJob, declared.job.GenJob.GenJob, declared.job.Input.Input, declared.job.Input.TheVariants.{Source, Drawn}}
+use Rattle.command_line.specs.{declared.job.Job.Job, declared.job.Job.TheVariants.{Run, Gen, Map, Moves, Show, Check}, declared.job.MapJob.MapJob, declared.job.MovesJob.MovesJob}
+use Rattle.command_line.specs.{declared.job.Refusal.Refusal, declared.job.Refusal.TheVariants.Usage, declared.job.RunJob.RunJob}
 
 -- the job of `run` with these options; those of a generated trace are looked at whatever the input is
 unfoldable pub run_of : List Row → Option Job

@@ -1,23 +1,16 @@
 -- What the options of a command mean.
-use Rattle.std.specs.Prelude.{◌≡◌, ◌≤◌, ℕ, nat_le, if◌then◌else◌, List, codes, Option, Some, None}
-use Rattle.std.specs.Str.{bytes_eq}
+use Rattle.std.specs.{Prelude.{◌≡◌, ◌≤◌, ℕ, nat_le, if◌then◌else◌, List, codes, Option, Some, None}, Str.bytes_eq}
 use Rattle.clap.specs.Words.{Row, Text, first_of}
 use Rattle.trace_reader.specs.Number.{number_of}
 use Rattle.trace_gen.specs.declared.mix.Mix.{Mix}
 use Rattle.cell_rows.specs.declared.array.Wear.{Wear}
-use Rattle.bank_shape.specs.declared.Home.{Home}
+use Rattle.bank_shape.specs.{declared.Home.Home, declared.pace.Policy.Policy}
 use Rattle.bank_shape.specs.declared.Home.TheVariants as home
-use Rattle.bank_shape.specs.declared.pace.Policy.{Policy}
 use Rattle.bank_shape.specs.declared.pace.Policy.TheVariants as policy
-use Rattle.module_shape.specs.declared.raw.Field.{Field}
-use Rattle.module_shape.specs.declared.raw.RawShape.{RawShape}
-use Rattle.module_shape.specs.Limits.{shape_fault}
-use Rattle.command_line.specs.declared.job.LineSize.{LineSize}
-use Rattle.command_line.specs.declared.job.LineSize.TheVariants.{Bytes64, Bytes128}
-use Rattle.command_line.specs.declared.job.Print.{Print}
+use Rattle.module_shape.specs.{Limits.shape_fault, declared.raw.Field.Field, declared.raw.RawShape.RawShape}
+use Rattle.command_line.specs.{declared.job.Input.Input, declared.job.Input.TheVariants.{Source, Drawn}, declared.job.LineSize.LineSize}
+use Rattle.command_line.specs.{declared.job.LineSize.TheVariants.{Bytes64, Bytes128}, declared.job.Print.Print}
 use Rattle.command_line.specs.declared.job.Print.TheVariants as print
-use Rattle.command_line.specs.declared.job.Input.{Input}
-use Rattle.command_line.specs.declared.job.Input.TheVariants.{Source, Drawn}
 
 -- the next step with a value, or none where there is none
 abbrev pub with_some : {T U : Type 0} → Option T → (T → Option U) → Option U

@@ -1,7 +1,6 @@
 -- The commands and their options.
 use Rattle.std.specs.Prelude.{List, [], ◌∷◌, codes, true, Some}
-use Rattle.clap.specs.Words.{App, Rule, Text, new_app, new_rule, with_rule, with_subcommand}
-use Rattle.clap.specs.declared.builder.action.ArgAction.TheVariants.{Set}
+use Rattle.clap.specs.{Words.{App, Rule, Text, new_app, new_rule, with_rule, with_subcommand}, declared.builder.action.ArgAction.TheVariants.Set}
 
 -- an option is written by its name, and takes one value
 abbrev pub option_rule : Text → Rule

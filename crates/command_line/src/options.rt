@@ -46,7 +46,8 @@ pub(crate) fn number_of(
     most: u64,
 ) -> Option<u64>
     requires { (least ≤ default) × (default ≤ most) }
-    ensures exact { result ≡ number_option name.now default least most (rows_of (found_of matches.now)) }
+    ensures exact { result ≡ number_option name.now default least most
+        (rows_of (found_of matches.now)) }
     ensures least { IfSome result (λ number. least ≤ number) }
     ensures most { IfSome result (λ number. number ≤ most) }
 {
@@ -98,7 +99,8 @@ pub fn line(matches: &ArgMatches<'_>) -> Option<LineSize>
 
 /// Where a run takes its trace from; a generated one has this mix.
 pub fn input(matches: &ArgMatches<'_>, mix: Mix) -> Option<Input>
-    ensures exact { result ≡ input_of mix (first_of (codes "input") (rows_of (found_of matches.now))) }
+    ensures exact { result ≡ input_of mix (first_of (codes "input")
+        (rows_of (found_of matches.now))) }
     ensures drawn { IfSome result (HasMix mix) }
 {
     match value(matches, "input") {

@@ -119,7 +119,8 @@ fn with_program_name<'a>(alloc: Global, words: &'a [String]) -> Result<Vec<&'a s
 /// What the words behind the program's name ask for.
 pub fn read_job(alloc: Global, words: &[String]) -> Result<Job, Refusal>
     ensures ok { IfOk result (λ job. job_of (map string_bytes words.now) ≡ Ok job) }
-    ensures err { IfErr result (λ e. e ≢ Refusal.NoMemory → job_of (map string_bytes words.now) ≡ Err e) }
+    ensures err { IfErr result (λ e. e ≢ Refusal.NoMemory
+        → job_of (map string_bytes words.now) ≡ Err e) }
     ensures in_range { IfOk result IsJob }
 {
     let all = with_program_name(alloc, words)?;

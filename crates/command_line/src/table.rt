@@ -91,7 +91,8 @@ pub fn add_option<'a>(
 
 // A command with these options.
 fn leaf<'a>(alloc: Global, name: &'a str, options: &'a [&'a str]) -> Result<Command<'a>, AllocError>
-    ensures app { IfOk result (λ c. app_of c ≡ leaf_app name.entry.now (map (λ s. s.now) options.entry.now)) }
+    ensures app { IfOk result (λ c. app_of c ≡ leaf_app name.entry.now
+        (map (λ s. s.now) options.entry.now)) }
     ensures globals { IfOk result (λ c. (out-Command c).has_globals ≡ false) }
 {
     let mut command = Command::new(alloc, name);

@@ -1,10 +1,7 @@
 -- A line that was powered up.
 use Rattle.std.proofs.Common.{◌≡◌, ℕ, zero, suc, ◌+◌, ◌*◌, Bool, false, List, ◌∷◌, replicate, refl, ap, ◌∙◌, arith}
-use Rattle.cell_rows.specs.Rows.{cell}
-use Rattle.cell_rows.specs.declared.row.Cells.{Cells}
-use Rattle.ecp_line.specs.Layout.{active, number, source, decoded, full_cell, activity_cell, Sound}
-use Rattle.ecp_line.specs.Reading.{bytes_from, decode}
-use Rattle.ecp_line.proofs.Activity.{active-is}
+use Rattle.cell_rows.specs.{Rows.cell, declared.row.Cells.Cells}
+use Rattle.ecp_line.{specs.Layout.{active, number, source, decoded, full_cell, activity_cell, Sound}, specs.Reading.{bytes_from, decode}, proofs.Activity.active-is}
 use Rattle.ecp_line.proofs.Digits.{number-zero, number-none}
 
 pub active-blank : (B E : ℕ) (f : ℕ → Bool) → ((n : ℕ) → f n ≡ false) → active B E f ≡ 0

@@ -1,12 +1,8 @@
 -- Bytes by their bits.
 use Rattle.std.proofs.Common.{◌≡◌, ℕ, zero, suc, ◌+◌, ◌*◌, ◌/◌, ◌%◌, ◌<◌, Bool, List, length, get_or, eqb, refl, sym, ap, ◌∙◌, arith, ext_get_or}
-use Rattle.std.proofs.Math.Nat.{mod-eq_of_lt}
-use Rattle.std.specs.Int.{bit_at}
-use Rattle.cell_rows.specs.declared.row.Cells.{Cells}
-use Rattle.cell_rows.specs.Rows.{bit_of, cell}
-use Rattle.ecp_line.specs.Layout.{number, decoded}
-use Rattle.ecp_line.specs.Reading.{bytes_from, decode}
-use Rattle.ecp_line.proofs.Wanting.{digits-from}
+use Rattle.std.{specs.Int.bit_at, proofs.Math.Nat.mod-eq_of_lt}
+use Rattle.cell_rows.specs.{Rows.{bit_of, cell}, declared.row.Cells.Cells}
+use Rattle.ecp_line.{specs.Layout.{number, decoded}, specs.Reading.{bytes_from, decode}, proofs.Wanting.digits-from}
 
 pub length-bytes_from : (bit : ℕ → Bool) (k n : ℕ) → length (bytes_from bit k n) ≡ n
 length-bytes_from bit k zero = refl

@@ -1,7 +1,6 @@
 -- The number that a run of cells gives.
 use Rattle.std.proofs.Common.{◌≡◌, ℕ, zero, suc, ◌+◌, ◌*◌, ◌%◌, ◌^◌, ◌<◌, ◌≤◌, Bool, true, false, cond, refl, ap, ◌∙◌, inl, inr, arith}
-use Rattle.std.proofs.Math.Pow.{pow_mono}
-use Rattle.std.proofs.lemmas.Bool.{cases_lt}
+use Rattle.std.proofs.{Math.Pow.pow_mono, lemmas.Bool.cases_lt}
 use Rattle.ecp_line.specs.Layout.{number, pointer, pointer_cell, replacement_cell, width}
 
 -- equal cells give equal numbers

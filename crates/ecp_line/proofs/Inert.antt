@@ -1,11 +1,10 @@
 -- Which stuck cells no longer matter, and how each entry is charged to one of its own.
 use Rattle.std.proofs.Common.{◌≡◌, ℕ, zero, suc, ◌+◌, ◌*◌, ◌^◌, ◌<◌, ◌≤◌, ◌⊎◌, ◌&&◌, ◌||◌, Bool, true, false, refl, sym, ap, ◌∙◌, subst, inl, inr, arith, eqb, ltb, leb}
-use Rattle.std.proofs.lemmas.Bool.{eqb-true, eq-eqb, cases_eq, cases_order, false≢true, and_parts, and_from, or_cases, or_left, or_right, ltb-true, leb-true, lt-ltb, le-leb, both_ways, false_from_ne_true}
+use Rattle.std.proofs.lemmas.Bool.{eqb-true, eq-eqb, cases_eq, cases_order, false≢true, and_parts, and_from, or_cases, or_left, or_right, ltb-true, leb-true, lt-ltb, le-leb}
+use Rattle.std.proofs.lemmas.Bool.{both_ways, false_from_ne_true}
 use Rattle.cell_rows.specs.Rows.{members}
 use Rattle.ecp_line.specs.Layout.{source_below, some_below, is_inert, is_pointer_cell, is_repeated, pointer, pointer_cell, replacement_cell, width, Prefix}
-use Rattle.ecp_line.proofs.Counts.{members-more, members-strict}
-use Rattle.ecp_line.proofs.Places.{entry-order, replacement-same, pointer-lt}
-use Rattle.ecp_line.proofs.Sources.{SourceCase, source-case, source-lt}
+use Rattle.ecp_line.proofs.{Counts.{members-more, members-strict}, Places.{entry-order, replacement-same, pointer-lt}, Sources.{SourceCase, source-case, source-lt}}
 use Rattle.ecp_line.proofs.Sources.SourceCase.{own, replaced}
 
 pub some-from : (p : ℕ → Bool) (j : ℕ) → some_below p j ≡ true → (i : ℕ) × (i < j) × (p i ≡ true)

@@ -1,11 +1,7 @@
 -- The lowest cell of a mask.
 use Rattle.std.proofs.Common.{◌≡◌, ◌≢◌, ℕ, ◌+◌, ◌-◌, ◌*◌, ◌/◌, ◌%◌, ◌<◌, false, List, length, get_or, eqb, ap, ◌∙◌, inl, inr, arith, w8}
-use Rattle.std.proofs.lemmas.Bool.{cases_lt}
-use Rattle.std.proofs.lemmas.Nat.Bits.{bit_at-trailing_zeros, bit_at-zero}
-use Rattle.std.specs.Int.{bit_at, trailing_zeros}
-use Rattle.cell_rows.specs.declared.row.Cells.{Cells}
-use Rattle.cell_rows.specs.Rows.{bit_of, cell}
-use Rattle.cell_rows.proofs.RowLemmas.{cell-bits, cell-meta}
+use Rattle.std.{specs.Int.{bit_at, trailing_zeros}, proofs.lemmas.Bool.cases_lt, proofs.lemmas.Nat.Bits.{bit_at-trailing_zeros, bit_at-zero}}
+use Rattle.cell_rows.{specs.Rows.{bit_of, cell}, specs.declared.row.Cells.Cells, proofs.RowLemmas.{cell-bits, cell-meta}}
 use Rattle.ecp_line.specs.Layout.{IsLowest}
 
 -- a bit that is 0 in its byte

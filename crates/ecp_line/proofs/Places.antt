@@ -1,9 +1,7 @@
 -- Where the entries stand to each other.
 use Rattle.std.proofs.Common.{◌≡◌, ℕ, ◌+◌, ◌-◌, ◌*◌, ◌^◌, ◌<◌, ◌≤◌, Bool, inl, inr, arith, subst}
-use Rattle.std.proofs.Math.Nat.{mul-le-mul_right}
-use Rattle.std.proofs.lemmas.Bool.{cases_order}
-use Rattle.ecp_line.specs.Layout.{width, pointer_cell, replacement_cell, full_cell, activity_cell, pointer, IsLayout}
-use Rattle.ecp_line.proofs.Digits.{number-lt}
+use Rattle.std.proofs.{Math.Nat.mul-le-mul_right, lemmas.Bool.cases_order}
+use Rattle.ecp_line.{specs.Layout.{width, pointer_cell, replacement_cell, full_cell, activity_cell, pointer, IsLayout}, proofs.Digits.number-lt}
 
 -- the cells of an entry stand before those of the next
 pub entry-order : (B i k : ℕ) → i < k → replacement_cell B i < pointer_cell B k

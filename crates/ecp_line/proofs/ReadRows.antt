@@ -1,14 +1,9 @@
 -- Rows that are made of the data bytes of one value and the check bytes of another.
 use Rattle.std.proofs.Common.{◌≡◌, ℕ, ◌+◌, ◌*◌, ◌/◌, ◌%◌, ◌<◌, ◌≤◌, Bool, true, false, List, Option, Some, None, replicate, eqb, refl, sym, ap, ◌∙◌, inl, inr, arith}
-use Rattle.std.specs.Prelude.{IfSome}
-use Rattle.std.specs.Int.{bit_at}
-use Rattle.std.proofs.lemmas.List.{get_or-replicate, length-replicate}
-use Rattle.std.proofs.lemmas.Bool.{cases_lt, both_ways}
+use Rattle.std.{specs.Int.bit_at, specs.Prelude.IfSome, proofs.lemmas.Bool.{cases_lt, both_ways}, proofs.lemmas.List.{get_or-replicate, length-replicate}}
 use Rattle.std.proofs.lemmas.Nat.Bits.{bit_at_ones}
-use Rattle.cell_rows.specs.Rows.{bit_of, cell, xor}
-use Rattle.cell_rows.proofs.RowLemmas.{cell-bits, cell-meta, cell-zeros}
-use Rattle.ecp_line.specs.Layout.{IsLowest, IsWanted}
-use Rattle.ecp_line.proofs.Correcting.{wanted-none}
+use Rattle.cell_rows.{specs.Rows.{bit_of, cell, xor}, proofs.RowLemmas.{cell-bits, cell-meta, cell-zeros}}
+use Rattle.ecp_line.{specs.Layout.{IsLowest, IsWanted}, proofs.Correcting.wanted-none}
 
 -- the mask of all data cells
 pub data-mask : (B M n : ℕ) → n < 8 * B → cell {B = B} {M = M} (record { bits = replicate B 255; meta = replicate M 0 }) n ≡ true

@@ -1,8 +1,7 @@
 -- From which cell a bit is read.
 use Rattle.std.proofs.Common.{◌≡◌, ◌≢◌, ℕ, zero, suc, ◌+◌, ◌*◌, ◌<◌, ◌≤◌, ◌⊎◌, Bool, true, false, cond, refl, sym, ap, ◌∙◌, subst, inl, inr, arith, eqb}
 use Rattle.std.proofs.lemmas.Bool.{eqb-true, eqb-false, eq-eqb, ne_eqb, cases_eq, cases_order, cond-true, cond-false}
-use Rattle.ecp_line.specs.Layout.{source_below, pointer, pointer_cell, replacement_cell}
-use Rattle.ecp_line.proofs.Places.{entry-order, replacement-same}
+use Rattle.ecp_line.{specs.Layout.{source_below, pointer, pointer_cell, replacement_cell}, proofs.Places.{entry-order, replacement-same}}
 
 -- where the source of a bit is: its own data cell, or the replacement cell of the last entry that points to it
 pub data SourceCase (B : ℕ) (f : ℕ → Bool) (x k s : ℕ) : Type 0 where

@@ -1,8 +1,6 @@
 -- Where the entries of a line stand, and from which cell each bit is read. A line is seen as a function from cell numbers to values.
-use Rattle.std.specs.Prelude.{ℕ, zero, suc, ◌≡◌, ◌+◌, ◌-◌, ◌*◌, ◌^◌, ◌<◌, ◌≤◌, Bool, true, false, cond, nat_eq, nat_le, nat_lt, ◌&&◌, ◌||◌, List}
-use Rattle.std.specs.Int.{w64, trailing_zeros}
-use Rattle.cell_rows.specs.Rows.{members, bit_of}
-use Rattle.cell_rows.specs.Shape.{IsShape}
+use Rattle.std.specs.{Int.{w64, trailing_zeros}, Prelude.{ℕ, zero, suc, ◌≡◌, ◌+◌, ◌-◌, ◌*◌, ◌^◌, ◌<◌, ◌≤◌, Bool, true, false, cond, nat_eq, nat_le, nat_lt, ◌&&◌, ◌||◌, List}}
+use Rattle.cell_rows.specs.{Rows.{members, bit_of}, Shape.IsShape}
 
 -- how many pointer cells an entry has: the number P with `2 ^ P ≡ 8 * B`
 unfoldable pub width : ℕ → ℕ

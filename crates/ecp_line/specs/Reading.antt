@@ -1,8 +1,6 @@
 -- What a line is read as, as bytes, and when it is sound or worn.
 use Rattle.std.specs.Prelude.{ℕ, zero, suc, ◌+◌, ◌*◌, ◌-◌, nat_lt, Bool, not, ◌&&◌, ◌||◌, IsTrue, List, [], ◌∷◌}
-use Rattle.cell_rows.specs.Rows.{cell, members}
-use Rattle.cell_rows.specs.declared.row.Cells.{Cells}
-use Rattle.cell_rows.specs.Device.{LineState}
+use Rattle.cell_rows.specs.{Device.LineState, Rows.{cell, members}, declared.row.Cells.Cells}
 use Rattle.ecp_line.specs.Layout.{number, decoded, full_cell, activity_cell, some_below, Sound}
 
 -- n bytes from byte k on, of these bits

@@ -162,7 +162,8 @@ impl<const B: usize, const M: usize, const E: usize> Ecp<B, M, E> {
     /// The activity cells behind the first that is 0, wanted at 0: none where every entry is active.
     pub fn later(cells: &Cells<B, M>) -> (Cells<B, M>, Cells<B, M>)
         requires { IsLayout B M E }
-        ensures { let f = cell cells.now in WantsZeros f (is_later B E f) (cell result.0) (cell result.1) }
+        ensures { let f = cell cells.now in WantsZeros f (is_later B E f) (cell result.0)
+            (cell result.1) }
     {
         let mut want = *cells;
         let mut mask = Cells::zero();

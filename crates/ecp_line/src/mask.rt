@@ -13,7 +13,8 @@ pub(crate) fn are_bytes(bytes: &[u8])
 
 fn lowest_bit(bytes: &[u8]) -> Option<u16>
     requires { length bytes.now ≤ 128 }
-    ensures found { IfSome result (λ n. (n < 8 * length bytes.now) × IsLowest (bit_of bytes.now) n) }
+    ensures found { IfSome result (λ n. (n < 8 * length bytes.now)
+        × IsLowest (bit_of bytes.now) n) }
     ensures none { IfNone result ((n : ℕ) → bit_of bytes.now n ≡ false) }
 {
     for (index, byte) in bytes.iter().enumerate() {

@@ -1,15 +1,10 @@
 -- In the end each line's newest bytes are in the array or still in the queue.
 use Rattle.std.proofs.Common.{◌≡◌, ℕ, Bool, true, false, List, [], ◌∷◌, Some, None, refl, cond}
 use Rattle.std.specs.Prelude.{IsTrue, IfSome, IsSomeAnd, slice_get}
-use Rattle.masked_bytes.specs.declared.entry.Entry.{Entry}
-use Rattle.masked_bytes.specs.Masked.{gives_all}
+use Rattle.masked_bytes.specs.{Masked.gives_all, declared.entry.Entry.Entry}
 use Rattle.bank_model.specs.Timing.{core}
-use Rattle.end_laws.specs.EndLaws.{EndLaw, end_of, whole_head}
+use Rattle.end_laws.{specs.EndLaws.{EndLaw, end_of, whole_head}, proofs.Following.still_there_law, proofs.Kept.kept_law, proofs.Leaving.gaps_law, proofs.Queued.queued_law}
 use Rattle.end_laws.proofs.Remapped.{remapped_law}
-use Rattle.end_laws.proofs.Leaving.{gaps_law}
-use Rattle.end_laws.proofs.Kept.{kept_law}
-use Rattle.end_laws.proofs.Queued.{queued_law}
-use Rattle.end_laws.proofs.Following.{still_there_law}
 
 -- an excepted line is the head's, which gives every byte
 pub excepted-whole : {n : ℕ} (es : List (Entry n)) → IfSome (whole_head es) (λ line. IsSomeAnd (slice_get es 0) (λ head. (head.line ≡ line) × IsTrue (gives_all head.given)))

@@ -4,36 +4,18 @@ use Rattle.std.proofs.lemmas.Bool.{eq-eqb, le-leb, lt-ltb, and_from, or_left, or
 use Rattle.result_rows.specs.declared.Outcome.{Outcome}
 use Rattle.result_rows.specs.declared.Outcome.TheVariants as out
 use Rattle.cell_rows.specs.Device.{ArrayState}
-use Rattle.spare_pool.specs.Table.{Table, line_from}
-use Rattle.spare_pool.proofs.Lines.{line_from-more, line_by-within, line_by-apart}
-use Rattle.row_rules.specs.declared.Row.{Row}
-use Rattle.row_rules.specs.Answers.{stored_before}
-use Rattle.bank_shape.specs.declared.BankShape.{BankShape}
-use Rattle.bank_shape.specs.Shape.{slots_of, slot_moved}
-use Rattle.power_recovery.specs.Kept.{array_line}
+use Rattle.spare_pool.{specs.Table.{Table, line_from}, proofs.Lines.{line_from-more, line_by-within, line_by-apart}}
+use Rattle.row_rules.specs.{Answers.stored_before, declared.Row.Row}
+use Rattle.bank_shape.specs.{Shape.{slots_of, slot_moved}, declared.BankShape.BankShape, declared.pace.Pace.Pace}
 use Rattle.bank_shape.specs.declared.answer.Step.TheVariants as did
-use Rattle.bank_model.specs.Events.{BankEvent, Write, Read, Serve, Begin, Iterate, Cut}
-use Rattle.bank_model.specs.History.{retired, moved_in, stored_in}
-use Rattle.bank_model.specs.After.{slot_after, array_line_after, stands_at_after}
-use Rattle.bank_model.specs.Sensing.{most_steps}
-use Rattle.bank_shape.specs.declared.pace.Pace.{Pace}
-use Rattle.bank_model.specs.Timing.{Happens, Core, Regs, TimedEvent, core, core_of}
-use Rattle.bank_model.specs.Lawful.{Lawful}
-use Rattle.bank_laws.specs.Laws.{IsSized, LeavesArray, is_worn_at}
-use Rattle.bank_laws.specs.Outcomes.{outcome_of, ended, row_with, rows_from}
-use Rattle.bank_laws.specs.Places.{region_stores}
-use Rattle.bank_laws.proofs.Settling.{lawful_before, above_all}
-use Rattle.bank_laws.proofs.Waiting.{may_all}
-use Rattle.bank_laws.proofs.Walking.{Passes, walk, rows_after}
-use Rattle.bank_laws.proofs.Asked.{Asked, asked-within, wrote-asked, queue-wrote}
-use Rattle.place_laws.proofs.Moves.{keeps, none-due}
-use Rattle.place_laws.proofs.Tables.{between}
-use Rattle.place_laws.proofs.Slots.{slot_moved-within}
-use Rattle.place_laws.proofs.Splits.{IsStoredAt, stored-at}
-use Rattle.place_laws.proofs.Placed.{between_products, asked-later, SumsUp, stores-below, same_line}
-use Rattle.end_laws.specs.Ends.{has_place, outcome_ends, is_still_there}
-use Rattle.end_laws.specs.EndLaws.{StillThereLaw}
-use Rattle.end_laws.proofs.Leaving.{agreeing, recounted, leaves}
+use Rattle.power_recovery.specs.Kept.{array_line}
+use Rattle.bank_model.specs.{After.{slot_after, array_line_after, stands_at_after}, Events.{BankEvent, Write, Read, Serve, Begin, Iterate, Cut}}
+use Rattle.bank_model.specs.{History.{retired, moved_in, stored_in}, Lawful.Lawful, Sensing.most_steps, Timing.{Happens, Core, Regs, TimedEvent, core, core_of}}
+use Rattle.bank_laws.specs.{Laws.{IsSized, LeavesArray, is_worn_at}, Outcomes.{outcome_of, ended, row_with, rows_from}, Places.region_stores}
+use Rattle.bank_laws.proofs.{Asked.{Asked, asked-within, wrote-asked, queue-wrote}, Settling.{lawful_before, above_all}, Waiting.may_all, Walking.{Passes, walk, rows_after}}
+use Rattle.place_laws.proofs.{Moves.{keeps, none-due}, Placed.{between_products, asked-later, SumsUp, stores-below, same_line}, Slots.slot_moved-within}
+use Rattle.place_laws.proofs.{Splits.{IsStoredAt, stored-at}, Tables.between}
+use Rattle.end_laws.{specs.EndLaws.StillThereLaw, specs.Ends.{has_place, outcome_ends, is_still_there}, proofs.Leaving.{agreeing, recounted, leaves}}
 
 -- after more retirements a slot has the line that it had, or a greater one, which is a spare; and no other slot has that line
 pub record Follows (slots slot : ℕ) (before now : List ℕ) : Type 0 where

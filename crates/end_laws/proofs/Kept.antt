@@ -3,37 +3,18 @@ use Rattle.std.proofs.Common.{◌≡◌, ℕ, ◌==◌, ◌||◌, ◌⊎◌, inl
 use Rattle.std.proofs.lemmas.Bool.{or_left, or_right}
 use Rattle.result_rows.specs.declared.Outcome.{Outcome}
 use Rattle.result_rows.specs.declared.Outcome.TheVariants as out
-use Rattle.masked_bytes.specs.declared.entry.Entry.{Entry}
-use Rattle.masked_bytes.specs.Masked.{laid, gives_all}
-use Rattle.masked_bytes.specs.Entries.{layer_of}
-use Rattle.row_rules.specs.Answers.{is_stored}
+use Rattle.masked_bytes.{specs.Entries.layer_of, specs.Masked.{laid, gives_all}, specs.declared.entry.Entry.Entry, proofs.Layering.laid-over}
+use Rattle.row_rules.specs.{Answers.is_stored, Queueing.unstored}
 use Rattle.row_rules.specs.Rows as rows
-use Rattle.row_rules.specs.Queueing.{unstored}
-use Rattle.masked_bytes.proofs.Layering.{laid-over}
-use Rattle.bank_shape.specs.declared.BankShape.{BankShape}
+use Rattle.bank_shape.specs.{declared.BankShape.BankShape, declared.pace.Pace.Pace}
 use Rattle.power_recovery.specs.Kept.{array_line}
-use Rattle.bank_model.specs.History.{queue, moved_in}
-use Rattle.bank_model.specs.Sensing.{most_steps}
-use Rattle.bank_shape.specs.declared.pace.Pace.{Pace}
-use Rattle.bank_model.specs.Timing.{TimedEvent, core, last_tick}
-use Rattle.bank_model.specs.Lawful.{Lawful}
-use Rattle.bank_laws.specs.Laws.{IsSized}
-use Rattle.bank_laws.specs.Pairs.{has_line, ArePaired}
-use Rattle.bank_laws.specs.Outcomes.{outcome_of, ended, table_of}
-use Rattle.bank_laws.proofs.Entries.{either}
-use Rattle.bank_laws.proofs.Settling.{opens}
-use Rattle.bank_laws.proofs.Pairs.{AllLong, KeepsPairs, keeps_pairs}
-use Rattle.bank_laws.proofs.Serves.{same_bytes-same, newest_same}
-use Rattle.bank_laws.proofs.Waiting.{may_all}
-use Rattle.bank_laws.proofs.Given.{given_of, given-layer, given-alone, given-other}
-use Rattle.queue_laws.proofs.Showing.{Front}
-use Rattle.queue_laws.proofs.Floors.{since, floor_of}
-use Rattle.queue_laws.proofs.Covering.{is_covered}
-use Rattle.queue_laws.proofs.Covers.{unstored_by}
+use Rattle.bank_model.specs.{History.{queue, moved_in}, Lawful.Lawful, Sensing.most_steps, Timing.{TimedEvent, core, last_tick}}
+use Rattle.bank_laws.{specs.Laws.IsSized, specs.Outcomes.{outcome_of, ended, table_of}, specs.Pairs.{has_line, ArePaired}, proofs.Entries.either}
+use Rattle.bank_laws.proofs.{Given.{given_of, given-layer, given-alone, given-other}, Pairs.{AllLong, KeepsPairs, keeps_pairs}, Serves.{same_bytes-same, newest_same}}
+use Rattle.bank_laws.proofs.{Settling.opens, Waiting.may_all}
+use Rattle.queue_laws.proofs.{Covering.is_covered, Covers.unstored_by, Floors.{since, floor_of}, Showing.Front}
 use Rattle.bank_invariant.specs.Tied.{decoded}
-use Rattle.end_laws.specs.Ends.{is_excepted, is_kept_line, place_by_table}
-use Rattle.end_laws.specs.EndLaws.{KeptLaw, StandsLaw, whole_head}
-use Rattle.end_laws.proofs.Leaving.{agreeing}
+use Rattle.end_laws.{specs.EndLaws.{KeptLaw, StandsLaw, whole_head}, specs.Ends.{is_excepted, is_kept_line, place_by_table}, proofs.Leaving.agreeing}
 
 module _ {n : ℕ} where
   -- the entries of a line that isn't the head's, or whose head lacks a byte, give what the writes from the floor on give

@@ -1,27 +1,15 @@
 -- The line of a head that gives every byte has a write that is queued in the end.
 use Rattle.std.proofs.Common.{◌≡◌, ℕ, ◌&&◌, inl, inr, Bool, true, false, List, [], ◌∷◌, ◌++◌, Some, None, refl, sym, ap, ◌∙◌, subst, cond}
-use Rattle.std.specs.List.{list_any}
-use Rattle.std.proofs.lemmas.Bool.{eq-eqb, and_from, or_left, or_right}
-use Rattle.masked_bytes.specs.declared.entry.Entry.{Entry}
-use Rattle.masked_bytes.specs.Masked.{gives_all}
+use Rattle.std.{specs.List.list_any, proofs.lemmas.Bool.{eq-eqb, and_from, or_left, or_right}}
+use Rattle.masked_bytes.specs.{Masked.gives_all, declared.entry.Entry.Entry}
 use Rattle.result_rows.specs.declared.Outcome.TheVariants as out
-use Rattle.row_rules.specs.declared.Row.{Row}
-use Rattle.row_rules.specs.Answers.{is_queued}
-use Rattle.row_rules.specs.Rows.{write_of}
-use Rattle.bank_shape.specs.declared.BankShape.{BankShape}
-use Rattle.bank_model.specs.Events.{Write, Read, Serve, Begin, Iterate, Cut}
-use Rattle.bank_model.specs.History.{queue}
-use Rattle.bank_model.specs.Sensing.{most_steps}
-use Rattle.bank_shape.specs.declared.pace.Pace.{Pace}
+use Rattle.row_rules.specs.{Answers.is_queued, Rows.write_of, declared.Row.Row}
+use Rattle.bank_shape.specs.{declared.BankShape.BankShape, declared.pace.Pace.Pace}
+use Rattle.bank_model.specs.{Events.{Write, Read, Serve, Begin, Iterate, Cut}, History.queue, Lawful.Lawful, Sensing.most_steps}
 use Rattle.bank_model.specs.Timing.{Happens, Core, Regs, TimedEvent, core, core_of}
-use Rattle.bank_model.specs.Lawful.{Lawful}
-use Rattle.bank_laws.specs.Outcomes.{outcome_of, ended, row_with, rows_from, table_of}
-use Rattle.bank_laws.proofs.Lines.{Stands, stands-row}
-use Rattle.bank_laws.proofs.Settling.{opens, above_all}
-use Rattle.bank_laws.proofs.Waiting.{may_all}
-use Rattle.bank_laws.proofs.Asked.{Wrote, queue-wrote}
-use Rattle.end_laws.specs.Ends.{is_excused}
-use Rattle.end_laws.specs.EndLaws.{QueuedLaw, whole_head}
+use Rattle.bank_laws.{specs.Outcomes.{outcome_of, ended, row_with, rows_from, table_of}, proofs.Asked.{Wrote, queue-wrote}, proofs.Lines.{Stands, stands-row}}
+use Rattle.bank_laws.proofs.{Settling.{opens, above_all}, Waiting.may_all}
+use Rattle.end_laws.specs.{EndLaws.{QueuedLaw, whole_head}, Ends.is_excused}
 
 module _ {n m : ℕ} (shape : BankShape) (all : List (TimedEvent n m)) where
   -- a row that was written and has no outcome is queued in the end

@@ -1,27 +1,14 @@
 -- That a bank keeps each line's newest bytes to the end, part by part and whole.
 use Rattle.std.specs.Prelude.{◌≡◌, ℕ, ◌*◌, ◌<◌, ◌||◌, Bool, if◌then◌else◌, List, [], ◌∷◌, Option, Some, None, IsTrue, IfSome, IsSomeAnd, slice_get}
-use Rattle.masked_bytes.specs.Masked.{gives_all, laid}
-use Rattle.masked_bytes.specs.Entries.{layer_of}
-use Rattle.masked_bytes.specs.declared.entry.Entry.{Entry}
+use Rattle.masked_bytes.specs.{Entries.layer_of, Masked.{gives_all, laid}, declared.entry.Entry.Entry}
 use Rattle.start_gap.specs.Rotation.{StandsFor}
 use Rattle.cell_rows.specs.Device.{ArrayState}
 use Rattle.row_rules.specs.Rows.{each_row, newest}
-use Rattle.bank_shape.specs.declared.BankShape.{BankShape}
-use Rattle.bank_shape.specs.Shape.{slots_of, control_line}
+use Rattle.bank_shape.specs.{Shape.{slots_of, control_line}, declared.BankShape.BankShape, declared.pace.Pace.Pace}
 use Rattle.power_recovery.specs.Kept.{KeptState, region_at, array_line}
-use Rattle.bank_model.specs.Events.{BankEvent}
-use Rattle.bank_model.specs.History.{moved_in}
-use Rattle.bank_model.specs.Changes.{change_after, halted_after}
-use Rattle.bank_shape.specs.declared.pace.Pace.{Pace}
-use Rattle.bank_model.specs.Timing.{TimedEvent, core}
-use Rattle.bank_model.specs.Lawful.{Lawful}
-use Rattle.bank_invariant.specs.State.{BankState}
-use Rattle.bank_invariant.specs.Tied.{decoded}
-use Rattle.bank_invariant.specs.Holds.{Holds}
-use Rattle.bank_laws.specs.Outcomes.{table_of}
-use Rattle.bank_laws.specs.Resting.{EndsIn}
-use Rattle.bank_laws.specs.Laws.{IsSized, is_worn_at}
-use Rattle.bank_laws.specs.Places.{is_moved_to}
+use Rattle.bank_model.specs.{Changes.{change_after, halted_after}, Events.BankEvent, History.moved_in, Lawful.Lawful, Timing.{TimedEvent, core}}
+use Rattle.bank_invariant.specs.{Holds.Holds, State.BankState, Tied.decoded}
+use Rattle.bank_laws.specs.{Laws.{IsSized, is_worn_at}, Outcomes.table_of, Places.is_moved_to, Resting.EndsIn}
 use Rattle.end_laws.specs.Ends.{BankEnd, EndsWithTo, IsRemapped, place_by_table, is_kept_line, is_still_there, is_excepted, is_excused}
 
 -- a bank's end is that of what it keeps; an excepted line is that of the head of its queue, which gives every byte

@@ -1,16 +1,12 @@
 -- Where each line's newest bytes are in the end.
-use Rattle.std.specs.Prelude.{◌≡◌, ◌⊎◌, ℕ, ◌+◌, ◌*◌, ◌/◌, ◌<◌, ◌≤◌, ◌==◌, ◌&&◌, ◌||◌, nat_lt, nat_le, Bool, true, false, IsTrue, List, [], ◌∷◌, ◌++◌, Option, Some, None}
 use Rattle.std.specs.List.{list_any}
+use Rattle.std.specs.Prelude.{◌≡◌, ◌⊎◌, ℕ, ◌+◌, ◌*◌, ◌/◌, ◌<◌, ◌≤◌, ◌==◌, ◌&&◌, ◌||◌, nat_lt, nat_le, Bool, true, false, IsTrue, List, [], ◌∷◌, ◌++◌, Option, Some, None}
 use Rattle.masked_bytes.specs.Masked.{laid}
 use Rattle.result_rows.specs.declared.Outcome.{Outcome}
 use Rattle.result_rows.specs.declared.Outcome.TheVariants as out
+use Rattle.row_rules.specs.{Answers.{is_stored, is_queued, stored_before}, Queueing.unstored, Rows.{RowTest, each_row, line_of, write_of, newest}, Serving.same_bytes}
 use Rattle.row_rules.specs.declared.Row.{Row}
-use Rattle.row_rules.specs.Answers.{is_stored, is_queued, stored_before}
-use Rattle.row_rules.specs.Rows.{RowTest, each_row, line_of, write_of, newest}
-use Rattle.row_rules.specs.Queueing.{unstored}
-use Rattle.row_rules.specs.Serving.{same_bytes}
-use Rattle.bank_shape.specs.declared.BankShape.{BankShape}
-use Rattle.bank_shape.specs.Shape.{slots_of, slot_moved}
+use Rattle.bank_shape.specs.{Shape.{slots_of, slot_moved}, declared.BankShape.BankShape}
 use Rattle.bank_laws.specs.Places.{region_stores, is_moved_to}
 use Rattle.bank_model.specs.Sensing.{is_at}
 

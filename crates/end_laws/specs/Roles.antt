@@ -1,16 +1,13 @@
 -- What an array line is used for in the end of its bank, and that each is used for one thing.
 use Rattle.std.specs.Prelude.{◌≡◌, ◌≢◌, ℕ, zero, suc, ◌+◌, ◌-◌, ◌*◌, ◌<◌, ◌≤◌, max, List}
 use Rattle.cell_rows.specs.Device.{ArrayState}
-use Rattle.wear_report.specs.declared.Role.{Role}
-use Rattle.wear_report.specs.declared.Role.TheVariants.{Line, Gap, Free, Retired, Control}
+use Rattle.wear_report.specs.{declared.Role.Role, declared.Role.TheVariants.{Line, Gap, Free, Retired, Control}}
 use Rattle.start_gap.specs.Rotation.{gap_after}
 use Rattle.spare_pool.specs.Table.{used_by}
-use Rattle.bank_shape.specs.declared.BankShape.{BankShape}
-use Rattle.bank_shape.specs.Shape.{slots_of, slot_at, controls_from, IsBankShape}
+use Rattle.bank_shape.specs.{Shape.{slots_of, slot_at, controls_from, IsBankShape}, declared.BankShape.BankShape}
 use Rattle.power_recovery.specs.Kept.{array_line}
 use Rattle.bank_model.specs.Events.{BankEvent}
-use Rattle.bank_invariant.specs.State.{BankState}
-use Rattle.bank_invariant.specs.Holds.{Holds}
+use Rattle.bank_invariant.specs.{Holds.Holds, State.BankState}
 use Rattle.end_laws.specs.Ends.{BankEnd, place_by_table}
 
 -- how many spares are used: all up to the greatest one that one of these slots has

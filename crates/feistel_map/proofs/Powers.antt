@@ -1,9 +1,6 @@
 -- The logarithm of a power of two, what lies between two powers, and how many bits the numbers of lines have.
 use Rattle.std.proofs.Common.{◌≡◌, ℕ, zero, suc, false, true, ◌+◌, ◌*◌, ◌/◌, ◌^◌, ◌<◌, ◌≤◌, nat_lt, inl, inr, lit<, refl, ◌∙◌, ap, arith}
-use Rattle.std.proofs.lemmas.Bool.{cases_lt}
-use Rattle.std.proofs.lemmas.Bool.Decides.{nat_tests}
-use Rattle.std.proofs.lemmas.Nat.{pow_pos}
-use Rattle.std.proofs.Math.Nat.{pow-suc, pow-le-pow_right}
+use Rattle.std.proofs.{Math.Nat.{pow-suc, pow-le-pow_right}, lemmas.Bool.cases_lt, lemmas.Bool.Decides.nat_tests, lemmas.Nat.pow_pos}
 use Rattle.feistel_map.specs.Log2.{halvings, log2}
 
 halvings-between : (r most n : ℕ) → n ≤ most → 2 ^ r ≤ n → n < 2 * 2 ^ r → halvings most n ≡ r

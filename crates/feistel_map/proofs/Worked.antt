@@ -1,8 +1,7 @@
 -- Worked examples: the keys of seed 0, and the networks of 2 and of 4 bits.
 use Rattle.std.proofs.Common.{◌≡◌, ℕ, [], ◌∷◌, refl}
 use Rattle.std.specs.Prelude.{map}
-use Rattle.rand_core.specs.Stream.{next_u64}
-use Rattle.rand_core.specs.Steps.{stream_of}
+use Rattle.rand_core.specs.{Steps.stream_of, Stream.next_u64}
 use Rattle.seeded_words.specs.Words.{stream_after, word_at}
 use Rattle.feistel_map.specs.Network.{Network, network_of, feistel, unfeistel}
 

@@ -20,7 +20,8 @@ impl Address {
         ensures number { number_at regions lines result ≡ number }
         ensures region_exists { result.region < regions }
         ensures offset_exists { result.offset < lines }
-        ensures bank_exists { (banks : ℕ) → number < banks * (regions * lines) → result.bank < banks }
+        ensures bank_exists { (banks : ℕ) → number < banks * (regions * lines)
+            → result.bank < banks }
     {
         Address {
             bank: number / (regions * lines),

@@ -31,11 +31,26 @@ impl Model for Feistel {
 
     ghost Value = { Network };
 
-    ghost view = { λ f. record { bits = f.bits; first = f.first; second = f.second; third = f.third } };
+    ghost view = { λ f. record {
+      bits = f.bits;
+      first = f.first;
+      second = f.second;
+      third = f.third;
+    } };
 
-    ghost invariant = { λ f. IsNetwork (record { bits = f.bits; first = f.first; second = f.second; third = f.third }) };
+    ghost invariant = { λ f. IsNetwork (record {
+      bits = f.bits;
+      first = f.first;
+      second = f.second;
+      third = f.third;
+    }) };
 
-    ghost inverse = { λ n. record { bits = n.bits; first = n.first; second = n.second; third = n.third } };
+    ghost inverse = { λ n. record {
+      bits = n.bits;
+      first = n.first;
+      second = n.second;
+      third = n.third;
+    } };
 }
 
 impl Feistel {
@@ -95,7 +110,8 @@ impl Feistel {
 // The low 16 bits of the next word.
 fn next_key(words: &mut SplitMix64) -> u16
     ensures key { result ≡ (next_u64 (stream_of splitmix_steps words.old)).0 % 65536 }
-    ensures left { stream_of splitmix_steps words.new ≡ (next_u64 (stream_of splitmix_steps words.old)).1 }
+    ensures left { stream_of splitmix_steps words.new
+        ≡ (next_u64 (stream_of splitmix_steps words.old)).1 }
 {
     (words.next_u64() % 65536) as u16
 }

@@ -1,25 +1,16 @@
 -- Whether a store of the queue's head was begun: never where a gap move is due, and always where a line write is in progress or found no
 -- spare and none is due.
 use Rattle.std.proofs.Common.{◌≡◌, ℕ, ◌==◌, ◌||◌, ◌⊎◌, inl, inr, Bool, true, false, List, [], ◌∷◌, ◌++◌, drop, Option, Some, None, refl, sym, ◌∙◌, subst, cond, eqb-true}
-use Rattle.masked_bytes.proofs.Truth.{and_first, and_second}
-use Rattle.std.specs.Prelude.{is_none}
-use Rattle.std.proofs.lemmas.Bool.{eq-eqb, or_cases}
-use Rattle.masked_bytes.specs.declared.entry.Entry.{Entry}
-use Rattle.masked_bytes.specs.Entries.{candidate, laid_on, merged}
-use Rattle.bank_shape.specs.declared.BankShape.{BankShape}
-use Rattle.bank_shape.specs.declared.Work.TheVariants.{Nothing}
+use Rattle.std.{specs.Prelude.is_none, proofs.lemmas.Bool.{eq-eqb, or_cases}}
+use Rattle.masked_bytes.{specs.Entries.{candidate, laid_on, merged}, specs.declared.entry.Entry.Entry, proofs.Truth.{and_first, and_second}}
+use Rattle.bank_shape.specs.{Kinds.is_store, declared.BankShape.BankShape, declared.Work.TheVariants.Nothing}
 use Rattle.bank_shape.specs.declared.answer.WriteAnswer.TheVariants as wrote
 use Rattle.bank_shape.specs.declared.answer.Step.TheVariants as did
-use Rattle.bank_shape.specs.Kinds.{is_store}
-use Rattle.bank_model.specs.Events.{BankEvent, Write, Read, Serve, Begin, Iterate, Cut, newest}
+use Rattle.bank_model.specs.{After.{due_work, work_after}, Answers.{MayAll, head_busy_after, write_answer}, Events.{BankEvent, Write, Read, Serve, Begin, Iterate, Cut, newest}}
 use Rattle.bank_model.specs.History.{begun, queue, due_after, has_exhausted, in_progress}
-use Rattle.bank_model.specs.After.{due_work, work_after}
-use Rattle.bank_model.specs.Answers.{MayAll, head_busy_after, write_answer}
-use Rattle.bank_laws.specs.Pairs.{has_line, ArePaired}
-use Rattle.bank_laws.proofs.Pairs.{accepted-none, keeps_pairs, line-merged, no_candidate-head}
+use Rattle.bank_laws.{specs.Pairs.{has_line, ArePaired}, proofs.Pairs.{accepted-none, keeps_pairs, line-merged, no_candidate-head}}
 use Rattle.queue_laws.specs.EntryLaws.{is_head_begun}
-use Rattle.place_laws.proofs.Working.{done-store, done-move}
-use Rattle.place_laws.proofs.Slots.{begin-retires_none, begin-exhausts_none}
+use Rattle.place_laws.proofs.{Slots.{begin-retires_none, begin-exhausts_none}, Working.{done-store, done-move}}
 
 none-or : (due : Option ℕ) (b : Bool) → (b ≡ true → due ≡ None) → (is_none due || b) ≡ true → due ≡ None
 none-or None b own is = refl

@@ -1,40 +1,19 @@
 -- What is saved of a bank is that of its end: its counters are those of its stores by the rows, and its spares those of its table.
 use Rattle.std.proofs.Common.{◌≡◌, ℕ, ◌+◌, ◌*◌, ◌/◌, ◌%◌, ◌<◌, ◌≤◌, ◌==◌, ◌&&◌, ◌||◌, ◌⊎◌, inl, inr, Bool, true, List, map, length, get_or, sym, ap, ◌∙◌, subst, arith, eqb-true}
-use Rattle.std.proofs.lemmas.Bool.{cases_lt, or_cases}
-use Rattle.std.proofs.lemmas.Nat.{mul-le}
-use Rattle.std.proofs.Math.Nat.{div-add-mod}
-use Rattle.std.proofs.Math.ListN.{get_or-map}
+use Rattle.std.proofs.{Math.ListN.get_or-map, Math.Nat.div-add-mod, lemmas.Bool.{cases_lt, or_cases}, lemmas.Nat.mul-le}
 use Rattle.cell_rows.specs.Device.{ArrayState}
 use Rattle.start_gap.specs.Rotation.{Rotation, StandsFor, turn}
-use Rattle.row_rules.specs.declared.Row.{Row}
-use Rattle.row_rules.specs.Answers.{is_stored}
-use Rattle.bank_shape.specs.declared.BankShape.{BankShape}
-use Rattle.bank_shape.specs.Shape.{slots_of}
+use Rattle.row_rules.specs.{Answers.is_stored, declared.Row.Row}
+use Rattle.bank_shape.specs.{Shape.slots_of, declared.BankShape.BankShape, declared.pace.Pace.Pace}
 use Rattle.power_recovery.specs.Kept.{KeptState, region_at, no_region as no_kept}
-use Rattle.bank_model.specs.History.{moved_in, stored_in}
-use Rattle.bank_model.specs.Sensing.{most_steps}
-use Rattle.bank_shape.specs.declared.pace.Pace.{Pace}
-use Rattle.bank_model.specs.Timing.{TimedEvent, core}
-use Rattle.bank_model.specs.Lawful.{Lawful}
-use Rattle.bank_invariant.specs.State.{BankState}
-use Rattle.bank_invariant.specs.Holds.{Holds}
-use Rattle.bank_laws.specs.Laws.{is_worn_at}
-use Rattle.bank_laws.specs.Outcomes.{table_of}
-use Rattle.bank_laws.specs.Places.{region_stores, is_moved_to, may_leave}
-use Rattle.bank_laws.proofs.Waiting.{may_all}
-use Rattle.place_laws.proofs.Moves.{keeps}
-use Rattle.place_laws.proofs.Moved.{region_stores-counted}
-use Rattle.place_laws.proofs.Placed.{between_products, at_product}
-use Rattle.module_shape.specs.declared.raw.RawShape.{RawShape}
-use Rattle.module_shape.specs.Addresses.{module_of, bank_shape}
-use Rattle.end_laws.specs.Ends.{BankEnd}
-use Rattle.end_laws.specs.EndLaws.{IsEndOf}
-use Rattle.end_laws.specs.Roles.{used_spares}
-use Rattle.end_laws.proofs.Used.{used-same}
+use Rattle.bank_model.specs.{History.{moved_in, stored_in}, Lawful.Lawful, Sensing.most_steps, Timing.{TimedEvent, core}}
+use Rattle.bank_invariant.specs.{Holds.Holds, State.BankState}
+use Rattle.bank_laws.{specs.Laws.is_worn_at, specs.Outcomes.table_of, specs.Places.{region_stores, is_moved_to, may_leave}, proofs.Waiting.may_all}
+use Rattle.place_laws.proofs.{Moved.region_stores-counted, Moves.keeps, Placed.{between_products, at_product}}
+use Rattle.module_shape.specs.{Addresses.{module_of, bank_shape}, declared.raw.RawShape.RawShape}
+use Rattle.end_laws.{specs.EndLaws.IsEndOf, specs.Ends.BankEnd, specs.Roles.used_spares, proofs.Used.used-same}
 use Rattle.pcm_image.specs.Standing.{no_region}
-use Rattle.image_laws.specs.Saving.{head_of, saved_bank, saved_region}
-use Rattle.image_laws.specs.SavedRuns.{SavesEnd}
-use Rattle.image_laws.proofs.Keeping.{registers-saved, slots-saved}
+use Rattle.image_laws.{specs.SavedRuns.SavesEnd, specs.Saving.{head_of, saved_bank, saved_region}, proofs.Keeping.{registers-saved, slots-saved}}
 use Rattle.masked_bytes.proofs.Truth.{and_first}
 
 -- two successive numbers leave different rests

@@ -1,10 +1,7 @@
 -- A factor of a power of two is one.
 use Rattle.std.proofs.Common.{◌≡◌, ℕ, zero, suc, ◌+◌, ◌*◌, ◌/◌, ◌%◌, ◌^◌, ◌≤◌, ◌==◌, inl, inr, true, refl, sym, ap, ◌∙◌, arith, count_ones}
-use Rattle.std.specs.Int.Count.{ones_step}
-use Rattle.std.specs.Int.{is_power_of_two}
-use Rattle.std.proofs.lemmas.Bool.{cases_eq}
+use Rattle.std.{specs.Int.is_power_of_two, specs.Int.Count.ones_step, proofs.Math.Nat.{pow-succ', mul_assoc, mul_comm, add-mul}, proofs.lemmas.Bool.cases_eq}
 use Rattle.std.proofs.lemmas.Nat.{mul-le, ones_le_self}
-use Rattle.std.proofs.Math.Nat.{pow-succ', mul_assoc, mul_comm, add-mul}
 
 -- the product of an even number
 even-times : (a b : ℕ) → a % 2 ≡ 0 → a * b ≡ 2 * (a / 2 * b)

@@ -1,29 +1,16 @@
 -- What the queue's head gives once a store of it was begun: every byte of its line, as they were newest when its own write came.
 use Rattle.std.proofs.Common.{◌≡◌, ℕ, ◌<◌, ◌≤◌, ◌==◌, ◌||◌, inl, inr, Bool, true, false, List, [], ◌∷◌, ◌++◌, length, Option, Some, None, refl, sym, ap, ◌∙◌, subst, arith, cond, eqb, eqb-true}
-use Rattle.std.specs.Prelude.{is_none}
-use Rattle.std.proofs.lemmas.Bool.{eq-eqb, ne_eqb, cases_lt}
-use Rattle.masked_bytes.specs.declared.entry.Entry.{Entry}
-use Rattle.masked_bytes.specs.Masked.{laid, gives_all, IsMasked}
-use Rattle.masked_bytes.specs.Entries.{Layer, stacked, laid_on, merged, or_this, newest_row, has_row, RowsApart}
-use Rattle.masked_bytes.proofs.Layering.{length-laid, length-joined, laid-laid, laid-all_given, all_given-gives_all}
-use Rattle.bank_shape.specs.declared.BankShape.{BankShape}
+use Rattle.std.{specs.Prelude.is_none, proofs.lemmas.Bool.{eq-eqb, ne_eqb, cases_lt}}
+use Rattle.masked_bytes.specs.{Entries.{Layer, stacked, laid_on, merged, or_this, newest_row, has_row, RowsApart}, Masked.{laid, gives_all, IsMasked}, declared.entry.Entry.Entry}
+use Rattle.masked_bytes.proofs.{Layering.{length-laid, length-joined, laid-laid, laid-all_given, all_given-gives_all, laid-again, laid-between}, Queueing.candidate-newest}
+use Rattle.bank_shape.specs.{declared.BankShape.BankShape, declared.answer.Step.Step}
 use Rattle.bank_shape.specs.declared.answer.WriteAnswer.TheVariants as wrote
-use Rattle.bank_shape.specs.declared.answer.Step.{Step}
 use Rattle.bank_shape.specs.declared.answer.Step.TheVariants as did
-use Rattle.bank_model.specs.Events.{BankEvent, Write, Read, Serve, Begin, Iterate, Cut, newest, up_to, RowsBelow}
-use Rattle.bank_model.specs.History.{begun, queue, due_after}
-use Rattle.bank_model.specs.Answers.{MayAll, head_busy_after, write_answer}
-use Rattle.bank_laws.specs.Pairs.{has_line, ArePaired}
-use Rattle.bank_laws.proofs.Lines.{Stands, stands-row, stands-line, newest-stands, merged-candidate, merges-stands}
-use Rattle.bank_laws.proofs.Pairs.{keeps_pairs}
-use Rattle.bank_laws.proofs.Standing.{stand_apart}
-use Rattle.bank_laws.proofs.Answering.{head-there}
-use Rattle.queue_laws.specs.EntryLaws.{line_written, given_by, last_write, is_head_begun}
-use Rattle.masked_bytes.proofs.Layering.{laid-again, laid-between}
-use Rattle.masked_bytes.proofs.Queueing.{candidate-newest}
-use Rattle.bank_model.proofs.Newest.{length-newest}
-use Rattle.queue_laws.proofs.Owned.{IsOwn, AreOwn, queue-own}
-use Rattle.queue_laws.proofs.Last.{queue-last}
+use Rattle.bank_model.specs.{Answers.{MayAll, head_busy_after, write_answer}, Events.{BankEvent, Write, Read, Serve, Begin, Iterate, Cut, newest, up_to, RowsBelow}}
+use Rattle.bank_model.{specs.History.{begun, queue, due_after}, proofs.Newest.length-newest}
+use Rattle.bank_laws.{specs.Pairs.{has_line, ArePaired}, proofs.Answering.head-there}
+use Rattle.bank_laws.proofs.{Lines.{Stands, stands-row, stands-line, newest-stands, merged-candidate, merges-stands}, Pairs.keeps_pairs, Standing.stand_apart}
+use Rattle.queue_laws.{specs.EntryLaws.{line_written, given_by, last_write, is_head_begun}, proofs.Last.queue-last, proofs.Owned.{IsOwn, AreOwn, queue-own}}
 
 pub above : (at row : ℕ) → row < at → (at == row) ≡ false
 above at row lt = ne_eqb at row (λ is. omega (arith, lt, is))

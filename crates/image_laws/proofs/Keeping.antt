@@ -1,30 +1,18 @@
 -- What is saved of a bank is in range, and has the registers and the table of its end.
 use Rattle.std.proofs.Common.{◌≡◌, ℕ, ◌+◌, ◌*◌, ◌^◌, ◌<◌, ◌≤◌, ◌&&◌, Bool, true, false, nat_le, List, [], ◌∷◌, length, get_or, sym, ap, subst, ◌∙◌, arith}
-use Rattle.std.proofs.lemmas.Bool.{and_from, le-leb}
-use Rattle.std.specs.Prelude.{All, map, if◌then◌else◌}
-use Rattle.std.proofs.lemmas.List.{length-map}
-use Rattle.std.proofs.lemmas.List.Elements.{All-nil, All-cons, All-from_get_or}
-use Rattle.std.proofs.Math.ListN.{get_or-map}
-use Rattle.std.specs.Int.{is_power_of_two}
+use Rattle.std.{specs.Int.is_power_of_two, specs.Prelude.{All, map, if◌then◌else◌}, proofs.Math.ListN.get_or-map, proofs.lemmas.Bool.{and_from, le-leb}}
+use Rattle.std.proofs.{lemmas.List.length-map, lemmas.List.Elements.{All-nil, All-cons, All-from_get_or}}
 use Rattle.feistel_map.specs.Log2.{log2}
-use Rattle.masked_bytes.specs.Entries.{AllMasked}
-use Rattle.masked_bytes.specs.declared.entry.Entry.{Entry}
+use Rattle.masked_bytes.specs.{Entries.AllMasked, declared.entry.Entry.Entry}
 use Rattle.start_gap.specs.Rotation.{StandsFor}
 use Rattle.spare_pool.specs.Table.{line_by, line_from}
-use Rattle.bank_shape.specs.declared.Home.{Home}
+use Rattle.bank_shape.specs.{Shape.slots_of, declared.BankShape.BankShape, declared.Home.Home}
 use Rattle.bank_shape.specs.declared.Home.TheVariants as home
-use Rattle.bank_shape.specs.declared.BankShape.{BankShape}
-use Rattle.bank_shape.specs.Shape.{slots_of}
 use Rattle.power_recovery.specs.Kept.{KeptState, IsKept, AllBelow, region_at, no_region as no_kept}
-use Rattle.module_shape.specs.declared.raw.RawShape.{RawShape}
-use Rattle.module_shape.specs.Limits.{IsShape, is_power_between, total_of}
-use Rattle.module_shape.specs.Addresses.{module_of, bank_shape}
-use Rattle.end_laws.specs.Ends.{BankEnd}
-use Rattle.end_laws.specs.EndLaws.{IsEndOf}
-use Rattle.pcm_image.specs.Saved.{Head, IsHead, IsSavedBank, IsSavedEntry, IsSavedRegion, lines_in, slots_in}
-use Rattle.pcm_image.specs.Standing.{rotation_of, table_of, no_region}
-use Rattle.image_laws.specs.Saving.{head_of, home_number, saved_bank, saved_entry, saved_region}
-use Rattle.image_laws.proofs.Factors.{first-test, second-test, third-test}
+use Rattle.module_shape.specs.{Addresses.{module_of, bank_shape}, Limits.{IsShape, is_power_between, total_of}, declared.raw.RawShape.RawShape}
+use Rattle.end_laws.specs.{EndLaws.IsEndOf, Ends.BankEnd}
+use Rattle.pcm_image.specs.{Saved.{Head, IsHead, IsSavedBank, IsSavedEntry, IsSavedRegion, lines_in, slots_in}, Standing.{rotation_of, table_of, no_region}}
+use Rattle.image_laws.{specs.Saving.{head_of, home_number, saved_bank, saved_entry, saved_region}, proofs.Factors.{first-test, second-test, third-test}}
 
 within : (least most n : ℕ) → is_power_of_two n ≡ true → least ≤ n → n ≤ most → is_power_between least most n ≡ true
 within least most n power low high =

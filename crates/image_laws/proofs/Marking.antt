@@ -1,52 +1,24 @@
 -- The mark of a bank and what is left to do in it, by its rows and by what is saved of it.
 use Rattle.std.proofs.Common.{◌≡◌, ℕ, zero, suc, ◌<◌, ◌==◌, ◌&&◌, ◌||◌, not, ◌⊎◌, inl, inr, Bool, true, false, List, [], ◌∷◌, ◌++◌, map, filter, length, get_or, Option, Some, None, refl, sym, ap, ◌∙◌, subst, arith, cond, eqb-true, append_assoc}
-use Rattle.std.specs.Prelude.{IfSome}
-use Rattle.std.specs.List.{list_any}
-use Rattle.std.proofs.lemmas.Bool.{eq-eqb, or_cases, or_left, or_right}
-use Rattle.std.proofs.lemmas.List.{length-map}
-use Rattle.std.proofs.Math.ListN.{get_or-map}
+use Rattle.std.{specs.List.list_any, specs.Prelude.IfSome, proofs.Math.ListN.get_or-map, proofs.lemmas.Bool.{eq-eqb, or_cases, or_left, or_right}, proofs.lemmas.List.length-map}
 use Rattle.result_rows.specs.declared.Outcome.{Outcome}
 use Rattle.result_rows.specs.declared.Outcome.TheVariants as out
-use Rattle.masked_bytes.specs.declared.entry.Entry.{Entry}
-use Rattle.masked_bytes.specs.Entries.{has_row}
+use Rattle.masked_bytes.specs.{Entries.has_row, declared.entry.Entry.Entry}
 use Rattle.cell_rows.specs.Device.{ArrayState}
-use Rattle.row_rules.specs.declared.Row.{Row}
-use Rattle.row_rules.specs.Answers.{accepts, is_merged, is_queued, is_worn}
-use Rattle.row_rules.specs.Rows.{asks_write}
-use Rattle.row_rules.specs.Wearing.{worn_row}
-use Rattle.bank_shape.specs.declared.BankShape.{BankShape}
-use Rattle.bank_shape.specs.Shape.{controls_from, controls_of, control_line}
-use Rattle.power_recovery.specs.Kept.{KeptState, region_at, no_region as no_kept}
-use Rattle.power_recovery.proofs.Bundle.{due_region-Some, due_region-is}
-use Rattle.bank_model.specs.Events.{Write, Read, Serve, Begin, Iterate, Cut}
-use Rattle.bank_model.specs.History.{queue, due_after, has_exhausted}
-use Rattle.bank_model.specs.Changes.{change_after, halted_after}
-use Rattle.bank_model.specs.Running.{is_over, over_by}
-use Rattle.bank_model.specs.Sensing.{most_steps}
-use Rattle.bank_shape.specs.declared.pace.Pace.{Pace}
-use Rattle.bank_model.specs.Timing.{Happens, Core, Regs, TimedEvent, core}
-use Rattle.bank_model.specs.Lawful.{Lawful, IsIdle, MayCome}
-use Rattle.bank_laws.specs.Resting.{EndsIn}
-use Rattle.bank_laws.specs.Laws.{IsSized, LeavesArray, is_worn_at}
-use Rattle.bank_laws.specs.Outcomes.{outcome_of, ended, row_with, rows_from, table_of}
-use Rattle.bank_laws.specs.Places.{worn_among}
-use Rattle.bank_laws.proofs.Settling.{opens, above_all}
-use Rattle.bank_laws.proofs.Ending.{Onwards, write_outcome}
-use Rattle.bank_laws.proofs.Serves.{may_at, onwards_at}
+use Rattle.row_rules.specs.{Answers.{accepts, is_merged, is_queued, is_worn}, Rows.asks_write, Wearing.worn_row, declared.Row.Row}
+use Rattle.bank_shape.specs.{Shape.{controls_from, controls_of, control_line}, declared.BankShape.BankShape, declared.pace.Pace.Pace}
+use Rattle.power_recovery.{specs.Kept.{KeptState, region_at, no_region as no_kept}, proofs.Bundle.{due_region-Some, due_region-is}}
+use Rattle.bank_model.specs.{Changes.{change_after, halted_after}, Events.{Write, Read, Serve, Begin, Iterate, Cut}, History.{queue, due_after, has_exhausted}}
+use Rattle.bank_model.specs.{Lawful.{Lawful, IsIdle, MayCome}, Running.{is_over, over_by}, Sensing.most_steps, Timing.{Happens, Core, Regs, TimedEvent, core}}
+use Rattle.bank_laws.specs.{Laws.{IsSized, LeavesArray, is_worn_at}, Outcomes.{outcome_of, ended, row_with, rows_from, table_of}, Places.worn_among, Resting.EndsIn}
+use Rattle.bank_laws.proofs.{Ending.{Onwards, write_outcome}, Serves.{may_at, onwards_at}, Settling.{opens, above_all}, Waiting.may_all}
 use Rattle.bank_laws.proofs.Wears.{worn_outcome, refused-exhausted, exhausted_later}
-use Rattle.bank_laws.proofs.Waiting.{may_all}
-use Rattle.queue_laws.specs.EntryLaws.{line_written, given_by, is_head_begun}
-use Rattle.queue_laws.proofs.Owned.{AreOwn, queue-own}
+use Rattle.queue_laws.{specs.EntryLaws.{line_written, given_by, is_head_begun}, proofs.Owned.{AreOwn, queue-own}}
 use Rattle.place_laws.proofs.WornOut.{idle-queued, idle-due, worn_out, worn_control, change-within}
-use Rattle.bank_invariant.specs.State.{BankState}
-use Rattle.bank_invariant.specs.Holds.{Holds}
-use Rattle.bank_invariant.specs.Bridge.{AgreesWith}
-use Rattle.pcm_image.specs.Saved.{SavedBank}
-use Rattle.pcm_image.specs.Standing.{no_region}
-use Rattle.image_laws.specs.Queued.{QueuedWrite, coming, merging, queued_after, by_order, queued_writes}
-use Rattle.image_laws.specs.Saving.{saved_bank, saved_entry, saved_region}
-use Rattle.image_laws.specs.SavedRuns.{SavesMarkTo, SavesQueue, has_work, is_due, queued_row}
-use Rattle.image_laws.proofs.Begun.{begun-again, keeps-begun}
+use Rattle.bank_invariant.specs.{Bridge.AgreesWith, Holds.Holds, State.BankState}
+use Rattle.pcm_image.specs.{Saved.SavedBank, Standing.no_region}
+use Rattle.image_laws.specs.{Queued.{QueuedWrite, coming, merging, queued_after, by_order, queued_writes}, SavedRuns.{SavesMarkTo, SavesQueue, has_work, is_due, queued_row}}
+use Rattle.image_laws.{specs.Saving.{saved_bank, saved_entry, saved_region}, proofs.Begun.{begun-again, keeps-begun}}
 use Rattle.image_laws.proofs.Queueing.{Alike, first-again, queue-alike, queue-by_rows}
 
 -- Lists

@@ -1,9 +1,7 @@
 -- The accepted writes of a history by their places, each with the number of its row; those that stand are the queue's, in its order.
 use Rattle.std.proofs.Common.{◌≡◌, ℕ, ◌==◌, ◌&&◌, ◌⊎◌, inl, inr, Bool, true, false, List, [], ◌∷◌, ◌++◌, Option, Some, None, refl, sym, ap, ◌∙◌, subst, cond, eqb, eqb-true}
-use Rattle.masked_bytes.proofs.Truth.{and_first, or_rest}
 use Rattle.std.proofs.lemmas.Bool.{eq-eqb}
-use Rattle.masked_bytes.specs.declared.entry.Entry.{Entry}
-use Rattle.masked_bytes.specs.Entries.{has_row, laid_on, merged, completed_by}
+use Rattle.masked_bytes.{specs.Entries.{has_row, laid_on, merged, completed_by}, specs.declared.entry.Entry.Entry, proofs.Truth.{and_first, or_rest}}
 use Rattle.row_rules.specs.Answers.{is_merged}
 use Rattle.bank_model.specs.History.{begun}
 use Rattle.bank_laws.proofs.Lines.{Stands}

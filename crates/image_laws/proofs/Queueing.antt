@@ -1,47 +1,27 @@
 -- The queue that a lawful history leaves holds the writes that are queued by its rows, in their order.
 use Rattle.std.proofs.Common.{◌≡◌, ℕ, ◌==◌, ◌&&◌, ◌||◌, ◌⊎◌, inl, inr, Bool, true, false, List, [], ◌∷◌, ◌++◌, map, filter, Some, drop, refl, sym, ap, ◌∙◌, subst, cond, eqb, eqb-true, append_assoc}
-use Rattle.std.specs.List.{list_any}
-use Rattle.std.proofs.lemmas.Bool.{eq-eqb, and_right, or_right}
+use Rattle.std.{specs.List.list_any, proofs.lemmas.Bool.{eq-eqb, and_right, or_right}}
 use Rattle.result_rows.specs.declared.Outcome.{Outcome}
 use Rattle.result_rows.specs.declared.Outcome.TheVariants as out
-use Rattle.masked_bytes.specs.declared.entry.Entry.{Entry}
-use Rattle.masked_bytes.specs.Entries.{Layer, has_row, RowsApart, stacked}
-use Rattle.masked_bytes.proofs.Layering.{all_given-gives_all}
-use Rattle.masked_bytes.proofs.Truth.{differ_sym}
-use Rattle.row_rules.specs.declared.Asks.TheVariants.{Writes}
-use Rattle.row_rules.specs.declared.Row.{Row}
-use Rattle.row_rules.specs.Answers.{accepts, is_merged, is_queued}
+use Rattle.masked_bytes.{specs.Entries.{Layer, has_row, RowsApart, stacked}, specs.declared.entry.Entry.Entry, proofs.Layering.all_given-gives_all, proofs.Truth.differ_sym}
+use Rattle.row_rules.specs.{Answers.{accepts, is_merged, is_queued}, declared.Asks.TheVariants.Writes, declared.Row.Row}
 use Rattle.row_rules.specs.Rows as rows
-use Rattle.bank_shape.specs.declared.BankShape.{BankShape}
-use Rattle.bank_shape.specs.declared.answer.WriteAnswer.{WriteAnswer}
+use Rattle.bank_shape.specs.{declared.BankShape.BankShape, declared.answer.WriteAnswer.WriteAnswer, declared.pace.Pace.Pace}
 use Rattle.bank_shape.specs.declared.answer.WriteAnswer.TheVariants as wrote
 use Rattle.bank_shape.specs.declared.answer.Step.TheVariants as did
-use Rattle.bank_model.specs.Events.{BankEvent, Write, Read, Serve, Begin, Iterate, Cut, RowsBelow, newest, up_to}
-use Rattle.bank_model.specs.History.{begun, queue, due_after}
-use Rattle.bank_shape.specs.declared.pace.Pace.{Pace}
-use Rattle.bank_model.specs.Timing.{Happens, Core, Regs, TimedEvent, core, core_of}
-use Rattle.bank_model.specs.Lawful.{Lawful, MayCome}
-use Rattle.bank_model.specs.Sensing.{most_steps}
-use Rattle.bank_laws.specs.Outcomes.{outcome_of, ended, row_with, rows_from, table_of}
-use Rattle.bank_laws.specs.Pairs.{has_line}
-use Rattle.bank_laws.specs.Settling.{AreOpen}
-use Rattle.bank_laws.proofs.Answering.{IsHead, stored-head}
-use Rattle.bank_laws.proofs.Settling.{opens, above_all, lawful_before, stays, step_stays}
-use Rattle.bank_laws.proofs.Standing.{stand_apart}
+use Rattle.bank_model.specs.{Events.{BankEvent, Write, Read, Serve, Begin, Iterate, Cut, RowsBelow, newest, up_to}, History.{begun, queue, due_after}, Lawful.{Lawful, MayCome}}
+use Rattle.bank_model.specs.{Sensing.most_steps, Timing.{Happens, Core, Regs, TimedEvent, core, core_of}}
+use Rattle.bank_laws.{specs.Outcomes.{outcome_of, ended, row_with, rows_from, table_of}, specs.Pairs.has_line, specs.Settling.AreOpen, proofs.Answering.{IsHead, stored-head}}
 use Rattle.bank_laws.proofs.Ending.{Onwards, own_row, accepting, outcome-accepts, write_outcome}
-use Rattle.bank_laws.proofs.Serves.{newest_same, onwards_at}
-use Rattle.bank_laws.proofs.Lines.{Stands, Covered, stands-row, stands-one, covered-stands, covered-new, covered-merged, merges-stands, merges-covers}
-use Rattle.bank_laws.proofs.Merging.{StoredBy}
-use Rattle.bank_laws.proofs.Pending.{covered_on}
+use Rattle.bank_laws.proofs.{Lines.{Stands, Covered, stands-row, stands-one, covered-stands, covered-new, covered-merged, merges-stands, merges-covers}, Merging.StoredBy}
+use Rattle.bank_laws.proofs.{Pending.covered_on, Serves.{newest_same, onwards_at}, Settling.{opens, above_all, lawful_before, stays, step_stays}, Standing.stand_apart}
 use Rattle.bank_laws.proofs.Waiting.{may_all}
-use Rattle.queue_laws.specs.EntryLaws.{line_written, given_by, is_head_begun}
-use Rattle.queue_laws.proofs.Owned.{IsOwn, AreOwn, EachOwn, queue-own}
+use Rattle.queue_laws.{specs.EntryLaws.{line_written, given_by, is_head_begun}, proofs.Owned.{IsOwn, AreOwn, EachOwn, queue-own}}
 use Rattle.pcm_image.specs.declared.EntryImage.{EntryImage}
-use Rattle.image_laws.specs.Queued.{QueuedWrite, first_again, coming, queued_after, by_order, queued_writes, entry_by, entries_by}
-use Rattle.image_laws.specs.Saving.{saved_entry}
-use Rattle.image_laws.proofs.Begun.{Again}
+use Rattle.image_laws.{specs.Queued.{QueuedWrite, first_again, coming, queued_after, by_order, queued_writes, entry_by, entries_by}, specs.Saving.saved_entry, proofs.Begun.Again}
 use Rattle.image_laws.proofs.Heads.{above, written-below, HeadWhole, head-whole}
-use Rattle.image_laws.proofs.Placing.{Numbered, fits, merging_as, put, writes, writes-put, Each, each-map, each-both, Match, match-stands, match-stays, match-accepted, match-drop, match-begun, match-merged, each-accepted, each-merged}
+use Rattle.image_laws.proofs.Placing.{Numbered, fits, merging_as, put, writes, writes-put, Each, each-map, each-both, Match, match-stands, match-stays, match-accepted, match-drop}
+use Rattle.image_laws.proofs.Placing.{match-begun, match-merged, each-accepted, each-merged}
 
 module _ {n m : ℕ} (shape : BankShape) (all : List (TimedEvent n m)) where
   abbrev row_of : ℕ → ℕ → ℕ → List ℕ → List Bool → Row n

@@ -1,17 +1,11 @@
 -- The image of a module within the limits is short.
 use Rattle.std.proofs.Common.{◌≡◌, ℕ, ◌+◌, ◌*◌, ◌/◌, ◌≤◌, ◌<◌, ◌==◌, Bool, true, false, cond, List, [], ◌∷◌, ◌++◌, length, refl, ap, arith, length-append}
-use Rattle.std.specs.List.{flat_map, AllByRecursion}
-use Rattle.std.proofs.lemmas.List.Concat.{flat_map-cons}
-use Rattle.std.proofs.lemmas.Nat.{mul-le}
-use Rattle.std.proofs.Math.Nat.{mul_assoc, mul-add}
+use Rattle.std.{specs.List.{flat_map, AllByRecursion}, proofs.Math.Nat.{mul_assoc, mul-add}, proofs.lemmas.List.Concat.flat_map-cons, proofs.lemmas.Nat.mul-le}
 use Rattle.ecp_line.proofs.Bytes.{length-bytes_from}
-use Rattle.pcm_image.specs.declared.RegionImage.{RegionImage}
-use Rattle.pcm_image.specs.declared.EntryImage.{EntryImage}
 use Rattle.pcm_image.specs.Saved.{Head, IsHead, IsSavedBank, IsSavedEntry, IsSavedRegion, IsSavedRow, SavedBank, array_lines_in, controls_in, slots_in}
-use Rattle.pcm_image.specs.Spelling.{bank_bytes, cells_bytes, entry_bytes, head_bytes, image_bytes, packed, region_bytes, u16, u32, u8}
+use Rattle.pcm_image.specs.{Spelling.{bank_bytes, cells_bytes, entry_bytes, head_bytes, image_bytes, packed, region_bytes, u16, u32, u8}, declared.EntryImage.EntryImage}
+use Rattle.pcm_image.{specs.declared.RegionImage.RegionImage, proofs.Heads.{HeadFits, head-fits}, proofs.Whole.all_to}
 use Rattle.cell_rows.specs.declared.row.Cells.{Cells}
-use Rattle.pcm_image.proofs.Heads.{HeadFits, head-fits}
-use Rattle.pcm_image.proofs.Whole.{all_to}
 use Rattle.image_laws.specs.Sizes.{ShortImageLaw}
 
 -- texts of few bytes each

@@ -1,36 +1,18 @@
 -- Each line's newest bytes, by what is saved.
 use Rattle.std.proofs.Common.{◌≡◌, ℕ, ◌+◌, ◌*◌, ◌/◌, ◌%◌, ◌<◌, ◌==◌, List, [], ◌∷◌, get_or, refl, sym, ap, ◌∙◌, arith}
-use Rattle.std.specs.Prelude.{map}
-use Rattle.std.proofs.lemmas.List.FromFn.{get_or-map-range_with_len}
-use Rattle.std.proofs.Math.ListN.{get_or-map}
-use Rattle.masked_bytes.specs.Masked.{laid}
-use Rattle.masked_bytes.specs.Entries.{Layer, layer_of, layer_by, stacked}
-use Rattle.masked_bytes.specs.declared.entry.Entry.{Entry}
-use Rattle.start_gap.specs.Rotation.{place_by}
-use Rattle.start_gap.specs.Slots.{slot_at}
-use Rattle.spare_pool.specs.Table.{line_from}
-use Rattle.cell_rows.specs.Rows.{zero_row}
-use Rattle.cell_rows.specs.Device.{ArrayState}
+use Rattle.std.{specs.Prelude.{map, if◌then◌else◌}, proofs.Math.ListN.get_or-map, proofs.lemmas.List.FromFn.get_or-map-range_with_len, proofs.lemmas.Nat.div_below}
+use Rattle.masked_bytes.specs.{Entries.{Layer, layer_of, layer_by, stacked}, Masked.laid, declared.entry.Entry.Entry}
+use Rattle.start_gap.specs.{Rotation.{place_by, IsRotation}, Slots.slot_at}
+use Rattle.spare_pool.{specs.Table.{line_from, line_by, used_by}, proofs.Lines.line_by-within}
+use Rattle.cell_rows.specs.{Device.ArrayState, Rows.zero_row}
 use Rattle.ecp_line.specs.Reading.{decode}
-use Rattle.bank_shape.specs.declared.BankShape.{BankShape}
-use Rattle.power_recovery.specs.Kept.{KeptState, IsKept, region_at, slot_of as kept_slot, stands_at as kept_at, no_region as no_kept}
-use Rattle.power_recovery.proofs.Placing.{place_by-within}
-use Rattle.module_shape.specs.declared.raw.RawShape.{RawShape}
-use Rattle.module_shape.specs.Addresses.{module_of, bank_shape, array_lines_of}
-use Rattle.bank_invariant.specs.Holds.{stands_for as kept_for}
-use Rattle.pcm_image.specs.Saved.{array_lines_in}
-use Rattle.pcm_image.specs.Standing.{entry_of, own_bytes, slot_of, stands_at}
-use Rattle.image_laws.specs.Saving.{head_of, home_number, saved_bank, saved_cells, saved_entry, saved_of, saved_region}
-use Rattle.std.specs.Prelude.{if◌then◌else◌}
-use Rattle.std.proofs.lemmas.Nat.{div_below}
-use Rattle.start_gap.specs.Rotation.{IsRotation}
-use Rattle.spare_pool.specs.Table.{line_by, used_by}
-use Rattle.spare_pool.proofs.Lines.{line_by-within}
-use Rattle.bank_shape.specs.declared.Home.{Home}
+use Rattle.bank_shape.specs.{Shape.{if_array, slots_of}, declared.BankShape.BankShape, declared.Home.Home}
 use Rattle.bank_shape.specs.declared.Home.TheVariants as home
-use Rattle.bank_shape.specs.Shape.{if_array, slots_of}
-use Rattle.module_shape.specs.Limits.{IsShape}
-use Rattle.pcm_image.proofs.Heads.{row_below, slot_below}
+use Rattle.power_recovery.{specs.Kept.{KeptState, IsKept, region_at, slot_of as kept_slot, stands_at as kept_at, no_region as no_kept}, proofs.Placing.place_by-within}
+use Rattle.module_shape.specs.{Addresses.{module_of, bank_shape, array_lines_of}, Limits.IsShape, declared.raw.RawShape.RawShape}
+use Rattle.bank_invariant.specs.Holds.{stands_for as kept_for}
+use Rattle.pcm_image.{specs.Saved.array_lines_in, specs.Standing.{entry_of, own_bytes, slot_of, stands_at}, proofs.Heads.{row_below, slot_below}}
+use Rattle.image_laws.specs.Saving.{head_of, home_number, saved_bank, saved_cells, saved_entry, saved_of, saved_region}
 
 -- entries without their rows give the same
 layers-same : {n : ℕ} (es : List (Entry n)) (line : ℕ) → layer_of (map entry_of (map saved_entry es)) line ≡ layer_of es line

@@ -1,29 +1,17 @@
 -- A right run stays right where its array is only sensed.
 use Rattle.std.proofs.Common.{◌≡◌, ℕ, ◌+◌, ◌<◌, Bool, List, ◌++◌, Some, refl, sym, ap, subst, ◌∙◌}
-use Rattle.std.specs.List.{range_with_len}
-use Rattle.std.specs.Prelude.{All, nat_le, nat_lt, ◌&&◌}
-use Rattle.std.proofs.Math.Path.{fun_ext}
+use Rattle.std.{specs.List.range_with_len, specs.Prelude.{All, nat_le, nat_lt, ◌&&◌}, proofs.Math.Path.fun_ext}
 use Rattle.std.proofs.lemmas.List.Elements.{All-filter, All-from_get_or, All-map, filter-append}
-use Rattle.cell_rows.specs.Device.{ArrayState, sense_of}
-use Rattle.cell_rows.specs.declared.array.Sense.{Sense}
+use Rattle.cell_rows.specs.{Device.{ArrayState, sense_of}, declared.array.Sense.Sense}
 use Rattle.row_rules.specs.declared.Row.{Row}
-use Rattle.bank_shape.specs.declared.BankShape.{BankShape}
-use Rattle.bank_shape.specs.Shape.{lines_in}
-use Rattle.bank_model.specs.Adding.{senses_of}
-use Rattle.bank_shape.specs.declared.pace.Pace.{Pace}
-use Rattle.bank_model.specs.Timing.{TimedEvent}
-use Rattle.bank_model.specs.Lawful.{Lawful}
-use Rattle.bank_laws.specs.Laws.{KeepsLogTo, LeavesArray, log_of}
-use Rattle.bank_laws.specs.Outcomes.{table_of}
-use Rattle.bank_laws.specs.Whole.{WholeLogLaw}
+use Rattle.bank_shape.specs.{Shape.lines_in, declared.BankShape.BankShape, declared.pace.Pace.Pace}
+use Rattle.bank_model.specs.{Adding.senses_of, Lawful.Lawful, Timing.TimedEvent}
+use Rattle.bank_laws.specs.{Laws.{KeepsLogTo, LeavesArray, log_of}, Outcomes.table_of, Whole.WholeLogLaw}
 use Rattle.clock_laws.specs.Ending.{LeavingLaw}
-use Rattle.module_shape.specs.declared.raw.RawShape.{RawShape}
-use Rattle.module_shape.specs.Limits.{IsShape}
-use Rattle.module_shape.specs.Addresses.{module_of, bank_shape}
+use Rattle.module_shape.specs.{Addresses.{module_of, bank_shape}, Limits.IsShape, declared.raw.RawShape.RawShape}
 use Rattle.module_laws.specs.Serves.{BankTableLaw}
 use Rattle.end_laws.specs.Ends.{BankEnd}
-use Rattle.run_laws.proofs.Finished.{sized}
-use Rattle.run_laws.specs.Runs.{RunsRightTo, bank_of_line, line_in_bank, pacing_in, rules_in, table_in}
+use Rattle.run_laws.{specs.Runs.{RunsRightTo, bank_of_line, line_in_bank, pacing_in, rules_in, table_in}, proofs.Finished.sized}
 use Rattle.pcm_image.specs.Saved.{Saved}
 use Rattle.image_laws.specs.SavedRuns.{IsLeftTo, SensedSince, StaysRightToLaw, first_senses}
 

@@ -1,36 +1,21 @@
 -- What the image of a finished run says.
-use Rattle.std.specs.Prelude.{◌≡◌, ◌≢◌, ◌⊎◌, ℕ, ◌+◌, ◌*◌, ◌^◌, ◌<◌, ◌==◌, ◌&&◌, ◌||◌, not, Bool, true, false, IsTrue, IsFalse, List, ◌++◌, length, Some, map, slice_index_or}
 use Rattle.std.specs.List.{list_any, range_with_len}
+use Rattle.std.specs.Prelude.{◌≡◌, ◌≢◌, ◌⊎◌, ℕ, ◌+◌, ◌*◌, ◌^◌, ◌<◌, ◌==◌, ◌&&◌, ◌||◌, not, Bool, true, false, IsTrue, IsFalse, List, ◌++◌, length, Some, map, slice_index_or}
 use Rattle.start_gap.specs.Rotation.{StandsFor}
 use Rattle.spare_pool.specs.Table.{line_by}
-use Rattle.cell_rows.specs.Rows.{zero_row}
-use Rattle.cell_rows.specs.Device.{ArrayState, sense_of}
-use Rattle.cell_rows.specs.declared.array.Sense.{Sense}
+use Rattle.cell_rows.specs.{Device.{ArrayState, sense_of}, Rows.zero_row, declared.array.Sense.Sense}
 use Rattle.result_rows.specs.declared.Outcome.{Outcome}
-use Rattle.row_rules.specs.declared.Row.{Row}
-use Rattle.row_rules.specs.Answers.{is_stored, is_queued}
-use Rattle.row_rules.specs.Rows.{asks_write, newest}
-use Rattle.row_rules.specs.Wearing.{worn_row}
-use Rattle.bank_shape.specs.declared.BankShape.{BankShape}
-use Rattle.bank_shape.specs.Shape.{slots_of, controls_from, controls_of}
-use Rattle.bank_laws.specs.Laws.{is_worn_at}
-use Rattle.bank_laws.specs.Places.{region_stores, worn_among, is_worn_out}
+use Rattle.row_rules.specs.{Answers.{is_stored, is_queued}, Rows.{asks_write, newest}, Wearing.worn_row, declared.Row.Row}
+use Rattle.bank_shape.specs.{Shape.{slots_of, controls_from, controls_of}, declared.BankShape.BankShape}
+use Rattle.bank_laws.specs.{Laws.is_worn_at, Places.{region_stores, worn_among, is_worn_out}}
 use Rattle.bank_model.specs.Timing.{TimedEvent}
-use Rattle.module_shape.specs.declared.raw.RawShape.{RawShape}
-use Rattle.module_shape.specs.Limits.{IsShape, total_of}
-use Rattle.module_shape.specs.Addresses.{module_of, bank_shape}
+use Rattle.module_shape.specs.{Addresses.{module_of, bank_shape}, Limits.{IsShape, total_of}, declared.raw.RawShape.RawShape}
 use Rattle.module_laws.specs.Asking.{Asked, row_with}
 use Rattle.clock_laws.specs.State.{ClockState}
-use Rattle.end_laws.specs.Ends.{BankEnd}
-use Rattle.end_laws.specs.EndLaws.{IsEndOf}
-use Rattle.end_laws.specs.Roles.{used_spares}
-use Rattle.run_laws.specs.Runs.{RunsRightTo, table_in}
-use Rattle.run_laws.specs.Finishing.{IsFinishedTo}
-use Rattle.pcm_image.specs.declared.RegionImage.{RegionImage}
-use Rattle.pcm_image.specs.Saved.{Saved, SavedBank, Head, IsSaved, IsSavedRow}
-use Rattle.pcm_image.specs.Standing.{rotation_of, table_of, no_bank, no_region, stands_for}
-use Rattle.image_laws.specs.Saving.{head_of, saved_of}
-use Rattle.image_laws.specs.Queued.{entries_by, first_again, queued_writes}
+use Rattle.end_laws.specs.{EndLaws.IsEndOf, Ends.BankEnd, Roles.used_spares}
+use Rattle.run_laws.specs.{Finishing.IsFinishedTo, Runs.{RunsRightTo, table_in}}
+use Rattle.pcm_image.specs.{Saved.{Saved, SavedBank, Head, IsSaved, IsSavedRow}, Standing.{rotation_of, table_of, no_bank, no_region, stands_for}, declared.RegionImage.RegionImage}
+use Rattle.image_laws.specs.{Queued.{entries_by, first_again, queued_writes}, Saving.{head_of, saved_of}}
 
 -- what the senses of an array's first lines show, so many, each once and in their order, at tick 0
 abbrev pub first_senses : {n m : ℕ} → ArrayState n m → ℕ → List (Sense n m)

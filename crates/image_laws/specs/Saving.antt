@@ -1,17 +1,13 @@
 -- The image of a module: what its banks keep, and what the cells of its array hold.
-use Rattle.std.specs.Prelude.{ℕ, if◌then◌else◌, List, map, take}
-use Rattle.std.specs.List.{range_with_len}
+use Rattle.std.specs.{List.range_with_len, Prelude.{ℕ, if◌then◌else◌, List, map, take}}
 use Rattle.masked_bytes.specs.declared.entry.Entry.{Entry}
 use Rattle.region_regs.specs.Region.{RegionState}
-use Rattle.cell_rows.specs.Device.{ArrayState}
-use Rattle.cell_rows.specs.declared.row.Cells.{Cells}
+use Rattle.cell_rows.specs.{Device.ArrayState, declared.row.Cells.Cells}
 use Rattle.bank_shape.specs.declared.Home.{Home}
 use Rattle.bank_shape.specs.declared.Home.TheVariants as home
 use Rattle.power_recovery.specs.Kept.{KeptState}
 use Rattle.module_shape.specs.declared.raw.RawShape.{RawShape}
-use Rattle.pcm_image.specs.declared.RegionImage.{RegionImage}
-use Rattle.pcm_image.specs.declared.EntryImage.{EntryImage}
-use Rattle.pcm_image.specs.Saved.{Saved, SavedBank, Head}
+use Rattle.pcm_image.specs.{Saved.{Saved, SavedBank, Head}, declared.EntryImage.EntryImage, declared.RegionImage.RegionImage}
 
 -- the number by which an image says where the registers are kept
 abbrev pub home_number : Home → ℕ

@@ -1,7 +1,6 @@
 -- How long the image of a module is.
 use Rattle.std.specs.Prelude.{ℕ, ◌+◌, ◌*◌, ◌≤◌, length}
-use Rattle.pcm_image.specs.Saved.{IsSaved, Saved}
-use Rattle.pcm_image.specs.Spelling.{image_bytes}
+use Rattle.pcm_image.specs.{Saved.{IsSaved, Saved}, Spelling.image_bytes}
 
 -- the most bytes of an image, 14,905,192: 24 of a module's numbers, 42,085 of each of 16 banks, and 144 of each of 98,832 array lines
 abbrev pub most_image : ℕ

@@ -1,14 +1,9 @@
 -- How printed pieces follow one another.
 use Rattle.std.proofs.Common.{◌≡◌, ℕ, ◌+◌, ◌<◌, ◌≤◌, Bool, List, [], ◌∷◌, ◌++◌, length, get_or, take, drop, Option, refl, sym, ap, subst, ◌∙◌, append_assoc}
-use Rattle.std.specs.Prelude.{if◌then◌else◌, map}
-use Rattle.std.specs.List.{flat_map}
-use Rattle.std.proofs.lemmas.Grind.{flat_map-append}
+use Rattle.std.{specs.List.flat_map, specs.Prelude.{if◌then◌else◌, map}, proofs.lemmas.Grind.flat_map-append}
 use Rattle.std.proofs.lemmas.List.{append-nil, take_all, take_more, take-append-drop, length-map}
-use Rattle.pcm_io.specs.Giving.{AppendsPrefix}
-use Rattle.pcm_io.specs.Reserved.{Reserved, appended, reserved}
-use Rattle.pcm_io.proofs.ByteLemmas.{AppendsPrefix-longer}
-use Rattle.run_text.specs.Gathering.{Printed}
-use Rattle.run_text.proofs.Gathered.{printed-first, printed-more, printed-same}
+use Rattle.pcm_io.{specs.Giving.AppendsPrefix, specs.Reserved.{Reserved, appended, reserved}, proofs.ByteLemmas.AppendsPrefix-longer}
+use Rattle.run_text.{specs.Gathering.Printed, proofs.Gathered.{printed-first, printed-more, printed-same}}
 use Rattle.spare_pool.specs.Table.{Table}
 use Rattle.power_recovery.specs.Kept.{KeptState}
 use Rattle.pcm_image.specs.Spelling.{bank_bytes, entry_bytes, region_bytes, u8, u16, u32}

@@ -1,20 +1,11 @@
 -- An array that is sensed line by line.
 use Rattle.std.proofs.Common.{◌≡◌, ℕ, ◌+◌, ◌≤◌, inl, inr, arith, List, Option, take, ◌∷◌, [], ◌++◌, refl, sym, ap, subst, ◌∙◌, append_assoc}
-use Rattle.std.proofs.lemmas.Bool.{cases_eq}
-use Rattle.std.proofs.lemmas.List.{append-nil}
-use Rattle.std.proofs.lemmas.List.FromFn.{map-range_with_len_more, take-map-range_with_len}
-use Rattle.std.specs.List.{flat_map}
+use Rattle.std.{specs.List.flat_map, proofs.lemmas.Bool.cases_eq, proofs.lemmas.List.append-nil, proofs.lemmas.List.FromFn.{map-range_with_len_more, take-map-range_with_len}}
 use Rattle.pcm_io.specs.Reserved.{Reserved}
-use Rattle.cell_rows.specs.Device.{ArrayState, Senses, sense_of}
-use Rattle.cell_rows.specs.declared.array.Sense.{Sense}
-use Rattle.cell_rows.specs.declared.row.Cells.{Cells}
-use Rattle.pcm_image.specs.Saved.{IsSavedRow}
-use Rattle.pcm_image.specs.Spelling.{cells_bytes}
-use Rattle.image_laws.specs.Saving.{saved_cells}
-use Rattle.image_laws.specs.SavedRuns.{AreRowsTo, SensedSince, first_senses}
-use Rattle.image_text.specs.Printing.{PrintsPart}
-use Rattle.image_text.specs.Sensing.{PrintsRows, SensesRows, SensesSome}
-use Rattle.image_text.proofs.Prints.{part-all, part-same}
+use Rattle.cell_rows.specs.{Device.{ArrayState, Senses, sense_of}, declared.array.Sense.Sense, declared.row.Cells.Cells}
+use Rattle.pcm_image.specs.{Saved.IsSavedRow, Spelling.cells_bytes}
+use Rattle.image_laws.specs.{SavedRuns.{AreRowsTo, SensedSince, first_senses}, Saving.saved_cells}
+use Rattle.image_text.{specs.Printing.PrintsPart, specs.Sensing.{PrintsRows, SensesRows, SensesSome}, proofs.Prints.{part-all, part-same}}
 
 pub sensed-none : {n m : ℕ} (array : ArrayState n m) → SensedSince 0 array array
 sensed-none array = record {

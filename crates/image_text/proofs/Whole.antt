@@ -1,7 +1,6 @@
 -- The pieces of an image are the image.
 use Rattle.std.proofs.Common.{◌≡◌, ℕ, ◌≤◌, ◌++◌, sym, ap, ◌∙◌}
-use Rattle.std.proofs.lemmas.List.FromFn.{take-map-range_with_len}
-use Rattle.std.specs.List.{flat_map}
+use Rattle.std.{specs.List.flat_map, proofs.lemmas.List.FromFn.take-map-range_with_len}
 use Rattle.cell_rows.specs.Device.{ArrayState}
 use Rattle.power_recovery.specs.Kept.{KeptState}
 use Rattle.module_shape.specs.declared.raw.RawShape.{RawShape}

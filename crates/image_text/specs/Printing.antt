@@ -1,7 +1,6 @@
 -- What a call that prints does to what was printed before it.
 use Rattle.std.specs.Prelude.{ℕ, List, ◌++◌, Option}
-use Rattle.pcm_io.specs.Giving.{AppendsPrefix}
-use Rattle.pcm_io.specs.Reserved.{Reserved}
+use Rattle.pcm_io.specs.{Giving.AppendsPrefix, Reserved.Reserved}
 use Rattle.run_text.specs.Gathering.{Printed}
 
 -- whatever was printed, so many bytes more are printed behind it

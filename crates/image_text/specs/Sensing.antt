@@ -1,11 +1,9 @@
 -- What the printing of an image does to an array, and how much of it is printed where that fails.
-use Rattle.std.specs.Prelude.{ℕ, ◌≤◌, List, Option}
-use Rattle.std.specs.List.{flat_map}
+use Rattle.std.specs.{List.flat_map, Prelude.{ℕ, ◌≤◌, List, Option}}
 use Rattle.pcm_io.specs.Reserved.{Reserved}
 use Rattle.cell_rows.specs.Device.{ArrayState}
 use Rattle.pcm_image.specs.Spelling.{cells_bytes}
-use Rattle.image_laws.specs.Saving.{saved_cells}
-use Rattle.image_laws.specs.SavedRuns.{AreRowsTo, SensedSince}
+use Rattle.image_laws.specs.{SavedRuns.{AreRowsTo, SensedSince}, Saving.saved_cells}
 use Rattle.image_text.specs.Printing.{PrintsPart}
 
 -- the first lines of an array were sensed, so many, each once and in their order, and each has the bytes of a line

@@ -1,23 +1,14 @@
 -- More stores give no smaller bound: so what a trace asks for bounds what becomes of it.
 use Rattle.std.proofs.Common.{◌≡◌, inl, inr, ℕ, ◌+◌, ◌*◌, ◌/◌, ◌%◌, ◌≤◌, ◌==◌, ◌&&◌, not, Bool, List, true, false, length, min, ap, arith, cond}
-use Rattle.std.specs.Prelude.{count_by, nat_lt}
-use Rattle.std.specs.List.{list_any}
-use Rattle.std.proofs.lemmas.Bool.{cases_lt}
+use Rattle.std.{specs.List.list_any, specs.Prelude.{count_by, nat_lt}, proofs.Math.Nat.{div-add-mod, mul-div-le, mul-le-mul_left}, proofs.lemmas.Bool.cases_lt}
 use Rattle.std.proofs.lemmas.Nat.{le-div}
-use Rattle.std.proofs.Math.Nat.{div-add-mod, mul-div-le, mul-le-mul_left}
-use Rattle.row_rules.specs.declared.Row.{Row}
-use Rattle.row_rules.specs.Answers.{is_stored}
-use Rattle.row_rules.specs.Rows.{asks_write, line_of, is_cut}
-use Rattle.bank_shape.specs.declared.BankShape.{BankShape}
-use Rattle.bank_shape.specs.Shape.{slot_moved}
+use Rattle.row_rules.specs.{Answers.is_stored, Rows.{asks_write, line_of, is_cut}, declared.Row.Row}
+use Rattle.bank_shape.specs.{Shape.slot_moved, declared.BankShape.BankShape}
 use Rattle.bank_laws.specs.Places.{region_stores}
-use Rattle.lifetime_laws.specs.Spread.{most_at, most_moves, finding_at}
 use Rattle.lifetime_laws.specs.Lifetime.{other_stores, asked_writes, other_asked, most_hot_works, most_asked_works, most_asked_kept, AskedLaw}
-use Rattle.lifetime_laws.specs.Works.{most_kept}
-use Rattle.lifetime_laws.proofs.Counting.{one-few, passing-within}
-use Rattle.masked_bytes.proofs.Counting.{one_if}
-use Rattle.lifetime_laws.proofs.Ranks.{count-imp}
+use Rattle.lifetime_laws.{specs.Spread.{most_at, most_moves, finding_at}, specs.Works.most_kept, proofs.Counting.{one-few, passing-within}, proofs.Ranks.count-imp}
 use Rattle.lifetime_laws.proofs.Stays.{stay_law, tight_law}
+use Rattle.masked_bytes.proofs.Counting.{one_if}
 
 most_at-more : (shape : BankShape) (a b : ℕ) → 1 ≤ shape.lines → 1 ≤ shape.psi → a ≤ b → most_at shape.lines shape.psi a ≤ most_at shape.lines shape.psi b
 most_at-more shape a b some each le =

@@ -1,46 +1,21 @@
 -- The line writes of a slot's own array line that are broken off: by a cut of the power, or by a read, at most four times each. So the
 -- line writes of the line, by the rows.
 use Rattle.std.proofs.Common.{◌≡◌, ℕ, zero, suc, ◌+◌, ◌-◌, ◌*◌, ◌/◌, ◌<◌, ◌≤◌, ◌==◌, ◌&&◌, not, Bool, true, false, List, ◌∷◌, [], Option, Some, None, refl, ◌∙◌, arith}
-use Rattle.std.specs.Prelude.{count_by, is_some}
-use Rattle.std.proofs.lemmas.Bool.{eqb-true, eq-eqb, both_ways}
-use Rattle.std.proofs.lemmas.Nat.{le-div}
+use Rattle.std.{specs.Prelude.{count_by, is_some}, proofs.lemmas.Bool.{eqb-true, eq-eqb, both_ways}, proofs.lemmas.Nat.le-div}
 use Rattle.start_gap.specs.Rotation.{gap_after}
-use Rattle.row_rules.specs.declared.Row.{Row}
-use Rattle.row_rules.specs.Answers.{is_stored}
-use Rattle.row_rules.specs.Rows.{is_cut}
-use Rattle.row_rules.specs.Ticking.{tries}
-use Rattle.bank_shape.specs.declared.pace.Policy.{Policy}
+use Rattle.row_rules.specs.{Answers.is_stored, Rows.is_cut, Ticking.tries, declared.Row.Row}
+use Rattle.bank_shape.specs.{Pausing.is_cancelling, declared.BankShape.BankShape, declared.pace.Pace.Pace, declared.pace.Policy.Policy}
 use Rattle.bank_shape.specs.declared.pace.Policy.TheVariants.{Pause, Plain, Cancel}
-use Rattle.bank_shape.specs.Pausing.{is_cancelling}
-use Rattle.bank_shape.specs.declared.BankShape.{BankShape}
 use Rattle.bank_shape.specs.declared.answer.Step.TheVariants as did
-use Rattle.bank_model.specs.Events.{BankEvent, Write, Read, Serve, Begin, Iterate, Cut}
-use Rattle.bank_model.specs.History.{in_progress, goes_on, moved_in, stored_in}
-use Rattle.bank_model.specs.After.{target_after}
-use Rattle.bank_model.specs.Changes.{change_after, change_by}
-use Rattle.bank_model.specs.Running.{cancels_after, cancels_with}
-use Rattle.bank_model.specs.Sensing.{most_steps}
-use Rattle.bank_shape.specs.declared.pace.Pace.{Pace}
-use Rattle.bank_model.specs.Timing.{Happens, Core, Regs, TimedEvent, core, core_of}
-use Rattle.bank_model.specs.Lawful.{Lawful, MayCome}
-use Rattle.bank_laws.specs.Outcomes.{table_of}
-use Rattle.bank_laws.specs.Places.{region_stores}
-use Rattle.bank_laws.proofs.Waiting.{may_all}
-use Rattle.place_laws.proofs.Moves.{keeps}
-use Rattle.place_laws.proofs.Storing.{stored-counted, region-stored}
-use Rattle.place_laws.proofs.Tables.{region-all}
-use Rattle.place_laws.proofs.Trying.{cuts_in, cuts_power}
-use Rattle.place_laws.proofs.Pulses.{cuts-counted}
-use Rattle.place_laws.proofs.Cancels.{cancels-kept}
-use Rattle.bank_laws.proofs.Targets.{WorkAfter, spares_work, working, target-same}
-use Rattle.bank_model.specs.Works.{tally, works_on}
-use Rattle.lifetime_laws.specs.Works.{stores_at, most_works, WorksLaw}
-use Rattle.lifetime_laws.proofs.Counting.{one-few, passing-within}
-use Rattle.masked_bytes.proofs.Counting.{one_if}
-use Rattle.lifetime_laws.proofs.Landing.{any, stored_tally, stores-landed}
+use Rattle.bank_model.specs.{After.target_after, Changes.{change_after, change_by}, Events.{BankEvent, Write, Read, Serve, Begin, Iterate, Cut}}
+use Rattle.bank_model.specs.{History.{in_progress, goes_on, moved_in, stored_in}, Lawful.{Lawful, MayCome}, Running.{cancels_after, cancels_with}, Sensing.most_steps}
+use Rattle.bank_model.specs.{Timing.{Happens, Core, Regs, TimedEvent, core, core_of}, Works.{tally, works_on}}
+use Rattle.bank_laws.{specs.Outcomes.table_of, specs.Places.region_stores, proofs.Targets.{WorkAfter, spares_work, working, target-same}, proofs.Waiting.may_all}
+use Rattle.place_laws.proofs.{Cancels.cancels-kept, Moves.keeps, Pulses.cuts-counted, Storing.{stored-counted, region-stored}, Tables.region-all, Trying.{cuts_in, cuts_power}}
+use Rattle.lifetime_laws.{specs.Works.{stores_at, most_works, WorksLaw}, proofs.Counting.{one-few, passing-within}}
+use Rattle.lifetime_laws.proofs.{Ended.{below_one, gave_tally, cut_tally, works-split, moves-into, gives-once, not-over}, Landing.{any, stored_tally, stores-landed}}
 use Rattle.lifetime_laws.proofs.Stays.{copies_law}
-use Rattle.lifetime_laws.proofs.Ended.{below_one, gave_tally, cut_tally, works-split, moves-into, gives-once, not-over}
-use Rattle.masked_bytes.proofs.Truth.{and_first}
+use Rattle.masked_bytes.proofs.{Counting.one_if, Truth.and_first}
 
 -- the line writes of an array line that were done or given up
 abbrev ended_tally : {n : ℕ} → BankShape → ℕ → List (BankEvent n) → ℕ

@@ -1,47 +1,22 @@
 -- The changes of an item, by the rows: of a region's one for each store and move, of any other at most one. So the pulses of a control
 -- line.
 use Rattle.std.proofs.Common.{◌≡◌, ◌⊎◌, inl, inr, ℕ, ◌+◌, ◌*◌, ◌/◌, ◌<◌, ◌≤◌, ◌==◌, ◌&&◌, not, Bool, true, false, List, [], ◌∷◌, ◌++◌, Option, Some, None, length, length-append, refl, sym, ap, ◌∙◌, subst, arith, cond}
-use Rattle.std.specs.Prelude.{count_by, nat_lt}
-use Rattle.std.proofs.lemmas.Bool.{ne_eqb, ltb-true, ltb-false, cases_eq}
-use Rattle.std.proofs.lemmas.Nat.{div_below, le-div}
-use Rattle.row_rules.specs.declared.Row.{Row}
-use Rattle.row_rules.specs.Answers.{is_stored}
-use Rattle.row_rules.specs.Rows.{is_cut}
-use Rattle.row_rules.specs.Ticking.{tries}
-use Rattle.bank_shape.specs.declared.BankShape.{BankShape}
-use Rattle.bank_shape.specs.declared.Home.{Home}
+use Rattle.std.{specs.Prelude.{count_by, nat_lt}, proofs.lemmas.Bool.{ne_eqb, ltb-true, ltb-false, cases_eq}, proofs.lemmas.Nat.{div_below, le-div}}
+use Rattle.row_rules.specs.{Answers.is_stored, Rows.is_cut, Ticking.tries, declared.Row.Row}
+use Rattle.bank_shape.specs.{Pausing.is_cancelling, Shape.{slots_of, control_line}, declared.BankShape.BankShape, declared.Home.Home, declared.pace.Pace.Pace}
 use Rattle.bank_shape.specs.declared.Home.TheVariants as home
-use Rattle.bank_shape.specs.Shape.{slots_of, control_line}
 use Rattle.bank_shape.specs.declared.answer.Step.TheVariants as did
+use Rattle.bank_model.specs.{After.work_after, Answers.MayAll, Changes.{item_if, change_after, keeping_after, rounds_after, halted_after, line_of_change}}
 use Rattle.bank_model.specs.Events.{BankEvent, Write, Read, Serve, Begin, Iterate, Cut, line_of_row}
-use Rattle.bank_model.specs.History.{first_or, stores, stored_in, moved_in, retired, has_exhausted, in_progress}
-use Rattle.bank_model.specs.After.{work_after}
-use Rattle.bank_model.specs.Answers.{MayAll}
-use Rattle.bank_model.specs.Changes.{item_if, change_after, keeping_after, rounds_after, halted_after, line_of_change}
-use Rattle.bank_shape.specs.Pausing.{is_cancelling}
-use Rattle.bank_model.specs.Running.{busy_by, busy_after, cancels_after}
-use Rattle.bank_model.specs.Works.{written_on, rounds_on}
-use Rattle.bank_model.specs.Sensing.{is_at, most_steps, pulses_of}
-use Rattle.bank_shape.specs.declared.pace.Pace.{Pace}
-use Rattle.bank_model.specs.Timing.{TimedEvent, core}
-use Rattle.bank_model.specs.Lawful.{Lawful}
-use Rattle.bank_laws.specs.Laws.{IsSized}
-use Rattle.bank_laws.specs.Outcomes.{table_of}
-use Rattle.bank_laws.specs.Places.{region_stores}
-use Rattle.bank_laws.proofs.Waiting.{may_all}
-use Rattle.place_laws.proofs.Moves.{keeps}
-use Rattle.place_laws.proofs.Slots.{begin-retires_none, begin-exhausts_none}
-use Rattle.place_laws.proofs.Storing.{stored-counted, region-stored}
-use Rattle.place_laws.proofs.Tables.{region-all}
-use Rattle.place_laws.proofs.Trying.{cuts_in, exhausted-idle}
-use Rattle.place_laws.proofs.Pulses.{cuts-counted, bounded}
-use Rattle.place_laws.proofs.Cancels.{cancels-kept}
+use Rattle.bank_model.specs.{History.{first_or, stores, stored_in, moved_in, retired, has_exhausted, in_progress}, Lawful.Lawful, Running.{busy_by, busy_after, cancels_after}}
+use Rattle.bank_model.specs.{Sensing.{is_at, most_steps, pulses_of}, Timing.{TimedEvent, core}, Works.{written_on, rounds_on}}
+use Rattle.bank_laws.{specs.Laws.IsSized, specs.Outcomes.table_of, specs.Places.region_stores, proofs.Waiting.may_all}
+use Rattle.place_laws.proofs.{Cancels.cancels-kept, Moves.keeps, Pulses.{cuts-counted, bounded}, Slots.{begin-retires_none, begin-exhausts_none}}
+use Rattle.place_laws.proofs.{Storing.{stored-counted, region-stored}, Tables.region-all, Trying.{cuts_in, exhausted-idle}}
 use Rattle.log_laws.proofs.Within.{row_line-within, last-within}
-use Rattle.lifetime_laws.specs.Works.{most_changes, most_kept, ControlPulsesLaw, ControlAgesLaw}
-use Rattle.masked_bytes.proofs.Counting.{one_if}
-use Rattle.lifetime_laws.proofs.Ended.{below_one}
-use Rattle.lifetime_laws.proofs.Broken.{by-policy}
+use Rattle.lifetime_laws.{specs.Works.{most_changes, most_kept, ControlPulsesLaw, ControlAgesLaw}, proofs.Broken.by-policy, proofs.Ended.below_one}
 use Rattle.lifetime_laws.proofs.Keeping.{is_item, changes_of, IsKept, Kept, kept, Written, written, none-cond, stops-cond}
+use Rattle.masked_bytes.proofs.Counting.{one_if}
 
 -- a change is of this item, or of another
 some-item : (where_ : Home) (other item : ℕ) → one_if (is_item item (item_if where_ other)) ≤ one_if (other == item)

@@ -1,30 +1,18 @@
 -- The line writes that end on a slot's own array line: stores, gap moves, one that gives the line up, and those that are broken off.
 use Rattle.std.proofs.Common.{◌≡◌, ◌⊎◌, inl, inr, ℕ, zero, suc, ◌+◌, ◌-◌, ◌*◌, ◌/◌, ◌<◌, ◌≤◌, ◌==◌, ◌&&◌, Bool, true, false, List, [], ◌∷◌, ◌++◌, length, refl, sym, ap, ◌∙◌, subst, arith, cond}
-use Rattle.std.proofs.lemmas.Bool.{eqb-true, eq-eqb}
-use Rattle.std.proofs.lemmas.Nat.{div-mul-add}
-use Rattle.start_gap.specs.declared.Move.{Move}
-use Rattle.start_gap.specs.Rotation.{gap_after, move_after}
-use Rattle.spare_pool.specs.Table.{line_from}
-use Rattle.spare_pool.proofs.Lines.{only_own, line_from-more}
-use Rattle.bank_shape.specs.declared.BankShape.{BankShape}
-use Rattle.bank_shape.specs.declared.Work.{Work}
-use Rattle.bank_shape.specs.declared.Work.TheVariants.{Nothing, Store, Copy}
-use Rattle.bank_shape.specs.Shape.{slots_of, slot_at}
+use Rattle.std.proofs.{lemmas.Bool.{eqb-true, eq-eqb}, lemmas.Nat.div-mul-add}
+use Rattle.start_gap.specs.{Rotation.{gap_after, move_after}, declared.Move.Move}
+use Rattle.spare_pool.{specs.Table.line_from, proofs.Lines.{only_own, line_from-more}}
+use Rattle.bank_shape.specs.{Shape.{slots_of, slot_at}, declared.BankShape.BankShape, declared.Work.Work, declared.Work.TheVariants.{Nothing, Store, Copy}}
 use Rattle.bank_shape.specs.declared.answer.Step.{Step}
 use Rattle.bank_shape.specs.declared.answer.Step.TheVariants as did
-use Rattle.bank_model.specs.Events.{BankEvent, Write, Read, Serve, Begin, Iterate, Cut}
-use Rattle.bank_model.specs.History.{in_progress, retired, has_exhausted, moved_in, due_after, queue}
-use Rattle.bank_model.specs.After.{work_after, due_work, slot_of_work, array_line_after, target_after}
-use Rattle.bank_model.specs.Answers.{IsDone, MayAll}
-use Rattle.place_laws.proofs.Moves.{last_region, some-due}
-use Rattle.place_laws.proofs.Working.{done-move}
-use Rattle.place_laws.proofs.Slots.{IsAway, away-more, begin-retires_none, begin-exhausts_none}
-use Rattle.bank_laws.proofs.Targets.{WorkAfter, working, unexhausted}
-use Rattle.lifetime_laws.specs.Spread.{passing}
+use Rattle.bank_model.specs.{After.{work_after, due_work, slot_of_work, array_line_after, target_after}, Answers.{IsDone, MayAll}}
+use Rattle.bank_model.specs.{Events.{BankEvent, Write, Read, Serve, Begin, Iterate, Cut}, History.{in_progress, retired, has_exhausted, moved_in, due_after, queue}}
 use Rattle.bank_model.specs.Works.{tally, works_on}
-use Rattle.lifetime_laws.proofs.Counting.{passing-at, passing-within}
+use Rattle.place_laws.proofs.{Moves.{last_region, some-due}, Slots.{IsAway, away-more, begin-retires_none, begin-exhausts_none}, Working.done-move}
+use Rattle.bank_laws.proofs.Targets.{WorkAfter, working, unexhausted}
+use Rattle.lifetime_laws.{specs.Spread.passing, proofs.Counting.{passing-at, passing-within}, proofs.Landing.{any, stored_tally}}
 use Rattle.masked_bytes.proofs.Counting.{one_if}
-use Rattle.lifetime_laws.proofs.Landing.{any, stored_tally}
 
 pub below_one : (k : ℕ) → (1 ≤ k → ⊥) → k < 1
 below_one zero isnt = omega arith

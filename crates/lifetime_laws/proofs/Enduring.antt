@@ -1,15 +1,10 @@
 -- A line with no cell stuck isn't worn.
 use Rattle.std.proofs.Common.{◌≡◌, ℕ, zero, suc, ◌+◌, ◌*◌, ◌-◌, ◌<◌, ◌≤◌, ◌&&◌, ◌||◌, not, Bool, true, false, refl, ap, ◌∙◌, arith}
-use Rattle.std.specs.Prelude.{nat_lt}
-use Rattle.std.proofs.lemmas.Bool.{false_from_ne_true, le-ltb, or_from}
-use Rattle.cell_rows.specs.declared.row.Cells.{Cells}
-use Rattle.cell_rows.specs.Rows.{cell, members}
-use Rattle.ecp_line.specs.Layout.{IsLayout, width, some_below, full_cell, activity_cell}
-use Rattle.ecp_line.specs.Reading.{is_worn_line}
+use Rattle.std.{specs.Prelude.nat_lt, proofs.lemmas.Bool.{false_from_ne_true, le-ltb, or_from}}
+use Rattle.cell_rows.specs.{Rows.{cell, members}, declared.row.Cells.Cells}
+use Rattle.ecp_line.specs.{Layout.{IsLayout, width, some_below, full_cell, activity_cell}, Reading.is_worn_line}
 use Rattle.line_writer.proofs.Orderly.{members-none}
-use Rattle.lifetime_laws.specs.Endurance.{UnwornLaw}
-use Rattle.lifetime_laws.specs.Lifetime.{ControlsLaw}
-use Rattle.lifetime_laws.specs.Works.{most_kept}
+use Rattle.lifetime_laws.specs.{Endurance.UnwornLaw, Lifetime.ControlsLaw, Works.most_kept}
 use Rattle.row_rules.specs.Ticking.{tries}
 use Rattle.bank_shape.specs.Shape.{control_line}
 

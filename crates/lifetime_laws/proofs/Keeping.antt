@@ -1,40 +1,20 @@
 -- The pulses of one control line, and its line writes, by the changes of its item.
 use Rattle.std.proofs.Common.{◌≡◌, ℕ, ◌+◌, ◌*◌, ◌<◌, ◌≤◌, ◌==◌, ◌&&◌, not, Bool, true, false, List, [], ◌∷◌, inl, inr, Option, Some, None, refl, sym, ap, ◌∙◌, subst, arith, cond}
-use Rattle.masked_bytes.proofs.Truth.{and_first, and_second}
-use Rattle.std.specs.Prelude.{is_some}
-use Rattle.std.proofs.lemmas.Bool.{eqb-true, eq-eqb, ne_eqb, cases_eq, both_ways}
-use Rattle.spare_pool.specs.Table.{Table}
-use Rattle.spare_pool.proofs.Lines.{line_by-within}
-use Rattle.bank_shape.specs.Pausing.{is_cancelling}
-use Rattle.bank_shape.specs.declared.BankShape.{BankShape}
-use Rattle.bank_shape.specs.Shape.{slots_of, control_line}
-use Rattle.bank_shape.specs.declared.answer.Step.{Step}
+use Rattle.std.{specs.Prelude.is_some, proofs.lemmas.Bool.{eqb-true, eq-eqb, ne_eqb, cases_eq, both_ways}}
+use Rattle.masked_bytes.proofs.{Counting.one_if, Truth.{and_first, and_second}}
+use Rattle.spare_pool.{specs.Table.Table, proofs.Lines.line_by-within}
+use Rattle.bank_shape.specs.{Pausing.is_cancelling, Shape.{slots_of, control_line}, declared.BankShape.BankShape, declared.answer.Step.Step, declared.clock.Action.Action}
+use Rattle.bank_shape.specs.{declared.clock.Doing.TheVariants.Iterating, declared.pace.Pace.Pace}
 use Rattle.bank_shape.specs.declared.answer.Keep.TheVariants as keep
-use Rattle.bank_shape.specs.declared.clock.Action.{Action}
-use Rattle.bank_shape.specs.declared.clock.Doing.TheVariants.{Iterating}
-use Rattle.bank_model.specs.Events.{BankEvent, Write, Read, Serve, Begin, Iterate, Cut}
-use Rattle.bank_model.specs.History.{retired}
 use Rattle.bank_model.specs.After.{work_after, slot_of_work, target_after}
 use Rattle.bank_model.specs.Changes.{change_after, change_by, changed_by, keeping_after, keeping_by, rounds_after, rounds_by, halted_after, halted_by, line_of_change}
-use Rattle.bank_model.specs.Running.{running_at, cancels_after, cancels_with}
-use Rattle.bank_model.specs.Sensing.{is_at, most_steps, pulses_of, pulsed_by, torn_control, kept_pulsed}
-use Rattle.bank_shape.specs.declared.pace.Pace.{Pace}
-use Rattle.bank_model.specs.Timing.{Happens, Core, Regs, KeepBegin, KeepIterate, KeepCut, TimedEvent, is_doing, core, core_of}
-use Rattle.bank_model.specs.Lawful.{Lawful, MayCome}
-use Rattle.bank_laws.specs.Laws.{IsSized}
-use Rattle.bank_laws.proofs.Changing.{halted-stops}
-use Rattle.bank_laws.proofs.Settling.{above_all}
-use Rattle.bank_laws.proofs.Waiting.{may_all}
-use Rattle.place_laws.proofs.Slots.{retired-few}
-use Rattle.place_laws.proofs.Trying.{cuts_in, cuts_power}
-use Rattle.place_laws.proofs.Cancels.{cancels-kept}
-use Rattle.place_laws.proofs.Moves.{next_product}
+use Rattle.bank_model.specs.{Events.{BankEvent, Write, Read, Serve, Begin, Iterate, Cut}, History.retired, Lawful.{Lawful, MayCome}}
+use Rattle.bank_model.specs.{Running.{running_at, cancels_after, cancels_with}, Sensing.{is_at, most_steps, pulses_of, pulsed_by, torn_control, kept_pulsed}}
+use Rattle.bank_model.specs.{Timing.{Happens, Core, Regs, KeepBegin, KeepIterate, KeepCut, TimedEvent, is_doing, core, core_of}, Works.{ends_keeping, is_written, written_on}}
+use Rattle.bank_laws.{specs.Laws.IsSized, proofs.Changing.halted-stops, proofs.Settling.above_all, proofs.Waiting.may_all}
+use Rattle.place_laws.proofs.{Cancels.cancels-kept, Moves.next_product, Slots.retired-few, Trying.{cuts_in, cuts_power}}
 use Rattle.log_laws.proofs.Within.{work-own}
-use Rattle.lifetime_laws.proofs.Counting.{one-few}
-use Rattle.masked_bytes.proofs.Counting.{one_if}
-use Rattle.lifetime_laws.proofs.Ended.{below_one}
-use Rattle.bank_model.specs.Works.{ends_keeping, is_written, written_on}
-use Rattle.lifetime_laws.proofs.Writing.{pulsed-more}
+use Rattle.lifetime_laws.proofs.{Counting.one-few, Ended.below_one, Writing.pulsed-more}
 
 -- whether a change is of this item
 abbrev pub is_item : ℕ → Option ℕ → Bool

@@ -4,34 +4,18 @@ use Rattle.std.specs.Prelude.{unwrap_or}
 use Rattle.result_rows.specs.declared.Outcome.{Outcome}
 use Rattle.result_rows.specs.declared.Outcome.TheVariants as out
 use Rattle.row_rules.specs.Rows.{asks_write, asks_write_of}
-use Rattle.bank_shape.specs.declared.BankShape.{BankShape}
+use Rattle.bank_shape.specs.{declared.BankShape.BankShape, declared.answer.Step.Step, declared.pace.Pace.Pace}
 use Rattle.bank_shape.specs.declared.answer.WriteAnswer.TheVariants as wrote
 use Rattle.bank_shape.specs.declared.answer.ReadAnswer.TheVariants as came
-use Rattle.bank_shape.specs.declared.answer.Step.{Step}
 use Rattle.bank_shape.specs.declared.answer.Step.TheVariants as did
-use Rattle.bank_model.specs.Events.{BankEvent, Write, Read, Serve, Begin, Iterate, Cut, line_of_row}
-use Rattle.bank_model.specs.History.{queue, waits}
-use Rattle.bank_model.specs.Sensing.{most_steps}
-use Rattle.bank_shape.specs.declared.pace.Pace.{Pace}
-use Rattle.bank_model.specs.Timing.{Happens, Core, Regs, TimedEvent, core, core_of}
-use Rattle.bank_model.specs.Lawful.{Lawful, MayCome}
-use Rattle.bank_laws.specs.Standing.{has_wait}
-use Rattle.bank_laws.specs.Settling.{AreOpen}
-use Rattle.bank_laws.specs.Outcomes.{on_row, outcome_with, outcome_of, ended, table_of}
-use Rattle.bank_laws.proofs.Answering.{merged-there, served-first, first-there}
-use Rattle.bank_laws.proofs.Settling.{opens, above_all}
-use Rattle.bank_laws.proofs.Ending.{own_row}
-use Rattle.bank_laws.proofs.Lines.{stands-row}
+use Rattle.bank_model.specs.{Events.{BankEvent, Write, Read, Serve, Begin, Iterate, Cut, line_of_row}, History.{queue, waits}, Lawful.{Lawful, MayCome}, Sensing.most_steps}
+use Rattle.bank_model.specs.{Timing.{Happens, Core, Regs, TimedEvent, core, core_of}, Works.tally}
+use Rattle.bank_laws.specs.{Outcomes.{on_row, outcome_with, outcome_of, ended, table_of}, Settling.AreOpen, Standing.has_wait}
+use Rattle.bank_laws.proofs.{Answering.{merged-there, served-first, first-there}, Asked.{queue-wrote, wrote-line}, Ending.own_row, Lines.stands-row, Settling.{opens, above_all}}
 use Rattle.bank_laws.proofs.Waiting.{may_all}
-use Rattle.bank_laws.proofs.Asked.{queue-wrote, wrote-line}
-use Rattle.place_laws.proofs.Counts.{writes_with, writes-same, writes-more}
+use Rattle.place_laws.proofs.{Counts.{writes_with, writes-same, writes-more}, Storing.none_first, Tables.rows-counted, Working.{IsStoreOf, done-store}}
 use Rattle.masked_bytes.proofs.Counting.{one_if}
-use Rattle.place_laws.proofs.Storing.{none_first}
-use Rattle.place_laws.proofs.Tables.{rows-counted}
-use Rattle.place_laws.proofs.Working.{IsStoreOf, done-store}
-use Rattle.lifetime_laws.specs.Spread.{is_stored_on, stores_on}
-use Rattle.bank_model.specs.Works.{tally}
-use Rattle.lifetime_laws.specs.Works.{stores_at}
+use Rattle.lifetime_laws.specs.{Spread.{is_stored_on, stores_on}, Works.stores_at}
 
 -- a store's answer for such a line with this place
 abbrev pub is_done_on : {n : ℕ} → (ℕ → Bool) → ℕ → List (BankEvent n) → Step → Bool

@@ -1,51 +1,24 @@
 -- A bank whose hot lines are few, over cells that endure.
 use Rattle.std.proofs.Common.{◌≡◌, inl, inr, ℕ, ◌+◌, ◌*◌, ◌/◌, ◌%◌, ◌<◌, ◌≤◌, ◌==◌, ◌&&◌, ◌||◌, not, Bool, true, false, List, [], ◌∷◌, Option, Some, None, length, refl, sym, ap, ◌∙◌, subst, arith}
-use Rattle.std.specs.Prelude.{count_by, is_some}
-use Rattle.std.specs.List.{list_any}
-use Rattle.std.proofs.lemmas.Bool.{eqb-true, eq-eqb, false_from_ne_true, cases_eq, ne_eqb}
-use Rattle.std.proofs.lemmas.Nat.{div-mul-add, div_below, mod_below}
-use Rattle.std.proofs.Math.Nat.{mul-le-mul_left}
+use Rattle.std.{specs.List.list_any, specs.Prelude.{count_by, is_some}, proofs.Math.Nat.mul-le-mul_left}
+use Rattle.std.proofs.{lemmas.Bool.{eqb-true, eq-eqb, false_from_ne_true, cases_eq, ne_eqb}, lemmas.Nat.{div-mul-add, div_below, mod_below}}
 use Rattle.result_rows.specs.declared.Outcome.{Outcome}
 use Rattle.result_rows.specs.declared.Outcome.TheVariants as out
 use Rattle.start_gap.specs.Rotation.{place_after}
-use Rattle.row_rules.specs.declared.Asks.{Asks}
-use Rattle.row_rules.specs.declared.Asks.TheVariants.{Reads, Writes, Cuts}
-use Rattle.row_rules.specs.declared.Row.{Row}
-use Rattle.row_rules.specs.Answers.{is_stored, stored_before}
-use Rattle.row_rules.specs.Rows.{each_row, asks_write, asks_write_of, line_of}
-use Rattle.row_rules.specs.declared.Rules.{Rules}
-use Rattle.row_rules.specs.Ticking.{is_in_time, tries}
-use Rattle.bank_shape.specs.declared.BankShape.{BankShape}
-use Rattle.bank_shape.specs.Shape.{slots_of, slot_moved}
-use Rattle.bank_shape.specs.declared.pace.Pace.{Pace}
-use Rattle.bank_model.specs.Timing.{TimedEvent, core}
-use Rattle.bank_model.specs.Lawful.{Lawful}
-use Rattle.bank_model.specs.History.{in_progress}
-use Rattle.bank_model.specs.Changes.{change_after, keeping_after}
-use Rattle.bank_model.specs.Running.{busy_by, busy_after}
-use Rattle.bank_laws.proofs.Changing.{changed-idle}
-use Rattle.bank_laws.specs.Places.{region_stores, is_place_after, is_placed}
-use Rattle.lifetime_laws.specs.Endurance.{KeepsControls}
-use Rattle.bank_laws.specs.Laws.{is_worn_at}
-use Rattle.bank_laws.specs.Outcomes.{table_of}
-use Rattle.bank_laws.specs.Resting.{IsStill}
-use Rattle.place_laws.proofs.Pulses.{bounded}
-use Rattle.bank_model.specs.Sensing.{most_steps, pulses_of}
-use Rattle.lifetime_laws.specs.Spread.{is_stored_on, stores_on, most_at, finding_at, stay}
-use Rattle.bank_model.specs.Works.{works_on, held_on}
-use Rattle.lifetime_laws.specs.Works.{stores_at, most_works, LinePulsesLaw, LineAgesLaw}
-use Rattle.lifetime_laws.specs.Lifetime.{BearsControls, own_stores, other_stores, most_hot_works, AttackLaw, HotLinesLaw, KeptLinesLaw, LifetimeLaw}
-use Rattle.lifetime_laws.proofs.Counting.{passing-none}
-use Rattle.masked_bytes.proofs.Counting.{one_if, count-cons}
-use Rattle.lifetime_laws.proofs.Ranks.{count-sum, Each}
-use Rattle.lifetime_laws.proofs.Stays.{stay_law, even_law}
-use Rattle.lifetime_laws.proofs.Spreading.{IsPlacedBy, placed-each, home-placed, found_law, spread_law}
-use Rattle.lifetime_laws.proofs.Enduring.{unworn_law, controls_law}
-use Rattle.lifetime_laws.proofs.Sound.{sound_rows_law}
+use Rattle.row_rules.specs.{Answers.{is_stored, stored_before}, Rows.{each_row, asks_write, asks_write_of, line_of}, Ticking.{is_in_time, tries}, declared.Asks.Asks}
+use Rattle.row_rules.specs.{declared.Asks.TheVariants.{Reads, Writes, Cuts}, declared.Row.Row, declared.Rules.Rules}
+use Rattle.bank_shape.specs.{Shape.{slots_of, slot_moved}, declared.BankShape.BankShape, declared.pace.Pace.Pace}
+use Rattle.bank_model.specs.{Changes.{change_after, keeping_after}, History.in_progress, Lawful.Lawful, Running.{busy_by, busy_after}, Sensing.{most_steps, pulses_of}}
+use Rattle.bank_model.specs.{Timing.{TimedEvent, core}, Works.{works_on, held_on}}
+use Rattle.bank_laws.{specs.Laws.is_worn_at, specs.Outcomes.table_of, specs.Places.{region_stores, is_place_after, is_placed}, specs.Resting.IsStill, proofs.Changing.changed-idle}
 use Rattle.bank_laws.proofs.Works.{idle-held}
+use Rattle.lifetime_laws.specs.{Endurance.KeepsControls, Lifetime.{BearsControls, own_stores, other_stores, most_hot_works, AttackLaw, HotLinesLaw, KeptLinesLaw, LifetimeLaw}}
+use Rattle.lifetime_laws.specs.{Spread.{is_stored_on, stores_on, most_at, finding_at, stay}, Works.{stores_at, most_works, LinePulsesLaw, LineAgesLaw}}
+use Rattle.lifetime_laws.proofs.{Broken.works_law, Changed.{control_pulses_law, control_ages_law}, Counting.passing-none, Enduring.{unworn_law, controls_law}}
+use Rattle.lifetime_laws.proofs.{Ranks.{count-sum, Each}, Sound.sound_rows_law, Spreading.{IsPlacedBy, placed-each, home-placed, found_law, spread_law}, Stays.{stay_law, even_law}}
 use Rattle.lifetime_laws.proofs.Writing.{pulses_on_law}
-use Rattle.lifetime_laws.proofs.Broken.{works_law}
-use Rattle.lifetime_laws.proofs.Changed.{control_pulses_law, control_ages_law}
+use Rattle.place_laws.proofs.Pulses.{bounded}
+use Rattle.masked_bytes.proofs.Counting.{one_if, count-cons}
 
 -- a bank that rests has no line write of its own in progress: while a change stands none is
 core-rests : (change : Option ℕ) (keeping busy : Bool) → (is_some change ≡ true → busy ≡ false) → busy_by change keeping busy ≡ false → busy ≡ false

@@ -1,18 +1,11 @@
 -- A bank none of whose slots' own lines is worn.
 use Rattle.std.proofs.Common.{◌≡◌, ◌⊎◌, inl, inr, ℕ, zero, suc, ◌+◌, ◌-◌, ◌<◌, ◌≤◌, ◌&&◌, ◌||◌, not, Bool, true, false, List, [], ◌∷◌, refl, ap, ◌∙◌, arith}
-use Rattle.std.specs.Prelude.{nat_lt, IsTrue}
-use Rattle.std.proofs.lemmas.Bool.{and_parts, and_from, false_from_ne_true, leb-true}
-use Rattle.row_rules.specs.declared.Row.{Row}
-use Rattle.row_rules.specs.Answers.{is_queued}
-use Rattle.row_rules.specs.Rows.{each_row, asks_write}
-use Rattle.row_rules.specs.Wearing.{worn_row}
-use Rattle.bank_shape.specs.declared.BankShape.{BankShape}
-use Rattle.bank_shape.specs.Shape.{slots_of, controls_of}
-use Rattle.bank_laws.specs.Laws.{is_worn_at}
-use Rattle.bank_laws.specs.Places.{worn_among, is_worn_out, may_leave, is_wear_true}
+use Rattle.std.{specs.Prelude.{nat_lt, IsTrue}, proofs.lemmas.Bool.{and_parts, and_from, false_from_ne_true, leb-true}}
+use Rattle.row_rules.specs.{Answers.is_queued, Rows.{each_row, asks_write}, Wearing.worn_row, declared.Row.Row}
+use Rattle.bank_shape.specs.{Shape.{slots_of, controls_of}, declared.BankShape.BankShape}
+use Rattle.bank_laws.specs.{Laws.is_worn_at, Places.{worn_among, is_worn_out, may_leave, is_wear_true}}
 use Rattle.end_laws.specs.Roles.{used_among}
-use Rattle.lifetime_laws.specs.Endurance.{is_unrefused, is_unqueued, KeepsControls, SoundRowsLaw, NoneRetiredLaw}
-use Rattle.lifetime_laws.proofs.Counting.{one-few}
+use Rattle.lifetime_laws.{specs.Endurance.{is_unrefused, is_unqueued, KeepsControls, SoundRowsLaw, NoneRetiredLaw}, proofs.Counting.one-few}
 use Rattle.masked_bytes.proofs.Counting.{one_if}
 
 worn-few : (worn : ℕ → Bool) (from n : ℕ) → worn_among worn from n ≤ n

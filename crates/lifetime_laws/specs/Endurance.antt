@@ -2,17 +2,10 @@
 use Rattle.std.specs.Prelude.{◌≡◌, ℕ, ◌+◌, ◌<◌, ◌≤◌, ◌&&◌, not, Bool, IsTrue, IsFalse, List, []}
 use Rattle.cell_rows.specs.Device.{ArrayState}
 use Rattle.ecp_line.specs.Layout.{IsLayout}
-use Rattle.row_rules.specs.declared.Row.{Row}
-use Rattle.row_rules.specs.Answers.{is_queued}
-use Rattle.row_rules.specs.Rows.{RowTest, each_row, asks_write}
-use Rattle.row_rules.specs.declared.Rules.{Rules}
-use Rattle.row_rules.specs.Wearing.{worn_row}
-use Rattle.bank_shape.specs.declared.BankShape.{BankShape}
-use Rattle.bank_shape.specs.Shape.{slots_of, controls_of, control_line}
-use Rattle.bank_laws.specs.Laws.{KeepsPlaces, is_worn_at}
-use Rattle.bank_laws.specs.Places.{may_leave}
-use Rattle.end_laws.specs.Ends.{BankEnd, EndsWith}
-use Rattle.end_laws.specs.Roles.{used_spares}
+use Rattle.row_rules.specs.{Answers.is_queued, Rows.{RowTest, each_row, asks_write}, Wearing.worn_row, declared.Row.Row, declared.Rules.Rules}
+use Rattle.bank_shape.specs.{Shape.{slots_of, controls_of, control_line}, declared.BankShape.BankShape}
+use Rattle.bank_laws.specs.{Laws.{KeepsPlaces, is_worn_at}, Places.may_leave}
+use Rattle.end_laws.specs.{Ends.{BankEnd, EndsWith}, Roles.used_spares}
 
 -- ---- lines
 

@@ -1,27 +1,14 @@
 -- How long a module lives under the rotation: a bank whose hot lines are few keeps every slot's own line.
-use Rattle.std.specs.Prelude.{ℕ, ◌+◌, ◌*◌, ◌/◌, ◌<◌, ◌≤◌, ◌==◌, ◌&&◌, not, nat_lt, Bool, if◌then◌else◌, IsTrue, IsFalse, List, [], ◌∷◌, length, count_by}
-use Rattle.std.specs.List.{list_any}
+use Rattle.std.specs.{List.list_any, Prelude.{ℕ, ◌+◌, ◌*◌, ◌/◌, ◌<◌, ◌≤◌, ◌==◌, ◌&&◌, not, nat_lt, Bool, if◌then◌else◌, IsTrue, IsFalse, List, [], ◌∷◌, length, count_by}}
 use Rattle.cell_rows.specs.Device.{CellBounds, ArrayState}
 use Rattle.ecp_line.specs.Layout.{IsLayout}
-use Rattle.row_rules.specs.declared.Row.{Row}
-use Rattle.row_rules.specs.Answers.{is_stored}
-use Rattle.row_rules.specs.Rows.{each_row, asks_write, asks_write_of, line_of, is_cut}
+use Rattle.row_rules.specs.{Answers.is_stored, Rows.{each_row, asks_write, asks_write_of, line_of, is_cut}, Table.KeepsRows, Ticking.{is_in_time, tries}, declared.Row.Row}
 use Rattle.row_rules.specs.declared.Rules.{Rules}
-use Rattle.row_rules.specs.Table.{KeepsRows}
-use Rattle.row_rules.specs.Ticking.{is_in_time, tries}
-use Rattle.bank_shape.specs.declared.BankShape.{BankShape}
-use Rattle.bank_shape.specs.Shape.{slots_of, controls_of, control_line}
-use Rattle.bank_model.specs.Aging.{Ages, AreAged, AreControlsAged}
-use Rattle.bank_shape.specs.declared.pace.Pace.{Pace}
-use Rattle.bank_model.specs.Timing.{TimedEvent, core}
-use Rattle.bank_model.specs.Lawful.{Lawful}
-use Rattle.bank_laws.specs.Laws.{IsSized, LeavesArray, KeepsPlaces, is_worn_at, rules_of}
-use Rattle.bank_laws.specs.Outcomes.{table_of}
-use Rattle.bank_laws.specs.Resting.{IsStill}
-use Rattle.bank_laws.specs.Places.{region_stores, is_placed, may_leave}
-use Rattle.lifetime_laws.specs.Spread.{most_at, most_moves, stay, stores_on}
+use Rattle.bank_shape.specs.{Shape.{slots_of, controls_of, control_line}, declared.BankShape.BankShape, declared.pace.Pace.Pace}
+use Rattle.bank_model.specs.{Aging.{Ages, AreAged, AreControlsAged}, Lawful.Lawful, Timing.{TimedEvent, core}}
+use Rattle.bank_laws.specs.{Laws.{IsSized, LeavesArray, KeepsPlaces, is_worn_at, rules_of}, Outcomes.table_of, Places.{region_stores, is_placed, may_leave}, Resting.IsStill}
+use Rattle.lifetime_laws.specs.{Endurance.{KeepsControls, is_unrefused, is_unqueued}, Spread.{most_at, most_moves, stay, stores_on}}
 use Rattle.lifetime_laws.specs.Works.{most_works, most_each, most_kept, stores_at}
-use Rattle.lifetime_laws.specs.Endurance.{KeepsControls, is_unrefused, is_unqueued}
 
 -- the stores of a region that are of none of these lines
 abbrev pub other_stores : {n : ℕ} → BankShape → ℕ → List ℕ → List (Row n) → ℕ

@@ -2,20 +2,11 @@
 use Rattle.std.specs.Prelude.{◌≡◌, ℕ, zero, suc, ◌+◌, ◌*◌, ◌/◌, ◌%◌, ◌<◌, ◌≤◌, ◌==◌, ◌&&◌, Bool, false, if◌then◌else◌, min, List, [], count_by, IsTrue}
 use Rattle.result_rows.specs.declared.Outcome.{Outcome}
 use Rattle.result_rows.specs.declared.Outcome.TheVariants as out
-use Rattle.row_rules.specs.declared.Row.{Row}
-use Rattle.row_rules.specs.Answers.{is_stored}
-use Rattle.row_rules.specs.Rows.{each_row, asks_write_of}
-use Rattle.row_rules.specs.declared.Rules.{Rules}
-use Rattle.row_rules.specs.Ticking.{is_in_time}
+use Rattle.row_rules.specs.{Answers.is_stored, Rows.{each_row, asks_write_of}, Ticking.is_in_time, declared.Row.Row, declared.Rules.Rules}
 use Rattle.start_gap.specs.Rotation.{turn, gap_after}
-use Rattle.bank_shape.specs.declared.BankShape.{BankShape}
-use Rattle.bank_shape.specs.Shape.{slots_of, slot_moved}
-use Rattle.bank_shape.specs.declared.pace.Pace.{Pace}
-use Rattle.bank_model.specs.Timing.{TimedEvent}
-use Rattle.bank_model.specs.Lawful.{Lawful}
-use Rattle.bank_laws.specs.Laws.{IsSized}
-use Rattle.bank_laws.specs.Outcomes.{table_of}
-use Rattle.bank_laws.specs.Places.{region_stores, is_placed}
+use Rattle.bank_shape.specs.{Shape.{slots_of, slot_moved}, declared.BankShape.BankShape, declared.pace.Pace.Pace}
+use Rattle.bank_model.specs.{Lawful.Lawful, Timing.TimedEvent}
+use Rattle.bank_laws.specs.{Laws.IsSized, Outcomes.table_of, Places.{region_stores, is_placed}}
 
 -- how many of the numbers below n pass a test
 abbrev pub passing : (ℕ → Bool) → ℕ → ℕ

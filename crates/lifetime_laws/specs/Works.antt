@@ -2,23 +2,10 @@
 -- line writes of its own.
 use Rattle.std.specs.Prelude.{ℕ, ◌+◌, ◌*◌, ◌/◌, ◌<◌, ◌≤◌, ◌&&◌, nat_lt, if◌then◌else◌, List, count_by}
 use Rattle.cell_rows.specs.Device.{ArrayState}
-use Rattle.row_rules.specs.declared.Row.{Row}
-use Rattle.row_rules.specs.Answers.{is_stored}
-use Rattle.row_rules.specs.Rows.{asks_write, is_cut}
-use Rattle.row_rules.specs.declared.Rules.{Rules}
-use Rattle.row_rules.specs.Ticking.{tries}
-use Rattle.bank_shape.specs.declared.BankShape.{BankShape}
-use Rattle.bank_shape.specs.Shape.{slots_of, controls_from, controls_of, control_line}
-use Rattle.bank_model.specs.Aging.{Ages, AreAged, AreControlsAged}
-use Rattle.bank_model.specs.Works.{works_on, held_on}
-use Rattle.bank_model.specs.Sensing.{most_steps, pulses_of}
-use Rattle.bank_shape.specs.declared.pace.Pace.{Pace}
-use Rattle.bank_model.specs.Timing.{TimedEvent, core}
-use Rattle.bank_model.specs.Lawful.{Lawful}
-use Rattle.bank_laws.specs.Laws.{IsSized, LeavesArray, rules_of}
-use Rattle.bank_laws.specs.Outcomes.{table_of}
-use Rattle.bank_laws.specs.Resting.{IsStill}
-use Rattle.bank_laws.specs.Places.{region_stores}
+use Rattle.row_rules.specs.{Answers.is_stored, Rows.{asks_write, is_cut}, Ticking.tries, declared.Row.Row, declared.Rules.Rules}
+use Rattle.bank_shape.specs.{Shape.{slots_of, controls_from, controls_of, control_line}, declared.BankShape.BankShape, declared.pace.Pace.Pace}
+use Rattle.bank_model.specs.{Aging.{Ages, AreAged, AreControlsAged}, Lawful.Lawful, Sensing.{most_steps, pulses_of}, Timing.{TimedEvent, core}, Works.{works_on, held_on}}
+use Rattle.bank_laws.specs.{Laws.{IsSized, LeavesArray, rules_of}, Outcomes.table_of, Places.region_stores, Resting.IsStill}
 use Rattle.lifetime_laws.specs.Spread.{is_stored_on, most_moves}
 
 -- how many writes were stored on an array line, of whatever line

@@ -1,19 +1,12 @@
 -- From one phase to the next.
 use Rattle.std.proofs.Common.{◌≡◌, ℕ, ◌&&◌, Bool, false, not, List, refl, sym, ap, ◌∙◌, subst, inl, inr, arith}
 use Rattle.std.proofs.lemmas.Bool.{and_parts, cases_Bool, eqb-true, true≢false}
-use Rattle.cell_rows.specs.declared.row.Cells.{Cells}
-use Rattle.cell_rows.specs.Rows.{cell, bit_of, xor}
-use Rattle.cell_rows.specs.Device.{LineState}
-use Rattle.program_verify.specs.declared.prog.Prog.{Prog}
-use Rattle.program_verify.specs.declared.prog.Turn.{Turn}
+use Rattle.cell_rows.specs.{Device.LineState, Rows.{cell, bit_of, xor}, declared.row.Cells.Cells}
+use Rattle.program_verify.specs.{Programming.{Programs, IsGoing, IsStatus, IsStuckWhereWrong, is_wrong}, declared.prog.Prog.Prog, declared.prog.Turn.Turn}
 use Rattle.program_verify.specs.declared.prog.Turn.TheVariants.{Going, Settled}
-use Rattle.program_verify.specs.Programming.{Programs, IsGoing, IsStatus, IsStuckWhereWrong, is_wrong}
 use Rattle.ecp_line.specs.Layout.{active, source_below, decoded, switch_cell, IsLowest}
-use Rattle.line_writer.specs.Phases.{IsClearing, IsFilling, IsPointing, IsSwitching, IsSwitched}
-use Rattle.line_writer.specs.Writing.{IsInPhase, IsAfterRound, IsSettled, IsWriting, HasRound, IsDone}
-use Rattle.line_writer.specs.declared.writer.LineWriter.{LineWriter}
-use Rattle.line_writer.specs.declared.writer.Phase.{Phase}
-use Rattle.line_writer.specs.declared.writer.Phase.TheVariants.{Clear, Fill, Point, Switch}
+use Rattle.line_writer.specs.{Phases.{IsClearing, IsFilling, IsPointing, IsSwitching, IsSwitched}, Writing.{IsInPhase, IsAfterRound, IsSettled, IsWriting, HasRound, IsDone}}
+use Rattle.line_writer.specs.{declared.writer.LineWriter.LineWriter, declared.writer.Phase.Phase, declared.writer.Phase.TheVariants.{Clear, Fill, Point, Switch}}
 
 -- what is wrong by what the line holds
 pub wrong-held : {B M : ℕ} (prog : Prog B M) (line : LineState B M) → Programs prog line → (n : ℕ) → (cell prog.which n && xor (cell line.held n) (cell prog.want n)) ≡ is_wrong prog n

@@ -4,10 +4,8 @@ use Rattle.std.proofs.lemmas.Bool.{cases_eq, cases_lt, cases_Bool, and_parts, lt
 use Rattle.cell_rows.specs.Rows.{bit_of, xor}
 use Rattle.ecp_line.specs.Layout.{active, activity_cell, full_cell, replacement_cell, pointer_cell, source_below, pointer, is_pointer_cell, switch_cell, Prefix, IsLayout}
 use Rattle.ecp_line.proofs.Activity.{active-full, active-kept, active-is, active-within, open-within, activity-ones, activity-zero}
-use Rattle.ecp_line.proofs.Places.{entry-order, entries-order, activity-lt, pointer-lt}
-use Rattle.ecp_line.proofs.Sources.{source-same, source-lt, source-no_pointer}
-use Rattle.line_writer.specs.Phases.{IsCleared, IsReady, IsClearing, IsFilling, IsPointing, IsSwitching}
-use Rattle.line_writer.proofs.Leaving.{Leaves, pointers-left, Prefix-left}
+use Rattle.ecp_line.proofs.{Places.{entry-order, entries-order, activity-lt, pointer-lt}, Sources.{source-same, source-lt, source-no_pointer}}
+use Rattle.line_writer.{specs.Phases.{IsCleared, IsReady, IsClearing, IsFilling, IsPointing, IsSwitching}, proofs.Leaving.{Leaves, pointers-left, Prefix-left}}
 
 -- ---- clearing
 

@@ -1,9 +1,7 @@
 -- What a pulse or a tear of some cells leaves.
 use Rattle.std.proofs.Common.{◌≡◌, ℕ, ◌<◌, ◌≤◌, Bool, true, false, sym}
-use Rattle.ecp_line.specs.Layout.{pointer, pointer_cell, replacement_cell, Prefix}
-use Rattle.ecp_line.proofs.Digits.{pointer-same}
-use Rattle.ecp_line.proofs.Inert.{Prefix-kept}
 use Rattle.std.proofs.lemmas.Bool.{false_from_ne_true}
+use Rattle.ecp_line.{specs.Layout.{pointer, pointer_cell, replacement_cell, Prefix}, proofs.Digits.pointer-same, proofs.Inert.Prefix-kept}
 
 -- the cells outside, and those that were stuck
 pub record Leaves (which f s g t : ℕ → Bool) : Type 0 where

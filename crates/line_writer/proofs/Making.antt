@@ -1,14 +1,11 @@
 -- Each phase begins with what its programming wants.
 use Rattle.std.proofs.Common.{◌≡◌, ℕ, ◌+◌, ◌-◌, ◌*◌, ◌<◌, Bool, true, false, cond, List, refl, sym, ap, ◌∙◌, subst, inl, inr, arith, eqb}
 use Rattle.std.proofs.lemmas.Bool.{cases_eq, and_from, eq-eqb, ne_eqb, cond-true, cond-false}
-use Rattle.cell_rows.specs.declared.row.Cells.{Cells}
-use Rattle.cell_rows.specs.Rows.{bit_of, cell, xor}
-use Rattle.program_verify.specs.declared.prog.Prog.{Prog}
-use Rattle.program_verify.specs.Programming.{IsGoing}
+use Rattle.cell_rows.specs.{Rows.{bit_of, cell, xor}, declared.row.Cells.Cells}
+use Rattle.program_verify.specs.{Programming.IsGoing, declared.prog.Prog.Prog}
 use Rattle.ecp_line.specs.Layout.{active, source_below, pointer, is_pointer_cell, is_later, switch_cell, Prefix, IsWanted, IsLayout, WantsZeros}
 use Rattle.ecp_line.proofs.Places.{full-lt, entry-order, activity-lt}
-use Rattle.line_writer.specs.Phases.{IsCleared, IsReady, IsClearing, IsFilling, IsPointing, IsSwitching}
-use Rattle.line_writer.proofs.Keeping.{switch-zero, switch-early, switch-last, early_or_last}
+use Rattle.line_writer.{specs.Phases.{IsCleared, IsReady, IsClearing, IsFilling, IsPointing, IsSwitching}, proofs.Keeping.{switch-zero, switch-early, switch-last, early_or_last}}
 
 -- a programming that was made of these parts
 made : {B M : ℕ} → Cells B M → Cells B M → Cells B M → Prog B M

@@ -1,22 +1,12 @@
 -- What a write does to a line of which no cell is stuck.
 use Rattle.std.proofs.Common.{◌≡◌, ◌≢◌, ℕ, zero, suc, ◌+◌, ◌-◌, ◌*◌, ◌<◌, ◌≤◌, Bool, true, false, cond, List, refl, sym, ap, ◌∙◌, subst, inl, inr, arith}
 use Rattle.std.proofs.lemmas.Bool.{and_left, and_parts, both_ways, cases_eq, false_from_ne_true}
-use Rattle.cell_rows.specs.declared.row.Cells.{Cells}
-use Rattle.cell_rows.specs.Rows.{cell, members, xor}
-use Rattle.cell_rows.specs.Device.{ArrayState, LineState, CellBounds, CellTorn, TornStep, IsBlank}
-use Rattle.ecp_line.specs.Layout.{source_below, is_inert, Prefix}
-use Rattle.ecp_line.proofs.Sources.{source-none}
-use Rattle.program_verify.specs.declared.prog.Prog.{Prog}
-use Rattle.program_verify.specs.Programming.{IsGoing, IsRound, IsTear}
-use Rattle.line_writer.specs.declared.writer.LineWriter.{LineWriter}
-use Rattle.line_writer.specs.declared.writer.Phase.{Phase}
-use Rattle.line_writer.specs.declared.writer.Phase.TheVariants.{Clear, Fill, Point, Switch}
-use Rattle.line_writer.specs.declared.writer.Progress.TheVariants.{More}
-use Rattle.line_writer.specs.Writing.{IsInPhase, Writes, phases_left, steps_left}
-use Rattle.line_writer.specs.Orderly.{IsLive, IsOrderly, AreOrderly}
-use Rattle.line_writer.proofs.Leaving.{Leaves}
-use Rattle.line_writer.proofs.Keeping.{clearing-within}
-use Rattle.line_writer.proofs.Rounds.{going, device-torn, leaves-round, leaves-tear}
+use Rattle.cell_rows.specs.{Device.{ArrayState, LineState, CellBounds, CellTorn, TornStep, IsBlank}, Rows.{cell, members, xor}, declared.row.Cells.Cells}
+use Rattle.ecp_line.{specs.Layout.{source_below, is_inert, Prefix}, proofs.Sources.source-none}
+use Rattle.program_verify.specs.{Programming.{IsGoing, IsRound, IsTear}, declared.prog.Prog.Prog}
+use Rattle.line_writer.specs.{Orderly.{IsLive, IsOrderly, AreOrderly}, Writing.{IsInPhase, Writes, phases_left, steps_left}, declared.writer.LineWriter.LineWriter}
+use Rattle.line_writer.specs.{declared.writer.Phase.Phase, declared.writer.Phase.TheVariants.{Clear, Fill, Point, Switch}, declared.writer.Progress.TheVariants.More}
+use Rattle.line_writer.proofs.{Keeping.clearing-within, Leaving.Leaves, Rounds.{going, device-torn, leaves-round, leaves-tear}}
 
 -- none of so many numbers has the property
 pub members-none : (has : ℕ → Bool) (n : ℕ) → ((k : ℕ) → k < n → has k ≡ false) → members has n ≡ 0

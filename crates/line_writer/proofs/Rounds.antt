@@ -1,25 +1,16 @@
 -- What a round of the present phase and a tear leave, and that both keep the line sound.
 use Rattle.std.proofs.Common.{◌≡◌, ℕ, ◌+◌, ◌-◌, ◌*◌, ◌<◌, Bool, true, false, not, List, sym, ap, ◌∙◌, subst, inl, inr, arith, ltb}
 use Rattle.std.proofs.lemmas.Bool.{both_ways, and_parts, and_from, and_left, or_left, or_right, cases_Bool, lt-ltb, eqb-true, false_from_ne_true}
-use Rattle.cell_rows.specs.declared.row.Cells.{Cells}
-use Rattle.cell_rows.specs.Rows.{cell, members}
-use Rattle.cell_rows.specs.Device.{LineState, ArrayState, CellBounds, DeviceStep, TornStep, CellPulsed, CellTorn}
-use Rattle.program_verify.specs.declared.prog.Prog.{Prog}
-use Rattle.program_verify.specs.Programming.{Programs, IsGoing, IsRound, IsTear, is_wrong}
-use Rattle.ecp_line.specs.Layout.{switch_cell, full_cell, activity_cell, Prefix, Sound, IsLayout}
-use Rattle.ecp_line.specs.Reading.{is_worn_line}
-use Rattle.ecp_line.proofs.Inert.{some-to}
+use Rattle.cell_rows.specs.{Device.{LineState, ArrayState, CellBounds, DeviceStep, TornStep, CellPulsed, CellTorn}, Rows.{cell, members}, declared.row.Cells.Cells}
+use Rattle.program_verify.specs.{Programming.{Programs, IsGoing, IsRound, IsTear, is_wrong}, declared.prog.Prog.Prog}
+use Rattle.ecp_line.{specs.Layout.{switch_cell, full_cell, activity_cell, Prefix, Sound, IsLayout}, specs.Reading.is_worn_line, proofs.Inert.some-to}
 use Rattle.ecp_line.proofs.Places.{entry-order, activity-lt}
 use Rattle.line_writer.specs.Phases.{IsClearing, IsFilling, IsPointing, IsSwitching, IsSwitched, IsStuckActivity}
-use Rattle.line_writer.specs.Writing.{IsInPhase, IsAfterRound, IsWriting, HasRound, Writes, IsProgress, IsWorn}
-use Rattle.line_writer.specs.declared.writer.LineWriter.{LineWriter}
-use Rattle.line_writer.specs.declared.writer.Phase.{Phase}
-use Rattle.line_writer.specs.declared.writer.Phase.TheVariants.{Clear, Fill, Point, Switch}
-use Rattle.line_writer.specs.declared.writer.Progress.{Progress}
-use Rattle.line_writer.specs.declared.writer.Progress.TheVariants.{More, Stored, Worn}
-use Rattle.line_writer.specs.declared.writer.Cause.TheVariants.{TooMany, Activity}
-use Rattle.line_writer.proofs.Leaving.{Leaves, Prefix-left}
-use Rattle.line_writer.proofs.Keeping.{clearing-within, clearing-apart, clearing-kept, filling-apart, filling-full, filling-kept, pointer-cell, pointing-apart, pointing-kept, switching-prefix, switching-unset, switching-set, switch-early, switch-last, early_or_last}
+use Rattle.line_writer.specs.{Writing.{IsInPhase, IsAfterRound, IsWriting, HasRound, Writes, IsProgress, IsWorn}, declared.writer.Cause.TheVariants.{TooMany, Activity}}
+use Rattle.line_writer.specs.{declared.writer.LineWriter.LineWriter, declared.writer.Phase.Phase, declared.writer.Phase.TheVariants.{Clear, Fill, Point, Switch}}
+use Rattle.line_writer.specs.{declared.writer.Progress.Progress, declared.writer.Progress.TheVariants.{More, Stored, Worn}}
+use Rattle.line_writer.proofs.Keeping.{clearing-within, clearing-apart, clearing-kept, filling-apart, filling-full, filling-kept, pointer-cell, pointing-apart, pointing-kept}
+use Rattle.line_writer.proofs.{Keeping.{switching-prefix, switching-unset, switching-set, switch-early, switch-last, early_or_last}, Leaving.{Leaves, Prefix-left}}
 
 -- ---- pulses and tears
 

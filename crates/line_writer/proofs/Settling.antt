@@ -1,13 +1,10 @@
 -- What a phase has settled when no round of it is left.
 use Rattle.std.proofs.Common.{◌≡◌, ℕ, zero, suc, ◌+◌, ◌-◌, ◌*◌, ◌<◌, ◌≤◌, ◌⊎◌, ◌&&◌, Bool, true, false, List, refl, sym, ap, ◌∙◌, inl, inr, arith}
 use Rattle.std.proofs.lemmas.Bool.{cases_Bool, both_ways, and_from, and_left, lt-ltb, eq-eqb, ne_eqb, le-leb, false_from_ne_true}
-use Rattle.cell_rows.proofs.ByteLemmas.{xor_false}
-use Rattle.cell_rows.specs.Rows.{bit_of, xor, members}
-use Rattle.ecp_line.specs.Layout.{active, is_later, source_below, pointer, number, width, pointer_cell, replacement_cell, full_cell, activity_cell, switch_cell, Prefix, IsLayout, IsLowest}
-use Rattle.ecp_line.proofs.Activity.{active-full}
-use Rattle.ecp_line.proofs.Digits.{number-none, number-one, number-zero}
+use Rattle.cell_rows.{specs.Rows.{bit_of, xor, members}, proofs.ByteLemmas.xor_false}
+use Rattle.ecp_line.specs.Layout.{active, is_later, source_below, pointer, number, width, pointer_cell, replacement_cell, full_cell, activity_cell, switch_cell, Prefix, IsLayout}
+use Rattle.ecp_line.{specs.Layout.IsLowest, proofs.Activity.active-full, proofs.Digits.{number-none, number-one, number-zero}, proofs.Inert.{Prefix-more, too_many}}
 use Rattle.ecp_line.proofs.Places.{full-lt, pointer-lt, entry-order}
-use Rattle.ecp_line.proofs.Inert.{Prefix-more, too_many}
 use Rattle.line_writer.specs.Phases.{IsCleared, IsReady, IsClearing, IsFilling, IsPointing, IsSwitching, IsStuckActivity}
 use Rattle.line_writer.proofs.Keeping.{clearing-within, switch-zero, switch-early, switch-last, early_or_last}
 

@@ -1,11 +1,8 @@
 -- That the unused check cells of a line stay untouched.
 use Rattle.std.proofs.Common.{◌≡◌, ◌≢◌, ℕ, ◌+◌, ◌<◌, false, inl, inr, sym, subst, ◌∙◌}
 use Rattle.std.proofs.lemmas.Bool.{cases_eq}
-use Rattle.cell_rows.specs.declared.row.Cells.{Cells}
-use Rattle.cell_rows.specs.Rows.{cell}
-use Rattle.cell_rows.specs.Device.{ArrayState, LineState, IsCellKept, IsBlank}
-use Rattle.program_verify.specs.declared.prog.Prog.{Prog}
-use Rattle.program_verify.specs.Programming.{IsRound, IsTear, is_wrong}
+use Rattle.cell_rows.specs.{Device.{ArrayState, LineState, IsCellKept, IsBlank}, Rows.cell, declared.row.Cells.Cells}
+use Rattle.program_verify.specs.{Programming.{IsRound, IsTear, is_wrong}, declared.prog.Prog.Prog}
 use Rattle.line_writer.specs.Untouched.{IsUntouched, HasUntouched, AreUntouched, LeavesUnused}
 
 module _ {n m : ℕ} (e : ℕ) where

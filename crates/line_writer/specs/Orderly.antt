@@ -1,7 +1,6 @@
 -- Lines of which no cell is stuck: their check cells hold 0, since a write pulses one of them only once a cell is stuck.
 use Rattle.std.specs.Prelude.{◌≡◌, ℕ, ◌+◌, ◌*◌, ◌<◌, ◌≤◌, false}
-use Rattle.cell_rows.specs.Rows.{cell}
-use Rattle.cell_rows.specs.Device.{ArrayState, LineState}
+use Rattle.cell_rows.specs.{Device.{ArrayState, LineState}, Rows.cell}
 
 module _ {n m : ℕ} where
   -- no cell of a line is stuck

@@ -1,9 +1,7 @@
 -- The unused check cells of a line, those behind the cell `full`: no write pulses them.
 use Rattle.std.specs.Prelude.{◌≡◌, ℕ, ◌+◌, ◌<◌, false}
-use Rattle.cell_rows.specs.Rows.{cell}
-use Rattle.cell_rows.specs.Device.{ArrayState, LineState}
-use Rattle.program_verify.specs.declared.prog.Prog.{Prog}
-use Rattle.program_verify.specs.Programming.{is_wrong}
+use Rattle.cell_rows.specs.{Device.{ArrayState, LineState}, Rows.cell}
+use Rattle.program_verify.specs.{Programming.is_wrong, declared.prog.Prog.Prog}
 use Rattle.ecp_line.specs.Layout.{full_cell}
 
 module _ {n m : ℕ} where

@@ -1,20 +1,13 @@
 -- What a write in progress has settled of its line, and how many steps it has left.
 use Rattle.std.specs.Prelude.{ℕ, List, ◌≡◌, ◌+◌, ◌-◌, ◌*◌, ◌<◌, ◌≤◌, ◌⊎◌, Bool, true, false}
-use Rattle.cell_rows.specs.Rows.{cell, members, bit_of, xor}
-use Rattle.cell_rows.specs.declared.row.Cells.{Cells}
-use Rattle.cell_rows.specs.Device.{LineState}
-use Rattle.program_verify.specs.declared.prog.Prog.{Prog}
-use Rattle.program_verify.specs.Programming.{Programs, IsGoing, is_wrong}
-use Rattle.ecp_line.specs.Layout.{active, source_below, Prefix, IsLowest}
-use Rattle.ecp_line.specs.Reading.{decode}
+use Rattle.cell_rows.specs.{Device.LineState, Rows.{cell, members, bit_of, xor}, declared.row.Cells.Cells}
+use Rattle.program_verify.specs.{Programming.{Programs, IsGoing, is_wrong}, declared.prog.Prog.Prog}
+use Rattle.ecp_line.specs.{Layout.{active, source_below, Prefix, IsLowest}, Reading.decode}
 pub use Rattle.ecp_line.specs.Steps.{most_steps}
 use Rattle.line_writer.specs.Phases.{IsCleared, IsClearing, IsFilling, IsPointing, IsSwitching, IsSwitched, IsReady, IsReadAs, IsStuckActivity}
-use Rattle.line_writer.specs.declared.writer.LineWriter.{LineWriter}
-use Rattle.line_writer.specs.declared.writer.Phase.{Phase}
-use Rattle.line_writer.specs.declared.writer.Phase.TheVariants.{Clear, Fill, Point, Switch}
-use Rattle.line_writer.specs.declared.writer.Progress.{Progress}
+use Rattle.line_writer.specs.{declared.writer.Cause.TheVariants.{TooMany, Activity}, declared.writer.LineWriter.LineWriter, declared.writer.Phase.Phase}
+use Rattle.line_writer.specs.{declared.writer.Phase.TheVariants.{Clear, Fill, Point, Switch}, declared.writer.Progress.Progress}
 use Rattle.line_writer.specs.declared.writer.Progress.TheVariants.{More, Stored, Worn}
-use Rattle.line_writer.specs.declared.writer.Cause.TheVariants.{TooMany, Activity}
 
 -- what holds while the present phase has rounds to make
 abbrev pub IsInPhase : {B M : ℕ} → ℕ → ℕ → List ℕ → Phase → Prog B M → (ℕ → Bool) → (ℕ → Bool) → Type 0

@@ -85,7 +85,8 @@ impl<const B: usize, const M: usize, const E: usize> LineWriter<B, M, E> {
     /// How far the write has come.
     pub fn status(&self) -> Progress
         ensures is { result ≡ self.now.progress }
-        ensures progress { (line : LineState B M) → Writes self.now line → IsProgress self.now line result }
+        ensures progress { (line : LineState B M) → Writes self.now line
+            → IsProgress self.now line result }
         ensures left { (line : LineState B M) → Writes self.now line → result ≡ Progress.More
             → 0 < steps_left self.now }
     {
@@ -108,7 +109,8 @@ impl<const B: usize, const M: usize, const E: usize> LineWriter<B, M, E> {
             × (((A.state array.new).line line).held ≡ after.seen) }
         ensures unused { LeavesUnused E self.old.prog }
         ensures worn { IsWorn result
-            → is_worn_line E ((A.state array.new).line line).held ((A.state array.new).line line).stuck
+            → is_worn_line E ((A.state array.new).line line).held
+            ((A.state array.new).line line).stuck
             ≡ true }
         ensures bytes { self.new.bytes ≡ self.old.bytes }
         ensures steps { steps_left self.new < steps_left self.old }
@@ -136,13 +138,18 @@ impl<const B: usize, const M: usize, const E: usize> LineWriter<B, M, E> {
     fn advance(&mut self, turn: &Turn<B, M>) -> Progress
         requires layout { IsLayout B M E }
         requires entries { self.old.entries ≤ most_entries E self.old.phase }
-        ensures line { (line : LineState B M) → HasRound self.old line → IsStatus self.old.prog turn.now
-            → IsStuckWhereWrong line turn.now → IsWriting self.new line × IsProgress self.new line result }
+        ensures line { (line : LineState B M) → HasRound self.old line
+            → IsStatus self.old.prog turn.now
+            → IsStuckWhereWrong line turn.now
+            → IsWriting self.new line × IsProgress self.new line result }
         ensures bytes { self.new.bytes ≡ self.old.bytes }
-        ensures begun { (line : LineState B M) → HasRound self.old line → IsStatus self.old.prog turn.now
-            → IsStuckWhereWrong line turn.now → self.old.phase ≡ Phase.Clear → self.old.prog.rounds ≡ 0
+        ensures begun { (line : LineState B M) → HasRound self.old line
+            → IsStatus self.old.prog turn.now
+            → IsStuckWhereWrong line turn.now → self.old.phase ≡ Phase.Clear
+            → self.old.prog.rounds ≡ 0
             → HasBegun result }
-        ensures steps { IsStatus self.old.prog turn.now → steps_left self.new ≤ steps_left self.old }
+        ensures steps { IsStatus self.old.prog turn.now
+            → steps_left self.new ≤ steps_left self.old }
     {
         let Turn::Settled { wrong } = turn else {
             return Progress::More;
@@ -226,7 +233,8 @@ impl<const B: usize, const M: usize, const E: usize> LineWriter<B, M, E> {
         ensures stored { (line : LineState B M) → IsDone self.old line
             → ((n : ℕ) → is_wrong self.old.prog n ≡ false) → result ≡ Progress.Stored }
         ensures bytes { self.new.bytes ≡ self.old.bytes }
-        ensures steps { steps_left self.new ≤ 24 * (E - self.old.entries) + (8 - self.old.prog.rounds) }
+        ensures steps { steps_left self.new ≤ 24 * (E - self.old.entries)
+            + (8 - self.old.prog.rounds) }
     {
         match Ecp::<B, M, E>::wrong(self.prog.seen(), &self.bytes) {
             None => Progress::Stored,
@@ -281,7 +289,8 @@ impl<const B: usize, const M: usize, const E: usize> LineWriter<B, M, E> {
         ensures line { (line : LineState B M) → IsDone self.old line
             → IsWriting self.new line × IsProgress self.new line result }
         ensures bytes { self.new.bytes ≡ self.old.bytes }
-        ensures steps { steps_left self.new ≤ 24 * (E - self.old.entries) - 16 + (8 - self.old.prog.rounds) }
+        ensures steps { steps_left self.new ≤ 24 * (E - self.old.entries) - 16
+            + (8 - self.old.prog.rounds) }
     {
         let cell = Ecp::<B, M, E>::switch(self.entries);
         if self.prog.seen().get(cell) {

@@ -1,16 +1,10 @@
 -- How the report on array lines comes about, row by row.
 use Rattle.std.proofs.Common.{◌≡◌, ℕ, suc, ◌+◌, List, [], ◌∷◌, ◌++◌, length, Option, refl, sym, ap, subst, ◌∙◌, arith, add-zero, append_assoc}
-use Rattle.std.specs.Prelude.{codes}
-use Rattle.std.specs.List.{join_with_byte}
-use Rattle.std.proofs.lemmas.List.{append-nil}
-use Rattle.pcm_io.specs.Giving.{AppendsPrefix}
-use Rattle.pcm_io.specs.Reserved.{Reserved, appended}
-use Rattle.pcm_io.proofs.ByteLemmas.{AppendsPrefix-longer}
+use Rattle.std.{specs.List.join_with_byte, specs.Prelude.codes, proofs.lemmas.List.append-nil}
+use Rattle.pcm_io.{specs.Giving.AppendsPrefix, specs.Reserved.{Reserved, appended}, proofs.ByteLemmas.AppendsPrefix-longer}
 use Rattle.wear_report.specs.declared.Role.{Role}
-use Rattle.run_text.specs.Gathering.{Printed}
-use Rattle.run_text.proofs.Gathered.{printed-more}
-use Rattle.lines_report.specs.declared.row.LineCells.{LineCells}
-use Rattle.lines_report.specs.LinesText.{lines_header_text, lines_row_text, lines_rows_text, lines_text}
+use Rattle.run_text.{specs.Gathering.Printed, proofs.Gathered.printed-more}
+use Rattle.lines_report.specs.{LinesText.{lines_header_text, lines_row_text, lines_rows_text, lines_text}, declared.row.LineCells.LineCells}
 
 -- seven fields of which the last two were pushed as one, with commas between and LF at the end
 pub pieces-lines : (t : Reserved) (a b c d p s k : List ℕ) →

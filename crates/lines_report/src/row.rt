@@ -27,7 +27,8 @@ pub struct LineCells {
 pub fn print_lines_header(text: &mut Text)
     requires { text.old ≡ reserved TEXT_ROOM }
     ensures after { text.new ≡ appended text.old lines_header_text }
-    ensures printed { (before : Option (List ℕ)) (cells : ℕ → CellsOf) → Printed before before text.new (lines_text cells []) }
+    ensures printed { (before : Option (List ℕ)) (cells : ℕ → CellsOf)
+        → Printed before before text.new (lines_text cells []) }
 {
     text.push(b"array,bank,pulses,role,pointers,stuck,changes\n");
 }
@@ -54,7 +55,8 @@ fn push_role(role: Role, text: &mut Text)
 #[tactic(auto, using(pcm_io::proofs::DigitLemmas::ten_digits))]
 fn push_wear(wear: Option<CellWear>, text: &mut Text)
     requires { 21 ≤ room_in text.old }
-    ensures after { text.new ≡ appended text.old (stuck_text wear ++ codes "," ++ changes_text wear) }
+    ensures after { text.new ≡ appended text.old (stuck_text wear ++ codes ","
+        ++ changes_text wear) }
     ensures room { room_in text.old ≤ room_in text.new + 21 }
 {
     match wear {
@@ -100,11 +102,14 @@ pub fn print_lines_row<K: Sink>(
     requires { ROW_ROOM ≤ text.old.limit }
 
     // Behind the rows of all array lines below; after a fault first bytes were written, whatever rows would still come.
-    ensures ok { OnOk result ((before : Option (List ℕ)) (told : ℕ → CellsOf) (rows : List (ℕ × ℕ × RoleOf))
+    ensures ok { OnOk result ((before : Option (List ℕ)) (told : ℕ
+        → CellsOf) (rows : List (ℕ × ℕ × RoleOf))
         → length rows ≡ array_line → told array_line ≡ cells
         → Printed before (K.written out.old) text.old (lines_text told rows)
-        → Printed before (K.written out.new) text.new (lines_text told (rows ++ (bank, pulses, role) ∷ []))) }
-    ensures prefix { OnErr result ((before : Option (List ℕ)) (told : ℕ → CellsOf) (rows later : List (ℕ × ℕ × RoleOf))
+        → Printed before (K.written out.new) text.new (lines_text told (rows ++ (bank, pulses, role)
+        ∷ []))) }
+    ensures prefix { OnErr result ((before : Option (List ℕ)) (told : ℕ
+        → CellsOf) (rows later : List (ℕ × ℕ × RoleOf))
         → Printed before (K.written out.old) text.old (lines_text told rows)
         → AppendsPrefix before (K.written out.new) (lines_text told (rows ++ later))) }
     ensures limit { text.new.limit ≡ text.old.limit }

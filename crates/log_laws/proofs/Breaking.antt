@@ -1,19 +1,11 @@
 -- A cut, or the read that cancels, is a row between the senses before and behind it.
 use Rattle.std.proofs.Common.{◌≡◌, ℕ, ◌≤◌, ◌&&◌, Bool, true, false, List, [], ◌∷◌, ◌++◌, refl, sym, ap, ◌∙◌, subst, arith}
-use Rattle.std.specs.Prelude.{IsTrue, nat_le}
-use Rattle.std.proofs.lemmas.Bool.{le-leb, and_from, or_left, or_right}
-use Rattle.std.proofs.lemmas.List.Folds.{list_any-append}
+use Rattle.std.{specs.Prelude.{IsTrue, nat_le}, proofs.lemmas.Bool.{le-leb, and_from, or_left, or_right}, proofs.lemmas.List.Folds.list_any-append}
 use Rattle.row_rules.specs.declared.Rules.{Rules}
-use Rattle.bank_shape.specs.Pausing.{is_cancelling}
-use Rattle.bank_shape.specs.declared.BankShape.{BankShape}
+use Rattle.bank_shape.specs.{Pausing.is_cancelling, declared.BankShape.BankShape, declared.pace.Pace.Pace}
 use Rattle.bank_shape.specs.declared.answer.ReadAnswer.TheVariants as came
-use Rattle.bank_model.specs.Events.{BankEvent, Write, Read, Serve, Begin, Iterate, Cut}
-use Rattle.bank_shape.specs.declared.pace.Pace.{Pace}
-use Rattle.bank_model.specs.Timing.{Happens, Core, Regs, TimedEvent}
-use Rattle.bank_model.specs.Lawful.{Lawful, MayCome, IsRead}
-use Rattle.bank_laws.specs.Outcomes.{row_with, rows_from}
-use Rattle.bank_laws.specs.Logs.{is_broken}
-use Rattle.bank_laws.proofs.Settling.{lawful_before}
+use Rattle.bank_model.specs.{Events.{BankEvent, Write, Read, Serve, Begin, Iterate, Cut}, Lawful.{Lawful, MayCome, IsRead}, Timing.{Happens, Core, Regs, TimedEvent}}
+use Rattle.bank_laws.{specs.Logs.is_broken, specs.Outcomes.{row_with, rows_from}, proofs.Settling.lawful_before}
 
 between : (from at to : ℕ) → from ≤ at → at ≤ to → (nat_le from at && nat_le at to) ≡ true
 between from at to le lt = and_from (nat_le from at) _ (le-leb from at le) (le-leb at to lt)

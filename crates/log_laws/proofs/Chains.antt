@@ -1,14 +1,9 @@
 -- The senses of one line, one after the other.
 use Rattle.std.proofs.Common.{◌≡◌, ℕ, ◌+◌, ◌==◌, ◌&&◌, ◌||◌, not, Bool, true, false, List, [], ◌∷◌, ◌++◌, refl, sym, ap, ◌∙◌, subst, eq-eqb}
-use Rattle.std.proofs.lemmas.Bool.{and_from, or_left, or_right}
+use Rattle.std.{specs.List.list_any, specs.Prelude.{nat_le, nat_lt, All}, proofs.lemmas.Bool.{and_from, or_left, or_right}, proofs.lemmas.List.Elements.{All-head, All-tail}}
 use Rattle.masked_bytes.proofs.Truth.{and_first, and_second}
-use Rattle.std.proofs.lemmas.List.Elements.{All-head, All-tail}
-use Rattle.std.specs.Prelude.{nat_le, nat_lt, All}
-use Rattle.std.specs.List.{list_any}
 use Rattle.cell_rows.specs.declared.array.Sense.{Sense}
-use Rattle.row_rules.specs.declared.Row.{Row}
-use Rattle.row_rules.specs.declared.Rules.{Rules}
-use Rattle.row_rules.specs.Wearing.{worn_row}
+use Rattle.row_rules.specs.{Wearing.worn_row, declared.Row.Row, declared.Rules.Rules}
 use Rattle.bank_laws.specs.Logs.{is_broken, follows, tears, follow_on, follow_on_to, begins_unpulsed, begins_unpulsed_to}
 
 -- the last sense of a list that begins with this one

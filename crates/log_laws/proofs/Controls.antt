@@ -1,28 +1,13 @@
 -- Each cut has read every control line.
 use Rattle.std.proofs.Common.{◌≡◌, ℕ, ◌+◌, ◌==◌, ◌&&◌, ◌||◌, Bool, true, false, List, [], ◌∷◌, ◌++◌, refl, sym, ap, ◌∙◌, subst, eq-eqb}
-use Rattle.std.proofs.lemmas.Bool.{and_from, or_left, or_right}
-use Rattle.std.specs.Prelude.{All, map, nat_le, nat_lt}
-use Rattle.std.specs.List.{list_any, list_all}
-use Rattle.std.proofs.lemmas.List.Elements.{All-head, All-tail}
-use Rattle.std.proofs.lemmas.List.Folds.{list_any-append}
+use Rattle.std.{specs.List.{list_any, list_all}, specs.Prelude.{All, map, nat_le, nat_lt}, proofs.lemmas.Bool.{and_from, or_left, or_right}}
+use Rattle.std.proofs.{lemmas.List.Elements.{All-head, All-tail}, lemmas.List.Folds.list_any-append}
 use Rattle.cell_rows.specs.declared.array.Sense.{Sense}
-use Rattle.bank_shape.specs.declared.BankShape.{BankShape}
-use Rattle.bank_shape.specs.Shape.{lines_in}
-use Rattle.bank_model.specs.Events.{Write, Read, Serve, Begin, Iterate, Cut}
-use Rattle.bank_model.specs.Adding.{senses_of}
-use Rattle.bank_model.specs.Changes.{all_controls}
-use Rattle.bank_model.specs.Sensing.{pulses_of, read_again}
-use Rattle.bank_shape.specs.declared.pace.Pace.{Pace}
+use Rattle.bank_shape.specs.{Shape.lines_in, declared.BankShape.BankShape, declared.pace.Pace.Pace}
+use Rattle.bank_model.specs.{Adding.senses_of, Changes.all_controls, Events.{Write, Read, Serve, Begin, Iterate, Cut}, Lawful.{Lawful, MayCome}, Sensing.{pulses_of, read_again}}
 use Rattle.bank_model.specs.Timing.{Happens, Core, Regs, TimedEvent}
-use Rattle.bank_model.specs.Lawful.{Lawful, MayCome}
-use Rattle.bank_laws.specs.Laws.{log_of}
-use Rattle.bank_laws.specs.Logs.{has_controls}
-use Rattle.bank_laws.specs.Outcomes.{row_with, rows_from}
-use Rattle.bank_laws.proofs.Serves.{may_at}
-use Rattle.bank_laws.proofs.Walking.{Passes, walk, rows_after}
-use Rattle.log_laws.specs.Laws.{ControlsLaw}
-use Rattle.log_laws.proofs.Owning.{among}
-use Rattle.log_laws.proofs.Sensed.{any-filter}
+use Rattle.bank_laws.{specs.Laws.log_of, specs.Logs.has_controls, specs.Outcomes.{row_with, rows_from}, proofs.Serves.may_at, proofs.Walking.{Passes, walk, rows_after}}
+use Rattle.log_laws.{specs.Laws.ControlsLaw, proofs.Owning.among, proofs.Sensed.any-filter}
 
 -- what holds of each line that is among these holds of them
 all-among : (p : ℕ → Bool) (ls : List ℕ) → ((line : ℕ) → among line ls ≡ true → p line ≡ true) → list_all p ls ≡ true

@@ -1,20 +1,12 @@
 -- After any events that a bank allows, the queue's entries give of each line what its writes give, down to the last that was stored.
 use Rattle.std.proofs.Common.{◌≡◌, ℕ, ◌<◌, ◌≤◌, ◌==◌, Bool, true, false, List, [], ◌∷◌, Some, drop, refl, sym, ap, subst, arith, cond, eqb-true, eq-eqb}
-use Rattle.masked_bytes.specs.declared.entry.Entry.{Entry}
-use Rattle.masked_bytes.specs.Masked.{joined, none_given}
-use Rattle.masked_bytes.specs.Entries.{newest_row, has_row}
-use Rattle.masked_bytes.proofs.Queueing.{candidate-newest}
+use Rattle.masked_bytes.{specs.Entries.{newest_row, has_row}, specs.Masked.{joined, none_given}, specs.declared.entry.Entry.Entry, proofs.Queueing.candidate-newest}
 use Rattle.bank_shape.specs.declared.BankShape.{BankShape}
 use Rattle.bank_shape.specs.declared.answer.WriteAnswer.TheVariants as wrote
 use Rattle.bank_shape.specs.declared.answer.Step.TheVariants as did
-use Rattle.bank_model.specs.Events.{BankEvent, Write, Read, Serve, Begin, Iterate, Cut, RowsBelow, line_of_row, newest}
+use Rattle.bank_model.specs.{Answers.{MayAll, head_busy_after}, Events.{BankEvent, Write, Read, Serve, Begin, Iterate, Cut, RowsBelow, line_of_row, newest}}
 use Rattle.bank_model.specs.History.{queue, due_after}
-use Rattle.bank_model.specs.Answers.{MayAll, head_busy_after}
-use Rattle.bank_laws.proofs.Answering.{IsHead, head-there, stored-head}
-use Rattle.bank_laws.proofs.Entries.{either}
-use Rattle.bank_laws.proofs.Lines.{merged-candidate}
-use Rattle.bank_laws.proofs.Pairs.{keeps_pairs}
-use Rattle.bank_laws.proofs.Standing.{stand_apart}
+use Rattle.bank_laws.proofs.{Answering.{IsHead, head-there, stored-head}, Entries.either, Lines.merged-candidate, Pairs.keeps_pairs, Standing.stand_apart}
 use Rattle.log_laws.proofs.Fitting.{out_with, out_with-not, Grows, Fits, fits-push, fits-push_other, fits-merged, fits-merged_other, fits-begun, fits-drop}
 use Rattle.log_laws.proofs.Naming.{Named, named-push, named-drop, named-begun, named-too, named-merged}
 

@@ -1,42 +1,18 @@
 -- The senses of each of a bank's lines are fair.
 use Rattle.std.proofs.Common.{◌≡◌, ℕ, ◌+◌, ◌-◌, ◌<◌, ◌≤◌, ◌==◌, ◌&&◌, ◌||◌, ◌⊎◌, inl, inr, Bool, true, false, List, [], ◌∷◌, ◌++◌, Option, Some, None, refl, sym, ap, ◌∙◌, subst, arith, cond, append_assoc, eq-eqb}
-use Rattle.std.proofs.lemmas.Bool.{and_from, or_left, le-leb}
-use Rattle.std.specs.Prelude.{All, nat_le, nat_lt, not}
-use Rattle.std.proofs.lemmas.List.Elements.{filter-append}
-use Rattle.cell_rows.specs.declared.array.Sense.{Sense}
-use Rattle.bank_shape.specs.declared.BankShape.{BankShape}
-use Rattle.bank_shape.specs.Shape.{slots_of, lines_in, controls_from}
-use Rattle.bank_shape.specs.declared.clock.Doing.TheVariants.{Serving}
-use Rattle.bank_model.specs.History.{waits}
-use Rattle.bank_shape.specs.declared.pace.Pace.{Pace}
+use Rattle.std.{specs.List.{list_any, list_all}, specs.Prelude.{All, nat_le, nat_lt, not}, proofs.lemmas.Bool.{and_from, or_left, le-leb}}
+use Rattle.std.proofs.lemmas.List.Elements.{filter-append, All-head, All-tail}
+use Rattle.cell_rows.specs.{Device.counted, declared.array.Sense.Sense}
+use Rattle.bank_shape.specs.{Acting.{Choice, chosen_by}, Pausing.gives_way, Shape.{slots_of, lines_in, controls_from}, declared.BankShape.BankShape}
+use Rattle.bank_shape.specs.{declared.clock.Doing.TheVariants.Serving, declared.pace.Pace.Pace}
+use Rattle.bank_model.specs.{Adding.senses_of, After.may_begin_after, Changes.{change_after, keeping_after, halted_after, line_of_change}, Events.Cut, History.waits}
+use Rattle.bank_model.specs.{Lawful.{Lawful, IsIdle}, Running.{choice_after, ready_by, ready_after}, Sensing.pulses_of}
 use Rattle.bank_model.specs.Timing.{Happens, Core, TimedEvent, core, is_empty, last_tick}
-use Rattle.bank_model.specs.After.{may_begin_after}
-use Rattle.bank_shape.specs.Pausing.{gives_way}
-use Rattle.bank_shape.specs.Acting.{Choice, chosen_by}
-use Rattle.bank_model.specs.Running.{choice_after, ready_by, ready_after}
-use Rattle.bank_model.specs.Changes.{change_after, keeping_after, halted_after, line_of_change}
-use Rattle.bank_model.specs.Adding.{senses_of}
-use Rattle.bank_model.specs.Sensing.{pulses_of}
-use Rattle.bank_model.specs.Lawful.{Lawful, IsIdle}
-use Rattle.bank_laws.specs.Laws.{IsSized, rules_of}
-use Rattle.bank_laws.specs.Logs.{begins_unpulsed_to, follow_on_to}
-use Rattle.bank_laws.specs.Resting.{IsCutOff, EndsIn}
-use Rattle.bank_laws.proofs.Counted.{counted-cases}
-use Rattle.cell_rows.specs.Device.{counted}
+use Rattle.bank_laws.specs.{Laws.{IsSized, rules_of}, Logs.{begins_unpulsed_to, follow_on_to}, Outcomes.{row_with, rows_from, table_of}, Resting.{IsCutOff, EndsIn}}
+use Rattle.bank_laws.{specs.Settling.AreOpen, proofs.Counted.counted-cases, proofs.Serves.idle-waits, proofs.Settling.opens, proofs.Targets.work-begins}
 use Rattle.row_rules.specs.Rows.{is_cut}
-use Rattle.std.specs.List.{list_any, list_all}
-use Rattle.std.proofs.lemmas.List.Elements.{All-head, All-tail}
-use Rattle.bank_model.specs.Events.{Cut}
-use Rattle.bank_laws.specs.Outcomes.{row_with, rows_from, table_of}
-use Rattle.bank_laws.specs.Settling.{AreOpen}
-use Rattle.bank_laws.proofs.Serves.{idle-waits}
-use Rattle.bank_laws.proofs.Settling.{opens}
-use Rattle.log_laws.specs.Laws.{PulseStepsLaw}
-use Rattle.log_laws.proofs.Chains.{last_of, follow-same, begin-same, follow-off, begin-off, torn-end}
-use Rattle.log_laws.proofs.Owning.{own, own-kept, own-log}
-use Rattle.log_laws.proofs.Pulsing.{Torn, Due, Busy, Shown}
-use Rattle.log_laws.proofs.Stepping.{step}
-use Rattle.bank_laws.proofs.Targets.{work-begins}
+use Rattle.log_laws.{specs.Laws.PulseStepsLaw, proofs.Chains.{last_of, follow-same, begin-same, follow-off, begin-off, torn-end}, proofs.Owning.{own, own-kept, own-log}}
+use Rattle.log_laws.proofs.{Pulsing.{Torn, Due, Busy, Shown}, Stepping.step}
 
 -- where nothing is chosen no line write may be begun
 none-begins : (way reads : Bool) (c : Choice) → chosen_by way reads c ≡ None → c.ready ≡ false

@@ -1,16 +1,11 @@
 -- The queue's entries give of a line what its accepted writes give, down to the last that is out.
 use Rattle.std.proofs.Common.{◌≡◌, ℕ, ◌==◌, ◌||◌, ◌⊎◌, inl, inr, Bool, true, false, List, [], ◌∷◌, ◌++◌, Option, Some, None, length, sym, ap, ◌∙◌, subst, cond, eqb, eqb-true, eq-eqb, refl}
 use Rattle.std.proofs.lemmas.Bool.{or_from, or_left, or_right}
-use Rattle.masked_bytes.proofs.Truth.{neither_first, neither_second}
-use Rattle.masked_bytes.specs.declared.entry.Entry.{Entry}
-use Rattle.masked_bytes.specs.Masked.{joined, none_given, all_given, gives_all}
-use Rattle.masked_bytes.specs.Entries.{newest_row, merged, laid_on, has_row, RowsApart}
-use Rattle.masked_bytes.proofs.Layering.{joined-all_given, gives_all-all_given}
+use Rattle.masked_bytes.specs.{Entries.{newest_row, merged, laid_on, has_row, RowsApart}, Masked.{joined, none_given, all_given, gives_all}, declared.entry.Entry.Entry}
+use Rattle.masked_bytes.proofs.{Layering.{joined-all_given, gives_all-all_given}, Truth.{neither_first, neither_second}}
 use Rattle.bank_model.specs.History.{begun}
-use Rattle.bank_laws.specs.Pairs.{has_line}
-use Rattle.bank_laws.proofs.Pairs.{AllLong, gives_all-joined}
-use Rattle.bank_laws.proofs.Given.{given_of, length-given, given-lacks, given-push, given-push_other, NewestOf, newest-of, given-merged, given-merged_other}
-use Rattle.bank_laws.proofs.Lines.{newest-stands}
+use Rattle.bank_laws.{specs.Pairs.has_line, proofs.Given.{given_of, length-given, given-lacks, given-push, given-push_other, NewestOf, newest-of, given-merged, given-merged_other}}
+use Rattle.bank_laws.proofs.{Lines.newest-stands, Pairs.{AllLong, gives_all-joined}}
 
 -- these rows, and one more if so said
 abbrev pub out_with : Bool → (ℕ → Bool) → ℕ → ℕ → Bool

@@ -1,13 +1,10 @@
 -- The row of each of the queue's entries is that of a write of its line.
 use Rattle.std.proofs.Common.{◌≡◌, ℕ, ◌<◌, ◌≤◌, ◌==◌, inl, inr, Bool, false, List, [], ◌∷◌, ◌++◌, Option, Some, None, drop, sym, ap, ◌∙◌, subst, arith, cond, eqb, eqb-true, eq-eqb, refl}
+use Rattle.masked_bytes.specs.{Entries.{newest_row, merged, laid_on, has_row, RowsApart}, declared.entry.Entry.Entry}
 use Rattle.masked_bytes.proofs.Truth.{neither_first, neither_second, differ_sym}
-use Rattle.masked_bytes.specs.declared.entry.Entry.{Entry}
-use Rattle.masked_bytes.specs.Entries.{newest_row, merged, laid_on, has_row, RowsApart}
 use Rattle.bank_shape.specs.declared.answer.WriteAnswer.{WriteAnswer}
-use Rattle.bank_model.specs.Events.{BankEvent, Write, Read, Serve, Begin, Iterate, Cut, RowsBelow, line_of_row, up_to}
-use Rattle.bank_model.specs.History.{begun}
-use Rattle.bank_laws.proofs.Entries.{differ_back}
-use Rattle.bank_laws.proofs.Given.{NewestOf, newest-of}
+use Rattle.bank_model.specs.{Events.{BankEvent, Write, Read, Serve, Begin, Iterate, Cut, RowsBelow, line_of_row, up_to}, History.begun}
+use Rattle.bank_laws.proofs.{Entries.differ_back, Given.{NewestOf, newest-of}}
 
 module _ {n : ℕ} where
   -- the row of each entry has the entry's line

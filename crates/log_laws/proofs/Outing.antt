@@ -1,31 +1,18 @@
 -- A write of a line is out of the queue exactly where its row was stored.
 use Rattle.std.proofs.Common.{◌≡◌, ℕ, ◌==◌, ◌⊎◌, inl, inr, Bool, true, false, List, [], ◌∷◌, ◌++◌, Some, None, refl, sym, ap, ◌∙◌, subst, arith, cond, eqb, eq-eqb, eqb-true}
-use Rattle.std.proofs.lemmas.Bool.{or_right}
-use Rattle.std.specs.Prelude.{unwrap_or}
+use Rattle.std.{specs.Prelude.unwrap_or, proofs.lemmas.Bool.or_right}
 use Rattle.result_rows.specs.declared.Outcome.{Outcome}
 use Rattle.result_rows.specs.declared.Outcome.TheVariants as out
 use Rattle.row_rules.specs.Answers.{is_stored}
-use Rattle.bank_shape.specs.declared.BankShape.{BankShape}
-use Rattle.bank_shape.specs.declared.answer.WriteAnswer.{WriteAnswer}
+use Rattle.bank_shape.specs.{declared.BankShape.BankShape, declared.answer.WriteAnswer.WriteAnswer, declared.pace.Pace.Pace}
 use Rattle.bank_shape.specs.declared.answer.WriteAnswer.TheVariants as wrote
 use Rattle.bank_shape.specs.declared.answer.ReadAnswer.TheVariants as came
 use Rattle.bank_shape.specs.declared.answer.Step.TheVariants as did
-use Rattle.bank_model.specs.Events.{BankEvent, Write, Read, Serve, Begin, Iterate, Cut, RowsBelow, line_of_row, up_to}
-use Rattle.bank_model.specs.History.{waits}
-use Rattle.bank_model.specs.Sensing.{most_steps}
-use Rattle.bank_shape.specs.declared.pace.Pace.{Pace}
-use Rattle.bank_model.specs.Timing.{Happens, Core, Regs, TimedEvent, core, core_of}
-use Rattle.bank_model.specs.Lawful.{Lawful, MayCome}
-use Rattle.bank_laws.specs.Outcomes.{on_row, outcome_with, outcome_of}
-use Rattle.bank_laws.specs.Standing.{has_wait}
-use Rattle.bank_laws.specs.Ticks.{ends_action}
-use Rattle.bank_laws.proofs.Entries.{either}
-use Rattle.bank_laws.proofs.Settling.{opens, above_all, step_stays}
-use Rattle.bank_laws.proofs.Waiting.{may_all}
-use Rattle.bank_laws.proofs.Wears.{stored_by}
-use Rattle.log_laws.proofs.Covering.{out_in, out-fresh}
-use Rattle.log_laws.proofs.Fitting.{out_with, out_with-not, out_with-kept}
-use Rattle.log_laws.proofs.Naming.{line-kept, up_to-kept}
+use Rattle.bank_model.specs.{Events.{BankEvent, Write, Read, Serve, Begin, Iterate, Cut, RowsBelow, line_of_row, up_to}, History.waits, Lawful.{Lawful, MayCome}}
+use Rattle.bank_model.specs.{Sensing.most_steps, Timing.{Happens, Core, Regs, TimedEvent, core, core_of}}
+use Rattle.bank_laws.{specs.Outcomes.{on_row, outcome_with, outcome_of}, specs.Standing.has_wait, specs.Ticks.ends_action, proofs.Entries.either}
+use Rattle.bank_laws.proofs.{Settling.{opens, above_all, step_stays}, Waiting.may_all, Wears.stored_by}
+use Rattle.log_laws.proofs.{Covering.{out_in, out-fresh}, Fitting.{out_with, out_with-not, out_with-kept}, Naming.{line-kept, up_to-kept}}
 
 pub core-append : {n m : ℕ} (mid ys : List (TimedEvent n m)) → core (mid ++ ys) ≡ core mid ++ core ys
 core-append [] ys = refl

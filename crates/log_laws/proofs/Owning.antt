@@ -1,12 +1,9 @@
 -- The senses of one line among those of an event.
 use Rattle.std.proofs.Common.{◌≡◌, ℕ, ◌==◌, ◌||◌, ◌&&◌, ◌≤◌, ◌<◌, ◌+◌, Bool, true, false, List, [], ◌∷◌, refl, sym, ap, ◌∙◌, subst, arith, cond, eq-eqb, eqb-true}
-use Rattle.std.specs.Prelude.{zero, suc, All, map, filter, nat_le, nat_lt}
-use Rattle.std.specs.List.{list_any}
-use Rattle.std.proofs.lemmas.Bool.{le-leb, lt-ltb, and_from, or_left, or_right}
+use Rattle.std.{specs.List.list_any, specs.Prelude.{zero, suc, All, map, filter, nat_le, nat_lt}, proofs.lemmas.Bool.{le-leb, lt-ltb, and_from, or_left, or_right}}
 use Rattle.std.proofs.lemmas.List.Elements.{All-nil, All-cons, All-head, All-tail}
 use Rattle.cell_rows.specs.declared.array.Sense.{Sense}
-use Rattle.bank_shape.specs.declared.BankShape.{BankShape}
-use Rattle.bank_shape.specs.Shape.{lines_in}
+use Rattle.bank_shape.specs.{Shape.lines_in, declared.BankShape.BankShape}
 use Rattle.bank_model.specs.Changes.{numbers_from}
 use Rattle.bank_laws.specs.Laws.{log_of}
 

@@ -1,27 +1,14 @@
 -- What the senses of one line have shown after some events: all of its pulses, or all but that of a tear, whose line is the
 -- target of the present work.
 use Rattle.std.proofs.Common.{◌≡◌, ℕ, ◌≤◌, ◌-◌, ◌^◌, ◌==◌, ◌⊎◌, inl, inr, Bool, true, false, List, [], ◌∷◌, ◌++◌, Some, None, sym, ap, ◌∙◌, subst, arith}
-use Rattle.std.specs.Prelude.{All}
-use Rattle.std.proofs.lemmas.List.{append-nil}
-use Rattle.std.proofs.lemmas.List.Elements.{All-head, All-tail, All-weaker, filter-append}
-use Rattle.cell_rows.specs.declared.array.Sense.{Sense}
-use Rattle.cell_rows.specs.Device.{counted}
-use Rattle.row_rules.specs.declared.Row.{Row}
-use Rattle.row_rules.specs.declared.Rules.{Rules}
-use Rattle.bank_shape.specs.declared.BankShape.{BankShape}
-use Rattle.bank_model.specs.History.{in_progress}
-use Rattle.bank_model.specs.After.{target_after}
-use Rattle.bank_shape.specs.declared.pace.Pace.{Pace}
-use Rattle.bank_model.specs.Timing.{TimedEvent, core, last_tick}
-use Rattle.bank_model.specs.Running.{running}
-use Rattle.bank_model.specs.Changes.{change_after, keeping_after, halted_after, line_of_change}
-use Rattle.bank_model.specs.Sensing.{pulses_of}
-use Rattle.bank_model.specs.Adding.{senses_of}
-use Rattle.bank_laws.specs.Logs.{is_broken, follows, follow_on}
-use Rattle.log_laws.proofs.Chains.{last_of, last_of-more, last_of-all, Follow, follow-more, follow-alike}
-use Rattle.bank_laws.proofs.Targets.{WorkAfter}
-use Rattle.log_laws.proofs.Firsts.{BeganFrom}
-use Rattle.log_laws.proofs.Owning.{own}
+use Rattle.std.{specs.Prelude.All, proofs.lemmas.List.append-nil, proofs.lemmas.List.Elements.{All-head, All-tail, All-weaker, filter-append}}
+use Rattle.cell_rows.specs.{Device.counted, declared.array.Sense.Sense}
+use Rattle.row_rules.specs.{declared.Row.Row, declared.Rules.Rules}
+use Rattle.bank_shape.specs.{declared.BankShape.BankShape, declared.pace.Pace.Pace}
+use Rattle.bank_model.specs.{Adding.senses_of, After.target_after, Changes.{change_after, keeping_after, halted_after, line_of_change}, History.in_progress, Running.running}
+use Rattle.bank_model.specs.{Sensing.pulses_of, Timing.{TimedEvent, core, last_tick}}
+use Rattle.bank_laws.{specs.Logs.{is_broken, follows, follow_on}, proofs.Targets.WorkAfter}
+use Rattle.log_laws.proofs.{Chains.{last_of, last_of-more, last_of-all, Follow, follow-more, follow-alike}, Firsts.BeganFrom, Owning.own}
 
 module _ {n m : ℕ} (shape : BankShape) (pace : Pace) (rules : Rules) (rows : List (Row n)) (wears : Bool) (line : ℕ) (all : List (TimedEvent n m)) where
   -- the line is that of the line write that is to be begun: the bank's, or that of the change that stands

@@ -1,38 +1,21 @@
 -- A row that was read has a sense of its place at its tick, over which the bytes of the queue give those that were read.
 use Rattle.std.proofs.Common.{◌≡◌, ◌≢◌, ℕ, ◌<◌, ◌≤◌, ◌==◌, ◌⊎◌, inl, inr, Bool, true, false, List, [], ◌∷◌, ◌++◌, Some, None, drop, refl, sym, ap, ◌∙◌, subst, arith, cond, eqb, eq-eqb, eqb-true}
-use Rattle.masked_bytes.proofs.Truth.{neither_first, neither_second}
-use Rattle.std.specs.Prelude.{All, map, unwrap_or}
-use Rattle.std.proofs.lemmas.List.Elements.{All-head}
+use Rattle.std.{specs.Prelude.{All, map, unwrap_or}, proofs.lemmas.List.Elements.All-head}
+use Rattle.masked_bytes.{specs.Masked.laid, proofs.Layering.laid-over, proofs.Truth.{neither_first, neither_second}}
 use Rattle.cell_rows.specs.declared.array.Sense.{Sense}
 use Rattle.ecp_line.specs.Reading.{decode}
-use Rattle.masked_bytes.specs.Masked.{laid}
 use Rattle.result_rows.specs.declared.Outcome.{Outcome}
 use Rattle.result_rows.specs.declared.Outcome.TheVariants as out
 use Rattle.row_rules.specs.Serving.{same_bytes}
-use Rattle.masked_bytes.proofs.Layering.{laid-over}
-use Rattle.bank_shape.specs.declared.BankShape.{BankShape}
-use Rattle.bank_shape.specs.declared.answer.Served.{Served}
+use Rattle.bank_shape.specs.{declared.BankShape.BankShape, declared.answer.Served.Served, declared.pace.Pace.Pace}
 use Rattle.bank_shape.specs.declared.answer.WriteAnswer.TheVariants as wrote
 use Rattle.bank_shape.specs.declared.answer.ReadAnswer.TheVariants as came
 use Rattle.bank_shape.specs.declared.answer.Step.TheVariants as did
-use Rattle.bank_model.specs.Events.{Write, Read, Serve, Begin, Iterate, Cut, RowsBelow}
-use Rattle.bank_model.specs.History.{Awaited, waits}
-use Rattle.bank_model.specs.After.{stands_at_after}
-use Rattle.bank_model.specs.Answers.{IsServed}
-use Rattle.bank_model.specs.Adding.{senses_of}
-use Rattle.bank_model.specs.Sensing.{pulses_of, stand_of, IsLaid, IsReadRight}
-use Rattle.bank_shape.specs.declared.pace.Pace.{Pace}
-use Rattle.bank_model.specs.Timing.{Happens, Core, Regs, TimedEvent, core, core_of}
-use Rattle.bank_model.specs.Lawful.{Lawful, MayCome}
-use Rattle.bank_laws.specs.Logs.{is_sensed}
-use Rattle.bank_laws.specs.Outcomes.{on_row, outcome_with, outcome_of}
-use Rattle.bank_laws.specs.Standing.{has_wait}
-use Rattle.bank_laws.proofs.Serves.{same_bytes-same}
-use Rattle.bank_laws.proofs.Settling.{opens}
+use Rattle.bank_model.specs.{Adding.senses_of, After.stands_at_after, Answers.IsServed, Events.{Write, Read, Serve, Begin, Iterate, Cut, RowsBelow}, History.{Awaited, waits}}
+use Rattle.bank_model.specs.{Lawful.{Lawful, MayCome}, Sensing.{pulses_of, stand_of, IsLaid, IsReadRight}, Timing.{Happens, Core, Regs, TimedEvent, core, core_of}}
+use Rattle.bank_laws.{specs.Logs.is_sensed, specs.Outcomes.{on_row, outcome_with, outcome_of}, specs.Standing.has_wait, proofs.Serves.same_bytes-same, proofs.Settling.opens}
 use Rattle.bank_laws.proofs.Standing.{stand_apart}
-use Rattle.log_laws.proofs.Naming.{rows_below-end}
-use Rattle.log_laws.proofs.Outing.{core-append}
-use Rattle.log_laws.proofs.Storing.{one_sense, now-sensed, older-sensed}
+use Rattle.log_laws.proofs.{Naming.rows_below-end, Outing.core-append, Storing.{one_sense, now-sensed, older-sensed}}
 
 -- a read that waits with this one's row is this one
 abbrev pub OnlyOne : Awaited → List Awaited → Type 0

@@ -1,47 +1,22 @@
 -- Each row that was stored or read has its sense in the log.
 use Rattle.std.proofs.Common.{◌≡◌, ℕ, ◌+◌, ◌==◌, ◌&&◌, ◌||◌, inl, Bool, true, false, List, [], ◌∷◌, ◌++◌, refl, sym, ap, ◌∙◌, subst, cond, length, append_assoc}
-use Rattle.std.proofs.lemmas.Bool.{or_left}
-use Rattle.std.specs.Prelude.{filter, nat_le, nat_lt}
-use Rattle.std.specs.List.{list_any}
-use Rattle.std.proofs.lemmas.List.Folds.{list_any-append}
-use Rattle.bank_model.proofs.Waits.{waits-some}
+use Rattle.std.{specs.List.list_any, specs.Prelude.{filter, nat_le, nat_lt}, proofs.lemmas.Bool.or_left, proofs.lemmas.List.Folds.list_any-append}
+use Rattle.bank_model.specs.{Adding.senses_of, Events.{Write, Read, Serve, Begin, Iterate, Cut, newest}, History.{Awaited, awaited, queue, waits}, Lawful.{Lawful, MayCome}}
+use Rattle.bank_model.{specs.Timing.{Happens, Core, Regs, TimedEvent, core, core_of}, proofs.Waits.waits-some}
 use Rattle.cell_rows.specs.declared.array.Sense.{Sense}
 use Rattle.ecp_line.specs.Reading.{decode}
 use Rattle.result_rows.specs.declared.Outcome.{Outcome}
 use Rattle.result_rows.specs.declared.Outcome.TheVariants as out
-use Rattle.masked_bytes.specs.Masked.{laid, gives_all}
-use Rattle.masked_bytes.specs.Entries.{layer_of}
-use Rattle.row_rules.specs.declared.Row.{Row}
-use Rattle.row_rules.specs.declared.Asks.TheVariants.{Reads, Writes}
-use Rattle.row_rules.specs.Queueing.{cover}
+use Rattle.masked_bytes.specs.{Entries.layer_of, Masked.{laid, gives_all}}
+use Rattle.row_rules.specs.{Queueing.cover, Serving.{may_have, same_bytes}, declared.Asks.TheVariants.{Reads, Writes}, declared.Row.Row}
 use Rattle.row_rules.specs.Rows as rows
-use Rattle.row_rules.specs.Serving.{may_have, same_bytes}
-use Rattle.bank_shape.specs.declared.BankShape.{BankShape}
-use Rattle.bank_shape.specs.Shape.{lines_in}
-use Rattle.bank_shape.specs.declared.answer.WriteAnswer.{WriteAnswer}
+use Rattle.bank_shape.specs.{Shape.lines_in, declared.BankShape.BankShape, declared.answer.WriteAnswer.WriteAnswer, declared.pace.Pace.Pace}
 use Rattle.bank_shape.specs.declared.answer.ReadAnswer.TheVariants as came
-use Rattle.bank_model.specs.Events.{Write, Read, Serve, Begin, Iterate, Cut, newest}
-use Rattle.bank_model.specs.History.{Awaited, awaited, queue, waits}
-use Rattle.bank_model.specs.Adding.{senses_of}
-use Rattle.bank_shape.specs.declared.pace.Pace.{Pace}
-use Rattle.bank_model.specs.Timing.{Happens, Core, Regs, TimedEvent, core, core_of}
-use Rattle.bank_model.specs.Lawful.{Lawful, MayCome}
-use Rattle.bank_laws.specs.Laws.{IsSized, log_of}
-use Rattle.bank_laws.specs.Logs.{is_sensed, outcome_sensed, has_sense}
-use Rattle.bank_laws.specs.Outcomes.{outcome_of, ended, row_with, rows_from}
-use Rattle.bank_laws.specs.Settling.{AreOpen}
-use Rattle.bank_laws.specs.Ticks.{ends_action}
-use Rattle.bank_laws.proofs.Ending.{Onwards, own_answer, outcome-may, write_outcome}
-use Rattle.bank_laws.proofs.Fates.{IsSettled, awaits-new}
-use Rattle.bank_laws.proofs.Serves.{idle-waits, may_at, newest_same, onwards_at}
-use Rattle.bank_laws.proofs.Settling.{opens}
+use Rattle.bank_laws.specs.{Laws.{IsSized, log_of}, Logs.{is_sensed, outcome_sensed, has_sense}, Outcomes.{outcome_of, ended, row_with, rows_from}, Settling.AreOpen}
+use Rattle.bank_laws.{specs.Ticks.ends_action, proofs.Ending.{Onwards, own_answer, outcome-may, write_outcome}, proofs.Fates.{IsSettled, awaits-new}}
+use Rattle.bank_laws.proofs.{Given.{given_of, given-layer}, Serves.{idle-waits, may_at, newest_same, onwards_at}, Settling.opens, Waiting.settled_all}
 use Rattle.bank_laws.proofs.Walking.{Passes, walk, rows_after}
-use Rattle.log_laws.specs.Laws.{SensedLaw}
-use Rattle.bank_laws.proofs.Given.{given_of, given-layer}
-use Rattle.bank_laws.proofs.Waiting.{settled_all}
-use Rattle.log_laws.proofs.Reading.{read-sensed}
-use Rattle.log_laws.proofs.Storing.{stored-sensed}
-use Rattle.log_laws.proofs.Uncovering.{cover-same}
+use Rattle.log_laws.{specs.Laws.SensedLaw, proofs.Reading.read-sensed, proofs.Storing.stored-sensed, proofs.Uncovering.cover-same}
 
 pub any-filter : {X : Type 0} (p keep : X → Bool) (xs : List X) → list_any p (filter keep xs) ≡ true → list_any p xs ≡ true
 any-filter p keep [] h = h

@@ -1,48 +1,24 @@
 -- Each event of a lawful history keeps what the senses of a line show.
 use Rattle.std.proofs.Common.{◌≡◌, ℕ, ◌+◌, ◌<◌, ◌≤◌, ◌==◌, ◌&&◌, ◌||◌, ◌⊎◌, inl, inr, Bool, true, false, List, [], ◌∷◌, ◌++◌, Option, Some, None, refl, sym, ap, ◌∙◌, subst, arith, cond, eq-eqb, eqb-true, ◌-◌, ◌^◌}
+use Rattle.std.{specs.Prelude.{All, IfSome, IsTrue, is_some, map, nat_le, nat_lt}, proofs.lemmas.Bool.{le-leb, le-ltb, and_right, or_left, or_right}}
+use Rattle.std.proofs.{lemmas.List.Elements.All-head, lemmas.List.Folds.list_any-append}
 use Rattle.masked_bytes.proofs.Truth.{and_first, or_false}
-use Rattle.std.specs.Prelude.{All, IfSome, IsTrue, is_some, map, nat_le, nat_lt}
-use Rattle.std.proofs.lemmas.Bool.{le-leb, le-ltb, and_right, or_left, or_right}
-use Rattle.std.proofs.lemmas.List.Elements.{All-head}
-use Rattle.std.proofs.lemmas.List.Folds.{list_any-append}
-use Rattle.cell_rows.specs.declared.array.Sense.{Sense}
-use Rattle.cell_rows.specs.Device.{counted}
-use Rattle.bank_shape.specs.Pausing.{is_cancelling}
-use Rattle.bank_shape.specs.declared.BankShape.{BankShape}
-use Rattle.bank_shape.specs.Shape.{controls_of, controls_from}
-use Rattle.bank_shape.specs.declared.answer.Served.{Served}
-use Rattle.bank_shape.specs.declared.answer.Keep.{Keep}
+use Rattle.cell_rows.specs.{Device.counted, declared.array.Sense.Sense}
+use Rattle.bank_shape.specs.{Pausing.is_cancelling, Shape.{controls_of, controls_from}, declared.BankShape.BankShape, declared.answer.Keep.Keep, declared.answer.Served.Served}
+use Rattle.bank_shape.specs.{declared.answer.Step.Step, declared.clock.Action.Action, declared.clock.Doing.TheVariants.Iterating, declared.pace.Pace.Pace}
 use Rattle.bank_shape.specs.declared.answer.Keep.TheVariants as keep
-use Rattle.bank_shape.specs.declared.answer.Step.{Step}
-use Rattle.bank_shape.specs.declared.clock.Doing.TheVariants.{Iterating}
-use Rattle.bank_shape.specs.declared.clock.Action.{Action}
-use Rattle.bank_model.specs.Events.{BankEvent, Write, Read, Serve, Begin, Iterate, Cut}
-use Rattle.bank_model.specs.History.{queue, due_after, has_exhausted, in_progress}
 use Rattle.bank_model.specs.After.{target_after, sources_of, work_after}
-use Rattle.bank_shape.specs.declared.pace.Pace.{Pace}
-use Rattle.bank_model.specs.Timing.{Happens, Core, Regs, Keeping, KeepBegin, KeepIterate, KeepCut, TimedEvent, is_doing, core, core_of, last_tick}
-use Rattle.bank_model.specs.Running.{tears_bank, running, running_at, chosen_after, left, left_by}
 use Rattle.bank_model.specs.Changes.{change_after, change_by, written_by, keeping_after, keeping_by, halted_after, halted_by, line_of_change, all_controls}
+use Rattle.bank_model.specs.{Events.{BankEvent, Write, Read, Serve, Begin, Iterate, Cut}, History.{queue, due_after, has_exhausted, in_progress}}
+use Rattle.bank_model.specs.{Lawful.{Lawful, MayCome, IsNext, IsNextKept}, Running.{tears_bank, running, running_at, chosen_after, left, left_by}}
 use Rattle.bank_model.specs.Sensing.{is_at, most_steps, pulses_of, read_again, kept_sensed}
-use Rattle.bank_model.specs.Lawful.{Lawful, MayCome, IsNext, IsNextKept}
-use Rattle.bank_laws.specs.Laws.{IsSized, rules_of}
-use Rattle.bank_laws.specs.Logs.{is_broken, follows}
-use Rattle.bank_laws.specs.Outcomes.{rows_from}
-use Rattle.bank_laws.specs.Settling.{AreOpen}
-use Rattle.bank_laws.specs.Ticks.{ends_action}
-use Rattle.bank_laws.proofs.Changing.{changed-idle, halted-stops}
-use Rattle.bank_laws.proofs.Entries.{either}
-use Rattle.bank_laws.proofs.Settling.{lawful_before}
-use Rattle.bank_laws.proofs.Ticks.{last_tick-rises}
-use Rattle.bank_laws.proofs.Waiting.{may_all}
+use Rattle.bank_model.specs.Timing.{Happens, Core, Regs, Keeping, KeepBegin, KeepIterate, KeepCut, TimedEvent, is_doing, core, core_of, last_tick}
+use Rattle.bank_laws.specs.{Laws.{IsSized, rules_of}, Logs.{is_broken, follows}, Outcomes.rows_from, Settling.AreOpen, Ticks.ends_action}
+use Rattle.bank_laws.proofs.{Changing.{changed-idle, halted-stops}, Counted.{counted-cases, pulses-few}, Entries.either, Settling.lawful_before}
+use Rattle.bank_laws.proofs.{Targets.{WorkAfter, spares_work, working, target-same, begin-works, unexhausted}, Ticks.last_tick-rises, Waiting.may_all}
 use Rattle.place_laws.proofs.WornOut.{change-within}
-use Rattle.log_laws.proofs.Breaking.{cut-here, read-behind, cut-broken}
-use Rattle.log_laws.proofs.Chains.{last_of, same_follows, step_follows}
-use Rattle.bank_laws.proofs.Counted.{counted-cases, pulses-few}
-use Rattle.log_laws.proofs.Firsts.{BeganFrom, started-from, left-from}
-use Rattle.log_laws.proofs.Owning.{own, among, own-none, own-lacks, own-all, numbers-from, numbers-all}
-use Rattle.log_laws.proofs.Pulsing.{Due, Busy, Torn, Unseen, Seen, Shown, quiet, noted, tears}
-use Rattle.bank_laws.proofs.Targets.{WorkAfter, spares_work, working, target-same, begin-works, unexhausted}
+use Rattle.log_laws.proofs.{Breaking.{cut-here, read-behind, cut-broken}, Chains.{last_of, same_follows, step_follows}, Firsts.{BeganFrom, started-from, left-from}}
+use Rattle.log_laws.proofs.{Owning.{own, among, own-none, own-lacks, own-all, numbers-from, numbers-all}, Pulsing.{Due, Busy, Torn, Unseen, Seen, Shown, quiet, noted, tears}}
 use Rattle.log_laws.proofs.Unworn.{worn_below, unworn}
 
 -- what goes on after an event was spared by it

@@ -1,36 +1,21 @@
 -- A row that was stored has a sense of its place at its tick, which reads as the newest bytes of its line.
 use Rattle.std.proofs.Common.{◌≡◌, ℕ, ◌==◌, ◌⊎◌, inl, inr, Bool, true, false, List, [], ◌∷◌, ◌++◌, Some, None, refl, sym, ap, ◌∙◌, subst, cond, eqb, eq-eqb, eqb-true}
-use Rattle.std.proofs.lemmas.Bool.{and_from, or_left, or_right}
-use Rattle.std.specs.Prelude.{All, map, unwrap_or}
-use Rattle.std.proofs.lemmas.List.Elements.{All-head}
+use Rattle.std.{specs.Prelude.{All, map, unwrap_or}, proofs.lemmas.Bool.{and_from, or_left, or_right}, proofs.lemmas.List.Elements.All-head}
 use Rattle.std.proofs.lemmas.List.Folds.{list_any-append}
-use Rattle.cell_rows.specs.declared.array.Sense.{Sense}
-use Rattle.cell_rows.specs.declared.row.Cells.{Cells}
+use Rattle.cell_rows.specs.{declared.array.Sense.Sense, declared.row.Cells.Cells}
 use Rattle.ecp_line.specs.Reading.{decode}
 use Rattle.result_rows.specs.declared.Outcome.{Outcome}
 use Rattle.result_rows.specs.declared.Outcome.TheVariants as out
-use Rattle.row_rules.specs.Answers.{is_stored}
-use Rattle.row_rules.specs.Serving.{same_bytes}
-use Rattle.bank_shape.specs.declared.BankShape.{BankShape}
-use Rattle.bank_shape.specs.declared.Work.{Work}
-use Rattle.bank_shape.specs.declared.Work.TheVariants.{Nothing, Store, Copy}
-use Rattle.bank_shape.specs.declared.answer.WriteAnswer.{WriteAnswer}
+use Rattle.row_rules.specs.{Answers.is_stored, Serving.same_bytes}
+use Rattle.bank_shape.specs.{declared.BankShape.BankShape, declared.Work.Work, declared.Work.TheVariants.{Nothing, Store, Copy}, declared.answer.WriteAnswer.WriteAnswer}
+use Rattle.bank_shape.specs.declared.pace.Pace.{Pace}
 use Rattle.bank_shape.specs.declared.answer.WriteAnswer.TheVariants as wrote
 use Rattle.bank_shape.specs.declared.answer.ReadAnswer.TheVariants as came
 use Rattle.bank_shape.specs.declared.answer.Step.TheVariants as did
-use Rattle.bank_model.specs.Events.{BankEvent, Write, Read, Serve, Begin, Iterate, Cut, newest, up_to, line_of_row}
-use Rattle.bank_model.specs.History.{waits}
-use Rattle.bank_model.specs.After.{array_line_after, slot_of_work, sources_of, target_after, work_after}
-use Rattle.bank_model.specs.Answers.{IsDone}
-use Rattle.bank_model.specs.Adding.{senses_of}
-use Rattle.bank_model.specs.Sensing.{pulses_of, IsReadRight}
-use Rattle.bank_shape.specs.declared.pace.Pace.{Pace}
-use Rattle.bank_model.specs.Timing.{Happens, Core, Regs, TimedEvent, core}
-use Rattle.bank_model.specs.Lawful.{Lawful, MayCome}
-use Rattle.bank_laws.specs.Logs.{is_sensed}
-use Rattle.bank_laws.specs.Outcomes.{on_row, outcome_with, outcome_of}
-use Rattle.bank_laws.specs.Standing.{has_wait}
-use Rattle.bank_laws.proofs.Serves.{same_bytes-same}
+use Rattle.bank_model.specs.{Adding.senses_of, After.{array_line_after, slot_of_work, sources_of, target_after, work_after}, Answers.IsDone}
+use Rattle.bank_model.specs.{Events.{BankEvent, Write, Read, Serve, Begin, Iterate, Cut, newest, up_to, line_of_row}, History.waits, Lawful.{Lawful, MayCome}}
+use Rattle.bank_model.specs.{Sensing.{pulses_of, IsReadRight}, Timing.{Happens, Core, Regs, TimedEvent, core}}
+use Rattle.bank_laws.{specs.Logs.is_sensed, specs.Outcomes.{on_row, outcome_with, outcome_of}, specs.Standing.has_wait, proofs.Serves.same_bytes-same}
 use Rattle.bank_laws.proofs.Wears.{not_stored, lost_not_stored}
 use Rattle.log_laws.proofs.Outing.{line-in, up_to-in, unstored-first}
 

@@ -1,41 +1,19 @@
 -- What the rows show of a line's writes in the queue as a read arrives is what the queue's entries give.
 use Rattle.std.proofs.Common.{◌≡◌, ℕ, ◌<◌, ◌≤◌, ◌==◌, ◌&&◌, ◌⊎◌, inl, inr, Bool, true, false, List, [], ◌∷◌, ◌++◌, refl, sym, ap, ◌∙◌, subst, arith, cond, eqb-true, append_assoc}
-use Rattle.std.specs.List.{list_any}
-use Rattle.std.proofs.lemmas.Bool.{le-leb, lt-leb, and_right, or_from}
-use Rattle.std.proofs.lemmas.List.Folds.{list_any-append}
+use Rattle.std.{specs.List.list_any, proofs.lemmas.Bool.{le-leb, lt-leb, and_right, or_from}, proofs.lemmas.List.Folds.list_any-append}
 use Rattle.result_rows.specs.declared.Outcome.{Outcome}
 use Rattle.result_rows.specs.declared.Outcome.TheVariants as out
 use Rattle.masked_bytes.specs.Masked.{joined, none_given, gives_all}
-use Rattle.row_rules.specs.declared.Row.{Row}
-use Rattle.row_rules.specs.Answers.{accepts, is_stored, stored_by}
-use Rattle.row_rules.specs.Rows.{write_of}
-use Rattle.row_rules.specs.Queueing.{unstored, cover}
-use Rattle.bank_shape.specs.declared.BankShape.{BankShape}
-use Rattle.bank_shape.specs.declared.answer.WriteAnswer.{WriteAnswer}
+use Rattle.row_rules.specs.{Answers.{accepts, is_stored, stored_by}, Queueing.{unstored, cover}, Rows.write_of, declared.Row.Row}
+use Rattle.bank_shape.specs.{declared.BankShape.BankShape, declared.answer.WriteAnswer.WriteAnswer, declared.pace.Pace.Pace}
 use Rattle.bank_shape.specs.declared.answer.WriteAnswer.TheVariants as wrote
-use Rattle.bank_model.specs.Events.{Write, Read, Serve, Begin, Iterate, Cut}
-use Rattle.bank_model.specs.History.{queue}
-use Rattle.bank_model.specs.Sensing.{most_steps}
-use Rattle.bank_shape.specs.declared.pace.Pace.{Pace}
+use Rattle.bank_model.specs.{Events.{Write, Read, Serve, Begin, Iterate, Cut}, History.queue, Lawful.{Lawful, MayCome}, Sensing.most_steps}
 use Rattle.bank_model.specs.Timing.{Happens, Core, Regs, TimedEvent, core, core_of, last_tick}
-use Rattle.bank_model.specs.Lawful.{Lawful, MayCome}
-use Rattle.bank_laws.specs.Laws.{IsSized}
-use Rattle.bank_laws.specs.Outcomes.{outcome_of, ended, row_with, rows_from}
-use Rattle.bank_laws.specs.Settling.{AreOpen}
-use Rattle.bank_laws.specs.Ticks.{ends_action}
-use Rattle.bank_laws.proofs.Entries.{either}
-use Rattle.bank_laws.proofs.Ending.{Onwards, write_outcome, outcome-accepts}
-use Rattle.bank_laws.proofs.Later.{last-later, stored_above}
-use Rattle.bank_laws.proofs.Serves.{may_at, onwards_at}
-use Rattle.bank_laws.proofs.Settling.{opens, above_all, lawful_before, stays}
-use Rattle.bank_laws.proofs.Ticks.{last_tick-rises}
-use Rattle.bank_laws.proofs.Waiting.{may_all}
-use Rattle.bank_laws.proofs.Walking.{rows_after}
+use Rattle.bank_laws.specs.{Laws.IsSized, Outcomes.{outcome_of, ended, row_with, rows_from}, Settling.AreOpen, Ticks.ends_action}
+use Rattle.bank_laws.proofs.{Ending.{Onwards, write_outcome, outcome-accepts}, Entries.either, Given.given_of, Later.{last-later, stored_above}, Serves.{may_at, onwards_at}}
+use Rattle.bank_laws.proofs.{Settling.{opens, above_all, lawful_before, stays}, Ticks.last_tick-rises, Waiting.may_all, Walking.rows_after}
 use Rattle.bank_laws.proofs.Wears.{stored_by as stored_by_event, stored_up_to}
-use Rattle.log_laws.proofs.Covering.{uncovered, uncovered_by, out_in, fits-after}
-use Rattle.log_laws.proofs.Fitting.{fits-given}
-use Rattle.bank_laws.proofs.Given.{given_of}
-use Rattle.log_laws.proofs.Outing.{out-same}
+use Rattle.log_laws.proofs.{Covering.{uncovered, uncovered_by, out_in, fits-after}, Fitting.fits-given, Outing.out-same}
 
 module _ {n : ℕ} where
   stored-ended : (t tick : ℕ) (o : Outcome n) → stored_by t (ended tick o) ≡ stored_by t o

@@ -1,25 +1,11 @@
 -- While a bank isn't exhausted no worn row has come.
 use Rattle.std.proofs.Common.{◌≡◌, ℕ, ◌≤◌, ◌&&◌, ◌||◌, Bool, true, false, List, [], ◌∷◌, ◌++◌, refl, sym, ◌∙◌, subst, arith, append_assoc}
-use Rattle.std.specs.Prelude.{IsTrue, nat_lt}
-use Rattle.std.specs.List.{list_any}
-use Rattle.std.proofs.lemmas.Bool.{le-ltb, and_right, or_from}
-use Rattle.std.proofs.lemmas.List.Folds.{list_any-append}
-use Rattle.row_rules.specs.declared.Row.{Row}
-use Rattle.row_rules.specs.Answers.{is_worn}
-use Rattle.row_rules.specs.Wearing.{worn_row}
-use Rattle.bank_shape.specs.declared.BankShape.{BankShape}
-use Rattle.bank_model.specs.Events.{Write, Read, Serve, Begin, Iterate, Cut}
-use Rattle.bank_model.specs.History.{has_exhausted}
-use Rattle.bank_shape.specs.declared.pace.Pace.{Pace}
-use Rattle.bank_model.specs.Timing.{Happens, Core, Regs, TimedEvent, core, last_tick}
-use Rattle.bank_model.specs.Lawful.{Lawful}
-use Rattle.bank_laws.specs.Outcomes.{outcome_of, ended, row_with, rows_from}
-use Rattle.bank_laws.specs.Settling.{AreOpen}
-use Rattle.bank_laws.specs.Ticks.{ends_action}
-use Rattle.bank_laws.proofs.Entries.{either}
-use Rattle.bank_laws.proofs.Ticks.{last_tick-rises}
-use Rattle.bank_laws.proofs.Wears.{worn_rows-exhausted}
-use Rattle.bank_laws.proofs.Later.{last-later}
+use Rattle.std.{specs.List.list_any, specs.Prelude.{IsTrue, nat_lt}, proofs.lemmas.Bool.{le-ltb, and_right, or_from}, proofs.lemmas.List.Folds.list_any-append}
+use Rattle.row_rules.specs.{Answers.is_worn, Wearing.worn_row, declared.Row.Row}
+use Rattle.bank_shape.specs.{declared.BankShape.BankShape, declared.pace.Pace.Pace}
+use Rattle.bank_model.specs.{Events.{Write, Read, Serve, Begin, Iterate, Cut}, History.has_exhausted, Lawful.Lawful, Timing.{Happens, Core, Regs, TimedEvent, core, last_tick}}
+use Rattle.bank_laws.{specs.Outcomes.{outcome_of, ended, row_with, rows_from}, specs.Settling.AreOpen, specs.Ticks.ends_action, proofs.Entries.either, proofs.Later.last-later}
+use Rattle.bank_laws.proofs.{Ticks.last_tick-rises, Wears.worn_rows-exhausted}
 
 any-fewer : {X : Type 0} (p q : X → Bool) (xs : List X) → list_any p xs ≡ false → list_any (λ x. p x && q x) xs ≡ false
 any-fewer p q [] none = refl

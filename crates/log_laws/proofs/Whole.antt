@@ -1,9 +1,6 @@
 -- The law of the log, by its two parts.
-use Rattle.bank_laws.specs.Whole.{WholeLogLaw}
-use Rattle.bank_laws.proofs.Resting.{ends-still}
-use Rattle.log_laws.proofs.Fair.{pulse_steps_law}
-use Rattle.log_laws.proofs.Sensed.{sensed_law}
-use Rattle.log_laws.proofs.Controls.{controls_law}
+use Rattle.bank_laws.{specs.Whole.WholeLogLaw, proofs.Resting.ends-still}
+use Rattle.log_laws.proofs.{Controls.controls_law, Fair.pulse_steps_law, Sensed.sensed_law}
 
 pub whole_log_law : WholeLogLaw
 whole_log_law n m off e shape pace xs array log extra sized l ends leaves shown are = record {

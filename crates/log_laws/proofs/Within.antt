@@ -1,36 +1,19 @@
 -- The array lines that a history senses are those of its bank.
 use Rattle.std.proofs.Common.{◌≡◌, ℕ, ◌+◌, ◌*◌, ◌/◌, ◌<◌, ◌≤◌, inl, Bool, true, false, cond, List, [], ◌∷◌, Option, Some, None, refl, sym, subst, arith}
-use Rattle.std.specs.Prelude.{zero, suc, All, IfSome, map}
-use Rattle.std.proofs.lemmas.Nat.{div_below}
-use Rattle.std.proofs.lemmas.List.Elements.{All-nil, All-cons, All-head, All-tail, All-append}
+use Rattle.std.{specs.Prelude.{zero, suc, All, IfSome, map}, proofs.lemmas.List.Elements.{All-nil, All-cons, All-head, All-tail, All-append}, proofs.lemmas.Nat.div_below}
 use Rattle.masked_bytes.specs.declared.entry.Entry.{Entry}
 use Rattle.cell_rows.specs.declared.array.Sense.{Sense}
-use Rattle.start_gap.specs.Rotation.{gap_after, move_after}
-use Rattle.start_gap.proofs.Places.{below_gap-within}
-use Rattle.spare_pool.specs.Table.{Table}
-use Rattle.spare_pool.proofs.Lines.{line_by-within}
-use Rattle.bank_shape.specs.declared.BankShape.{BankShape}
-use Rattle.bank_shape.specs.declared.Work.{Work}
-use Rattle.bank_shape.specs.declared.Work.TheVariants.{Nothing}
-use Rattle.bank_shape.specs.Shape.{slots_of, lines_in, controls_of, controls_from, IsIn}
-use Rattle.bank_model.specs.Events.{BankEvent, Write, Read, Serve, Begin, Iterate, Cut, RowsBelow, line_of_row}
-use Rattle.bank_model.specs.History.{Awaited, first_or, stores, moved_in, retired, has_exhausted, due_after, queue, waits}
-use Rattle.bank_model.specs.After.{due_work, work_after, slot_of_work, slot_after, array_line_after, target_after, sources_of}
-use Rattle.bank_model.specs.Answers.{MayAll}
-use Rattle.bank_model.specs.Sensing.{most_steps, stand_of, sensed_by, read_again, kept_sensed}
-use Rattle.bank_model.specs.Changes.{change_after, line_of_change, numbers_from}
-use Rattle.bank_model.specs.Timing.{Happens, Core, Regs, Keeping, KeepBegin, KeepIterate, KeepCut, core}
-use Rattle.bank_model.specs.Lawful.{MayCome}
-use Rattle.bank_model.specs.Adding.{senses_of}
-use Rattle.bank_model.proofs.Within.{line_of_row-known, last_store-known}
-use Rattle.bank_laws.proofs.Lines.{Stands}
-use Rattle.bank_laws.proofs.Settling.{above_all}
-use Rattle.bank_laws.proofs.Waiting.{may_all}
-use Rattle.bank_laws.proofs.Asked.{WaitsFor, asked-within, wrote-asked, queue-wrote, waits-asked}
-use Rattle.place_laws.proofs.Moves.{some-due}
-use Rattle.place_laws.proofs.Slots.{slot_moved-within, gap-within, retired-few}
+use Rattle.start_gap.{specs.Rotation.{gap_after, move_after}, proofs.Places.below_gap-within}
+use Rattle.spare_pool.{specs.Table.Table, proofs.Lines.line_by-within}
+use Rattle.bank_shape.specs.{Shape.{slots_of, lines_in, controls_of, controls_from, IsIn}, declared.BankShape.BankShape, declared.Work.Work, declared.Work.TheVariants.Nothing}
 use Rattle.bank_shape.proofs.Sizes.{slot_at-within}
-use Rattle.place_laws.proofs.WornOut.{change-within, some_product}
+use Rattle.bank_model.specs.{Adding.senses_of, After.{due_work, work_after, slot_of_work, slot_after, array_line_after, target_after, sources_of}, Answers.MayAll}
+use Rattle.bank_model.specs.{Changes.{change_after, line_of_change, numbers_from}, Events.{BankEvent, Write, Read, Serve, Begin, Iterate, Cut, RowsBelow, line_of_row}}
+use Rattle.bank_model.specs.{History.{Awaited, first_or, stores, moved_in, retired, has_exhausted, due_after, queue, waits}, Lawful.MayCome}
+use Rattle.bank_model.specs.{Sensing.{most_steps, stand_of, sensed_by, read_again, kept_sensed}, Timing.{Happens, Core, Regs, Keeping, KeepBegin, KeepIterate, KeepCut, core}}
+use Rattle.bank_model.proofs.Within.{line_of_row-known, last_store-known}
+use Rattle.bank_laws.proofs.{Asked.{WaitsFor, asked-within, wrote-asked, queue-wrote, waits-asked}, Lines.Stands, Settling.above_all, Waiting.may_all}
+use Rattle.place_laws.proofs.{Moves.some-due, Slots.{slot_moved-within, gap-within, retired-few}, WornOut.{change-within, some_product}}
 use Rattle.log_laws.specs.Laws.{WithinLaw}
 
 -- so many lines from one on are a bank's where the last is

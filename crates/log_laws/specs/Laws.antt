@@ -1,19 +1,11 @@
 -- The laws of a bank's log, one by one.
 use Rattle.std.specs.Prelude.{◌≡◌, ℕ, ◌+◌, ◌<◌, ◌≤◌, nat_lt, Bool, IsTrue, List, [], ◌++◌, All}
-use Rattle.cell_rows.specs.Device.{ArrayState}
-use Rattle.cell_rows.specs.declared.array.Sense.{Sense}
+use Rattle.cell_rows.specs.{Device.ArrayState, declared.array.Sense.Sense}
 use Rattle.ecp_line.specs.Reading.{decode}
 use Rattle.row_rules.specs.Rows.{each_row}
-use Rattle.bank_shape.specs.declared.BankShape.{BankShape}
-use Rattle.bank_shape.specs.Shape.{slots_of, lines_in}
-use Rattle.bank_model.specs.Adding.{senses_of}
-use Rattle.bank_shape.specs.declared.pace.Pace.{Pace}
-use Rattle.bank_model.specs.Timing.{TimedEvent}
-use Rattle.bank_model.specs.Lawful.{Lawful}
-use Rattle.bank_laws.specs.Outcomes.{table_of}
-use Rattle.bank_laws.specs.Resting.{IsStill, EndsIn}
-use Rattle.bank_laws.specs.Logs.{has_sense, has_controls, is_line_fair_to}
-use Rattle.bank_laws.specs.Laws.{LeavesArray, IsSized, rules_of, log_of}
+use Rattle.bank_shape.specs.{Shape.{slots_of, lines_in}, declared.BankShape.BankShape, declared.pace.Pace.Pace}
+use Rattle.bank_model.specs.{Adding.senses_of, Lawful.Lawful, Timing.TimedEvent}
+use Rattle.bank_laws.specs.{Laws.{LeavesArray, IsSized, rules_of, log_of}, Logs.{has_sense, has_controls, is_line_fair_to}, Outcomes.table_of, Resting.{IsStill, EndsIn}}
 
 -- the senses of each of a bank's lines begin at no pulses, go on by at most one pulse, an iteration or broken off, and end with
 -- the line's pulses; senses that show those may have been added

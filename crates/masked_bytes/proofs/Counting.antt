@@ -1,7 +1,6 @@
 -- Counts of those that pass a test; for the crates above.
 use Rattle.std.proofs.Common.{◌≡◌, ℕ, ◌+◌, Bool, List, ◌∷◌, ◌++◌, cond}
-use Rattle.std.specs.Prelude.{count_by}
-use Rattle.std.proofs.lemmas.List.Sums.{sum_by-append, sum_by-cons}
+use Rattle.std.{specs.Prelude.count_by, proofs.lemmas.List.Sums.{sum_by-append, sum_by-cons}}
 
 -- one where a test holds
 abbrev pub one_if : Bool → ℕ

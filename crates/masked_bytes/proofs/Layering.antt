@@ -1,11 +1,8 @@
 -- Laying bytes over others: lengths, single bytes, and what is laid over what is laid.
 use Rattle.std.proofs.Common.{◌≡◌, ℕ, ◌<◌, List, [], ◌∷◌, Bool, true, false, ◌||◌, ◌==◌, if◌then◌else◌, cond, zero, suc, length, get_or, take, replicate, refl, ap, ◌∙◌, arith, slice_set, eqb-true, bit_and, bit_xor, ◌+◌, ◌-◌, ◌%◌, ◌^◌, sym}
-use Rattle.std.proofs.lemmas.Bool.{and_from}
-use Rattle.masked_bytes.proofs.Truth.{and_first, and_second}
-use Rattle.std.specs.Int.Bits.{xor_self, xor_assoc, xor_zero_l, xor_zero_r, and_zero_r}
+use Rattle.std.{specs.Int.Bits.{xor_self, xor_assoc, xor_zero_l, xor_zero_r, and_zero_r}, proofs.lemmas.Bool.and_from, proofs.lemmas.List.length-replicate}
 use Rattle.std.proofs.lemmas.Nat.{and_mask, xor_lt}
-use Rattle.std.proofs.lemmas.List.{length-replicate}
-use Rattle.masked_bytes.specs.Masked.{laid, joined, none_given, all_given, gives_all, gives_some, zero_elsewhere, IsMasked}
+use Rattle.masked_bytes.{specs.Masked.{laid, joined, none_given, all_given, gives_all, gives_some, zero_elsewhere, IsMasked}, proofs.Truth.{and_first, and_second}}
 
 -- Lengths
 

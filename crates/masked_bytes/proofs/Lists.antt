@@ -1,8 +1,6 @@
 -- What stands in a list, and a list that is turned round; for the crates above.
 use Rattle.std.proofs.Common.{◌≡◌, ℕ, ◌<◌, List, [], ◌∷◌, ◌++◌, length, reverse, get_or, Some, sym, ap, ◌∙◌, append_assoc}
-use Rattle.std.specs.Prelude.{slice_get}
-use Rattle.std.proofs.lemmas.List.{reverse-append}
-use Rattle.std.proofs.lemmas.Option.{slice_get-get_or}
+use Rattle.std.{specs.Prelude.slice_get, proofs.lemmas.List.reverse-append, proofs.lemmas.Option.slice_get-get_or}
 
 -- what was read at an index stands there
 pub item-at : {A : Type 0} (xs : List A) (i : ℕ) (x : A) → i < length xs → x ≡ get_or xs i x → slice_get xs i ≡ Some x

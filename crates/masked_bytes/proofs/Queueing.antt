@@ -1,9 +1,8 @@
 -- What the entries of a queue stand for, before and after each change of the queue.
 use Rattle.std.proofs.Common.{◌≡◌, ℕ, ◌<◌, List, [], ◌∷◌, ◌++◌, Bool, true, false, ◌||◌, ◌&&◌, ◌==◌, not, if◌then◌else◌, zero, suc, length, replicate, refl, sym, subst, ap, ◌∙◌, arith, slice_get, slice_set, Option, Some, None, eq-eqb, eqb-true}
 use Rattle.std.proofs.lemmas.List.{length-replicate}
-use Rattle.masked_bytes.specs.Masked.{IsMasked}
-use Rattle.masked_bytes.specs.Entries.{Layer, no_layer, stacked, or_this, one_further, layer_by, layer_of, newest_row, newest_index, candidate, candidate_index, laid_on, merged, merged_at, row_at, has_row, RowsApart, AllMasked}
-use Rattle.masked_bytes.specs.declared.entry.Entry.{Entry}
+use Rattle.masked_bytes.specs.Entries.{Layer, no_layer, stacked, or_this, one_further, layer_by, layer_of, newest_row, newest_index, candidate, candidate_index, laid_on, merged}
+use Rattle.masked_bytes.specs.{Entries.{merged_at, row_at, has_row, RowsApart, AllMasked}, Masked.IsMasked, declared.entry.Entry.Entry}
 use Rattle.masked_bytes.proofs.Layering.{length-laid, length-joined, laid-none_given, joined-none_given, laid-laid, joined-joined, laid-zeros, joined-none_right}
 
 -- n bytes, and as many marks

@@ -1,9 +1,7 @@
 -- The rows of entries, as they come, merge and go.
 use Rattle.std.proofs.Common.{◌≡◌, ℕ, ◌==◌, Bool, true, false, List, [], ◌∷◌, ◌++◌, drop, refl, subst, cond, eqb, eqb-true}
 use Rattle.std.proofs.lemmas.Bool.{or_from}
-use Rattle.masked_bytes.proofs.Truth.{neither_first, neither_second, differ_sym}
-use Rattle.masked_bytes.specs.declared.entry.Entry.{Entry}
-use Rattle.masked_bytes.specs.Entries.{has_row, RowsApart, merged, laid_on}
+use Rattle.masked_bytes.{specs.Entries.{has_row, RowsApart, merged, laid_on}, specs.declared.entry.Entry.Entry, proofs.Truth.{neither_first, neither_second, differ_sym}}
 
 module _ {n : ℕ} where
   -- a row that no entry has, and that doesn't come, is still none's

@@ -1,9 +1,8 @@
 -- What each change of a queue leaves of what its entries stand for.
 use Rattle.std.proofs.Common.{◌≡◌, ℕ, ◌<◌, List, [], ◌∷◌, ◌++◌, Bool, true, false, ◌==◌, if◌then◌else◌, zero, suc, length, refl, sym, subst, ap, ◌∙◌, arith, Option, Some, None, eq-eqb, eqb-true}
 use Rattle.std.proofs.lemmas.List.{length-replicate}
-use Rattle.masked_bytes.specs.Masked.{laid, all_given, IsMasked}
 use Rattle.masked_bytes.specs.Entries.{Layer, no_layer, stacked, or_this, one_further, layer_by, layer_of, newest_index, laid_on, merged_at, completed, head_line, AllMasked}
-use Rattle.masked_bytes.specs.declared.entry.Entry.{Entry}
+use Rattle.masked_bytes.specs.{Masked.{laid, all_given, IsMasked}, declared.entry.Entry.Entry}
 use Rattle.masked_bytes.proofs.Layering.{length-laid, laid-all_given, laid-laid, IsMasked-laid, IsMasked-all_given}
 use Rattle.masked_bytes.proofs.Queueing.{IsLayer, IsLayer-layer_of, stacked-no_layer, append_under, layer_of-none, some_same, IsLayer-layer_by}
 

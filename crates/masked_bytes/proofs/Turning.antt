@@ -1,7 +1,6 @@
 -- Tests in another order, and the lesser of two numbers; for the crates above.
 use Rattle.std.proofs.Common.{◌≡◌, ℕ, ◌<◌, ◌≤◌, ◌&&◌, ◌||◌, ◌⊎◌, inl, inr, Bool, true, false, refl, sym, ap, ◌∙◌, arith}
-use Rattle.std.specs.Prelude.{nat_le, min}
-use Rattle.std.proofs.lemmas.Bool.{le-leb, lt-leb, cases_lt}
+use Rattle.std.{specs.Prelude.{nat_le, min}, proofs.lemmas.Bool.{le-leb, lt-leb, cases_lt}}
 
 pub and_turn : (a b c : Bool) → (a && (b && c)) ≡ (b && (a && c))
 and_turn true true c = refl

@@ -1,7 +1,6 @@
 -- The entries of a write queue, the oldest first.
 use Rattle.std.specs.Prelude.{◌≡◌, ℕ, ◌==◌, ◌&&◌, ◌||◌, not, Bool, false, if◌then◌else◌, List, [], ◌∷◌, zero, suc, replicate, Option, Some, None}
-use Rattle.masked_bytes.specs.Masked.{laid, joined, none_given, all_given, IsMasked}
-use Rattle.masked_bytes.specs.declared.entry.Entry.{Entry}
+use Rattle.masked_bytes.specs.{Masked.{laid, joined, none_given, all_given, IsMasked}, declared.entry.Entry.Entry}
 
 -- bytes of which some are given
 pub record Layer : Type 0 where

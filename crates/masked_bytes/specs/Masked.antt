@@ -1,6 +1,5 @@
 -- Bytes of which some are given: a list of bytes beside a list that says which.
-use Rattle.std.specs.Prelude.{◌≡◌, ℕ, List, [], ◌∷◌, Bool, true, false, ◌||◌, ◌&&◌, ◌==◌, if◌then◌else◌, replicate, length, IsTrue}
-use Rattle.std.specs.List.{list_all, list_any}
+use Rattle.std.specs.{List.{list_all, list_any}, Prelude.{◌≡◌, ℕ, List, [], ◌∷◌, Bool, true, false, ◌||◌, ◌&&◌, ◌==◌, if◌then◌else◌, replicate, length, IsTrue}}
 
 -- the given ones of these bytes over others
 abbrev pub laid : List ℕ → List Bool → List ℕ → List ℕ

@@ -19,7 +19,12 @@ impl<const B: usize> Entry<B> {
 
     /// A write that gives every byte of its line.
     pub fn whole(row: u32, line: u32, bytes: &[u8; B]) -> Entry<B>
-        ensures entry { result ≡ record { row = row; line = line; bytes = bytes.now; given = all_given B } }
+        ensures entry { result ≡ record {
+          row = row;
+          line = line;
+          bytes = bytes.now;
+          given = all_given B;
+        } }
         ensures masked { 0 < B → IsMasked B result.bytes result.given }
     {
         Entry {

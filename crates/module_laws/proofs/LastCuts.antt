@@ -1,20 +1,12 @@
 -- Where the last row is a power cut, at whose tick the bank still stands, its history ends with that cut.
 use Rattle.std.proofs.Common.{◌≡◌, ℕ, ◌<◌, ◌≤◌, Bool, true, false, List, [], ◌∷◌, refl, sym, ap, ◌∙◌, arith}
-use Rattle.std.specs.Prelude.{IsTrue, IsFalse}
-use Rattle.std.proofs.lemmas.Bool.{false_from_ne_true}
-use Rattle.row_rules.specs.declared.Asks.{Asks}
-use Rattle.row_rules.specs.declared.Asks.TheVariants.{Reads, Writes, Cuts}
-use Rattle.bank_shape.specs.declared.BankShape.{BankShape}
-use Rattle.bank_shape.specs.declared.pace.Pace.{Pace}
-use Rattle.bank_model.specs.Events.{BankEvent, Write, Read, Serve, Begin, Iterate, Cut}
-use Rattle.bank_model.specs.Timing.{Happens, Core, Regs, KeepBegin, KeepIterate, KeepCut, TimedEvent, last_tick}
-use Rattle.bank_model.specs.Lawful.{Lawful, MayCome, FollowsCancel, IsUncancelled, IsRead}
-use Rattle.bank_model.specs.Told.{IsWhole}
-use Rattle.bank_laws.specs.Ticks.{ends_action}
-use Rattle.bank_laws.specs.Resting.{IsCutOff}
-use Rattle.bank_laws.proofs.Ticks.{last-below}
-use Rattle.module_laws.specs.Asking.{Asked, IsAsked, AreAsked}
-use Rattle.module_laws.specs.Serves.{LastCutLaw}
+use Rattle.std.{specs.Prelude.{IsTrue, IsFalse}, proofs.lemmas.Bool.false_from_ne_true}
+use Rattle.row_rules.specs.{declared.Asks.Asks, declared.Asks.TheVariants.{Reads, Writes, Cuts}}
+use Rattle.bank_shape.specs.{declared.BankShape.BankShape, declared.pace.Pace.Pace}
+use Rattle.bank_model.specs.{Events.{BankEvent, Write, Read, Serve, Begin, Iterate, Cut}, Lawful.{Lawful, MayCome, FollowsCancel, IsUncancelled, IsRead}}
+use Rattle.bank_model.specs.{Timing.{Happens, Core, Regs, KeepBegin, KeepIterate, KeepCut, TimedEvent, last_tick}, Told.IsWhole}
+use Rattle.bank_laws.{specs.Resting.IsCutOff, specs.Ticks.ends_action, proofs.Ticks.last-below}
+use Rattle.module_laws.specs.{Asking.{Asked, IsAsked, AreAsked}, Serves.LastCutLaw}
 
 module _ {n m : ℕ} (shape : BankShape) (pace : Pace) (e : ℕ) (r : 1 ≤ pace.read) (i : 1 ≤ pace.iter) where
   whole-core : (xs : List (TimedEvent n m)) (at : ℕ) (event : BankEvent n) → FollowsCancel shape pace xs at event → ((tick : ℕ) → IsRead tick at event → ⊥) → IsWhole xs

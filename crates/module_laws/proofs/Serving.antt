@@ -1,22 +1,12 @@
 -- A bank's newest bytes of a line are the module's, so an answered read of the module is served as its bank serves it.
 use Rattle.std.proofs.Common.{◌≡◌, ℕ, ◌<◌, ◌==◌, ◌&&◌, Bool, true, false, List, [], ◌∷◌, map, refl, sym, ap, ◌∙◌, subst, cond, eqb-true, eq-eqb}
-use Rattle.masked_bytes.proofs.Truth.{and_first, and_second}
-use Rattle.std.specs.Prelude.{All}
-use Rattle.std.proofs.lemmas.Bool.{ne_eqb, and_from}
-use Rattle.std.proofs.lemmas.List.Elements.{All-head, All-tail}
-use Rattle.masked_bytes.specs.Masked.{laid}
+use Rattle.std.{specs.Prelude.All, proofs.lemmas.Bool.{ne_eqb, and_from}, proofs.lemmas.List.Elements.{All-head, All-tail}}
+use Rattle.masked_bytes.{specs.Masked.laid, proofs.Truth.{and_first, and_second}}
 use Rattle.result_rows.specs.declared.Outcome.{Outcome}
 use Rattle.result_rows.specs.declared.Outcome.TheVariants as out
-use Rattle.row_rules.specs.declared.Asks.{Asks}
-use Rattle.row_rules.specs.declared.Asks.TheVariants.{Reads, Writes, Cuts}
-use Rattle.row_rules.specs.declared.Row.{Row}
-use Rattle.row_rules.specs.Answers.{accepts}
-use Rattle.row_rules.specs.Rows.{each_row, newest, asks_cut}
-use Rattle.row_rules.specs.Lines.{IsOfLines}
-use Rattle.row_rules.specs.Serving.{is_served, may_have, owed}
-use Rattle.row_rules.specs.Table.{is_of, of_bank}
-use Rattle.module_laws.specs.Asking.{row_in, bank_table, asks_in}
-use Rattle.module_laws.specs.Serves.{AreLines, ServedByBanksLaw}
+use Rattle.row_rules.specs.{Answers.accepts, Lines.IsOfLines, Rows.{each_row, newest, asks_cut}, Serving.{is_served, may_have, owed}, Table.{is_of, of_bank}, declared.Asks.Asks}
+use Rattle.row_rules.specs.{declared.Asks.TheVariants.{Reads, Writes, Cuts}, declared.Row.Row}
+use Rattle.module_laws.specs.{Asking.{row_in, bank_table, asks_in}, Serves.{AreLines, ServedByBanksLaw}}
 
 module _ {n : ℕ} where
   -- what a row may have doesn't go by the number of its line

@@ -1,27 +1,14 @@
 -- Where a bank's history stands as a row of its module comes, so that the row finds what the bank holds there.
 use Rattle.std.proofs.Common.{◌≡◌, ℕ, ◌<◌, ◌≤◌, ◌⊎◌, inl, inr, Bool, true, false, List, [], ◌∷◌, ◌++◌, map, refl, sym, ap, ◌∙◌, subst, cond, arith, append_assoc, le_refl}
-use Rattle.std.specs.Prelude.{filter, All}
-use Rattle.std.proofs.lemmas.Bool.{cases_lt, and_from}
-use Rattle.std.proofs.lemmas.List.Elements.{All-head, All-tail, All-nil, All-cons, All-append, All-weaker}
+use Rattle.std.{specs.Prelude.{filter, All}, proofs.lemmas.Bool.{cases_lt, and_from}, proofs.lemmas.List.Elements.{All-head, All-tail, All-nil, All-cons, All-append, All-weaker}}
 use Rattle.result_rows.specs.declared.Outcome.{Outcome}
-use Rattle.row_rules.specs.declared.Row.{Row}
-use Rattle.row_rules.specs.Rows.{each_row}
-use Rattle.row_rules.specs.Queueing.{has_room}
-use Rattle.row_rules.specs.Table.{is_of}
-use Rattle.bank_shape.specs.declared.BankShape.{BankShape}
-use Rattle.bank_model.specs.Events.{Write, Read, Serve, Begin, Iterate, Cut}
-use Rattle.bank_shape.specs.declared.pace.Pace.{Pace}
-use Rattle.bank_model.specs.Timing.{Happens, Core, Regs, TimedEvent, last_tick}
-use Rattle.bank_model.specs.Lawful.{Lawful}
-use Rattle.bank_laws.specs.Laws.{IsSized, rules_of}
-use Rattle.bank_laws.specs.Resting.{IsStill}
-use Rattle.bank_laws.specs.Room.{RoomLaw}
-use Rattle.bank_laws.specs.Outcomes.{rows_from}
+use Rattle.row_rules.specs.{Queueing.has_room, Rows.each_row, Table.is_of, declared.Row.Row}
+use Rattle.bank_shape.specs.{declared.BankShape.BankShape, declared.pace.Pace.Pace}
+use Rattle.bank_model.specs.{Events.{Write, Read, Serve, Begin, Iterate, Cut}, Lawful.Lawful, Timing.{Happens, Core, Regs, TimedEvent, last_tick}}
+use Rattle.bank_laws.{specs.Laws.{IsSized, rules_of}, specs.Outcomes.rows_from, specs.Resting.IsStill, specs.Room.RoomLaw, proofs.Settling.lawful_before}
 use Rattle.bank_laws.proofs.Ticks.{last_tick-rises}
-use Rattle.bank_laws.proofs.Settling.{lawful_before}
 use Rattle.module_laws.specs.Asking.{Asked, row_with, asked_in, asked_of, bank_table, AreAsked, IsAsked}
-use Rattle.module_laws.specs.Serves.{AreRecorded, TicksFall, last_outcome, finds_room_in, RoomByBankLaw}
-use Rattle.module_laws.proofs.Tables.{rows_of_asked, rows_are}
+use Rattle.module_laws.{specs.Serves.{AreRecorded, TicksFall, last_outcome, finds_room_in, RoomByBankLaw}, proofs.Tables.{rows_of_asked, rows_are}}
 
 abbrev By : {n : ℕ} → ℕ → Asked n → Type 0
 By tick b = b.tick ≤ tick

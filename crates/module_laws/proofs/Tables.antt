@@ -1,19 +1,13 @@
 -- A bank's table is that of its history.
 use Rattle.std.proofs.Common.{◌≡◌, ℕ, Bool, true, false, List, [], ◌∷◌, ◌++◌, map, refl, sym, ap, ◌∙◌, cond}
-use Rattle.std.specs.Prelude.{filter}
-use Rattle.std.proofs.lemmas.List.Elements.{All-head, All-tail}
+use Rattle.std.{specs.Prelude.filter, proofs.lemmas.List.Elements.{All-head, All-tail}}
 use Rattle.result_rows.specs.declared.Outcome.{Outcome}
 use Rattle.result_rows.specs.declared.Outcome.TheVariants as out
-use Rattle.row_rules.specs.declared.Asks.{Asks}
-use Rattle.row_rules.specs.declared.Asks.TheVariants.{Reads, Writes, Cuts}
-use Rattle.row_rules.specs.declared.Row.{Row}
-use Rattle.row_rules.specs.Table.{is_of, of_bank}
+use Rattle.row_rules.specs.{Table.{is_of, of_bank}, declared.Asks.Asks, declared.Asks.TheVariants.{Reads, Writes, Cuts}, declared.Row.Row}
 use Rattle.bank_shape.specs.declared.BankShape.{BankShape}
-use Rattle.bank_model.specs.Events.{Write, Read, Serve, Begin, Iterate, Cut}
-use Rattle.bank_model.specs.Timing.{Happens, Core, Regs, TimedEvent}
+use Rattle.bank_model.specs.{Events.{Write, Read, Serve, Begin, Iterate, Cut}, Timing.{Happens, Core, Regs, TimedEvent}}
 use Rattle.bank_laws.specs.Outcomes.{outcome_of, ended, row_with as row_of, rows_from}
-use Rattle.module_laws.specs.Asking.{Asked, row_with, asked_in, asked_of, row_in, bank_table, AreAsked, IsAsked}
-use Rattle.module_laws.specs.Serves.{last_outcome, AreRecorded, BankTableLaw}
+use Rattle.module_laws.specs.{Asking.{Asked, row_with, asked_in, asked_of, row_in, bank_table, AreAsked, IsAsked}, Serves.{last_outcome, AreRecorded, BankTableLaw}}
 
 module _ {n : ℕ} (bank_of line_in : ℕ → ℕ) (bank : ℕ) (outcome : ℕ → Outcome n) where
   -- the rows of a bank are those of what was asked of it

@@ -1,12 +1,8 @@
 -- What the rows of a trace ask of a module, and what arrives in one bank.
 use Rattle.std.specs.Prelude.{◌≡◌, ℕ, Bool, true, false, List, [], ◌∷◌, map, filter}
 use Rattle.result_rows.specs.declared.Outcome.{Outcome}
-use Rattle.row_rules.specs.declared.Asks.{Asks}
-use Rattle.row_rules.specs.declared.Asks.TheVariants.{Reads, Writes, Cuts}
-use Rattle.row_rules.specs.declared.Row.{Row}
-use Rattle.row_rules.specs.Table.{is_of, of_bank}
-use Rattle.bank_model.specs.Events.{BankEvent, Write, Read, Cut}
-use Rattle.bank_model.specs.Timing.{Happens, Core, Regs, TimedEvent}
+use Rattle.row_rules.specs.{Table.{is_of, of_bank}, declared.Asks.Asks, declared.Asks.TheVariants.{Reads, Writes, Cuts}, declared.Row.Row}
+use Rattle.bank_model.specs.{Events.{BankEvent, Write, Read, Cut}, Timing.{Happens, Core, Regs, TimedEvent}}
 
 -- a row with its number, as it is asked for
 pub record Asked (n : ℕ) : Type 0 where

@@ -2,23 +2,11 @@
 use Rattle.std.specs.Prelude.{◌≡◌, ℕ, ◌<◌, ◌≤◌, IsTrue, List, [], ◌∷◌, All, map}
 use Rattle.result_rows.specs.declared.Outcome.{Outcome}
 use Rattle.result_rows.specs.declared.Outcome.TheVariants as out
-use Rattle.row_rules.specs.declared.Asks.{Asks}
-use Rattle.row_rules.specs.declared.Asks.TheVariants.{Reads, Writes, Cuts}
-use Rattle.row_rules.specs.declared.Row.{Row}
-use Rattle.row_rules.specs.Rows.{RowTest, each_row}
-use Rattle.row_rules.specs.Lines.{IsOfLines}
-use Rattle.row_rules.specs.declared.Rules.{Rules}
-use Rattle.row_rules.specs.Serving.{is_served}
-use Rattle.row_rules.specs.Queueing.{has_room}
-use Rattle.bank_shape.specs.declared.BankShape.{BankShape}
-use Rattle.bank_shape.specs.declared.pace.Pace.{Pace}
-use Rattle.bank_model.specs.Timing.{TimedEvent, last_tick}
-use Rattle.bank_model.specs.Told.{IsWhole}
-use Rattle.bank_model.specs.Lawful.{Lawful}
-use Rattle.bank_laws.specs.Resting.{IsStill, IsCutOff}
-use Rattle.bank_laws.specs.Outcomes.{table_of, outcome_of, ended}
-use Rattle.bank_laws.specs.Laws.{IsSized, rules_of}
-use Rattle.bank_laws.specs.Room.{RoomLaw}
+use Rattle.row_rules.specs.{Lines.IsOfLines, Queueing.has_room, Rows.{RowTest, each_row}, Serving.is_served, declared.Asks.Asks, declared.Asks.TheVariants.{Reads, Writes, Cuts}}
+use Rattle.row_rules.specs.{declared.Row.Row, declared.Rules.Rules}
+use Rattle.bank_shape.specs.{declared.BankShape.BankShape, declared.pace.Pace.Pace}
+use Rattle.bank_model.specs.{Lawful.Lawful, Timing.{TimedEvent, last_tick}, Told.IsWhole}
+use Rattle.bank_laws.specs.{Laws.{IsSized, rules_of}, Outcomes.{table_of, outcome_of, ended}, Resting.{IsStill, IsCutOff}, Room.RoomLaw}
 use Rattle.module_laws.specs.Asking.{Asked, row_with, asked_of, bank_table, AreAsked}
 
 -- the outcome of a row that asks this, where its bank's history has come to its end

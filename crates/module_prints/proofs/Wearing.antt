@@ -1,19 +1,12 @@
 -- How a wear report comes about, row by row.
 use Rattle.std.proofs.Common.{◌≡◌, ℕ, zero, suc, ◌+◌, ◌-◌, ◌*◌, ◌/◌, ◌<◌, ◌≤◌, inl, inr, List, [], ◌∷◌, ◌++◌, length, Option, Some, refl, ap, ◌∙◌, subst, arith, append_assoc}
-use Rattle.std.specs.Prelude.{slice_get, IsSomeAnd}
-use Rattle.std.proofs.Math.Nat.{one-le-mul, div-lt_iff_lt-mul, mul-div_cancel_left}
-use Rattle.std.proofs.lemmas.Bool.{cases_eq}
-use Rattle.std.proofs.lemmas.List.{append-nil, length_push}
+use Rattle.std.{specs.Io.KnownBytes.Appends, specs.Prelude.{slice_get, IsSomeAnd}, proofs.Math.Nat.{one-le-mul, div-lt_iff_lt-mul, mul-div_cancel_left}}
+use Rattle.std.proofs.{lemmas.Bool.cases_eq, lemmas.List.{append-nil, length_push}}
 use Rattle.cell_rows.specs.Device.{ArrayState}
-use Rattle.std.specs.Io.KnownBytes.{Appends}
-use Rattle.pcm_io.specs.Giving.{AppendsPrefix}
-use Rattle.pcm_io.specs.Reserved.{Reserved}
+use Rattle.pcm_io.specs.{Giving.AppendsPrefix, Reserved.Reserved}
 use Rattle.wear_report.specs.declared.Role.{Role}
-use Rattle.module_shape.specs.declared.raw.RawShape.{RawShape}
-use Rattle.module_shape.specs.Limits.{IsShape}
-use Rattle.module_shape.specs.Addresses.{module_of, array_lines_of, bank_shape}
-use Rattle.end_laws.specs.Ends.{BankEnd}
-use Rattle.end_laws.specs.Roles.{IsRole}
+use Rattle.module_shape.specs.{Addresses.{module_of, array_lines_of, bank_shape}, Limits.IsShape, declared.raw.RawShape.RawShape}
+use Rattle.end_laws.specs.{Ends.BankEnd, Roles.IsRole}
 use Rattle.run_laws.specs.Runs.{line_named}
 use Rattle.run_text.specs.Gathering.{Printed}
 use Rattle.pcm_module.specs.State.{AreEndsOf, ModuleState}

@@ -3,10 +3,8 @@ use Rattle.std.specs.Prelude.{ℕ, List, Option}
 use Rattle.pcm_io.specs.Giving.{AppendsPrefix}
 use Rattle.cell_rows.specs.Device.{ArrayState}
 use Rattle.power_recovery.specs.Kept.{KeptState}
-use Rattle.pcm_image.specs.Saved.{Saved}
-use Rattle.pcm_image.specs.Spelling.{image_bytes}
-use Rattle.image_laws.specs.Saving.{first_rows}
-use Rattle.image_laws.specs.SavedRuns.{AreRowsTo}
+use Rattle.pcm_image.specs.{Saved.Saved, Spelling.image_bytes}
+use Rattle.image_laws.specs.{SavedRuns.AreRowsTo, Saving.first_rows}
 use Rattle.pcm_module.specs.State.{ModuleState, bank_at}
 
 -- what a bank of a module keeps

@@ -1,15 +1,12 @@
 -- What the wear report says of the array lines of a module.
 use Rattle.std.specs.Prelude.{◌≡◌, ℕ, ◌/◌, ◌<◌, List, length, IsSomeAnd, slice_get, Option}
-use Rattle.cell_rows.specs.Device.{ArrayState}
-use Rattle.cell_rows.specs.Rows.{cell}
+use Rattle.cell_rows.specs.{Device.ArrayState, Rows.cell}
 use Rattle.cell_wear.specs.Told.{wear_told}
 use Rattle.ecp_line.specs.Layout.{active}
 use Rattle.lines_report.specs.declared.row.LineCells.{LineCells}
 use Rattle.wear_report.specs.declared.Role.{Role}
-use Rattle.module_shape.specs.declared.raw.RawShape.{RawShape}
-use Rattle.module_shape.specs.Addresses.{module_of, array_lines_of, bank_shape}
-use Rattle.end_laws.specs.Ends.{BankEnd}
-use Rattle.end_laws.specs.Roles.{HasOneRole, IsRole}
+use Rattle.module_shape.specs.{Addresses.{module_of, array_lines_of, bank_shape}, declared.raw.RawShape.RawShape}
+use Rattle.end_laws.specs.{Ends.BankEnd, Roles.{HasOneRole, IsRole}}
 use Rattle.run_laws.specs.Runs.{line_named}
 
 -- the bank of an array line of a module of these sizes

@@ -27,7 +27,8 @@ fn print_banks<const B: usize, const M: usize, const E: usize, K: Sink>(
     requires layout { IsLayout B M E }
     requires limit { ROW_ROOM ≤ text.old.limit }
     requires small { B ≤ 128 }
-    ensures printed { OnOk result (PrintsMore text.old text.new (K.written out.old) (K.written out.new)
+    ensures printed { OnOk result (PrintsMore text.old text.new (K.written out.old)
+        (K.written out.new)
         (flat_map bank_bytes (saved_banks (kept_in pcm.now) pcm.now.shape.banks))) }
     ensures part { OnErr result (PrintsPart text.old (K.written out.old) (K.written out.new)
         (flat_map bank_bytes (saved_banks (kept_in pcm.now) pcm.now.shape.banks))) }
@@ -63,7 +64,8 @@ pub fn print_image<const B: usize, const M: usize, const E: usize, A: CellArray<
         (saved_of pcm.now.shape seed (kept_in pcm.now) (A.state array.old))
         (K.written out.old) (K.written out.new)) }
     ensures sensed { SensesSome (A.state array.old).lines (A.state array.old) (A.state array.new) }
-    ensures all { OnOk result (SensesRows (A.state array.old).lines (A.state array.old) (A.state array.new)) }
+    ensures all { OnOk result (SensesRows (A.state array.old).lines (A.state array.old)
+        (A.state array.new)) }
     ensures fault { OnErr result (Rose (K.faults out.old) (K.faults out.new)) }
     ensures never_falls { K.faults out.old ≤ K.faults out.new }
 {

@@ -49,12 +49,14 @@ pub fn print_lines<const B: usize, const M: usize, const E: usize, A: TellsCells
         ≡ pcm.now.shape.banks * array_lines_of (module_of pcm.now.shape) }
     ensures ok { OnOk result ((ends : ℕ → BankEnd) → AreEndsOf pcm.now ends
         → HaveRoles pcm.now.shape pcm.now.seed ends
-        → (rows : List (ℕ × ℕ × Role)) × IsWearReport pcm.now.shape pcm.now.seed ends (A.state array.now) rows
+        → (rows : List (ℕ × ℕ × Role)) × IsWearReport pcm.now.shape pcm.now.seed ends
+        (A.state array.now) rows
         × Appends (K.written out.old) (K.written out.new)
         (lines_text (cells_at E (A.state array.now) (A.changes array.now)) rows)) }
     ensures prefix { OnErr result ((ends : ℕ → BankEnd) → AreEndsOf pcm.now ends
         → HaveRoles pcm.now.shape pcm.now.seed ends
-        → (rows : List (ℕ × ℕ × Role)) × IsWearReport pcm.now.shape pcm.now.seed ends (A.state array.now) rows
+        → (rows : List (ℕ × ℕ × Role)) × IsWearReport pcm.now.shape pcm.now.seed ends
+        (A.state array.now) rows
         × AppendsPrefix (K.written out.old) (K.written out.new)
         (lines_text (cells_at E (A.state array.now) (A.changes array.now)) rows)) }
     ensures fault { OnErr result (Rose (K.faults out.old) (K.faults out.new)) }

@@ -28,11 +28,13 @@ pub fn print_wear<const B: usize, const M: usize, const E: usize, A: CellArray<B
         ≡ pcm.now.shape.banks * array_lines_of (module_of pcm.now.shape) }
     ensures ok { OnOk result ((ends : ℕ → BankEnd) → AreEndsOf pcm.now ends
         → HaveRoles pcm.now.shape pcm.now.seed ends
-        → (rows : List (ℕ × ℕ × Role)) × IsWearReport pcm.now.shape pcm.now.seed ends (A.state array.now) rows
+        → (rows : List (ℕ × ℕ × Role)) × IsWearReport pcm.now.shape pcm.now.seed ends
+        (A.state array.now) rows
         × Appends (K.written out.old) (K.written out.new) (wear_text rows)) }
     ensures prefix { OnErr result ((ends : ℕ → BankEnd) → AreEndsOf pcm.now ends
         → HaveRoles pcm.now.shape pcm.now.seed ends
-        → (rows : List (ℕ × ℕ × Role)) × IsWearReport pcm.now.shape pcm.now.seed ends (A.state array.now) rows
+        → (rows : List (ℕ × ℕ × Role)) × IsWearReport pcm.now.shape pcm.now.seed ends
+        (A.state array.now) rows
         × AppendsPrefix (K.written out.old) (K.written out.new) (wear_text rows)) }
     ensures fault { OnErr result (Rose (K.faults out.old) (K.faults out.new)) }
     ensures never_falls { K.faults out.old ≤ K.faults out.new }

@@ -1,15 +1,9 @@
 -- What sizes within the limits are like.
 use Rattle.std.proofs.Common.{◌≡◌, ℕ, ◌+◌, ◌*◌, ◌<◌, ◌≤◌, Bool, true, false, nat_le, List, [], ◌∷◌, None, refl, ap, ◌∙◌, arith}
-use Rattle.std.specs.Int.{is_power_of_two}
-use Rattle.std.proofs.lemmas.Bool.{and_parts}
-use Rattle.std.proofs.lemmas.Bool.Decides.{nat_tests}
+use Rattle.std.{specs.Int.is_power_of_two, proofs.Math.Nat.{mul_assoc, mul_comm, mul-add}, proofs.lemmas.Bool.and_parts, proofs.lemmas.Bool.Decides.nat_tests}
 use Rattle.std.proofs.lemmas.Nat.{mul-le}
-use Rattle.std.proofs.Math.Nat.{mul_assoc, mul_comm, mul-add}
-use Rattle.module_shape.specs.Limits.{is_between, total_of, limits, first_broken, shape_fault, IsShape}
-use Rattle.module_shape.specs.Addresses.{module_of, lines_of}
-use Rattle.module_shape.specs.declared.raw.RawShape.{RawShape}
-use Rattle.module_shape.specs.declared.raw.Field.{Field}
-use Rattle.module_shape.proofs.Powers.{size_of_powers}
+use Rattle.module_shape.specs.{Addresses.{module_of, lines_of}, Limits.{is_between, total_of, limits, first_broken, shape_fault, IsShape}, declared.raw.Field.Field}
+use Rattle.module_shape.{specs.declared.raw.RawShape.RawShape, proofs.Powers.size_of_powers}
 
 between : (least most n : ℕ) → is_between least most n ≡ true → (least ≤ n) × (n ≤ most)
 between least most n h =

@@ -1,13 +1,8 @@
 -- Powers of two, by the test for them.
 use Rattle.std.proofs.Common.{◌≡◌, ℕ, zero, suc, ◌+◌, ◌*◌, ◌/◌, ◌%◌, ◌^◌, ◌≤◌, inl, inr, true, sym, ap, ◌∙◌, arith, count_ones}
-use Rattle.std.specs.Int.Count.{ones_step}
-use Rattle.std.specs.Int.{IsPowerOfTwo, is_power_of_two}
-use Rattle.std.proofs.lemmas.Bool.{cases_eq}
-use Rattle.std.proofs.lemmas.Bool.Decides.{nat_tests}
+use Rattle.std.{specs.Int.{IsPowerOfTwo, is_power_of_two}, specs.Int.Count.ones_step, proofs.Math.Nat.pow-suc, proofs.lemmas.Bool.cases_eq, proofs.lemmas.Bool.Decides.nat_tests}
 use Rattle.std.proofs.lemmas.Nat.{ones_le_self, zero_from_ones, pow-add}
-use Rattle.std.proofs.Math.Nat.{pow-suc}
-use Rattle.feistel_map.specs.Log2.{log2}
-use Rattle.feistel_map.proofs.Powers.{log2-pow}
+use Rattle.feistel_map.{specs.Log2.log2, proofs.Powers.log2-pow}
 
 -- a number with one digit that is set is a power of two
 one_digit : (d n : ℕ) → n ≤ d → count_ones n ≡ 1 → IsPowerOfTwo n

@@ -1,8 +1,6 @@
 -- The banks of a module, and where its lines are.
 use Rattle.std.specs.Prelude.{ℕ, ◌*◌, ◌/◌, ◌%◌}
-use Rattle.bank_shape.specs.declared.BankShape.{BankShape}
-use Rattle.bank_shape.specs.Shape.{lines_in}
-use Rattle.bank_shape.specs.declared.pace.Pace.{Pace}
+use Rattle.bank_shape.specs.{Shape.lines_in, declared.BankShape.BankShape, declared.pace.Pace.Pace}
 use Rattle.module_shape.specs.declared.raw.RawShape.{RawShape}
 
 -- the sizes of a module: so many banks of one shape

@@ -1,11 +1,8 @@
 -- Which sizes a module may have.
-use Rattle.std.specs.Prelude.{◌≡◌, ℕ, ◌*◌, ◌^◌, ◌≤◌, ◌&&◌, nat_le, Bool, if◌then◌else◌, List, [], ◌∷◌, Option, Some, None, Result, Ok, Err}
-use Rattle.std.specs.Int.{is_power_of_two}
+use Rattle.std.specs.{Int.is_power_of_two, Prelude.{◌≡◌, ℕ, ◌*◌, ◌^◌, ◌≤◌, ◌&&◌, nat_le, Bool, if◌then◌else◌, List, [], ◌∷◌, Option, Some, None, Result, Ok, Err}}
 use Rattle.feistel_map.specs.Log2.{log2}
-use Rattle.module_shape.specs.declared.raw.RawShape.{RawShape}
-use Rattle.module_shape.specs.declared.raw.BadShape.{BadShape}
-use Rattle.module_shape.specs.declared.raw.Field.{Field}
-use Rattle.module_shape.specs.declared.raw.Field.TheVariants.{Banks, Regions, Lines, Total, Spares, Writes, Reads, Psi, ReadTicks, IterTicks}
+use Rattle.module_shape.specs.{declared.raw.BadShape.BadShape, declared.raw.Field.Field}
+use Rattle.module_shape.specs.{declared.raw.Field.TheVariants.{Banks, Regions, Lines, Total, Spares, Writes, Reads, Psi, ReadTicks, IterTicks}, declared.raw.RawShape.RawShape}
 
 -- whether a number lies between two others
 abbrev pub is_between : ℕ → ℕ → ℕ → Bool

@@ -2,18 +2,12 @@
 use Rattle.std.proofs.Common.{◌≡◌, ℕ, List, [], ◌∷◌, ◌++◌, length, refl, sym, ap, subst, ◌∙◌, append_assoc}
 use Rattle.std.proofs.lemmas.List.{append-nil}
 use Rattle.bank_model.specs.Timing.{TimedEvent}
-use Rattle.module_shape.specs.declared.raw.RawShape.{RawShape}
-use Rattle.module_shape.specs.Limits.{IsShape}
+use Rattle.module_shape.specs.{Limits.IsShape, declared.raw.RawShape.RawShape}
 use Rattle.run_laws.specs.FinishedLaws.{LinesLaw}
-use Rattle.row_printer.specs.Printing.{table_of}
-use Rattle.row_printer.specs.Telling.{became}
-use Rattle.row_printer.specs.declared.told.Told.{Told}
+use Rattle.row_printer.specs.{Printing.table_of, Telling.became, declared.told.Told.Told}
 use Rattle.trace_stream.specs.declared.asked.Asked.{Asked}
-use Rattle.row_stream.specs.Asking.{events_in}
-use Rattle.row_stream.specs.Serving.{AreKnown, TellsAlong, line_of}
-use Rattle.moment_laws.specs.Moments.{AlongLaw, MomentLaw, WasMoment}
-use Rattle.moment_laws.specs.Streams.{BegunStreamLaw, WholeStreamLaw}
-use Rattle.moment_laws.proofs.Moment.{by-history, by-rows, all-queued}
+use Rattle.row_stream.specs.{Asking.events_in, Serving.{AreKnown, TellsAlong, line_of}}
+use Rattle.moment_laws.{specs.Moments.{AlongLaw, MomentLaw, WasMoment}, specs.Streams.{BegunStreamLaw, WholeStreamLaw}, proofs.Moment.{by-history, by-rows, all-queued}}
 
 pub moment_law : LinesLaw → MomentLaw
 moment_law lines n m e raw seed events h module_ array outcomes is served =

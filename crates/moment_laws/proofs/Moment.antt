@@ -1,42 +1,23 @@
 -- At any moment nothing is lost.
 use Rattle.std.proofs.Common.{◌≡◌, ℕ, ◌*◌, ◌<◌, List, [], refl, sym, ap, subst, ◌∙◌, arith}
-use Rattle.std.specs.Prelude.{All, IsSomeAnd, IsTrue, Option, None, Some, length, map, slice_get, unwrap_or}
-use Rattle.std.proofs.lemmas.Nat.{mul-le}
-use Rattle.std.proofs.Math.Nat.{mod-lt}
-use Rattle.std.proofs.lemmas.List.Elements.{All-map, All-weaker}
+use Rattle.std.{specs.Prelude.{All, IsSomeAnd, IsTrue, Option, None, Some, length, map, slice_get, unwrap_or}, proofs.Math.Nat.mod-lt}
+use Rattle.std.proofs.{lemmas.List.Elements.{All-map, All-weaker}, lemmas.Nat.mul-le}
 use Rattle.masked_bytes.specs.Entries.{has_row}
 use Rattle.cell_rows.specs.Device.{ArrayState}
 use Rattle.trace_reader.specs.declared.event.Event.{Event}
-use Rattle.result_rows.specs.declared.Outcome.{Outcome}
-use Rattle.result_rows.specs.declared.Outcome.TheVariants.{Unset}
-use Rattle.row_rules.specs.declared.Row.{Row}
-use Rattle.row_rules.specs.Rows.{asks_write, newest}
-use Rattle.row_rules.specs.Lines.{IsOfLines}
-use Rattle.bank_shape.specs.declared.BankShape.{BankShape}
-use Rattle.bank_shape.specs.declared.pace.Pace.{Pace}
-use Rattle.bank_model.specs.Events.{newest as newest_by}
-use Rattle.bank_model.specs.Timing.{TimedEvent, core}
-use Rattle.bank_laws.specs.Outcomes.{rows_from}
-use Rattle.bank_laws.proofs.Serves.{newest_same}
-use Rattle.bank_laws.proofs.Settling.{opens}
-use Rattle.module_shape.specs.declared.raw.RawShape.{RawShape}
-use Rattle.module_shape.specs.Limits.{IsShape, total_of}
-use Rattle.module_shape.specs.Addresses.{module_of, bank_shape}
-use Rattle.module_laws.specs.Asking.{Asked, row_with, asked_of, bank_table}
-use Rattle.module_laws.proofs.Serving.{newest_in_bank}
-use Rattle.module_laws.proofs.Tables.{rows_of_asked}
+use Rattle.result_rows.specs.{declared.Outcome.Outcome, declared.Outcome.TheVariants.Unset}
+use Rattle.row_rules.specs.{Lines.IsOfLines, Rows.{asks_write, newest}, declared.Row.Row}
+use Rattle.bank_shape.specs.{declared.BankShape.BankShape, declared.pace.Pace.Pace}
+use Rattle.bank_model.specs.{Events.newest as newest_by, Timing.{TimedEvent, core}}
+use Rattle.bank_laws.{specs.Outcomes.rows_from, proofs.Serves.newest_same, proofs.Settling.opens}
+use Rattle.module_shape.specs.{Addresses.{module_of, bank_shape}, Limits.{IsShape, total_of}, declared.raw.RawShape.RawShape}
+use Rattle.module_laws.{specs.Asking.{Asked, row_with, asked_of, bank_table}, proofs.Serving.newest_in_bank, proofs.Tables.rows_of_asked}
 use Rattle.clock_laws.specs.State.{ClockState}
 use Rattle.bank_timing.specs.Extending.{outcome_in}
-use Rattle.run_laws.specs.FinishedLaws.{LinesLaw}
-use Rattle.run_laws.specs.Runs.{bank_of_line, line_in_bank, pacing_in}
-use Rattle.pcm_module.specs.Asking.{asked_for}
-use Rattle.pcm_module.specs.State.{ModuleState, bank_at, first_bank}
-use Rattle.pcm_module.specs.Replaying.{BankReplays, Replays}
-use Rattle.row_stream.specs.Ending.{rows_of}
-use Rattle.row_stream.proofs.Tables.{rows-are}
-use Rattle.moment_laws.specs.Moments.{IsQueuedNow, so_far, stand_now}
-use Rattle.moment_laws.proofs.Queueing.{IsQueuedBy, by_lines, queued-so-far}
-use Rattle.moment_laws.proofs.Rows.{IsRight, bank-so-far, newest-so-far}
+use Rattle.run_laws.specs.{FinishedLaws.LinesLaw, Runs.{bank_of_line, line_in_bank, pacing_in}}
+use Rattle.pcm_module.specs.{Asking.asked_for, Replaying.{BankReplays, Replays}, State.{ModuleState, bank_at, first_bank}}
+use Rattle.row_stream.{specs.Ending.rows_of, proofs.Tables.rows-are}
+use Rattle.moment_laws.{specs.Moments.{IsQueuedNow, so_far, stand_now}, proofs.Queueing.{IsQueuedBy, by_lines, queued-so-far}, proofs.Rows.{IsRight, bank-so-far, newest-so-far}}
 
 -- what holds of the bank that is there holds of the bank of that number
 there : {n m e : ℕ} (module_ : ModuleState n m e) (P : ClockState n m e → Type 0) (bank : ℕ) → IsSomeAnd (slice_get module_.banks bank) P → P (bank_at module_ bank)

@@ -1,29 +1,15 @@
 -- A write that has no outcome yet stands in the queue.
 use Rattle.std.proofs.Common.{◌≡◌, inl, inr, ℕ, ◌<◌, ◌==◌, Bool, true, false, List, [], ◌∷◌, ◌++◌, map, refl, sym, ap, ◌∙◌, subst, cond, append_assoc, eq-eqb}
-use Rattle.std.specs.Prelude.{All, IsTrue, filter}
-use Rattle.std.proofs.lemmas.List.Elements.{All-head, All-tail, All-nil, All-cons}
+use Rattle.std.{specs.Prelude.{All, IsTrue, filter}, proofs.lemmas.List.Elements.{All-head, All-tail, All-nil, All-cons}}
 use Rattle.masked_bytes.specs.Entries.{has_row}
 use Rattle.result_rows.specs.declared.Outcome.{Outcome}
 use Rattle.result_rows.specs.declared.Outcome.TheVariants as out
-use Rattle.row_rules.specs.declared.Asks.{Asks}
-use Rattle.row_rules.specs.declared.Asks.TheVariants.{Reads, Writes, Cuts}
-use Rattle.row_rules.specs.Rows.{asks_write, line_of}
-use Rattle.row_rules.specs.Lines.{IsOfLines}
-use Rattle.row_rules.specs.Table.{is_of}
-use Rattle.bank_shape.specs.declared.BankShape.{BankShape}
-use Rattle.bank_shape.specs.declared.pace.Pace.{Pace}
-use Rattle.bank_shape.specs.declared.answer.WriteAnswer.{WriteAnswer}
+use Rattle.row_rules.specs.{Lines.IsOfLines, Rows.{asks_write, line_of}, Table.is_of, declared.Asks.Asks, declared.Asks.TheVariants.{Reads, Writes, Cuts}}
+use Rattle.bank_shape.specs.{declared.BankShape.BankShape, declared.answer.WriteAnswer.WriteAnswer, declared.pace.Pace.Pace}
 use Rattle.bank_shape.specs.declared.answer.WriteAnswer.TheVariants as wrote
-use Rattle.bank_model.specs.Events.{Write, Read, Serve, Begin, Iterate, Cut}
-use Rattle.bank_model.specs.History.{queue}
-use Rattle.bank_model.specs.Timing.{Happens, Core, Regs, TimedEvent, core}
-use Rattle.bank_model.specs.Lawful.{Lawful, MayCome}
-use Rattle.bank_laws.specs.Outcomes.{outcome_of, ended}
-use Rattle.bank_laws.specs.Settling.{AreOpen}
-use Rattle.bank_laws.proofs.Answering.{merged-there}
-use Rattle.bank_laws.proofs.Ending.{Onwards, write_outcome}
-use Rattle.bank_laws.proofs.Fates.{IsLeft, WriteFate, new-push, new-merged}
-use Rattle.bank_laws.proofs.Serves.{may_at, onwards_at}
+use Rattle.bank_model.specs.{Events.{Write, Read, Serve, Begin, Iterate, Cut}, History.queue, Lawful.{Lawful, MayCome}, Timing.{Happens, Core, Regs, TimedEvent, core}}
+use Rattle.bank_laws.{specs.Outcomes.{outcome_of, ended}, specs.Settling.AreOpen, proofs.Answering.merged-there, proofs.Ending.{Onwards, write_outcome}}
+use Rattle.bank_laws.proofs.{Fates.{IsLeft, WriteFate, new-push, new-merged}, Serves.{may_at, onwards_at}}
 use Rattle.module_laws.specs.Asking.{Asked, asked_in, asked_of, AreAsked, IsAsked}
 use Rattle.pcm_module.specs.Replaying.{outcome_so_far}
 use Rattle.moment_laws.proofs.Rows.{IsRight}

@@ -1,18 +1,11 @@
 -- A bank's rows as they stand are those of its history.
 use Rattle.std.proofs.Common.{◌≡◌, ◌&&◌, ℕ, Bool, true, false, List, [], ◌∷◌, ◌++◌, map, refl, sym, ap, ◌∙◌, cond, eqb}
-use Rattle.std.specs.Prelude.{All}
-use Rattle.std.proofs.lemmas.List.Elements.{All-head, All-tail}
+use Rattle.std.{specs.Prelude.All, proofs.lemmas.List.Elements.{All-head, All-tail}}
 use Rattle.masked_bytes.specs.Masked.{laid}
 use Rattle.result_rows.specs.declared.Outcome.{Outcome}
-use Rattle.row_rules.specs.declared.Asks.{Asks}
-use Rattle.row_rules.specs.declared.Asks.TheVariants.{Reads, Writes, Cuts}
-use Rattle.row_rules.specs.declared.Row.{Row}
-use Rattle.row_rules.specs.Answers.{accepts}
-use Rattle.row_rules.specs.Rows.{newest}
-use Rattle.row_rules.specs.Table.{is_of, of_bank}
+use Rattle.row_rules.specs.{Answers.accepts, Rows.newest, Table.{is_of, of_bank}, declared.Asks.Asks, declared.Asks.TheVariants.{Reads, Writes, Cuts}, declared.Row.Row}
 use Rattle.bank_shape.specs.declared.BankShape.{BankShape}
-use Rattle.bank_model.specs.Events.{Write, Read, Serve, Begin, Iterate, Cut}
-use Rattle.bank_model.specs.Timing.{Happens, Core, Regs, TimedEvent}
+use Rattle.bank_model.specs.{Events.{Write, Read, Serve, Begin, Iterate, Cut}, Timing.{Happens, Core, Regs, TimedEvent}}
 use Rattle.bank_laws.specs.Outcomes.{outcome_of, ended, row_with as row_of, rows_from}
 use Rattle.module_laws.specs.Asking.{Asked, row_with, row_in, bank_table, AreAsked, IsAsked}
 use Rattle.pcm_module.specs.Replaying.{outcome_so_far}

@@ -3,28 +3,20 @@ use Rattle.std.specs.Prelude.{◌≡◌, ℕ, ◌<◌, IsTrue, List, ◌∷◌, 
 use Rattle.masked_bytes.specs.Entries.{has_row}
 use Rattle.cell_rows.specs.Device.{ArrayState}
 use Rattle.trace_reader.specs.declared.event.Event.{Event}
-use Rattle.result_rows.specs.declared.Outcome.{Outcome}
-use Rattle.result_rows.specs.declared.Outcome.TheVariants.{Unset}
-use Rattle.row_rules.specs.declared.Row.{Row}
-use Rattle.row_rules.specs.Rows.{asks_write, line_of, newest}
+use Rattle.result_rows.specs.{declared.Outcome.Outcome, declared.Outcome.TheVariants.Unset}
+use Rattle.row_rules.specs.{Rows.{asks_write, line_of, newest}, declared.Row.Row}
 use Rattle.power_recovery.specs.Kept.{KeptState}
-use Rattle.bank_model.specs.Events.{newest as newest_by}
-use Rattle.bank_model.specs.Timing.{TimedEvent, core}
+use Rattle.bank_model.specs.{Events.newest as newest_by, Timing.{TimedEvent, core}}
 use Rattle.bank_laws.specs.Outcomes.{ended}
-use Rattle.module_shape.specs.declared.raw.RawShape.{RawShape}
-use Rattle.module_shape.specs.Limits.{IsShape, total_of}
+use Rattle.module_shape.specs.{Limits.{IsShape, total_of}, declared.raw.RawShape.RawShape}
 use Rattle.module_laws.specs.Asking.{Asked}
 use Rattle.bank_invariant.specs.Holds.{stands_for}
 use Rattle.bank_timing.specs.Extending.{outcome_in}
 use Rattle.run_laws.specs.Runs.{bank_of_line, line_in_bank}
-use Rattle.pcm_module.specs.Asking.{asked_for}
-use Rattle.pcm_module.specs.State.{ModuleState, bank_at}
-use Rattle.row_printer.specs.Printing.{table_of}
-use Rattle.row_printer.specs.declared.told.Told.{Told}
+use Rattle.pcm_module.specs.{Asking.asked_for, State.{ModuleState, bank_at}}
+use Rattle.row_printer.specs.{Printing.table_of, declared.told.Told.Told}
 use Rattle.trace_stream.specs.declared.asked.Asked.{Asked as StreamAsked}
-use Rattle.row_stream.specs.Asking.{events_in}
-use Rattle.row_stream.specs.Ending.{rows_of}
-use Rattle.row_stream.specs.Serving.{HasServed, TellsAlong}
+use Rattle.row_stream.specs.{Asking.events_in, Ending.rows_of, Serving.{HasServed, TellsAlong}}
 
 -- a row as it stands: a write whose outcome isn't known yet counts as queued
 abbrev pub so_far : {n : ℕ} → Row n → Row n

@@ -4,10 +4,8 @@ use Rattle.cell_rows.specs.Device.{ArrayState}
 use Rattle.row_printer.specs.declared.told.Told.{Told}
 use Rattle.trace_stream.specs.declared.asked.Asked.{Asked}
 use Rattle.row_stream.specs.Asking.{with_cut}
-use Rattle.stream_words.specs.Jobs.{IsStreamJob}
-use Rattle.stream_words.specs.declared.job.StreamJob.{StreamJob}
-use Rattle.stream_top.specs.Calls.{LentSource}
-use Rattle.stream_top.specs.Streams.{IsServed, IsServedInPart, is_off}
+use Rattle.stream_words.specs.{Jobs.IsStreamJob, declared.job.StreamJob.StreamJob}
+use Rattle.stream_top.specs.{Calls.LentSource, Streams.{IsServed, IsServedInPart, is_off}}
 use Rattle.moment_laws.specs.Moments.{LosesNothingAlong}
 
 -- one that was served to its end

@@ -26,7 +26,8 @@ fn write<A: CellArray<B, M>, const B: usize, const M: usize, const E: usize>(
 ) -> (u32, Progress)
     requires layout { IsLayout B M E }
     requires exists { 3 < (A.state array.old).lines }
-    requires sound { Sound B M E (cell ((A.state array.old).line 3).held) ((A.state array.old).line 3).stuck }
+    requires sound { Sound B M E (cell ((A.state array.old).line 3).held)
+        ((A.state array.old).line 3).stuck }
     ensures { 3 < (A.state array.new).lines }
 {
     let seen = array.sense(3, 0);
@@ -49,9 +50,11 @@ fn tear_after<A: CellArray<B, M>, const B: usize, const M: usize, const E: usize
 ) -> bool
     requires layout { IsLayout B M E }
     requires exists { 3 < (A.state array.old).lines }
-    requires sound { Sound B M E (cell ((A.state array.old).line 3).held) ((A.state array.old).line 3).stuck }
+    requires sound { Sound B M E (cell ((A.state array.old).line 3).held)
+        ((A.state array.old).line 3).stuck }
     ensures exists { 3 < (A.state array.new).lines }
-    ensures sound { Sound B M E (cell ((A.state array.new).line 3).held) ((A.state array.new).line 3).stuck }
+    ensures sound { Sound B M E (cell ((A.state array.new).line 3).held)
+        ((A.state array.new).line 3).stuck }
 {
     let seen = array.sense(3, 0);
     let mut writer = LineWriter::<B, M, E>::begin(seen, *bytes);

@@ -1,9 +1,7 @@
 -- Blocks of 64 cells as the bits of a number.
 use Rattle.std.proofs.Common.{◌≡◌, ℕ, ◌+◌, ◌-◌, ◌*◌, ◌/◌, ◌%◌, ◌^◌, ◌<◌, ◌≤◌, ◌&&◌, Bool, true, false, not, eqb, refl, sym, ◌∙◌, ap, inl, inr, arith, true≢false, bit_and, zero, suc, w64}
-use Rattle.std.proofs.lemmas.Bool.{cases_eq, cases_lt}
-use Rattle.std.proofs.lemmas.Nat.{shr-shr, shr_split, and_le_l, and_mask}
+use Rattle.std.{specs.Int.{bit_at, bit_not}, proofs.lemmas.Bool.{cases_eq, cases_lt}, proofs.lemmas.Nat.{shr-shr, shr_split, and_le_l, and_mask}}
 use Rattle.std.proofs.lemmas.Nat.Bits.{bit_at-zero, bit_at_cat_low, bit_at_cat_high, bit_at_clear_same}
-use Rattle.std.specs.Int.{bit_at, bit_not}
 use Rattle.pcm_cells.specs.Planes.{bit_in}
 use Rattle.cell_rows.proofs.ByteLemmas.{digit_and, swapped}
 

@@ -1,11 +1,7 @@
 -- Lines of which no live cell is near its end.
 use Rattle.std.proofs.Common.{◌≡◌, ℕ, ◌+◌, ◌-◌, ◌*◌, ◌<◌, ◌&&◌, Bool, true, false, not, true≢false, bit_or, refl, sym, ◌∙◌, ap, arith, ext_get_or}
 use Rattle.std.proofs.lemmas.Nat.{le_or_l, le_or_r}
-use Rattle.pcm_cells.specs.declared.digits.Digits.{Digits}
-use Rattle.pcm_cells.specs.declared.counts.Counts.{Counts}
-use Rattle.pcm_cells.specs.Counts.{count}
-use Rattle.pcm_cells.specs.Planes.{digit}
-use Rattle.pcm_cells.specs.Seeded.{left_of}
+use Rattle.pcm_cells.specs.{Counts.count, Planes.digit, Seeded.left_of, declared.counts.Counts.Counts, declared.digits.Digits.Digits}
 use Rattle.pcm_cells.proofs.SeededLemmas.{left_is, left_size}
 
 reached_cell : (stuck torn masked missing : Bool) → (not missing && (not stuck && (not torn && masked))) ≡ true → (stuck ≡ false) × (masked ≡ true)

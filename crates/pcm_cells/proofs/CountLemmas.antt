@@ -1,11 +1,7 @@
 -- Numbers of cells in rows of eight.
 use Rattle.std.proofs.Common.{◌≡◌, ◌≢◌, ℕ, suc, ◌+◌, ◌-◌, ◌*◌, ◌/◌, ◌%◌, ◌<◌, ◌≤◌, List, [], ◌∷◌, ◌++◌, length, get_or, set, refl, sym, ◌∙◌, ap, inl, inr, arith, get_or-set_same, get_or-set_other}
-use Rattle.std.proofs.Math.ListN.{get_or-append}
-use Rattle.std.specs.List.{flat_map}
-use Rattle.std.proofs.lemmas.List.{get_or-append_right, get_or_past}
-use Rattle.std.proofs.lemmas.Bool.{cases_lt}
-use Rattle.pcm_cells.specs.declared.counts.Counts.{Counts}
-use Rattle.pcm_cells.specs.Counts.{count, count_in}
+use Rattle.std.{specs.List.flat_map, proofs.Math.ListN.get_or-append, proofs.lemmas.Bool.cases_lt, proofs.lemmas.List.{get_or-append_right, get_or_past}}
+use Rattle.pcm_cells.specs.{Counts.{count, count_in}, declared.counts.Counts.Counts}
 
 -- the rows one after another
 pub flat_at : (rows : List (List ℕ)) (n : ℕ) → ((k : ℕ) → k < length rows → length (get_or rows k []) ≡ 8)

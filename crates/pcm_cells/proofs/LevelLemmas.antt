@@ -1,14 +1,9 @@
 -- Lanes that bring counts up to date.
 use Rattle.std.proofs.Common.{◌≡◌, ℕ, zero, suc, ◌+◌, ◌-◌, ◌*◌, ◌/◌, ◌%◌, ◌^◌, ◌<◌, ◌≤◌, Bool, true, false, cond, eqb, eq-eqb, ne_eqb, List, [], ◌∷◌, ◌++◌, length, map, get_or, refl, sym, ◌∙◌, ap, inl, inr, arith, bit_and, bit_or, w32}
-use Rattle.std.proofs.Math.Dec.{ltb}
-use Rattle.std.proofs.lemmas.Bool.{cases_eq, cases_lt, lt-ltb, le-ltb}
-use Rattle.std.proofs.lemmas.List.{get_or-map, length-map}
-use Rattle.std.proofs.lemmas.Nat.{pow_pos, shr-shr, shr_split}
+use Rattle.std.{specs.Int.bit_at, specs.List.range_with_len, specs.Simd.Lanes.{zip2, sel_l, pick_l, top}, proofs.Math.Dec.ltb}
+use Rattle.std.proofs.{lemmas.Bool.{cases_eq, cases_lt, lt-ltb, le-ltb}, lemmas.List.{get_or-map, length-map}, lemmas.Nat.{pow_pos, shr-shr, shr_split}}
 use Rattle.std.proofs.lemmas.Nat.Bits.{and_pow, bit_at-lt, bit_at_cat_low}
 use Rattle.std.proofs.lemmas.Simd.{tops_compared, length-zip2, length-sel_l, get_or-zip2, get_or-sel_l, get_or-chunk, pick_l_left, pick_l-range_with_len}
-use Rattle.std.specs.Int.{bit_at}
-use Rattle.std.specs.List.{range_with_len}
-use Rattle.std.specs.Simd.Lanes.{zip2, sel_l, pick_l, top}
 use Rattle.pcm_cells.specs.Planes.{bit_in, number_of}
 
 -- what a lane holds where a byte has its digit, by the number whose only digit that is

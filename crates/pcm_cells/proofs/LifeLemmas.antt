@@ -1,11 +1,8 @@
 -- Groups of eight cells that are drawn at once.
 use Rattle.std.proofs.Common.{◌≡◌, ◌≢◌, ℕ, zero, suc, ◌+◌, ◌-◌, ◌*◌, ◌/◌, ◌%◌, ◌^◌, ◌<◌, ◌≤◌, Bool, true, false, cond, eqb, List, [], ◌∷◌, get_or, set, length, sym, subst, ◌∙◌, ap, inl, inr, arith, bit_or, get_or-set_same, get_or-set_other}
-use Rattle.std.proofs.lemmas.Bool.{cases_eq, cases_lt}
-use Rattle.std.proofs.lemmas.Nat.{pow_pos, shl_whole}
-use Rattle.std.proofs.lemmas.Nat.Bits.{bit_at_above, bit_at_cat_low, bit_at_cat_high}
+use Rattle.std.proofs.{lemmas.Bool.{cases_eq, cases_lt}, lemmas.Nat.{pow_pos, shl_whole}, lemmas.Nat.Bits.{bit_at_above, bit_at_cat_low, bit_at_cat_high}}
 use Rattle.pcm_cells.specs.Planes.{bit_in, number_of}
-use Rattle.cell_rows.proofs.ByteLemmas.{digit_or}
-use Rattle.cell_rows.proofs.BlockLemmas.{shifted_low, shifted_high, or_none}
+use Rattle.cell_rows.proofs.{BlockLemmas.{shifted_low, shifted_high, or_none}, ByteLemmas.digit_or}
 
 -- a binary digit has no bit but its lowest
 one_apart : (a i : ℕ) → a < 2 → i % 8 ≢ 0 → bit_in a i ≡ false

@@ -1,13 +1,9 @@
 -- Lines, by the states of their cells.
 use Rattle.std.proofs.Common.{◌≡◌, ℕ, ◌+◌, ◌*◌, ◌<◌, ◌≤◌, ◌⊎◌, Bool, true, false, get_or, replicate, slice_index, refl, ◌∙◌, ap, inl, inr, arith}
-use Rattle.std.proofs.lemmas.Bool.{cases_lt}
-use Rattle.std.proofs.lemmas.List.{get_or-replicate, get_or_past, length-replicate}
-use Rattle.cell_rows.specs.declared.row.Cells.{Cells}
-use Rattle.pcm_cells.specs.declared.line.CellState.{CellState}
-use Rattle.cell_rows.specs.Rows.{cell}
-use Rattle.cell_rows.specs.Device.{LineState, CellBounds, CellPulsed, CellTorn, DeviceStep, TornStep, IsCellKept, IsBlank, counted}
-use Rattle.pcm_cells.specs.Cell.{line_state, cell_state, blank_line}
+use Rattle.std.proofs.{lemmas.Bool.cases_lt, lemmas.List.{get_or-replicate, get_or_past, length-replicate}}
+use Rattle.cell_rows.specs.{Device.{LineState, CellBounds, CellPulsed, CellTorn, DeviceStep, TornStep, IsCellKept, IsBlank, counted}, Rows.cell, declared.row.Cells.Cells}
 use Rattle.cell_rows.proofs.RowLemmas.{cell-zeros}
+use Rattle.pcm_cells.specs.{Cell.{line_state, cell_state, blank_line}, declared.line.CellState.CellState}
 
 -- a live cell after a pulse, with the changes that it had spent before and has after, where cells endure so many: it took the wanted value,
 -- it missed, or it stuck

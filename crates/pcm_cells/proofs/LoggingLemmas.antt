@@ -1,7 +1,6 @@
 -- A log is told exactly while there are at most `cap` senses.
 use Rattle.std.proofs.Common.{◌≡◌, ℕ, ◌<◌, ◌≤◌, List, [], ◌∷◌, ◌++◌, length, cond, refl, ◌∙◌, ap, inl, inr, arith, Some, None}
-use Rattle.std.proofs.lemmas.Bool.{cases_lt, lt-ltb, le-ltb}
-use Rattle.std.proofs.lemmas.List.{length-append}
+use Rattle.std.proofs.{lemmas.Bool.{cases_lt, lt-ltb, le-ltb}, lemmas.List.length-append}
 use Rattle.cell_rows.specs.declared.array.Sense.{Sense}
 use Rattle.pcm_cells.specs.Logging.{logged, log_of}
 

@@ -1,21 +1,11 @@
 -- Rows from their cells, and a line as its words draw it.
 use Rattle.std.proofs.Common.{◌≡◌, ℕ, zero, suc, ◌+◌, ◌-◌, ◌*◌, ◌/◌, ◌%◌, ◌<◌, ◌≤◌, Bool, true, false, cond, eqb, length, get_or, refl, ◌∙◌, ap, inl, inr, arith, slice_index}
-use Rattle.std.proofs.lemmas.Bool.{cases_lt}
-use Rattle.std.proofs.lemmas.List.{get_or_past}
-use Rattle.std.proofs.lemmas.List.FromFn.{get_or-map-range_with_len, length-map-range_with_len}
+use Rattle.std.{specs.Int.bit_at, proofs.lemmas.Bool.cases_lt, proofs.lemmas.List.get_or_past, proofs.lemmas.List.FromFn.{get_or-map-range_with_len, length-map-range_with_len}}
 use Rattle.std.proofs.lemmas.Nat.Bits.{bit_at_cat_low, bit_at_cat_high}
-use Rattle.std.specs.Int.{bit_at}
-use Rattle.cell_rows.specs.declared.array.Wear.{Wear}
-use Rattle.cell_rows.specs.declared.row.Cells.{Cells}
-use Rattle.pcm_cells.specs.declared.digits.Digits.{Digits}
-use Rattle.pcm_cells.specs.declared.counts.Counts.{Counts}
-use Rattle.cell_rows.specs.Rows.{bit_of, cell}
-use Rattle.pcm_cells.specs.Counts.{count}
-use Rattle.pcm_cells.specs.Planes.{bit_in, number_of, digit, zero_digits, blank_planes}
-use Rattle.pcm_cells.specs.Seeded.{LifeLine, IsDrawn, seeded_cell, left_of, endurance, miss_limit, stuck_value}
-use Rattle.pcm_cells.specs.Pages.{number_from, bytes_from, row_of, digits_of, word_of, drawn_line, HaveSameLife}
-use Rattle.cell_rows.proofs.RowLemmas.{cell-bits, cell-meta, cell-zeros, cell_past}
-use Rattle.pcm_cells.proofs.PlaneLemmas.{digit-is, digit-zeros}
+use Rattle.cell_rows.{specs.Rows.{bit_of, cell}, specs.declared.array.Wear.Wear, specs.declared.row.Cells.Cells, proofs.RowLemmas.{cell-bits, cell-meta, cell-zeros, cell_past}}
+use Rattle.pcm_cells.specs.{Counts.count, Pages.{number_from, bytes_from, row_of, digits_of, word_of, drawn_line, HaveSameLife}}
+use Rattle.pcm_cells.specs.{Planes.{bit_in, number_of, digit, zero_digits, blank_planes}, Seeded.{LifeLine, IsDrawn, seeded_cell, left_of, endurance, miss_limit, stuck_value}}
+use Rattle.pcm_cells.{specs.declared.counts.Counts.Counts, specs.declared.digits.Digits.Digits, proofs.PlaneLemmas.{digit-is, digit-zeros}}
 use Rattle.pcm_cells.proofs.SeededLemmas.{left_is, left_size}
 
 one_bit : (b : Bool) → eqb (bit_at (cond b 1 0) 0) 1 ≡ b

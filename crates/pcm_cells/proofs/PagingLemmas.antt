@@ -1,22 +1,11 @@
 -- Lines and their pages.
 use Rattle.std.proofs.Common.{◌≡◌, ◌≢◌, ℕ, zero, suc, ◌+◌, ◌*◌, ◌^◌, ◌<◌, ◌≤◌, Bool, cond, List, [], ◌∷◌, ◌++◌, length, replicate, get_or, set, refl, sym, ◌∙◌, ap, subst, inl, inr, arith, slice_index, length-set, get_or-set_same, get_or-set_other}
-use Rattle.std.proofs.Math.ListN.{get_or-append}
-use Rattle.std.proofs.lemmas.Bool.{cases_eq, cases_lt}
-use Rattle.std.proofs.lemmas.List.{get_or_push, get_or_past, get_or_default, get_or-replicate, length-append, length-replicate}
-use Rattle.std.proofs.lemmas.List.FromFn.{get_or-map-range_with_len, length-map-range_with_len}
-use Rattle.std.proofs.lemmas.Grind.{get_or_default_zero}
-use Rattle.std.proofs.lemmas.List.Folds.{sum_by-replicate}
-use Rattle.std.proofs.lemmas.List.Sums.{sum_by-set}
-use Rattle.std.specs.List.{sum_by}
-use Rattle.cell_rows.specs.declared.array.Wear.{Wear}
-use Rattle.cell_rows.specs.declared.row.Cells.{Cells}
-use Rattle.pcm_cells.specs.declared.pages.Pages.{Pages}
-use Rattle.cell_rows.specs.Rows.{cell}
-use Rattle.cell_rows.specs.Device.{counted}
-use Rattle.pcm_cells.specs.Follows.{Follows}
-use Rattle.pcm_cells.specs.Seeded.{LifeLine, SeededArray, IsDrawn, Wears, lifeless, seeded, seeded_cell, seeded_line}
-use Rattle.pcm_cells.specs.Pages.{IsPaging, free, page_seen, line_seen, drawn_line}
-use Rattle.pcm_cells.specs.Paging.{seen, lines_seen}
+use Rattle.std.{specs.List.sum_by, proofs.Math.ListN.get_or-append, proofs.lemmas.Bool.{cases_eq, cases_lt}, proofs.lemmas.Grind.get_or_default_zero}
+use Rattle.std.proofs.{lemmas.List.{get_or_push, get_or_past, get_or_default, get_or-replicate, length-append, length-replicate}, lemmas.List.Folds.sum_by-replicate}
+use Rattle.std.proofs.{lemmas.List.FromFn.{get_or-map-range_with_len, length-map-range_with_len}, lemmas.List.Sums.sum_by-set}
+use Rattle.cell_rows.specs.{Device.counted, Rows.cell, declared.array.Wear.Wear, declared.row.Cells.Cells}
+use Rattle.pcm_cells.specs.{Follows.Follows, Pages.{IsPaging, free, page_seen, line_seen, drawn_line}, Paging.{seen, lines_seen}}
+use Rattle.pcm_cells.specs.{Seeded.{LifeLine, SeededArray, IsDrawn, Wears, lifeless, seeded, seeded_cell, seeded_line}, declared.pages.Pages.Pages}
 use Rattle.pcm_cells.proofs.PageLemmas.{drawn_is}
 
 zero_at : (k n : ℕ) → slice_index (replicate k 0) n ≡ 0

@@ -2,10 +2,8 @@
 use mir.Val.{bool_byte}
 use Rattle.std.proofs.Common.{◌≡◌, ℕ, ◌+◌, ◌*◌, ◌/◌, ◌%◌, ◌<◌, ◌≤◌, ◌&&◌, Bool, true, false, not, cond, eqb, ltb, refl, sym, ◌∙◌, ap, inl, inr, arith, true≢false}
 use Rattle.std.proofs.lemmas.Bool.{cases_eq, cases_lt, lt-ltb, le-ltb}
-use Rattle.pcm_cells.specs.declared.digits.Digits.{Digits}
-use Rattle.cell_rows.specs.Rows.{cell, xor}
-use Rattle.pcm_cells.specs.Planes.{number_of, digit, zero_digits}
-use Rattle.cell_rows.proofs.RowLemmas.{cell-zeros}
+use Rattle.pcm_cells.specs.{Planes.{number_of, digit, zero_digits}, declared.digits.Digits.Digits}
+use Rattle.cell_rows.{specs.Rows.{cell, xor}, proofs.RowLemmas.cell-zeros}
 
 pub digit-is : {B M : ℕ} (digits : Digits B M) (n : ℕ) → digit digits n ≡ number_of (cell digits.low n) (cell digits.middle n) (cell digits.high n)
 unfolding digit

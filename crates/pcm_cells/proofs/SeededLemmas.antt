@@ -1,26 +1,14 @@
 -- A seeded array keeps what every array keeps.
 use Rattle.std.proofs.Common.{◌≡◌, ℕ, ◌+◌, ◌-◌, ◌%◌, ◌≤◌, ◌&&◌, ◌<◌, Bool, true, false, not, true≢false, cond, eqb, slice_index, refl, sym, subst, ◌∙◌, ap, inl, inr, arith, List, zero, suc, ◌*◌, ◌/◌, ◌≢◌, length, replicate, get_or, set, get_or-set_same, get_or-set_other, Some}
-use Rattle.std.proofs.lemmas.Bool.{ltb-true, leb-true, lt-ltb, lt-leb, cases_eq, cases_lt, and_parts}
-use Rattle.std.proofs.lemmas.List.{get_or_past}
+use Rattle.std.{specs.Prelude.{nat_lt, nat_le, bit_xor}, proofs.lemmas.Bool.{ltb-true, leb-true, lt-ltb, lt-leb, cases_eq, cases_lt, and_parts}, proofs.lemmas.List.get_or_past}
 use Rattle.std.proofs.lemmas.List.FromFn.{get_or-map-range_with_len, length-map-range_with_len}
-use Rattle.std.specs.Prelude.{nat_lt, nat_le, bit_xor}
-use Rattle.cell_rows.specs.declared.row.Cells.{Cells}
-use Rattle.pcm_cells.specs.declared.line.CellState.{CellState}
-use Rattle.cell_rows.specs.declared.array.Wear.{Wear}
-use Rattle.pcm_cells.specs.declared.seeded.SeededCell.{SeededCell}
-use Rattle.pcm_cells.specs.declared.digits.Digits.{Digits}
-use Rattle.pcm_cells.specs.declared.counts.Counts.{Counts}
-use Rattle.pcm_cells.specs.Counts.{count}
-use Rattle.cell_rows.specs.Rows.{cell}
-use Rattle.cell_rows.specs.Device.{CellBounds, DeviceStep, TornStep, IsBlank, counted}
-use Rattle.cell_rows.specs.Shape.{IsWhole}
-use Rattle.pcm_cells.specs.Planes.{PlaneLine, plane_cell, digit}
-use Rattle.pcm_cells.specs.Follows.{Follows}
-use Rattle.seeded_words.specs.Words.{xoshiro_of, word_at}
-use Rattle.pcm_cells.specs.Seeded.{LifeLine, left_of, life_state, bounds_of, endurance, IsDrawn, changed, pulsed, seeded, seeded_cell}
+use Rattle.cell_rows.specs.{Device.{CellBounds, DeviceStep, TornStep, IsBlank, counted}, Rows.cell, Shape.IsWhole, declared.array.Wear.Wear, declared.row.Cells.Cells}
 use Rattle.cell_rows.proofs.RowLemmas.{cell-zeros}
-use Rattle.pcm_cells.proofs.PlaneLemmas.{digit_few, digit-zeros}
-use Rattle.pcm_cells.proofs.LineLemmas.{IsPulsed, IsTorn, KeepsTo, device_step, torn_step}
+use Rattle.pcm_cells.specs.{Counts.count, Follows.Follows, Planes.{PlaneLine, plane_cell, digit}}
+use Rattle.pcm_cells.specs.{Seeded.{LifeLine, left_of, life_state, bounds_of, endurance, IsDrawn, changed, pulsed, seeded, seeded_cell}, declared.counts.Counts.Counts}
+use Rattle.pcm_cells.specs.{declared.digits.Digits.Digits, declared.line.CellState.CellState, declared.seeded.SeededCell.SeededCell}
+use Rattle.pcm_cells.proofs.{LineLemmas.{IsPulsed, IsTorn, KeepsTo, device_step, torn_step}, PlaneLemmas.{digit_few, digit-zeros}}
+use Rattle.seeded_words.specs.Words.{xoshiro_of, word_at}
 
 -- a change takes the wanted value or sticks
 changed_pulsed : (endures : ℕ) (last want : Bool) (old new : SeededCell) → (last ≡ true → old.left ≤ 1)

@@ -1,17 +1,9 @@
 -- How the cells of a line are worn.
 use Rattle.std.proofs.Common.{◌≡◌, ℕ, zero, suc, ◌+◌, ◌-◌, ◌*◌, ◌<◌, Bool, false, refl, sym, ◌∙◌, ap, arith, slice_index, Option, Some}
-use Rattle.cell_rows.specs.declared.array.Wear.{Wear}
-use Rattle.cell_rows.specs.Rows.{cell, members}
-use Rattle.cell_rows.specs.Device.{LineState}
-use Rattle.cell_rows.proofs.RowLemmas.{cell-zeros}
-use Rattle.cell_wear.specs.declared.tells.CellWear.{CellWear}
-use Rattle.cell_wear.specs.Told.{most, wear_told}
-use Rattle.cell_wear.proofs.Most.{most-none, most-same}
-use Rattle.pcm_cells.specs.declared.seeded.SeededCell.{SeededCell}
-use Rattle.pcm_cells.specs.Planes.{PlaneLine}
-use Rattle.pcm_cells.specs.Seeded.{LifeLine, endurance}
-use Rattle.pcm_cells.specs.Pages.{HaveSameLife, changes_of, changes_with, drawn_line, word_of}
-use Rattle.pcm_cells.proofs.PageLemmas.{drawn_is}
+use Rattle.cell_rows.{specs.Device.LineState, specs.Rows.{cell, members}, specs.declared.array.Wear.Wear, proofs.RowLemmas.cell-zeros}
+use Rattle.cell_wear.{specs.Told.{most, wear_told}, specs.declared.tells.CellWear.CellWear, proofs.Most.{most-none, most-same}}
+use Rattle.pcm_cells.specs.{Pages.{HaveSameLife, changes_of, changes_with, drawn_line, word_of}, Planes.PlaneLine, Seeded.{LifeLine, endurance}}
+use Rattle.pcm_cells.{specs.declared.seeded.SeededCell.SeededCell, proofs.PageLemmas.drawn_is}
 
 members-none : (has : ℕ → Bool) (n : ℕ) → ((k : ℕ) → has k ≡ false) → members has n ≡ 0
 unfolding members

@@ -1,7 +1,6 @@
 -- What an array with a log tells.
 use Rattle.std.specs.Prelude.{ℕ, List, if◌then◌else◌, Option, Some, None}
-use Rattle.cell_rows.specs.declared.array.Sense.{Sense}
-use Rattle.cell_rows.specs.Device.{ArrayState}
+use Rattle.cell_rows.specs.{Device.ArrayState, declared.array.Sense.Sense}
 use Rattle.pcm_cells.specs.declared.logged.LoggedArray.{LoggedArray}
 
 -- the log, while it is told

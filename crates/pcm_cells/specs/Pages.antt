@@ -1,11 +1,9 @@
 -- A line whose life isn't drawn yet, seen as if it were.
-use Rattle.std.specs.Prelude.{ℕ, zero, suc, ◌≡◌, ◌≢◌, ◌+◌, ◌-◌, ◌*◌, ◌^◌, ◌<◌, ◌≤◌, Bool, cond, List, length, map, Option, None, Some, bit_xor, slice_index, slice_index_or}
 use Rattle.std.specs.List.{range_with_len, sum_by}
-use Rattle.cell_rows.specs.declared.array.Wear.{Wear}
-use Rattle.cell_rows.specs.declared.row.Cells.{Cells}
+use Rattle.std.specs.Prelude.{ℕ, zero, suc, ◌≡◌, ◌≢◌, ◌+◌, ◌-◌, ◌*◌, ◌^◌, ◌<◌, ◌≤◌, Bool, cond, List, length, map, Option, None, Some, bit_xor, slice_index, slice_index_or}
+use Rattle.cell_rows.specs.{declared.array.Wear.Wear, declared.row.Cells.Cells}
+use Rattle.pcm_cells.specs.{Planes.{bit_in, blank_planes}, Seeded.{LifeLine, SeededArray, seeded_cell, seeded_line, endurance, miss_limit, stuck_value}}
 use Rattle.pcm_cells.specs.declared.digits.Digits.{Digits}
-use Rattle.pcm_cells.specs.Planes.{bit_in, blank_planes}
-use Rattle.pcm_cells.specs.Seeded.{LifeLine, SeededArray, seeded_cell, seeded_line, endurance, miss_limit, stuck_value}
 use Rattle.seeded_words.specs.Words.{xoshiro_of, word_at}
 
 -- the number of so many bits from one on, the first of them lowest

@@ -1,10 +1,7 @@
 -- The lines of an array, whether or not they have a page.
-use Rattle.std.specs.Prelude.{ℕ, List, [], length, map, Option, None, Some}
-use Rattle.std.specs.List.{range_with_len}
+use Rattle.std.specs.{List.range_with_len, Prelude.{ℕ, List, [], length, map, Option, None, Some}}
 use Rattle.cell_rows.specs.declared.array.Wear.{Wear}
-use Rattle.pcm_cells.specs.declared.pages.Pages.{Pages}
-use Rattle.pcm_cells.specs.Seeded.{LifeLine}
-use Rattle.pcm_cells.specs.Pages.{line_seen}
+use Rattle.pcm_cells.specs.{Pages.line_seen, Seeded.LifeLine, declared.pages.Pages.Pages}
 
 -- the line with this number
 abbrev pub seen : {B M : ℕ} → Pages B M → ℕ → LifeLine B M

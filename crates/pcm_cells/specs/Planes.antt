@@ -1,10 +1,8 @@
 -- Small numbers of cells, kept as rows of their binary digits.
 use Rattle.std.specs.Prelude.{ℕ, ◌+◌, Bool, cond}
-use Rattle.cell_rows.specs.declared.row.Cells.{Cells}
-use Rattle.pcm_cells.specs.declared.digits.Digits.{Digits}
-use Rattle.cell_rows.specs.Rows.{cell, zero_row}
+use Rattle.cell_rows.specs.{Rows.{cell, zero_row}, declared.row.Cells.Cells}
 pub use Rattle.cell_rows.specs.Rows.{bit_in}
-use Rattle.pcm_cells.specs.declared.line.CellState.{CellState}
+use Rattle.pcm_cells.specs.{declared.digits.Digits.Digits, declared.line.CellState.CellState}
 
 -- the number with these binary digits
 abbrev pub number_of : Bool → Bool → Bool → ℕ

@@ -1,16 +1,9 @@
 -- The array whose cells miss and stick as a script says.
-use Rattle.std.specs.Prelude.{ℕ, ◌≡◌, ◌≢◌, ◌+◌, ◌-◌, ◌*◌, ◌^◌, min, Bool, true, false, ◌&&◌, nat_eq, nat_lt, if◌then◌else◌, List, [], ◌∷◌, length, replicate, slice_index, slice_index_or, Option, Some, None, Vec}
-use Rattle.std.specs.declared.alloc.Global.{Global}
-use Rattle.cell_rows.specs.declared.row.Cells.{Cells}
-use Rattle.pcm_cells.specs.declared.line.CellState.{CellState}
-use Rattle.cell_rows.specs.declared.array.Wear.{Wear}
-use Rattle.pcm_cells.specs.declared.script.Script.{Script}
-use Rattle.pcm_cells.specs.declared.script.Act.{Act}
-use Rattle.pcm_cells.specs.declared.script.Act.TheVariants.{Miss, Stick}
-use Rattle.cell_rows.specs.Rows.{cell}
-use Rattle.cell_rows.specs.Device.{ArrayState, CellBounds, counted}
-use Rattle.pcm_cells.specs.Follows.{Follows}
-use Rattle.pcm_cells.specs.Cell.{CellLine, line_state, cell_state, blank_line}
+use Rattle.std.specs.Prelude.{ℕ, ◌≡◌, ◌≢◌, ◌+◌, ◌-◌, ◌*◌, ◌^◌, min, Bool, true, false, ◌&&◌, nat_eq, nat_lt, if◌then◌else◌, List, [], ◌∷◌, length, replicate, slice_index}
+use Rattle.std.specs.{Prelude.{slice_index_or, Option, Some, None, Vec}, declared.alloc.Global.Global}
+use Rattle.cell_rows.specs.{Device.{ArrayState, CellBounds, counted}, Rows.cell, declared.array.Wear.Wear, declared.row.Cells.Cells}
+use Rattle.pcm_cells.specs.{Cell.{CellLine, line_state, cell_state, blank_line}, Follows.Follows, declared.line.CellState.CellState, declared.script.Act.Act}
+use Rattle.pcm_cells.specs.{declared.script.Act.TheVariants.{Miss, Stick}, declared.script.Script.Script}
 
 -- what the script says of a cell at a turn: the first item that names them
 abbrev pub act_at : List Script → ℕ → ℕ → ℕ → Option Act

@@ -1,19 +1,10 @@
 -- The array whose cells wear out as a seed says.
-use Rattle.std.specs.Prelude.{ℕ, ◌≡◌, ◌≢◌, ◌+◌, ◌≤◌, ◌-◌, ◌*◌, ◌/◌, ◌%◌, ◌^◌, ◌<◌, min, Bool, true, false, ◌&&◌, nat_eq, nat_lt, nat_le, bit_xor, if◌then◌else◌, List, [], length, map, slice_index, slice_index_or, Option, None, Some}
-use Rattle.std.specs.Int.{bit_at}
-use Rattle.std.specs.List.{range_with_len}
-use Rattle.cell_rows.specs.declared.row.Cells.{Cells}
-use Rattle.cell_rows.specs.declared.array.Wear.{Wear}
-use Rattle.pcm_cells.specs.declared.seeded.SeededCell.{SeededCell}
-use Rattle.cell_rows.specs.Rows.{cell, zero_row}
-use Rattle.cell_rows.specs.Device.{ArrayState, LineState, CellBounds, counted}
-use Rattle.pcm_cells.specs.declared.digits.Digits.{Digits}
-use Rattle.pcm_cells.specs.declared.counts.Counts.{Counts}
-use Rattle.pcm_cells.specs.declared.calm.Moving.{Moving}
-use Rattle.pcm_cells.specs.declared.calm.Settled.{Settled}
-use Rattle.pcm_cells.specs.Counts.{count}
-use Rattle.pcm_cells.specs.Planes.{PlaneLine, plane_cell, blank_planes, digit, zero_digits}
-use Rattle.pcm_cells.specs.Follows.{Follows}
+use Rattle.std.specs.{Int.bit_at, List.range_with_len}
+use Rattle.std.specs.Prelude.{ℕ, ◌≡◌, ◌≢◌, ◌+◌, ◌≤◌, ◌-◌, ◌*◌, ◌/◌, ◌%◌, ◌^◌, ◌<◌, min, Bool, true, false, ◌&&◌, nat_eq, nat_lt, nat_le, bit_xor, if◌then◌else◌, List, [], length}
+use Rattle.std.specs.Prelude.{map, slice_index, slice_index_or, Option, None, Some}
+use Rattle.cell_rows.specs.{Device.{ArrayState, LineState, CellBounds, counted}, Rows.{cell, zero_row}, declared.array.Wear.Wear, declared.row.Cells.Cells}
+use Rattle.pcm_cells.specs.{Counts.count, Follows.Follows, Planes.{PlaneLine, plane_cell, blank_planes, digit, zero_digits}, declared.calm.Moving.Moving}
+use Rattle.pcm_cells.specs.{declared.calm.Settled.Settled, declared.counts.Counts.Counts, declared.digits.Digits.Digits, declared.seeded.SeededCell.SeededCell}
 use Rattle.seeded_words.specs.Words.{xoshiro_of, word_at}
 
 -- how many changes a cell with this word lives through; it sticks in the last one

@@ -5,7 +5,8 @@ ghost use Rattle.pcm_cells.specs.Planes.{bit_in, number_of};
 // Of each cell that is in the mask the wanted bit, and of each other one the bit as it is.
 pub(crate) fn chosen(bits: u64, mask: u64, want: u64) -> u64
     ensures is { result ≡ bit_xor bits (bit_and (bit_xor bits want) mask) }
-    ensures bits { (i : ℕ) → bit_in result i ≡ (if bit_in mask i then bit_in want i else bit_in bits i) }
+    ensures bits { (i : ℕ) → bit_in result i ≡ (if bit_in mask i then bit_in want i else bit_in bits
+        i) }
 {
     bits ^ (bits ^ want) & mask
 }
@@ -19,7 +20,8 @@ pub(crate) fn without(bits: u64, other: u64) -> u64
 
 // The cells that a pulse reaches, or a tear, which reaches those of even number alone.
 pub(crate) fn reached(tearing: bool, bits: u64) -> u64
-    ensures { (i : ℕ) → i < 64 → bit_in result i ≡ not (tearing && nat_eq (i % 2) 1) && bit_in bits i }
+    ensures { (i : ℕ) → i < 64 → bit_in result i ≡ not (tearing && nat_eq (i % 2) 1)
+        && bit_in bits i }
 {
     if tearing {
         bits & 0x5555_5555_5555_5555
@@ -50,7 +52,8 @@ fn cleared(bits: u64, index: u32) -> u64
 
 // Takes one from each count that is in the mask, and answers those of them that were at most one.
 pub(crate) fn spend(left: &mut [u32; 64], mask: u64) -> u64
-    ensures last { (i : ℕ) → i < 64 → bit_in result i ≡ bit_in mask i && nat_le (slice_index left.old i) 1 }
+    ensures last { (i : ℕ) → i < 64 → bit_in result i ≡ bit_in mask i
+        && nat_le (slice_index left.old i) 1 }
     ensures here { (i : ℕ) → i < 64 → slice_index left.new i
         ≡ (if bit_in mask i then slice_index left.old i - 1 else slice_index left.old i) }
 {
@@ -87,7 +90,8 @@ fn are_all_many(left: &[u32; 64]) -> bool
 
 // Whether each count is at least eight that isn't in the mask.
 pub(crate) fn are_many(left: &[u32; 64], mask: u64) -> bool
-    ensures { IsTrue result → (i : ℕ) → i < 64 → bit_in mask i ≡ false → 8 ≤ slice_index left.now i }
+    ensures { IsTrue result → (i : ℕ) → i < 64 → bit_in mask i ≡ false
+        → 8 ≤ slice_index left.now i }
 {
     if are_all_many(left) {
         return true;
@@ -118,7 +122,8 @@ pub(crate) fn with_life(planes: u32, index: usize, life: u32) -> u32
     requires fits { index < 8 }
     requires small { life < 2 ^ 25 }
     requires apart { (i : ℕ) → i % 8 ≢ 0 → bit_in life i ≡ false }
-    ensures here { (p : ℕ) → bit_in planes (8 * p + index) ≡ false → bit_in result (8 * p + index) ≡ bit_in life (8 * p) }
+    ensures here { (p : ℕ) → bit_in planes (8 * p + index) ≡ false
+        → bit_in result (8 * p + index) ≡ bit_in life (8 * p) }
     ensures kept { (i : ℕ) → i % 8 ≢ index → bit_in result i ≡ bit_in planes i }
 {
     planes | life << index

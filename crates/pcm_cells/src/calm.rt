@@ -34,7 +34,8 @@ pub(crate) struct Settled<const B: usize, const M: usize> {
 pub(crate) fn is_calm<const B: usize, const M: usize>(calm: &[bool; B]) -> bool
     requires whole { IsWhole B M }
     requires shape { IsShape B M }
-    ensures { IsTrue result → (n : ℕ) → n < 8 * (B + M) → slice_index_or calm.now (n / 64) false ≡ true }
+    ensures { IsTrue result → (n : ℕ) → n < 8 * (B + M)
+        → slice_index_or calm.now (n / 64) false ≡ true }
 {
     let mut all = true;
     for block in 0..(B + M) / 8 {
@@ -54,7 +55,8 @@ fn has_room_in<const B: usize, const M: usize>(
     requires whole { IsWhole B M }
     requires shape { IsShape B M }
     requires exists { 8 * to ≤ B + M }
-    ensures { IsTrue result → (n : ℕ) → 64 * from ≤ n → n < 64 * to → cell mask.now n ≡ true → digit spent.now n < 7 }
+    ensures { IsTrue result → (n : ℕ) → 64 * from ≤ n → n < 64 * to → cell mask.now n ≡ true
+        → digit spent.now n < 7 }
 {
     let mut full = 0;
     for block in from..to {
@@ -70,7 +72,8 @@ pub(crate) fn has_room<const B: usize, const M: usize>(
 ) -> bool
     requires whole { IsWhole B M }
     requires shape { IsShape B M }
-    ensures { IsTrue result → (n : ℕ) → n < 8 * (B + M) → cell mask.now n ≡ true → digit spent.now n < 7 }
+    ensures { IsTrue result → (n : ℕ) → n < 8 * (B + M) → cell mask.now n ≡ true
+        → digit spent.now n < 7 }
 {
     has_room_in(spent, mask, 0, B / 8) & has_room_in(spent, mask, B / 8, (B + M) / 8)
 }
@@ -108,7 +111,8 @@ fn wear_calm_block<const B: usize, const M: usize>(
     ensures cells { FollowsIn (64 * block) (64 * block + 64) (cell mask.now)
         (seeded tearing (cell want.now)) (seeded_cell (life_of moving.old settled.now))
         (seeded_cell (life_of moving.new settled.now)) }
-    ensures others { (n : ℕ) → n / 64 ≢ block → digit moving.new.spent n ≡ digit moving.old.spent n }
+    ensures others { (n : ℕ) → n / 64 ≢ block
+        → digit moving.new.spent n ≡ digit moving.old.spent n }
 {
     let live = without(mask.block(block) & reach, settled.stuck.block(block));
     let missing = live & moving.misses.below(&settled.limits, block);
@@ -139,7 +143,8 @@ fn wear_calm_in<const B: usize, const M: usize>(
     requires few { (n : ℕ) → 64 * from ≤ n → n < 8 * (B + M) → cell mask.now n ≡ true
         → digit moving.old.spent n < 7 }
     ensures cells { FollowsIn (64 * from) (64 * to) (cell mask.now) (seeded tearing (cell want.now))
-        (seeded_cell (life_of moving.old settled.now)) (seeded_cell (life_of moving.new settled.now)) }
+        (seeded_cell (life_of moving.old settled.now))
+        (seeded_cell (life_of moving.new settled.now)) }
     ensures others { (n : ℕ) → 64 * to ≤ n → digit moving.new.spent n ≡ digit moving.old.spent n }
 {
     let reach = reach(tearing);
@@ -162,9 +167,11 @@ pub(crate) fn wear_calm<const B: usize, const M: usize>(
     requires whole { IsWhole B M }
     requires many { (n : ℕ) → n < 8 * (B + M) → cell settled.now.stuck n ≡ false
         → 8 ≤ count settled.now.left n }
-    requires few { (n : ℕ) → n < 8 * (B + M) → cell mask.now n ≡ true → digit moving.old.spent n < 7 }
+    requires few { (n : ℕ) → n < 8 * (B + M) → cell mask.now n ≡ true
+        → digit moving.old.spent n < 7 }
     ensures { FollowsIn 0 (8 * (B + M)) (cell mask.now) (seeded tearing (cell want.now))
-        (seeded_cell (life_of moving.old settled.now)) (seeded_cell (life_of moving.new settled.now)) }
+        (seeded_cell (life_of moving.old settled.now))
+        (seeded_cell (life_of moving.new settled.now)) }
 {
     wear_calm_in(moving, settled, tearing, 0, B / 8, mask, want);
     wear_calm_in(moving, settled, tearing, B / 8, (B + M) / 8, mask, want);

@@ -35,7 +35,8 @@ fn count_at(rows: &[[u32; 8]], number: usize) -> u32
 
 fn write_counts(rows: &mut [[u32; 8]], block: usize, counts: &[u32; 64])
     requires { 8 * block + 8 ≤ length rows.old }
-    ensures here { (i : ℕ) → i < 64 → count_in rows.new (64 * block + i) ≡ slice_index counts.now i }
+    ensures here { (i : ℕ) → i < 64 → count_in rows.new (64 * block + i)
+        ≡ slice_index counts.now i }
     ensures others { (n : ℕ) → n / 64 ≢ block → count_in rows.new n ≡ count_in rows.old n }
 {
     for index in 0..8 {
@@ -105,7 +106,8 @@ impl<const B: usize, const M: usize> Counts<B, M> {
     pub(crate) fn set_block(&mut self, block: usize, counts: &[u32; 64])
         requires whole { IsWhole B M }
         requires exists { 8 * block < B + M }
-        ensures here { (i : ℕ) → i < 64 → count self.new (64 * block + i) ≡ slice_index counts.now i }
+        ensures here { (i : ℕ) → i < 64 → count self.new (64 * block + i)
+            ≡ slice_index counts.now i }
         ensures others { (n : ℕ) → n / 64 ≢ block → count self.new n ≡ count self.old n }
     {
         if 8 * block < B {
@@ -119,7 +121,8 @@ impl<const B: usize, const M: usize> Counts<B, M> {
     pub(crate) fn level(&mut self, block: usize, low: u64, middle: u64, high: u64)
         requires whole { IsWhole B M }
         requires exists { 8 * block < B + M }
-        ensures here { (i : ℕ) → i < 64 → count self.new (64 * block + i) ≡ count self.old (64 * block + i)
+        ensures here { (i : ℕ) → i < 64 → count self.new (64 * block + i)
+            ≡ count self.old (64 * block + i)
             - number_of (bit_in low i) (bit_in middle i) (bit_in high i) }
         ensures others { (n : ℕ) → n / 64 ≢ block → count self.new n ≡ count self.old n }
     {

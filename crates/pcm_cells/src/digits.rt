@@ -67,9 +67,11 @@ impl<const B: usize, const M: usize> Digits<B, M> {
     pub(crate) fn advance(&mut self, block: usize, more: u64, none: u64)
         requires whole { IsWhole B M }
         requires exists { 8 * block < B + M }
-        requires few { (i : ℕ) → i < 64 → bit_in more i ≡ true → digit self.old (64 * block + i) < 7 }
+        requires few { (i : ℕ) → i < 64 → bit_in more i ≡ true
+            → digit self.old (64 * block + i) < 7 }
         ensures here { (i : ℕ) → i < 64 → digit self.new (64 * block + i)
-            ≡ (if bit_in none i then 0 else if bit_in more i then digit self.old (64 * block + i) + 1
+            ≡ (if bit_in none i then 0 else if bit_in more i then digit self.old (64 * block + i)
+            + 1
             else digit self.old (64 * block + i)) }
         ensures others { (n : ℕ) → n / 64 ≢ block → digit self.new n ≡ digit self.old n }
     {
@@ -98,7 +100,8 @@ impl<const B: usize, const M: usize> Digits<B, M> {
     pub(crate) fn planes(&self, block: usize) -> (u64, u64, u64)
         requires whole { IsWhole B M }
         requires exists { 8 * block < B + M }
-        ensures { (i : ℕ) → i < 64 → number_of (bit_in result.0 i) (bit_in result.1 i) (bit_in result.2 i)
+        ensures { (i : ℕ) → i < 64 → number_of (bit_in result.0 i) (bit_in result.1 i)
+            (bit_in result.2 i)
             ≡ digit self.now (64 * block + i) }
     {
         (

@@ -24,7 +24,8 @@ fn spread(bits: u64, value: u8) -> u8x16
 // The numbers whose binary digits are the sixteen lowest bits of these, the lowest digit first: the first
 // eight numbers, and the others.
 fn numbers(low: u64, middle: u64, high: u64) -> (u8x8, u8x8)
-    ensures first { (i : ℕ) → i < 8 → slice_index result.0 i ≡ number_of (bit_in low i) (bit_in middle i) (bit_in high i) }
+    ensures first { (i : ℕ) → i < 8 → slice_index result.0 i
+        ≡ number_of (bit_in low i) (bit_in middle i) (bit_in high i) }
     ensures others { (i : ℕ) → i < 8 → slice_index result.1 i
         ≡ number_of (bit_in low (8 + i)) (bit_in middle (8 + i)) (bit_in high (8 + i)) }
 {
@@ -43,7 +44,8 @@ fn levelled(row: u32x8, less: u8x8) -> u32x8
 // Takes from each count of a block of 64 the number whose binary digits these are, the lowest first.
 pub(crate) fn level(rows: &mut [[u32; 8]], block: usize, low: u64, middle: u64, high: u64)
     requires { 8 * block + 8 ≤ length rows.old }
-    ensures here { (i : ℕ) → i < 64 → count_in rows.new (64 * block + i) ≡ count_in rows.old (64 * block + i)
+    ensures here { (i : ℕ) → i < 64 → count_in rows.new (64 * block + i)
+        ≡ count_in rows.old (64 * block + i)
         - number_of (bit_in low i) (bit_in middle i) (bit_in high i) }
     ensures others { (n : ℕ) → n / 64 ≢ block → count_in rows.new n ≡ count_in rows.old n }
 {

@@ -48,7 +48,8 @@ impl<const B: usize, const M: usize> Model for Line<B, M> {
       pulses = l.pulses;
     } };
 
-    ghost invariant = { λ l. (vec_len l.misses ≡ 8 * (B + M)) × ((n : ℕ) → slice_index l.misses.items n ≤ 7)
+    ghost invariant = { λ l. (vec_len l.misses ≡ 8 * (B + M))
+        × ((n : ℕ) → slice_index l.misses.items n ≤ 7)
         × IsShape B M };
 }
 

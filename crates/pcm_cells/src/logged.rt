@@ -82,7 +82,8 @@ impl<A: CellArray<B, M> + Drop, const B: usize, const M: usize> CellArray<B, M>
     fn power_up(&mut self, alloc: Global, lines: u32, wear: Wear) -> Result<(), AllocError>
         requires wear { IsWear wear }
         requires shape { IsShape B M }
-        ensures ok { OnOk result (IsFresh lines wear (logged_state (A.state self.new.inner) self.new)) }
+        ensures ok { OnOk result (IsFresh lines wear
+            (logged_state (A.state self.new.inner) self.new)) }
         ensures err { OnErr result ((A.state self.new.inner).lines ≡ 0) }
         ensures log { told_log self.new ≡ Some [] }
 
@@ -144,7 +145,8 @@ impl<A: CellArray<B, M> + Drop, const B: usize, const M: usize> CellArray<B, M>
         requires exists { line < (A.state self.old.inner).lines }
         requires lawful { IsPulse mask.now want.now ((A.state self.old.inner).line line).held }
         requires shape { IsShape B M }
-        ensures step { TornStep (A.state self.old.inner).bounds mask.now ((A.state self.old.inner).line line)
+        ensures step { TornStep (A.state self.old.inner).bounds mask.now
+            ((A.state self.old.inner).line line)
             ((A.state self.new.inner).line line) }
         ensures others { ChangesOnly line (logged_state (A.state self.old.inner) self.old)
             (logged_state (A.state self.new.inner) self.new) }

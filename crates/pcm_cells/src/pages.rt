@@ -78,7 +78,8 @@ impl<const B: usize, const M: usize> Pages<B, M> {
     pub(crate) fn cell_wear(&self, line: u32) -> CellWear
         requires exists { line < length self.now.table.items }
         requires shape { IsShape B M }
-        ensures stuck { result.stuck ≡ members (cell (seen self.now line).line.stuck) (8 * (B + M)) }
+        ensures stuck { result.stuck ≡ members (cell (seen self.now line).line.stuck)
+            (8 * (B + M)) }
         ensures changes { result.changes
             ≡ most (changes_of self.now.wear line (seen self.now line)) (8 * (B + M)) }
     {
@@ -134,7 +135,8 @@ impl<const B: usize, const M: usize> Pages<B, M> {
         requires whole { IsWhole B M }
         ensures cells { Follows (cell mask.now) (seeded tearing (cell want.now))
             (seeded_cell (seen self.old line)) (seeded_cell (seen self.new line)) }
-        ensures pulses { (seen self.new line).line.pulses ≡ counted (seen self.old line).line.pulses }
+        ensures pulses { (seen self.new line).line.pulses
+            ≡ counted (seen self.old line).line.pulses }
         ensures others { (n : ℕ) → n ≢ line → seen self.new n ≡ seen self.old n }
         ensures lines { length self.new.table.items ≡ length self.old.table.items }
         ensures wear { self.new.wear ≡ self.old.wear }

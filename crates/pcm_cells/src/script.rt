@@ -82,7 +82,8 @@ impl<const B: usize, const M: usize> Model for ScriptLine<B, M> {
 
     ghost view = { λ l. record { line = l.line; turns = l.turns.items } };
 
-    ghost invariant = { λ l. (vec_len l.turns ≡ 8 * (B + M)) × ((n : ℕ) → slice_index l.line.misses n ≤ 7)
+    ghost invariant = { λ l. (vec_len l.turns ≡ 8 * (B + M))
+        × ((n : ℕ) → slice_index l.line.misses n ≤ 7)
         × IsShape B M };
 }
 
@@ -115,8 +116,10 @@ impl<const B: usize, const M: usize> ScriptLine<B, M> {
     )
         requires { number < 8 * (B + M) }
         ensures here { scripted_cell self.new number
-            ≡ scripted script.now line tearing (cell want.now) number (scripted_cell self.old number) }
-        ensures others { (n : ℕ) → n ≢ number → scripted_cell self.new n ≡ scripted_cell self.old n }
+            ≡ scripted script.now line tearing (cell want.now) number
+            (scripted_cell self.old number) }
+        ensures others { (n : ℕ) → n ≢ number
+            → scripted_cell self.new n ≡ scripted_cell self.old n }
         ensures pulses { self.new.line.pulses ≡ self.old.line.pulses }
     {
         let turn = self.turns[number as usize].saturating_add(1);
@@ -243,7 +246,11 @@ impl<const B: usize, const M: usize> ScriptArray<B, M> {
           tears = 0;
           wear = Some wear;
         }) }
-        ensures err { OnErr result (self.new ≡ record self.old { lines = []; tears = 0; wear = Some wear }) }
+        ensures err { OnErr result (self.new ≡ record self.old {
+          lines = [];
+          tears = 0;
+          wear = Some wear;
+        }) }
     {
         self.lines = None;
         self.tears = 0;

@@ -298,7 +298,8 @@ impl<const B: usize, const M: usize> SeededLine<B, M> {
     pub(crate) fn wear(&mut self, tearing: bool, mask: &Cells<B, M>, want: &Cells<B, M>)
         requires shape { IsShape B M }
         requires whole { IsWhole B M }
-        ensures cells { Follows (cell mask.now) (seeded tearing (cell want.now)) (seeded_cell self.old)
+        ensures cells { Follows (cell mask.now) (seeded tearing (cell want.now))
+            (seeded_cell self.old)
             (seeded_cell self.new) }
         ensures pulses { self.new.line.pulses ≡ counted self.old.line.pulses }
     {
@@ -372,7 +373,11 @@ impl<const B: usize, const M: usize> Model for MemArray<B, M> {
 
     ghost Value = { SeededArray B M };
 
-    ghost view = { λ a. record { lines = seeded_lines a.lines; tears = a.tears; wear = seeded_wear a.lines } };
+    ghost view = { λ a. record {
+      lines = seeded_lines a.lines;
+      tears = a.tears;
+      wear = seeded_wear a.lines;
+    } };
 
     ghost invariant = { λ a. IsShape B M × IsWhole B M × IsInRange (bounds_of (seeded_wear a.lines))
         × AreBounded (bounds_of (seeded_wear a.lines)) (seeded_lines a.lines) };
@@ -423,7 +428,8 @@ impl<const B: usize, const M: usize> CellArray<B, M> for MemArray<B, M> {
         requires shape { IsShape B M }
         ensures ok { OnOk result (IsFresh lines wear (seeded_state self.new)) }
         ensures err { OnErr result (length self.new.lines ≡ 0) }
-        ensures drawn { OnOk result ((l : ℕ) → l < lines → IsDrawn wear l (seeded_line self.new l)) }
+        ensures drawn { OnOk result ((l : ℕ) → l < lines
+            → IsDrawn wear l (seeded_line self.new l)) }
     {
         self.lines = None;
         self.tears = 0;
@@ -469,7 +475,8 @@ impl<const B: usize, const M: usize> CellArray<B, M> for MemArray<B, M> {
         requires exists { line < length self.old.lines }
         requires lawful { IsPulse mask.now want.now (seeded_line self.old line).line.held }
         requires shape { IsShape B M }
-        ensures step { TornStep (seeded_state self.old).bounds mask.now ((seeded_state self.old).line line)
+        ensures step { TornStep (seeded_state self.old).bounds mask.now
+            ((seeded_state self.old).line line)
             ((seeded_state self.new).line line) }
         ensures others { ChangesOnly line (seeded_state self.old) (seeded_state self.new) }
         ensures tears { self.new.tears ≡ counted self.old.tears }

@@ -1,13 +1,9 @@
 -- The bits of given bytes: those that are read are those that are written.
 use Rattle.std.proofs.Common.{◌≡◌, ℕ, zero, suc, ◌+◌, ◌*◌, ◌/◌, ◌%◌, ◌<◌, ◌≤◌, Bool, true, false, cond, eqb, List, length, get_or, refl, sym, ap, ◌∙◌, arith, ext_get_or}
-use Rattle.std.specs.Int.{bit_at}
-use Rattle.std.specs.Prelude.{slice_index_or}
+use Rattle.std.specs.{Int.bit_at, Prelude.slice_index_or}
 use Rattle.cell_rows.specs.Rows.{bit_of}
-use Rattle.ecp_line.specs.Layout.{number}
-use Rattle.ecp_line.specs.Reading.{bytes_from}
-use Rattle.ecp_line.proofs.Bytes.{bytes-from, get_or-bytes_from}
-use Rattle.pcm_image.specs.Spelling.{packed}
-use Rattle.pcm_image.specs.Reading.{given_from}
+use Rattle.ecp_line.{specs.Layout.number, specs.Reading.bytes_from, proofs.Bytes.{bytes-from, get_or-bytes_from}}
+use Rattle.pcm_image.specs.{Reading.given_from, Spelling.packed}
 
 digit : (v : ℕ) (b : Bool) → v ≡ cond b 1 0 → eqb v 1 ≡ b
 digit v true e = rw e refl

@@ -1,15 +1,10 @@
 -- What the tests of a head say of its numbers.
 use Rattle.std.proofs.Common.{◌≡◌, ℕ, ◌+◌, ◌*◌, ◌^◌, ◌<◌, ◌≤◌, true, ◌&&◌, nat_le, sym, ap, ◌∙◌, arith}
+use Rattle.std.{specs.Int.is_power_of_two, proofs.Math.Nat.{mul_comm, mul-add}, proofs.lemmas.Bool.Decides.nat_tests, proofs.lemmas.Nat.mul-le}
 use Rattle.masked_bytes.proofs.Truth.{and_first, and_second}
-use Rattle.std.specs.Int.{is_power_of_two}
-use Rattle.std.proofs.lemmas.Bool.Decides.{nat_tests}
-use Rattle.std.proofs.lemmas.Nat.{mul-le}
-use Rattle.std.proofs.Math.Nat.{mul_comm, mul-add}
-use Rattle.feistel_map.specs.Log2.{log2}
-use Rattle.feistel_map.proofs.Powers.{log2-between}
+use Rattle.feistel_map.{specs.Log2.log2, proofs.Powers.log2-between}
 use Rattle.pcm_image.specs.Saved.{Head, IsHead, total_in}
-use Rattle.module_shape.specs.Limits.{is_power_between}
-use Rattle.module_shape.proofs.Powers.{size_of_powers}
+use Rattle.module_shape.{specs.Limits.is_power_between, proofs.Powers.size_of_powers}
 
 le_of : (a b : ℕ) → nat_le a b ≡ true → a ≤ b
 le_of a b h = grind (arith, nat_tests)

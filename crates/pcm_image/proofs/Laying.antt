@@ -1,17 +1,9 @@
 -- Entries laid one by one.
 use Rattle.std.proofs.Common.{◌≡◌, ℕ, zero, suc, ◌<◌, true, false, ◌==◌, List, [], ◌∷◌, ◌++◌, length, take, get_or, sym, ap, ◌∙◌, arith}
-use Rattle.std.specs.Prelude.{map, replicate}
-use Rattle.std.specs.List.{AllByRecursion}
-use Rattle.std.proofs.lemmas.List.{map_push}
-use Rattle.std.proofs.lemmas.Bool.{eqb-true}
-use Rattle.masked_bytes.specs.Masked.{laid, none_given, IsMasked}
-use Rattle.masked_bytes.specs.Entries.{layer_of, AllMasked}
-use Rattle.masked_bytes.proofs.Layering.{laid-laid, laid-none_given}
+use Rattle.std.{specs.List.AllByRecursion, specs.Prelude.{map, replicate}, proofs.lemmas.Bool.eqb-true, proofs.lemmas.List.map_push}
+use Rattle.masked_bytes.{specs.Entries.{layer_of, AllMasked}, specs.Masked.{laid, none_given, IsMasked}, proofs.Layering.{laid-laid, laid-none_given}}
 use Rattle.masked_bytes.proofs.Queueing.{IsLayer-layer_of, layer_of-append, layer_of-append_other}
-use Rattle.pcm_image.specs.declared.EntryImage.{EntryImage}
-use Rattle.pcm_image.specs.Saved.{Head, IsSavedEntry, IsSavedBank, SavedBank}
-use Rattle.pcm_image.specs.Standing.{entry_of}
-use Rattle.pcm_image.proofs.Whole.{all_to}
+use Rattle.pcm_image.{specs.Saved.{Head, IsSavedEntry, IsSavedBank, SavedBank}, specs.Standing.entry_of, specs.declared.EntryImage.EntryImage, proofs.Whole.all_to}
 
 pub over_none : (n : ℕ) (under : List ℕ) → under ≡ laid (replicate n 0) (none_given n) under
 over_none n under = sym (laid-none_given n (replicate n 0) under)

@@ -1,12 +1,8 @@
 -- Reading fields one after the other, as a loop does.
 use Rattle.std.proofs.Common.{◌≡◌, ℕ, suc, ◌-◌, ◌+◌, ◌≤◌, ◌<◌, List, [], ◌∷◌, ◌++◌, Ok, Err, refl, sym, ap, ◌∙◌, append_assoc, arith}
-use Rattle.std.specs.Prelude.{Result}
-use Rattle.std.proofs.lemmas.List.{append-nil}
-use Rattle.pcm_image.specs.declared.ImageFault.{ImageFault}
-use Rattle.pcm_image.specs.declared.fields.ReadImage.{ReadImage}
+use Rattle.std.{specs.Prelude.Result, proofs.lemmas.List.append-nil}
+use Rattle.pcm_image.specs.{Giving.Fails, Reading.{Cursor, Got, ◌>>=◌, times}, declared.ImageFault.ImageFault, declared.fields.ReadImage.ReadImage}
 use Rattle.pcm_image.specs.declared.fields.ReadImage.TheVariants as read
-use Rattle.pcm_image.specs.Reading.{Cursor, Got, ◌>>=◌, times}
-use Rattle.pcm_image.specs.Giving.{Fails}
 
 -- a step that fails, here or behind one that did not
 pub fails_here : {A B : Type 0} (e : ReadImage) (one : Result A ImageFault) (next : A → Result B ImageFault) → Fails e one → Fails e (one >>= next)

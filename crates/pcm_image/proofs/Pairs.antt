@@ -1,16 +1,10 @@
 -- A field that is read is the field that was written, and what was written is read again.
 use Rattle.std.proofs.Common.{◌≡◌, ℕ, zero, suc, ◌+◌, ◌^◌, ◌<◌, ◌≤◌, Bool, true, false, cond, ltb, List, [], ◌∷◌, ◌++◌, length, get_or, take, drop, Result, Ok, Err, refl, sym, ap, subst, ◌∙◌, append_assoc, arith, inl, inr}
-use Rattle.std.specs.List.{flat_map, AllByRecursion}
-use Rattle.std.specs.Int.{Width, w16, w32, w64, byte_len, from_le_bytes, to_le_bytes}
-use Rattle.std.proofs.lemmas.Bool.{cases_lt, ltb-false, le-ltb}
-use Rattle.std.proofs.lemmas.List.{take_at, drop_at, take-append-drop, length-append, length-take, get_or-drop, get_or-take, get_or_past}
-use Rattle.std.proofs.lemmas.List.Concat.{flat_map-cons}
+use Rattle.std.{specs.Int.{Width, w16, w32, w64, byte_len, from_le_bytes, to_le_bytes}, specs.List.{flat_map, AllByRecursion}, proofs.lemmas.Bool.{cases_lt, ltb-false, le-ltb}}
+use Rattle.std.proofs.{lemmas.List.{take_at, drop_at, take-append-drop, length-append, length-take, get_or-drop, get_or-take, get_or_past}, lemmas.List.Concat.flat_map-cons}
 use Rattle.std.proofs.lemmas.Nat.{le_bytes_2, le_bytes_4, le_bytes_8, from_le_bytes-to_le_bytes_2, from_le_bytes-to_le_bytes_4, from_le_bytes-to_le_bytes_8}
-use Rattle.pcm_image.specs.declared.ImageFault.{ImageFault}
-use Rattle.pcm_image.specs.declared.ImageKind.{ImageKind}
-use Rattle.pcm_image.specs.declared.ImageKind.TheVariants.{Short}
-use Rattle.pcm_image.specs.Spelling.{u8}
-use Rattle.pcm_image.specs.Reading.{Cursor, Got, ◌>>=◌, fault, field, first_byte, byte_at, number_at, times}
+use Rattle.pcm_image.specs.{Reading.{Cursor, Got, ◌>>=◌, fault, field, first_byte, byte_at, number_at, times}, Spelling.u8, declared.ImageFault.ImageFault}
+use Rattle.pcm_image.specs.{declared.ImageKind.ImageKind, declared.ImageKind.TheVariants.Short}
 
 abbrev pub IsBytes : List ℕ → Type 0
 IsBytes bytes = (i : ℕ) → get_or bytes i 0 < 256

@@ -2,8 +2,7 @@
 use Rattle.std.proofs.Common.{◌≡◌, ℕ, zero, suc, ◌+◌, ◌*◌, ◌<◌, Bool, true, false, ◌||◌, ◌==◌, List, [], ◌∷◌, ◌++◌, length, get_or, drop, refl, ap, ◌∙◌, arith, append_assoc}
 use Rattle.masked_bytes.specs.Masked.{zero_elsewhere}
 use Rattle.pcm_io.specs.Reserved.{Reserved, appended}
-use Rattle.ecp_line.specs.Layout.{number}
-use Rattle.ecp_line.specs.Reading.{bytes_from}
+use Rattle.ecp_line.specs.{Layout.number, Reading.bytes_from}
 
 pub zeros_step : (bytes : List ℕ) (given : List Bool) (i : ℕ) → length given ≡ length bytes → i < length bytes → (get_or given i false || get_or bytes i 0 == 0) ≡ true
     → zero_elsewhere (drop (i + 1) bytes) (drop (i + 1) given) ≡ zero_elsewhere (drop i bytes) (drop i given)

@@ -1,32 +1,22 @@
 -- The two laws: what is read is saved so, and what is saved so is read.
 use Rattle.std.proofs.Common.{◌≡◌, ℕ, suc, ◌+◌, ◌*◌, ◌/◌, ◌%◌, ◌^◌, ◌<◌, ◌≤◌, Bool, true, ◌==◌, eqb, nat_le, nat_lt, List, [], ◌∷◌, ◌++◌, length, get_or, Result, Ok, Err, All, refl, sym, ap, subst, ◌∙◌, append_assoc, arith}
-use Rattle.masked_bytes.proofs.Truth.{and_first, and_second}
-use Rattle.std.specs.Prelude.{IfOk, OnOk, IsTrue}
-use Rattle.std.specs.List.{flat_map, AllByRecursion}
-use Rattle.std.specs.Str.{bytes_eq}
-use Rattle.std.specs.Int.{w16, w32, w64}
-use Rattle.std.proofs.lemmas.Bool.{eqb-true, and_from}
-use Rattle.std.proofs.lemmas.Nat.{mul-le}
-use Rattle.std.proofs.lemmas.Bool.Decides.{nat_tests}
-use Rattle.std.proofs.lemmas.Slice.Eq.{bytes_eq-Decides}
-use Rattle.std.proofs.lemmas.List.{append-nil, nil_from_length, length-append, length-take, length-drop, take_at, drop_at, take-append-drop}
-use Rattle.std.proofs.lemmas.List.Elements.{All-from_recursion, All-get_or}
-use Rattle.masked_bytes.specs.Masked.{gives_some, zero_elsewhere}
+use Rattle.std.{specs.Int.{w16, w32, w64}, specs.List.{flat_map, AllByRecursion}, specs.Prelude.{IfOk, OnOk, IsTrue}, specs.Str.bytes_eq, proofs.lemmas.Bool.{eqb-true, and_from}}
+use Rattle.std.proofs.{lemmas.Bool.Decides.nat_tests, lemmas.List.{append-nil, nil_from_length, length-append, length-take, length-drop, take_at, drop_at, take-append-drop}}
+use Rattle.std.proofs.{lemmas.List.Elements.{All-from_recursion, All-get_or}, lemmas.Nat.mul-le, lemmas.Slice.Eq.bytes_eq-Decides}
+use Rattle.masked_bytes.{specs.Masked.{gives_some, zero_elsewhere}, proofs.Truth.{and_first, and_second}}
 use Rattle.cell_rows.specs.declared.row.Cells.{Cells}
-use Rattle.pcm_image.specs.declared.RegionImage.{RegionImage}
-use Rattle.pcm_image.specs.declared.EntryImage.{EntryImage}
-use Rattle.pcm_image.specs.declared.ImageKind.TheVariants as kind
-use Rattle.pcm_image.specs.declared.fields.ReadImage.{ReadImage}
-use Rattle.pcm_image.specs.Saved.{Saved, SavedBank, Head, IsHead, IsSaved, IsSavedBank, IsSavedEntry, IsSavedRegion, IsSavedRow, slots_in, lines_in, array_lines_in, is_lines}
-use Rattle.module_shape.specs.Limits.{is_power_between}
-use Rattle.pcm_image.specs.Spelling.{u8, u16, u32, u64, magic, packed, head_bytes, region_bytes, entry_bytes, bank_bytes, cells_bytes, image_bytes}
-use Rattle.pcm_image.specs.Reading.{Cursor, ◌>>=◌, field, any, byte_at, number_at, times, is_size, is_size_of, size_at, size_of, head_at, region_at, given_from, is_given, entry_at, bank_at, row_of, cells_at, image_of}
 use Rattle.pcm_image.specs.Giving.{Gives}
+use Rattle.pcm_image.specs.Reading.{Cursor, ◌>>=◌, field, any, byte_at, number_at, times, is_size, is_size_of, size_at, size_of, head_at, region_at, given_from, is_given, entry_at}
+use Rattle.pcm_image.specs.Reading.{bank_at, row_of, cells_at, image_of}
+use Rattle.pcm_image.specs.Saved.{Saved, SavedBank, Head, IsHead, IsSaved, IsSavedBank, IsSavedEntry, IsSavedRegion, IsSavedRow, slots_in, lines_in, array_lines_in, is_lines}
+use Rattle.pcm_image.specs.Spelling.{u8, u16, u32, u64, magic, packed, head_bytes, region_bytes, entry_bytes, bank_bytes, cells_bytes, image_bytes}
+use Rattle.pcm_image.specs.{declared.EntryImage.EntryImage, declared.RegionImage.RegionImage, declared.fields.ReadImage.ReadImage}
+use Rattle.pcm_image.proofs.{Bits.{length-given_from, packed-given, given-packed}, Heads.{HeadFits, head-fits}, Loop.gives_on}
+use Rattle.pcm_image.proofs.Pairs.{IsBytes, bind_ok, bound, ok_is, passed, Takes, Takes-then, IsPair, IsField, field_pair, Passes, number_pair, byte_pair, wide16, wide32, wide64}
+use Rattle.pcm_image.proofs.Pairs.{times_takes, times_again}
+use Rattle.pcm_image.specs.declared.ImageKind.TheVariants as kind
+use Rattle.module_shape.specs.Limits.{is_power_between}
 use Rattle.ecp_line.proofs.Bytes.{length-bytes_from}
-use Rattle.pcm_image.proofs.Bits.{length-given_from, packed-given, given-packed}
-use Rattle.pcm_image.proofs.Loop.{gives_on}
-use Rattle.pcm_image.proofs.Heads.{HeadFits, head-fits}
-use Rattle.pcm_image.proofs.Pairs.{IsBytes, bind_ok, bound, ok_is, passed, Takes, Takes-then, IsPair, IsField, field_pair, Passes, number_pair, byte_pair, wide16, wide32, wide64, times_takes, times_again}
 
 le_true : (a b : ℕ) → a ≤ b → nat_le a b ≡ true
 le_true a b h = grind (arith, nat_tests)

@@ -1,12 +1,8 @@
 -- What a reader of fields answers, against the definition.
 use Rattle.std.specs.Prelude.{◌≡◌, ◌*◌, ◌≤◌, Result, Ok, Err}
-use Rattle.pcm_image.specs.declared.ImageFault.{ImageFault}
-use Rattle.pcm_image.specs.declared.fields.Fields.{Fields}
-use Rattle.pcm_image.specs.declared.fields.HeadImage.{HeadImage}
+use Rattle.pcm_image.specs.{Reading.Cursor, Saved.Head, declared.ImageFault.ImageFault, declared.fields.Fields.Fields, declared.fields.HeadImage.HeadImage}
 use Rattle.pcm_image.specs.declared.fields.ReadImage.{ReadImage}
 use Rattle.pcm_image.specs.declared.fields.ReadImage.TheVariants as read
-use Rattle.pcm_image.specs.Saved.{Head}
-use Rattle.pcm_image.specs.Reading.{Cursor}
 
 abbrev pub cursor : Fields → Cursor
 cursor f = record { at = f.at; left = f.left.now }

@@ -1,18 +1,13 @@
 -- An image read from left to right, field by field, up to the first that fails.
+use Rattle.std.specs.Int.{Width, w16, w32, w64, byte_len, from_le_bytes}
 use Rattle.std.specs.Prelude.{ℕ, zero, suc, ◌+◌, ◌*◌, ◌/◌, ◌&&◌, ◌==◌, nat_lt, nat_le, Bool, true, if◌then◌else◌, List, [], ◌∷◌, length, take, drop, Result, Ok, Err}
 use Rattle.std.specs.Str.{bytes_eq}
-use Rattle.std.specs.Int.{Width, w16, w32, w64, byte_len, from_le_bytes}
 use Rattle.masked_bytes.specs.Masked.{gives_some, zero_elsewhere}
-use Rattle.cell_rows.specs.Rows.{bit_of}
-use Rattle.cell_rows.specs.declared.row.Cells.{Cells}
+use Rattle.cell_rows.specs.{Rows.bit_of, declared.row.Cells.Cells}
+use Rattle.pcm_image.specs.{Saved.{Saved, SavedBank, Head, lines_in, slots_in, array_lines_in, is_lines}, Spelling.magic, declared.EntryImage.EntryImage}
+use Rattle.pcm_image.specs.{declared.ImageFault.ImageFault, declared.ImageKind.ImageKind, declared.ImageKind.TheVariants.{Short, Magic, Size, Shape, Bank, Entry, Extra}}
 use Rattle.pcm_image.specs.declared.RegionImage.{RegionImage}
-use Rattle.pcm_image.specs.declared.EntryImage.{EntryImage}
-use Rattle.pcm_image.specs.declared.ImageFault.{ImageFault}
-use Rattle.pcm_image.specs.declared.ImageKind.{ImageKind}
-use Rattle.pcm_image.specs.declared.ImageKind.TheVariants.{Short, Magic, Size, Shape, Bank, Entry, Extra}
-use Rattle.pcm_image.specs.Saved.{Saved, SavedBank, Head, lines_in, slots_in, array_lines_in, is_lines}
 use Rattle.module_shape.specs.Limits.{is_power_between}
-use Rattle.pcm_image.specs.Spelling.{magic}
 
 -- what is left to read, and the number of bytes before it
 pub record Cursor : Type 0 where

@@ -3,8 +3,7 @@ use Rattle.std.specs.Prelude.{◌≡◌, ℕ, ◌+◌, ◌*◌, ◌^◌, ◌%◌
 use Rattle.masked_bytes.specs.Masked.{IsMasked}
 use Rattle.cell_rows.specs.declared.row.Cells.{Cells}
 use Rattle.module_shape.specs.Limits.{is_power_between}
-use Rattle.pcm_image.specs.declared.RegionImage.{RegionImage}
-use Rattle.pcm_image.specs.declared.EntryImage.{EntryImage}
+use Rattle.pcm_image.specs.{declared.EntryImage.EntryImage, declared.RegionImage.RegionImage}
 
 -- what is saved of a bank: whether it is exhausted, the slots that were given its spares, in order, the registers of its regions, and
 -- the writes of its queue, the oldest first

@@ -1,18 +1,12 @@
 -- The bytes of each line, by a saved module alone.
 use Rattle.std.specs.Prelude.{ℕ, ◌+◌, ◌*◌, ◌/◌, ◌%◌, List, [], map, slice_index_or}
-use Rattle.masked_bytes.specs.Masked.{laid}
-use Rattle.masked_bytes.specs.Entries.{layer_of}
-use Rattle.masked_bytes.specs.declared.entry.Entry.{Entry}
-use Rattle.start_gap.specs.Rotation.{Rotation, place_by}
-use Rattle.start_gap.specs.Slots.{slot_at}
+use Rattle.masked_bytes.specs.{Entries.layer_of, Masked.laid, declared.entry.Entry.Entry}
+use Rattle.start_gap.specs.{Rotation.{Rotation, place_by}, Slots.slot_at}
 use Rattle.spare_pool.specs.Table.{Table, line_by}
-use Rattle.feistel_map.specs.Log2.{log2}
-use Rattle.feistel_map.specs.Network.{network_of, feistel}
+use Rattle.feistel_map.specs.{Log2.log2, Network.{network_of, feistel}}
 use Rattle.cell_rows.specs.Rows.{zero_row}
 use Rattle.ecp_line.specs.Reading.{decode}
-use Rattle.pcm_image.specs.declared.RegionImage.{RegionImage}
-use Rattle.pcm_image.specs.declared.EntryImage.{EntryImage}
-use Rattle.pcm_image.specs.Saved.{Saved, SavedBank, Head, total_in, lines_in, slots_in, array_lines_in}
+use Rattle.pcm_image.specs.{Saved.{Saved, SavedBank, Head, total_in, lines_in, slots_in, array_lines_in}, declared.EntryImage.EntryImage, declared.RegionImage.RegionImage}
 
 -- the registers of a region, the remap table of a bank, and an entry of its queue, whose row isn't saved
 abbrev pub rotation_of : Head → RegionImage → Rotation

@@ -17,7 +17,12 @@ impl<const B: usize> Model for BankImage<B> {
 
     ghost Value = { SavedBank B };
 
-    ghost view = { λ b. record { mark = b.mark; replaced = b.replaced.items; regions = b.registers.items; entries = b.entries.items } };
+    ghost view = { λ b. record {
+      mark = b.mark;
+      replaced = b.replaced.items;
+      regions = b.registers.items;
+      entries = b.entries.items;
+    } };
 }
 
 /// What is saved of a module: the numbers that say how it is built, its banks, and the cells of its array lines.
@@ -39,7 +44,14 @@ impl<const B: usize, const M: usize> Model for Image<B, M> {
     ghost Value = { Saved B M };
 
     ghost view = { λ i. record {
-      head = record { banks = i.banks; regions = i.regions; lines = i.lines; spares = i.spares; seed = i.seed; home = i.home };
+      head = record {
+        banks = i.banks;
+        regions = i.regions;
+        lines = i.lines;
+        spares = i.spares;
+        seed = i.seed;
+        home = i.home;
+      };
       parts = i.parts.items;
       cells = i.cells.items;
     } };

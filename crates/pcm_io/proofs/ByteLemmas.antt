@@ -1,13 +1,8 @@
 -- Bytes that several calls moved.
 use Rattle.std.proofs.Common.{ℕ, ◌+◌, ◌≡◌, ◌≤◌, List, [], ◌++◌, length, take, drop, Option, None, Some, refl, sym, ap, ◌∙◌, append_assoc, length-append, arith}
-use Rattle.std.proofs.Math.Seq.{take-add, take-append-add}
+use Rattle.std.{specs.Io.KnownBytes.{Appends, Consumes, IsAtEnd}, proofs.Math.Seq.{take-add, take-append-add}, proofs.lemmas.Grind.common_steps}
 use Rattle.std.proofs.lemmas.List.{take_at, drop-drop, take-append-drop, take-append-le, append-nil}
-use Rattle.std.proofs.lemmas.Grind.{common_steps}
-use Rattle.std.specs.Io.KnownBytes.{Appends, Consumes, IsAtEnd}
-use Rattle.pcm_io.specs.Faults.{raised_by}
-use Rattle.pcm_io.specs.Taking.{Takes}
-use Rattle.pcm_io.specs.Giving.{AppendsPrefix}
-use Rattle.pcm_io.proofs.FaultLemmas.{raised_by-raised_by, raised_by-zero}
+use Rattle.pcm_io.{specs.Faults.raised_by, specs.Giving.AppendsPrefix, specs.Taking.Takes, proofs.FaultLemmas.{raised_by-raised_by, raised_by-zero}}
 
 -- bytes that were appended by two calls
 pub Appends-Appends : (a b c : Option (List ℕ)) (xs ys : List ℕ) → Appends a b xs → Appends b c ys → Appends a c (xs ++ ys)

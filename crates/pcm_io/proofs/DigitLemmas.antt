@@ -1,7 +1,6 @@
 -- How many decimal digits numbers have.
 use Rattle.std.proofs.Common.{ℕ, ◌^◌, ◌<◌, ◌≤◌, length, arith, lit<}
-use Rattle.std.specs.Fmt.{decimal}
-use Rattle.std.proofs.lemmas.Fmt.{length-decimal-le}
+use Rattle.std.{specs.Fmt.decimal, proofs.lemmas.Fmt.length-decimal-le}
 
 pub five_digits : (n : ℕ) → n < 10 ^ 5 → length (decimal n) ≤ 5
 five_digits n bound = length-decimal-le 5 n (lit< tt) bound (omega arith)

@@ -1,7 +1,6 @@
 -- Counts over several calls.
 use Rattle.std.proofs.Common.{ℕ, ◌+◌, ◌-◌, ◌^◌, ◌<◌, ◌≤◌, ◌≡◌, max, inl, inr, sym, ap, ◌∙◌, arith}
-use Rattle.std.proofs.lemmas.Bool.{cases_lt}
-use Rattle.std.proofs.Math.Nat.{add_assoc}
+use Rattle.std.proofs.{Math.Nat.add_assoc, lemmas.Bool.cases_lt}
 use Rattle.pcm_io.specs.Faults.{Rose, raised_by}
 
 -- a count that is raised by nothing

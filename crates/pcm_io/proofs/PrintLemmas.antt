@@ -1,7 +1,6 @@
 -- How the parts of a row are printed one behind the other.
 use Rattle.std.proofs.Common.{◌≡◌, List, ℕ, [], ◌∷◌, ◌++◌, append_assoc}
-use Rattle.std.specs.Prelude.{codes}
-use Rattle.std.specs.List.{join_with_byte}
+use Rattle.std.specs.{List.join_with_byte, Prelude.codes}
 use Rattle.pcm_io.specs.Reserved.{Reserved, appended}
 
 -- four fields that were pushed one by one, with commas between and LF at the end

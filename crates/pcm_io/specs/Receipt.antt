@@ -1,7 +1,6 @@
 -- A sink that keeps what is written in reserved memory.
 use Rattle.std.specs.Prelude.{ℕ, ◌||◌, Bool, List, length, nat_lt, if◌then◌else◌}
-use Rattle.pcm_io.specs.Schedule.{Schedule, next_fails, after_call, after_fault}
-use Rattle.pcm_io.specs.Reserved.{Reserved, room_in, appended}
+use Rattle.pcm_io.specs.{Reserved.{Reserved, room_in, appended}, Schedule.{Schedule, next_fails, after_call, after_fault}}
 
 -- what was written, its room, and the calls
 pub record Receipt : Type 0 where

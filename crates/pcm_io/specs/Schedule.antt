@@ -1,6 +1,5 @@
 -- The calls of a source or a sink in memory, of which chosen ones fail.
-use Rattle.std.specs.Prelude.{ℕ, ◌==◌, List, Bool}
-use Rattle.std.specs.List.{list_any}
+use Rattle.std.specs.{List.list_any, Prelude.{ℕ, ◌==◌, List, Bool}}
 use Rattle.pcm_io.specs.Faults.{raised_by}
 
 -- how many calls were made, the numbers of those that fail, counted from 1, and the faults so far

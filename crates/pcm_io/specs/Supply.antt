@@ -1,7 +1,6 @@
 -- A source over bytes in memory, of which chosen calls fail.
 use Rattle.std.specs.Prelude.{ℕ, List, if◌then◌else◌}
-use Rattle.pcm_io.specs.Schedule.{Schedule, next_fails, after_call, after_fault}
-use Rattle.pcm_io.specs.Stock.{Stock, after_giving, filled}
+use Rattle.pcm_io.specs.{Schedule.{Schedule, next_fails, after_call, after_fault}, Stock.{Stock, after_giving, filled}}
 
 -- the bytes, and the calls
 pub record Supply : Type 0 where

@@ -1,6 +1,5 @@
 -- What reads take from a source.
-use Rattle.std.specs.Prelude.{◌≡◌, ℕ, List, length, Option}
-use Rattle.std.specs.Io.KnownBytes.{Consumes}
+use Rattle.std.specs.{Io.KnownBytes.Consumes, Prelude.{◌≡◌, ℕ, List, length, Option}}
 use Rattle.pcm_io.specs.Faults.{raised_by}
 
 -- these bytes were taken: they came first of what was left, where that is told, and the count of taken bytes was raised by their number

@@ -54,7 +54,10 @@ impl MemSink {
     /// Calls of `write` are numbered from 1; those whose numbers are in `fails`, or whose piece would pass `room`
     /// bytes in all, append nothing and fail.
     pub fn new(alloc: Global, room: usize, fails: Vec<u32>) -> Result<MemSink, AllocError>
-        ensures { IfOk result (λ sink. sink ≡ record { text = reserved room; calls = planned fails.items }) }
+        ensures { IfOk result (λ sink. sink ≡ record {
+          text = reserved room;
+          calls = planned fails.items;
+        }) }
     {
         Ok(MemSink {
             text: Text::new(alloc, room)?,

@@ -23,7 +23,8 @@ impl Model for Text {
 
     ghost view = { λ text. record { bytes = text.buffer.items; limit = text.limit } };
 
-    ghost invariant = { λ text. (text.limit ≤ vec_capacity text.buffer) × (length text.buffer.items ≤ text.limit) };
+    ghost invariant = { λ text. (text.limit ≤ vec_capacity text.buffer)
+        × (length text.buffer.items ≤ text.limit) };
 }
 
 impl Text {

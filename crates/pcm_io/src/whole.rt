@@ -25,14 +25,16 @@ pub fn read_all<S: Source>(
     ensures within { IfOk result (λ bytes. vec_len bytes ≤ limit) }
 
     // What was taken before a fault is lost; it is more than the limit exactly at `TooLong`.
-    ensures err { IfErr result (λ fault. (bytes : List ℕ) × Takes (S.left source.old) (S.left source.new)
+    ensures err { IfErr result (λ fault. (bytes : List ℕ)
+        × Takes (S.left source.old) (S.left source.new)
         (S.taken source.old) (S.taken source.new) bytes
         × ((fault ≡ ReadAllFault.TooLong) ↔ (limit < length bytes))) }
 
     // `TooLong` by the count of taken bytes alone, where that is not near its end.
     ensures too_long { S.taken source.old + limit < 2 ^ 64 - 1 →
         ((result ≡ Err ReadAllFault.TooLong) ↔ (S.taken source.old + limit < S.taken source.new)) }
-    ensures read { result ≡ Err ReadAllFault.Read → Rose (S.faults source.old) (S.faults source.new) }
+    ensures read { result ≡ Err ReadAllFault.Read
+        → Rose (S.faults source.old) (S.faults source.new) }
     ensures no_fault { result ≢ Err ReadAllFault.Read → S.faults source.new ≡ S.faults source.old }
     ensures never_falls { S.faults source.old ≤ S.faults source.new }
 {
@@ -55,7 +57,8 @@ pub fn read_all<S: Source>(
 /// Writes all the bytes, in as many calls as the sink wants.
 pub fn write_all<K: Sink>(sink: &mut K, bytes: &[u8]) -> Result<(), WriteFault>
     ensures ok { OnOk result (Appends (K.written sink.old) (K.written sink.new) bytes.now) }
-    ensures prefix { OnErr result (AppendsPrefix (K.written sink.old) (K.written sink.new) bytes.now) }
+    ensures prefix { OnErr result (AppendsPrefix (K.written sink.old) (K.written sink.new)
+        bytes.now) }
     ensures fault { OnErr result (Rose (K.faults sink.old) (K.faults sink.new)) }
     ensures never_falls { K.faults sink.old ≤ K.faults sink.new }
 {

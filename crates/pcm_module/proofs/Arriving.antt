@@ -1,30 +1,18 @@
 -- A bank runs on to a tick, and then a row arrives: both calls together are one step.
 use Rattle.std.proofs.Common.{◌≡◌, ◌≢◌, ℕ, ◌≤◌, ◌==◌, ◌||◌, Bool, true, false, if◌then◌else◌, List, [], ◌∷◌, ◌++◌, Option, Some, None, append_assoc, refl, sym, ap, subst, ◌∙◌, arith}
+use Rattle.std.{specs.Prelude.IsTrue, proofs.lemmas.Bool.{ne_eqb, or_from}, proofs.lemmas.List.Elements.{All-head, All-tail}}
 use Rattle.masked_bytes.proofs.Truth.{neither_first, neither_second}
-use Rattle.std.specs.Prelude.{IsTrue}
-use Rattle.std.proofs.lemmas.Bool.{ne_eqb, or_from}
-use Rattle.std.proofs.lemmas.List.Elements.{All-head, All-tail}
 use Rattle.cell_rows.specs.Device.{ArrayState}
 use Rattle.result_rows.specs.declared.Outcome.{Outcome}
 use Rattle.bank_shape.specs.declared.BankShape.{BankShape}
-use Rattle.bank_model.specs.Events.{Write, Read, Serve, Begin, Iterate, Cut, RowsBelow}
-use Rattle.bank_model.specs.Timing.{Happens, Core, Regs, TimedEvent, core, core_of}
-use Rattle.bank_model.specs.Adding.{Adds}
-use Rattle.clock_laws.specs.State.{ClockState}
-use Rattle.clock_laws.specs.Leads.{Leads}
-use Rattle.clock_laws.specs.Recording.{outcome_on}
-use Rattle.clock_laws.specs.Standing.{is_arrival_of, arrives_with}
-use Rattle.clock_laws.proofs.Recording.{both_recorded_law}
-use Rattle.clock_laws.proofs.Extending.{both_added_law}
+use Rattle.bank_model.specs.{Adding.Adds, Events.{Write, Read, Serve, Begin, Iterate, Cut, RowsBelow}, Timing.{Happens, Core, Regs, TimedEvent, core, core_of}}
+use Rattle.clock_laws.specs.{Arriving.cancels_for, Leads.Leads, Recording.outcome_on, Standing.{is_arrival_of, arrives_with}, State.ClockState}
+use Rattle.clock_laws.proofs.{Extending.both_added_law, Recording.both_recorded_law}
 use Rattle.module_laws.specs.Asking.{Asked, AreAsked, IsAsked}
 use Rattle.reg_lines.specs.declared.Change.{Change}
-use Rattle.clock_laws.specs.Arriving.{cancels_for}
-use Rattle.bank_timing.specs.Cancelling.{cancel_by, cancel_first}
-use Rattle.bank_timing.specs.Extending.{Extends, IsOpen, IsQuiet, EndsAction, outcome_in}
-use Rattle.bank_timing.proofs.Running.{none-arrives}
+use Rattle.bank_timing.{specs.Cancelling.{cancel_by, cancel_first}, specs.Extending.{Extends, IsOpen, IsQuiet, EndsAction, outcome_in}, proofs.Running.none-arrives}
 use Rattle.bank_laws.specs.Ticks.{ends_action}
-use Rattle.pcm_module.specs.Stepping.{IsStep}
-use Rattle.pcm_module.proofs.Moving.{untouched, open_kept, outcome_at_row}
+use Rattle.pcm_module.{specs.Stepping.IsStep, proofs.Moving.{untouched, open_kept, outcome_at_row}}
 
 module _ {n m : ℕ} where
   abbrev Ends : TimedEvent n m → Type 0

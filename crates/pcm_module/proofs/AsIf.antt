@@ -1,24 +1,16 @@
 -- A bank's step over a table as if one row, of which the bank doesn't hear, had its outcome already.
 use Rattle.std.proofs.Common.{◌≡◌, ◌≢◌, ℕ, ◌-◌, ◌≤◌, true, false, List, ◌++◌, length, Some, sym, ap, subst, ◌∙◌, inl, inr, arith}
-use Rattle.std.specs.Prelude.{unwrap_or}
-use Rattle.std.proofs.lemmas.Bool.{cases_eq}
-use Rattle.std.proofs.Math.ListN.{length-set}
+use Rattle.std.{specs.Prelude.unwrap_or, proofs.Math.ListN.length-set, proofs.lemmas.Bool.cases_eq}
 use Rattle.circular_buffer.proofs.Places.{slice_get-set_same, slice_get-set_other}
 use Rattle.cell_rows.specs.Device.{ArrayState}
 use Rattle.masked_bytes.specs.Entries.{has_row}
-use Rattle.result_rows.specs.declared.Outcome.{Outcome}
+use Rattle.result_rows.specs.{Table.{HasRow, outcome_at, with_outcome}, declared.Outcome.Outcome}
 use Rattle.result_rows.specs.declared.Outcome.TheVariants as out
-use Rattle.result_rows.specs.Table.{HasRow, outcome_at, with_outcome}
 use Rattle.bank_model.specs.Timing.{TimedEvent}
-use Rattle.clock_laws.specs.State.{ClockState}
-use Rattle.clock_laws.specs.Leads.{Leads}
-use Rattle.clock_laws.specs.Recording.{outcome_on}
-use Rattle.clock_laws.specs.Standing.{has_waiting, arrives_with}
+use Rattle.clock_laws.specs.{Leads.Leads, Recording.outcome_on, Standing.{has_waiting, arrives_with}, State.ClockState}
 use Rattle.module_laws.specs.Asking.{Asked}
 use Rattle.bank_timing.specs.Extending.{Extends, AreOpen, IsOpen, outcome_in}
-use Rattle.pcm_module.specs.Stepping.{IsAt, IsStep}
-use Rattle.pcm_module.proofs.Arriving.{below_off}
-use Rattle.pcm_module.proofs.Moving.{no_entry, unheard, untouched, outcome_at_row, open_kept}
+use Rattle.pcm_module.{specs.Stepping.{IsAt, IsStep}, proofs.Arriving.below_off, proofs.Moving.{no_entry, unheard, untouched, outcome_at_row, open_kept}}
 
 module _ {n : ℕ} (row : ℕ) (o : Outcome n) where
   abbrev pub as_if : List (Outcome n) → List (Outcome n)

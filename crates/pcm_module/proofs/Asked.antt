@@ -4,20 +4,13 @@ use Rattle.std.specs.Prelude.{filter, IsSomeAnd, slice_get}
 use Rattle.cell_rows.specs.Device.{ArrayState}
 use Rattle.masked_bytes.specs.Entries.{has_row}
 use Rattle.result_rows.specs.declared.Outcome.{Outcome}
-use Rattle.row_rules.specs.declared.Asks.{Asks}
-use Rattle.row_rules.specs.declared.Asks.TheVariants.{Reads, Writes, Cuts}
-use Rattle.row_rules.specs.Table.{is_of}
+use Rattle.row_rules.specs.{Table.is_of, declared.Asks.Asks, declared.Asks.TheVariants.{Reads, Writes, Cuts}}
 use Rattle.bank_model.specs.Timing.{TimedEvent}
-use Rattle.clock_laws.specs.State.{ClockState}
-use Rattle.clock_laws.specs.Standing.{has_waiting}
+use Rattle.clock_laws.specs.{Standing.has_waiting, State.ClockState}
 use Rattle.module_laws.specs.Asking.{Asked, asked_in, asked_of}
 use Rattle.run_laws.specs.Runs.{bank_of_line, line_in_bank}
-use Rattle.pcm_module.specs.State.{ModuleState}
-use Rattle.pcm_module.specs.Replaying.{Replays, ReplaysIn, asked_in_bank}
-use Rattle.pcm_module.specs.Telling.{has_standing, comes_to, is_asked_of, rows_at, rows_taking}
-use Rattle.pcm_module.proofs.Naming.{is_numbered, names}
-use Rattle.pcm_module.proofs.Moving.{standing_named}
-use Rattle.pcm_module.proofs.TakenRows.{bank_there}
+use Rattle.pcm_module.specs.{Replaying.{Replays, ReplaysIn, asked_in_bank}, State.ModuleState, Telling.{has_standing, comes_to, is_asked_of, rows_at, rows_taking}}
+use Rattle.pcm_module.proofs.{Moving.standing_named, Naming.{is_numbered, names}, TakenRows.bank_there}
 
 either : (a b c : Bool) → (a ≡ true → c ≡ true) → (b ≡ true → c ≡ true) → (a || b) ≡ true → c ≡ true
 either true b c first second is = first refl

@@ -1,27 +1,19 @@
 -- One bank takes a step, and the banks beside it stay.
 use Rattle.std.proofs.Common.{◌≡◌, ◌≢◌, ℕ, ◌<◌, ◌≤◌, ◌==◌, ◌&&◌, Bool, true, false, if◌then◌else◌, cond, List, [], ◌∷◌, ◌++◌, map, Option, Some, None, refl, sym, ap, subst, ◌∙◌, inl, inr, eq-eqb, arith}
-use Rattle.std.specs.Prelude.{filter, All, IsSomeAnd, slice_get, slice_set}
-use Rattle.std.proofs.lemmas.Bool.{ne_eqb, cases_lt, cases_eq, and_right, or_from}
-use Rattle.std.proofs.lemmas.Option.{slice_get_within}
-use Rattle.std.proofs.lemmas.List.Elements.{All-nil, All-cons, All-weaker}
+use Rattle.std.{specs.Prelude.{filter, All, IsSomeAnd, slice_get, slice_set}, proofs.lemmas.Bool.{ne_eqb, cases_lt, cases_eq, and_right, or_from}}
+use Rattle.std.proofs.{lemmas.List.Elements.{All-nil, All-cons, All-weaker}, lemmas.Option.slice_get_within}
 use Rattle.circular_buffer.proofs.Places.{slice_get-set_same, slice_get-set_other}
 use Rattle.cell_rows.specs.Device.{ArrayState}
-use Rattle.result_rows.specs.declared.Outcome.{Outcome}
-use Rattle.result_rows.specs.Table.{HasRow}
+use Rattle.result_rows.specs.{Table.HasRow, declared.Outcome.Outcome}
 use Rattle.row_rules.specs.Table.{is_of}
 use Rattle.bank_shape.specs.declared.pace.Pace.{Pace}
 use Rattle.bank_model.specs.Timing.{TimedEvent}
-use Rattle.module_shape.specs.Addresses.{ModuleShape, bank_shape, array_lines_of}
-use Rattle.module_shape.proofs.Bounds.{banks_apart}
-use Rattle.clock_laws.specs.State.{ClockState}
-use Rattle.clock_laws.specs.Standing.{arrives_with}
+use Rattle.module_shape.{specs.Addresses.{ModuleShape, bank_shape, array_lines_of}, proofs.Bounds.banks_apart}
+use Rattle.clock_laws.specs.{Standing.arrives_with, State.ClockState}
 use Rattle.module_laws.specs.Asking.{Asked, AreAsked, asked_in, asked_of}
 use Rattle.bank_timing.specs.Extending.{Extends, outcome_in}
-use Rattle.pcm_module.specs.Stepping.{IsAt, IsStep}
-use Rattle.pcm_module.specs.Replaying.{BankReplays, RowsFall, outcome_so_far}
-use Rattle.pcm_module.proofs.Naming.{is_numbered, names, not_named, above_all, rows_of_bank_all, All-both}
-use Rattle.pcm_module.proofs.Logging.{AreOff}
-use Rattle.pcm_module.proofs.Steps.{own_extends, other_replays}
+use Rattle.pcm_module.{specs.Replaying.{BankReplays, RowsFall, outcome_so_far}, specs.Stepping.{IsAt, IsStep}, proofs.Logging.AreOff}
+use Rattle.pcm_module.proofs.{Naming.{is_numbered, names, not_named, above_all, rows_of_bank_all, All-both}, Steps.{own_extends, other_replays}}
 
 -- the lines of two banks of a module are apart
 pub banks_off : (shape : ModuleShape) (bank other : ℕ) → bank ≢ other → AreOff (bank_shape shape bank) (bank_shape shape other)

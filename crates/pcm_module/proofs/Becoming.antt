@@ -1,27 +1,17 @@
 -- What has become of a bank's rows: a write has arrived, and a read stands in no queue.
 use Rattle.std.proofs.Common.{◌≡◌, ◌≢◌, ℕ, ◌<◌, ◌==◌, ◌||◌, ◌&&◌, Bool, true, false, cond, if◌then◌else◌, List, [], ◌∷◌, map, refl, sym, ap, subst, ◌∙◌, eq-eqb, arith}
-use Rattle.std.specs.Prelude.{filter, All}
-use Rattle.std.proofs.lemmas.Bool.{ne_eqb, and_right, or_from, or_right}
+use Rattle.std.{specs.Prelude.{filter, All}, proofs.lemmas.Bool.{ne_eqb, and_right, or_from, or_right}}
 use Rattle.std.proofs.lemmas.List.Elements.{All-head, All-tail, All-nil, All-cons, All-weaker}
 use Rattle.masked_bytes.specs.Entries.{has_row}
 use Rattle.result_rows.specs.declared.Outcome.{Outcome}
 use Rattle.result_rows.specs.declared.Outcome.TheVariants as out
-use Rattle.row_rules.specs.declared.Asks.{Asks}
-use Rattle.row_rules.specs.declared.Asks.TheVariants.{Reads, Writes, Cuts}
-use Rattle.row_rules.specs.Table.{is_of}
-use Rattle.bank_shape.specs.declared.BankShape.{BankShape}
-use Rattle.bank_shape.specs.declared.answer.WriteAnswer.{WriteAnswer}
-use Rattle.bank_model.specs.Events.{Write, Read, Serve, Begin, Iterate, Cut}
-use Rattle.bank_model.specs.History.{queue}
-use Rattle.bank_model.specs.Timing.{Happens, Core, Regs, TimedEvent, core, core_of}
-use Rattle.bank_model.specs.Told.{tick_by, tick_of_row}
+use Rattle.row_rules.specs.{Table.is_of, declared.Asks.Asks, declared.Asks.TheVariants.{Reads, Writes, Cuts}}
+use Rattle.bank_shape.specs.{declared.BankShape.BankShape, declared.answer.WriteAnswer.WriteAnswer}
+use Rattle.bank_model.specs.{Events.{Write, Read, Serve, Begin, Iterate, Cut}, History.queue, Timing.{Happens, Core, Regs, TimedEvent, core, core_of}, Told.{tick_by, tick_of_row}}
 use Rattle.bank_laws.specs.Outcomes.{ended}
-use Rattle.clock_laws.specs.Standing.{is_arrival_of, arrives_with}
+use Rattle.clock_laws.{specs.Standing.{is_arrival_of, arrives_with}, proofs.Absent.queue-lacks}
 use Rattle.module_laws.specs.Asking.{Asked, asked_in, asked_of, AreAsked, IsAsked}
-use Rattle.clock_laws.proofs.Absent.{queue-lacks}
-use Rattle.pcm_module.specs.Replaying.{RowsFall}
-use Rattle.pcm_module.proofs.Standing.{stands_not}
-use Rattle.pcm_module.proofs.Naming.{names, not_named, is_numbered, rows_of_bank_all, All-both}
+use Rattle.pcm_module.{specs.Replaying.RowsFall, proofs.Naming.{names, not_named, is_numbered, rows_of_bank_all, All-both}, proofs.Standing.stands_not}
 
 module _ {n : ℕ} where
   pub ended_set : (tick : ℕ) (o : Outcome n) → o ≢ out.Unset → ended tick o ≡ o

@@ -1,12 +1,9 @@
 -- What a bank leaves of the array beyond all banks, and of a log.
 use Rattle.std.proofs.Common.{◌≡◌, ℕ, ◌*◌, ◌<◌, List, [], ◌++◌, refl, sym, ap, subst, ◌∙◌, inr, append_assoc, append-nil, arith}
-use Rattle.cell_rows.specs.declared.array.Sense.{Sense}
-use Rattle.cell_rows.specs.Device.{ArrayState}
+use Rattle.cell_rows.specs.{Device.ArrayState, declared.array.Sense.Sense}
 use Rattle.bank_shape.specs.declared.BankShape.{BankShape}
-use Rattle.bank_model.specs.Timing.{TimedEvent}
-use Rattle.bank_model.specs.Adding.{Adds, senses_of}
-use Rattle.module_shape.specs.Addresses.{ModuleShape, bank_shape, array_lines_of}
-use Rattle.module_shape.proofs.Bounds.{banks_apart}
+use Rattle.bank_model.specs.{Adding.{Adds, senses_of}, Timing.TimedEvent}
+use Rattle.module_shape.{specs.Addresses.{ModuleShape, bank_shape, array_lines_of}, proofs.Bounds.banks_apart}
 use Rattle.pcm_module.specs.Taking.{StaysBeyond}
 
 module _ {n m : ℕ} (own : ℕ) where

@@ -1,41 +1,26 @@
 -- A power cut reaches one bank after the other.
 use Rattle.std.proofs.Common.{◌≡◌, ◌≢◌, ℕ, ◌+◌, ◌*◌, ◌<◌, ◌≤◌, Bool, true, false, if◌then◌else◌, List, [], ◌∷◌, ◌++◌, length, Option, Some, None, refl, sym, ap, subst, ◌∙◌, append_assoc, arith}
-use Rattle.std.specs.Prelude.{All, IsSomeAnd, slice_get, slice_set, nat_lt}
-use Rattle.std.proofs.lemmas.Bool.{lt-ltb}
-use Rattle.std.proofs.lemmas.List.Elements.{All-tail, All-cons, All-weaker}
+use Rattle.std.{specs.Prelude.{All, IsSomeAnd, slice_get, slice_set, nat_lt}, proofs.lemmas.Bool.lt-ltb, proofs.lemmas.List.Elements.{All-tail, All-cons, All-weaker}}
 use Rattle.circular_buffer.proofs.Places.{slice_get-set_other}
 use Rattle.cell_rows.specs.Device.{ArrayState}
 use Rattle.masked_bytes.specs.Entries.{has_row}
-use Rattle.result_rows.specs.declared.Outcome.{Outcome}
+use Rattle.result_rows.specs.{Table.HasRow, declared.Outcome.Outcome}
 use Rattle.result_rows.specs.declared.Outcome.TheVariants as out
-use Rattle.result_rows.specs.Table.{HasRow}
-use Rattle.row_rules.specs.declared.Asks.TheVariants.{Cuts}
+use Rattle.row_rules.specs.{Lines.IsOfLines, declared.Asks.TheVariants.Cuts}
 use Rattle.bank_shape.specs.declared.BankShape.{BankShape}
 use Rattle.bank_model.specs.Timing.{TimedEvent}
 use Rattle.feistel_map.specs.Network.{Network}
-use Rattle.module_shape.specs.declared.raw.RawShape.{RawShape}
-use Rattle.module_shape.specs.Limits.{total_of}
-use Rattle.module_shape.specs.Addresses.{bank_shape, module_of, array_lines_of}
-use Rattle.clock_laws.specs.State.{ClockState}
-use Rattle.clock_laws.specs.Leads.{Leads}
-use Rattle.clock_laws.specs.Standing.{has_waiting}
+use Rattle.module_shape.specs.{Addresses.{bank_shape, module_of, array_lines_of}, Limits.total_of, declared.raw.RawShape.RawShape}
+use Rattle.clock_laws.specs.{Leads.Leads, Standing.has_waiting, State.ClockState}
 use Rattle.module_laws.specs.Asking.{Asked}
-use Rattle.row_rules.specs.Lines.{IsOfLines}
 use Rattle.bank_timing.specs.Extending.{IsOpen, outcome_in}
 use Rattle.run_laws.specs.Runs.{pacing_in, bank_of_line, line_in_bank}
-use Rattle.pcm_module.specs.State.{ModuleState, StandsNowhere}
-use Rattle.pcm_module.specs.Shaped.{IsModule}
-use Rattle.pcm_module.specs.Stepping.{IsAt, IsStep}
-use Rattle.pcm_module.specs.Replaying.{BankReplays, Replays, IsReplayed, RowsFall, asked_in_bank}
-use Rattle.pcm_module.specs.Taking.{Takes, StaysBeyond}
-use Rattle.pcm_module.proofs.Naming.{is_numbered, names, not_named, above_all, apart_rows, rows_of_bank_all}
-use Rattle.pcm_module.proofs.Moving.{untouched, left_alone, open_kept}
-use Rattle.pcm_module.proofs.Steps.{stays_replayed, later_replays}
-use Rattle.pcm_module.proofs.Banks.{AllReplay, changed, changed_at, changed_off, from_get, all_step, cuts_apart}
-use Rattle.pcm_module.proofs.Beyond.{stays_same, stays_both, stays_by}
+use Rattle.pcm_module.specs.{Replaying.{BankReplays, Replays, IsReplayed, RowsFall, asked_in_bank}, Shaped.IsModule, State.{ModuleState, StandsNowhere}, Stepping.{IsAt, IsStep}}
+use Rattle.pcm_module.{specs.Taking.{Takes, StaysBeyond}, proofs.AsIf.{as_if, rows_as_if, own_there, other_there}}
+use Rattle.pcm_module.proofs.{Banks.{AllReplay, changed, changed_at, changed_off, from_get, all_step, cuts_apart}, Beyond.{stays_same, stays_both, stays_by}}
+use Rattle.pcm_module.proofs.{Draining.{not_below, below_next}, Moving.{untouched, left_alone, open_kept}}
+use Rattle.pcm_module.proofs.{Naming.{is_numbered, names, not_named, above_all, apart_rows, rows_of_bank_all}, Steps.{stays_replayed, later_replays}}
 use Rattle.pcm_module.proofs.TakenRows.{row_kept, bank_there}
-use Rattle.pcm_module.proofs.AsIf.{as_if, rows_as_if, own_there, other_there}
-use Rattle.pcm_module.proofs.Draining.{not_below, below_next}
 
 -- what was asked of a bank while a cut has reached so many
 abbrev pub up_to : {n : ℕ} → Asked n → ℕ → ℕ → List (Asked n) → List (Asked n)

@@ -1,45 +1,25 @@
 -- The banks of a module are drained one after the other.
 use Rattle.std.proofs.Common.{◌≡◌, ◌≢◌, ℕ, ◌+◌, ◌<◌, ◌≤◌, nat_lt, Bool, true, false, List, [], ◌∷◌, ◌++◌, Option, Some, None, refl, sym, ap, subst, ◌∙◌, inl, inr, append_assoc, arith}
-use Rattle.std.specs.Prelude.{All, IsSomeAnd, slice_get, slice_set, unwrap_or}
-use Rattle.std.proofs.lemmas.Bool.{cases_eq, lt-ltb, ltb-true}
+use Rattle.std.{specs.Prelude.{All, IsSomeAnd, slice_get, slice_set, unwrap_or}, proofs.Math.ListN.length-set, proofs.lemmas.Bool.{cases_eq, lt-ltb, ltb-true}}
 use Rattle.std.proofs.lemmas.List.Elements.{All-weaker}
-use Rattle.std.proofs.Math.ListN.{length-set}
 use Rattle.circular_buffer.proofs.Places.{slice_get-some, slice_get-set_same, slice_get-set_other}
 use Rattle.cell_rows.specs.Device.{ArrayState}
 use Rattle.masked_bytes.specs.Entries.{has_row}
-use Rattle.result_rows.specs.declared.Outcome.{Outcome}
-use Rattle.result_rows.specs.Table.{HasRow}
-use Rattle.bank_shape.specs.declared.BankShape.{BankShape}
-use Rattle.bank_model.specs.Timing.{TimedEvent}
+use Rattle.result_rows.specs.{Table.HasRow, declared.Outcome.Outcome}
+use Rattle.bank_shape.specs.{declared.BankShape.BankShape, declared.pace.Pace.Pace}
+use Rattle.bank_model.specs.Timing.{TimedEvent, last_tick}
 use Rattle.feistel_map.specs.Network.{Network}
-use Rattle.module_shape.specs.Addresses.{module_of, bank_shape}
-use Rattle.clock_laws.specs.State.{ClockState}
-use Rattle.clock_laws.specs.Leads.{Leads}
-use Rattle.clock_laws.specs.Standing.{has_waiting, arrives_with}
-use Rattle.module_laws.specs.Asking.{Asked, AreAsked, asked_of}
-use Rattle.module_laws.proofs.LastCuts.{cut-last}
-use Rattle.module_shape.specs.Limits.{IsShape}
-use Rattle.bank_shape.specs.declared.pace.Pace.{Pace}
-use Rattle.bank_model.specs.Timing.{last_tick}
-use Rattle.row_rules.specs.declared.Asks.{Asks}
-use Rattle.row_rules.specs.declared.Asks.TheVariants.{Cuts}
-use Rattle.bank_timing.specs.Extending.{LeavesOthers, outcome_in}
-use Rattle.bank_timing.specs.Draining.{DrainsTo}
-use Rattle.end_laws.specs.Ends.{BankEnd}
-use Rattle.end_laws.specs.EndLaws.{IsEndOf}
-use Rattle.run_laws.specs.Runs.{pacing_in, bank_of_line, line_in_bank}
-use Rattle.run_laws.specs.Finishing.{IsFinishedTo}
-use Rattle.pcm_module.specs.State.{ModuleState, AreEndsOf, bank_at, first_bank}
-use Rattle.pcm_module.specs.Shaped.{IsModule, IsBankOf}
-use Rattle.pcm_module.specs.Replaying.{Replays, ReplaysIn, IsReplayed, asked_in_bank}
-use Rattle.pcm_module.specs.Draining.{MayFinish, MayEnd, MayStop, IsDrainedTo, DrainedIf, AreDrained}
-use Rattle.pcm_module.proofs.Naming.{names, not_named, apart_rows, rows_of_bank_all}
-use Rattle.pcm_module.proofs.Arriving.{own_asked}
-use Rattle.pcm_module.proofs.Banks.{banks_off, changed, changed_at, changed_off, at_get, from_get, cuts_apart}
-use Rattle.pcm_module.proofs.Beyond.{stays_same, stays_both, stays_by}
-use Rattle.pcm_module.proofs.TakenRows.{row_kept, bank_there}
-use Rattle.pcm_module.proofs.Becoming.{own_falls}
-use Rattle.pcm_module.proofs.Ending.{own_drains, beside_replays, beside_drained}
+use Rattle.module_shape.specs.{Addresses.{module_of, bank_shape}, Limits.IsShape}
+use Rattle.clock_laws.specs.{Leads.Leads, Standing.{has_waiting, arrives_with}, State.ClockState}
+use Rattle.module_laws.{specs.Asking.{Asked, AreAsked, asked_of}, proofs.LastCuts.cut-last}
+use Rattle.row_rules.specs.{declared.Asks.Asks, declared.Asks.TheVariants.Cuts}
+use Rattle.bank_timing.specs.{Draining.DrainsTo, Extending.{LeavesOthers, outcome_in}}
+use Rattle.end_laws.specs.{EndLaws.IsEndOf, Ends.BankEnd}
+use Rattle.run_laws.specs.{Finishing.IsFinishedTo, Runs.{pacing_in, bank_of_line, line_in_bank}}
+use Rattle.pcm_module.specs.{Draining.{MayFinish, MayEnd, MayStop, IsDrainedTo, DrainedIf, AreDrained}, Replaying.{Replays, ReplaysIn, IsReplayed, asked_in_bank}}
+use Rattle.pcm_module.{specs.Shaped.{IsModule, IsBankOf}, specs.State.{ModuleState, AreEndsOf, bank_at, first_bank}, proofs.Arriving.own_asked}
+use Rattle.pcm_module.proofs.{Banks.{banks_off, changed, changed_at, changed_off, at_get, from_get, cuts_apart}, Becoming.own_falls, Beyond.{stays_same, stays_both, stays_by}}
+use Rattle.pcm_module.proofs.{Ending.{own_drains, beside_replays, beside_drained}, Naming.{names, not_named, apart_rows, rows_of_bank_all}, TakenRows.{row_kept, bank_there}}
 
 pub not_below : (k reached : ℕ) → reached ≤ k → nat_lt k reached ≡ false
 not_below k reached h = by (nat_lt k reached) refl

@@ -2,48 +2,21 @@
 use Rattle.std.proofs.Common.{◌≡◌, ◌≢◌, ℕ, Bool, true, false, if◌then◌else◌, List, ◌++◌, map, refl, sym, ap, subst, ◌∙◌, arith}
 use Rattle.std.specs.Prelude.{All}
 use Rattle.cell_rows.specs.Device.{ArrayState}
-use Rattle.masked_bytes.specs.declared.entry.Entry.{Entry}
-use Rattle.masked_bytes.specs.Entries.{has_row}
-use Rattle.result_rows.specs.declared.Outcome.{Outcome}
+use Rattle.masked_bytes.specs.{Entries.has_row, declared.entry.Entry.Entry}
+use Rattle.result_rows.specs.{Table.HasRow, declared.Outcome.Outcome}
 use Rattle.result_rows.specs.declared.Outcome.TheVariants as out
-use Rattle.result_rows.specs.Table.{HasRow}
-use Rattle.row_rules.specs.declared.Asks.{Asks}
-use Rattle.row_rules.specs.declared.Asks.TheVariants.{Reads, Writes, Cuts}
-use Rattle.bank_shape.specs.declared.BankShape.{BankShape}
-use Rattle.bank_shape.specs.declared.pace.Pace.{Pace}
-use Rattle.bank_model.specs.Timing.{TimedEvent, core}
-use Rattle.bank_model.specs.Adding.{Adds}
-use Rattle.bank_model.specs.Told.{tick_of_row}
-use Rattle.bank_model.specs.History.{Awaited, queue}
-use Rattle.bank_model.specs.Lawful.{Lawful}
-use Rattle.bank_laws.specs.Resting.{EndsIn}
-use Rattle.bank_laws.specs.Outcomes.{outcome_of, ended}
-use Rattle.bank_laws.specs.Settling.{AreOpen}
-use Rattle.bank_laws.proofs.Settling.{opens}
-use Rattle.bank_laws.proofs.Resting.{ends-still}
-use Rattle.bank_shape.specs.declared.waiting.Waiting.{Waiting}
+use Rattle.row_rules.specs.{declared.Asks.Asks, declared.Asks.TheVariants.{Reads, Writes, Cuts}}
+use Rattle.bank_shape.specs.{declared.BankShape.BankShape, declared.pace.Pace.Pace, declared.waiting.Waiting.Waiting}
+use Rattle.bank_model.specs.{Adding.Adds, History.{Awaited, queue}, Lawful.Lawful, Timing.{TimedEvent, core}, Told.tick_of_row}
+use Rattle.bank_laws.{specs.Outcomes.{outcome_of, ended}, specs.Resting.EndsIn, specs.Settling.AreOpen, proofs.Resting.ends-still, proofs.Settling.opens}
 use Rattle.bank_invariant.specs.Holds.{waiting_of}
-use Rattle.clock_laws.specs.State.{ClockState}
-use Rattle.clock_laws.specs.Leads.{Leads}
-use Rattle.clock_laws.specs.Recording.{outcome_on}
-use Rattle.clock_laws.specs.Standing.{has_waiting, arrives_with}
-use Rattle.clock_laws.proofs.Recording.{whole_outcome_law}
-use Rattle.clock_laws.proofs.Others.{other_rows_law}
-use Rattle.clock_laws.proofs.Settled.{settled_law}
-use Rattle.clock_laws.proofs.Elsewhere.{elsewhere_law}
-use Rattle.module_laws.specs.Asking.{Asked, AreAsked}
-use Rattle.module_laws.specs.Serves.{last_outcome, AreRecorded}
-use Rattle.bank_timing.specs.Extending.{outcome_in}
-use Rattle.bank_timing.specs.Draining.{DrainsTo}
-use Rattle.pcm_module.specs.Replaying.{BankReplays, IsLogged, RowsFall, outcome_so_far}
-use Rattle.pcm_module.specs.Draining.{IsDrainedTo}
-use Rattle.pcm_module.proofs.Standing.{stands_not}
-use Rattle.pcm_module.proofs.Naming.{is_numbered, names, not_named, All-both}
-use Rattle.pcm_module.proofs.Logging.{AreOff, logged_own, logged_off}
-use Rattle.pcm_module.proofs.Moving.{outcome_at_row, off_both}
-use Rattle.pcm_module.proofs.Steps.{stays_replayed, own_senses}
-use Rattle.pcm_module.proofs.Arriving.{own_asked}
-use Rattle.pcm_module.proofs.Becoming.{Becomes, all_become, ended_set}
+use Rattle.clock_laws.{specs.Leads.Leads, specs.Recording.outcome_on, specs.Standing.{has_waiting, arrives_with}, specs.State.ClockState, proofs.Elsewhere.elsewhere_law}
+use Rattle.clock_laws.proofs.{Others.other_rows_law, Recording.whole_outcome_law, Settled.settled_law}
+use Rattle.module_laws.specs.{Asking.{Asked, AreAsked}, Serves.{last_outcome, AreRecorded}}
+use Rattle.bank_timing.specs.{Draining.DrainsTo, Extending.outcome_in}
+use Rattle.pcm_module.{specs.Draining.IsDrainedTo, specs.Replaying.{BankReplays, IsLogged, RowsFall, outcome_so_far}, proofs.Arriving.own_asked}
+use Rattle.pcm_module.proofs.{Becoming.{Becomes, all_become, ended_set}, Logging.{AreOff, logged_own, logged_off}, Moving.{outcome_at_row, off_both}}
+use Rattle.pcm_module.proofs.{Naming.{is_numbered, names, not_named, All-both}, Standing.stands_not, Steps.{stays_replayed, own_senses}}
 
 module _ {n m e : ℕ} (off : Bool) (xs added : List (TimedEvent n m)) (old new : ClockState n m e) (before after : ArrayState n m) (results recorded : List (Outcome n))
     (leads : Leads xs old before) (d : DrainsTo off xs added old new before after results recorded) where

@@ -2,14 +2,9 @@
 use Rattle.std.proofs.Common.{◌≡◌, ℕ, List, sym, subst}
 use Rattle.cell_rows.specs.Device.{ArrayState}
 use Rattle.result_rows.specs.declared.Outcome.{Outcome}
-use Rattle.trace_reader.specs.declared.event.Event.{Event}
-use Rattle.trace_reader.specs.declared.event.EventOp.{EventOp}
-use Rattle.trace_reader.specs.Events.{IsOpFor}
-use Rattle.pcm_module.specs.Asking.{asked_by}
+use Rattle.trace_reader.specs.{Events.IsOpFor, declared.event.Event.Event, declared.event.EventOp.EventOp}
+use Rattle.pcm_module.specs.{Asking.asked_by, State.ModuleState, Taking.Takes, Telling.{TellsInOrder, rows_taking}}
 use Rattle.trace_rows.specs.Rows.{asks_of}
-use Rattle.pcm_module.specs.State.{ModuleState}
-use Rattle.pcm_module.specs.Taking.{Takes}
-use Rattle.pcm_module.specs.Telling.{TellsInOrder, rows_taking}
 
 -- a row that was taken is the event's
 pub takes_event : {n m e : ℕ} (row : ℕ) (event : Event n) (op : EventOp n) (old new : ModuleState n m e) (before after : ArrayState n m) (results recorded : List (Outcome n))

@@ -1,26 +1,17 @@
 -- That outcomes are told bank by bank.
 use Rattle.std.proofs.Common.{◌≡◌, ℕ, zero, suc, ◌+◌, ◌<◌, ◌==◌, ◌&&◌, Bool, true, false, List, Some, refl, sym, ap, subst, ◌∙◌, inl, inr, arith}
-use Rattle.std.specs.Prelude.{slice_get}
-use Rattle.std.proofs.lemmas.Bool.{cases_eq, eqb-false}
-use Rattle.masked_bytes.proofs.Truth.{neither_first, neither_second}
+use Rattle.std.{specs.Prelude.slice_get, proofs.lemmas.Bool.{cases_eq, eqb-false}}
+use Rattle.masked_bytes.{specs.Entries.has_row, proofs.Truth.{neither_first, neither_second}}
 use Rattle.cell_rows.specs.Device.{ArrayState}
-use Rattle.masked_bytes.specs.Entries.{has_row}
-use Rattle.result_rows.specs.declared.Outcome.{Outcome}
-use Rattle.result_rows.specs.Table.{HasRow, with_outcome}
+use Rattle.result_rows.specs.{Table.{HasRow, with_outcome}, declared.Outcome.Outcome}
 use Rattle.row_rules.specs.declared.Asks.{Asks}
 use Rattle.bank_model.specs.Timing.{TimedEvent}
-use Rattle.clock_laws.specs.State.{ClockState}
-use Rattle.clock_laws.specs.Leads.{Leads}
-use Rattle.clock_laws.specs.Standing.{has_waiting}
+use Rattle.clock_laws.specs.{Leads.Leads, Standing.has_waiting, State.ClockState}
 use Rattle.module_laws.specs.Asking.{Asked}
 use Rattle.bank_timing.specs.Extending.{LeavesOthers, LeavesOthersThan, outcome_in}
 use Rattle.run_laws.specs.Runs.{bank_of_line}
-use Rattle.pcm_module.specs.State.{ModuleState}
-use Rattle.pcm_module.specs.Stepping.{IsStep}
-use Rattle.pcm_module.specs.Telling.{TellsOf, TellsByBanks, TellsInOrder, comes_to, has_standing, rows_at, rows_taking}
-use Rattle.pcm_module.proofs.Moving.{left_alone}
-use Rattle.pcm_module.proofs.AsIf.{other_there}
-use Rattle.pcm_module.proofs.TakenRows.{bank_there}
+use Rattle.pcm_module.specs.{State.ModuleState, Stepping.IsStep, Telling.{TellsOf, TellsByBanks, TellsInOrder, comes_to, has_standing, rows_at, rows_taking}}
+use Rattle.pcm_module.proofs.{AsIf.other_there, Moving.left_alone, TakenRows.bank_there}
 
 -- a step that tells a bank's rows, whatever row arrives with it, leaves the others
 pub step_leaves : {n m e : ℕ} (xs : List (TimedEvent n m)) (clock next : ClockState n m e) (before after : ArrayState n m) (results recorded : List (Outcome n)) (a : ℕ → Asked n)

@@ -1,18 +1,12 @@
 -- The senses of a bank's history are those of its lines in the log.
 use Rattle.std.proofs.Common.{◌≡◌, ◌⊎◌, ℕ, ◌+◌, ◌<◌, ◌≤◌, ◌&&◌, Bool, true, false, cond, List, [], ◌∷◌, ◌++◌, refl, sym, ap, subst, ◌∙◌, inl, inr, append_assoc, append-nil, arith}
+use Rattle.std.{specs.Prelude.{All, nat_le, nat_lt}, proofs.lemmas.Bool.{le-leb, lt-ltb, leb-true, and_from}, proofs.lemmas.List.Elements.{All-head, All-tail, filter-append}}
 use Rattle.masked_bytes.proofs.Truth.{and_first, and_second}
-use Rattle.std.specs.Prelude.{All, nat_le, nat_lt}
-use Rattle.std.proofs.lemmas.Bool.{le-leb, lt-ltb, leb-true, and_from}
-use Rattle.std.proofs.lemmas.List.Elements.{All-head, All-tail, filter-append}
-use Rattle.cell_rows.specs.declared.array.Sense.{Sense}
-use Rattle.cell_rows.specs.Device.{ArrayState}
-use Rattle.bank_shape.specs.declared.BankShape.{BankShape}
-use Rattle.bank_shape.specs.Shape.{lines_in, IsIn}
-use Rattle.bank_model.specs.Timing.{TimedEvent}
-use Rattle.bank_model.specs.Adding.{Adds, senses_of}
+use Rattle.cell_rows.specs.{Device.ArrayState, declared.array.Sense.Sense}
+use Rattle.bank_shape.specs.{Shape.{lines_in, IsIn}, declared.BankShape.BankShape}
+use Rattle.bank_model.specs.{Adding.{Adds, senses_of}, Timing.TimedEvent}
 use Rattle.bank_laws.specs.Laws.{log_of}
-use Rattle.clock_laws.specs.State.{ClockState}
-use Rattle.clock_laws.specs.Leads.{Leads}
+use Rattle.clock_laws.specs.{Leads.Leads, State.ClockState}
 use Rattle.log_laws.proofs.Within.{within_law}
 use Rattle.pcm_module.specs.Replaying.{IsLogged}
 

@@ -1,35 +1,23 @@
 -- A module that was just made.
 use Rattle.std.proofs.Common.{◌≡◌, ℕ, zero, suc, false, ◌+◌, ◌*◌, ◌<◌, ◌≤◌, List, [], ◌∷◌, ◌++◌, length, Some, refl, sym, ap, subst, ◌∙◌, inl, inr, arith}
-use Rattle.std.specs.Prelude.{slice_get}
-use Rattle.std.proofs.lemmas.Bool.{cases_eq}
-use Rattle.std.proofs.lemmas.List.Elements.{All-nil}
+use Rattle.std.{specs.Prelude.slice_get, proofs.lemmas.Bool.cases_eq, proofs.lemmas.List.Elements.All-nil}
 use Rattle.circular_buffer.proofs.Places.{slice_get-append_left, slice_get-last}
-use Rattle.cell_rows.specs.declared.array.Wear.{Wear}
-use Rattle.cell_rows.specs.Device.{ArrayState, IsFresh}
+use Rattle.cell_rows.specs.{Device.{ArrayState, IsFresh}, declared.array.Wear.Wear}
 use Rattle.ecp_line.specs.Layout.{IsLayout}
-use Rattle.result_rows.specs.declared.Outcome.{Outcome}
-use Rattle.result_rows.specs.Table.{HasRow}
-use Rattle.feistel_map.specs.Log2.{log2}
-use Rattle.feistel_map.specs.Network.{Network, network_of}
-use Rattle.bank_shape.specs.declared.BankShape.{BankShape}
-use Rattle.bank_shape.specs.Shape.{IsBankShape}
+use Rattle.result_rows.specs.{Table.HasRow, declared.Outcome.Outcome}
+use Rattle.feistel_map.specs.{Log2.log2, Network.{Network, network_of}}
+use Rattle.bank_shape.specs.{Shape.IsBankShape, declared.BankShape.BankShape, declared.pace.Pace.Pace}
 use Rattle.power_recovery.proofs.Bundle.{IsKept-first}
-use Rattle.bank_shape.specs.declared.pace.Pace.{Pace}
 use Rattle.bank_laws.specs.Laws.{log_of}
 use Rattle.bank_core.specs.Steps.{IsFreshFor}
-use Rattle.module_shape.specs.declared.raw.RawShape.{RawShape}
-use Rattle.module_shape.specs.Limits.{IsShape, total_of}
-use Rattle.module_shape.specs.Addresses.{ModuleShape, module_of, bank_shape, array_lines_of}
+use Rattle.module_shape.specs.{Addresses.{ModuleShape, module_of, bank_shape, array_lines_of}, Limits.{IsShape, total_of}, declared.raw.RawShape.RawShape}
 use Rattle.module_shape.proofs.Bounds.{banks_apart}
 use Rattle.module_laws.specs.Asking.{Asked}
 use Rattle.row_rules.specs.Lines.{IsOfLines}
-use Rattle.clock_laws.specs.State.{ClockState}
-use Rattle.clock_laws.specs.Leads.{Leads}
+use Rattle.clock_laws.specs.{Leads.Leads, State.ClockState}
 use Rattle.bank_timing.specs.Extending.{first_clock, outcome_in}
 use Rattle.run_laws.specs.Runs.{pacing_in}
-use Rattle.pcm_module.specs.State.{ModuleState, first_bank, banks_from}
-use Rattle.pcm_module.specs.Shaped.{IsModule, IsBankOf}
-use Rattle.pcm_module.specs.Replaying.{BankReplays, ReplaysIn, Replays, outcome_so_far}
+use Rattle.pcm_module.specs.{Replaying.{BankReplays, ReplaysIn, Replays, outcome_so_far}, Shaped.{IsModule, IsBankOf}, State.{ModuleState, first_bank, banks_from}}
 use Rattle.pcm_module.proofs.Banks.{at_get}
 
 module _ (n m e : ℕ) (raw : RawShape) where

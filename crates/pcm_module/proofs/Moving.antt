@@ -1,29 +1,19 @@
 -- What a row that arrives at one bank leaves of that bank and of the others.
 use Rattle.std.proofs.Common.{◌≡◌, ◌⊎◌, ℕ, ◌-◌, Bool, true, false, List, [], ◌∷◌, ◌++◌, length, Some, refl, sym, ap, subst, ◌∙◌, inl, inr, arith}
-use Rattle.std.proofs.lemmas.Bool.{or_from}
-use Rattle.masked_bytes.proofs.Truth.{neither_first, neither_second}
-use Rattle.std.specs.Prelude.{unwrap_or}
+use Rattle.std.{specs.Prelude.unwrap_or, proofs.lemmas.Bool.or_from}
+use Rattle.masked_bytes.{specs.Entries.has_row, proofs.Truth.{neither_first, neither_second}}
 use Rattle.circular_buffer.proofs.Places.{slice_get-some}
 use Rattle.cell_rows.specs.Device.{ArrayState}
-use Rattle.masked_bytes.specs.Entries.{has_row}
-use Rattle.result_rows.specs.declared.Outcome.{Outcome}
+use Rattle.result_rows.specs.{Table.HasRow, declared.Outcome.Outcome}
 use Rattle.result_rows.specs.declared.Outcome.TheVariants as out
-use Rattle.result_rows.specs.Table.{HasRow}
-use Rattle.bank_shape.specs.declared.BankShape.{BankShape}
-use Rattle.bank_shape.specs.declared.pace.Pace.{Pace}
-use Rattle.bank_model.specs.Timing.{TimedEvent}
-use Rattle.bank_model.specs.Lawful.{Lawful}
+use Rattle.bank_shape.specs.{declared.BankShape.BankShape, declared.pace.Pace.Pace}
+use Rattle.bank_model.specs.{Lawful.Lawful, Timing.TimedEvent}
 use Rattle.bank_laws.specs.Outcomes.{outcome_of, outcome_with}
-use Rattle.clock_laws.specs.State.{ClockState}
-use Rattle.clock_laws.specs.Leads.{Leads}
-use Rattle.clock_laws.specs.Recording.{outcome_on}
-use Rattle.clock_laws.specs.Standing.{has_waiting, is_arrival_of, arrives_with}
-use Rattle.clock_laws.proofs.Recording.{whole_outcome_law}
-use Rattle.clock_laws.proofs.Others.{other_rows_law}
+use Rattle.clock_laws.specs.{Leads.Leads, Recording.outcome_on, Standing.{has_waiting, is_arrival_of, arrives_with}, State.ClockState}
+use Rattle.clock_laws.proofs.{Others.other_rows_law, Recording.whole_outcome_law}
 use Rattle.module_laws.specs.Asking.{Asked, AreAsked}
 use Rattle.bank_timing.specs.Extending.{Extends, IsOpen, outcome_in}
-use Rattle.pcm_module.proofs.Standing.{StandsNot, stands_not}
-use Rattle.pcm_module.proofs.Naming.{names, not_named}
+use Rattle.pcm_module.proofs.{Naming.{names, not_named}, Standing.{StandsNot, stands_not}}
 
 module _ {n m : ℕ} where
   pub off_both : (row : ℕ) (added xs : List (TimedEvent n m)) → arrives_with (added ++ xs) row ≡ false → (arrives_with added row ≡ false) × (arrives_with xs row ≡ false)

@@ -1,14 +1,10 @@
 -- Which rows arrive in which bank: a row is of one bank, since the numbers of rows fall.
 use Rattle.std.proofs.Common.{◌≡◌, ◌≢◌, ℕ, ◌<◌, ◌==◌, ◌||◌, ◌&&◌, Bool, true, false, cond, List, [], ◌∷◌, map, refl, sym, ap, subst, ◌∙◌, eqb-true, arith}
-use Rattle.masked_bytes.proofs.Truth.{neither_first, neither_second}
-use Rattle.std.specs.Prelude.{filter, All}
-use Rattle.std.proofs.lemmas.Bool.{ne_eqb, and_right, or_from}
+use Rattle.std.{specs.Prelude.{filter, All}, proofs.lemmas.Bool.{ne_eqb, and_right, or_from}}
 use Rattle.std.proofs.lemmas.List.Elements.{All-head, All-tail, All-nil, All-cons, All-map, All-filter}
-use Rattle.row_rules.specs.declared.Asks.{Asks}
-use Rattle.row_rules.specs.declared.Asks.TheVariants.{Reads, Writes, Cuts}
-use Rattle.row_rules.specs.Table.{is_of}
-use Rattle.bank_model.specs.Events.{Write, Read, Serve, Begin, Iterate, Cut}
-use Rattle.bank_model.specs.Timing.{Happens, Core, Regs, TimedEvent}
+use Rattle.masked_bytes.proofs.Truth.{neither_first, neither_second}
+use Rattle.row_rules.specs.{Table.is_of, declared.Asks.Asks, declared.Asks.TheVariants.{Reads, Writes, Cuts}}
+use Rattle.bank_model.specs.{Events.{Write, Read, Serve, Begin, Iterate, Cut}, Timing.{Happens, Core, Regs, TimedEvent}}
 use Rattle.module_laws.specs.Asking.{Asked, asked_in, asked_of, AreAsked, IsAsked}
 use Rattle.clock_laws.specs.Standing.{is_arrival_of, arrives_with}
 use Rattle.pcm_module.specs.Replaying.{RowsFall}

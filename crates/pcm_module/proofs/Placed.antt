@@ -7,10 +7,7 @@ use Rattle.wear_report.specs.declared.Role.TheVariants.{Line, Gap, Free, Retired
 use Rattle.start_gap.specs.Rotation.{Rotation, StandsFor, place_after, gap_after}
 use Rattle.bank_shape.specs.Shape.{slots_of, slot_at, slot_moved, controls_from}
 use Rattle.power_recovery.specs.Kept.{KeptState, IsKept, region_at, array_line}
-use Rattle.end_laws.specs.Ends.{BankEnd}
-use Rattle.end_laws.specs.EndLaws.{IsEndOf}
-use Rattle.end_laws.specs.Roles.{IsRole, used_spares}
-use Rattle.end_laws.proofs.Used.{used-same}
+use Rattle.end_laws.{specs.EndLaws.IsEndOf, specs.Ends.BankEnd, specs.Roles.{IsRole, used_spares}, proofs.Used.used-same}
 
 module _ {n : ℕ} (kept : KeptState n) (range : IsKept kept) where
   -- ---- the region of a slot, and its place there

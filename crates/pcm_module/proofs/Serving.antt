@@ -1,8 +1,6 @@
 -- A read and a write of a line are taken by the line's bank, and what a bank of a module has for them.
 use Rattle.std.proofs.Common.{◌≡◌, ℕ, ◌+◌, ◌<◌, ◌≤◌, Bool, List, length, get_or, Some, refl, sym, ap, subst, ◌∙◌, eq-eqb, inl, inr, arith}
-use Rattle.std.specs.Prelude.{IsSomeAnd, slice_get, slice_set}
-use Rattle.std.proofs.lemmas.Bool.{ne_eqb, cases_eq}
-use Rattle.std.proofs.Math.ListN.{length-set}
+use Rattle.std.{specs.Prelude.{IsSomeAnd, slice_get, slice_set}, proofs.Math.ListN.length-set, proofs.lemmas.Bool.{ne_eqb, cases_eq}}
 use Rattle.masked_bytes.proofs.Lists.{item-at}
 use Rattle.circular_buffer.proofs.Places.{slice_get-set_same, slice_get-set_other}
 use Rattle.cell_rows.specs.Device.{ArrayState}
@@ -12,24 +10,14 @@ use Rattle.row_rules.specs.declared.Asks.TheVariants.{Reads, Writes}
 use Rattle.bank_model.specs.Timing.{TimedEvent}
 use Rattle.feistel_map.specs.Network.{Network}
 use Rattle.bank_shape.specs.declared.BankShape.{BankShape}
-use Rattle.power_recovery.specs.Kept.{IsKept}
-use Rattle.power_recovery.specs.Slots.{bank_lines}
+use Rattle.power_recovery.specs.{Kept.IsKept, Slots.bank_lines}
 use Rattle.module_laws.specs.Asking.{Asked}
-use Rattle.module_shape.specs.declared.raw.RawShape.{RawShape}
-use Rattle.module_shape.specs.Limits.{total_of}
-use Rattle.module_shape.specs.Addresses.{module_of, lines_of, bank_shape}
-use Rattle.clock_laws.specs.State.{ClockState}
-use Rattle.clock_laws.specs.Leads.{Leads}
+use Rattle.module_shape.specs.{Addresses.{module_of, lines_of, bank_shape}, Limits.total_of, declared.raw.RawShape.RawShape}
+use Rattle.clock_laws.specs.{Leads.Leads, State.ClockState}
 use Rattle.bank_timing.specs.Extending.{IsOpen, LeavesOthersThan, last_tick}
 use Rattle.run_laws.specs.Runs.{pacing_in, bank_of_line, line_in_bank}
-use Rattle.pcm_module.specs.State.{ModuleState}
-use Rattle.pcm_module.specs.Shaped.{IsModule, IsBankOf}
-use Rattle.pcm_module.specs.Stepping.{MayCome, MayArrive, IsAt, IsStep}
-use Rattle.pcm_module.specs.Replaying.{BankReplays, IsReplayed, asked_in_bank}
-use Rattle.pcm_module.specs.Taking.{Takes}
-use Rattle.pcm_module.specs.Telling.{TellsInOrder, rows_taking}
-use Rattle.pcm_module.proofs.InOrder.{in_order, step_leaves_but}
-use Rattle.pcm_module.proofs.Banks.{from_get, at_get}
+use Rattle.pcm_module.specs.{Replaying.{BankReplays, IsReplayed, asked_in_bank}, Shaped.{IsModule, IsBankOf}, State.ModuleState, Stepping.{MayCome, MayArrive, IsAt, IsStep}}
+use Rattle.pcm_module.{specs.Taking.Takes, specs.Telling.{TellsInOrder, rows_taking}, proofs.Banks.{from_get, at_get}, proofs.InOrder.{in_order, step_leaves_but}}
 use Rattle.pcm_module.proofs.TakenRows.{takes_one}
 
 module _ {n m e : ℕ} where

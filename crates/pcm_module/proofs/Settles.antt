@@ -1,36 +1,22 @@
 -- The banks of a module are brought to a tick one after the other.
 use Rattle.std.proofs.Common.{◌≡◌, ℕ, ◌+◌, ◌<◌, ◌≤◌, false, List, [], ◌++◌, Option, Some, None, refl, sym, ap, subst, ◌∙◌, inl, inr, append_assoc, arith}
-use Rattle.std.specs.Prelude.{All, IsSomeAnd, slice_get, slice_set}
-use Rattle.std.proofs.lemmas.Bool.{cases_eq}
-use Rattle.std.proofs.lemmas.List.Elements.{All-weaker}
-use Rattle.std.proofs.Math.ListN.{length-set}
+use Rattle.std.{specs.Prelude.{All, IsSomeAnd, slice_get, slice_set}, proofs.Math.ListN.length-set, proofs.lemmas.Bool.cases_eq, proofs.lemmas.List.Elements.All-weaker}
 use Rattle.circular_buffer.proofs.Places.{slice_get-set_same, slice_get-set_other}
 use Rattle.cell_rows.specs.Device.{ArrayState}
 use Rattle.masked_bytes.specs.Entries.{has_row}
-use Rattle.result_rows.specs.declared.Outcome.{Outcome}
-use Rattle.result_rows.specs.Table.{HasRow}
+use Rattle.result_rows.specs.{Table.HasRow, declared.Outcome.Outcome}
 use Rattle.bank_shape.specs.declared.BankShape.{BankShape}
 use Rattle.bank_model.specs.Timing.{TimedEvent}
 use Rattle.feistel_map.specs.Network.{Network}
 use Rattle.module_shape.specs.Addresses.{module_of, bank_shape}
-use Rattle.clock_laws.specs.State.{ClockState}
-use Rattle.clock_laws.specs.Leads.{Leads}
-use Rattle.clock_laws.specs.Standing.{has_waiting}
+use Rattle.clock_laws.specs.{Leads.Leads, Standing.has_waiting, State.ClockState}
 use Rattle.module_laws.specs.Asking.{Asked}
 use Rattle.bank_timing.specs.Extending.{Extends, IsOpen, IsQuiet, LeavesOthers, last_tick}
 use Rattle.run_laws.specs.Runs.{pacing_in, bank_of_line, line_in_bank}
-use Rattle.pcm_module.specs.State.{ModuleState}
-use Rattle.pcm_module.specs.Shaped.{IsModule, IsBankOf}
-use Rattle.pcm_module.specs.Stepping.{IsAt}
-use Rattle.pcm_module.specs.Replaying.{BankReplays, Replays, ReplaysIn, IsReplayed, asked_in_bank}
-use Rattle.pcm_module.specs.Settling.{IsAtTick, MaySettle, AreSettled}
-use Rattle.pcm_module.proofs.Naming.{not_named, above_all, apart_rows, rows_of_bank_all}
-use Rattle.pcm_module.proofs.Moving.{untouched, open_kept}
-use Rattle.pcm_module.proofs.Steps.{later_replays}
-use Rattle.pcm_module.proofs.Arriving.{own_asked}
-use Rattle.pcm_module.proofs.Banks.{AllReplay, changed, changed_at, changed_off, at_get, from_get, all_extend, cuts_apart}
-use Rattle.pcm_module.proofs.Beyond.{stays_same, stays_both, stays_by}
-use Rattle.pcm_module.proofs.TakenRows.{row_kept, bank_there}
+use Rattle.pcm_module.specs.{Replaying.{BankReplays, Replays, ReplaysIn, IsReplayed, asked_in_bank}, Settling.{IsAtTick, MaySettle, AreSettled}, Shaped.{IsModule, IsBankOf}}
+use Rattle.pcm_module.{specs.State.ModuleState, specs.Stepping.IsAt, proofs.Arriving.own_asked}
+use Rattle.pcm_module.proofs.{Banks.{AllReplay, changed, changed_at, changed_off, at_get, from_get, all_extend, cuts_apart}, Beyond.{stays_same, stays_both, stays_by}}
+use Rattle.pcm_module.proofs.{Moving.{untouched, open_kept}, Naming.{not_named, above_all, apart_rows, rows_of_bank_all}, Steps.later_replays, TakenRows.{row_kept, bank_there}}
 
 module _ {n m e : ℕ} (tick : ℕ) (module_ : ModuleState n m e) (before : ArrayState n m) (results : List (Outcome n)) where
   abbrev home : ℕ → ℕ

@@ -1,15 +1,11 @@
 -- A row that didn't arrive in a history stands nowhere in the bank.
 use Rattle.std.proofs.Common.{◌≡◌, ℕ, false, List, [], ◌∷◌, map, refl, ◌∙◌}
-use Rattle.masked_bytes.proofs.Truth.{neither_first, neither_second}
-use Rattle.masked_bytes.specs.Entries.{has_row}
+use Rattle.masked_bytes.{specs.Entries.has_row, proofs.Truth.{neither_first, neither_second}}
 use Rattle.bank_shape.specs.declared.BankShape.{BankShape}
-use Rattle.bank_model.specs.History.{queue, waits}
-use Rattle.bank_model.specs.Timing.{Happens, Core, Regs, TimedEvent, core, core_of}
+use Rattle.bank_model.specs.{History.{queue, waits}, Timing.{Happens, Core, Regs, TimedEvent, core, core_of}}
 use Rattle.bank_laws.specs.Standing.{has_wait}
 use Rattle.bank_invariant.specs.Holds.{waiting_of}
-use Rattle.clock_laws.specs.Standing.{has_waiting, is_arrival_of, arrives_with}
-use Rattle.clock_laws.proofs.Absent.{queue-lacks, waits-lack}
-use Rattle.clock_laws.proofs.Others.{same_wait}
+use Rattle.clock_laws.{specs.Standing.{has_waiting, is_arrival_of, arrives_with}, proofs.Absent.{queue-lacks, waits-lack}, proofs.Others.same_wait}
 
 module _ {n m : ℕ} (shape : BankShape) (row : ℕ) where
   -- a row that neither stands in the queue nor waits after these events

@@ -3,26 +3,16 @@ use Rattle.std.proofs.Common.{◌≡◌, ◌⊎◌, ℕ, ◌≤◌, true, false,
 use Rattle.std.specs.Prelude.{All, IsSomeAnd}
 use Rattle.cell_rows.specs.Device.{ArrayState}
 use Rattle.masked_bytes.specs.Entries.{has_row}
-use Rattle.result_rows.specs.declared.Outcome.{Outcome}
-use Rattle.result_rows.specs.Table.{HasRow}
-use Rattle.row_rules.specs.declared.Asks.{Asks}
-use Rattle.row_rules.specs.declared.Asks.TheVariants.{Reads, Writes, Cuts}
-use Rattle.bank_shape.specs.declared.BankShape.{BankShape}
-use Rattle.bank_shape.specs.declared.pace.Pace.{Pace}
-use Rattle.bank_model.specs.Timing.{TimedEvent}
-use Rattle.bank_model.specs.Adding.{Adds, senses_of}
+use Rattle.result_rows.specs.{Table.HasRow, declared.Outcome.Outcome}
+use Rattle.row_rules.specs.{declared.Asks.Asks, declared.Asks.TheVariants.{Reads, Writes, Cuts}}
+use Rattle.bank_shape.specs.{declared.BankShape.BankShape, declared.pace.Pace.Pace}
+use Rattle.bank_model.specs.{Adding.{Adds, senses_of}, Timing.TimedEvent}
 use Rattle.bank_laws.specs.Outcomes.{outcome_of}
-use Rattle.clock_laws.specs.State.{ClockState}
-use Rattle.clock_laws.specs.Leads.{Leads}
-use Rattle.clock_laws.specs.Standing.{has_waiting, arrives_with}
-use Rattle.clock_laws.proofs.Elsewhere.{elsewhere_law}
+use Rattle.clock_laws.{specs.Leads.Leads, specs.Standing.{has_waiting, arrives_with}, specs.State.ClockState, proofs.Elsewhere.elsewhere_law}
 use Rattle.module_laws.specs.Asking.{Asked, AreAsked}
 use Rattle.bank_timing.specs.Extending.{Extends, outcome_in}
-use Rattle.pcm_module.specs.Stepping.{IsAt}
-use Rattle.pcm_module.specs.Replaying.{BankReplays, IsLogged, outcome_so_far}
-use Rattle.pcm_module.proofs.Naming.{is_numbered, names, not_named, of_named, All-both}
-use Rattle.pcm_module.proofs.Logging.{AreOff, IsOwnSense, logged_own, logged_off, added_within}
-use Rattle.pcm_module.proofs.Moving.{untouched, told_on, open_kept, standing_named}
+use Rattle.pcm_module.{specs.Replaying.{BankReplays, IsLogged, outcome_so_far}, specs.Stepping.IsAt, proofs.Logging.{AreOff, IsOwnSense, logged_own, logged_off, added_within}}
+use Rattle.pcm_module.proofs.{Moving.{untouched, told_on, open_kept, standing_named}, Naming.{is_numbered, names, not_named, of_named, All-both}}
 
 -- a bank that replays by a tick, with rows below a bound, does so by a later one, and below a greater one
 pub later_replays : {n m e : ℕ} (shape : BankShape) (pace : Pace) (tick later rows above : ℕ) (xs : List (TimedEvent n m)) (asked : List (Asked n)) (array : ArrayState n m) (results : List (Outcome n))

@@ -1,38 +1,22 @@
 -- A read or a write is taken by its own bank.
 use Rattle.std.proofs.Common.{◌≡◌, ◌≢◌, ℕ, ◌+◌, ◌<◌, ◌≤◌, Bool, true, false, cond, List, ◌∷◌, ◌++◌, map, length, Some, refl, sym, ap, subst, ◌∙◌, arith}
-use Rattle.std.specs.Prelude.{filter, All, slice_get, slice_set, unwrap_or}
-use Rattle.std.proofs.lemmas.List.Elements.{All-cons, All-weaker}
+use Rattle.std.{specs.Prelude.{filter, All, slice_get, slice_set, unwrap_or}, proofs.lemmas.List.Elements.{All-cons, All-weaker}}
 use Rattle.cell_rows.specs.Device.{ArrayState}
 use Rattle.masked_bytes.specs.Entries.{has_row}
-use Rattle.result_rows.specs.declared.Outcome.{Outcome}
+use Rattle.result_rows.specs.{Table.HasRow, declared.Outcome.Outcome}
 use Rattle.result_rows.specs.declared.Outcome.TheVariants as out
-use Rattle.result_rows.specs.Table.{HasRow}
-use Rattle.row_rules.specs.declared.Asks.{Asks}
-use Rattle.row_rules.specs.declared.Asks.TheVariants.{Reads, Writes, Cuts}
-use Rattle.row_rules.specs.Table.{is_of}
+use Rattle.row_rules.specs.{Lines.IsOfLines, Table.is_of, declared.Asks.Asks, declared.Asks.TheVariants.{Reads, Writes, Cuts}}
 use Rattle.bank_shape.specs.declared.BankShape.{BankShape}
-use Rattle.bank_model.specs.Timing.{TimedEvent, core}
-use Rattle.bank_laws.specs.Settling.{AreOpen}
-use Rattle.bank_laws.specs.Outcomes.{outcome_of}
-use Rattle.bank_laws.proofs.Settling.{opens}
-use Rattle.bank_model.proofs.Rising.{RowsBelow-more}
-use Rattle.module_shape.specs.Limits.{total_of}
-use Rattle.module_shape.specs.Addresses.{module_of, bank_shape}
-use Rattle.clock_laws.specs.State.{ClockState}
-use Rattle.clock_laws.specs.Leads.{Leads}
-use Rattle.clock_laws.specs.Standing.{has_waiting}
+use Rattle.bank_model.{specs.Timing.{TimedEvent, core}, proofs.Rising.RowsBelow-more}
+use Rattle.bank_laws.{specs.Outcomes.outcome_of, specs.Settling.AreOpen, proofs.Settling.opens}
+use Rattle.module_shape.specs.{Addresses.{module_of, bank_shape}, Limits.total_of}
+use Rattle.clock_laws.specs.{Leads.Leads, Standing.has_waiting, State.ClockState}
 use Rattle.module_laws.specs.Asking.{Asked, asked_in, AreAsked}
-use Rattle.row_rules.specs.Lines.{IsOfLines}
 use Rattle.bank_timing.specs.Extending.{IsOpen, outcome_in}
 use Rattle.run_laws.specs.Runs.{pacing_in, bank_of_line, line_in_bank}
-use Rattle.pcm_module.specs.State.{ModuleState, bank_at, first_bank}
-use Rattle.pcm_module.specs.Stepping.{IsAt, IsStep}
-use Rattle.pcm_module.specs.Replaying.{BankReplays, Replays, IsReplayed, RowsFall, outcome_so_far, asked_in_bank}
-use Rattle.pcm_module.specs.Taking.{Takes}
-use Rattle.pcm_module.proofs.Naming.{is_numbered, names, not_named, above_all, apart_rows, rows_of_bank_all}
-use Rattle.pcm_module.proofs.Moving.{untouched, left_alone, open_kept}
-use Rattle.pcm_module.proofs.Banks.{grows_at, grown_at, grown_off, from_get, all_step, cuts_apart}
-use Rattle.pcm_module.proofs.Beyond.{stays_by}
+use Rattle.pcm_module.specs.{Replaying.{BankReplays, Replays, IsReplayed, RowsFall, outcome_so_far, asked_in_bank}, State.{ModuleState, bank_at, first_bank}}
+use Rattle.pcm_module.{specs.Stepping.{IsAt, IsStep}, specs.Taking.Takes, proofs.Banks.{grows_at, grown_at, grown_off, from_get, all_step, cuts_apart}, proofs.Beyond.stays_by}
+use Rattle.pcm_module.proofs.{Moving.{untouched, left_alone, open_kept}, Naming.{is_numbered, names, not_named, above_all, apart_rows, rows_of_bank_all}}
 
 -- a table keeps its rows
 pub row_kept : {X : Type 0} (results recorded : List X) (row : ℕ) → length recorded ≡ length results → HasRow results row → HasRow recorded row

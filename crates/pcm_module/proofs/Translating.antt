@@ -1,24 +1,16 @@
 -- Where a line of a module stands in the array: among the array lines of its bank, and no other line stands there.
 use Rattle.std.proofs.Common.{◌≡◌, ℕ, ◌+◌, ◌*◌, ◌<◌, ◌≤◌, inl, inr, sym, ap, subst, ◌∙◌, arith}
-use Rattle.std.proofs.lemmas.Bool.{cases_lt}
-use Rattle.std.proofs.lemmas.Nat.{mod_below, mul-le}
-use Rattle.bank_shape.specs.declared.BankShape.{BankShape}
-use Rattle.bank_shape.specs.Shape.{slots_of, lines_in}
+use Rattle.std.proofs.{lemmas.Bool.cases_lt, lemmas.Nat.{mod_below, mul-le}}
+use Rattle.bank_shape.specs.{Shape.{slots_of, lines_in}, declared.BankShape.BankShape}
 use Rattle.spare_pool.proofs.Lines.{line_by-within}
-use Rattle.power_recovery.specs.Slots.{bank_lines}
-use Rattle.power_recovery.specs.Kept.{KeptState, IsKept, slot_of, array_line, stands_at}
-use Rattle.power_recovery.proofs.Placing.{slot_of-within, slot_of-apart}
+use Rattle.power_recovery.{specs.Kept.{KeptState, IsKept, slot_of, array_line, stands_at}, specs.Slots.bank_lines, proofs.Placing.{slot_of-within, slot_of-apart}}
 use Rattle.bank_invariant.proofs.Retiring.{array_line-apart}
 use Rattle.feistel_map.specs.Network.{Network}
-use Rattle.module_shape.specs.Limits.{total_of}
-use Rattle.module_shape.specs.Addresses.{module_of, bank_shape, lines_of, array_lines_of}
-use Rattle.module_shape.proofs.Bounds.{banks_apart}
+use Rattle.module_shape.{specs.Addresses.{module_of, bank_shape, lines_of, array_lines_of}, specs.Limits.total_of, proofs.Bounds.banks_apart}
 use Rattle.module_laws.specs.Serves.{AreLines}
 use Rattle.clock_laws.specs.State.{ClockState}
 use Rattle.run_laws.specs.Runs.{mixed_line, bank_of_line, line_in_bank}
-use Rattle.pcm_module.specs.State.{ModuleState, bank_at, stands_in}
-use Rattle.pcm_module.specs.Shaped.{IsModule, IsBankOf}
-use Rattle.pcm_module.proofs.Draining.{at_bank}
+use Rattle.pcm_module.{specs.Shaped.{IsModule, IsBankOf}, specs.State.{ModuleState, bank_at, stands_in}, proofs.Draining.at_bank}
 
 -- what stands among the array lines of two banks is of one
 same_bank : (a b l x : ℕ) → a * l ≤ x → x < a * l + l → b * l ≤ x → x < b * l + l → a ≡ b

@@ -1,24 +1,17 @@
 -- How far the banks of a module were drained.
 use Rattle.std.specs.Prelude.{◌≡◌, ℕ, ◌*◌, ◌<◌, ◌≤◌, nat_lt, Bool, true, false, List, [], ◌∷◌, ◌++◌, length, IsSomeAnd, slice_get}
 use Rattle.cell_rows.specs.Device.{ArrayState}
-use Rattle.result_rows.specs.declared.Outcome.{Outcome}
-use Rattle.result_rows.specs.Table.{HasRow}
-use Rattle.bank_shape.specs.declared.BankShape.{BankShape}
-use Rattle.bank_shape.specs.declared.pace.Pace.{Pace}
+use Rattle.result_rows.specs.{Table.HasRow, declared.Outcome.Outcome}
+use Rattle.bank_shape.specs.{declared.BankShape.BankShape, declared.pace.Pace.Pace}
 use Rattle.bank_model.specs.Timing.{TimedEvent}
 use Rattle.bank_laws.specs.Resting.{IsCutOff, EndsIn}
-use Rattle.module_shape.specs.Limits.{IsShape}
+use Rattle.module_shape.specs.{Addresses.{module_of, bank_shape, array_lines_of}, Limits.IsShape}
 use Rattle.row_rules.specs.declared.Asks.TheVariants.{Cuts}
-use Rattle.module_shape.specs.Addresses.{module_of, bank_shape, array_lines_of}
-use Rattle.module_laws.specs.Asking.{Asked, AreAsked}
-use Rattle.module_laws.specs.Serves.{AreRecorded}
-use Rattle.clock_laws.specs.State.{ClockState}
-use Rattle.clock_laws.specs.Leads.{Leads}
+use Rattle.module_laws.specs.{Asking.{Asked, AreAsked}, Serves.AreRecorded}
+use Rattle.clock_laws.specs.{Leads.Leads, State.ClockState}
 use Rattle.bank_timing.specs.Extending.{outcome_in, last_tick}
 use Rattle.run_laws.specs.Runs.{pacing_in}
-use Rattle.pcm_module.specs.State.{ModuleState, StandsNowhere}
-use Rattle.pcm_module.specs.Replaying.{IsLogged, Replays, ReplaysIn, asked_in_bank}
-use Rattle.pcm_module.specs.Taking.{StaysBeyond}
+use Rattle.pcm_module.specs.{Replaying.{IsLogged, Replays, ReplaysIn, asked_in_bank}, State.{ModuleState, StandsNowhere}, Taking.StaysBeyond}
 
 -- the last row that was asked for is a power cut, at this tick
 abbrev pub IsLastCut : {n : ℕ} → ℕ → List (Asked n) → Type 0

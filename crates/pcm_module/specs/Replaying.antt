@@ -1,25 +1,15 @@
 -- That the histories of a module's banks replay what was asked of it.
 use Rattle.std.specs.Prelude.{◌≡◌, ℕ, ◌*◌, ◌<◌, ◌≤◌, false, List, [], ◌∷◌, All, Some, IsSomeAnd, slice_get}
-use Rattle.cell_rows.specs.declared.array.Sense.{Sense}
-use Rattle.cell_rows.specs.Device.{ArrayState}
-use Rattle.result_rows.specs.declared.Outcome.{Outcome}
+use Rattle.cell_rows.specs.{Device.ArrayState, declared.array.Sense.Sense}
+use Rattle.result_rows.specs.{Table.HasRow, declared.Outcome.Outcome}
 use Rattle.result_rows.specs.declared.Outcome.TheVariants as out
-use Rattle.result_rows.specs.Table.{HasRow}
-use Rattle.row_rules.specs.declared.Asks.{Asks}
-use Rattle.row_rules.specs.declared.Asks.TheVariants.{Reads, Writes, Cuts}
-use Rattle.bank_shape.specs.declared.BankShape.{BankShape}
-use Rattle.bank_shape.specs.declared.pace.Pace.{Pace}
-use Rattle.bank_model.specs.Timing.{TimedEvent}
-use Rattle.bank_model.specs.Adding.{senses_of}
-use Rattle.bank_laws.specs.Outcomes.{outcome_of}
-use Rattle.bank_laws.specs.Laws.{log_of}
-use Rattle.module_shape.specs.Limits.{total_of}
-use Rattle.module_shape.specs.Addresses.{module_of, bank_shape, array_lines_of}
-use Rattle.module_laws.specs.Asking.{Asked, asked_of, AreAsked}
-use Rattle.module_laws.specs.Serves.{TicksFall}
-use Rattle.row_rules.specs.Lines.{IsOfLines}
-use Rattle.clock_laws.specs.State.{ClockState}
-use Rattle.clock_laws.specs.Leads.{Leads}
+use Rattle.row_rules.specs.{Lines.IsOfLines, declared.Asks.Asks, declared.Asks.TheVariants.{Reads, Writes, Cuts}}
+use Rattle.bank_shape.specs.{declared.BankShape.BankShape, declared.pace.Pace.Pace}
+use Rattle.bank_model.specs.{Adding.senses_of, Timing.TimedEvent}
+use Rattle.bank_laws.specs.{Laws.log_of, Outcomes.outcome_of}
+use Rattle.module_shape.specs.{Addresses.{module_of, bank_shape, array_lines_of}, Limits.total_of}
+use Rattle.module_laws.specs.{Asking.{Asked, asked_of, AreAsked}, Serves.TicksFall}
+use Rattle.clock_laws.specs.{Leads.Leads, State.ClockState}
 use Rattle.bank_timing.specs.Extending.{AreOpen, outcome_in}
 use Rattle.run_laws.specs.Runs.{pacing_in, bank_of_line, line_in_bank}
 use Rattle.pcm_module.specs.State.{ModuleState}

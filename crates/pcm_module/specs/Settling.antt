@@ -1,16 +1,13 @@
 -- How far the banks of a module were brought to a tick.
 use Rattle.std.specs.Prelude.{◌≡◌, ℕ, ◌*◌, ◌<◌, ◌≤◌, List, ◌++◌, length, IsSomeAnd, slice_get}
 use Rattle.cell_rows.specs.Device.{ArrayState}
-use Rattle.result_rows.specs.declared.Outcome.{Outcome}
-use Rattle.result_rows.specs.Table.{HasRow}
+use Rattle.result_rows.specs.{Table.HasRow, declared.Outcome.Outcome}
 use Rattle.bank_model.specs.Timing.{TimedEvent}
 use Rattle.module_shape.specs.Addresses.{module_of, array_lines_of}
 use Rattle.module_laws.specs.Asking.{Asked}
 use Rattle.clock_laws.specs.State.{ClockState}
 use Rattle.bank_timing.specs.Extending.{IsOpen, outcome_in, last_tick}
-use Rattle.pcm_module.specs.State.{ModuleState, StandsNowhere}
-use Rattle.pcm_module.specs.Replaying.{Replays, ReplaysIn, IsReplayed}
-use Rattle.pcm_module.specs.Taking.{StaysBeyond}
+use Rattle.pcm_module.specs.{Replaying.{Replays, ReplaysIn, IsReplayed}, State.{ModuleState, StandsNowhere}, Taking.StaysBeyond}
 
 -- a bank has come to a tick
 abbrev pub IsAtTick : {n m e : ℕ} → ℕ → ClockState n m e → Type 0

@@ -1,13 +1,10 @@
 -- What is true of every module.
 use Rattle.std.specs.Prelude.{◌≡◌, ℕ, ◌<◌, ◌≤◌, List, length, IsSomeAnd, slice_get}
 use Rattle.ecp_line.specs.Layout.{IsLayout}
-use Rattle.feistel_map.specs.Log2.{log2}
-use Rattle.feistel_map.specs.Network.{Network, network_of}
+use Rattle.feistel_map.specs.{Log2.log2, Network.{Network, network_of}}
 use Rattle.bank_shape.specs.declared.BankShape.{BankShape}
 use Rattle.power_recovery.specs.Kept.{IsKept}
-use Rattle.module_shape.specs.declared.raw.RawShape.{RawShape}
-use Rattle.module_shape.specs.Limits.{IsShape, total_of}
-use Rattle.module_shape.specs.Addresses.{module_of, bank_shape}
+use Rattle.module_shape.specs.{Addresses.{module_of, bank_shape}, Limits.{IsShape, total_of}, declared.raw.RawShape.RawShape}
 use Rattle.clock_laws.specs.State.{ClockState}
 use Rattle.bank_timing.specs.Extending.{last_tick}
 

@@ -2,13 +2,10 @@
 use Rattle.std.specs.Prelude.{◌≡◌, ℕ, zero, suc, ◌<◌, Bool, false, List, [], ◌∷◌, IsSomeAnd, slice_get, unwrap_or}
 use Rattle.masked_bytes.specs.Entries.{has_row}
 use Rattle.power_recovery.specs.Kept.{stands_at}
-use Rattle.module_shape.specs.declared.raw.RawShape.{RawShape}
-use Rattle.module_shape.specs.Addresses.{module_of, bank_shape}
-use Rattle.clock_laws.specs.State.{ClockState}
-use Rattle.clock_laws.specs.Standing.{has_waiting}
+use Rattle.module_shape.specs.{Addresses.{module_of, bank_shape}, declared.raw.RawShape.RawShape}
+use Rattle.clock_laws.specs.{Standing.has_waiting, State.ClockState}
 use Rattle.bank_timing.specs.Extending.{first_clock}
-use Rattle.end_laws.specs.Ends.{BankEnd}
-use Rattle.end_laws.specs.EndLaws.{IsEndOf}
+use Rattle.end_laws.specs.{EndLaws.IsEndOf, Ends.BankEnd}
 use Rattle.run_laws.specs.Runs.{pacing_in, bank_of_line, line_in_bank}
 
 -- a module: its sizes, the seed of its randomiser, its banks in order, the tick of the last row and a bound above the rows that were

@@ -6,9 +6,7 @@ use Rattle.result_rows.specs.declared.Outcome.{Outcome}
 use Rattle.bank_model.specs.Timing.{TimedEvent}
 use Rattle.module_laws.specs.Asking.{Asked, AreAsked}
 use Rattle.power_recovery.specs.Slots.{bank_lines}
-use Rattle.clock_laws.specs.State.{ClockState}
-use Rattle.clock_laws.specs.Leads.{Leads}
-use Rattle.clock_laws.specs.Standing.{arrives_with}
+use Rattle.clock_laws.specs.{Leads.Leads, Standing.arrives_with, State.ClockState}
 use Rattle.bank_timing.specs.Extending.{Extends, AreOpen, IsOpen, last_tick}
 
 -- a bank may be brought to a tick: its lines are laid out, it goes on, some history leads to it over this array, the tick isn't past and is

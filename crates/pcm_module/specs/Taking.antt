@@ -1,15 +1,12 @@
 -- What a row does to a module.
 use Rattle.std.specs.Prelude.{◌≡◌, ◌≢◌, ℕ, ◌+◌, ◌*◌, ◌<◌, ◌≤◌, List, ◌∷◌, ◌++◌, length, Some}
-use Rattle.cell_rows.specs.declared.array.Sense.{Sense}
-use Rattle.cell_rows.specs.Device.{ArrayState}
-use Rattle.result_rows.specs.declared.Outcome.{Outcome}
-use Rattle.result_rows.specs.Table.{HasRow}
+use Rattle.cell_rows.specs.{Device.ArrayState, declared.array.Sense.Sense}
+use Rattle.result_rows.specs.{Table.HasRow, declared.Outcome.Outcome}
 use Rattle.bank_model.specs.Timing.{TimedEvent}
 use Rattle.module_shape.specs.Addresses.{module_of, array_lines_of}
 use Rattle.module_laws.specs.Asking.{Asked}
 use Rattle.bank_timing.specs.Extending.{IsOpen, outcome_in}
-use Rattle.pcm_module.specs.State.{ModuleState, StandsNowhere}
-use Rattle.pcm_module.specs.Replaying.{Replays}
+use Rattle.pcm_module.specs.{Replaying.Replays, State.{ModuleState, StandsNowhere}}
 
 -- the array has as many lines as before and the same wear, each line from this one on is as before, and a log that is told has kept
 -- its senses

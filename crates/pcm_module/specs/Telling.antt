@@ -1,10 +1,8 @@
 -- In which order a module tells outcomes: bank by bank.
 use Rattle.std.specs.Prelude.{◌≡◌, ℕ, zero, suc, ◌==◌, ◌||◌, ◌&&◌, Bool, false, List, [], ◌∷◌}
 use Rattle.masked_bytes.specs.Entries.{has_row}
-use Rattle.result_rows.specs.declared.Outcome.{Outcome}
-use Rattle.result_rows.specs.Table.{HasRow}
-use Rattle.row_rules.specs.declared.Asks.{Asks}
-use Rattle.row_rules.specs.declared.Asks.TheVariants.{Reads, Writes, Cuts}
+use Rattle.result_rows.specs.{Table.HasRow, declared.Outcome.Outcome}
+use Rattle.row_rules.specs.{declared.Asks.Asks, declared.Asks.TheVariants.{Reads, Writes, Cuts}}
 use Rattle.bank_invariant.specs.State.{BankState}
 use Rattle.module_laws.specs.Asking.{Asked}
 use Rattle.clock_laws.specs.Standing.{has_waiting}

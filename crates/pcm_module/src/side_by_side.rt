@@ -42,7 +42,14 @@ impl<const B: usize, const M: usize, const E: usize> Model for Module<B, M, E> {
 
     ghost use Rattle.pcm_module.specs.Shaped.{IsModule};
 
-    ghost view = { λ m. record { shape = m.shape; seed = m.seed; banks = m.banks.items; tick = m.tick; rows_below = m.rows_below; finished = m.finished } };
+    ghost view = { λ m. record {
+      shape = m.shape;
+      seed = m.seed;
+      banks = m.banks.items;
+      tick = m.tick;
+      rows_below = m.rows_below;
+      finished = m.finished;
+    } };
 
     ghost invariant = { λ m. IsModule m.shape m.seed m.feistel m.banks.items m.tick };
 }

@@ -1,39 +1,21 @@
 -- How words and bytes decide the status of a call.
 use Rattle.std.proofs.Common.{◌≡◌, ◌≢◌, ℕ, ◌+◌, ◌-◌, ◌^◌, ◌<◌, ◌≤◌, ◌⊎◌, inl, inr, List, [], ◌++◌, length, true, Option, Some, None, refl, sym, ap, ◌∙◌, subst, arith}
-use Rattle.std.specs.Prelude.{Result, Ok, Err}
-use Rattle.std.specs.Io.KnownBytes.{Consumes, IsAtEnd}
-use Rattle.std.proofs.lemmas.List.{append-nil, length-append}
+use Rattle.std.{specs.Io.KnownBytes.{Consumes, IsAtEnd}, specs.Prelude.{Result, Ok, Err}, proofs.lemmas.List.{append-nil, length-append}}
 use Rattle.pcm_io.specs.Faults.{Rose}
-use Rattle.trace_reader.specs.Trace.{trace_of}
-use Rattle.trace_reader.specs.declared.event.Event.{Event}
-use Rattle.trace_reader.specs.declared.fault.ParseFault.{ParseFault}
+use Rattle.trace_reader.specs.{Trace.trace_of, declared.event.Event.Event, declared.fault.ParseFault.ParseFault}
 use Rattle.trace_reader.specs.declared.fault.ParseFault.TheVariants as parsing
 use Rattle.module_shape.specs.Limits.{total_of}
 use Rattle.pcm_image.specs.declared.ImageFault.{ImageFault}
-use Rattle.command_line.specs.declared.job.Job.{Job}
-use Rattle.command_line.specs.declared.job.Job.TheVariants.{Run, Gen, Map, Moves, Show, Check}
-use Rattle.command_line.specs.declared.job.RunJob.{RunJob}
-use Rattle.command_line.specs.declared.job.Input.{Input}
-use Rattle.command_line.specs.declared.job.Input.TheVariants.{Source, Drawn}
-use Rattle.command_line.specs.declared.job.LineSize.{LineSize}
-use Rattle.command_line.specs.declared.job.LineSize.TheVariants.{Bytes64, Bytes128}
-use Rattle.command_line.specs.declared.job.Refusal.{Refusal}
-use Rattle.pcm_top.specs.Jobs.{bytes_in}
-use Rattle.program_calls.specs.Calls.{SinkChange, SourceChange}
-use Rattle.pcm_top.specs.Reading.{IsReadFault, ReadsWhole, TakesSome, trace_room}
-use Rattle.pcm_top.specs.Calls.{Deed}
-use Rattle.pcm_top.specs.Inputs.{ComeFrom, IsFaultOf, is_source}
-use Rattle.command_line.specs.declared.job.CheckJob.{CheckJob}
-use Rattle.check_text.specs.declared.fault.TextFault.TheVariants as text
-use Rattle.pcm_top.specs.Checking.{IsCheckFault, TellsVerdict, pointers_in, room_line}
-use Rattle.pcm_top.specs.FaultLines.{status_of}
-use Rattle.pcm_top.specs.Running.{Does, HasCause, WritesRun, reads_source, status_done}
-use Rattle.pcm_top.specs.Showing.{IsShowFault, shown_of}
+use Rattle.command_line.specs.{declared.job.CheckJob.CheckJob, declared.job.Input.Input, declared.job.Input.TheVariants.{Source, Drawn}, declared.job.Job.Job}
+use Rattle.command_line.specs.{declared.job.Job.TheVariants.{Run, Gen, Map, Moves, Show, Check}, declared.job.LineSize.LineSize}
+use Rattle.command_line.specs.{declared.job.LineSize.TheVariants.{Bytes64, Bytes128}, declared.job.Refusal.Refusal, declared.job.RunJob.RunJob}
+use Rattle.pcm_top.specs.{Calls.Deed, Checking.{IsCheckFault, TellsVerdict, pointers_in, room_line}, FaultLines.status_of, Inputs.{ComeFrom, IsFaultOf, is_source}, Jobs.bytes_in}
+use Rattle.pcm_top.specs.{Reading.{IsReadFault, ReadsWhole, TakesSome, trace_room}, Running.{Does, HasCause, WritesRun, reads_source, status_done}, Showing.{IsShowFault, shown_of}}
 use Rattle.pcm_top.specs.Statuses.{IsImageStatus, IsInputStatus, IsRunStatus, IsShowStatus, IsSourceStatus, IsStatusFor, IsTraceStatus, IsCheckStatus, IsTextStatus}
-use Rattle.pcm_top.specs.declared.run.Done.{Done}
+use Rattle.pcm_top.specs.{declared.fault.Fault.Fault, declared.fault.Fault.TheVariants.{Usage, Trace, Image, Read, Write, TooLong, NoMemory, Results}, declared.run.Done.Done}
 use Rattle.pcm_top.specs.declared.run.Done.TheVariants.{Whole, Short}
-use Rattle.pcm_top.specs.declared.fault.Fault.{Fault}
-use Rattle.pcm_top.specs.declared.fault.Fault.TheVariants.{Usage, Trace, Image, Read, Write, TooLong, NoMemory, Results}
+use Rattle.program_calls.specs.Calls.{SinkChange, SourceChange}
+use Rattle.check_text.specs.declared.fault.TextFault.TheVariants as text
 
 -- a source that tells its bytes and was read to its end gave just them
 whole-go : (before now : Option (List ℕ)) (bytes found : List ℕ) → before ≡ Some bytes → Consumes before now found → IsAtEnd now → found ≡ bytes

@@ -1,10 +1,7 @@
 -- How the rows of a generated trace are written, piece after piece.
 use Rattle.std.proofs.Common.{◌≡◌, ℕ, List, [], ◌∷◌, ◌++◌, Option, refl, sym, ap, ◌∙◌, append_assoc}
-use Rattle.std.specs.Io.KnownBytes.{Appends}
-use Rattle.std.proofs.lemmas.List.{append-nil}
-use Rattle.pcm_io.specs.Giving.{AppendsPrefix}
-use Rattle.pcm_io.specs.Reserved.{Reserved, appended, reserved}
-use Rattle.pcm_io.proofs.ByteLemmas.{Appends-Appends, Appends-nothing}
+use Rattle.std.{specs.Io.KnownBytes.Appends, proofs.lemmas.List.append-nil}
+use Rattle.pcm_io.{specs.Giving.AppendsPrefix, specs.Reserved.{Reserved, appended, reserved}, proofs.ByteLemmas.{Appends-Appends, Appends-nothing}}
 use Rattle.trace_reader.specs.declared.event.Event.{Event}
 use Rattle.trace_gen.specs.EventText.{event_row, event_rows, trace_header, trace_text}
 use Rattle.run_text.specs.Gathering.{Flushes}

@@ -1,29 +1,18 @@
 -- What a run that was made is, and that what is written of it is its text.
 use Rattle.std.proofs.Common.{◌≡◌, ℕ, ◌≤◌, List, length, Some, sym, subst}
 use Rattle.cell_rows.specs.Device.{ArrayState}
-use Rattle.trace_reader.specs.Events.{AreEventsFor}
-use Rattle.trace_reader.specs.declared.event.Event.{Event}
+use Rattle.trace_reader.specs.{Events.AreEventsFor, declared.event.Event.Event}
 use Rattle.result_rows.specs.declared.Outcome.{Outcome}
-use Rattle.module_shape.specs.declared.raw.RawShape.{RawShape}
-use Rattle.module_shape.specs.Limits.{IsShape, total_of}
+use Rattle.module_shape.specs.{Limits.{IsShape, total_of}, declared.raw.RawShape.RawShape}
 use Rattle.end_laws.specs.Ends.{BankEnd}
 use Rattle.run_laws.specs.Runs.{RunsRight}
 use Rattle.pcm_image.specs.Saved.{Saved}
 use Rattle.pcm_module.specs.State.{AreEndsOf, ModuleState}
-use Rattle.command_line.specs.declared.job.Print.TheVariants.{Image}
-use Rattle.command_line.specs.declared.job.RunJob.{RunJob}
+use Rattle.command_line.specs.{declared.job.Print.TheVariants.Image, declared.job.RunJob.RunJob}
 use Rattle.program_calls.specs.Calls.{Gets, GetsPart, SinkChange, SourceChange}
-use Rattle.module_prints.specs.WearReports.{HaveRoles}
-use Rattle.module_prints.specs.Images.{WritesRows}
-use Rattle.pcm_top.specs.Inputs.{ComeFrom}
-use Rattle.pcm_top.specs.Rows.{rows_of}
-use Rattle.pcm_top.specs.RunText.{IsRunText}
-use Rattle.pcm_top.specs.Images.{senses_for}
-use Rattle.pcm_top.proofs.Saving.{LeavesWith}
-use Rattle.pcm_top.specs.Running.{RunIsWritten, RunIsWrittenInPart, Runs, done_by}
-use Rattle.pcm_top.specs.Laws.{CanBePrinted, PrintableLaw}
-use Rattle.pcm_top.specs.declared.run.Done.{Done}
-use Rattle.pcm_top.specs.Ready.{IsReady}
+use Rattle.module_prints.specs.{Images.WritesRows, WearReports.HaveRoles}
+use Rattle.pcm_top.specs.{Images.senses_for, Inputs.ComeFrom, Laws.{CanBePrinted, PrintableLaw}, Ready.IsReady, Rows.rows_of, RunText.IsRunText}
+use Rattle.pcm_top.{specs.Running.{RunIsWritten, RunIsWrittenInPart, Runs, done_by}, specs.declared.run.Done.Done, proofs.Saving.LeavesWith}
 
 -- a module that is ready is so by its own sizes and seed
 pub ready-itself : {n m e : ℕ} (raw : RawShape) (seed rows count : ℕ) (module_ : ModuleState n m e) (array : ArrayState n m) (results : List (Outcome n))

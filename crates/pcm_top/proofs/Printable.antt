@@ -1,31 +1,19 @@
 -- That each row of a right run can be printed.
 use Rattle.std.proofs.Common.{◌≡◌, ℕ, zero, suc, ◌*◌, ◌<◌, ◌≤◌, List, [], ◌∷◌, length, Some, refl, ap, ◌∙◌, subst, arith, reverse}
-use Rattle.std.specs.Prelude.{slice_get, All}
-use Rattle.std.specs.Option.{ForSome}
-use Rattle.std.proofs.lemmas.List.{reverse-reverse}
-use Rattle.std.proofs.lemmas.List.Elements.{All-get_or}
+use Rattle.std.{specs.Option.ForSome, specs.Prelude.{slice_get, All}, proofs.lemmas.List.reverse-reverse, proofs.lemmas.List.Elements.All-get_or}
 use Rattle.std.proofs.lemmas.Option.{get_or_from_slice_get, slice_get_within}
 use Rattle.check_laws.proofs.Soon.{All-reverse}
 use Rattle.check_text.proofs.Standing.{own-op}
-use Rattle.trace_rows.proofs.Lines.{lines-exist as rows-exist}
+use Rattle.trace_rows.{specs.Rows.{row_of, rows_with}, proofs.Lines.lines-exist as rows-exist}
 use Rattle.cell_rows.specs.Device.{ArrayState}
-use Rattle.trace_reader.specs.Events.{AreEventsFor, IsOpFor}
-use Rattle.trace_reader.specs.declared.event.Event.{Event}
-use Rattle.trace_reader.specs.declared.event.EventOp.{EventOp}
+use Rattle.trace_reader.{specs.Events.{AreEventsFor, IsOpFor}, specs.declared.event.Event.Event, specs.declared.event.EventOp.EventOp, proofs.Lawful.AreEventsFor-at}
 use Rattle.trace_reader.specs.declared.event.EventOp.TheVariants as op
-use Rattle.trace_reader.proofs.Lawful.{AreEventsFor-at}
-use Rattle.result_rows.specs.declared.Outcome.{Outcome}
-use Rattle.result_rows.specs.Outcomes.{op_of, place_of}
-use Rattle.row_rules.specs.declared.Row.{Row}
-use Rattle.module_shape.specs.declared.raw.RawShape.{RawShape}
-use Rattle.module_shape.specs.Limits.{IsShape, total_of}
-use Rattle.module_shape.specs.Addresses.{module_of, array_lines_of}
-use Rattle.row_rules.specs.Lines.{IsOfLines}
+use Rattle.result_rows.specs.{Outcomes.{op_of, place_of}, declared.Outcome.Outcome}
+use Rattle.row_rules.specs.{Lines.IsOfLines, declared.Row.Row}
+use Rattle.module_shape.specs.{Addresses.{module_of, array_lines_of}, Limits.{IsShape, total_of}, declared.raw.RawShape.RawShape}
 use Rattle.end_laws.specs.Ends.{BankEnd}
-use Rattle.run_laws.specs.Runs.{RunsRight}
-use Rattle.run_laws.specs.RowsOfRuns.{FewArrayLinesLaw, LinesExist, OwnOutcomesLaw, PlacesExistLaw, op_asked}
+use Rattle.run_laws.specs.{RowsOfRuns.{FewArrayLinesLaw, LinesExist, OwnOutcomesLaw, PlacesExistLaw, op_asked}, Runs.RunsRight}
 use Rattle.run_text.specs.ResultText.{ArePrintable, named_line}
-use Rattle.trace_rows.specs.Rows.{row_of, rows_with}
 use Rattle.pcm_top.specs.Rows.{rows_of}
 
 module _ {n : ℕ} where

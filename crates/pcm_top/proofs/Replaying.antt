@@ -1,23 +1,16 @@
 -- How the events of a trace are handed to a module, one after the other.
 use Rattle.std.proofs.Common.{◌≡◌, ℕ, suc, ◌+◌, ◌-◌, ◌<◌, ◌≤◌, false, List, [], ◌∷◌, ◌++◌, length, get_or, take, drop, Some, refl, ap, ◌∙◌, subst, arith, replicate, reverse}
-use Rattle.std.specs.Prelude.{slice_get}
-use Rattle.std.proofs.Math.Seq.{drop-cons}
+use Rattle.std.{specs.Prelude.slice_get, proofs.Math.Seq.drop-cons}
 use Rattle.std.proofs.lemmas.List.{take_more, take_all, reverse-append, length-reverse, length-take-le, length-replicate, get_or-replicate}
 use Rattle.std.proofs.lemmas.Option.{get_or_from_slice_get, slice_get-get_or, slice_get_within}
-use Rattle.trace_reader.proofs.Lawful.{lawful-first}
+use Rattle.trace_reader.{specs.Events.{AreEventsFor, IsEventFor}, specs.declared.event.Event.Event, proofs.Lawful.lawful-first}
 use Rattle.cell_rows.specs.Device.{ArrayState}
-use Rattle.trace_reader.specs.Events.{AreEventsFor, IsEventFor}
-use Rattle.trace_reader.specs.declared.event.Event.{Event}
-use Rattle.result_rows.specs.declared.Outcome.{Outcome}
-use Rattle.result_rows.specs.declared.Outcome.TheVariants.{Unset}
+use Rattle.result_rows.specs.{declared.Outcome.Outcome, declared.Outcome.TheVariants.Unset}
 use Rattle.bank_model.specs.Timing.{TimedEvent}
-use Rattle.module_shape.specs.declared.raw.RawShape.{RawShape}
-use Rattle.module_shape.specs.Limits.{total_of}
+use Rattle.module_shape.specs.{Limits.total_of, declared.raw.RawShape.RawShape}
 use Rattle.module_laws.specs.Asking.{Asked}
 use Rattle.bank_timing.specs.Extending.{IsOpen}
-use Rattle.pcm_module.specs.State.{ModuleState}
-use Rattle.pcm_module.specs.Asking.{asked_by, asked_for}
-use Rattle.pcm_module.specs.Replaying.{Replays}
+use Rattle.pcm_module.specs.{Asking.{asked_by, asked_for}, Replaying.Replays, State.ModuleState}
 use Rattle.pcm_top.specs.Ready.{IsReady}
 
 -- the first i events were handed to the module; some histories replay them, the rows behind them are open, and the other events

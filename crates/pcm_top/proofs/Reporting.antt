@@ -1,11 +1,7 @@
 -- How the rows of a report are written, piece after piece.
 use Rattle.std.proofs.Common.{◌≡◌, ℕ, zero, suc, ◌+◌, ◌≤◌, inl, inr, List, [], ◌++◌, Option, refl, sym, ap, ◌∙◌, arith, append_assoc}
-use Rattle.std.specs.Io.KnownBytes.{Appends}
-use Rattle.std.proofs.lemmas.Bool.{cases_eq}
-use Rattle.std.proofs.lemmas.List.{append-nil}
-use Rattle.pcm_io.specs.Giving.{AppendsPrefix}
-use Rattle.pcm_io.specs.Reserved.{Reserved, appended}
-use Rattle.pcm_io.proofs.ByteLemmas.{Appends-Appends}
+use Rattle.std.{specs.Io.KnownBytes.Appends, proofs.lemmas.Bool.cases_eq, proofs.lemmas.List.append-nil}
+use Rattle.pcm_io.{specs.Giving.AppendsPrefix, specs.Reserved.{Reserved, appended}, proofs.ByteLemmas.Appends-Appends}
 use Rattle.rotation_reports.specs.Rows.{rows_from}
 use Rattle.run_text.specs.Gathering.{Flushes}
 use Rattle.program_calls.proofs.Written.{AppendsPrefix-after}

@@ -1,33 +1,21 @@
 -- The image of a run that was made.
 use Rattle.std.proofs.Common.{◌≡◌, ℕ, ◌^◌, ◌<◌, List, Option, Some, None, refl, sym, subst, reverse}
 use Rattle.std.specs.Prelude.{IsSomeAnd, OnOk, OnErr, Result, Ok, Err, slice_get, unwrap_or}
-use Rattle.pcm_top.proofs.Tables.{rows-are}
+use Rattle.pcm_top.{specs.Images.senses_for, specs.Played.IsPlayed, specs.Rows.rows_of, specs.RunText.IsRunText, proofs.Tables.rows-are}
 use Rattle.cell_rows.specs.Device.{ArrayState}
 use Rattle.trace_reader.specs.declared.event.Event.{Event}
 use Rattle.result_rows.specs.declared.Outcome.{Outcome}
 use Rattle.row_rules.specs.declared.Row.{Row}
-use Rattle.module_shape.specs.declared.raw.RawShape.{RawShape}
-use Rattle.module_shape.specs.Limits.{IsShape}
+use Rattle.module_shape.specs.{Limits.IsShape, declared.raw.RawShape.RawShape}
 use Rattle.bank_timing.specs.Extending.{outcome_in}
-use Rattle.end_laws.specs.Ends.{BankEnd}
-use Rattle.end_laws.specs.EndLaws.{IsEndOf}
+use Rattle.end_laws.specs.{EndLaws.IsEndOf, Ends.BankEnd}
 use Rattle.run_laws.specs.Runs.{RunsRight}
-use Rattle.pcm_image.specs.Saved.{Saved}
-use Rattle.pcm_image.specs.Spelling.{image_bytes}
-use Rattle.image_laws.specs.Saving.{saved_of}
-use Rattle.image_laws.specs.SavedRuns.{AreRowsTo, IsLeft, SavedLaw, SensedSince, StaysRightLaw}
-use Rattle.pcm_module.specs.Asking.{asked_for}
-use Rattle.pcm_module.specs.State.{AreEndsOf, ModuleState, bank_at, first_bank}
-use Rattle.command_line.specs.declared.job.Print.{Print}
-use Rattle.command_line.specs.declared.job.Print.TheVariants.{Image}
-use Rattle.image_text.specs.Sensing.{SensesRows}
-use Rattle.image_text.proofs.Sensing.{senses-none}
-use Rattle.module_prints.specs.WearReports.{HaveRoles}
-use Rattle.module_prints.specs.Images.{kept_in}
-use Rattle.pcm_top.specs.Images.{senses_for}
-use Rattle.pcm_top.specs.Played.{IsPlayed}
-use Rattle.pcm_top.specs.Rows.{rows_of}
-use Rattle.pcm_top.specs.RunText.{IsRunText}
+use Rattle.pcm_image.specs.{Saved.Saved, Spelling.image_bytes}
+use Rattle.image_laws.specs.{SavedRuns.{AreRowsTo, IsLeft, SavedLaw, SensedSince, StaysRightLaw}, Saving.saved_of}
+use Rattle.pcm_module.specs.{Asking.asked_for, State.{AreEndsOf, ModuleState, bank_at, first_bank}}
+use Rattle.command_line.specs.{declared.job.Print.Print, declared.job.Print.TheVariants.Image}
+use Rattle.image_text.{specs.Sensing.SensesRows, proofs.Sensing.senses-none}
+use Rattle.module_prints.specs.{Images.kept_in, WearReports.HaveRoles}
 
 -- of an array nothing was sensed for a text that needs no sense
 pub senses-nothing : {n m : ℕ} {T E : Type 0} (r : Result T E) (print : Print) (array : ArrayState n m) → ((lines : ℕ) → senses_for print lines ≡ 0) → OnOk r (SensesRows (senses_for print array.lines) array array)

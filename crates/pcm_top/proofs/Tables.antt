@@ -1,11 +1,9 @@
 -- The table of a run, by its numbered rows and by its events.
 use Rattle.std.proofs.Common.{◌≡◌, ℕ, ◌+◌, ◌-◌, List, [], ◌∷◌, ◌++◌, length, map, reverse, refl, sym, ap, ◌∙◌, arith, append_assoc}
-use Rattle.std.specs.Prelude.{slice_get, unwrap_or}
-use Rattle.std.proofs.lemmas.List.{append-nil, length_push}
+use Rattle.std.{specs.Prelude.{slice_get, unwrap_or}, proofs.lemmas.List.{append-nil, length_push}}
 use Rattle.masked_bytes.proofs.Lists.{turned}
 use Rattle.trace_reader.specs.declared.event.Event.{Event}
-use Rattle.result_rows.specs.declared.Outcome.{Outcome}
-use Rattle.result_rows.specs.declared.Outcome.TheVariants.{Unset}
+use Rattle.result_rows.specs.{declared.Outcome.Outcome, declared.Outcome.TheVariants.Unset}
 use Rattle.row_rules.specs.declared.Row.{Row}
 use Rattle.trace_rows.specs.Rows.{row_of, rows_with}
 use Rattle.module_laws.specs.Asking.{Asked, row_with}

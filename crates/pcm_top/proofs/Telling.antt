@@ -3,9 +3,7 @@ use Rattle.std.proofs.Common.{◌≡◌, refl}
 use Rattle.std.specs.Prelude.{codes}
 use Rattle.trace_reader.specs.declared.fault.TraceFault.{TraceFault}
 use Rattle.program_calls.specs.FaultLines.{trace_line}
-use Rattle.pcm_top.specs.FaultLines.{fault_line, usage_text}
-use Rattle.pcm_top.specs.declared.fault.Fault.{Fault}
-use Rattle.pcm_top.specs.declared.fault.Fault.TheVariants.{Usage, Trace, Read, Write, TooLong, NoMemory}
+use Rattle.pcm_top.specs.{FaultLines.{fault_line, usage_text}, declared.fault.Fault.Fault, declared.fault.Fault.TheVariants.{Usage, Trace, Read, Write, TooLong, NoMemory}}
 
 pub usage_line : (f : Fault) → f ≡ Usage → usage_text ≡ fault_line f
 unfolding fault_line

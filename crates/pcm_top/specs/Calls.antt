@@ -1,8 +1,7 @@
 -- What a call of the program was given, and what it left.
 use Rattle.std.specs.Prelude.{Result}
 use Rattle.cell_rows.specs.Device.{ArrayState}
-use Rattle.command_line.specs.declared.job.Job.{Job}
-use Rattle.command_line.specs.declared.job.Refusal.{Refusal}
+use Rattle.command_line.specs.{declared.job.Job.Job, declared.job.Refusal.Refusal}
 use Rattle.program_calls.specs.Calls.{IsUntouched, Lent, SinkChange, SourceChange}
 
 -- what became of all that a job may change: the source, the arrays of lines of 64 and of 128 bytes, and the

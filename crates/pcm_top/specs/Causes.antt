@@ -9,8 +9,7 @@ use Rattle.pcm_image.specs.declared.fields.ReadImage.{ReadImage}
 use Rattle.pcm_image.specs.declared.fields.ReadImage.TheVariants as image
 use Rattle.check_text.specs.declared.fault.TextFault.{TextFault}
 use Rattle.check_text.specs.declared.fault.TextFault.TheVariants as text
-use Rattle.pcm_top.specs.declared.fault.Fault.{Fault}
-use Rattle.pcm_top.specs.declared.fault.Fault.TheVariants.{Usage, Trace, Image, Read, TooLong, NoMemory, Results}
+use Rattle.pcm_top.specs.{declared.fault.Fault.Fault, declared.fault.Fault.TheVariants.{Usage, Trace, Image, Read, TooLong, NoMemory, Results}}
 
 -- words that ask for no job
 abbrev pub no_job : Refusal → Fault

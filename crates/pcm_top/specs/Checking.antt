@@ -1,20 +1,13 @@
 -- The check of a trace and its results.
 use Rattle.std.specs.Prelude.{◌≡◌, ◌⊎◌, ℕ, List}
-use Rattle.command_line.specs.declared.job.CheckJob.{CheckJob}
-use Rattle.command_line.specs.declared.job.LineSize.{LineSize}
-use Rattle.command_line.specs.declared.job.LineSize.TheVariants.{Bytes64, Bytes128}
-use Rattle.check_verdict.specs.declared.Verdict.{Verdict}
-use Rattle.check_verdict.specs.declared.Verdict.TheVariants.{Yes, No}
-use Rattle.check_text.specs.Checked.{HasVerdict, IsTextFault}
-use Rattle.check_text.specs.VerdictText.{verdict_text}
-use Rattle.check_text.specs.declared.fault.TextFault.{TextFault}
+use Rattle.command_line.specs.{declared.job.CheckJob.CheckJob, declared.job.LineSize.LineSize, declared.job.LineSize.TheVariants.{Bytes64, Bytes128}}
+use Rattle.check_verdict.specs.{declared.Verdict.Verdict, declared.Verdict.TheVariants.{Yes, No}}
+use Rattle.check_text.specs.{Checked.{HasVerdict, IsTextFault}, VerdictText.verdict_text, declared.fault.TextFault.TextFault}
 use Rattle.check_text.specs.declared.fault.TextFault.TheVariants as text
 use Rattle.program_calls.specs.Calls.{Gets, GetsPart, SinkChange, SourceChange}
-use Rattle.pcm_top.specs.Reading.{ReadsWhole, NeverFails, SourceFails, TakesMore, TakesSome}
-use Rattle.pcm_top.specs.declared.run.Done.{Done}
+use Rattle.pcm_top.specs.{Reading.{ReadsWhole, NeverFails, SourceFails, TakesMore, TakesSome}, declared.fault.Fault.Fault}
+use Rattle.pcm_top.specs.{declared.fault.Fault.TheVariants.{Usage, Trace, Results, Image, Read, Write, TooLong, NoMemory}, declared.run.Done.Done}
 use Rattle.pcm_top.specs.declared.run.Done.TheVariants.{Whole, Short}
-use Rattle.pcm_top.specs.declared.fault.Fault.{Fault}
-use Rattle.pcm_top.specs.declared.fault.Fault.TheVariants.{Usage, Trace, Results, Image, Read, Write, TooLong, NoMemory}
 
 -- a trace and its results together may have as many bytes as a trace over lines of 256 bytes, whatever their
 -- lines are: 268,435,456

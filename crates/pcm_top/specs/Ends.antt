@@ -3,21 +3,14 @@ use Rattle.std.specs.Prelude.{◌≡◌, ◌≢◌, ◌≤◌, ℕ, List, false,
 use Rattle.cell_rows.specs.Device.{ArrayState}
 use Rattle.trace_reader.specs.declared.event.Event.{Event}
 use Rattle.pcm_io.specs.declared.WriteFault.{WriteFault}
-use Rattle.command_line.specs.declared.job.CheckJob.{CheckJob}
-use Rattle.command_line.specs.declared.job.LineSize.TheVariants.{Bytes64, Bytes128}
-use Rattle.command_line.specs.declared.job.RunJob.{RunJob}
+use Rattle.command_line.specs.{declared.job.CheckJob.CheckJob, declared.job.LineSize.TheVariants.{Bytes64, Bytes128}, declared.job.RunJob.RunJob}
 use Rattle.pcm_image.specs.declared.ImageFault.{ImageFault}
 use Rattle.program_calls.specs.Calls.{Gets, GetsPart, IsUntouched, Lent, SinkChange, SinkFails, SourceChange}
-use Rattle.pcm_top.specs.Reading.{NeverFails, OnOverflow, trace_room}
-use Rattle.pcm_top.specs.Calls.{AreArraysUntouched, Call, deed_of}
-use Rattle.pcm_top.specs.Inputs.{ComeFrom, IsFaultOf, is_source}
-use Rattle.pcm_top.specs.Checking.{IsCheckFault, TellsVerdict, TellsVerdictInPart, room_line}
-use Rattle.pcm_top.specs.Showing.{IsImageFault, IsShowFault, ShowsImage, ShowsImageInPart, ShowsText, ShowsTextInPart}
-use Rattle.pcm_top.specs.FaultLines.{fault_line, status_of}
+use Rattle.pcm_top.specs.{Calls.{AreArraysUntouched, Call, deed_of}, Checking.{IsCheckFault, TellsVerdict, TellsVerdictInPart, room_line}, FaultLines.{fault_line, status_of}}
+use Rattle.pcm_top.specs.{Inputs.{ComeFrom, IsFaultOf, is_source}, Reading.{NeverFails, OnOverflow, trace_room}}
 use Rattle.pcm_top.specs.Running.{Does, DoesPart, HasCause, IsTried, RunIsWritten, RunIsWrittenInPart, reads_source, room_of, runs_on}
-use Rattle.pcm_top.specs.declared.run.Done.{Done}
-use Rattle.pcm_top.specs.declared.fault.Fault.{Fault}
-use Rattle.pcm_top.specs.declared.fault.Fault.TheVariants.{Write, TooLong, NoMemory, Usage}
+use Rattle.pcm_top.specs.{Showing.{IsImageFault, IsShowFault, ShowsImage, ShowsImageInPart, ShowsText, ShowsTextInPart}, declared.fault.Fault.Fault}
+use Rattle.pcm_top.specs.{declared.fault.Fault.TheVariants.{Write, TooLong, NoMemory, Usage}, declared.run.Done.Done}
 
 -- how a fault is told: this becomes of its line, and this status is answered
 pub record IsToldOf (fault : Fault) (err : SinkChange) (status : ℕ) : Type 0 where

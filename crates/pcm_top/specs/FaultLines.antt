@@ -3,8 +3,7 @@ use Rattle.std.specs.Prelude.{ℕ, List, ◌++◌, codes, decimal}
 use Rattle.pcm_image.specs.declared.ImageKind.{ImageKind}
 use Rattle.pcm_image.specs.declared.ImageKind.TheVariants as image
 use Rattle.program_calls.specs.FaultLines.{trace_line}
-use Rattle.pcm_top.specs.declared.fault.Fault.{Fault}
-use Rattle.pcm_top.specs.declared.fault.Fault.TheVariants.{Usage, Trace, Image, Read, Write, TooLong, NoMemory, Results}
+use Rattle.pcm_top.specs.{declared.fault.Fault.Fault, declared.fault.Fault.TheVariants.{Usage, Trace, Image, Read, Write, TooLong, NoMemory, Results}}
 
 -- the word for how a field of an image fails
 abbrev pub image_word : ImageKind → List ℕ

@@ -3,13 +3,9 @@ use Rattle.std.specs.Prelude.{◌≡◌, ℕ, Bool, true, false, List}
 use Rattle.trace_reader.specs.declared.event.Event.{Event}
 use Rattle.trace_gen.specs.Generated.{generated}
 use Rattle.module_shape.specs.Limits.{total_of}
-use Rattle.command_line.specs.declared.job.Input.{Input}
-use Rattle.command_line.specs.declared.job.Input.TheVariants.{Source, Drawn}
-use Rattle.command_line.specs.declared.job.RunJob.{RunJob}
+use Rattle.command_line.specs.{declared.job.Input.Input, declared.job.Input.TheVariants.{Source, Drawn}, declared.job.RunJob.RunJob}
 use Rattle.program_calls.specs.Calls.{SourceChange}
-use Rattle.pcm_top.specs.Reading.{IsReadFault, ReadsTrace, TakesNothing}
-use Rattle.pcm_top.specs.declared.fault.Fault.{Fault}
-use Rattle.pcm_top.specs.declared.fault.Fault.TheVariants.{NoMemory}
+use Rattle.pcm_top.specs.{Reading.{IsReadFault, ReadsTrace, TakesNothing}, declared.fault.Fault.Fault, declared.fault.Fault.TheVariants.NoMemory}
 
 -- whether an input is the program's source
 abbrev pub is_source : Input → Bool

@@ -1,12 +1,8 @@
 -- The texts of the jobs that replay no trace.
 use Rattle.std.specs.Prelude.{ℕ, List}
 use Rattle.module_shape.specs.Limits.{total_of}
-use Rattle.command_line.specs.declared.job.GenJob.{GenJob}
-use Rattle.command_line.specs.declared.job.LineSize.{LineSize}
-use Rattle.command_line.specs.declared.job.LineSize.TheVariants.{Bytes64, Bytes128}
-use Rattle.command_line.specs.declared.job.MapJob.{MapJob}
-use Rattle.trace_gen.specs.EventText.{trace_text}
-use Rattle.trace_gen.specs.Generated.{generated}
+use Rattle.command_line.specs.{declared.job.GenJob.GenJob, declared.job.LineSize.LineSize, declared.job.LineSize.TheVariants.{Bytes64, Bytes128}, declared.job.MapJob.MapJob}
+use Rattle.trace_gen.specs.{EventText.trace_text, Generated.generated}
 use Rattle.rotation_reports.specs.declared.line_rows.MapOptions.{MapOptions}
 
 -- the sizes, the seed and the moves of a map, and where its banks keep their registers

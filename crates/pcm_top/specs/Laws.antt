@@ -1,11 +1,9 @@
 -- That every run that was made can be printed.
 use Rattle.std.specs.Prelude.{◌≡◌, ℕ, List, length}
 use Rattle.cell_rows.specs.Device.{ArrayState}
-use Rattle.trace_reader.specs.Events.{AreEventsFor}
-use Rattle.trace_reader.specs.declared.event.Event.{Event}
+use Rattle.trace_reader.specs.{Events.AreEventsFor, declared.event.Event.Event}
 use Rattle.result_rows.specs.declared.Outcome.{Outcome}
-use Rattle.module_shape.specs.declared.raw.RawShape.{RawShape}
-use Rattle.module_shape.specs.Limits.{IsShape, total_of}
+use Rattle.module_shape.specs.{Limits.{IsShape, total_of}, declared.raw.RawShape.RawShape}
 use Rattle.end_laws.specs.Ends.{BankEnd}
 use Rattle.run_laws.specs.Runs.{RunsRight}
 use Rattle.run_text.specs.ResultText.{ArePrintable}

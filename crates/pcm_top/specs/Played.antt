@@ -6,8 +6,7 @@ use Rattle.result_rows.specs.declared.Outcome.{Outcome}
 use Rattle.bank_model.specs.Timing.{TimedEvent}
 use Rattle.bank_timing.specs.Extending.{outcome_in}
 use Rattle.run_laws.specs.Finishing.{IsFinished}
-use Rattle.pcm_module.specs.Asking.{asked_for}
-use Rattle.pcm_module.specs.State.{ModuleState, bank_at}
+use Rattle.pcm_module.specs.{Asking.asked_for, State.{ModuleState, bank_at}}
 
 -- each event has an outcome; histories of its banks, which asked for these events and gave them these
 -- outcomes, led to it over the array, and nothing is left to do

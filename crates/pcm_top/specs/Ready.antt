@@ -1,11 +1,9 @@
 -- A module that is ready to replay a trace.
 use Rattle.std.specs.Prelude.{◌≡◌, ℕ, false, List, [], replicate}
 use Rattle.cell_rows.specs.Device.{ArrayState}
-use Rattle.result_rows.specs.declared.Outcome.{Outcome}
-use Rattle.result_rows.specs.declared.Outcome.TheVariants.{Unset}
+use Rattle.result_rows.specs.{declared.Outcome.Outcome, declared.Outcome.TheVariants.Unset}
 use Rattle.module_shape.specs.declared.raw.RawShape.{RawShape}
-use Rattle.pcm_module.specs.State.{ModuleState}
-use Rattle.pcm_module.specs.Replaying.{Replays}
+use Rattle.pcm_module.specs.{Replaying.Replays, State.ModuleState}
 
 -- the module of these sizes and this seed, to which nothing was handed in yet, over an array that fits; none
 -- of so many rows has an outcome

@@ -3,22 +3,16 @@ use Rattle.std.specs.Prelude.{◌≡◌, ℕ, List, length}
 use Rattle.cell_rows.specs.Device.{ArrayState}
 use Rattle.trace_reader.specs.declared.event.Event.{Event}
 use Rattle.result_rows.specs.declared.Outcome.{Outcome}
-use Rattle.wear_report.specs.declared.Role.{Role}
-use Rattle.wear_report.specs.WearText.{wear_text}
-use Rattle.run_text.specs.Counting.{counts_of}
-use Rattle.run_text.specs.Pulses.{pulses_in_all}
-use Rattle.run_text.specs.SummaryText.{summary_text}
+use Rattle.wear_report.specs.{WearText.wear_text, declared.Role.Role}
+use Rattle.run_text.specs.{Counting.counts_of, Pulses.pulses_in_all, ResultText.results_text, SummaryText.summary_text}
 use Rattle.module_shape.specs.declared.raw.RawShape.{RawShape}
 use Rattle.end_laws.specs.Ends.{BankEnd}
-use Rattle.run_text.specs.ResultText.{results_text}
-use Rattle.pcm_image.specs.Saved.{Saved}
-use Rattle.pcm_image.specs.Spelling.{image_bytes}
+use Rattle.pcm_image.specs.{Saved.Saved, Spelling.image_bytes}
 use Rattle.image_laws.specs.SavedRuns.{IsLeft, SavesRun}
 use Rattle.pcm_module.specs.Roles.{spares_used}
 use Rattle.module_prints.specs.WearReports.{IsWearReport}
 use Rattle.pcm_top.specs.Rows.{rows_of}
-use Rattle.command_line.specs.declared.job.Print.{Print}
-use Rattle.command_line.specs.declared.job.Print.TheVariants.{Results, Summary, Wear, Image}
+use Rattle.command_line.specs.{declared.job.Print.Print, declared.job.Print.TheVariants.{Results, Summary, Wear, Image}}
 
 module _ {n m : ℕ} (raw : RawShape) (seed : ℕ) where
   -- what is written of these events and their outcomes, of these ends, and of the array, whose lines have e

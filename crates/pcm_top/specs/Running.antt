@@ -4,36 +4,21 @@ use Rattle.cell_rows.specs.Device.{ArrayState}
 use Rattle.trace_reader.specs.declared.event.Event.{Event}
 use Rattle.result_rows.specs.declared.Outcome.{Outcome}
 use Rattle.run_text.specs.Shortfall.{any_short}
-use Rattle.rotation_reports.specs.MapText.{map_text}
-use Rattle.rotation_reports.specs.MovesText.{moves_text}
+use Rattle.rotation_reports.specs.{MapText.map_text, MovesText.moves_text}
 use Rattle.end_laws.specs.Ends.{BankEnd}
 use Rattle.run_laws.specs.Runs.{RunsRight}
 use Rattle.image_laws.specs.SavedRuns.{AreRowsTo, IsLeft}
 use Rattle.pcm_image.specs.Saved.{Saved}
-use Rattle.command_line.specs.declared.job.Job.{Job}
-use Rattle.command_line.specs.declared.job.Job.TheVariants.{Run, Gen, Map, Moves, Show, Check}
+use Rattle.command_line.specs.{declared.job.Job.Job, declared.job.Job.TheVariants.{Run, Gen, Map, Moves, Show, Check}, declared.job.LineSize.LineSize}
+use Rattle.command_line.specs.{declared.job.LineSize.TheVariants.{Bytes64, Bytes128}, declared.job.Print.TheVariants.Image, declared.job.Refusal.Refusal}
 use Rattle.command_line.specs.declared.job.RunJob.{RunJob}
-use Rattle.command_line.specs.declared.job.Print.TheVariants.{Image}
-use Rattle.command_line.specs.declared.job.LineSize.{LineSize}
-use Rattle.command_line.specs.declared.job.LineSize.TheVariants.{Bytes64, Bytes128}
-use Rattle.command_line.specs.declared.job.Refusal.{Refusal}
 use Rattle.command_line.specs.declared.job.Refusal.TheVariants as refusal
-use Rattle.pcm_top.specs.Jobs.{bytes_in, gen_text, map_options}
+use Rattle.pcm_top.specs.{Calls.Deed, Checking.{IsCheckFault, TellsVerdict, TellsVerdictInPart, pointers_in, room_line}, FaultLines.{fault_line, status_of}, Images.senses_for}
+use Rattle.pcm_top.specs.{Inputs.{ComeFrom, IsFaultOf, is_source}, Jobs.{bytes_in, gen_text, map_options}, Reading.trace_room, Rows.rows_of, RunText.IsRunText}
+use Rattle.pcm_top.specs.{Showing.{IsShowFault, ShowsImage, ShowsImageInPart}, declared.fault.Fault.Fault, declared.fault.Fault.TheVariants.{Usage, NoMemory}}
+use Rattle.pcm_top.specs.{declared.run.Done.Done, declared.run.Done.TheVariants.{Whole, Short}}
 use Rattle.program_calls.specs.Calls.{Gets, GetsPart, SinkChange, SinkFails, SourceChange}
 use Rattle.module_prints.specs.Images.{WritesRows}
-use Rattle.pcm_top.specs.Reading.{trace_room}
-use Rattle.pcm_top.specs.Calls.{Deed}
-use Rattle.pcm_top.specs.Inputs.{ComeFrom, IsFaultOf, is_source}
-use Rattle.pcm_top.specs.Checking.{IsCheckFault, TellsVerdict, TellsVerdictInPart, pointers_in, room_line}
-use Rattle.pcm_top.specs.Images.{senses_for}
-use Rattle.pcm_top.specs.Rows.{rows_of}
-use Rattle.pcm_top.specs.RunText.{IsRunText}
-use Rattle.pcm_top.specs.Showing.{IsShowFault, ShowsImage, ShowsImageInPart}
-use Rattle.pcm_top.specs.FaultLines.{fault_line, status_of}
-use Rattle.pcm_top.specs.declared.run.Done.{Done}
-use Rattle.pcm_top.specs.declared.run.Done.TheVariants.{Whole, Short}
-use Rattle.pcm_top.specs.declared.fault.Fault.{Fault}
-use Rattle.pcm_top.specs.declared.fault.Fault.TheVariants.{Usage, NoMemory}
 
 -- how a run was done, by the outcomes of its rows, and the status for that
 abbrev pub done_by : {n : ℕ} → List (Outcome n) → Done

@@ -2,13 +2,9 @@
 use Rattle.std.specs.Prelude.{◌≡◌, ℕ, ◌==◌, if◌then◌else◌, List, [], ◌∷◌, ◌++◌, codes, decimal, Result, Ok, Err}
 use Rattle.hex.specs.Hex.{encode_lower}
 use Rattle.rotation_reports.specs.Rows.{row_of, rows_from}
-use Rattle.pcm_image.specs.Saved.{Saved, total_in}
-use Rattle.pcm_image.specs.Reading.{◌>>=◌, image_of, size_of}
-use Rattle.pcm_image.specs.Standing.{stands_for}
-use Rattle.pcm_image.specs.declared.ImageFault.{ImageFault}
+use Rattle.pcm_image.specs.{Reading.{◌>>=◌, image_of, size_of}, Saved.{Saved, total_in}, Standing.stands_for, declared.ImageFault.ImageFault}
 use Rattle.program_calls.specs.Calls.{Gets, GetsPart, SinkChange, SourceChange}
-use Rattle.pcm_top.specs.Reading.{ReadsWhole, NeverFails, SourceFails, TakesMore, TakesSome}
-use Rattle.pcm_top.specs.declared.fault.Fault.{Fault}
+use Rattle.pcm_top.specs.{Reading.{ReadsWhole, NeverFails, SourceFails, TakesMore, TakesSome}, declared.fault.Fault.Fault}
 use Rattle.pcm_top.specs.declared.fault.Fault.TheVariants.{Usage, Trace, Results, Image, Read, Write, TooLong, NoMemory}
 
 -- the first line

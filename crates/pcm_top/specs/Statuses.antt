@@ -1,30 +1,16 @@
 -- The status of a call in which memory suffices and nothing fails.
 use Rattle.std.specs.Prelude.{◌≡◌, ◌⊎◌, ℕ, ◌<◌, ◌≤◌, List, length, Result, Ok, Err}
-use Rattle.trace_reader.specs.Trace.{trace_of}
-use Rattle.trace_reader.specs.declared.event.Event.{Event}
-use Rattle.trace_reader.specs.declared.fault.ParseFault.{ParseFault}
+use Rattle.trace_reader.specs.{Trace.trace_of, declared.event.Event.Event, declared.fault.ParseFault.ParseFault}
 use Rattle.trace_reader.specs.declared.fault.ParseFault.TheVariants as parsing
 use Rattle.module_shape.specs.Limits.{total_of}
-use Rattle.command_line.specs.declared.job.Job.{Job}
-use Rattle.command_line.specs.declared.job.Job.TheVariants.{Run, Gen, Map, Moves, Show, Check}
-use Rattle.command_line.specs.declared.job.RunJob.{RunJob}
-use Rattle.command_line.specs.declared.job.CheckJob.{CheckJob}
-use Rattle.command_line.specs.declared.job.Input.{Input}
-use Rattle.command_line.specs.declared.job.Input.TheVariants.{Source, Drawn}
-use Rattle.command_line.specs.declared.job.Refusal.{Refusal}
+use Rattle.command_line.specs.{declared.job.CheckJob.CheckJob, declared.job.Input.Input, declared.job.Input.TheVariants.{Source, Drawn}, declared.job.Job.Job}
+use Rattle.command_line.specs.{declared.job.Job.TheVariants.{Run, Gen, Map, Moves, Show, Check}, declared.job.Refusal.Refusal, declared.job.RunJob.RunJob}
 use Rattle.check_verdict.specs.declared.Verdict.{Verdict}
-use Rattle.check_text.specs.Checked.{HasVerdict, IsTextFault}
-use Rattle.check_text.specs.declared.fault.TextFault.{TextFault}
+use Rattle.check_text.specs.{Checked.{HasVerdict, IsTextFault}, declared.fault.TextFault.TextFault}
 use Rattle.check_text.specs.declared.fault.TextFault.TheVariants as text
-use Rattle.pcm_top.specs.Jobs.{bytes_in}
+use Rattle.pcm_top.specs.{Checking.{done_on, pointers_in, room_line}, FaultLines.status_of, Jobs.bytes_in, Reading.trace_room, Running.status_done, Showing.shown_of}
+use Rattle.pcm_top.specs.{declared.fault.Fault.TheVariants.{Usage, Trace, Image, TooLong, NoMemory, Results}, declared.run.Done.TheVariants.{Whole, Short}}
 use Rattle.pcm_image.specs.declared.ImageFault.{ImageFault}
-use Rattle.pcm_top.specs.Reading.{trace_room}
-use Rattle.pcm_top.specs.Showing.{shown_of}
-use Rattle.pcm_top.specs.Checking.{done_on, pointers_in, room_line}
-use Rattle.pcm_top.specs.FaultLines.{status_of}
-use Rattle.pcm_top.specs.Running.{status_done}
-use Rattle.pcm_top.specs.declared.run.Done.TheVariants.{Whole, Short}
-use Rattle.pcm_top.specs.declared.fault.Fault.TheVariants.{Usage, Trace, Image, TooLong, NoMemory, Results}
 
 -- that of a run: its rows say which of the two it is
 abbrev pub IsRunStatus : ℕ → Type 0

@@ -1,22 +1,14 @@
 -- Reads cancel one line write few times.
 use Rattle.std.proofs.Common.{◌≡◌, ℕ, ◌+◌, ◌*◌, ◌<◌, ◌≤◌, ◌&&◌, not, Bool, true, false, List, [], ◌∷◌, refl, sym, subst, arith, cond}
-use Rattle.std.specs.Prelude.{nat_lt}
-use Rattle.std.proofs.lemmas.Bool.{ltb-true}
-use Rattle.bank_shape.specs.declared.BankShape.{BankShape}
-use Rattle.bank_shape.specs.declared.pace.Policy.{Policy}
-use Rattle.bank_shape.specs.Pausing.{is_cancelling, most_cancels}
+use Rattle.std.{specs.Prelude.nat_lt, proofs.lemmas.Bool.ltb-true}
+use Rattle.bank_shape.specs.{Pausing.{is_cancelling, most_cancels}, declared.BankShape.BankShape, declared.pace.Pace.Pace, declared.pace.Policy.Policy}
 use Rattle.bank_shape.specs.declared.answer.Step.TheVariants as did
-use Rattle.bank_model.specs.Events.{Write, Read, Serve, Begin, Iterate, Cut}
-use Rattle.bank_model.specs.History.{has_exhausted, waits}
-use Rattle.bank_model.specs.Running.{over_by, is_over, running_at, cancels_with, cancels_after}
-use Rattle.bank_model.specs.Changes.{change_after, change_by, halted_after, halted_by}
 use Rattle.bank_shape.specs.declared.answer.Keep.TheVariants as keep
-use Rattle.bank_shape.specs.declared.pace.Pace.{Pace}
+use Rattle.bank_model.specs.{Changes.{change_after, change_by, halted_after, halted_by}, Events.{Write, Read, Serve, Begin, Iterate, Cut}, History.{has_exhausted, waits}}
+use Rattle.bank_model.specs.{Lawful.{Lawful, MayCome, would_cancel}, Running.{over_by, is_over, running_at, cancels_with, cancels_after}}
 use Rattle.bank_model.specs.Timing.{Happens, Core, Regs, KeepBegin, KeepIterate, KeepCut, TimedEvent, is_writing, is_empty, core, core_of}
-use Rattle.bank_model.specs.Lawful.{Lawful, MayCome, would_cancel}
 use Rattle.masked_bytes.proofs.Counting.{one_if}
-use Rattle.place_laws.proofs.Pulsing.{ends_work, cancels_work, ends_in, cancels_in}
-use Rattle.place_laws.proofs.Trying.{still_at}
+use Rattle.place_laws.proofs.{Pulsing.{ends_work, cancels_work, ends_in, cancels_in}, Trying.still_at}
 
 -- a read that would cancel finds a policy that cancels, a line write that runs, and few cancels
 cancels-when : (p w empty : Bool) (count : ℕ) → (p && (w && (empty && nat_lt count most_cancels))) ≡ true → (p ≡ true) × (w ≡ true) × (count < most_cancels)

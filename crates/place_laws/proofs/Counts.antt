@@ -3,8 +3,7 @@ use Rattle.std.proofs.Common.{◌≡◌, ℕ, ◌+◌, ◌<◌, inl, inr, Bool, 
 use Rattle.std.proofs.lemmas.Bool.{ne_eqb}
 use Rattle.masked_bytes.proofs.Counting.{one_if}
 use Rattle.bank_shape.specs.declared.answer.Step.TheVariants as did
-use Rattle.bank_model.specs.Events.{BankEvent, Write, Read, Serve, Begin, Iterate, Cut, RowsBelow, line_of_row}
-use Rattle.bank_model.proofs.Rising.{RowsBelow-more}
+use Rattle.bank_model.{specs.Events.{BankEvent, Write, Read, Serve, Begin, Iterate, Cut, RowsBelow, line_of_row}, proofs.Rising.RowsBelow-more}
 use Rattle.bank_laws.proofs.Asked.{Wrote, wrote-asked, asked-below}
 
 one-counted : (k b c : Bool) → b ≡ false → c ≡ true → one_if (k && c) ≡ one_if (k && b) + one_if k

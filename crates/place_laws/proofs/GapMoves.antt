@@ -1,23 +1,13 @@
 -- The gap moves of a history are those of the closed form, and a full turn of these copies each line once into each place.
 use Rattle.std.proofs.Common.{◌≡◌, ℕ, zero, suc, ◌+◌, ◌<◌, ◌≤◌, ◌&&◌, inl, inr, Bool, true, false, List, [], ◌∷◌, ◌++◌, length, Option, Some, None, refl, sym, ap, ◌∙◌, subst, arith, cond, eqb, eqb-true}
-use Rattle.std.specs.Prelude.{count_by}
-use Rattle.std.proofs.lemmas.Bool.{eq-eqb, cases_order, and_from}
-use Rattle.std.proofs.lemmas.List.{length-append}
-use Rattle.std.proofs.lemmas.List.Sums.{sum_by-cons}
+use Rattle.std.{specs.Prelude.count_by, proofs.lemmas.Bool.{eq-eqb, cases_order, and_from}, proofs.lemmas.List.length-append, proofs.lemmas.List.Sums.sum_by-cons}
 use Rattle.masked_bytes.specs.declared.entry.Entry.{Entry}
-use Rattle.start_gap.specs.declared.Move.{Move}
-use Rattle.start_gap.specs.Rotation.{move_after, moved_line, gap_after}
-use Rattle.start_gap.specs.Turn.{Copies}
-use Rattle.start_gap.proofs.FullTurn.{has_each_pair_once}
-use Rattle.bank_shape.specs.declared.BankShape.{BankShape}
-use Rattle.bank_shape.specs.declared.Work.TheVariants.{Nothing}
+use Rattle.start_gap.{specs.Rotation.{move_after, moved_line, gap_after}, specs.Turn.Copies, specs.declared.Move.Move, proofs.FullTurn.has_each_pair_once}
+use Rattle.bank_shape.specs.{declared.BankShape.BankShape, declared.Work.TheVariants.Nothing}
 use Rattle.bank_shape.specs.declared.answer.Step.TheVariants as did
-use Rattle.bank_model.specs.Events.{BankEvent, Write, Read, Serve, Begin, Iterate, Cut}
+use Rattle.bank_model.specs.{After.{work_after, due_work}, Answers.{IsDone, MayAll}, Events.{BankEvent, Write, Read, Serve, Begin, Iterate, Cut}}
 use Rattle.bank_model.specs.History.{queue, moved_in, due_after, has_exhausted}
-use Rattle.bank_model.specs.After.{work_after, due_work}
-use Rattle.bank_model.specs.Answers.{IsDone, MayAll}
-use Rattle.place_laws.specs.GapMoves.{moves_of, first_moves, GapMovesLaw, copies_into, FullTurnLaw}
-use Rattle.place_laws.proofs.Moves.{last_region, some-due}
+use Rattle.place_laws.{specs.GapMoves.{moves_of, first_moves, GapMovesLaw, copies_into, FullTurnLaw}, proofs.Moves.{last_region, some-due}}
 
 -- The moves of a history
 

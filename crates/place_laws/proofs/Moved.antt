@@ -2,23 +2,11 @@
 use Rattle.std.proofs.Common.{◌≡◌, ℕ, ◌+◌, ◌*◌, ◌/◌, ◌%◌, ◌≤◌, ◌==◌, inl, inr, ◌||◌, List, Option, Some, None, refl, sym, ap, ◌∙◌, arith, true}
 use Rattle.std.proofs.lemmas.Bool.{eq-eqb, cases_lt, and_from, or_left, or_right}
 use Rattle.row_rules.specs.Answers.{is_stored}
-use Rattle.bank_shape.specs.declared.BankShape.{BankShape}
-use Rattle.bank_model.specs.History.{moved_in, stored_in, due_after}
-use Rattle.bank_model.specs.Sensing.{most_steps}
-use Rattle.bank_shape.specs.declared.pace.Pace.{Pace}
-use Rattle.bank_model.specs.Timing.{TimedEvent, core}
-use Rattle.bank_model.specs.Lawful.{Lawful}
-use Rattle.bank_laws.specs.Laws.{is_worn_at}
-use Rattle.bank_laws.specs.Outcomes.{table_of}
-use Rattle.bank_laws.specs.Places.{region_stores, may_leave}
-use Rattle.bank_laws.proofs.Waiting.{may_all}
-use Rattle.place_laws.specs.PlaceLaws.{MovedLaw}
-use Rattle.place_laws.proofs.Moves.{KeepsMoves, keeps, none-due}
-use Rattle.place_laws.proofs.Storing.{stored-counted, region-stored}
-use Rattle.place_laws.proofs.Tables.{region-all}
-use Rattle.place_laws.proofs.WornOut.{idle-due}
-use Rattle.place_laws.proofs.Taken.{left_off}
-use Rattle.place_laws.proofs.Placed.{between_products, at_product}
+use Rattle.bank_shape.specs.{declared.BankShape.BankShape, declared.pace.Pace.Pace}
+use Rattle.bank_model.specs.{History.{moved_in, stored_in, due_after}, Lawful.Lawful, Sensing.most_steps, Timing.{TimedEvent, core}}
+use Rattle.bank_laws.{specs.Laws.is_worn_at, specs.Outcomes.table_of, specs.Places.{region_stores, may_leave}, proofs.Waiting.may_all}
+use Rattle.place_laws.{specs.PlaceLaws.MovedLaw, proofs.Moves.{KeepsMoves, keeps, none-due}, proofs.Placed.{between_products, at_product}}
+use Rattle.place_laws.proofs.{Storing.{stored-counted, region-stored}, Tables.region-all, Taken.left_off, WornOut.idle-due}
 
 -- the stores of a region by the rows are those by the events
 pub region_stores-counted : {n m : ℕ} (shape : BankShape) (pace : Pace) (e : ℕ) (xs : List (TimedEvent n m)) (region : ℕ) → Lawful shape pace e xs

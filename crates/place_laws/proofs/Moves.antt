@@ -1,12 +1,9 @@
 -- A region's moves follow its stores: one for each so many, but for the one that is due.
 use Rattle.std.proofs.Common.{◌≡◌, ℕ, ◌+◌, ◌*◌, ◌/◌, ◌<◌, ◌≤◌, Bool, true, false, List, [], ◌∷◌, Option, Some, None, refl, sym, ap, ◌∙◌, subst, arith, cond, eqb, eqb-true}
-use Rattle.std.specs.Prelude.{nat_le}
-use Rattle.std.proofs.lemmas.Bool.{leb-true, leb-false}
+use Rattle.std.{specs.Prelude.nat_le, proofs.lemmas.Bool.{leb-true, leb-false}}
 use Rattle.bank_shape.specs.declared.BankShape.{BankShape}
 use Rattle.bank_shape.specs.declared.answer.Step.TheVariants as did
-use Rattle.bank_model.specs.Events.{BankEvent, Write, Read, Serve, Begin, Iterate, Cut, line_of_row}
-use Rattle.bank_model.specs.History.{first_or, stores, stored_in, moved_in, due_after}
-use Rattle.bank_model.specs.Answers.{MayAll}
+use Rattle.bank_model.specs.{Answers.MayAll, Events.{BankEvent, Write, Read, Serve, Begin, Iterate, Cut, line_of_row}, History.{first_or, stores, stored_in, moved_in, due_after}}
 use Rattle.masked_bytes.proofs.Counting.{one_if}
 use Rattle.place_laws.proofs.Working.{IsStoreOf, done-store, done-move}
 

@@ -1,39 +1,21 @@
 -- Each row carries the array line where its line stood.
 use Rattle.std.proofs.Common.{◌≡◌, ℕ, ◌+◌, ◌*◌, ◌/◌, ◌%◌, ◌-◌, ◌<◌, ◌≤◌, ◌==◌, ◌&&◌, ◌⊎◌, inl, inr, not, Bool, true, false, List, [], ◌∷◌, ◌++◌, length, refl, sym, ap, ◌∙◌, subst, arith, sum_by, append_assoc}
-use Rattle.std.proofs.lemmas.Bool.{eq-eqb, ne_eqb, lt-ltb, le-leb, cases_lt, or_left, or_right, and_from}
-use Rattle.std.proofs.lemmas.Nat.{div-mul-add, mod-mul-add}
+use Rattle.std.proofs.{lemmas.Bool.{eq-eqb, ne_eqb, lt-ltb, le-leb, cases_lt, or_left, or_right, and_from}, lemmas.Nat.{div-mul-add, mod-mul-add}}
 use Rattle.result_rows.specs.declared.Outcome.{Outcome}
 use Rattle.result_rows.specs.declared.Outcome.TheVariants as out
 use Rattle.cell_rows.specs.Device.{ArrayState}
-use Rattle.spare_pool.specs.Table.{Table, line_from}
-use Rattle.spare_pool.proofs.Lines.{line_from-cases, HasSpare, only_own}
-use Rattle.row_rules.specs.declared.Row.{Row}
-use Rattle.row_rules.specs.Answers.{stored_before}
-use Rattle.row_rules.specs.Rows.{asks_write, line_of}
-use Rattle.bank_shape.specs.declared.BankShape.{BankShape}
-use Rattle.bank_shape.specs.Shape.{slots_of}
-use Rattle.bank_model.specs.Events.{Write, Read, Serve, Begin, Iterate, Cut}
-use Rattle.bank_model.specs.History.{retired, moved_in, stored_in}
-use Rattle.bank_model.specs.After.{slot_after, stands_at_after}
-use Rattle.bank_model.specs.Sensing.{most_steps}
-use Rattle.bank_shape.specs.declared.pace.Pace.{Pace}
-use Rattle.bank_model.specs.Timing.{Happens, Core, Regs, TimedEvent, core, core_of}
-use Rattle.bank_model.specs.Lawful.{Lawful}
-use Rattle.bank_laws.specs.Laws.{IsSized, LeavesArray, is_worn_at}
-use Rattle.bank_laws.specs.Outcomes.{outcome_of, ended, row_with, rows_from, table_of}
-use Rattle.bank_laws.specs.Ticks.{ends_action}
-use Rattle.bank_laws.specs.Places.{region_stores, is_place_after, is_place_about, outcome_placed, is_placed}
-use Rattle.bank_laws.proofs.Settling.{lawful_before, above_all}
-use Rattle.bank_laws.proofs.Waiting.{may_all}
+use Rattle.spare_pool.{specs.Table.{Table, line_from}, proofs.Lines.{line_from-cases, HasSpare, only_own}}
+use Rattle.row_rules.specs.{Answers.stored_before, Rows.{asks_write, line_of}, declared.Row.Row}
+use Rattle.bank_shape.specs.{Shape.slots_of, declared.BankShape.BankShape, declared.pace.Pace.Pace}
+use Rattle.bank_model.specs.{After.{slot_after, stands_at_after}, Events.{Write, Read, Serve, Begin, Iterate, Cut}, History.{retired, moved_in, stored_in}, Lawful.Lawful}
+use Rattle.bank_model.specs.{Sensing.most_steps, Timing.{Happens, Core, Regs, TimedEvent, core, core_of}}
+use Rattle.bank_laws.specs.{Laws.{IsSized, LeavesArray, is_worn_at}, Outcomes.{outcome_of, ended, row_with, rows_from, table_of}}
+use Rattle.bank_laws.specs.{Places.{region_stores, is_place_after, is_place_about, outcome_placed, is_placed}, Ticks.ends_action}
+use Rattle.bank_laws.proofs.{Asked.{Asked, asked-one, asked-within, wrote-asked, queue-wrote, waits-asked}, Settling.{lawful_before, above_all}, Waiting.may_all}
 use Rattle.bank_laws.proofs.Walking.{Passes, walk, rows_after}
-use Rattle.place_laws.specs.PlaceLaws.{PlacedLaw}
-use Rattle.bank_laws.proofs.Asked.{Asked, asked-one, asked-within, wrote-asked, queue-wrote, waits-asked}
+use Rattle.place_laws.{specs.PlaceLaws.PlacedLaw, proofs.Moves.{keeps, none-due, next_product}, proofs.Slots.{slot_moved-within, retired-few, IsAway, away-later}}
+use Rattle.place_laws.proofs.{Splits.{IsStoredAt, stored-at, IsReadAt, read-at}, Storing.{before-counted, region-stored}, Tables.{region-counted, between}}
 use Rattle.masked_bytes.proofs.Counting.{one_if}
-use Rattle.place_laws.proofs.Moves.{keeps, none-due, next_product}
-use Rattle.place_laws.proofs.Storing.{before-counted, region-stored}
-use Rattle.place_laws.proofs.Tables.{region-counted, between}
-use Rattle.place_laws.proofs.Slots.{slot_moved-within, retired-few, IsAway, away-later}
-use Rattle.place_laws.proofs.Splits.{IsStoredAt, stored-at, IsReadAt, read-at}
 
 -- a number from a product up to the next has the quotient
 pub between_products : (psi k s : ℕ) → psi * k ≤ s → s < psi * (k + 1) → s / psi ≡ k

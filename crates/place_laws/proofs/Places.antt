@@ -1,10 +1,7 @@
 -- The law of the places and of wear, of its parts.
 use Rattle.std.proofs.Common.{ℕ}
-use Rattle.bank_laws.specs.Laws.{PlaceLaw}
-use Rattle.bank_laws.proofs.Resting.{ends-still}
-use Rattle.place_laws.proofs.Placed.{placed_law}
-use Rattle.place_laws.proofs.Taken.{worn_law, taken_law}
-use Rattle.place_laws.proofs.Pulses.{pulse_law}
+use Rattle.bank_laws.{specs.Laws.PlaceLaw, proofs.Resting.ends-still}
+use Rattle.place_laws.proofs.{Placed.placed_law, Pulses.pulse_law, Taken.{worn_law, taken_law}}
 
 pub place_law : (n m : ℕ) → PlaceLaw n m
 place_law n m off e shape pace xs array sized l ends leaves = record {

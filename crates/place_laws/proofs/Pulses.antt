@@ -1,48 +1,20 @@
 -- All pulses of a bank, by its rows.
 use Rattle.std.proofs.Common.{◌≡◌, ℕ, zero, suc, ◌+◌, ◌*◌, ◌<◌, ◌≤◌, ◌&&◌, not, Bool, true, false, List, [], ◌∷◌, ◌++◌, Option, Some, None, refl, sym, ap, ◌∙◌, subst, arith, sum_by, length}
-use Rattle.std.proofs.Math.Nat.{mul-le-mul_left}
-use Rattle.row_rules.specs.declared.Asks.TheVariants.{Reads, Writes, Cuts}
-use Rattle.row_rules.specs.declared.Row.{Row}
-use Rattle.row_rules.specs.Answers.{is_stored}
-use Rattle.row_rules.specs.Rows.{asks_write, is_cut}
-use Rattle.row_rules.specs.Ticking.{tries, writings}
+use Rattle.std.{specs.Prelude.nat_lt, proofs.Math.Nat.mul-le-mul_left, proofs.lemmas.Bool.lt-ltb, proofs.lemmas.List.Sums.sum_by-cons}
+use Rattle.row_rules.specs.{Answers.is_stored, Rows.{asks_write, is_cut}, Ticking.{tries, writings}, declared.Asks.TheVariants.{Reads, Writes, Cuts}, declared.Row.Row}
 use Rattle.result_rows.specs.declared.Outcome.TheVariants as out
-use Rattle.std.proofs.lemmas.List.Sums.{sum_by-cons}
-use Rattle.bank_shape.specs.declared.BankShape.{BankShape}
-use Rattle.bank_shape.specs.declared.pace.Policy.{Policy}
-use Rattle.bank_shape.specs.declared.pace.Policy.TheVariants.{Pause, Plain, Cancel}
-use Rattle.bank_shape.specs.Pausing.{is_cancelling}
-use Rattle.bank_shape.specs.Shape.{is_array, if_array, controls_of, lines_in}
-use Rattle.bank_shape.specs.declared.Home.{Home}
+use Rattle.bank_shape.specs.{Pausing.{is_cancelling, gives_way}, Shape.{is_array, if_array, controls_of, lines_in}, declared.BankShape.BankShape, declared.Home.Home}
+use Rattle.bank_shape.specs.{declared.pace.Pace.Pace, declared.pace.Policy.Policy, declared.pace.Policy.TheVariants.{Pause, Plain, Cancel}}
 use Rattle.bank_shape.specs.declared.Home.TheVariants as home
-use Rattle.std.specs.Prelude.{nat_lt}
-use Rattle.std.proofs.lemmas.Bool.{lt-ltb}
-use Rattle.bank_model.specs.Events.{Write, Read, Serve, Begin, Iterate, Cut}
-use Rattle.bank_model.specs.History.{has_exhausted, retired, waits, due_after}
-use Rattle.bank_shape.specs.Pausing.{gives_way}
-use Rattle.bank_model.specs.Running.{over_by, busy_after, made_after, is_over, choice_after, cancels_after}
-use Rattle.bank_model.specs.Changes.{change_after, halted_after}
-use Rattle.bank_model.specs.Answers.{MayAll}
-use Rattle.bank_model.specs.Sensing.{most_steps, pulses_of}
-use Rattle.bank_shape.specs.declared.pace.Pace.{Pace}
-use Rattle.bank_model.specs.Timing.{Happens, Core, Regs, TimedEvent, core, is_empty}
-use Rattle.bank_model.specs.Lawful.{Lawful}
-use Rattle.bank_model.specs.After.{due_moves}
-use Rattle.bank_laws.specs.Laws.{IsSized, rules_of}
-use Rattle.bank_laws.specs.Resting.{IsStill}
-use Rattle.bank_laws.specs.Outcomes.{outcome_of, ended, row_with, rows_from, table_of}
-use Rattle.bank_laws.specs.Places.{pulses_among, most_pulses}
+use Rattle.bank_model.specs.{After.due_moves, Answers.MayAll, Changes.{change_after, halted_after}, Events.{Write, Read, Serve, Begin, Iterate, Cut}}
+use Rattle.bank_model.specs.{History.{has_exhausted, retired, waits, due_after}, Lawful.Lawful, Running.{over_by, busy_after, made_after, is_over, choice_after, cancels_after}}
+use Rattle.bank_model.specs.{Sensing.{most_steps, pulses_of}, Timing.{Happens, Core, Regs, TimedEvent, core, is_empty}}
+use Rattle.bank_laws.specs.{Laws.{IsSized, rules_of}, Outcomes.{outcome_of, ended, row_with, rows_from, table_of}, Places.{pulses_among, most_pulses}, Resting.IsStill}
 use Rattle.bank_laws.proofs.Waiting.{may_all}
-use Rattle.place_laws.specs.PlaceLaws.{PulsesLaw}
+use Rattle.place_laws.{specs.PlaceLaws.PulsesLaw, proofs.Cancels.cancels-kept, proofs.Moves.next_product}
+use Rattle.place_laws.proofs.{Pulsing.{ends_in, cancels_in, pulses_in, pulses-kept, held_by, held-idle}, Slots.retired-few, Storing.stored-counted, Tables.all-counted}
+use Rattle.place_laws.proofs.{Trying.{all_stores, all_moves, cuts_power, cuts_in, moves-few, causes, unwritten, each, ends-few}, WornOut.none-ready}
 use Rattle.masked_bytes.proofs.Counting.{one_if}
-use Rattle.place_laws.proofs.Storing.{stored-counted}
-use Rattle.place_laws.proofs.Tables.{all-counted}
-use Rattle.place_laws.proofs.Slots.{retired-few}
-use Rattle.place_laws.proofs.WornOut.{none-ready}
-use Rattle.place_laws.proofs.Pulsing.{ends_in, cancels_in, pulses_in, pulses-kept, held_by, held-idle}
-use Rattle.place_laws.proofs.Trying.{all_stores, all_moves, cuts_power, cuts_in, moves-few, causes, unwritten, each, ends-few}
-use Rattle.place_laws.proofs.Moves.{next_product}
-use Rattle.place_laws.proofs.Cancels.{cancels-kept}
 
 -- the same pulses of lines counted from a base
 pulses-same : (f g : ℕ → ℕ) (base from n : ℕ) → ((line : ℕ) → line < from + n → f (base + line) ≡ g (base + line)) → pulses_among f (base + from) n ≡ pulses_among g (base + from) n

@@ -1,31 +1,18 @@
 -- One event pulses one line or none, and a line write takes no more pulses than it may.
 use Rattle.std.proofs.Common.{◌≡◌, ℕ, zero, suc, ◌+◌, ◌*◌, ◌<◌, ◌≤◌, ◌==◌, ◌⊎◌, inl, inr, sym, not, Bool, true, false, List, [], ◌∷◌, Option, Some, None, refl, ap, ◌∙◌, subst, arith, cond}
-use Rattle.std.specs.Prelude.{is_some}
-use Rattle.std.proofs.lemmas.Bool.{not-true}
+use Rattle.std.{specs.Prelude.is_some, proofs.lemmas.Bool.not-true}
 use Rattle.cell_rows.specs.Device.{counted}
-use Rattle.bank_shape.specs.declared.BankShape.{BankShape}
-use Rattle.bank_shape.specs.declared.answer.Step.{Step}
+use Rattle.bank_shape.specs.{declared.BankShape.BankShape, declared.answer.Keep.Keep, declared.answer.Step.Step, declared.clock.Action.Action, declared.pace.Pace.Pace}
 use Rattle.bank_shape.specs.declared.answer.Step.TheVariants as did
-use Rattle.bank_model.specs.Events.{BankEvent, Write, Read, Serve, Begin, Iterate, Cut}
-use Rattle.bank_model.specs.History.{goes_on, in_progress, iterated}
-use Rattle.bank_model.specs.After.{may_begin_after}
-use Rattle.bank_model.specs.Sensing.{is_at, most_steps, pulses_of, pulsed_by, torn_control}
-use Rattle.bank_shape.specs.declared.pace.Pace.{Pace}
-use Rattle.bank_model.specs.Timing.{Happens, Core, Regs, KeepBegin, KeepIterate, KeepCut, TimedEvent, is_doing, core, core_of}
-use Rattle.bank_shape.specs.declared.clock.Action.{Action}
 use Rattle.bank_shape.specs.declared.clock.Doing.TheVariants as doing
-use Rattle.bank_laws.proofs.Changing.{busy-none, busy-some, made-none, made-some, changed-idle}
-use Rattle.bank_shape.specs.declared.answer.Keep.{Keep}
 use Rattle.bank_shape.specs.declared.answer.Keep.TheVariants as keep
-use Rattle.bank_model.specs.Changes.{change_after, change_by, keeping_after, keeping_by, rounds_after, rounds_by, keeps_on, written_by, line_of_change}
-use Rattle.bank_model.specs.Running.{busy_by, made_by, busy_after, made_after, running_at, tears_bank}
-use Rattle.bank_model.specs.Lawful.{Lawful, MayCome}
-use Rattle.bank_laws.specs.Places.{pulses_among}
-use Rattle.bank_laws.proofs.Works.{counted-few, tearing-going}
-use Rattle.masked_bytes.proofs.Counting.{one_if}
-use Rattle.place_laws.proofs.Moves.{next_product}
-use Rattle.place_laws.proofs.Owners.{once, once-few}
-use Rattle.masked_bytes.proofs.Truth.{and_first}
+use Rattle.bank_model.specs.{After.may_begin_after, Changes.{change_after, change_by, keeping_after, keeping_by, rounds_after, rounds_by, keeps_on, written_by, line_of_change}}
+use Rattle.bank_model.specs.{Events.{BankEvent, Write, Read, Serve, Begin, Iterate, Cut}, History.{goes_on, in_progress, iterated}, Lawful.{Lawful, MayCome}}
+use Rattle.bank_model.specs.{Running.{busy_by, made_by, busy_after, made_after, running_at, tears_bank}, Sensing.{is_at, most_steps, pulses_of, pulsed_by, torn_control}}
+use Rattle.bank_model.specs.Timing.{Happens, Core, Regs, KeepBegin, KeepIterate, KeepCut, TimedEvent, is_doing, core, core_of}
+use Rattle.bank_laws.{specs.Places.pulses_among, proofs.Changing.{busy-none, busy-some, made-none, made-some, changed-idle}, proofs.Works.{counted-few, tearing-going}}
+use Rattle.masked_bytes.proofs.{Counting.one_if, Truth.and_first}
+use Rattle.place_laws.proofs.{Moves.next_product, Owners.{once, once-few}}
 
 -- one, where a line was pulsed
 abbrev pub pulse_of : Option ℕ → ℕ

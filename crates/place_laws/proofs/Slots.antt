@@ -1,19 +1,12 @@
 -- The slots of a bank's lines and moves are the bank's, and a slot that was given a spare keeps one.
 use Rattle.std.proofs.Common.{ℕ, ◌+◌, ◌*◌, ◌/◌, ◌%◌, ◌<◌, ◌≤◌, ◌==◌, Bool, true, false, List, [], ◌∷◌, ◌++◌, length, length-append, sym, subst, arith, cond}
 use Rattle.std.proofs.lemmas.Nat.{mod_below, div_below}
+use Rattle.bank_shape.specs.{Shape.{slots_of, slot_moved}, declared.BankShape.BankShape, declared.Work.Work, declared.Work.TheVariants.{Nothing, Store, Copy}}
 use Rattle.bank_shape.proofs.Sizes.{slot_at-within}
-use Rattle.start_gap.specs.Rotation.{place_after, gap_after}
-use Rattle.spare_pool.specs.Table.{line_from}
-use Rattle.spare_pool.proofs.Lines.{line_from-more}
-use Rattle.bank_shape.specs.declared.BankShape.{BankShape}
-use Rattle.bank_shape.specs.declared.Work.{Work}
-use Rattle.bank_shape.specs.declared.Work.TheVariants.{Nothing, Store, Copy}
-use Rattle.bank_shape.specs.Shape.{slots_of, slot_moved}
 use Rattle.bank_shape.specs.declared.answer.Step.TheVariants as did
-use Rattle.bank_model.specs.Events.{BankEvent, Write, Read, Serve, Begin, Iterate, Cut}
-use Rattle.bank_model.specs.History.{retired}
-use Rattle.bank_model.specs.After.{work_after}
-use Rattle.bank_model.specs.Answers.{IsDone, MayAll}
+use Rattle.start_gap.specs.Rotation.{place_after, gap_after}
+use Rattle.spare_pool.{specs.Table.line_from, proofs.Lines.line_from-more}
+use Rattle.bank_model.specs.{After.work_after, Answers.{IsDone, MayAll}, Events.{BankEvent, Write, Read, Serve, Begin, Iterate, Cut}, History.retired}
 use Rattle.bank_model.specs.Timing.{Happens, Core, Regs, TimedEvent, core, core_of}
 
 pub slot_moved-within : (shape : BankShape) (line moves : ℕ) → 1 ≤ shape.lines → line < shape.regions * shape.lines → slot_moved shape line moves < slots_of shape

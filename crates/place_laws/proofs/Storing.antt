@@ -1,37 +1,20 @@
 -- The stores by the rows' outcomes are those by the events.
 use Rattle.std.proofs.Common.{◌≡◌, ℕ, ◌+◌, ◌/◌, ◌<◌, ◌≤◌, ◌==◌, ◌&&◌, ◌⊎◌, inl, inr, Bool, true, false, List, [], ◌∷◌, ◌++◌, Some, None, refl, sym, ap, ◌∙◌, subst, arith, cond, eqb, eqb-true, append_assoc}
-use Rattle.std.specs.Prelude.{unwrap_or, nat_lt}
-use Rattle.std.proofs.lemmas.Bool.{lt-ltb, le-ltb}
+use Rattle.std.{specs.Prelude.{unwrap_or, nat_lt}, proofs.lemmas.Bool.{lt-ltb, le-ltb}}
 use Rattle.result_rows.specs.declared.Outcome.{Outcome}
 use Rattle.result_rows.specs.declared.Outcome.TheVariants as out
 use Rattle.row_rules.specs.Answers.{is_stored, stored_before}
-use Rattle.bank_shape.specs.declared.BankShape.{BankShape}
+use Rattle.bank_shape.specs.{declared.BankShape.BankShape, declared.pace.Pace.Pace}
 use Rattle.bank_shape.specs.declared.answer.WriteAnswer.TheVariants as wrote
 use Rattle.bank_shape.specs.declared.answer.ReadAnswer.TheVariants as came
 use Rattle.bank_shape.specs.declared.answer.Step.TheVariants as did
-use Rattle.bank_model.specs.Events.{BankEvent, Write, Read, Serve, Begin, Iterate, Cut, RowsBelow, line_of_row}
-use Rattle.bank_model.specs.History.{queue, waits, stored_in}
-use Rattle.bank_model.specs.Sensing.{most_steps}
-use Rattle.bank_shape.specs.declared.pace.Pace.{Pace}
-use Rattle.bank_model.specs.Timing.{Happens, Core, Regs, TimedEvent, core, core_of, last_tick}
-use Rattle.bank_model.specs.Lawful.{Lawful, MayCome}
-use Rattle.bank_laws.specs.Standing.{has_wait}
-use Rattle.bank_laws.specs.Settling.{AreOpen}
-use Rattle.bank_laws.specs.Outcomes.{on_row, outcome_with, outcome_of}
-use Rattle.bank_laws.specs.Ticks.{ends_action}
-use Rattle.bank_laws.proofs.Answering.{merged-there, served-first, first-there}
-use Rattle.bank_laws.proofs.Settling.{opens, above_all, lawful_before, stays}
-use Rattle.bank_model.proofs.Rising.{RowsBelow-more}
-use Rattle.bank_laws.proofs.Ticks.{last_tick-rises, last-below}
-use Rattle.bank_laws.proofs.Ending.{own_row}
-use Rattle.bank_laws.proofs.Lines.{stands-row}
-use Rattle.bank_laws.proofs.Wears.{stored_by, stored_up_to}
-use Rattle.bank_laws.proofs.Waiting.{may_all}
-use Rattle.bank_laws.proofs.Asked.{queue-wrote, wrote-line}
-use Rattle.bank_laws.proofs.Later.{last-later}
-use Rattle.place_laws.proofs.Counts.{writes_with, stores_with, writes-same, writes-more}
+use Rattle.bank_model.specs.{Events.{BankEvent, Write, Read, Serve, Begin, Iterate, Cut, RowsBelow, line_of_row}, History.{queue, waits, stored_in}, Lawful.{Lawful, MayCome}}
+use Rattle.bank_model.{specs.Sensing.most_steps, specs.Timing.{Happens, Core, Regs, TimedEvent, core, core_of, last_tick}, proofs.Rising.RowsBelow-more}
+use Rattle.bank_laws.specs.{Outcomes.{on_row, outcome_with, outcome_of}, Settling.AreOpen, Standing.has_wait, Ticks.ends_action}
+use Rattle.bank_laws.proofs.{Answering.{merged-there, served-first, first-there}, Asked.{queue-wrote, wrote-line}, Ending.own_row, Later.last-later, Lines.stands-row}
+use Rattle.bank_laws.proofs.{Settling.{opens, above_all, lawful_before, stays}, Ticks.{last_tick-rises, last-below}, Waiting.may_all, Wears.{stored_by, stored_up_to}}
+use Rattle.place_laws.proofs.{Counts.{writes_with, stores_with, writes-same, writes-more}, Working.{IsStoreOf, done-store}}
 use Rattle.masked_bytes.proofs.Counting.{one_if}
-use Rattle.place_laws.proofs.Working.{IsStoreOf, done-store}
 
 pub none_first : (k b : Bool) (rest all : ℕ) → b ≡ false → rest ≡ all → one_if (k && b) + rest ≡ all
 none_first true true rest all isnt is = absurd (cc)

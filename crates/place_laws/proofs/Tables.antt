@@ -3,15 +3,10 @@ use Rattle.std.proofs.Common.{◌≡◌, ℕ, ◌+◌, ◌/◌, ◌==◌, ◌&&�
 use Rattle.std.proofs.lemmas.List.Sums.{sum_by-cons, sum_by-append}
 use Rattle.result_rows.specs.declared.Outcome.{Outcome}
 use Rattle.result_rows.specs.declared.Outcome.TheVariants as out
-use Rattle.row_rules.specs.declared.Asks.TheVariants.{Reads, Writes, Cuts}
-use Rattle.row_rules.specs.declared.Row.{Row}
-use Rattle.row_rules.specs.Answers.{is_stored, stored_before}
-use Rattle.row_rules.specs.Rows.{asks_write, line_of}
+use Rattle.row_rules.specs.{Answers.{is_stored, stored_before}, Rows.{asks_write, line_of}, declared.Asks.TheVariants.{Reads, Writes, Cuts}, declared.Row.Row}
 use Rattle.bank_shape.specs.declared.BankShape.{BankShape}
-use Rattle.bank_model.specs.Events.{Write, Read, Serve, Begin, Iterate, Cut}
-use Rattle.bank_model.specs.Timing.{Happens, Core, Regs, TimedEvent, core, core_of}
-use Rattle.bank_laws.specs.Outcomes.{outcome_of, ended, row_with, rows_from, table_of}
-use Rattle.bank_laws.proofs.Walking.{rows_after, rows_after-more}
+use Rattle.bank_model.specs.{Events.{Write, Read, Serve, Begin, Iterate, Cut}, Timing.{Happens, Core, Regs, TimedEvent, core, core_of}}
+use Rattle.bank_laws.{specs.Outcomes.{outcome_of, ended, row_with, rows_from, table_of}, proofs.Walking.{rows_after, rows_after-more}}
 use Rattle.place_laws.proofs.Counts.{writes_with}
 use Rattle.masked_bytes.proofs.Counting.{one_if}
 

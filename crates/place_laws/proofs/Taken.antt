@@ -1,45 +1,21 @@
 -- What refused and queued writes say of worn lines, and when a write is taken.
 use Rattle.std.proofs.Common.{◌≡◌, ℕ, ◌<◌, ◌==◌, ◌&&◌, ◌||◌, not, inl, inr, Bool, true, false, List, [], ◌∷◌, ◌++◌, Option, Some, None, length, refl, sym, ap, ◌∙◌, subst, append_assoc, arith}
+use Rattle.std.{specs.Prelude.{nat_lt, IfSome}, proofs.lemmas.Bool.{ltb-true, lt-ltb, eqb-true, or_left, or_right, and_from}}
 use Rattle.masked_bytes.proofs.Truth.{and_first, and_second, implied}
-use Rattle.std.specs.Prelude.{nat_lt, IfSome}
-use Rattle.std.proofs.lemmas.Bool.{ltb-true, lt-ltb, eqb-true, or_left, or_right, and_from}
 use Rattle.result_rows.specs.declared.Outcome.{Outcome}
 use Rattle.result_rows.specs.declared.Outcome.TheVariants as out
 use Rattle.cell_rows.specs.Device.{ArrayState}
-use Rattle.row_rules.specs.declared.Asks.{Asks}
-use Rattle.row_rules.specs.declared.Asks.TheVariants.{Reads, Writes, Cuts}
-use Rattle.row_rules.specs.declared.Row.{Row}
-use Rattle.row_rules.specs.Answers.{accepts, is_worn, is_queued, is_full}
-use Rattle.row_rules.specs.Rows.{RowTest, each_row}
-use Rattle.row_rules.specs.Queueing.{pending}
-use Rattle.row_rules.specs.Serving.{may_have, is_served}
-use Rattle.bank_shape.specs.declared.BankShape.{BankShape}
-use Rattle.bank_shape.specs.declared.answer.WriteAnswer.{WriteAnswer}
+use Rattle.row_rules.specs.{Answers.{accepts, is_worn, is_queued, is_full}, Queueing.pending, Rows.{RowTest, each_row}, Serving.{may_have, is_served}, declared.Asks.Asks}
+use Rattle.row_rules.specs.{declared.Asks.TheVariants.{Reads, Writes, Cuts}, declared.Row.Row}
+use Rattle.bank_shape.specs.{Shape.{controls_of, control_line}, declared.BankShape.BankShape, declared.answer.WriteAnswer.WriteAnswer, declared.pace.Pace.Pace}
 use Rattle.bank_shape.specs.declared.answer.WriteAnswer.TheVariants as wrote
-use Rattle.bank_model.specs.Events.{Write, Read, Serve, Begin, Iterate, Cut}
-use Rattle.bank_model.specs.History.{queue, has_exhausted}
-use Rattle.bank_shape.specs.declared.pace.Pace.{Pace}
-use Rattle.bank_model.specs.Timing.{Happens, Core, Regs, TimedEvent, core}
-use Rattle.bank_model.specs.Changes.{change_after, halted_after}
-use Rattle.bank_model.specs.Running.{over_by, is_over}
-use Rattle.bank_shape.specs.Shape.{controls_of, control_line}
-use Rattle.bank_model.specs.Lawful.{Lawful, IsIdle, MayCome}
-use Rattle.bank_laws.specs.Laws.{IsSized, LeavesArray, is_worn_at, rules_of}
-use Rattle.bank_laws.specs.Resting.{EndsIn}
-use Rattle.bank_laws.proofs.Resting.{ends-still}
-use Rattle.bank_laws.specs.Outcomes.{outcome_of, ended, row_with, rows_from, table_of}
-use Rattle.bank_laws.specs.Places.{is_worn_out, may_leave, is_wear_true_to, is_taken_to}
-use Rattle.bank_laws.specs.RowLaws.{is_room_fair}
-use Rattle.bank_laws.proofs.Answering.{merged-there}
-use Rattle.bank_laws.proofs.Settling.{opens}
-use Rattle.bank_laws.proofs.Fates.{IsLeft, WriteFate, new-push, new-merged}
-use Rattle.bank_laws.proofs.Walking.{Passes, walk, rows_after}
-use Rattle.bank_laws.proofs.Ending.{Onwards, IsOutcome, write_outcome}
-use Rattle.bank_laws.proofs.Serves.{may_at, onwards_at, served_law}
-use Rattle.bank_laws.proofs.Wears.{worn_outcome, refused-exhausted, exhausted_later}
-use Rattle.bank_laws.proofs.Pending.{queue_law}
-use Rattle.place_laws.specs.PlaceLaws.{WornLaw, TakenLaw}
-use Rattle.place_laws.proofs.WornOut.{worn_out, worn_control, change-within, idle-queued}
+use Rattle.bank_model.specs.{Changes.{change_after, halted_after}, Events.{Write, Read, Serve, Begin, Iterate, Cut}, History.{queue, has_exhausted}}
+use Rattle.bank_model.specs.{Lawful.{Lawful, IsIdle, MayCome}, Running.{over_by, is_over}, Timing.{Happens, Core, Regs, TimedEvent, core}}
+use Rattle.bank_laws.specs.{Laws.{IsSized, LeavesArray, is_worn_at, rules_of}, Outcomes.{outcome_of, ended, row_with, rows_from, table_of}}
+use Rattle.bank_laws.{specs.Places.{is_worn_out, may_leave, is_wear_true_to, is_taken_to}, specs.Resting.EndsIn, specs.RowLaws.is_room_fair, proofs.Answering.merged-there}
+use Rattle.bank_laws.proofs.{Ending.{Onwards, IsOutcome, write_outcome}, Fates.{IsLeft, WriteFate, new-push, new-merged}, Pending.queue_law, Resting.ends-still}
+use Rattle.bank_laws.proofs.{Serves.{may_at, onwards_at, served_law}, Settling.opens, Walking.{Passes, walk, rows_after}, Wears.{worn_outcome, refused-exhausted, exhausted_later}}
+use Rattle.place_laws.{specs.PlaceLaws.{WornLaw, TakenLaw}, proofs.WornOut.{worn_out, worn_control, change-within, idle-queued}}
 
 taken_if : (writes count : ℕ) (left fine : Bool) → (left ≡ false → count < writes → fine ≡ true) → (not (nat_lt count writes && not left) || fine) ≡ true
 taken_if writes count left fine h = by (nat_lt count writes) left refl refl

@@ -1,40 +1,24 @@
 -- How many line writes end, and how many are cancelled.
 use Rattle.std.proofs.Common.{◌≡◌, ℕ, ◌+◌, ◌*◌, ◌≤◌, ◌==◌, ◌&&◌, ◌||◌, not, Bool, true, false, List, [], ◌∷◌, Option, Some, None, length, length-append, refl, ap, ◌∙◌, arith, cond, eq-eqb}
-use Rattle.std.specs.Prelude.{nat_lt, nat_le, is_some}
-use Rattle.std.proofs.lemmas.Bool.{lt-leb}
-use Rattle.bank_shape.specs.declared.BankShape.{BankShape}
-use Rattle.bank_shape.specs.declared.Work.TheVariants.{Nothing}
+use Rattle.std.{specs.Prelude.{nat_lt, nat_le, is_some}, proofs.lemmas.Bool.lt-leb}
+use Rattle.bank_shape.specs.{Acting.{choice, chosen_by}, Pausing.gives_way, Shape.is_array, declared.BankShape.BankShape, declared.Home.Home, declared.Work.TheVariants.Nothing}
+use Rattle.bank_shape.specs.{declared.clock.Action.Action, declared.clock.Doing.Doing, declared.pace.Pace.Pace}
 use Rattle.bank_shape.specs.declared.answer.ReadAnswer.TheVariants as came
 use Rattle.bank_shape.specs.declared.answer.Step.TheVariants as did
-use Rattle.bank_shape.specs.declared.clock.Doing.{Doing}
 use Rattle.bank_shape.specs.declared.clock.Doing.TheVariants as doing
-use Rattle.bank_shape.specs.declared.clock.Action.{Action}
-use Rattle.bank_model.specs.Events.{BankEvent, Write, Read, Serve, Begin, Iterate, Cut}
-use Rattle.bank_model.specs.History.{moved_in, stored_in, retired, has_exhausted, due_after, queue, waits, in_progress}
-use Rattle.bank_model.specs.After.{due_work, work_after, is_ready, may_begin_after, due_moves}
-use Rattle.bank_model.specs.Answers.{MayAll}
-use Rattle.bank_shape.specs.Pausing.{gives_way}
-use Rattle.bank_shape.specs.Acting.{choice, chosen_by}
-use Rattle.bank_model.specs.Running.{busy_by, ready_by, over_by, busy_after, ready_after, is_over, drops_begin, started, left_by, running, running_at, chosen_after}
-use Rattle.bank_model.specs.Sensing.{most_steps}
-use Rattle.bank_shape.specs.declared.pace.Pace.{Pace}
-use Rattle.bank_model.specs.Timing.{Happens, Core, Regs, KeepBegin, KeepIterate, KeepCut, TimedEvent, is_writing, is_empty, core, core_of, last_tick}
-use Rattle.bank_model.specs.Lawful.{Lawful, MayCome}
 use Rattle.bank_shape.specs.declared.answer.Keep.TheVariants as keep
-use Rattle.bank_model.specs.Changes.{item_if, change_after, change_by, keeping_after, halted_after, halted_by}
-use Rattle.bank_model.proofs.Within.{due_moves-few}
-use Rattle.bank_shape.specs.declared.Home.{Home}
 use Rattle.bank_shape.specs.declared.Home.TheVariants as home
-use Rattle.bank_shape.specs.Shape.{is_array}
+use Rattle.bank_model.specs.{After.{due_work, work_after, is_ready, may_begin_after, due_moves}, Answers.MayAll}
+use Rattle.bank_model.specs.{Changes.{item_if, change_after, change_by, keeping_after, halted_after, halted_by}, Events.{BankEvent, Write, Read, Serve, Begin, Iterate, Cut}}
+use Rattle.bank_model.specs.{History.{moved_in, stored_in, retired, has_exhausted, due_after, queue, waits, in_progress}, Lawful.{Lawful, MayCome}}
+use Rattle.bank_model.specs.Running.{busy_by, ready_by, over_by, busy_after, ready_after, is_over, drops_begin, started, left_by, running, running_at, chosen_after}
+use Rattle.bank_model.specs.{Sensing.most_steps, Timing.{Happens, Core, Regs, KeepBegin, KeepIterate, KeepCut, TimedEvent, is_writing, is_empty, core, core_of, last_tick}}
+use Rattle.bank_model.proofs.Within.{due_moves-few}
 use Rattle.row_rules.specs.Ticking.{writings}
-use Rattle.bank_laws.proofs.Changing.{halted-stops}
-use Rattle.bank_laws.proofs.Waiting.{may_all}
-use Rattle.place_laws.proofs.Counts.{stores_with}
+use Rattle.bank_laws.proofs.{Changing.halted-stops, Waiting.may_all}
+use Rattle.place_laws.proofs.{Counts.stores_with, Moves.{next_product, last_region, KeepsMoves, keeps}, Pulsing.{ends_work, ends_in}}
+use Rattle.place_laws.proofs.{Slots.{begin-retires_none, begin-exhausts_none}, Working.done-move}
 use Rattle.masked_bytes.proofs.Counting.{one_if}
-use Rattle.place_laws.proofs.Working.{done-move}
-use Rattle.place_laws.proofs.Moves.{next_product, last_region, KeepsMoves, keeps}
-use Rattle.place_laws.proofs.Slots.{begin-retires_none, begin-exhausts_none}
-use Rattle.place_laws.proofs.Pulsing.{ends_work, ends_in}
 
 module _ {n : ℕ} where
   -- all stores, all moves

@@ -1,15 +1,10 @@
 -- What a line write that ends says of the bank's work.
 use Rattle.std.proofs.Common.{◌≡◌, ℕ, inl, Bool, true, false, List, [], ◌∷◌, Option, Some, None, refl, sym, ap, ◌∙◌, subst, cond}
-use Rattle.masked_bytes.specs.declared.entry.Entry.{Entry}
-use Rattle.masked_bytes.specs.Entries.{head_row}
-use Rattle.bank_shape.specs.declared.BankShape.{BankShape}
-use Rattle.bank_shape.specs.declared.Work.TheVariants.{Nothing}
+use Rattle.masked_bytes.specs.{Entries.head_row, declared.entry.Entry.Entry}
+use Rattle.bank_shape.specs.{declared.BankShape.BankShape, declared.Work.TheVariants.Nothing}
 use Rattle.bank_shape.specs.declared.answer.Step.TheVariants as did
 use Rattle.start_gap.specs.declared.Move.{Move}
-use Rattle.bank_model.specs.Events.{BankEvent}
-use Rattle.bank_model.specs.History.{queue, due_after, has_exhausted}
-use Rattle.bank_model.specs.After.{work_after, due_work, stands_at_after}
-use Rattle.bank_model.specs.Answers.{IsDone}
+use Rattle.bank_model.specs.{After.{work_after, due_work, stands_at_after}, Answers.IsDone, Events.BankEvent, History.{queue, due_after, has_exhausted}}
 use Rattle.bank_laws.proofs.Lines.{Stands}
 
 module _ {n : ℕ} (shape : BankShape) (h : List (BankEvent n)) where

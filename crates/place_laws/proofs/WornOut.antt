@@ -1,48 +1,26 @@
 -- A bank that is exhausted has more worn lines than spares.
 use Rattle.std.proofs.Common.{◌≡◌, ℕ, zero, suc, ◌+◌, ◌*◌, ◌/◌, ◌<◌, ◌≤◌, ◌==◌, ◌&&◌, ◌||◌, not, inl, inr, Bool, true, false, List, [], ◌∷◌, Option, Some, None, length, refl, sym, ap, subst, arith, cond}
-use Rattle.std.proofs.lemmas.Bool.{eq-eqb, ne_eqb, le-leb, cases_eq, not-false}
-use Rattle.std.proofs.lemmas.Nat.{div_below}
-use Rattle.masked_bytes.specs.declared.entry.Entry.{Entry}
-use Rattle.masked_bytes.specs.Entries.{has_row}
-use Rattle.masked_bytes.proofs.Truth.{or_rest}
+use Rattle.std.{specs.Prelude.IfSome, proofs.lemmas.Bool.{eq-eqb, ne_eqb, le-leb, cases_eq, not-false}, proofs.lemmas.Nat.div_below}
+use Rattle.masked_bytes.{specs.Entries.has_row, specs.declared.entry.Entry.Entry, proofs.Counting.one_if, proofs.Truth.or_rest}
 use Rattle.cell_rows.specs.Device.{ArrayState}
 use Rattle.start_gap.specs.Rotation.{move_after}
-use Rattle.spare_pool.specs.Table.{Table, line_from}
-use Rattle.spare_pool.proofs.Lines.{line_by-within}
-use Rattle.bank_shape.specs.declared.BankShape.{BankShape}
-use Rattle.bank_shape.specs.declared.Work.TheVariants.{Nothing}
-use Rattle.bank_shape.specs.Shape.{slots_of, if_array, controls_of, control_line}
-use Rattle.bank_shape.specs.declared.Home.{Home}
+use Rattle.spare_pool.{specs.Table.{Table, line_from}, proofs.Lines.line_by-within}
+use Rattle.bank_shape.specs.{Acting.{Choice, chosen_by}, Pausing.gives_way, Shape.{slots_of, if_array, controls_of, control_line}, declared.BankShape.BankShape, declared.Home.Home}
+use Rattle.bank_shape.{specs.declared.Work.TheVariants.Nothing, specs.declared.pace.Pace.Pace, proofs.Sizes.slot_at-within}
 use Rattle.bank_shape.specs.declared.Home.TheVariants as home
 use Rattle.bank_shape.specs.declared.answer.Keep.TheVariants as keep
-use Rattle.std.specs.Prelude.{IfSome}
 use Rattle.bank_shape.specs.declared.answer.Step.TheVariants as did
-use Rattle.bank_model.specs.Events.{BankEvent, Write, Read, Serve, Begin, Iterate, Cut, RowsBelow, line_of_row}
-use Rattle.bank_model.specs.History.{Awaited, first_or, stores, moved_in, retired, has_exhausted, due_after, queue, waits, in_progress}
-use Rattle.bank_model.specs.After.{due_work, work_after, slot_of_work, is_ready, may_begin_after}
-use Rattle.bank_model.specs.Answers.{MayAll}
 use Rattle.bank_shape.specs.declared.clock.Doing.TheVariants as doing
-use Rattle.bank_shape.specs.Pausing.{gives_way}
-use Rattle.bank_shape.specs.Acting.{Choice, chosen_by}
-use Rattle.bank_model.specs.Running.{busy_by, ready_by, over_by, busy_after, ready_after, is_over, choice_after}
+use Rattle.bank_model.specs.{After.{due_work, work_after, slot_of_work, is_ready, may_begin_after}, Answers.MayAll}
 use Rattle.bank_model.specs.Changes.{item_if, change_after, change_by, keeping_after, halted_after}
-use Rattle.bank_model.specs.Sensing.{most_steps}
-use Rattle.bank_shape.specs.declared.pace.Pace.{Pace}
+use Rattle.bank_model.specs.Events.{BankEvent, Write, Read, Serve, Begin, Iterate, Cut, RowsBelow, line_of_row}
+use Rattle.bank_model.specs.{History.{Awaited, first_or, stores, moved_in, retired, has_exhausted, due_after, queue, waits, in_progress}, Lawful.{Lawful, IsIdle, MayCome}}
+use Rattle.bank_model.specs.{Running.{busy_by, ready_by, over_by, busy_after, ready_after, is_over, choice_after}, Sensing.most_steps}
 use Rattle.bank_model.specs.Timing.{Happens, Core, Regs, KeepBegin, KeepIterate, KeepCut, TimedEvent, core, is_empty}
-use Rattle.bank_model.specs.Lawful.{Lawful, IsIdle, MayCome}
-use Rattle.bank_laws.specs.Laws.{IsSized, LeavesArray, is_worn_at}
-use Rattle.bank_laws.specs.Places.{worn_among, is_worn_out}
-use Rattle.bank_laws.proofs.Settling.{above_all}
-use Rattle.bank_laws.proofs.Serves.{idle-waits}
-use Rattle.bank_laws.proofs.Lines.{Stands}
-use Rattle.bank_laws.proofs.Waiting.{may_all}
-use Rattle.bank_laws.proofs.Asked.{asked-within, wrote-asked, wrote-line, queue-wrote}
-use Rattle.masked_bytes.proofs.Counting.{one_if}
+use Rattle.bank_laws.{specs.Laws.{IsSized, LeavesArray, is_worn_at}, specs.Places.{worn_among, is_worn_out}, proofs.Asked.{asked-within, wrote-asked, wrote-line, queue-wrote}}
+use Rattle.bank_laws.proofs.{Lines.Stands, Serves.idle-waits, Settling.above_all, Waiting.may_all}
+use Rattle.place_laws.proofs.{Moves.some-due, Owners.{owners, owners-some, worn-many}, Slots.{slot_moved-within, gap-within, begin-retires_none, begin-exhausts_none}}
 use Rattle.place_laws.proofs.Working.{IsStoreOf, done-store}
-use Rattle.place_laws.proofs.Moves.{some-due}
-use Rattle.place_laws.proofs.Slots.{slot_moved-within, gap-within, begin-retires_none, begin-exhausts_none}
-use Rattle.bank_shape.proofs.Sizes.{slot_at-within}
-use Rattle.place_laws.proofs.Owners.{owners, owners-some, worn-many}
 
 pub some_product : (a b : ℕ) → 1 ≤ a → 1 ≤ b → 0 < a * b
 some_product a b p q = grind (arith, p, q)

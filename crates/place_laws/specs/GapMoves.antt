@@ -1,12 +1,9 @@
 -- The gap moves of a history, one by one, and what any full turn of them copies.
 use Rattle.std.specs.Prelude.{◌≡◌, ℕ, zero, suc, ◌/◌, ◌<◌, ◌≤◌, ◌==◌, ◌&&◌, Bool, if◌then◌else◌, List, [], ◌∷◌, ◌++◌, length, count_by}
-use Rattle.start_gap.specs.declared.Move.{Move}
-use Rattle.start_gap.specs.Rotation.{move_after, turn}
+use Rattle.start_gap.specs.{Rotation.{move_after, turn}, declared.Move.Move}
 use Rattle.bank_shape.specs.declared.BankShape.{BankShape}
 use Rattle.bank_shape.specs.declared.answer.Step.TheVariants as did
-use Rattle.bank_model.specs.Events.{BankEvent, Begin, Iterate}
-use Rattle.bank_model.specs.History.{first_or, stores, moved_in}
-use Rattle.bank_model.specs.Answers.{MayAll}
+use Rattle.bank_model.specs.{Answers.MayAll, Events.{BankEvent, Begin, Iterate}, History.{first_or, stores, moved_in}}
 
 -- the gap moves of a region of so many lines, as the events that end them name them, the newest first. A move is of the region of
 -- the last store

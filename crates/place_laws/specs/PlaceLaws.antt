@@ -2,16 +2,10 @@
 use Rattle.std.specs.Prelude.{ℕ, ◌≤◌, Bool, IsTrue, List, []}
 use Rattle.cell_rows.specs.Device.{ArrayState}
 use Rattle.row_rules.specs.Rows.{each_row}
-use Rattle.bank_shape.specs.declared.BankShape.{BankShape}
-use Rattle.bank_shape.specs.Shape.{lines_in}
-use Rattle.bank_model.specs.History.{moved_in}
-use Rattle.bank_shape.specs.declared.pace.Pace.{Pace}
-use Rattle.bank_model.specs.Timing.{TimedEvent, core}
-use Rattle.bank_model.specs.Lawful.{Lawful}
-use Rattle.bank_laws.specs.Outcomes.{table_of}
-use Rattle.bank_laws.specs.Resting.{IsStill, EndsIn}
-use Rattle.bank_laws.specs.Places.{is_placed, is_moved_to, is_wear_true_to, is_taken_to, most_pulses, pulses_among}
-use Rattle.bank_laws.specs.Laws.{IsSized, LeavesArray, is_worn_at, rules_of}
+use Rattle.bank_shape.specs.{Shape.lines_in, declared.BankShape.BankShape, declared.pace.Pace.Pace}
+use Rattle.bank_model.specs.{History.moved_in, Lawful.Lawful, Timing.{TimedEvent, core}}
+use Rattle.bank_laws.specs.{Laws.{IsSized, LeavesArray, is_worn_at, rules_of}, Outcomes.table_of}
+use Rattle.bank_laws.specs.{Places.{is_placed, is_moved_to, is_wear_true_to, is_taken_to, most_pulses, pulses_among}, Resting.{IsStill, EndsIn}}
 
 -- each row carries the array line where its line stood at its tick, or a spare where that line is worn in the end
 abbrev pub PlacedLaw : Type 0

@@ -1,28 +1,16 @@
 -- Every event leaves a bundle in range.
 use Rattle.std.proofs.Common.{◌≡◌, ◌≢◌, ℕ, ◌+◌, ◌/◌, ◌<◌, ◌≤◌, ◌==◌, inl, inr, Bool, true, false, cond, nat_lt, List, [], ◌∷◌, ◌++◌, zero, suc, length, get_or, drop, replicate, slice_get, slice_set, Option, Some, None, refl, sym, subst, ap, ◌∙◌, arith, length-append, eq-eqb, eqb-true, get_or-set_other}
-use Rattle.std.specs.List.{position_from}
-use Rattle.std.proofs.lemmas.Bool.{cases_eq, ltb-true}
-use Rattle.std.proofs.lemmas.List.{length-set, length-replicate, get_or-replicate}
-use Rattle.std.proofs.lemmas.List.Quantifiers.{position-Some}
-use Rattle.std.proofs.lemmas.Grind.{get_or-set_at}
-use Rattle.std.proofs.lemmas.Iterator.Adapters.{position_from-zero}
-use Rattle.masked_bytes.specs.Masked.{IsMasked}
-use Rattle.masked_bytes.specs.Entries.{AllMasked, merged_at, completed, candidate_index, head_line}
-use Rattle.masked_bytes.specs.declared.entry.Entry.{Entry}
-use Rattle.masked_bytes.proofs.Queueing.{length-merged_at}
-use Rattle.masked_bytes.proofs.Standing.{AllMasked-append, AllMasked-merged_at, AllMasked-completed}
+use Rattle.std.{specs.List.position_from, proofs.lemmas.Bool.{cases_eq, ltb-true}, proofs.lemmas.Grind.get_or-set_at, proofs.lemmas.Iterator.Adapters.position_from-zero}
+use Rattle.std.proofs.{lemmas.List.{length-set, length-replicate, get_or-replicate}, lemmas.List.Quantifiers.position-Some}
+use Rattle.masked_bytes.specs.{Entries.{AllMasked, merged_at, completed, candidate_index, head_line}, Masked.IsMasked, declared.entry.Entry.Entry}
+use Rattle.masked_bytes.proofs.{Queueing.length-merged_at, Standing.{AllMasked-append, AllMasked-merged_at, AllMasked-completed}}
 use Rattle.start_gap.proofs.Places.{advanced-range}
 use Rattle.region_regs.specs.Region.{RegionState, first_region, after_store, after_move}
-use Rattle.spare_pool.specs.Table.{used_by}
-use Rattle.spare_pool.proofs.Lines.{IsTable-retired}
+use Rattle.spare_pool.{specs.Table.used_by, proofs.Lines.IsTable-retired}
 use Rattle.protected_queue.specs.Queue.{accepted_by}
-use Rattle.bank_shape.specs.declared.BankShape.{BankShape}
-use Rattle.bank_shape.specs.declared.Work.TheVariants.{Nothing}
-use Rattle.bank_shape.specs.Shape.{slots_of, IsBankShape}
-use Rattle.bank_shape.specs.Kinds.{is_store, is_copy}
-use Rattle.power_recovery.specs.Slots.{bank_lines}
-use Rattle.power_recovery.specs.Kept.{KeptState, no_region, AllBelow, IsRegionOf, region_at, due_region, next_work, due_work, IsKept}
+use Rattle.bank_shape.specs.{Kinds.{is_store, is_copy}, Shape.{slots_of, IsBankShape}, declared.BankShape.BankShape, declared.Work.TheVariants.Nothing}
 use Rattle.power_recovery.specs.Events.{first_kept, with_entries, with_regions, accepted_kept, completed_kept, stored_kept, regions_moved, moved_kept, retired_kept, exhausted_kept}
+use Rattle.power_recovery.specs.{Kept.{KeptState, no_region, AllBelow, IsRegionOf, region_at, due_region, next_work, due_work, IsKept}, Slots.bank_lines}
 use Rattle.power_recovery.proofs.Placing.{region-exists}
 
 -- Entries

@@ -1,22 +1,15 @@
 -- What each event leaves of the slots of lines, the array lines of slots, and the next work.
 use Rattle.std.proofs.Common.{◌≡◌, ◌≢◌, ℕ, ◌+◌, ◌-◌, ◌*◌, ◌/◌, ◌%◌, ◌<◌, ◌==◌, inl, inr, Bool, true, false, cond, if◌then◌else◌, nat_lt, List, [], ◌∷◌, zero, suc, length, get_or, slice_get, slice_set, Option, Some, None, refl, sym, ap, ◌∙◌, arith, get_or-set_other}
-use Rattle.std.proofs.lemmas.Bool.{cases_lt, cases_eq, ne_eqb}
-use Rattle.std.proofs.lemmas.Nat.{mod_below, div-add-mod'}
-use Rattle.std.proofs.lemmas.Grind.{get_or-set_at}
-use Rattle.std.proofs.Math.Nat.{add-mod-mod}
-use Rattle.masked_bytes.specs.Entries.{candidate_index, completed, head_line}
-use Rattle.masked_bytes.specs.declared.entry.Entry.{Entry}
-use Rattle.masked_bytes.proofs.Queueing.{candidate_index-busy}
+use Rattle.std.proofs.{Math.Nat.add-mod-mod, lemmas.Bool.{cases_lt, cases_eq, ne_eqb}, lemmas.Grind.get_or-set_at, lemmas.Nat.{mod_below, div-add-mod'}}
+use Rattle.masked_bytes.{specs.Entries.{candidate_index, completed, head_line}, specs.declared.entry.Entry.Entry, proofs.Queueing.candidate_index-busy}
 use Rattle.start_gap.specs.Rotation.{Rotation, IsRotation, place_by, move_by, below_gap, advanced}
 use Rattle.start_gap.proofs.Turning.{remainder, place_by-before, place_by-behind, advanced-end, advanced-further}
 use Rattle.region_regs.specs.Region.{RegionState, after_store, after_move}
-use Rattle.spare_pool.specs.Table.{line_by, used_by}
-use Rattle.spare_pool.proofs.Lines.{line_by-retired}
+use Rattle.spare_pool.{specs.Table.{line_by, used_by}, proofs.Lines.line_by-retired}
 use Rattle.protected_queue.specs.Queue.{accepted, accepted_by}
-use Rattle.bank_shape.specs.declared.Work.TheVariants.{Nothing, Store}
-use Rattle.bank_shape.specs.Shape.{slot_at}
-use Rattle.power_recovery.specs.Kept.{KeptState, no_region, region_at, slot_of, array_line, due_region, due_work, next_work, IsKept}
+use Rattle.bank_shape.specs.{Shape.slot_at, declared.Work.TheVariants.{Nothing, Store}}
 use Rattle.power_recovery.specs.Events.{with_entries, with_regions, accepted_kept, completed_kept, stored_kept, regions_moved, moved_kept, retired_kept}
+use Rattle.power_recovery.specs.Kept.{KeptState, no_region, region_at, slot_of, array_line, due_region, due_work, next_work, IsKept}
 
 -- Registers
 

@@ -1,15 +1,11 @@
 -- Slots and places of a bank by its registers: each within the bank, and no two alike.
 use Rattle.std.proofs.Common.{◌≡◌, ◌≢◌, ℕ, ◌+◌, ◌*◌, ◌/◌, ◌%◌, ◌<◌, ◌≤◌, inl, inr, sym, subst, ap, ◌∙◌, arith}
-use Rattle.std.proofs.lemmas.Bool.{cases_lt}
-use Rattle.std.proofs.lemmas.Nat.{mod_below, div_below, div-mul-add, mod-mul-add, div-add-mod'}
-use Rattle.bank_shape.proofs.Sizes.{slot_at-within}
+use Rattle.std.proofs.{lemmas.Bool.cases_lt, lemmas.Nat.{mod_below, div_below, div-mul-add, mod-mul-add, div-add-mod'}}
+use Rattle.bank_shape.{specs.Shape.{slots_of, slot_at}, specs.declared.BankShape.BankShape, proofs.Sizes.slot_at-within}
 use Rattle.start_gap.specs.Rotation.{Rotation, IsRotation, StandsFor, place_by, place_after}
 use Rattle.start_gap.proofs.Turning.{place_by-before, place_by-behind, place-apart, place-off_gap, place-stands}
 use Rattle.region_regs.specs.Region.{RegionState}
-use Rattle.bank_shape.specs.declared.BankShape.{BankShape}
-use Rattle.bank_shape.specs.Shape.{slots_of, slot_at}
-use Rattle.power_recovery.specs.Slots.{bank_lines}
-use Rattle.power_recovery.specs.Kept.{KeptState, region_at, slot_of, IsKept}
+use Rattle.power_recovery.specs.{Kept.{KeptState, region_at, slot_of, IsKept}, Slots.bank_lines}
 
 -- a line's place is one of its region
 pub place_by-within : (r : Rotation) (line : ℕ) → IsRotation r → place_by r line ≤ r.lines

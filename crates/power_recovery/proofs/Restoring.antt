@@ -1,8 +1,6 @@
 -- That stripping and restoring leave a bundle in range.
 use Rattle.std.proofs.Common.{◌≡◌, ◌≢◌, ℕ, ◌+◌, ◌<◌, ◌≤◌, inl, inr, List, length, get_or, replicate, slice_set, refl, sym, subst, ap, ◌∙◌, arith, get_or-set_other, ext_get_or}
-use Rattle.std.proofs.lemmas.Bool.{cases_eq}
-use Rattle.std.proofs.lemmas.List.{length-set, length-replicate, get_or-replicate}
-use Rattle.std.proofs.lemmas.Grind.{get_or-set_at}
+use Rattle.std.proofs.{lemmas.Bool.cases_eq, lemmas.Grind.get_or-set_at, lemmas.List.{length-set, length-replicate, get_or-replicate}}
 use Rattle.region_regs.specs.Region.{RegionState, first_region}
 use Rattle.power_recovery.specs.Kept.{KeptState, no_region}
 

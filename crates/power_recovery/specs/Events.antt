@@ -1,12 +1,10 @@
 -- What each event leaves of what a bank keeps.
 use Rattle.std.specs.Prelude.{ℕ, ◌/◌, Bool, true, false, List, [], drop, replicate, Option, Some, None, slice_set}
-use Rattle.masked_bytes.specs.Entries.{completed, head_line}
-use Rattle.masked_bytes.specs.declared.entry.Entry.{Entry}
+use Rattle.masked_bytes.specs.{Entries.{completed, head_line}, declared.entry.Entry.Entry}
 use Rattle.region_regs.specs.Region.{RegionState, first_region, after_store, after_move}
 use Rattle.spare_pool.specs.Table.{first_table, retired_table}
 use Rattle.protected_queue.specs.Queue.{accepted}
-use Rattle.bank_shape.specs.declared.BankShape.{BankShape}
-use Rattle.bank_shape.specs.Shape.{slots_of}
+use Rattle.bank_shape.specs.{Shape.slots_of, declared.BankShape.BankShape}
 use Rattle.power_recovery.specs.Kept.{KeptState, region_at, due_region}
 
 -- at the beginning

@@ -1,14 +1,10 @@
 -- What a bank keeps over a power cut, and what follows from that alone.
 use Rattle.std.specs.Prelude.{◌≡◌, ℕ, ◌+◌, ◌/◌, ◌%◌, ◌<◌, ◌≤◌, ◌==◌, Bool, if◌then◌else◌, List, [], ◌∷◌, length, Option, Some, None, position, slice_index_or, IsTrue}
-use Rattle.masked_bytes.specs.Entries.{AllMasked}
-use Rattle.masked_bytes.specs.declared.entry.Entry.{Entry}
+use Rattle.masked_bytes.specs.{Entries.AllMasked, declared.entry.Entry.Entry}
 use Rattle.start_gap.specs.Rotation.{place_by, move_by}
 use Rattle.region_regs.specs.Region.{RegionState, IsRegion}
 use Rattle.spare_pool.specs.Table.{Table, IsTable, line_by, used_by}
-use Rattle.bank_shape.specs.declared.BankShape.{BankShape}
-use Rattle.bank_shape.specs.declared.Work.{Work}
-use Rattle.bank_shape.specs.declared.Work.TheVariants.{Nothing, Store, Copy}
-use Rattle.bank_shape.specs.Shape.{slots_of, slot_at, IsBankShape}
+use Rattle.bank_shape.specs.{Shape.{slots_of, slot_at, IsBankShape}, declared.BankShape.BankShape, declared.Work.Work, declared.Work.TheVariants.{Nothing, Store, Copy}}
 use Rattle.power_recovery.specs.Slots.{bank_lines}
 
 -- the write queue, the remap table, the regions' registers and counters, and the mark of a bank that found no spare

@@ -2,8 +2,7 @@
 use Rattle.std.specs.Prelude.{◌≡◌, ℕ, ◌<◌, slice_set}
 use Rattle.region_regs.specs.Region.{RegionState}
 use Rattle.bank_shape.specs.declared.BankShape.{BankShape}
-use Rattle.power_recovery.specs.Kept.{KeptState, region_at}
-use Rattle.power_recovery.specs.Events.{first_kept, with_entries, with_regions}
+use Rattle.power_recovery.specs.{Events.{first_kept, with_entries, with_regions}, Kept.{KeptState, region_at}}
 
 -- a region of this bank with these registers and this counter
 abbrev pub region_with : BankShape → ℕ → ℕ → ℕ → RegionState

@@ -40,9 +40,21 @@ impl<const B: usize> Model for Kept<B> {
     ghost use Rattle.std.specs.Prelude.{◌≡◌, ◌<◌, ◌≤◌};
     ghost use Rattle.power_recovery.specs.Kept.{IsKept};
 
-    ghost view = { λ k. record { shape = k.shape; entries = k.queue.entries; table = k.remap; regions = k.regions.items; exhausted = k.exhausted } };
+    ghost view = { λ k. record {
+      shape = k.shape;
+      entries = k.queue.entries;
+      table = k.remap;
+      regions = k.regions.items;
+      exhausted = k.exhausted;
+    } };
 
-    ghost invariant = { λ k. (k.queue.cap ≡ k.shape.writes) × IsKept (record { shape = k.shape; entries = k.queue.entries; table = k.remap; regions = k.regions.items; exhausted = k.exhausted }) };
+    ghost invariant = { λ k. (k.queue.cap ≡ k.shape.writes) × IsKept (record {
+      shape = k.shape;
+      entries = k.queue.entries;
+      table = k.remap;
+      regions = k.regions.items;
+      exhausted = k.exhausted;
+    }) };
 }
 
 impl<const B: usize> Kept<B> {
@@ -144,10 +156,12 @@ impl<const B: usize> Kept<B> {
         ensures exists { result < slots_of self.now.shape }
 
         // by how often the gap of its region moved, and no other line has it
-        ensures after { (t : ℕ) → StandsFor (region_at self.now (line / self.now.shape.lines)).rotation t
+        ensures after { (t : ℕ) → StandsFor (region_at self.now
+            (line / self.now.shape.lines)).rotation t
             → result ≡ slot_at self.now.shape (line / self.now.shape.lines)
             (place_after self.now.shape.lines (line % self.now.shape.lines) t) }
-        ensures apart { (other : ℕ) → other < bank_lines self.now.shape → slot_of self.now other ≡ result
+        ensures apart { (other : ℕ) → other < bank_lines self.now.shape
+            → slot_of self.now other ≡ result
             → other ≡ line }
     {
         let region = line / self.shape.lines;
@@ -164,7 +178,8 @@ impl<const B: usize> Kept<B> {
         ensures line { result ≡ array_line self.now slot }
         ensures exists { (self.now.shape.base ≤ result)
             × (result < self.now.shape.base + lines_in self.now.shape) }
-        ensures apart { (other : ℕ) → other < slots_of self.now.shape → array_line self.now other ≡ result
+        ensures apart { (other : ℕ) → other < slots_of self.now.shape
+            → array_line self.now other ≡ result
             → other ≡ slot }
     {
         self.shape.base + self.remap.line_of(slot)
@@ -229,7 +244,8 @@ impl<const B: usize> Kept<B> {
     pub fn retire(&mut self, slot: u32) -> Result<u32, NoSpare>
         requires { slot < slots_of self.old.shape }
         ensures some_left { IsOk result ↔ (used_by self.old.table < self.old.shape.spares) }
-        ensures spare { IfOk result (λ line. line ≡ slots_of self.old.shape + used_by self.old.table) }
+        ensures spare { IfOk result (λ line. line
+            ≡ slots_of self.old.shape + used_by self.old.table) }
         ensures retired { OnOk result (self.new ≡ retired_kept slot self.old) }
         ensures exhausted { OnErr result (self.new ≡ exhausted_kept self.old) }
         ensures in_range { IsKept self.new }

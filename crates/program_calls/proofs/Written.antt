@@ -1,13 +1,8 @@
 -- How texts are written, piece after piece, and under another name.
 use Rattle.std.proofs.Common.{◌≡◌, ℕ, suc, ◌+◌, ◌<◌, ◌≤◌, List, [], ◌++◌, length, get_or, drop, Bor, Option, refl, sym, ap, ◌∙◌, arith, append_assoc}
-use Rattle.std.specs.Prelude.{Result, Ok, Err, OnErr}
-use Rattle.std.specs.Io.KnownBytes.{Appends}
-use Rattle.std.proofs.Math.Seq.{drop-cons}
-use Rattle.std.proofs.lemmas.List.{append-nil, drop_all}
-use Rattle.pcm_io.specs.Giving.{AppendsPrefix}
-use Rattle.pcm_io.proofs.ByteLemmas.{Appends-Appends, Appends-AppendsPrefix, Appends-nothing, AppendsPrefix-longer}
-use Rattle.program_calls.specs.Calls.{SinkChange, Writes}
-use Rattle.program_calls.specs.FaultLines.{joined}
+use Rattle.std.{specs.Io.KnownBytes.Appends, specs.Prelude.{Result, Ok, Err, OnErr}, proofs.Math.Seq.drop-cons, proofs.lemmas.List.{append-nil, drop_all}}
+use Rattle.pcm_io.{specs.Giving.AppendsPrefix, proofs.ByteLemmas.{Appends-Appends, Appends-AppendsPrefix, Appends-nothing, AppendsPrefix-longer}}
+use Rattle.program_calls.specs.{Calls.{SinkChange, Writes}, FaultLines.joined}
 
 -- what was written under one name was under another
 pub writes-as : {T E : Type 0} (r : Result T E) (sink : SinkChange) (xs ys : List ℕ) → xs ≡ ys → Writes xs sink r → Writes ys sink r

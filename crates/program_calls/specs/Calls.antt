@@ -1,8 +1,6 @@
 -- What a call of a program was given, and what it left.
-use Rattle.std.specs.Prelude.{◌≡◌, ◌≤◌, ℕ, List, Option, Result, OnOk, OnErr}
-use Rattle.std.specs.Io.KnownBytes.{Appends}
-use Rattle.pcm_io.specs.Faults.{Rose}
-use Rattle.pcm_io.specs.Giving.{AppendsPrefix}
+use Rattle.std.specs.{Io.KnownBytes.Appends, Prelude.{◌≡◌, ◌≤◌, ℕ, List, Option, Result, OnOk, OnErr}}
+use Rattle.pcm_io.specs.{Faults.Rose, Giving.AppendsPrefix}
 use Rattle.cell_rows.specs.Device.{ArrayState}
 
 -- a sink before and after a call: what it was given, where that is told, and how often it failed

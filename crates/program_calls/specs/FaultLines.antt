@@ -1,9 +1,7 @@
 -- What a program says of the fault of a trace.
-use Rattle.std.specs.Prelude.{ℕ, List, [], ◌∷◌, ◌++◌, codes, decimal}
-use Rattle.std.specs.Borrow.{Bor}
-use Rattle.trace_reader.specs.declared.fault.Kind.{Kind}
+use Rattle.std.specs.{Borrow.Bor, Prelude.{ℕ, List, [], ◌∷◌, ◌++◌, codes, decimal}}
+use Rattle.trace_reader.specs.{declared.fault.Kind.Kind, declared.fault.TraceFault.TraceFault}
 use Rattle.trace_reader.specs.declared.fault.Kind.TheVariants as kind
-use Rattle.trace_reader.specs.declared.fault.TraceFault.{TraceFault}
 
 -- the word for what is wrong with a row of a trace
 abbrev pub kind_word : Kind → List ℕ

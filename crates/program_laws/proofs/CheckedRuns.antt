@@ -1,51 +1,25 @@
 -- What a run printed, checked behind its trace, is ok.
 use Rattle.std.proofs.Common.{◌≡◌, ℕ, ◌+◌, ◌-◌, ◌*◌, ◌≤◌, inl, inr, List, [], ◌∷◌, ◌++◌, length, Some, refl, sym, ap, ◌∙◌, subst, arith, append_assoc, append-nil, length-append}
-use Rattle.std.specs.Prelude.{◌⊎◌, codes, slice_index, Ok}
-use Rattle.std.specs.List.{join_with_byte}
-use Rattle.std.proofs.lemmas.List.{append_cancel_left, get_or_at}
+use Rattle.std.{specs.List.join_with_byte, specs.Prelude.{◌⊎◌, codes, slice_index, Ok}, proofs.lemmas.List.{append_cancel_left, get_or_at}}
 use Rattle.cell_rows.specs.Device.{ArrayState}
-use Rattle.trace_reader.specs.Trace.{most_rows, trace_of}
-use Rattle.trace_reader.specs.declared.event.Event.{Event}
-use Rattle.trace_reader.proofs.Lawful.{trace_of-lawful}
-use Rattle.trace_gen.specs.EventText.{event_fields, event_row, event_rows, trace_text}
-use Rattle.trace_gen.specs.Generated.{IsMix, generated}
-use Rattle.trace_gen.specs.Laws.{GeneratedSizeLaw, GeneratedTextLaw}
+use Rattle.trace_reader.{specs.Trace.{most_rows, trace_of}, specs.declared.event.Event.Event, proofs.Lawful.trace_of-lawful}
+use Rattle.trace_gen.specs.{EventText.{event_fields, event_row, event_rows, trace_text}, Generated.{IsMix, generated}, Laws.{GeneratedSizeLaw, GeneratedTextLaw}}
 use Rattle.trace_gen.specs.declared.mix.Mix.{Mix}
 use Rattle.result_rows.specs.declared.Outcome.{Outcome}
-use Rattle.check_verdict.specs.declared.Verdict.{Verdict}
-use Rattle.check_verdict.specs.declared.Verdict.TheVariants.{Yes}
+use Rattle.check_verdict.specs.{declared.Verdict.Verdict, declared.Verdict.TheVariants.Yes}
 use Rattle.module_shape.specs.Limits.{total_of}
 use Rattle.run_text.specs.ResultText.{results_text}
-use Rattle.check_text.specs.Checked.{HasVerdict, IsTextFault}
-use Rattle.check_text.specs.JudgedRuns.{IsJudgedOk, IsRunOf, JudgedRunsLaw, ShortLaw}
-use Rattle.check_text.specs.SplitLaw.{EndsItsLine}
-use Rattle.check_text.specs.VerdictText.{verdict_text}
-use Rattle.check_text.specs.declared.fault.TextFault.{TextFault}
+use Rattle.check_text.specs.{Checked.{HasVerdict, IsTextFault}, JudgedRuns.{IsJudgedOk, IsRunOf, JudgedRunsLaw, ShortLaw}, SplitLaw.EndsItsLine, VerdictText.verdict_text}
+use Rattle.check_text.{specs.declared.fault.TextFault.TextFault, proofs.JudgedRuns.some-lines}
 use Rattle.check_text.specs.declared.fault.TextFault.TheVariants as text
-use Rattle.command_line.specs.Jobs.{IsInput, IsRun}
-use Rattle.command_line.specs.declared.job.Input.{Input}
-use Rattle.command_line.specs.declared.job.Input.TheVariants.{Source, Drawn}
-use Rattle.command_line.specs.declared.job.LineSize.{LineSize}
-use Rattle.command_line.specs.declared.job.LineSize.TheVariants.{Bytes64, Bytes128}
-use Rattle.command_line.specs.declared.job.Print.{Print}
-use Rattle.command_line.specs.declared.job.Print.TheVariants.{Results}
-use Rattle.command_line.specs.declared.job.RunJob.{RunJob}
+use Rattle.command_line.specs.{Jobs.{IsInput, IsRun}, declared.job.Input.Input, declared.job.Input.TheVariants.{Source, Drawn}, declared.job.LineSize.LineSize}
+use Rattle.command_line.specs.{declared.job.LineSize.TheVariants.{Bytes64, Bytes128}, declared.job.Print.Print, declared.job.Print.TheVariants.Results, declared.job.RunJob.RunJob}
 use Rattle.program_laws.specs.CheckedRuns.{CheckedLaw, IsTraceOf, SaysOk, check_with}
 use Rattle.program_calls.specs.Calls.{Gets, GetsPart, SourceChange}
-use Rattle.pcm_top.specs.Calls.{Deed}
-use Rattle.pcm_top.specs.Checking.{IsCheckFault, TellsVerdict, TellsVerdictInPart, done_on, pointers_in, room_line}
-use Rattle.pcm_top.specs.Inputs.{ComeFrom}
-use Rattle.pcm_top.specs.Jobs.{bytes_in}
-use Rattle.pcm_top.specs.Reading.{trace_room}
-use Rattle.pcm_top.specs.RunText.{IsRunText}
-use Rattle.pcm_top.specs.Running.{RunIsWritten, WritesRun, status_done}
-use Rattle.pcm_top.specs.Statuses.{IsCheckStatus, status_without}
-use Rattle.pcm_top.specs.declared.fault.Fault.{Fault}
+use Rattle.pcm_top.specs.{Calls.Deed, Checking.{IsCheckFault, TellsVerdict, TellsVerdictInPart, done_on, pointers_in, room_line}, Inputs.ComeFrom, Jobs.bytes_in}
+use Rattle.pcm_top.specs.{Reading.trace_room, RunText.IsRunText, Running.{RunIsWritten, WritesRun, status_done}, Statuses.{IsCheckStatus, status_without}}
+use Rattle.pcm_top.{specs.declared.fault.Fault.Fault, specs.declared.run.Done.Done, specs.declared.run.Done.TheVariants.Whole, proofs.Deciding.{more-go, reads-told}}
 use Rattle.pcm_top.specs.declared.fault.Fault.TheVariants as fault
-use Rattle.pcm_top.specs.declared.run.Done.{Done}
-use Rattle.pcm_top.specs.declared.run.Done.TheVariants.{Whole}
-use Rattle.pcm_top.proofs.Deciding.{more-go, reads-told}
-use Rattle.check_text.proofs.JudgedRuns.{some-lines}
 
 -- ---- the trace of a run
 

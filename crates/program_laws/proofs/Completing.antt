@@ -1,34 +1,20 @@
 -- What a run leaves of whichever trace.
 use Rattle.std.proofs.Common.{◌≡◌, ℕ, ◌<◌, Bool, false, List, [], ◌∷◌, length, get_or, map, refl, sym, subst, arith}
-use Rattle.masked_bytes.proofs.Truth.{neither_first, neither_second}
-use Rattle.std.specs.Prelude.{All}
-use Rattle.std.specs.List.{list_any}
-use Rattle.std.proofs.lemmas.List.Elements.{All-nil, All-cons, All-from_get_or}
-use Rattle.std.proofs.lemmas.List.Folds.{list_any_none}
+use Rattle.std.{specs.List.list_any, specs.Prelude.All, proofs.lemmas.List.Elements.{All-nil, All-cons, All-from_get_or}, proofs.lemmas.List.Folds.list_any_none}
 use Rattle.std.proofs.lemmas.Option.{slice_get-get_or}
-use Rattle.trace_reader.specs.Events.{AreEventsFor}
-use Rattle.trace_reader.specs.declared.event.Event.{Event}
-use Rattle.trace_reader.specs.declared.event.EventOp.TheVariants.{Cut}
-use Rattle.trace_reader.proofs.Lawful.{trace_of-lawful}
+use Rattle.masked_bytes.proofs.Truth.{neither_first, neither_second}
+use Rattle.trace_reader.{specs.Events.AreEventsFor, specs.declared.event.Event.Event, specs.declared.event.EventOp.TheVariants.Cut, proofs.Lawful.trace_of-lawful}
 use Rattle.trace_gen.specs.Laws.{GeneratedLaw}
-use Rattle.result_rows.specs.declared.Outcome.{Outcome}
-use Rattle.result_rows.specs.declared.Outcome.TheVariants.{Unset}
+use Rattle.result_rows.specs.{declared.Outcome.Outcome, declared.Outcome.TheVariants.Unset}
 use Rattle.run_text.specs.Shortfall.{any_short, is_short}
 use Rattle.row_rules.specs.declared.Row.{Row}
 use Rattle.module_shape.specs.Limits.{IsShape, total_of}
 use Rattle.run_laws.specs.RowsOfRuns.{NoneLostLaw, NoneShortLaw, RoomIsTakenLaw}
-use Rattle.command_line.specs.Jobs.{IsInput}
-use Rattle.command_line.specs.declared.job.RunJob.{RunJob}
-use Rattle.command_line.specs.declared.job.Input.{Input}
-use Rattle.command_line.specs.declared.job.Input.TheVariants.{Source, Drawn}
+use Rattle.command_line.specs.{Jobs.IsInput, declared.job.Input.Input, declared.job.Input.TheVariants.{Source, Drawn}, declared.job.RunJob.RunJob}
 use Rattle.program_calls.specs.Calls.{SourceChange}
-use Rattle.pcm_top.specs.Inputs.{ComeFrom}
-use Rattle.pcm_top.specs.Rows.{rows_of}
-use Rattle.pcm_top.specs.Running.{done_by}
+use Rattle.pcm_top.{specs.Inputs.ComeFrom, specs.Rows.rows_of, specs.Running.done_by, specs.declared.run.Done.TheVariants.Whole, proofs.Printable.{lines-exist, row-of-event}}
 use Rattle.program_laws.specs.Laws.{CompletenessLaw}
-use Rattle.pcm_top.specs.declared.run.Done.TheVariants.{Whole}
 use Rattle.check_text.proofs.JudgedRuns.{some-lines}
-use Rattle.pcm_top.proofs.Printable.{lines-exist, row-of-event}
 
 all-fail : {n : ℕ} (test : Outcome n → Bool) (rows : List (Row n)) → list_any test (map (λ r. r.outcome) rows) ≡ false → All (λ r. test r.outcome ≡ false) rows
 all-fail test [] h = All-nil (λ r. test r.outcome ≡ false)

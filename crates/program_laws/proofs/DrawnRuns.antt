@@ -4,25 +4,14 @@ use Rattle.std.specs.Io.KnownBytes.{IsAtEnd}
 use Rattle.check_text.proofs.JudgedRuns.{some-lines}
 use Rattle.cell_rows.specs.Device.{ArrayState}
 use Rattle.trace_reader.specs.declared.event.Event.{Event}
-use Rattle.trace_gen.specs.EventText.{trace_text}
-use Rattle.trace_gen.specs.Generated.{IsMix, generated}
-use Rattle.trace_gen.specs.Laws.{GeneratedSizeLaw, GeneratedTextLaw}
-use Rattle.trace_gen.specs.declared.mix.Mix.{Mix}
+use Rattle.trace_gen.specs.{EventText.trace_text, Generated.{IsMix, generated}, Laws.{GeneratedSizeLaw, GeneratedTextLaw}, declared.mix.Mix.Mix}
 use Rattle.module_shape.specs.Limits.{total_of}
-use Rattle.command_line.specs.Jobs.{IsInput, IsRun}
-use Rattle.command_line.specs.declared.job.RunJob.{RunJob}
-use Rattle.command_line.specs.declared.job.Input.{Input}
-use Rattle.command_line.specs.declared.job.Input.TheVariants.{Drawn}
-use Rattle.command_line.specs.declared.job.LineSize.{LineSize}
-use Rattle.command_line.specs.declared.job.LineSize.TheVariants.{Bytes64, Bytes128}
-use Rattle.pcm_top.specs.Jobs.{bytes_in}
+use Rattle.command_line.specs.{Jobs.{IsInput, IsRun}, declared.job.Input.Input, declared.job.Input.TheVariants.Drawn, declared.job.LineSize.LineSize}
+use Rattle.command_line.specs.{declared.job.LineSize.TheVariants.{Bytes64, Bytes128}, declared.job.RunJob.RunJob}
+use Rattle.pcm_top.specs.{Calls.Deed, Inputs.ComeFrom, Jobs.bytes_in, Reading.{ReadsTrace, TakesBytes, trace_room}}
+use Rattle.pcm_top.specs.{Running.{RunIsWritten, RunIsWrittenInPart, Runs, WritesRun, WritesRunInPart}, declared.run.Done.Done}
 use Rattle.program_calls.specs.Calls.{SinkChange, SourceChange}
-use Rattle.pcm_top.specs.Reading.{ReadsTrace, TakesBytes, trace_room}
-use Rattle.pcm_top.specs.Calls.{Deed}
-use Rattle.pcm_top.specs.Inputs.{ComeFrom}
-use Rattle.pcm_top.specs.Running.{RunIsWritten, RunIsWrittenInPart, Runs, WritesRun, WritesRunInPart}
 use Rattle.program_laws.specs.Laws.{DrawnLaw, run_of_source}
-use Rattle.pcm_top.specs.declared.run.Done.{Done}
 
 -- the mix of a run that draws its events is in range
 input-mix : (input : Input) (mix : Mix) → input ≡ Drawn mix → IsInput input → IsMix mix

@@ -2,36 +2,19 @@
 use Rattle.std.proofs.Common.{◌≡◌, ℕ, zero, suc, ◌+◌, ◌*◌, ◌<◌, ◌≤◌, inl, inr, List, ◌++◌, length, Some, refl, sym, ap, subst, ◌∙◌, arith}
 use Rattle.std.specs.Prelude.{◌⊎◌, Result, Ok, Err}
 use Rattle.cell_rows.specs.Device.{ArrayState}
-use Rattle.row_rules.specs.declared.Row.{Row}
-use Rattle.row_rules.specs.Rows.{newest}
+use Rattle.row_rules.specs.{Rows.newest, declared.Row.Row}
 use Rattle.rotation_reports.specs.Rows.{rows_from}
-use Rattle.module_shape.specs.declared.raw.RawShape.{RawShape}
-use Rattle.module_shape.specs.Limits.{total_of}
+use Rattle.module_shape.specs.{Limits.total_of, declared.raw.RawShape.RawShape}
 use Rattle.end_laws.specs.Ends.{BankEnd}
-use Rattle.pcm_image.specs.Saved.{Saved, total_in}
-use Rattle.pcm_image.specs.Spelling.{image_bytes}
-use Rattle.pcm_image.specs.Standing.{stands_for}
+use Rattle.pcm_image.specs.{Saved.{Saved, total_in}, Spelling.image_bytes, Standing.stands_for, declared.ImageFault.ImageFault}
 use Rattle.pcm_image.proofs.Whole.{image_again, size-is}
-use Rattle.pcm_image.specs.declared.ImageFault.{ImageFault}
-use Rattle.image_laws.specs.SavedRuns.{AreRows, AreRowsTo, SavesRun}
-use Rattle.image_laws.specs.Sizes.{ShortImageLaw}
-use Rattle.command_line.specs.declared.job.Print.{Print}
-use Rattle.command_line.specs.declared.job.Print.TheVariants.{Image}
-use Rattle.command_line.specs.declared.job.RunJob.{RunJob}
+use Rattle.image_laws.specs.{SavedRuns.{AreRows, AreRowsTo, SavesRun}, Sizes.ShortImageLaw}
+use Rattle.command_line.specs.{declared.job.Print.Print, declared.job.Print.TheVariants.Image, declared.job.RunJob.RunJob}
 use Rattle.program_calls.specs.Calls.{Gets, GetsPart, SinkChange, SourceChange}
-use Rattle.pcm_top.specs.Calls.{Deed}
-use Rattle.pcm_top.specs.Images.{senses_for}
-use Rattle.pcm_top.specs.Reading.{trace_room}
-use Rattle.pcm_top.specs.Rows.{rows_of}
-use Rattle.pcm_top.specs.RunText.{IsRunText}
-use Rattle.pcm_top.specs.Running.{RunIsWritten}
-use Rattle.pcm_top.specs.Showing.{IsShowFault, ReadsImage, ShowsImage, ShowsImageInPart, shown_header, shown_of, shown_row, shown_text}
-use Rattle.pcm_top.specs.Statuses.{IsImageStatus, IsShowStatus}
-use Rattle.pcm_top.specs.declared.fault.Fault.{Fault}
+use Rattle.pcm_top.specs.{Calls.Deed, Images.senses_for, Reading.trace_room, Rows.rows_of, RunText.IsRunText, Running.RunIsWritten}
+use Rattle.pcm_top.specs.{Showing.{IsShowFault, ReadsImage, ShowsImage, ShowsImageInPart, shown_header, shown_of, shown_row, shown_text}, Statuses.{IsImageStatus, IsShowStatus}}
+use Rattle.pcm_top.{specs.declared.fault.Fault.Fault, specs.declared.run.Done.Done, specs.declared.run.Done.TheVariants.Whole, proofs.Deciding.{more-go, reads-told}}
 use Rattle.pcm_top.specs.declared.fault.Fault.TheVariants as fault
-use Rattle.pcm_top.specs.declared.run.Done.{Done}
-use Rattle.pcm_top.specs.declared.run.Done.TheVariants.{Whole}
-use Rattle.pcm_top.proofs.Deciding.{more-go, reads-told}
 use Rattle.program_laws.specs.ShownRuns.{IsShown, ShownLaw, ShowsAs, newest_text}
 
 same-rows : (f g : ℕ → List ℕ) (n : ℕ) → ((l : ℕ) → l < n → f l ≡ g l) → rows_from (shown_row f) 0 n ≡ rows_from (shown_row g) 0 n

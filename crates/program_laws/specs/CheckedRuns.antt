@@ -1,23 +1,12 @@
 -- What `check` makes of the results that a run printed.
 use Rattle.std.specs.Prelude.{◌≡◌, ◌⊎◌, ℕ, List, ◌++◌, codes, Some, Ok}
 use Rattle.check_text.specs.SplitLaw.{EndsItsLine}
-use Rattle.command_line.specs.Jobs.{IsRun}
-use Rattle.command_line.specs.declared.job.CheckJob.{CheckJob}
-use Rattle.command_line.specs.declared.job.Input.{Input}
-use Rattle.command_line.specs.declared.job.Input.TheVariants.{Source, Drawn}
-use Rattle.command_line.specs.declared.job.Job.TheVariants.{Run, Check}
-use Rattle.command_line.specs.declared.job.Print.TheVariants.{Results}
-use Rattle.command_line.specs.declared.job.RunJob.{RunJob}
+use Rattle.command_line.specs.{Jobs.IsRun, declared.job.CheckJob.CheckJob, declared.job.Input.Input, declared.job.Input.TheVariants.{Source, Drawn}}
+use Rattle.command_line.specs.{declared.job.Job.TheVariants.{Run, Check}, declared.job.Print.TheVariants.Results, declared.job.RunJob.RunJob}
 use Rattle.program_calls.specs.Calls.{Gets, GetsPart, SourceChange}
-use Rattle.pcm_top.specs.Calls.{Deed}
-use Rattle.pcm_top.specs.Jobs.{gen_text}
+use Rattle.pcm_top.specs.{Calls.Deed, Jobs.gen_text, Running.{Does, DoesPart, HasCause}, Statuses.IsStatusFor, declared.fault.Fault.Fault}
+use Rattle.pcm_top.specs.{declared.fault.Fault.TheVariants.{NoMemory, Read}, declared.run.Done.Done, declared.run.Done.TheVariants.Whole}
 use Rattle.program_laws.specs.Laws.{gen_with}
-use Rattle.pcm_top.specs.Running.{Does, DoesPart, HasCause}
-use Rattle.pcm_top.specs.Statuses.{IsStatusFor}
-use Rattle.pcm_top.specs.declared.fault.Fault.{Fault}
-use Rattle.pcm_top.specs.declared.fault.Fault.TheVariants.{NoMemory, Read}
-use Rattle.pcm_top.specs.declared.run.Done.{Done}
-use Rattle.pcm_top.specs.declared.run.Done.TheVariants.{Whole}
 
 -- the job of `check` with the options of a run
 abbrev pub check_with : RunJob → CheckJob

@@ -3,12 +3,10 @@ use Rattle.std.specs.Prelude.{ℕ, ◌<◌, List, Some}
 use Rattle.cell_rows.specs.Device.{ArrayState}
 use Rattle.pcm_cells.specs.Seeded.{SeededArray, seeded_state, bounds_of}
 use Rattle.ecp_line.specs.Layout.{IsLayout}
-use Rattle.command_line.specs.Jobs.{IsRun}
-use Rattle.command_line.specs.declared.job.RunJob.{RunJob}
+use Rattle.command_line.specs.{Jobs.IsRun, declared.job.RunJob.RunJob}
 use Rattle.run_laws.specs.Lasting.{IsAlive, Outlasts, OutlastsAsked}
 use Rattle.program_calls.specs.Calls.{SourceChange}
-use Rattle.pcm_top.specs.Rows.{rows_of}
-use Rattle.pcm_top.specs.Running.{Runs}
+use Rattle.pcm_top.specs.{Rows.rows_of, Running.Runs}
 
 -- a run wears a bank out nowhere where its cells endure more changes than any slot's own line of the bank may
 -- take line writes, by the run's stores and cuts and the hot lines of each region

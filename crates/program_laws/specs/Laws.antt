@@ -1,26 +1,14 @@
 -- What every run that was made is, and what runs of drawn events are.
-use Rattle.std.specs.Prelude.{◌≡◌, ℕ, Bool, IsTrue, IsFalse, List, ◌∷◌, ◌++◌, All, Ok}
-use Rattle.std.specs.Io.KnownBytes.{IsAtEnd}
+use Rattle.std.specs.{Io.KnownBytes.IsAtEnd, Prelude.{◌≡◌, ℕ, Bool, IsTrue, IsFalse, List, ◌∷◌, ◌++◌, All, Ok}}
 use Rattle.cell_rows.specs.Device.{ArrayState}
 use Rattle.trace_gen.specs.declared.mix.Mix.{Mix}
-use Rattle.row_rules.specs.declared.Asks.TheVariants.{Writes}
-use Rattle.row_rules.specs.declared.Row.{Row}
-use Rattle.row_rules.specs.Answers.{accepts, is_lost, is_queued}
+use Rattle.row_rules.specs.{Answers.{accepts, is_lost, is_queued}, declared.Asks.TheVariants.Writes, declared.Row.Row}
 use Rattle.module_shape.specs.declared.raw.RawShape.{RawShape}
 use Rattle.run_laws.specs.RowsOfRuns.{FindsPlace, HasRoom, NoCuts}
-use Rattle.command_line.specs.Jobs.{IsRun}
-use Rattle.command_line.specs.declared.job.Job.TheVariants.{Run}
-use Rattle.command_line.specs.declared.job.RunJob.{RunJob}
-use Rattle.command_line.specs.declared.job.GenJob.{GenJob}
-use Rattle.command_line.specs.declared.job.Input.TheVariants.{Source, Drawn}
-use Rattle.pcm_top.specs.Jobs.{gen_text}
-use Rattle.program_calls.specs.Calls.{SourceChange}
-use Rattle.pcm_top.specs.Reading.{TakesBytes}
-use Rattle.pcm_top.specs.Calls.{Deed}
-use Rattle.pcm_top.specs.Rows.{rows_of}
-use Rattle.pcm_top.specs.Running.{Does, DoesPart, Runs, done_by}
-use Rattle.pcm_top.specs.declared.run.Done.{Done}
+use Rattle.command_line.specs.{Jobs.IsRun, declared.job.GenJob.GenJob, declared.job.Input.TheVariants.{Source, Drawn}, declared.job.Job.TheVariants.Run, declared.job.RunJob.RunJob}
+use Rattle.pcm_top.specs.{Calls.Deed, Jobs.gen_text, Reading.TakesBytes, Rows.rows_of, Running.{Does, DoesPart, Runs, done_by}, declared.run.Done.Done}
 use Rattle.pcm_top.specs.declared.run.Done.TheVariants.{Whole}
+use Rattle.program_calls.specs.Calls.{SourceChange}
 
 -- what a run leaves of whichever trace: without a power cut no read is lost; a write that finds room in a
 -- bank that isn't worn out and has no worn control line is accepted and leaves the queue; and where no power

@@ -1,24 +1,13 @@
 -- What is shown of the image of a run.
 use Rattle.std.specs.Prelude.{◌≡◌, ◌⊎◌, ℕ, List, ◌++◌, Some, Ok}
 use Rattle.cell_rows.specs.Device.{ArrayState}
-use Rattle.row_rules.specs.declared.Row.{Row}
-use Rattle.row_rules.specs.Rows.{newest}
+use Rattle.row_rules.specs.{Rows.newest, declared.Row.Row}
 use Rattle.rotation_reports.specs.Rows.{rows_from}
-use Rattle.module_shape.specs.declared.raw.RawShape.{RawShape}
-use Rattle.module_shape.specs.Limits.{total_of}
-use Rattle.command_line.specs.declared.job.RunJob.{RunJob}
-use Rattle.command_line.specs.declared.job.Job.TheVariants.{Show}
-use Rattle.command_line.specs.declared.job.Print.TheVariants.{Image}
+use Rattle.module_shape.specs.{Limits.total_of, declared.raw.RawShape.RawShape}
+use Rattle.command_line.specs.{declared.job.Job.TheVariants.Show, declared.job.Print.TheVariants.Image, declared.job.RunJob.RunJob}
 use Rattle.program_calls.specs.Calls.{Gets, GetsPart, SinkChange, SourceChange}
-use Rattle.pcm_top.specs.Calls.{Deed}
-use Rattle.pcm_top.specs.Rows.{rows_of}
-use Rattle.pcm_top.specs.Running.{Does, DoesPart, HasCause, RunIsWritten}
-use Rattle.pcm_top.specs.Showing.{shown_header, shown_row}
-use Rattle.pcm_top.specs.Statuses.{IsStatusFor}
-use Rattle.pcm_top.specs.declared.fault.Fault.{Fault}
-use Rattle.pcm_top.specs.declared.fault.Fault.TheVariants.{NoMemory, Read}
-use Rattle.pcm_top.specs.declared.run.Done.{Done}
-use Rattle.pcm_top.specs.declared.run.Done.TheVariants.{Whole}
+use Rattle.pcm_top.specs.{Calls.Deed, Rows.rows_of, Running.{Does, DoesPart, HasCause, RunIsWritten}, Showing.{shown_header, shown_row}, Statuses.IsStatusFor}
+use Rattle.pcm_top.specs.{declared.fault.Fault.Fault, declared.fault.Fault.TheVariants.{NoMemory, Read}, declared.run.Done.Done, declared.run.Done.TheVariants.Whole}
 
 -- a header, and a row for each line of a module of these sizes with its newest bytes, by the rows of a run
 abbrev pub newest_text : {n : ℕ} → RawShape → List (Row n) → List ℕ

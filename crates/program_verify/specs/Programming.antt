@@ -1,11 +1,7 @@
 -- What a programming of a line wants, how far it has come, and what a round does.
 use Rattle.std.specs.Prelude.{ℕ, ◌≡◌, ◌+◌, ◌*◌, ◌<◌, ◌≤◌, ◌⊎◌, ◌&&◌, Bool, true, false}
-use Rattle.cell_rows.specs.declared.row.Cells.{Cells}
-use Rattle.cell_rows.specs.Rows.{cell, xor}
-use Rattle.cell_rows.specs.Device.{LineState, ArrayState, DeviceStep, TornStep, ChangesOnly, Senses, counted}
-use Rattle.program_verify.specs.declared.prog.Prog.{Prog}
-use Rattle.program_verify.specs.declared.prog.Turn.{Turn}
-use Rattle.program_verify.specs.declared.prog.Turn.TheVariants.{Going, Settled}
+use Rattle.cell_rows.specs.{Device.{LineState, ArrayState, DeviceStep, TornStep, ChangesOnly, Senses, counted}, Rows.{cell, xor}, declared.row.Cells.Cells}
+use Rattle.program_verify.specs.{declared.prog.Prog.Prog, declared.prog.Turn.Turn, declared.prog.Turn.TheVariants.{Going, Settled}}
 
 -- a wanted cell differs
 abbrev pub is_wrong : {B M : ℕ} → Prog B M → ℕ → Bool

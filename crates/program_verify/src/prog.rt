@@ -35,7 +35,12 @@ impl<const B: usize, const M: usize> Prog<B, M> {
     /// A programming of a line that holds `seen`, of the cells `which`, to their values in `want`.
     #[inline(always)]
     pub fn new(seen: Cells<B, M>, want: Cells<B, M>, which: Cells<B, M>) -> Prog<B, M>
-        ensures made { result ≡ record { seen = seen.entry; want = want.entry; which = which.entry; rounds = 0 } }
+        ensures made { result ≡ record {
+          seen = seen.entry;
+          want = want.entry;
+          which = which.entry;
+          rounds = 0;
+        } }
         ensures programs { (line : LineState B M) → line.held ≡ seen.entry → Programs result line }
     {
         Prog {
@@ -63,7 +68,8 @@ impl<const B: usize, const M: usize> Prog<B, M> {
     /// Whether a round is left to make, and which cells are left wrong if none is.
     pub fn status(&self) -> Turn<B, M>
         ensures status { IsStatus self.now result }
-        ensures stuck { (line : LineState B M) → Programs self.now line → IsStuckWhereWrong line result }
+        ensures stuck { (line : LineState B M) → Programs self.now line
+            → IsStuckWhereWrong line result }
     {
         let wrong = self.wrong();
         if self.rounds < ROUNDS && !wrong.is_none() {
@@ -79,7 +85,8 @@ impl<const B: usize, const M: usize> Prog<B, M> {
         requires shape { IsShape B M }
         requires going { IsGoing self.old }
         requires line { Programs self.old ((A.state array.old).line line) }
-        ensures round { IsRound line tick self.old self.new (A.state array.old) (A.state array.new) }
+        ensures round { IsRound line tick self.old self.new (A.state array.old)
+            (A.state array.new) }
         ensures line { Programs self.new ((A.state array.new).line line) }
         ensures status { IsStatus self.new result }
         ensures stuck { IsStuckWhereWrong ((A.state array.new).line line) result }

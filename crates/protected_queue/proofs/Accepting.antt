@@ -1,14 +1,10 @@
 -- A queue stays a queue, and what a search from its end has found.
 use Rattle.std.proofs.Common.{◌≡◌, ◌≢◌, ℕ, ◌<◌, ◌≤◌, List, [], ◌∷◌, ◌++◌, Bool, true, false, ◌==◌, if◌then◌else◌, zero, suc, length, drop, refl, sym, ap, ◌∙◌, arith, slice_get, slice_set, Option, Some, None, eq-eqb, length-append, ◌⊎◌, inl, inr}
 use Rattle.std.proofs.lemmas.Bool.{ne_eqb, lt-ltb, le-ltb, cases_lt}
-use Rattle.masked_bytes.specs.Masked.{joined, none_given, gives_some, IsMasked}
-use Rattle.masked_bytes.specs.Entries.{stacked, or_this, one_further, layer_by, layer_of, newest_index, candidate_index, laid_on, merged_at, completed_by, completed, row_at, AllMasked}
-use Rattle.masked_bytes.specs.declared.entry.Entry.{Entry}
-use Rattle.masked_bytes.proofs.Layering.{gives_some-joined}
-use Rattle.masked_bytes.proofs.Queueing.{IsLayer, IsLayer-layer_of, length-merged_at, merged_at-slice_set}
-use Rattle.masked_bytes.proofs.Standing.{AllMasked-append, AllMasked-merged_at, AllMasked-completed}
-use Rattle.protected_queue.specs.declared.accept.Accept.TheVariants.{Pushed, Merged, Full}
-use Rattle.protected_queue.specs.Queue.{IsQueue, accept_answer}
+use Rattle.masked_bytes.specs.Entries.{stacked, or_this, one_further, layer_by, layer_of, newest_index, candidate_index, laid_on, merged_at, completed_by, completed, row_at}
+use Rattle.masked_bytes.{specs.Entries.AllMasked, specs.Masked.{joined, none_given, gives_some, IsMasked}, specs.declared.entry.Entry.Entry, proofs.Layering.gives_some-joined}
+use Rattle.masked_bytes.proofs.{Queueing.{IsLayer, IsLayer-layer_of, length-merged_at, merged_at-slice_set}, Standing.{AllMasked-append, AllMasked-merged_at, AllMasked-completed}}
+use Rattle.protected_queue.specs.{Queue.{IsQueue, accept_answer}, declared.accept.Accept.TheVariants.{Pushed, Merged, Full}}
 
 gives_some-right : (given other : List Bool) → length other ≡ length given → gives_some other ≡ true → gives_some (joined given other) ≡ true
 gives_some-right [] other e h = h

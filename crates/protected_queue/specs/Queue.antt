@@ -1,9 +1,7 @@
 -- What a contract sees of a write queue, and what accepting a write does to it.
 use Rattle.std.specs.Prelude.{ℕ, ◌<◌, ◌≤◌, nat_lt, Bool, true, false, List, [], ◌∷◌, ◌++◌, length, Option, Some, None}
-use Rattle.masked_bytes.specs.Entries.{candidate_index, merged_at, row_at, AllMasked}
-use Rattle.masked_bytes.specs.declared.entry.Entry.{Entry}
-use Rattle.protected_queue.specs.declared.accept.Accept.{Accept}
-use Rattle.protected_queue.specs.declared.accept.Accept.TheVariants.{Pushed, Merged, Full}
+use Rattle.masked_bytes.specs.{Entries.{candidate_index, merged_at, row_at, AllMasked}, declared.entry.Entry.Entry}
+use Rattle.protected_queue.specs.{declared.accept.Accept.Accept, declared.accept.Accept.TheVariants.{Pushed, Merged, Full}}
 
 -- the entries, the oldest first, and how many there may be
 pub record QueueState (n : ℕ) : Type 0 where

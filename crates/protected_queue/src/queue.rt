@@ -44,9 +44,13 @@ impl<const B: usize> Queue<B> {
     /// The given bytes are laid over the candidate, which then counts as the new write's row; without one the write goes last.
     pub fn accept(&mut self, entry: Entry<B>, head_busy: bool) -> Accept
         requires { IsMasked B entry.bytes entry.given }
-        ensures answer { result ≡ accept_answer self.old.cap head_busy self.old.entries entry.entry.line }
+        ensures answer { result ≡ accept_answer self.old.cap head_busy self.old.entries
+            entry.entry.line }
         ensures entries { self.new
-            ≡ record self.old { entries = accepted self.old.cap head_busy entry.entry self.old.entries } }
+            ≡ record self.old {
+              entries = accepted self.old.cap head_busy entry.entry
+                  self.old.entries;
+            } }
     {
         match self.candidate(entry.line, head_busy) {
             Some(index) => Accept::Merged {

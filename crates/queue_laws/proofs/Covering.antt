@@ -1,46 +1,27 @@
 -- Over a lawful history the queue gives of each line what its accepted writes behind the last stored one give, and a completed head more.
 use Rattle.std.proofs.Common.{◌≡◌, ℕ, ◌<◌, ◌≤◌, ◌==◌, ◌⊎◌, inl, inr, Bool, true, false, suc, List, [], ◌∷◌, ◌++◌, Some, None, drop, refl, sym, ap, ◌∙◌, subst, arith, cond, eqb, eqb-true}
-use Rattle.masked_bytes.proofs.Truth.{and_first, and_second}
-use Rattle.std.specs.Prelude.{unwrap_or}
-use Rattle.std.proofs.lemmas.Bool.{eq-eqb, ne_eqb}
+use Rattle.std.{specs.Prelude.unwrap_or, proofs.lemmas.Bool.{eq-eqb, ne_eqb}}
+use Rattle.masked_bytes.specs.{Entries.{RowsApart, has_row, candidate, merged}, Masked.{joined, none_given, gives_all}, declared.entry.Entry.Entry}
+use Rattle.masked_bytes.proofs.{Queueing.candidate-newest, Truth.{and_first, and_second}}
 use Rattle.result_rows.specs.declared.Outcome.{Outcome}
 use Rattle.result_rows.specs.declared.Outcome.TheVariants as out
-use Rattle.masked_bytes.specs.declared.entry.Entry.{Entry}
-use Rattle.masked_bytes.specs.Masked.{joined, none_given, gives_all}
-use Rattle.masked_bytes.specs.Entries.{RowsApart, has_row, candidate, merged}
 use Rattle.row_rules.specs.Answers.{is_stored}
-use Rattle.bank_shape.specs.declared.BankShape.{BankShape}
-use Rattle.bank_shape.specs.declared.answer.WriteAnswer.{WriteAnswer}
+use Rattle.bank_shape.specs.{declared.BankShape.BankShape, declared.answer.Step.Step, declared.answer.WriteAnswer.WriteAnswer, declared.pace.Pace.Pace}
 use Rattle.bank_shape.specs.declared.answer.WriteAnswer.TheVariants as wrote
 use Rattle.bank_shape.specs.declared.answer.ReadAnswer.TheVariants as came
-use Rattle.bank_shape.specs.declared.answer.Step.{Step}
 use Rattle.bank_shape.specs.declared.answer.Step.TheVariants as did
-use Rattle.bank_model.specs.Events.{Write, Read, Serve, Begin, Iterate, Cut, RowsBelow, newest}
-use Rattle.bank_model.specs.History.{begun, queue, waits, due_after, has_exhausted, in_progress}
-use Rattle.bank_model.specs.Answers.{head_busy_after}
-use Rattle.bank_model.specs.Sensing.{most_steps}
-use Rattle.bank_shape.specs.declared.pace.Pace.{Pace}
-use Rattle.bank_model.specs.Timing.{Happens, Core, Regs, TimedEvent, core, core_of}
-use Rattle.bank_model.specs.Told.{tick_of_row}
-use Rattle.bank_model.specs.Lawful.{Lawful, MayCome}
-use Rattle.bank_laws.specs.Pairs.{ArePaired}
-use Rattle.bank_laws.specs.Standing.{has_wait}
-use Rattle.bank_laws.specs.Outcomes.{on_row, outcome_with, outcome_of}
-use Rattle.bank_laws.proofs.Entries.{either, differ}
-use Rattle.bank_laws.proofs.Standing.{stand_apart}
-use Rattle.bank_laws.proofs.Answering.{IsHead, stored-head}
-use Rattle.bank_laws.proofs.Settling.{opens, above_all, step_stays}
-use Rattle.bank_laws.proofs.Pairs.{AllLong, HeadFull, KeepsPairs, keeps_pairs, busy-full, no_candidate-head, accepted-none}
-use Rattle.bank_laws.proofs.Ending.{accepting}
-use Rattle.bank_laws.proofs.Wears.{not_stored, lost_not_stored}
+use Rattle.bank_model.specs.{Answers.head_busy_after, Events.{Write, Read, Serve, Begin, Iterate, Cut, RowsBelow, newest}}
+use Rattle.bank_model.specs.{History.{begun, queue, waits, due_after, has_exhausted, in_progress}, Lawful.{Lawful, MayCome}, Sensing.most_steps}
+use Rattle.bank_model.specs.{Timing.{Happens, Core, Regs, TimedEvent, core, core_of}, Told.tick_of_row}
+use Rattle.bank_laws.{specs.Outcomes.{on_row, outcome_with, outcome_of}, specs.Pairs.ArePaired, specs.Standing.has_wait, proofs.Answering.{IsHead, stored-head}}
+use Rattle.bank_laws.proofs.{Asked.{Wrote, wrote-one, pushed-stands, merged-stands, begun-stands}, Ending.accepting, Entries.{either, differ}}
 use Rattle.bank_laws.proofs.Lines.{Stands, stands-one, merged-candidate, merges-stands}
-use Rattle.bank_laws.proofs.Asked.{Wrote, wrote-one, pushed-stands, merged-stands, begun-stands}
-use Rattle.bank_laws.proofs.Waiting.{may_all}
-use Rattle.bank_laws.proofs.Pending.{queue-asked, writes_in, writes-fall}
-use Rattle.queue_laws.proofs.Order.{Leads, InOrder, in_order, below_among}
-use Rattle.masked_bytes.proofs.Queueing.{candidate-newest}
-use Rattle.queue_laws.proofs.Showing.{Front, Tails, front-same, tails-same, front-push, tails-push, front-merged, tails-merged, front-push_other, tails-push_other, front-merged_other, tails-merged_other, front-begun, tails-begun, front-stored, front-stored_other}
+use Rattle.bank_laws.proofs.{Pairs.{AllLong, HeadFull, KeepsPairs, keeps_pairs, busy-full, no_candidate-head, accepted-none}, Pending.{queue-asked, writes_in, writes-fall}}
+use Rattle.bank_laws.proofs.{Settling.{opens, above_all, step_stays}, Standing.stand_apart, Waiting.may_all, Wears.{not_stored, lost_not_stored}}
 use Rattle.queue_laws.proofs.Floors.{since, floor_of, since-none, since-joins, since-other, floor-bound, floor-agree, floor-above, floor-own, floor-new, stored-agree}
+use Rattle.queue_laws.proofs.Order.{Leads, InOrder, in_order, below_among}
+use Rattle.queue_laws.proofs.Showing.{Front, Tails, front-same, tails-same, front-push, tails-push, front-merged, tails-merged, front-push_other, tails-push_other}
+use Rattle.queue_laws.proofs.Showing.{front-merged_other, tails-merged_other, front-begun, tails-begun, front-stored, front-stored_other}
 
 module _ {n : ℕ} where
   -- an event stores nothing

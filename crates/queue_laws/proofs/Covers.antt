@@ -1,30 +1,16 @@
 -- The bytes that the rows show as given by the queue are those of the accepted writes behind the last stored one.
 use Rattle.std.proofs.Common.{◌≡◌, ℕ, ◌<◌, ◌≤◌, ◌==◌, ◌&&◌, ◌⊎◌, inl, inr, Bool, true, false, suc, List, [], ◌∷◌, ◌++◌, refl, sym, ap, ◌∙◌, subst, arith, cond, eqb, append_assoc}
-use Rattle.std.specs.Prelude.{nat_le}
-use Rattle.std.specs.List.{list_any}
-use Rattle.std.proofs.lemmas.Bool.{le-leb, lt-leb, and_left, and_right, or_from}
-use Rattle.std.proofs.lemmas.List.Folds.{list_any-append}
+use Rattle.std.{specs.List.list_any, specs.Prelude.nat_le, proofs.lemmas.Bool.{le-leb, lt-leb, and_left, and_right, or_from}, proofs.lemmas.List.Folds.list_any-append}
 use Rattle.result_rows.specs.declared.Outcome.{Outcome}
 use Rattle.result_rows.specs.declared.Outcome.TheVariants as out
 use Rattle.masked_bytes.specs.Masked.{joined, none_given}
-use Rattle.row_rules.specs.declared.Row.{Row}
+use Rattle.row_rules.specs.{Answers.{accepts, is_stored}, Queueing.{unstored, cover}, Rows.write_of, declared.Row.Row}
 use Rattle.row_rules.specs.Answers as answers
-use Rattle.row_rules.specs.Answers.{accepts, is_stored}
-use Rattle.row_rules.specs.Rows.{write_of}
-use Rattle.row_rules.specs.Queueing.{unstored, cover}
-use Rattle.bank_shape.specs.declared.BankShape.{BankShape}
-use Rattle.bank_model.specs.Events.{Write, Read, Serve, Begin, Iterate, Cut, RowsBelow}
-use Rattle.bank_shape.specs.declared.pace.Pace.{Pace}
-use Rattle.bank_model.specs.Timing.{Happens, Core, Regs, TimedEvent, core, core_of, last_tick}
-use Rattle.bank_model.specs.Lawful.{Lawful, MayCome}
-use Rattle.bank_laws.specs.Outcomes.{outcome_of, ended, row_with, rows_from}
-use Rattle.bank_laws.proofs.Settling.{opens, lawful_before, stays}
-use Rattle.bank_model.proofs.Rising.{RowsBelow-more}
-use Rattle.bank_laws.proofs.Walking.{rows_after}
-use Rattle.bank_laws.proofs.Ending.{Onwards, accepting, write_outcome, outcome-accepts}
-use Rattle.bank_laws.proofs.Serves.{onwards_at}
-use Rattle.bank_laws.proofs.Wears.{stored_up_to}
-use Rattle.bank_laws.proofs.Later.{EndsAbove, stored_over}
+use Rattle.bank_shape.specs.{declared.BankShape.BankShape, declared.pace.Pace.Pace}
+use Rattle.bank_model.specs.{Events.{Write, Read, Serve, Begin, Iterate, Cut, RowsBelow}, Lawful.{Lawful, MayCome}}
+use Rattle.bank_model.{specs.Timing.{Happens, Core, Regs, TimedEvent, core, core_of, last_tick}, proofs.Rising.RowsBelow-more}
+use Rattle.bank_laws.{specs.Outcomes.{outcome_of, ended, row_with, rows_from}, proofs.Ending.{Onwards, accepting, write_outcome, outcome-accepts}}
+use Rattle.bank_laws.proofs.{Later.{EndsAbove, stored_over}, Serves.onwards_at, Settling.{opens, lawful_before, stays}, Walking.rows_after, Wears.stored_up_to}
 use Rattle.queue_laws.proofs.Floors.{since, floor_of, since-none, since-other, floor-bound, floor-skip, stored_case}
 
 module _ {n : ℕ} where

@@ -1,28 +1,16 @@
 -- Of the writes that stand at most two have one line, and a refused write finds at most one of its line.
 use Rattle.std.proofs.Common.{◌≡◌, ℕ, ◌<◌, ◌≤◌, ◌==◌, ◌⊎◌, inl, inr, not, Bool, true, false, List, [], ◌∷◌, refl, sym, ap, ◌∙◌, subst, arith, cond, eqb-true}
-use Rattle.masked_bytes.proofs.Truth.{and_first}
-use Rattle.std.specs.Prelude.{nat_lt, filter}
-use Rattle.std.specs.List.{list_all}
-use Rattle.std.proofs.lemmas.Bool.{lt-ltb, le-ltb, and_from}
+use Rattle.std.{specs.List.list_all, specs.Prelude.{nat_lt, filter}, proofs.lemmas.Bool.{lt-ltb, le-ltb, and_from}}
+use Rattle.masked_bytes.{specs.declared.entry.Entry.Entry, proofs.Truth.and_first}
 use Rattle.result_rows.specs.declared.Outcome.{Outcome}
 use Rattle.result_rows.specs.declared.Outcome.TheVariants as out
-use Rattle.masked_bytes.specs.declared.entry.Entry.{Entry}
+use Rattle.row_rules.specs.{Answers.{accepts, is_merged, is_stored, stored_before}, Queueing.{none_before, is_older, has_few, pairs_few, is_refused}, Rows.{accepted_of, write_of}}
 use Rattle.row_rules.specs.declared.Row.{Row}
-use Rattle.row_rules.specs.Answers.{accepts, is_merged, is_stored, stored_before}
-use Rattle.row_rules.specs.Rows.{accepted_of, write_of}
-use Rattle.row_rules.specs.Queueing.{none_before, is_older, has_few, pairs_few, is_refused}
 use Rattle.bank_shape.specs.declared.BankShape.{BankShape}
-use Rattle.bank_model.specs.History.{queue}
-use Rattle.bank_model.specs.Timing.{TimedEvent, core}
-use Rattle.bank_model.specs.Told.{tick_of_row}
-use Rattle.bank_laws.specs.Pairs.{has_line, LinesApart, ArePaired}
-use Rattle.bank_laws.specs.Outcomes.{outcome_of, ended}
-use Rattle.bank_laws.specs.Settling.{AreOpen}
-use Rattle.bank_laws.proofs.Answering.{IsHead, head-there}
+use Rattle.bank_model.specs.{History.queue, Timing.{TimedEvent, core}, Told.tick_of_row}
+use Rattle.bank_laws.{specs.Outcomes.{outcome_of, ended}, specs.Pairs.{has_line, LinesApart, ArePaired}, specs.Settling.AreOpen, proofs.Answering.{IsHead, head-there}}
 use Rattle.bank_laws.proofs.Lines.{Stands, Covered, stands-row, stands-line, covered-stands}
-use Rattle.queue_laws.proofs.Order.{Leads}
-use Rattle.queue_laws.proofs.First.{NoneStored, NoneBelow, First, LeftAt}
-use Rattle.queue_laws.proofs.Written.{Written, item_of, items, Each, NumbersFall, numbers-more, IsEntry}
+use Rattle.queue_laws.proofs.{First.{NoneStored, NoneBelow, First, LeftAt}, Order.Leads, Written.{Written, item_of, items, Each, NumbersFall, numbers-more, IsEntry}}
 
 -- a filtered list, by whether its first passes
 pub filtered : {A : Type 0} (p : A → Bool) (x : A) (xs : List A) (P : List A → Type 0) → (p x ≡ true → P (x ∷ filter p xs)) → (p x ≡ false → P (filter p xs)) → P (filter p (x ∷ xs))

@@ -3,24 +3,15 @@ use Rattle.std.proofs.Common.{◌≡◌, ◌≢◌, ℕ, ◌≤◌, ◌==◌, �
 use Rattle.std.specs.Prelude.{unwrap_or}
 use Rattle.result_rows.specs.declared.Outcome.{Outcome}
 use Rattle.result_rows.specs.declared.Outcome.TheVariants as out
-use Rattle.masked_bytes.specs.declared.entry.Entry.{Entry}
-use Rattle.masked_bytes.specs.Entries.{merged, laid_on}
-use Rattle.bank_shape.specs.declared.BankShape.{BankShape}
+use Rattle.masked_bytes.specs.{Entries.{merged, laid_on}, declared.entry.Entry.Entry}
+use Rattle.bank_shape.specs.{declared.BankShape.BankShape, declared.pace.Pace.Pace}
 use Rattle.bank_shape.specs.declared.answer.WriteAnswer.TheVariants as wrote
 use Rattle.bank_shape.specs.declared.answer.ReadAnswer.TheVariants as came
 use Rattle.bank_shape.specs.declared.answer.Step.TheVariants as did
-use Rattle.bank_model.specs.Events.{Write, Read, Serve, Begin, Iterate, Cut, newest}
-use Rattle.bank_model.specs.History.{begun, queue, waits, due_after}
-use Rattle.bank_shape.specs.declared.pace.Pace.{Pace}
+use Rattle.bank_model.specs.{Events.{Write, Read, Serve, Begin, Iterate, Cut, newest}, History.{begun, queue, waits, due_after}, Lawful.{Lawful, MayCome}}
 use Rattle.bank_model.specs.Timing.{Happens, Core, Regs, TimedEvent, core, core_of, last_tick}
-use Rattle.bank_model.specs.Lawful.{Lawful, MayCome}
-use Rattle.bank_laws.specs.Standing.{has_wait}
-use Rattle.bank_laws.specs.Ticks.{ends_action}
-use Rattle.bank_laws.specs.Outcomes.{on_row, outcome_with, outcome_of}
-use Rattle.bank_laws.proofs.Ticks.{last_tick-rises}
-use Rattle.bank_laws.proofs.Answering.{IsHead, stored-head}
-use Rattle.bank_laws.proofs.Settling.{opens, step_stays}
-use Rattle.bank_laws.proofs.Wears.{not_stored, lost_not_stored, stored_tick, stored_by}
+use Rattle.bank_laws.{specs.Outcomes.{on_row, outcome_with, outcome_of}, specs.Standing.has_wait, specs.Ticks.ends_action, proofs.Answering.{IsHead, stored-head}}
+use Rattle.bank_laws.proofs.{Settling.{opens, step_stays}, Ticks.last_tick-rises, Wears.{not_stored, lost_not_stored, stored_tick, stored_by}}
 
 module _ {n : ℕ} where
   head-pushed : (es : List (Entry n)) (x : Entry n) (row : ℕ) → IsHead es row → IsHead (es ++ x ∷ []) row

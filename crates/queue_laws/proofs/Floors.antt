@@ -1,14 +1,12 @@
 -- What the accepted writes of a line from a row on give, and the row behind the last stored one.
 use Rattle.std.proofs.Common.{◌≡◌, ℕ, ◌<◌, ◌≤◌, ◌==◌, ◌&&◌, ◌⊎◌, inl, inr, Bool, true, false, suc, List, [], ◌∷◌, refl, sym, ap, ◌∙◌, subst, arith, cond, eqb, eqb-true}
-use Rattle.std.specs.Prelude.{nat_le}
-use Rattle.std.proofs.lemmas.Bool.{eq-eqb, le-leb, lt-leb, and_left, and_right, and_from}
+use Rattle.std.{specs.Prelude.nat_le, proofs.lemmas.Bool.{eq-eqb, le-leb, lt-leb, and_left, and_right, and_from}}
 use Rattle.result_rows.specs.declared.Outcome.{Outcome}
 use Rattle.result_rows.specs.declared.Outcome.TheVariants as out
 use Rattle.masked_bytes.specs.Masked.{joined, none_given}
 use Rattle.row_rules.specs.Answers.{is_stored}
 use Rattle.bank_model.specs.Events.{BankEvent, Write, Read, Serve, Begin, Iterate, Cut, RowsBelow}
-use Rattle.bank_laws.proofs.Ending.{accepting}
-use Rattle.bank_laws.proofs.Asked.{Wrote, wrote-below}
+use Rattle.bank_laws.proofs.{Asked.{Wrote, wrote-below}, Ending.accepting}
 
 since-skip : (b : Bool) (given rest : List Bool) → b ≡ false → cond b (joined given rest) rest ≡ rest
 since-skip true given rest h = absurd (cc)

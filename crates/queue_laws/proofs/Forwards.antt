@@ -1,51 +1,22 @@
 -- When a read is forwarded, by the rows; and all that the rows show of the queue and of the waiting reads.
 use Rattle.std.proofs.Common.{◌≡◌, ℕ, ◌≤◌, ◌==◌, ◌||◌, ◌⊎◌, inl, inr, Bool, true, false, List, [], ◌∷◌, ◌++◌, length, refl, sym, ap, ◌∙◌, subst, arith, cond, eqb}
-use Rattle.std.proofs.lemmas.Bool.{and_from}
-use Rattle.std.specs.List.{list_any}
+use Rattle.std.{specs.List.list_any, proofs.lemmas.Bool.and_from}
 use Rattle.result_rows.specs.declared.Outcome.{Outcome}
 use Rattle.result_rows.specs.declared.Outcome.TheVariants as out
-use Rattle.masked_bytes.specs.declared.entry.Entry.{Entry}
-use Rattle.masked_bytes.specs.Masked.{gives_all}
-use Rattle.masked_bytes.specs.Entries.{has_row, layer_of}
-use Rattle.row_rules.specs.declared.Row.{Row}
-use Rattle.row_rules.specs.Answers.{is_forwarded}
-use Rattle.row_rules.specs.Rows.{write_of}
-use Rattle.row_rules.specs.Queueing.{pending, waiting, cover, is_at_head, read_fits}
-use Rattle.bank_shape.specs.declared.BankShape.{BankShape}
-use Rattle.bank_shape.specs.declared.answer.ReadAnswer.{ReadAnswer}
+use Rattle.masked_bytes.specs.{Entries.{has_row, layer_of}, Masked.gives_all, declared.entry.Entry.Entry}
+use Rattle.row_rules.specs.{Answers.is_forwarded, Queueing.{pending, waiting, cover, is_at_head, read_fits}, Rows.write_of, declared.Row.Row}
+use Rattle.bank_shape.specs.{declared.BankShape.BankShape, declared.answer.ReadAnswer.ReadAnswer, declared.pace.Pace.Pace}
 use Rattle.bank_shape.specs.declared.answer.ReadAnswer.TheVariants as came
-use Rattle.bank_model.specs.Events.{BankEvent, Write, Read, Serve, Begin, Iterate, Cut, RowsBelow, newest}
-use Rattle.bank_model.specs.History.{awaited, queue, waits}
-use Rattle.bank_model.specs.Answers.{read_answer}
-use Rattle.bank_model.specs.Sensing.{most_steps}
-use Rattle.bank_shape.specs.declared.pace.Pace.{Pace}
-use Rattle.bank_model.specs.Timing.{Happens, Core, Regs, TimedEvent, core, core_of, last_tick}
-use Rattle.bank_model.specs.Lawful.{Lawful, MayCome}
-use Rattle.bank_laws.specs.Outcomes.{outcome_of, row_with, rows_from}
-use Rattle.bank_laws.specs.RowLaws.{waits_fit}
-use Rattle.bank_laws.specs.Ticks.{ends_action}
-use Rattle.bank_laws.proofs.Ticks.{last_tick-rises}
-use Rattle.bank_laws.proofs.Settling.{lawful_before}
+use Rattle.bank_model.specs.{Answers.read_answer, Events.{BankEvent, Write, Read, Serve, Begin, Iterate, Cut, RowsBelow, newest}, History.{awaited, queue, waits}}
+use Rattle.bank_model.specs.{Lawful.{Lawful, MayCome}, Sensing.most_steps, Timing.{Happens, Core, Regs, TimedEvent, core, core_of, last_tick}}
 use Rattle.bank_model.proofs.Rising.{RowsBelow-more}
-use Rattle.bank_laws.proofs.Pairs.{AllLong, keeps_pairs}
-use Rattle.bank_laws.proofs.Fates.{IsSettled, awaits-new}
-use Rattle.bank_laws.proofs.Walking.{Passes, walk, rows_after}
-use Rattle.bank_laws.proofs.Ending.{Onwards, own_answer}
-use Rattle.bank_laws.proofs.Serves.{may_at, onwards_at, idle-waits}
-use Rattle.bank_laws.proofs.Lines.{Stands, stands-row}
-use Rattle.bank_laws.proofs.Asked.{Wrote}
-use Rattle.bank_laws.proofs.Waiting.{may_all, awaiting_length, read_room, fits_busy, fits_waiting, settled_all}
-use Rattle.queue_laws.specs.QueueLaws.{is_forward_fair, ForwardLaw}
-use Rattle.queue_laws.proofs.Written.{items, standing, written}
-use Rattle.queue_laws.proofs.Stood.{stood_each, pending_is}
-use Rattle.bank_laws.proofs.Given.{given-layer}
-use Rattle.bank_laws.proofs.Later.{EndsAbove, ends_at_row}
-use Rattle.queue_laws.proofs.Showing.{HasHead, front-covers, front-head}
-use Rattle.queue_laws.proofs.Floors.{since, floor_of}
-use Rattle.queue_laws.proofs.Covering.{is_covered}
-use Rattle.queue_laws.proofs.Covers.{cover_is}
+use Rattle.bank_laws.{specs.Outcomes.{outcome_of, row_with, rows_from}, specs.RowLaws.waits_fit, specs.Ticks.ends_action, proofs.Asked.Wrote, proofs.Ending.{Onwards, own_answer}}
+use Rattle.bank_laws.proofs.{Fates.{IsSettled, awaits-new}, Given.given-layer, Later.{EndsAbove, ends_at_row}, Lines.{Stands, stands-row}, Pairs.{AllLong, keeps_pairs}}
+use Rattle.bank_laws.proofs.{Serves.{may_at, onwards_at, idle-waits}, Settling.lawful_before, Ticks.last_tick-rises}
+use Rattle.bank_laws.proofs.{Waiting.{may_all, awaiting_length, read_room, fits_busy, fits_waiting, settled_all}, Walking.{Passes, walk, rows_after}}
+use Rattle.queue_laws.{specs.QueueLaws.{is_forward_fair, ForwardLaw}, proofs.Covering.is_covered, proofs.Covers.cover_is, proofs.Floors.{since, floor_of}}
 use Rattle.queue_laws.proofs.Heads.{HasStore, store-left, store-right, store-from, store-after, LineFirst, IsStoredFirst, line_first, line_is_first, any_entry}
-use Rattle.queue_laws.proofs.Rooms.{stands_well, behind}
+use Rattle.queue_laws.proofs.{Rooms.{stands_well, behind}, Showing.{HasHead, front-covers, front-head}, Stood.{stood_each, pending_is}, Written.{items, standing, written}}
 
 module _ {n : ℕ} where
   head-stands : (es : List (Entry n)) (line : ℕ) → HasHead line es → (row : ℕ) × Stands es row line

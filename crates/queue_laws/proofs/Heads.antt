@@ -1,39 +1,19 @@
 -- A line whose entry is the head of the queue is stored before any other row is.
 use Rattle.std.proofs.Common.{◌≡◌, ℕ, ◌<◌, ◌≤◌, ◌==◌, ◌&&◌, ◌||◌, ◌⊎◌, inl, inr, not, Bool, true, false, List, [], ◌∷◌, ◌++◌, Option, Some, None, min, refl, sym, ap, ◌∙◌, subst, arith, cond, eqb}
-use Rattle.std.specs.Prelude.{unwrap_or, nat_lt}
-use Rattle.std.specs.List.{list_any}
-use Rattle.std.proofs.lemmas.Bool.{eq-eqb, lt-ltb, and_from, or_left, or_right}
+use Rattle.std.{specs.List.list_any, specs.Prelude.{unwrap_or, nat_lt}, proofs.lemmas.Bool.{eq-eqb, lt-ltb, and_from, or_left, or_right}}
 use Rattle.result_rows.specs.declared.Outcome.{Outcome}
 use Rattle.result_rows.specs.declared.Outcome.TheVariants as out
-use Rattle.masked_bytes.specs.declared.entry.Entry.{Entry}
-use Rattle.masked_bytes.specs.Entries.{merged, laid_on}
-use Rattle.row_rules.specs.declared.Row.{Row}
-use Rattle.row_rules.specs.Answers.{is_stored, stored_before}
-use Rattle.row_rules.specs.Rows.{write_of}
-use Rattle.row_rules.specs.Queueing.{least, store_of, next_store, is_first}
-use Rattle.bank_shape.specs.declared.BankShape.{BankShape}
+use Rattle.masked_bytes.specs.{Entries.{merged, laid_on}, declared.entry.Entry.Entry}
+use Rattle.row_rules.specs.{Answers.{is_stored, stored_before}, Queueing.{least, store_of, next_store, is_first}, Rows.write_of, declared.Row.Row}
+use Rattle.bank_shape.specs.{declared.BankShape.BankShape, declared.pace.Pace.Pace}
 use Rattle.bank_shape.specs.declared.answer.WriteAnswer.TheVariants as wrote
 use Rattle.bank_shape.specs.declared.answer.Step.TheVariants as did
-use Rattle.bank_model.specs.Events.{Write, Read, Serve, Begin, Iterate, Cut, newest}
-use Rattle.bank_model.specs.History.{begun, queue, due_after}
-use Rattle.bank_shape.specs.declared.pace.Pace.{Pace}
+use Rattle.bank_model.specs.{Events.{Write, Read, Serve, Begin, Iterate, Cut, newest}, History.{begun, queue, due_after}, Lawful.{Lawful, MayCome}}
 use Rattle.bank_model.specs.Timing.{Happens, Core, Regs, TimedEvent, core, core_of, last_tick}
-use Rattle.bank_model.specs.Lawful.{Lawful, MayCome}
-use Rattle.bank_laws.specs.Outcomes.{on_row, outcome_with, outcome_of, ended, row_with, rows_from}
-use Rattle.bank_laws.specs.Ticks.{ends_action}
-use Rattle.bank_laws.proofs.Ticks.{last_tick-rises}
-use Rattle.bank_laws.proofs.Answering.{IsHead, stored-head}
-use Rattle.bank_laws.proofs.Settling.{opens, step_stays}
-use Rattle.bank_laws.proofs.Walking.{rows_after}
-use Rattle.bank_laws.proofs.Wears.{stored_by, stored_tick}
-use Rattle.bank_laws.proofs.Lines.{Stands}
-use Rattle.bank_laws.proofs.Asked.{Wrote}
-use Rattle.bank_laws.proofs.Later.{EndsAbove}
-use Rattle.queue_laws.proofs.First.{NoneStored, NoneBelow}
-use Rattle.queue_laws.proofs.Written.{Written, items, standing, Each, written_by, written, IsEntry}
-use Rattle.queue_laws.proofs.Few.{StandsWell, entry_unset, not_stored_ended, not_before_ended}
-use Rattle.queue_laws.proofs.Showing.{HasHead}
-use Rattle.queue_laws.proofs.Covering.{is_covered, Storeless, none_new}
+use Rattle.bank_laws.{specs.Outcomes.{on_row, outcome_with, outcome_of, ended, row_with, rows_from}, specs.Ticks.ends_action, proofs.Answering.{IsHead, stored-head}}
+use Rattle.bank_laws.proofs.{Asked.Wrote, Later.EndsAbove, Lines.Stands, Settling.{opens, step_stays}, Ticks.last_tick-rises, Walking.rows_after, Wears.{stored_by, stored_tick}}
+use Rattle.queue_laws.proofs.{Covering.{is_covered, Storeless, none_new}, Few.{StandsWell, entry_unset, not_stored_ended, not_before_ended}, First.{NoneStored, NoneBelow}}
+use Rattle.queue_laws.proofs.{Showing.HasHead, Written.{Written, items, standing, Each, written_by, written, IsEntry}}
 
 -- a next store by a tick
 abbrev NextBy : ℕ → Option ℕ → Type 0

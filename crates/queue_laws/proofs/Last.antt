@@ -1,18 +1,12 @@
 -- The newest entry of a line in a history's queue is that of the line's last write.
 use Rattle.std.proofs.Common.{◌≡◌, ℕ, ◌==◌, ◌||◌, Bool, true, false, List, [], ◌∷◌, ◌++◌, drop, Option, Some, None, refl, sym, ap, subst, ◌∙◌, cond, eqb, eqb-true}
 use Rattle.std.proofs.lemmas.Bool.{eq-eqb}
-use Rattle.masked_bytes.specs.declared.entry.Entry.{Entry}
-use Rattle.masked_bytes.specs.Entries.{or_this, newest_row, laid_on, merged, has_row, RowsApart}
+use Rattle.masked_bytes.{specs.Entries.{or_this, newest_row, laid_on, merged, has_row, RowsApart}, specs.declared.entry.Entry.Entry, proofs.Queueing.candidate-newest}
 use Rattle.bank_shape.specs.declared.BankShape.{BankShape}
 use Rattle.bank_shape.specs.declared.answer.WriteAnswer.TheVariants as wrote
 use Rattle.bank_shape.specs.declared.answer.Step.TheVariants as did
-use Rattle.bank_model.specs.Events.{BankEvent, Write, Read, Serve, Begin, Iterate, Cut, newest, RowsBelow}
-use Rattle.masked_bytes.proofs.Queueing.{candidate-newest}
-use Rattle.bank_model.specs.History.{begun, queue, due_after}
-use Rattle.bank_model.specs.Answers.{MayAll, head_busy_after}
-use Rattle.bank_laws.proofs.Answering.{newest_row-there}
-use Rattle.bank_laws.proofs.Lines.{merged-candidate}
-use Rattle.bank_laws.proofs.Standing.{stand_apart}
+use Rattle.bank_model.specs.{Answers.{MayAll, head_busy_after}, Events.{BankEvent, Write, Read, Serve, Begin, Iterate, Cut, newest, RowsBelow}, History.{begun, queue, due_after}}
+use Rattle.bank_laws.proofs.{Answering.newest_row-there, Lines.merged-candidate, Standing.stand_apart}
 use Rattle.queue_laws.specs.EntryLaws.{last_write, LastWriteLaw}
 
 module _ {n : ℕ} where

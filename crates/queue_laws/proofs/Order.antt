@@ -1,36 +1,18 @@
 -- Entries of one line stand in the order of their rows and of their ticks, and a busy head came before the last tick.
 use Rattle.std.proofs.Common.{◌≡◌, ℕ, ◌<◌, ◌≤◌, ◌==◌, ◌&&◌, ◌⊎◌, inl, inr, not, Bool, true, false, List, [], ◌∷◌, ◌++◌, Option, Some, None, drop, refl, sym, ap, ◌∙◌, subst, arith, cond, eqb, eqb-true, eq-eqb}
 use Rattle.std.proofs.lemmas.Bool.{or_left, or_right, and_from}
+use Rattle.masked_bytes.specs.{Entries.{has_row, RowsApart, merged, laid_on, newest_row, candidate, or_this}, declared.entry.Entry.Entry}
 use Rattle.masked_bytes.proofs.Truth.{and_first, and_second, or_rest}
-use Rattle.masked_bytes.specs.declared.entry.Entry.{Entry}
-use Rattle.masked_bytes.specs.Entries.{has_row, RowsApart, merged, laid_on, newest_row, candidate, or_this}
-use Rattle.bank_shape.specs.declared.BankShape.{BankShape}
-use Rattle.bank_shape.specs.declared.Work.TheVariants.{Nothing}
-use Rattle.bank_shape.specs.declared.answer.WriteAnswer.{WriteAnswer}
+use Rattle.bank_shape.specs.{Kinds.is_store, declared.BankShape.BankShape, declared.Work.TheVariants.Nothing, declared.answer.WriteAnswer.WriteAnswer, declared.pace.Pace.Pace}
 use Rattle.bank_shape.specs.declared.answer.WriteAnswer.TheVariants as wrote
 use Rattle.bank_shape.specs.declared.answer.Step.TheVariants as did
-use Rattle.bank_model.specs.Events.{BankEvent, Write, Read, Serve, Begin, Iterate, Cut, newest}
-use Rattle.bank_model.specs.History.{begun, queue, due_after, has_exhausted, in_progress}
-use Rattle.bank_model.specs.After.{due_work}
-use Rattle.bank_model.specs.Answers.{head_busy_after}
-use Rattle.bank_shape.specs.declared.pace.Pace.{Pace}
-use Rattle.bank_shape.specs.Kinds.{is_store}
-use Rattle.bank_model.specs.Timing.{Happens, Core, Regs, KeepBegin, KeepIterate, KeepCut, TimedEvent, core, core_of, last_tick}
-use Rattle.bank_model.specs.Told.{tick_by, tick_of_row}
-use Rattle.bank_model.specs.Sensing.{most_steps}
-use Rattle.bank_model.specs.Lawful.{Lawful, MayCome}
-use Rattle.bank_laws.specs.Pairs.{has_line, ArePaired}
-use Rattle.bank_laws.specs.Ticks.{ends_action}
-use Rattle.bank_laws.proofs.Entries.{either, differ_back}
-use Rattle.bank_laws.proofs.Standing.{stand_apart}
-use Rattle.bank_laws.proofs.Ticks.{last_tick-rises, last-below}
-use Rattle.bank_laws.proofs.Answering.{newest_row-there, merged-there}
+use Rattle.bank_model.specs.{After.due_work, Answers.head_busy_after, Events.{BankEvent, Write, Read, Serve, Begin, Iterate, Cut, newest}}
+use Rattle.bank_model.specs.{History.{begun, queue, due_after, has_exhausted, in_progress}, Lawful.{Lawful, MayCome}, Sensing.most_steps}
+use Rattle.bank_model.specs.{Timing.{Happens, Core, Regs, KeepBegin, KeepIterate, KeepCut, TimedEvent, core, core_of, last_tick}, Told.{tick_by, tick_of_row}}
+use Rattle.bank_laws.{specs.Pairs.{has_line, ArePaired}, specs.Ticks.ends_action, proofs.Answering.{newest_row-there, merged-there}, proofs.Asked.{pushed-stands, merged-stands}}
+use Rattle.bank_laws.proofs.{Counting.{among, Falling}, Entries.{either, differ_back}, Lines.{Stands, stands-row, stands-line, newest-line, merged-candidate}}
 use Rattle.bank_laws.proofs.Pairs.{HeadFull, HasWork, KeepsPairs, keeps_pairs, busy-full, no_candidate-head, accepted-none}
-use Rattle.bank_laws.proofs.Lines.{Stands, stands-row, stands-line, newest-line, merged-candidate}
-use Rattle.bank_laws.proofs.Asked.{pushed-stands, merged-stands}
-use Rattle.bank_laws.proofs.Counting.{among, Falling}
-use Rattle.bank_laws.proofs.Waiting.{may_all}
-use Rattle.bank_laws.proofs.Pending.{write_rows, writes_in, writes-fall, queue-asked}
+use Rattle.bank_laws.proofs.{Pending.{write_rows, writes_in, writes-fall, queue-asked}, Standing.stand_apart, Ticks.{last_tick-rises, last-below}, Waiting.may_all}
 
 pub below_among : (xs : List ℕ) (bound row : ℕ) → Falling xs bound → among xs row ≡ true → row < bound
 below_among [] bound row f there = absurd (cc)

@@ -1,25 +1,15 @@
 -- Each entry of a history's queue has the line of its own write, and the bytes of its own writes.
 use Rattle.std.proofs.Common.{◌≡◌, ℕ, zero, suc, ◌==◌, ◌||◌, ◌&&◌, inl, inr, not, Bool, true, false, List, [], ◌∷◌, ◌++◌, length, drop, slice_get, Option, Some, None, refl, sym, ap, subst, ◌∙◌, arith, cond, eqb, eqb-true}
-use Rattle.masked_bytes.proofs.Truth.{neither_first, neither_second, and_second, differ_sym}
-use Rattle.std.specs.Prelude.{is_none}
-use Rattle.std.proofs.lemmas.Bool.{eq-eqb, ne_eqb}
-use Rattle.std.proofs.lemmas.List.{length-replicate}
-use Rattle.masked_bytes.specs.declared.entry.Entry.{Entry}
-use Rattle.masked_bytes.specs.Masked.{laid, IsMasked}
-use Rattle.masked_bytes.specs.Entries.{Layer, stacked, laid_on, merged, completed_by, has_row, RowsApart}
+use Rattle.std.{specs.Prelude.is_none, proofs.lemmas.Bool.{eq-eqb, ne_eqb}, proofs.lemmas.List.length-replicate}
+use Rattle.masked_bytes.specs.{Entries.{Layer, stacked, laid_on, merged, completed_by, has_row, RowsApart}, Masked.{laid, IsMasked}, declared.entry.Entry.Entry}
 use Rattle.masked_bytes.proofs.Layering.{length-laid, laid-again, laid-between, length-joined, laid-all_given, laid-laid, gives_all-all_given, all_given-gives_all}
-use Rattle.bank_shape.specs.declared.BankShape.{BankShape}
-use Rattle.bank_shape.specs.declared.Work.TheVariants.{Nothing}
+use Rattle.masked_bytes.proofs.Truth.{neither_first, neither_second, and_second, differ_sym}
+use Rattle.bank_shape.specs.{declared.BankShape.BankShape, declared.Work.TheVariants.Nothing}
 use Rattle.bank_shape.specs.declared.answer.WriteAnswer.TheVariants as wrote
 use Rattle.bank_shape.specs.declared.answer.Step.TheVariants as did
-use Rattle.bank_model.specs.Events.{BankEvent, Write, Read, Serve, Begin, Iterate, Cut, newest, RowsBelow}
-use Rattle.bank_model.proofs.Newest.{length-newest}
-use Rattle.bank_model.specs.History.{Awaited, begun, queue, waits, due_after, has_exhausted, in_progress}
-use Rattle.bank_model.specs.After.{is_ready, due_work}
-use Rattle.bank_model.specs.Answers.{MayAll}
-use Rattle.bank_laws.proofs.Lines.{Stands, stands-row, merges-stands}
-use Rattle.bank_laws.proofs.Pairs.{gives_all-joined}
-use Rattle.bank_laws.proofs.Standing.{stand_apart}
+use Rattle.bank_model.specs.{After.{is_ready, due_work}, Answers.MayAll, Events.{BankEvent, Write, Read, Serve, Begin, Iterate, Cut, newest, RowsBelow}}
+use Rattle.bank_model.{specs.History.{Awaited, begun, queue, waits, due_after, has_exhausted, in_progress}, proofs.Newest.length-newest}
+use Rattle.bank_laws.proofs.{Lines.{Stands, stands-row, merges-stands}, Pairs.gives_all-joined, Standing.stand_apart}
 use Rattle.queue_laws.specs.EntryLaws.{line_written, given_by, is_head_begun, Gives, EntryLineLaw, EntryBytesLaw}
 
 -- Entries

@@ -1,49 +1,21 @@
 -- What a bank holds at a row, and at any tick between two of its events.
 use Rattle.std.proofs.Common.{◌≡◌, ℕ, ◌<◌, ◌≤◌, ◌⊎◌, inl, inr, Bool, true, false, List, [], ◌∷◌, ◌++◌, Option, Some, None, length, refl, sym, ap, ◌∙◌, subst, arith, cond, append_assoc}
-use Rattle.std.specs.Prelude.{nat_le, filter, All}
-use Rattle.std.proofs.lemmas.Bool.{eq-eqb, le-leb, and_from}
+use Rattle.std.{specs.Prelude.{nat_le, filter, All}, proofs.Math.Nat.eq-or-lt_of_le, proofs.lemmas.Bool.{eq-eqb, le-leb, and_from}}
 use Rattle.std.proofs.lemmas.List.Elements.{All-head, All-tail}
-use Rattle.std.proofs.Math.Nat.{eq-or-lt_of_le}
 use Rattle.result_rows.specs.declared.Outcome.TheVariants as out
-use Rattle.masked_bytes.specs.declared.entry.Entry.{Entry}
-use Rattle.masked_bytes.specs.Entries.{has_row, candidate}
-use Rattle.masked_bytes.proofs.Truth.{implied}
-use Rattle.row_rules.specs.declared.Row.{Row}
-use Rattle.row_rules.specs.Answers.{is_full}
-use Rattle.row_rules.specs.Rows.{write_of}
-use Rattle.row_rules.specs.Queueing.{pending, waiting, has_room, pairs_few, is_refused}
-use Rattle.bank_shape.specs.declared.BankShape.{BankShape}
+use Rattle.masked_bytes.{specs.Entries.{has_row, candidate}, specs.declared.entry.Entry.Entry, proofs.Truth.implied}
+use Rattle.row_rules.specs.{Answers.is_full, Queueing.{pending, waiting, has_room, pairs_few, is_refused}, Rows.write_of, declared.Row.Row}
+use Rattle.bank_shape.specs.{declared.BankShape.BankShape, declared.pace.Pace.Pace}
 use Rattle.bank_shape.specs.declared.answer.WriteAnswer.TheVariants as wrote
-use Rattle.bank_model.specs.Events.{BankEvent, Write, Read, Serve, Begin, Iterate, Cut}
-use Rattle.bank_model.specs.History.{queue, waits, has_exhausted}
-use Rattle.bank_model.specs.Answers.{head_busy_after, accept_answer, write_answer}
-use Rattle.bank_model.specs.Sensing.{most_steps}
-use Rattle.bank_shape.specs.declared.pace.Pace.{Pace}
-use Rattle.bank_model.specs.Timing.{Happens, Core, Regs, TimedEvent, core, last_tick}
+use Rattle.bank_model.specs.{Answers.{head_busy_after, accept_answer, write_answer}, Events.{BankEvent, Write, Read, Serve, Begin, Iterate, Cut}}
+use Rattle.bank_model.specs.{History.{queue, waits, has_exhausted}, Lawful.{Lawful, MayCome}, Sensing.most_steps, Timing.{Happens, Core, Regs, TimedEvent, core, last_tick}}
 use Rattle.bank_model.specs.Told.{tick_of_row}
-use Rattle.bank_model.specs.Lawful.{Lawful, MayCome}
-use Rattle.bank_laws.specs.Laws.{rules_of}
-use Rattle.bank_laws.specs.Outcomes.{outcome_of, ended, row_with, rows_from}
-use Rattle.bank_laws.specs.Room.{RoomLaw}
-use Rattle.bank_laws.specs.Ticks.{ends_action}
-use Rattle.bank_laws.proofs.Ticks.{last_tick-rises}
-use Rattle.bank_laws.proofs.Answering.{IsHead}
-use Rattle.bank_laws.proofs.Settling.{opens, lawful_before}
-use Rattle.bank_laws.proofs.Pairs.{keeps_pairs, no_candidate-head, no_candidate-rest}
-use Rattle.bank_laws.proofs.Walking.{Passes, walk, rows_after}
-use Rattle.bank_laws.proofs.Ending.{Onwards, write_outcome}
-use Rattle.bank_laws.proofs.Serves.{may_at, onwards_at, idle-waits}
-use Rattle.bank_laws.proofs.Holding.{bound_law}
-use Rattle.bank_laws.proofs.Lines.{Stands, Covered, stands-line}
-use Rattle.bank_laws.proofs.Later.{EndsAbove, ends_later, ends_at_row, ends_push}
-use Rattle.bank_laws.proofs.Waiting.{may_all, awaiting_length}
-use Rattle.bank_laws.proofs.Pending.{full_outcome, covered_on, queue_length}
-use Rattle.queue_laws.specs.QueueLaws.{finds_pairs_few, is_refusal_fair, PairsFewLaw, RefusalLaw}
-use Rattle.queue_laws.proofs.Order.{HeadBefore, in_order}
-use Rattle.queue_laws.proofs.First.{First, first, first_now}
-use Rattle.queue_laws.proofs.Written.{standing, written}
-use Rattle.queue_laws.proofs.Stood.{stood_each, stood_fall, pending_is}
-use Rattle.queue_laws.proofs.Few.{StandsWell, pairs_are_few, refusal, HeadAlone}
+use Rattle.bank_laws.{specs.Laws.rules_of, specs.Outcomes.{outcome_of, ended, row_with, rows_from}, specs.Room.RoomLaw, specs.Ticks.ends_action, proofs.Answering.IsHead}
+use Rattle.bank_laws.proofs.{Ending.{Onwards, write_outcome}, Holding.bound_law, Later.{EndsAbove, ends_later, ends_at_row, ends_push}, Lines.{Stands, Covered, stands-line}}
+use Rattle.bank_laws.proofs.{Pairs.{keeps_pairs, no_candidate-head, no_candidate-rest}, Pending.{full_outcome, covered_on, queue_length}, Serves.{may_at, onwards_at, idle-waits}}
+use Rattle.bank_laws.proofs.{Settling.{opens, lawful_before}, Ticks.last_tick-rises, Waiting.{may_all, awaiting_length}, Walking.{Passes, walk, rows_after}}
+use Rattle.queue_laws.{specs.QueueLaws.{finds_pairs_few, is_refusal_fair, PairsFewLaw, RefusalLaw}, proofs.Few.{StandsWell, pairs_are_few, refusal, HeadAlone}}
+use Rattle.queue_laws.proofs.{First.{First, first, first_now}, Order.{HeadBefore, in_order}, Stood.{stood_each, stood_fall, pending_is}, Written.{standing, written}}
 
 -- a write that is refused as full merges into nothing
 module _ {n : ℕ} (shape : BankShape) where

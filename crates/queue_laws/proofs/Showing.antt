@@ -1,17 +1,13 @@
 -- How the bytes that a queue gives of a line follow the writes of the line: s of a number is what the accepted writes from that row on give.
 use Rattle.std.proofs.Common.{◌≡◌, ℕ, ◌<◌, ◌≤◌, ◌==◌, ◌⊎◌, inl, inr, Bool, true, false, suc, List, [], ◌∷◌, ◌++◌, Option, Some, None, length, refl, sym, ap, ◌∙◌, subst, arith, cond, eqb, eqb-true}
-use Rattle.masked_bytes.proofs.Truth.{neither_first, neither_second}
 use Rattle.std.proofs.lemmas.Bool.{eq-eqb, or_left, or_right}
-use Rattle.masked_bytes.specs.declared.entry.Entry.{Entry}
-use Rattle.masked_bytes.specs.Masked.{joined, none_given, gives_all}
-use Rattle.masked_bytes.specs.Entries.{RowsApart, has_row, merged, laid_on, newest_row, candidate, or_this}
-use Rattle.masked_bytes.proofs.Layering.{joined-none_right, gives_all-all_given}
+use Rattle.masked_bytes.specs.{Entries.{RowsApart, has_row, merged, laid_on, newest_row, candidate, or_this}, Masked.{joined, none_given, gives_all}, declared.entry.Entry.Entry}
+use Rattle.masked_bytes.proofs.{Layering.{joined-none_right, gives_all-all_given}, Truth.{neither_first, neither_second}}
 use Rattle.bank_model.specs.History.{begun}
 use Rattle.bank_laws.specs.Pairs.{has_line, LinesApart, ArePaired}
-use Rattle.bank_laws.proofs.Pairs.{AllLong, gives_all-joined}
-use Rattle.bank_laws.proofs.Lines.{Stands, stands-row, stands-line, newest-line, newest-stands}
-use Rattle.queue_laws.proofs.Order.{MergesInto, merges_into, behind}
 use Rattle.bank_laws.proofs.Given.{given_of, length-given, given-lacks, given-other, given-alone, given-push, given-push_other, given-merged, given-merged_other}
+use Rattle.bank_laws.proofs.{Lines.{Stands, stands-row, stands-line, newest-line, newest-stands}, Pairs.{AllLong, gives_all-joined}}
+use Rattle.queue_laws.proofs.Order.{MergesInto, merges_into, behind}
 
 module _ {n : ℕ} where
   -- behind a head of another line stands what the writes from the floor on give; a head of the line gives that, or all

@@ -1,33 +1,17 @@
 -- The writes that a row finds are those that stand in the queue, at any tick up to the next end of an action.
 use Rattle.std.proofs.Common.{◌≡◌, ◌≢◌, ℕ, ◌≤◌, ◌==◌, inl, Bool, true, false, List, [], ◌∷◌, ◌++◌, refl, sym, ap, ◌∙◌, subst, cond, append_assoc, eq-eqb}
-use Rattle.std.proofs.lemmas.Bool.{or_left}
-use Rattle.std.specs.Prelude.{unwrap_or}
-use Rattle.std.specs.List.{list_any}
+use Rattle.std.{specs.List.list_any, specs.Prelude.unwrap_or, proofs.lemmas.Bool.or_left}
 use Rattle.result_rows.specs.declared.Outcome.TheVariants as out
 use Rattle.masked_bytes.specs.Entries.{has_row}
-use Rattle.row_rules.specs.declared.Row.{Row}
-use Rattle.row_rules.specs.Answers.{accepts}
-use Rattle.row_rules.specs.Rows.{accepted_of}
-use Rattle.row_rules.specs.Queueing.{pending}
-use Rattle.bank_shape.specs.declared.BankShape.{BankShape}
-use Rattle.bank_model.specs.Events.{Write, Read, Serve, Begin, Iterate, Cut}
-use Rattle.bank_model.specs.History.{queue}
-use Rattle.bank_shape.specs.declared.pace.Pace.{Pace}
-use Rattle.bank_model.specs.Timing.{Happens, Core, Regs, TimedEvent, core, last_tick}
+use Rattle.row_rules.specs.{Answers.accepts, Queueing.pending, Rows.accepted_of, declared.Row.Row}
+use Rattle.bank_shape.specs.{declared.BankShape.BankShape, declared.pace.Pace.Pace}
+use Rattle.bank_model.specs.{Events.{Write, Read, Serve, Begin, Iterate, Cut}, History.queue, Lawful.{Lawful, MayCome}, Timing.{Happens, Core, Regs, TimedEvent, core, last_tick}}
 use Rattle.bank_model.specs.Told.{tick_by, tick_of_row}
-use Rattle.bank_model.specs.Lawful.{Lawful, MayCome}
-use Rattle.bank_laws.specs.Outcomes.{outcome_with, outcome_of, ended, row_with, rows_from}
-use Rattle.bank_laws.proofs.Settling.{opens, above_all, lawful_before, stays}
-use Rattle.bank_laws.proofs.Walking.{rows_after, rows_after-more}
-use Rattle.bank_laws.proofs.Ending.{Onwards, accepting, write_outcome, outcome-accepts}
-use Rattle.bank_laws.proofs.Serves.{onwards_at}
-use Rattle.bank_laws.proofs.Lines.{Stands}
-use Rattle.bank_laws.proofs.Merging.{Fate, FateBy, fate, fate_new}
-use Rattle.bank_laws.proofs.Counting.{among}
-use Rattle.bank_laws.proofs.Pending.{stands_by, write_rows, writes_in, refused_set, gone, stands_same, stands_there, refused_same}
-use Rattle.bank_laws.proofs.Later.{EndsAbove}
-use Rattle.queue_laws.proofs.Order.{tick_stays}
-use Rattle.queue_laws.proofs.Written.{Written, items, standing, Each, NumbersFall, cond_items, cond_each, written_by, written, IsEntry, standing-falls}
+use Rattle.bank_laws.{specs.Outcomes.{outcome_with, outcome_of, ended, row_with, rows_from}, proofs.Counting.among}
+use Rattle.bank_laws.proofs.{Ending.{Onwards, accepting, write_outcome, outcome-accepts}, Later.EndsAbove, Lines.Stands, Merging.{Fate, FateBy, fate, fate_new}}
+use Rattle.bank_laws.proofs.{Pending.{stands_by, write_rows, writes_in, refused_set, gone, stands_same, stands_there, refused_same}, Serves.onwards_at}
+use Rattle.bank_laws.proofs.{Settling.{opens, above_all, lawful_before, stays}, Walking.{rows_after, rows_after-more}}
+use Rattle.queue_laws.proofs.{Order.tick_stays, Written.{Written, items, standing, Each, NumbersFall, cond_items, cond_each, written_by, written, IsEntry, standing-falls}}
 
 module _ {n m : ℕ} (shape : BankShape) (pace : Pace) (e : ℕ) (all later now : List (TimedEvent n m)) (t : ℕ) (r : 1 ≤ pace.read) (i : 1 ≤ pace.iter) (l : Lawful shape pace e all) (same : all ≡ later ++ now)
     (up : last_tick now ≤ t) (ends : EndsAbove t later) where

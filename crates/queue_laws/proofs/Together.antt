@@ -1,26 +1,13 @@
 -- All that the rows show of the queue and of the waiting reads, together.
 use Rattle.std.proofs.Common.{◌≡◌, ℕ, ◌==◌, ◌&&◌, ◌||◌, not, Bool, true, false, List, [], ◌∷◌, length}
-use Rattle.std.proofs.lemmas.Bool.{and_from}
-use Rattle.masked_bytes.proofs.Truth.{and_first, and_second}
-use Rattle.std.specs.Prelude.{nat_le, filter}
-use Rattle.row_rules.proofs.Passing.{passes_both}
-use Rattle.masked_bytes.specs.Masked.{gives_all}
-use Rattle.row_rules.specs.declared.Asks.{Asks}
-use Rattle.row_rules.specs.declared.Asks.TheVariants.{Reads, Writes, Cuts}
-use Rattle.row_rules.specs.declared.Row.{Row}
-use Rattle.row_rules.specs.Answers.{is_full}
-use Rattle.row_rules.specs.Rows.{RowTest, each_row, asks_read, asks_write, line_of, write_of}
-use Rattle.row_rules.specs.declared.Rules.{Rules}
-use Rattle.row_rules.specs.Queueing.{pending, waiting, cover, is_refused, is_at_head, read_fits, merge_fits, queue_fits, is_queue_fair}
-use Rattle.bank_laws.specs.Laws.{rules_of}
-use Rattle.bank_laws.specs.Outcomes.{table_of}
-use Rattle.bank_laws.specs.RowLaws.{is_room_fair, is_wait_fair, is_merge_fair}
-use Rattle.bank_laws.proofs.Merging.{merge_law}
+use Rattle.std.{specs.Prelude.{nat_le, filter}, proofs.lemmas.Bool.and_from}
+use Rattle.masked_bytes.{specs.Masked.gives_all, proofs.Truth.{and_first, and_second}}
+use Rattle.row_rules.specs.{Answers.is_full, Queueing.{pending, waiting, cover, is_refused, is_at_head, read_fits, merge_fits, queue_fits, is_queue_fair}}
+use Rattle.row_rules.specs.{Rows.{RowTest, each_row, asks_read, asks_write, line_of, write_of}, declared.Asks.Asks, declared.Asks.TheVariants.{Reads, Writes, Cuts}}
+use Rattle.row_rules.{specs.declared.Row.Row, specs.declared.Rules.Rules, proofs.Passing.passes_both}
+use Rattle.bank_laws.{specs.Laws.rules_of, specs.Outcomes.table_of, specs.RowLaws.{is_room_fair, is_wait_fair, is_merge_fair}, proofs.Merging.merge_law, proofs.Pending.queue_law}
 use Rattle.bank_laws.proofs.Waiting.{wait_law}
-use Rattle.bank_laws.proofs.Pending.{queue_law}
-use Rattle.queue_laws.specs.QueueLaws.{finds_pairs_few, is_refusal_fair, is_forward_fair, QueueFairLaw}
-use Rattle.queue_laws.proofs.Rooms.{pairs_few_law, refusal_law}
-use Rattle.queue_laws.proofs.Forwards.{forward_law}
+use Rattle.queue_laws.{specs.QueueLaws.{finds_pairs_few, is_refusal_fair, is_forward_fair, QueueFairLaw}, proofs.Forwards.forward_law, proofs.Rooms.{pairs_few_law, refusal_law}}
 
 either_way : (a b c : Bool) → (not a || b) ≡ true → (not a || c) ≡ true → (not a || (b && c)) ≡ true
 either_way true b c h k = and_from b c h k

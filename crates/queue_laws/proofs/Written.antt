@@ -1,17 +1,10 @@
 -- The writes of a history with their rows' numbers, and which of them stand in the queue.
 use Rattle.std.proofs.Common.{◌≡◌, ℕ, ◌<◌, ◌≤◌, Bool, true, false, suc, List, [], ◌∷◌, ◌++◌, length, refl, ap, arith, cond}
 use Rattle.result_rows.specs.declared.Outcome.{Outcome}
-use Rattle.row_rules.specs.declared.Row.{Row}
-use Rattle.row_rules.specs.declared.Asks.TheVariants.{Writes}
+use Rattle.row_rules.specs.{declared.Asks.TheVariants.Writes, declared.Row.Row}
 use Rattle.bank_shape.specs.declared.BankShape.{BankShape}
-use Rattle.bank_model.specs.Events.{Write, Read, Serve, Begin, Iterate, Cut, RowsBelow}
-use Rattle.bank_model.specs.History.{queue}
-use Rattle.bank_model.specs.Timing.{Happens, Core, Regs, TimedEvent, core, core_of}
-use Rattle.bank_model.specs.Told.{tick_of_row}
-use Rattle.bank_laws.specs.Outcomes.{outcome_of, ended}
-use Rattle.bank_laws.proofs.Lines.{Stands}
-use Rattle.bank_laws.proofs.Counting.{hits}
-use Rattle.bank_laws.proofs.Pending.{write_rows, writes_in}
+use Rattle.bank_model.specs.{Events.{Write, Read, Serve, Begin, Iterate, Cut, RowsBelow}, History.queue, Timing.{Happens, Core, Regs, TimedEvent, core, core_of}, Told.tick_of_row}
+use Rattle.bank_laws.{specs.Outcomes.{outcome_of, ended}, proofs.Counting.hits, proofs.Lines.Stands, proofs.Pending.{write_rows, writes_in}}
 
 -- a write with its row's number, as its row shows it
 pub record Written (n : ℕ) : Type 0 where

@@ -1,14 +1,10 @@
 -- What the entries of a bank's queue have from the writes of its history.
 use Rattle.std.specs.Prelude.{◌≡◌, ℕ, ◌==◌, ◌&&◌, ◌||◌, Bool, true, false, if◌then◌else◌, IsTrue, List, [], ◌∷◌, Option, Some, None, is_none, slice_get}
-use Rattle.masked_bytes.specs.Masked.{laid, gives_all}
-use Rattle.masked_bytes.specs.Entries.{Layer, no_layer, stacked, layer_by, newest_row}
-use Rattle.masked_bytes.specs.declared.entry.Entry.{Entry}
+use Rattle.masked_bytes.specs.{Entries.{Layer, no_layer, stacked, layer_by, newest_row}, Masked.{laid, gives_all}, declared.entry.Entry.Entry}
 use Rattle.bank_shape.specs.declared.BankShape.{BankShape}
 use Rattle.bank_shape.specs.declared.answer.WriteAnswer.TheVariants as wrote
 use Rattle.bank_shape.specs.declared.answer.Step.TheVariants as did
-use Rattle.bank_model.specs.Events.{BankEvent, Write, Begin, Iterate, RowsBelow}
-use Rattle.bank_model.specs.History.{queue, due_after}
-use Rattle.bank_model.specs.Answers.{MayAll}
+use Rattle.bank_model.specs.{Answers.MayAll, Events.{BankEvent, Write, Begin, Iterate, RowsBelow}, History.{queue, due_after}}
 
 module _ {n : ℕ} where
   -- the line of the write of a row, if that was accepted or merged

@@ -1,16 +1,11 @@
 -- The laws of a bank's queue and of its waiting reads, one by one and together.
 use Rattle.std.specs.Prelude.{ℕ, not, ◌&&◌, ◌||◌, length, filter, IsTrue, List, []}
 use Rattle.masked_bytes.specs.Masked.{gives_all}
-use Rattle.row_rules.specs.Answers.{is_full}
+use Rattle.row_rules.specs.{Answers.is_full, Queueing.{pending, waiting, cover, pairs_few, is_refused, is_at_head, read_fits, is_queue_fair}}
 use Rattle.row_rules.specs.Rows.{RowTest, each_row, asks_read, asks_write, line_of, write_of}
-use Rattle.row_rules.specs.Queueing.{pending, waiting, cover, pairs_few, is_refused, is_at_head, read_fits, is_queue_fair}
-use Rattle.bank_shape.specs.declared.BankShape.{BankShape}
-use Rattle.bank_shape.specs.declared.pace.Pace.{Pace}
-use Rattle.bank_model.specs.Timing.{TimedEvent}
-use Rattle.bank_model.specs.Lawful.{Lawful}
-use Rattle.bank_laws.specs.Laws.{IsSized, rules_of}
-use Rattle.bank_laws.specs.Outcomes.{table_of}
-use Rattle.bank_laws.specs.Resting.{IsStill}
+use Rattle.bank_shape.specs.{declared.BankShape.BankShape, declared.pace.Pace.Pace}
+use Rattle.bank_model.specs.{Lawful.Lawful, Timing.TimedEvent}
+use Rattle.bank_laws.specs.{Laws.{IsSized, rules_of}, Outcomes.table_of, Resting.IsStill}
 
 -- a test holds of each row of the table that a lawful history leaves at whose end the bank is still. The test may depend on how
 -- many entries a line has, on the bank's shape and on its pace

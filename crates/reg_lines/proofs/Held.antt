@@ -3,19 +3,13 @@ use Rattle.std.proofs.Common.{◌≡◌, ◌≢◌, ℕ, ◌+◌, ◌<◌, ◌�
 use Rattle.std.specs.Prelude.{IfSome, IsSomeAnd, IsTrue, is_some}
 use Rattle.cell_rows.specs.Device.{ArrayState, LineState}
 use Rattle.ecp_line.specs.Reading.{decode, IsSoundLine, IsWornLine}
-use Rattle.line_writer.specs.declared.writer.LineWriter.{LineWriter}
-use Rattle.line_writer.specs.declared.writer.Progress.{Progress}
+use Rattle.line_writer.specs.{Untouched.{HasUntouched, AreUntouched}, Writing.{Writes, IsProgress, HasBegun, IsWorn}, declared.writer.LineWriter.LineWriter}
+use Rattle.line_writer.{specs.declared.writer.Progress.Progress, proofs.Untouched.{AreUntouched-same, AreUntouched-beside}}
 use Rattle.line_writer.specs.declared.writer.Progress.TheVariants as progress
-use Rattle.line_writer.specs.Writing.{Writes, IsProgress, HasBegun, IsWorn}
-use Rattle.line_writer.specs.Untouched.{HasUntouched, AreUntouched}
-use Rattle.line_writer.proofs.Untouched.{AreUntouched-same, AreUntouched-beside}
 use Rattle.bank_shape.specs.declared.answer.Keep.{Keep}
 use Rattle.bank_shape.specs.declared.answer.Keep.TheVariants as keep
-use Rattle.reg_lines.specs.declared.Change.{Change}
+use Rattle.reg_lines.specs.{Keeping.{keep_from, kept_on, broken_off}, Regs.{RegsState, AreHeld, IsWritingOf}, Values.encoded, declared.Change.Change}
 use Rattle.reg_lines.specs.declared.regs.RegLines.TheInside.{Inside}
-use Rattle.reg_lines.specs.Values.{encoded}
-use Rattle.reg_lines.specs.Regs.{RegsState, AreHeld, IsWritingOf}
-use Rattle.reg_lines.specs.Keeping.{keep_from, kept_on, broken_off}
 
 -- what contracts see of control lines, by their fields
 abbrev pub view_of : {n m e : ℕ} → Inside n m e → RegsState n m e

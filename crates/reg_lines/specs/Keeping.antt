@@ -1,19 +1,14 @@
 -- What each call does to the change that stands and to its writing.
 use Rattle.std.specs.Prelude.{◌≡◌, ℕ, ◌+◌, ◌<◌, ◌≤◌, Bool, true, false, List, [], ◌∷◌, Option, Some, None}
 use Rattle.cell_rows.specs.Device.{ArrayState}
-use Rattle.program_verify.specs.declared.prog.Prog.{Prog}
-use Rattle.program_verify.specs.Programming.{IsRound, IsTear}
+use Rattle.program_verify.specs.{Programming.{IsRound, IsTear}, declared.prog.Prog.Prog}
 use Rattle.ecp_line.specs.Reading.{IsSoundLine, IsWornLine}
-use Rattle.line_writer.specs.declared.writer.LineWriter.{LineWriter}
+use Rattle.line_writer.specs.{Untouched.LeavesUnused, Writing.{Writes, HasBegun, IsWorn, steps_left, most_steps}, declared.writer.LineWriter.LineWriter}
 use Rattle.line_writer.specs.declared.writer.Progress.{Progress}
 use Rattle.line_writer.specs.declared.writer.Progress.TheVariants as progress
-use Rattle.line_writer.specs.Writing.{Writes, HasBegun, IsWorn, steps_left, most_steps}
-use Rattle.line_writer.specs.Untouched.{LeavesUnused}
 use Rattle.bank_shape.specs.declared.answer.Keep.{Keep}
 use Rattle.bank_shape.specs.declared.answer.Keep.TheVariants as keep
-use Rattle.reg_lines.specs.declared.Change.{Change}
-use Rattle.reg_lines.specs.Values.{encoded}
-use Rattle.reg_lines.specs.Regs.{RegsState}
+use Rattle.reg_lines.specs.{Regs.RegsState, Values.encoded, declared.Change.Change}
 
 -- the answer where a step of the line write comes so far
 abbrev pub keep_from : Progress → Keep

@@ -1,15 +1,10 @@
 -- What contracts see of the control lines of a bank and of the change that stands, and what ties them to the array.
 use Rattle.std.specs.Prelude.{◌≡◌, ℕ, ◌+◌, ◌^◌, ◌<◌, ◌≤◌, ◌==◌, Bool, if◌then◌else◌, IsTrue, List, Option, Some, None, IfSome, IsSomeAnd, is_some}
-use Rattle.cell_rows.specs.Device.{ArrayState, LineState}
-use Rattle.cell_rows.specs.Rows.{cell}
-use Rattle.ecp_line.specs.Layout.{IsLayout, Sound}
-use Rattle.ecp_line.specs.Reading.{decode, is_worn_line}
-use Rattle.line_writer.specs.declared.writer.LineWriter.{LineWriter}
+use Rattle.cell_rows.specs.{Device.{ArrayState, LineState}, Rows.cell}
+use Rattle.ecp_line.specs.{Layout.{IsLayout, Sound}, Reading.{decode, is_worn_line}}
+use Rattle.line_writer.specs.{Untouched.AreUntouched, Writing.Writes, declared.writer.LineWriter.LineWriter}
 use Rattle.line_writer.specs.declared.writer.Progress.TheVariants as progress
-use Rattle.line_writer.specs.Writing.{Writes}
-use Rattle.line_writer.specs.Untouched.{AreUntouched}
-use Rattle.reg_lines.specs.declared.Change.{Change}
-use Rattle.reg_lines.specs.Values.{encoded, values_in}
+use Rattle.reg_lines.specs.{Values.{encoded, values_in}, declared.Change.Change}
 
 -- the first control line, how many there are, the change that stands, whether its writing has ended at a worn control line, and the
 -- line write that goes on

@@ -1,6 +1,5 @@
 -- What a control line holds of an item: three numbers of four bytes each, the lowest byte first, and then zeros.
-use Rattle.std.specs.Prelude.{ℕ, ◌-◌, List, [], ◌∷◌, ◌++◌, replicate, take, drop}
-use Rattle.std.specs.Int.{w32, to_le_bytes, from_le_bytes}
+use Rattle.std.specs.{Int.{w32, to_le_bytes, from_le_bytes}, Prelude.{ℕ, ◌-◌, List, [], ◌∷◌, ◌++◌, replicate, take, drop}}
 
 abbrev pub bytes_of : List ℕ → List ℕ
 bytes_of [] = []

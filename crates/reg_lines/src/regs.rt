@@ -31,9 +31,21 @@ impl<const B: usize, const M: usize, const E: usize> Model for RegLines<B, M, E>
 
     ghost Value = { RegsState B M E };
 
-    ghost view = { λ r. record { base = r.base; items = r.items; change = r.change; halted = r.halted; writer = r.writer } };
+    ghost view = { λ r. record {
+      base = r.base;
+      items = r.items;
+      change = r.change;
+      halted = r.halted;
+      writer = r.writer;
+    } };
 
-    ghost invariant = { λ r. AreRegs (record { base = r.base; items = r.items; change = r.change; halted = r.halted; writer = r.writer }) };
+    ghost invariant = { λ r. AreRegs (record {
+      base = r.base;
+      items = r.items;
+      change = r.change;
+      halted = r.halted;
+      writer = r.writer;
+    }) };
 }
 
 impl<const B: usize, const M: usize, const E: usize> RegLines<B, M, E> {
@@ -42,7 +54,13 @@ impl<const B: usize, const M: usize, const E: usize> RegLines<B, M, E> {
         requires layout { IsLayout B M E }
         requires room { 0 < items → 16 ≤ B }
         requires fits { base + items ≤ 2 ^ 32 }
-        ensures { result ≡ record { base = base; items = items; change = None; halted = false; writer = None } }
+        ensures { result ≡ record {
+          base = base;
+          items = items;
+          change = None;
+          halted = false;
+          writer = None;
+        } }
     {
         RegLines {
             base,
@@ -111,8 +129,10 @@ impl<const B: usize, const M: usize, const E: usize> RegLines<B, M, E> {
     pub fn iterate<A: CellArray<B, M>>(&mut self, array: &mut A, tick: u64) -> Keep
         requires runs { IsTrue (is_some self.old.writer) }
         requires held { AreHeld self.old (A.state array.old) }
-        ensures step { IsIteration tick self.old self.new result (A.state array.old) (A.state array.new) }
-        ensures touches { Touches tick (line_of self.old self.old.change) (target_of self.old self.old.change)
+        ensures step { IsIteration tick self.old self.new result (A.state array.old)
+            (A.state array.new) }
+        ensures touches { Touches tick (line_of self.old self.old.change)
+            (target_of self.old self.old.change)
             false (A.state array.old) (A.state array.new) }
         ensures done { result ≡ keep.Done
             → IfSome self.old.change

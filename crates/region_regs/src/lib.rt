@@ -24,7 +24,11 @@ impl Model for Region {
 
     ghost view = { λ r. record { rotation = r.registers; psi = r.psi; counter = r.counter } };
 
-    ghost invariant = { λ r. IsRegion (record { rotation = r.registers; psi = r.psi; counter = r.counter }) };
+    ghost invariant = { λ r. IsRegion (record {
+      rotation = r.registers;
+      psi = r.psi;
+      counter = r.counter;
+    }) };
 }
 
 impl Region {
@@ -47,8 +51,20 @@ impl Region {
 
     /// A region whose registers and counter were kept elsewhere.
     pub fn at(n: u32, psi: u32, counter: u32, start: u32, gap: u32) -> Region
-        requires in_range { IsRegion (record { rotation = record { lines = n; start = start; gap = gap }; psi = psi; counter = counter }) }
-        ensures given { result ≡ record { rotation = record { lines = n; start = start; gap = gap }; psi = psi; counter = counter } }
+        requires in_range { IsRegion (record {
+          rotation = record {
+            lines = n;
+            start = start;
+            gap = gap;
+          };
+          psi = psi;
+          counter = counter;
+        }) }
+        ensures given { result ≡ record {
+          rotation = record { lines = n; start = start; gap = gap };
+          psi = psi;
+          counter = counter;
+        } }
     {
         Region {
             registers: Registers::at(n, start, gap),
@@ -78,7 +94,8 @@ impl Region {
     pub fn moved(&mut self)
         requires due { self.old.counter ≡ self.old.psi }
         ensures moved { self.new ≡ after_move self.old }
-        ensures stands { (t : ℕ) → StandsFor self.old.rotation t → StandsFor self.new.rotation (t + 1) }
+        ensures stands { (t : ℕ) → StandsFor self.old.rotation t
+            → StandsFor self.new.rotation (t + 1) }
         ensures in_range { IsRegion self.new }
     {
         self.registers.advance();

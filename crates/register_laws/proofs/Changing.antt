@@ -1,15 +1,12 @@
 -- That an event changes one item, and that its change then stands for it.
 use Rattle.std.proofs.Common.{◌≡◌, ◌≢◌, ℕ, ◌+◌, ◌-◌, ◌/◌, ◌<◌, nat_lt, Bool, true, false, List, [], ◌∷◌, ◌++◌, zero, suc, length, slice_get, slice_set, Option, Some, None, refl, ap, arith, get_or-set_other}
-use Rattle.std.specs.Prelude.{if◌then◌else◌}
-use Rattle.std.proofs.lemmas.Bool.{ltb-false}
+use Rattle.std.{specs.Prelude.{if◌then◌else◌}, proofs.lemmas.Bool.ltb-false}
 use Rattle.masked_bytes.specs.Entries.{head_line}
 use Rattle.region_regs.specs.Region.{RegionState, after_store, after_move}
 use Rattle.spare_pool.specs.Table.{used_by}
-use Rattle.power_recovery.specs.Kept.{KeptState, no_region, region_at, due_region}
-use Rattle.power_recovery.specs.Events.{with_regions, regions_moved, retired_kept, exhausted_kept}
+use Rattle.power_recovery.specs.{Events.{with_regions, regions_moved, retired_kept, exhausted_kept}, Kept.{KeptState, no_region, region_at, due_region}}
 use Rattle.power_recovery.proofs.Bundle.{head_region-exists, due_region-Some}
-use Rattle.register_laws.specs.Items.{region_values, spare_values, mark_values, items_of, item_values}
-use Rattle.register_laws.specs.Changing.{ChangesItem, ChangesLaw}
+use Rattle.register_laws.specs.{Changing.{ChangesItem, ChangesLaw}, Items.{region_values, spare_values, mark_values, items_of, item_values}}
 
 -- a spare that is given is behind those that were
 get-other : (xs : List ℕ) (x k : ℕ) → k ≢ length xs → slice_get (xs ++ x ∷ []) k ≡ slice_get xs k

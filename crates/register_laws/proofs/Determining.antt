@@ -3,12 +3,9 @@ use Rattle.std.proofs.Common.{◌≡◌, ℕ, ◌+◌, ◌-◌, ◌<◌, ◌≤�
 use Rattle.std.proofs.lemmas.Bool.{cases_lt}
 use Rattle.masked_bytes.specs.declared.entry.Entry.{Entry}
 use Rattle.region_regs.specs.Region.{RegionState}
-use Rattle.bank_shape.specs.declared.BankShape.{BankShape}
-use Rattle.bank_shape.specs.declared.Home.{Home}
-use Rattle.bank_shape.specs.Shape.{if_array, slots_of, controls_of}
+use Rattle.bank_shape.specs.{Shape.{if_array, slots_of, controls_of}, declared.BankShape.BankShape, declared.Home.Home}
 use Rattle.power_recovery.specs.Kept.{KeptState, IsKept, IsRegionOf, no_region, region_at}
-use Rattle.register_laws.specs.Items.{region_values, spare_values, mark_values, items_of, item_values}
-use Rattle.register_laws.specs.Recovering.{DeterminedLaw}
+use Rattle.register_laws.specs.{Items.{region_values, spare_values, mark_values, items_of, item_values}, Recovering.DeterminedLaw}
 use Rattle.register_laws.proofs.Items.{item-region, item-spare, item-mark}
 
 -- the values of a region determine it

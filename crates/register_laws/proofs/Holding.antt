@@ -1,15 +1,10 @@
 -- What the change that stands, and the control lines behind it, hold of an item.
 use Rattle.std.proofs.Common.{◌≡◌, ◌≢◌, ℕ, ◌+◌, ◌<◌, Bool, true, false, eqb, List, Option, Some, None, refl, sym, ap, ◌∙◌, arith, eqb-true, eq-eqb}
-use Rattle.std.specs.Prelude.{IfSome}
-use Rattle.std.proofs.lemmas.Bool.{eqb-false}
-use Rattle.bank_shape.proofs.Sizes.{if_array-le}
+use Rattle.std.{specs.Prelude.IfSome, proofs.lemmas.Bool.eqb-false}
+use Rattle.bank_shape.{specs.Shape.controls_of, specs.declared.BankShape.BankShape, proofs.Sizes.if_array-le}
 use Rattle.cell_rows.specs.Device.{ArrayState, LineState}
 use Rattle.ecp_line.specs.Reading.{decode}
-use Rattle.bank_shape.specs.declared.BankShape.{BankShape}
-use Rattle.bank_shape.specs.Shape.{controls_of}
-use Rattle.reg_lines.specs.declared.Change.{Change}
-use Rattle.reg_lines.specs.Values.{values_in}
-use Rattle.reg_lines.specs.Regs.{RegsState, values_by}
+use Rattle.reg_lines.specs.{Regs.{RegsState, values_by}, Values.values_in, declared.Change.Change}
 use Rattle.register_laws.specs.Items.{items_of}
 
 -- there are no more control lines than items

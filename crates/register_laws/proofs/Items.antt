@@ -1,14 +1,11 @@
 -- The values of each item.
 use Rattle.std.proofs.Common.{◌≡◌, ℕ, ◌+◌, ◌-◌, ◌<◌, nat_lt, Bool, true, false, slice_get, Option, Some, None, refl, sym, subst, arith, inl, inr}
-use Rattle.std.specs.Prelude.{◌⊎◌, slice_index}
-use Rattle.std.proofs.lemmas.Bool.{lt-ltb, le-ltb, ltb-true, ltb-false}
-use Rattle.std.proofs.lemmas.Option.{get_or_from_slice_get, slice_get_within}
+use Rattle.std.{specs.Prelude.{◌⊎◌, slice_index}, proofs.lemmas.Bool.{lt-ltb, le-ltb, ltb-true, ltb-false}, proofs.lemmas.Option.{get_or_from_slice_get, slice_get_within}}
 use Rattle.region_regs.specs.Region.{RegionState}
 use Rattle.spare_pool.specs.Table.{Table, IsTable}
 use Rattle.bank_shape.specs.declared.BankShape.{BankShape}
 use Rattle.power_recovery.specs.Kept.{KeptState, IsKept, IsRegionOf, region_at}
-use Rattle.register_laws.specs.Items.{region_values, spare_values, mark_values, items_of, item_values}
-use Rattle.register_laws.proofs.Numbers.{AreShort}
+use Rattle.register_laws.{specs.Items.{region_values, spare_values, mark_values, items_of, item_values}, proofs.Numbers.AreShort}
 
 module _ {n : ℕ} (kept : KeptState n) where
   -- of a region

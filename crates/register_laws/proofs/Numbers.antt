@@ -1,8 +1,6 @@
 -- What a control line is read as.
 use Rattle.std.proofs.Common.{◌≡◌, ℕ, ◌+◌, ◌-◌, ◌^◌, ◌<◌, ◌≤◌, List, [], ◌∷◌, replicate, sym, ap, ◌∙◌, arith}
-use Rattle.std.specs.Int.{w32, to_le_bytes, from_le_bytes}
-use Rattle.std.proofs.lemmas.List.{replicate-append-replicate}
-use Rattle.std.proofs.lemmas.Nat.{from_le_bytes-to_le_bytes_4}
+use Rattle.std.{specs.Int.{w32, to_le_bytes, from_le_bytes}, proofs.lemmas.List.replicate-append-replicate, proofs.lemmas.Nat.from_le_bytes-to_le_bytes_4}
 use Rattle.reg_lines.specs.Values.{encoded, values_in}
 
 -- three numbers of four bytes

@@ -2,15 +2,10 @@
 use Rattle.std.proofs.Common.{◌≡◌, ◌+◌, ◌<◌, Option, Some, None, sym, ap, subst, ◌∙◌, arith}
 use Rattle.std.specs.Prelude.{IfSome, IsSomeAnd, IsTrue}
 use Rattle.ecp_line.specs.Reading.{decode, is_worn_line}
-use Rattle.line_writer.specs.declared.writer.LineWriter.{LineWriter}
-use Rattle.line_writer.proofs.Untouched.{AreUntouched-same}
+use Rattle.line_writer.{specs.declared.writer.LineWriter.LineWriter, proofs.Untouched.AreUntouched-same}
 use Rattle.bank_shape.specs.Shape.{controls_of, controls_from}
-use Rattle.reg_lines.specs.declared.Change.{Change}
-use Rattle.reg_lines.specs.Values.{values_in}
-use Rattle.reg_lines.specs.Regs.{IsWritingOf, values_by}
-use Rattle.register_laws.specs.Items.{item_values}
-use Rattle.register_laws.specs.Changing.{PutLaw}
-use Rattle.register_laws.proofs.Holding.{controls-items, values-put, read-same}
+use Rattle.reg_lines.specs.{Regs.{IsWritingOf, values_by}, Values.values_in, declared.Change.Change}
+use Rattle.register_laws.{specs.Changing.PutLaw, specs.Items.item_values, proofs.Holding.{controls-items, values-put, read-same}}
 
 -- the change of an event, put where none stands, keeps what the control lines hold
 pub put_law : PutLaw

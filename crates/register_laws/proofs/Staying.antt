@@ -1,23 +1,15 @@
 -- That what changes no item keeps what the control lines hold, and that blank ones hold what a bank keeps at first.
 use Rattle.std.proofs.Common.{◌≡◌, ℕ, ◌+◌, ◌-◌, ◌<◌, ◌≤◌, false, List, [], ◌∷◌, Option, Some, None, refl, sym, ap, ◌∙◌, arith, inl, inr}
-use Rattle.std.specs.Prelude.{IfSome}
-use Rattle.std.proofs.lemmas.Bool.{ne_eqb}
-use Rattle.std.proofs.lemmas.List.{get_or-replicate}
+use Rattle.std.{specs.Prelude.IfSome, proofs.lemmas.Bool.ne_eqb, proofs.lemmas.List.get_or-replicate}
 use Rattle.ecp_line.proofs.Blank.{Sound-blank, decode-blank}
 use Rattle.line_writer.proofs.Untouched.{untouched-blank}
 use Rattle.region_regs.specs.Region.{RegionState, first_region}
-use Rattle.bank_shape.specs.declared.BankShape.{BankShape}
-use Rattle.bank_shape.specs.Shape.{control_line}
+use Rattle.bank_shape.specs.{Shape.control_line, declared.BankShape.BankShape}
 use Rattle.bank_model.specs.Sensing.{is_at}
-use Rattle.power_recovery.specs.Kept.{KeptState, no_region}
-use Rattle.power_recovery.specs.Events.{first_kept}
-use Rattle.reg_lines.specs.Values.{values_in}
-use Rattle.reg_lines.proofs.Held.{held-same}
-use Rattle.register_laws.specs.Items.{region_values, items_of, item_values}
-use Rattle.register_laws.specs.Staying.{QueueLaw, StaysLaw, SlotsLaw, StartLaw}
-use Rattle.register_laws.proofs.Numbers.{values-zeros}
-use Rattle.register_laws.proofs.Items.{item-is, item-region, item-spare, item-mark}
-use Rattle.register_laws.proofs.Holding.{controls-items, values-stay, read-same}
+use Rattle.power_recovery.specs.{Events.first_kept, Kept.{KeptState, no_region}}
+use Rattle.reg_lines.{specs.Values.values_in, proofs.Held.held-same}
+use Rattle.register_laws.specs.{Items.{region_values, items_of, item_values}, Staying.{QueueLaw, StaysLaw, SlotsLaw, StartLaw}}
+use Rattle.register_laws.proofs.{Holding.{controls-items, values-stay, read-same}, Items.{item-is, item-region, item-spare, item-mark}, Numbers.values-zeros}
 
 pub queue_law : QueueLaw
 queue_law n m e kept entries regs before after control leaves = record {

@@ -2,21 +2,14 @@
 use Rattle.std.proofs.Common.{◌≡◌, ◌≢◌, ℕ, ◌+◌, ◌<◌, ◌≤◌, List, ◌∷◌, Option, Some, None, is_some, refl, sym, ap, subst, ◌∙◌, arith}
 use Rattle.std.specs.Prelude.{IfSome, IsSomeAnd, IsTrue}
 use Rattle.cell_rows.specs.Device.{ArrayState}
-use Rattle.line_writer.specs.declared.writer.LineWriter.{LineWriter}
-use Rattle.line_writer.specs.Writing.{steps_left, most_steps}
-use Rattle.line_writer.proofs.Rounds.{going}
-use Rattle.bank_shape.specs.declared.BankShape.{BankShape}
-use Rattle.bank_shape.specs.declared.answer.Keep.{Keep}
+use Rattle.line_writer.{specs.Writing.{steps_left, most_steps}, specs.declared.writer.LineWriter.LineWriter, proofs.Rounds.going}
+use Rattle.bank_shape.specs.{declared.BankShape.BankShape, declared.answer.Keep.Keep, declared.answer.Step.Step}
 use Rattle.bank_shape.specs.declared.answer.Keep.TheVariants as keep
-use Rattle.bank_shape.specs.declared.answer.Step.{Step}
-use Rattle.bank_model.specs.Events.{Write, Read, Serve, Begin, Iterate, Cut}
-use Rattle.bank_model.specs.Timing.{TimedEvent, Happens, Core, Regs, KeepBegin, KeepIterate, KeepCut, core}
 use Rattle.bank_model.specs.Changes.{change_after, changed_by, change_by, keeping_by, rounds_by, halted_by, keeping_after, rounds_after, halted_after}
-use Rattle.reg_lines.specs.declared.Change.{Change}
-use Rattle.reg_lines.specs.Regs.{RegsState, IsWritingOf}
-use Rattle.reg_lines.proofs.Held.{begun-goes}
-use Rattle.reg_lines.specs.Keeping.{with_change, broken_off, kept_on}
-use Rattle.register_laws.specs.Telling.{item_of, AreTold, IsCutting, IsStep, IsAside, ToldBegunLaw, ToldIteratedLaw, ToldLeftLaw, ToldBrokenLaw, ToldPutLaw, ToldStillLaw, ToldAsideLaw}
+use Rattle.bank_model.specs.{Events.{Write, Read, Serve, Begin, Iterate, Cut}, Timing.{TimedEvent, Happens, Core, Regs, KeepBegin, KeepIterate, KeepCut, core}}
+use Rattle.reg_lines.{specs.Keeping.{with_change, broken_off, kept_on}, specs.Regs.{RegsState, IsWritingOf}, specs.declared.Change.Change, proofs.Held.begun-goes}
+use Rattle.register_laws.specs.Telling.{item_of, AreTold, IsCutting, IsStep, IsAside, ToldBegunLaw, ToldIteratedLaw, ToldLeftLaw, ToldBrokenLaw, ToldPutLaw, ToldStillLaw}
+use Rattle.register_laws.specs.Telling.{ToldAsideLaw}
 
 module _ {n m e : ℕ} (shape : BankShape) (xs : List (TimedEvent n m)) where
   -- what the history tells once this has happened

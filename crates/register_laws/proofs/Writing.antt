@@ -1,25 +1,16 @@
 -- That the writing of the change that stands keeps what the control lines hold.
 use Rattle.std.proofs.Common.{◌≡◌, ℕ, ◌+◌, ◌<◌, Bool, true, false, Option, Some, None, refl, sym, ap, subst, ◌∙◌, arith}
-use Rattle.std.specs.Prelude.{IfSome}
-use Rattle.std.proofs.lemmas.Bool.{ne_eqb}
+use Rattle.std.{specs.Prelude.IfSome, proofs.lemmas.Bool.ne_eqb}
 use Rattle.cell_rows.specs.Device.{ArrayState}
 use Rattle.ecp_line.specs.Reading.{decode}
 use Rattle.line_writer.specs.declared.writer.LineWriter.{LineWriter}
-use Rattle.bank_shape.specs.Shape.{controls_of}
-use Rattle.bank_shape.specs.declared.answer.Keep.{Keep}
+use Rattle.bank_shape.specs.{Shape.controls_of, declared.answer.Keep.Keep}
 use Rattle.bank_shape.specs.declared.answer.Keep.TheVariants as keep
 use Rattle.bank_model.specs.Sensing.{is_at}
 use Rattle.power_recovery.specs.Kept.{KeptState, IsKept}
-use Rattle.reg_lines.specs.declared.Change.{Change}
-use Rattle.reg_lines.specs.Values.{values_in, encoded}
-use Rattle.reg_lines.specs.Regs.{RegsState, AreHeld, values_by, values_held}
-use Rattle.reg_lines.specs.Keeping.{target_of, torn_line, kept_on}
-use Rattle.register_laws.specs.Items.{item_values}
-use Rattle.register_laws.specs.Control.{Control}
-use Rattle.register_laws.specs.Writing.{IsWrittenWhole, BegunLaw, IteratedLaw, BrokenLaw}
-use Rattle.register_laws.proofs.Numbers.{AreShort, values-encoded}
-use Rattle.register_laws.proofs.Items.{item-short}
-use Rattle.register_laws.proofs.Holding.{IsOther, controls-items, values-stay, values-done, values-own, read-same}
+use Rattle.reg_lines.specs.{Keeping.{target_of, torn_line, kept_on}, Regs.{RegsState, AreHeld, values_by, values_held}, Values.{values_in, encoded}, declared.Change.Change}
+use Rattle.register_laws.specs.{Control.Control, Items.item_values, Writing.{IsWrittenWhole, BegunLaw, IteratedLaw, BrokenLaw}}
+use Rattle.register_laws.proofs.{Holding.{IsOther, controls-items, values-stay, values-done, values-own, read-same}, Items.item-short, Numbers.{AreShort, values-encoded}}
 
 module _ {n m e : ℕ} where
   -- the line of another item isn't the change's

@@ -4,13 +4,9 @@ use Rattle.masked_bytes.specs.Entries.{head_line}
 use Rattle.cell_rows.specs.Device.{ArrayState}
 use Rattle.spare_pool.specs.Table.{used_by}
 use Rattle.bank_shape.specs.Shape.{controls_of}
-use Rattle.power_recovery.specs.Kept.{KeptState, IsKept, due_region}
-use Rattle.power_recovery.specs.Events.{stored_kept, moved_kept, retired_kept, exhausted_kept}
-use Rattle.reg_lines.specs.declared.Change.{Change}
-use Rattle.reg_lines.specs.Regs.{RegsState}
-use Rattle.reg_lines.specs.Keeping.{with_change}
-use Rattle.register_laws.specs.Items.{items_of, item_values}
-use Rattle.register_laws.specs.Control.{Control, LeavesControls}
+use Rattle.power_recovery.specs.{Events.{stored_kept, moved_kept, retired_kept, exhausted_kept}, Kept.{KeptState, IsKept, due_region}}
+use Rattle.reg_lines.specs.{Keeping.with_change, Regs.RegsState, declared.Change.Change}
+use Rattle.register_laws.specs.{Control.{Control, LeavesControls}, Items.{items_of, item_values}}
 
 -- no item but this one has other values, and the shape is the same
 pub record ChangesItem {n : ℕ} (item : ℕ) (old new : KeptState n) : Type 0 where

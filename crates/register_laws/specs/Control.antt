@@ -1,8 +1,7 @@
 -- That the control lines hold what a bank keeps, but for the change that stands.
 use Rattle.std.specs.Prelude.{◌≡◌, ℕ, ◌+◌, ◌<◌, IfSome}
 use Rattle.cell_rows.specs.Device.{ArrayState}
-use Rattle.bank_shape.specs.declared.BankShape.{BankShape}
-use Rattle.bank_shape.specs.Shape.{controls_of, controls_from}
+use Rattle.bank_shape.specs.{Shape.{controls_of, controls_from}, declared.BankShape.BankShape}
 use Rattle.power_recovery.specs.Kept.{KeptState}
 use Rattle.reg_lines.specs.Regs.{RegsState, AreHeld, values_held}
 use Rattle.register_laws.specs.Items.{item_values}

@@ -1,13 +1,10 @@
 -- That what a bank kept can be read back from the control lines.
 use Rattle.std.specs.Prelude.{◌≡◌, ℕ, ◌+◌, ◌<◌, ◌≤◌, None}
 use Rattle.cell_rows.specs.Device.{ArrayState}
-use Rattle.bank_shape.specs.declared.Home.TheVariants.{Array}
-use Rattle.bank_shape.specs.Shape.{controls_of}
-use Rattle.power_recovery.specs.Kept.{KeptState, IsKept}
-use Rattle.power_recovery.specs.Restoring.{stripped_kept}
+use Rattle.bank_shape.specs.{Shape.controls_of, declared.Home.TheVariants.Array}
+use Rattle.power_recovery.specs.{Kept.{KeptState, IsKept}, Restoring.stripped_kept}
 use Rattle.reg_lines.specs.Regs.{RegsState, values_held}
-use Rattle.register_laws.specs.Items.{item_values}
-use Rattle.register_laws.specs.Control.{AreControlsOf}
+use Rattle.register_laws.specs.{Control.AreControlsOf, Items.item_values}
 
 -- the control lines, whoever wrote them, and the change hold what was kept: the lines are those of its shape and stand in the array, and
 -- each item has the values of the change, if one of it stands, and else those that its control line is read as

@@ -2,11 +2,9 @@
 use Rattle.std.specs.Prelude.{ℕ, ◌+◌, ◌<◌, ◌≤◌, Bool, false, List, Option, None, IfSome}
 use Rattle.masked_bytes.specs.declared.entry.Entry.{Entry}
 use Rattle.cell_rows.specs.Device.{ArrayState, IsBlank}
-use Rattle.bank_shape.specs.declared.BankShape.{BankShape}
-use Rattle.bank_shape.specs.Shape.{controls_of, controls_from, control_line, lines_in}
+use Rattle.bank_shape.specs.{Shape.{controls_of, controls_from, control_line, lines_in}, declared.BankShape.BankShape}
 use Rattle.bank_model.specs.Touching.{Touches}
-use Rattle.power_recovery.specs.Kept.{KeptState}
-use Rattle.power_recovery.specs.Events.{first_kept, with_entries, accepted_kept, completed_kept}
+use Rattle.power_recovery.specs.{Events.{first_kept, with_entries, accepted_kept, completed_kept}, Kept.KeptState}
 use Rattle.reg_lines.specs.Regs.{RegsState}
 use Rattle.register_laws.specs.Control.{Control, LeavesControls}
 

@@ -1,16 +1,11 @@
 -- That the change that stands, and how far its writing has come, are those that a timed history leaves.
 use Rattle.std.specs.Prelude.{◌≡◌, ℕ, ◌+◌, ◌<◌, ◌≤◌, List, ◌∷◌, Option, Some, None, IfSome, IsTrue, is_some}
 use Rattle.cell_rows.specs.Device.{ArrayState}
-use Rattle.bank_shape.specs.declared.BankShape.{BankShape}
+use Rattle.bank_shape.specs.{declared.BankShape.BankShape, declared.answer.Keep.Keep, declared.answer.Step.Step}
 use Rattle.line_writer.specs.Writing.{steps_left, most_steps}
-use Rattle.bank_shape.specs.declared.answer.Keep.{Keep}
-use Rattle.bank_shape.specs.declared.answer.Step.{Step}
-use Rattle.bank_model.specs.Events.{Write, Read, Serve, Begin, Iterate, Cut}
+use Rattle.bank_model.specs.{Changes.{change_after, changed_by, keeping_after, rounds_after, halted_after}, Events.{Write, Read, Serve, Begin, Iterate, Cut}}
 use Rattle.bank_model.specs.Timing.{TimedEvent, Happens, Core, Regs, KeepBegin, KeepIterate, KeepCut, core}
-use Rattle.bank_model.specs.Changes.{change_after, changed_by, keeping_after, rounds_after, halted_after}
-use Rattle.reg_lines.specs.declared.Change.{Change}
-use Rattle.reg_lines.specs.Regs.{RegsState, AreHeld}
-use Rattle.reg_lines.specs.Keeping.{with_change, broken_off, IsBegin, IsIteration}
+use Rattle.reg_lines.specs.{Keeping.{with_change, broken_off, IsBegin, IsIteration}, Regs.{RegsState, AreHeld}, declared.Change.Change}
 
 -- the item of a change, if one stands
 abbrev pub item_of : Option Change → Option ℕ

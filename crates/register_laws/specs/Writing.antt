@@ -6,9 +6,7 @@ use Rattle.bank_shape.specs.declared.answer.Keep.{Keep}
 use Rattle.bank_shape.specs.declared.answer.Keep.TheVariants as keep
 use Rattle.bank_model.specs.Touching.{Touches}
 use Rattle.power_recovery.specs.Kept.{KeptState, IsKept}
-use Rattle.reg_lines.specs.Values.{encoded}
-use Rattle.reg_lines.specs.Regs.{RegsState, AreHeld}
-use Rattle.reg_lines.specs.Keeping.{line_of, target_of, torn_line, broken_off, IsBegin, IsIteration}
+use Rattle.reg_lines.specs.{Keeping.{line_of, target_of, torn_line, broken_off, IsBegin, IsIteration}, Regs.{RegsState, AreHeld}, Values.encoded}
 use Rattle.register_laws.specs.Control.{Control}
 
 module _ {n m e : ℕ} where

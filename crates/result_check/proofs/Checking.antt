@@ -1,29 +1,16 @@
 -- What may be checked is a table.
 use Rattle.std.proofs.Common.{◌≡◌, ℕ, ◌&&◌, true, List, [], ◌∷◌, length, refl, ap, ◌∙◌, arith}
-use Rattle.std.specs.Prelude.{All}
-use Rattle.std.proofs.lemmas.Bool.{le-leb, lt-ltb}
-use Rattle.std.proofs.lemmas.List.{length-replicate}
-use Rattle.std.proofs.lemmas.List.Elements.{All-tail, All-cons}
-use Rattle.trace_reader.proofs.Lawful.{lawful-first}
+use Rattle.std.{specs.Prelude.All, proofs.lemmas.Bool.{le-leb, lt-ltb}, proofs.lemmas.List.length-replicate, proofs.lemmas.List.Elements.{All-tail, All-cons}}
+use Rattle.trace_reader.specs.{Events.{AreEventsFor, IsOpFor}, declared.event.Event.Event, declared.event.EventOp.EventOp}
+use Rattle.trace_reader.{specs.declared.event.EventOp.TheVariants.{Read, Write, Mask, Cut}, proofs.Lawful.lawful-first}
 use Rattle.masked_bytes.proofs.Queueing.{some_same}
-use Rattle.trace_reader.specs.Events.{AreEventsFor, IsOpFor}
-use Rattle.trace_reader.specs.declared.event.Event.{Event}
-use Rattle.trace_reader.specs.declared.event.EventOp.{EventOp}
-use Rattle.trace_reader.specs.declared.event.EventOp.TheVariants.{Read, Write, Mask, Cut}
 use Rattle.result_rows.specs.declared.Outcome.{Outcome}
 use Rattle.result_rows.specs.declared.Outcome.TheVariants as out
-use Rattle.row_rules.specs.declared.Row.{Row}
-use Rattle.row_rules.specs.Rows.{asks_write, given_of}
-use Rattle.trace_rows.proofs.Lines.{of-lines}
-use Rattle.check_judging.specs.Keys.{reach}
-use Rattle.check_judging.specs.Rising.{rising}
-use Rattle.check_judging.specs.Runs.{GivesSized}
+use Rattle.row_rules.specs.{Rows.{asks_write, given_of}, declared.Row.Row, declared.Rules.Rules}
+use Rattle.trace_rows.{specs.Rows.{rows_with, asks_of, row_of}, proofs.Lines.of-lines}
+use Rattle.check_judging.specs.{Keys.reach, Rising.rising, Runs.GivesSized}
 use Rattle.check_verdict.specs.Fitting.{is_brief, all_brief}
-use Rattle.trace_rows.specs.Rows.{rows_with, asks_of, row_of}
-use Rattle.row_rules.specs.declared.Rules.{Rules}
-use Rattle.result_check.specs.Checkable.{IsTimed, IsCheckable}
-use Rattle.result_check.specs.Tables.{IsTable, IsRowOf}
-use Rattle.result_check.proofs.Finding.{rows_length}
+use Rattle.result_check.{specs.Checkable.{IsTimed, IsCheckable}, specs.Tables.{IsTable, IsRowOf}, proofs.Finding.rows_length}
 
 op_sized : {n : ℕ} (lines : ℕ) (op : EventOp n) → IsOpFor lines op → asks_write (asks_of op) ≡ true → length (given_of (asks_of op)) ≡ n
 op_sized lines (Read line) h is = absurd (cc)

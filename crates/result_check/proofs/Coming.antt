@@ -1,31 +1,15 @@
 -- What the rows behind each row bring.
 use Rattle.std.proofs.Common.{◌≡◌, ℕ, suc, ◌-◌, ◌<◌, ◌≤◌, ◌==◌, ◌&&◌, ◌⊎◌, inl, inr, Bool, true, false, List, [], ◌∷◌, ◌++◌, length, drop, replicate, Option, Some, None, refl, sym, ap, ◌∙◌, cond, subst, arith}
-use Rattle.std.specs.Prelude.{slice_get, slice_set, min}
-use Rattle.std.proofs.lemmas.Bool.{eq-eqb, eqb-true, ne_eqb, cases_eq, and_right}
-use Rattle.std.proofs.Math.ListN.{length-set}
-use Rattle.std.proofs.lemmas.List.{length-replicate, get_or-replicate}
-use Rattle.std.proofs.lemmas.Option.{slice_get_within, get_or_from_slice_get}
-use Rattle.result_check.proofs.Finding.{none_left}
+use Rattle.std.{specs.Prelude.{slice_get, slice_set, min}, proofs.Math.ListN.length-set, proofs.lemmas.Bool.{eq-eqb, eqb-true, ne_eqb, cases_eq, and_right}}
+use Rattle.std.proofs.{lemmas.List.{length-replicate, get_or-replicate}, lemmas.Option.{slice_get_within, get_or_from_slice_get}}
+use Rattle.result_check.{specs.Coming.{IsOutlook, sooner_of, coming_of, coming_at}, specs.Finding.{line_asked, line_written}, proofs.Finding.none_left}
+use Rattle.result_check.proofs.Lists.{get_set_same, get_set_other, some_same}
 use Rattle.result_rows.specs.declared.Outcome.{Outcome}
 use Rattle.result_rows.specs.declared.Outcome.TheVariants as out
-use Rattle.row_rules.specs.declared.Asks.{Asks}
-use Rattle.row_rules.specs.declared.Asks.TheVariants.{Reads, Writes, Cuts}
-use Rattle.row_rules.specs.declared.Row.{Row}
-use Rattle.row_rules.specs.Answers.{accepts, is_worn}
-use Rattle.row_rules.specs.Rows.{asks_write_of, asks_write, accepted_of}
-use Rattle.row_rules.specs.Lines.{IsOfLines}
-use Rattle.row_rules.specs.Table.{is_of, of_bank}
-use Rattle.row_rules.specs.Wearing.{worn_row}
-use Rattle.check_verdict.specs.Covering.{sooner, soonest}
-use Rattle.check_verdict.specs.QueueLaws.{next_accepted}
-use Rattle.check_verdict.specs.Verdicts.{bank_in}
-use Rattle.check_verdict.specs.Worn.{first_worn}
-use Rattle.check_verdict.specs.Judged.{beside}
+use Rattle.row_rules.specs.{Answers.{accepts, is_worn}, Lines.IsOfLines, Rows.{asks_write_of, asks_write, accepted_of}, Table.{is_of, of_bank}, Wearing.worn_row}
+use Rattle.row_rules.specs.{declared.Asks.Asks, declared.Asks.TheVariants.{Reads, Writes, Cuts}, declared.Row.Row}
+use Rattle.check_verdict.specs.{Covering.{sooner, soonest}, Judged.beside, QueueLaws.next_accepted, RowVerdicts.coming_to, Verdicts.bank_in, Worn.first_worn}
 use Rattle.check_verdict.specs.declared.known.Coming.{Coming}
-use Rattle.check_verdict.specs.RowVerdicts.{coming_to}
-use Rattle.result_check.specs.Coming.{IsOutlook, sooner_of, coming_of, coming_at}
-use Rattle.result_check.specs.Finding.{line_asked, line_written}
-use Rattle.result_check.proofs.Lists.{get_set_same, get_set_other, some_same}
 
 module _ {n : ℕ} (banks : List ℕ) (rows : List (Row n)) where
   abbrev Next : List (Row n) → List (Option ℕ) → Type 0

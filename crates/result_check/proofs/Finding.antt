@@ -1,14 +1,11 @@
 -- A first look at a table.
 use Rattle.std.proofs.Common.{◌≡◌, ℕ, zero, suc, ◌+◌, ◌-◌, ◌≤◌, Bool, true, false, List, [], ◌∷◌, ◌++◌, length, drop, Some, refl, sym, ap, ◌∙◌, cond, subst, append_assoc, append-nil, arith}
 use Rattle.std.specs.Prelude.{slice_get}
-use Rattle.result_rows.specs.declared.Outcome.{Outcome}
+use Rattle.result_rows.specs.{Table.outcome_at, declared.Outcome.Outcome}
 use Rattle.result_rows.specs.declared.Outcome.TheVariants as out
-use Rattle.result_rows.specs.Table.{outcome_at}
 use Rattle.trace_reader.specs.declared.event.Event.{Event}
-use Rattle.row_rules.specs.declared.Row.{Row}
-use Rattle.row_rules.specs.Rows.{asks_read, asks_write, is_cut, line_of}
-use Rattle.check_judging.specs.Cutting.{cut_ticks}
-use Rattle.check_judging.specs.Keys.{key, store_key, store_keys, read_key, read_keys}
+use Rattle.row_rules.specs.{Rows.{asks_read, asks_write, is_cut, line_of}, declared.Row.Row}
+use Rattle.check_judging.specs.{Cutting.cut_ticks, Keys.{key, store_key, store_keys, read_key, read_keys}}
 use Rattle.check_verdict.specs.Verdicts.{bank_in}
 use Rattle.trace_rows.specs.Rows.{rows_with, row_of}
 use Rattle.result_check.specs.declared.found.Found.{Found}

@@ -1,43 +1,21 @@
 -- The pass over all rows.
 use Rattle.std.proofs.Common.{◌≡◌, ℕ, zero, suc, ◌+◌, ◌<◌, ◌≤◌, ◌&&◌, Bool, true, false, List, [], ◌∷◌, ◌++◌, length, take, drop, get_or, reverse, Option, Some, None, refl, sym, ap, ◌∙◌, cond, subst, arith}
-use Rattle.masked_bytes.proofs.Truth.{and_first, and_second}
-use Rattle.std.specs.Prelude.{All, IsPermutation, slice_get, nat_le, max, replicate}
-use Rattle.std.specs.List.Sorted.{IsNonDecreasing}
-use Rattle.std.proofs.lemmas.Bool.{leb-true, le-leb}
-use Rattle.std.proofs.lemmas.Option.{get_or_from_slice_get}
+use Rattle.std.{specs.List.Sorted.IsNonDecreasing, specs.Prelude.{All, IsPermutation, slice_get, nat_le, max, replicate}, proofs.Math.ListN.get_or-append}
+use Rattle.std.proofs.{Math.Nat.{le-max_left, le-max_right}, Math.Seq.get_or-append_seam, lemmas.Bool.{leb-true, le-leb}}
 use Rattle.std.proofs.lemmas.List.{length-drop, reverse-reverse, length-append, reverse-append, length-reverse, length-take, take-append-drop}
-use Rattle.std.proofs.lemmas.List.Elements.{All-take, All-cons}
-use Rattle.std.proofs.lemmas.List.Sorted.{All-permutation, IsPermutation-reverse, IsNonDecreasingBy-drop, length_permutation}
-use Rattle.std.proofs.Math.ListN.{get_or-append}
-use Rattle.std.proofs.Math.Seq.{get_or-append_seam}
+use Rattle.std.proofs.{lemmas.List.Elements.{All-take, All-cons}, lemmas.List.Sorted.{All-permutation, IsPermutation-reverse, IsNonDecreasingBy-drop, length_permutation}}
+use Rattle.std.proofs.lemmas.Option.{get_or_from_slice_get}
+use Rattle.masked_bytes.{specs.Masked.none_given, proofs.Truth.{and_first, and_second}}
 use Rattle.result_rows.specs.declared.Outcome.{Outcome}
 use Rattle.result_rows.specs.declared.Outcome.TheVariants as out
-use Rattle.row_rules.specs.declared.Row.{Row}
-use Rattle.row_rules.specs.declared.Rules.{Rules}
-use Rattle.row_rules.specs.Rows.{asks_cut, asks_read, asks_write, is_cut, line_of}
-use Rattle.check_judging.specs.Cutting.{cut_ticks}
-use Rattle.check_judging.specs.Keys.{key, store_key, store_keys, read_key, read_keys, all_short}
-use Rattle.check_judging.specs.Rising.{rising}
-use Rattle.check_judging.specs.Runs.{GivesSized}
-use Rattle.check_verdict.specs.declared.Rule.{Rule}
-use Rattle.check_verdict.specs.declared.lines.Line.{Line}
-use Rattle.masked_bytes.specs.Masked.{none_given}
-use Rattle.check_verdict.specs.Covering.{KeptLine}
-use Rattle.check_verdict.specs.declared.lines.Run.{Run}
-use Rattle.check_verdict.specs.States.{Facts, Stands, no_facts}
-use Rattle.check_verdict.specs.Tables.{around}
-use Rattle.check_verdict.specs.Verdicts.{bank_in, all_rules, broken_by, or_later, verdict_from, verdict_of, no}
-use Rattle.check_verdict.specs.declared.known.Coming.{Coming}
-use Rattle.result_check.specs.declared.found.Found.{Found}
-use Rattle.result_check.specs.Coming.{coming_at, coming_of}
-use Rattle.result_check.specs.Keeping.{banks_from, facts_in, Knows, KnowsLines, HasPassed, Meets}
-use Rattle.result_check.specs.Going.{GoesOn}
-use Rattle.check_verdict.specs.RowVerdicts.{AreUsable}
-use Rattle.result_check.specs.Tables.{IsTable, IsRowOf, IsFound}
-use Rattle.result_check.proofs.Finding.{none_left}
+use Rattle.row_rules.specs.{Rows.{asks_cut, asks_read, asks_write, is_cut, line_of}, declared.Row.Row, declared.Rules.Rules}
+use Rattle.check_judging.specs.{Cutting.cut_ticks, Keys.{key, store_key, store_keys, read_key, read_keys, all_short}, Rising.rising, Runs.GivesSized}
+use Rattle.check_verdict.specs.{Covering.KeptLine, RowVerdicts.AreUsable, States.{Facts, Stands, no_facts}, Tables.around}
+use Rattle.check_verdict.specs.{Verdicts.{bank_in, all_rules, broken_by, or_later, verdict_from, verdict_of, no}, declared.Rule.Rule, declared.known.Coming.Coming}
+use Rattle.check_verdict.specs.{declared.lines.Line.Line, declared.lines.Run.Run}
+use Rattle.result_check.specs.{Coming.{coming_at, coming_of}, Going.GoesOn, Keeping.{banks_from, facts_in, Knows, KnowsLines, HasPassed, Meets}, Lines.AreFresh}
+use Rattle.result_check.{specs.Tables.{IsTable, IsRowOf, IsFound}, specs.declared.found.Found.Found, proofs.Finding.none_left}
 use Rattle.result_check.proofs.Rows.{one_of_all, one_of_every, all_short_of_brief}
-use Rattle.result_check.specs.Lines.{AreFresh}
-use Rattle.std.proofs.Math.Nat.{le-max_left, le-max_right}
 
 -- Keys and cuts
 

@@ -1,23 +1,13 @@
 -- What is kept of the rows that have passed.
 use Rattle.std.proofs.Common.{get_or, ◌≡◌, ℕ, ◌<◌, ◌≤◌, ◌⊎◌, inl, inr, true, List, [], length, Option, Some, None, refl, sym, ap, ◌∙◌, cond, subst, arith}
-use Rattle.std.specs.Prelude.{All, slice_get, slice_set, unwrap_or}
-use Rattle.std.proofs.lemmas.Bool.{cases_eq, cases_lt, eq-eqb, ne_eqb}
+use Rattle.std.{specs.Prelude.{All, slice_get, slice_set, unwrap_or}, proofs.Math.ListN.length-set, proofs.lemmas.Bool.{cases_eq, cases_lt, eq-eqb, ne_eqb}}
 use Rattle.std.proofs.lemmas.Option.{slice_get_past, unwrap_or-slice_get}
-use Rattle.std.proofs.Math.ListN.{length-set}
 use Rattle.result_rows.specs.declared.Outcome.TheVariants as out
-use Rattle.row_rules.specs.declared.Row.{Row}
-use Rattle.row_rules.specs.declared.Rules.{Rules}
-use Rattle.row_rules.specs.Queueing.{has_room}
-use Rattle.row_rules.specs.Table.{of_bank}
-use Rattle.check_verdict.specs.Judged.{a_cut}
-use Rattle.check_verdict.specs.Members.{never}
-use Rattle.check_verdict.specs.Passing.{Passed, put, joined_room}
-use Rattle.check_verdict.specs.States.{Facts, Stands, no_facts, settled, cut_off}
-use Rattle.check_verdict.specs.Verdicts.{bank_in}
+use Rattle.row_rules.specs.{Queueing.has_room, Table.of_bank, declared.Row.Row, declared.Rules.Rules}
+use Rattle.check_verdict.specs.{Judged.a_cut, Members.never, Passing.{Passed, put, joined_room}, States.{Facts, Stands, no_facts, settled, cut_off}, Verdicts.bank_in}
 use Rattle.check_verdict.proofs.Passing.{all_room_law, settle_one_law, room_seen_law}
-use Rattle.result_check.specs.Keeping.{facts_in, Knows}
+use Rattle.result_check.{specs.Keeping.{facts_in, Knows}, proofs.Lists.{get_set_same, get_set_other}}
 use Rattle.masked_bytes.proofs.Lists.{item-at}
-use Rattle.result_check.proofs.Lists.{get_set_same, get_set_other}
 
 facts_set_same : (kept : List Facts) (bank : ℕ) (f : Facts) → bank < length kept → facts_in (slice_set kept bank f) bank ≡ f
 facts_set_same kept bank f lt = ap (λ o. unwrap_or o no_facts) (get_set_same kept bank f lt)

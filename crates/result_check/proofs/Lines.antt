@@ -1,25 +1,13 @@
 -- What is kept of a line, behind a row.
 use Rattle.std.proofs.Common.{◌≡◌, ℕ, ◌<◌, ◌==◌, ◌&&◌, ◌⊎◌, inl, inr, Bool, true, false, List, ◌∷◌, length, Some, refl, sym, ap, ◌∙◌, cond, subst, arith}
-use Rattle.masked_bytes.proofs.Truth.{and_false}
-use Rattle.std.specs.Prelude.{slice_get}
-use Rattle.std.proofs.lemmas.Bool.{cases_eq, eq-eqb, ne_eqb}
-use Rattle.masked_bytes.specs.Masked.{joined, laid}
+use Rattle.std.{specs.Prelude.slice_get, proofs.lemmas.Bool.{cases_eq, eq-eqb, ne_eqb}}
+use Rattle.masked_bytes.{specs.Masked.{joined, laid}, proofs.Truth.and_false}
 use Rattle.result_rows.specs.declared.Outcome.{Outcome}
 use Rattle.result_rows.specs.declared.Outcome.TheVariants as out
-use Rattle.row_rules.specs.declared.Row.{Row}
-use Rattle.row_rules.specs.Answers.{accepts}
-use Rattle.row_rules.specs.Rows.{accepted_of}
-use Rattle.row_rules.specs.Table.{is_of}
-use Rattle.check_verdict.specs.Covering.{KeptLine, unclosed_behind, runs_behind}
-use Rattle.check_verdict.specs.declared.lines.Line.{Line}
-use Rattle.check_verdict.specs.declared.lines.Run.{Run}
-use Rattle.check_verdict.specs.Judged.{beside, a_write}
-use Rattle.check_verdict.specs.Verdicts.{bank_in}
+use Rattle.row_rules.specs.{Answers.accepts, Rows.accepted_of, Table.is_of, declared.Row.Row}
+use Rattle.check_verdict.specs.{Covering.{KeptLine, unclosed_behind, runs_behind}, Judged.{beside, a_write}, Verdicts.bank_in, declared.lines.Line.Line, declared.lines.Run.Run}
 use Rattle.check_verdict.proofs.Covering.{line_stays_law, line_joins_law}
-use Rattle.result_check.specs.Keeping.{KnowsLines}
-use Rattle.result_check.specs.Lines.{IsLineBehind, LinePasses}
-use Rattle.result_check.specs.Outcomes.{stored_at}
-use Rattle.result_check.proofs.Lists.{get_set_same, get_set_other, some_same}
+use Rattle.result_check.{specs.Keeping.KnowsLines, specs.Lines.{IsLineBehind, LinePasses}, specs.Outcomes.stored_at, proofs.Lists.{get_set_same, get_set_other, some_same}}
 
 module _ {n : ℕ} (tick line : ℕ) (rows : List (Row n)) where
   -- the same line

@@ -2,27 +2,12 @@
 use Rattle.std.proofs.Common.{◌≡◌, ℕ, suc, ◌+◌, ◌<◌, ◌≤◌, Bool, true, false, List, [], ◌∷◌, length, Option, Some, None, refl, sym, ap, ◌∙◌, subst, cond, arith}
 use Rattle.std.specs.Prelude.{All, IfSome}
 use Rattle.result_rows.specs.declared.Outcome.{Outcome}
-use Rattle.row_rules.specs.declared.Row.{Row}
-use Rattle.row_rules.specs.declared.Rules.{Rules}
-use Rattle.row_rules.specs.Table.{is_of, of_bank}
-use Rattle.row_rules.specs.Queueing.{waiting, awaits}
+use Rattle.row_rules.specs.{Queueing.{waiting, awaits}, Table.{is_of, of_bank}, declared.Row.Row, declared.Rules.Rules}
 use Rattle.check_judging.specs.Keys.{reach}
-use Rattle.check_verdict.specs.declared.lines.Line.{Line}
-use Rattle.check_verdict.specs.Fitting.{is_brief}
-use Rattle.check_verdict.specs.Members.{never}
-use Rattle.check_verdict.specs.Passing.{joined_room}
-use Rattle.check_verdict.specs.RowVerdicts.{AreUsable}
-use Rattle.check_verdict.specs.States.{Facts, settled}
-use Rattle.check_verdict.specs.Verdicts.{bank_in}
-use Rattle.check_verdict.specs.Within.{AreWithin}
-use Rattle.check_verdict.proofs.Numbers.{numbers_law}
-use Rattle.check_verdict.proofs.Passing.{cut_room_law}
-use Rattle.check_verdict.proofs.States.{stands_later_law}
-use Rattle.check_verdict.proofs.VerdictLaws.{came_below}
-use Rattle.check_verdict.specs.declared.known.Coming.{Coming}
-use Rattle.check_verdict.specs.declared.known.Keys.{Keys}
-use Rattle.result_check.specs.Keeping.{facts_in, Knows, KnowsLines, MayTake, IsNext, Meets}
-use Rattle.result_check.proofs.Rows.{short_of_brief}
+use Rattle.check_verdict.specs.{Fitting.is_brief, Members.never, Passing.joined_room, RowVerdicts.AreUsable, States.{Facts, settled}, Verdicts.bank_in, Within.AreWithin}
+use Rattle.check_verdict.{specs.declared.known.Coming.Coming, specs.declared.known.Keys.Keys, specs.declared.lines.Line.Line, proofs.Numbers.numbers_law}
+use Rattle.check_verdict.proofs.{Passing.cut_room_law, States.stands_later_law, VerdictLaws.came_below}
+use Rattle.result_check.{specs.Keeping.{facts_in, Knows, KnowsLines, MayTake, IsNext, Meets}, proofs.Rows.short_of_brief}
 
 -- lines are known later too
 pub lines_later : {n : ℕ} (banks : List ℕ) (from tick : ℕ) (lines : List (Line n)) (before : List (Row n)) → from ≤ tick → KnowsLines banks from lines before → KnowsLines banks tick lines before

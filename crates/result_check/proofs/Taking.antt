@@ -1,49 +1,22 @@
 -- A row comes, and passes where it breaks no rule.
 use Rattle.std.proofs.Common.{◌≡◌, ℕ, suc, ◌+◌, ◌<◌, ◌≤◌, ◌&&◌, ◌⊎◌, inl, inr, Bool, true, false, List, [], ◌∷◌, length, Option, Some, None, refl, sym, ap, ◌∙◌, cond, subst, arith}
-use Rattle.masked_bytes.proofs.Truth.{and_first, and_second}
-use Rattle.std.specs.Prelude.{All, slice_get, slice_set, nat_lt}
-use Rattle.std.proofs.lemmas.Bool.{eq-eqb, leb-true, le-leb}
+use Rattle.std.{specs.Prelude.{All, slice_get, slice_set, nat_lt}, proofs.Math.ListN.length-set, proofs.lemmas.Bool.{eq-eqb, leb-true, le-leb}}
 use Rattle.std.proofs.lemmas.List.Elements.{All-tail, All-filter}
-use Rattle.std.proofs.Math.ListN.{length-set}
+use Rattle.masked_bytes.proofs.Truth.{and_first, and_second}
 use Rattle.result_rows.specs.declared.Outcome.{Outcome}
 use Rattle.result_rows.specs.declared.Outcome.TheVariants as out
-use Rattle.row_rules.specs.declared.Asks.{Asks}
-use Rattle.row_rules.specs.declared.Asks.TheVariants.{Reads, Writes, Cuts}
-use Rattle.row_rules.specs.declared.Row.{Row}
+use Rattle.row_rules.specs.{Queueing.has_room, Serving.may_have, Table.{is_of, of_bank}, declared.Asks.Asks, declared.Asks.TheVariants.{Reads, Writes, Cuts}, declared.Row.Row}
 use Rattle.row_rules.specs.declared.Rules.{Rules}
-use Rattle.row_rules.specs.Serving.{may_have}
-use Rattle.row_rules.specs.Table.{is_of, of_bank}
-use Rattle.row_rules.specs.Queueing.{has_room}
-use Rattle.check_judging.specs.Cutting.{cut_ticks}
-use Rattle.check_judging.specs.Distances.{ends_behind}
-use Rattle.check_judging.specs.Rising.{rising}
-use Rattle.check_judging.specs.Runs.{GivesSized}
-use Rattle.check_judging.proofs.Sublists.{room_stays_law}
-use Rattle.check_verdict.specs.Covering.{KeptLine}
-use Rattle.check_verdict.specs.Judged.{first_broken, beside, a_row, a_write, a_read, a_cut, RoomIs}
-use Rattle.check_verdict.specs.Keeping.{write_timely, read_timely}
-use Rattle.check_verdict.specs.Kept.{sight, sight_of}
-use Rattle.check_verdict.specs.Members.{never}
-use Rattle.check_verdict.specs.Passing.{Passed, put}
-use Rattle.check_verdict.specs.RowVerdicts.{coming_to, is_apart, read_by, write_verdict, read_verdict}
-use Rattle.check_verdict.specs.States.{Facts, Stands, settled, after_write, after_read, cut_off}
-use Rattle.check_verdict.specs.Verdicts.{bank_in, all_rules, broken_by}
-use Rattle.check_verdict.specs.Timely.{first_of_ticks}
-use Rattle.check_verdict.specs.VerdictLaws.{Comes}
-use Rattle.check_verdict.specs.Within.{AreWithin}
-use Rattle.check_verdict.specs.declared.Rule.{Rule}
-use Rattle.check_verdict.specs.declared.known.Coming.{Coming}
-use Rattle.check_verdict.specs.declared.known.Keys.{Keys}
-use Rattle.check_verdict.specs.declared.lines.Line.{Line}
-use Rattle.check_verdict.specs.declared.members.Member.{Member}
-use Rattle.check_verdict.proofs.Judged.{judge_cut_law}
-use Rattle.check_verdict.proofs.Passing.{settle_one_law, row_passes_law, cut_passed_law}
-use Rattle.check_verdict.proofs.States.{stands_later_law, write_passes_law, read_passes_law}
+use Rattle.check_judging.{specs.Cutting.cut_ticks, specs.Distances.ends_behind, specs.Rising.rising, specs.Runs.GivesSized, proofs.Sublists.room_stays_law}
+use Rattle.check_verdict.specs.{Covering.KeptLine, Judged.{first_broken, beside, a_row, a_write, a_read, a_cut, RoomIs}, Keeping.{write_timely, read_timely}}
+use Rattle.check_verdict.specs.{Kept.{sight, sight_of}, Members.never, Passing.{Passed, put}, RowVerdicts.{coming_to, is_apart, read_by, write_verdict, read_verdict}}
+use Rattle.check_verdict.specs.{States.{Facts, Stands, settled, after_write, after_read, cut_off}, Timely.first_of_ticks, VerdictLaws.Comes}
+use Rattle.check_verdict.specs.{Verdicts.{bank_in, all_rules, broken_by}, Within.AreWithin, declared.Rule.Rule, declared.known.Coming.Coming, declared.known.Keys.Keys}
+use Rattle.check_verdict.{specs.declared.lines.Line.Line, specs.declared.members.Member.Member, proofs.Judged.judge_cut_law}
+use Rattle.check_verdict.proofs.{Passing.{settle_one_law, row_passes_law, cut_passed_law}, States.{stands_later_law, write_passes_law, read_passes_law}}
 use Rattle.check_verdict.proofs.VerdictLaws.{write_verdict_law, read_verdict_law, newest_beside}
-use Rattle.result_check.specs.Keeping.{facts_in, Knows, KnowsLines, MayTake, IsNext, HasPassed}
-use Rattle.result_check.proofs.Keeping.{IsSettled, same_facts, put_set, facts_settled, bank_exists}
-use Rattle.result_check.proofs.Lines.{lines_stay}
-use Rattle.result_check.proofs.Rows.{short_of_brief}
+use Rattle.result_check.{specs.Keeping.{facts_in, Knows, KnowsLines, MayTake, IsNext, HasPassed}, proofs.Keeping.{IsSettled, same_facts, put_set, facts_settled, bank_exists}}
+use Rattle.result_check.proofs.{Lines.lines_stay, Rows.short_of_brief}
 
 -- rows of a bank don't fall where all rows don't
 rising_less : {n : ℕ} (s t : ℕ) (rows : List (Row n)) → t ≤ s → rising s rows ≡ true → rising t rows ≡ true

@@ -1,22 +1,13 @@
 -- What ends next in a bank.
 use Rattle.std.proofs.Common.{◌≡◌, ℕ, ◌<◌, ◌≤◌, ◌&&◌, Bool, true, false, List, [], ◌∷◌, ◌++◌, Option, refl, sym, ap, ◌∙◌, cond, subst, arith}
+use Rattle.std.{specs.List.list_all, specs.Prelude.{filter, nat_le, nat_lt, not, min}, proofs.Math.Nat.{min-le_left, min-le_right}}
+use Rattle.std.proofs.{lemmas.Bool.{leb-true, le-leb, lt-ltb, lt-leb}, lemmas.List.Folds.list_all-append}
 use Rattle.masked_bytes.proofs.Truth.{and_first, and_second}
-use Rattle.std.specs.Prelude.{filter, nat_le, nat_lt, not, min}
-use Rattle.std.specs.List.{list_all}
-use Rattle.std.proofs.lemmas.Bool.{leb-true, le-leb, lt-ltb, lt-leb}
-use Rattle.std.proofs.Math.Nat.{min-le_left, min-le_right}
-use Rattle.std.proofs.lemmas.List.Folds.{list_all-append}
 use Rattle.result_rows.specs.declared.Outcome.{Outcome}
 use Rattle.result_rows.specs.declared.Outcome.TheVariants as out
 use Rattle.check_judging.specs.Distances.{later_of}
-use Rattle.check_verdict.specs.declared.members.Member.{Member}
-use Rattle.check_verdict.specs.declared.members.Twins.{Twins}
-use Rattle.check_verdict.specs.declared.members.Twins.TheVariants.{Anywhere}
-use Rattle.check_verdict.specs.Kept.{ended, least_end}
-use Rattle.check_verdict.specs.Fitting.{IsKnown}
-use Rattle.check_verdict.specs.Joined.{stays_beside}
-use Rattle.check_verdict.specs.States.{Facts, settled, after_write, after_read}
-use Rattle.check_verdict.specs.Members.{never}
+use Rattle.check_verdict.specs.{Fitting.IsKnown, Joined.stays_beside, Kept.{ended, least_end}, Members.never, States.{Facts, settled, after_write, after_read}}
+use Rattle.check_verdict.specs.{declared.members.Member.Member, declared.members.Twins.Twins, declared.members.Twins.TheVariants.Anywhere}
 use Rattle.result_check.specs.Watching.{NoneEndsBelow, IsWatched, least_of, read_at}
 
 -- a bound on some numbers

@@ -1,10 +1,7 @@
 -- What `check` may be asked.
 use Rattle.std.specs.Prelude.{◌≡◌, ℕ, ◌<◌, ◌≤◌, ◌^◌, List, All, length, Some}
-use Rattle.trace_reader.specs.declared.event.Event.{Event}
-use Rattle.trace_reader.specs.Events.{AreEventsFor}
-use Rattle.trace_reader.specs.Trace.{most_rows}
-use Rattle.result_rows.specs.declared.Outcome.{Outcome}
-use Rattle.result_rows.specs.Outcomes.{tick_of}
+use Rattle.trace_reader.specs.{Events.AreEventsFor, Trace.most_rows, declared.event.Event.Event}
+use Rattle.result_rows.specs.{Outcomes.tick_of, declared.Outcome.Outcome}
 use Rattle.row_rules.specs.declared.Rules.{Rules}
 use Rattle.check_verdict.specs.Within.{AreWithin}
 

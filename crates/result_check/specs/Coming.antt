@@ -1,14 +1,7 @@
 -- What the rows behind a row bring.
 use Rattle.std.specs.Prelude.{◌≡◌, ℕ, List, [], ◌∷◌, ◌++◌, length, Option, Some, None, slice_get, min}
-use Rattle.row_rules.specs.declared.Asks.{Asks}
-use Rattle.row_rules.specs.declared.Row.{Row}
-use Rattle.row_rules.specs.Table.{of_bank}
-use Rattle.check_verdict.specs.Covering.{soonest}
-use Rattle.check_verdict.specs.QueueLaws.{next_accepted}
-use Rattle.check_verdict.specs.Verdicts.{bank_in}
-use Rattle.check_verdict.specs.Worn.{first_worn}
-use Rattle.check_verdict.specs.declared.known.Coming.{Coming}
-use Rattle.check_verdict.specs.RowVerdicts.{coming_to}
+use Rattle.row_rules.specs.{Table.of_bank, declared.Asks.Asks, declared.Row.Row}
+use Rattle.check_verdict.specs.{Covering.soonest, QueueLaws.next_accepted, RowVerdicts.coming_to, Verdicts.bank_in, Worn.first_worn, declared.known.Coming.Coming}
 use Rattle.result_check.specs.Finding.{line_asked}
 
 -- what the rows behind a row bring to it, if it has a line

@@ -1,7 +1,6 @@
 -- The line that is asked for, and the line that is written.
 use Rattle.std.specs.Prelude.{ℕ, Option, Some, None}
-use Rattle.row_rules.specs.declared.Asks.{Asks}
-use Rattle.row_rules.specs.declared.Asks.TheVariants.{Reads, Writes, Cuts}
+use Rattle.row_rules.specs.{declared.Asks.Asks, declared.Asks.TheVariants.{Reads, Writes, Cuts}}
 
 -- the line that is asked for
 abbrev pub line_asked : {n : ℕ} → Asks n → Option ℕ

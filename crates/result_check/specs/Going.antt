@@ -1,14 +1,9 @@
 -- The pass over all rows.
 use Rattle.std.specs.Prelude.{◌≡◌, ℕ, ◌+◌, ◌<◌, ◌≤◌, true, List, All, Option, length, take, drop, reverse}
-use Rattle.row_rules.specs.declared.Row.{Row}
-use Rattle.row_rules.specs.declared.Rules.{Rules}
-use Rattle.check_judging.specs.Cutting.{cut_ticks}
-use Rattle.check_judging.specs.Rising.{rising}
-use Rattle.check_verdict.specs.declared.lines.Line.{Line}
-use Rattle.check_verdict.specs.States.{Facts}
-use Rattle.check_verdict.specs.Verdicts.{verdict_from, verdict_of}
-use Rattle.result_check.specs.declared.found.Found.{Found}
-use Rattle.result_check.specs.Keeping.{Knows, KnowsLines}
+use Rattle.row_rules.specs.{declared.Row.Row, declared.Rules.Rules}
+use Rattle.check_judging.specs.{Cutting.cut_ticks, Rising.rising}
+use Rattle.check_verdict.specs.{States.Facts, Verdicts.{verdict_from, verdict_of}, declared.lines.Line.Line}
+use Rattle.result_check.specs.{Keeping.{Knows, KnowsLines}, declared.found.Found.Found}
 
 -- some rows have passed
 pub record GoesOn {n : ℕ} (rules : Rules) (banks : List ℕ) (rows : List (Row n)) (i : ℕ) (found : Found)

@@ -1,27 +1,11 @@
 -- What is kept of the rows that have passed, and what a row that comes leaves.
-use Rattle.std.specs.Prelude.{◌≡◌, ◌<◌, ◌≤◌, ◌+◌, max, ℕ, Bool, true, false, IsTrue, List, [], ◌∷◌, Option, Some, None, All, length}
-use Rattle.std.specs.Prelude.{slice_get, unwrap_or}
+use Rattle.std.specs.Prelude.{◌≡◌, ◌<◌, ◌≤◌, ◌+◌, max, ℕ, Bool, true, false, IsTrue, List, [], ◌∷◌, Option, Some, None, All, length, slice_get, unwrap_or}
 use Rattle.result_rows.specs.declared.Outcome.{Outcome}
-use Rattle.row_rules.specs.declared.Row.{Row}
-use Rattle.row_rules.specs.declared.Rules.{Rules}
-use Rattle.check_judging.specs.Keys.{reach, is_short}
-use Rattle.check_judging.specs.Rising.{rising}
-use Rattle.check_judging.specs.Runs.{GivesSized}
-use Rattle.check_verdict.specs.declared.Rule.{Rule}
-use Rattle.check_verdict.specs.declared.known.Coming.{Coming}
-use Rattle.check_verdict.specs.declared.known.Keys.{Keys}
+use Rattle.row_rules.specs.{Rows.asks_cut, declared.Row.Row, declared.Rules.Rules}
+use Rattle.check_judging.specs.{Cutting.cut_ticks, Keys.{reach, is_short}, Rising.rising, Runs.GivesSized}
+use Rattle.check_verdict.specs.{Covering.KeptLine, Fitting.is_brief, Judged.beside, Passing.Passed, RowVerdicts.AreUsable, States.{Facts, no_facts}, VerdictLaws.HasKeys}
+use Rattle.check_verdict.specs.{Verdicts.{all_rules, broken_by, all_have_room}, Within.AreWithin, declared.Rule.Rule, declared.known.Coming.Coming, declared.known.Keys.Keys}
 use Rattle.check_verdict.specs.declared.lines.Line.{Line}
-use Rattle.check_verdict.specs.Covering.{KeptLine}
-use Rattle.check_verdict.specs.Fitting.{is_brief}
-use Rattle.check_verdict.specs.Judged.{beside}
-use Rattle.check_verdict.specs.Passing.{Passed}
-use Rattle.check_verdict.specs.RowVerdicts.{AreUsable}
-use Rattle.check_verdict.specs.States.{Facts, no_facts}
-use Rattle.check_verdict.specs.VerdictLaws.{HasKeys}
-use Rattle.check_verdict.specs.Verdicts.{all_rules, broken_by, all_have_room}
-use Rattle.check_verdict.specs.Within.{AreWithin}
-use Rattle.row_rules.specs.Rows.{asks_cut}
-use Rattle.check_judging.specs.Cutting.{cut_ticks}
 use Rattle.result_check.specs.Coming.{coming_at}
 
 -- what is kept of a bank, these being the banks that are kept

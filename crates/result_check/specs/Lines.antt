@@ -3,8 +3,7 @@ use Rattle.std.specs.Prelude.{◌≡◌, ℕ, true, false, Bool, List, [], Some,
 use Rattle.masked_bytes.specs.Masked.{joined, laid, none_given}
 use Rattle.result_rows.specs.declared.Outcome.{Outcome}
 use Rattle.row_rules.specs.Answers.{accepts}
-use Rattle.check_verdict.specs.Covering.{unclosed_behind, runs_behind}
-use Rattle.check_verdict.specs.declared.lines.Line.{Line}
+use Rattle.check_verdict.specs.{Covering.{unclosed_behind, runs_behind}, declared.lines.Line.Line}
 use Rattle.result_check.specs.Outcomes.{stored_at}
 
 -- an accepted write changes it so, and another not at all

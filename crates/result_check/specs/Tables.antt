@@ -1,15 +1,9 @@
 -- A whole table, as a checker goes over it.
-use Rattle.std.specs.Prelude.{◌≡◌, ℕ, ◌<◌, ◌≤◌, IsTrue, List, All, length, IsPermutation}
-use Rattle.std.specs.List.Sorted.{IsNonDecreasing}
-use Rattle.row_rules.specs.declared.Row.{Row}
-use Rattle.check_judging.specs.Cutting.{cut_ticks}
-use Rattle.check_judging.specs.Keys.{reach, store_keys, read_keys}
-use Rattle.check_judging.specs.Rising.{rising}
-use Rattle.check_judging.specs.Runs.{GivesSized}
-use Rattle.check_verdict.specs.Fitting.{all_brief}
-use Rattle.check_verdict.specs.Verdicts.{bank_in}
+use Rattle.std.specs.{List.Sorted.IsNonDecreasing, Prelude.{◌≡◌, ℕ, ◌<◌, ◌≤◌, IsTrue, List, All, length, IsPermutation}}
+use Rattle.row_rules.specs.{Lines.IsOfLines, declared.Row.Row}
+use Rattle.check_judging.specs.{Cutting.cut_ticks, Keys.{reach, store_keys, read_keys}, Rising.rising, Runs.GivesSized}
+use Rattle.check_verdict.specs.{Fitting.all_brief, Verdicts.bank_in}
 use Rattle.result_check.specs.declared.found.Found.{Found}
-use Rattle.row_rules.specs.Lines.{IsOfLines}
 
 -- a row comes below the reach, of one of so many lines or of none
 pub record IsRowOf {n : ℕ} (lines : ℕ) (r : Row n) : Type 0 where

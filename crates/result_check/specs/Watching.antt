@@ -1,12 +1,8 @@
 -- What ends next in a bank.
-use Rattle.std.specs.Prelude.{ℕ, List, [], ◌∷◌, IsTrue, nat_le, min}
-use Rattle.std.specs.List.{list_all}
+use Rattle.std.specs.{List.list_all, Prelude.{ℕ, List, [], ◌∷◌, IsTrue, nat_le, min}}
 use Rattle.result_rows.specs.declared.Outcome.{Outcome}
 use Rattle.result_rows.specs.declared.Outcome.TheVariants as out
-use Rattle.check_verdict.specs.declared.members.Twins.{Twins}
-use Rattle.check_verdict.specs.Fitting.{IsKnown}
-use Rattle.check_verdict.specs.Members.{never}
-use Rattle.check_verdict.specs.States.{Facts}
+use Rattle.check_verdict.specs.{Fitting.IsKnown, Members.never, States.Facts, declared.members.Twins.Twins}
 
 -- the least of a tick and these
 abbrev pub least_of : ℕ → List ℕ → ℕ

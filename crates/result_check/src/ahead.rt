@@ -65,7 +65,8 @@ impl Outlook {
         requires next { length self.now.next.items ≡ length banks.now }
         requires soonest { length self.now.soonest.items ≡ length banks.now }
         requires worn { length self.now.worn.items ≡ 256 }
-        ensures { (rows : List (Row B)) → IsOutlook banks.now rows self.now.next.items self.now.soonest.items self.now.worn.items
+        ensures { (rows : List (Row B)) → IsOutlook banks.now rows self.now.next.items
+            self.now.soonest.items self.now.worn.items
             → result ≡ coming_at banks.now (asks_of op.now) rows }
     {
         match line_of(op) {
@@ -95,8 +96,10 @@ impl Outlook {
         requires soonest { length self.old.soonest.items ≡ length banks.now }
         requires worn { length self.old.worn.items ≡ 256 }
         ensures { (rows : List (Row B)) (asks : Asks B) → line_written asks ≡ Some line
-            → IsOutlook banks.now rows self.old.next.items self.old.soonest.items self.old.worn.items
-            → IsOutlook banks.now (a_row tick asks outcome.now ∷ rows) self.new.next.items self.new.soonest.items self.new.worn.items }
+            → IsOutlook banks.now rows self.old.next.items self.old.soonest.items
+            self.old.worn.items
+            → IsOutlook banks.now (a_row tick asks outcome.now
+            ∷ rows) self.new.next.items self.new.soonest.items self.new.worn.items }
     {
         match outcome {
             Outcome::Stored { tick: at, .. } => {
@@ -117,8 +120,10 @@ impl Outlook {
         requires next { length self.old.next.items ≡ length banks.now }
         requires soonest { length self.old.soonest.items ≡ length banks.now }
         requires worn { length self.old.worn.items ≡ 256 }
-        ensures { (rows : List (Row B)) → IsOutlook banks.now rows self.old.next.items self.old.soonest.items self.old.worn.items
-            → IsOutlook banks.now (row_of event.now outcome.now ∷ rows) self.new.next.items self.new.soonest.items self.new.worn.items }
+        ensures { (rows : List (Row B)) → IsOutlook banks.now rows self.old.next.items
+            self.old.soonest.items self.old.worn.items
+            → IsOutlook banks.now (row_of event.now outcome.now
+            ∷ rows) self.new.next.items self.new.soonest.items self.new.worn.items }
     {
         if let Some(line) = line_written(&event.op) {
             self.add_write(banks, event.tick, line, outcome);
@@ -144,7 +149,8 @@ pub fn look_ahead<const B: usize>(
     requires table { IsTable (length banks.now) (rows_with events.now results.now) }
     requires few { length events.now ≤ 400_000 }
     requires rows { length results.now ≡ length events.now }
-    ensures { IfOk result (λ coming. coming.items ≡ coming_of banks.now (rows_with events.now results.now)) }
+    ensures { IfOk result (λ coming. coming.items
+        ≡ coming_of banks.now (rows_with events.now results.now)) }
 {
     let mut outlook = Outlook {
         next: none_yet(alloc, banks.len())?,

@@ -41,11 +41,14 @@ impl Found {
         requires line { IsOfLines (length banks.now) (asks_of event.now.op) }
         requires short { IsTrue (keys.is_short outcome.now) }
         ensures stores { IfOk result (λ _. self.new.keys.stores.items
-            ≡ self.old.keys.stores.items ++ keys.store_keys (bank_in banks.now) (row_of event.now outcome.now ∷ [])) }
+            ≡ self.old.keys.stores.items ++ keys.store_keys (bank_in banks.now)
+            (row_of event.now outcome.now ∷ [])) }
         ensures lines { IfOk result (λ _. self.new.keys.lines.items
-            ≡ self.old.keys.lines.items ++ keys.store_keys (λ line. line) (row_of event.now outcome.now ∷ [])) }
+            ≡ self.old.keys.lines.items ++ keys.store_keys (λ line. line)
+            (row_of event.now outcome.now ∷ [])) }
         ensures reads { IfOk result (λ _. self.new.keys.reads.items
-            ≡ self.old.keys.reads.items ++ keys.read_keys (bank_in banks.now) (row_of event.now outcome.now ∷ [])) }
+            ≡ self.old.keys.reads.items ++ keys.read_keys (bank_in banks.now)
+            (row_of event.now outcome.now ∷ [])) }
         ensures cuts { IfOk result (λ _. self.new.cuts.items
             ≡ self.old.cuts.items ++ cut_ticks (row_of event.now outcome.now ∷ [])) }
     {
@@ -77,7 +80,8 @@ impl Found {
         requires table { IsTable (length banks.now) (rows_with events.now results.now) }
         requires few { length events.now ≤ 400_000 }
         requires rows { length results.now ≡ length events.now }
-        ensures { IfOk result (λ found. IsFound banks.now (rows_with events.now results.now) found) }
+        ensures { IfOk result (λ found. IsFound banks.now (rows_with events.now results.now)
+            found) }
     {
         let mut found = Found {
             keys: Keys {

@@ -88,7 +88,8 @@ fn pass_line<const B: usize>(
     given: &[bool; B],
     outcome: &Outcome<B>,
 ) -> Result<(), AllocError>
-    ensures { IfOk result (λ _. IsLineBehind B tick bytes.now given.now outcome.now line.old line.new) }
+    ensures { IfOk result (λ _. IsLineBehind B tick bytes.now given.now outcome.now line.old
+        line.new) }
 {
     if accepts(outcome) {
         return line.pass(tick, stored_at(outcome), bytes, given);
@@ -168,7 +169,8 @@ impl<const B: usize> Kept<B> {
     pub fn new(alloc: Global, banks: &[u8]) -> Result<Kept<B>, AllocError>
         requires small { B ≤ 128 }
         ensures number { IfOk result (λ kept. length kept.banks.items ≡ banks_from 0 banks.now) }
-        ensures facts { IfOk result (λ kept. (bank : ℕ) → facts_in kept.banks.items bank ≡ no_facts) }
+        ensures facts { IfOk result (λ kept. (bank : ℕ)
+            → facts_in kept.banks.items bank ≡ no_facts) }
         ensures lines { IfOk result (λ kept. length kept.lines.items ≡ length banks.now) }
         ensures fresh { IfOk result (λ kept. AreFresh B kept.lines.items) }
         ensures joined { IfOk result (λ kept. kept.joined ≡ None) }
@@ -185,7 +187,8 @@ impl<const B: usize> Kept<B> {
         requires line { line < length banks.now }
         requires exist { bank_in banks.now line < length self.old.banks.items }
         ensures banks { let bank = bank_in banks.now line in
-            self.new.banks.items ≡ slice_set self.old.banks.items bank (settled tick (facts_in self.old.banks.items bank)) }
+            self.new.banks.items ≡ slice_set self.old.banks.items bank
+            (settled tick (facts_in self.old.banks.items bank)) }
         ensures lines { self.new.lines.items ≡ self.old.lines.items }
         ensures joined { self.new.joined ≡ self.old.joined }
     {
@@ -212,7 +215,8 @@ impl<const B: usize> Kept<B> {
             → Knows rules.now banks.now from self.old.banks.items self.old.joined before
             → Knows rules.now banks.now tick self.new.banks.items self.old.joined before }
         ensures seen { (from : ℕ) (before : List (Row B)) → from ≤ tick → tick < never
-            → Knows rules.now banks.now from self.old.banks.items self.old.joined before → result ≡ true
+            → Knows rules.now banks.now from self.old.banks.items self.old.joined before
+            → result ≡ true
             → Knows rules.now banks.now tick self.new.banks.items None before }
         ensures number { length self.new.banks.items ≡ length self.old.banks.items }
         ensures lines { self.new.lines.items ≡ self.old.lines.items }
@@ -240,12 +244,17 @@ impl<const B: usize> Kept<B> {
         requires small { B ≤ 128 }
         requires exist { bank < length self.old.banks.items }
         requires line { line < length self.old.lines.items }
-        ensures banks { IfOk result (λ _. (m : Member) × (sight m ≡ sight_of (a_row tick (Writes line [] []) outcome.now))
+        ensures banks { IfOk result (λ _. (m : Member)
+            × (sight m ≡ sight_of (a_row tick (Writes line [] []) outcome.now))
             × (self.new.banks.items
-            ≡ slice_set self.old.banks.items bank (after_write line m outcome.now (facts_in self.old.banks.items bank)))) }
-        ensures number { IfOk result (λ _. length self.new.lines.items ≡ length self.old.lines.items) }
-        ensures lines { IfOk result (λ _. (old : Line B) → slice_get self.old.lines.items line ≡ Some old
-            → LinePasses B tick bytes.now given.now outcome.now line self.old.lines.items old self.new.lines.items) }
+            ≡ slice_set self.old.banks.items bank (after_write line m outcome.now
+            (facts_in self.old.banks.items bank)))) }
+        ensures number { IfOk result (λ _. length self.new.lines.items
+            ≡ length self.old.lines.items) }
+        ensures lines { IfOk result (λ _. (old : Line B)
+            → slice_get self.old.lines.items line ≡ Some old
+            → LinePasses B tick bytes.now given.now outcome.now line self.old.lines.items old
+            self.new.lines.items) }
         ensures joined { IfOk result (λ _. self.new.joined ≡ Some line) }
     {
         let member = member_of(line, tick, outcome);
@@ -266,7 +275,8 @@ impl<const B: usize> Kept<B> {
         requires exist { bank < length self.old.banks.items }
         requires few { (facts_in self.old.banks.items bank).lost ≤ 400_000 }
         ensures banks { IfOk result (λ _. self.new.banks.items
-            ≡ slice_set self.old.banks.items bank (after_read tick outcome.now (facts_in self.old.banks.items bank))) }
+            ≡ slice_set self.old.banks.items bank (after_read tick outcome.now
+            (facts_in self.old.banks.items bank))) }
         ensures lines { IfOk result (λ _. self.new.lines.items ≡ self.old.lines.items) }
         ensures joined { IfOk result (λ _. self.new.joined ≡ Some line) }
     {
@@ -287,18 +297,23 @@ impl<const B: usize> Kept<B> {
     ) -> Result<Option<Rule>, AllocError>
         requires small { B ≤ 128 }
         requires asked { asks_of op.now ≡ Writes row.line bytes.now given.now }
-        requires may { MayTake grounds.rules.now grounds.banks.now grounds.keys.now row.tick row.line
+        requires may { MayTake grounds.rules.now grounds.banks.now grounds.keys.now row.tick
+            row.line
             outcome.now self.old.banks.items self.old.lines.items }
         requires cuts { IsNonDecreasing grounds.cuts.now }
         requires few { length grounds.cuts.now ≤ 400_000 }
-        ensures number { IfOk result (λ _. length self.new.banks.items ≡ length self.old.banks.items) }
-        ensures lines { IfOk result (λ _. length self.new.lines.items ≡ length self.old.lines.items) }
+        ensures number { IfOk result (λ _. length self.new.banks.items
+            ≡ length self.old.banks.items) }
+        ensures lines { IfOk result (λ _. length self.new.lines.items
+            ≡ length self.old.lines.items) }
         ensures passes { (before after : List (Row B))
             → let r = a_row row.tick (asks_of op.now) outcome.now in
-            IsNext grounds.entry.rules.now grounds.entry.banks.now grounds.entry.keys.now before r after
+            IsNext grounds.entry.rules.now grounds.entry.banks.now grounds.entry.keys.now before r
+            after
             self.old.banks.items self.old.joined self.old.lines.items row.room
             grounds.entry.coming grounds.entry.cuts.now
-            → IfOk result (λ broken. HasPassed grounds.entry.rules.now grounds.entry.banks.now before r after
+            → IfOk result (λ broken. HasPassed grounds.entry.rules.now grounds.entry.banks.now
+            before r after
             broken self.new.banks.items self.new.joined self.new.lines.items) }
     {
         let number = bank_of(grounds.banks, row.line);
@@ -331,20 +346,26 @@ impl<const B: usize> Kept<B> {
     ) -> Result<Option<Rule>, AllocError>
         requires small { B ≤ 128 }
         requires asked { asks_of op.now ≡ Reads row.line }
-        requires may { MayTake grounds.rules.now grounds.banks.now grounds.keys.now row.tick row.line
+        requires may { MayTake grounds.rules.now grounds.banks.now grounds.keys.now row.tick
+            row.line
             outcome.now self.old.banks.items self.old.lines.items }
-        requires fourth { let f = facts_in self.old.banks.items (bank_in grounds.banks.now row.line) in
+        requires fourth { let f = facts_in self.old.banks.items (bank_in grounds.banks.now row.line)
+            in
             IfSome f.fourth (λ came. came < reach) }
         requires few { let f = facts_in self.old.banks.items (bank_in grounds.banks.now row.line) in
             length (settled row.tick f).waits + (settled row.tick f).lost ≤ 400_000 }
-        ensures number { IfOk result (λ _. length self.new.banks.items ≡ length self.old.banks.items) }
-        ensures lines { IfOk result (λ _. length self.new.lines.items ≡ length self.old.lines.items) }
+        ensures number { IfOk result (λ _. length self.new.banks.items
+            ≡ length self.old.banks.items) }
+        ensures lines { IfOk result (λ _. length self.new.lines.items
+            ≡ length self.old.lines.items) }
         ensures passes { (before after : List (Row B))
             → let r = a_row row.tick (asks_of op.now) outcome.now in
-            IsNext grounds.entry.rules.now grounds.entry.banks.now grounds.entry.keys.now before r after
+            IsNext grounds.entry.rules.now grounds.entry.banks.now grounds.entry.keys.now before r
+            after
             self.old.banks.items self.old.joined self.old.lines.items row.room
             grounds.entry.coming grounds.entry.cuts.now
-            → IfOk result (λ broken. HasPassed grounds.entry.rules.now grounds.entry.banks.now before r after
+            → IfOk result (λ broken. HasPassed grounds.entry.rules.now grounds.entry.banks.now
+            before r after
             broken self.new.banks.items self.new.joined self.new.lines.items) }
     {
         let number = bank_of(grounds.banks, row.line);
@@ -372,7 +393,8 @@ impl<const B: usize> Kept<B> {
         requires arrived { tick < reach }
         ensures number { length self.new.banks.items ≡ length self.old.banks.items }
         ensures lines { length self.new.lines.items ≡ length self.old.lines.items }
-        ensures passes { (rules : laws.Rules) (banks : List ℕ) (keys : Keys) (before after : List (Row B))
+        ensures passes { (rules : laws.Rules) (banks : List ℕ) (keys : Keys)
+            (before after : List (Row B))
             (coming : Coming) (cuts : List ℕ)
             → let r = a_cut tick outcome.now in
             IsNext rules banks keys before r after
@@ -409,15 +431,20 @@ impl<const B: usize> Kept<B> {
         requires met { (before : List (Row B)) × (after : List (Row B))
             × Meets grounds.rules.now grounds.banks.now grounds.keys.now
             before (row_of event.now outcome.now) after
-            self.old.banks.items self.old.joined self.old.lines.items grounds.coming grounds.cuts.now }
-        ensures number { IfOk result (λ _. length self.new.banks.items ≡ length self.old.banks.items) }
-        ensures lines { IfOk result (λ _. length self.new.lines.items ≡ length self.old.lines.items) }
+            self.old.banks.items self.old.joined self.old.lines.items grounds.coming
+            grounds.cuts.now }
+        ensures number { IfOk result (λ _. length self.new.banks.items
+            ≡ length self.old.banks.items) }
+        ensures lines { IfOk result (λ _. length self.new.lines.items
+            ≡ length self.old.lines.items) }
         ensures passes { (before after : List (Row B))
             → let r = row_of event.now outcome.now in
-            Meets grounds.entry.rules.now grounds.entry.banks.now grounds.entry.keys.now before r after
+            Meets grounds.entry.rules.now grounds.entry.banks.now grounds.entry.keys.now before r
+            after
             self.old.banks.items self.old.joined self.old.lines.items
             grounds.entry.coming grounds.entry.cuts.now
-            → IfOk result (λ broken. HasPassed grounds.entry.rules.now grounds.entry.banks.now before r after
+            → IfOk result (λ broken. HasPassed grounds.entry.rules.now grounds.entry.banks.now
+            before r after
             broken self.new.banks.items self.new.joined self.new.lines.items) }
     {
         let tick = event.tick;

@@ -108,7 +108,8 @@ impl Watched {
         member: Member,
         outcome: &Outcome<B>,
     ) -> Result<(), AllocError>
-        ensures { IfOk result (λ _. self.new ≡ spec.after_write member.line member outcome.now self.old) }
+        ensures { IfOk result (λ _. self.new ≡ spec.after_write member.line member outcome.now
+            self.old) }
     {
         let next = self.next.min(member.end);
         let has_mates = has_line(&self.bank.members, member.line);

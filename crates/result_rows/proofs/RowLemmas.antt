@@ -1,19 +1,12 @@
 -- How long the parts of a row and a whole row are.
 use Rattle.std.proofs.Common.{ℕ, ◌+◌, ◌*◌, ◌^◌, ◌<◌, ◌≤◌, ◌≡◌, List, [], ◌∷◌, ◌++◌, length, Option, None, Some, length-append, append_assoc, add-zero, sym, suc, refl, arith, lit≤}
-use Rattle.std.specs.Prelude.{codes}
-use Rattle.std.specs.List.{join_with_byte}
-use Rattle.pcm_io.specs.Reserved.{Reserved, appended}
-use Rattle.std.specs.Fmt.{decimal}
-use Rattle.std.specs.Option.{ForSome}
-use Rattle.hex.specs.Hex.{encode_lower, lower_digits}
-use Rattle.hex.proofs.HexLemmas.{length-encode_with}
-use Rattle.result_rows.specs.declared.Op.{Op}
+use Rattle.std.specs.{Fmt.decimal, List.join_with_byte, Option.ForSome, Prelude.codes}
+use Rattle.pcm_io.{specs.Reserved.{Reserved, appended}, proofs.DigitLemmas.{five_digits, six_digits, twenty_digits}}
+use Rattle.hex.{specs.Hex.{encode_lower, lower_digits}, proofs.HexLemmas.length-encode_with}
+use Rattle.result_rows.specs.{Outcomes.{outcome_word, tick_of, place_of, bytes_of}, RowText.{op_letter, line_of, decimal_or_empty, hex_or_empty, row_text, rows_text}}
+use Rattle.result_rows.specs.{declared.Op.Op, declared.Outcome.Outcome}
 use Rattle.result_rows.specs.declared.Op.TheVariants as op
-use Rattle.result_rows.specs.declared.Outcome.{Outcome}
 use Rattle.result_rows.specs.declared.Outcome.TheVariants as out
-use Rattle.result_rows.specs.Outcomes.{outcome_word, tick_of, place_of, bytes_of}
-use Rattle.result_rows.specs.RowText.{op_letter, line_of, decimal_or_empty, hex_or_empty, row_text, rows_text}
-use Rattle.pcm_io.proofs.DigitLemmas.{five_digits, six_digits, twenty_digits}
 
 -- seven fields that were pushed one by one, with a comma behind each but the last, and LF at the end
 pub pieces-row : (t : Reserved) (a b c d e f g : List ℕ) →

@@ -1,8 +1,6 @@
 -- What setting one row of a table changes and keeps.
 use Rattle.std.proofs.Common.{ℕ, ◌-◌, ◌<◌, ◌≡◌, ◌≢◌, List, length, Some, ap, sym, ◌∙◌, arith}
-use Rattle.std.proofs.lemmas.List.{get_or-set_same, get_or-set_other}
-use Rattle.std.proofs.lemmas.Option.{slice_get-get_or}
-use Rattle.std.proofs.lemmas.Grind.{common_steps}
+use Rattle.std.proofs.{lemmas.Grind.common_steps, lemmas.List.{get_or-set_same, get_or-set_other}, lemmas.Option.slice_get-get_or}
 use Rattle.result_rows.specs.Table.{HasRow, outcome_at, with_outcome}
 
 -- the number of rows stays

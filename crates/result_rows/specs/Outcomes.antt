@@ -1,8 +1,7 @@
 -- What an outcome says: which operation it is of, and its word, tick, place and bytes.
 use Rattle.std.specs.Prelude.{ℕ, List, [], Option, Some, None, codes}
-use Rattle.result_rows.specs.declared.Op.{Op}
+use Rattle.result_rows.specs.{declared.Op.Op, declared.Outcome.Outcome}
 use Rattle.result_rows.specs.declared.Op.TheVariants as op
-use Rattle.result_rows.specs.declared.Outcome.{Outcome}
 use Rattle.result_rows.specs.declared.Outcome.TheVariants as out
 
 module _ {n : ℕ} where

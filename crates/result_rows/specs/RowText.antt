@@ -1,11 +1,8 @@
 -- The bytes of the results: a header, and one row for each row of the trace.
-use Rattle.std.specs.Prelude.{ℕ, ◌+◌, List, [], ◌∷◌, ◌++◌, Option, Some, None, codes, decimal}
-use Rattle.std.specs.List.{join_with_byte}
+use Rattle.std.specs.{List.join_with_byte, Prelude.{ℕ, ◌+◌, List, [], ◌∷◌, ◌++◌, Option, Some, None, codes, decimal}}
 use Rattle.hex.specs.Hex.{encode_lower}
-use Rattle.result_rows.specs.declared.Op.{Op}
+use Rattle.result_rows.specs.{Outcomes.{outcome_word, tick_of, place_of, bytes_of}, declared.Op.Op, declared.Outcome.Outcome}
 use Rattle.result_rows.specs.declared.Op.TheVariants as op
-use Rattle.result_rows.specs.declared.Outcome.{Outcome}
-use Rattle.result_rows.specs.Outcomes.{outcome_word, tick_of, place_of, bytes_of}
 
 -- the first line of the results
 abbrev pub header_text : List ℕ

@@ -1,16 +1,10 @@
 -- How large the numbers of a row are.
 use Rattle.std.proofs.Common.{◌≡◌, ℕ, ◌+◌, ◌*◌, ◌<◌, ◌≤◌, List, [], ◌∷◌, append_assoc, refl, arith}
-use Rattle.std.specs.Prelude.{codes, decimal}
+use Rattle.std.{specs.Prelude.{codes, decimal}, proofs.lemmas.Nat.mul-le}
 use Rattle.pcm_io.specs.Reserved.{Reserved, appended}
-use Rattle.start_gap.specs.declared.Move.{Move}
-use Rattle.start_gap.specs.Rotation.{place_after, move_after}
-use Rattle.start_gap.specs.Slots.{slot_at}
+use Rattle.start_gap.specs.{Rotation.{place_after, move_after}, Slots.slot_at, declared.Move.Move}
 use Rattle.feistel_map.specs.declared.address.Address.{Address}
-use Rattle.rotation_reports.specs.declared.line_rows.MapOptions.{MapOptions}
-use Rattle.rotation_reports.specs.Rows.{row_of}
-use Rattle.rotation_reports.specs.MapText.{map_address, map_row, array_lines_of}
-use Rattle.rotation_reports.specs.MovesText.{move_row}
-use Rattle.std.proofs.lemmas.Nat.{mul-le}
+use Rattle.rotation_reports.specs.{MapText.{map_address, map_row, array_lines_of}, MovesText.move_row, Rows.row_of, declared.line_rows.MapOptions.MapOptions}
 
 -- the slots of a bank, those of the regions before, and the array lines of the banks before
 pub slots_few : (regions lines : ℕ) → regions ≤ 16 → lines ≤ 4096 → regions * (lines + 1) ≤ 65552

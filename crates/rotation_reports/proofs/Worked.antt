@@ -1,15 +1,11 @@
 -- Worked examples: a small module after five moves, three lines of a larger one, also where its banks have
 -- control lines, and a full turn of four lines.
 use Rattle.std.proofs.Common.{◌≡◌, refl}
-use Rattle.std.specs.Prelude.{codes}
-use Rattle.std.specs.Fmt.{digits}
-use Rattle.rand_core.specs.Stream.{next_u64}
-use Rattle.rand_core.specs.Steps.{stream_of}
+use Rattle.std.specs.{Fmt.digits, Prelude.codes}
+use Rattle.rand_core.specs.{Steps.stream_of, Stream.next_u64}
 use Rattle.seeded_words.specs.Words.{stream_after, word_at}
 use Rattle.bank_shape.specs.declared.Home.TheVariants.{Guarded, Array}
-use Rattle.rotation_reports.specs.declared.line_rows.MapOptions.{MapOptions}
-use Rattle.rotation_reports.specs.MapText.{map_text, map_row}
-use Rattle.rotation_reports.specs.MovesText.{moves_text}
+use Rattle.rotation_reports.specs.{MapText.{map_text, map_row}, MovesText.moves_text, declared.line_rows.MapOptions.MapOptions}
 
 abbrev small : MapOptions
 small = record { banks = 1; regions = 1; lines = 4; spares = 2; seed = 0; moves = 5; home = Guarded }

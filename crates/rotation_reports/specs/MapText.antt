@@ -1,14 +1,9 @@
 -- The text of `map`: where each line of a module stands once every region made so many gap moves.
 use Rattle.std.specs.Prelude.{◌≡◌, ℕ, ◌+◌, ◌*◌, ◌^◌, ◌≤◌, List, [], ◌∷◌, ◌++◌, codes, decimal}
-use Rattle.start_gap.specs.Rotation.{Rotation, StandsFor, place_after}
-use Rattle.start_gap.specs.Slots.{slots_of, slot_at}
+use Rattle.start_gap.specs.{Rotation.{Rotation, StandsFor, place_after}, Slots.{slots_of, slot_at}}
 use Rattle.bank_shape.specs.Shape.{if_array}
-use Rattle.feistel_map.specs.declared.address.Address.{Address}
-use Rattle.feistel_map.specs.Addresses.{address_of}
-use Rattle.feistel_map.specs.Log2.{log2}
-use Rattle.feistel_map.specs.Network.{Network, network_of, feistel}
-use Rattle.rotation_reports.specs.declared.line_rows.MapOptions.{MapOptions}
-use Rattle.rotation_reports.specs.Rows.{row_of, rows_from}
+use Rattle.feistel_map.specs.{Addresses.address_of, Log2.log2, Network.{Network, network_of, feistel}, declared.address.Address.Address}
+use Rattle.rotation_reports.specs.{Rows.{row_of, rows_from}, declared.line_rows.MapOptions.MapOptions}
 
 abbrev pub map_header : List ℕ
 map_header = codes "line,bank,region,offset,place,array\n"

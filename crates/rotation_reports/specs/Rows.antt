@@ -1,6 +1,5 @@
 -- Numbered rows of a text, one behind the other.
-use Rattle.std.specs.Prelude.{ℕ, zero, suc, ◌+◌, List, [], ◌++◌, codes}
-use Rattle.std.specs.List.{join_with_byte}
+use Rattle.std.specs.{List.join_with_byte, Prelude.{ℕ, zero, suc, ◌+◌, List, [], ◌++◌, codes}}
 
 -- a row: its fields with commas between, and LF at the end
 abbrev pub row_of : List (List ℕ) → List ℕ

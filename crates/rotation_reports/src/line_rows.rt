@@ -106,7 +106,8 @@ pub fn print_map_header(text: &mut Text)
 // How many lines of a bank keep its registers.
 fn control_lines(options: &MapOptions) -> u32
     requires { IsMapOptions options.now }
-    ensures number { result ≡ if_array options.now.home (options.now.regions + options.now.spares + 1) }
+    ensures number { result ≡ if_array options.now.home
+        (options.now.regions + options.now.spares + 1) }
     ensures few { result ≤ 1041 }
 {
     match options.home {

@@ -2,12 +2,10 @@
 use Rattle.std.proofs.Common.{◌≡◌, ℕ, zero, suc, ◌+◌, ◌-◌, ◌<◌, ◌≤◌, Bool, true, false, cond, List, [], ◌∷◌, ◌++◌, length, set, slice_get, Some, refl, sym, ap, ◌∙◌, arith}
 use Rattle.std.specs.List.{count_by}
 use Rattle.masked_bytes.proofs.Counting.{count-cons, count-append, one_if}
-use Rattle.result_rows.specs.declared.Outcome.{Outcome}
+use Rattle.result_rows.specs.{Table.{outcome_at, with_outcome}, declared.Outcome.Outcome}
 use Rattle.result_rows.specs.declared.Outcome.TheVariants as out
-use Rattle.result_rows.specs.Table.{outcome_at, with_outcome}
 use Rattle.row_rules.specs.Answers.{is_stored, is_merged, is_queued, is_full, is_worn, is_answered, is_forwarded, is_busy, is_lost}
-use Rattle.run_text.specs.Counting.{is_cut, counts_of}
-use Rattle.run_text.specs.Laws.{is_unset, rows_counted}
+use Rattle.run_text.specs.{Counting.{is_cut, counts_of}, Laws.{is_unset, rows_counted}}
 use Rattle.row_printer.specs.Counting.{with_one}
 
 -- a count, where one that failed a test becomes another

@@ -1,16 +1,9 @@
 -- What one row more makes of a printer.
 use Rattle.std.proofs.Common.{◌≡◌, ℕ, ◌+◌, ◌-◌, ◌<◌, ◌≤◌, List, [], ◌∷◌, ◌++◌, length, replicate, refl, sym, ap, ◌∙◌, arith}
 use Rattle.std.proofs.lemmas.List.{length-replicate, replicate-append-replicate, set-append_left}
-use Rattle.result_rows.specs.declared.Outcome.{Outcome}
-use Rattle.result_rows.specs.declared.Outcome.TheVariants.{Unset}
-use Rattle.result_rows.specs.Table.{with_outcome}
-use Rattle.result_rows.proofs.TableLemmas.{length-with_outcome}
-use Rattle.run_text.specs.declared.counts.Counts.{Counts}
-use Rattle.run_text.specs.Counting.{counts_of}
-use Rattle.row_printer.specs.declared.told.Told.{Told}
-use Rattle.row_printer.specs.Telling.{outcomes_in, recorded, TellsOnce}
-use Rattle.row_printer.specs.Printing.{table_of}
-use Rattle.row_printer.proofs.Counted.{counts-open}
+use Rattle.result_rows.{specs.Table.with_outcome, specs.declared.Outcome.Outcome, specs.declared.Outcome.TheVariants.Unset, proofs.TableLemmas.length-with_outcome}
+use Rattle.run_text.specs.{Counting.counts_of, declared.counts.Counts.Counts}
+use Rattle.row_printer.{specs.Printing.table_of, specs.Telling.{outcomes_in, recorded, TellsOnce}, specs.declared.told.Told.Told, proofs.Counted.counts-open}
 
 module _ {n : ℕ} where
   -- what was told once of some rows was told once of one more

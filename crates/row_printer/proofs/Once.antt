@@ -1,10 +1,7 @@
 -- That each row is told once, where each was open as it was told.
 use Rattle.std.proofs.Common.{◌≡◌, ◌≢◌, ℕ, ◌≤◌, ◌==◌, ◌||◌, Bool, true, false, List, [], ◌∷◌, ◌++◌, length, Option, Some, None, refl, sym, ap, subst, ◌∙◌, eqb-true, eq-eqb}
 use Rattle.std.specs.Prelude.{IsTrue, is_some}
-use Rattle.result_rows.specs.declared.Outcome.{Outcome}
-use Rattle.result_rows.specs.declared.Outcome.TheVariants.{Unset}
-use Rattle.result_rows.specs.Outcomes.{op_of}
-use Rattle.result_rows.specs.Table.{HasRow, outcome_at, with_outcome}
+use Rattle.result_rows.specs.{Outcomes.op_of, Table.{HasRow, outcome_at, with_outcome}, declared.Outcome.Outcome, declared.Outcome.TheVariants.Unset}
 use Rattle.result_rows.proofs.TableLemmas.{length-with_outcome, outcome_at-with_outcome, outcome_at-other}
 use Rattle.row_printer.specs.Telling.{recorded, tells, TellsOnce}
 

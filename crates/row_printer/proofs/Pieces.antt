@@ -1,7 +1,6 @@
 -- How a row is put together.
 use Rattle.std.proofs.Common.{◌≡◌, ℕ, List, [], ◌∷◌, ◌++◌, append_assoc}
-use Rattle.std.specs.Prelude.{codes}
-use Rattle.std.specs.List.{join_with_byte}
+use Rattle.std.specs.{List.join_with_byte, Prelude.codes}
 use Rattle.pcm_io.specs.Reserved.{Reserved, appended}
 
 -- five fields that were pushed one by one, with a comma behind each but the last, and LF at the end

@@ -1,32 +1,14 @@
 -- What one line more makes of a printer.
 use Rattle.std.proofs.Common.{◌≡◌, ℕ, ◌^◌, ◌<◌, ◌≤◌, List, [], ◌∷◌, ◌++◌, Option, true, false, Some, length, replicate, append_assoc, refl, ap, sym, subst, ◌∙◌, arith}
-use Rattle.std.specs.Prelude.{IsTrue, is_some}
-use Rattle.std.proofs.lemmas.List.{length-replicate}
-use Rattle.pcm_io.specs.Faults.{Rose}
-use Rattle.pcm_io.specs.Giving.{AppendsPrefix}
-use Rattle.pcm_io.specs.Reserved.{Reserved, appended}
-use Rattle.pcm_io.proofs.ByteLemmas.{AppendsPrefix-longer}
-use Rattle.result_rows.specs.declared.Outcome.{Outcome}
-use Rattle.result_rows.specs.declared.Outcome.TheVariants.{Unset}
-use Rattle.result_rows.specs.Outcomes.{op_of}
-use Rattle.result_rows.specs.Table.{HasRow, outcome_at, with_outcome}
-use Rattle.run_text.specs.Gathering.{Printed}
-use Rattle.run_text.specs.declared.counts.Counts.{Counts}
-use Rattle.run_text.specs.Counting.{counts_of}
-use Rattle.run_text.specs.Laws.{rows_counted}
-use Rattle.run_text.proofs.Gathered.{printed-more}
-use Rattle.row_printer.specs.declared.snapshot.Snapshot.{Snapshot}
-use Rattle.row_printer.specs.declared.told.Shown.{Shown}
-use Rattle.row_printer.specs.declared.told.Shown.TheVariants.{Nothing, Rows, Snapshots}
-use Rattle.row_printer.specs.declared.told.Told.{Told}
-use Rattle.row_printer.specs.declared.told.Told.TheVariants.{Became}
-use Rattle.row_printer.specs.Counting.{with_one}
-use Rattle.row_printer.specs.Telling.{told_header, told_line, told_text, outcomes_in, recorded, TellsOnce}
-use Rattle.row_printer.specs.Snapshots.{snapshot_line, snapshots_header, snapshots_text}
-use Rattle.row_printer.specs.Printing.{Prints, stream_text, table_of}
+use Rattle.std.{specs.Prelude.{IsTrue, is_some}, proofs.lemmas.List.length-replicate}
+use Rattle.pcm_io.{specs.Faults.Rose, specs.Giving.AppendsPrefix, specs.Reserved.{Reserved, appended}, proofs.ByteLemmas.AppendsPrefix-longer}
+use Rattle.result_rows.specs.{Outcomes.op_of, Table.{HasRow, outcome_at, with_outcome}, declared.Outcome.Outcome, declared.Outcome.TheVariants.Unset}
+use Rattle.run_text.{specs.Counting.counts_of, specs.Gathering.Printed, specs.Laws.rows_counted, specs.declared.counts.Counts.Counts, proofs.Gathered.printed-more}
+use Rattle.row_printer.specs.{Counting.with_one, Printing.{Prints, stream_text, table_of}, Snapshots.{snapshot_line, snapshots_header, snapshots_text}}
+use Rattle.row_printer.specs.{Telling.{told_header, told_line, told_text, outcomes_in, recorded, TellsOnce}, declared.snapshot.Snapshot.Snapshot, declared.told.Shown.Shown}
+use Rattle.row_printer.specs.{declared.told.Shown.TheVariants.{Nothing, Rows, Snapshots}, declared.told.Told.Told, declared.told.Told.TheVariants.Became}
+use Rattle.row_printer.proofs.{Counted.{counts-more, counted-below}, Once.{once-more, open-untold}}
 use Rattle.row_printer.proofs.Telling.{told_text-more, snapshots_text-more, outcomes-more, recorded-more, length-recorded}
-use Rattle.row_printer.proofs.Counted.{counts-more, counted-below}
-use Rattle.row_printer.proofs.Once.{once-more, open-untold}
 
 -- a later count rose too
 rose-later : (first faults left : ℕ) → first ≤ faults → Rose faults left → Rose first left

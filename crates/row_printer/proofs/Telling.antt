@@ -1,14 +1,9 @@
 -- What telling one line more adds.
 use Rattle.std.proofs.Common.{◌≡◌, ℕ, List, [], ◌∷◌, ◌++◌, length, append_assoc, refl, ap, sym, ◌∙◌}
 use Rattle.std.proofs.lemmas.List.{append-nil}
-use Rattle.result_rows.specs.declared.Outcome.{Outcome}
-use Rattle.result_rows.specs.Table.{with_outcome}
-use Rattle.result_rows.proofs.TableLemmas.{length-with_outcome}
-use Rattle.row_printer.specs.declared.told.Told.{Told}
-use Rattle.row_printer.specs.declared.told.Told.TheVariants.{Became, Settled}
-use Rattle.row_printer.specs.declared.snapshot.Snapshot.{Snapshot}
-use Rattle.row_printer.specs.Snapshots.{snapshot_line, snapshots_text}
-use Rattle.row_printer.specs.Telling.{told_line, told_text, outcomes_in, recorded}
+use Rattle.result_rows.{specs.Table.with_outcome, specs.declared.Outcome.Outcome, proofs.TableLemmas.length-with_outcome}
+use Rattle.row_printer.specs.{Snapshots.{snapshot_line, snapshots_text}, Telling.{told_line, told_text, outcomes_in, recorded}, declared.snapshot.Snapshot.Snapshot}
+use Rattle.row_printer.specs.{declared.told.Told.Told, declared.told.Told.TheVariants.{Became, Settled}}
 
 -- the text of snapshots has the last line at the end
 pub snapshots_text-more : (snapshots : List Snapshot) (one : Snapshot) → snapshots_text (snapshots ++ one ∷ []) ≡ snapshots_text snapshots ++ snapshot_line one

@@ -2,8 +2,7 @@
 use Rattle.std.specs.Prelude.{ℕ, ◌+◌, cond}
 use Rattle.result_rows.specs.declared.Outcome.{Outcome}
 use Rattle.row_rules.specs.Answers.{is_stored, is_merged, is_queued, is_full, is_worn, is_answered, is_forwarded, is_busy, is_lost}
-use Rattle.run_text.specs.declared.counts.Counts.{Counts}
-use Rattle.run_text.specs.Counting.{is_cut}
+use Rattle.run_text.specs.{Counting.is_cut, declared.counts.Counts.Counts}
 
 -- the counts with one outcome more
 abbrev pub with_one : {n : ℕ} → Counts → Outcome n → Counts

@@ -2,9 +2,7 @@
 use Rattle.std.proofs.Common.{◌≡◌, ℕ, List, [], ◌∷◌, ◌++◌, Option, append_assoc, refl, ap, sym, ◌∙◌}
 use Rattle.std.proofs.lemmas.List.{append-nil}
 use Rattle.result_rows.specs.declared.Outcome.{Outcome}
-use Rattle.row_printer.specs.declared.told.Told.TheVariants.{Became}
-use Rattle.row_printer.specs.Telling.{became}
-use Rattle.row_printer.specs.Printing.{Printing, PrintsOn}
+use Rattle.row_printer.specs.{Printing.{Printing, PrintsOn}, Telling.became, declared.told.Told.TheVariants.Became}
 
 became-more : {n : ℕ} (xs ys : List (ℕ × Outcome n)) → became (xs ++ ys) ≡ became xs ++ became ys
 became-more [] ys = refl

@@ -1,20 +1,10 @@
 -- What contracts see of a printer of rows.
 use Rattle.std.specs.Prelude.{◌≡◌, ℕ, ◌≤◌, Bool, true, false, List, [], ◌++◌, Option, replicate}
-use Rattle.pcm_io.specs.Faults.{Rose}
-use Rattle.pcm_io.specs.Giving.{AppendsPrefix}
-use Rattle.pcm_io.specs.Reserved.{Reserved}
-use Rattle.result_rows.specs.declared.Outcome.{Outcome}
-use Rattle.result_rows.specs.declared.Outcome.TheVariants.{Unset}
-use Rattle.run_text.specs.Counting.{counts_of}
-use Rattle.run_text.specs.Gathering.{Printed}
-use Rattle.run_text.specs.declared.counts.Counts.{Counts}
-use Rattle.run_text.specs.declared.room.TheConstants.{TEXT_ROOM}
-use Rattle.row_printer.specs.declared.snapshot.Snapshot.{Snapshot}
-use Rattle.row_printer.specs.declared.told.Shown.{Shown}
-use Rattle.row_printer.specs.declared.told.Shown.TheVariants.{Nothing, Rows, Snapshots}
-use Rattle.row_printer.specs.declared.told.Told.{Told}
-use Rattle.row_printer.specs.Snapshots.{IsShown, snapshots_header, snapshots_text}
-use Rattle.row_printer.specs.Telling.{told_header, told_text, outcomes_in, became, recorded, TellsOnce}
+use Rattle.pcm_io.specs.{Faults.Rose, Giving.AppendsPrefix, Reserved.Reserved}
+use Rattle.result_rows.specs.{declared.Outcome.Outcome, declared.Outcome.TheVariants.Unset}
+use Rattle.run_text.specs.{Counting.counts_of, Gathering.Printed, declared.counts.Counts.Counts, declared.room.TheConstants.TEXT_ROOM}
+use Rattle.row_printer.specs.{Snapshots.{IsShown, snapshots_header, snapshots_text}, Telling.{told_header, told_text, outcomes_in, became, recorded, TellsOnce}}
+use Rattle.row_printer.specs.{declared.snapshot.Snapshot.Snapshot, declared.told.Shown.Shown, declared.told.Shown.TheVariants.{Nothing, Rows, Snapshots}, declared.told.Told.Told}
 
 -- its sink, the text that is still to be written, what it was told and the snapshots, in order, how many rows came, what is printed, and
 -- whether a write failed

@@ -1,12 +1,7 @@
 -- The lines of a stream, which tells what became of each row of a trace as soon as that is known, and each tick to which the banks came.
-use Rattle.std.specs.Prelude.{◌≡◌, ℕ, ◌≤◌, ◌==◌, ◌||◌, Bool, false, IsTrue, is_some, List, [], ◌∷◌, ◌++◌, codes, decimal}
-use Rattle.std.specs.List.{join_with_byte}
-use Rattle.result_rows.specs.declared.Outcome.{Outcome}
-use Rattle.result_rows.specs.Outcomes.{op_of, outcome_word, tick_of, place_of, bytes_of}
-use Rattle.result_rows.specs.Table.{with_outcome}
-use Rattle.result_rows.specs.RowText.{decimal_or_empty, hex_or_empty}
-use Rattle.row_printer.specs.declared.told.Told.{Told}
-use Rattle.row_printer.specs.declared.told.Told.TheVariants.{Became, Settled}
+use Rattle.std.specs.{List.join_with_byte, Prelude.{◌≡◌, ℕ, ◌≤◌, ◌==◌, ◌||◌, Bool, false, IsTrue, is_some, List, [], ◌∷◌, ◌++◌, codes, decimal}}
+use Rattle.result_rows.specs.{Outcomes.{op_of, outcome_word, tick_of, place_of, bytes_of}, RowText.{decimal_or_empty, hex_or_empty}, Table.with_outcome, declared.Outcome.Outcome}
+use Rattle.row_printer.specs.{declared.told.Told.Told, declared.told.Told.TheVariants.{Became, Settled}}
 
 -- the first line of a stream
 abbrev pub told_header : List ℕ

@@ -8,7 +8,18 @@ use run_text::Counts;
 
 /// Nothing is counted yet.
 pub fn no_counts() -> Counts
-    ensures { result ≡ record { stored = 0; merged = 0; queued = 0; full = 0; worn = 0; read = 0; forwarded = 0; busy = 0; lost = 0; cut = 0 } }
+    ensures { result ≡ record {
+      stored = 0;
+      merged = 0;
+      queued = 0;
+      full = 0;
+      worn = 0;
+      read = 0;
+      forwarded = 0;
+      busy = 0;
+      lost = 0;
+      cut = 0;
+    } }
 {
     Counts {
         stored: 0,

@@ -53,7 +53,15 @@ impl<const B: usize, S: Sink + Drop> Model for RowPrinter<B, S> {
 
     ghost Value = { Printing B S };
 
-    ghost view = { λ p. record { sink = p.sink.value; text = p.text; told = items p.told; snapshots = items p.snapshots; rows = p.rows; prints = p.prints; broken = p.broken } };
+    ghost view = { λ p. record {
+      sink = p.sink.value;
+      text = p.text;
+      told = items p.told;
+      snapshots = items p.snapshots;
+      rows = p.rows;
+      prints = p.prints;
+      broken = p.broken;
+    } };
 
     ghost invariant = { λ p. IsTold p.prints p.text (items p.told) p.rows p.counts };
 }
@@ -70,7 +78,8 @@ impl<const B: usize, S: Sink + Drop> RowPrinter<B, S> {
         ensures prints { result.prints ≡ prints }
         ensures broken { result.broken ≡ false }
         ensures sink { result.sink ≡ sink.value }
-        ensures printing { IsPrinting S.written S.faults (S.written sink.value) (S.faults sink.value) result }
+        ensures printing { IsPrinting S.written S.faults (S.written sink.value)
+            (S.faults sink.value) result }
     {
         RowPrinter {
             sink,
@@ -92,7 +101,8 @@ impl<const B: usize, S: Sink + Drop> RowPrinter<B, S> {
         ensures snapshots { self.new.snapshots ≡ self.old.snapshots }
         ensures prints { self.new.prints ≡ self.old.prints }
         ensures table { table_told self.new ≡ table_told self.old ++ Unset ∷ [] }
-        ensures printing { (before : Option (List ℕ)) (first : ℕ) → IsPrinting S.written S.faults before first self.old
+        ensures printing { (before : Option (List ℕ)) (first : ℕ)
+            → IsPrinting S.written S.faults before first self.old
             → IsPrinting S.written S.faults before first self.new }
     {
         self.rows += 1;
@@ -104,7 +114,8 @@ impl<const B: usize, S: Sink + Drop> RowPrinter<B, S> {
         ensures told { self.new.told ≡ self.old.told ++ Settled tick ∷ [] }
         ensures snapshots { self.new.snapshots ≡ self.old.snapshots }
         ensures prints { self.new.prints ≡ self.old.prints }
-        ensures printing { (before : Option (List ℕ)) (first : ℕ) → IsPrinting S.written S.faults before first self.old
+        ensures printing { (before : Option (List ℕ)) (first : ℕ)
+            → IsPrinting S.written S.faults before first self.old
             → IsPrinting S.written S.faults before first self.new }
     {
         let line = Told::Settled(tick);
@@ -144,7 +155,8 @@ impl<const B: usize, S: Sink + Drop> RowPrinter<B, S> {
         ensures told { self.new.told ≡ self.old.told }
         ensures snapshots { self.new.snapshots ≡ self.old.snapshots ++ snapshot.now ∷ [] }
         ensures prints { self.new.prints ≡ self.old.prints }
-        ensures printing { (before : Option (List ℕ)) (first : ℕ) → IsPrinting S.written S.faults before first self.old
+        ensures printing { (before : Option (List ℕ)) (first : ℕ)
+            → IsPrinting S.written S.faults before first self.old
             → IsPrinting S.written S.faults before first self.new }
     {
         self.broken = print_one(
@@ -165,11 +177,14 @@ impl<const B: usize, S: Sink + Drop> RowPrinter<B, S> {
         ensures prints { self.new.prints ≡ self.old.prints }
         ensures broken { OnOk result (self.new.broken ≡ false) }
         ensures text { OnOk result (self.new.text ≡ reserved TEXT_ROOM) }
-        ensures printing { (before : Option (List ℕ)) (first : ℕ) → IsPrinting S.written S.faults before first self.old
+        ensures printing { (before : Option (List ℕ)) (first : ℕ)
+            → IsPrinting S.written S.faults before first self.old
             → IsPrinting S.written S.faults before first self.new }
-        ensures ok { OnOk result ((before : Option (List ℕ)) (first : ℕ) → IsPrinting S.written S.faults before first self.old
+        ensures ok { OnOk result ((before : Option (List ℕ)) (first : ℕ)
+            → IsPrinting S.written S.faults before first self.old
             → Appends before (S.written self.new.sink) (text_told self.new)) }
-        ensures err { OnErr result ((before : Option (List ℕ)) (first : ℕ) → IsPrinting S.written S.faults before first self.old
+        ensures err { OnErr result ((before : Option (List ℕ)) (first : ℕ)
+            → IsPrinting S.written S.faults before first self.old
             → AppendsPrefix before (S.written self.new.sink) (text_told self.new)
             × Rose first (S.faults self.new.sink)) }
     {
@@ -237,7 +252,8 @@ impl<const B: usize, S: Sink + Drop> Outcomes<B> for RowPrinter<B, S> {
 
     ghost stands = { λ one. stands-on S.written S.faults one };
 
-    ghost follows = { λ one two three before behind. follows-on S.written S.faults one two three before behind };
+    ghost follows = { λ one two three before behind. follows-on S.written S.faults one two three
+        before behind };
 
     fn set(&mut self, row: u32, outcome: Outcome<B>)
         requires exists { HasRow (table_told self.old) row }
@@ -284,8 +300,10 @@ fn print_line<const B: usize, S: Sink>(
     requires few { B ≤ 128 }
     requires limit { text.old.limit ≡ TEXT_ROOM }
     ensures limit { text.new.limit ≡ TEXT_ROOM }
-    ensures printed { (before : Option (List ℕ)) (first : ℕ) (told : List (Line B)) (snapshots : List Taken)
-        → Prints before first (S.written sink.old) (S.faults sink.old) text.old (stream_text prints told snapshots) broken
+    ensures printed { (before : Option (List ℕ)) (first : ℕ) (told : List (Line B))
+        (snapshots : List Taken)
+        → Prints before first (S.written sink.old) (S.faults sink.old) text.old
+        (stream_text prints told snapshots) broken
         → Prints before first (S.written sink.new) (S.faults sink.new) text.new
         (stream_text prints (told ++ line.now ∷ []) snapshots) result }
 {
@@ -314,8 +332,10 @@ fn print_one<S: Sink>(
 ) -> bool
     requires limit { text.old.limit ≡ TEXT_ROOM }
     ensures limit { text.new.limit ≡ TEXT_ROOM }
-    ensures printed { (n : ℕ) (before : Option (List ℕ)) (first : ℕ) (told : List (Line n)) (snapshots : List Taken)
-        → Prints before first (S.written sink.old) (S.faults sink.old) text.old (stream_text prints told snapshots) broken
+    ensures printed { (n : ℕ) (before : Option (List ℕ)) (first : ℕ) (told : List (Line n))
+        (snapshots : List Taken)
+        → Prints before first (S.written sink.old) (S.faults sink.old) text.old
+        (stream_text prints told snapshots) broken
         → Prints before first (S.written sink.new) (S.faults sink.new) text.new
         (stream_text prints told (snapshots ++ snapshot.now ∷ [])) result }
 {

@@ -2,8 +2,7 @@
 use Rattle.std.proofs.Common.{◌≡◌, ℕ, ◌&&◌, true, List, [], ◌∷◌, refl}
 use Rattle.std.proofs.lemmas.Bool.{and_from}
 use Rattle.masked_bytes.proofs.Truth.{and_first, and_second}
-use Rattle.row_rules.specs.declared.Row.{Row}
-use Rattle.row_rules.specs.Rows.{RowTest, each_row}
+use Rattle.row_rules.specs.{Rows.{RowTest, each_row}, declared.Row.Row}
 
 module _ {n : ℕ} where
   -- a row that passes two tests passes both at once

@@ -1,15 +1,12 @@
 -- What the rows show of a bank's write queue and of its waiting reads.
-use Rattle.std.specs.Prelude.{ℕ, List, [], ◌∷◌, ◌++◌, Bool, true, false, not, ◌&&◌, ◌||◌, ◌==◌, nat_lt, nat_le, if◌then◌else◌, length, filter, Option, Some, None, min}
 use Rattle.std.specs.List.{list_all, list_any}
+use Rattle.std.specs.Prelude.{ℕ, List, [], ◌∷◌, ◌++◌, Bool, true, false, not, ◌&&◌, ◌||◌, ◌==◌, nat_lt, nat_le, if◌then◌else◌, length, filter, Option, Some, None, min}
 use Rattle.result_rows.specs.declared.Outcome.{Outcome}
 use Rattle.result_rows.specs.declared.Outcome.TheVariants as out
 use Rattle.masked_bytes.specs.Masked.{joined, none_given, gives_all}
-use Rattle.row_rules.specs.declared.Asks.{Asks}
-use Rattle.row_rules.specs.declared.Asks.TheVariants.{Reads, Writes, Cuts}
-use Rattle.row_rules.specs.declared.Row.{Row}
 use Rattle.row_rules.specs.Answers.{is_merged, is_queued, is_stored, is_full, is_busy, is_answered, is_forwarded, is_lost, stored_after, stored_by, stored_before, read_after}
-use Rattle.row_rules.specs.declared.Rules.{Rules}
-use Rattle.row_rules.specs.Rows.{RowTest, asks_read, line_of, given_of, accepted, accepted_of, write_of, is_cut}
+use Rattle.row_rules.specs.{Rows.{RowTest, asks_read, line_of, given_of, accepted, accepted_of, write_of, is_cut}, declared.Asks.Asks}
+use Rattle.row_rules.specs.{declared.Asks.TheVariants.{Reads, Writes, Cuts}, declared.Row.Row, declared.Rules.Rules}
 
 -- the lesser of a number and another, if there is one
 abbrev pub least : Option ℕ → ℕ → Option ℕ

@@ -1,10 +1,7 @@
 -- The rows of a finished table, what each asked for, and the newest accepted bytes of a line. No queue and no array is known here.
 use Rattle.std.specs.Prelude.{ℕ, List, [], ◌∷◌, Bool, true, false, ◌&&◌, ◌==◌, if◌then◌else◌, replicate}
 use Rattle.masked_bytes.specs.Masked.{laid}
-use Rattle.row_rules.specs.declared.Asks.{Asks}
-use Rattle.row_rules.specs.declared.Asks.TheVariants.{Reads, Writes, Cuts}
-use Rattle.row_rules.specs.declared.Row.{Row}
-use Rattle.row_rules.specs.Answers.{accepts}
+use Rattle.row_rules.specs.{Answers.accepts, declared.Asks.Asks, declared.Asks.TheVariants.{Reads, Writes, Cuts}, declared.Row.Row}
 
 module _ {n : ℕ} where
   abbrev pub asks_read : Asks n → Bool

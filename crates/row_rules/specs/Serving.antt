@@ -2,10 +2,7 @@
 use Rattle.std.specs.Prelude.{ℕ, List, [], ◌∷◌, Bool, true, false, ◌==◌, ◌&&◌}
 use Rattle.result_rows.specs.declared.Outcome.{Outcome}
 use Rattle.result_rows.specs.declared.Outcome.TheVariants as out
-use Rattle.row_rules.specs.declared.Asks.{Asks}
-use Rattle.row_rules.specs.declared.Asks.TheVariants.{Reads, Writes, Cuts}
-use Rattle.row_rules.specs.declared.Row.{Row}
-use Rattle.row_rules.specs.Rows.{RowTest, newest}
+use Rattle.row_rules.specs.{Rows.{RowTest, newest}, declared.Asks.Asks, declared.Asks.TheVariants.{Reads, Writes, Cuts}, declared.Row.Row}
 
 -- two lists of bytes are the same
 abbrev pub same_bytes : List ℕ → List ℕ → Bool

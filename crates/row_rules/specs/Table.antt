@@ -1,14 +1,7 @@
 -- The laws of a whole table.
 use Rattle.std.specs.Prelude.{ℕ, List, [], Bool, true, ◌==◌, filter, IsTrue}
-use Rattle.row_rules.specs.declared.Asks.{Asks}
-use Rattle.row_rules.specs.declared.Asks.TheVariants.{Reads, Writes, Cuts}
-use Rattle.row_rules.specs.declared.Row.{Row}
-use Rattle.row_rules.specs.Rows.{RowTest, each_row}
-use Rattle.row_rules.specs.declared.Rules.{Rules}
-use Rattle.row_rules.specs.Queueing.{is_queue_fair}
-use Rattle.row_rules.specs.Serving.{is_served}
-use Rattle.row_rules.specs.Wearing.{is_wear_final, is_wear_earned}
-use Rattle.row_rules.specs.Ticking.{is_in_time}
+use Rattle.row_rules.specs.{Queueing.is_queue_fair, Rows.{RowTest, each_row}, Serving.is_served, Ticking.is_in_time, Wearing.{is_wear_final, is_wear_earned}, declared.Asks.Asks}
+use Rattle.row_rules.specs.{declared.Asks.TheVariants.{Reads, Writes, Cuts}, declared.Row.Row, declared.Rules.Rules}
 
 -- each row of one bank's table, the newest first, keeps the laws of the rows
 pub record KeepsRows {n : ℕ} (rules : Rules) (rows : List (Row n)) : Type 0 where

@@ -1,17 +1,10 @@
 -- What the rows show of a bank's times.
-use Rattle.std.specs.Prelude.{ℕ, List, [], ◌∷◌, ◌++◌, ◌+◌, ◌*◌, Bool, true, false, not, ◌&&◌, ◌||◌, ◌==◌, nat_lt, nat_le, if◌then◌else◌, length, max, count_by}
-use Rattle.std.specs.List.{list_all}
+use Rattle.std.specs.{List.list_all, Prelude.{ℕ, List, [], ◌∷◌, ◌++◌, ◌+◌, ◌*◌, Bool, true, false, not, ◌&&◌, ◌||◌, ◌==◌, nat_lt, nat_le, if◌then◌else◌, length, max, count_by}}
 use Rattle.result_rows.specs.declared.Outcome.{Outcome}
 use Rattle.result_rows.specs.declared.Outcome.TheVariants as out
-use Rattle.row_rules.specs.declared.Asks.{Asks}
-use Rattle.row_rules.specs.declared.Asks.TheVariants.{Reads, Writes, Cuts}
-use Rattle.row_rules.specs.declared.Row.{Row}
-use Rattle.row_rules.specs.Answers.{is_answered, is_lost, stored_after, stored_by, read_after, read_by}
-use Rattle.row_rules.specs.Rows.{RowTest, asks_read, asks_write, is_cut}
-use Rattle.bank_shape.specs.declared.pace.Policy.{Policy}
-use Rattle.bank_shape.specs.declared.pace.Policy.TheVariants.{Pause, Plain, Cancel}
-use Rattle.row_rules.specs.declared.Rules.{Rules}
-use Rattle.row_rules.specs.Queueing.{waiting}
+use Rattle.row_rules.specs.{Answers.{is_answered, is_lost, stored_after, stored_by, read_after, read_by}, Queueing.waiting, Rows.{RowTest, asks_read, asks_write, is_cut}}
+use Rattle.row_rules.specs.{declared.Asks.Asks, declared.Asks.TheVariants.{Reads, Writes, Cuts}, declared.Row.Row, declared.Rules.Rules}
+use Rattle.bank_shape.specs.{declared.pace.Policy.Policy, declared.pace.Policy.TheVariants.{Pause, Plain, Cancel}}
 
 -- the longest time of one attempt to write a line: a sense, and then at most so many iterations
 abbrev pub attempt : Rules → ℕ

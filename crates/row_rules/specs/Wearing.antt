@@ -1,11 +1,8 @@
 -- What the rows show of a bank that found no spare.
-use Rattle.std.specs.Prelude.{ℕ, List, Bool, true, not, ◌&&◌, ◌||◌, nat_le}
-use Rattle.std.specs.List.{list_any}
+use Rattle.std.specs.{List.list_any, Prelude.{ℕ, List, Bool, true, not, ◌&&◌, ◌||◌, nat_le}}
 use Rattle.result_rows.specs.declared.Outcome.{Outcome}
 use Rattle.result_rows.specs.declared.Outcome.TheVariants as out
-use Rattle.row_rules.specs.declared.Row.{Row}
-use Rattle.row_rules.specs.Answers.{is_worn}
-use Rattle.row_rules.specs.Rows.{RowTest, asks_write, accepted}
+use Rattle.row_rules.specs.{Answers.is_worn, Rows.{RowTest, asks_write, accepted}, declared.Row.Row}
 
 module _ {n : ℕ} where
   -- a write that was refused, since a worn line had found no spare

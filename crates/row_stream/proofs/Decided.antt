@@ -1,16 +1,11 @@
 -- What a text decides of the stream that it is, and that settles ask for no event.
 use Rattle.std.proofs.Common.{◌≡◌, ℕ, List, [], ◌∷◌, reverse, Option, refl, sym, ap, subst, ◌∙◌}
-use Rattle.std.specs.Prelude.{Ok, Err}
-use Rattle.std.proofs.lemmas.List.{reverse-reverse}
+use Rattle.std.{specs.Prelude.{Ok, Err}, proofs.lemmas.List.reverse-reverse}
 use Rattle.trace_reader.specs.declared.event.Event.{Event}
 use Rattle.run_laws.specs.Runs.{RunsRightTo}
 use Rattle.row_printer.specs.Printing.{table_of}
-use Rattle.trace_stream.specs.Stream.{front_of, stream_of}
-use Rattle.trace_stream.specs.declared.asked.Asked.{Asked}
-use Rattle.trace_stream.specs.declared.asked.Asked.TheVariants.{Happens, Settle}
-use Rattle.row_stream.specs.Asking.{events_in}
-use Rattle.row_stream.specs.Ending.{rows_of}
-use Rattle.row_stream.specs.Laws.{FaultyLaw, ReadLaw, SettleLaw, without_settles}
+use Rattle.trace_stream.specs.{Stream.{front_of, stream_of}, declared.asked.Asked.Asked, declared.asked.Asked.TheVariants.{Happens, Settle}}
+use Rattle.row_stream.specs.{Asking.events_in, Ending.rows_of, Laws.{FaultyLaw, ReadLaw, SettleLaw, without_settles}}
 
 module _ {S : Type 0} (left : S → Option (List ℕ)) (taken faults : S → ℕ) where
   pub one-end : ReadLaw left taken faults

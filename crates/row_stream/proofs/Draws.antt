@@ -1,28 +1,15 @@
 -- How drawn rows are served.
 use Rattle.std.proofs.Common.{◌≡◌, ℕ, ◌+◌, ◌<◌, ◌≤◌, List, [], ◌∷◌, ◌++◌, length, reverse, refl, sym, ap, ◌∙◌, subst, arith}
-use Rattle.std.proofs.Math.Nat.{one-le-mul}
-use Rattle.std.proofs.lemmas.List.{append-nil}
+use Rattle.std.proofs.{Math.Nat.one-le-mul, lemmas.List.append-nil}
 use Rattle.masked_bytes.proofs.Lists.{turned}
 use Rattle.cell_rows.specs.Device.{ArrayState}
-use Rattle.module_shape.specs.declared.raw.RawShape.{RawShape}
-use Rattle.module_shape.specs.Limits.{IsShape, total_of}
+use Rattle.module_shape.specs.{Limits.{IsShape, total_of}, declared.raw.RawShape.RawShape}
 use Rattle.pcm_module.specs.State.{ModuleState}
-use Rattle.row_printer.specs.declared.snapshot.Snapshot.{Snapshot}
-use Rattle.row_printer.specs.declared.told.Shown.{Shown}
-use Rattle.row_printer.specs.declared.told.Told.{Told}
-use Rattle.trace_reader.specs.Events.{AreEventsFor, IsEventFor}
-use Rattle.trace_reader.specs.declared.event.Event.{Event}
-use Rattle.trace_reader.proofs.Lawful.{lawful-first}
-use Rattle.trace_gen.specs.declared.mix.Mix.{Mix}
-use Rattle.trace_gen.specs.Generated.{IsLongMix, generated}
-use Rattle.trace_gen.specs.Laws.{IsGenerated}
-use Rattle.trace_stream.specs.Laws.{all_events}
-use Rattle.trace_stream.specs.declared.asked.Asked.{Asked}
-use Rattle.trace_stream.specs.declared.asked.Asked.TheVariants.{Happens}
-use Rattle.row_stream.specs.declared.stop.Behind.{Behind}
-use Rattle.row_stream.specs.declared.stop.Behind.TheVariants.{Nothing}
-use Rattle.row_stream.specs.Asking.{behind_of, behind_op, events_in}
-use Rattle.row_stream.specs.Serving.{IsServing}
+use Rattle.row_printer.specs.{declared.snapshot.Snapshot.Snapshot, declared.told.Shown.Shown, declared.told.Told.Told}
+use Rattle.trace_reader.{specs.Events.{AreEventsFor, IsEventFor}, specs.declared.event.Event.Event, proofs.Lawful.lawful-first}
+use Rattle.trace_gen.specs.{Generated.{IsLongMix, generated}, Laws.IsGenerated, declared.mix.Mix.Mix}
+use Rattle.trace_stream.specs.{Laws.all_events, declared.asked.Asked.Asked, declared.asked.Asked.TheVariants.Happens}
+use Rattle.row_stream.specs.{Asking.{behind_of, behind_op, events_in}, Serving.IsServing, declared.stop.Behind.Behind, declared.stop.Behind.TheVariants.Nothing}
 
 -- a module has a line
 pub total-some : (raw : RawShape) → IsShape raw → 1 ≤ total_of raw

@@ -1,29 +1,18 @@
 -- That an outcome of each row was told.
 use Rattle.std.proofs.Common.{◌≡◌, ◌≢◌, ℕ, zero, suc, ◌-◌, ◌<◌, ◌≤◌, Bool, true, false, List, [], ◌∷◌, length, replicate, reverse, Some, refl, ap, ◌∙◌, subst, arith}
-use Rattle.std.specs.Prelude.{slice_get, All}
-use Rattle.std.proofs.lemmas.List.{reverse-reverse, length-replicate, length-reverse, get_or-replicate}
-use Rattle.std.proofs.lemmas.List.Elements.{All-get_or}
+use Rattle.std.{specs.Prelude.{slice_get, All}, proofs.lemmas.List.{reverse-reverse, length-replicate, length-reverse, get_or-replicate}, proofs.lemmas.List.Elements.All-get_or}
 use Rattle.std.proofs.lemmas.Option.{get_or_from_slice_get, slice_get_within, slice_get-get_or}
 use Rattle.check_laws.proofs.Soon.{All-reverse}
 use Rattle.cell_rows.specs.Device.{ArrayState}
 use Rattle.trace_reader.specs.declared.event.Event.{Event}
-use Rattle.result_rows.specs.declared.Outcome.{Outcome}
-use Rattle.result_rows.specs.Table.{HasRow}
-use Rattle.row_rules.specs.declared.Asks.{Asks}
-use Rattle.row_rules.specs.declared.Asks.TheVariants.{Reads, Writes, Cuts}
-use Rattle.row_rules.specs.declared.Row.{Row}
-use Rattle.row_rules.specs.Serving.{is_served, may_have, owed}
+use Rattle.result_rows.specs.{Table.HasRow, declared.Outcome.Outcome}
+use Rattle.row_rules.specs.{Serving.{is_served, may_have, owed}, declared.Asks.Asks, declared.Asks.TheVariants.{Reads, Writes, Cuts}, declared.Row.Row}
 use Rattle.trace_rows.specs.Rows.{row_of, rows_with}
 use Rattle.module_shape.specs.declared.raw.RawShape.{RawShape}
 use Rattle.end_laws.specs.Ends.{BankEnd}
-use Rattle.run_laws.specs.Runs.{RunsRightTo}
-use Rattle.run_laws.proofs.Lifting.{each-all, each-passes}
-use Rattle.row_printer.specs.Printing.{table_of}
-use Rattle.row_printer.specs.Telling.{outcomes_in, tells, TellsOnce}
-use Rattle.row_printer.specs.declared.told.Told.{Told}
-use Rattle.row_printer.proofs.Once.{stays-told}
-use Rattle.row_stream.specs.Ending.{rows_of}
-use Rattle.row_stream.proofs.Growing.{none}
+use Rattle.run_laws.{specs.Runs.RunsRightTo, proofs.Lifting.{each-all, each-passes}}
+use Rattle.row_printer.{specs.Printing.table_of, specs.Telling.{outcomes_in, tells, TellsOnce}, specs.declared.told.Told.Told, proofs.Once.stays-told}
+use Rattle.row_stream.{specs.Ending.rows_of, proofs.Growing.none}
 
 pub some-at : {A : Type 0} (xs : List A) (i : ℕ) → i < length xs → (x : A) × (slice_get xs i ≡ Some x)
 some-at [] i below = absurd (omega arith)

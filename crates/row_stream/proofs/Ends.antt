@@ -1,37 +1,21 @@
 -- How a stream ends.
 use Rattle.std.proofs.Common.{◌≡◌, ℕ, Bool, true, false, List, [], ◌∷◌, ◌++◌, length, map, ◌≤◌, arith, refl, sym, ◌∙◌, subst}
 use Rattle.cell_rows.specs.Device.{ArrayState}
-use Rattle.trace_reader.specs.Events.{IsEventFor}
-use Rattle.trace_reader.specs.Rows.{latest_tick}
-use Rattle.trace_reader.specs.declared.event.EventOp.{EventOp}
-use Rattle.trace_reader.specs.declared.event.EventOp.TheVariants.{Read, Write, Mask, Cut}
+use Rattle.trace_reader.specs.{Events.IsEventFor, Rows.latest_tick, declared.event.EventOp.EventOp, declared.event.EventOp.TheVariants.{Read, Write, Mask, Cut}}
 use Rattle.result_rows.specs.declared.Outcome.{Outcome}
-use Rattle.row_rules.specs.declared.Row.{Row}
-use Rattle.row_rules.specs.declared.Asks.TheVariants.{Cuts}
+use Rattle.row_rules.specs.{declared.Asks.TheVariants.Cuts, declared.Row.Row}
 use Rattle.trace_rows.specs.Rows.{asks_of}
 use Rattle.bank_model.specs.Timing.{TimedEvent}
 use Rattle.bank_timing.specs.Extending.{outcome_in}
 use Rattle.module_shape.specs.declared.raw.RawShape.{RawShape}
 use Rattle.module_laws.specs.Asking.{row_with}
 use Rattle.end_laws.specs.Ends.{BankEnd}
-use Rattle.run_laws.specs.Runs.{RunsRightTo}
-use Rattle.run_laws.specs.Finishing.{IsFinishedTo}
-use Rattle.pcm_module.specs.Asking.{asked_for}
-use Rattle.pcm_module.specs.Draining.{IsLastCut}
-use Rattle.pcm_module.specs.State.{AreEndsOf, ModuleState, bank_at}
-use Rattle.row_printer.specs.Printing.{table_of}
-use Rattle.row_printer.specs.Telling.{became}
-use Rattle.row_printer.specs.declared.snapshot.Snapshot.{Snapshot}
-use Rattle.row_printer.specs.declared.told.Shown.{Shown}
-use Rattle.row_printer.specs.declared.told.Told.{Told}
-use Rattle.trace_stream.specs.declared.asked.Asked.{Asked}
-use Rattle.trace_stream.specs.declared.asked.Asked.TheVariants.{Happens, Settle}
-use Rattle.row_stream.specs.declared.stop.Behind.{Behind}
-use Rattle.row_stream.specs.declared.stop.Behind.TheVariants.{Nothing, Going, Off}
-use Rattle.row_stream.specs.Asking.{behind_of, behind_op, cut_if, events_in, tick_reached, with_cut}
-use Rattle.row_stream.specs.Serving.{ComeByBanks, IsServing, SnapsAlong}
-use Rattle.row_stream.specs.Ending.{IsLeft}
-use Rattle.row_stream.proofs.Tables.{rows-are}
+use Rattle.run_laws.specs.{Finishing.IsFinishedTo, Runs.RunsRightTo}
+use Rattle.pcm_module.specs.{Asking.asked_for, Draining.IsLastCut, State.{AreEndsOf, ModuleState, bank_at}}
+use Rattle.row_printer.specs.{Printing.table_of, Telling.became, declared.snapshot.Snapshot.Snapshot, declared.told.Shown.Shown, declared.told.Told.Told}
+use Rattle.trace_stream.specs.{declared.asked.Asked.Asked, declared.asked.Asked.TheVariants.{Happens, Settle}}
+use Rattle.row_stream.specs.{Asking.{behind_of, behind_op, cut_if, events_in, tick_reached, with_cut}, Ending.IsLeft, Serving.{ComeByBanks, IsServing, SnapsAlong}}
+use Rattle.row_stream.{specs.declared.stop.Behind.Behind, specs.declared.stop.Behind.TheVariants.{Nothing, Going, Off}, proofs.Tables.rows-are}
 
 -- an operation behind which the power is off is a cut
 op-cut : {n : ℕ} (op : EventOp n) → behind_op op ≡ Off → asks_of op ≡ Cuts

@@ -2,37 +2,22 @@
 use Rattle.std.proofs.Common.{◌≡◌, ℕ, ◌+◌, ◌≤◌, false, List, [], ◌∷◌, ◌++◌, length, refl, sym, ap, ◌∙◌, subst, arith, replicate, true, Option}
 use Rattle.std.proofs.lemmas.List.{append-nil, length_push}
 use Rattle.cell_rows.specs.Device.{ArrayState}
-use Rattle.trace_reader.specs.Rows.{latest_tick}
-use Rattle.trace_reader.specs.declared.event.Event.{Event}
+use Rattle.trace_reader.specs.{Rows.latest_tick, declared.event.Event.Event}
 use Rattle.result_rows.specs.declared.Outcome.{Outcome}
 use Rattle.bank_model.specs.Timing.{TimedEvent}
 use Rattle.module_shape.specs.declared.raw.RawShape.{RawShape}
 use Rattle.module_laws.specs.Asking.{Asked as AskedRow}
 use Rattle.bank_timing.specs.Extending.{IsOpen}
-use Rattle.pcm_module.specs.Asking.{asked_by, asked_for}
-use Rattle.pcm_module.specs.State.{ModuleState}
-use Rattle.pcm_module.specs.Replaying.{Replays}
-use Rattle.pcm_module.specs.Telling.{TellsByBanks, TellsInOrder, is_asked_of, rows_at, rows_taking}
-use Rattle.pcm_module.proofs.Asked.{standing_asked, taking_asked}
+use Rattle.pcm_module.specs.{Asking.{asked_by, asked_for}, Replaying.Replays, State.{ModuleState, AreEndsOf}}
+use Rattle.pcm_module.{specs.Telling.{TellsByBanks, TellsInOrder, is_asked_of, rows_at, rows_taking}, proofs.Asked.{standing_asked, taking_asked}}
 use Rattle.run_laws.specs.Runs.{bank_of_line}
 use Rattle.trace_rows.specs.Rows.{asks_of}
-use Rattle.row_printer.specs.Printing.{Printing, PrintsOn, table_of, table_told}
-use Rattle.row_printer.specs.Snapshots.{AddsDue, is_due}
-use Rattle.row_printer.specs.Telling.{became, outcomes_in, recorded, TellsOnce}
-use Rattle.row_printer.specs.declared.snapshot.Snapshot.{Snapshot}
-use Rattle.row_printer.specs.declared.told.Shown.{Shown}
-use Rattle.row_printer.specs.declared.told.Told.{Told}
-use Rattle.row_printer.specs.declared.told.Told.TheVariants.{Became, Settled}
-use Rattle.trace_stream.specs.declared.asked.Asked.{Asked}
-use Rattle.trace_stream.specs.declared.asked.Asked.TheVariants.{Happens, Settle}
-use Rattle.row_stream.specs.Asking.{events_in}
-use Rattle.row_stream.specs.Serving.{ComeBehind, ComeByBanks, ComeInOrder, HasServed, IsServing, SnapsAlong}
-use Rattle.row_stream.specs.Looking.{IsSnapshot}
+use Rattle.row_printer.specs.{Printing.{Printing, PrintsOn, table_of, table_told}, Snapshots.{AddsDue, is_due}, Telling.{became, outcomes_in, recorded, TellsOnce}}
+use Rattle.row_printer.specs.{declared.snapshot.Snapshot.Snapshot, declared.told.Shown.Shown, declared.told.Told.Told, declared.told.Told.TheVariants.{Became, Settled}}
+use Rattle.trace_stream.specs.{declared.asked.Asked.Asked, declared.asked.Asked.TheVariants.{Happens, Settle}}
+use Rattle.row_stream.specs.{Asking.events_in, Looking.IsSnapshot, Serving.{ComeBehind, ComeByBanks, ComeInOrder, HasServed, IsServing, SnapsAlong}}
+use Rattle.row_stream.proofs.{Growing.{none, longer, open-last, replays-longer}, Order.{ToldSo, come-by-banks, come-in-order}, Standing.ends-now}
 use Rattle.end_laws.specs.Ends.{BankEnd}
-use Rattle.pcm_module.specs.State.{AreEndsOf}
-use Rattle.row_stream.proofs.Standing.{ends-now}
-use Rattle.row_stream.proofs.Order.{ToldSo, come-by-banks, come-in-order}
-use Rattle.row_stream.proofs.Growing.{none, longer, open-last, replays-longer}
 
 -- a line that answers a settle tells no outcome
 outcomes-settled : {n : ℕ} (told : List (Told n)) (tick : ℕ) → outcomes_in (told ++ Settled tick ∷ []) ≡ outcomes_in told

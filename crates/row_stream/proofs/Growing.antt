@@ -1,19 +1,14 @@
 -- A table of outcomes with one place more.
 use Rattle.std.proofs.Common.{◌≡◌, ℕ, zero, suc, ◌+◌, ◌-◌, List, [], ◌∷◌, ◌++◌, length, Option, Some, None, refl, ap, ◌∙◌, arith}
-use Rattle.std.specs.Prelude.{slice_get, unwrap_or, All, IsSomeAnd}
-use Rattle.std.proofs.lemmas.List.{length_push}
+use Rattle.std.{specs.Prelude.{slice_get, unwrap_or, All, IsSomeAnd}, proofs.lemmas.List.length_push}
 use Rattle.cell_rows.specs.Device.{ArrayState}
-use Rattle.result_rows.specs.declared.Outcome.{Outcome}
-use Rattle.result_rows.specs.declared.Outcome.TheVariants.{Unset}
-use Rattle.result_rows.specs.Table.{HasRow}
-use Rattle.bank_shape.specs.declared.BankShape.{BankShape}
-use Rattle.bank_shape.specs.declared.pace.Pace.{Pace}
+use Rattle.result_rows.specs.{Table.HasRow, declared.Outcome.Outcome, declared.Outcome.TheVariants.Unset}
+use Rattle.bank_shape.specs.{declared.BankShape.BankShape, declared.pace.Pace.Pace}
 use Rattle.bank_model.specs.Timing.{TimedEvent}
 use Rattle.clock_laws.specs.State.{ClockState}
 use Rattle.module_laws.specs.Asking.{Asked}
 use Rattle.bank_timing.specs.Extending.{IsOpen, outcome_in}
-use Rattle.pcm_module.specs.State.{ModuleState}
-use Rattle.pcm_module.specs.Replaying.{BankReplays, Replays, outcome_so_far}
+use Rattle.pcm_module.specs.{Replaying.{BankReplays, Replays, outcome_so_far}, State.ModuleState}
 
 -- what holds of each, or of what is there, where it follows
 all-so : {X : Type 0} (P Q : X → Type 0) → ((x : X) → P x → Q x) → (xs : List X) → All P xs → All Q xs

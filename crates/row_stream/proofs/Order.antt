@@ -1,28 +1,17 @@
 -- That what a printer was told comes bank by bank.
 use Rattle.std.proofs.Common.{◌≡◌, ℕ, zero, suc, ◌-◌, ◌<◌, ◌≤◌, ◌==◌, ◌||◌, Bool, true, false, List, [], ◌∷◌, ◌++◌, length, replicate, Option, Some, refl, sym, ap, subst, ◌∙◌, eqb-true, eq-eqb, append_assoc, arith}
-use Rattle.std.specs.Prelude.{All, unwrap_or}
-use Rattle.std.proofs.lemmas.Bool.{or_from}
-use Rattle.std.proofs.lemmas.List.{append-nil, length-replicate, get_or-replicate}
-use Rattle.std.proofs.lemmas.List.Elements.{All-nil, All-cons, All-weaker}
-use Rattle.std.proofs.lemmas.Option.{slice_get-get_or}
+use Rattle.std.{specs.Prelude.{All, unwrap_or}, proofs.lemmas.Bool.or_from, proofs.lemmas.List.{append-nil, length-replicate, get_or-replicate}}
+use Rattle.std.proofs.{lemmas.List.Elements.{All-nil, All-cons, All-weaker}, lemmas.Option.slice_get-get_or}
 use Rattle.masked_bytes.proofs.Truth.{neither_first, neither_second}
 use Rattle.trace_reader.specs.declared.event.Event.{Event}
-use Rattle.result_rows.specs.declared.Outcome.{Outcome}
-use Rattle.result_rows.specs.Table.{HasRow, outcome_at}
+use Rattle.result_rows.specs.{Table.{HasRow, outcome_at}, declared.Outcome.Outcome}
 use Rattle.bank_timing.specs.Extending.{outcome_in}
 use Rattle.module_shape.specs.declared.raw.RawShape.{RawShape}
 use Rattle.run_laws.specs.Runs.{bank_of_line}
-use Rattle.pcm_module.specs.Asking.{asked_for}
-use Rattle.pcm_module.specs.Telling.{TellsOf, TellsByBanks, TellsInOrder, is_asked_of}
-use Rattle.row_printer.specs.Printing.{Printing, PrintsOn, table_told}
-use Rattle.row_printer.specs.Telling.{became, outcomes_in, recorded, tells, TellsOnce}
-use Rattle.row_printer.specs.declared.told.Told.{Told}
-use Rattle.row_printer.specs.declared.told.Told.TheVariants.{Became, Settled}
-use Rattle.row_printer.proofs.Telling.{length-recorded}
-use Rattle.row_printer.proofs.Once.{open-untold, stays-told}
-use Rattle.row_stream.specs.Serving.{ComeByBanks, ComeBehind}
-use Rattle.row_stream.proofs.Growing.{none}
-use Rattle.row_stream.proofs.Each.{some-at}
+use Rattle.pcm_module.specs.{Asking.asked_for, Telling.{TellsOf, TellsByBanks, TellsInOrder, is_asked_of}}
+use Rattle.row_printer.specs.{Printing.{Printing, PrintsOn, table_told}, Telling.{became, outcomes_in, recorded, tells, TellsOnce}, declared.told.Told.Told}
+use Rattle.row_printer.{specs.declared.told.Told.TheVariants.{Became, Settled}, proofs.Once.{open-untold, stays-told}, proofs.Telling.length-recorded}
+use Rattle.row_stream.{specs.Serving.{ComeByBanks, ComeBehind}, proofs.Each.some-at, proofs.Growing.none}
 
 in_rest : (a b : Bool) → b ≡ true → (a || b) ≡ true
 in_rest true b is = refl

@@ -1,34 +1,20 @@
 -- How the rows of a source are served.
 use Rattle.std.proofs.Common.{◌≡◌, ◌≢◌, ℕ, ◌<◌, ◌+◌, ◌-◌, ◌*◌, ◌^◌, ◌≤◌, Bool, true, false, List, [], ◌∷◌, ◌++◌, length, reverse, Option, Some, None, refl, sym, ap, ◌∙◌, subst, arith, length-append}
+use Rattle.std.{specs.Io.KnownBytes.IsAtEnd, specs.Prelude.{Result, Ok, Err, OnOk, OnErr}, proofs.lemmas.List.reverse-append}
 use Prim.Native.Nat.{max}
 use prog.Memory.{up}
-use Rattle.std.specs.Prelude.{Result, Ok, Err, OnOk, OnErr}
-use Rattle.std.specs.Io.KnownBytes.{IsAtEnd}
-use Rattle.std.proofs.lemmas.List.{reverse-append}
 use Rattle.cell_rows.specs.Device.{ArrayState}
-use Rattle.pcm_io.specs.Faults.{Rose}
-use Rattle.pcm_io.specs.Taking.{Takes}
-use Rattle.pcm_io.proofs.ByteLemmas.{Takes-Takes, Takes-nothing}
-use Rattle.module_shape.specs.declared.raw.RawShape.{RawShape}
-use Rattle.module_shape.specs.Limits.{total_of}
+use Rattle.pcm_io.{specs.Faults.Rose, specs.Taking.Takes, proofs.ByteLemmas.{Takes-Takes, Takes-nothing}}
+use Rattle.module_shape.specs.{Limits.total_of, declared.raw.RawShape.RawShape}
 use Rattle.pcm_module.specs.State.{ModuleState}
-use Rattle.row_printer.specs.declared.snapshot.Snapshot.{Snapshot}
-use Rattle.row_printer.specs.declared.told.Shown.{Shown}
-use Rattle.row_printer.specs.declared.told.Told.{Told}
-use Rattle.trace_stream.specs.Arrived.{StaysEnded}
-use Rattle.trace_stream.specs.Stream.{AsksNext, HasFault, HasFront, IsOfText, Opens, Standing, asked_from, front_from, front_of, stream_of}
-use Rattle.trace_stream.specs.Asked.{IsAskedFor, rows_after, tick_asked}
-use Rattle.trace_stream.specs.declared.asked.Asked.{Asked}
-use Rattle.trace_stream.specs.declared.asked.Asked.TheVariants.{Happens, Settle}
-use Rattle.trace_stream.specs.declared.fault.StreamFault.{StreamFault}
-use Rattle.trace_stream.specs.declared.fault.StreamFault.TheVariants as fault
+use Rattle.row_printer.specs.{declared.snapshot.Snapshot.Snapshot, declared.told.Shown.Shown, declared.told.Told.Told}
+use Rattle.trace_stream.specs.{Arrived.StaysEnded, Asked.{IsAskedFor, rows_after, tick_asked}}
+use Rattle.trace_stream.specs.{Stream.{AsksNext, HasFault, HasFront, IsOfText, Opens, Standing, asked_from, front_from, front_of, stream_of}, declared.asked.Asked.Asked}
+use Rattle.trace_stream.specs.{declared.asked.Asked.TheVariants.{Happens, Settle}, declared.fault.StreamFault.StreamFault}
 use Rattle.trace_stream.proofs.Runs.{HasAsked, asked-all, asked-faulty, asked-first, asked-front, asked-more}
-use Rattle.row_stream.specs.declared.stop.Behind.{Behind}
-use Rattle.row_stream.specs.declared.stop.Behind.TheVariants.{Nothing}
-use Rattle.row_stream.specs.declared.stop.Stop.TheVariants.{Input}
-use Rattle.row_stream.specs.Asking.{behind_of, events_in, tick_reached}
-use Rattle.row_stream.specs.Serving.{IsServing}
-use Rattle.row_stream.specs.Sourcing.{Fronts, HasCome, HasStopped, IsFaulty, IsRead}
+use Rattle.trace_stream.specs.declared.fault.StreamFault.TheVariants as fault
+use Rattle.row_stream.specs.{Asking.{behind_of, events_in, tick_reached}, Serving.IsServing, Sourcing.{Fronts, HasCome, HasStopped, IsFaulty, IsRead}, declared.stop.Behind.Behind}
+use Rattle.row_stream.specs.{declared.stop.Behind.TheVariants.Nothing, declared.stop.Stop.TheVariants.Input}
 
 -- what follows where a call went well, or didn't
 pub ok-so : {T E : Type 0} (r : Result T E) (P Q : Type 0) → (P → Q) → OnOk r P → OnOk r Q

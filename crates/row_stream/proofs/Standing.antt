@@ -1,19 +1,15 @@
 -- What a snapshot finds: ends of the banks as they stand, and sums over the lines of an array.
 use Rattle.std.proofs.Common.{◌≡◌, ℕ, ◌+◌, ◌^◌, ◌<◌, ◌≤◌, ◌*◌, List, Option, Some, None, max, refl, add-one, arith, ◌∙◌, sym}
 use Rattle.std.specs.Prelude.{IsSomeAnd, slice_get, unwrap_or}
-use Rattle.cell_rows.specs.Device.{ArrayState}
-use Rattle.cell_rows.specs.Rows.{cell}
-use Rattle.cell_wear.specs.Told.{most}
-use Rattle.cell_wear.proofs.Most.{most-more}
+use Rattle.cell_rows.specs.{Device.ArrayState, Rows.cell}
+use Rattle.cell_wear.{specs.Told.most, proofs.Most.most-more}
 use Rattle.ecp_line.specs.Layout.{active}
 use Rattle.result_rows.specs.declared.Outcome.{Outcome}
 use Rattle.bank_model.specs.Timing.{TimedEvent, core}
 use Rattle.clock_laws.specs.State.{ClockState}
 use Rattle.module_laws.specs.Asking.{Asked}
-use Rattle.end_laws.specs.Ends.{BankEnd}
-use Rattle.end_laws.specs.EndLaws.{IsEndOf, end_of}
-use Rattle.pcm_module.specs.State.{AreEndsOf, ModuleState, bank_at, first_bank}
-use Rattle.pcm_module.specs.Replaying.{Replays, ReplaysIn}
+use Rattle.end_laws.specs.{EndLaws.{IsEndOf, end_of}, Ends.BankEnd}
+use Rattle.pcm_module.specs.{Replaying.{Replays, ReplaysIn}, State.{AreEndsOf, ModuleState, bank_at, first_bank}}
 use Rattle.row_stream.specs.Looking.{pointers_of_first}
 
 module _ {n m e : ℕ} (h : ℕ → List (TimedEvent n m)) (asked : List (Asked n)) (module_ : ModuleState n m e) (array : ArrayState n m) (results : List (Outcome n))

@@ -5,16 +5,9 @@ use Rattle.module_shape.specs.declared.raw.RawShape.{RawShape}
 use Rattle.end_laws.specs.Ends.{BankEnd}
 use Rattle.run_laws.specs.Runs.{RunsRightTo}
 use Rattle.pcm_module.specs.State.{AreEndsOf, ModuleState}
-use Rattle.row_printer.specs.Printing.{table_of}
-use Rattle.row_printer.specs.Telling.{outcomes_in, tells, TellsOnce}
-use Rattle.row_printer.specs.declared.told.Told.{Told}
-use Rattle.trace_stream.specs.Arrived.{Comes}
-use Rattle.trace_stream.specs.declared.asked.Asked.{Asked}
-use Rattle.trace_stream.specs.declared.asked.Asked.TheVariants.{Happens, Settle}
-use Rattle.trace_stream.specs.declared.fault.StreamFault.{StreamFault}
-use Rattle.row_stream.specs.Sourcing.{IsFaulty, IsRead}
-use Rattle.row_stream.specs.Asking.{events_in}
-use Rattle.row_stream.specs.Ending.{HasEnded, rows_of}
+use Rattle.row_printer.specs.{Printing.table_of, Telling.{outcomes_in, tells, TellsOnce}, declared.told.Told.Told}
+use Rattle.trace_stream.specs.{Arrived.Comes, declared.asked.Asked.Asked, declared.asked.Asked.TheVariants.{Happens, Settle}, declared.fault.StreamFault.StreamFault}
+use Rattle.row_stream.specs.{Asking.events_in, Ending.{HasEnded, rows_of}, Sourcing.{IsFaulty, IsRead}}
 
 -- an outcome of each of so many rows was told
 abbrev pub TellsEach : {n : ℕ} → ℕ → List (Told n) → Type 0

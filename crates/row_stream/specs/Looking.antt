@@ -1,17 +1,12 @@
 -- What a snapshot of a stream says.
 use Rattle.std.specs.Prelude.{◌≡◌, ℕ, zero, suc, ◌+◌, ◌/◌, ◌==◌, if◌then◌else◌, List}
-use Rattle.cell_rows.specs.Device.{ArrayState}
-use Rattle.cell_rows.specs.Rows.{cell}
+use Rattle.cell_rows.specs.{Device.ArrayState, Rows.cell}
 use Rattle.cell_wear.specs.Told.{most}
 use Rattle.ecp_line.specs.Layout.{active}
 use Rattle.end_laws.specs.Ends.{BankEnd}
-use Rattle.run_text.specs.Counting.{counts_of}
-use Rattle.run_text.specs.Pulses.{pulses_in_all}
-use Rattle.pcm_module.specs.Roles.{spares_used}
-use Rattle.pcm_module.specs.State.{AreEndsOf, ModuleState}
-use Rattle.row_printer.specs.Printing.{table_of}
-use Rattle.row_printer.specs.declared.snapshot.Snapshot.{Snapshot}
-use Rattle.row_printer.specs.declared.told.Told.{Told}
+use Rattle.run_text.specs.{Counting.counts_of, Pulses.pulses_in_all}
+use Rattle.pcm_module.specs.{Roles.spares_used, State.{AreEndsOf, ModuleState}}
+use Rattle.row_printer.specs.{Printing.table_of, declared.snapshot.Snapshot.Snapshot, declared.told.Told.Told}
 
 module _ {n m : ℕ} where
   -- the pointers that are active in the first so many lines, by the check cells of each, where a line has e

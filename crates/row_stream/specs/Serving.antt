@@ -1,27 +1,16 @@
 -- What a module and what was told have to do with what the rows of a stream asked so far. What was asked stands with the newest first.
 use Rattle.std.specs.Prelude.{◌≡◌, ℕ, zero, suc, ◌+◌, ◌≤◌, Bool, true, false, List, [], ◌∷◌, ◌++◌, length, All}
 use Rattle.cell_rows.specs.Device.{ArrayState}
-use Rattle.trace_reader.specs.Rows.{latest_tick}
-use Rattle.trace_reader.specs.declared.event.Event.{Event}
+use Rattle.trace_reader.specs.{Rows.latest_tick, declared.event.Event.Event}
 use Rattle.result_rows.specs.declared.Outcome.{Outcome}
 use Rattle.bank_model.specs.Timing.{TimedEvent}
 use Rattle.module_shape.specs.declared.raw.RawShape.{RawShape}
 use Rattle.run_laws.specs.Runs.{bank_of_line}
-use Rattle.pcm_module.specs.Asking.{asked_for}
-use Rattle.pcm_module.specs.State.{ModuleState}
-use Rattle.pcm_module.specs.Replaying.{Replays}
-use Rattle.pcm_module.specs.Telling.{is_asked_of}
-use Rattle.row_printer.specs.Printing.{table_of}
-use Rattle.row_printer.specs.Telling.{became}
-use Rattle.row_printer.specs.Snapshots.{AddsDue, is_due}
-use Rattle.row_printer.specs.declared.snapshot.Snapshot.{Snapshot}
-use Rattle.row_printer.specs.declared.told.Shown.{Shown}
-use Rattle.row_printer.specs.declared.told.Told.{Told}
-use Rattle.row_printer.specs.declared.told.Told.TheVariants.{Settled}
-use Rattle.trace_stream.specs.declared.asked.Asked.{Asked}
-use Rattle.trace_stream.specs.declared.asked.Asked.TheVariants.{Happens, Settle}
-use Rattle.row_stream.specs.Asking.{events_in, tick_reached}
-use Rattle.row_stream.specs.Looking.{IsSnapshot}
+use Rattle.pcm_module.specs.{Asking.asked_for, Replaying.Replays, State.ModuleState, Telling.is_asked_of}
+use Rattle.row_printer.specs.{Printing.table_of, Snapshots.{AddsDue, is_due}, Telling.became, declared.snapshot.Snapshot.Snapshot, declared.told.Shown.Shown}
+use Rattle.row_printer.specs.{declared.told.Told.Told, declared.told.Told.TheVariants.Settled}
+use Rattle.trace_stream.specs.{declared.asked.Asked.Asked, declared.asked.Asked.TheVariants.{Happens, Settle}}
+use Rattle.row_stream.specs.{Asking.{events_in, tick_reached}, Looking.IsSnapshot}
 
 module _ {n m e : ℕ} (raw : RawShape) (seed : ℕ) where
   -- a module of these sizes and this seed was handed these events, and histories of its banks, which asked for exactly these, led to it over the

@@ -1,15 +1,9 @@
 -- What the rows that a source gave have to do with its bytes. What was asked stands with the newest first.
-use Rattle.std.specs.Prelude.{◌≡◌, ℕ, ◌≤◌, ◌^◌, ◌-◌, Bool, true, List, ◌++◌, length, reverse, Option, Ok}
-use Rattle.std.specs.Io.KnownBytes.{Consumes, IsAtEnd}
-use Rattle.pcm_io.specs.Faults.{Rose}
-use Rattle.pcm_io.specs.Taking.{Takes}
-use Rattle.trace_stream.specs.Arrived.{Comes}
-use Rattle.trace_stream.specs.Stream.{HasFault, HasFront, front_of, stream_of}
-use Rattle.trace_stream.specs.declared.asked.Asked.{Asked}
-use Rattle.trace_stream.specs.declared.fault.StreamFault.{StreamFault}
+use Rattle.std.specs.{Io.KnownBytes.{Consumes, IsAtEnd}, Prelude.{◌≡◌, ℕ, ◌≤◌, ◌^◌, ◌-◌, Bool, true, List, ◌++◌, length, reverse, Option, Ok}}
+use Rattle.pcm_io.specs.{Faults.Rose, Taking.Takes}
+use Rattle.trace_stream.specs.{Arrived.Comes, Stream.{HasFault, HasFront, front_of, stream_of}, declared.asked.Asked.Asked, declared.fault.StreamFault.StreamFault}
 use Rattle.trace_stream.specs.declared.fault.StreamFault.TheVariants as fault
-use Rattle.row_stream.specs.declared.stop.Stop.{Stop}
-use Rattle.row_stream.specs.declared.stop.Stop.TheVariants.{Input, Endless, Output}
+use Rattle.row_stream.specs.{declared.stop.Stop.Stop, declared.stop.Stop.TheVariants.{Input, Endless, Output}}
 
 -- the rows of a text that begins with these bytes, up to its first fault, begin with these, whatever comes behind
 abbrev pub Fronts : {n : ℕ} → ℕ → List ℕ → Bool → List (Asked n) → Type 0

@@ -39,23 +39,35 @@ pub fn serve_drawn<
 ) -> Result<Behind, WriteFault>
     requires layout { IsLayout B M E }
     requires mix { IsLongMix mix }
-    requires begins { (raw : RawShape) × (own : ℕ) × IsServing raw own [] pcm.old (A.state array.old) out.old.rows out.old.told out.old.prints out.old.snapshots }
+    requires begins { (raw : RawShape) × (own : ℕ)
+        × IsServing raw own [] pcm.old (A.state array.old) out.old.rows out.old.told out.old.prints
+        out.old.snapshots }
     ensures served { IfOk result (λ behind. (raw : RawShape) (own : ℕ)
-        → IsServing raw own [] pcm.old (A.state array.old) out.old.rows out.old.told out.old.prints out.old.snapshots
-        → (asked : List (StreamAsked B)) × IsServing raw own asked pcm.new (A.state array.new) out.new.rows out.new.told out.new.prints out.new.snapshots
-        × (behind ≡ behind_of asked) × (reverse asked ≡ all_events (generated B seed (total_of raw) mix))) }
+        → IsServing raw own [] pcm.old (A.state array.old) out.old.rows out.old.told out.old.prints
+        out.old.snapshots
+        → (asked : List (StreamAsked B)) × IsServing raw own asked pcm.new (A.state array.new)
+        out.new.rows out.new.told out.new.prints out.new.snapshots
+        × (behind ≡ behind_of asked) × (reverse asked
+        ≡ all_events (generated B seed (total_of raw) mix))) }
     ensures few { out.new.rows < 4294967295 }
     ensures stopped { OnErr result ((raw : RawShape) (own : ℕ)
-        → IsServing raw own [] pcm.old (A.state array.old) out.old.rows out.old.told out.old.prints out.old.snapshots
-        → (asked : List (StreamAsked B)) × IsServing raw own asked pcm.new (A.state array.new) out.new.rows out.new.told out.new.prints out.new.snapshots
-        × (rest : List (StreamAsked B)) × (reverse asked ++ rest ≡ all_events (generated B seed (total_of raw) mix))) }
+        → IsServing raw own [] pcm.old (A.state array.old) out.old.rows out.old.told out.old.prints
+        out.old.snapshots
+        → (asked : List (StreamAsked B)) × IsServing raw own asked pcm.new (A.state array.new)
+        out.new.rows out.new.told out.new.prints out.new.snapshots
+        × (rest : List (StreamAsked B)) × (reverse asked ++ rest
+        ≡ all_events (generated B seed (total_of raw) mix))) }
     ensures prints { out.new.prints ≡ out.old.prints }
-    ensures printing { (before : Option (List ℕ)) (first : ℕ) → IsPrinting K.written K.faults before first out.old
+    ensures printing { (before : Option (List ℕ)) (first : ℕ)
+        → IsPrinting K.written K.faults before first out.old
         → IsPrinting K.written K.faults before first out.new }
-    ensures written { OnOk result ((before : Option (List ℕ)) (first : ℕ) → IsPrinting K.written K.faults before first out.old
+    ensures written { OnOk result ((before : Option (List ℕ)) (first : ℕ)
+        → IsPrinting K.written K.faults before first out.old
         → Appends before (K.written out.new.sink) (text_told out.new)) }
-    ensures part { OnErr result ((before : Option (List ℕ)) (first : ℕ) → IsPrinting K.written K.faults before first out.old
-        → AppendsPrefix before (K.written out.new.sink) (text_told out.new) × Rose first (K.faults out.new.sink)) }
+    ensures part { OnErr result ((before : Option (List ℕ)) (first : ℕ)
+        → IsPrinting K.written K.faults before first out.old
+        → AppendsPrefix before (K.written out.new.sink) (text_told out.new)
+        × Rose first (K.faults out.new.sink)) }
     ensures wear { (A.state array.new).wear ≡ (A.state array.old).wear }
 {
     long_events_are_lawful();

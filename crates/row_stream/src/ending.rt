@@ -31,12 +31,16 @@ pub fn end<const B: usize, const M: usize, const E: usize, A: TellsCells<B, M>, 
     requires layout { IsLayout B M E }
     requires few { out.old.rows < 4294967295 }
     requires serving { (raw : RawShape) × (seed : ℕ) × (asked : List (StreamAsked B))
-        × IsServing raw seed asked pcm.old (A.state array.old) out.old.rows out.old.told out.old.prints out.old.snapshots × (behind ≡ behind_of asked) }
+        × IsServing raw seed asked pcm.old (A.state array.old) out.old.rows out.old.told
+        out.old.prints out.old.snapshots × (behind ≡ behind_of asked) }
     ensures ended { (raw : RawShape) (seed : ℕ) (asked : List (StreamAsked B))
-        → IsServing raw seed asked pcm.old (A.state array.old) out.old.rows out.old.told out.old.prints out.old.snapshots → behind ≡ behind_of asked
-        → EndsShowing raw seed (stays_off off asked) (with_cut off asked) pcm.new (A.state array.new) out.new.rows out.new.told out.new.prints out.new.snapshots }
+        → IsServing raw seed asked pcm.old (A.state array.old) out.old.rows out.old.told
+        out.old.prints out.old.snapshots → behind ≡ behind_of asked
+        → EndsShowing raw seed (stays_off off asked) (with_cut off asked) pcm.new
+        (A.state array.new) out.new.rows out.new.told out.new.prints out.new.snapshots }
     ensures prints { out.new.prints ≡ out.old.prints }
-    ensures printing { (before : Option (List ℕ)) (first : ℕ) → IsPrinting K.written K.faults before first out.old
+    ensures printing { (before : Option (List ℕ)) (first : ℕ)
+        → IsPrinting K.written K.faults before first out.old
         → IsPrinting K.written K.faults before first out.new }
     ensures wear { (A.state array.new).wear ≡ (A.state array.old).wear }
 {
@@ -56,12 +60,16 @@ fn leave<const B: usize, const M: usize, const E: usize, A: TellsCells<B, M>, K:
     requires layout { IsLayout B M E }
     requires few { out.old.rows < 4294967295 }
     requires serving { (raw : RawShape) × (seed : ℕ) × (asked : List (StreamAsked B))
-        × IsServing raw seed asked pcm.old (A.state array.old) out.old.rows out.old.told out.old.prints out.old.snapshots × (behind ≡ behind_of asked) }
+        × IsServing raw seed asked pcm.old (A.state array.old) out.old.rows out.old.told
+        out.old.prints out.old.snapshots × (behind ≡ behind_of asked) }
     ensures ended { (raw : RawShape) (seed : ℕ) (asked : List (StreamAsked B))
-        → IsServing raw seed asked pcm.old (A.state array.old) out.old.rows out.old.told out.old.prints out.old.snapshots → behind ≡ behind_of asked
-        → IsLeft raw seed (stays_off off asked) (with_cut off asked) pcm.new (A.state array.new) out.new.rows out.new.told out.new.prints out.new.snapshots }
+        → IsServing raw seed asked pcm.old (A.state array.old) out.old.rows out.old.told
+        out.old.prints out.old.snapshots → behind ≡ behind_of asked
+        → IsLeft raw seed (stays_off off asked) (with_cut off asked) pcm.new (A.state array.new)
+        out.new.rows out.new.told out.new.prints out.new.snapshots }
     ensures prints { out.new.prints ≡ out.old.prints }
-    ensures printing { (before : Option (List ℕ)) (first : ℕ) → IsPrinting K.written K.faults before first out.old
+    ensures printing { (before : Option (List ℕ)) (first : ℕ)
+        → IsPrinting K.written K.faults before first out.old
         → IsPrinting K.written K.faults before first out.new }
     ensures wear { (A.state array.new).wear ≡ (A.state array.old).wear }
 {
@@ -82,13 +90,16 @@ fn stay_off<const B: usize, const M: usize, const E: usize, A: TellsCells<B, M>,
     requires layout { IsLayout B M E }
     requires few { out.old.rows < 4294967295 }
     requires serving { (raw : RawShape) × (seed : ℕ) × (asked : List (StreamAsked B))
-        × IsServing raw seed asked pcm.old (A.state array.old) out.old.rows out.old.told out.old.prints out.old.snapshots × (behind ≡ behind_of asked) }
+        × IsServing raw seed asked pcm.old (A.state array.old) out.old.rows out.old.told
+        out.old.prints out.old.snapshots × (behind ≡ behind_of asked) }
     ensures ended { (raw : RawShape) (seed : ℕ) (asked : List (StreamAsked B))
-        → IsServing raw seed asked pcm.old (A.state array.old) out.old.rows out.old.told out.old.prints out.old.snapshots → behind ≡ behind_of asked
+        → IsServing raw seed asked pcm.old (A.state array.old) out.old.rows out.old.told
+        out.old.prints out.old.snapshots → behind ≡ behind_of asked
         → IsLeft raw seed (off_behind (behind_of asked)) (cut_if (behind_of asked) asked)
         pcm.new (A.state array.new) out.new.rows out.new.told out.new.prints out.new.snapshots }
     ensures prints { out.new.prints ≡ out.old.prints }
-    ensures printing { (before : Option (List ℕ)) (first : ℕ) → IsPrinting K.written K.faults before first out.old
+    ensures printing { (before : Option (List ℕ)) (first : ℕ)
+        → IsPrinting K.written K.faults before first out.old
         → IsPrinting K.written K.faults before first out.new }
     ensures wear { (A.state array.new).wear ≡ (A.state array.old).wear }
 {
@@ -111,12 +122,16 @@ fn serve_cut<const B: usize, const M: usize, const E: usize, A: TellsCells<B, M>
     requires layout { IsLayout B M E }
     requires few { out.old.rows < 4294967295 }
     requires serving { (raw : RawShape) × (seed : ℕ) × (before : List (StreamAsked B))
-        × IsServing raw seed before pcm.old (A.state array.old) out.old.rows out.old.told out.old.prints out.old.snapshots }
+        × IsServing raw seed before pcm.old (A.state array.old) out.old.rows out.old.told
+        out.old.prints out.old.snapshots }
     ensures serving { (raw : RawShape) (seed : ℕ) (before : List (StreamAsked B))
-        → IsServing raw seed before pcm.old (A.state array.old) out.old.rows out.old.told out.old.prints out.old.snapshots
-        → IsServing raw seed (cut_behind before) pcm.new (A.state array.new) out.new.rows out.new.told out.new.prints out.new.snapshots }
+        → IsServing raw seed before pcm.old (A.state array.old) out.old.rows out.old.told
+        out.old.prints out.old.snapshots
+        → IsServing raw seed (cut_behind before) pcm.new (A.state array.new) out.new.rows
+        out.new.told out.new.prints out.new.snapshots }
     ensures prints { out.new.prints ≡ out.old.prints }
-    ensures printing { (before : Option (List ℕ)) (first : ℕ) → IsPrinting K.written K.faults before first out.old
+    ensures printing { (before : Option (List ℕ)) (first : ℕ)
+        → IsPrinting K.written K.faults before first out.old
         → IsPrinting K.written K.faults before first out.new }
     ensures wear { (A.state array.new).wear ≡ (A.state array.old).wear }
 {
@@ -135,12 +150,16 @@ fn drain<const B: usize, const M: usize, const E: usize, A: TellsCells<B, M>, K:
 )
     requires layout { IsLayout B M E }
     requires serving { (raw : RawShape) × (seed : ℕ) × (asked : List (StreamAsked B))
-        × IsServing raw seed asked pcm.old (A.state array.old) out.old.rows out.old.told out.old.prints out.old.snapshots }
+        × IsServing raw seed asked pcm.old (A.state array.old) out.old.rows out.old.told
+        out.old.prints out.old.snapshots }
     ensures ended { (raw : RawShape) (seed : ℕ) (asked : List (StreamAsked B))
-        → IsServing raw seed asked pcm.old (A.state array.old) out.old.rows out.old.told out.old.prints out.old.snapshots
-        → IsLeft raw seed false asked pcm.new (A.state array.new) out.new.rows out.new.told out.new.prints out.new.snapshots }
+        → IsServing raw seed asked pcm.old (A.state array.old) out.old.rows out.old.told
+        out.old.prints out.old.snapshots
+        → IsLeft raw seed false asked pcm.new (A.state array.new) out.new.rows out.new.told
+        out.new.prints out.new.snapshots }
     ensures prints { out.new.prints ≡ out.old.prints }
-    ensures printing { (before : Option (List ℕ)) (first : ℕ) → IsPrinting K.written K.faults before first out.old
+    ensures printing { (before : Option (List ℕ)) (first : ℕ)
+        → IsPrinting K.written K.faults before first out.old
         → IsPrinting K.written K.faults before first out.new }
     ensures wear { (A.state array.new).wear ≡ (A.state array.old).wear }
 {
@@ -156,12 +175,16 @@ fn stop<const B: usize, const M: usize, const E: usize, A: TellsCells<B, M>, K: 
 )
     requires layout { IsLayout B M E }
     requires serving { (raw : RawShape) × (seed : ℕ) × (asked : List (StreamAsked B))
-        × IsServing raw seed asked pcm.old (A.state array.now) out.old.rows out.old.told out.old.prints out.old.snapshots × (behind_of asked ≡ Off) }
+        × IsServing raw seed asked pcm.old (A.state array.now) out.old.rows out.old.told
+        out.old.prints out.old.snapshots × (behind_of asked ≡ Off) }
     ensures ended { (raw : RawShape) (seed : ℕ) (asked : List (StreamAsked B))
-        → IsServing raw seed asked pcm.old (A.state array.now) out.old.rows out.old.told out.old.prints out.old.snapshots → behind_of asked ≡ Off
-        → IsLeft raw seed true asked pcm.new (A.state array.now) out.new.rows out.new.told out.new.prints out.new.snapshots }
+        → IsServing raw seed asked pcm.old (A.state array.now) out.old.rows out.old.told
+        out.old.prints out.old.snapshots → behind_of asked ≡ Off
+        → IsLeft raw seed true asked pcm.new (A.state array.now) out.new.rows out.new.told
+        out.new.prints out.new.snapshots }
     ensures prints { out.new.prints ≡ out.old.prints }
-    ensures printing { (before : Option (List ℕ)) (first : ℕ) → IsPrinting K.written K.faults before first out.old
+    ensures printing { (before : Option (List ℕ)) (first : ℕ)
+        → IsPrinting K.written K.faults before first out.old
         → IsPrinting K.written K.faults before first out.new }
 {
     let _ = array;

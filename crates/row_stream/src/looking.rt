@@ -63,8 +63,10 @@ fn show<const B: usize, const M: usize, const E: usize, A: TellsCells<B, M>, K: 
     ensures told { out.new.told ≡ out.old.told }
     ensures prints { out.new.prints ≡ out.old.prints }
     ensures snapshots { (ends : ℕ → BankEnd) → AreEndsOf pcm.now ends
-        → AddsDue true (IsSnapshot out.old.rows tick out.old.told pcm.now (A.state array.now)) out.old.snapshots out.new.snapshots }
-    ensures printing { (before : Option (List ℕ)) (first : ℕ) → IsPrinting K.written K.faults before first out.old
+        → AddsDue true (IsSnapshot out.old.rows tick out.old.told pcm.now (A.state array.now))
+        out.old.snapshots out.new.snapshots }
+    ensures printing { (before : Option (List ℕ)) (first : ℕ)
+        → IsPrinting K.written K.faults before first out.old
         → IsPrinting K.written K.faults before first out.new }
 {
     let pulses = sum_pulses(array);
@@ -95,8 +97,10 @@ pub fn show_due<
     ensures prints { out.new.prints ≡ out.old.prints }
     ensures snapshots { (ends : ℕ → BankEnd) → AreEndsOf pcm.now ends
         → AddsDue (is_due out.old.prints out.old.rows)
-        (IsSnapshot out.old.rows pcm.now.tick out.old.told pcm.now (A.state array.now)) out.old.snapshots out.new.snapshots }
-    ensures printing { (before : Option (List ℕ)) (first : ℕ) → IsPrinting K.written K.faults before first out.old
+        (IsSnapshot out.old.rows pcm.now.tick out.old.told pcm.now (A.state array.now))
+        out.old.snapshots out.new.snapshots }
+    ensures printing { (before : Option (List ℕ)) (first : ℕ)
+        → IsPrinting K.written K.faults before first out.old
         → IsPrinting K.written K.faults before first out.new }
 {
     if out.is_due() {
@@ -118,8 +122,10 @@ pub fn show_last<
     ensures prints { out.new.prints ≡ out.old.prints }
     ensures snapshots { (ends : ℕ → BankEnd) → AreEndsOf pcm.now ends
         → AddsDue (takes_snapshots out.old.prints)
-        (IsSnapshot out.old.rows tick out.old.told pcm.now (A.state array.now)) out.old.snapshots out.new.snapshots }
-    ensures printing { (before : Option (List ℕ)) (first : ℕ) → IsPrinting K.written K.faults before first out.old
+        (IsSnapshot out.old.rows tick out.old.told pcm.now (A.state array.now)) out.old.snapshots
+        out.new.snapshots }
+    ensures printing { (before : Option (List ℕ)) (first : ℕ)
+        → IsPrinting K.written K.faults before first out.old
         → IsPrinting K.written K.faults before first out.new }
 {
     if out.takes_snapshots() {

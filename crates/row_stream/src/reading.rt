@@ -34,17 +34,24 @@ pub fn feed<const B: usize, const M: usize, const E: usize, A: TellsCells<B, M>,
     requires asked { IsAskedFor (total_of pcm.old.shape) pcm.old.tick asked.now }
     requires few { out.old.rows < 4294967295 }
     requires serving { (raw : RawShape) × (seed : ℕ) × (before : List (StreamAsked B))
-        × IsServing raw seed before pcm.old (A.state array.old) out.old.rows out.old.told out.old.prints out.old.snapshots }
+        × IsServing raw seed before pcm.old (A.state array.old) out.old.rows out.old.told
+        out.old.prints out.old.snapshots }
     ensures serving { (raw : RawShape) (seed : ℕ) (before : List (StreamAsked B))
-        → IsServing raw seed before pcm.old (A.state array.old) out.old.rows out.old.told out.old.prints out.old.snapshots
-        → IsServing raw seed (asked.now ∷ before) pcm.new (A.state array.new) out.new.rows out.new.told out.new.prints out.new.snapshots }
+        → IsServing raw seed before pcm.old (A.state array.old) out.old.rows out.old.told
+        out.old.prints out.old.snapshots
+        → IsServing raw seed (asked.now ∷ before) pcm.new (A.state array.new) out.new.rows
+        out.new.told out.new.prints out.new.snapshots }
     ensures prints { out.new.prints ≡ out.old.prints }
-    ensures printing { (before : Option (List ℕ)) (first : ℕ) → IsPrinting K.written K.faults before first out.old
+    ensures printing { (before : Option (List ℕ)) (first : ℕ)
+        → IsPrinting K.written K.faults before first out.old
         → IsPrinting K.written K.faults before first out.new }
-    ensures written { OnOk result ((before : Option (List ℕ)) (first : ℕ) → IsPrinting K.written K.faults before first out.old
+    ensures written { OnOk result ((before : Option (List ℕ)) (first : ℕ)
+        → IsPrinting K.written K.faults before first out.old
         → Appends before (K.written out.new.sink) (text_told out.new)) }
-    ensures part { OnErr result ((before : Option (List ℕ)) (first : ℕ) → IsPrinting K.written K.faults before first out.old
-        → AppendsPrefix before (K.written out.new.sink) (text_told out.new) × Rose first (K.faults out.new.sink)) }
+    ensures part { OnErr result ((before : Option (List ℕ)) (first : ℕ)
+        → IsPrinting K.written K.faults before first out.old
+        → AppendsPrefix before (K.written out.new.sink) (text_told out.new)
+        × Rose first (K.faults out.new.sink)) }
     ensures wear { (A.state array.new).wear ≡ (A.state array.old).wear }
 {
     serve(pcm, array, asked, out);
@@ -68,23 +75,34 @@ pub fn serve_source<
     out: &mut RowPrinter<B, K>,
 ) -> Result<Behind, Stop>
     requires layout { IsLayout B M E }
-    requires begins { (raw : RawShape) × (seed : ℕ) × IsServing raw seed [] pcm.old (A.state array.old) out.old.rows out.old.told out.old.prints out.old.snapshots }
+    requires begins { (raw : RawShape) × (seed : ℕ)
+        × IsServing raw seed [] pcm.old (A.state array.old) out.old.rows out.old.told out.old.prints
+        out.old.snapshots }
     ensures served { IfOk result (λ behind. (raw : RawShape) (seed : ℕ)
-        → IsServing raw seed [] pcm.old (A.state array.old) out.old.rows out.old.told out.old.prints out.old.snapshots
-        → (asked : List (StreamAsked B)) × IsServing raw seed asked pcm.new (A.state array.new) out.new.rows out.new.told out.new.prints out.new.snapshots
-        × (behind ≡ behind_of asked) × IsRead (total_of raw) S.left S.taken S.faults source.old source.new asked) }
+        → IsServing raw seed [] pcm.old (A.state array.old) out.old.rows out.old.told out.old.prints
+        out.old.snapshots
+        → (asked : List (StreamAsked B)) × IsServing raw seed asked pcm.new (A.state array.new)
+        out.new.rows out.new.told out.new.prints out.new.snapshots
+        × (behind ≡ behind_of asked) × IsRead (total_of raw) S.left S.taken S.faults source.old
+        source.new asked) }
     ensures few { out.new.rows < 4294967295 }
     ensures stopped { IfErr result (λ stop. (raw : RawShape) (seed : ℕ)
-        → IsServing raw seed [] pcm.old (A.state array.old) out.old.rows out.old.told out.old.prints out.old.snapshots
-        → (asked : List (StreamAsked B)) × IsServing raw seed asked pcm.new (A.state array.new) out.new.rows out.new.told out.new.prints out.new.snapshots
+        → IsServing raw seed [] pcm.old (A.state array.old) out.old.rows out.old.told out.old.prints
+        out.old.snapshots
+        → (asked : List (StreamAsked B)) × IsServing raw seed asked pcm.new (A.state array.new)
+        out.new.rows out.new.told out.new.prints out.new.snapshots
         × HasStopped (total_of raw) S.left S.taken S.faults source.old source.new asked stop) }
     ensures prints { out.new.prints ≡ out.old.prints }
-    ensures printing { (before : Option (List ℕ)) (first : ℕ) → IsPrinting K.written K.faults before first out.old
+    ensures printing { (before : Option (List ℕ)) (first : ℕ)
+        → IsPrinting K.written K.faults before first out.old
         → IsPrinting K.written K.faults before first out.new }
-    ensures written { result ≢ Err Stop.Output → (before : Option (List ℕ)) (first : ℕ) → IsPrinting K.written K.faults before first out.old
+    ensures written { result ≢ Err Stop.Output → (before : Option (List ℕ)) (first : ℕ)
+        → IsPrinting K.written K.faults before first out.old
         → Appends before (K.written out.new.sink) (text_told out.new) }
-    ensures part { result ≡ Err Stop.Output → (before : Option (List ℕ)) (first : ℕ) → IsPrinting K.written K.faults before first out.old
-        → AppendsPrefix before (K.written out.new.sink) (text_told out.new) × Rose first (K.faults out.new.sink) }
+    ensures part { result ≡ Err Stop.Output → (before : Option (List ℕ)) (first : ℕ)
+        → IsPrinting K.written K.faults before first out.old
+        → AppendsPrefix before (K.written out.new.sink) (text_told out.new)
+        × Rose first (K.faults out.new.sink) }
     ensures wear { (A.state array.new).wear ≡ (A.state array.old).wear }
     ensures never_falls { S.faults source.old ≤ S.faults source.new }
 {

@@ -31,12 +31,16 @@ pub fn serve<const B: usize, const M: usize, const E: usize, A: TellsCells<B, M>
     requires asked { IsAskedFor (total_of pcm.old.shape) pcm.old.tick asked.now }
     requires few { out.old.rows < 4294967295 }
     requires serving { (raw : RawShape) × (seed : ℕ) × (before : List (StreamAsked B))
-        × IsServing raw seed before pcm.old (A.state array.old) out.old.rows out.old.told out.old.prints out.old.snapshots }
+        × IsServing raw seed before pcm.old (A.state array.old) out.old.rows out.old.told
+        out.old.prints out.old.snapshots }
     ensures serving { (raw : RawShape) (seed : ℕ) (before : List (StreamAsked B))
-        → IsServing raw seed before pcm.old (A.state array.old) out.old.rows out.old.told out.old.prints out.old.snapshots
-        → IsServing raw seed (asked.now ∷ before) pcm.new (A.state array.new) out.new.rows out.new.told out.new.prints out.new.snapshots }
+        → IsServing raw seed before pcm.old (A.state array.old) out.old.rows out.old.told
+        out.old.prints out.old.snapshots
+        → IsServing raw seed (asked.now ∷ before) pcm.new (A.state array.new) out.new.rows
+        out.new.told out.new.prints out.new.snapshots }
     ensures prints { out.new.prints ≡ out.old.prints }
-    ensures printing { (before : Option (List ℕ)) (first : ℕ) → IsPrinting K.written K.faults before first out.old
+    ensures printing { (before : Option (List ℕ)) (first : ℕ)
+        → IsPrinting K.written K.faults before first out.old
         → IsPrinting K.written K.faults before first out.new }
     ensures wear { (A.state array.new).wear ≡ (A.state array.old).wear }
 {
@@ -58,12 +62,17 @@ pub fn serve_event<
     requires event { IsEventFor (total_of pcm.old.shape) pcm.old.tick event.now }
     requires few { out.old.rows < 4294967295 }
     requires serving { (raw : RawShape) × (seed : ℕ) × (before : List (StreamAsked B))
-        × IsServing raw seed before pcm.old (A.state array.old) out.old.rows out.old.told out.old.prints out.old.snapshots }
+        × IsServing raw seed before pcm.old (A.state array.old) out.old.rows out.old.told
+        out.old.prints out.old.snapshots }
     ensures serving { (raw : RawShape) (seed : ℕ) (before : List (StreamAsked B))
-        → IsServing raw seed before pcm.old (A.state array.old) out.old.rows out.old.told out.old.prints out.old.snapshots
-        → IsServing raw seed (Happens event.now ∷ before) pcm.new (A.state array.new) out.new.rows out.new.told out.new.prints out.new.snapshots }
+        → IsServing raw seed before pcm.old (A.state array.old) out.old.rows out.old.told
+        out.old.prints out.old.snapshots
+        → IsServing raw seed (Happens event.now
+        ∷ before) pcm.new (A.state array.new) out.new.rows out.new.told out.new.prints
+        out.new.snapshots }
     ensures prints { out.new.prints ≡ out.old.prints }
-    ensures printing { (before : Option (List ℕ)) (first : ℕ) → IsPrinting K.written K.faults before first out.old
+    ensures printing { (before : Option (List ℕ)) (first : ℕ)
+        → IsPrinting K.written K.faults before first out.old
         → IsPrinting K.written K.faults before first out.new }
     ensures wear { (A.state array.new).wear ≡ (A.state array.old).wear }
 {
@@ -86,12 +95,16 @@ fn serve_settle<
     requires rises { pcm.old.tick ≤ tick }
     requires in_time { tick ≤ latest_tick }
     requires serving { (raw : RawShape) × (seed : ℕ) × (before : List (StreamAsked B))
-        × IsServing raw seed before pcm.old (A.state array.old) out.old.rows out.old.told out.old.prints out.old.snapshots }
+        × IsServing raw seed before pcm.old (A.state array.old) out.old.rows out.old.told
+        out.old.prints out.old.snapshots }
     ensures serving { (raw : RawShape) (seed : ℕ) (before : List (StreamAsked B))
-        → IsServing raw seed before pcm.old (A.state array.old) out.old.rows out.old.told out.old.prints out.old.snapshots
-        → IsServing raw seed (Settle tick ∷ before) pcm.new (A.state array.new) out.new.rows out.new.told out.new.prints out.new.snapshots }
+        → IsServing raw seed before pcm.old (A.state array.old) out.old.rows out.old.told
+        out.old.prints out.old.snapshots
+        → IsServing raw seed (Settle tick ∷ before) pcm.new (A.state array.new) out.new.rows
+        out.new.told out.new.prints out.new.snapshots }
     ensures prints { out.new.prints ≡ out.old.prints }
-    ensures printing { (before : Option (List ℕ)) (first : ℕ) → IsPrinting K.written K.faults before first out.old
+    ensures printing { (before : Option (List ℕ)) (first : ℕ)
+        → IsPrinting K.written K.faults before first out.old
         → IsPrinting K.written K.faults before first out.new }
     ensures wear { (A.state array.new).wear ≡ (A.state array.old).wear }
 {

@@ -29,7 +29,8 @@ pub trait Outcomes<const B: usize> {
     // It goes on where nothing more is told, and as far as two that follow each other.
     ghost stands: { (one : Self) → goes_on one one };
 
-    ghost follows: { (one two three : Self) → goes_on one two → goes_on two three → goes_on one three };
+    ghost follows: { (one two three : Self) → goes_on one two → goes_on two three
+        → goes_on one three };
 }
 
 impl<const B: usize> Outcomes<B> for Results<B> {

@@ -1,20 +1,12 @@
 -- What one bank of a finished run leaves.
 use Rattle.std.proofs.Common.{◌≡◌, ℕ, Bool, List, refl, sym, subst}
 use Rattle.cell_rows.specs.Device.{ArrayState}
-use Rattle.bank_shape.specs.declared.BankShape.{BankShape}
-use Rattle.bank_shape.specs.declared.pace.Pace.{Pace}
-use Rattle.bank_model.specs.Timing.{TimedEvent, core}
-use Rattle.bank_model.specs.Lawful.{Lawful}
-use Rattle.bank_laws.specs.Outcomes.{table_of}
-use Rattle.bank_laws.specs.Resting.{EndsIn}
-use Rattle.bank_laws.specs.Laws.{IsSized, LeavesArray, is_worn_at}
+use Rattle.bank_shape.specs.{declared.BankShape.BankShape, declared.pace.Pace.Pace}
+use Rattle.bank_model.specs.{Lawful.Lawful, Timing.{TimedEvent, core}}
+use Rattle.bank_laws.specs.{Laws.{IsSized, LeavesArray, is_worn_at}, Outcomes.table_of, Resting.EndsIn}
 use Rattle.bank_invariant.specs.Tied.{decoded}
-use Rattle.clock_laws.specs.Ending.{LeavingLaw}
-use Rattle.clock_laws.specs.State.{ClockState}
-use Rattle.clock_laws.specs.Leads.{Leads}
-use Rattle.end_laws.specs.Ends.{EndsWithTo}
-use Rattle.end_laws.proofs.Ending.{excepted-whole}
-use Rattle.end_laws.specs.EndLaws.{IsHaltedWorn, IsEndOf, RemappedLaw, GapsLaw, KeptLaw, QueuedLaw, StillThereLaw, end_of}
+use Rattle.clock_laws.specs.{Ending.LeavingLaw, Leads.Leads, State.ClockState}
+use Rattle.end_laws.{specs.EndLaws.{IsHaltedWorn, IsEndOf, RemappedLaw, GapsLaw, KeptLaw, QueuedLaw, StillThereLaw, end_of}, specs.Ends.EndsWithTo, proofs.Ending.excepted-whole}
 
 module _ {n m e : ℕ} (xs : List (TimedEvent n m)) (clock : ClockState n m e) (array : ArrayState n m) (leads : Leads xs clock array) where
   -- the end of a bank is that of what it keeps

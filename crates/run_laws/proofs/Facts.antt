@@ -1,35 +1,20 @@
 -- What the laws of a bank's table say of a row, by its outcome.
 use Rattle.std.proofs.Common.{◌≡◌, ℕ, ◌+◌, ◌-◌, ◌*◌, ◌/◌, ◌%◌, ◌<◌, ◌≤◌, ◌==◌, ◌&&◌, ◌||◌, not, Bool, true, false, List, [], ◌∷◌, length, Some, inl, inr, refl, sym, ap, ◌∙◌, subst, arith, cond, eqb-true}
-use Rattle.masked_bytes.proofs.Truth.{and_first, and_second}
-use Rattle.std.specs.Prelude.{nat_le, All, map}
-use Rattle.std.specs.Option.{ForSome}
-use Rattle.std.proofs.lemmas.Bool.{ltb-true, leb-true, or_cases}
+use Rattle.std.{specs.Option.ForSome, specs.Prelude.{nat_le, All, map}, proofs.lemmas.Bool.{ltb-true, leb-true, or_cases}}
 use Rattle.std.proofs.lemmas.List.Elements.{All-nil, All-cons, All-head, All-tail}
-use Rattle.result_rows.specs.declared.Op.{Op}
+use Rattle.masked_bytes.{specs.Masked.gives_all, proofs.Truth.{and_first, and_second}}
+use Rattle.result_rows.specs.{Outcomes.{op_of, place_of}, declared.Op.Op, declared.Outcome.Outcome}
 use Rattle.result_rows.specs.declared.Op.TheVariants as op
-use Rattle.result_rows.specs.declared.Outcome.{Outcome}
 use Rattle.result_rows.specs.declared.Outcome.TheVariants as out
-use Rattle.result_rows.specs.Outcomes.{op_of, place_of}
-use Rattle.row_rules.specs.declared.Asks.{Asks}
-use Rattle.row_rules.specs.declared.Asks.TheVariants.{Reads, Writes, Cuts}
-use Rattle.row_rules.specs.declared.Row.{Row}
-use Rattle.row_rules.specs.Answers.{accepts, is_queued, is_lost, is_busy, is_forwarded, is_answered}
-use Rattle.row_rules.specs.Rows.{each_row, asks_read, is_cut}
-use Rattle.row_rules.specs.Table.{is_of, of_bank}
-use Rattle.masked_bytes.specs.Masked.{gives_all}
+use Rattle.row_rules.specs.{Answers.{accepts, is_queued, is_lost, is_busy, is_forwarded, is_answered}, Queueing.{waiting, queue_fits, cover, is_at_head}}
+use Rattle.row_rules.specs.{Rows.{each_row, asks_read, is_cut}, Serving.may_have, Table.{is_of, of_bank}, Ticking.{first_cut_at, is_in_time, read_in_time, asks_in_time}}
+use Rattle.row_rules.specs.{declared.Asks.Asks, declared.Asks.TheVariants.{Reads, Writes, Cuts}, declared.Row.Row, declared.Rules.Rules}
 use Rattle.run_text.specs.Shortfall.{is_short}
-use Rattle.module_laws.specs.Asking.{row_in, bank_table}
-use Rattle.module_laws.proofs.Serving.{cuts-named}
-use Rattle.row_rules.specs.declared.Rules.{Rules}
-use Rattle.row_rules.specs.Queueing.{waiting, queue_fits, cover, is_at_head}
-use Rattle.row_rules.specs.Serving.{may_have}
-use Rattle.row_rules.specs.Ticking.{first_cut_at, is_in_time, read_in_time, asks_in_time}
-use Rattle.bank_shape.specs.declared.BankShape.{BankShape}
-use Rattle.bank_shape.specs.Shape.{slots_of, slot_moved, lines_in}
+use Rattle.module_laws.{specs.Asking.{row_in, bank_table}, proofs.Serving.cuts-named}
+use Rattle.bank_shape.specs.{Shape.{slots_of, slot_moved, lines_in}, declared.BankShape.BankShape}
 use Rattle.bank_laws.specs.Places.{is_place_after, is_place_about, outcome_placed}
 use Rattle.place_laws.proofs.Slots.{slot_moved-within}
-use Rattle.run_laws.specs.RowsOfRuns.{op_asked}
-use Rattle.run_laws.proofs.Lifting.{Each}
+use Rattle.run_laws.{specs.RowsOfRuns.op_asked, proofs.Lifting.Each}
 
 -- an outcome that a row may have is of its operation
 pub own_outcome : {n : ℕ} (tick : ℕ) (asks : Asks n) (newest : List ℕ) (o : Outcome n) → may_have tick asks newest o ≡ true → op_of o ≡ Some (op_asked asks)

@@ -1,44 +1,23 @@
 -- A finished run is right, by the laws of its banks.
 use Rattle.std.proofs.Common.{◌≡◌, ℕ, ◌+◌, ◌*◌, ◌/◌, ◌%◌, ◌<◌, ◌≤◌, Bool, List, [], map, Some, sym, ◌∙◌, subst, arith}
-use Rattle.std.specs.Prelude.{All}
-use Rattle.std.proofs.lemmas.List.{append-nil}
+use Rattle.std.{specs.Prelude.All, proofs.Math.Nat.one-le-mul, proofs.lemmas.List.append-nil, proofs.lemmas.List.Elements.{All-nil, All-map}}
 use Rattle.std.proofs.lemmas.Nat.{mod_below, div_below, div-add-mod'}
-use Rattle.std.proofs.Math.Nat.{one-le-mul}
-use Rattle.std.proofs.lemmas.List.Elements.{All-nil, All-map}
-use Rattle.cell_rows.specs.Device.{ArrayState}
-use Rattle.cell_rows.specs.declared.array.Sense.{Sense}
+use Rattle.cell_rows.specs.{Device.ArrayState, declared.array.Sense.Sense}
 use Rattle.result_rows.specs.declared.Outcome.{Outcome}
 use Rattle.line_writer.specs.Untouched.{HasUntouched, AreUntouched}
-use Rattle.row_rules.specs.declared.Row.{Row}
-use Rattle.row_rules.specs.Table.{KeepsRows}
-use Rattle.bank_shape.specs.declared.BankShape.{BankShape}
-use Rattle.bank_shape.specs.Shape.{lines_in}
-use Rattle.bank_model.specs.Adding.{senses_of}
-use Rattle.clock_laws.specs.Leads.{HasAged}
-use Rattle.bank_model.specs.Timing.{TimedEvent}
-use Rattle.bank_model.specs.Lawful.{Lawful}
-use Rattle.bank_laws.specs.Laws.{IsSized, LeavesArray, KeepsPlacesTo, KeepsLogTo, is_worn_at}
-use Rattle.bank_laws.specs.Outcomes.{table_of}
-use Rattle.bank_laws.specs.Resting.{IsStill}
-use Rattle.bank_laws.proofs.Resting.{ends-still}
-use Rattle.module_shape.specs.declared.raw.RawShape.{RawShape}
-use Rattle.module_shape.specs.Limits.{IsShape, total_of}
-use Rattle.module_shape.specs.Addresses.{module_of, array_lines_of, bank_shape}
-use Rattle.bank_laws.specs.Whole.{WholeTableLaw, WholePlaceLaw, WholeLogLaw, WholeRoomLaw}
-use Rattle.module_laws.specs.Asking.{Asked, row_with}
-use Rattle.module_laws.specs.Serves.{BankTableLaw, ServedByBanksLaw, RoomByBankLaw}
-use Rattle.row_rules.specs.Lines.{IsOfLines}
+use Rattle.row_rules.specs.{Lines.IsOfLines, Table.KeepsRows, declared.Row.Row}
+use Rattle.bank_shape.specs.{Shape.lines_in, declared.BankShape.BankShape}
+use Rattle.bank_model.specs.{Adding.senses_of, Lawful.Lawful, Timing.TimedEvent}
+use Rattle.clock_laws.specs.{Ending.{LeavingLaw, UntouchedLaw}, Leads.HasAged, State.ClockState}
+use Rattle.bank_laws.specs.{Laws.{IsSized, LeavesArray, KeepsPlacesTo, KeepsLogTo, is_worn_at}, Outcomes.table_of, Resting.IsStill}
+use Rattle.bank_laws.{specs.Whole.{WholeTableLaw, WholePlaceLaw, WholeLogLaw, WholeRoomLaw}, proofs.Resting.ends-still}
+use Rattle.module_shape.specs.{Addresses.{module_of, array_lines_of, bank_shape}, Limits.{IsShape, total_of}, declared.raw.RawShape.RawShape}
+use Rattle.module_laws.specs.{Asking.{Asked, row_with}, Serves.{BankTableLaw, ServedByBanksLaw, RoomByBankLaw}}
 use Rattle.bank_invariant.specs.Tied.{decoded}
-use Rattle.clock_laws.specs.Ending.{LeavingLaw, UntouchedLaw}
-use Rattle.clock_laws.specs.State.{ClockState}
-use Rattle.end_laws.specs.Ends.{EndsWithTo}
-use Rattle.end_laws.specs.EndLaws.{RemappedLaw, GapsLaw, KeptLaw, QueuedLaw, StillThereLaw}
+use Rattle.end_laws.specs.{EndLaws.{RemappedLaw, GapsLaw, KeptLaw, QueuedLaw, StillThereLaw}, Ends.EndsWithTo}
 use Rattle.lifetime_laws.specs.Lifetime.{KeepsLines, KeptLinesLaw}
-use Rattle.run_laws.specs.Runs.{bank_of_line, line_in_bank, pacing_in, rules_in, table_in, ServesTo, RunsRightTo}
-use Rattle.run_laws.specs.Finishing.{IsFinishedTo}
-use Rattle.run_laws.specs.FinishedLaws.{EndedLaw, ends_of}
-use Rattle.run_laws.proofs.Mixing.{lines_law}
-use Rattle.run_laws.proofs.Banks.{is_end, is_lawful, leaves, ends_right}
+use Rattle.run_laws.specs.{FinishedLaws.{EndedLaw, ends_of}, Finishing.IsFinishedTo, Runs.{bank_of_line, line_in_bank, pacing_in, rules_in, table_in, ServesTo, RunsRightTo}}
+use Rattle.run_laws.proofs.{Banks.{is_end, is_lawful, leaves, ends_right}, Mixing.lines_law}
 
 -- the laws of a bank
 pub record BankLaws : Type 0 where

@@ -1,14 +1,9 @@
 -- What each row of each bank's table is, over the rows before it, the row of the module is over the rows of its bank.
 use Rattle.std.proofs.Common.{◌≡◌, ℕ, ◌<◌, Bool, true, false, List, [], ◌∷◌, ◌++◌, map, refl, sym, ap, ◌∙◌, subst, cond, eq-eqb, append_assoc}
+use Rattle.std.{specs.Prelude.All, proofs.lemmas.List.Elements.{All-nil, All-cons, All-head, All-tail}}
 use Rattle.masked_bytes.proofs.Truth.{and_first, and_second}
-use Rattle.std.specs.Prelude.{All}
-use Rattle.std.proofs.lemmas.List.Elements.{All-nil, All-cons, All-head, All-tail}
-use Rattle.row_rules.specs.declared.Asks.{Asks}
-use Rattle.row_rules.specs.declared.Asks.TheVariants.{Reads, Writes, Cuts}
+use Rattle.row_rules.specs.{Lines.IsOfLines, Rows.{RowTest, each_row}, Table.{is_of, of_bank}, declared.Asks.Asks, declared.Asks.TheVariants.{Reads, Writes, Cuts}}
 use Rattle.row_rules.specs.declared.Row.{Row}
-use Rattle.row_rules.specs.Rows.{RowTest, each_row}
-use Rattle.row_rules.specs.Lines.{IsOfLines}
-use Rattle.row_rules.specs.Table.{is_of, of_bank}
 use Rattle.module_laws.specs.Asking.{asks_in, row_in, bank_table}
 
 module _ {n : ℕ} where

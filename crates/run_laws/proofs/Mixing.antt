@@ -1,17 +1,12 @@
 -- The static randomiser keeps the numbers of a module's lines in range, and each line has a bank and a number of its own there.
 use Rattle.std.proofs.Common.{◌≡◌, ℕ, ◌+◌, ◌*◌, ◌/◌, ◌%◌, ◌^◌, ◌<◌, ◌≤◌, sym, ap, ◌∙◌, subst, arith}
-use Rattle.std.proofs.lemmas.Nat.{pow_pos, mod_below, mul-le, mul-add-lt, div_below, div-add-mod', div-mul-add, mod-mul-add}
-use Rattle.std.proofs.Math.Nat.{mul_comm}
-use Rattle.feistel_map.specs.declared.halves.Halves.{Halves}
+use Rattle.std.proofs.{Math.Nat.mul_comm, lemmas.Nat.{pow_pos, mod_below, mul-le, mul-add-lt, div_below, div-add-mod', div-mul-add, mod-mul-add}}
 use Rattle.feistel_map.specs.Log2.{log2}
 use Rattle.feistel_map.specs.Network.{Network, AreHalves, left_bits, right_bits, halves_of, mixed, left_round, right_round, three_rounds, network_of, feistel, unfeistel}
+use Rattle.feistel_map.specs.declared.halves.Halves.{Halves}
 use Rattle.feistel_map.proofs.Inverse.{halves_of-range, joined-below, left_round-range, right_round-range, feistel-apart, feistel-unfeistel, unfeistel-feistel}
-use Rattle.module_shape.specs.declared.raw.RawShape.{RawShape}
-use Rattle.module_shape.specs.Limits.{IsShape, total_of}
-use Rattle.module_shape.specs.Addresses.{module_of, lines_of}
-use Rattle.module_shape.proofs.Bounds.{total-is}
-use Rattle.run_laws.specs.Runs.{mixed_line, bank_of_line, line_in_bank, line_named}
-use Rattle.run_laws.specs.FinishedLaws.{LinesLaw, NamedLaw, AreNamed}
+use Rattle.module_shape.{specs.Addresses.{module_of, lines_of}, specs.Limits.{IsShape, total_of}, specs.declared.raw.RawShape.RawShape, proofs.Bounds.total-is}
+use Rattle.run_laws.specs.{FinishedLaws.{LinesLaw, NamedLaw, AreNamed}, Runs.{mixed_line, bank_of_line, line_in_bank, line_named}}
 
 left-range : (b key : ℕ) (h : Halves) → AreHalves b h → AreHalves b (left_round b key h)
 left-range b key h range = left_round-range b (mixed key h.right % 2 ^ left_bits b) h range (mod_below (mixed key h.right) (2 ^ left_bits b) (pow_pos (left_bits b)))

@@ -1,17 +1,10 @@
 -- Each array line of a bank has one role after a right run.
 use Rattle.std.proofs.Common.{ℕ, ◌+◌, ◌*◌, ◌^◌, ◌<◌, Bool, inl, inr, arith}
-use Rattle.bank_shape.specs.declared.BankShape.{BankShape}
-use Rattle.bank_shape.specs.Shape.{slots_of, controls_from, IsBankShape}
-use Rattle.module_shape.specs.declared.raw.RawShape.{RawShape}
-use Rattle.module_shape.specs.Limits.{IsShape}
-use Rattle.module_shape.specs.Addresses.{module_of, array_lines_of, bank_shape}
-use Rattle.module_shape.proofs.Bounds.{banks_apart}
+use Rattle.bank_shape.specs.{Shape.{slots_of, controls_from, IsBankShape}, declared.BankShape.BankShape}
+use Rattle.module_shape.{specs.Addresses.{module_of, array_lines_of, bank_shape}, specs.Limits.IsShape, specs.declared.raw.RawShape.RawShape, proofs.Bounds.banks_apart}
 use Rattle.bank_laws.specs.Laws.{is_worn_at}
-use Rattle.end_laws.specs.Ends.{IsRemapped}
-use Rattle.end_laws.specs.Roles.{RoleLaw}
-use Rattle.run_laws.specs.Runs.{line_named}
-use Rattle.run_laws.specs.FinishedLaws.{RolesLaw}
-use Rattle.run_laws.proofs.Rows.{few_array_lines_law}
+use Rattle.end_laws.specs.{Ends.IsRemapped, Roles.RoleLaw}
+use Rattle.run_laws.{specs.FinishedLaws.RolesLaw, specs.Runs.line_named, proofs.Rows.few_array_lines_law}
 
 -- the shape of each bank is one that a bank may have
 pub is_bank_shape : (raw : RawShape) (bank : ℕ) → IsShape raw → bank < raw.banks → IsBankShape (bank_shape (module_of raw) bank)

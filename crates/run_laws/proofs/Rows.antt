@@ -1,36 +1,23 @@
 -- What a right run says of each row.
 use Rattle.std.proofs.Common.{◌≡◌, ℕ, ◌+◌, ◌*◌, ◌<◌, ◌||◌, Bool, true, false, List, [], ◌∷◌, ◌++◌, map, length, Some, refl, ap, ◌∙◌, subst, arith}
+use Rattle.std.{specs.Option.ForSome, specs.Prelude.{All, nat_lt}, proofs.lemmas.Bool.lt-ltb, proofs.lemmas.List.Elements.{All-nil, All-head, All-tail}}
 use Rattle.masked_bytes.proofs.Truth.{and_second}
-use Rattle.std.specs.Prelude.{All, nat_lt}
-use Rattle.std.specs.Option.{ForSome}
-use Rattle.std.proofs.lemmas.Bool.{lt-ltb}
-use Rattle.std.proofs.lemmas.List.Elements.{All-nil, All-head, All-tail}
-use Rattle.bank_shape.proofs.Sizes.{if_array-le}
+use Rattle.bank_shape.{specs.Shape.controls_of, proofs.Sizes.if_array-le}
 use Rattle.cell_rows.specs.Device.{ArrayState}
+use Rattle.result_rows.specs.Outcomes.{op_of, place_of}
 use Rattle.result_rows.specs.declared.Op.TheVariants as op
 use Rattle.run_text.specs.Shortfall.{is_short, any_short}
-use Rattle.result_rows.specs.Outcomes.{op_of, place_of}
-use Rattle.row_rules.specs.declared.Asks.{Asks}
-use Rattle.row_rules.specs.declared.Asks.TheVariants.{Reads, Writes, Cuts}
-use Rattle.row_rules.specs.declared.Row.{Row}
-use Rattle.row_rules.specs.Answers.{accepts, is_queued, is_lost}
-use Rattle.row_rules.specs.Rows.{line_of, is_cut}
-use Rattle.row_rules.specs.Lines.{IsOfLines}
-use Rattle.row_rules.specs.Queueing.{pending, has_room, is_queue_fair}
-use Rattle.row_rules.specs.Serving.{is_served, owed}
-use Rattle.bank_laws.specs.Laws.{is_worn_at}
-use Rattle.bank_laws.specs.Places.{is_placed, is_taken, may_leave}
-use Rattle.bank_shape.specs.Shape.{controls_of}
-use Rattle.module_shape.specs.declared.raw.RawShape.{RawShape}
-use Rattle.module_shape.specs.Limits.{IsShape, total_of}
-use Rattle.module_shape.specs.Addresses.{module_of, array_lines_of, bank_shape}
+use Rattle.row_rules.specs.{Answers.{accepts, is_queued, is_lost}, Lines.IsOfLines, Queueing.{pending, has_room, is_queue_fair}, Rows.{line_of, is_cut}, Serving.{is_served, owed}}
+use Rattle.row_rules.specs.{declared.Asks.Asks, declared.Asks.TheVariants.{Reads, Writes, Cuts}, declared.Row.Row}
+use Rattle.bank_laws.specs.{Laws.is_worn_at, Places.{is_placed, is_taken, may_leave}}
+use Rattle.module_shape.specs.{Addresses.{module_of, array_lines_of, bank_shape}, Limits.{IsShape, total_of}, declared.raw.RawShape.RawShape}
 use Rattle.module_shape.proofs.Bounds.{array_lines_few, banks_apart}
 use Rattle.end_laws.specs.Ends.{BankEnd}
-use Rattle.run_laws.specs.Runs.{bank_of_line, line_in_bank, rules_in, table_in, RunsRight}
-use Rattle.run_laws.specs.RowsOfRuns.{op_asked, LinesExist, NoCuts, HasRoom, FindsPlace, OwnOutcomesLaw, PlacesExistLaw, FewArrayLinesLaw, NoneLostLaw, RoomIsTakenLaw, NoneShortLaw}
+use Rattle.run_laws.specs.RowsOfRuns.{op_asked, LinesExist, NoCuts, HasRoom, FindsPlace, OwnOutcomesLaw, PlacesExistLaw, FewArrayLinesLaw, NoneLostLaw, RoomIsTakenLaw}
+use Rattle.run_laws.specs.{RowsOfRuns.NoneShortLaw, Runs.{bank_of_line, line_in_bank, rules_in, table_in, RunsRight}}
+use Rattle.run_laws.proofs.Facts.{IsOfBank, own_outcome, placed-of_bank, cut-nowhere, IsKept, reads-kept, uncut_in_bank, unread-kept, IsBusyFair, busy-fair, taken-parts}
+use Rattle.run_laws.proofs.{Facts.{read-unshort, write-unshort, cut-unshort}, Lifting.{Each, each-passes, each-all, each-at, each-of, both, with_all, lifted, InOwnBank}}
 use Rattle.run_laws.proofs.Mixing.{bank-exists, line-exists}
-use Rattle.run_laws.proofs.Lifting.{Each, each-passes, each-all, each-at, each-of, both, with_all, lifted, InOwnBank}
-use Rattle.run_laws.proofs.Facts.{IsOfBank, own_outcome, placed-of_bank, cut-nowhere, IsKept, reads-kept, uncut_in_bank, unread-kept, IsBusyFair, busy-fair, taken-parts, read-unshort, write-unshort, cut-unshort}
 
 -- a row has an outcome of its own operation
 abbrev IsOwn : {n : ℕ} → Row n → Type 0

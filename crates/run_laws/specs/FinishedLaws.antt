@@ -3,18 +3,12 @@ use Rattle.std.specs.Prelude.{◌≡◌, ℕ, ◌<◌, Bool, true, false, List, 
 use Rattle.cell_rows.specs.Device.{ArrayState}
 use Rattle.result_rows.specs.declared.Outcome.{Outcome}
 use Rattle.bank_model.specs.Timing.{TimedEvent, core}
-use Rattle.module_shape.specs.declared.raw.RawShape.{RawShape}
-use Rattle.module_shape.specs.Limits.{IsShape, total_of}
-use Rattle.module_shape.specs.Addresses.{module_of, lines_of, bank_shape}
-use Rattle.module_laws.specs.Asking.{Asked, row_with}
-use Rattle.module_laws.specs.Serves.{AreLines}
+use Rattle.module_shape.specs.{Addresses.{module_of, lines_of, bank_shape}, Limits.{IsShape, total_of}, declared.raw.RawShape.RawShape}
+use Rattle.module_laws.specs.{Asking.{Asked, row_with}, Serves.AreLines}
 use Rattle.clock_laws.specs.State.{ClockState}
-use Rattle.end_laws.specs.Ends.{BankEnd}
-use Rattle.end_laws.specs.EndLaws.{IsEndOf, end_of}
-use Rattle.end_laws.specs.Roles.{HasOneRole}
+use Rattle.end_laws.specs.{EndLaws.{IsEndOf, end_of}, Ends.BankEnd, Roles.HasOneRole}
 use Rattle.row_rules.specs.declared.Row.{Row}
-use Rattle.run_laws.specs.Runs.{bank_of_line, line_in_bank, line_named, RunsRight, RunsRightTo}
-use Rattle.run_laws.specs.Finishing.{IsFinishedTo}
+use Rattle.run_laws.specs.{Finishing.IsFinishedTo, Runs.{bank_of_line, line_in_bank, line_named, RunsRight, RunsRightTo}}
 
 -- the lines of a module: each is of one of its banks, and no two have one number there
 abbrev pub LinesLaw : Type 0

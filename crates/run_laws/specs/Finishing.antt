@@ -1,20 +1,13 @@
 -- When a run of a module is finished, told by the histories of its banks.
 use Rattle.std.specs.Prelude.{◌≡◌, ℕ, ◌*◌, ◌<◌, Bool, true, false, List, Some, All}
-use Rattle.cell_rows.specs.Device.{ArrayState}
-use Rattle.cell_rows.specs.declared.array.Sense.{Sense}
+use Rattle.cell_rows.specs.{Device.ArrayState, declared.array.Sense.Sense}
 use Rattle.result_rows.specs.declared.Outcome.{Outcome}
-use Rattle.bank_model.specs.Adding.{senses_of}
-use Rattle.bank_model.specs.Timing.{TimedEvent}
-use Rattle.bank_laws.specs.Resting.{EndsIn}
-use Rattle.module_shape.specs.declared.raw.RawShape.{RawShape}
-use Rattle.module_shape.specs.Limits.{total_of}
-use Rattle.module_shape.specs.Addresses.{module_of, array_lines_of, bank_shape}
-use Rattle.bank_laws.specs.Laws.{log_of}
-use Rattle.module_laws.specs.Asking.{Asked, asked_of, AreAsked}
-use Rattle.module_laws.specs.Serves.{AreRecorded, TicksFall}
+use Rattle.bank_model.specs.{Adding.senses_of, Timing.TimedEvent}
+use Rattle.bank_laws.specs.{Laws.log_of, Resting.EndsIn}
+use Rattle.module_shape.specs.{Addresses.{module_of, array_lines_of, bank_shape}, Limits.total_of, declared.raw.RawShape.RawShape}
+use Rattle.module_laws.specs.{Asking.{Asked, asked_of, AreAsked}, Serves.{AreRecorded, TicksFall}}
 use Rattle.row_rules.specs.Lines.{IsOfLines}
-use Rattle.clock_laws.specs.State.{ClockState}
-use Rattle.clock_laws.specs.Leads.{Leads}
+use Rattle.clock_laws.specs.{Leads.Leads, State.ClockState}
 use Rattle.run_laws.specs.Runs.{bank_of_line, line_in_bank, pacing_in}
 
 module _ {n m e : ℕ} (raw : RawShape) (seed : ℕ) where

@@ -4,11 +4,8 @@ use Rattle.cell_rows.specs.Device.{CellBounds, ArrayState}
 use Rattle.ecp_line.specs.Layout.{IsLayout}
 use Rattle.row_rules.specs.declared.Row.{Row}
 use Rattle.bank_shape.specs.Shape.{slots_of}
-use Rattle.module_shape.specs.declared.raw.RawShape.{RawShape}
-use Rattle.module_shape.specs.Limits.{IsShape}
-use Rattle.module_shape.specs.Addresses.{module_of, bank_shape}
-use Rattle.end_laws.specs.Ends.{BankEnd}
-use Rattle.end_laws.specs.Roles.{used_spares}
+use Rattle.module_shape.specs.{Addresses.{module_of, bank_shape}, Limits.IsShape, declared.raw.RawShape.RawShape}
+use Rattle.end_laws.specs.{Ends.BankEnd, Roles.used_spares}
 use Rattle.lifetime_laws.specs.Lifetime.{LivesOn, BearsWorks, BearsAskedWorks}
 use Rattle.run_laws.specs.Runs.{table_in, rules_in, RunsRight}
 

@@ -1,23 +1,13 @@
 -- What a right run says of each row of its module.
-use Rattle.std.specs.Prelude.{◌≡◌, ℕ, ◌*◌, ◌<◌, ◌≤◌, IsTrue, IsFalse, Bool, length, List, [], ◌∷◌, ◌++◌, map, Some, All}
-use Rattle.std.specs.Option.{ForSome}
+use Rattle.std.specs.{Option.ForSome, Prelude.{◌≡◌, ℕ, ◌*◌, ◌<◌, ◌≤◌, IsTrue, IsFalse, Bool, length, List, [], ◌∷◌, ◌++◌, map, Some, All}}
 use Rattle.cell_rows.specs.Device.{ArrayState}
-use Rattle.result_rows.specs.declared.Op.{Op}
+use Rattle.result_rows.specs.{Outcomes.{op_of, place_of}, declared.Op.Op}
 use Rattle.result_rows.specs.declared.Op.TheVariants as op
-use Rattle.result_rows.specs.Outcomes.{op_of, place_of}
 use Rattle.run_text.specs.Shortfall.{any_short}
-use Rattle.row_rules.specs.declared.Asks.{Asks}
-use Rattle.row_rules.specs.declared.Asks.TheVariants.{Reads, Writes, Cuts}
-use Rattle.row_rules.specs.declared.Row.{Row}
-use Rattle.row_rules.specs.Answers.{accepts, is_queued, is_lost}
-use Rattle.row_rules.specs.Rows.{is_cut}
-use Rattle.row_rules.specs.Lines.{IsOfLines}
-use Rattle.row_rules.specs.Queueing.{pending, waiting}
-use Rattle.bank_laws.specs.Laws.{is_worn_at}
-use Rattle.bank_laws.specs.Places.{may_leave}
-use Rattle.module_shape.specs.declared.raw.RawShape.{RawShape}
-use Rattle.module_shape.specs.Limits.{IsShape, total_of}
-use Rattle.module_shape.specs.Addresses.{module_of, array_lines_of, bank_shape}
+use Rattle.row_rules.specs.{Answers.{accepts, is_queued, is_lost}, Lines.IsOfLines, Queueing.{pending, waiting}, Rows.is_cut, declared.Asks.Asks}
+use Rattle.row_rules.specs.{declared.Asks.TheVariants.{Reads, Writes, Cuts}, declared.Row.Row}
+use Rattle.bank_laws.specs.{Laws.is_worn_at, Places.may_leave}
+use Rattle.module_shape.specs.{Addresses.{module_of, array_lines_of, bank_shape}, Limits.{IsShape, total_of}, declared.raw.RawShape.RawShape}
 use Rattle.end_laws.specs.Ends.{BankEnd}
 use Rattle.run_laws.specs.Runs.{bank_of_line, table_in, RunsRight}
 

@@ -1,23 +1,14 @@
 -- What a finished run of a module leaves: the laws that its rows keep, over its array in the end. The rows are the module's
 -- table, the newest row first; the seed is that of the static randomiser.
 use Rattle.std.specs.Prelude.{◌≡◌, ℕ, ◌+◌, ◌*◌, ◌<◌, Bool, true, false, IsTrue, List, [], Some}
-use Rattle.feistel_map.specs.Log2.{log2}
-use Rattle.feistel_map.specs.Network.{network_of, feistel, unfeistel}
-use Rattle.cell_rows.specs.Device.{ArrayState}
-use Rattle.cell_rows.specs.declared.array.Sense.{Sense}
+use Rattle.feistel_map.specs.{Log2.log2, Network.{network_of, feistel, unfeistel}}
+use Rattle.cell_rows.specs.{Device.ArrayState, declared.array.Sense.Sense}
 use Rattle.line_writer.specs.Untouched.{HasUntouched}
-use Rattle.row_rules.specs.declared.Row.{Row}
-use Rattle.row_rules.specs.Rows.{each_row}
-use Rattle.row_rules.specs.declared.Rules.{Rules}
-use Rattle.row_rules.specs.Serving.{is_served}
-use Rattle.row_rules.specs.Table.{KeepsRows}
+use Rattle.row_rules.specs.{Rows.each_row, Serving.is_served, Table.KeepsRows, declared.Row.Row, declared.Rules.Rules}
 use Rattle.bank_shape.specs.declared.pace.Pace.{Pace}
-use Rattle.module_shape.specs.declared.raw.RawShape.{RawShape}
-use Rattle.module_shape.specs.Limits.{total_of}
-use Rattle.module_shape.specs.Addresses.{module_of, pace_of, lines_of, array_lines_of, bank_shape, bank_of, bank_line_of}
+use Rattle.module_shape.specs.{Addresses.{module_of, pace_of, lines_of, array_lines_of, bank_shape, bank_of, bank_line_of}, Limits.total_of, declared.raw.RawShape.RawShape}
 use Rattle.bank_laws.specs.Laws.{KeepsPlacesTo, KeepsLogTo, is_worn_at, rules_of}
-use Rattle.module_laws.specs.Asking.{bank_table}
-use Rattle.module_laws.specs.Serves.{finds_room_in}
+use Rattle.module_laws.specs.{Asking.bank_table, Serves.finds_room_in}
 use Rattle.bank_invariant.specs.Tied.{decoded}
 use Rattle.end_laws.specs.Ends.{BankEnd, EndsWithTo}
 use Rattle.lifetime_laws.specs.Lifetime.{KeepsLines}

@@ -1,14 +1,10 @@
 -- The ten counts of a table add up to its rows, and some row falls short where a count says so.
 use Rattle.std.proofs.Common.{ℕ, suc, ◌+◌, ◌≡◌, Bool, true, false, ◌||◌, cond, nat_lt, List, [], ◌∷◌, length, count_by, zero-add, ap, sym, ◌∙◌, refl, arith}
-use Rattle.std.specs.List.{list_any}
-use Rattle.std.proofs.lemmas.Bool.{lt-ltb, or_parts}
-use Rattle.std.proofs.lemmas.List.Sums.{sum_by-cons}
+use Rattle.std.{specs.List.list_any, proofs.lemmas.Bool.{lt-ltb, or_parts}, proofs.lemmas.List.Sums.sum_by-cons}
 use Rattle.result_rows.specs.declared.Outcome.{Outcome}
 use Rattle.result_rows.specs.declared.Outcome.TheVariants as out
 use Rattle.row_rules.specs.Answers.{is_stored, is_merged, is_queued, is_full, is_worn, is_answered, is_forwarded, is_busy, is_lost}
-use Rattle.run_text.specs.Counting.{is_cut, counts_of}
-use Rattle.run_text.specs.Shortfall.{is_short}
-use Rattle.run_text.specs.Laws.{is_unset, rows_counted, rows_short, EachRowIsCountedOnce, ShortRowsAreCounted}
+use Rattle.run_text.specs.{Counting.{is_cut, counts_of}, Laws.{is_unset, rows_counted, rows_short, EachRowIsCountedOnce, ShortRowsAreCounted}, Shortfall.is_short}
 
 -- 1 for what passes a test, and else 0
 abbrev one_if : {X : Type 0} → (X → Bool) → X → ℕ

@@ -1,15 +1,10 @@
 -- What one more row does to the counts of a table, and to whether some row falls short.
 use Rattle.std.proofs.Common.{ℕ, get_or, ◌+◌, ◌-◌, ◌^◌, ◌<◌, ◌≤◌, ◌≡◌, Bool, true, false, ◌||◌, cond, List, length, take, Some, ap, sym, ◌∙◌, refl, arith}
-use Rattle.std.specs.List.{count_by, list_any}
-use Rattle.std.proofs.lemmas.List.{length-take}
-use Rattle.std.proofs.lemmas.List.Sums.{count_by-le-length, count_by_more_yes, count_by_more_no}
-use Rattle.std.proofs.lemmas.List.Folds.{list_any_more, list_any_at}
-use Rattle.std.proofs.lemmas.Option.{get_or_from_slice_get}
-use Rattle.result_rows.specs.declared.Outcome.{Outcome}
-use Rattle.result_rows.specs.Table.{HasRow, outcome_at}
+use Rattle.std.{specs.List.{count_by, list_any}, proofs.lemmas.List.length-take, proofs.lemmas.List.Folds.{list_any_more, list_any_at}}
+use Rattle.std.proofs.{lemmas.List.Sums.{count_by-le-length, count_by_more_yes, count_by_more_no}, lemmas.Option.get_or_from_slice_get}
+use Rattle.result_rows.specs.{Table.{HasRow, outcome_at}, declared.Outcome.Outcome}
 use Rattle.row_rules.specs.Answers.{is_stored, is_merged, is_queued, is_full, is_worn, is_answered, is_forwarded, is_busy, is_lost}
-use Rattle.run_text.specs.declared.counts.Counts.{Counts}
-use Rattle.run_text.specs.Counting.{is_cut, counts_of}
+use Rattle.run_text.specs.{Counting.{is_cut, counts_of}, declared.counts.Counts.Counts}
 
 -- a count of the rows up to one, by that of the rows before it
 count-row : {X : Type 0} (p : X → Bool) (xs : List X) (row : ℕ) (x : X) → HasRow xs row → outcome_at xs row ≡ Some x

@@ -1,18 +1,10 @@
 -- How the rows of the results are printed, one after the other.
 use Rattle.std.proofs.Common.{◌≡◌, ℕ, suc, ◌+◌, ◌≤◌, List, [], ◌∷◌, ◌++◌, length, drop, Option, Some, refl, sym, ap, ◌∙◌, arith, append_assoc}
-use Rattle.std.specs.Prelude.{slice_get}
-use Rattle.std.proofs.Math.Seq.{drop-cons}
-use Rattle.std.proofs.lemmas.List.{append-nil, drop_all}
-use Rattle.std.proofs.lemmas.Option.{get_or_from_slice_get, slice_get_within}
-use Rattle.pcm_io.specs.Giving.{AppendsPrefix}
-use Rattle.pcm_io.specs.Reserved.{Reserved, appended, reserved}
-use Rattle.pcm_io.proofs.ByteLemmas.{AppendsPrefix-longer}
+use Rattle.std.{specs.Prelude.slice_get, proofs.Math.Seq.drop-cons, proofs.lemmas.List.{append-nil, drop_all}, proofs.lemmas.Option.{get_or_from_slice_get, slice_get_within}}
+use Rattle.pcm_io.{specs.Giving.AppendsPrefix, specs.Reserved.{Reserved, appended, reserved}, proofs.ByteLemmas.AppendsPrefix-longer}
 use Rattle.trace_reader.specs.declared.event.Event.{Event}
-use Rattle.result_rows.specs.declared.Outcome.{Outcome}
-use Rattle.result_rows.specs.RowText.{header_text, row_text}
-use Rattle.run_text.specs.ResultText.{asked, named_line, results_text, rows_text}
-use Rattle.run_text.specs.Gathering.{Printed}
-use Rattle.run_text.proofs.Gathered.{printed-first, printed-more}
+use Rattle.result_rows.specs.{RowText.{header_text, row_text}, declared.Outcome.Outcome}
+use Rattle.run_text.{specs.Gathering.Printed, specs.ResultText.{asked, named_line, results_text, rows_text}, proofs.Gathered.{printed-first, printed-more}}
 
 module _ {n : ℕ} (events : List (Event n)) (outcomes : List (Outcome n)) where
   -- the rows from this one on

@@ -1,11 +1,9 @@
 -- A worked example: a write that was stored and a read that was forwarded, with one pulse.
 use Rattle.std.proofs.Common.{◌≡◌, List, [], ◌∷◌, refl}
-use Rattle.std.specs.Prelude.{codes, replicate}
-use Rattle.std.specs.Fmt.{digits}
+use Rattle.std.specs.{Fmt.digits, Prelude.{codes, replicate}}
 use Rattle.result_rows.specs.declared.Outcome.{Outcome}
 use Rattle.result_rows.specs.declared.Outcome.TheVariants as out
-use Rattle.run_text.specs.Counting.{counts_of}
-use Rattle.run_text.specs.SummaryText.{summary_text}
+use Rattle.run_text.specs.{Counting.counts_of, SummaryText.summary_text}
 
 abbrev stored_and_forwarded : List (Outcome 64)
 stored_and_forwarded = out.Stored 15 3 ∷ out.Forwarded 0 (replicate 64 0xff) ∷ []

@@ -1,6 +1,5 @@
 -- A text that is gathered in memory and written to a sink piece after piece.
-use Rattle.std.specs.Prelude.{◌≡◌, ℕ, ◌≤◌, List, ◌++◌, Option}
-use Rattle.std.specs.Io.KnownBytes.{Appends}
+use Rattle.std.specs.{Io.KnownBytes.Appends, Prelude.{◌≡◌, ℕ, ◌≤◌, List, ◌++◌, Option}}
 use Rattle.pcm_io.specs.Reserved.{Reserved, room_in}
 use Rattle.run_text.specs.declared.room.TheConstants.{TEXT_ROOM}
 

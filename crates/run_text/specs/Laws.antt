@@ -1,11 +1,8 @@
 -- What ties the counts of a table to its rows.
-use Rattle.std.specs.Prelude.{ℕ, ◌≡◌, ◌+◌, Bool, true, false, List, length, nat_lt}
-use Rattle.std.specs.List.{list_any}
+use Rattle.std.specs.{List.list_any, Prelude.{ℕ, ◌≡◌, ◌+◌, Bool, true, false, List, length, nat_lt}}
 use Rattle.result_rows.specs.declared.Outcome.{Outcome}
 use Rattle.result_rows.specs.declared.Outcome.TheVariants as out
-use Rattle.run_text.specs.declared.counts.Counts.{Counts}
-use Rattle.run_text.specs.Counting.{counts_of}
-use Rattle.run_text.specs.Shortfall.{any_short}
+use Rattle.run_text.specs.{Counting.counts_of, Shortfall.any_short, declared.counts.Counts.Counts}
 
 -- a row that was never set
 abbrev pub is_unset : {n : ℕ} → Outcome n → Bool

@@ -1,14 +1,9 @@
 -- The text of a run's results.
-use Rattle.std.specs.Prelude.{◌≡◌, ℕ, ◌+◌, ◌≤◌, List, [], ◌∷◌, ◌++◌, length, Some, slice_get}
-use Rattle.std.specs.Option.{ForSome}
-use Rattle.trace_reader.specs.declared.event.Event.{Event}
-use Rattle.trace_reader.specs.declared.event.EventOp.{EventOp}
+use Rattle.std.specs.{Option.ForSome, Prelude.{◌≡◌, ℕ, ◌+◌, ◌≤◌, List, [], ◌∷◌, ◌++◌, length, Some, slice_get}}
+use Rattle.trace_reader.specs.{declared.event.Event.Event, declared.event.EventOp.EventOp}
 use Rattle.trace_reader.specs.declared.event.EventOp.TheVariants as op
-use Rattle.result_rows.specs.declared.Op.{Op}
+use Rattle.result_rows.specs.{Outcomes.{op_of, place_of}, RowText.{header_text, row_text}, declared.Op.Op, declared.Outcome.Outcome}
 use Rattle.result_rows.specs.declared.Op.TheVariants as kind
-use Rattle.result_rows.specs.declared.Outcome.{Outcome}
-use Rattle.result_rows.specs.Outcomes.{op_of, place_of}
-use Rattle.result_rows.specs.RowText.{header_text, row_text}
 
 module _ {n : ℕ} where
   -- what a row asks for, as its result shows it: a masked write is a write

@@ -1,6 +1,5 @@
 -- Outcomes that fall short of what their rows asked for.
-use Rattle.std.specs.Prelude.{ℕ, Bool, ◌||◌, List}
-use Rattle.std.specs.List.{list_any}
+use Rattle.std.specs.{List.list_any, Prelude.{ℕ, Bool, ◌||◌, List}}
 use Rattle.result_rows.specs.declared.Outcome.{Outcome}
 use Rattle.row_rules.specs.Answers.{is_queued, is_full, is_worn, is_busy, is_lost}
 

@@ -43,8 +43,10 @@ pub fn print_results<const B: usize, K: Sink>(
     requires room { text.old ≡ reserved TEXT_ROOM }
     requires rows { length events.now ≤ MOST_ROWS }
     requires printable { ArePrintable events.now results.now }
-    ensures ok { OnOk result (Appends (K.written out.old) (K.written out.new) (results_text events.now results.now)) }
-    ensures prefix { OnErr result (AppendsPrefix (K.written out.old) (K.written out.new) (results_text events.now results.now)) }
+    ensures ok { OnOk result (Appends (K.written out.old) (K.written out.new)
+        (results_text events.now results.now)) }
+    ensures prefix { OnErr result (AppendsPrefix (K.written out.old) (K.written out.new)
+        (results_text events.now results.now)) }
     ensures fault { OnErr result (Rose (K.faults out.old) (K.faults out.new)) }
     ensures never_falls { K.faults out.old ≤ K.faults out.new }
 {

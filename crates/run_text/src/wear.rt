@@ -33,9 +33,11 @@ pub fn print_wear_row<K: Sink>(
     requires { ROW_ROOM ≤ text.old.limit }
 
     // Behind the rows of all array lines below; after a fault first bytes were written, whatever rows would still come.
-    ensures ok { OnOk result ((before : Option (List ℕ)) (rows : List (ℕ × ℕ × RoleOf)) → length rows ≡ array_line
+    ensures ok { OnOk result ((before : Option (List ℕ)) (rows : List (ℕ × ℕ × RoleOf))
+        → length rows ≡ array_line
         → Printed before (K.written out.old) text.old (wear_text rows)
-        → Printed before (K.written out.new) text.new (wear_text (rows ++ (bank, pulses, role) ∷ []))) }
+        → Printed before (K.written out.new) text.new (wear_text (rows ++ (bank, pulses, role)
+        ∷ []))) }
     ensures prefix { OnErr result ((before : Option (List ℕ)) (rows later : List (ℕ × ℕ × RoleOf))
         → Printed before (K.written out.old) text.old (wear_text rows)
         → AppendsPrefix before (K.written out.new) (wear_text (rows ++ later))) }

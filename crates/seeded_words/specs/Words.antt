@@ -1,10 +1,7 @@
 -- The words that generators draw from a seed.
-use Rattle.std.specs.Prelude.{ℕ, zero, suc}
-use Rattle.std.specs.Int.{w64, to_le_bytes, from_le_bytes}
-use Rattle.rand_core.specs.Stream.{Stream, next_u64}
-use Rattle.rand_core.specs.Steps.{stream_of, steps_u64_high}
-use Rattle.rand_xoshiro.specs.SplitMix64.{splitmix_seed, splitmix_steps}
-use Rattle.rand_xoshiro.specs.Xoshiro256.{plus_plus, of_seed}
+use Rattle.std.specs.{Int.{w64, to_le_bytes, from_le_bytes}, Prelude.{ℕ, zero, suc}}
+use Rattle.rand_core.specs.{Steps.{stream_of, steps_u64_high}, Stream.{Stream, next_u64}}
+use Rattle.rand_xoshiro.specs.{SplitMix64.{splitmix_seed, splitmix_steps}, Xoshiro256.{plus_plus, of_seed}}
 
 -- all that the generator xoshiro256++ answers, from a seed on
 abbrev pub xoshiro_of : ℕ → Stream

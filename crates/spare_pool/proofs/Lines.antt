@@ -1,11 +1,7 @@
 -- Where the lines of the slots come from, and what one more retirement changes.
 use Rattle.std.proofs.Common.{◌≡◌, ℕ, ◌+◌, ◌-◌, ◌^◌, ◌<◌, ◌≤◌, ◌==◌, true, false, if◌then◌else◌, ◌⊎◌, inl, inr, List, [], ◌∷◌, ◌++◌, length, length-append, slice_index, get_or, take, refl, sym, ◌∙◌, ap, subst, add-one, arith}
-use Rattle.std.proofs.lemmas.Bool.{cases_lt, cases_eq}
-use Rattle.std.proofs.lemmas.Bool.Decides.{nat_tests}
-use Rattle.std.proofs.lemmas.Grind.{common_steps, get_or_default_zero}
-use Rattle.std.proofs.lemmas.List.{get_or-set_same, get_or-set_other, get_or-take, length-take-le, take_more_set}
-use Rattle.std.proofs.Math.ListN.{get_or-append, length-set, set}
-use Rattle.std.proofs.Math.Seq.{get_or-append_seam}
+use Rattle.std.proofs.{Math.ListN.{get_or-append, length-set, set}, Math.Seq.get_or-append_seam, lemmas.Bool.{cases_lt, cases_eq}, lemmas.Bool.Decides.nat_tests}
+use Rattle.std.proofs.{lemmas.Grind.{common_steps, get_or_default_zero}, lemmas.List.{get_or-set_same, get_or-set_other, get_or-take, length-take-le, take_more_set}}
 use Rattle.spare_pool.specs.Table.{Table, line_from, line_by, used_by, retired_table, IsTable, Stores, stored_table}
 
 -- a slot's line is a spare that it was given

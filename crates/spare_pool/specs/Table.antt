@@ -1,7 +1,6 @@
 -- Which array line each slot of a bank has, after some slots were given spare lines.
 use Rattle.std.specs.Prelude.{◌≡◌, ◌≢◌, ℕ, ◌+◌, ◌^◌, ◌<◌, ◌≤◌, ◌==◌, if◌then◌else◌, List, [], ◌∷◌, ◌++◌, length, take, slice_index}
-use Rattle.spare_pool.specs.declared.Owner.{Owner}
-use Rattle.spare_pool.specs.declared.Owner.TheVariants.{Slot, Free, Retired}
+use Rattle.spare_pool.specs.{declared.Owner.Owner, declared.Owner.TheVariants.{Slot, Free, Retired}}
 
 -- a table: how many slots and spares there are, and the slots that were given a spare, in order
 pub record Table : Type 0 where

@@ -82,7 +82,8 @@ impl Remap {
 
         // The slot has that line now, and all other slots have what they had.
         ensures lines { OnOk result ((other : ℕ) → line_by self.new other
-            ≡ (if slot == other then self.old.slots + used_by self.old else line_by self.old other)) }
+            ≡ (if slot == other then self.old.slots
+            + used_by self.old else line_by self.old other)) }
         ensures none_left { OnErr result (used_by self.old ≡ self.old.spares) }
         ensures same { OnErr result (self.new ≡ self.old) }
         ensures in_range { IsTable self.new }

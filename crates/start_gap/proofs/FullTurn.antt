@@ -1,11 +1,7 @@
 -- A line and a place determine one move of each turn, since n and n+1 share no factor.
 use Rattle.std.proofs.Common.{◌≡◌, ℕ, ◌+◌, ◌-◌, ◌*◌, ◌/◌, ◌%◌, ◌<◌, ◌≤◌, inl, inr, sym, ◌∙◌, ap, arith}
-use Rattle.std.proofs.lemmas.Bool.{cases_lt, cases_order}
-use Rattle.std.proofs.lemmas.Nat.{mod_below, div_below}
-use Rattle.std.proofs.Math.Nat.{div-add-mod, mul-le-mul_left}
-use Rattle.start_gap.specs.Rotation.{turn}
-use Rattle.start_gap.specs.Turn.{Copies, IsOnlyMove, HasEachPairOnce}
-use Rattle.start_gap.proofs.Turning.{Rounds, remainder, round, walk, in_rounds, same_turned, turned_back}
+use Rattle.std.proofs.{Math.Nat.{div-add-mod, mul-le-mul_left}, lemmas.Bool.{cases_lt, cases_order}, lemmas.Nat.{mod_below, div_below}}
+use Rattle.start_gap.{specs.Rotation.turn, specs.Turn.{Copies, IsOnlyMove, HasEachPairOnce}, proofs.Turning.{Rounds, remainder, round, walk, in_rounds, same_turned, turned_back}}
 
 -- two numbers of one turn with one remainder are one
 same_in_turn : (m first a b : ℕ) → first ≤ a → a < first + m → first ≤ b → b < first + m → a % m ≡ b % m → a ≡ b

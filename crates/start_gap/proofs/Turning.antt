@@ -1,9 +1,7 @@
 -- What the registers say, in closed form.
 use Rattle.std.proofs.Common.{◌≡◌, ◌≢◌, ℕ, false, ◌+◌, ◌-◌, ◌*◌, ◌/◌, ◌%◌, ◌<◌, ◌≤◌, ◌==◌, inl, inr, refl, ◌∙◌, ap, arith}
-use Rattle.std.proofs.lemmas.Bool.{cases_lt, cases_order, cases_eq}
-use Rattle.std.proofs.lemmas.Bool.Decides.{nat_tests}
+use Rattle.std.proofs.{Math.Nat.{div-add-mod, mul-add-mod_self_right, mul-le-mul_left, mod-eq_of_lt}, lemmas.Bool.{cases_lt, cases_order, cases_eq}, lemmas.Bool.Decides.nat_tests}
 use Rattle.std.proofs.lemmas.Nat.{div-mul-add, mod-mul-add, mod_below}
-use Rattle.std.proofs.Math.Nat.{div-add-mod, mul-add-mod_self_right, mul-le-mul_left, mod-eq_of_lt}
 use Rattle.start_gap.specs.Rotation.{Rotation, IsRotation, StandsFor, turn, place_after, gap_after, move_after, place_by, move_by, advanced}
 
 -- ---- numbers

@@ -34,7 +34,11 @@ impl Model for Registers {
 
     ghost view = { λ r. record { lines = r.lines; start = r.start; gap = r.gap } };
 
-    ghost invariant = { λ r. IsRotation (record { lines = r.lines; start = r.start; gap = r.gap }) };
+    ghost invariant = { λ r. IsRotation (record {
+      lines = r.lines;
+      start = r.start;
+      gap = r.gap;
+    }) };
 
     ghost inverse = { λ r. record { lines = r.lines; start = r.start; gap = r.gap } };
 }
@@ -88,7 +92,8 @@ impl Registers {
     pub fn place(&self, line: u32) -> u32
         requires { line < self.now.lines }
         ensures by_registers { result ≡ place_by self.now line }
-        ensures after { (t : ℕ) → StandsFor self.now t → result ≡ place_after self.now.lines line t }
+        ensures after { (t : ℕ) → StandsFor self.now t
+            → result ≡ place_after self.now.lines line t }
         ensures within { result ≤ self.now.lines }
 
         // No line has the gap, and no other line has this place.
@@ -108,7 +113,8 @@ impl Registers {
     pub fn line_at(&self, place: u32) -> Option<u32>
         requires { place ≤ self.now.lines }
         ensures none { IsNone result ↔ (place ≡ self.now.gap) }
-        ensures some { IfSome result (λ line. (line < self.now.lines) × (place_by self.now line ≡ place)) }
+        ensures some { IfSome result (λ line. (line < self.now.lines)
+            × (place_by self.now line ≡ place)) }
         ensures after { (t : ℕ) → StandsFor self.now t
             → MatchOption result (place ≡ gap_after self.now.lines t)
             (λ line. place_after self.now.lines line t ≡ place) }

@@ -1,18 +1,12 @@
 -- The lines of a stream, sorted, are those of a run's results.
 use Rattle.std.proofs.Common.{◌≡◌, ◌≢◌, ℕ, zero, suc, ◌+◌, ◌-◌, ◌<◌, ◌≤◌, ◌==◌, Bool, true, false, List, [], ◌∷◌, length, map, replicate, Some, refl, sym, ap, ◌∙◌, arith, nat_lt}
-use Rattle.std.specs.Prelude.{is_some, slice_get, slice_set}
-use Rattle.std.proofs.lemmas.Bool.Decides.{nat_tests}
-use Rattle.std.proofs.lemmas.List.{length-replicate, get_or-replicate}
+use Rattle.std.{specs.Prelude.{is_some, slice_get, slice_set}, proofs.lemmas.Bool.Decides.nat_tests, proofs.lemmas.List.{length-replicate, get_or-replicate}}
 use Rattle.std.proofs.lemmas.Option.{slice_get-get_or}
 use Rattle.trace_reader.specs.declared.event.Event.{Event}
-use Rattle.result_rows.specs.declared.Outcome.{Outcome}
+use Rattle.result_rows.{specs.Outcomes.op_of, specs.Table.{HasRow, outcome_at, with_outcome}, specs.declared.Outcome.Outcome, proofs.TableLemmas.length-with_outcome}
 use Rattle.result_rows.specs.declared.Outcome.TheVariants as out
-use Rattle.result_rows.specs.Outcomes.{op_of}
-use Rattle.result_rows.specs.Table.{HasRow, outcome_at, with_outcome}
-use Rattle.result_rows.proofs.TableLemmas.{length-with_outcome}
 use Rattle.run_text.specs.ResultText.{rows_text}
-use Rattle.row_printer.specs.Printing.{table_of}
-use Rattle.row_printer.specs.Telling.{became, outcomes_in, recorded, tells, told_text, TellsOnce}
+use Rattle.row_printer.specs.{Printing.table_of, Telling.{became, outcomes_in, recorded, tells, told_text, TellsOnce}}
 use Rattle.row_printer.proofs.Once.{differs, open-untold, or_false, stays-told}
 use Rattle.stream_laws.specs.Lines.{LineLaw, ResultLaw, SortedLaw, in_order, lines_text, put_in, result_fields, without_op_and_line}
 

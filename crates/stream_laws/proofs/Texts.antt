@@ -1,20 +1,12 @@
 -- The text of events is read as these events.
 use Rattle.std.proofs.Common.{◌≡◌, ℕ, ◌+◌, ◌≤◌, ◌==◌, List, [], ◌∷◌, length, map, false, refl, ap, ◌∙◌, arith}
-use Rattle.std.specs.Prelude.{Ok}
-use Rattle.std.proofs.lemmas.Bool.Decides.{nat_tests}
+use Rattle.std.{specs.Prelude.Ok, proofs.lemmas.Bool.Decides.nat_tests}
 use Rattle.csv.specs.Records.{field_at}
 use Rattle.csv.specs.declared.parser.State.TheVariants as st
-use Rattle.trace_reader.specs.Events.{AreEventsFor}
-use Rattle.trace_reader.specs.Trace.{is_header}
-use Rattle.trace_reader.specs.declared.event.Event.{Event}
-use Rattle.trace_gen.specs.EventText.{event_fields}
-use Rattle.trace_gen.specs.Generated.{generated}
-use Rattle.trace_gen.specs.Laws.{AllHaveBytes, most_lines}
-use Rattle.trace_gen.proofs.Lawful.{long_generated_law}
+use Rattle.trace_reader.specs.{Events.AreEventsFor, Trace.is_header, declared.event.Event.Event}
+use Rattle.trace_gen.{specs.EventText.event_fields, specs.Generated.generated, specs.Laws.{AllHaveBytes, most_lines}, proofs.Lawful.long_generated_law}
 use Rattle.trace_gen.proofs.Read.{event-read, header_fields, no-mark, text-records}
-use Rattle.trace_stream.specs.Laws.{all_events}
-use Rattle.trace_stream.specs.Stream.{most_streamed, records_left, stream_of, stream_records, stream_rows}
-use Rattle.trace_stream.proofs.Traces.{asked-ok}
+use Rattle.trace_stream.{specs.Laws.all_events, specs.Stream.{most_streamed, records_left, stream_of, stream_records, stream_rows}, proofs.Traces.asked-ok}
 use Rattle.stream_laws.specs.Laws.{DrawnLaw, TextLaw}
 
 rows-asked : (n lines rows before : ℕ) (events : List (Event n)) → lines ≤ most_lines → AreEventsFor lines before events → AllHaveBytes events → rows + length events ≤ most_streamed

@@ -1,13 +1,8 @@
 -- What the text of events means as a streamed trace.
 use Rattle.std.specs.Prelude.{◌≡◌, ℕ, ◌≤◌, List, length, Ok}
-use Rattle.trace_reader.specs.Events.{AreEventsFor}
-use Rattle.trace_reader.specs.declared.event.Event.{Event}
-use Rattle.trace_gen.specs.declared.mix.Mix.{Mix}
-use Rattle.trace_gen.specs.EventText.{trace_text}
-use Rattle.trace_gen.specs.Generated.{IsLongMix, generated}
-use Rattle.trace_gen.specs.Laws.{AllHaveBytes, most_lines}
-use Rattle.trace_stream.specs.Laws.{all_events}
-use Rattle.trace_stream.specs.Stream.{most_streamed, stream_of}
+use Rattle.trace_reader.specs.{Events.AreEventsFor, declared.event.Event.Event}
+use Rattle.trace_gen.specs.{EventText.trace_text, Generated.{IsLongMix, generated}, Laws.{AllHaveBytes, most_lines}, declared.mix.Mix.Mix}
+use Rattle.trace_stream.specs.{Laws.all_events, Stream.{most_streamed, stream_of}}
 
 -- the text of events is read as these events
 abbrev pub TextLaw : Type 0

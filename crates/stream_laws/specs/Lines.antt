@@ -1,14 +1,9 @@
 -- What the lines of a stream have to do with the results of a run of the same events with the same outcomes.
-use Rattle.std.specs.Prelude.{◌≡◌, ℕ, ◌+◌, ◌≤◌, nat_lt, true, if◌then◌else◌, List, [], ◌∷◌, ◌++◌, length, map, take, drop, codes}
-use Rattle.std.specs.List.{join_with_byte}
+use Rattle.std.specs.{List.join_with_byte, Prelude.{◌≡◌, ℕ, ◌+◌, ◌≤◌, nat_lt, true, if◌then◌else◌, List, [], ◌∷◌, ◌++◌, length, map, take, drop, codes}}
 use Rattle.trace_reader.specs.declared.event.Event.{Event}
-use Rattle.result_rows.specs.declared.Outcome.{Outcome}
-use Rattle.result_rows.specs.declared.Op.{Op}
-use Rattle.result_rows.specs.RowText.{row_fields, row_text}
+use Rattle.result_rows.specs.{RowText.{row_fields, row_text}, declared.Op.Op, declared.Outcome.Outcome}
 use Rattle.run_text.specs.ResultText.{asked, named_line, rows_text}
-use Rattle.row_printer.specs.Printing.{table_of}
-use Rattle.row_printer.specs.Telling.{became, outcomes_in, tells, told_row, told_text, TellsOnce}
-use Rattle.row_printer.specs.declared.told.Told.{Told}
+use Rattle.row_printer.specs.{Printing.table_of, Telling.{became, outcomes_in, tells, told_row, told_text, TellsOnce}, declared.told.Told.Told}
 
 -- a line of these fields, and all lines of such
 abbrev pub line_text : List (List ℕ) → List ℕ

@@ -3,17 +3,12 @@ use Rattle.std.proofs.Common.{ℕ, ◌*◌, ◌<◌, ◌≤◌, Bool, true, fals
 use Rattle.std.proofs.Math.Nat.{mul-le-mul_left}
 use Rattle.cell_rows.specs.Device.{ArrayState, CellBounds}
 use Rattle.ecp_line.specs.Layout.{IsLayout}
-use Rattle.row_rules.specs.declared.Row.{Row}
-use Rattle.row_rules.specs.Ticking.{tries}
-use Rattle.module_shape.specs.declared.raw.RawShape.{RawShape}
-use Rattle.module_shape.specs.Limits.{IsShape}
-use Rattle.module_shape.specs.Addresses.{module_of, bank_shape}
+use Rattle.row_rules.specs.{Ticking.tries, declared.Row.Row}
+use Rattle.module_shape.specs.{Addresses.{module_of, bank_shape}, Limits.IsShape, declared.raw.RawShape.RawShape}
 use Rattle.end_laws.specs.Ends.{BankEnd}
 use Rattle.lifetime_laws.specs.Lifetime.{AskedLaw, most_hot_works, most_asked_works}
-use Rattle.run_laws.specs.Runs.{RunsRightTo, table_in, rules_in}
-use Rattle.run_laws.specs.Lasting.{AliveLaw, Outlasts, OutlastsAsked}
-use Rattle.stream_life.specs.CutOff.{CutOffLaw}
-use Rattle.stream_life.specs.Lasting.{IsAliveTo, StreamLastingLaw, AskedStreamLaw, rows_served}
+use Rattle.run_laws.specs.{Lasting.{AliveLaw, Outlasts, OutlastsAsked}, Runs.{RunsRightTo, table_in, rules_in}}
+use Rattle.stream_life.specs.{CutOff.CutOffLaw, Lasting.{IsAliveTo, StreamLastingLaw, AskedStreamLaw, rows_served}}
 
 -- what a trace asks for is no less than what it stores
 asked-more : AskedLaw → (n e : ℕ) (bounds : CellBounds) (raw : RawShape) (seed : ℕ) (rows : List (Row n)) (bank : ℕ) (hot : ℕ → List ℕ) → IsShape raw

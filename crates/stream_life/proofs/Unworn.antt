@@ -1,29 +1,16 @@
 -- A bank behind whose last row the power stays off, over cells that endure.
 use Rattle.std.proofs.Common.{◌≡◌, ◌⊎◌, inl, inr, ℕ, zero, suc, ◌+◌, ◌-◌, ◌*◌, ◌/◌, ◌<◌, ◌≤◌, ◌&&◌, ◌||◌, not, Bool, true, false, List, [], ◌∷◌, refl, arith}
-use Rattle.std.specs.Prelude.{IsTrue}
-use Rattle.std.proofs.lemmas.Bool.{and_parts, and_from, false_from_ne_true}
-use Rattle.std.proofs.lemmas.Nat.{div_below}
-use Rattle.std.proofs.Math.Nat.{mul-le-mul_left}
+use Rattle.std.{specs.Prelude.IsTrue, proofs.Math.Nat.mul-le-mul_left, proofs.lemmas.Bool.{and_parts, and_from, false_from_ne_true}, proofs.lemmas.Nat.div_below}
 use Rattle.cell_rows.specs.Device.{ArrayState}
 use Rattle.ecp_line.specs.Layout.{IsLayout}
-use Rattle.row_rules.specs.declared.Row.{Row}
-use Rattle.row_rules.specs.Answers.{is_queued}
-use Rattle.row_rules.specs.Rows.{each_row, asks_write}
-use Rattle.row_rules.specs.declared.Rules.{Rules}
-use Rattle.row_rules.specs.Table.{KeepsRows}
-use Rattle.row_rules.specs.Ticking.{tries}
-use Rattle.row_rules.specs.Wearing.{worn_row}
-use Rattle.bank_shape.specs.declared.BankShape.{BankShape}
+use Rattle.row_rules.specs.{Answers.is_queued, Rows.{each_row, asks_write}, Table.KeepsRows, Ticking.tries, Wearing.worn_row, declared.Row.Row, declared.Rules.Rules}
+use Rattle.bank_shape.specs.{Shape.{slots_of, lines_in}, declared.BankShape.BankShape}
 use Rattle.bank_shape.specs.declared.Home.TheVariants as home
-use Rattle.bank_shape.specs.Shape.{slots_of, lines_in}
 use Rattle.module_shape.specs.Addresses.{module_of, bank_shape}
-use Rattle.bank_laws.specs.Laws.{KeepsPlaces, KeepsPlacesTo, is_worn_at}
-use Rattle.bank_laws.specs.Places.{is_worn_out, may_leave, is_wear_true_to, pulses_among}
-use Rattle.end_laws.specs.Ends.{IsRemapped}
-use Rattle.end_laws.specs.Roles.{used_among}
+use Rattle.bank_laws.specs.{Laws.{KeepsPlaces, KeepsPlacesTo, is_worn_at}, Places.{is_worn_out, may_leave, is_wear_true_to, pulses_among}}
+use Rattle.end_laws.specs.{Ends.IsRemapped, Roles.used_among}
+use Rattle.lifetime_laws.specs.{Endurance.{KeepsControls, SoundRowsLaw, UnwornLaw, is_unrefused}, Lifetime.{BearsWorks, ControlsLaw, HotLinesLaw, KeepsLines, most_hot_works}}
 use Rattle.lifetime_laws.specs.Works.{most_works}
-use Rattle.lifetime_laws.specs.Endurance.{KeepsControls, SoundRowsLaw, UnwornLaw, is_unrefused}
-use Rattle.lifetime_laws.specs.Lifetime.{BearsWorks, ControlsLaw, HotLinesLaw, KeepsLines, most_hot_works}
 use Rattle.run_laws.specs.Runs.{table_in, rules_in}
 use Rattle.stream_life.specs.CutOff.{CutOffLaw}
 

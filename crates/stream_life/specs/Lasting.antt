@@ -7,14 +7,10 @@ use Rattle.row_rules.specs.declared.Row.{Row}
 use Rattle.module_shape.specs.declared.raw.RawShape.{RawShape}
 use Rattle.end_laws.specs.Ends.{BankEnd}
 use Rattle.run_laws.specs.Lasting.{IsAlive, Outlasts, OutlastsAsked}
-use Rattle.row_printer.specs.Printing.{table_of}
-use Rattle.row_printer.specs.declared.told.Told.{Told}
-use Rattle.stream_words.specs.Jobs.{IsStreamJob}
-use Rattle.stream_words.specs.declared.job.StreamJob.{StreamJob}
-use Rattle.row_stream.specs.Asking.{events_in, stays_off, with_cut}
-use Rattle.row_stream.specs.Ending.{rows_of}
-use Rattle.stream_top.specs.Calls.{LentSource}
-use Rattle.stream_top.specs.Streams.{IsServed, is_off}
+use Rattle.row_printer.specs.{Printing.table_of, declared.told.Told.Told}
+use Rattle.stream_words.specs.{Jobs.IsStreamJob, declared.job.StreamJob.StreamJob}
+use Rattle.row_stream.specs.{Asking.{events_in, stays_off, with_cut}, Ending.rows_of}
+use Rattle.stream_top.specs.{Calls.LentSource, Streams.{IsServed, is_off}}
 use Rattle.stream_life.specs.CutOff.{IsUnworn}
 
 -- what a bank that wore out nowhere is, by whether the power stays off behind the last row

@@ -3,25 +3,16 @@ use Rattle.std.proofs.Common.{◌≡◌, ℕ, List, [], refl, sym, ap, ◌∙◌
 use Rattle.std.specs.Prelude.{Result, Ok, Err, OnErr, OnOk}
 use Rattle.pcm_io.specs.Reserved.{Reserved, appended, reserved}
 use Rattle.cell_rows.specs.Device.{ArrayState}
-use Rattle.wear_report.specs.declared.Role.{Role}
-use Rattle.wear_report.specs.WearText.{wear_text}
-use Rattle.lines_report.specs.declared.row.LineCells.{LineCells}
-use Rattle.lines_report.specs.LinesText.{lines_text}
+use Rattle.wear_report.specs.{WearText.wear_text, declared.Role.Role}
+use Rattle.lines_report.specs.{LinesText.lines_text, declared.row.LineCells.LineCells}
 use Rattle.end_laws.specs.Ends.{BankEnd}
-use Rattle.pcm_image.specs.Saved.{Saved}
-use Rattle.pcm_image.specs.Spelling.{image_bytes}
+use Rattle.pcm_image.specs.{Saved.Saved, Spelling.image_bytes}
 use Rattle.image_laws.specs.Saving.{saved_of}
-use Rattle.image_text.specs.Sensing.{SensesRows}
-use Rattle.image_text.proofs.Sensing.{senses-none}
-use Rattle.run_text.specs.Pulses.{pulses_in_all}
-use Rattle.run_text.specs.SummaryText.{summary_text}
-use Rattle.run_text.specs.declared.counts.Counts.{Counts}
-use Rattle.pcm_module.specs.Roles.{spares_used}
-use Rattle.pcm_module.specs.State.{AreEndsOf, ModuleState}
-use Rattle.module_prints.specs.Images.{kept_in}
-use Rattle.module_prints.specs.WearReports.{HaveRoles, IsWearReport}
-use Rattle.stream_words.specs.declared.job.StreamPrint.{StreamPrint}
-use Rattle.stream_words.specs.declared.job.StreamPrint.TheVariants.{Rows, Summary, Wear, Lines, Image, Snapshots}
+use Rattle.image_text.{specs.Sensing.SensesRows, proofs.Sensing.senses-none}
+use Rattle.run_text.specs.{Pulses.pulses_in_all, SummaryText.summary_text, declared.counts.Counts.Counts}
+use Rattle.pcm_module.specs.{Roles.spares_used, State.{AreEndsOf, ModuleState}}
+use Rattle.module_prints.specs.{Images.kept_in, WearReports.{HaveRoles, IsWearReport}}
+use Rattle.stream_words.specs.{declared.job.StreamPrint.StreamPrint, declared.job.StreamPrint.TheVariants.{Rows, Summary, Wear, Lines, Image, Snapshots}}
 use Rattle.stream_top.specs.Leaving.{IsClosing, senses_for}
 
 module _ {n m e : ℕ} (module_ : ModuleState n m e) (array : ArrayState n m) (cells : ℕ → LineCells) (rows : ℕ) (counts : Counts) (print : StreamPrint) (P : List ℕ → Type 0) where

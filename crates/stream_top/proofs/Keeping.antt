@@ -1,58 +1,31 @@
 -- What a stream that ended is, and what its call promises.
 use Rattle.std.proofs.Common.{◌≡◌, ◌≢◌, ◌⊎◌, inl, inr, ℕ, ◌*◌, ◌^◌, ◌<◌, ◌≤◌, ◌++◌, List, [], Option, Some, refl, sym, ap, ◌∙◌, subst, arith}
-use Rattle.std.specs.Prelude.{Result, Ok, Err}
-use Rattle.std.specs.Io.KnownBytes.{Appends}
-use Rattle.pcm_io.specs.Giving.{AppendsPrefix}
-use Rattle.pcm_io.proofs.ByteLemmas.{Appends-Appends, Appends-AppendsPrefix, AppendsPrefix-longer}
+use Rattle.std.specs.{Io.KnownBytes.Appends, Prelude.{Result, Ok, Err}}
+use Rattle.pcm_io.{specs.Giving.AppendsPrefix, proofs.ByteLemmas.{Appends-Appends, Appends-AppendsPrefix, AppendsPrefix-longer}}
 use Rattle.wear_report.specs.WearText.{wear_text}
-use Rattle.lines_report.specs.declared.row.LineCells.{LineCells}
-use Rattle.lines_report.specs.LinesText.{lines_text}
-use Rattle.module_shape.specs.declared.raw.RawShape.{RawShape}
-use Rattle.module_shape.specs.Limits.{IsShape}
-use Rattle.module_shape.specs.Addresses.{array_lines_of, module_of}
+use Rattle.lines_report.specs.{LinesText.lines_text, declared.row.LineCells.LineCells}
+use Rattle.module_shape.specs.{Addresses.{array_lines_of, module_of}, Limits.IsShape, declared.raw.RawShape.RawShape}
 use Rattle.end_laws.specs.Ends.{BankEnd}
-use Rattle.run_text.specs.Counting.{counts_of}
-use Rattle.run_text.specs.Pulses.{pulses_in_all}
-use Rattle.run_text.specs.SummaryText.{summary_text}
-use Rattle.run_text.specs.declared.counts.Counts.{Counts}
+use Rattle.run_text.specs.{Counting.counts_of, Pulses.pulses_in_all, SummaryText.summary_text, declared.counts.Counts.Counts}
 use Rattle.cell_rows.specs.Device.{ArrayState}
-use Rattle.pcm_image.specs.Saved.{Saved}
-use Rattle.pcm_image.specs.Spelling.{image_bytes}
+use Rattle.pcm_image.specs.{Saved.Saved, Spelling.image_bytes}
 use Rattle.image_laws.specs.Saving.{first_rows, saved_of}
-use Rattle.image_text.specs.Sensing.{SensesRows}
-use Rattle.image_text.proofs.Sensing.{senses-none}
-use Rattle.pcm_module.specs.Roles.{spares_used}
-use Rattle.pcm_module.specs.State.{ModuleState}
-use Rattle.module_prints.specs.Images.{WritesRows, kept_in}
-use Rattle.module_prints.specs.WearReports.{HaveRoles, IsWearReport, cells_at}
-use Rattle.module_prints.proofs.Wearing.{worn-goes_on, worn-none}
+use Rattle.image_text.{specs.Sensing.SensesRows, proofs.Sensing.senses-none}
+use Rattle.pcm_module.specs.{Roles.spares_used, State.ModuleState}
+use Rattle.module_prints.{specs.Images.{WritesRows, kept_in}, specs.WearReports.{HaveRoles, IsWearReport, cells_at}, proofs.Wearing.{worn-goes_on, worn-none}}
 use Rattle.program_calls.specs.Calls.{GetsPart, IsUntouched, Lent, SinkChange, SinkFails}
-use Rattle.row_printer.specs.Printing.{stream_text, table_of}
-use Rattle.row_printer.specs.Telling.{outcomes_in, TellsOnce}
-use Rattle.row_printer.specs.declared.snapshot.Snapshot.{Snapshot}
-use Rattle.row_printer.specs.declared.told.Shown.{Shown}
+use Rattle.row_printer.specs.{Printing.{stream_text, table_of}, Telling.{outcomes_in, TellsOnce}, declared.snapshot.Snapshot.Snapshot, declared.told.Shown.Shown}
 use Rattle.row_printer.specs.declared.told.Told.{Told}
-use Rattle.row_stream.specs.Asking.{stays_off, with_cut}
-use Rattle.row_stream.specs.Laws.{EachToldLaw}
-use Rattle.row_stream.specs.Ending.{SnapsAll}
-use Rattle.row_stream.specs.Serving.{IsServing, SnapsAlong}
-use Rattle.stream_words.specs.declared.job.StreamJob.{StreamJob}
-use Rattle.stream_words.specs.declared.job.StreamPrint.{StreamPrint}
+use Rattle.row_stream.specs.{Asking.{stays_off, with_cut}, Ending.SnapsAll, Laws.EachToldLaw, Serving.{IsServing, SnapsAlong}}
+use Rattle.stream_words.specs.{declared.job.StreamJob.StreamJob, declared.job.StreamPrint.StreamPrint}
 use Rattle.stream_words.specs.declared.job.StreamPrint.TheVariants.{Rows, Summary, Wear, Lines, Image, Snapshots}
 use Rattle.trace_stream.specs.declared.asked.Asked.{Asked}
-use Rattle.stream_top.specs.Calls.{LentSource}
-use Rattle.stream_top.specs.FaultLines.{fault_line, status_of}
-use Rattle.stream_top.specs.Leaving.{IsClosing, Leaves, LeavesLaw, senses_for}
-use Rattle.stream_top.proofs.EndText.{PrintsOf}
-use Rattle.stream_top.specs.Streams.{BreaksOff, Closes, HasPlayed, IsServed, IsServedInPart, StopsBy, Streams, StreamsUpTo, done_by, is_off, rows_told, shown_by, status_done}
-use Rattle.command_line.specs.declared.job.LineSize.{LineSize}
-use Rattle.command_line.specs.declared.job.LineSize.TheVariants.{Bytes64, Bytes128}
-use Rattle.command_line.specs.declared.job.Refusal.{Refusal}
+use Rattle.stream_top.specs.{Calls.LentSource, FaultLines.{fault_line, status_of}, Leaving.{IsClosing, Leaves, LeavesLaw, senses_for}}
 use Rattle.stream_top.specs.Promises.{Breaks, Call, EndsCall, IsAsleep, IsRefused, IsStatusOf, IsUnread, KeepsPromises, OthersOn, OthersUntouched, Stops}
-use Rattle.stream_top.specs.declared.done.Done.{Done}
-use Rattle.stream_top.specs.declared.done.Done.TheVariants.{Whole, Short}
-use Rattle.stream_top.specs.declared.fault.Fault.{Fault}
-use Rattle.stream_top.specs.declared.fault.Fault.TheVariants.{Usage, Trace, Read, Write, TooLong, NoMemory}
+use Rattle.stream_top.specs.Streams.{BreaksOff, Closes, HasPlayed, IsServed, IsServedInPart, StopsBy, Streams, StreamsUpTo, done_by, is_off, rows_told, shown_by, status_done}
+use Rattle.stream_top.specs.{declared.done.Done.Done, declared.done.Done.TheVariants.{Whole, Short}, declared.fault.Fault.Fault}
+use Rattle.stream_top.{specs.declared.fault.Fault.TheVariants.{Usage, Trace, Read, Write, TooLong, NoMemory}, proofs.EndText.PrintsOf}
+use Rattle.command_line.specs.{declared.job.LineSize.LineSize, declared.job.LineSize.TheVariants.{Bytes64, Bytes128}, declared.job.Refusal.Refusal}
 
 -- ---- what is written in the end
 

@@ -2,31 +2,18 @@
 use Rattle.std.proofs.Common.{ℕ, ◌+◌, ◌*◌, ◌^◌, ◌<◌, Bool, true, false, inl, inr, List, ◌++◌, Option, Some, None, refl, sym, arith}
 use Rattle.std.specs.Prelude.{IsSomeAnd, slice_get, unwrap_or}
 use Rattle.cell_rows.specs.Device.{ArrayState}
-use Rattle.bank_shape.specs.declared.BankShape.{BankShape}
-use Rattle.bank_shape.specs.Shape.{slots_of, controls_from, IsBankShape}
+use Rattle.bank_shape.specs.{Shape.{slots_of, controls_from, IsBankShape}, declared.BankShape.BankShape}
 use Rattle.bank_laws.specs.Laws.{is_worn_at}
 use Rattle.bank_timing.specs.Extending.{outcome_in}
-use Rattle.module_shape.specs.declared.raw.RawShape.{RawShape}
-use Rattle.module_shape.specs.Limits.{IsShape}
-use Rattle.module_shape.specs.Addresses.{module_of, array_lines_of, bank_shape}
-use Rattle.module_shape.proofs.Bounds.{banks_apart}
-use Rattle.end_laws.specs.Ends.{BankEnd, IsRemapped}
-use Rattle.end_laws.specs.EndLaws.{IsEndOf}
-use Rattle.end_laws.specs.Roles.{RoleLaw}
-use Rattle.run_laws.specs.Runs.{RunsRightTo, line_named}
-use Rattle.run_laws.specs.RowsOfRuns.{FewArrayLinesLaw}
+use Rattle.module_shape.{specs.Addresses.{module_of, array_lines_of, bank_shape}, specs.Limits.IsShape, specs.declared.raw.RawShape.RawShape, proofs.Bounds.banks_apart}
+use Rattle.end_laws.specs.{EndLaws.IsEndOf, Ends.{BankEnd, IsRemapped}, Roles.RoleLaw}
+use Rattle.run_laws.specs.{RowsOfRuns.FewArrayLinesLaw, Runs.{RunsRightTo, line_named}}
 use Rattle.row_rules.specs.declared.Row.{Row}
-use Rattle.image_laws.specs.Saving.{saved_of}
-use Rattle.image_laws.specs.SavedRuns.{IsLeftTo, SavedLaw, SavedToLaw, SavesRunTo, SensedSince, StaysRightLaw, StaysRightToLaw, StaysStoppedLaw, StoppedSavedLaw}
-use Rattle.pcm_module.specs.Asking.{asked_for}
-use Rattle.pcm_module.specs.State.{ModuleState, bank_at, first_bank}
-use Rattle.module_prints.specs.Images.{kept_in}
-use Rattle.module_prints.specs.WearReports.{HaveRoles}
-use Rattle.row_printer.specs.Printing.{table_of}
-use Rattle.row_printer.specs.declared.told.Told.{Told}
-use Rattle.row_stream.specs.Asking.{events_in}
-use Rattle.row_stream.specs.Ending.{HasEnded, rows_of}
-use Rattle.row_stream.proofs.Tables.{rows-are}
+use Rattle.image_laws.specs.{SavedRuns.{IsLeftTo, SavedLaw, SavedToLaw, SavesRunTo, SensedSince, StaysRightLaw, StaysRightToLaw, StaysStoppedLaw, StoppedSavedLaw}, Saving.saved_of}
+use Rattle.pcm_module.specs.{Asking.asked_for, State.{ModuleState, bank_at, first_bank}}
+use Rattle.module_prints.specs.{Images.kept_in, WearReports.HaveRoles}
+use Rattle.row_printer.specs.{Printing.table_of, declared.told.Told.Told}
+use Rattle.row_stream.{specs.Asking.events_in, specs.Ending.{HasEnded, rows_of}, proofs.Tables.rows-are}
 use Rattle.trace_stream.specs.declared.asked.Asked.{Asked}
 use Rattle.stream_top.specs.Leaving.{LeavesLaw}
 

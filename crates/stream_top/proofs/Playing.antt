@@ -3,24 +3,14 @@ use Rattle.std.proofs.Common.{◌≡◌, inl, inr, ℕ, Bool, true, false, List,
 use Rattle.std.specs.Prelude.{if◌then◌else◌}
 use Rattle.cell_rows.specs.Device.{ArrayState}
 use Rattle.result_rows.specs.declared.Outcome.{Outcome}
-use Rattle.module_shape.specs.declared.raw.RawShape.{RawShape}
-use Rattle.module_shape.specs.Limits.{total_of}
-use Rattle.pcm_module.specs.State.{ModuleState}
-use Rattle.pcm_module.specs.Replaying.{Replays}
-use Rattle.row_printer.specs.declared.snapshot.Snapshot.{Snapshot}
-use Rattle.row_printer.specs.declared.told.Shown.{Shown}
-use Rattle.row_printer.specs.declared.told.Told.{Told}
-use Rattle.row_stream.specs.Serving.{IsServing}
-use Rattle.row_stream.specs.Sourcing.{HasStopped}
-use Rattle.row_stream.specs.declared.stop.Stop.{Stop}
-use Rattle.row_stream.specs.declared.stop.Stop.TheVariants.{Input, Endless, Output}
+use Rattle.module_shape.specs.{Limits.total_of, declared.raw.RawShape.RawShape}
+use Rattle.pcm_module.specs.{Replaying.Replays, State.ModuleState}
+use Rattle.row_printer.specs.{declared.snapshot.Snapshot.Snapshot, declared.told.Shown.Shown, declared.told.Told.Told}
+use Rattle.row_stream.specs.{Serving.IsServing, Sourcing.HasStopped, declared.stop.Stop.Stop, declared.stop.Stop.TheVariants.{Input, Endless, Output}}
 use Rattle.stream_words.specs.declared.job.StreamJob.{StreamJob}
 use Rattle.trace_stream.specs.declared.asked.Asked.{Asked}
 use Rattle.trace_stream.specs.declared.fault.StreamFault.TheVariants as from
-use Rattle.stream_top.specs.Calls.{LentSource}
-use Rattle.stream_top.specs.Streams.{HasCause, stop_fault}
-use Rattle.stream_top.specs.declared.done.Done.TheVariants.{Whole, Short}
-use Rattle.stream_top.specs.declared.fault.Fault.TheVariants.{Write}
+use Rattle.stream_top.specs.{Calls.LentSource, Streams.{HasCause, stop_fault}, declared.done.Done.TheVariants.{Whole, Short}, declared.fault.Fault.TheVariants.Write}
 
 -- a module to which nothing was handed yet has served nothing
 pub serves-none : {n m e : ℕ} (raw : RawShape) (seed : ℕ) (module_ : ModuleState n m e) (array : ArrayState n m) (shown : Shown) → module_.shape ≡ raw → module_.seed ≡ seed → module_.tick ≡ 0

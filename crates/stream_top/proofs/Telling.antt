@@ -3,9 +3,7 @@ use Rattle.std.proofs.Common.{◌≡◌, refl}
 use Rattle.std.specs.Prelude.{codes}
 use Rattle.trace_reader.specs.declared.fault.TraceFault.{TraceFault}
 use Rattle.program_calls.specs.FaultLines.{trace_line}
-use Rattle.stream_top.specs.FaultLines.{fault_line}
-use Rattle.stream_top.specs.declared.fault.Fault.{Fault}
-use Rattle.stream_top.specs.declared.fault.Fault.TheVariants.{Usage, Trace, Read, Write, TooLong, NoMemory}
+use Rattle.stream_top.specs.{FaultLines.fault_line, declared.fault.Fault.Fault, declared.fault.Fault.TheVariants.{Usage, Trace, Read, Write, TooLong, NoMemory}}
 
 pub usage_line : (f : Fault) → f ≡ Usage → codes "usage: pcm stream [options]\n" ≡ fault_line f
 unfolding fault_line

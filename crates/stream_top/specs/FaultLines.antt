@@ -1,8 +1,7 @@
 -- What a call that didn't do its work says: its status, and a line for the user.
 use Rattle.std.specs.Prelude.{ℕ, List, codes}
 use Rattle.program_calls.specs.FaultLines.{trace_line}
-use Rattle.stream_top.specs.declared.fault.Fault.{Fault}
-use Rattle.stream_top.specs.declared.fault.Fault.TheVariants.{Usage, Trace, Read, Write, TooLong, NoMemory}
+use Rattle.stream_top.specs.{declared.fault.Fault.Fault, declared.fault.Fault.TheVariants.{Usage, Trace, Read, Write, TooLong, NoMemory}}
 
 -- the line that is written for a fault
 unfoldable pub fault_line : Fault → List ℕ

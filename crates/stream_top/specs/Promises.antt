@@ -1,18 +1,11 @@
 -- What every call of the program promises.
 use Rattle.std.specs.Prelude.{◌≡◌, ◌≢◌, ◌⊎◌, ℕ, ◌≤◌, false, Result, Ok, Err, IfOk, IfErr}
-use Rattle.command_line.specs.declared.job.LineSize.{LineSize}
-use Rattle.command_line.specs.declared.job.LineSize.TheVariants.{Bytes64, Bytes128}
-use Rattle.command_line.specs.declared.job.Refusal.{Refusal}
+use Rattle.command_line.specs.{declared.job.LineSize.LineSize, declared.job.LineSize.TheVariants.{Bytes64, Bytes128}, declared.job.Refusal.Refusal}
 use Rattle.command_line.specs.declared.job.Refusal.TheVariants as refusal
 use Rattle.stream_words.specs.declared.job.StreamJob.{StreamJob}
 use Rattle.program_calls.specs.Calls.{Gets, GetsPart, IsUntouched, Lent, SinkChange, SinkFails}
-use Rattle.stream_top.specs.Calls.{LentSource, TellingArray}
-use Rattle.stream_top.specs.FaultLines.{fault_line, status_of}
-use Rattle.stream_top.specs.Streams.{BreaksOff, Streams, StreamsUpTo, is_source, status_done}
-use Rattle.stream_top.specs.declared.done.Done.{Done}
-use Rattle.stream_top.specs.declared.done.Done.TheVariants.{Short}
-use Rattle.stream_top.specs.declared.fault.Fault.{Fault}
-use Rattle.stream_top.specs.declared.fault.Fault.TheVariants.{Usage, Write, NoMemory}
+use Rattle.stream_top.specs.{Calls.{LentSource, TellingArray}, FaultLines.{fault_line, status_of}, Streams.{BreaksOff, Streams, StreamsUpTo, is_source, status_done}}
+use Rattle.stream_top.specs.{declared.done.Done.Done, declared.done.Done.TheVariants.Short, declared.fault.Fault.Fault, declared.fault.Fault.TheVariants.{Usage, Write, NoMemory}}
 
 -- why words give no job: they ask for none, or memory ran out
 abbrev pub IsRefused : Result StreamJob Refusal → Fault → Type 0

@@ -4,44 +4,25 @@ use Rattle.cell_rows.specs.Device.{ArrayState}
 use Rattle.result_rows.specs.declared.Outcome.{Outcome}
 use Rattle.row_rules.specs.declared.Row.{Row}
 use Rattle.bank_model.specs.Timing.{TimedEvent}
-use Rattle.command_line.specs.declared.job.Input.{Input}
-use Rattle.command_line.specs.declared.job.Input.TheVariants.{Source, Drawn}
+use Rattle.command_line.specs.{declared.job.Input.Input, declared.job.Input.TheVariants.{Source, Drawn}}
 use Rattle.module_shape.specs.Limits.{total_of}
 use Rattle.pcm_image.specs.Saved.{Saved}
 use Rattle.pcm_module.specs.State.{ModuleState}
-use Rattle.module_prints.specs.Images.{WritesRows}
-use Rattle.module_prints.specs.WearReports.{cells_at}
+use Rattle.module_prints.specs.{Images.WritesRows, WearReports.cells_at}
 use Rattle.program_calls.specs.Calls.{Gets, GetsPart, IsUntouched, Lent, SinkChange, SinkFails}
-use Rattle.run_text.specs.Counting.{counts_of}
-use Rattle.run_text.specs.Shortfall.{any_short}
-use Rattle.row_printer.specs.Printing.{stream_text, table_of}
-use Rattle.row_printer.specs.Telling.{outcomes_in, TellsOnce}
-use Rattle.row_printer.specs.declared.snapshot.Snapshot.{Snapshot}
-use Rattle.row_printer.specs.declared.told.Shown.{Shown}
-use Rattle.row_printer.specs.declared.told.Shown.TheVariants as shown
+use Rattle.run_text.specs.{Counting.counts_of, Shortfall.any_short}
+use Rattle.row_printer.specs.{Printing.{stream_text, table_of}, Telling.{outcomes_in, TellsOnce}, declared.snapshot.Snapshot.Snapshot, declared.told.Shown.Shown}
 use Rattle.row_printer.specs.declared.told.Told.{Told}
-use Rattle.stream_words.specs.declared.job.End.{End}
-use Rattle.stream_words.specs.declared.job.End.TheVariants.{Drain, Off}
-use Rattle.stream_words.specs.declared.job.StreamJob.{StreamJob}
-use Rattle.stream_words.specs.declared.job.StreamPrint.{StreamPrint}
+use Rattle.row_printer.specs.declared.told.Shown.TheVariants as shown
+use Rattle.stream_words.specs.{declared.job.End.End, declared.job.End.TheVariants.{Drain, Off}, declared.job.StreamJob.StreamJob, declared.job.StreamPrint.StreamPrint}
 use Rattle.stream_words.specs.declared.job.StreamPrint.TheVariants.{Rows, Summary, Wear, Lines, Image, Snapshots}
 use Rattle.trace_gen.specs.Generated.{generated}
-use Rattle.trace_stream.specs.Laws.{all_events}
-use Rattle.trace_stream.specs.declared.asked.Asked.{Asked}
+use Rattle.trace_stream.specs.{Laws.all_events, declared.asked.Asked.Asked}
 use Rattle.trace_stream.specs.declared.fault.StreamFault.TheVariants as from
-use Rattle.row_stream.specs.declared.stop.Stop.{Stop}
-use Rattle.row_stream.specs.declared.stop.Stop.TheVariants.{Input as No, Endless, Output}
-use Rattle.row_stream.specs.Asking.{events_in, stays_off, with_cut}
-use Rattle.row_stream.specs.Serving.{SnapsAlong, TellsAlong}
-use Rattle.row_stream.specs.Sourcing.{HasStopped, IsRead}
-use Rattle.row_stream.specs.Ending.{EndsShowing, HasEnded, SnapsAll, rows_of}
-use Rattle.row_stream.specs.Laws.{TellsEach}
-use Rattle.stream_top.specs.Calls.{LentSource}
-use Rattle.stream_top.specs.Leaving.{IsClosing, Leaves, senses_for}
-use Rattle.stream_top.specs.declared.done.Done.{Done}
-use Rattle.stream_top.specs.declared.done.Done.TheVariants.{Whole, Short}
-use Rattle.stream_top.specs.declared.fault.Fault.{Fault}
-use Rattle.stream_top.specs.declared.fault.Fault.TheVariants.{Usage, Trace, Read, Write, TooLong, NoMemory}
+use Rattle.row_stream.specs.{Asking.{events_in, stays_off, with_cut}, Ending.{EndsShowing, HasEnded, SnapsAll, rows_of}, Laws.TellsEach, Serving.{SnapsAlong, TellsAlong}}
+use Rattle.row_stream.specs.{Sourcing.{HasStopped, IsRead}, declared.stop.Stop.Stop, declared.stop.Stop.TheVariants.{Input as No, Endless, Output}}
+use Rattle.stream_top.specs.{Calls.LentSource, Leaving.{IsClosing, Leaves, senses_for}, declared.done.Done.Done, declared.done.Done.TheVariants.{Whole, Short}}
+use Rattle.stream_top.specs.{declared.fault.Fault.Fault, declared.fault.Fault.TheVariants.{Usage, Trace, Read, Write, TooLong, NoMemory}}
 
 -- whether the power is to stay off behind the last row
 abbrev pub is_off : End → Bool

@@ -35,21 +35,31 @@ pub fn print_closing<const B: usize, const M: usize, const E: usize, A: TellsCel
     requires layout { IsLayout B M E }
     requires room { text.old ≡ reserved TEXT_ROOM }
     requires seed { job.now.seed ≡ pcm.now.seed }
-    requires size { (A.state array.old).lines ≡ pcm.now.shape.banks * array_lines_of (module_of pcm.now.shape) }
-    ensures ok { OnOk result ((ends : ℕ → BankEnd) → AreEndsOf pcm.now ends → HaveRoles pcm.now.shape pcm.now.seed ends
-        → (whole : List ℕ) × IsClosing pcm.now.shape pcm.now.seed rows counts.now ends (A.state array.old)
+    requires size { (A.state array.old).lines
+        ≡ pcm.now.shape.banks * array_lines_of (module_of pcm.now.shape) }
+    ensures ok { OnOk result ((ends : ℕ → BankEnd) → AreEndsOf pcm.now ends
+        → HaveRoles pcm.now.shape pcm.now.seed ends
+        → (whole : List ℕ) × IsClosing pcm.now.shape pcm.now.seed rows counts.now ends
+        (A.state array.old)
         (cells_at E (A.state array.old) (A.changes array.old))
-        (saved_of pcm.now.shape pcm.now.seed (kept_in pcm.now) (A.state array.old)) job.now.print whole
+        (saved_of pcm.now.shape pcm.now.seed (kept_in pcm.now) (A.state array.old)) job.now.print
+        whole
         × Appends (K.written out.old) (K.written out.new) whole) }
-    ensures prefix { OnErr result ((ends : ℕ → BankEnd) → AreEndsOf pcm.now ends → HaveRoles pcm.now.shape pcm.now.seed ends
-        → (whole : List ℕ) × IsClosing pcm.now.shape pcm.now.seed rows counts.now ends (A.state array.old)
+    ensures prefix { OnErr result ((ends : ℕ → BankEnd) → AreEndsOf pcm.now ends
+        → HaveRoles pcm.now.shape pcm.now.seed ends
+        → (whole : List ℕ) × IsClosing pcm.now.shape pcm.now.seed rows counts.now ends
+        (A.state array.old)
         (cells_at E (A.state array.old) (A.changes array.old))
-        (saved_of pcm.now.shape pcm.now.seed (kept_in pcm.now) (A.state array.old)) job.now.print whole
+        (saved_of pcm.now.shape pcm.now.seed (kept_in pcm.now) (A.state array.old)) job.now.print
+        whole
         × AppendsPrefix (K.written out.old) (K.written out.new) whole) }
     ensures part { OnErr result (job.now.print ≡ StreamPrint.Image → WritesRows (A.state array.new)
-        (saved_of pcm.now.shape pcm.now.seed (kept_in pcm.now) (A.state array.old)) (K.written out.old) (K.written out.new)) }
-    ensures sensed { SensesSome (senses_for job.now.print (A.state array.old).lines) (A.state array.old) (A.state array.new) }
-    ensures all { OnOk result (SensesRows (senses_for job.now.print (A.state array.old).lines) (A.state array.old) (A.state array.new)) }
+        (saved_of pcm.now.shape pcm.now.seed (kept_in pcm.now) (A.state array.old))
+        (K.written out.old) (K.written out.new)) }
+    ensures sensed { SensesSome (senses_for job.now.print (A.state array.old).lines)
+        (A.state array.old) (A.state array.new) }
+    ensures all { OnOk result (SensesRows (senses_for job.now.print (A.state array.old).lines)
+        (A.state array.old) (A.state array.new)) }
     ensures untouched { job.now.print ≢ StreamPrint.Image → array.new ≡ array.old }
     ensures fault { OnErr result (Rose (K.faults out.old) (K.faults out.new)) }
     ensures never_falls { K.faults out.old ≤ K.faults out.new }

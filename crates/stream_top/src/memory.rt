@@ -23,7 +23,8 @@ pub fn take_memory<const B: usize, const M: usize, const E: usize, A: CellArray<
     requires layout { IsLayout B M E }
     requires wide { 16 ≤ B }
     requires job { IsStreamJob job.now }
-    ensures ready { IfOk result (λ taken. (shown : Shown) → IsServing job.now.shape job.now.seed [] taken.0 (A.state array.new) 0 [] shown []) }
+    ensures ready { IfOk result (λ taken. (shown : Shown)
+        → IsServing job.now.shape job.now.seed [] taken.0 (A.state array.new) 0 [] shown []) }
     ensures wear { IfOk result (λ taken. (A.state array.new).wear ≡ Some job.now.wear) }
     ensures seed { IfOk result (λ taken. job.now.seed < 2 ^ 64) }
     ensures text { IfOk result (λ taken. taken.1 ≡ reserved TEXT_ROOM) }

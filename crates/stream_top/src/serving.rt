@@ -90,22 +90,31 @@ fn serve_rows<
 ) -> Result<Behind, Fault>
     requires layout { IsLayout B M E }
     requires job { IsStreamJob job.now }
-    requires begins { IsServing job.now.shape job.now.seed [] pcm.old (A.state array.old) out.old.rows out.old.told out.old.prints out.old.snapshots }
+    requires begins { IsServing job.now.shape job.now.seed [] pcm.old (A.state array.old)
+        out.old.rows out.old.told out.old.prints out.old.snapshots }
     ensures served { IfOk result (λ behind. (asked : List (StreamAsked B))
-        × IsServing job.now.shape job.now.seed asked pcm.new (A.state array.new) out.new.rows out.new.told out.new.prints out.new.snapshots
+        × IsServing job.now.shape job.now.seed asked pcm.new (A.state array.new) out.new.rows
+        out.new.told out.new.prints out.new.snapshots
         × (behind ≡ behind_of asked)
-        × ComeFrom B M E job.now (source_between S.left S.taken S.faults source.old source.new) job.now.input asked) }
+        × ComeFrom B M E job.now (source_between S.left S.taken S.faults source.old source.new)
+        job.now.input asked) }
     ensures few { out.new.rows < 4294967295 }
     ensures stopped { IfErr result (λ fault. (asked : List (StreamAsked B))
-        × IsServing job.now.shape job.now.seed asked pcm.new (A.state array.new) out.new.rows out.new.told out.new.prints out.new.snapshots
-        × StopsBy B M E job.now (source_between S.left S.taken S.faults source.old source.new) job.now.input fault asked) }
+        × IsServing job.now.shape job.now.seed asked pcm.new (A.state array.new) out.new.rows
+        out.new.told out.new.prints out.new.snapshots
+        × StopsBy B M E job.now (source_between S.left S.taken S.faults source.old source.new)
+        job.now.input fault asked) }
     ensures prints { out.new.prints ≡ out.old.prints }
-    ensures printing { (before : Option (List ℕ)) (first : ℕ) → IsPrinting K.written K.faults before first out.old
+    ensures printing { (before : Option (List ℕ)) (first : ℕ)
+        → IsPrinting K.written K.faults before first out.old
         → IsPrinting K.written K.faults before first out.new }
-    ensures written { result ≢ Err Fault.Write → (before : Option (List ℕ)) (first : ℕ) → IsPrinting K.written K.faults before first out.old
+    ensures written { result ≢ Err Fault.Write → (before : Option (List ℕ)) (first : ℕ)
+        → IsPrinting K.written K.faults before first out.old
         → Appends before (K.written out.new.sink) (text_told out.new) }
-    ensures part { result ≡ Err Fault.Write → (before : Option (List ℕ)) (first : ℕ) → IsPrinting K.written K.faults before first out.old
-        → AppendsPrefix before (K.written out.new.sink) (text_told out.new) × Rose first (K.faults out.new.sink) }
+    ensures part { result ≡ Err Fault.Write → (before : Option (List ℕ)) (first : ℕ)
+        → IsPrinting K.written K.faults before first out.old
+        → AppendsPrefix before (K.written out.new.sink) (text_told out.new)
+        × Rose first (K.faults out.new.sink) }
     ensures wear { (A.state array.new).wear ≡ (A.state array.old).wear }
     ensures unread { is_source job.now.input ≡ false → source.new ≡ source.old }
 {
@@ -139,25 +148,37 @@ fn play<
 ) -> Result<Done, Fault>
     requires layout { IsLayout B M E }
     requires job { IsStreamJob job.now }
-    requires begins { IsServing job.now.shape job.now.seed [] pcm.old (A.state array.old) out.old.rows out.old.told out.old.prints out.old.snapshots }
+    requires begins { IsServing job.now.shape job.now.seed [] pcm.old (A.state array.old)
+        out.old.rows out.old.told out.old.prints out.old.snapshots }
     ensures done { IfOk result (λ done. (asked : List (StreamAsked B))
-        × HasPlayed B M E job.now (source_between S.left S.taken S.faults source.old source.new) asked pcm.new (A.state array.new)
-        out.new.rows out.new.told out.new.prints out.new.snapshots × (done ≡ done_by (table_told out.new))) }
-    ensures stopped { IfErr result (λ fault. fault ≢ Fault.Write → (asked : List (StreamAsked B))
-        × IsServing job.now.shape job.now.seed asked pcm.new (A.state array.new) out.new.rows out.new.told out.new.prints out.new.snapshots
-        × StopsBy B M E job.now (source_between S.left S.taken S.faults source.old source.new) job.now.input fault asked) }
-    ensures broken { result ≡ Err Fault.Write → (asked : List (StreamAsked B))
-        × (HasPlayed B M E job.now (source_between S.left S.taken S.faults source.old source.new) asked pcm.new (A.state array.new)
+        × HasPlayed B M E job.now (source_between S.left S.taken S.faults source.old source.new)
+        asked pcm.new (A.state array.new)
         out.new.rows out.new.told out.new.prints out.new.snapshots
-        ⊎ (IsServing job.now.shape job.now.seed asked pcm.new (A.state array.new) out.new.rows out.new.told out.new.prints out.new.snapshots
-        × StopsBy B M E job.now (source_between S.left S.taken S.faults source.old source.new) job.now.input Fault.Write asked)) }
+        × (done ≡ done_by (table_told out.new))) }
+    ensures stopped { IfErr result (λ fault. fault ≢ Fault.Write → (asked : List (StreamAsked B))
+        × IsServing job.now.shape job.now.seed asked pcm.new (A.state array.new) out.new.rows
+        out.new.told out.new.prints out.new.snapshots
+        × StopsBy B M E job.now (source_between S.left S.taken S.faults source.old source.new)
+        job.now.input fault asked) }
+    ensures broken { result ≡ Err Fault.Write → (asked : List (StreamAsked B))
+        × (HasPlayed B M E job.now (source_between S.left S.taken S.faults source.old source.new)
+        asked pcm.new (A.state array.new)
+        out.new.rows out.new.told out.new.prints out.new.snapshots
+        ⊎ (IsServing job.now.shape job.now.seed asked pcm.new (A.state array.new) out.new.rows
+        out.new.told out.new.prints out.new.snapshots
+        × StopsBy B M E job.now (source_between S.left S.taken S.faults source.old source.new)
+        job.now.input Fault.Write asked)) }
     ensures prints { out.new.prints ≡ out.old.prints }
-    ensures written { result ≢ Err Fault.Write → (before : Option (List ℕ)) (first : ℕ) → IsPrinting K.written K.faults before first out.old
+    ensures written { result ≢ Err Fault.Write → (before : Option (List ℕ)) (first : ℕ)
+        → IsPrinting K.written K.faults before first out.old
         → Appends before (K.written out.new.sink) (text_told out.new) }
-    ensures part { result ≡ Err Fault.Write → (before : Option (List ℕ)) (first : ℕ) → IsPrinting K.written K.faults before first out.old
-        → AppendsPrefix before (K.written out.new.sink) (text_told out.new) × Rose first (K.faults out.new.sink) }
+    ensures part { result ≡ Err Fault.Write → (before : Option (List ℕ)) (first : ℕ)
+        → IsPrinting K.written K.faults before first out.old
+        → AppendsPrefix before (K.written out.new.sink) (text_told out.new)
+        × Rose first (K.faults out.new.sink) }
     ensures text { OnOk result (out.new.text ≡ reserved TEXT_ROOM) }
-    ensures falls { (before : Option (List ℕ)) (first : ℕ) → IsPrinting K.written K.faults before first out.old → first ≤ K.faults out.new.sink }
+    ensures falls { (before : Option (List ℕ)) (first : ℕ)
+        → IsPrinting K.written K.faults before first out.old → first ≤ K.faults out.new.sink }
     ensures wear { (A.state array.new).wear ≡ (A.state array.old).wear }
     ensures unread { is_source job.now.input ≡ false → source.new ≡ source.old }
 {
@@ -196,7 +217,8 @@ pub fn stream<
     requires wide { 16 ≤ B }
     requires job { IsStreamJob job.now }
     ensures { Ends B M E job.now (source_between S.left S.taken S.faults source.old source.new)
-        (lent_sink K.written K.faults out.value result.1.value) (A.state array.new) (A.changes array.new) result.0 }
+        (lent_sink K.written K.faults out.value result.1.value) (A.state array.new)
+        (A.changes array.new) result.0 }
 {
     each_row_is_told();
     ended_streams_are_kept();

@@ -1,19 +1,11 @@
 -- What clap's answer says of the words.
 use Rattle.std.proofs.Common.{◌≡◌, ◌≢◌, ◌⊎◌, inl, inr, List, [], true, Option, Some, None, refl, sym, ap, ◌∙◌}
-use Rattle.std.specs.Prelude.{Result, Err}
-use Rattle.std.specs.Option.{ok_or}
-use Rattle.clap.specs.Words.{App, IsAmong, Row, Text, fault_of, is_simple, is_simple_and_free, kind_of, matches_of}
-use Rattle.clap.specs.declared.error.Error.{Error}
-use Rattle.clap.specs.declared.error.kind.ErrorKind.{ErrorKind}
-use Rattle.clap.specs.declared.error.kind.ErrorKind.TheVariants.{OutOfMemory}
-use Rattle.command_line.specs.Table.{leaf_app}
-use Rattle.command_line.specs.Jobs.{faults_at, or_usage}
-use Rattle.command_line.specs.declared.job.Refusal.{Refusal}
-use Rattle.command_line.specs.declared.job.Refusal.TheVariants.{Usage}
+use Rattle.std.specs.{Option.ok_or, Prelude.{Result, Err}}
+use Rattle.clap.specs.{Words.{App, IsAmong, Row, Text, fault_of, is_simple, is_simple_and_free, kind_of, matches_of}, declared.error.Error.Error}
+use Rattle.clap.specs.{declared.error.kind.ErrorKind.ErrorKind, declared.error.kind.ErrorKind.TheVariants.OutOfMemory}
+use Rattle.command_line.specs.{Jobs.{faults_at, or_usage}, Table.leaf_app, declared.job.Refusal.Refusal, declared.job.Refusal.TheVariants.Usage}
 use Rattle.command_line.proofs.Reading.{faults-are, refused_by}
-use Rattle.stream_words.specs.Table.{stream_app}
-use Rattle.stream_words.specs.Jobs.{job_at, options_at, stream_job_of, stream_of}
-use Rattle.stream_words.specs.declared.job.StreamJob.{StreamJob}
+use Rattle.stream_words.specs.{Jobs.{job_at, options_at, stream_job_of, stream_of}, Table.stream_app, declared.job.StreamJob.StreamJob}
 
 -- clap gives the matches and the faults of the program's command
 simple : is_simple stream_app ≡ true

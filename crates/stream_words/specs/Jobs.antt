@@ -4,14 +4,9 @@ use Rattle.clap.specs.Words.{App, Row, Text, first_of, matches_of}
 use Rattle.cell_rows.specs.Device.{IsWear}
 use Rattle.trace_gen.specs.Generated.{IsLongMix}
 use Rattle.module_shape.specs.Limits.{IsShape}
-use Rattle.command_line.specs.Jobs.{answer_of, faults_at}
-use Rattle.command_line.specs.Options.{with_some, line_of, shape_of, seed_of, wear_of, input_of}
-use Rattle.command_line.specs.declared.job.Input.{Input}
-use Rattle.command_line.specs.declared.job.Input.TheVariants.{Source, Drawn}
-use Rattle.command_line.specs.declared.job.Refusal.{Refusal}
-use Rattle.stream_words.specs.Options.{IsPrint, end_of, long_mix_of, print_of}
-use Rattle.stream_words.specs.Table.{stream_app}
-use Rattle.stream_words.specs.declared.job.StreamJob.{StreamJob}
+use Rattle.command_line.specs.{Jobs.{answer_of, faults_at}, Options.{with_some, line_of, shape_of, seed_of, wear_of, input_of}, declared.job.Input.Input}
+use Rattle.command_line.specs.{declared.job.Input.TheVariants.{Source, Drawn}, declared.job.Refusal.Refusal}
+use Rattle.stream_words.specs.{Options.{IsPrint, end_of, long_mix_of, print_of}, Table.stream_app, declared.job.StreamJob.StreamJob}
 
 -- the job of these options; those of a generated trace are looked at whatever the input is
 unfoldable pub stream_of : List Row → Option StreamJob

@@ -1,15 +1,11 @@
 -- What the options of a stream mean, where it isn't what those of a run mean.
-use Rattle.std.specs.Prelude.{ℕ, ◌*◌, ◌≤◌, nat_le, Bool, false, if◌then◌else◌, List, codes, Option, Some, None}
-use Rattle.std.specs.Str.{bytes_eq}
+use Rattle.std.specs.{Prelude.{ℕ, ◌*◌, ◌≤◌, nat_le, Bool, false, if◌then◌else◌, List, codes, Option, Some, None}, Str.bytes_eq}
 use Rattle.clap.specs.Words.{Row, Text, first_of}
-use Rattle.trace_reader.specs.Number.{number_of}
-use Rattle.trace_reader.specs.Rows.{latest_tick}
+use Rattle.trace_reader.specs.{Number.number_of, Rows.latest_tick}
 use Rattle.trace_gen.specs.declared.mix.Mix.{Mix}
 use Rattle.command_line.specs.Options.{mix_within, one_of_two, with_some}
-use Rattle.stream_words.specs.declared.job.StreamPrint.{StreamPrint}
+use Rattle.stream_words.specs.{declared.job.End.End, declared.job.End.TheVariants.{Drain, Off}, declared.job.StreamPrint.StreamPrint}
 use Rattle.stream_words.specs.declared.job.StreamPrint.TheVariants.{Rows, Summary, Wear, Lines, Image, Snapshots}
-use Rattle.stream_words.specs.declared.job.End.{End}
-use Rattle.stream_words.specs.declared.job.End.TheVariants.{Drain, Off}
 
 -- what a stream writes but snapshots
 abbrev pub plain_of : Option Text → Option StreamPrint

@@ -1,14 +1,10 @@
 -- An outcome with a tick of at most 15 digits.
 use Rattle.std.proofs.Common.{◌≡◌, ℕ, ◌^◌, ◌<◌, ◌≤◌, Bool, true, false, List, [], ◌∷◌, length, Option, Some, None, refl, ap, ◌∙◌, sym, subst, arith}
-use Rattle.std.specs.Prelude.{All}
-use Rattle.std.proofs.lemmas.List.Elements.{All-cons}
-use Rattle.trace_reader.specs.Events.{AreEventsFor}
-use Rattle.trace_reader.specs.declared.event.EventOp.TheVariants.{Write, Read}
+use Rattle.std.{specs.Prelude.All, proofs.lemmas.Bool.ltb-true, proofs.lemmas.List.Elements.All-cons}
+use Rattle.trace_reader.specs.{Events.AreEventsFor, declared.event.EventOp.TheVariants.{Write, Read}}
 use Rattle.check_verdict.specs.Within.{AreWithin}
 use Rattle.row_rules.specs.declared.Rules.{Rules}
-use Rattle.std.proofs.lemmas.Bool.{ltb-true}
-use Rattle.result_rows.specs.declared.Outcome.{Outcome}
-use Rattle.result_rows.specs.Outcomes.{tick_of}
+use Rattle.result_rows.specs.{Outcomes.tick_of, declared.Outcome.Outcome}
 use Rattle.result_check.specs.Checkable.{IsTimed, IsCheckable}
 use Rattle.text_tests.specs.Timely.{is_below, is_timed}
 

@@ -1,7 +1,6 @@
 -- Outcomes that the checker of results takes.
 use Rattle.std.specs.Prelude.{ℕ, Bool, false, Option, Some, None, nat_lt, ◌^◌}
-use Rattle.result_rows.specs.declared.Outcome.{Outcome}
-use Rattle.result_rows.specs.Outcomes.{tick_of}
+use Rattle.result_rows.specs.{Outcomes.tick_of, declared.Outcome.Outcome}
 
 -- an outcome is set, and its tick has at most 15 digits
 abbrev pub is_below : Option ℕ → Bool

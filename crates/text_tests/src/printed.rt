@@ -161,8 +161,10 @@ fn a_wear_report_goes_out_piece_by_piece(rt: HostRuntime) -> Result<(), Fail> {
 // Prints the report of an array of so many spares that were never pulsed, as a caller does who prints it row by row.
 fn print_spares<K: Sink>(lines: u32, text: &mut Text, out: &mut K) -> Result<(), WriteFault>
     requires { text.old ≡ reserved TEXT_ROOM }
-    ensures ok { OnOk result (Appends (K.written out.old) (K.written out.new) (wear_text (replicate lines (0, 0, Role.Free)))) }
-    ensures prefix { OnErr result (AppendsPrefix (K.written out.old) (K.written out.new) (wear_text (replicate lines (0, 0, Role.Free)))) }
+    ensures ok { OnOk result (Appends (K.written out.old) (K.written out.new)
+        (wear_text (replicate lines (0, 0, Role.Free)))) }
+    ensures prefix { OnErr result (AppendsPrefix (K.written out.old) (K.written out.new)
+        (wear_text (replicate lines (0, 0, Role.Free)))) }
 {
     print_wear_header(text);
     for line in 0..lines {

@@ -1,28 +1,16 @@
 -- Which action runs after a lawful history, since when, and what it fits.
 use Rattle.std.proofs.Common.{◌≡◌, ℕ, ◌+◌, ◌<◌, ◌≤◌, not, Bool, true, false, List, [], ◌∷◌, ◌++◌, Option, Some, None, refl, sym, ap, ◌∙◌, arith, cond}
-use Rattle.std.specs.Prelude.{IfSome, nat_lt, is_some}
-use Rattle.std.proofs.lemmas.Bool.{ltb-false}
-use Rattle.bank_shape.specs.Pausing.{is_cancelling}
-use Rattle.bank_shape.specs.declared.BankShape.{BankShape}
+use Rattle.std.{specs.Prelude.{IfSome, nat_lt, is_some}, proofs.lemmas.Bool.ltb-false}
+use Rattle.bank_shape.specs.{Acting.{lasts, choice, chosen_by}, Pausing.{is_cancelling, gives_way}, declared.BankShape.BankShape, declared.clock.Action.Action}
+use Rattle.bank_shape.specs.{declared.clock.Doing.Doing, declared.clock.Doing.TheVariants.{Serving, Beginning, Iterating}, declared.pace.Pace.Pace}
 use Rattle.bank_shape.specs.declared.answer.ReadAnswer.TheVariants as came
 use Rattle.bank_shape.specs.declared.answer.Step.TheVariants as did
-use Rattle.bank_shape.specs.declared.clock.Doing.{Doing}
-use Rattle.bank_shape.specs.declared.clock.Doing.TheVariants.{Serving, Beginning, Iterating}
-use Rattle.bank_shape.specs.declared.clock.Action.{Action}
-use Rattle.bank_model.specs.Events.{Write, Read, Serve, Begin, Iterate, Cut}
-use Rattle.bank_model.specs.History.{Awaited, waits, in_progress, iterated}
-use Rattle.bank_model.specs.Sensing.{most_steps}
-use Rattle.bank_shape.specs.declared.pace.Pace.{Pace}
-use Rattle.bank_shape.specs.Acting.{lasts}
-use Rattle.bank_model.specs.Timing.{Happens, Core, Regs, KeepBegin, KeepIterate, KeepCut, TimedEvent, is_empty, core, core_of, last_tick}
-use Rattle.bank_shape.specs.Pausing.{gives_way}
-use Rattle.bank_shape.specs.Acting.{choice, chosen_by}
-use Rattle.bank_model.specs.Running.{busy_by, made_by, busy_after, made_after, ready_after, drops_begin, started, left_by, running, running_at, chosen_after, cancels_after}
-use Rattle.bank_model.specs.Changes.{change_after, change_by, keeping_after, keeping_by, rounds_after, rounds_by}
 use Rattle.bank_shape.specs.declared.answer.Keep.TheVariants as keep
-use Rattle.bank_laws.proofs.Changing.{changed-idle}
-use Rattle.bank_model.specs.Lawful.{Lawful, MayCome, IsEnd, would_cancel}
-use Rattle.bank_laws.proofs.Ticks.{last_tick-rises}
+use Rattle.bank_model.specs.{Changes.{change_after, change_by, keeping_after, keeping_by, rounds_after, rounds_by}, Events.{Write, Read, Serve, Begin, Iterate, Cut}}
+use Rattle.bank_model.specs.{History.{Awaited, waits, in_progress, iterated}, Lawful.{Lawful, MayCome, IsEnd, would_cancel}}
+use Rattle.bank_model.specs.Running.{busy_by, made_by, busy_after, made_after, ready_after, drops_begin, started, left_by, running, running_at, chosen_after, cancels_after}
+use Rattle.bank_model.specs.{Sensing.most_steps, Timing.{Happens, Core, Regs, KeepBegin, KeepIterate, KeepCut, TimedEvent, is_empty, core, core_of, last_tick}}
+use Rattle.bank_laws.proofs.{Changing.changed-idle, Ticks.last_tick-rises}
 use Rattle.masked_bytes.proofs.Truth.{and_first}
 
 -- the first tick of the action that runs, or else the last tick

@@ -1,22 +1,10 @@
 -- The rows of later events, and the cuts among them.
 use Rattle.std.proofs.Common.{◌≡◌, ℕ, ◌≤◌, ◌==◌, ◌&&◌, ◌||◌, not, Bool, true, false, List, [], ◌∷◌, ◌++◌, refl, sym, ap, ◌∙◌, arith, cond, append_assoc}
-use Rattle.std.specs.Prelude.{nat_le}
-use Rattle.std.specs.List.{list_any}
-use Rattle.std.proofs.lemmas.Bool.{le-leb, and_from}
-use Rattle.std.proofs.lemmas.List.{append-nil}
-use Rattle.std.proofs.lemmas.List.Folds.{list_all-append}
-use Rattle.row_rules.specs.declared.Row.{Row}
-use Rattle.row_rules.specs.Rows.{is_cut}
-use Rattle.row_rules.specs.Ticking.{no_cut_below, first_cut_at}
-use Rattle.bank_shape.specs.declared.BankShape.{BankShape}
-use Rattle.bank_model.specs.Events.{Write, Read, Serve, Begin, Iterate, Cut}
-use Rattle.bank_shape.specs.declared.pace.Pace.{Pace}
-use Rattle.bank_model.specs.Timing.{Happens, Core, Regs, TimedEvent, last_tick}
-use Rattle.bank_model.specs.Lawful.{Lawful}
-use Rattle.bank_laws.specs.Outcomes.{row_with}
-use Rattle.bank_laws.proofs.Ticks.{last_tick-rises}
-use Rattle.bank_laws.proofs.Walking.{rows_after}
-use Rattle.bank_laws.proofs.Later.{last-later}
+use Rattle.std.{specs.List.list_any, specs.Prelude.nat_le, proofs.lemmas.Bool.{le-leb, and_from}, proofs.lemmas.List.append-nil, proofs.lemmas.List.Folds.list_all-append}
+use Rattle.row_rules.specs.{Rows.is_cut, Ticking.{no_cut_below, first_cut_at}, declared.Row.Row}
+use Rattle.bank_shape.specs.{declared.BankShape.BankShape, declared.pace.Pace.Pace}
+use Rattle.bank_model.specs.{Events.{Write, Read, Serve, Begin, Iterate, Cut}, Lawful.Lawful, Timing.{Happens, Core, Regs, TimedEvent, last_tick}}
+use Rattle.bank_laws.{specs.Outcomes.row_with, proofs.Later.last-later, proofs.Ticks.last_tick-rises, proofs.Walking.rows_after}
 
 module _ {n : ℕ} where
   -- without a cut none is below a tick, and the first is among the rows behind

@@ -1,35 +1,18 @@
 -- Events keep outcomes apart, and so every row of a table stands apart from those before it.
 use Rattle.std.proofs.Common.{◌≡◌, ℕ, ◌+◌, ◌<◌, ◌≤◌, ◌⊎◌, inl, inr, Bool, true, false, List, [], ◌∷◌, ◌++◌, Some, None, drop, refl, sym, ◌∙◌, arith, cond, eqb, eqb-true}
-use Rattle.std.specs.Prelude.{unwrap_or}
-use Rattle.std.specs.List.{list_all}
-use Rattle.std.proofs.lemmas.Bool.{cases_lt, and_from}
+use Rattle.std.{specs.List.list_all, specs.Prelude.unwrap_or, proofs.lemmas.Bool.{cases_lt, and_from}}
 use Rattle.result_rows.specs.declared.Outcome.{Outcome}
 use Rattle.result_rows.specs.declared.Outcome.TheVariants as out
-use Rattle.row_rules.specs.declared.Row.{Row}
-use Rattle.row_rules.specs.Ticking.{apart}
-use Rattle.bank_shape.specs.declared.BankShape.{BankShape}
+use Rattle.row_rules.specs.{Ticking.apart, declared.Row.Row}
+use Rattle.bank_shape.specs.{declared.BankShape.BankShape, declared.answer.Served.Served, declared.clock.Doing.TheVariants.{Serving, Beginning, Iterating}, declared.pace.Pace.Pace}
 use Rattle.bank_shape.specs.declared.answer.WriteAnswer.TheVariants as wrote
 use Rattle.bank_shape.specs.declared.answer.ReadAnswer.TheVariants as came
 use Rattle.bank_shape.specs.declared.answer.Step.TheVariants as did
-use Rattle.bank_shape.specs.declared.answer.Served.{Served}
-use Rattle.bank_shape.specs.declared.clock.Doing.TheVariants.{Serving, Beginning, Iterating}
-use Rattle.bank_model.specs.Events.{Write, Read, Serve, Begin, Iterate, Cut, RowsBelow}
-use Rattle.bank_model.specs.History.{Awaited, waits, in_progress}
-use Rattle.bank_shape.specs.declared.pace.Pace.{Pace}
-use Rattle.bank_model.specs.Timing.{Happens, Core, Regs, TimedEvent, core, core_of}
-use Rattle.bank_model.specs.Running.{left_by, running_at}
-use Rattle.bank_model.specs.Changes.{change_after}
-use Rattle.bank_model.specs.Lawful.{Lawful, MayCome}
-use Rattle.bank_laws.specs.Outcomes.{on_row, outcome_with, outcome_of, ended, row_with, rows_from}
-use Rattle.bank_laws.specs.Standing.{has_wait}
-use Rattle.bank_laws.proofs.Entries.{either, no_wait-push}
-use Rattle.bank_laws.proofs.Answering.{IsFirst, served-first}
-use Rattle.bank_laws.proofs.Settling.{opens, above_all}
-use Rattle.bank_model.proofs.Rising.{RowsBelow-more}
-use Rattle.bank_laws.proofs.Walking.{Passes, walk, rows_after}
-use Rattle.bank_laws.proofs.Serves.{may_at}
-use Rattle.tick_laws.specs.TickLaws.{is_apart, ApartLaw}
-use Rattle.tick_laws.proofs.Actions.{since, since_of, since-rises, end-since}
+use Rattle.bank_model.specs.{Changes.change_after, Events.{Write, Read, Serve, Begin, Iterate, Cut, RowsBelow}, History.{Awaited, waits, in_progress}, Lawful.{Lawful, MayCome}}
+use Rattle.bank_model.{specs.Running.{left_by, running_at}, specs.Timing.{Happens, Core, Regs, TimedEvent, core, core_of}, proofs.Rising.RowsBelow-more}
+use Rattle.bank_laws.{specs.Outcomes.{on_row, outcome_with, outcome_of, ended, row_with, rows_from}, specs.Standing.has_wait, proofs.Answering.{IsFirst, served-first}}
+use Rattle.bank_laws.proofs.{Entries.{either, no_wait-push}, Serves.may_at, Settling.{opens, above_all}, Walking.{Passes, walk, rows_after}}
+use Rattle.tick_laws.{specs.TickLaws.{is_apart, ApartLaw}, proofs.Actions.{since, since_of, since-rises, end-since}}
 use Rattle.tick_laws.proofs.Spacing.{Rising, waits_rise, takes_time, apart-right, ended-left, ended-right, AreSpaced, Plain, plain, stored, served}
 
 module _ {n : ℕ} where

@@ -4,44 +4,22 @@ use Rattle.std.specs.Prelude.{unwrap_or, nat_lt, nat_le, max, count_by, if◌the
 use Rattle.std.proofs.lemmas.Bool.{le-ltb, le-leb, leb-true, ltb-true, ltb-false, eq-eqb, cases_lt, and_from, false_from_ne_true}
 use Rattle.result_rows.specs.declared.Outcome.{Outcome}
 use Rattle.result_rows.specs.declared.Outcome.TheVariants as out
-use Rattle.row_rules.specs.declared.Asks.TheVariants.{Reads, Writes}
+use Rattle.row_rules.specs.{Answers.{is_answered, is_lost}, Rows.{asks_read, asks_write}, Ticking.{store_up_to, last_store, came_since}, declared.Asks.TheVariants.{Reads, Writes}}
 use Rattle.row_rules.specs.declared.Row.{Row}
-use Rattle.row_rules.specs.Answers.{is_answered, is_lost}
-use Rattle.row_rules.specs.Rows.{asks_read, asks_write}
-use Rattle.row_rules.specs.Ticking.{store_up_to, last_store, came_since}
-use Rattle.masked_bytes.specs.Entries.{layer_of}
-use Rattle.bank_shape.specs.declared.pace.Policy.{Policy}
+use Rattle.masked_bytes.{specs.Entries.layer_of, proofs.Counting.count-cons}
+use Rattle.bank_shape.specs.{Acting.{choice, chosen_by}, Pausing.{is_cancelling, most_cancels, gives_way}, declared.BankShape.BankShape, declared.clock.Action.Action}
+use Rattle.bank_shape.specs.{declared.clock.Doing.Doing, declared.clock.Doing.TheVariants.Serving, declared.pace.Pace.Pace, declared.pace.Policy.Policy}
 use Rattle.bank_shape.specs.declared.pace.Policy.TheVariants.{Pause, Plain, Cancel}
-use Rattle.bank_shape.specs.Pausing.{is_cancelling, most_cancels}
-use Rattle.bank_shape.specs.declared.BankShape.{BankShape}
 use Rattle.bank_shape.specs.declared.answer.ReadAnswer.TheVariants as came
 use Rattle.bank_shape.specs.declared.answer.Keep.TheVariants as keep
 use Rattle.bank_shape.specs.declared.answer.Step.TheVariants as did
-use Rattle.bank_shape.specs.declared.clock.Doing.{Doing}
-use Rattle.bank_shape.specs.declared.clock.Doing.TheVariants.{Serving}
-use Rattle.bank_shape.specs.declared.clock.Action.{Action}
-use Rattle.bank_model.specs.Events.{BankEvent, Write, Read, Serve, Begin, Iterate, Cut, newest}
-use Rattle.bank_model.specs.History.{Awaited, awaited, queue, waits}
-use Rattle.bank_shape.specs.declared.pace.Pace.{Pace}
-use Rattle.bank_model.specs.Timing.{Happens, Core, Regs, KeepBegin, KeepIterate, KeepCut, TimedEvent, is_writing, is_empty, core, core_of, last_tick}
-use Rattle.bank_shape.specs.Pausing.{gives_way}
-use Rattle.bank_shape.specs.Acting.{choice, chosen_by}
-use Rattle.bank_model.specs.Running.{busy_after, ready_after, drops_begin, started, left_by, running, running_at, chosen_after, cancels_with, cancels_after}
-use Rattle.bank_model.specs.Changes.{change_after}
+use Rattle.bank_model.specs.{Changes.change_after, Events.{BankEvent, Write, Read, Serve, Begin, Iterate, Cut, newest}, History.{Awaited, awaited, queue, waits}}
 use Rattle.bank_model.specs.Lawful.{Lawful, MayCome, FollowsCancel, IsRead, IsUncancelled}
-use Rattle.bank_laws.specs.Outcomes.{outcome_with, outcome_of, ended, row_with, rows_from}
-use Rattle.bank_laws.proofs.Settling.{lawful_before}
-use Rattle.bank_laws.proofs.Ticks.{last_tick-rises}
-use Rattle.bank_laws.proofs.Walking.{rows_after}
-use Rattle.bank_laws.proofs.Fates.{Awaits, IsSettled, ReadFate, awaits-new}
-use Rattle.bank_laws.proofs.Ending.{Onwards}
-use Rattle.bank_laws.proofs.Serves.{may_at, onwards_at}
-use Rattle.bank_laws.proofs.Later.{stored_above}
-use Rattle.bank_laws.proofs.Quiet.{ended_stored}
-use Rattle.tick_laws.proofs.Actions.{reads_of}
-use Rattle.tick_laws.proofs.Tallies.{stores_by}
-use Rattle.masked_bytes.proofs.Counting.{count-cons}
-use Rattle.tick_laws.proofs.StoreTimes.{store_event}
+use Rattle.bank_model.specs.Running.{busy_after, ready_after, drops_begin, started, left_by, running, running_at, chosen_after, cancels_with, cancels_after}
+use Rattle.bank_model.specs.Timing.{Happens, Core, Regs, KeepBegin, KeepIterate, KeepCut, TimedEvent, is_writing, is_empty, core, core_of, last_tick}
+use Rattle.bank_laws.{specs.Outcomes.{outcome_with, outcome_of, ended, row_with, rows_from}, proofs.Ending.Onwards, proofs.Fates.{Awaits, IsSettled, ReadFate, awaits-new}}
+use Rattle.bank_laws.proofs.{Later.stored_above, Quiet.ended_stored, Serves.{may_at, onwards_at}, Settling.lawful_before, Ticks.last_tick-rises, Walking.rows_after}
+use Rattle.tick_laws.proofs.{Actions.reads_of, StoreTimes.store_event, Tallies.stores_by}
 
 -- what gives way to reads lets none of its line writes start while they wait
 pub gives : (p : Policy) → is_cancelling p ≡ true → gives_way p ≡ true

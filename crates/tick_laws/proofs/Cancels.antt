@@ -1,25 +1,16 @@
 -- How often line writes were cancelled.
 use Rattle.std.proofs.Common.{◌≡◌, ℕ, ◌+◌, ◌*◌, ◌<◌, ◌≤◌, ◌&&◌, Bool, true, false, List, [], ◌∷◌, ◌++◌, refl, arith}
-use Rattle.std.specs.Prelude.{nat_lt}
-use Rattle.std.proofs.lemmas.Bool.{ltb-true}
+use Rattle.std.{specs.Prelude.nat_lt, proofs.lemmas.Bool.ltb-true}
 use Rattle.row_rules.specs.Ticking.{tries}
-use Rattle.bank_shape.specs.declared.pace.Policy.{Policy}
+use Rattle.bank_shape.specs.{Pausing.{is_cancelling, most_cancels}, declared.BankShape.BankShape, declared.pace.Pace.Pace, declared.pace.Policy.Policy}
 use Rattle.bank_shape.specs.declared.pace.Policy.TheVariants.{Pause, Plain, Cancel}
-use Rattle.bank_shape.specs.Pausing.{is_cancelling, most_cancels}
-use Rattle.bank_shape.specs.declared.BankShape.{BankShape}
 use Rattle.bank_shape.specs.declared.answer.Keep.TheVariants as keep
 use Rattle.bank_shape.specs.declared.answer.Step.TheVariants as did
-use Rattle.bank_model.specs.Events.{BankEvent, Write, Read, Serve, Begin, Iterate, Cut}
-use Rattle.bank_model.specs.History.{waits, has_exhausted}
-use Rattle.bank_shape.specs.declared.pace.Pace.{Pace}
+use Rattle.bank_model.specs.{Changes.{halted_after, halted_by}, Events.{BankEvent, Write, Read, Serve, Begin, Iterate, Cut}, History.{waits, has_exhausted}}
+use Rattle.bank_model.specs.{Lawful.{Lawful, MayCome, would_cancel}, Running.{running_at, cancels_with, cancels_after}}
 use Rattle.bank_model.specs.Timing.{Happens, Core, Regs, KeepBegin, KeepIterate, KeepCut, TimedEvent, is_writing, is_empty, core, core_of}
-use Rattle.bank_model.specs.Running.{running_at, cancels_with, cancels_after}
-use Rattle.bank_model.specs.Changes.{halted_after, halted_by}
-use Rattle.bank_model.specs.Lawful.{Lawful, MayCome, would_cancel}
-use Rattle.tick_laws.proofs.Actions.{not-cancelled}
-use Rattle.bank_laws.proofs.Entries.{either}
-use Rattle.bank_laws.proofs.Wears.{exhausted-more}
-use Rattle.tick_laws.proofs.Tallies.{stores_by, moves_by, others_by, cuts_by, cancelled_by, tally, tally_cuts}
+use Rattle.tick_laws.proofs.{Actions.not-cancelled, Tallies.{stores_by, moves_by, others_by, cuts_by, cancelled_by, tally, tally_cuts}}
+use Rattle.bank_laws.proofs.{Entries.either, Wears.exhausted-more}
 
 few_of : (a b c d : Bool) → (a && (b && (c && d))) ≡ true → d ≡ true
 few_of true true true d h = h

@@ -1,23 +1,16 @@
 -- Each store, move and retirement brings at most one change, and no change is written without one.
 use Rattle.std.proofs.Common.{◌≡◌, ℕ, ◌+◌, ◌*◌, ◌/◌, ◌≤◌, Bool, true, false, List, [], ◌∷◌, ◌++◌, length, Option, Some, None, refl, sym, ap, ◌∙◌, subst, arith}
-use Rattle.std.specs.Prelude.{is_some, nat_lt}
-use Rattle.std.proofs.lemmas.Bool.{lt-ltb}
+use Rattle.std.{specs.Prelude.{is_some, nat_lt}, proofs.lemmas.Bool.lt-ltb}
 use Rattle.row_rules.specs.Ticking.{writings}
-use Rattle.bank_shape.specs.declared.BankShape.{BankShape}
-use Rattle.bank_shape.specs.declared.Home.{Home}
+use Rattle.bank_shape.specs.{Shape.{controls_of, if_array}, declared.BankShape.BankShape, declared.Home.Home, declared.pace.Pace.Pace}
 use Rattle.bank_shape.specs.declared.Home.TheVariants as home
-use Rattle.bank_shape.specs.Shape.{controls_of, if_array}
 use Rattle.bank_shape.specs.declared.answer.Step.TheVariants as did
 use Rattle.bank_shape.specs.declared.answer.Keep.TheVariants as keep
-use Rattle.bank_model.specs.Events.{Write, Read, Serve, Begin, Iterate, Cut, line_of_row}
-use Rattle.bank_model.specs.History.{first_or, stores, retired, has_exhausted}
-use Rattle.bank_shape.specs.declared.pace.Pace.{Pace}
+use Rattle.bank_model.specs.{Changes.{change_after, change_by, halted_after, halted_by, item_if}, Events.{Write, Read, Serve, Begin, Iterate, Cut, line_of_row}}
+use Rattle.bank_model.specs.{History.{first_or, stores, retired, has_exhausted}, Lawful.{Lawful, MayCome}}
 use Rattle.bank_model.specs.Timing.{Happens, Core, Regs, KeepBegin, KeepIterate, KeepCut, TimedEvent, core, core_of}
-use Rattle.bank_model.specs.Changes.{change_after, change_by, halted_after, halted_by, item_if}
-use Rattle.bank_model.specs.Lawful.{Lawful, MayCome}
 use Rattle.bank_laws.proofs.Changing.{halted-stops}
-use Rattle.tick_laws.proofs.Cancels.{fine_before}
-use Rattle.tick_laws.proofs.Tallies.{stores_by, moves_by, retires_by, others_by, tally}
+use Rattle.tick_laws.proofs.{Cancels.fine_before, Tallies.{stores_by, moves_by, retires_by, others_by, tally}}
 
 -- one where a change stands, and one where line writes bring changes
 abbrev pub stands : Option ℕ → ℕ

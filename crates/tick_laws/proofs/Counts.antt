@@ -1,26 +1,14 @@
 -- What ended over some events is counted among the rows.
 use Rattle.std.proofs.Common.{◌≡◌, ◌≢◌, ℕ, ◌+◌, ◌≤◌, ◌==◌, ◌&&◌, ◌||◌, ◌⊎◌, inl, inr, suc, Bool, true, false, List, [], ◌∷◌, ◌++◌, refl, sym, ap, ◌∙◌, subst, arith, cond, eqb, eqb-true, append_assoc}
-use Rattle.std.specs.Prelude.{nat_le, count_by}
-use Rattle.std.proofs.lemmas.Bool.{le-leb, or_right}
+use Rattle.std.{specs.Prelude.{nat_le, count_by}, proofs.lemmas.Bool.{le-leb, or_right}}
 use Rattle.masked_bytes.proofs.Counting.{count-cons, count-append}
 use Rattle.result_rows.specs.declared.Outcome.{Outcome}
 use Rattle.result_rows.specs.declared.Outcome.TheVariants as out
-use Rattle.row_rules.specs.declared.Asks.TheVariants.{Reads, Writes, Cuts}
-use Rattle.row_rules.specs.declared.Row.{Row}
-use Rattle.row_rules.specs.Rows.{asks_read, asks_write}
-use Rattle.row_rules.specs.Ticking.{cuts_to}
-use Rattle.bank_shape.specs.declared.BankShape.{BankShape}
-use Rattle.bank_model.specs.Events.{Write, Read, Serve, Begin, Iterate, Cut}
-use Rattle.bank_shape.specs.declared.pace.Pace.{Pace}
-use Rattle.bank_model.specs.Timing.{Happens, Core, Regs, TimedEvent, last_tick}
-use Rattle.bank_model.specs.Lawful.{Lawful}
-use Rattle.bank_laws.specs.Outcomes.{outcome_of, ended, row_with, rows_from}
-use Rattle.bank_laws.proofs.Settling.{opens, step_stays, stays}
-use Rattle.bank_laws.proofs.Ticks.{last_tick-rises}
-use Rattle.bank_laws.proofs.Walking.{rows_after}
-use Rattle.bank_laws.proofs.Counting.{among, hits}
-use Rattle.bank_laws.proofs.Waiting.{read_rows, reads_in}
-use Rattle.bank_laws.proofs.Pending.{write_rows, writes_in}
+use Rattle.row_rules.specs.{Rows.{asks_read, asks_write}, Ticking.cuts_to, declared.Asks.TheVariants.{Reads, Writes, Cuts}, declared.Row.Row}
+use Rattle.bank_shape.specs.{declared.BankShape.BankShape, declared.pace.Pace.Pace}
+use Rattle.bank_model.specs.{Events.{Write, Read, Serve, Begin, Iterate, Cut}, Lawful.Lawful, Timing.{Happens, Core, Regs, TimedEvent, last_tick}}
+use Rattle.bank_laws.{specs.Outcomes.{outcome_of, ended, row_with, rows_from}, proofs.Counting.{among, hits}, proofs.Pending.{write_rows, writes_in}}
+use Rattle.bank_laws.proofs.{Settling.{opens, step_stays, stays}, Ticks.last_tick-rises, Waiting.{read_rows, reads_in}, Walking.rows_after}
 use Rattle.tick_laws.proofs.Tallies.{cuts_by, tally, tally_cuts}
 
 hits-more : (p q : ℕ → Bool) (xs : List ℕ) → ((x : ℕ) → p x ≡ true → q x ≡ true) → hits p xs ≤ hits q xs

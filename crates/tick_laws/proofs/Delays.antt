@@ -1,36 +1,23 @@
 -- How far the ticks of a bank may be behind an arrival, by what ended since.
 use Rattle.std.proofs.Common.{◌≡◌, ℕ, ◌+◌, ◌*◌, ◌<◌, ◌≤◌, ◌&&◌, ◌⊎◌, inl, inr, Bool, true, false, List, ◌∷◌, Option, Some, None, refl, sym, ap, ◌∙◌, subst, arith, cond}
-use Rattle.std.specs.Prelude.{IfSome, nat_lt, is_some}
-use Rattle.std.proofs.lemmas.Bool.{and_parts}
+use Rattle.std.{specs.Prelude.{IfSome, nat_lt, is_some}, proofs.lemmas.Bool.and_parts}
 use Rattle.masked_bytes.specs.Entries.{has_row, layer_of}
-use Rattle.bank_shape.specs.Pausing.{is_cancelling, most_cancels}
-use Rattle.bank_shape.specs.declared.BankShape.{BankShape}
+use Rattle.bank_shape.specs.{Acting.{lasts, choice, chosen_by}, Pausing.{is_cancelling, most_cancels, gives_way}, declared.BankShape.BankShape, declared.answer.Keep.Keep}
+use Rattle.bank_shape.specs.{declared.answer.Step.Step, declared.clock.Action.Action, declared.clock.Doing.Doing, declared.clock.Doing.TheVariants.{Serving, Beginning, Iterating}}
+use Rattle.bank_shape.specs.declared.pace.Pace.{Pace}
 use Rattle.bank_shape.specs.declared.answer.WriteAnswer.TheVariants as wrote
 use Rattle.bank_shape.specs.declared.answer.ReadAnswer.TheVariants as came
-use Rattle.bank_shape.specs.declared.answer.Keep.{Keep}
 use Rattle.bank_shape.specs.declared.answer.Keep.TheVariants as keep
-use Rattle.bank_shape.specs.declared.answer.Step.{Step}
 use Rattle.bank_shape.specs.declared.answer.Step.TheVariants as did
-use Rattle.bank_shape.specs.declared.clock.Doing.{Doing}
-use Rattle.bank_shape.specs.declared.clock.Doing.TheVariants.{Serving, Beginning, Iterating}
-use Rattle.bank_shape.specs.declared.clock.Action.{Action}
-use Rattle.bank_model.specs.Events.{BankEvent, Write, Read, Serve, Begin, Iterate, Cut, newest}
-use Rattle.bank_model.specs.History.{awaited, queue, waits, has_exhausted, in_progress, iterated}
-use Rattle.bank_model.specs.After.{work_after, is_store_of}
-use Rattle.bank_shape.specs.declared.pace.Pace.{Pace}
-use Rattle.bank_shape.specs.Acting.{lasts}
-use Rattle.bank_model.specs.Timing.{Happens, Core, Regs, KeepBegin, KeepIterate, KeepCut, TimedEvent, ends, is_doing, is_writing, is_empty, core, core_of, last_tick}
-use Rattle.bank_shape.specs.Pausing.{gives_way}
-use Rattle.bank_shape.specs.Acting.{choice, chosen_by}
-use Rattle.bank_model.specs.Running.{busy_by, made_by, busy_after, made_after, ready_after, drops_begin, started, left_by, running, running_at, chosen_after, cancels_after}
-use Rattle.bank_model.specs.Changes.{change_after, change_by, keeping_after, keeping_by, rounds_after, rounds_by, halted_after, halted_by}
-use Rattle.bank_laws.proofs.Changing.{busy-none, busy-some, made-none, made-some}
+use Rattle.bank_model.specs.{After.{work_after, is_store_of}, Changes.{change_after, change_by, keeping_after, keeping_by, rounds_after, rounds_by, halted_after, halted_by}}
+use Rattle.bank_model.specs.{Events.{BankEvent, Write, Read, Serve, Begin, Iterate, Cut, newest}, History.{awaited, queue, waits, has_exhausted, in_progress, iterated}}
 use Rattle.bank_model.specs.Lawful.{Lawful, MayCome}
+use Rattle.bank_model.specs.Running.{busy_by, made_by, busy_after, made_after, ready_after, drops_begin, started, left_by, running, running_at, chosen_after, cancels_after}
+use Rattle.bank_model.specs.Timing.{Happens, Core, Regs, KeepBegin, KeepIterate, KeepCut, TimedEvent, ends, is_doing, is_writing, is_empty, core, core_of, last_tick}
+use Rattle.bank_laws.proofs.Changing.{busy-none, busy-some, made-none, made-some}
 use Rattle.tick_laws.proofs.Actions.{since, since-started, since_of, reads_of, Fits, FitsAll, running_at-fits}
-use Rattle.tick_laws.proofs.Turns.{chosen-reads}
-use Rattle.tick_laws.proofs.Waits.{work_time, few_times, times_more}
-use Rattle.tick_laws.proofs.Tallies.{stores_by, moves_by, others_by, serves_by, cuts_by, cancelled_by}
 use Rattle.tick_laws.proofs.Holdups.{IsHeld, held-reads, held-wait, held-push, held-merged, store-held, held-begins_none, works, not_begun-next}
+use Rattle.tick_laws.proofs.{Tallies.{stores_by, moves_by, others_by, serves_by, cuts_by, cancelled_by}, Turns.chosen-reads, Waits.{work_time, few_times, times_more}}
 
 -- the time that a line write in progress took so far, without the reads served in between
 abbrev pub spent : ℕ → ℕ → Bool → ℕ → ℕ

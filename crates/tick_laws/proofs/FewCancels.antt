@@ -1,36 +1,19 @@
 -- A read that finds few cancels of the present line write waits for reads alone.
 use Rattle.std.proofs.Common.{◌≡◌, ℕ, ◌+◌, ◌*◌, ◌<◌, ◌≤◌, inl, inr, Bool, true, false, List, [], ◌∷◌, ◌++◌, Option, None, length, refl, sym, ap, ◌∙◌, subst, arith, cond}
-use Rattle.std.specs.Prelude.{nat_le}
-use Rattle.std.proofs.lemmas.Bool.{le-leb, lt-ltb, and_from}
+use Rattle.std.{specs.Prelude.nat_le, proofs.lemmas.Bool.{le-leb, lt-ltb, and_from}}
 use Rattle.result_rows.specs.declared.Outcome.{Outcome}
 use Rattle.result_rows.specs.declared.Outcome.TheVariants as out
-use Rattle.row_rules.specs.declared.Row.{Row}
-use Rattle.row_rules.specs.Ticking.{first_cut_at}
+use Rattle.row_rules.specs.{Ticking.first_cut_at, declared.Row.Row}
 use Rattle.masked_bytes.specs.Entries.{layer_of}
-use Rattle.bank_shape.specs.declared.BankShape.{BankShape}
-use Rattle.bank_shape.specs.declared.pace.Pace.{Pace}
-use Rattle.bank_shape.specs.Pausing.{gives_way}
+use Rattle.bank_shape.specs.{Pausing.gives_way, declared.BankShape.BankShape, declared.clock.Action.Action, declared.pace.Pace.Pace}
 use Rattle.bank_shape.specs.declared.answer.ReadAnswer.TheVariants as came
-use Rattle.bank_shape.specs.declared.clock.Action.{Action}
-use Rattle.bank_model.specs.Events.{Write, Read, Serve, Begin, Iterate, Cut, newest}
-use Rattle.bank_model.specs.History.{awaited, queue, waits}
-use Rattle.bank_model.specs.Timing.{Happens, Core, Regs, TimedEvent, is_writing, core, core_of}
-use Rattle.bank_model.specs.Changes.{change_after}
-use Rattle.bank_model.specs.Running.{busy_after, made_after, drops_begin, left_by, running_at, cancels_after}
-use Rattle.bank_model.specs.Lawful.{Lawful, MayCome}
-use Rattle.bank_laws.specs.Outcomes.{outcome_of, row_with}
-use Rattle.bank_laws.specs.Standing.{has_wait}
-use Rattle.bank_laws.proofs.Standing.{stand_apart}
-use Rattle.bank_laws.proofs.Settling.{opens, lawful_before}
-use Rattle.bank_laws.proofs.Fates.{Awaits, IsSettled, ReadFate, read_fate, awaits-has, awaits-new}
-use Rattle.bank_laws.proofs.Walking.{rows_after}
-use Rattle.bank_laws.proofs.Waiting.{settled_all}
+use Rattle.bank_model.specs.{Changes.change_after, Events.{Write, Read, Serve, Begin, Iterate, Cut, newest}, History.{awaited, queue, waits}, Lawful.{Lawful, MayCome}}
+use Rattle.bank_model.specs.{Running.{busy_after, made_after, drops_begin, left_by, running_at, cancels_after}, Timing.{Happens, Core, Regs, TimedEvent, is_writing, core, core_of}}
+use Rattle.bank_laws.{specs.Outcomes.{outcome_of, row_with}, specs.Standing.has_wait, proofs.Fates.{Awaits, IsSettled, ReadFate, read_fate, awaits-has, awaits-new}}
+use Rattle.bank_laws.proofs.{Settling.{opens, lawful_before}, Standing.stand_apart, Waiting.settled_all, Walking.rows_after}
 use Rattle.tick_laws.specs.TickLaws.{FewCancelsLaw, FewCancelsNowLaw, FindsFewCancels, IsNow, by_reads, count_found, ends_by, ends_or_waits, rows_behind}
-use Rattle.tick_laws.proofs.Actions.{since, since-up, running_at-fits}
-use Rattle.tick_laws.proofs.Turns.{turn, turn-some, turn-new, not_early-new, owes}
-use Rattle.tick_laws.proofs.Waits.{Turn, TurnBy, turn_at, work_time, few_times, at_cut}
-use Rattle.tick_laws.proofs.Cancelling.{pending_cancel, idle_few, gives}
-use Rattle.tick_laws.proofs.ReadTimes.{InTime, drop_or, in_end, owes-idle, turns}
+use Rattle.tick_laws.proofs.{Actions.{since, since-up, running_at-fits}, Cancelling.{pending_cancel, idle_few, gives}, ReadTimes.{InTime, drop_or, in_end, owes-idle, turns}}
+use Rattle.tick_laws.proofs.{Turns.{turn, turn-some, turn-new, not_early-new, owes}, Waits.{Turn, TurnBy, turn_at, work_time, few_times, at_cut}}
 
 module _ {n : ℕ} where
   -- a read that has ended in time has ended by then

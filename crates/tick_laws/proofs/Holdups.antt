@@ -1,22 +1,11 @@
 -- When a begin is held up by a read that waits, and when something is chosen.
 use Rattle.std.proofs.Common.{◌≡◌, ℕ, ◌==◌, ◌&&◌, ◌||◌, not, Bool, true, false, List, [], ◌∷◌, ◌++◌, Option, Some, None, refl, sym, ◌∙◌, cond, eqb, eqb-true}
-use Rattle.std.specs.Prelude.{nat_lt}
-use Rattle.std.specs.List.{list_any}
-use Rattle.std.proofs.lemmas.Bool.{eq-eqb, or_left, or_right}
-use Rattle.std.proofs.lemmas.List.Folds.{list_any-append}
-use Rattle.masked_bytes.specs.declared.entry.Entry.{Entry}
-use Rattle.masked_bytes.specs.Entries.{has_row, merged, laid_on}
-use Rattle.bank_shape.specs.declared.BankShape.{BankShape}
-use Rattle.bank_shape.specs.declared.Work.TheVariants.{Nothing}
-use Rattle.bank_shape.specs.declared.clock.Doing.{Doing}
+use Rattle.std.{specs.List.list_any, specs.Prelude.nat_lt, proofs.lemmas.Bool.{eq-eqb, or_left, or_right}, proofs.lemmas.List.Folds.list_any-append}
+use Rattle.masked_bytes.specs.{Entries.{has_row, merged, laid_on}, declared.entry.Entry.Entry}
+use Rattle.bank_shape.specs.{Acting.{choice, chosen_by}, declared.BankShape.BankShape, declared.Work.TheVariants.Nothing, declared.clock.Action.Action, declared.clock.Doing.Doing}
 use Rattle.bank_shape.specs.declared.clock.Doing.TheVariants.{Serving, Beginning, Iterating}
-use Rattle.bank_shape.specs.declared.clock.Action.{Action}
-use Rattle.bank_model.specs.Events.{BankEvent}
-use Rattle.bank_model.specs.History.{Awaited, queue, waits, due_after, has_exhausted, in_progress}
-use Rattle.bank_model.specs.After.{is_ready, is_store_of, due_work, work_after, may_begin_after}
-use Rattle.bank_model.specs.Timing.{same_doing, is_doing, is_empty}
-use Rattle.bank_shape.specs.Acting.{choice, chosen_by}
-use Rattle.bank_model.specs.Running.{busy_by, ready_by, started}
+use Rattle.bank_model.specs.{After.{is_ready, is_store_of, due_work, work_after, may_begin_after}, Events.BankEvent}
+use Rattle.bank_model.specs.{History.{Awaited, queue, waits, due_after, has_exhausted, in_progress}, Running.{busy_by, ready_by, started}, Timing.{same_doing, is_doing, is_empty}}
 
 -- a read waits on the line of the queue's head
 abbrev pub HeldUp : {n : ℕ} → List Awaited → List (Entry n) → Type 0

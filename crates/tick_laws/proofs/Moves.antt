@@ -1,20 +1,12 @@
 -- A gap moves at most once for each store, and once more where one was due.
 use Rattle.std.proofs.Common.{◌≡◌, ◌≢◌, ℕ, ◌+◌, ◌*◌, ◌/◌, ◌<◌, ◌≤◌, ◌==◌, Bool, true, false, List, [], ◌∷◌, ◌++◌, Option, Some, None, length, refl, sym, ap, subst, arith, cond, eqb, eqb-true, length-append}
-use Rattle.std.specs.Prelude.{nat_le}
-use Rattle.std.proofs.lemmas.Bool.{leb-false, lt-leb, ne_eqb, eq-eqb, eqb-false}
-use Rattle.std.proofs.Math.Nat.{mul-le-mul_left}
+use Rattle.std.{specs.Prelude.nat_le, proofs.Math.Nat.mul-le-mul_left, proofs.lemmas.Bool.{leb-false, lt-leb, ne_eqb, eq-eqb, eqb-false}}
 use Rattle.masked_bytes.specs.declared.entry.Entry.{Entry}
-use Rattle.bank_shape.specs.declared.BankShape.{BankShape}
-use Rattle.bank_shape.specs.declared.Work.TheVariants.{Nothing}
+use Rattle.bank_shape.specs.{declared.BankShape.BankShape, declared.Work.TheVariants.Nothing, declared.pace.Pace.Pace}
 use Rattle.bank_shape.specs.declared.answer.Step.TheVariants as did
-use Rattle.bank_model.specs.Events.{BankEvent, Write, Read, Serve, Begin, Iterate, Cut, line_of_row}
-use Rattle.bank_model.specs.History.{first_or, stores, stored_in, moved_in, due_after, retired, queue, has_exhausted}
-use Rattle.bank_model.specs.After.{work_after, due_work, due_moves}
-use Rattle.bank_model.specs.Answers.{IsDone}
-use Rattle.bank_shape.specs.declared.pace.Pace.{Pace}
-use Rattle.bank_model.specs.Timing.{Happens, Core, Regs, TimedEvent, core, core_of}
-use Rattle.bank_model.specs.Lawful.{Lawful, MayCome}
-use Rattle.bank_model.proofs.Within.{due_moves-few}
+use Rattle.bank_model.specs.{After.{work_after, due_work, due_moves}, Answers.IsDone, Events.{BankEvent, Write, Read, Serve, Begin, Iterate, Cut, line_of_row}}
+use Rattle.bank_model.specs.{History.{first_or, stores, stored_in, moved_in, due_after, retired, queue, has_exhausted}, Lawful.{Lawful, MayCome}}
+use Rattle.bank_model.{specs.Timing.{Happens, Core, Regs, TimedEvent, core, core_of}, proofs.Within.due_moves-few}
 use Rattle.tick_laws.proofs.Tallies.{stores_by, moves_by, retires_by, tally}
 
 module _ {n : ℕ} (shape : BankShape) (h : List (BankEvent n)) where

@@ -1,56 +1,30 @@
 -- A read is read or lost in time.
 use Rattle.std.proofs.Common.{◌≡◌, ◌≢◌, ℕ, ◌+◌, ◌*◌, ◌<◌, ◌≤◌, ◌==◌, ◌||◌, inl, inr, not, Bool, true, false, List, [], ◌∷◌, ◌++◌, Option, Some, None, length, refl, sym, ap, ◌∙◌, subst, arith, cond, append_assoc}
-use Rattle.std.specs.Prelude.{nat_le, nat_lt, max}
-use Rattle.std.specs.List.{list_any}
-use Rattle.std.proofs.lemmas.Bool.{le-leb, lt-ltb, eq-eqb, or_from, and_from}
+use Rattle.std.{specs.List.list_any, specs.Prelude.{nat_le, nat_lt, max}, proofs.lemmas.Bool.{le-leb, lt-ltb, eq-eqb, or_from, and_from}}
 use Rattle.std.proofs.lemmas.List.Folds.{list_any-append, list_all-append}
 use Rattle.result_rows.specs.declared.Outcome.{Outcome}
 use Rattle.result_rows.specs.declared.Outcome.TheVariants as out
-use Rattle.row_rules.specs.declared.Row.{Row}
-use Rattle.row_rules.specs.Rows.{is_cut}
+use Rattle.row_rules.specs.{Queueing.waiting, Rows.is_cut, Ticking.{delay, bound, last_store, came_since, no_cut_below, first_cut_at, read_in_time}, declared.Row.Row}
 use Rattle.row_rules.specs.declared.Rules.{Rules}
-use Rattle.row_rules.specs.Queueing.{waiting}
-use Rattle.row_rules.specs.Ticking.{delay, bound, last_store, came_since, no_cut_below, first_cut_at, read_in_time}
-use Rattle.bank_shape.specs.declared.pace.Policy.{Policy}
+use Rattle.bank_shape.specs.{Pausing.{is_cancelling, most_cancels, gives_way}, declared.BankShape.BankShape, declared.clock.Action.Action, declared.clock.Doing.Doing}
+use Rattle.bank_shape.specs.{declared.clock.Doing.TheVariants.{Serving, Beginning, Iterating}, declared.pace.Pace.Pace, declared.pace.Policy.Policy}
 use Rattle.bank_shape.specs.declared.pace.Policy.TheVariants.{Pause, Plain, Cancel}
-use Rattle.bank_shape.specs.Pausing.{is_cancelling, most_cancels}
-use Rattle.bank_shape.specs.declared.BankShape.{BankShape}
 use Rattle.bank_shape.specs.declared.answer.WriteAnswer.TheVariants as wrote
 use Rattle.bank_shape.specs.declared.answer.ReadAnswer.TheVariants as came
 use Rattle.bank_shape.specs.declared.answer.Step.TheVariants as did
-use Rattle.bank_shape.specs.declared.clock.Doing.{Doing}
-use Rattle.bank_shape.specs.declared.clock.Doing.TheVariants.{Serving, Beginning, Iterating}
-use Rattle.bank_shape.specs.declared.clock.Action.{Action}
-use Rattle.bank_model.specs.Events.{Write, Read, Serve, Begin, Iterate, Cut, newest}
-use Rattle.bank_model.specs.History.{Awaited, awaited, queue, waits}
-use Rattle.masked_bytes.specs.Entries.{layer_of}
-use Rattle.bank_shape.specs.declared.pace.Pace.{Pace}
+use Rattle.bank_model.specs.{Changes.change_after, Events.{Write, Read, Serve, Begin, Iterate, Cut, newest}, History.{Awaited, awaited, queue, waits}}
+use Rattle.bank_model.specs.{Lawful.{Lawful, MayCome, would_cancel}, Running.{busy_after, made_after, drops_begin, left_by, running_at, cancels_after}}
 use Rattle.bank_model.specs.Timing.{Happens, Core, Regs, KeepBegin, KeepIterate, KeepCut, TimedEvent, is_writing, is_empty, core, core_of, last_tick}
-use Rattle.bank_shape.specs.Pausing.{gives_way}
-use Rattle.bank_model.specs.Running.{busy_after, made_after, drops_begin, left_by, running_at, cancels_after}
-use Rattle.bank_model.specs.Changes.{change_after}
-use Rattle.bank_model.specs.Lawful.{Lawful, MayCome, would_cancel}
-use Rattle.bank_laws.specs.Laws.{rules_of}
-use Rattle.bank_laws.specs.Outcomes.{outcome_with, outcome_of, row_with, rows_from}
-use Rattle.bank_laws.specs.Standing.{has_wait}
-use Rattle.bank_laws.specs.Ticks.{ends_action}
-use Rattle.bank_laws.proofs.Standing.{stand_apart}
-use Rattle.bank_laws.proofs.Settling.{opens, lawful_before}
-use Rattle.bank_laws.proofs.Ticks.{last_tick-rises}
-use Rattle.bank_laws.proofs.Fates.{Awaits, IsSettled, ReadFate, awaits-has, awaits-new}
-use Rattle.bank_laws.proofs.Answering.{IsFirst, served-first}
-use Rattle.bank_laws.proofs.Walking.{Passes, walk, rows_after}
-use Rattle.bank_laws.proofs.Ending.{Onwards, own_answer}
-use Rattle.bank_laws.proofs.Serves.{may_at, onwards_at}
-use Rattle.bank_laws.proofs.Waiting.{waits_length, cancels-none, settled_all}
-use Rattle.tick_laws.specs.TickLaws.{reads_in_time, ReadTimeLaw}
-use Rattle.tick_laws.proofs.Actions.{since, since-up, FitsAll, running_at-fits}
-use Rattle.tick_laws.proofs.Settings.{SetAt, row_set, setting, unset_before, unset_waits}
+use Rattle.masked_bytes.specs.Entries.{layer_of}
+use Rattle.bank_laws.specs.{Laws.rules_of, Outcomes.{outcome_with, outcome_of, row_with, rows_from}, Standing.has_wait, Ticks.ends_action}
+use Rattle.bank_laws.proofs.{Answering.{IsFirst, served-first}, Ending.{Onwards, own_answer}, Fates.{Awaits, IsSettled, ReadFate, awaits-has, awaits-new}}
+use Rattle.bank_laws.proofs.{Serves.{may_at, onwards_at}, Settling.{opens, lawful_before}, Standing.stand_apart, Ticks.last_tick-rises}
+use Rattle.bank_laws.proofs.{Waiting.{waits_length, cancels-none, settled_all}, Walking.{Passes, walk, rows_after}}
+use Rattle.tick_laws.{specs.TickLaws.{reads_in_time, ReadTimeLaw}, proofs.Actions.{since, since-up, FitsAll, running_at-fits}}
+use Rattle.tick_laws.proofs.{Afterwards.{none-below, first-behind, rows_after-append, late-cuts}, Cancelling.{stored_at, idle_runs}}
+use Rattle.tick_laws.proofs.{Settings.{SetAt, row_set, setting, unset_before, unset_waits}, Tallies.stores_by}
 use Rattle.tick_laws.proofs.Turns.{turn, turn-some, turn-new, NotEarly, not_early-new, owes, owes-most}
 use Rattle.tick_laws.proofs.Waits.{Turn, TurnAt, turn_at, TurnBy, step, work_time, few_times, fits_ending, ending, at_end, at_cut, some-reads}
-use Rattle.tick_laws.proofs.Tallies.{stores_by}
-use Rattle.tick_laws.proofs.Cancelling.{stored_at, idle_runs}
-use Rattle.tick_laws.proofs.Afterwards.{none-below, first-behind, rows_after-append, late-cuts}
 
 module _ {n : ℕ} where
   -- what the outcome of a read that came at tick a has to do with a bound and the rows behind it

@@ -4,15 +4,10 @@ use Rattle.std.specs.Prelude.{unwrap_or}
 use Rattle.result_rows.specs.declared.Outcome.{Outcome}
 use Rattle.result_rows.specs.declared.Outcome.TheVariants as out
 use Rattle.masked_bytes.specs.Entries.{has_row}
-use Rattle.bank_shape.specs.declared.BankShape.{BankShape}
-use Rattle.bank_model.specs.History.{waits, queue}
-use Rattle.bank_shape.specs.declared.pace.Pace.{Pace}
-use Rattle.bank_model.specs.Timing.{TimedEvent, core}
-use Rattle.bank_model.specs.Lawful.{Lawful}
-use Rattle.bank_laws.specs.Outcomes.{on_row, outcome_with, outcome_of}
-use Rattle.bank_laws.specs.Standing.{has_wait}
-use Rattle.bank_laws.proofs.Settling.{opens, step_stays}
-use Rattle.bank_laws.proofs.Fates.{IsLeft, IsSettled, Awaits, awaits-has, WriteFate, write_fate, ReadFate, read_fate}
+use Rattle.bank_shape.specs.{declared.BankShape.BankShape, declared.pace.Pace.Pace}
+use Rattle.bank_model.specs.{History.{waits, queue}, Lawful.Lawful, Timing.{TimedEvent, core}}
+use Rattle.bank_laws.specs.{Outcomes.{on_row, outcome_with, outcome_of}, Standing.has_wait}
+use Rattle.bank_laws.proofs.{Fates.{IsLeft, IsSettled, Awaits, awaits-has, WriteFate, write_fate, ReadFate, read_fate}, Settling.{opens, step_stays}}
 
 module _ {n : ℕ} where
   open_or_set : (o : Outcome n) → (o ≡ out.Unset) ⊎ (o ≢ out.Unset)

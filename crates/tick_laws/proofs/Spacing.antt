@@ -1,18 +1,13 @@
 -- A bank does one action at a time, and serves its reads in the order of their rows.
 use Rattle.std.proofs.Common.{◌≡◌, ℕ, ◌+◌, ◌<◌, ◌≤◌, ◌==◌, ◌⊎◌, inl, inr, not, Bool, true, false, List, [], ◌∷◌, ◌++◌, Some, None, drop, refl, sym, ap, ◌∙◌, arith, cond, eqb, eqb-true}
-use Rattle.std.specs.Prelude.{unwrap_or, nat_le}
-use Rattle.std.proofs.lemmas.Bool.{le-leb, ne_eqb, eq-eqb, or_left, or_right, leb-true, leb-false}
+use Rattle.std.{specs.Prelude.{unwrap_or, nat_le}, proofs.lemmas.Bool.{le-leb, ne_eqb, eq-eqb, or_left, or_right, leb-true, leb-false}}
 use Rattle.result_rows.specs.declared.Outcome.{Outcome}
 use Rattle.result_rows.specs.declared.Outcome.TheVariants as out
 use Rattle.row_rules.specs.Ticking.{apart}
 use Rattle.bank_shape.specs.declared.BankShape.{BankShape}
 use Rattle.bank_shape.specs.declared.answer.ReadAnswer.TheVariants as came
-use Rattle.bank_model.specs.Events.{BankEvent, Write, Read, Serve, Begin, Iterate, Cut, RowsBelow}
-use Rattle.bank_model.specs.History.{Awaited, waits}
-use Rattle.bank_laws.specs.Outcomes.{on_row, ended}
-use Rattle.bank_laws.specs.Standing.{has_wait}
-use Rattle.bank_laws.proofs.Entries.{either, no_wait-push}
-use Rattle.bank_laws.proofs.Standing.{stand_apart}
+use Rattle.bank_model.specs.{Events.{BankEvent, Write, Read, Serve, Begin, Iterate, Cut, RowsBelow}, History.{Awaited, waits}}
+use Rattle.bank_laws.{specs.Outcomes.{on_row, ended}, specs.Standing.has_wait, proofs.Entries.{either, no_wait-push}, proofs.Standing.stand_apart}
 
 -- each of these reads is above those before it
 abbrev pub Rising : List Awaited → Type 0

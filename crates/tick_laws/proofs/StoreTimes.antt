@@ -1,56 +1,28 @@
 -- A write that is stored is stored in time.
 use Rattle.std.proofs.Common.{◌≡◌, ℕ, ◌+◌, ◌*◌, ◌<◌, ◌≤◌, ◌&&◌, ◌⊎◌, inl, inr, Bool, true, false, List, [], ◌∷◌, ◌++◌, Option, Some, None, refl, sym, ap, ◌∙◌, subst, arith, cond, append_assoc}
-use Rattle.std.specs.Prelude.{unwrap_or, count_by, nat_lt}
-use Rattle.std.proofs.lemmas.Bool.{lt-ltb, le-leb, and_from}
-use Rattle.std.proofs.Math.Nat.{mul-le-mul_left}
+use Rattle.std.{specs.Prelude.{unwrap_or, count_by, nat_lt}, proofs.Math.Nat.mul-le-mul_left, proofs.lemmas.Bool.{lt-ltb, le-leb, and_from}}
 use Rattle.result_rows.specs.declared.Outcome.{Outcome}
 use Rattle.result_rows.specs.declared.Outcome.TheVariants as out
-use Rattle.masked_bytes.specs.Entries.{has_row}
-use Rattle.row_rules.specs.declared.Row.{Row}
-use Rattle.row_rules.specs.Answers.{stored_after, stored_by, read_after, read_by}
+use Rattle.masked_bytes.{specs.Entries.has_row, proofs.Counting.count-append}
+use Rattle.row_rules.specs.{Answers.{stored_after, stored_by, read_after, read_by}, Ticking.{tries, writings, longest, stores_in, reads_in, cuts_to}, declared.Row.Row}
 use Rattle.row_rules.specs.declared.Rules.{Rules}
-use Rattle.row_rules.specs.Ticking.{tries, writings, longest, stores_in, reads_in, cuts_to}
-use Rattle.bank_shape.specs.declared.BankShape.{BankShape}
-use Rattle.bank_shape.specs.Shape.{controls_of}
+use Rattle.bank_shape.specs.{Shape.controls_of, declared.BankShape.BankShape, declared.pace.Pace.Pace}
 use Rattle.bank_shape.specs.declared.answer.WriteAnswer.TheVariants as wrote
 use Rattle.bank_shape.specs.declared.answer.ReadAnswer.TheVariants as came
 use Rattle.bank_shape.specs.declared.answer.Step.TheVariants as did
-use Rattle.bank_model.specs.Events.{Write, Read, Serve, Begin, Iterate, Cut}
-use Rattle.bank_model.specs.History.{queue, waits, due_after, has_exhausted}
-use Rattle.bank_model.specs.After.{work_after, due_moves}
-use Rattle.bank_model.specs.Answers.{IsDone}
-use Rattle.bank_shape.specs.declared.pace.Pace.{Pace}
-use Rattle.bank_model.specs.Timing.{Happens, Core, Regs, TimedEvent, core, core_of, last_tick}
-use Rattle.bank_model.specs.Running.{cancels_with, cancels_after}
-use Rattle.bank_model.specs.Changes.{change_after, halted_after, halted_by}
-use Rattle.bank_model.specs.Lawful.{Lawful, MayCome}
-use Rattle.bank_model.proofs.Within.{due_moves-few}
-use Rattle.bank_laws.specs.Laws.{rules_of}
-use Rattle.bank_laws.specs.Outcomes.{on_row, outcome_with, outcome_of, ended, row_with, rows_from}
-use Rattle.bank_laws.specs.Ticks.{ends_action}
-use Rattle.bank_laws.proofs.Entries.{either}
-use Rattle.bank_laws.proofs.Answering.{head-there, first-there, stored-head, served-first}
-use Rattle.bank_laws.proofs.Settling.{opens, lawful_before}
-use Rattle.bank_laws.proofs.Ticks.{last_tick-rises, last-below}
-use Rattle.bank_laws.proofs.Walking.{rows_after}
-use Rattle.bank_laws.proofs.Ending.{own_row}
-use Rattle.bank_laws.proofs.Counting.{among, hits}
-use Rattle.bank_laws.proofs.Wears.{exhausted-stores_none}
+use Rattle.bank_model.specs.{After.{work_after, due_moves}, Answers.IsDone, Changes.{change_after, halted_after, halted_by}, Events.{Write, Read, Serve, Begin, Iterate, Cut}}
+use Rattle.bank_model.specs.{History.{queue, waits, due_after, has_exhausted}, Lawful.{Lawful, MayCome}, Running.{cancels_with, cancels_after}}
+use Rattle.bank_model.{specs.Timing.{Happens, Core, Regs, TimedEvent, core, core_of, last_tick}, proofs.Within.due_moves-few}
+use Rattle.bank_laws.specs.{Laws.rules_of, Outcomes.{on_row, outcome_with, outcome_of, ended, row_with, rows_from}, Ticks.ends_action}
+use Rattle.bank_laws.proofs.{Answering.{head-there, first-there, stored-head, served-first}, Counting.{among, hits}, Ending.own_row, Entries.either, Later.last-later}
+use Rattle.bank_laws.proofs.{Pending.{writes_in, write_rows, queue-asked}, Settling.{opens, lawful_before}, Ticks.{last_tick-rises, last-below}, Waiting.waits-asked}
+use Rattle.bank_laws.proofs.{Walking.rows_after, Wears.exhausted-stores_none}
 use Rattle.bank_laws.proofs.Waiting as waiting
-use Rattle.bank_laws.proofs.Waiting.{waits-asked}
-use Rattle.bank_laws.proofs.Pending.{writes_in, write_rows, queue-asked}
-use Rattle.bank_laws.proofs.Later.{last-later}
-use Rattle.tick_laws.proofs.Actions.{since-up}
-use Rattle.tick_laws.proofs.Settings.{SetAt, row_set, setting, unset_before, unset_stands}
-use Rattle.tick_laws.proofs.Waits.{work_time}
-use Rattle.tick_laws.proofs.Cancels.{fine_before, runs_before, tried_few}
+use Rattle.tick_laws.proofs.{Actions.since-up, Afterwards.rows_after-append, Cancels.{fine_before, runs_before, tried_few}}
 use Rattle.tick_laws.proofs.Causes.{stands, brought, others_few, stood, ends_few, written-runs}
-use Rattle.tick_laws.proofs.Afterwards.{rows_after-append}
-use Rattle.tick_laws.proofs.Tallies.{stores_by, moves_by, retires_by, others_by, serves_by, cuts_by, cancelled_by, tally, tally_cuts}
-use Rattle.tick_laws.proofs.Moves.{moves_few, retires_few}
-use Rattle.tick_laws.proofs.Delays.{gain, Delay, delay_at, step, store_tick}
-use Rattle.tick_laws.proofs.Counts.{Sets, tallied_all, writes-counted, reads-counted, rows-counted, cuts-counted, among-later}
-use Rattle.masked_bytes.proofs.Counting.{count-append}
+use Rattle.tick_laws.proofs.{Counts.{Sets, tallied_all, writes-counted, reads-counted, rows-counted, cuts-counted, among-later}, Delays.{gain, Delay, delay_at, step, store_tick}}
+use Rattle.tick_laws.proofs.{Moves.{moves_few, retires_few}, Settings.{SetAt, row_set, setting, unset_before, unset_stands}}
+use Rattle.tick_laws.proofs.{Tallies.{stores_by, moves_by, retires_by, others_by, serves_by, cuts_by, cancelled_by, tally, tally_cuts}, Waits.work_time}
 
 -- the ticks that may have passed to an arrival at a and over some events
 abbrev allowed : {n m : ℕ} → ℕ → ℕ → ℕ → List (TimedEvent n m) → ℕ

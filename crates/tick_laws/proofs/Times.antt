@@ -4,27 +4,13 @@ use Rattle.std.proofs.lemmas.Bool.{lt-ltb, le-leb, and_from}
 use Rattle.result_rows.specs.declared.Outcome.{Outcome}
 use Rattle.result_rows.specs.declared.Outcome.TheVariants as out
 use Rattle.masked_bytes.specs.Entries.{has_row}
-use Rattle.row_rules.specs.declared.Asks.TheVariants.{Writes}
-use Rattle.row_rules.specs.declared.Row.{Row}
-use Rattle.row_rules.specs.Ticking.{store_in_time, is_in_time}
-use Rattle.bank_shape.specs.declared.BankShape.{BankShape}
-use Rattle.bank_shape.specs.declared.answer.WriteAnswer.{WriteAnswer}
+use Rattle.row_rules.specs.{Ticking.{store_in_time, is_in_time}, declared.Asks.TheVariants.Writes, declared.Row.Row}
+use Rattle.bank_shape.specs.{declared.BankShape.BankShape, declared.answer.WriteAnswer.WriteAnswer, declared.pace.Pace.Pace}
 use Rattle.bank_shape.specs.declared.answer.WriteAnswer.TheVariants as wrote
-use Rattle.bank_model.specs.Events.{Write, Read, Serve, Begin, Iterate, Cut}
-use Rattle.bank_model.specs.History.{queue}
-use Rattle.bank_shape.specs.declared.pace.Pace.{Pace}
-use Rattle.bank_model.specs.Timing.{Happens, Core, Regs, TimedEvent, core, core_of}
-use Rattle.bank_model.specs.Lawful.{Lawful, MayCome}
-use Rattle.bank_laws.specs.Laws.{rules_of}
-use Rattle.bank_laws.specs.Outcomes.{outcome_of, ended, row_with, rows_from}
-use Rattle.bank_laws.proofs.Answering.{merged-there}
-use Rattle.bank_laws.proofs.Fates.{new-push, new-merged}
-use Rattle.bank_laws.proofs.Walking.{Passes, walk, rows_after}
-use Rattle.bank_laws.proofs.Ending.{Onwards, own_answer}
-use Rattle.bank_laws.proofs.Serves.{may_at, onwards_at}
-use Rattle.tick_laws.specs.TickLaws.{is_apart, reads_in_time, stores_in_time, StoreTimeLaw, InTimeLaw}
-use Rattle.tick_laws.proofs.Apart.{apart_at}
-use Rattle.tick_laws.proofs.ReadTimes.{read_at}
+use Rattle.bank_model.specs.{Events.{Write, Read, Serve, Begin, Iterate, Cut}, History.queue, Lawful.{Lawful, MayCome}, Timing.{Happens, Core, Regs, TimedEvent, core, core_of}}
+use Rattle.bank_laws.{specs.Laws.rules_of, specs.Outcomes.{outcome_of, ended, row_with, rows_from}, proofs.Answering.merged-there, proofs.Ending.{Onwards, own_answer}}
+use Rattle.bank_laws.proofs.{Fates.{new-push, new-merged}, Serves.{may_at, onwards_at}, Walking.{Passes, walk, rows_after}}
+use Rattle.tick_laws.{specs.TickLaws.{is_apart, reads_in_time, stores_in_time, StoreTimeLaw, InTimeLaw}, proofs.Apart.apart_at, proofs.ReadTimes.read_at}
 use Rattle.tick_laws.proofs.StoreTimes.{IsInTime, in_end}
 
 module _ {n m : ℕ} (shape : BankShape) (pace : Pace) (e : ℕ) (all : List (TimedEvent n m)) where

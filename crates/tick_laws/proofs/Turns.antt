@@ -1,14 +1,8 @@
 -- How long a read that waits still waits at most.
 use Rattle.std.proofs.Common.{◌≡◌, ℕ, ◌+◌, ◌*◌, ◌≤◌, ◌==◌, ◌||◌, ◌⊎◌, inl, inr, not, suc, Bool, true, false, List, [], ◌∷◌, ◌++◌, Option, Some, None, length, refl, sym, ap, ◌∙◌, subst, arith, cond, eqb, eqb-true}
-use Rattle.std.specs.Prelude.{IfSome, max, nat_lt, if◌then◌else◌}
-use Rattle.std.proofs.lemmas.Bool.{eq-eqb}
-use Rattle.bank_shape.specs.declared.clock.Doing.{Doing}
-use Rattle.bank_shape.specs.declared.clock.Doing.TheVariants.{Serving, Beginning, Iterating}
-use Rattle.bank_shape.specs.declared.clock.Action.{Action}
-use Rattle.bank_model.specs.History.{Awaited}
-use Rattle.bank_model.specs.Timing.{same_doing, is_empty}
-use Rattle.bank_shape.specs.Acting.{choice, chosen_by}
-use Rattle.bank_model.specs.Running.{started}
+use Rattle.std.{specs.Prelude.{IfSome, max, nat_lt, if◌then◌else◌}, proofs.lemmas.Bool.eq-eqb}
+use Rattle.bank_shape.specs.{Acting.{choice, chosen_by}, declared.clock.Action.Action, declared.clock.Doing.Doing, declared.clock.Doing.TheVariants.{Serving, Beginning, Iterating}}
+use Rattle.bank_model.specs.{History.Awaited, Running.started, Timing.{same_doing, is_empty}}
 use Rattle.bank_laws.specs.Standing.{has_wait, WaitsApart}
 use Rattle.tick_laws.proofs.Actions.{Fits}
 

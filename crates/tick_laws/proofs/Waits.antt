@@ -1,32 +1,18 @@
 -- Each event leaves a read that waits in time, and the one that ends its wait comes in time.
 use Rattle.std.proofs.Common.{◌≡◌, ℕ, ◌+◌, ◌*◌, ◌<◌, ◌≤◌, ◌&&◌, not, Bool, true, false, List, [], ◌∷◌, ◌++◌, Option, Some, None, drop, refl, sym, ap, ◌∙◌, subst, arith, cond}
-use Rattle.std.specs.Prelude.{IfSome, is_some}
-use Rattle.std.proofs.Math.Nat.{mul-le-mul_right}
-use Rattle.bank_shape.specs.declared.BankShape.{BankShape}
-use Rattle.bank_shape.specs.Pausing.{is_cancelling}
-use Rattle.bank_shape.specs.declared.answer.ReadAnswer.TheVariants as came
-use Rattle.bank_shape.specs.declared.clock.Doing.{Doing}
-use Rattle.bank_shape.specs.declared.clock.Doing.TheVariants.{Serving, Beginning, Iterating}
-use Rattle.bank_shape.specs.declared.clock.Action.{Action}
-use Rattle.bank_model.specs.Events.{Write, Read, Serve, Begin, Iterate, Cut}
-use Rattle.bank_model.specs.History.{Awaited, waits, in_progress, iterated, goes_on}
-use Rattle.bank_model.specs.Sensing.{most_steps}
+use Rattle.std.{specs.Prelude.{IfSome, is_some}, proofs.Math.Nat.mul-le-mul_right}
+use Rattle.bank_shape.specs.{Acting.{lasts, ends_with, choice, chosen_by}, Pausing.{is_cancelling, gives_way}, declared.BankShape.BankShape, declared.answer.Keep.Keep}
+use Rattle.bank_shape.specs.{declared.answer.Step.Step, declared.clock.Action.Action, declared.clock.Doing.Doing, declared.clock.Doing.TheVariants.{Serving, Beginning, Iterating}}
 use Rattle.bank_shape.specs.declared.pace.Pace.{Pace}
-use Rattle.bank_shape.specs.Acting.{lasts, ends_with}
-use Rattle.bank_model.specs.Timing.{Happens, Core, Regs, KeepBegin, KeepIterate, KeepCut, TimedEvent, ends, is_doing, is_writing, is_empty, core, core_of, last_tick}
-use Rattle.bank_shape.specs.Pausing.{gives_way}
-use Rattle.bank_shape.specs.Acting.{choice, chosen_by}
-use Rattle.bank_model.specs.Running.{busy_by, made_by, busy_after, made_after, ready_after, drops_begin, started, left_by, running, running_at, chosen_after}
-use Rattle.bank_model.specs.Changes.{change_after, change_by, keeping_after, keeping_by, rounds_after, rounds_by, changed_by, written_by, keeps_on}
-use Rattle.bank_shape.specs.declared.answer.Keep.{Keep}
+use Rattle.bank_shape.specs.declared.answer.ReadAnswer.TheVariants as came
 use Rattle.bank_shape.specs.declared.answer.Keep.TheVariants as keep
-use Rattle.bank_shape.specs.declared.answer.Step.{Step}
 use Rattle.bank_shape.specs.declared.answer.Step.TheVariants as did
-use Rattle.bank_laws.proofs.Changing.{busy-none, busy-some, made-none, made-some, changed-idle}
-use Rattle.bank_model.specs.Lawful.{Lawful, MayCome}
-use Rattle.bank_laws.specs.Standing.{has_wait, WaitsApart}
+use Rattle.bank_model.specs.Changes.{change_after, change_by, keeping_after, keeping_by, rounds_after, rounds_by, changed_by, written_by, keeps_on}
+use Rattle.bank_model.specs.{Events.{Write, Read, Serve, Begin, Iterate, Cut}, History.{Awaited, waits, in_progress, iterated, goes_on}, Lawful.{Lawful, MayCome}}
+use Rattle.bank_model.specs.{Running.{busy_by, made_by, busy_after, made_after, ready_after, drops_begin, started, left_by, running, running_at, chosen_after}, Sensing.most_steps}
+use Rattle.bank_model.specs.Timing.{Happens, Core, Regs, KeepBegin, KeepIterate, KeepCut, TimedEvent, ends, is_doing, is_writing, is_empty, core, core_of, last_tick}
+use Rattle.bank_laws.{specs.Standing.{has_wait, WaitsApart}, proofs.Changing.{busy-none, busy-some, made-none, made-some, changed-idle}, proofs.Settling.above_all}
 use Rattle.bank_laws.proofs.Standing.{stand_apart}
-use Rattle.bank_laws.proofs.Settling.{above_all}
 use Rattle.tick_laws.proofs.Actions.{since, since-started, since_of, reads_of, Fits, FitsAll, running_at-fits, iterated-few}
 use Rattle.tick_laws.proofs.Turns.{turn, turn-push, turn-served, owed_by, owes, paid, chosen-reads, owes-started, NotEarly, started-not_early, not_early-push}
 use Rattle.masked_bytes.proofs.Truth.{and_first}

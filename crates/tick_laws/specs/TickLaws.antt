@@ -1,24 +1,13 @@
 -- The laws on the ticks of a bank's rows.
-use Rattle.std.specs.Prelude.{◌≡◌, ℕ, ◌+◌, ◌*◌, ◌<◌, ◌≤◌, not, ◌&&◌, ◌||◌, nat_le, nat_lt, Bool, false, if◌then◌else◌, IsTrue, IfSome, List, [], ◌∷◌, ◌++◌, length}
-use Rattle.std.specs.List.{list_all}
-use Rattle.row_rules.specs.Rows.{RowTest, each_row, asks_read, asks_write}
+use Rattle.std.specs.{List.list_all, Prelude.{◌≡◌, ℕ, ◌+◌, ◌*◌, ◌<◌, ◌≤◌, not, ◌&&◌, ◌||◌, nat_le, nat_lt, Bool, false, if◌then◌else◌, IsTrue, IfSome, List, [], ◌∷◌, ◌++◌, length}}
+use Rattle.row_rules.specs.{Rows.{RowTest, each_row, asks_read, asks_write}, Ticking.{no_cut_below, first_cut_at, apart, read_in_time, store_in_time, is_in_time}, declared.Row.Row}
 use Rattle.row_rules.specs.declared.Rules.{Rules}
 use Rattle.result_rows.specs.declared.Outcome.{Outcome}
 use Rattle.result_rows.specs.declared.Outcome.TheVariants as out
-use Rattle.row_rules.specs.declared.Row.{Row}
-use Rattle.row_rules.specs.Ticking.{no_cut_below, first_cut_at, apart, read_in_time, store_in_time, is_in_time}
-use Rattle.bank_shape.specs.declared.BankShape.{BankShape}
-use Rattle.bank_shape.specs.Pausing.{is_cancelling}
+use Rattle.bank_shape.specs.{Pausing.is_cancelling, declared.BankShape.BankShape, declared.pace.Pace.Pace}
 use Rattle.bank_shape.specs.declared.answer.ReadAnswer.TheVariants as came
-use Rattle.bank_model.specs.Events.{Read}
-use Rattle.bank_model.specs.History.{waits}
-use Rattle.bank_shape.specs.declared.pace.Pace.{Pace}
-use Rattle.bank_model.specs.Timing.{TimedEvent, Core, core, ends, last_tick}
-use Rattle.bank_model.specs.Running.{cancels_after, running_at}
-use Rattle.bank_model.specs.Lawful.{Lawful}
-use Rattle.bank_laws.specs.Laws.{IsSized, rules_of}
-use Rattle.bank_laws.specs.Resting.{IsStill}
-use Rattle.bank_laws.specs.Outcomes.{table_of, outcome_of, row_with}
+use Rattle.bank_model.specs.{Events.Read, History.waits, Lawful.Lawful, Running.{cancels_after, running_at}, Timing.{TimedEvent, Core, core, ends, last_tick}}
+use Rattle.bank_laws.specs.{Laws.{IsSized, rules_of}, Outcomes.{table_of, outcome_of, row_with}, Resting.IsStill}
 
 -- a row is read or stored apart from every row before it
 abbrev pub is_apart : {n : ℕ} → ℕ → RowTest n

@@ -1,15 +1,10 @@
 -- How many rows of a generated trace are cuts.
 use Rattle.std.proofs.Common.{◌≡◌, ◌≢◌, ℕ, zero, suc, ◌+◌, ◌-◌, ◌*◌, ◌/◌, ◌%◌, ◌<◌, ◌≤◌, ◌==◌, Bool, true, false, cond, List, ◌∷◌, min, refl, sym, ap, ◌∙◌, inl, inr, arith, nat_le}
-use Rattle.std.proofs.Math.Nat.{div-mul-le_self, mod-lt, mul_comm, suc-mul, zero-div}
-use Rattle.std.proofs.lemmas.Bool.{cases_Bool, cases_eq, cases_lt}
-use Rattle.std.proofs.lemmas.Bool.Decides.{nat_tests}
-use Rattle.std.proofs.lemmas.List.Sums.{sum_by-cons}
-use Rattle.std.proofs.lemmas.Nat.{div-add-mod', div-mul-add, le-div}
+use Rattle.std.proofs.{Math.Nat.{div-mul-le_self, mod-lt, mul_comm, suc-mul, zero-div}, lemmas.Bool.{cases_Bool, cases_eq, cases_lt}, lemmas.Bool.Decides.nat_tests}
+use Rattle.std.proofs.{lemmas.List.Sums.sum_by-cons, lemmas.Nat.{div-add-mod', div-mul-add, le-div}}
 use Rattle.rand_core.specs.Stream.{Stream, next_u64}
 use Rattle.trace_reader.specs.declared.event.Event.{Event}
-use Rattle.trace_gen.specs.declared.mix.Mix.{Mix}
-use Rattle.trace_gen.specs.Generated.{access_by, cut_distance, draws_write, event_drawn, events_drawn, is_cut_row, op_drawn}
-use Rattle.trace_gen.specs.Laws.{cuts_among, is_cut}
+use Rattle.trace_gen.specs.{Generated.{access_by, cut_distance, draws_write, event_drawn, events_drawn, is_cut_row, op_drawn}, Laws.{cuts_among, is_cut}, declared.mix.Mix.Mix}
 
 quotient : (a w b x : ℕ) → b < w → x ≡ a * w + b → x / w ≡ a
 quotient a w b x h e = rw e (div-mul-add a w b h)

@@ -2,8 +2,7 @@
 use Rattle.std.proofs.Common.{◌≡◌, ℕ, suc, ◌+◌, ◌-◌, ◌%◌, ◌<◌, [], ◌∷◌, refl, sym, arith}
 use Rattle.rand_core.specs.Stream.{Stream, next_u64}
 use Rattle.trace_reader.specs.declared.event.EventOp.{EventOp}
-use Rattle.trace_gen.specs.declared.mix.Mix.{Mix}
-use Rattle.trace_gen.specs.Generated.{event_drawn, events_drawn, op_drawn}
+use Rattle.trace_gen.specs.{Generated.{event_drawn, events_drawn, op_drawn}, declared.mix.Mix.Mix}
 
 -- no event more
 pub left-none : (n lines : ℕ) (mix : Mix) (rows done before : ℕ) (left : Stream) → done ≡ rows → events_drawn n lines mix (rows - done) done before left ≡ []

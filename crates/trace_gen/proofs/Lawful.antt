@@ -1,22 +1,13 @@
 -- The events of a generated trace are those of a trace for its lines.
 use Rattle.std.proofs.Common.{◌≡◌, ℕ, zero, suc, ◌+◌, ◌*◌, ◌/◌, ◌%◌, ◌^◌, ◌<◌, ◌≤◌, ◌&&◌, List, [], ◌∷◌, length, min, refl, ap, inl, inr, arith, nat_lt}
-use Rattle.std.proofs.Math.Nat.{mod-lt, mul-le-mul, suc-mul}
-use Rattle.std.proofs.lemmas.Bool.{cases_Bool}
-use Rattle.std.proofs.lemmas.Bool.Decides.{nat_tests}
+use Rattle.std.proofs.{Math.Nat.{mod-lt, mul-le-mul, suc-mul}, lemmas.Bool.cases_Bool, lemmas.Bool.Decides.nat_tests}
 use Rattle.rand_core.specs.Stream.{Stream, next_u64}
-use Rattle.rand_xoshiro.specs.SplitMix64.{splitmix_seed}
-use Rattle.rand_xoshiro.specs.Xoshiro256.{of_seed}
+use Rattle.rand_xoshiro.specs.{SplitMix64.splitmix_seed, Xoshiro256.of_seed}
 use Rattle.seeded_words.specs.Words.{xoshiro_of}
-use Rattle.trace_reader.specs.Events.{AreEventsFor, IsEventFor, IsOpFor}
-use Rattle.trace_reader.specs.Rows.{latest_tick}
-use Rattle.trace_reader.specs.declared.event.Event.{Event}
-use Rattle.trace_reader.specs.declared.event.EventOp.{EventOp}
-use Rattle.trace_gen.specs.declared.mix.Mix.{Mix}
+use Rattle.trace_reader.specs.{Events.{AreEventsFor, IsEventFor, IsOpFor}, Rows.latest_tick, declared.event.Event.Event, declared.event.EventOp.EventOp}
 use Rattle.trace_gen.specs.Generated.{IsLongMix, IsMix, access_by, draws_write, event_drawn, events_drawn, generated, is_cut_row, line_drawn, op_drawn}
-use Rattle.trace_gen.specs.Laws.{AllHaveBytes, AllWithin, GeneratedLaw, GeneratedTextLaw, HasBytes, IsGenerated, LongGeneratedLaw, LongMixLaw}
-use Rattle.trace_gen.proofs.Cuts.{cuts-all}
-use Rattle.trace_gen.proofs.Read.{text_law}
-use Rattle.trace_gen.proofs.Words.{IsWords, after-word, fills}
+use Rattle.trace_gen.specs.{Laws.{AllHaveBytes, AllWithin, GeneratedLaw, GeneratedTextLaw, HasBytes, IsGenerated, LongGeneratedLaw, LongMixLaw}, declared.mix.Mix.Mix}
+use Rattle.trace_gen.proofs.{Cuts.cuts-all, Read.text_law, Words.{IsWords, after-word, fills}}
 
 -- a line that is drawn exists
 line-below : (lines : ℕ) (mix : Mix) (word : ℕ) → 1 ≤ lines → line_drawn lines mix word < lines

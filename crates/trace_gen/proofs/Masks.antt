@@ -1,11 +1,7 @@
 -- The characters of a masked write are read as its bytes.
 use Rattle.std.proofs.Common.{◌≡◌, ℕ, suc, ◌+◌, ◌*◌, ◌/◌, ◌%◌, ◌<◌, ◌==◌, Bool, true, false, List, [], ◌∷◌, ◌++◌, length, get_or, map, Option, Some, None, unwrap_or, is_some, refl, sym, ap, ◌∙◌, inl, inr, arith}
-use Rattle.std.specs.Prelude.{if◌then◌else◌}
-use Rattle.std.specs.List.{list_any}
-use Rattle.std.proofs.lemmas.Bool.{and_parts, cases_Bool, eqb-true}
-use Rattle.std.proofs.lemmas.Bool.Decides.{nat_tests}
-use Rattle.hex.specs.Hex.{IsBytes, encode_with, hex_digit_value, lower_digits}
-use Rattle.hex.proofs.HexLemmas.{IsDigits-lower_digits}
+use Rattle.std.{specs.List.list_any, specs.Prelude.{if◌then◌else◌}, proofs.lemmas.Bool.{and_parts, cases_Bool, eqb-true}, proofs.lemmas.Bool.Decides.nat_tests}
+use Rattle.hex.{specs.Hex.{IsBytes, encode_with, hex_digit_value, lower_digits}, proofs.HexLemmas.IsDigits-lower_digits}
 use Rattle.masked_bytes.specs.Masked.{IsMasked, zero_elsewhere}
 use Rattle.trace_reader.specs.Payload.{masked_of, pair_of, pairs_of}
 use Rattle.trace_gen.specs.EventText.{masked_text, pair_text}

@@ -1,33 +1,18 @@
 -- A printed row is read as its event.
 use Rattle.std.proofs.Common.{◌≡◌, ℕ, zero, suc, ◌+◌, ◌-◌, ◌*◌, ◌/◌, ◌%◌, ◌^◌, ◌<◌, ◌≤◌, ◌==◌, Bool, true, false, List, [], ◌∷◌, ◌++◌, length, get_or, Some, refl, ap, ◌∙◌, arith, nat_lt, lit<, append-nil, map, length-append}
-use Rattle.std.specs.Prelude.{codes, decimal, Ok}
-use Rattle.std.specs.Char.{is_ascii_digit}
-use Rattle.std.specs.List.{join_with_byte, list_all, list_any}
-use Rattle.std.specs.Result.{result_ok}
-use Rattle.std.specs.Str.Parse.{AllDigits, digits_value}
-use Rattle.std.proofs.lemmas.Bool.Decides.{nat_tests}
-use Rattle.std.proofs.lemmas.Fmt.{decimal_is_IsNumeral, length-decimal-le}
-use Rattle.std.proofs.lemmas.Str.Parse.{digit_from_value}
-use Rattle.csv.specs.Machine.{next_record}
-use Rattle.csv.specs.Reading.{default_config, records, records_from, records_next, strip_bom}
-use Rattle.csv.specs.Records.{field_at}
-use Rattle.csv.specs.Writing.{default_writer, fields_text, is_blank, needs_byte, row_text}
+use Rattle.std.specs.{Char.is_ascii_digit, List.{join_with_byte, list_all, list_any}, Prelude.{codes, decimal, Ok}, Result.result_ok, Str.Parse.{AllDigits, digits_value}}
+use Rattle.std.proofs.{lemmas.Bool.Decides.nat_tests, lemmas.Fmt.{decimal_is_IsNumeral, length-decimal-le}, lemmas.Str.Parse.digit_from_value}
+use Rattle.csv.specs.{Machine.next_record, Reading.{default_config, records, records_from, records_next, strip_bom}, Records.field_at}
+use Rattle.csv.{specs.Writing.{default_writer, fields_text, is_blank, needs_byte, row_text}, proofs.RoundTrip.read-write-many}
 use Rattle.csv.specs.declared.parser.State.TheVariants as st
-use Rattle.csv.proofs.RoundTrip.{read-write-many}
 use Rattle.hex.specs.Hex.{IsBytes, encode_lower, encode_with, hex_digit_value, lower_digits}
 use Rattle.hex.proofs.HexLemmas.{IsDigits-lower_digits, decode_of-encode_lower, decode_sized-twice, length-encode_with}
-use Rattle.trace_reader.specs.Events.{AreEventsFor, IsEventFor, IsOpFor}
-use Rattle.trace_reader.specs.Number.{number_of}
-use Rattle.trace_reader.specs.Payload.{bytes_of}
+use Rattle.trace_reader.specs.{Events.{AreEventsFor, IsEventFor, IsOpFor}, Number.number_of, Payload.bytes_of}
 use Rattle.trace_reader.specs.Rows.{cut_of, event_of, latest_tick, line_of, mask_of, op_of, read_of, tick_of, write_of}
-use Rattle.trace_reader.specs.Trace.{events_of, is_header, most_rows, rows_from, trace_of}
-use Rattle.trace_reader.specs.declared.event.Event.{Event}
-use Rattle.trace_reader.specs.declared.event.EventOp.{EventOp}
-use Rattle.trace_reader.specs.declared.event.EventOp.TheVariants.{Read, Write, Mask, Cut}
-use Rattle.trace_reader.proofs.Numbers.{number_of-some}
+use Rattle.trace_reader.specs.{Trace.{events_of, is_header, most_rows, rows_from, trace_of}, declared.event.Event.Event, declared.event.EventOp.EventOp}
+use Rattle.trace_reader.{specs.declared.event.EventOp.TheVariants.{Read, Write, Mask, Cut}, proofs.Numbers.number_of-some}
 use Rattle.trace_gen.specs.EventText.{data_text, event_fields, event_row, event_rows, line_text, masked_text, op_letter, pair_text, trace_header, trace_text}
-use Rattle.trace_gen.specs.Laws.{AllHaveBytes, HasBytes, RowLaw, TextLaw, most_lines}
-use Rattle.trace_gen.proofs.Masks.{masked-read}
+use Rattle.trace_gen.{specs.Laws.{AllHaveBytes, HasBytes, RowLaw, TextLaw, most_lines}, proofs.Masks.masked-read}
 
 -- digits are digits
 digits-all : (text : List ℕ) → AllDigits 10 text → list_all is_ascii_digit text ≡ true

@@ -1,19 +1,11 @@
 -- How long the rows of a trace are.
 use Rattle.std.proofs.Common.{◌≡◌, ℕ, ◌+◌, ◌*◌, ◌^◌, ◌<◌, ◌≤◌, Bool, true, false, List, [], ◌∷◌, ◌++◌, length, refl, ap, arith, length-append, lit<, lit≤}
-use Rattle.std.specs.Prelude.{codes, decimal}
-use Rattle.std.specs.List.{join_with_byte}
-use Rattle.std.proofs.Math.Nat.{suc-mul}
-use Rattle.std.proofs.lemmas.Fmt.{length-decimal-le}
-use Rattle.hex.specs.Hex.{encode_lower, encode_with, lower_digits}
-use Rattle.hex.proofs.HexLemmas.{length-encode_with}
-use Rattle.trace_reader.specs.Events.{AreEventsFor, IsEventFor, IsOpFor}
-use Rattle.trace_reader.specs.declared.event.Event.{Event}
-use Rattle.trace_reader.specs.declared.event.EventOp.{EventOp}
+use Rattle.std.{specs.List.join_with_byte, specs.Prelude.{codes, decimal}, proofs.Math.Nat.suc-mul, proofs.lemmas.Fmt.length-decimal-le}
+use Rattle.hex.{specs.Hex.{encode_lower, encode_with, lower_digits}, proofs.HexLemmas.length-encode_with}
+use Rattle.trace_reader.specs.{Events.{AreEventsFor, IsEventFor, IsOpFor}, declared.event.Event.Event, declared.event.EventOp.EventOp}
 use Rattle.trace_reader.specs.declared.event.EventOp.TheVariants.{Read, Write, Mask, Cut}
 use Rattle.pcm_io.proofs.DigitLemmas.{five_digits}
-use Rattle.trace_gen.specs.EventText.{data_text, event_row, event_rows, line_text, masked_text, op_letter, pair_text}
-use Rattle.trace_gen.specs.Generated.{generated}
-use Rattle.trace_gen.specs.Laws.{AllWithin, GeneratedSizeLaw}
+use Rattle.trace_gen.specs.{EventText.{data_text, event_row, event_rows, line_text, masked_text, op_letter, pair_text}, Generated.generated, Laws.{AllWithin, GeneratedSizeLaw}}
 use Rattle.trace_gen.proofs.Lawful.{generated_law, span-small}
 
 letter-size : (n : ℕ) (op : EventOp n) → length (op_letter op) ≡ 1

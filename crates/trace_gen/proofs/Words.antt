@@ -1,14 +1,10 @@
 -- The bytes that a generator of words fills in: as many as were asked for, and each is a byte.
 use Rattle.std.proofs.Common.{◌≡◌, ℕ, zero, suc, ◌+◌, ◌*◌, ◌/◌, ◌%◌, ◌≤◌, List, [], ◌∷◌, ◌++◌, length, take, refl, sym, ap, ◌∙◌, arith, length-append}
-use Rattle.std.specs.Int.{w64, to_le_bytes}
-use Rattle.std.proofs.lemmas.List.{length-take-le, take_all}
-use Rattle.rand_core.specs.Stream.{Stream, fill_bytes, next_u64}
-use Rattle.rand_core.specs.Steps.{steps_u64_high, word_bytes}
-use Rattle.rand_core.proofs.StepsLemmas.{fill_bytes-stream_of, next_u64-stream_of}
+use Rattle.std.{specs.Int.{w64, to_le_bytes}, proofs.lemmas.List.{length-take-le, take_all}}
+use Rattle.rand_core.{specs.Steps.{steps_u64_high, word_bytes}, specs.Stream.{Stream, fill_bytes, next_u64}, proofs.StepsLemmas.{fill_bytes-stream_of, next_u64-stream_of}}
 use Rattle.rand_xoshiro.specs.Xoshiro256.{plus_plus}
 use Rattle.hex.specs.Hex.{IsBytes}
-use Rattle.trace_gen.specs.Generated.{bytes_of_words, words_left}
-use Rattle.trace_gen.specs.Laws.{PayloadLaw}
+use Rattle.trace_gen.specs.{Generated.{bytes_of_words, words_left}, Laws.PayloadLaw}
 
 -- bytes behind bytes
 pub IsBytes-append : (xs ys : List ℕ) → IsBytes xs → IsBytes ys → IsBytes (xs ++ ys)

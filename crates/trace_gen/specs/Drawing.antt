@@ -1,8 +1,7 @@
 -- What a generator of a trace has still to give.
 use Rattle.std.specs.Prelude.{◌≡◌, ℕ, ◌-◌, ◌*◌, ◌≤◌, List}
 use Rattle.trace_reader.specs.declared.event.Event.{Event}
-use Rattle.trace_gen.specs.declared.mix.Mix.{Mix}
-use Rattle.trace_gen.specs.Generated.{IsLongMix, cut_distance, events_drawn, words_left}
+use Rattle.trace_gen.specs.{Generated.{IsLongMix, cut_distance, events_drawn, words_left}, declared.mix.Mix.Mix}
 
 -- where a generator stands: the state of its words, and how many rows are done, the last of them at this tick
 pub record Drawing : Type 0 where

@@ -1,14 +1,9 @@
 -- The events that a seed draws.
-use Rattle.std.specs.Prelude.{ℕ, zero, suc, ◌+◌, ◌*◌, ◌/◌, ◌%◌, ◌^◌, ◌≤◌, ◌==◌, ◌&&◌, nat_le, nat_lt, max, min, Bool, if◌then◌else◌, List, [], ◌∷◌, ◌++◌}
-use Rattle.std.specs.Int.{w64, to_le_bytes}
-use Rattle.rand_core.specs.Stream.{Stream, next_u64, fill_bytes}
-use Rattle.rand_core.specs.Steps.{stream_of, steps_u64_high}
+use Rattle.std.specs.{Int.{w64, to_le_bytes}, Prelude.{ℕ, zero, suc, ◌+◌, ◌*◌, ◌/◌, ◌%◌, ◌^◌, ◌≤◌, ◌==◌, ◌&&◌, nat_le, nat_lt, max, min, Bool, if◌then◌else◌, List, [], ◌∷◌, ◌++◌}}
+use Rattle.rand_core.specs.{Steps.{stream_of, steps_u64_high}, Stream.{Stream, next_u64, fill_bytes}}
 use Rattle.rand_xoshiro.specs.Xoshiro256.{plus_plus}
 use Rattle.seeded_words.specs.Words.{xoshiro_of}
-use Rattle.trace_reader.specs.Rows.{latest_tick}
-use Rattle.trace_reader.specs.declared.event.Event.{Event}
-use Rattle.trace_reader.specs.declared.event.EventOp.{EventOp}
-use Rattle.trace_reader.specs.declared.event.EventOp.TheVariants.{Read, Write, Cut}
+use Rattle.trace_reader.specs.{Rows.latest_tick, declared.event.Event.Event, declared.event.EventOp.EventOp, declared.event.EventOp.TheVariants.{Read, Write, Cut}}
 use Rattle.trace_gen.specs.declared.mix.Mix.{Mix}
 
 -- the numbers of a mix are in range

@@ -2,18 +2,11 @@
 use Rattle.std.specs.Prelude.{◌≡◌, ℕ, ◌+◌, ◌*◌, ◌≤◌, Bool, true, false, List, [], ◌∷◌, ◌++◌, length, count_by, Some, Ok}
 use Rattle.rand_core.specs.Stream.{fill_bytes}
 use Rattle.hex.specs.Hex.{IsBytes}
-use Rattle.csv.specs.Machine.{next_record}
-use Rattle.csv.specs.Reading.{default_config}
+use Rattle.csv.specs.{Machine.next_record, Reading.default_config}
 use Rattle.csv.specs.declared.parser.State.TheVariants as st
-use Rattle.trace_reader.specs.Events.{AreEventsFor, IsEventFor}
-use Rattle.trace_reader.specs.Rows.{event_of}
-use Rattle.trace_reader.specs.Trace.{most_rows, trace_of}
-use Rattle.trace_reader.specs.declared.event.Event.{Event}
-use Rattle.trace_reader.specs.declared.event.EventOp.{EventOp}
+use Rattle.trace_reader.specs.{Events.{AreEventsFor, IsEventFor}, Rows.event_of, Trace.{most_rows, trace_of}, declared.event.Event.Event, declared.event.EventOp.EventOp}
 use Rattle.trace_reader.specs.declared.event.EventOp.TheVariants.{Read, Write, Mask, Cut}
-use Rattle.trace_gen.specs.declared.mix.Mix.{Mix}
-use Rattle.trace_gen.specs.EventText.{event_fields, event_row, trace_text}
-use Rattle.trace_gen.specs.Generated.{IsLongMix, IsMix, bytes_of_words, generated, words_left}
+use Rattle.trace_gen.specs.{EventText.{event_fields, event_row, trace_text}, Generated.{IsLongMix, IsMix, bytes_of_words, generated, words_left}, declared.mix.Mix.Mix}
 
 -- the line numbers of a trace have at most five digits
 abbrev pub most_lines : ℕ

@@ -17,7 +17,8 @@ pub fn access<const B: usize>(
     mix: &Mix,
 ) -> EventOp<B>
     requires { 1 ≤ lines }
-    ensures { (result, words_left words.new) ≡ access_by B lines mix.now word (words_left words.old) }
+    ensures { (result, words_left words.new) ≡ access_by B lines mix.now word
+        (words_left words.old) }
 {
     let line = mix.line(lines, word);
     if mix.is_write(word) {

@@ -29,9 +29,21 @@ impl<const B: usize> Model for Generator<B> {
 
     ghost Value = { List (Event B) };
 
-    ghost view = { λ g. left_of B (record { state = g.words; lines = g.lines; mix = g.mix; done = g.done; tick = g.tick }) };
+    ghost view = { λ g. left_of B (record {
+      state = g.words;
+      lines = g.lines;
+      mix = g.mix;
+      done = g.done;
+      tick = g.tick;
+    }) };
 
-    ghost invariant = { λ g. Draws (record { state = g.words; lines = g.lines; mix = g.mix; done = g.done; tick = g.tick }) g.distance };
+    ghost invariant = { λ g. Draws (record {
+      state = g.words;
+      lines = g.lines;
+      mix = g.mix;
+      done = g.done;
+      tick = g.tick;
+    }) g.distance };
 }
 
 impl<const B: usize> Generator<B> {

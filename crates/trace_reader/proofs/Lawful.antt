@@ -1,29 +1,17 @@
 -- The events of a trace are events for its lines, at ticks that never fall, and there are no more than are allowed.
 use Rattle.std.proofs.Common.{zero, suc, ◌≡◌, ℕ, ◌+◌, ◌-◌, ◌<◌, ◌≤◌, ◌==◌, ◌&&◌, List, [], ◌∷◌, length, map, Bool, true, false, Option, Some, None, unwrap_or, is_some, refl, sym, ◌∙◌, arith, nat_lt}
-use Rattle.std.specs.Prelude.{if◌then◌else◌, not, codes, slice_get, Result, Ok, Err}
-use Rattle.std.specs.Str.{bytes_eq}
-use Rattle.std.specs.List.{list_any}
-use Rattle.std.specs.Result.{result_ok}
-use Rattle.std.proofs.lemmas.Bool.Decides.{nat_tests}
-use Rattle.std.proofs.lemmas.List.{length-map}
-use Rattle.hex.proofs.HexLemmas.{decode_of-ok, decode_sized-ok, decode_sized-twice}
-use Rattle.hex.specs.Hex.{decode_sized}
-use Rattle.hex.specs.declared.error.FromHexError.{FromHexError}
+use Rattle.std.specs.{List.list_any, Prelude.{if◌then◌else◌, not, codes, slice_get, Result, Ok, Err}, Result.result_ok, Str.bytes_eq}
+use Rattle.std.proofs.{lemmas.Bool.Decides.nat_tests, lemmas.List.length-map}
+use Rattle.hex.{specs.Hex.decode_sized, specs.declared.error.FromHexError.FromHexError, proofs.HexLemmas.{decode_of-ok, decode_sized-ok, decode_sized-twice}}
 use Rattle.masked_bytes.specs.Masked.{zero_elsewhere, IsMasked}
-use Rattle.trace_reader.specs.Payload.{bytes_of, masked_of, masked_by, Masked, pairs_of}
+use Rattle.trace_reader.specs.{Events.{AreEventsFor, IsEventFor, IsOpFor}, Payload.{bytes_of, masked_of, masked_by, Masked, pairs_of}}
 use Rattle.trace_reader.specs.Rows.{cut_of, event_at, event_of, latest_tick, line_of, mask_of, op_of, or_fault, read_of, text_at, tick_of, write_of}
-use Rattle.trace_reader.specs.Trace.{and_then_rows, event_before, events_of, fault_at, is_header, most_rows, rows_from, trace_of}
-use Rattle.trace_reader.specs.Events.{AreEventsFor, IsEventFor, IsOpFor}
-use Rattle.trace_reader.specs.declared.event.Event.{Event}
-use Rattle.trace_reader.specs.declared.event.EventOp.{EventOp}
-use Rattle.trace_reader.specs.declared.event.EventOp.TheVariants.{Read, Write, Mask, Cut}
-use Rattle.trace_reader.specs.declared.fault.Kind.{Kind}
+use Rattle.trace_reader.specs.{Trace.{and_then_rows, event_before, events_of, fault_at, is_header, most_rows, rows_from, trace_of}, declared.event.Event.Event}
+use Rattle.trace_reader.specs.{declared.event.EventOp.EventOp, declared.event.EventOp.TheVariants.{Read, Write, Mask, Cut}, declared.fault.Kind.Kind}
+use Rattle.trace_reader.{specs.declared.fault.ParseFault.ParseFault, proofs.Numbers.number_within, proofs.Pairs.{list_any-some, masked_from}}
 use Rattle.trace_reader.specs.declared.fault.Kind.TheVariants as kind
-use Rattle.trace_reader.specs.declared.fault.ParseFault.{ParseFault}
 use Rattle.trace_reader.specs.declared.fault.ParseFault.TheVariants as fault
 use Rattle.csv.specs.Reading.{default_config, records, strip_bom}
-use Rattle.trace_reader.proofs.Numbers.{number_within}
-use Rattle.trace_reader.proofs.Pairs.{list_any-some, masked_from}
 
 -- the bytes of a write
 hex-length : (n : ℕ) (text bytes : List ℕ) (r : Result (List ℕ) FromHexError) → decode_sized text n ≡ r → result_ok r ≡ Some bytes → length bytes ≡ n

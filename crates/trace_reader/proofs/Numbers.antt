@@ -1,13 +1,7 @@
 -- When a text is a number.
 use Rattle.std.proofs.Common.{◌≡◌, ℕ, ◌+◌, ◌-◌, ◌*◌, ◌<◌, ◌≤◌, List, length, get_or, take, true, false, ◌&&◌, Some, None, refl, sym, ap, ◌∙◌, arith, nat_lt, nat_le}
-use Rattle.std.specs.Char.{is_ascii_digit, digit_value}
-use Rattle.std.specs.List.{list_all}
-use Rattle.std.specs.Str.Parse.{digits_value}
-use Rattle.std.proofs.lemmas.Bool.Decides.{nat_tests}
-use Rattle.std.proofs.lemmas.Int.Digits.{digits_value_more}
-use Rattle.std.proofs.lemmas.List.{take_all}
-use Rattle.std.proofs.lemmas.List.Folds.{list_all_at, list_all_more}
-use Rattle.std.proofs.lemmas.Str.{digit_value_digit}
+use Rattle.std.{specs.Char.{is_ascii_digit, digit_value}, specs.List.list_all, specs.Str.Parse.digits_value, proofs.lemmas.Bool.Decides.nat_tests}
+use Rattle.std.proofs.{lemmas.Int.Digits.digits_value_more, lemmas.List.take_all, lemmas.List.Folds.{list_all_at, list_all_more}, lemmas.Str.digit_value_digit}
 use Rattle.std.proofs.lemmas.Str.Parse.{digits_value-take-le}
 use Rattle.trace_reader.specs.Number.{is_number, number_of}
 

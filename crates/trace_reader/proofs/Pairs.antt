@@ -1,13 +1,7 @@
 -- How the pairs of a masked payload are read one after the other.
 use Rattle.std.proofs.Common.{◌≡◌, ◌≢◌, ℕ, suc, ◌+◌, ◌*◌, ◌<◌, ◌==◌, ◌&&◌, ◌||◌, List, [], ◌∷◌, ◌++◌, length, get_or, take, drop, Bool, true, Option, Some, None, refl, sym, ap, ◌∙◌, arith, unwrap_or, is_some, map}
-use Rattle.std.specs.Prelude.{option_map, if◌then◌else◌}
-use Rattle.std.specs.Option.{option_and_then}
-use Rattle.std.specs.List.{list_any}
-use Rattle.std.proofs.Math.ListN.{set}
-use Rattle.std.proofs.lemmas.List.{length-append}
-use Rattle.std.proofs.Math.Seq.{take-suc-set, drop-cons}
-use Rattle.std.proofs.lemmas.List.{append_assoc, append-nil, map-append, take_all, drop_all}
-use Rattle.std.proofs.lemmas.Bool.Decides.{nat_tests}
+use Rattle.std.{specs.List.list_any, specs.Option.option_and_then, specs.Prelude.{option_map, if◌then◌else◌}, proofs.Math.ListN.set, proofs.Math.Seq.{take-suc-set, drop-cons}}
+use Rattle.std.proofs.{lemmas.Bool.Decides.nat_tests, lemmas.List.{length-append, append_assoc, append-nil, map-append, take_all, drop_all}}
 use Rattle.trace_reader.specs.Payload.{pair_of, pairs_of, masked_of, masked_by, Masked}
 
 -- a pair in front of pairs

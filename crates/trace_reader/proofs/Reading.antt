@@ -2,13 +2,10 @@
 use Rattle.std.proofs.Common.{◌≡◌, ℕ, zero, suc, ◌+◌, ◌<◌, ◌≤◌, ◌==◌, ◌||◌, List, [], ◌∷◌, ◌++◌, length, Bool, true, false, Option, Some, None, Bor, refl, ap, inl, ◌∙◌, arith}
 use Rattle.std.specs.Prelude.{if◌then◌else◌}
 use Rattle.csv.specs.Machine.{Read, ends_at_end, field_after, fields_after, in_field, is_end, next_record, start_field, start_record, step}
-use Rattle.csv.specs.Reading.{ReadRecord, Reached, default_config, is_flexible, reader_state, records_from, records_next, took_first}
-use Rattle.csv.specs.declared.parser.State.{State}
+use Rattle.csv.specs.{Reading.{ReadRecord, Reached, default_config, is_flexible, reader_state, records_from, records_next, took_first}, declared.parser.Action.Action}
+use Rattle.csv.{specs.declared.parser.State.State, specs.declared.reader.Reader.Reader, proofs.ReadFacts.{rows-end, rows-more}}
 use Rattle.csv.specs.declared.parser.State.TheVariants as st
-use Rattle.csv.specs.declared.parser.Action.{Action}
 use Rattle.csv.specs.declared.parser.Action.TheVariants as act
-use Rattle.csv.specs.declared.reader.Reader.{Reader}
-use Rattle.csv.proofs.ReadFacts.{rows-end, rows-more}
 use Rattle.trace_reader.specs.Records.{FindsNext, HasLeft, unended}
 
 -- an action that ends a record leaves a state in which no record is begun

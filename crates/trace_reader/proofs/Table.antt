@@ -1,16 +1,9 @@
 -- How the digits of a payload are read by what `hex` says of each character.
 use Rattle.std.proofs.Common.{◌≡◌, ℕ, suc, ◌+◌, ◌*◌, ◌/◌, ◌%◌, ◌<◌, ◌≤◌, ◌==◌, List, [], ◌∷◌, ◌++◌, length, get_or, take, drop, Bool, true, false, Option, Some, None, refl, sym, ap, ◌∙◌, arith, unwrap_or, max, inl, inr, ◌≢◌}
-use Rattle.std.specs.Prelude.{option_map, if◌then◌else◌, Result, Ok, Err}
-use Rattle.std.specs.Result.{result_ok}
-use Rattle.std.proofs.Math.ListN.{set}
-use Rattle.std.proofs.Math.Seq.{take-suc-set, drop-cons}
-use Rattle.std.proofs.lemmas.List.{append_assoc, append-nil, take_all, drop_all}
-use Rattle.std.proofs.lemmas.Bool.{cases_lt}
-use Rattle.std.proofs.lemmas.Bool.Decides.{nat_tests}
+use Rattle.std.{specs.Int.Bits.bit_or, specs.Prelude.{option_map, if◌then◌else◌, Result, Ok, Err}, specs.Result.result_ok, proofs.Math.ListN.set}
+use Rattle.std.proofs.{Math.Seq.{take-suc-set, drop-cons}, lemmas.Bool.cases_lt, lemmas.Bool.Decides.nat_tests, lemmas.List.{append_assoc, append-nil, take_all, drop_all}}
 use Rattle.std.proofs.lemmas.Nat.{or_lt, le_or_l, le_or_r}
-use Rattle.std.specs.Int.Bits.{bit_or}
-use Rattle.hex.specs.Hex.{decode_pairs, hex_digit_value, digit_or_error, ◌>>=◌}
-use Rattle.hex.specs.declared.error.FromHexError.{FromHexError}
+use Rattle.hex.specs.{Hex.{decode_pairs, hex_digit_value, digit_or_error, ◌>>=◌}, declared.error.FromHexError.FromHexError}
 use Rattle.hex.specs.declared.error.FromHexError.TheVariants.{InvalidStringLength, OddLength}
 use Rattle.trace_reader.specs.Payload.{bytes_of, value_of}
 

@@ -1,17 +1,10 @@
 -- How a trace is read, one record after the other.
 use Rattle.std.proofs.Common.{◌≡◌, ℕ, ◌+◌, ◌<◌, ◌≤◌, List, [], ◌∷◌, ◌++◌, true, false, Bor, refl, sym, ap, ◌∙◌, arith, nat_lt}
-use Rattle.std.specs.Prelude.{Result, Ok, Err}
-use Rattle.std.proofs.lemmas.Bool.Decides.{nat_tests}
-use Rattle.std.proofs.lemmas.List.{append_assoc, append-nil}
-use Rattle.csv.specs.Reading.{default_config, records, strip_bom}
-use Rattle.csv.specs.declared.reader.Reader.{Reader}
-use Rattle.trace_reader.specs.Records.{HasLeft}
-use Rattle.trace_reader.specs.Rows.{event_of}
-use Rattle.trace_reader.specs.Trace.{and_then_rows, event_before, events_of, fault_at, is_header, most_rows, rows_from, trace_of}
-use Rattle.trace_reader.specs.declared.event.Event.{Event}
-use Rattle.trace_reader.specs.declared.fault.Kind.{Kind}
+use Rattle.std.{specs.Prelude.{Result, Ok, Err}, proofs.lemmas.Bool.Decides.nat_tests, proofs.lemmas.List.{append_assoc, append-nil}}
+use Rattle.csv.specs.{Reading.{default_config, records, strip_bom}, declared.reader.Reader.Reader}
+use Rattle.trace_reader.specs.{Records.HasLeft, Rows.event_of, Trace.{and_then_rows, event_before, events_of, fault_at, is_header, most_rows, rows_from, trace_of}}
+use Rattle.trace_reader.specs.{declared.event.Event.Event, declared.fault.Kind.Kind, declared.fault.ParseFault.ParseFault}
 use Rattle.trace_reader.specs.declared.fault.Kind.TheVariants as kind
-use Rattle.trace_reader.specs.declared.fault.ParseFault.{ParseFault}
 use Rattle.trace_reader.specs.declared.fault.ParseFault.TheVariants as fault
 
 -- events in front of those of the rows behind them

@@ -1,10 +1,7 @@
 -- What the events of every trace are like.
 use Rattle.std.specs.Prelude.{◌≡◌, ℕ, ◌<◌, ◌≤◌, List, [], ◌∷◌, length}
 use Rattle.masked_bytes.specs.Masked.{IsMasked}
-use Rattle.trace_reader.specs.Rows.{latest_tick}
-use Rattle.trace_reader.specs.declared.event.Event.{Event}
-use Rattle.trace_reader.specs.declared.event.EventOp.{EventOp}
-use Rattle.trace_reader.specs.declared.event.EventOp.TheVariants.{Read, Write, Mask, Cut}
+use Rattle.trace_reader.specs.{Rows.latest_tick, declared.event.Event.Event, declared.event.EventOp.EventOp, declared.event.EventOp.TheVariants.{Read, Write, Mask, Cut}}
 
 -- the line exists; a write has n bytes, and a masked one gives some of them and has 0 for the others
 abbrev pub IsOpFor : {n : ℕ} → ℕ → EventOp n → Type 0

@@ -1,8 +1,5 @@
 -- Decimal numbers, as traces and options write them.
-use Rattle.std.specs.Prelude.{ℕ, List, length, Bool, ◌&&◌, nat_lt, nat_le, if◌then◌else◌, Option, Some, None}
-use Rattle.std.specs.Char.{is_ascii_digit}
-use Rattle.std.specs.List.{list_all}
-use Rattle.std.specs.Str.Parse.{digits_value}
+use Rattle.std.specs.{Char.is_ascii_digit, List.list_all, Prelude.{ℕ, List, length, Bool, ◌&&◌, nat_lt, nat_le, if◌then◌else◌, Option, Some, None}, Str.Parse.digits_value}
 
 -- whether a text is 1 to `width` digits
 unfoldable pub is_number : ℕ → List ℕ → Bool

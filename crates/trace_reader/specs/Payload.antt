@@ -1,8 +1,6 @@
 -- What the fourth field of a write gives.
-use Rattle.std.specs.Prelude.{ℕ, ◌==◌, ◌&&◌, Bool, if◌then◌else◌, List, [], ◌∷◌, length, map, Option, Some, None, option_map, unwrap_or, is_some}
-use Rattle.std.specs.Option.{option_and_then}
-use Rattle.std.specs.Result.{result_ok}
-use Rattle.std.specs.List.{list_any}
+use Rattle.std.specs.{List.list_any, Option.option_and_then}
+use Rattle.std.specs.{Prelude.{ℕ, ◌==◌, ◌&&◌, Bool, if◌then◌else◌, List, [], ◌∷◌, length, map, Option, Some, None, option_map, unwrap_or, is_some}, Result.result_ok}
 use Rattle.hex.specs.Hex.{decode_sized, pair_value}
 
 -- the n bytes that 2n hexadecimal digits of either case write

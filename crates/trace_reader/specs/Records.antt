@@ -1,10 +1,7 @@
 -- What a reader has still to give of the records of a text.
-use Rattle.std.specs.Prelude.{◌≡◌, ◌+◌, ◌≤◌, ℕ, List, [], ◌∷◌, length, Bool, true, false, if◌then◌else◌, Some}
-use Rattle.std.specs.Borrow.{Bor}
-use Rattle.csv.specs.Machine.{ends_at_end}
-use Rattle.csv.specs.Reading.{Ready, default_config, is_flexible, reader_config, reader_state, reader_trim, records_from, source_of}
-use Rattle.csv.specs.declared.parser.State.{State}
-use Rattle.csv.specs.declared.reader.Reader.{Reader}
+use Rattle.std.specs.{Borrow.Bor, Prelude.{◌≡◌, ◌+◌, ◌≤◌, ℕ, List, [], ◌∷◌, length, Bool, true, false, if◌then◌else◌, Some}}
+use Rattle.csv.specs.{Machine.ends_at_end, Reading.{Ready, default_config, is_flexible, reader_config, reader_state, reader_trim, records_from, source_of}}
+use Rattle.csv.specs.{declared.parser.State.State, declared.reader.Reader.Reader}
 use Rattle.csv.specs.declared.reader.Trim.TheVariants as trim
 
 -- a record that only the end of the text ends counts as one byte more

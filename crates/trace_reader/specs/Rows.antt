@@ -1,13 +1,8 @@
 -- What a row of a trace says: an event, or the first fault of the row.
-use Rattle.std.specs.Prelude.{ℕ, ◌-◌, ◌==◌, nat_lt, not, if◌then◌else◌, List, [], length, codes, Option, Some, None, unwrap_or, Result, Ok, Err}
-use Rattle.std.specs.Str.{bytes_eq}
+use Rattle.std.specs.{Prelude.{ℕ, ◌-◌, ◌==◌, nat_lt, not, if◌then◌else◌, List, [], length, codes, Option, Some, None, unwrap_or, Result, Ok, Err}, Str.bytes_eq}
 use Rattle.csv.specs.Records.{field_at}
-use Rattle.trace_reader.specs.Number.{number_of}
-use Rattle.trace_reader.specs.Payload.{bytes_of, masked_of}
-use Rattle.trace_reader.specs.declared.event.Event.{Event}
-use Rattle.trace_reader.specs.declared.event.EventOp.{EventOp}
-use Rattle.trace_reader.specs.declared.event.EventOp.TheVariants.{Read, Write, Mask, Cut}
-use Rattle.trace_reader.specs.declared.fault.Kind.{Kind}
+use Rattle.trace_reader.specs.{Number.number_of, Payload.{bytes_of, masked_of}, declared.event.Event.Event, declared.event.EventOp.EventOp}
+use Rattle.trace_reader.specs.{declared.event.EventOp.TheVariants.{Read, Write, Mask, Cut}, declared.fault.Kind.Kind}
 use Rattle.trace_reader.specs.declared.fault.Kind.TheVariants as kind
 
 -- the next step with a value, or a fault where there is none

@@ -1,12 +1,8 @@
 -- What a text means as a trace: its events, or its first fault.
-use Rattle.std.specs.Prelude.{ℕ, ◌+◌, ◌==◌, ◌&&◌, nat_lt, Bool, if◌then◌else◌, List, [], ◌∷◌, length, codes, Result, Ok, Err}
-use Rattle.std.specs.Str.{bytes_eq}
+use Rattle.std.specs.{Prelude.{ℕ, ◌+◌, ◌==◌, ◌&&◌, nat_lt, Bool, if◌then◌else◌, List, [], ◌∷◌, length, codes, Result, Ok, Err}, Str.bytes_eq}
 use Rattle.csv.specs.Reading.{default_config, records, strip_bom}
-use Rattle.trace_reader.specs.Rows.{text_at, event_of}
-use Rattle.trace_reader.specs.declared.event.Event.{Event}
-use Rattle.trace_reader.specs.declared.fault.Kind.{Kind}
+use Rattle.trace_reader.specs.{Rows.{text_at, event_of}, declared.event.Event.Event, declared.fault.Kind.Kind, declared.fault.ParseFault.ParseFault}
 use Rattle.trace_reader.specs.declared.fault.Kind.TheVariants as kind
-use Rattle.trace_reader.specs.declared.fault.ParseFault.{ParseFault}
 use Rattle.trace_reader.specs.declared.fault.ParseFault.TheVariants as fault
 
 -- a trace has at most so many rows behind its header

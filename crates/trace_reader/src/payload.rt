@@ -77,7 +77,8 @@ fn gives_some(given: &[bool]) -> bool
 
 /// The `B` bytes of which a text of `B` pairs gives at least one: two hexadecimal digits, or `..` for a byte that isn't given.
 pub fn bytes_from_pairs<const B: usize>(text: &[u8]) -> Option<MaskedBytes<B>>
-    ensures { option_map (λ m. record { bytes = m.bytes; given = m.given }) result ≡ masked_of B text.now }
+    ensures { option_map (λ m. record { bytes = m.bytes; given = m.given }) result
+        ≡ masked_of B text.now }
 {
     if text.len() % 2 != 0 || text.len() / 2 != B {
         return None;

@@ -43,7 +43,8 @@ fn read_rows<const B: usize>(
         → rows_from B lines 1 0 rows ≡ Ok v.items) }
     ensures rows { IfOk result (λ v. vec_len v ≤ MOST_ROWS) }
     ensures err { IfErr result (λ e. e ≢ ParseFault.NoMemory
-        → (rows : List (List (List ℕ))) → HasLeft reader.old rows → rows_from B lines 1 0 rows ≡ Err e) }
+        → (rows : List (List (List ℕ))) → HasLeft reader.old rows
+        → rows_from B lines 1 0 rows ≡ Err e) }
 {
     let mut events = Vec::new(alloc);
     let mut before = 0;

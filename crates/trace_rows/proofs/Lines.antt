@@ -1,14 +1,10 @@
 -- The lines that the rows of a trace ask for.
 use Rattle.std.proofs.Common.{ℕ, List, [], ◌∷◌}
-use Rattle.std.specs.Prelude.{All}
-use Rattle.std.proofs.lemmas.List.Elements.{All-nil, All-cons}
-use Rattle.trace_reader.specs.Events.{AreEventsFor, IsOpFor}
-use Rattle.trace_reader.specs.declared.event.Event.{Event}
-use Rattle.trace_reader.specs.declared.event.EventOp.{EventOp}
+use Rattle.std.{specs.Prelude.All, proofs.lemmas.List.Elements.{All-nil, All-cons}}
+use Rattle.trace_reader.specs.{Events.{AreEventsFor, IsOpFor}, declared.event.Event.Event, declared.event.EventOp.EventOp}
 use Rattle.trace_reader.specs.declared.event.EventOp.TheVariants.{Read, Write, Mask, Cut}
 use Rattle.result_rows.specs.declared.Outcome.{Outcome}
-use Rattle.row_rules.specs.declared.Row.{Row}
-use Rattle.row_rules.specs.Lines.{IsOfLines}
+use Rattle.row_rules.specs.{Lines.IsOfLines, declared.Row.Row}
 use Rattle.trace_rows.specs.Rows.{asks_of, row_of, rows_with}
 
 module _ {n : ℕ} where

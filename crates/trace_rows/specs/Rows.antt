@@ -1,12 +1,8 @@
 -- The rows of a table, as the code has them: an event and its outcome.
 use Rattle.std.specs.Prelude.{ℕ, true, List, [], ◌∷◌, replicate}
-use Rattle.trace_reader.specs.declared.event.Event.{Event}
-use Rattle.trace_reader.specs.declared.event.EventOp.{EventOp}
-use Rattle.trace_reader.specs.declared.event.EventOp.TheVariants.{Read, Write, Mask, Cut}
+use Rattle.trace_reader.specs.{declared.event.Event.Event, declared.event.EventOp.EventOp, declared.event.EventOp.TheVariants.{Read, Write, Mask, Cut}}
 use Rattle.result_rows.specs.declared.Outcome.{Outcome}
-use Rattle.row_rules.specs.declared.Asks.{Asks}
-use Rattle.row_rules.specs.declared.Asks.TheVariants.{Reads, Writes, Cuts}
-use Rattle.row_rules.specs.declared.Row.{Row}
+use Rattle.row_rules.specs.{declared.Asks.Asks, declared.Asks.TheVariants.{Reads, Writes, Cuts}, declared.Row.Row}
 
 module _ {n : ℕ} where
   -- what an operation asks: a whole write gives every byte

@@ -1,27 +1,17 @@
 -- A streamed trace without the rows that settle, and faults of one in which none does.
 use Rattle.std.proofs.Common.{◌≡◌, ℕ, ◌+◌, ◌≤◌, ◌==◌, ◌&&◌, ◌||◌, not, List, [], ◌∷◌, length, true, false, Bool, Option, Some, None, refl, sym, ap, ◌∙◌, arith, nat_lt}
-use Rattle.std.specs.Prelude.{codes, cond, filter, if◌then◌else◌, Result, Ok, Err}
-use Rattle.std.specs.List.{list_any}
-use Rattle.std.specs.Str.{bytes_eq}
-use Rattle.std.proofs.lemmas.Bool.Decides.{nat_tests}
+use Rattle.std.{specs.List.list_any, specs.Prelude.{codes, cond, filter, if◌then◌else◌, Result, Ok, Err}, specs.Str.bytes_eq, proofs.lemmas.Bool.Decides.nat_tests}
 use Rattle.std.proofs.lemmas.Slice.Eq.{bytes_eq-Decides}
-use Rattle.trace_reader.specs.Rows.{event_at, event_of, op_of, text_at, tick_of}
-use Rattle.trace_reader.specs.Trace.{and_then_rows, events_of, fault_at, is_header, most_rows, rows_from, trace_of}
-use Rattle.trace_reader.specs.declared.event.Event.{Event}
-use Rattle.trace_reader.specs.declared.event.EventOp.{EventOp}
-use Rattle.trace_reader.specs.declared.fault.Kind.{Kind}
+use Rattle.trace_reader.specs.{Rows.{event_at, event_of, op_of, text_at, tick_of}, Trace.{and_then_rows, events_of, fault_at, is_header, most_rows, rows_from, trace_of}}
+use Rattle.trace_reader.specs.{declared.event.Event.Event, declared.event.EventOp.EventOp, declared.fault.Kind.Kind, declared.fault.TraceFault.TraceFault}
 use Rattle.trace_reader.specs.declared.fault.Kind.TheVariants as kind
-use Rattle.trace_reader.specs.declared.fault.TraceFault.{TraceFault}
 use Rattle.trace_reader.specs.declared.fault.ParseFault.TheVariants as whole
-use Rattle.trace_stream.specs.declared.asked.Asked.{Asked}
-use Rattle.trace_stream.specs.declared.asked.Asked.TheVariants.{Happens, Settle}
-use Rattle.trace_stream.specs.declared.fault.StreamFault.{StreamFault}
-use Rattle.trace_stream.specs.declared.fault.StreamFault.TheVariants as fault
 use Rattle.trace_stream.specs.Asked.{asked_event, asked_of, asked_settle, is_settle, rows_after, settle_of, tick_asked}
-use Rattle.trace_stream.specs.Stream.{and_then_asked, asked_before, is_past, stream_fault_at, stream_of, stream_records, stream_rows}
 use Rattle.trace_stream.specs.Laws.{BareLaw, FaultBackLaw, all_events, events_asked, records_of}
-use Rattle.trace_stream.proofs.Lawful.{settle-lawful}
+use Rattle.trace_stream.specs.{Stream.{and_then_asked, asked_before, is_past, stream_fault_at, stream_of, stream_records, stream_rows}, declared.asked.Asked.Asked}
+use Rattle.trace_stream.{specs.declared.asked.Asked.TheVariants.{Happens, Settle}, specs.declared.fault.StreamFault.StreamFault, proofs.Lawful.settle-lawful}
 use Rattle.trace_stream.proofs.Traces.{asked-ok, event-four, row_by}
+use Rattle.trace_stream.specs.declared.fault.StreamFault.TheVariants as fault
 
 -- a row that happens does so behind any earlier tick
 earlier-at : {n : ℕ} (before early : ℕ) (tick : Option ℕ) (op : Result (EventOp n) Kind) (event : Event n) → early ≤ before → row_by before tick op ≡ Ok event → row_by early tick op ≡ Ok event

@@ -1,17 +1,12 @@
 -- What stands in front of the first fault of a streamed trace.
 use Rattle.std.proofs.Common.{◌≡◌, ◌⊎◌, ℕ, suc, ◌+◌, ◌==◌, ◌&&◌, not, List, [], ◌∷◌, length, take, true, false, Bool, inl, inr, refl, sym, ap, subst, ◌∙◌, arith}
-use Rattle.std.specs.Prelude.{Result, Ok, Err}
-use Rattle.std.proofs.lemmas.Bool.Decides.{nat_tests}
-use Rattle.trace_reader.specs.Trace.{is_header}
-use Rattle.trace_reader.specs.declared.fault.Kind.{Kind}
-use Rattle.trace_stream.specs.declared.asked.Asked.{Asked}
-use Rattle.trace_stream.specs.declared.asked.Asked.TheVariants.{Happens, Settle}
-use Rattle.trace_stream.specs.declared.fault.StreamFault.{StreamFault}
-use Rattle.trace_stream.specs.declared.fault.StreamFault.TheVariants as fault
-use Rattle.trace_stream.specs.Asked.{asked_of, is_settle, rows_after, tick_asked}
+use Rattle.std.{specs.Prelude.{Result, Ok, Err}, proofs.lemmas.Bool.Decides.nat_tests}
+use Rattle.trace_reader.specs.{Trace.is_header, declared.fault.Kind.Kind}
+use Rattle.trace_stream.specs.{Asked.{asked_of, is_settle, rows_after, tick_asked}, Laws.{FrontFaultLaw, FrontLaw, StandsBehind, events_asked, headless, records_of}}
 use Rattle.trace_stream.specs.Stream.{asked_before, front_of, front_records, front_rows, is_past, most_streamed, stream_of, stream_records, stream_rows}
-use Rattle.trace_stream.specs.Laws.{FrontFaultLaw, FrontLaw, StandsBehind, events_asked, headless, records_of}
+use Rattle.trace_stream.specs.{declared.asked.Asked.Asked, declared.asked.Asked.TheVariants.{Happens, Settle}, declared.fault.StreamFault.StreamFault}
 use Rattle.trace_stream.proofs.Rows.{front-asks, front-faulty, front-past, front-read, front-wrong, header-read, header-wrong, row-asks, row-faulty, row-none, row-past}
+use Rattle.trace_stream.specs.declared.fault.StreamFault.TheVariants as fault
 
 -- a row too many stands behind as many as there may be
 past-most : (rows : ℕ) (fields : List (List ℕ)) → is_past rows fields ≡ true → rows ≡ most_streamed

@@ -1,13 +1,10 @@
 -- What is kept of a record, in the room that was taken for it.
 use Rattle.std.proofs.Common.{◌≡◌, ℕ, zero, suc, ◌<◌, ◌≤◌, List, [], ◌∷◌, ◌++◌, length, take, map, set, get_or, min, replicate, Option, Some, None, unwrap_or, refl, sym, ap, ◌∙◌, arith}
-use Rattle.std.proofs.lemmas.List.{get_or_read, get_or-set_same, length-map, length-replicate, length-take, take-set}
-use Rattle.std.proofs.lemmas.List.Elements.{All-get_or, All-replicate}
+use Rattle.std.proofs.{lemmas.List.{get_or_read, get_or-set_same, length-map, length-replicate, length-take, take-set}, lemmas.List.Elements.{All-get_or, All-replicate}}
 use Rattle.csv.specs.Records.{field_at}
 use Rattle.trace_reader.specs.Rows.{text_at}
 use Rattle.pcm_io.specs.Reserved.{Reserved, appended, reserved, room_in}
-use Rattle.trace_stream.specs.Kept.{Kept, most_bytes, with_bytes}
-use Rattle.trace_stream.specs.Room.{IsFieldRoom, IsRoom, bytes_at, first_bytes}
-use Rattle.trace_stream.proofs.Keeping.{room-takes}
+use Rattle.trace_stream.{specs.Kept.{Kept, most_bytes, with_bytes}, specs.Room.{IsFieldRoom, IsRoom, bytes_at, first_bytes}, proofs.Keeping.room-takes}
 
 -- what is kept, so many fields of it whole
 abbrev pub kept_in : ℕ → List Reserved → Kept

@@ -1,26 +1,14 @@
 -- What is kept of a record is enough to judge it.
 use Rattle.std.proofs.Common.{◌≡◌, ◌≢◌, ℕ, suc, zero, ◌<◌, ◌≤◌, ◌==◌, ◌&&◌, nat_lt, nat_le, List, [], ◌∷◌, length, take, map, min, not, Bool, true, false, Option, Some, None, inl, inr, unwrap_or, refl, sym, ap, ◌∙◌, arith}
-use Rattle.std.specs.Prelude.{option_map, codes, if◌then◌else◌, Result, Ok, Err}
-use Rattle.std.specs.Str.{bytes_eq}
-use Rattle.std.proofs.lemmas.Bool.{cases_lt}
-use Rattle.std.proofs.lemmas.Bool.Decides.{nat_tests}
-use Rattle.std.proofs.lemmas.List.{length-map, length-take, length-take-le, take_all}
-use Rattle.std.proofs.lemmas.Slice.Eq.{bytes_eq-Decides}
+use Rattle.std.{specs.Prelude.{option_map, codes, if◌then◌else◌, Result, Ok, Err}, specs.Str.bytes_eq, proofs.lemmas.Bool.cases_lt, proofs.lemmas.Bool.Decides.nat_tests}
+use Rattle.std.proofs.{lemmas.List.{length-map, length-take, length-take-le, take_all}, lemmas.Slice.Eq.bytes_eq-Decides}
 use Rattle.csv.specs.Records.{field_at}
-use Rattle.trace_reader.specs.Number.{number_of}
-use Rattle.trace_reader.specs.Payload.{Masked, bytes_of, masked_of}
-use Rattle.trace_reader.specs.Rows.{cut_of, event_at, event_of, latest_tick, line_of, mask_of, op_of, or_fault, read_of, text_at, tick_of, write_of}
-use Rattle.trace_reader.specs.Trace.{is_header}
-use Rattle.trace_reader.specs.declared.event.EventOp.{EventOp}
-use Rattle.trace_reader.specs.declared.event.EventOp.TheVariants.{Read, Write, Mask}
-use Rattle.trace_reader.specs.declared.event.Event.{Event}
-use Rattle.trace_reader.specs.declared.fault.Kind.{Kind}
+use Rattle.trace_reader.specs.{Number.number_of, Payload.{Masked, bytes_of, masked_of}}
+use Rattle.trace_reader.specs.{Rows.{cut_of, event_at, event_of, latest_tick, line_of, mask_of, op_of, or_fault, read_of, text_at, tick_of, write_of}, Trace.is_header}
+use Rattle.trace_reader.specs.{declared.event.Event.Event, declared.event.EventOp.EventOp, declared.event.EventOp.TheVariants.{Read, Write, Mask}, declared.fault.Kind.Kind}
+use Rattle.trace_reader.proofs.{Numbers.number_of-length, Pairs.masked_of-length, Table.{bytes_of-odd, bytes_of-other}}
 use Rattle.trace_reader.specs.declared.fault.Kind.TheVariants as kind
-use Rattle.trace_reader.proofs.Numbers.{number_of-length}
-use Rattle.trace_reader.proofs.Table.{bytes_of-odd, bytes_of-other}
-use Rattle.trace_reader.proofs.Pairs.{masked_of-length}
-use Rattle.trace_stream.specs.Asked.{asked_of, is_settle, settle_of}
-use Rattle.trace_stream.specs.Kept.{kept_field, kept_fields}
+use Rattle.trace_stream.specs.{Asked.{asked_of, is_settle, settle_of}, Kept.{kept_field, kept_fields}}
 
 -- a field is kept whole, or it is too long
 short-kept : (field : List ℕ) → length field ≤ 257 → kept_field field ≡ field

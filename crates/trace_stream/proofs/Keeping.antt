@@ -1,7 +1,6 @@
 -- What is kept of a field, and of fields, when more comes.
 use Rattle.std.proofs.Common.{◌≡◌, ℕ, ◌+◌, ◌-◌, ◌≤◌, List, ◌++◌, length, take, min, sym, ap, ◌∙◌, arith}
-use Rattle.std.proofs.Math.Seq.{take-append-add}
-use Rattle.std.proofs.lemmas.List.{take_min}
+use Rattle.std.proofs.{Math.Seq.take-append-add, lemmas.List.take_min}
 
 -- as many more bytes as there is room for
 pub room-takes : (most : ℕ) (field run : List ℕ) (count : ℕ) → length field ≤ most → count ≡ min (length run) (most - length field)

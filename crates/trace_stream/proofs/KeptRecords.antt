@@ -1,12 +1,9 @@
 -- What is kept of a record is what is kept of the record as `csv` reads it.
 use Rattle.std.proofs.Common.{◌≡◌, ℕ, suc, zero, List, [], ◌∷◌, ◌++◌, take, map, Bool, true, false, Option, Some, None, refl, sym, ap, ◌∙◌}
-use Rattle.std.specs.Prelude.{option_map, if◌then◌else◌}
-use Rattle.std.proofs.lemmas.List.{map-append}
-use Rattle.csv.specs.Machine.{Read, ends_at_end, field_after, fields_after, is_end, next_record, step}
-use Rattle.csv.specs.Reading.{default_config}
+use Rattle.std.{specs.Prelude.{option_map, if◌then◌else◌}, proofs.lemmas.List.map-append}
+use Rattle.csv.specs.{Machine.{Read, ends_at_end, field_after, fields_after, is_end, next_record, step}, Reading.default_config, declared.parser.Action.Action}
 use Rattle.csv.specs.declared.parser.State.{State}
 use Rattle.csv.specs.declared.parser.State.TheVariants as st
-use Rattle.csv.specs.declared.parser.Action.{Action}
 use Rattle.csv.specs.declared.parser.Action.TheVariants as act
 use Rattle.trace_stream.specs.Kept.{fields_then, field_then, kept_field, kept_fields, most_bytes, most_fields, next_kept, with_bytes, with_field}
 

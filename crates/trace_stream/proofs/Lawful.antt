@@ -1,16 +1,11 @@
 -- What a row asks has a line of the module, and a tick that is none of the earlier ones.
 use Rattle.std.proofs.Common.{◌≡◌, ℕ, ◌≤◌, ◌==◌, List, length, not, Bool, true, false, Some, refl, arith, nat_lt}
-use Rattle.std.specs.Prelude.{if◌then◌else◌, Result, Ok, Err}
-use Rattle.std.proofs.lemmas.Bool.Decides.{nat_tests}
-use Rattle.trace_reader.specs.Rows.{event_of, latest_tick, text_at, tick_of}
-use Rattle.trace_reader.specs.declared.event.Event.{Event}
-use Rattle.trace_reader.specs.declared.fault.Kind.{Kind}
+use Rattle.std.{specs.Prelude.{if◌then◌else◌, Result, Ok, Err}, proofs.lemmas.Bool.Decides.nat_tests}
+use Rattle.trace_reader.specs.{Rows.{event_of, latest_tick, text_at, tick_of}, declared.event.Event.Event, declared.fault.Kind.Kind}
+use Rattle.trace_reader.proofs.{Lawful.{event_of-lawful, or_fault-ok}, Numbers.number_within}
 use Rattle.trace_reader.specs.declared.fault.Kind.TheVariants as kind
-use Rattle.trace_reader.proofs.Lawful.{event_of-lawful, or_fault-ok}
-use Rattle.trace_reader.proofs.Numbers.{number_within}
-use Rattle.trace_stream.specs.declared.asked.Asked.{Asked}
+use Rattle.trace_stream.specs.{Asked.{IsAskedFor, asked_event, asked_of, asked_settle, is_settle, settle_of}, declared.asked.Asked.Asked}
 use Rattle.trace_stream.specs.declared.asked.Asked.TheVariants.{Happens, Settle}
-use Rattle.trace_stream.specs.Asked.{IsAskedFor, asked_event, asked_of, asked_settle, is_settle, settle_of}
 
 pub settle-lawful : (before tick : ℕ) (fields : List (List ℕ)) → settle_of before fields ≡ Ok tick → (before ≤ tick) × (tick ≤ latest_tick)
 unfolding settle_of

@@ -1,7 +1,7 @@
 -- A byte order mark at the start of a text.
 use Rattle.std.proofs.Common.{◌≡◌, ◌≢◌, ℕ, ◌==◌, ◌&&◌, List, [], ◌∷◌, ◌++◌, Bool, true, false, refl, ap, arith}
-use Rattle.trace_stream.specs.Arrived.{Arrived, Comes}
 use Rattle.std.proofs.lemmas.Bool.Decides.{nat_tests}
+use Rattle.trace_stream.specs.Arrived.{Arrived, Comes}
 use Rattle.csv.specs.Reading.{strip_bom}
 
 neither : (p q : Bool) → (p && false && q) ≡ false

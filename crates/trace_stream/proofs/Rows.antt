@@ -1,28 +1,18 @@
 -- How a streamed trace is read, one record after the other.
 use Rattle.std.proofs.Common.{◌≡◌, ◌⊎◌, ℕ, suc, zero, ◌+◌, ◌<◌, ◌≤◌, ◌==◌, ◌&&◌, List, [], ◌∷◌, ◌++◌, length, true, false, Bool, Option, Some, None, inl, inr, refl, sym, ap, subst, ◌∙◌, append_assoc, arith}
-use Rattle.std.specs.Prelude.{option_map, if◌then◌else◌, Result, Ok, Err}
-use Rattle.std.proofs.lemmas.Bool.Decides.{nat_tests}
-use Rattle.std.proofs.lemmas.List.{append-nil}
-use Rattle.csv.specs.Machine.{Read, next_record}
-use Rattle.csv.specs.Reading.{default_config, records_from, strip_bom}
-use Rattle.csv.specs.declared.parser.State.{State}
+use Rattle.std.{specs.Prelude.{option_map, if◌then◌else◌, Result, Ok, Err}, proofs.lemmas.Bool.Decides.nat_tests, proofs.lemmas.List.append-nil}
+use Rattle.csv.specs.{Machine.{Read, next_record}, Reading.{default_config, records_from, strip_bom}, declared.parser.State.State}
 use Rattle.csv.specs.declared.parser.State.TheVariants as st
-use Rattle.trace_reader.specs.Records.{unended}
-use Rattle.trace_reader.specs.Rows.{event_of}
-use Rattle.trace_reader.specs.Trace.{is_header}
-use Rattle.trace_reader.specs.declared.fault.Kind.{Kind}
-use Rattle.trace_reader.specs.declared.fault.Kind.TheVariants as kind
+use Rattle.trace_reader.specs.{Records.unended, Rows.event_of, Trace.is_header, declared.fault.Kind.Kind}
 use Rattle.trace_reader.proofs.Reading.{records_from-none, records_from-some, shorter, unended-le}
-use Rattle.trace_stream.specs.declared.asked.Asked.{Asked}
-use Rattle.trace_stream.specs.declared.asked.Asked.TheVariants.{Happens, Settle}
-use Rattle.trace_stream.specs.declared.fault.StreamFault.TheVariants as fault
-use Rattle.trace_stream.specs.Arrived.{Arrived, Comes, StaysEnded}
-use Rattle.trace_stream.specs.Asked.{asked_event, asked_of, asked_settle, is_settle, rows_after, settle_of, tick_asked}
+use Rattle.trace_reader.specs.declared.fault.Kind.TheVariants as kind
+use Rattle.trace_stream.specs.{Arrived.{Arrived, Comes, StaysEnded}, Asked.{asked_event, asked_of, asked_settle, is_settle, rows_after, settle_of, tick_asked}}
 use Rattle.trace_stream.specs.Kept.{FindsKept, IsKeptOf, kept_fields, most_fields}
-use Rattle.trace_stream.specs.Stream.{AsksNext, HasFault, HasFront, Opens, Standing, asked_before, asked_from, front_from, front_of, front_records, front_rows, is_past, most_streamed, records_left, stream_fault_at, stream_of, stream_records, stream_rows}
-use Rattle.trace_stream.proofs.Judging.{asked-kept, header-kept, is_settle-kept}
-use Rattle.trace_stream.proofs.Steps.{comes-back}
-use Rattle.trace_stream.proofs.KeptRecords.{kept_read, next_kept-is, none-kept, some-is, some-kept}
+use Rattle.trace_stream.specs.Stream.{AsksNext, HasFault, HasFront, Opens, Standing, asked_before, asked_from, front_from, front_of, front_records, front_rows, is_past}
+use Rattle.trace_stream.specs.{Stream.{most_streamed, records_left, stream_fault_at, stream_of, stream_records, stream_rows}, declared.asked.Asked.Asked}
+use Rattle.trace_stream.{specs.declared.asked.Asked.TheVariants.{Happens, Settle}, proofs.Judging.{asked-kept, header-kept, is_settle-kept}}
+use Rattle.trace_stream.proofs.{KeptRecords.{kept_read, next_kept-is, none-kept, some-is, some-kept}, Steps.comes-back}
+use Rattle.trace_stream.specs.declared.fault.StreamFault.TheVariants as fault
 
 -- the records of a text, however many are asked for
 records_from-same : (k m m2 : ℕ) (s : State) (text : List ℕ) → length text + unended s < k → length text + unended s ≤ m → length text + unended s ≤ m2

@@ -1,12 +1,8 @@
 -- How a whole streamed trace is read, one row after the other.
 use Rattle.std.proofs.Common.{◌≡◌, ℕ, List, [], ◌∷◌, ◌++◌, Bool, Some, None, refl, sym, ap, ◌∙◌, append_assoc}
-use Rattle.std.proofs.lemmas.List.{append-nil}
-use Rattle.std.specs.Prelude.{Result, Ok, Err}
-use Rattle.trace_stream.specs.declared.asked.Asked.{Asked}
-use Rattle.trace_stream.specs.declared.fault.StreamFault.{StreamFault}
-use Rattle.trace_stream.specs.Arrived.{Comes, StaysEnded}
-use Rattle.trace_stream.specs.Stream.{AsksNext, HasFault, HasFront, Opens, Standing, asked_before, asked_from, front_from, front_of, stream_of}
-use Rattle.trace_stream.proofs.Steps.{comes-back}
+use Rattle.std.{specs.Prelude.{Result, Ok, Err}, proofs.lemmas.List.append-nil}
+use Rattle.trace_stream.specs.{Arrived.{Comes, StaysEnded}, Stream.{AsksNext, HasFault, HasFront, Opens, Standing, asked_before, asked_from, front_from, front_of, stream_of}}
+use Rattle.trace_stream.{specs.declared.asked.Asked.Asked, specs.declared.fault.StreamFault.StreamFault, proofs.Steps.comes-back}
 
 -- what was asked in front of what is still asked
 abbrev pub after_asked : {n : ℕ} → List (Asked n) → Result (List (Asked n)) StreamFault → Result (List (Asked n)) StreamFault

@@ -1,19 +1,14 @@
 -- How a record is read, one byte or one run of bytes after the other.
 use Rattle.std.proofs.Common.{◌≡◌, ℕ, suc, zero, ◌+◌, ◌<◌, ◌≤◌, ◌==◌, ◌&&◌, ◌||◌, List, [], ◌∷◌, ◌++◌, length, get_or, take, drop, min, Bool, true, false, Option, Some, None, inl, inr, refl, sym, ap, subst, ◌∙◌, append_assoc, arith}
-use Rattle.std.specs.Prelude.{if◌then◌else◌, IsSomeAnd}
-use Rattle.std.specs.List.{list_all}
+use Rattle.std.{specs.List.list_all, specs.Prelude.{if◌then◌else◌, IsSomeAnd}, proofs.lemmas.Bool.Decides.nat_tests}
 use Rattle.std.proofs.lemmas.List.{take-append-drop, append-nil, length-take, length-take-le, length_push}
-use Rattle.std.proofs.lemmas.Bool.Decides.{nat_tests}
-use Rattle.csv.specs.Machine.{Read, ends_at_end, ends_with, in_field, is_end, step}
-use Rattle.csv.specs.Reading.{default_config}
-use Rattle.csv.specs.declared.parser.State.{State}
+use Rattle.csv.specs.{Machine.{Read, ends_at_end, ends_with, in_field, is_end, step}, Reading.default_config, declared.parser.Action.Action, declared.parser.State.State}
 use Rattle.csv.specs.declared.parser.State.TheVariants as st
 use Rattle.csv.specs.declared.parser.Terminator.TheVariants as term
-use Rattle.csv.specs.declared.parser.Action.{Action}
 use Rattle.csv.specs.declared.parser.Action.TheVariants as act
 use Rattle.trace_stream.specs.Arrived.{Arrived, Comes, StaysEnded}
-use Rattle.trace_stream.specs.Machine.{is_plain, takes_plain}
 use Rattle.trace_stream.specs.Kept.{Decided, FindsKept, GoesOn, IsKeptOf, decides, fields_then, field_then, most_bytes, most_fields, next_kept, whole_then, with_bytes, with_field}
+use Rattle.trace_stream.specs.Machine.{is_plain, takes_plain}
 
 -- steps one behind the other
 pub goes-goes : (s0 s1 s2 : State) (fs0 fs1 fs2 : List (List ℕ)) (f0 f1 f2 t0 t1 t2 : List ℕ) → length fs1 < most_fields

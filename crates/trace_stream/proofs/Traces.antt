@@ -1,26 +1,16 @@
 -- What a streamed trace has to do with a whole one.
 use Rattle.std.proofs.Common.{◌≡◌, ◌≢◌, ℕ, ◌+◌, ◌≤◌, ◌==◌, ◌&&◌, List, [], ◌∷◌, length, true, false, Bool, Option, Some, None, refl, sym, ap, ◌∙◌, arith, nat_lt}
-use Rattle.std.specs.Prelude.{codes, if◌then◌else◌, Result, Ok, Err}
-use Rattle.std.specs.Str.{bytes_eq}
-use Rattle.std.proofs.lemmas.Bool.Decides.{nat_tests}
-use Rattle.std.proofs.lemmas.Slice.Eq.{bytes_eq-Decides}
+use Rattle.std.{specs.Prelude.{codes, if◌then◌else◌, Result, Ok, Err}, specs.Str.bytes_eq, proofs.lemmas.Bool.Decides.nat_tests, proofs.lemmas.Slice.Eq.bytes_eq-Decides}
 use Rattle.csv.specs.Reading.{default_config, records, strip_bom}
 use Rattle.trace_reader.specs.Rows.{event_at, event_of, op_of, or_fault, text_at, tick_of}
-use Rattle.trace_reader.specs.Trace.{and_then_rows, event_before, events_of, fault_at, is_header, most_rows, rows_from, trace_of}
-use Rattle.trace_reader.specs.declared.event.Event.{Event}
-use Rattle.trace_reader.specs.declared.event.EventOp.{EventOp}
-use Rattle.trace_reader.specs.declared.fault.Kind.{Kind}
+use Rattle.trace_reader.specs.{Trace.{and_then_rows, event_before, events_of, fault_at, is_header, most_rows, rows_from, trace_of}, declared.event.Event.Event}
+use Rattle.trace_reader.specs.{declared.event.EventOp.EventOp, declared.fault.Kind.Kind, declared.fault.ParseFault.ParseFault, declared.fault.TraceFault.TraceFault}
 use Rattle.trace_reader.specs.declared.fault.Kind.TheVariants as kind
-use Rattle.trace_reader.specs.declared.fault.TraceFault.{TraceFault}
-use Rattle.trace_reader.specs.declared.fault.ParseFault.{ParseFault}
 use Rattle.trace_reader.specs.declared.fault.ParseFault.TheVariants as whole
-use Rattle.trace_stream.specs.declared.asked.Asked.{Asked}
-use Rattle.trace_stream.specs.declared.asked.Asked.TheVariants.{Happens}
-use Rattle.trace_stream.specs.declared.fault.StreamFault.{StreamFault}
+use Rattle.trace_stream.specs.{Asked.{asked_event, asked_of, asked_settle, is_settle, rows_after, settle_of, tick_asked}, Laws.{FaultLaw, StreamLaw, TraceLaw, all_events}}
+use Rattle.trace_stream.specs.{Stream.{and_then_asked, asked_before, is_past, most_streamed, stream_fault_at, stream_of, stream_records, stream_rows}, declared.asked.Asked.Asked}
+use Rattle.trace_stream.specs.{declared.asked.Asked.TheVariants.Happens, declared.fault.StreamFault.StreamFault}
 use Rattle.trace_stream.specs.declared.fault.StreamFault.TheVariants as fault
-use Rattle.trace_stream.specs.Asked.{asked_event, asked_of, asked_settle, is_settle, rows_after, settle_of, tick_asked}
-use Rattle.trace_stream.specs.Stream.{and_then_asked, asked_before, is_past, most_streamed, stream_fault_at, stream_of, stream_records, stream_rows}
-use Rattle.trace_stream.specs.Laws.{FaultLaw, StreamLaw, TraceLaw, all_events}
 
 -- an operation to settle is none of a trace
 settle-op : (n lines : ℕ) (op line payload : List ℕ) → bytes_eq op (codes "S") ≡ true → op_of n lines op line payload ≡ Err kind.Op

@@ -1,13 +1,8 @@
 -- What a row of a streamed trace asks for, or its first fault.
-use Rattle.std.specs.Prelude.{ℕ, ◌+◌, ◌==◌, ◌&&◌, ◌≤◌, nat_lt, not, Bool, if◌then◌else◌, List, length, codes, Result, Ok, Err}
-use Rattle.std.specs.Str.{bytes_eq}
-use Rattle.trace_reader.specs.Rows.{event_of, latest_tick, or_fault, text_at, tick_of}
-use Rattle.trace_reader.specs.Events.{IsEventFor}
-use Rattle.trace_reader.specs.declared.event.Event.{Event}
-use Rattle.trace_reader.specs.declared.fault.Kind.{Kind}
+use Rattle.std.specs.{Prelude.{ℕ, ◌+◌, ◌==◌, ◌&&◌, ◌≤◌, nat_lt, not, Bool, if◌then◌else◌, List, length, codes, Result, Ok, Err}, Str.bytes_eq}
+use Rattle.trace_reader.specs.{Events.IsEventFor, Rows.{event_of, latest_tick, or_fault, text_at, tick_of}, declared.event.Event.Event, declared.fault.Kind.Kind}
 use Rattle.trace_reader.specs.declared.fault.Kind.TheVariants as kind
-use Rattle.trace_stream.specs.declared.asked.Asked.{Asked}
-use Rattle.trace_stream.specs.declared.asked.Asked.TheVariants.{Happens, Settle}
+use Rattle.trace_stream.specs.{declared.asked.Asked.Asked, declared.asked.Asked.TheVariants.{Happens, Settle}}
 
 -- whether a record's operation is to settle
 abbrev pub is_settle : List (List ℕ) → Bool

@@ -1,10 +1,7 @@
 -- What is kept of a record as it is read: enough to judge it, however long it is.
 use Rattle.std.specs.Prelude.{◌≡◌, ◌⊎◌, ◌||◌, ◌==◌, ◌<◌, ℕ, ◌+◌, List, [], ◌∷◌, ◌++◌, length, take, map, Bool, true, false, if◌then◌else◌, Option, Some, None, IsSomeAnd}
-use Rattle.csv.specs.Machine.{Read, ends_at_end, is_end, step}
-use Rattle.csv.specs.Reading.{default_config}
-use Rattle.csv.specs.declared.parser.State.{State}
+use Rattle.csv.specs.{Machine.{Read, ends_at_end, is_end, step}, Reading.default_config, declared.parser.Action.Action, declared.parser.State.State}
 use Rattle.csv.specs.declared.parser.State.TheVariants as st
-use Rattle.csv.specs.declared.parser.Action.{Action}
 use Rattle.csv.specs.declared.parser.Action.TheVariants as act
 use Rattle.trace_stream.specs.Arrived.{Arrived, Comes}
 

@@ -1,17 +1,11 @@
 -- What a streamed trace has to do with a whole one.
-use Rattle.std.specs.Prelude.{◌≡◌, ◌≢◌, ◌⊎◌, ℕ, suc, ◌+◌, ◌≤◌, not, false, List, [], ◌∷◌, length, map, filter, take, Ok, Err}
-use Rattle.std.specs.List.{list_any}
+use Rattle.std.specs.{List.list_any, Prelude.{◌≡◌, ◌≢◌, ◌⊎◌, ℕ, suc, ◌+◌, ◌≤◌, not, false, List, [], ◌∷◌, length, map, filter, take, Ok, Err}}
 use Rattle.csv.specs.Reading.{default_config, records, strip_bom}
-use Rattle.trace_reader.specs.Trace.{most_rows, trace_of}
-use Rattle.trace_reader.specs.declared.event.Event.{Event}
+use Rattle.trace_reader.specs.{Trace.{most_rows, trace_of}, declared.event.Event.Event, declared.fault.TraceFault.TraceFault}
 use Rattle.trace_reader.specs.declared.fault.Kind.TheVariants as kind
-use Rattle.trace_reader.specs.declared.fault.TraceFault.{TraceFault}
 use Rattle.trace_reader.specs.declared.fault.ParseFault.TheVariants as whole
-use Rattle.trace_stream.specs.Asked.{is_settle}
-use Rattle.trace_stream.specs.Stream.{front_of, most_streamed, stream_of, stream_records}
-use Rattle.trace_stream.specs.declared.asked.Asked.{Asked}
-use Rattle.trace_stream.specs.declared.asked.Asked.TheVariants.{Happens, Settle}
-use Rattle.trace_stream.specs.declared.fault.StreamFault.{StreamFault}
+use Rattle.trace_stream.specs.{Asked.is_settle, Stream.{front_of, most_streamed, stream_of, stream_records}, declared.asked.Asked.Asked}
+use Rattle.trace_stream.specs.{declared.asked.Asked.TheVariants.{Happens, Settle}, declared.fault.StreamFault.StreamFault}
 use Rattle.trace_stream.specs.declared.fault.StreamFault.TheVariants as fault
 
 -- the records of a text, as `csv` reads them

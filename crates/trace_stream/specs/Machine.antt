@@ -4,9 +4,8 @@ use Rattle.csv.specs.declared.parser.State.{State}
 use Rattle.csv.specs.declared.parser.State.TheVariants as st
 use Rattle.csv.specs.declared.parser.Action as csv
 use Rattle.csv.specs.declared.parser.Action.TheVariants as act
-use Rattle.trace_stream.specs.declared.machine.Place.{Place}
+use Rattle.trace_stream.specs.{declared.machine.Move.Move, declared.machine.Place.Place}
 use Rattle.trace_stream.specs.declared.machine.Place.TheVariants as place
-use Rattle.trace_stream.specs.declared.machine.Move.{Move}
 use Rattle.trace_stream.specs.declared.machine.Move.TheVariants as move
 
 -- `csv`'s name of a place in a record

@@ -1,16 +1,11 @@
 -- What a text means as a streamed trace: what its rows ask for, or its first fault.
 use Rattle.std.specs.Prelude.{◌≡◌, ◌≢◌, ℕ, ◌+◌, ◌==◌, ◌&&◌, not, Bool, true, if◌then◌else◌, List, [], ◌∷◌, ◌++◌, length, Option, Some, None, Result, Ok, Err}
-use Rattle.csv.specs.Reading.{default_config, records_from, strip_bom}
-use Rattle.csv.specs.declared.parser.State.{State}
+use Rattle.csv.specs.{Reading.{default_config, records_from, strip_bom}, declared.parser.State.State}
 use Rattle.csv.specs.declared.parser.State.TheVariants as st
-use Rattle.trace_reader.specs.Trace.{is_header}
-use Rattle.trace_reader.specs.declared.fault.Kind.{Kind}
+use Rattle.trace_reader.specs.{Trace.is_header, declared.fault.Kind.Kind}
 use Rattle.trace_reader.specs.declared.fault.Kind.TheVariants as kind
-use Rattle.trace_stream.specs.declared.asked.Asked.{Asked}
-use Rattle.trace_stream.specs.declared.fault.StreamFault.{StreamFault}
+use Rattle.trace_stream.specs.{Arrived.{Arrived, Comes}, Asked.{asked_of, is_settle, rows_after, tick_asked}, declared.asked.Asked.Asked, declared.fault.StreamFault.StreamFault}
 use Rattle.trace_stream.specs.declared.fault.StreamFault.TheVariants as fault
-use Rattle.trace_stream.specs.Arrived.{Arrived, Comes}
-use Rattle.trace_stream.specs.Asked.{asked_of, is_settle, rows_after, tick_asked}
 
 -- a streamed trace has at most so many rows with a number, 2 to the power 32 less two
 abbrev pub most_streamed : ℕ

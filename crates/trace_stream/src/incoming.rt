@@ -68,9 +68,11 @@ impl Incoming {
 
     /// The first bytes of a text, without a byte order mark; it is read no further than they may be one.
     pub fn begin<S: Source>(source: &mut S) -> Result<Incoming, Failed>
-        ensures ok { IfOk result (λ begun. (bytes : List ℕ) × Takes (S.left source.old) (S.left source.new)
+        ensures ok { IfOk result (λ begun. (bytes : List ℕ)
+            × Takes (S.left source.old) (S.left source.new)
             (S.taken source.old) (S.taken source.new) bytes
-            × ((more : List ℕ) → Comes begun.ended more → strip_bom (bytes ++ more) ≡ begun.bytes ++ more)) }
+            × ((more : List ℕ) → Comes begun.ended more
+            → strip_bom (bytes ++ more) ≡ begun.bytes ++ more)) }
         ensures end { IfOk result (λ begun. begun.ended ≡ true → IsAtEnd (S.left source.new)) }
         ensures fault { OnErr result (Rose (S.faults source.old) (S.faults source.new)) }
         ensures no_fault { OnOk result (S.faults source.new ≡ S.faults source.old) }
@@ -119,8 +121,10 @@ impl Incoming {
         requires { self.old.bytes ≡ [] }
         ensures takes { OnOk result (Takes (S.left source.old) (S.left source.new)
             (S.taken source.old) (S.taken source.new) self.new.bytes) }
-        ensures some { IfOk result (λ some. some ≡ true → (1 ≤ length self.new.bytes) × (self.new.ended ≡ false)) }
-        ensures none { IfOk result (λ some. some ≡ false → (self.new.bytes ≡ []) × (self.new.ended ≡ true)) }
+        ensures some { IfOk result (λ some. some ≡ true
+            → (1 ≤ length self.new.bytes) × (self.new.ended ≡ false)) }
+        ensures none { IfOk result (λ some. some ≡ false
+            → (self.new.bytes ≡ []) × (self.new.ended ≡ true)) }
         ensures still { OnOk result (StaysEnded self.old.ended self.new.bytes self.new.ended) }
         ensures end { OnOk result ((self.old.ended ≡ true → IsAtEnd (S.left source.old))
             → self.new.ended ≡ true → IsAtEnd (S.left source.new)) }

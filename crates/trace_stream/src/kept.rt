@@ -27,7 +27,10 @@ impl Model for Gathered {
 
     ghost Value = { Kept };
 
-    ghost view = { λ g. record { fields = first_bytes g.whole g.fields.items; field = bytes_at g.fields.items g.whole } };
+    ghost view = { λ g. record {
+      fields = first_bytes g.whole g.fields.items;
+      field = bytes_at g.fields.items g.whole;
+    } };
 
     ghost invariant = { λ g. IsRoom g.fields.items × (g.whole ≤ 5) };
 }
@@ -90,7 +93,10 @@ impl Gathered {
     /// The field at hand is whole.
     pub fn end_field(&mut self)
         requires { length self.old.fields < 5 }
-        ensures { self.new ≡ record { fields = with_field self.old.fields self.old.field; field = [] } }
+        ensures { self.new ≡ record {
+          fields = with_field self.old.fields self.old.field;
+          field = [];
+        } }
     {
         self.whole += 1;
         if self.whole < MOST_FIELDS {

@@ -26,8 +26,10 @@ impl Records {
     // The plain bytes that come first join the field at hand.
     fn take_run(&mut self)
         requires few { length self.old.kept.fields < 5 }
-        ensures goes_on { GoesOn (state_of self.old.place) self.old.kept.fields self.old.kept.field self.old.incoming.bytes
-            (state_of self.new.place) self.new.kept.fields self.new.kept.field self.new.incoming.bytes }
+        ensures goes_on { GoesOn (state_of self.old.place) self.old.kept.fields self.old.kept.field
+            self.old.incoming.bytes
+            (state_of self.new.place) self.new.kept.fields self.new.kept.field
+            self.new.incoming.bytes }
         ensures fields { self.new.kept.fields ≡ self.old.kept.fields }
         ensures less { length self.new.incoming.bytes ≤ length self.old.incoming.bytes }
         ensures same { self.new.incoming.ended ≡ self.old.incoming.ended }
@@ -47,14 +49,19 @@ impl Records {
     fn take_byte(&mut self) -> bool
         requires some { 0 < length self.old.incoming.bytes }
         requires few { length self.old.kept.fields < 5 }
-        ensures ended { result ≡ true → Decided (state_of self.old.place) self.old.kept.fields self.old.kept.field
-            self.old.incoming.bytes self.new.kept.fields (state_of self.new.place) self.new.incoming.bytes }
+        ensures ended { result ≡ true → Decided (state_of self.old.place) self.old.kept.fields
+            self.old.kept.field
+            self.old.incoming.bytes self.new.kept.fields (state_of self.new.place)
+            self.new.incoming.bytes }
         ensures goes_on { result ≡ false →
-            GoesOn (state_of self.old.place) self.old.kept.fields self.old.kept.field self.old.incoming.bytes
-            (state_of self.new.place) self.new.kept.fields self.new.kept.field self.new.incoming.bytes }
+            GoesOn (state_of self.old.place) self.old.kept.fields self.old.kept.field
+            self.old.incoming.bytes
+            (state_of self.new.place) self.new.kept.fields self.new.kept.field
+            self.new.incoming.bytes }
 
         // Behind its fifth field a record has begun another one.
-        ensures fifth { result ≡ false → length self.new.kept.fields ≡ 5 → state_of self.new.place ≡ StartField }
+        ensures fifth { result ≡ false → length self.new.kept.fields ≡ 5
+            → state_of self.new.place ≡ StartField }
         ensures most { length self.new.kept.fields ≤ 5 }
         ensures less { length self.new.incoming.bytes < length self.old.incoming.bytes }
         ensures same { self.new.incoming.ended ≡ self.old.incoming.ended }
@@ -84,11 +91,15 @@ impl Records {
     // they do.
     fn advance(&mut self) -> bool
         requires few { length self.old.kept.fields < 5 }
-        ensures decided { result ≡ true → Decided (state_of self.old.place) self.old.kept.fields self.old.kept.field
-            self.old.incoming.bytes self.new.kept.fields (state_of self.new.place) self.new.incoming.bytes }
+        ensures decided { result ≡ true → Decided (state_of self.old.place) self.old.kept.fields
+            self.old.kept.field
+            self.old.incoming.bytes self.new.kept.fields (state_of self.new.place)
+            self.new.incoming.bytes }
         ensures goes_on { result ≡ false →
-            GoesOn (state_of self.old.place) self.old.kept.fields self.old.kept.field self.old.incoming.bytes
-            (state_of self.new.place) self.new.kept.fields self.new.kept.field self.new.incoming.bytes }
+            GoesOn (state_of self.old.place) self.old.kept.fields self.old.kept.field
+            self.old.incoming.bytes
+            (state_of self.new.place) self.new.kept.fields self.new.kept.field
+            self.new.incoming.bytes }
         ensures few { result ≡ false → length self.new.kept.fields < 5 }
         ensures spent { result ≡ false → self.new.incoming.bytes ≡ [] }
         ensures same { self.new.incoming.ended ≡ self.old.incoming.ended }
@@ -128,19 +139,24 @@ impl Records {
     /// Reads the next record, as far as it decides, and says whether there was one. The source is read only where the bytes that
     /// arrived before don't decide.
     pub fn next<S: Source>(&mut self, source: &mut S) -> Result<bool, StreamFault>
-        ensures found { IfOk result (λ found. (bytes : List ℕ) × Takes (S.left source.old) (S.left source.new)
+        ensures found { IfOk result (λ found. (bytes : List ℕ)
+            × Takes (S.left source.old) (S.left source.new)
             (S.taken source.old) (S.taken source.new) bytes
             × StaysEnded self.old.incoming.ended bytes self.new.incoming.ended
             × FindsKept found (state_of self.old.place) (self.old.incoming.bytes ++ bytes)
             self.new.kept.fields (state_of self.new.place) self.new.incoming) }
-        ensures prompt { decides (state_of self.old.place) 0 self.old.incoming.bytes ≡ true → source.new ≡ source.old }
+        ensures prompt { decides (state_of self.old.place) 0 self.old.incoming.bytes ≡ true
+            → source.new ≡ source.old }
         ensures end { OnOk result ((self.old.incoming.ended ≡ true → IsAtEnd (S.left source.old))
             → self.new.incoming.ended ≡ true → IsAtEnd (S.left source.new)) }
         ensures err { IfErr result (λ e. (e ≡ StreamFault.Read) ⊎ (e ≡ StreamFault.Endless)) }
-        ensures read { result ≡ Err StreamFault.Read → Rose (S.faults source.old) (S.faults source.new) }
-        ensures endless { result ≡ Err StreamFault.Endless → (bytes : List ℕ) × Takes (S.left source.old) (S.left source.new)
+        ensures read { result ≡ Err StreamFault.Read
+            → Rose (S.faults source.old) (S.faults source.new) }
+        ensures endless { result ≡ Err StreamFault.Endless
+            → (bytes : List ℕ) × Takes (S.left source.old) (S.left source.new)
             (S.taken source.old) (S.taken source.new) bytes × (2 ^ 64 - 1 ≤ length bytes) }
-        ensures no_fault { result ≢ Err StreamFault.Read → S.faults source.new ≡ S.faults source.old }
+        ensures no_fault { result ≢ Err StreamFault.Read
+            → S.faults source.new ≡ S.faults source.old }
         ensures never_falls { S.faults source.old ≤ S.faults source.new }
     {
         self.kept.begin();

@@ -40,7 +40,13 @@ impl Model for TraceStream {
 
     ghost Value = { Standing };
 
-    ghost view = { λ s. record { arrived = s.records.incoming; state = state_of s.records.place; rows = s.rows; tick = s.tick; lines = s.lines } };
+    ghost view = { λ s. record {
+      arrived = s.records.incoming;
+      state = state_of s.records.place;
+      rows = s.rows;
+      tick = s.tick;
+      lines = s.lines;
+    } };
 
     ghost invariant = { λ s. (1 ≤ s.lines) × (s.rows ≤ 4294967294) };
 }
@@ -53,17 +59,26 @@ impl TraceStream {
         lines: u32,
     ) -> Result<TraceStream, StreamFault>
         requires { 1 ≤ lines }
-        ensures ok { IfOk result (λ stream. (bytes : List ℕ) × Takes (S.left source.old) (S.left source.new)
+        ensures ok { IfOk result (λ stream. (bytes : List ℕ)
+            × Takes (S.left source.old) (S.left source.new)
             (S.taken source.old) (S.taken source.new) bytes × Opens lines bytes stream) }
-        ensures begun { IfOk result (λ stream. (stream.rows ≡ 0) × (stream.tick ≡ 0) × (stream.lines ≡ lines)) }
-        ensures end { IfOk result (λ stream. stream.arrived.ended ≡ true → IsAtEnd (S.left source.new)) }
-        ensures fault { IfErr result (λ e. IsOfText e → (bytes : List ℕ) × (ended : Bool) × Takes (S.left source.old)
-            (S.left source.new) (S.taken source.old) (S.taken source.new) bytes × (ended ≡ true → IsAtEnd (S.left source.new))
-            × ((n : ℕ) → HasFault (stream_of n lines) bytes e ended × HasFront (front_of n lines) bytes [] ended)) }
-        ensures read { result ≡ Err StreamFault.Read → Rose (S.faults source.old) (S.faults source.new) }
-        ensures endless { result ≡ Err StreamFault.Endless → (bytes : List ℕ) × Takes (S.left source.old) (S.left source.new)
+        ensures begun { IfOk result (λ stream. (stream.rows ≡ 0) × (stream.tick ≡ 0)
+            × (stream.lines ≡ lines)) }
+        ensures end { IfOk result (λ stream. stream.arrived.ended ≡ true
+            → IsAtEnd (S.left source.new)) }
+        ensures fault { IfErr result (λ e. IsOfText e
+            → (bytes : List ℕ) × (ended : Bool) × Takes (S.left source.old)
+            (S.left source.new) (S.taken source.old) (S.taken source.new) bytes
+            × (ended ≡ true → IsAtEnd (S.left source.new))
+            × ((n : ℕ) → HasFault (stream_of n lines) bytes e ended
+            × HasFront (front_of n lines) bytes [] ended)) }
+        ensures read { result ≡ Err StreamFault.Read
+            → Rose (S.faults source.old) (S.faults source.new) }
+        ensures endless { result ≡ Err StreamFault.Endless
+            → (bytes : List ℕ) × Takes (S.left source.old) (S.left source.new)
             (S.taken source.old) (S.taken source.new) bytes × (2 ^ 64 - 1 ≤ length bytes) }
-        ensures no_fault { result ≢ Err StreamFault.Read → S.faults source.new ≡ S.faults source.old }
+        ensures no_fault { result ≢ Err StreamFault.Read
+            → S.faults source.new ≡ S.faults source.old }
         ensures never_falls { S.faults source.old ≤ S.faults source.new }
     {
         let kept = Gathered::new(alloc)?;
@@ -98,28 +113,37 @@ impl TraceStream {
         source: &mut S,
     ) -> Result<Option<Asked<B>>, StreamFault>
         requires { B ≤ 128 }
-        ensures ok { IfOk result (λ next. (bytes : List ℕ) × Takes (S.left source.old) (S.left source.new)
+        ensures ok { IfOk result (λ next. (bytes : List ℕ)
+            × Takes (S.left source.old) (S.left source.new)
             (S.taken source.old) (S.taken source.new) bytes
-            × StaysEnded self.old.arrived.ended bytes self.new.arrived.ended × AsksNext self.old bytes next self.new) }
-        ensures prompt { decides self.old.state 0 self.old.arrived.bytes ≡ true → source.new ≡ source.old }
-        ensures lawful { IfOk result (λ next. IfSome next (λ asked. IsAskedFor self.old.lines self.old.tick asked)) }
-        ensures row { IfOk result (λ next. IfSome next (λ asked. (self.new.rows ≡ rows_after self.old.rows asked)
+            × StaysEnded self.old.arrived.ended bytes self.new.arrived.ended
+            × AsksNext self.old bytes next self.new) }
+        ensures prompt { decides self.old.state 0 self.old.arrived.bytes ≡ true
+            → source.new ≡ source.old }
+        ensures lawful { IfOk result (λ next. IfSome next
+            (λ asked. IsAskedFor self.old.lines self.old.tick asked)) }
+        ensures row { IfOk result (λ next. IfSome next (λ asked. (self.new.rows
+            ≡ rows_after self.old.rows asked)
             × (self.new.rows ≤ MOST_STREAMED) × (self.new.tick ≡ tick_asked asked))) }
         ensures lines { OnOk result (self.new.lines ≡ self.old.lines) }
         ensures end { OnOk result ((self.old.arrived.ended ≡ true → IsAtEnd (S.left source.old))
             → self.new.arrived.ended ≡ true → IsAtEnd (S.left source.new)) }
-        ensures fault { IfErr result (λ e. IsOfText e → (bytes : List ℕ) × Takes (S.left source.old) (S.left source.new)
+        ensures fault { IfErr result (λ e. IsOfText e
+            → (bytes : List ℕ) × Takes (S.left source.old) (S.left source.new)
             (S.taken source.old) (S.taken source.new) bytes
             × StaysEnded self.old.arrived.ended bytes self.new.arrived.ended
             × ((self.old.arrived.ended ≡ true → IsAtEnd (S.left source.old))
             → self.new.arrived.ended ≡ true → IsAtEnd (S.left source.new))
             × HasFault (asked_from B self.old) bytes e self.new.arrived.ended
             × HasFront (front_from B self.old) bytes [] self.new.arrived.ended) }
-        ensures read { result ≡ Err StreamFault.Read → Rose (S.faults source.old) (S.faults source.new) }
-        ensures endless { result ≡ Err StreamFault.Endless → (bytes : List ℕ) × Takes (S.left source.old) (S.left source.new)
+        ensures read { result ≡ Err StreamFault.Read
+            → Rose (S.faults source.old) (S.faults source.new) }
+        ensures endless { result ≡ Err StreamFault.Endless
+            → (bytes : List ℕ) × Takes (S.left source.old) (S.left source.new)
             (S.taken source.old) (S.taken source.new) bytes × (2 ^ 64 - 1 ≤ length bytes) }
         ensures memory { result ≢ Err StreamFault.NoMemory }
-        ensures no_fault { result ≢ Err StreamFault.Read → S.faults source.new ≡ S.faults source.old }
+        ensures no_fault { result ≢ Err StreamFault.Read
+            → S.faults source.new ≡ S.faults source.old }
         ensures never_falls { S.faults source.old ≤ S.faults source.new }
     {
         if !self.records.next(source)? {

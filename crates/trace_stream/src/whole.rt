@@ -19,14 +19,20 @@ pub fn read_stream<const B: usize, S: Source>(
 ) -> Result<Vec<Asked<B>>, StreamFault>
     requires lines { 1 ≤ lines }
     requires small { B ≤ 128 }
-    ensures ok { IfOk result (λ all. (bytes : List ℕ) × Takes (S.left source.old) (S.left source.new)
-        (S.taken source.old) (S.taken source.new) bytes × (stream_of B lines bytes ≡ Ok all.items)) }
+    ensures ok { IfOk result (λ all. (bytes : List ℕ)
+        × Takes (S.left source.old) (S.left source.new)
+        (S.taken source.old) (S.taken source.new) bytes
+        × (stream_of B lines bytes ≡ Ok all.items)) }
     ensures end { OnOk result (IsAtEnd (S.left source.new)) }
-    ensures fault { IfErr result (λ e. IsOfText e → (bytes : List ℕ) × (ended : Bool) × Takes (S.left source.old)
-        (S.left source.new) (S.taken source.old) (S.taken source.new) bytes × (ended ≡ true → IsAtEnd (S.left source.new))
+    ensures fault { IfErr result (λ e. IsOfText e
+        → (bytes : List ℕ) × (ended : Bool) × Takes (S.left source.old)
+        (S.left source.new) (S.taken source.old) (S.taken source.new) bytes
+        × (ended ≡ true → IsAtEnd (S.left source.new))
         × HasFault (stream_of B lines) bytes e ended) }
-    ensures read { result ≡ Err StreamFault.Read → Rose (S.faults source.old) (S.faults source.new) }
-    ensures endless { result ≡ Err StreamFault.Endless → (bytes : List ℕ) × Takes (S.left source.old) (S.left source.new)
+    ensures read { result ≡ Err StreamFault.Read
+        → Rose (S.faults source.old) (S.faults source.new) }
+    ensures endless { result ≡ Err StreamFault.Endless
+        → (bytes : List ℕ) × Takes (S.left source.old) (S.left source.new)
         (S.taken source.old) (S.taken source.new) bytes × (2 ^ 64 - 1 ≤ length bytes) }
     ensures no_fault { result ≢ Err StreamFault.Read → S.faults source.new ≡ S.faults source.old }
     ensures never_falls { S.faults source.old ≤ S.faults source.new }

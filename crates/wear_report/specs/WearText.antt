@@ -1,8 +1,6 @@
 -- The wear report: a header, and one row for each array line, from 0 on.
-use Rattle.std.specs.Prelude.{ℕ, ◌+◌, List, [], ◌∷◌, ◌++◌, codes, decimal}
-use Rattle.std.specs.List.{join_with_byte}
-use Rattle.wear_report.specs.declared.Role.{Role}
-use Rattle.wear_report.specs.declared.Role.TheVariants.{Line, Gap, Free, Retired, Control}
+use Rattle.std.specs.{List.join_with_byte, Prelude.{ℕ, ◌+◌, List, [], ◌∷◌, ◌++◌, codes, decimal}}
+use Rattle.wear_report.specs.{declared.Role.Role, declared.Role.TheVariants.{Line, Gap, Free, Retired, Control}}
 
 -- the first line of the report
 abbrev pub wear_header_text : List ℕ

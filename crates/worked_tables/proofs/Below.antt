@@ -1,7 +1,6 @@
 -- What holds of each number below a bound, computed one by one.
 use Rattle.std.proofs.Common.{◌≡◌, inl, inr, ℕ, zero, suc, ◌<◌, ◌&&◌, Bool, true, sym, subst, arith}
-use Rattle.std.specs.Prelude.{nat_lt}
-use Rattle.std.proofs.lemmas.Bool.{and_parts, cases_eq, ltb-true}
+use Rattle.std.{specs.Prelude.nat_lt, proofs.lemmas.Bool.{and_parts, cases_eq, ltb-true}}
 
 abbrev pub each_below : (ℕ → Bool) → ℕ → Bool
 each_below test zero = true

@@ -1,8 +1,7 @@
 -- Worked queues of a small bank, whose lines have two bytes, by their rows, the newest of them first.
 use Rattle.std.proofs.Common.{◌≡◌, true, false, List, [], ◌∷◌, refl}
 use Rattle.result_rows.specs.declared.Outcome.TheVariants as out
-use Rattle.row_rules.specs.declared.Asks.TheVariants.{Writes}
-use Rattle.row_rules.specs.declared.Row.{Row}
+use Rattle.row_rules.specs.{declared.Asks.TheVariants.Writes, declared.Row.Row}
 use Rattle.worked_tables.specs.TableExamples.{W, M, whole, both}
 use Rattle.image_laws.specs.Queued.{entries_by, queued_writes}
 

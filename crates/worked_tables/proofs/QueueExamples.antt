@@ -1,8 +1,7 @@
 -- Worked entries of a small bank, computed. The newest event is first.
 use Rattle.std.proofs.Common.{◌≡◌, true, false, List, [], ◌∷◌, Some, None, refl}
-use Rattle.bank_model.specs.Events.{BankEvent, Write, Cut}
+use Rattle.bank_model.specs.{Events.{BankEvent, Write, Cut}, Timing.core}
 use Rattle.bank_shape.specs.declared.answer.WriteAnswer.TheVariants.{Accepted, Merged, Full}
-use Rattle.bank_model.specs.Timing.{core}
 use Rattle.worked_tables.specs.HistoryExamples.{small, whole, both, first, begun}
 use Rattle.queue_laws.specs.EntryLaws.{line_written, given_by, last_write, is_head_begun}
 

@@ -1,33 +1,24 @@
 -- The worked run is right, and altered ones are not.
 use Rattle.std.proofs.Common.{◌≡◌, ℕ, zero, suc, ◌+◌, ◌*◌, ◌/◌, ◌%◌, ◌<◌, ◌≤◌, ◌==◌, ◌&&◌, if◌then◌else◌, Bool, true, false, List, [], ◌∷◌, ◌++◌, inl, inr, lit<, lit≤, refl, sym, ap, ◌∙◌, subst, arith, cond}
+use Rattle.std.{specs.Int.bit_at, specs.Prelude.{nat_lt, nat_eq, slice_index}, proofs.lemmas.Bool.cases_eq, proofs.lemmas.Nat.Bits.bit_at-zero}
 use Rattle.masked_bytes.proofs.Truth.{and_first, and_second}
-use Rattle.std.specs.Prelude.{nat_lt, nat_eq, slice_index}
-use Rattle.std.specs.Int.{bit_at}
-use Rattle.std.proofs.lemmas.Nat.Bits.{bit_at-zero}
-use Rattle.std.proofs.lemmas.Bool.{cases_eq}
-use Rattle.rand_core.specs.Stream.{next_u64}
-use Rattle.rand_core.specs.Steps.{stream_of}
+use Rattle.rand_core.specs.{Steps.stream_of, Stream.next_u64}
 use Rattle.seeded_words.specs.Words.{stream_after, word_at}
 use Rattle.cell_rows.specs.declared.array.Sense.{Sense}
+use Rattle.cell_rows.specs.Rows as cells
 use Rattle.ecp_line.specs.Reading.{decode}
 use Rattle.ecp_line.specs.Layout as layout
-use Rattle.cell_rows.specs.Rows as cells
 use Rattle.line_writer.specs.Untouched.{HasUntouched}
-use Rattle.row_rules.specs.declared.Row.{Row}
+use Rattle.row_rules.specs.{Rows.each_row, Serving.is_served, Table.KeepsRows, declared.Row.Row}
+use Rattle.worked_tables.specs.Runs.{small, reading, misplaced, first_bank, second_bank, senses, holding, ended, touched, forgotten, NeverRight, unmoved, hammered, strained}
 use Rattle.worked_tables.specs.TableExamples.{whole}
-use Rattle.row_rules.specs.Rows.{each_row}
-use Rattle.row_rules.specs.Serving.{is_served}
-use Rattle.row_rules.specs.Table.{KeepsRows}
 use Rattle.module_shape.specs.Addresses.{module_of, bank_shape}
 use Rattle.module_laws.specs.Serves.{finds_room_in}
-use Rattle.bank_laws.specs.Laws.{KeepsPlaces, KeepsLog, is_worn_at}
-use Rattle.bank_laws.specs.Logs.{is_line_fair}
-use Rattle.bank_laws.specs.Places.{is_moved}
+use Rattle.bank_laws.specs.{Laws.{KeepsPlaces, KeepsLog, is_worn_at}, Logs.is_line_fair, Places.is_moved}
 use Rattle.bank_invariant.specs.Tied.{decoded}
 use Rattle.end_laws.specs.Ends.{BankEnd, EndsWith, IsRemapped, is_kept_line, place_by_table}
 use Rattle.lifetime_laws.specs.Lifetime.{KeepsLines}
 use Rattle.run_laws.specs.Runs.{bank_of_line, line_in_bank, line_named, rules_in, table_in, RunsRight}
-use Rattle.worked_tables.specs.Runs.{small, reading, misplaced, first_bank, second_bank, senses, holding, ended, touched, forgotten, NeverRight, unmoved, hammered, strained}
 
 pub where_8_is : (bank_of_line small 0 8 ≡ 1) × (line_in_bank small 0 8 ≡ 5) × (line_named small 0 1 5 ≡ 8)
 unfolding next_u64 stream_of stream_after word_at

@@ -1,13 +1,9 @@
 -- The verdicts on the worked run and on altered ones, computed.
 use Rattle.std.proofs.Common.{◌≡◌, refl}
-use Rattle.rand_core.specs.Stream.{next_u64}
-use Rattle.rand_core.specs.Steps.{stream_of}
+use Rattle.rand_core.specs.{Steps.stream_of, Stream.next_u64}
 use Rattle.seeded_words.specs.Words.{stream_after, word_at}
-use Rattle.check_verdict.specs.Verdicts.{no}
-use Rattle.check_verdict.specs.declared.Rule.TheVariants.{Serves, Tick}
-use Rattle.check_verdict.specs.declared.Verdict.TheVariants.{Yes}
-use Rattle.worked_tables.specs.Runs.{reading, misplaced}
-use Rattle.worked_tables.specs.Verdicts.{verdict_on, read_at}
+use Rattle.check_verdict.specs.{Verdicts.no, declared.Rule.TheVariants.{Serves, Tick}, declared.Verdict.TheVariants.Yes}
+use Rattle.worked_tables.specs.{Runs.{reading, misplaced}, Verdicts.{verdict_on, read_at}}
 
 pub right : verdict_on (reading 0x11 0) ≡ Yes
 unfolding next_u64 stream_of stream_after word_at

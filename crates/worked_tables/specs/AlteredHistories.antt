@@ -1,12 +1,9 @@
 -- Histories of the small bank that no bank has, the newest event first: what is wrong is the newest event.
 use Rattle.std.specs.Prelude.{List, [], ◌∷◌, true, false, Some, None}
+use Rattle.bank_shape.specs.{declared.answer.ReadAnswer.TheVariants.{Waiting, Forwarded}, declared.answer.Step.TheVariants.{More, Stored, Exhausted}}
 use Rattle.bank_shape.specs.declared.answer.WriteAnswer.TheVariants.{Accepted, Merged, Full}
-use Rattle.bank_shape.specs.declared.answer.ReadAnswer.TheVariants.{Waiting, Forwarded}
-use Rattle.bank_shape.specs.declared.answer.Step.TheVariants.{More, Stored, Exhausted}
-use Rattle.bank_model.specs.Events.{Write, Read, Begin, Iterate, Cut}
-use Rattle.bank_model.specs.Timing.{TimedEvent, Core}
 use Rattle.bank_shape.specs.declared.answer.Keep.TheVariants as keep
-use Rattle.bank_model.specs.Timing.{KeepBegin, KeepIterate}
+use Rattle.bank_model.specs.{Events.{Write, Read, Begin, Iterate, Cut}, Timing.{TimedEvent, Core, KeepBegin, KeepIterate}}
 use Rattle.worked_tables.specs.HistoryExamples.{kept, kept_on, kept_begun, read_controls, at, sensed, pulsed, holds, cancel, whole, both, begun, in_flight, zeros, stored}
 
 -- Times.

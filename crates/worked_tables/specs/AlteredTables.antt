@@ -2,8 +2,7 @@
 use Rattle.std.specs.Prelude.{ℕ, List, [], ◌∷◌, Option, Some}
 use Rattle.result_rows.specs.declared.Outcome.TheVariants as out
 use Rattle.row_rules.specs.declared.Row.{Row}
-use Rattle.worked_tables.specs.Faults.{Law, Fault}
-use Rattle.worked_tables.specs.TableExamples.{W, M, R, C, whole, laid_over}
+use Rattle.worked_tables.specs.{Faults.{Law, Fault}, TableExamples.{W, M, R, C, whole, laid_over}}
 
 -- the table's first fault is that of this row, which breaks this law
 abbrev pub breaks : ℕ → Law → Option Fault

@@ -1,13 +1,7 @@
 -- The first row of a table that breaks a law.
 use Rattle.std.specs.Prelude.{ℕ, ◌+◌, List, [], ◌∷◌, Bool, if◌then◌else◌, filter, Option, Some, None}
-use Rattle.row_rules.specs.declared.Asks.{Asks}
-use Rattle.row_rules.specs.declared.Row.{Row}
-use Rattle.row_rules.specs.Rows.{RowTest}
-use Rattle.row_rules.specs.declared.Rules.{Rules}
-use Rattle.row_rules.specs.Queueing.{has_room, is_queue_fair}
-use Rattle.row_rules.specs.Serving.{is_served}
-use Rattle.row_rules.specs.Wearing.{is_wear_final, is_wear_earned}
-use Rattle.row_rules.specs.Ticking.{is_in_time}
+use Rattle.row_rules.specs.{Queueing.{has_room, is_queue_fair}, Rows.RowTest, Serving.is_served, Ticking.is_in_time, Wearing.{is_wear_final, is_wear_earned}, declared.Asks.Asks}
+use Rattle.row_rules.specs.{declared.Row.Row, declared.Rules.Rules}
 
 -- the bank whose rows pass the test `own` holds no more than it may as a row comes
 abbrev pub finds_room : {n : ℕ} → (Asks n → Bool) → Rules → RowTest n

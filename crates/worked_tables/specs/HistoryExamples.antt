@@ -2,17 +2,12 @@
 -- A sense takes 5 ticks and an iteration 10; bank line 3 stands in array line 3.
 use Rattle.std.specs.Prelude.{ℕ, List, [], ◌∷◌, Bool, true, false, Some, None}
 use Rattle.cell_rows.specs.declared.array.Sense.{Sense}
-use Rattle.bank_shape.specs.declared.BankShape.{BankShape}
-use Rattle.bank_shape.specs.declared.Home.{Home}
-use Rattle.bank_shape.specs.declared.Home.TheVariants as home
+use Rattle.bank_shape.specs.{declared.BankShape.BankShape, declared.Home.Home, declared.answer.ReadAnswer.TheVariants.{Waiting, Forwarded}}
+use Rattle.bank_shape.specs.{declared.answer.Step.TheVariants.{More, Stored, Moved}, declared.answer.WriteAnswer.TheVariants.{Accepted, Merged}, declared.pace.Pace.Pace}
 use Rattle.bank_shape.specs.declared.pace.Policy.{Policy}
-use Rattle.bank_shape.specs.declared.answer.WriteAnswer.TheVariants.{Accepted, Merged}
-use Rattle.bank_shape.specs.declared.answer.ReadAnswer.TheVariants.{Waiting, Forwarded}
-use Rattle.bank_shape.specs.declared.answer.Step.TheVariants.{More, Stored, Moved}
-use Rattle.bank_model.specs.Events.{BankEvent, Write, Read, Serve, Begin, Iterate, Cut}
+use Rattle.bank_shape.specs.declared.Home.TheVariants as home
 use Rattle.bank_shape.specs.declared.answer.Keep.TheVariants as keep
-use Rattle.bank_shape.specs.declared.pace.Pace.{Pace}
-use Rattle.bank_model.specs.Timing.{TimedEvent, Core, Regs, Keeping, KeepBegin, KeepIterate, KeepCut}
+use Rattle.bank_model.specs.{Events.{BankEvent, Write, Read, Serve, Begin, Iterate, Cut}, Timing.{TimedEvent, Core, Regs, Keeping, KeepBegin, KeepIterate, KeepCut}}
 
 -- four lines, two spares, registers kept so, and a gap move after so many stores
 abbrev pub keeping : Home → ℕ → BankShape

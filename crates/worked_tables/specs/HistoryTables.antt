@@ -3,9 +3,8 @@ use Rattle.std.specs.Prelude.{ℕ, Bool, false, List, [], ◌∷◌, reverse}
 use Rattle.cell_rows.specs.declared.row.Cells.{Cells}
 use Rattle.result_rows.specs.declared.Outcome.TheVariants as out
 use Rattle.row_rules.specs.declared.Row.{Row}
-use Rattle.worked_tables.specs.TableExamples.{W, M, R, C, whole, laid_over}
+use Rattle.worked_tables.specs.{HistoryExamples.small, TableExamples.{W, M, R, C, whole, laid_over}}
 use Rattle.bank_model.specs.Timing.{TimedEvent}
-use Rattle.worked_tables.specs.HistoryExamples.{small}
 use Rattle.bank_laws.specs.Outcomes.{table_of}
 
 -- the table that a history of the small bank leaves

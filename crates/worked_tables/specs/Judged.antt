@@ -2,8 +2,7 @@
 use Rattle.std.specs.Prelude.{ℕ, List, [], ◌∷◌, true}
 use Rattle.result_rows.specs.declared.Outcome.TheVariants as out
 use Rattle.bank_shape.specs.declared.pace.Policy.{Policy}
-use Rattle.row_rules.specs.declared.Row.{Row}
-use Rattle.row_rules.specs.declared.Rules.{Rules}
+use Rattle.row_rules.specs.{declared.Row.Row, declared.Rules.Rules}
 use Rattle.worked_tables.specs.TableExamples.{W, R, C, whole}
 
 -- four lines of one bank

@@ -2,14 +2,10 @@
 use Rattle.std.specs.Prelude.{ℕ, zero, suc, ◌+◌, ◌*◌, ◌/◌, ◌%◌, ◌==◌, ◌&&◌, not, nat_lt, Bool, if◌then◌else◌, List, [], ◌∷◌, count_by}
 use Rattle.cell_rows.specs.Device.{CellBounds}
 use Rattle.result_rows.specs.declared.Outcome.TheVariants as out
-use Rattle.row_rules.specs.declared.Row.{Row}
-use Rattle.row_rules.specs.Rows.{asks_write_of}
-use Rattle.row_rules.specs.Ticking.{tries}
+use Rattle.row_rules.specs.{Rows.asks_write_of, Ticking.tries, declared.Row.Row}
 use Rattle.worked_tables.specs.TableExamples.{W}
-use Rattle.bank_shape.specs.declared.pace.Policy.{Policy}
-use Rattle.bank_shape.specs.declared.BankShape.{BankShape}
+use Rattle.bank_shape.specs.{Shape.slot_moved, declared.BankShape.BankShape, declared.pace.Policy.Policy}
 use Rattle.bank_shape.specs.declared.Home.TheVariants as home
-use Rattle.bank_shape.specs.Shape.{slot_moved}
 use Rattle.lifetime_laws.specs.Lifetime.{most_works_by}
 
 abbrev pub two_lines : BankShape

@@ -1,14 +1,11 @@
 -- A worked run of a small module with lines of two bytes and one check byte: two banks of two regions of four lines and one spare.
 -- Seed 0 puts line 8 into bank 1 and line 0 into bank 0, each as number 5 there, which stands in its bank's seventh array line.
 use Rattle.std.specs.Prelude.{ℕ, ◌+◌, ◌*◌, ◌==◌, false, if◌then◌else◌, List, [], ◌∷◌, Some, None}
-use Rattle.cell_rows.specs.declared.array.Sense.{Sense}
-use Rattle.cell_rows.specs.Device.{CellBounds, ArrayState, LineState}
+use Rattle.cell_rows.specs.{Device.{CellBounds, ArrayState, LineState}, declared.array.Sense.Sense}
 use Rattle.result_rows.specs.declared.Outcome.TheVariants as out
 use Rattle.row_rules.specs.declared.Row.{Row}
-use Rattle.worked_tables.specs.TableExamples.{W, R, whole}
-use Rattle.worked_tables.specs.HistoryExamples.{holds}
-use Rattle.bank_shape.specs.declared.pace.Policy.TheVariants.{Pause}
-use Rattle.bank_shape.specs.declared.Home.TheVariants.{Guarded}
+use Rattle.worked_tables.specs.{HistoryExamples.holds, TableExamples.{W, R, whole}}
+use Rattle.bank_shape.specs.{declared.Home.TheVariants.Guarded, declared.pace.Policy.TheVariants.Pause}
 use Rattle.module_shape.specs.declared.raw.RawShape.{RawShape}
 use Rattle.end_laws.specs.Ends.{BankEnd}
 use Rattle.run_laws.specs.Runs.{RunsRight}

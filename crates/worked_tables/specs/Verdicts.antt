@@ -2,11 +2,9 @@
 use Rattle.std.specs.Prelude.{ℕ, List, [], ◌∷◌, reverse}
 use Rattle.result_rows.specs.declared.Outcome.TheVariants as out
 use Rattle.row_rules.specs.declared.Row.{Row}
-use Rattle.worked_tables.specs.TableExamples.{W, R, whole}
-use Rattle.check_verdict.specs.declared.Verdict.{Verdict}
-use Rattle.check_verdict.specs.Verdicts.{verdict_of}
+use Rattle.worked_tables.specs.{Runs.small, TableExamples.{W, R, whole}}
+use Rattle.check_verdict.specs.{Verdicts.verdict_of, declared.Verdict.Verdict}
 use Rattle.run_laws.specs.Runs.{rules_in}
-use Rattle.worked_tables.specs.Runs.{small}
 use Rattle.check_laws.specs.Verdicts.{banks_of}
 
 -- the verdict on rows of the small module

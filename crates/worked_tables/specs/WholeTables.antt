@@ -2,9 +2,8 @@
 use Rattle.std.specs.Prelude.{ℕ, List, [], length, reverse, take}
 use Rattle.bank_shape.specs.declared.BankShape.{BankShape}
 use Rattle.bank_shape.specs.declared.Home.TheVariants as home
-use Rattle.row_rules.specs.declared.Row.{Row}
+use Rattle.row_rules.specs.{Queueing.pending, declared.Row.Row}
 use Rattle.worked_tables.specs.TableExamples.{one_entry, no_spare}
-use Rattle.row_rules.specs.Queueing.{pending}
 
 -- how many writes a row at a tick finds in the queue that holds one, with so many rows before it
 abbrev pub found : ℕ → ℕ → ℕ

@@ -26,8 +26,10 @@ pub fn worked_lines_are_kept()
 pub fn worked_rows_are_still_there()
     ensures same { each_row (is_still_there small none_worn (slot_3_has 3)) stored_rows [] ≡ true }
     ensures spare { each_row (is_still_there small worn_3 (slot_3_has 6)) stored_rows [] ≡ true }
-    ensures unworn { each_row (is_still_there small none_worn (slot_3_has 6)) stored_rows [] ≡ false }
-    ensures no_spare { each_row (is_still_there small worn_3 (slot_3_has 4)) stored_rows [] ≡ false }
+    ensures unworn { each_row (is_still_there small none_worn (slot_3_has 6)) stored_rows []
+        ≡ false }
+    ensures no_spare { each_row (is_still_there small worn_3 (slot_3_has 4)) stored_rows []
+        ≡ false }
     ensures none_used { used_spares small (slot_3_has 3) ≡ 0 }
     ensures two_used { used_spares small (slot_3_has 6) ≡ 2 }
 {}

@@ -58,7 +58,8 @@ pub fn other_times_are_not_lawful()
     ensures iterates_again { Lawful small (pace Pause) 1 altered.iterates_again → ⊥ }
     ensures serves_between { Lawful small (pace Plain) 1 altered.serves_between → ⊥ }
     ensures begins_though_dropped { Lawful small (pace Pause) 1 altered.begins_though_dropped → ⊥ }
-    ensures arrives_before_the_last { Lawful small (pace Pause) 1 altered.arrives_before_the_last → ⊥ }
+    ensures arrives_before_the_last { Lawful small (pace Pause) 1 altered.arrives_before_the_last
+        → ⊥ }
 {}
 
 /// Cuts that tear what doesn't run, or nothing, and cancels without a read.
@@ -66,12 +67,14 @@ pub fn other_cuts_are_not_lawful()
     ensures cuts_without_a_tear { Lawful small (pace Pause) 1 altered.cuts_without_a_tear → ⊥ }
     ensures tears_a_begin { Lawful small (pace Pause) 1 altered.tears_a_begin → ⊥ }
     ensures read_without_its_cancel { Lawful small (pace Cancel) 1 (paused) → ⊥ }
-    ensures cancels_without_its_read { Lawful small (pace Cancel) 1 altered.cancels_without_its_read → ⊥ }
+    ensures cancels_without_its_read { Lawful small (pace Cancel) 1 altered.cancels_without_its_read
+        → ⊥ }
 {}
 
 /// Answers that the queue and the spares don't allow.
 pub fn other_answers_are_not_lawful()
-    ensures merges_into_the_busy_head { Lawful small (pace Pause) 1 altered.merges_into_the_busy_head → ⊥ }
+    ensures merges_into_the_busy_head { Lawful small (pace Pause) 1
+        altered.merges_into_the_busy_head → ⊥ }
     ensures refuses_with_room { Lawful small (pace Pause) 1 altered.refuses_with_room → ⊥ }
     ensures waits_though_queued { Lawful small (pace Pause) 1 altered.waits_though_queued → ⊥ }
     ensures forwards_other_bytes { Lawful small (pace Pause) 1 altered.forwards_other_bytes → ⊥ }
@@ -83,9 +86,11 @@ pub fn other_answers_are_not_lawful()
 /// Senses and pulses of other lines, or of other bytes.
 pub fn other_senses_are_not_lawful()
     ensures stores_other_bytes { Lawful small (pace Pause) 1 altered.stores_other_bytes → ⊥ }
-    ensures serves_what_was_not_sensed { Lawful small (pace Pause) 1 altered.serves_what_was_not_sensed → ⊥ }
+    ensures serves_what_was_not_sensed { Lawful small (pace Pause) 1
+        altered.serves_what_was_not_sensed → ⊥ }
     ensures senses_another_line { Lawful small (pace Pause) 1 altered.senses_another_line → ⊥ }
     ensures pulses_twice { Lawful small (pace Pause) 1 altered.pulses_twice → ⊥ }
     ensures pulses_another_line { Lawful small (pace Pause) 1 altered.pulses_another_line → ⊥ }
-    ensures copies_other_bytes { Lawful (moving 1) (pace Pause) 1 (copied_as (0x10 ∷ 0x11 ∷ [])) → ⊥ }
+    ensures copies_other_bytes { Lawful (moving 1) (pace Pause) 1 (copied_as (0x10 ∷ 0x11 ∷ []))
+        → ⊥ }
 {}

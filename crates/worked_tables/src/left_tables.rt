@@ -34,17 +34,24 @@ pub fn worked_tables_keep_the_laws_of_their_bank()
 /// Places are those of the rotation; a row elsewhere, or left undone, is found.
 pub fn worked_rows_are_placed()
     ensures paused { each_row (is_placed small none_worn) (table_of small paused) [] ≡ true }
-    ensures two_entries { each_row (is_placed small none_worn) (table_of small two_entries) [] ≡ true }
+    ensures two_entries { each_row (is_placed small none_worn) (table_of small two_entries) []
+        ≡ true }
     ensures elsewhere { each_row (is_placed small none_worn) read_elsewhere [] ≡ false }
-    ensures taken { each_row (is_taken (rules_of 1 small (pace Pause)) small none_worn) (table_of small paused) [] ≡ true }
-    ensures not_taken { each_row (is_taken (rules_of 1 small (pace Pause)) small none_worn) left_undone [] ≡ false }
+    ensures taken { each_row (is_taken (rules_of 1 small (pace Pause)) small none_worn)
+        (table_of small paused) [] ≡ true }
+    ensures not_taken { each_row (is_taken (rules_of 1 small (pace Pause)) small none_worn)
+        left_undone [] ≡ false }
 {}
 
 /// Each answered row has its sense, and each pulse of a line is seen.
 pub fn worked_rows_have_their_senses()
-    ensures paused { each_row (has_sense plain_bytes (senses_of paused)) (table_of small paused) [] ≡ true }
-    ensures dropped_begin { each_row (has_sense plain_bytes (senses_of dropped_begin)) (table_of small dropped_begin) [] ≡ true }
+    ensures paused { each_row (has_sense plain_bytes (senses_of paused)) (table_of small paused) []
+        ≡ true }
+    ensures dropped_begin { each_row (has_sense plain_bytes (senses_of dropped_begin))
+        (table_of small dropped_begin) [] ≡ true }
     ensures unsensed { each_row (has_sense plain_bytes []) (table_of small paused) [] ≡ false }
-    ensures fair { is_line_fair (rules_of 1 small (pace Pause)) (table_of small paused) (senses_of paused) true 3 2 ≡ true }
-    ensures unseen_pulse { is_line_fair (rules_of 1 small (pace Pause)) (table_of small paused) (senses_of paused) true 3 3 ≡ false }
+    ensures fair { is_line_fair (rules_of 1 small (pace Pause)) (table_of small paused)
+        (senses_of paused) true 3 2 ≡ true }
+    ensures unseen_pulse { is_line_fair (rules_of 1 small (pace Pause)) (table_of small paused)
+        (senses_of paused) true 3 3 ≡ false }
 {}

@@ -37,8 +37,10 @@ pub fn worked_table_meets_the_bound()
 /// array line, and 16 of all 24. So the bound is by the region's stores, and not by those of the line; and it is a bound for each
 /// line, and not for all lines together.
 pub fn worked_table_refutes_stronger_bounds()
-    ensures in_time { each_row (is_in_time (small Pause)) (storing waiting_for_slot_0 24) [] ≡ true }
-    ensures placed { each_row (is_placed two_lines none_worn) (storing waiting_for_slot_0 24) [] ≡ true }
+    ensures in_time { each_row (is_in_time (small Pause)) (storing waiting_for_slot_0 24) []
+        ≡ true }
+    ensures placed { each_row (is_placed two_lines none_worn) (storing waiting_for_slot_0 24) []
+        ≡ true }
     ensures own { stores_of 0 (storing waiting_for_slot_0 24) ≡ 8 }
     ensures own_on { stores_on 0 0 (storing waiting_for_slot_0 24) ≡ 8 }
     ensures by_the_line { most_at 2 1 8 ≡ 4 }
@@ -51,12 +53,15 @@ pub fn worked_table_refutes_stronger_bounds()
 /// bound is 401, so cells that endure 402 changes bear them. By the hot lines of all regions in each it would be 3,401, and by none 1,201.
 pub fn hot_lines_count_in_their_own_region()
     ensures in_time { each_row (is_in_time (small Pause)) (one_hot_line_each 48) [] ≡ true }
-    ensures placed { each_row (is_placed sixteen_regions none_worn) (one_hot_line_each 48) [] ≡ true }
+    ensures placed { each_row (is_placed sixteen_regions none_worn) (one_hot_line_each 48) []
+        ≡ true }
     ensures own { most_hot_works sixteen_regions 0 (its_first 0) (one_hot_line_each 16000) ≡ 401 }
-    ensures asked { most_asked_works sixteen_regions 0 (its_first 0) (one_hot_line_each 16000) ≡ 401 }
+    ensures asked { most_asked_works sixteen_regions 0 (its_first 0) (one_hot_line_each 16000)
+        ≡ 401 }
     ensures all { most_hot_works sixteen_regions 0 (all_first 16) (one_hot_line_each 16000) ≡ 3401 }
     ensures none { most_hot_works sixteen_regions 0 [] (one_hot_line_each 16000) ≡ 1201 }
-    ensures bears { BearsWorks (enduring 402) sixteen_regions (small Pause) (one_hot_line_each 16000) its_first }
+    ensures bears { BearsWorks (enduring 402) sixteen_regions (small Pause)
+        (one_hot_line_each 16000) its_first }
 {}
 
 /// How many stores of hot lines are promised, as `examples/studies/promise` prints it: of one line of a region of 64 over cells of

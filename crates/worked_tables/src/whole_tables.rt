@@ -20,7 +20,9 @@ pub fn a_worn_row_tells_of_a_worn_line()
     ensures one { worn_among worn_3 0 5 ≡ 1 }
     ensures fair { each_row (is_wear_true without_spares worn_3) worn_out [] ≡ true }
     ensures untrue { each_row (is_wear_true without_spares none_worn) worn_out [] ≡ false }
-    ensures left { each_row (is_taken (rules_of 1 without_spares (pace Pause)) without_spares worn_3) worn_out [] ≡ true }
-    ensures refused { each_row (is_taken (rules_of 1 without_spares (pace Pause)) without_spares none_worn) worn_out [] ≡ false }
+    ensures left { each_row (is_taken (rules_of 1 without_spares (pace Pause)) without_spares
+        worn_3) worn_out [] ≡ true }
+    ensures refused { each_row (is_taken (rules_of 1 without_spares (pace Pause)) without_spares
+        none_worn) worn_out [] ≡ false }
     ensures pulses { most_pulses (rules_of 1 without_spares (pace Pause)) worn_out ≡ 40 }
 {}

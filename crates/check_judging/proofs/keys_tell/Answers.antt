@@ -1,5 +1,4 @@
-use Rattle.check_judging.proofs.SortedKeys.{index_law}
-use Rattle.check_judging.proofs.SortedKeys.{count_law}
+use Rattle.check_judging.proofs.SortedKeys.{index_law, count_law}
 use Rattle.check_judging.proofs.keys_tell.Goals as goal
 
 pub returns : goal.returns

@@ -1,5 +1,4 @@
-use Rattle.check_judging.proofs.LeastEnd.{none_before_law}
-use Rattle.check_judging.proofs.LeastEnd.{first_law}
+use Rattle.check_judging.proofs.LeastEnd.{none_before_law, first_law}
 use Rattle.check_judging.proofs.least_end_tells.Goals as goal
 
 pub returns : goal.returns

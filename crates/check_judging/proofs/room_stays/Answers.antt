@@ -1,5 +1,4 @@
-use Rattle.check_judging.proofs.Sublists.{room_stays_law}
-use Rattle.check_judging.proofs.Sublists.{room_behind_cut_law}
+use Rattle.check_judging.proofs.Sublists.{room_stays_law, room_behind_cut_law}
 use Rattle.check_judging.proofs.room_stays.Goals as goal
 
 pub returns : goal.returns

@@ -1,9 +1,8 @@
 use Rattle.std.proofs.Common.{◌∙◌, arith}
 use Rattle.trace_rows.specs.Rows.{rows_with}
-use Rattle.result_check.proofs.Checking.{table_of}
-use Rattle.result_check.proofs.Going.{goes_first}
-use Rattle.trace_reader.proofs.Sizes.{event_fits}
+use Rattle.result_check.proofs.{Checking.table_of, Going.goes_first}
 use Rattle.result_check.proofs.check.Goals as goal
+use Rattle.trace_reader.proofs.Sizes.{event_fits}
 
 pub of-requires : goal.of-requires
 of-requires g c =

@@ -1,15 +1,11 @@
 use Rattle.std.proofs.Common.{◌≡◌, ◌-◌, suc, ◌∙◌, drop, reverse, take, Some, length, refl, sym, ap, arith}
-use Rattle.std.specs.Prelude.{slice_get}
-use Rattle.std.proofs.lemmas.Option.{slice_get_read}
+use Rattle.std.{specs.Prelude.slice_get, proofs.lemmas.Option.slice_get_read}
 use Rattle.trace_rows.specs.Rows.{rows_with, row_of}
-use Rattle.result_check.specs.Coming.{coming_of}
-use Rattle.result_check.specs.Tables.{IsRowOf}
-use Rattle.result_check.proofs.Finding.{rows_next, rows_length, outcome_there}
-use Rattle.result_check.proofs.Going.{cuts_below, coming_length, coming_got, meets, goes_on, goes_no, goes_yes, next_cuts, usable, piece_sorted, piece_few}
-use Rattle.result_check.proofs.Rows.{one_of_every}
+use Rattle.result_check.{specs.Coming.coming_of, specs.Tables.IsRowOf, proofs.Finding.{rows_next, rows_length, outcome_there}}
+use Rattle.result_check.proofs.{Going.{cuts_below, coming_length, coming_got, meets, goes_on, goes_no, goes_yes, next_cuts, usable, piece_sorted, piece_few}, Rows.one_of_every}
+use Rattle.result_check.proofs.pass_rows.Goals as goal
 use Rattle.trace_reader.proofs.Sizes.{event_fits, op_fits}
 use Rattle.result_rows.proofs.Sizes.{outcome_fits}
-use Rattle.result_check.proofs.pass_rows.Goals as goal
 
 pub cuts_with-cuts-requires : goal.cuts_with-cuts-requires
 cuts_with-cuts-requires g c =

@@ -1,6 +1,5 @@
 use Rattle.std.proofs.Common.{◌+◌, arith}
-use Rattle.line_writer.proofs.Fresh.{fresh_sound}
-use Rattle.line_writer.proofs.Untouched.{untouched-blank}
+use Rattle.line_writer.proofs.{Fresh.fresh_sound, Untouched.untouched-blank}
 use Rattle.bank_tests.proofs.control_lines.powered.Goals as goal
 
 pub returns-clause-held : goal.returns-clause-held

@@ -1,7 +1,6 @@
 use Rattle.std.proofs.Common.{◌≡◌, ap, sym, subst, ◌∙◌, arith, refl, [], None, is_some}
 use Rattle.ecp_line.proofs.Sizes.{layout_64}
-use Rattle.bank_shape.specs.declared.BankShape.{BankShape}
-use Rattle.bank_shape.specs.declared.Home.TheVariants.{Array}
+use Rattle.bank_shape.specs.{declared.BankShape.BankShape, declared.Home.TheVariants.Array}
 use Rattle.power_recovery.specs.Kept.{KeptState, IsKept}
 use Rattle.reg_lines.specs.Regs.{RegsState}
 use Rattle.bank_invariant.specs.State.{BankState, first_bank}

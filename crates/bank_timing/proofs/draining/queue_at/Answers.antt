@@ -1,7 +1,5 @@
 use Rattle.std.proofs.Common.{arith, refl}
-use Rattle.bank_timing.specs.Extending.{IsOpen}
-use Rattle.bank_timing.proofs.Sizes.{entry_fits, outcome_small}
-use Rattle.bank_timing.proofs.Queued.{opened, not-past}
+use Rattle.bank_timing.{specs.Extending.IsOpen, proofs.Queued.{opened, not-past}, proofs.Sizes.{entry_fits, outcome_small}}
 use Rattle.bank_timing.proofs.draining.queue_at.Goals as goal
 
 pub at-requires : goal.at-requires

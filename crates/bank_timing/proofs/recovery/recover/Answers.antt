@@ -1,17 +1,11 @@
 use Rattle.std.proofs.Common.{◌≡◌, None, false, sym, ap, subst, ◌∙◌}
 use Rattle.cell_rows.specs.Device.{ArrayState}
-use Rattle.bank_model.specs.Touching.{Touches}
-use Rattle.bank_model.specs.Changes.{all_controls}
-use Rattle.bank_invariant.proofs.Awaiting.{StandsAs-touched, tied_sensed}
+use Rattle.bank_model.specs.{Changes.all_controls, Touching.Touches}
+use Rattle.bank_invariant.{specs.State.BankState, specs.Tied.IsTied, proofs.Awaiting.{StandsAs-touched, tied_sensed}}
 use Rattle.power_recovery.specs.Kept.{KeptState}
-use Rattle.bank_invariant.specs.State.{BankState}
-use Rattle.bank_invariant.specs.Tied.{IsTied}
 use Rattle.bank_core.specs.Stepping.{with_kept}
 use Rattle.register_laws.specs.Recovering.{IsReadable, IsOnLines}
-use Rattle.bank_timing.specs.Reading.{spares_back, mark_back}
-use Rattle.bank_timing.proofs.Sizes.{bank_fits, regs_fits}
-use Rattle.bank_timing.proofs.Sensing.{on-after, touches-all}
-use Rattle.bank_timing.proofs.recovery.recover.Given.{Over}
+use Rattle.bank_timing.{specs.Reading.{spares_back, mark_back}, proofs.Sensing.{on-after, touches-all}, proofs.Sizes.{bank_fits, regs_fits}, proofs.recovery.recover.Given.Over}
 use Rattle.bank_timing.proofs.recovery.recover.Goals.{After-recover_regions, After-recover_spares}
 use Rattle.bank_timing.proofs.recovery.recover.Goals as goal
 

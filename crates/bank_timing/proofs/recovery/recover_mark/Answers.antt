@@ -2,15 +2,9 @@ use Rattle.std.proofs.Common.{◌≡◌, ℕ, ◌+◌, refl, ap, ◌∙◌, arit
 use Rattle.bank_shape.specs.declared.BankShape.{BankShape}
 use Rattle.power_recovery.specs.Kept.{KeptState}
 use Rattle.bank_core.specs.Stepping.{with_kept}
-use Rattle.register_laws.specs.Items.{item_values, mark_values}
-use Rattle.register_laws.proofs.Items.{item-mark}
-use Rattle.register_laws.specs.Recovering.{IsOnLines}
-use Rattle.bank_timing.specs.Reading.{mark_back}
-use Rattle.bank_timing.proofs.Sizes.{bank_fits, kept_fits, regs_fits}
-use Rattle.bank_timing.proofs.Sensing.{item-read}
-use Rattle.bank_timing.proofs.Restoring.{restores-mark, passes-mark}
-use Rattle.bank_timing.proofs.recovery.recover_mark.Given.{Over}
-use Rattle.bank_timing.proofs.recovery.recover_mark.Goals.{After-read_item-values}
+use Rattle.register_laws.{specs.Items.{item_values, mark_values}, specs.Recovering.IsOnLines, proofs.Items.item-mark}
+use Rattle.bank_timing.{specs.Reading.mark_back, proofs.Restoring.{restores-mark, passes-mark}, proofs.Sensing.item-read, proofs.Sizes.{bank_fits, kept_fits, regs_fits}}
+use Rattle.bank_timing.proofs.{recovery.recover_mark.Given.Over, recovery.recover_mark.Goals.After-read_item-values}
 use Rattle.bank_timing.proofs.recovery.recover_mark.Goals as goal
 
 pub kept-requires : goal.kept-requires

@@ -1,19 +1,12 @@
 use Rattle.std.proofs.Common.{◌≡◌, ℕ, ◌+◌, ◌<◌, ◌∷◌, ◌++◌, [], List, None, false, refl, sym, ap, subst, ◌∙◌, arith, add-one}
 use Rattle.bank_shape.specs.declared.BankShape.{BankShape}
-use Rattle.bank_model.specs.Touching.{Touches}
-use Rattle.bank_model.specs.Changes.{numbers_from}
-use Rattle.bank_model.proofs.Touched.{touches-both, touches-nothing}
+use Rattle.bank_model.{specs.Changes.numbers_from, specs.Touching.Touches, proofs.Touched.{touches-both, touches-nothing}}
 use Rattle.power_recovery.specs.Kept.{KeptState}
 use Rattle.bank_invariant.specs.State.{BankState}
 use Rattle.bank_core.specs.Stepping.{with_kept}
-use Rattle.register_laws.specs.Recovering.{IsReadable}
-use Rattle.register_laws.proofs.Items.{item-region}
-use Rattle.bank_timing.specs.Reading.{regions_back}
-use Rattle.bank_timing.proofs.Sizes.{bank_fits, kept_fits, regs_fits}
-use Rattle.bank_timing.proofs.Sensing.{item-read, numbers-more}
-use Rattle.bank_timing.proofs.Restoring.{RestoresRegion, restores-region, regions-all}
-use Rattle.bank_timing.proofs.recovery.recover_regions.Given.{Over}
-use Rattle.bank_timing.proofs.recovery.recover_regions.Goals.{After-read_item-values}
+use Rattle.register_laws.{specs.Recovering.IsReadable, proofs.Items.item-region}
+use Rattle.bank_timing.{specs.Reading.regions_back, proofs.Restoring.{RestoresRegion, restores-region, regions-all}, proofs.Sensing.{item-read, numbers-more}}
+use Rattle.bank_timing.proofs.{Sizes.{bank_fits, kept_fits, regs_fits}, recovery.recover_regions.Given.Over, recovery.recover_regions.Goals.After-read_item-values}
 use Rattle.bank_timing.proofs.recovery.recover_regions.Goals as goal
 
 pub kept-requires : goal.kept-requires

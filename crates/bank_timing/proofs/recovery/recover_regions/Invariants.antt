@@ -1,6 +1,5 @@
 use Rattle.std.proofs.Common.{◌≡◌, None, false}
-use Rattle.bank_model.specs.Touching.{Touches}
-use Rattle.bank_model.specs.Changes.{numbers_from}
+use Rattle.bank_model.specs.{Changes.numbers_from, Touching.Touches}
 use Rattle.power_recovery.specs.Kept.{KeptState}
 use Rattle.bank_core.specs.Stepping.{with_kept}
 use Rattle.register_laws.specs.Recovering.{IsReadable}

@@ -1,19 +1,12 @@
 use Rattle.std.proofs.Common.{◌≡◌, ℕ, ◌+◌, ◌<◌, ◌∷◌, ◌++◌, [], List, None, false, refl, sym, ap, subst, ◌∙◌, arith, add-one, slice_get}
 use Rattle.bank_shape.specs.declared.BankShape.{BankShape}
-use Rattle.bank_model.specs.Touching.{Touches}
-use Rattle.bank_model.specs.Changes.{numbers_from}
-use Rattle.bank_model.proofs.Touched.{touches-both}
+use Rattle.bank_model.{specs.Changes.numbers_from, specs.Touching.Touches, proofs.Touched.touches-both}
 use Rattle.power_recovery.specs.Kept.{KeptState}
 use Rattle.bank_invariant.specs.State.{BankState}
 use Rattle.bank_core.specs.Stepping.{with_kept}
-use Rattle.register_laws.specs.Items.{spare_values, item_values}
-use Rattle.register_laws.proofs.Items.{item-spare}
-use Rattle.register_laws.specs.Recovering.{IsOnLines}
-use Rattle.bank_timing.specs.Reading.{spares_back}
-use Rattle.bank_timing.proofs.Sizes.{bank_fits, kept_fits, regs_fits}
-use Rattle.bank_timing.proofs.Sensing.{item-read, numbers-more}
-use Rattle.bank_timing.proofs.Restoring.{restores-spare, passes-spare, spares-all}
-use Rattle.bank_timing.proofs.recovery.recover_spares.Given.{Over}
+use Rattle.register_laws.{specs.Items.{spare_values, item_values}, specs.Recovering.IsOnLines, proofs.Items.item-spare}
+use Rattle.bank_timing.{specs.Reading.spares_back, proofs.Restoring.{restores-spare, passes-spare, spares-all}, proofs.Sensing.{item-read, numbers-more}}
+use Rattle.bank_timing.proofs.{Sizes.{bank_fits, kept_fits, regs_fits}, recovery.recover_spares.Given.Over}
 use Rattle.bank_timing.proofs.recovery.recover_spares.Goals.{After-read_item-values, then-values-ne0, else-values-ne0}
 use Rattle.bank_timing.proofs.recovery.recover_spares.Goals as goal
 

@@ -1,6 +1,5 @@
 use Rattle.std.proofs.Common.{arith, subst, bit_and}
-use Rattle.cell_rows.proofs.LaneLemmas.{Joins, joins_none, joins_lanes, joins_byte}
-use Rattle.cell_rows.proofs.ByteLemmas.{ands_all, bit_of_and}
+use Rattle.cell_rows.proofs.{ByteLemmas.{ands_all, bit_of_and}, LaneLemmas.{Joins, joins_none, joins_lanes, joins_byte}}
 use Rattle.cell_rows.proofs.bytes.and_with.Goals as goal
 
 pub loop-step-init : goal.loop-step-init

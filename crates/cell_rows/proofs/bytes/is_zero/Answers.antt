@@ -1,8 +1,6 @@
 use Rattle.std.proofs.Common.{arith, subst, bit_or}
-use Rattle.std.specs.Simd.Lanes.{fold_l}
-use Rattle.std.proofs.lemmas.Bool.{eqb-true, eqb-false}
-use Rattle.cell_rows.proofs.ByteLemmas.{some_bit_of, no_bit_of}
-use Rattle.cell_rows.proofs.LaneLemmas.{Bounds, gathers_none, gathers_lanes, bounds_lanes, bounds_byte}
+use Rattle.std.{specs.Simd.Lanes.fold_l, proofs.lemmas.Bool.{eqb-true, eqb-false}}
+use Rattle.cell_rows.proofs.{ByteLemmas.{some_bit_of, no_bit_of}, LaneLemmas.{Bounds, gathers_none, gathers_lanes, bounds_lanes, bounds_byte}}
 use Rattle.cell_rows.proofs.bytes.is_zero.Goals as goal
 
 pub loop-step-init : goal.loop-step-init

@@ -1,9 +1,6 @@
 use Rattle.std.proofs.Common.{◌≡◌, ◌+◌, ◌*◌, ◌/◌, ◌∙◌, length, ap, sym, arith, slice_index}
 use Rattle.std.specs.Int.RustNames.{count_ones}
-use Rattle.cell_rows.specs.Rows.{bit_of, members}
-use Rattle.cell_rows.proofs.ByteLemmas.{bit_of_byte}
-use Rattle.cell_rows.proofs.BlockLemmas.{count_bits}
-use Rattle.cell_rows.proofs.RowLemmas.{members-zero, members_le}
+use Rattle.cell_rows.{specs.Rows.{bit_of, members}, proofs.BlockLemmas.count_bits, proofs.ByteLemmas.bit_of_byte, proofs.RowLemmas.{members-zero, members_le}}
 use Rattle.cell_rows.proofs.bytes.ones.Goals as goal
 
 pub loop-block-init : goal.loop-block-init

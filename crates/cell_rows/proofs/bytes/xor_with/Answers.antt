@@ -1,6 +1,5 @@
 use Rattle.std.proofs.Common.{rules, arith, ℕ, ◌<◌, slice_index, subst, sym, ◌∙◌, bit_xor}
-use Rattle.cell_rows.proofs.LaneLemmas.{Joins, joins_none, joins_lanes, joins_byte}
-use Rattle.cell_rows.proofs.ByteLemmas.{xors_all, bit_of_xor, bytes_from_bits, xor_false}
+use Rattle.cell_rows.proofs.{ByteLemmas.{xors_all, bit_of_xor, bytes_from_bits, xor_false}, LaneLemmas.{Joins, joins_none, joins_lanes, joins_byte}}
 use Rattle.cell_rows.proofs.bytes.xor_with.Goals as goal
 
 pub loop-step-init : goal.loop-step-init

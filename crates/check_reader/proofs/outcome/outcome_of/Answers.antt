@@ -1,5 +1,4 @@
-use Rattle.check_reader.specs.Fields.{seen}
-use Rattle.check_reader.proofs.Shown.{if_none_then, shown_parts}
+use Rattle.check_reader.{specs.Fields.seen, proofs.Shown.{if_none_then, shown_parts}}
 use Rattle.check_reader.proofs.outcome.outcome_of.Goals as goal
 
 pub returns-clause-none : goal.returns-clause-none

@@ -1,10 +1,8 @@
 use Rattle.std.proofs.Common.{arith, rules, ◌≡◌, ◌≢◌, ◌+◌, ◌++◌, [], false, refl, ap, ◌∙◌, take, length, get_or}
-use Rattle.std.specs.Str.{bytes_eq}
-use Rattle.std.proofs.lemmas.Bool.Decides.{nat_tests}
-use Rattle.result_rows.specs.declared.Op.TheVariants as op
+use Rattle.std.{specs.Str.bytes_eq, proofs.lemmas.Bool.Decides.nat_tests}
 use Rattle.result_rows.specs.RowText.{header_text}
-use Rattle.check_reader.specs.ResultRows.{Header, Later}
-use Rattle.check_reader.proofs.Whole.{begins_with, begins_not, has_read_more, fails_here, all_read, fails_behind, no_bytes}
+use Rattle.result_rows.specs.declared.Op.TheVariants as op
+use Rattle.check_reader.{specs.ResultRows.{Header, Later}, proofs.Whole.{begins_with, begins_not, has_read_more, fails_here, all_read, fails_behind, no_bytes}}
 use Rattle.check_reader.proofs.results.parse_results.Goals as goal
 
 pub returns-in_default-clause-fault : goal.returns-in_default-clause-fault

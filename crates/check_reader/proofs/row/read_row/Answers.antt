@@ -1,8 +1,5 @@
 use Rattle.std.proofs.Common.{◌≡◌, Some, None, arith, rules}
-use Rattle.check_reader.specs.Fields.{seen, fields_of}
-use Rattle.check_reader.specs.ResultRows.{IsNoRow}
-use Rattle.check_reader.proofs.Hexes.{if_none}
-use Rattle.check_reader.proofs.Rows.{row_tells, fields_make_row, no_fields}
+use Rattle.check_reader.{specs.Fields.{seen, fields_of}, specs.ResultRows.IsNoRow, proofs.Hexes.if_none, proofs.Rows.{row_tells, fields_make_row, no_fields}}
 use Rattle.check_reader.proofs.row.read_row.Goals as goal
 
 pub returns-in_err-fields-clause-none : goal.returns-in_err-fields-clause-none

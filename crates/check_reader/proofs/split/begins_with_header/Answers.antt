@@ -1,6 +1,5 @@
 use Rattle.std.proofs.Common.{◌≡◌, ◌++◌}
-use Rattle.check_reader.specs.Splitting.{header_line}
-use Rattle.check_reader.proofs.Begins.{header_cases, header_ends}
+use Rattle.check_reader.{specs.Splitting.header_line, proofs.Begins.{header_cases, header_ends}}
 use Rattle.check_reader.proofs.split.begins_with_header.Goals as goal
 
 pub returns-in-Some : goal.returns-in-Some

@@ -1,9 +1,8 @@
 use Rattle.std.proofs.Common.{arith, rules, length, refl}
 use borrow.Author.Count.{below_more}
-use Rattle.check_reader.specs.Splitting.{IsHeaderAt}
-use Rattle.check_reader.proofs.Begins.{first_byte, header_first, no_header}
-use Rattle.check_reader.proofs.split.find_results.Goals as goal
+use Rattle.check_reader.{specs.Splitting.IsHeaderAt, proofs.Begins.{first_byte, header_first, no_header}}
 use Rattle.check_reader.proofs.split.find_results.Goals.{else-byte-eq114-via-then-byte-eq114+else-is_header_at, else-byte-eq114-via-else-byte-eq114}
+use Rattle.check_reader.proofs.split.find_results.Goals as goal
 
 pub returns-then-is_header_at : goal.returns-then-is_header_at
 returns-then-is_header_at c = header_first c.args.bytes.now c.starts.at (c.is_header_at.ensures.0 (search rules)) c.starts.invariant

@@ -1,6 +1,5 @@
 use Rattle.std.proofs.Common.{ℕ, rules}
-use Rattle.std.specs.Prelude.{nat_lt}
-use Rattle.std.proofs.lemmas.Fn.{filter_same}
+use Rattle.std.{specs.Prelude.nat_lt, proofs.lemmas.Fn.filter_same}
 use Rattle.check_verdict.proofs.bank.let_go.Goals as goal
 
 pub returns : goal.returns

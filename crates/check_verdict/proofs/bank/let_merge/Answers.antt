@@ -1,8 +1,6 @@
 use Rattle.std.proofs.Common.{sym, ◌∙◌, rules}
 use Rattle.std.proofs.lemmas.Fn.{filter_same}
-use Rattle.check_verdict.specs.declared.members.Member.{Member}
-use Rattle.check_verdict.specs.Joined.{stays_beside}
-use Rattle.check_verdict.proofs.Pairs.{none_leaves}
+use Rattle.check_verdict.{specs.Joined.stays_beside, specs.declared.members.Member.Member, proofs.Pairs.none_leaves}
 use Rattle.check_verdict.proofs.bank.let_merge.Goals as goal
 
 pub returns-then-has_mates : goal.returns-then-has_mates

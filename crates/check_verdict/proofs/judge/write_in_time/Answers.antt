@@ -1,8 +1,6 @@
 use Rattle.std.proofs.Common.{◌&&◌, sym, ap, ◌∙◌, arith}
-use Rattle.std.specs.Prelude.{nat_le}
-use Rattle.std.proofs.lemmas.Bool.{lt-ltb}
-use Rattle.check_verdict.specs.Ahead.{latest_kept, at_store}
-use Rattle.check_verdict.specs.Keeping.{write_timely}
+use Rattle.std.{specs.Prelude.nat_le, proofs.lemmas.Bool.lt-ltb}
+use Rattle.check_verdict.specs.{Ahead.{latest_kept, at_store}, Keeping.write_timely}
 use Rattle.check_verdict.proofs.judge.write_in_time.Goals as goal
 
 pub returns-then-arrived-tick : goal.returns-then-arrived-tick

@@ -1,6 +1,5 @@
 use Rattle.std.proofs.Common.{arith, rules}
-use Rattle.std.specs.Prelude.{nat_le}
-use Rattle.std.proofs.lemmas.List.Sorted.{IsPartitionPoint-from_clause, IsPartitionedBy-leb}
+use Rattle.std.{specs.Prelude.nat_le, proofs.lemmas.List.Sorted.{IsPartitionPoint-from_clause, IsPartitionedBy-leb}}
 use Rattle.check_judging.proofs.SortedKeys.{at_index}
 use Rattle.check_verdict.proofs.keys.up_to.Goals as goal
 

@@ -1,6 +1,5 @@
 use Rattle.std.proofs.Common.{◌∙◌, sym}
-use Rattle.check_verdict.specs.Fitting.{is_of, precedes}
-use Rattle.check_verdict.proofs.Pairs.{few_of_none}
+use Rattle.check_verdict.{specs.Fitting.{is_of, precedes}, proofs.Pairs.few_of_none}
 use Rattle.check_verdict.proofs.queue.few_precede.Goals as goal
 
 pub returns-in-0 : goal.returns-in-0

@@ -1,6 +1,5 @@
 use Rattle.std.proofs.Common.{◌≡◌, sym, ap, not, ◌∙◌, false}
-use Rattle.check_verdict.specs.Fitting.{precedes, may_have_two}
-use Rattle.check_verdict.proofs.Pairs.{few_alone}
+use Rattle.check_verdict.{specs.Fitting.{precedes, may_have_two}, proofs.Pairs.few_alone}
 use Rattle.check_verdict.proofs.queue.finds_few.Goals as goal
 
 pub returns-then-not-may_have_two : goal.returns-then-not-may_have_two

@@ -1,7 +1,6 @@
 use Rattle.std.proofs.Common.{◌≡◌, ◌-◌, ◌++◌, [], ◌∷◌, length, Some, sym, subst, ap, ◌∙◌, rules}
 use Rattle.std.specs.Prelude.{slice_get, take}
-use Rattle.check_verdict.specs.Fitting.{IsKnown, joins_well, in_order}
-use Rattle.check_verdict.proofs.Fits.{order_split, last_split}
+use Rattle.check_verdict.{specs.Fitting.{IsKnown, joins_well, in_order}, proofs.Fits.{order_split, last_split}}
 use Rattle.check_verdict.proofs.queue.in_order.Goals as goal
 
 pub joins_well-requires : goal.joins_well-requires

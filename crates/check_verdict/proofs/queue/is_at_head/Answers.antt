@@ -1,11 +1,7 @@
 use Rattle.std.proofs.Common.{◌∙◌, ◌==◌, ◌&&◌, ◌||◌, ap, sym}
-use Rattle.std.specs.Prelude.{nat_lt}
-use Rattle.std.specs.List.{list_all}
+use Rattle.std.specs.{List.list_all, Prelude.nat_lt}
 use Rattle.check_judging.specs.Keys.{key, up_to}
-use Rattle.check_verdict.specs.declared.members.Member.{Member}
-use Rattle.check_verdict.specs.Fitting.{is_behind_next, is_behind_store}
-use Rattle.check_verdict.specs.Members.{never}
-use Rattle.check_verdict.proofs.Apart.{all-same}
+use Rattle.check_verdict.{specs.Fitting.{is_behind_next, is_behind_store}, specs.Members.never, specs.declared.members.Member.Member, proofs.Apart.all-same}
 use Rattle.check_verdict.proofs.queue.is_at_head.Goals as goal
 
 pub returns-then-has_line : goal.returns-then-has_line

@@ -1,8 +1,7 @@
 use Rattle.std.proofs.Common.{◌∙◌, ap, sym}
 use Rattle.std.specs.Prelude.{slice_get}
 use Rattle.check_judging.specs.Keys.{up_to}
-use Rattle.check_verdict.specs.Covering.{comes_by}
-use Rattle.check_verdict.proofs.NextKeys.{next_comes}
+use Rattle.check_verdict.{specs.Covering.comes_by, proofs.NextKeys.next_comes}
 use Rattle.check_verdict.proofs.queue.next_key.Goals as goal
 
 pub returns : goal.returns

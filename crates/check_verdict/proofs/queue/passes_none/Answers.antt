@@ -1,6 +1,5 @@
 use Rattle.std.proofs.Common.{◌||◌, ◌∙◌, not, nat_le, subst, sym, ap}
-use Rattle.check_verdict.specs.Fitting.{IsKnown, has_twins}
-use Rattle.check_verdict.proofs.Pairs.{counted-twins}
+use Rattle.check_verdict.{specs.Fitting.{IsKnown, has_twins}, proofs.Pairs.counted-twins}
 use Rattle.check_verdict.proofs.queue.passes_none.Goals as goal
 
 pub returns-else-follows : goal.returns-else-follows

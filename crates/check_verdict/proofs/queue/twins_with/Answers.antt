@@ -1,8 +1,6 @@
 use Rattle.std.proofs.Common.{[], ◌∷◌, ◌++◌, sym, subst, ◌∙◌}
 use Rattle.std.specs.Prelude.{filter}
-use Rattle.check_verdict.specs.Fitting.{IsKnown}
-use Rattle.check_verdict.specs.Joined.{stays_beside}
-use Rattle.check_verdict.proofs.Pairs.{known_with, known_still, same_with}
+use Rattle.check_verdict.{specs.Fitting.IsKnown, specs.Joined.stays_beside, proofs.Pairs.{known_with, known_still, same_with}}
 use Rattle.check_verdict.proofs.queue.twins_with.Goals as goal
 
 pub returns-then-has_mates-clause-joins : goal.returns-then-has_mates-clause-joins

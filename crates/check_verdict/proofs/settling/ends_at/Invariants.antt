@@ -1,7 +1,6 @@
 use Rattle.std.proofs.Common.{◌≡◌}
 use Rattle.std.specs.Prelude.{drop, filter, nat_le, not}
-use Rattle.check_verdict.specs.Kept.{ended, least_end}
-use Rattle.check_verdict.specs.Members.{never}
+use Rattle.check_verdict.specs.{Kept.{ended, least_end}, Members.never}
 use Rattle.check_verdict.proofs.settling.ends_at.Given as goal
 
 abbrev pub invariant-loop-member : goal.invariant-loop-member

@@ -1,6 +1,5 @@
 use Rattle.std.proofs.Common.{rules}
-use Rattle.std.specs.Prelude.{nat_le, not}
-use Rattle.std.proofs.lemmas.Fn.{filter_same}
+use Rattle.std.{specs.Prelude.{nat_le, not}, proofs.lemmas.Fn.filter_same}
 use Rattle.check_verdict.specs.declared.members.Member.{Member}
 use Rattle.check_verdict.proofs.settling.let_leave.Goals as goal
 

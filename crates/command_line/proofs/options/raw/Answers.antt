@@ -1,7 +1,5 @@
 use Rattle.std.proofs.Common.{refl, sym, ap, ◌∙◌}
-use Rattle.command_line.specs.Options.{policy_of, home_of}
-use Rattle.command_line.specs.Options.{raw_of}
-use Rattle.command_line.proofs.Steps.{some_step, none_step}
+use Rattle.command_line.{specs.Options.{policy_of, home_of, raw_of}, proofs.Steps.{some_step, none_step}}
 use Rattle.command_line.proofs.options.raw.Goals as goal
 
 pub returns-in_err-banks : goal.returns-in_err-banks

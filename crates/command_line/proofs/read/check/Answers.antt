@@ -1,6 +1,5 @@
 use Rattle.std.proofs.Common.{refl, sym, ◌∙◌}
-use Rattle.command_line.specs.Jobs.{check_of}
-use Rattle.command_line.proofs.Steps.{some_step, none_step}
+use Rattle.command_line.{specs.Jobs.check_of, proofs.Steps.{some_step, none_step}}
 use Rattle.command_line.proofs.read.check.Goals as goal
 
 pub returns-in_err-line-clause-exact : goal.returns-in_err-line-clause-exact

@@ -1,6 +1,5 @@
 use Rattle.std.proofs.Common.{refl, sym, ◌∙◌}
-use Rattle.command_line.specs.Jobs.{gen_of}
-use Rattle.command_line.proofs.Steps.{some_step, none_step}
+use Rattle.command_line.{specs.Jobs.gen_of, proofs.Steps.{some_step, none_step}}
 use Rattle.command_line.proofs.read.generate.Goals as goal
 
 pub returns-in_err-line-clause-exact : goal.returns-in_err-line-clause-exact

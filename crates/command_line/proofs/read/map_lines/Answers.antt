@@ -1,6 +1,5 @@
 use Rattle.std.proofs.Common.{refl, sym, ◌∙◌}
-use Rattle.command_line.specs.Jobs.{map_of}
-use Rattle.command_line.proofs.Steps.{some_step, none_step}
+use Rattle.command_line.{specs.Jobs.map_of, proofs.Steps.{some_step, none_step}}
 use Rattle.command_line.proofs.read.map_lines.Goals as goal
 
 pub returns-in_err-shape-clause-exact : goal.returns-in_err-shape-clause-exact

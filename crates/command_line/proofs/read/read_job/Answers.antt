@@ -1,10 +1,7 @@
 use Rattle.std.proofs.Common.{◌≡◌, ◌≢◌, map, sym, ap, ◌∙◌}
-use Rattle.std.specs.Prelude.{Err, string_bytes}
-use Rattle.std.proofs.lemmas.Result.{err_from_is_err_and}
+use Rattle.std.{specs.Prelude.{Err, string_bytes}, proofs.lemmas.Result.err_from_is_err_and}
 use Rattle.clap.specs.Words.{app_of, kind_of, subcommand_rows_of}
-use Rattle.command_line.specs.Jobs.{job_of}
-use Rattle.command_line.specs.declared.job.Refusal.TheVariants.{NoMemory}
-use Rattle.command_line.proofs.Reading.{job-of-taken, job-of-refused, ok-of, err-of, told-by, usage-by}
+use Rattle.command_line.{specs.Jobs.job_of, specs.declared.job.Refusal.TheVariants.NoMemory, proofs.Reading.{job-of-taken, job-of-refused, ok-of, err-of, told-by, usage-by}}
 use Rattle.command_line.proofs.read.read_job.Goals as goal
 
 -- the answer is the job of the words

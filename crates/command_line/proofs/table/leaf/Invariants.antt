@@ -1,6 +1,5 @@
 use Rattle.std.proofs.Common.{◌≡◌, false, drop, map}
-use Rattle.clap.specs.Words.{app_of}
-use Rattle.clap.specs.declared.builder.command.Command.TheViews.{out-Command}
+use Rattle.clap.specs.{Words.app_of, declared.builder.command.Command.TheViews.out-Command}
 use Rattle.command_line.specs.Table.{leaf_app, with_options}
 use Rattle.command_line.proofs.table.leaf.Given as goal
 

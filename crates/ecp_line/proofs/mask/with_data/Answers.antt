@@ -1,6 +1,5 @@
 use Rattle.std.proofs.Common.{◌∙◌, ℕ, List, sym, ap, arith}
-use Rattle.cell_rows.specs.Rows.{bit_of}
-use Rattle.cell_rows.proofs.RowLemmas.{cell-bits, cell-meta}
+use Rattle.cell_rows.{specs.Rows.bit_of, proofs.RowLemmas.{cell-bits, cell-meta}}
 use Rattle.ecp_line.proofs.mask.with_data.Goals as goal
 
 pub returns-clause-data : goal.returns-clause-data

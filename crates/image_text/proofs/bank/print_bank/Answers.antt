@@ -1,6 +1,5 @@
 use Rattle.std.proofs.Common.{◌++◌, length, refl}
-use Rattle.std.specs.Prelude.{map}
-use Rattle.std.specs.List.{flat_map}
+use Rattle.std.specs.{List.flat_map, Prelude.map}
 use Rattle.pcm_image.specs.Spelling.{bank_bytes, entry_bytes, region_bytes, u8, u16, u32}
 use Rattle.image_laws.specs.Saving.{saved_bank, saved_entry, saved_region}
 use Rattle.run_text.proofs.Gathered.{on_err, on_err_any}

@@ -1,8 +1,5 @@
 use Rattle.std.proofs.Common.{◌∙◌, map, refl, sym, ap, arith}
-use Rattle.std.proofs.lemmas.List.{length-map}
-use Rattle.std.proofs.Math.ListN.{get_or-map}
-use Rattle.std.specs.Prelude.{option_copied}
-use Rattle.std.proofs.lemmas.Option.{get_or_from_slice_get}
+use Rattle.std.{specs.Prelude.option_copied, proofs.Math.ListN.get_or-map, proofs.lemmas.List.length-map, proofs.lemmas.Option.get_or_from_slice_get}
 use Rattle.pcm_image.specs.Spelling.{entry_bytes}
 use Rattle.image_laws.specs.Saving.{saved_entry}
 use Rattle.run_text.proofs.Gathered.{on_err_any}

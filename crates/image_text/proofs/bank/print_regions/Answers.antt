@@ -1,6 +1,5 @@
 use Rattle.std.proofs.Common.{◌∙◌, map, refl, sym, ap, arith}
-use Rattle.std.proofs.lemmas.List.{length-map}
-use Rattle.std.proofs.Math.ListN.{get_or-map}
+use Rattle.std.proofs.{Math.ListN.get_or-map, lemmas.List.length-map}
 use Rattle.bank_shape.specs.declared.BankShape.{BankShape}
 use Rattle.power_recovery.specs.Kept.{no_region}
 use Rattle.pcm_image.specs.Spelling.{region_bytes}

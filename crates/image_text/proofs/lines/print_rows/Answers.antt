@@ -3,9 +3,7 @@ use Rattle.std.proofs.lemmas.List.FromFn.{get_or-map-range_with_len, length-map-
 use Rattle.pcm_image.specs.Spelling.{cells_bytes}
 use Rattle.image_laws.specs.Saving.{saved_cells}
 use Rattle.run_text.proofs.Gathered.{on_err_any}
-use Rattle.image_text.proofs.Sensing.{prints-rows, senses-more, senses-none}
-use Rattle.image_text.specs.Sensing.{SensesRows}
-use Rattle.image_text.proofs.Prints.{more-all, more-next, more-none, part-to}
+use Rattle.image_text.{specs.Sensing.SensesRows, proofs.Prints.{more-all, more-next, more-none, part-to}, proofs.Sensing.{prints-rows, senses-more, senses-none}}
 use Rattle.image_text.proofs.lines.print_rows.Goals as goal
 
 pub loop-line-init : goal.loop-line-init

@@ -5,10 +5,9 @@ use Rattle.bank_timing.proofs.Sizes.{timed_fits, bank_fits}
 use Rattle.pcm_image.specs.Spelling.{bank_bytes}
 use Rattle.image_laws.specs.Saving.{saved_bank, saved_banks}
 use Rattle.run_text.proofs.Gathered.{on_err_any}
-use Rattle.module_prints.specs.Images.{kept_in}
-use Rattle.module_prints.proofs.Clocks.{clock-is}
-use Rattle.image_text.proofs.Prints.{more-all, more-next, more-none, part-next}
+use Rattle.module_prints.{specs.Images.kept_in, proofs.Clocks.clock-is}
 use Rattle.module_prints.proofs.image.print_banks.Goals as goal
+use Rattle.image_text.proofs.Prints.{more-all, more-next, more-none, part-next}
 
 pub loop-bank-init : goal.loop-bank-init
 loop-bank-init g c = (more-none c.args.text.now (g.K.Sink.written c.args.out.now), refl, omega arith, omega arith)

@@ -3,11 +3,9 @@ use Rattle.std.specs.List.{flat_map}
 use Rattle.pcm_image.specs.Spelling.{bank_bytes, cells_bytes, head_bytes, image_bytes}
 use Rattle.image_laws.specs.Saving.{first_rows, head_of, saved_banks, saved_cells, saved_of}
 use Rattle.run_text.proofs.Gathered.{on_err, on_err_any, on_ok}
-use Rattle.image_text.specs.Printing.{PrintsPart}
-use Rattle.module_prints.specs.Images.{WritesRows, kept_in}
-use Rattle.image_text.proofs.Sensing.{rows-after, rows-part, senses-none}
+use Rattle.image_text.{specs.Printing.PrintsPart, proofs.Prints.{part-of-1, part-of-2, part-then, prints-part, prints-whole}, proofs.Sensing.{rows-after, rows-part, senses-none}}
 use Rattle.image_text.proofs.Whole.{head-pieces, rows-pieces}
-use Rattle.image_text.proofs.Prints.{part-of-1, part-of-2, part-then, prints-part, prints-whole}
+use Rattle.module_prints.specs.Images.{WritesRows, kept_in}
 use Rattle.module_prints.proofs.image.print_image.Goals as goal
 
 pub returns-in_err-print_head-clause-prefix : goal.returns-in_err-print_head-clause-prefix

@@ -1,7 +1,6 @@
 use Rattle.std.proofs.Common.{◌≤◌}
 use Rattle.lines_report.specs.LinesText.{lines_text}
-use Rattle.module_prints.specs.WearReports.{cells_at}
-use Rattle.module_prints.proofs.Wearing.{IsReported}
+use Rattle.module_prints.{specs.WearReports.cells_at, proofs.Wearing.IsReported}
 use Rattle.module_prints.proofs.lines.print_lines.Given as goal
 
 -- the rows of the array lines so far are printed

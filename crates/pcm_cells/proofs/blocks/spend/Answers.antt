@@ -1,8 +1,5 @@
 use Rattle.std.proofs.Common.{◌≡◌, ℕ, ◌-◌, ◌<◌, ◌&&◌, true, false, not, cond, sym, ◌∙◌, ap, inl, inr, arith, w64, slice_index, length, set, get_or-set_same, get_or-set_other, eq-eqb}
-use Rattle.std.specs.Prelude.{nat_le}
-use Rattle.std.specs.Int.{trailing_zeros}
-use Rattle.std.proofs.lemmas.Bool.{cases_eq}
-use Rattle.std.proofs.lemmas.Nat.Bits.{bit_at-trailing_zeros}
+use Rattle.std.{specs.Int.trailing_zeros, specs.Prelude.nat_le, proofs.lemmas.Bool.cases_eq, proofs.lemmas.Nat.Bits.bit_at-trailing_zeros}
 use Rattle.pcm_cells.specs.Planes.{bit_in}
 use Rattle.pcm_cells.proofs.blocks.spend.Goals as goal
 

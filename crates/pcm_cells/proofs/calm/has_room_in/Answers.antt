@@ -1,11 +1,7 @@
 use Rattle.std.proofs.Common.{◌≡◌, ℕ, ◌+◌, ◌-◌, ◌*◌, ◌<◌, ◌&&◌, false, subst, sym, ◌∙◌, ap, eqb, inl, inr, arith}
-use Rattle.std.proofs.lemmas.Bool.{cases_lt}
-use Rattle.std.proofs.lemmas.Nat.Bits.{bit_at-zero}
-use Rattle.cell_rows.specs.Rows.{cell}
-use Rattle.pcm_cells.specs.Planes.{bit_in, digit}
-use Rattle.cell_rows.proofs.ByteLemmas.{digit_and}
-use Rattle.pcm_cells.proofs.SeededLemmas.{both_false}
-use Rattle.pcm_cells.proofs.CalmLemmas.{or_none_l, or_none_r}
+use Rattle.std.proofs.{lemmas.Bool.cases_lt, lemmas.Nat.Bits.bit_at-zero}
+use Rattle.cell_rows.{specs.Rows.cell, proofs.ByteLemmas.digit_and}
+use Rattle.pcm_cells.{specs.Planes.{bit_in, digit}, proofs.CalmLemmas.{or_none_l, or_none_r}, proofs.SeededLemmas.both_false}
 use Rattle.pcm_cells.proofs.calm.has_room_in.Goals as goal
 
 pub loop-block-preserved : goal.loop-block-preserved

@@ -1,14 +1,8 @@
 use Rattle.std.proofs.Common.{◌≡◌, ℕ, ◌+◌, ◌-◌, ◌*◌, ◌%◌, ◌≤◌, ◌&&◌, Bool, true, false, not, cond, eqb, rules, refl, sym, ◌∙◌, ap, arith, bit_and}
-use Rattle.std.specs.Prelude.{nat_le}
-use Rattle.std.proofs.lemmas.Nat.Bits.{bit_at-zero}
-use Rattle.cell_rows.specs.Rows.{cell}
-use Rattle.pcm_cells.specs.Planes.{bit_in, digit}
-use Rattle.pcm_cells.specs.Counts.{count}
-use Rattle.pcm_cells.specs.Seeded.{LifeLine, life_of, seeded, seeded_cell}
-use Rattle.cell_rows.proofs.ByteLemmas.{digit_and, swapped}
-use Rattle.pcm_cells.proofs.FollowsLemmas.{followed_block}
-use Rattle.pcm_cells.proofs.CalmLemmas.{calm_parts}
-use Rattle.pcm_cells.proofs.SeededLemmas.{worn_follows, worn_kept, missing_few, left_is, left_kept, calm_last, calm_here, in_row}
+use Rattle.std.{specs.Prelude.nat_le, proofs.lemmas.Nat.Bits.bit_at-zero}
+use Rattle.cell_rows.{specs.Rows.cell, proofs.ByteLemmas.{digit_and, swapped}}
+use Rattle.pcm_cells.{specs.Counts.count, specs.Planes.{bit_in, digit}, specs.Seeded.{LifeLine, life_of, seeded, seeded_cell}, proofs.CalmLemmas.calm_parts}
+use Rattle.pcm_cells.proofs.{FollowsLemmas.followed_block, SeededLemmas.{worn_follows, worn_kept, missing_few, left_is, left_kept, calm_last, calm_here, in_row}}
 use Rattle.pcm_cells.proofs.calm.wear_calm_block.Goals as goal
 
 pub advance-requires : goal.advance-requires

@@ -1,7 +1,6 @@
 use Rattle.std.proofs.Common.{◌≡◌, ◌+◌, ◌*◌, ◌∙◌, arith}
 use Rattle.cell_rows.specs.Rows.{cell}
-use Rattle.pcm_cells.specs.Seeded.{seeded, seeded_cell, life_of}
-use Rattle.pcm_cells.proofs.FollowsLemmas.{followed_group}
+use Rattle.pcm_cells.{specs.Seeded.{seeded, seeded_cell, life_of}, proofs.FollowsLemmas.followed_group}
 use Rattle.pcm_cells.proofs.calm.wear_calm_in.Goals as goal
 
 pub loop-block-preserved : goal.loop-block-preserved

@@ -1,8 +1,6 @@
 use Rattle.std.proofs.Common.{◌≡◌, ℕ, ◌*◌, ◌≤◌}
 use Rattle.cell_rows.specs.Rows.{cell}
-use Rattle.pcm_cells.specs.Planes.{digit}
-use Rattle.pcm_cells.specs.Follows.{FollowsIn}
-use Rattle.pcm_cells.specs.Seeded.{seeded, seeded_cell, life_of}
+use Rattle.pcm_cells.specs.{Follows.FollowsIn, Planes.digit, Seeded.{seeded, seeded_cell, life_of}}
 use Rattle.pcm_cells.proofs.calm.wear_calm_in.Given as goal
 
 -- the blocks so far have worn

@@ -1,10 +1,6 @@
 use Rattle.std.proofs.Common.{◌≡◌, ℕ, ◌+◌, ◌-◌, ◌*◌, ap, subst, ◌∙◌, inl, inr, arith, [], get_or, set, slice_index}
-use Rattle.std.proofs.lemmas.Bool.{cases_lt}
-use Rattle.std.proofs.lemmas.List.{length-set}
-use Rattle.pcm_cells.specs.Counts.{count_in}
-use Rattle.pcm_cells.specs.Planes.{bit_in, number_of}
-use Rattle.pcm_cells.proofs.CountLemmas.{Lessens, lessens_none, lessens_row}
-use Rattle.pcm_cells.proofs.LevelLemmas.{number_up}
+use Rattle.std.proofs.{lemmas.Bool.cases_lt, lemmas.List.length-set}
+use Rattle.pcm_cells.{specs.Counts.count_in, specs.Planes.{bit_in, number_of}, proofs.CountLemmas.{Lessens, lessens_none, lessens_row}, proofs.LevelLemmas.number_up}
 use Rattle.pcm_cells.proofs.levels.level.Goals as goal
 
 pub loop-pair-init : goal.loop-pair-init

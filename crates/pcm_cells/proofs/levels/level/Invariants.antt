@@ -1,6 +1,5 @@
 use Rattle.std.proofs.Common.{◌+◌, ◌-◌, ◌*◌}
-use Rattle.pcm_cells.specs.Planes.{bit_in, number_of}
-use Rattle.pcm_cells.proofs.CountLemmas.{Lessens}
+use Rattle.pcm_cells.{specs.Planes.{bit_in, number_of}, proofs.CountLemmas.Lessens}
 use Rattle.pcm_cells.proofs.levels.level.Given as goal
 
 -- the rows so far are done, and the others are as they were

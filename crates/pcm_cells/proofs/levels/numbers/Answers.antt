@@ -1,6 +1,5 @@
 use Rattle.std.proofs.Common.{◌≡◌, ◌+◌, ◌∙◌, ap, arith, get_or}
-use Rattle.pcm_cells.specs.Planes.{bit_in}
-use Rattle.pcm_cells.proofs.LevelLemmas.{number_lane, first_lanes, last_lanes}
+use Rattle.pcm_cells.{specs.Planes.bit_in, proofs.LevelLemmas.{number_lane, first_lanes, last_lanes}}
 use Rattle.pcm_cells.proofs.levels.numbers.Goals as goal
 
 pub returns-clause-first : goal.returns-clause-first

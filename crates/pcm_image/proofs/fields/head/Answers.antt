@@ -1,7 +1,6 @@
 use Rattle.std.proofs.Common.{refl}
 use Rattle.std.proofs.lemmas.Result.{err_from_is_err_and}
-use Rattle.pcm_image.specs.Reading.{head_at}
-use Rattle.pcm_image.proofs.Loop.{fails_here, fails_later, gives_on}
+use Rattle.pcm_image.{specs.Reading.head_at, proofs.Loop.{fails_here, fails_later, gives_on}}
 use Rattle.pcm_image.proofs.fields.head.Goals as goal
 
 pub returns-in_err-rest-clause-gives : goal.returns-in_err-rest-clause-gives

@@ -1,7 +1,6 @@
 use Rattle.std.proofs.Common.{refl}
 use Rattle.std.proofs.lemmas.Result.{err_from_is_err_and}
-use Rattle.pcm_image.specs.Reading.{bank_at}
-use Rattle.pcm_image.proofs.Loop.{fails_here, fails_later, gives_on}
+use Rattle.pcm_image.{specs.Reading.bank_at, proofs.Loop.{fails_here, fails_later, gives_on}}
 use Rattle.pcm_image.proofs.parts.bank_of.Goals as goal
 
 pub returns-in_err-mark-clause-gives : goal.returns-in_err-mark-clause-gives

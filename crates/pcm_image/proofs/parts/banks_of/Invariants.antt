@@ -1,7 +1,5 @@
 use Rattle.std.proofs.Common.{◌≡◌, ◌+◌, ◌-◌, ◌*◌, ◌≤◌}
-use Rattle.pcm_image.specs.Reading.{bank_at, times}
-use Rattle.pcm_image.specs.Giving.{cursor, head_view}
-use Rattle.pcm_image.proofs.Loop.{with_front}
+use Rattle.pcm_image.{specs.Giving.{cursor, head_view}, specs.Reading.{bank_at, times}, proofs.Loop.with_front}
 use Rattle.pcm_image.proofs.parts.banks_of.Given as goal
 
 abbrev pub invariant-loop : goal.invariant-loop

@@ -1,7 +1,5 @@
 use Rattle.std.proofs.Common.{arith}
-use Rattle.pcm_image.specs.Reading.{entry_at, times}
-use Rattle.pcm_image.specs.Giving.{cursor, head_view}
-use Rattle.pcm_image.proofs.Loop.{goes_on, ends, is_done}
+use Rattle.pcm_image.{specs.Giving.{cursor, head_view}, specs.Reading.{entry_at, times}, proofs.Loop.{goes_on, ends, is_done}}
 use Rattle.pcm_image.proofs.parts.entries_of.Goals as goal
 
 pub loop-preserved : goal.loop-preserved

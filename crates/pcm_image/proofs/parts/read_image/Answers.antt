@@ -1,7 +1,5 @@
 use Rattle.std.proofs.Common.{ap, subst, ◌∙◌, arith}
-use Rattle.pcm_image.specs.Reading.{image_of}
-use Rattle.pcm_image.specs.Giving.{Gives}
-use Rattle.pcm_image.proofs.Whole.{is_found, is_sized, image_again}
+use Rattle.pcm_image.{specs.Giving.Gives, specs.Reading.image_of, proofs.Whole.{is_found, is_sized, image_again}}
 use Rattle.pcm_image.proofs.parts.read_image.Goals as goal
 
 pub returns-clause-size : goal.returns-clause-size

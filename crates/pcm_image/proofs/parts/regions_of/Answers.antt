@@ -1,8 +1,6 @@
 use Rattle.std.proofs.Common.{arith}
-use Rattle.pcm_image.specs.Reading.{region_at, times}
-use Rattle.pcm_image.specs.Giving.{cursor, head_view}
 use Rattle.std.proofs.lemmas.Result.{err_from_is_err_and}
-use Rattle.pcm_image.proofs.Loop.{goes_on, ends, is_done}
+use Rattle.pcm_image.{specs.Giving.{cursor, head_view}, specs.Reading.{region_at, times}, proofs.Loop.{goes_on, ends, is_done}}
 use Rattle.pcm_image.proofs.parts.regions_of.Goals as goal
 
 pub loop-preserved : goal.loop-preserved

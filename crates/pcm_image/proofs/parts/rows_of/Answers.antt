@@ -1,7 +1,5 @@
 use Rattle.std.proofs.Common.{arith}
-use Rattle.pcm_image.specs.Reading.{cells_at, times}
-use Rattle.pcm_image.specs.Giving.{cursor}
-use Rattle.pcm_image.proofs.Loop.{goes_on, ends, is_done}
+use Rattle.pcm_image.{specs.Giving.cursor, specs.Reading.{cells_at, times}, proofs.Loop.{goes_on, ends, is_done}}
 use Rattle.pcm_image.proofs.parts.rows_of.Goals as goal
 
 pub loop-preserved : goal.loop-preserved

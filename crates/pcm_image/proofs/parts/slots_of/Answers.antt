@@ -1,11 +1,7 @@
 use Rattle.std.proofs.Common.{arith}
-use Rattle.std.specs.Prelude.{nat_lt}
-use Rattle.std.specs.Int.{w32}
+use Rattle.std.{specs.Int.w32, specs.Prelude.nat_lt, proofs.lemmas.Result.err_from_is_err_and}
+use Rattle.pcm_image.{specs.Giving.cursor, specs.Reading.{number_at, times}, proofs.Loop.{goes_on, ends, is_done}}
 use Rattle.pcm_image.specs.declared.ImageKind.TheVariants as kind
-use Rattle.pcm_image.specs.Reading.{number_at, times}
-use Rattle.pcm_image.specs.Giving.{cursor}
-use Rattle.std.proofs.lemmas.Result.{err_from_is_err_and}
-use Rattle.pcm_image.proofs.Loop.{goes_on, ends, is_done}
 use Rattle.pcm_image.proofs.parts.slots_of.Goals as goal
 
 pub loop-preserved : goal.loop-preserved

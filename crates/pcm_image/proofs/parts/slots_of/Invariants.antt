@@ -1,10 +1,7 @@
 use Rattle.std.proofs.Common.{◌≡◌, ◌+◌, ◌-◌, ◌*◌, ◌≤◌}
-use Rattle.std.specs.Prelude.{nat_lt}
-use Rattle.std.specs.Int.{w32}
+use Rattle.std.specs.{Int.w32, Prelude.nat_lt}
+use Rattle.pcm_image.{specs.Giving.cursor, specs.Reading.{number_at, times}, proofs.Loop.with_front}
 use Rattle.pcm_image.specs.declared.ImageKind.TheVariants as kind
-use Rattle.pcm_image.specs.Reading.{number_at, times}
-use Rattle.pcm_image.specs.Giving.{cursor}
-use Rattle.pcm_image.proofs.Loop.{with_front}
 use Rattle.pcm_image.proofs.parts.slots_of.Given as goal
 
 abbrev pub invariant-loop : goal.invariant-loop

@@ -1,9 +1,8 @@
 use Rattle.std.proofs.Common.{◌≡◌, ◌+◌, ◌++◌, ◌∷◌, [], take, sym, ap, ◌∙◌, rules}
 use Rattle.std.proofs.lemmas.List.{take_more}
 use Rattle.masked_bytes.specs.Masked.{laid}
-use Rattle.pcm_image.proofs.Laying.{over, over_none, over_other, over_more, masked_take, masked_at}
+use Rattle.pcm_image.proofs.{Laying.{over, over_none, over_other, over_more, masked_take, masked_at}, standing.lay_entries.Goals.{then-entry-line, else-entry-line}}
 use Rattle.pcm_image.proofs.standing.lay_entries.Goals as goal
-use Rattle.pcm_image.proofs.standing.lay_entries.Goals.{then-entry-line, else-entry-line}
 
 pub loop-entry-init : goal.loop-entry-init
 loop-entry-init g c = over_none g.row.B c.args.bytes.now

@@ -1,7 +1,6 @@
 use Rattle.std.proofs.Common.{◌≡◌, take}
 use Rattle.std.specs.Prelude.{map}
-use Rattle.masked_bytes.specs.Masked.{laid}
-use Rattle.masked_bytes.specs.Entries.{layer_of}
+use Rattle.masked_bytes.specs.{Entries.layer_of, Masked.laid}
 use Rattle.pcm_image.specs.Standing.{entry_of}
 use Rattle.pcm_image.proofs.standing.lay_entries.Given as goal
 

@@ -1,6 +1,4 @@
-use Rattle.pcm_image.specs.Saved.{array_lines_in}
-use Rattle.pcm_image.specs.Giving.{head_view}
-use Rattle.pcm_image.proofs.Heads.{row_below}
+use Rattle.pcm_image.{specs.Giving.head_view, specs.Saved.array_lines_in, proofs.Heads.row_below}
 use Rattle.pcm_image.proofs.standing.row_number.Goals as goal
 
 pub returns-clause-within : goal.returns-clause-within

@@ -1,9 +1,8 @@
 use Rattle.std.proofs.Common.{ℕ, ◌*◌, ◌^◌, ◌≤◌, Bool, false, sym, arith}
-use Rattle.std.specs.Prelude.{slice_index_or}
-use Rattle.std.proofs.Math.Pow.{pow_mono}
+use Rattle.std.{specs.Prelude.slice_index_or, proofs.Math.Pow.pow_mono}
 use Rattle.ecp_line.proofs.Digits.{number-none, number-one, number-zero, number-lt}
-use Rattle.pcm_image.proofs.writing.packed_byte.Goals as goal
 use Rattle.pcm_image.proofs.writing.packed_byte.Goals.{then-given-byte, else-given-byte}
+use Rattle.pcm_image.proofs.writing.packed_byte.Goals as goal
 
 pub loop-i-init : goal.loop-i-init
 loop-i-init c = sym (number-none (λ i. slice_index_or c.args.given.now i false) (8 * c.args.byte))

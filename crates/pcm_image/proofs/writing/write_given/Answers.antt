@@ -1,8 +1,7 @@
 use Rattle.std.proofs.Common.{ℕ, Bool, ◌≡◌, ◌∙◌, ◌+◌, ◌*◌, ◌++◌, ◌∷◌, [], false, ap, sym, arith}
 use Rattle.std.specs.Prelude.{slice_index_or}
 use Rattle.pcm_io.specs.Reserved.{appended}
-use Rattle.ecp_line.specs.Layout.{number}
-use Rattle.ecp_line.specs.Reading.{bytes_from}
+use Rattle.ecp_line.specs.{Layout.number, Reading.bytes_from}
 use Rattle.pcm_image.proofs.Steps.{appended_twice, bytes_more}
 use Rattle.pcm_image.proofs.writing.write_given.Goals as goal
 

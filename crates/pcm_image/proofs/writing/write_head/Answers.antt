@@ -1,6 +1,5 @@
 use Rattle.std.proofs.Common.{◌++◌}
-use Rattle.pcm_image.specs.Spelling.{magic, u8, u16, u64}
-use Rattle.pcm_image.proofs.Steps.{appended_twice}
+use Rattle.pcm_image.{specs.Spelling.{magic, u8, u16, u64}, proofs.Steps.appended_twice}
 use Rattle.pcm_image.proofs.writing.write_head.Goals as goal
 
 pub returns-clause-after : goal.returns-clause-after

@@ -1,7 +1,6 @@
 use Rattle.std.proofs.Common.{◌++◌, ◌∙◌, ap}
 use Rattle.pcm_io.specs.Reserved.{appended}
-use Rattle.pcm_image.specs.Spelling.{u8, u16, u64}
-use Rattle.pcm_image.proofs.Steps.{appended_twice}
+use Rattle.pcm_image.{specs.Spelling.{u8, u16, u64}, proofs.Steps.appended_twice}
 use Rattle.pcm_image.proofs.writing.write_limits.Goals as goal
 
 pub returns-clause-after : goal.returns-clause-after

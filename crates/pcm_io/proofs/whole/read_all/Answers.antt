@@ -1,8 +1,6 @@
 use Rattle.std.proofs.Common.{◌<◌, ◌≤◌, ◌≡◌, ◌++◌, length, take, arith, refl}
-use Rattle.std.proofs.lemmas.Grind.{common_steps}
-use Rattle.std.proofs.lemmas.Result.{err_from_is_err_and}
-use Rattle.pcm_io.specs.declared.fault.ReadAllFault.TheVariants.{NoMemory, TooLong}
-use Rattle.pcm_io.proofs.ByteLemmas.{Takes-read}
+use Rattle.std.proofs.{lemmas.Grind.common_steps, lemmas.Result.err_from_is_err_and}
+use Rattle.pcm_io.{specs.declared.fault.ReadAllFault.TheVariants.{NoMemory, TooLong}, proofs.ByteLemmas.Takes-read}
 use Rattle.pcm_io.proofs.whole.read_all.Goals as goal
 
 pub returns-then-limit-len-clause-err : goal.returns-then-limit-len-clause-err

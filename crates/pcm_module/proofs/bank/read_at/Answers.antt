@@ -2,14 +2,12 @@ use Rattle.std.proofs.Common.{ℕ, ◌<◌, ◌==◌, List, ◌∷◌, ◌++◌,
 use Rattle.std.proofs.lemmas.Bool.{ne_eqb, or_from}
 use Rattle.row_rules.specs.declared.Asks.TheVariants.{Reads}
 use Rattle.bank_shape.specs.declared.BankShape.{BankShape}
-use Rattle.bank_model.specs.Events.{Read}
-use Rattle.bank_model.specs.Timing.{TimedEvent}
+use Rattle.bank_model.specs.{Events.Read, Timing.TimedEvent}
 use Rattle.bank_invariant.specs.Serving.{read_from}
 use Rattle.power_recovery.specs.Slots.{bank_lines}
 use Rattle.clock_laws.specs.Arriving.{arrival}
 use Rattle.module_laws.specs.Asking.{Asked}
-use Rattle.bank_timing.proofs.Sizes.{timed_fits}
-use Rattle.bank_timing.specs.Cancelling.{cancel_first}
+use Rattle.bank_timing.{specs.Cancelling.cancel_first, proofs.Sizes.timed_fits}
 use Rattle.pcm_module.proofs.Arriving.{open_on, step_on, first_asked, first_off}
 use Rattle.pcm_module.proofs.bank.read_at.Goals as goal
 

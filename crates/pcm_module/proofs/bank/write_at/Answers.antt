@@ -2,8 +2,7 @@ use Rattle.std.proofs.Common.{ℕ, ◌<◌, ◌==◌, [], ◌∷◌, ◌++◌, r
 use Rattle.std.proofs.lemmas.Bool.{ne_eqb, or_from}
 use Rattle.row_rules.specs.declared.Asks.TheVariants.{Writes}
 use Rattle.bank_shape.specs.declared.BankShape.{BankShape}
-use Rattle.bank_model.specs.Events.{Write}
-use Rattle.bank_model.specs.Timing.{TimedEvent}
+use Rattle.bank_model.specs.{Events.Write, Timing.TimedEvent}
 use Rattle.bank_core.specs.Steps.{write_from}
 use Rattle.power_recovery.specs.Slots.{bank_lines}
 use Rattle.clock_laws.specs.Arriving.{arrival}

@@ -1,6 +1,5 @@
 use Rattle.std.proofs.Common.{arith, ℕ, ◌-◌, ◌<◌, ap, ◌∙◌, subst}
-use Rattle.bank_shape.specs.declared.BankShape.{BankShape}
-use Rattle.bank_shape.specs.Shape.{controls_from}
+use Rattle.bank_shape.specs.{Shape.controls_from, declared.BankShape.BankShape}
 use Rattle.pcm_module.proofs.Placed.{free-role, retired-role}
 use Rattle.pcm_module.proofs.bank_roles.role_in.Goals as goal
 

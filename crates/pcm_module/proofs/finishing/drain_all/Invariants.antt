@@ -1,7 +1,5 @@
 use Rattle.std.proofs.Common.{false}
-use Rattle.pcm_module.specs.State.{ModuleState}
-use Rattle.pcm_module.specs.Telling.{TellsByBanks, rows_at}
-use Rattle.pcm_module.specs.Draining.{MayFinish, AreDrained}
+use Rattle.pcm_module.specs.{Draining.{MayFinish, AreDrained}, State.ModuleState, Telling.{TellsByBanks, rows_at}}
 use Rattle.pcm_module.proofs.finishing.drain_all.Given as goal
 
 abbrev pub invariant-loop-bank : goal.invariant-loop-bank

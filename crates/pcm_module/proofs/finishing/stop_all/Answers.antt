@@ -1,12 +1,10 @@
 use Rattle.std.proofs.Common.{arith, true, ◌≡◌, ℕ, ◌<◌, [], ◌++◌, length, Some, refl, sym, subst, ◌∙◌}
 use Rattle.std.specs.Prelude.{slice_get}
 use Rattle.bank_timing.proofs.Sizes.{timed_fits}
-use Rattle.pcm_module.specs.Telling.{TellsByBanks, rows_at}
+use Rattle.pcm_module.{specs.Draining.AreDrained, specs.Telling.{TellsByBanks, rows_at}, proofs.Draining.{drain_none, next_replays, drain_one, reached_bank, reached_all}}
 use Rattle.pcm_module.proofs.InOrder.{next_bank, of_bank}
-use Rattle.pcm_module.specs.Draining.{AreDrained}
-use Rattle.masked_bytes.proofs.Lists.{item-at}
-use Rattle.pcm_module.proofs.Draining.{drain_none, next_replays, drain_one, reached_bank, reached_all}
 use Rattle.pcm_module.proofs.finishing.stop_all.Goals as goal
+use Rattle.masked_bytes.proofs.Lists.{item-at}
 
 pub loop-bank-init : goal.loop-bank-init
 loop-bank-init g c = ((λ of array may. drain_none true of array (g.R.Outcomes.table c.args.results.now) c.args.banks.now.items may), g.met.R.Outcomes.stands c.args.results.now, λ of array may. refl)

@@ -1,8 +1,6 @@
 use Rattle.cell_rows.specs.Device.{ArrayState}
 use Rattle.std.proofs.Common.{true}
-use Rattle.pcm_module.specs.State.{ModuleState}
-use Rattle.pcm_module.specs.Telling.{TellsByBanks, rows_at}
-use Rattle.pcm_module.specs.Draining.{MayFinish, AreDrained}
+use Rattle.pcm_module.specs.{Draining.{MayFinish, AreDrained}, State.ModuleState, Telling.{TellsByBanks, rows_at}}
 use Rattle.pcm_module.proofs.finishing.stop_all.Given as goal
 
 abbrev pub invariant-loop-bank : goal.invariant-loop-bank

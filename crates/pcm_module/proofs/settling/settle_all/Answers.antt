@@ -2,10 +2,7 @@ use Rattle.std.proofs.Common.{arith, ◌≡◌, ℕ, ◌<◌, ◌++◌, length, 
 use Rattle.std.specs.Prelude.{slice_get}
 use Rattle.bank_timing.proofs.Sizes.{timed_fits}
 use Rattle.masked_bytes.proofs.Lists.{item-at}
-use Rattle.pcm_module.specs.Telling.{TellsByBanks, rows_at}
-use Rattle.pcm_module.proofs.InOrder.{next_bank, of_bank}
-use Rattle.pcm_module.specs.Settling.{AreSettled}
-use Rattle.pcm_module.proofs.Draining.{reached_bank, reached_all}
+use Rattle.pcm_module.{specs.Settling.AreSettled, specs.Telling.{TellsByBanks, rows_at}, proofs.Draining.{reached_bank, reached_all}, proofs.InOrder.{next_bank, of_bank}}
 use Rattle.pcm_module.proofs.Settles.{settle_none, settle_replays, settle_one}
 use Rattle.pcm_module.proofs.settling.settle_all.Goals as goal
 

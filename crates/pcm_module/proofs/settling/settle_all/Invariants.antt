@@ -1,6 +1,4 @@
-use Rattle.pcm_module.specs.State.{ModuleState}
-use Rattle.pcm_module.specs.Telling.{TellsByBanks, rows_at}
-use Rattle.pcm_module.specs.Settling.{MaySettle, AreSettled}
+use Rattle.pcm_module.specs.{Settling.{MaySettle, AreSettled}, State.ModuleState, Telling.{TellsByBanks, rows_at}}
 use Rattle.pcm_module.proofs.settling.settle_all.Given as goal
 
 abbrev pub invariant-loop-bank : goal.invariant-loop-bank

@@ -1,7 +1,6 @@
 use Rattle.std.proofs.Common.{◌≡◌, ◌++◌, [], refl}
 use Rattle.program_calls.proofs.Written.{writes-as}
-use Rattle.pcm_top.specs.FaultLines.{fault_line}
-use Rattle.pcm_top.specs.declared.fault.Fault.TheVariants.{Results}
+use Rattle.pcm_top.specs.{FaultLines.fault_line, declared.fault.Fault.TheVariants.Results}
 use Rattle.pcm_top.proofs.fault.tell_results.Goals as goal
 
 pub returns : goal.returns

@@ -1,13 +1,10 @@
 use Rattle.std.proofs.Common.{refl, sym, ap, ◌∙◌, subst, arith}
 use Rattle.std.specs.Prelude.{OnOk}
 use Rattle.run_text.proofs.Gathered.{on_err, on_ok}
-use Rattle.image_text.specs.Sensing.{SensesRows, SensesSome}
-use Rattle.image_text.proofs.Sensing.{senses-none}
+use Rattle.image_text.{specs.Sensing.{SensesRows, SensesSome}, proofs.Sensing.senses-none}
 use Rattle.image_laws.specs.Saving.{saved_of}
 use Rattle.module_prints.specs.Images.{WritesRows, kept_in}
-use Rattle.pcm_top.specs.Images.{senses_for}
-use Rattle.pcm_top.proofs.Saving.{image-text, no-image, senses-nothing}
-use Rattle.pcm_top.proofs.Worn.{wear-text}
+use Rattle.pcm_top.{specs.Images.senses_for, proofs.Saving.{image-text, no-image, senses-nothing}, proofs.Worn.wear-text}
 use Rattle.pcm_top.proofs.print.print_run.Goals as goal
 
 pub returns-in-Wear-clause-ok : goal.returns-in-Wear-clause-ok

@@ -1,6 +1,5 @@
 use Rattle.std.proofs.Common.{◌≢◌, ◌≤◌, inl, inr, refl, ap, arith, rules, Err}
-use Rattle.pcm_top.specs.declared.fault.Fault.TheVariants.{Write}
-use Rattle.pcm_top.proofs.Deciding.{done-decided, done-low, is_write, told-decided}
+use Rattle.pcm_top.{specs.declared.fault.Fault.TheVariants.Write, proofs.Deciding.{done-decided, done-low, is_write, told-decided}}
 use Rattle.pcm_top.proofs.program.pcm_run.Goals as goal
 
 pub returns-in-Ok : goal.returns-in-Ok

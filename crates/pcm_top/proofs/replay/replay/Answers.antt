@@ -1,12 +1,10 @@
 use Rattle.std.proofs.Common.{◌≡◌, ◌∙◌, ◌++◌, List, Some, length, refl, subst, arith}
-use Rattle.std.specs.Prelude.{slice_get}
-use Rattle.std.proofs.lemmas.Option.{slice_get_read}
+use Rattle.std.{specs.Prelude.slice_get, proofs.lemmas.Option.slice_get_read}
 use Rattle.row_rules.specs.declared.Row.{Row}
 use Rattle.run_laws.specs.Runs.{RunsRight}
-use Rattle.pcm_top.proofs.Tables.{rows-are}
-use Rattle.pcm_top.proofs.Replaying.{next-event, next-open, replayed-all, replayed-more, replayed-none}
-use Rattle.trace_reader.proofs.Sizes.{event_fits}
+use Rattle.pcm_top.proofs.{Replaying.{next-event, next-open, replayed-all, replayed-more, replayed-none}, Tables.rows-are}
 use Rattle.pcm_top.proofs.replay.replay.Goals as goal
+use Rattle.trace_reader.proofs.Sizes.{event_fits}
 
 pub loop-i-init : goal.loop-i-init
 loop-i-init g c = (

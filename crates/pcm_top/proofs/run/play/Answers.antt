@@ -2,12 +2,10 @@ use Rattle.std.proofs.Common.{◌≡◌, ◌≤◌, refl, sym, ap, ◌∙◌, su
 use Rattle.module_shape.specs.Limits.{IsShape}
 use Rattle.run_text.proofs.Gathered.{on_err_any}
 use Rattle.trace_reader.proofs.Sizes.{event_fits}
-use Rattle.pcm_top.proofs.Making.{can-print, ready-itself, run-part, run-written}
+use Rattle.pcm_top.{specs.Images.senses_for, proofs.Making.{can-print, ready-itself, run-part, run-written}, proofs.Saving.{leaves-with, right-now}}
+use Rattle.pcm_top.proofs.run.play.Goals as goal
 use Rattle.command_line.specs.declared.job.Print.TheVariants.{Image}
 use Rattle.module_prints.specs.Images.{WritesRows}
-use Rattle.pcm_top.specs.Images.{senses_for}
-use Rattle.pcm_top.proofs.Saving.{leaves-with, right-now}
-use Rattle.pcm_top.proofs.run.play.Goals as goal
 
 pub print_run-requires : goal.print_run-requires
 print_run-requires g c =

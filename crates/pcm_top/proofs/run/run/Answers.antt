@@ -1,8 +1,7 @@
 use Rattle.std.proofs.Common.{◌≡◌, length, refl, arith, rules}
 use Rattle.bank_timing.proofs.Sizes.{timed_fits}
 use Rattle.trace_reader.proofs.Sizes.{event_fits}
-use Rattle.pcm_top.proofs.Deciding.{come-within, memory-after}
-use Rattle.pcm_top.proofs.Making.{ready-for}
+use Rattle.pcm_top.proofs.{Deciding.{come-within, memory-after}, Making.ready-for}
 use Rattle.pcm_top.proofs.run.run.Goals as goal
 
 pub returns-in-Err : goal.returns-in-Err

@@ -1,11 +1,9 @@
 use Rattle.std.proofs.Common.{◌≡◌, ◌+◌, arith, rules}
 use Rattle.std.proofs.lemmas.Grind.{common_steps}
-use Rattle.pcm_image.specs.Saved.{total_in}
-use Rattle.pcm_image.specs.Standing.{stands_for}
-use Rattle.pcm_top.specs.Showing.{shown_header, shown_row}
-use Rattle.run_text.proofs.Gathered.{on_err, on_err_any, on_ok}
-use Rattle.pcm_top.proofs.Reporting.{reported-flushed, reported-last, reported-part, reported-row}
+use Rattle.pcm_image.specs.{Saved.total_in, Standing.stands_for}
+use Rattle.pcm_top.{specs.Showing.{shown_header, shown_row}, proofs.Reporting.{reported-flushed, reported-last, reported-part, reported-row}}
 use Rattle.pcm_top.proofs.show.print_lines.Goals as goal
+use Rattle.run_text.proofs.Gathered.{on_err, on_err_any, on_ok}
 
 pub returns-in_err-make_room : goal.returns-in_err-make_room
 returns-in_err-make_room g c = record {

@@ -1,8 +1,6 @@
 use Rattle.std.proofs.Common.{◌≤◌}
-use Rattle.pcm_image.specs.Saved.{total_in}
-use Rattle.pcm_image.specs.Standing.{stands_for}
-use Rattle.pcm_top.specs.Showing.{shown_header, shown_row}
-use Rattle.pcm_top.proofs.Reporting.{HasReported}
+use Rattle.pcm_image.specs.{Saved.total_in, Standing.stands_for}
+use Rattle.pcm_top.{specs.Showing.{shown_header, shown_row}, proofs.Reporting.HasReported}
 use Rattle.pcm_top.proofs.show.print_lines.Given as goal
 
 -- the rows so far are printed

@@ -1,6 +1,5 @@
 use Rattle.std.proofs.Common.{◌≡◌, ◌++◌, [], refl}
-use Rattle.program_calls.specs.FaultLines.{trace_line}
-use Rattle.program_calls.proofs.Written.{writes-as}
+use Rattle.program_calls.{specs.FaultLines.trace_line, proofs.Written.writes-as}
 use Rattle.program_calls.proofs.telling.tell_trace.Goals as goal
 
 pub returns : goal.returns

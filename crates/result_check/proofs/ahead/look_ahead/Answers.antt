@@ -1,14 +1,10 @@
 use Rattle.std.proofs.Common.{◌≡◌, ◌-◌, Some, length, refl, arith}
-use Rattle.std.specs.Prelude.{slice_get}
-use Rattle.std.proofs.lemmas.Option.{slice_get_read}
+use Rattle.std.{specs.Prelude.slice_get, proofs.lemmas.Option.slice_get_read}
 use Rattle.trace_rows.specs.Rows.{rows_with, row_of}
-use Rattle.result_check.specs.Tables.{IsRowOf}
-use Rattle.result_check.proofs.Coming.{looks_none, looks_more}
-use Rattle.result_check.proofs.Finding.{rows_next, rows_length}
-use Rattle.result_check.proofs.Rows.{one_of_every}
+use Rattle.result_check.{specs.Tables.IsRowOf, proofs.Coming.{looks_none, looks_more}, proofs.Finding.{rows_next, rows_length}, proofs.Rows.one_of_every}
+use Rattle.result_check.proofs.ahead.look_ahead.Goals as goal
 use Rattle.trace_reader.proofs.Sizes.{event_fits, op_fits}
 use Rattle.result_rows.proofs.Sizes.{outcome_fits}
-use Rattle.result_check.proofs.ahead.look_ahead.Goals as goal
 
 pub loop-row-init : goal.loop-row-init
 loop-row-init g c =

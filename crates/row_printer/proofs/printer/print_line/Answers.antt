@@ -1,6 +1,5 @@
 use Rattle.std.proofs.Common.{◌≡◌, refl}
-use Rattle.row_printer.specs.declared.told.Shown.TheVariants.{Rows}
-use Rattle.row_printer.proofs.Rows.{more-breaks, more-goes, rows-broken, rows-more}
+use Rattle.row_printer.{specs.declared.told.Shown.TheVariants.Rows, proofs.Rows.{more-breaks, more-goes, rows-broken, rows-more}}
 use Rattle.row_printer.proofs.printer.print_line.Goals as goal
 
 pub returns-then-broken-clause-printed : goal.returns-then-broken-clause-printed

@@ -1,10 +1,8 @@
 use Rattle.std.proofs.Common.{◌≡◌, ℕ, List, [], length, Option}
-use Rattle.module_shape.specs.declared.raw.RawShape.{RawShape}
-use Rattle.module_shape.specs.Limits.{total_of}
+use Rattle.module_shape.specs.{Limits.total_of, declared.raw.RawShape.RawShape}
 use Rattle.trace_gen.specs.Generated.{generated}
 use Rattle.row_printer.specs.Printing.{IsPrinting}
-use Rattle.row_stream.specs.Serving.{IsServing}
-use Rattle.row_stream.proofs.Draws.{HasDrawn}
+use Rattle.row_stream.{specs.Serving.IsServing, proofs.Draws.HasDrawn}
 use Rattle.row_stream.proofs.drawing.serve_drawn.Given as goal
 
 -- the rows so far were served

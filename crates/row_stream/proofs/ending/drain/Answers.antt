@@ -1,9 +1,7 @@
 use Rattle.std.proofs.Common.{false}
-use Rattle.row_stream.specs.Asking.{events_in}
-use Rattle.pcm_module.specs.Asking.{asked_for}
-use Rattle.row_stream.proofs.Going.{banks-order}
-use Rattle.row_stream.proofs.Ends.{has-ended}
+use Rattle.row_stream.{specs.Asking.events_in, proofs.Ends.has-ended, proofs.Going.banks-order}
 use Rattle.row_stream.proofs.ending.drain.Goals as goal
+use Rattle.pcm_module.specs.Asking.{asked_for}
 
 pub returns-clause-ended : goal.returns-clause-ended
 returns-clause-ended g c = λ raw seed asked had.

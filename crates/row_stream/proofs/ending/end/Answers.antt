@@ -1,11 +1,6 @@
 use Rattle.std.proofs.Common.{ℕ, List, ◌∙◌, sym, subst}
-use Rattle.row_printer.specs.Snapshots.{AddsDue, takes_snapshots}
-use Rattle.row_printer.specs.declared.told.Shown.{Shown}
-use Rattle.row_printer.specs.declared.told.Told.{Told}
-use Rattle.row_stream.specs.Asking.{stays_off, tick_reached, with_cut}
-use Rattle.row_stream.specs.Ending.{EndsShowing}
-use Rattle.row_stream.specs.Looking.{IsSnapshot}
-use Rattle.row_stream.proofs.Ends.{cut-tick}
+use Rattle.row_printer.specs.{Snapshots.{AddsDue, takes_snapshots}, declared.told.Shown.Shown, declared.told.Told.Told}
+use Rattle.row_stream.{specs.Asking.{stays_off, tick_reached, with_cut}, specs.Ending.EndsShowing, specs.Looking.IsSnapshot, proofs.Ends.cut-tick}
 use Rattle.row_stream.proofs.ending.end.Goals as goal
 
 pub returns-clause-ended : goal.returns-clause-ended

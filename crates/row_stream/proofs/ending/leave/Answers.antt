@@ -1,6 +1,5 @@
 use Rattle.std.proofs.Common.{Bool, sym, subst}
-use Rattle.row_stream.specs.Asking.{stays_off, with_cut}
-use Rattle.row_stream.specs.Ending.{IsLeft}
+use Rattle.row_stream.specs.{Asking.{stays_off, with_cut}, Ending.IsLeft}
 use Rattle.row_stream.proofs.ending.leave.Goals as goal
 
 pub returns-then-off-clause-ended : goal.returns-then-off-clause-ended

@@ -1,9 +1,7 @@
 use Rattle.std.proofs.Common.{◌∙◌, ◌∷◌, ℕ, arith, subst}
-use Rattle.trace_reader.specs.declared.event.EventOp.TheVariants.{Cut}
+use Rattle.trace_reader.{specs.declared.event.EventOp.TheVariants.Cut, proofs.Sizes.event_fits}
 use Rattle.trace_stream.specs.declared.asked.Asked.TheVariants.{Happens}
-use Rattle.row_stream.specs.Serving.{IsServing}
-use Rattle.trace_reader.proofs.Sizes.{event_fits}
-use Rattle.row_stream.proofs.Ends.{cut-next}
+use Rattle.row_stream.{specs.Serving.IsServing, proofs.Ends.cut-next}
 use Rattle.row_stream.proofs.ending.serve_cut.Goals as goal
 
 pub serve_event-requires : goal.serve_event-requires

@@ -1,7 +1,5 @@
 use Rattle.std.proofs.Common.{◌∙◌, arith, refl, sym, subst}
-use Rattle.row_stream.specs.declared.stop.Behind.{Behind}
-use Rattle.row_stream.specs.Asking.{cut_behind, cut_if, off_behind}
-use Rattle.row_stream.specs.Ending.{IsLeft}
+use Rattle.row_stream.specs.{Asking.{cut_behind, cut_if, off_behind}, Ending.IsLeft, declared.stop.Behind.Behind}
 use Rattle.row_stream.proofs.ending.stay_off.Goals as goal
 
 pub stop-requires : goal.stop-requires

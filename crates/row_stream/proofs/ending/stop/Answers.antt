@@ -1,9 +1,7 @@
 use Rattle.std.proofs.Common.{arith, true}
-use Rattle.row_stream.specs.Asking.{events_in}
-use Rattle.pcm_module.specs.Asking.{asked_for}
-use Rattle.row_stream.proofs.Going.{banks-order}
-use Rattle.row_stream.proofs.Ends.{has-ended, last-cut}
+use Rattle.row_stream.{specs.Asking.events_in, proofs.Ends.{has-ended, last-cut}, proofs.Going.banks-order}
 use Rattle.row_stream.proofs.ending.stop.Goals as goal
+use Rattle.pcm_module.specs.Asking.{asked_for}
 
 pub stop-requires : goal.stop-requires
 stop-requires g c =

@@ -1,5 +1,4 @@
-use Rattle.row_stream.specs.Asking.{events_in}
-use Rattle.row_stream.proofs.Each.{each-told}
+use Rattle.row_stream.{specs.Asking.events_in, proofs.Each.each-told}
 use Rattle.row_stream.proofs.laws.each_row_is_told.Goals as goal
 
 pub returns : goal.returns

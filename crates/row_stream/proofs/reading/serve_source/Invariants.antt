@@ -2,8 +2,7 @@ use Rattle.std.proofs.Common.{◌≡◌, ℕ, List, [], Option, true}
 use Rattle.std.specs.Io.KnownBytes.{Appends, IsAtEnd}
 use Rattle.module_shape.specs.declared.raw.RawShape.{RawShape}
 use Rattle.row_printer.specs.Printing.{IsPrinting, text_told}
-use Rattle.row_stream.specs.Serving.{IsServing}
-use Rattle.row_stream.proofs.Rows.{HasFed}
+use Rattle.row_stream.{specs.Serving.IsServing, proofs.Rows.HasFed}
 use Rattle.row_stream.proofs.reading.serve_source.Given as goal
 
 -- the rows so far were served, and all that is known is written

@@ -1,6 +1,5 @@
 use Rattle.std.proofs.Common.{◌≡◌, ◌∙◌, ◌+◌, ◌++◌, ap, arith}
-use Rattle.row_printer.specs.Telling.{became}
-use Rattle.row_printer.specs.Printing.{table_told}
+use Rattle.row_printer.specs.{Printing.table_told, Telling.became}
 use Rattle.trace_reader.proofs.Sizes.{event_fits}
 use Rattle.row_stream.proofs.Going.{event-order, next-bound, next-open, next-replayed, serving-event}
 use Rattle.row_stream.proofs.serving.serve_event.Goals as goal

@@ -1,6 +1,5 @@
 use Rattle.std.proofs.Common.{◌∙◌, sym, ap}
-use Rattle.run_text.specs.Pulses.{at_most_u64}
-use Rattle.run_text.proofs.Summed.{pulses_of_none, capped_sum_more}
+use Rattle.run_text.{specs.Pulses.at_most_u64, proofs.Summed.{pulses_of_none, capped_sum_more}}
 use Rattle.run_text.proofs.pulses.sum_pulses.Goals as goal
 
 pub loop-line-init : goal.loop-line-init

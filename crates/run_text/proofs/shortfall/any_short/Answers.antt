@@ -1,6 +1,5 @@
 use Rattle.std.proofs.Common.{◌||◌, ◌∙◌, ◌<◌, length, sym, ap, arith}
-use Rattle.run_text.specs.Shortfall.{is_short}
-use Rattle.run_text.proofs.Counted.{any-more, any-here}
+use Rattle.run_text.{specs.Shortfall.is_short, proofs.Counted.{any-more, any-here}}
 use Rattle.run_text.proofs.shortfall.any_short.Goals as goal
 
 pub returns-then-is_short : goal.returns-then-is_short

@@ -1,6 +1,5 @@
 use Rattle.std.specs.Prelude.{codes}
-use Rattle.run_text.specs.SummaryText.{line_text}
-use Rattle.run_text.proofs.SummaryLines.{thirteen_lines}
+use Rattle.run_text.{specs.SummaryText.line_text, proofs.SummaryLines.thirteen_lines}
 use Rattle.run_text.proofs.summary.print_summary.Goals as goal
 
 pub returns-clause-after : goal.returns-clause-after

@@ -1,6 +1,5 @@
 use Rattle.std.proofs.Common.{◌<◌, length, ap, arith}
-use Rattle.spare_pool.specs.Table.{Table}
-use Rattle.spare_pool.proofs.Lines.{line-within, line-apart}
+use Rattle.spare_pool.{specs.Table.Table, proofs.Lines.{line-within, line-apart}}
 use Rattle.spare_pool.proofs.Remap.line_of.Goals as goal
 
 pub returns-clause-within : goal.returns-clause-within

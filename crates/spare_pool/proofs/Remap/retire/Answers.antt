@@ -1,6 +1,5 @@
 use Rattle.std.proofs.Common.{◌<◌, length, ap, arith}
-use Rattle.spare_pool.specs.Table.{Table}
-use Rattle.spare_pool.proofs.Lines.{stores-retired, lines-retired}
+use Rattle.spare_pool.{specs.Table.Table, proofs.Lines.{stores-retired, lines-retired}}
 use Rattle.spare_pool.proofs.Remap.retire.Goals as goal
 
 pub invariant_of-self : goal.invariant_of-self

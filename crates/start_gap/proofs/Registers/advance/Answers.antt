@@ -1,5 +1,4 @@
-use Rattle.start_gap.proofs.Turning.{stands-end, stands-further}
-use Rattle.start_gap.proofs.Places.{places-end, places-further}
+use Rattle.start_gap.proofs.{Places.{places-end, places-further}, Turning.{stands-end, stands-further}}
 use Rattle.start_gap.proofs.Registers.advance.Goals as goal
 
 pub returns-then-self-eq0-clause-counted : goal.returns-then-self-eq0-clause-counted

@@ -1,6 +1,5 @@
 use Rattle.std.proofs.Common.{◌<◌, ◌≤◌, sym, ◌∙◌, ap, arith}
-use Rattle.start_gap.specs.Rotation.{Rotation}
-use Rattle.start_gap.proofs.Turning.{gap-stands, place-stands, line_before, line_behind}
+use Rattle.start_gap.{specs.Rotation.Rotation, proofs.Turning.{gap-stands, place-stands, line_before, line_behind}}
 use Rattle.start_gap.proofs.Registers.line_at.Goals as goal
 
 pub returns-then-place-self-clause-after : goal.returns-then-place-self-clause-after

@@ -1,6 +1,5 @@
 use Rattle.std.proofs.Common.{◌<◌, sym, ◌∙◌, ap, arith}
-use Rattle.start_gap.specs.Rotation.{Rotation}
-use Rattle.start_gap.proofs.Turning.{place-stands, place-apart, place_by-before, place_by-behind}
+use Rattle.start_gap.{specs.Rotation.Rotation, proofs.Turning.{place-stands, place-apart, place_by-before, place_by-behind}}
 use Rattle.start_gap.proofs.Registers.place.Goals as goal
 
 pub returns-then-turned-self-clause-after : goal.returns-then-turned-self-clause-after

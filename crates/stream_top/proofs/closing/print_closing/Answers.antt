@@ -1,14 +1,10 @@
 use Rattle.std.proofs.Common.{◌∙◌, refl, sym, ap, subst, arith}
-use Rattle.std.specs.Prelude.{OnOk}
-use Rattle.std.specs.Io.KnownBytes.{Appends}
-use Rattle.pcm_io.specs.Giving.{AppendsPrefix}
-use Rattle.pcm_io.proofs.ByteLemmas.{Appends-nothing}
+use Rattle.std.specs.{Io.KnownBytes.Appends, Prelude.OnOk}
+use Rattle.pcm_io.{specs.Giving.AppendsPrefix, proofs.ByteLemmas.Appends-nothing}
 use Rattle.run_text.proofs.Gathered.{on_err, on_ok}
 use Rattle.image_laws.specs.Saving.{saved_of}
-use Rattle.image_text.specs.Sensing.{SensesRows, SensesSome}
-use Rattle.image_text.proofs.Sensing.{senses-none}
-use Rattle.module_prints.specs.Images.{WritesRows, kept_in}
-use Rattle.module_prints.specs.WearReports.{cells_at}
+use Rattle.image_text.{specs.Sensing.{SensesRows, SensesSome}, proofs.Sensing.senses-none}
+use Rattle.module_prints.specs.{Images.{WritesRows, kept_in}, WearReports.cells_at}
 use Rattle.stream_top.specs.Leaving.{senses_for}
 use Rattle.stream_top.proofs.EndText.{image-closes, lines-closes, no-image, nothing-closes, senses-nothing, snapshots-close, summary-bytes, summary-closes, wear-closes}
 use Rattle.stream_top.proofs.closing.print_closing.Goals as goal

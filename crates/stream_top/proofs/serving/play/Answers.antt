@@ -1,11 +1,8 @@
 use Rattle.std.proofs.Common.{◌≡◌, ◌∙◌, inl, Err, ap, sym}
 use Rattle.run_text.specs.Shortfall.{any_short}
 use Rattle.row_printer.specs.Printing.{table_told}
-use Rattle.row_stream.specs.Asking.{stays_off, with_cut}
-use Rattle.row_stream.specs.Ending.{EndsShowing}
-use Rattle.stream_top.specs.Streams.{is_off}
-use Rattle.stream_top.specs.declared.fault.Fault.TheVariants.{Write}
-use Rattle.stream_top.proofs.Playing.{done-short, done-whole, told-same}
+use Rattle.row_stream.specs.{Asking.{stays_off, with_cut}, Ending.EndsShowing}
+use Rattle.stream_top.{specs.Streams.is_off, specs.declared.fault.Fault.TheVariants.Write, proofs.Playing.{done-short, done-whole, told-same}}
 use Rattle.stream_top.proofs.serving.play.Goals as goal
 
 pub returns-in-Err-clause-part : goal.returns-in-Err-clause-part

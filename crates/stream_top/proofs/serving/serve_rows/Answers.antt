@@ -1,9 +1,6 @@
 use Rattle.std.proofs.Common.{◌≡◌, ◌∙◌, Err, ap, refl, sym, subst}
 use Rattle.command_line.specs.declared.job.Input.{Input}
-use Rattle.stream_top.specs.Calls.{source_between}
-use Rattle.stream_top.specs.Streams.{ComeFrom, HasCause, StopsBy}
-use Rattle.stream_top.specs.declared.fault.Fault.{Fault}
-use Rattle.stream_top.specs.declared.fault.Fault.TheVariants.{Write}
+use Rattle.stream_top.specs.{Calls.source_between, Streams.{ComeFrom, HasCause, StopsBy}, declared.fault.Fault.Fault, declared.fault.Fault.TheVariants.Write}
 use Rattle.stream_top.proofs.Playing.{only-output, stop-cause}
 use Rattle.stream_top.proofs.serving.serve_rows.Goals as goal
 

@@ -1,9 +1,7 @@
 use Rattle.std.proofs.Common.{◌≡◌, ◌∙◌, ◌≤◌, inl, Err, Ok, ap, refl, arith}
 use Rattle.bank_timing.proofs.Sizes.{timed_fits}
 use Rattle.program_calls.specs.Calls.{sink_change}
-use Rattle.stream_top.specs.Calls.{source_between}
-use Rattle.stream_top.specs.Leaving.{senses_for}
-use Rattle.stream_top.specs.Streams.{shown_by}
+use Rattle.stream_top.specs.{Calls.source_between, Leaving.senses_for, Streams.shown_by}
 use Rattle.stream_top.proofs.Keeping.{calm-done, calm-fault, never-failed, stream-breaks, stream-part, stream-stops, stream-whole}
 use Rattle.stream_top.proofs.serving.stream.Goals as goal
 

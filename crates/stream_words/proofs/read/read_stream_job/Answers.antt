@@ -1,12 +1,8 @@
 use Rattle.std.proofs.Common.{◌≡◌, ◌≢◌, map, sym, ap, ◌∙◌}
-use Rattle.std.specs.Prelude.{Err, string_bytes}
-use Rattle.std.proofs.lemmas.Result.{err_from_is_err_and}
+use Rattle.std.{specs.Prelude.{Err, string_bytes}, proofs.lemmas.Result.err_from_is_err_and}
 use Rattle.clap.specs.Words.{app_of, found_of, kind_of, rows_of}
-use Rattle.command_line.specs.Jobs.{or_usage}
-use Rattle.command_line.specs.declared.job.Refusal.TheVariants.{NoMemory}
-use Rattle.command_line.proofs.Reading.{ok-of, err-of, told-by, usage-by}
-use Rattle.stream_words.specs.Jobs.{stream_job_of}
-use Rattle.stream_words.proofs.Reading.{job-of-taken, job-of-refused, usage-or}
+use Rattle.command_line.{specs.Jobs.or_usage, specs.declared.job.Refusal.TheVariants.NoMemory, proofs.Reading.{ok-of, err-of, told-by, usage-by}}
+use Rattle.stream_words.{specs.Jobs.stream_job_of, proofs.Reading.{job-of-taken, job-of-refused, usage-or}}
 use Rattle.stream_words.proofs.read.read_stream_job.Goals as goal
 
 -- the answer is the job of the words

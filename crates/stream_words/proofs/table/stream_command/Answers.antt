@@ -1,9 +1,6 @@
 use Rattle.std.proofs.Common.{true, ap, ◌∙◌}
 use Rattle.std.specs.Prelude.{codes}
-use Rattle.clap.specs.Simple.{app_of_fields}
-use Rattle.clap.specs.Words.{App, with_rule}
-use Rattle.clap.specs.declared.builder.command.Command.{Command}
-use Rattle.clap.specs.declared.builder.command.Command.TheOpen.{Command-F}
+use Rattle.clap.specs.{Simple.app_of_fields, Words.{App, with_rule}, declared.builder.command.Command.Command, declared.builder.command.Command.TheOpen.Command-F}
 use Rattle.command_line.specs.Table.{option_rule}
 use Rattle.stream_words.specs.Table.{stream_app}
 use Rattle.stream_words.proofs.table.stream_command.Goals as goal

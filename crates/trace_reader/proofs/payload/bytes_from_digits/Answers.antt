@@ -1,8 +1,8 @@
 use Rattle.std.proofs.Common.{◌≡◌, ◌∙◌, sym, arith, rules}
 use Rattle.std.proofs.Math.ListN.{length-set}
 use Rattle.trace_reader.proofs.Table.{bytes_of-odd, bytes_of-other, bytes_of-read, bytes_of-bad, reads_digits-more}
-use Rattle.trace_reader.proofs.payload.bytes_from_digits.Goals as goal
 use Rattle.trace_reader.proofs.payload.bytes_from_digits.Goals.{then-text-ne0-via-then-text-ne0, then-text-ne0-via-else-text-ne0+then-text}
+use Rattle.trace_reader.proofs.payload.bytes_from_digits.Goals as goal
 
 pub returns-then-text-ne0 : goal.returns-then-text-ne0
 returns-then-text-ne0 g c =

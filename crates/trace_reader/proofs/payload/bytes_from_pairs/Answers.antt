@@ -1,9 +1,6 @@
 use Rattle.std.proofs.Common.{◌≡◌, ◌∙◌, ◌+◌, ◌*◌, true, false, Some, None, sym, ap, arith}
-use Rattle.std.specs.Prelude.{option_map}
-use Rattle.std.proofs.Math.ListN.{get_or, length-set}
-use Rattle.std.specs.List.{list_any}
-use Rattle.trace_reader.specs.Payload.{pair_of}
-use Rattle.trace_reader.proofs.Pairs.{masked_of-length, masked_of-bad, masked_of-done, reads_pairs-more}
+use Rattle.std.{specs.List.list_any, specs.Prelude.option_map, proofs.Math.ListN.{get_or, length-set}}
+use Rattle.trace_reader.{specs.Payload.pair_of, proofs.Pairs.{masked_of-length, masked_of-bad, masked_of-done, reads_pairs-more}}
 use Rattle.trace_reader.proofs.payload.bytes_from_pairs.Goals as goal
 
 pub returns-then-text-ne0 : goal.returns-then-text-ne0

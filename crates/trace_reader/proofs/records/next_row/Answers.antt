@@ -1,6 +1,6 @@
 use Rattle.trace_reader.proofs.Reading.{finds-next}
-use Rattle.csv.specs.Records.{fields_of}
 use Rattle.trace_reader.proofs.records.next_row.Goals as goal
+use Rattle.csv.specs.Records.{fields_of}
 
 pub returns-in-Ok-clause-found : goal.returns-in-Ok-clause-found
 returns-in-Ok-clause-found c = λ rows h.

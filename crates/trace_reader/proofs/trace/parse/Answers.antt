@@ -1,11 +1,9 @@
 use Rattle.std.proofs.Common.{sym, ◌∙◌, arith}
 use Rattle.std.proofs.lemmas.Result.{IfOk-weaker, MatchResult-weaker}
-use Rattle.csv.specs.Reading.{default_config, records, strip_bom}
-use Rattle.csv.specs.Records.{fields_of}
-use Rattle.trace_reader.proofs.Lawful.{trace_of-lawful}
-use Rattle.trace_reader.proofs.Traces.{header-missing, header-wrong, header-read}
-use Rattle.trace_reader.proofs.trace.parse.Goals as goal
+use Rattle.csv.specs.{Reading.{default_config, records, strip_bom}, Records.fields_of}
+use Rattle.trace_reader.proofs.{Lawful.trace_of-lawful, Traces.{header-missing, header-wrong, header-read}}
 use Rattle.trace_reader.proofs.trace.parse.Goals.{then-not-branch-via-then-not-branch, then-not-branch-via-else-not-branch+then-not-is_header_row}
+use Rattle.trace_reader.proofs.trace.parse.Goals as goal
 
 pub returns-then-not-branch-clause-err : goal.returns-then-not-branch-clause-err
 returns-then-not-branch-clause-err g c =

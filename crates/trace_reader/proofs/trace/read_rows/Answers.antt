@@ -1,7 +1,6 @@
 use Rattle.std.proofs.Common.{◌≡◌, ◌<◌, ◌+◌, ◌++◌, ◌∷◌, [], sym, arith, rules, vec_len}
 use Rattle.csv.specs.Records.{fields_of}
-use Rattle.trace_reader.specs.Trace.{rows_from}
-use Rattle.trace_reader.proofs.Traces.{begins, rows-end, row-faulty, row-read, rows-too_many}
+use Rattle.trace_reader.{specs.Trace.rows_from, proofs.Traces.{begins, rows-end, row-faulty, row-read, rows-too_many}}
 use Rattle.trace_reader.proofs.trace.read_rows.Goals as goal
 
 pub rows-init : goal.rows-init

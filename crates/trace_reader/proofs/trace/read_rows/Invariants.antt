@@ -1,7 +1,5 @@
 use Rattle.std.proofs.Common.{ℕ, List, ◌<◌, vec_len}
-use Rattle.trace_reader.specs.Records.{HasLeft}
-use Rattle.trace_reader.specs.Trace.{rows_from}
-use Rattle.trace_reader.proofs.Traces.{HasRead}
+use Rattle.trace_reader.{specs.Records.HasLeft, specs.Trace.rows_from, proofs.Traces.HasRead}
 use Rattle.trace_reader.proofs.trace.read_rows.Given as goal
 
 -- the rows so far were read

@@ -1,11 +1,8 @@
-use Rattle.std.specs.Prelude.{Err}
-use Rattle.trace_stream.specs.declared.fault.StreamFault.TheVariants.{Endless}
 use Rattle.std.proofs.Common.{ap, ◌≡◌, ◌++◌, ◌∷◌, [], ◌∙◌, rules, arith}
-use Rattle.std.proofs.lemmas.List.{length-append}
-use Rattle.std.proofs.lemmas.Result.{err_from_is_err_and}
-use Rattle.pcm_io.proofs.ByteLemmas.{Takes-Takes}
-use Rattle.trace_stream.proofs.Runs.{asked-all, asked-faulty, asked-first, asked-more}
+use Rattle.std.{specs.Prelude.Err, proofs.lemmas.List.length-append, proofs.lemmas.Result.err_from_is_err_and}
+use Rattle.trace_stream.{specs.declared.fault.StreamFault.TheVariants.Endless, proofs.Runs.{asked-all, asked-faulty, asked-first, asked-more}}
 use Rattle.trace_stream.proofs.whole.read_stream.Goals as goal
+use Rattle.pcm_io.proofs.ByteLemmas.{Takes-Takes}
 
 pub rows-init : goal.rows-init
 rows-init g c =

@@ -1,6 +1,5 @@
 use Rattle.std.proofs.Common.{◌≡◌, ◌-◌, ◌^◌, ℕ, List, true}
-use Rattle.std.specs.Prelude.{vec_len}
-use Rattle.std.specs.Io.KnownBytes.{IsAtEnd}
+use Rattle.std.specs.{Io.KnownBytes.IsAtEnd, Prelude.vec_len}
 use Rattle.pcm_io.specs.Taking.{Takes}
 use Rattle.trace_stream.proofs.Runs.{HasAsked}
 use Rattle.trace_stream.proofs.whole.read_stream.Given as goal

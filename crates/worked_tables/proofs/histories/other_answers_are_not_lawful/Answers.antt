@@ -1,7 +1,6 @@
 use Rattle.std.proofs.Common.{arith}
 use lib.Count.{count_trailing_zeros}
-use Rattle.ecp_line.specs.Reading.{decode}
-use Rattle.ecp_line.specs.Layout.{width, number, leading, active, source_below}
+use Rattle.ecp_line.specs.{Layout.{width, number, leading, active, source_below}, Reading.decode}
 use Rattle.cell_rows.specs.Rows.{cell}
 use Rattle.worked_tables.proofs.histories.other_answers_are_not_lawful.Goals as goal
 

@@ -1,10 +1,9 @@
 use Rattle.std.proofs.Common.{arith, ◌≡◌, ◌∷◌, []}
 use lib.Count.{count_trailing_zeros}
-use Rattle.ecp_line.specs.Reading.{decode}
-use Rattle.ecp_line.specs.Layout.{width, number, leading, active, source_below}
+use Rattle.ecp_line.specs.{Layout.{width, number, leading, active, source_below}, Reading.decode}
 use Rattle.cell_rows.specs.Rows.{cell}
-use Rattle.worked_tables.proofs.histories.other_senses_are_not_lawful.Goals as goal
 use Rattle.worked_tables.specs.HistoryExamples.{holds, whole}
+use Rattle.worked_tables.proofs.histories.other_senses_are_not_lawful.Goals as goal
 
 pub returns-clause-stores_other_bytes : goal.returns-clause-stores_other_bytes
 unfolding decode width number leading active source_below cell count_trailing_zeros

@@ -2,8 +2,7 @@ use Rattle.std.proofs.Common.{arith, ap}
 use Rattle.bank_model.specs.Timing.{is_doing}
 use Rattle.bank_shape.specs.declared.clock.Doing.TheVariants.{Serving, Beginning, Iterating}
 use lib.Count.{count_trailing_zeros}
-use Rattle.ecp_line.specs.Reading.{decode}
-use Rattle.ecp_line.specs.Layout.{width, number, leading, active, source_below}
+use Rattle.ecp_line.specs.{Layout.{width, number, leading, active, source_below}, Reading.decode}
 use Rattle.cell_rows.specs.Rows.{cell}
 use Rattle.worked_tables.proofs.histories.other_times_are_not_lawful.Goals as goal
 

@@ -1,7 +1,6 @@
 use Rattle.std.proofs.Common.{rules}
 use lib.Count.{count_trailing_zeros}
-use Rattle.ecp_line.specs.Reading.{decode}
-use Rattle.ecp_line.specs.Layout.{width, number, leading, active, source_below}
+use Rattle.ecp_line.specs.{Layout.{width, number, leading, active, source_below}, Reading.decode}
 use Rattle.cell_rows.specs.Rows.{cell}
 use Rattle.worked_tables.proofs.histories.worked_histories_are_lawful.Goals as goal
 

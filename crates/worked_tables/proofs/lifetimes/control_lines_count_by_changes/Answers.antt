@@ -1,7 +1,6 @@
 use Rattle.std.proofs.Common.{◌*◌, refl}
 use Rattle.lifetime_laws.specs.Works.{most_kept}
-use Rattle.worked_tables.specs.Lifetimes.{two_in_array, storing, always}
-use Rattle.worked_tables.proofs.Below.{each-less}
+use Rattle.worked_tables.{specs.Lifetimes.{two_in_array, storing, always}, proofs.Below.each-less}
 use Rattle.worked_tables.proofs.lifetimes.control_lines_count_by_changes.Goals as goal
 
 pub returns-clause-bears : goal.returns-clause-bears

@@ -1,13 +1,9 @@
 use Rattle.std.proofs.Common.{arith, ◌≡◌, ◌<◌, Some, sym, ap, subst, ◌∙◌}
-use Rattle.bank_shape.specs.Shape.{slots_of}
-use Rattle.power_recovery.specs.Kept.{target_slot}
-use Rattle.bank_shape.specs.declared.Work.{Work}
-use Rattle.bank_invariant.specs.State.{BankState}
-use Rattle.bank_core.specs.Running.{running_of, operation_of}
-use Rattle.bank_core.specs.Steps.{is_some_work}
 use Rattle.std.specs.Prelude.{ℕ, IsTrue}
-use Rattle.bank_core.proofs.Keeping.{ready}
-use Rattle.bank_core.proofs.Sizes.{bank_fits, running_fits}
+use Rattle.bank_shape.specs.{Shape.slots_of, declared.Work.Work}
+use Rattle.power_recovery.specs.Kept.{target_slot}
+use Rattle.bank_invariant.specs.State.{BankState}
+use Rattle.bank_core.{specs.Running.{running_of, operation_of}, specs.Steps.is_some_work, proofs.Keeping.ready, proofs.Sizes.{bank_fits, running_fits}}
 use Rattle.bank_core.proofs.bank.Bank.advance.Goals as goal
 
 pub step-progress-requires : goal.step-progress-requires

@@ -1,7 +1,6 @@
 use Rattle.std.proofs.Common.{◌≡◌, arith, slice_get, Some, ap, sym, ◌∙◌}
 use Rattle.std.specs.Option.{option_copied}
-use Rattle.bank_core.proofs.Within.{none-within}
-use Rattle.bank_core.proofs.Waits.{found_one, none_yet, none_at_all}
+use Rattle.bank_core.proofs.{Waits.{found_one, none_yet, none_at_all}, Within.none-within}
 use Rattle.bank_core.proofs.bank.Bank.awaits.Goals as goal
 
 pub returns-then-read-line : goal.returns-then-read-line

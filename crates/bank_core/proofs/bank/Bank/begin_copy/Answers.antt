@@ -1,16 +1,11 @@
 use Rattle.std.proofs.Common.{arith, ◌≡◌, ℕ, ◌∷◌, [], ◌≤◌, ◌<◌, None, false, sym, ap, subst, ◌∙◌}
 use Rattle.cell_rows.specs.Device.{ArrayState, LineState}
-use Rattle.bank_shape.specs.declared.BankShape.{BankShape}
-use Rattle.bank_shape.specs.Shape.{slots_of, slot_at}
+use Rattle.bank_shape.specs.{Shape.{slots_of, slot_at}, declared.BankShape.BankShape}
 use Rattle.power_recovery.specs.Kept.{array_line}
-use Rattle.bank_model.specs.Touching.{Touches}
+use Rattle.bank_model.{specs.Touching.Touches, proofs.Touched.{touches-sense, touches-both}}
 use Rattle.bank_invariant.specs.State.{BankState}
 use Rattle.ecp_line.specs.Reading.{IsSoundLine}
-use Rattle.bank_core.specs.Running.{operation_of}
-use Rattle.bank_core.specs.Beginning.{IsOfSoundLine}
-use Rattle.bank_core.proofs.Begun.{copy-within, place-so, slot-sound}
-use Rattle.bank_model.proofs.Touched.{touches-sense, touches-both}
-use Rattle.bank_core.proofs.Sizes.{bank_fits, cells_fits}
+use Rattle.bank_core.{specs.Beginning.IsOfSoundLine, specs.Running.operation_of, proofs.Begun.{copy-within, place-so, slot-sound}, proofs.Sizes.{bank_fits, cells_fits}}
 use Rattle.bank_core.proofs.bank.Bank.begin_copy.Goals as goal
 
 pub start_copy-requires : goal.start_copy-requires

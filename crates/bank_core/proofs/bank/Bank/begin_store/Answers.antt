@@ -1,13 +1,9 @@
 use Rattle.std.proofs.Common.{arith, ◌≡◌, ℕ, ◌∷◌, [], None, false, sym, subst}
 use Rattle.power_recovery.specs.Kept.{array_line}
-use Rattle.bank_model.specs.Touching.{Touches}
+use Rattle.bank_model.{specs.Touching.Touches, proofs.Touched.touches-sense}
 use Rattle.bank_invariant.specs.State.{BankState}
 use Rattle.ecp_line.specs.Reading.{IsSoundLine}
-use Rattle.bank_core.specs.Running.{operation_of}
-use Rattle.bank_core.specs.Beginning.{IsOfSoundLine}
-use Rattle.bank_core.proofs.Begun.{store-slot, store-sound}
-use Rattle.bank_model.proofs.Touched.{touches-sense}
-use Rattle.bank_core.proofs.Sizes.{bank_fits, cells_fits, kept_fits}
+use Rattle.bank_core.{specs.Beginning.IsOfSoundLine, specs.Running.operation_of, proofs.Begun.{store-slot, store-sound}, proofs.Sizes.{bank_fits, cells_fits, kept_fits}}
 use Rattle.bank_core.proofs.bank.Bank.begin_store.Goals as goal
 
 pub array_line-target-requires : goal.array_line-target-requires

@@ -1,11 +1,7 @@
 use Rattle.std.proofs.Common.{arith, ◌≡◌, ◌∷◌, ap, sym, subst, ◌∙◌}
 use Rattle.bank_model.specs.Events.{Cut}
-use Rattle.bank_invariant.specs.State.{BankState}
-use Rattle.bank_invariant.specs.Holds.{Holds}
-use Rattle.bank_invariant.specs.Steps.{cut_off}
-use Rattle.bank_core.specs.Cutting.{reads_lost}
-use Rattle.bank_core.proofs.Cuts.{cut_holds, cut_tied, cut-is}
-use Rattle.bank_core.proofs.Touched.{touches-cut}
+use Rattle.bank_invariant.specs.{Holds.Holds, State.BankState, Steps.cut_off}
+use Rattle.bank_core.{specs.Cutting.reads_lost, proofs.Cuts.{cut_holds, cut_tied, cut-is}, proofs.Touched.touches-cut}
 use Rattle.bank_core.proofs.bank.Bank.cut.Goals as goal
 
 pub returns-clause-tied : goal.returns-clause-tied

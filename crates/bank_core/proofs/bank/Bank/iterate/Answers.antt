@@ -1,6 +1,5 @@
 use Rattle.std.proofs.Common.{arith}
-use Rattle.bank_core.proofs.Keeping.{stepped-tied, stepped-holds}
-use Rattle.bank_core.proofs.Touched.{touches-iteration}
+use Rattle.bank_core.proofs.{Keeping.{stepped-tied, stepped-holds}, Touched.touches-iteration}
 use Rattle.bank_core.proofs.bank.Bank.iterate.Goals as goal
 
 pub returns-clause-tied : goal.returns-clause-tied

@@ -1,8 +1,7 @@
 use Rattle.std.proofs.Common.{◌≡◌, ◌∷◌, [], None, arith, refl, ap, ◌∙◌, length, slice_get, length-append}
-use Rattle.bank_core.proofs.Answering.{IsBank-drop}
-use Rattle.bank_core.proofs.Losing.{rows_with, lose-fewer, lose-one, lose-some, lose-none, lose-all}
-use Rattle.bank_core.proofs.bank.Bank.lose_reads.Goals as goal
+use Rattle.bank_core.proofs.{Answering.IsBank-drop, Losing.{rows_with, lose-fewer, lose-one, lose-some, lose-none, lose-all}}
 use Rattle.bank_core.proofs.bank.Bank.lose_reads.Goals.{in-Some+in-Ok, in_default}
+use Rattle.bank_core.proofs.bank.Bank.lose_reads.Goals as goal
 
 pub loop-preserved : goal.loop-preserved
 loop-preserved g c =

@@ -1,6 +1,5 @@
 use Rattle.std.proofs.Common.{◌≡◌, ◌+◌, ◌≤◌, length}
-use Rattle.bank_core.specs.Bank.{IsBank}
-use Rattle.bank_core.proofs.Losing.{rows_with}
+use Rattle.bank_core.{specs.Bank.IsBank, proofs.Losing.rows_with}
 use Rattle.bank_core.proofs.bank.Bank.lose_reads.Given as goal
 
 -- the rows of those that wait still come behind the rows that are lost by now

@@ -1,12 +1,9 @@
 use Rattle.std.proofs.Common.{◌≡◌, true, false, refl, arith, length, ◌<◌}
-use Rattle.masked_bytes.specs.Masked.{gives_all}
-use Rattle.masked_bytes.specs.Entries.{layer_of}
+use Rattle.masked_bytes.specs.{Entries.layer_of, Masked.gives_all}
 use Rattle.bank_shape.specs.declared.answer.ReadAnswer.TheVariants as came
 use Rattle.bank_invariant.specs.State.{BankState}
-use Rattle.bank_core.specs.Running.{operation_of}
-use Rattle.bank_core.proofs.Answering.{read_law, read_tied, from_queue, to_wait, to_refuse, IsBank-push}
+use Rattle.bank_core.{specs.Running.operation_of, proofs.Answering.{read_law, read_tied, from_queue, to_wait, to_refuse, IsBank-push}, proofs.bank.Bank.read.Goals.{in-Ok, in-Err}}
 use Rattle.bank_core.proofs.bank.Bank.read.Goals as goal
-use Rattle.bank_core.proofs.bank.Bank.read.Goals.{in-Ok, in-Err}
 
 pub returns-then-has_all-clause-holds : goal.returns-then-has_all-clause-holds
 returns-then-has_all-clause-holds g c =

@@ -1,7 +1,6 @@
 use Rattle.std.proofs.Common.{refl, ap}
 use Rattle.power_recovery.specs.Kept.{KeptState}
-use Rattle.bank_core.proofs.Sizes.{kept_fits}
-use Rattle.bank_core.proofs.Restored.{IsBank-by_shape}
+use Rattle.bank_core.proofs.{Restored.IsBank-by_shape, Sizes.kept_fits}
 use Rattle.bank_core.proofs.bank.Bank.restore_mark.Goals as goal
 
 pub restore_mark-requires : goal.restore_mark-requires

@@ -1,19 +1,14 @@
 use Rattle.std.proofs.Common.{arith, ◌≡◌, ℕ, ◌<◌, List, drop, slice_get, Some, sym, ap, ◌∙◌}
 use Rattle.masked_bytes.specs.Masked.{laid}
-use Rattle.cell_rows.specs.declared.row.Cells.{Cells}
-use Rattle.cell_rows.specs.Device.{ArrayState}
+use Rattle.cell_rows.specs.{Device.ArrayState, declared.row.Cells.Cells}
 use Rattle.ecp_line.specs.Reading.{decode}
-use Rattle.power_recovery.specs.Slots.{bank_lines}
-use Rattle.power_recovery.specs.Kept.{array_line, stands_at}
+use Rattle.power_recovery.specs.{Kept.{array_line, stands_at}, Slots.bank_lines}
 use Rattle.bank_shape.specs.declared.waiting.Waiting.{Waiting}
-use Rattle.bank_invariant.specs.State.{BankState}
-use Rattle.bank_invariant.proofs.Awaiting.{StandsAs-sensed}
-use Rattle.bank_core.specs.Running.{operation_of}
-use Rattle.bank_core.proofs.Answering.{IsBank-drop, serve_tied, serve_law, first_of, answers}
+use Rattle.bank_invariant.{specs.State.BankState, proofs.Awaiting.StandsAs-sensed}
+use Rattle.bank_core.{specs.Running.operation_of, proofs.Answering.{IsBank-drop, serve_tied, serve_law, first_of, answers}, proofs.Sizes.{bytes_fits, cells_fits, kept_fits}}
 use Rattle.bank_core.proofs.Within.{All-found}
-use Rattle.bank_model.proofs.Touched.{touches-sense}
-use Rattle.bank_core.proofs.Sizes.{bytes_fits, cells_fits, kept_fits}
 use Rattle.bank_core.proofs.bank.Bank.serve.Goals as goal
+use Rattle.bank_model.proofs.Touched.{touches-sense}
 
 pub invariant_of-self : goal.invariant_of-self
 invariant_of-self g c = rw c.pop_front.ensures.items (IsBank-drop g.row.M g.row.E c.self.inside.kept c.self.inside.waiting.items _ _ c.self.invariant)

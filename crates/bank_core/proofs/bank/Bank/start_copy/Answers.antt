@@ -1,6 +1,5 @@
 use Rattle.std.proofs.Common.{refl, sym}
-use Rattle.bank_core.proofs.Begun.{begins-copy}
-use Rattle.bank_core.proofs.Sizes.{bank_fits, bytes_fits, cells_fits, running_fits, writer_fits}
+use Rattle.bank_core.proofs.{Begun.begins-copy, Sizes.{bank_fits, bytes_fits, cells_fits, running_fits, writer_fits}}
 use Rattle.bank_core.proofs.bank.Bank.start_copy.Goals as goal
 
 pub returns : goal.returns

@@ -1,10 +1,6 @@
 use Rattle.std.proofs.Common.{arith, ◌≡◌, refl, sym, ap, ◌∙◌}
-use Rattle.power_recovery.specs.Kept.{KeptState, next_work}
-use Rattle.power_recovery.proofs.Frames.{next_work-completed}
-use Rattle.bank_core.specs.Running.{operation_of}
-use Rattle.bank_core.proofs.Answering.{IsBank-completed}
-use Rattle.bank_core.proofs.Begun.{begins-store}
-use Rattle.bank_core.proofs.Heads.{store-head-completed}
+use Rattle.power_recovery.{specs.Kept.{KeptState, next_work}, proofs.Frames.next_work-completed}
+use Rattle.bank_core.{specs.Running.operation_of, proofs.Answering.IsBank-completed, proofs.Begun.begins-store, proofs.Heads.store-head-completed}
 use Rattle.bank_core.proofs.Sizes.{bank_fits, bytes_fits, cells_fits, running_fits, writer_fits}
 use Rattle.bank_core.proofs.bank.Bank.start_store.Goals as goal
 

@@ -1,10 +1,7 @@
 use Rattle.std.proofs.Common.{arith, ◌≡◌, Option, None, Some, ap, sym, subst}
-use Rattle.bank_invariant.specs.State.{BankState, Operation}
-use Rattle.bank_core.specs.Running.{operation_of}
-use Rattle.bank_core.proofs.Cuts.{tearable}
 use Rattle.std.specs.Prelude.{IfSome}
-use Rattle.bank_core.specs.Cutting.{IsTorn}
-use Rattle.bank_core.proofs.Sizes.{writer_fits}
+use Rattle.bank_invariant.specs.State.{BankState, Operation}
+use Rattle.bank_core.{specs.Cutting.IsTorn, specs.Running.operation_of, proofs.Cuts.tearable, proofs.Sizes.writer_fits}
 use Rattle.bank_core.proofs.bank.Bank.stop.Goals.{in-Some+then-tearing, in-Some+else-tearing, in_default}
 use Rattle.bank_core.proofs.bank.Bank.stop.Goals as goal
 

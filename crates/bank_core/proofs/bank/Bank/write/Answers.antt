@@ -2,9 +2,7 @@ use Rattle.std.proofs.Common.{arith, ◌≡◌, true, false}
 use Rattle.masked_bytes.specs.declared.entry.Entry.{Entry}
 use Rattle.bank_shape.specs.declared.answer.WriteAnswer.TheVariants as wrote
 use Rattle.bank_invariant.specs.State.{BankState}
-use Rattle.bank_core.specs.Running.{operation_of}
-use Rattle.bank_core.proofs.Writing.{write_law, write_worn, taken_law, taken_holds, taken_tied, merged_there}
-use Rattle.bank_core.proofs.Sizes.{bank_fits}
+use Rattle.bank_core.{specs.Running.operation_of, proofs.Sizes.bank_fits, proofs.Writing.{write_law, write_worn, taken_law, taken_holds, taken_tied, merged_there}}
 use Rattle.bank_core.proofs.bank.Bank.write.Goals as goal
 
 pub returns-then-exhausted-clause-holds : goal.returns-then-exhausted-clause-holds

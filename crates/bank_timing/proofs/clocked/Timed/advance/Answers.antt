@@ -1,8 +1,6 @@
 use Rattle.std.proofs.Common.{arith, refl, sym, ◌∙◌, le_antisymm, ◌≤◌}
 use Rattle.clock_laws.specs.State.{ClockState}
-use Rattle.bank_timing.proofs.Sizes.{timed_fits}
-use Rattle.bank_timing.proofs.Acting.{begun-before}
-use Rattle.bank_timing.proofs.Running.{le-same, before-drain, ends-by, first-fits, ran-none, ran-more, ran-pass, ran-others}
+use Rattle.bank_timing.proofs.{Acting.begun-before, Running.{le-same, before-drain, ends-by, first-fits, ran-none, ran-more, ran-pass, ran-others}, Sizes.timed_fits}
 use Rattle.bank_timing.proofs.clocked.Timed.advance.Goals as goal
 
 pub loop-self-init : goal.loop-self-init

@@ -1,11 +1,8 @@
 use Rattle.std.proofs.Common.{◌≡◌, sym, ap, ◌∙◌, refl}
-use Rattle.bank_core.specs.Arriving.{answer_of}
-use Rattle.bank_core.specs.declared.arriving.Arrived.{Arrived}
+use Rattle.bank_core.specs.{Arriving.answer_of, declared.arriving.Arrived.Arrived}
 use Rattle.bank_core.specs.declared.arriving.Arrived.TheVariants as arrived
-use Rattle.bank_timing.proofs.Sizes.{bank_fits, timed_fits, outcome_fits, entry_fits}
-use Rattle.bank_timing.proofs.Views.{clock_of}
-use Rattle.bank_timing.proofs.WriteArrivals.{TakesWrite, write-arrives, write-clock, merge-unset, merge-room, accept-room}
-use Rattle.bank_timing.proofs.clocked.Timed.arrive_write.Given.{Over}
+use Rattle.bank_timing.proofs.{Sizes.{bank_fits, timed_fits, outcome_fits, entry_fits}, Views.clock_of}
+use Rattle.bank_timing.proofs.{WriteArrivals.{TakesWrite, write-arrives, write-clock, merge-unset, merge-room, accept-room}, clocked.Timed.arrive_write.Given.Over}
 use Rattle.bank_timing.proofs.clocked.Timed.arrive_write.Goals.{After-write}
 use Rattle.bank_timing.proofs.clocked.Timed.arrive_write.Goals as goal
 

@@ -1,8 +1,5 @@
 use Rattle.std.proofs.Common.{arith}
-use Rattle.bank_timing.proofs.Sizes.{regs_fits}
-use Rattle.bank_timing.proofs.Views.{clock_of}
-use Rattle.bank_timing.proofs.Due.{due-stands, due-begun}
-use Rattle.bank_timing.proofs.Keeps.{keep-begin-ready, keep-begun, keep-begun-cancels, keep-idle}
+use Rattle.bank_timing.proofs.{Due.{due-stands, due-begun}, Keeps.{keep-begin-ready, keep-begun, keep-begun-cancels, keep-idle}, Sizes.regs_fits, Views.clock_of}
 use Rattle.bank_timing.proofs.clocked.Timed.begin_change.Goals as goal
 
 pub ends-self-inside-requires : goal.ends-self-inside-requires

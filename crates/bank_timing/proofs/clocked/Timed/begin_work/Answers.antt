@@ -1,14 +1,8 @@
 use Rattle.std.proofs.Common.{◌≡◌, sym, ap, ◌∙◌, refl, arith}
 use Rattle.bank_model.specs.Timing.{ends}
 use Rattle.clock_laws.specs.Putting.{item_by}
-use Rattle.bank_timing.specs.Completing.{item_from}
-use Rattle.bank_timing.proofs.Sizes.{bank_fits, timed_fits, kept_fits}
-use Rattle.bank_timing.proofs.Views.{clock_of}
-use Rattle.bank_timing.proofs.Due.{due, due-begun}
-use Rattle.bank_timing.proofs.Changes.{PutReady, put-ready, begun-clock}
-use Rattle.bank_timing.proofs.LineWrites.{Steps}
-use Rattle.bank_timing.proofs.Begins.{begin-ready, begun-steps, begun-item, begun-whole}
-use Rattle.bank_timing.proofs.clocked.Timed.begin_work.Given.{Over}
+use Rattle.bank_timing.{specs.Completing.item_from, proofs.Begins.{begin-ready, begun-steps, begun-item, begun-whole}, proofs.Changes.{PutReady, put-ready, begun-clock}}
+use Rattle.bank_timing.proofs.{Due.{due, due-begun}, LineWrites.Steps, Sizes.{bank_fits, timed_fits, kept_fits}, Views.clock_of, clocked.Timed.begin_work.Given.Over}
 use Rattle.bank_timing.proofs.clocked.Timed.begin_work.Goals.{After-begin-step}
 use Rattle.bank_timing.proofs.clocked.Timed.begin_work.Goals as goal
 

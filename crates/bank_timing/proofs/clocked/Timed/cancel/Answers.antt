@@ -1,7 +1,5 @@
 use Rattle.std.proofs.Common.{length, is_some, sym, ap, ◌∙◌, arith}
-use Rattle.bank_timing.proofs.Sizes.{bank_fits, regs_fits}
-use Rattle.bank_timing.proofs.Views.{clock_of}
-use Rattle.bank_timing.proofs.Cancels.{few-cancels, cancel-ready, cancel-change-ready, cancels-work, cancels-change}
+use Rattle.bank_timing.proofs.{Cancels.{few-cancels, cancel-ready, cancel-change-ready, cancels-work, cancels-change}, Sizes.{bank_fits, regs_fits}, Views.clock_of}
 use Rattle.bank_timing.proofs.clocked.Timed.cancel.Goals as goal
 
 pub overflow_add-self : goal.overflow_add-self

@@ -1,9 +1,6 @@
 use Rattle.std.proofs.Common.{true, refl}
-use Rattle.clock_laws.specs.State.{ClockState}
-use Rattle.clock_laws.proofs.Draining.{resting_registers_law}
-use Rattle.bank_timing.proofs.Sizes.{bank_fits, kept_fits}
-use Rattle.bank_timing.proofs.Drains.{queueable, drains, drain-others}
-use Rattle.bank_timing.proofs.Lawful.{keeps-laws}
+use Rattle.clock_laws.{specs.State.ClockState, proofs.Draining.resting_registers_law}
+use Rattle.bank_timing.proofs.{Drains.{queueable, drains, drain-others}, Lawful.keeps-laws, Sizes.{bank_fits, kept_fits}}
 use Rattle.bank_timing.proofs.clocked.Timed.drain.Goals as goal
 
 pub kept-requires : goal.kept-requires

@@ -1,8 +1,6 @@
 use Rattle.std.proofs.Common.{arith}
-use Rattle.bank_timing.proofs.Sizes.{regs_fits}
+use Rattle.bank_timing.proofs.{Due.{due-stands, due-begun}, Keeps.{keep-iterate-ready, keep-iterated, keep-iterated-cancels, not-halted, keep-idle}, Sizes.regs_fits}
 use Rattle.bank_timing.proofs.Views.{clock_of}
-use Rattle.bank_timing.proofs.Due.{due-stands, due-begun}
-use Rattle.bank_timing.proofs.Keeps.{keep-iterate-ready, keep-iterated, keep-iterated-cancels, not-halted, keep-idle}
 use Rattle.bank_timing.proofs.clocked.Timed.iterate_change.Goals as goal
 
 pub ends-self-inside-requires : goal.ends-self-inside-requires

@@ -1,15 +1,9 @@
 use Rattle.std.proofs.Common.{◌≡◌, sym, ap, ◌∙◌, refl, arith}
 use Rattle.bank_model.specs.Timing.{ends}
 use Rattle.clock_laws.specs.Putting.{item_by}
-use Rattle.bank_timing.specs.Completing.{item_from}
-use Rattle.bank_timing.proofs.Sizes.{bank_fits, timed_fits, kept_fits}
-use Rattle.bank_timing.proofs.Views.{clock_of}
-use Rattle.bank_timing.proofs.Due.{due, due-begun}
-use Rattle.bank_timing.proofs.Changes.{PutReady, put-ready, iterated-clock}
-use Rattle.bank_timing.proofs.LineWrites.{Steps}
-use Rattle.bank_timing.proofs.Iterations.{iterate-ready, iterated-steps, iterated-item, iterated-whole}
-use Rattle.bank_timing.proofs.clocked.Timed.iterate_work.Given.{Over}
-use Rattle.bank_timing.proofs.clocked.Timed.iterate_work.Goals.{After-iterate-step}
+use Rattle.bank_timing.{specs.Completing.item_from, proofs.Changes.{PutReady, put-ready, iterated-clock}, proofs.Due.{due, due-begun}}
+use Rattle.bank_timing.proofs.{Iterations.{iterate-ready, iterated-steps, iterated-item, iterated-whole}, LineWrites.Steps, Sizes.{bank_fits, timed_fits, kept_fits}}
+use Rattle.bank_timing.proofs.{Views.clock_of, clocked.Timed.iterate_work.Given.Over, clocked.Timed.iterate_work.Goals.After-iterate-step}
 use Rattle.bank_timing.proofs.clocked.Timed.iterate_work.Goals as goal
 
 pub ends-self-inside-requires : goal.ends-self-inside-requires

@@ -1,12 +1,9 @@
 use Rattle.std.proofs.Common.{◌≡◌, ℕ, List, drop, slice_get, Some, None, refl, sym, ap, subst, ◌∙◌}
 use Rattle.clock_laws.specs.State.{ClockState}
-use Rattle.bank_timing.specs.Clock.{IsClock}
-use Rattle.bank_timing.specs.Losing.{with_lost}
-use Rattle.bank_core.specs.Steps.{lost_taken}
-use Rattle.bank_timing.specs.declared.clocked.Timed.TheInside.{Inside}
+use Rattle.bank_timing.{specs.Clock.IsClock, specs.Losing.with_lost, specs.declared.clocked.Timed.TheInside.Inside, proofs.Losses.{lose-next, lose-none, lost-clock, view_by}}
 use Rattle.bank_timing.proofs.Sizes.{bank_fits, outcome_fits}
-use Rattle.bank_timing.proofs.Losses.{lose-next, lose-none, lost-clock, view_by}
 use Rattle.bank_timing.proofs.clocked.Timed.lose.Goals as goal
+use Rattle.bank_core.specs.Steps.{lost_taken}
 
 pub loop-row-init : goal.loop-row-init
 loop-row-init g c =

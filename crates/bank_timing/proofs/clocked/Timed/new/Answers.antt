@@ -1,8 +1,6 @@
 use Rattle.std.proofs.Common.{subst, [], arith}
-use Rattle.bank_invariant.specs.State.{BankState}
-use Rattle.bank_invariant.specs.Holds.{Holds}
-use Rattle.bank_timing.proofs.Sizes.{bank_fits, regs_fits}
-use Rattle.bank_timing.proofs.Firsts.{first_leads, wide-controls, controls-fit}
+use Rattle.bank_invariant.specs.{Holds.Holds, State.BankState}
+use Rattle.bank_timing.proofs.{Firsts.{first_leads, wide-controls, controls-fit}, Sizes.{bank_fits, regs_fits}}
 use Rattle.bank_timing.proofs.clocked.Timed.new.Goals as goal
 
 pub new-requires : goal.new-requires

@@ -1,20 +1,12 @@
 use Rattle.std.proofs.Common.{arith, ◌≡◌, ◌&&◌, not, None, false, List, [], ◌∷◌, length, is_some, ap, subst, refl}
 use Rattle.bank_shape.specs.declared.clock.Doing.TheVariants.{Iterating}
-use Rattle.bank_model.specs.Changes.{all_controls}
-use Rattle.bank_model.specs.Events.{BankEvent, Cut}
-use Rattle.bank_model.specs.Timing.{is_doing}
-use Rattle.bank_model.specs.Touching.{Touches}
-use Rattle.clock_laws.specs.State.{ClockState}
-use Rattle.clock_laws.specs.Cutting.{after_cut}
-use Rattle.bank_invariant.specs.Holds.{Holds}
-use Rattle.bank_invariant.specs.Steps.{cut_off}
-use Rattle.reg_lines.specs.Regs.{AreHeld}
-use Rattle.reg_lines.specs.Keeping.{broken_off}
+use Rattle.bank_model.specs.{Changes.all_controls, Events.{BankEvent, Cut}, Timing.is_doing, Touching.Touches}
+use Rattle.clock_laws.specs.{Cutting.after_cut, State.ClockState}
+use Rattle.bank_invariant.specs.{Holds.Holds, Steps.cut_off}
+use Rattle.reg_lines.specs.{Keeping.broken_off, Regs.AreHeld}
 use Rattle.bank_timing.specs.Losing.{bank_with_lost, lost_recorded}
-use Rattle.bank_timing.proofs.Sizes.{bank_fits, regs_fits, timed_fits}
-use Rattle.bank_timing.proofs.Views.{clock_of}
 use Rattle.bank_timing.proofs.Losses.{meets, cut-ready, cut-change-ready, cut-open, cut-unset, cut-control, broken-control, cut-extends, cut-others, CutExtends, rows_of}
-use Rattle.bank_timing.proofs.clocked.Timed.power_cut.Given.{Over}
+use Rattle.bank_timing.proofs.{Sizes.{bank_fits, regs_fits, timed_fits}, Views.clock_of, clocked.Timed.power_cut.Given.Over}
 use Rattle.bank_timing.proofs.clocked.Timed.power_cut.Goals.{After-tears_change-change, After-lose, After-read_back}
 use Rattle.bank_timing.proofs.clocked.Timed.power_cut.Goals as goal
 

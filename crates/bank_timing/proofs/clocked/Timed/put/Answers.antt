@@ -1,6 +1,5 @@
 use Rattle.std.proofs.Common.{arith, ◌≡◌, ◌<◌, None, sym, ◌∙◌}
-use Rattle.bank_timing.proofs.Sizes.{bank_fits, regs_fits, kept_fits}
-use Rattle.bank_timing.proofs.Acting.{some-of}
+use Rattle.bank_timing.proofs.{Acting.some-of, Sizes.{bank_fits, regs_fits, kept_fits}}
 use Rattle.bank_timing.proofs.clocked.Timed.put.Goals as goal
 
 pub kept-requires : goal.kept-requires

@@ -1,10 +1,7 @@
 use Rattle.std.proofs.Common.{arith, ◌≡◌, refl, ap}
 use Rattle.bank_invariant.specs.State.{BankState}
 use Rattle.register_laws.specs.Recovering.{IsReadable}
-use Rattle.bank_timing.proofs.Sizes.{bank_fits, regs_fits, kept_fits}
-use Rattle.bank_timing.proofs.Recovers.{same-bank, on-lines}
-use Rattle.bank_timing.proofs.Sensing.{senses-none}
-use Rattle.bank_timing.proofs.clocked.Timed.read_back.Given.{Over}
+use Rattle.bank_timing.proofs.{Recovers.{same-bank, on-lines}, Sensing.senses-none, Sizes.{bank_fits, regs_fits, kept_fits}, clocked.Timed.read_back.Given.Over}
 use Rattle.bank_timing.proofs.clocked.Timed.read_back.Goals.{After-strip, After-recover}
 use Rattle.bank_timing.proofs.clocked.Timed.read_back.Goals as goal
 

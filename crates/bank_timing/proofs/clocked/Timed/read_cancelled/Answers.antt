@@ -1,15 +1,9 @@
 use Rattle.std.proofs.Common.{[], ◌∷◌, sym, ap, subst, ◌∙◌}
 use Rattle.bank_model.specs.Events.{Read}
-use Rattle.bank_invariant.specs.Serving.{read_from}
+use Rattle.bank_invariant.specs.{Serving.read_from, State.BankState}
 use Rattle.clock_laws.specs.State.{ClockState}
-use Rattle.bank_timing.specs.Cancelling.{cancel_by}
-use Rattle.bank_timing.specs.Extending.{Arrives}
-use Rattle.bank_timing.proofs.Sizes.{bank_fits, read_fits}
-use Rattle.bank_timing.proofs.Views.{clock_of}
-use Rattle.bank_invariant.specs.State.{BankState}
-use Rattle.bank_timing.proofs.ReadArrivals.{read-keeps}
-use Rattle.bank_timing.proofs.Cancels.{CancelsRead, cancels-read, with_bank, cancel-arrives, behind-cancel}
-use Rattle.bank_timing.proofs.clocked.Timed.read_cancelled.Given.{Over}
+use Rattle.bank_timing.{specs.Cancelling.cancel_by, specs.Extending.Arrives, proofs.Cancels.{CancelsRead, cancels-read, with_bank, cancel-arrives, behind-cancel}}
+use Rattle.bank_timing.proofs.{ReadArrivals.read-keeps, Sizes.{bank_fits, read_fits}, Views.clock_of, clocked.Timed.read_cancelled.Given.Over}
 use Rattle.bank_timing.proofs.clocked.Timed.read_cancelled.Goals.{After-cancel, After-read}
 use Rattle.bank_timing.proofs.clocked.Timed.read_cancelled.Goals as goal
 

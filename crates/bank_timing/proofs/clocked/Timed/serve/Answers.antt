@@ -1,8 +1,5 @@
 use Rattle.std.proofs.Common.{arith, refl}
-use Rattle.bank_timing.proofs.Sizes.{bank_fits, served_fits, outcome_fits}
-use Rattle.bank_timing.proofs.Views.{clock_of}
-use Rattle.bank_timing.proofs.Due.{due, due-begun}
-use Rattle.bank_timing.proofs.Serves.{serve-ready, serve-unset, serve-whole}
+use Rattle.bank_timing.proofs.{Due.{due, due-begun}, Serves.{serve-ready, serve-unset, serve-whole}, Sizes.{bank_fits, served_fits, outcome_fits}, Views.clock_of}
 use Rattle.bank_timing.proofs.clocked.Timed.serve.Goals as goal
 
 pub ends-self-inside-requires : goal.ends-self-inside-requires

@@ -1,10 +1,6 @@
 use Rattle.std.proofs.Common.{◌≤◌, refl, subst, sym, ◌∙◌}
-use Rattle.clock_laws.specs.State.{ClockState}
-use Rattle.clock_laws.specs.Remaining.{actions_left}
-use Rattle.bank_timing.proofs.Sizes.{timed_fits}
-use Rattle.bank_timing.proofs.Acting.{begun-before}
-use Rattle.bank_timing.proofs.Running.{down-none, down-more}
-use Rattle.bank_timing.proofs.Settling.{few-actions, enough, ends-soon, spent, within-of}
+use Rattle.clock_laws.specs.{Remaining.actions_left, State.ClockState}
+use Rattle.bank_timing.proofs.{Acting.begun-before, Running.{down-none, down-more}, Settling.{few-actions, enough, ends-soon, spent, within-of}, Sizes.timed_fits}
 use Rattle.bank_timing.proofs.clocked.Timed.settle.Goals as goal
 
 pub loop-action-init : goal.loop-action-init

@@ -1,6 +1,4 @@
-use Rattle.bank_timing.proofs.Sizes.{bank_fits, kept_fits}
-use Rattle.bank_timing.proofs.Drains.{stop-queueable, stops, stop-others}
-use Rattle.bank_timing.proofs.Views.{clock_of}
+use Rattle.bank_timing.proofs.{Drains.{stop-queueable, stops, stop-others}, Sizes.{bank_fits, kept_fits}, Views.clock_of}
 use Rattle.bank_timing.proofs.clocked.Timed.stop.Goals as goal
 
 pub kept-requires : goal.kept-requires

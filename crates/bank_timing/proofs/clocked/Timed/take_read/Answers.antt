@@ -1,11 +1,8 @@
 use Rattle.std.proofs.Common.{◌≡◌, sym, ◌∙◌, refl}
 use Rattle.bank_shape.specs.declared.answer.ReadAnswer.{ReadAnswer}
 use Rattle.bank_shape.specs.declared.answer.ReadAnswer.TheVariants as came
-use Rattle.bank_timing.proofs.Sizes.{bank_fits, outcome_fits, read_fits, timed_fits}
-use Rattle.bank_timing.proofs.Views.{clock_of}
-use Rattle.bank_timing.proofs.ReadArrivals.{TakesRead, read-arrives, read-clock}
-use Rattle.bank_timing.proofs.clocked.Timed.take_read.Given.{Over}
-use Rattle.bank_timing.proofs.clocked.Timed.take_read.Goals.{After-read}
+use Rattle.bank_timing.proofs.{ReadArrivals.{TakesRead, read-arrives, read-clock}, Sizes.{bank_fits, outcome_fits, read_fits, timed_fits}, Views.clock_of}
+use Rattle.bank_timing.proofs.{clocked.Timed.take_read.Given.Over, clocked.Timed.take_read.Goals.After-read}
 use Rattle.bank_timing.proofs.clocked.Timed.take_read.Goals as goal
 
 pub read-requires : goal.read-requires

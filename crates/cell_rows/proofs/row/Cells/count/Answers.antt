@@ -1,6 +1,5 @@
 use Rattle.std.proofs.Common.{arith, ◌≡◌, ◌*◌, ◌+◌, length, ap, ap₂, sym, ◌∙◌}
-use Rattle.cell_rows.specs.Rows.{bit_of, members}
-use Rattle.cell_rows.proofs.RowLemmas.{members_le, members_parts}
+use Rattle.cell_rows.{specs.Rows.{bit_of, members}, proofs.RowLemmas.{members_le, members_parts}}
 use Rattle.cell_rows.proofs.row.Cells.count.Goals as goal
 
 pub overflow_add-result : goal.overflow_add-result

@@ -1,6 +1,5 @@
 use Rattle.std.proofs.Common.{arith}
-use Rattle.cell_rows.specs.Rows.{xor}
-use Rattle.cell_rows.proofs.RowLemmas.{cells_by_bits, bits_from_cells, meta_from_cells, same_rows}
+use Rattle.cell_rows.{specs.Rows.xor, proofs.RowLemmas.{cells_by_bits, bits_from_cells, meta_from_cells, same_rows}}
 use Rattle.cell_rows.proofs.row.Cells.differ.Goals as goal
 
 pub returns-clause-cells : goal.returns-clause-cells

@@ -1,6 +1,5 @@
 use Rattle.std.proofs.Common.{arith, ◌∙◌, ◌-◌, ◌*◌}
-use Rattle.cell_rows.proofs.ByteLemmas.{no_bit_in}
-use Rattle.cell_rows.proofs.RowLemmas.{cell-bits, cell-meta}
+use Rattle.cell_rows.proofs.{ByteLemmas.no_bit_in, RowLemmas.{cell-bits, cell-meta}}
 use Rattle.cell_rows.proofs.row.Cells.is_clear.Goals as goal
 
 pub returns-then-group : goal.returns-then-group

@@ -1,8 +1,6 @@
-use Rattle.std.proofs.lemmas.List.{length-set}
 use Rattle.std.proofs.Common.{◌≡◌, ◌+◌, ◌-◌, ◌*◌, ◌∙◌, ap, refl, arith, slice_set}
-use Rattle.cell_rows.specs.Rows.{bit_of}
-use Rattle.cell_rows.proofs.ByteLemmas.{bit_of_written, bit_of_kept}
-use Rattle.cell_rows.proofs.RowLemmas.{cell-bits, cell-meta, kept_group-bits, kept_group-meta}
+use Rattle.std.proofs.lemmas.List.{length-set}
+use Rattle.cell_rows.{specs.Rows.bit_of, proofs.ByteLemmas.{bit_of_written, bit_of_kept}, proofs.RowLemmas.{cell-bits, cell-meta, kept_group-bits, kept_group-meta}}
 use Rattle.cell_rows.proofs.row.Cells.set_group.Goals as goal
 
 pub returns-then-group-clause-here : goal.returns-then-group-clause-here

@@ -1,10 +1,6 @@
 use Rattle.std.proofs.Common.{◌≡◌, ℕ, ap, sym, ◌∙◌, arith}
-use Rattle.cell_rows.specs.Rows.{cell}
-use Rattle.cell_rows.proofs.RowLemmas.{cell-bits}
-use Rattle.ecp_line.specs.Layout.{source_below, active}
-use Rattle.ecp_line.proofs.Sources.{source-none}
-use Rattle.ecp_line.proofs.Bytes.{decode-is}
-use Rattle.ecp_line.proofs.Correcting.{corrected-more}
+use Rattle.cell_rows.{specs.Rows.cell, proofs.RowLemmas.cell-bits}
+use Rattle.ecp_line.{specs.Layout.{source_below, active}, proofs.Bytes.decode-is, proofs.Correcting.corrected-more, proofs.Sources.source-none}
 use Rattle.ecp_line.proofs.ecp.Ecp.corrected.Goals as goal
 
 pub loop-entry-init : goal.loop-entry-init

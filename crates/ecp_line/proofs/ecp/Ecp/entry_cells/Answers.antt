@@ -1,7 +1,6 @@
 use Rattle.std.proofs.Common.{◌≡◌, ◌+◌, sym, ◌∙◌, refl, arith}
 use Rattle.cell_rows.specs.Rows.{cell}
-use Rattle.ecp_line.specs.Layout.{pointer_cell, width}
-use Rattle.ecp_line.proofs.Wanting.{run-none, run-more, run-moved, run-closed}
+use Rattle.ecp_line.{specs.Layout.{pointer_cell, width}, proofs.Wanting.{run-none, run-more, run-moved, run-closed}}
 use Rattle.ecp_line.proofs.ecp.Ecp.entry_cells.Goals as goal
 
 pub loop-digit-init : goal.loop-digit-init

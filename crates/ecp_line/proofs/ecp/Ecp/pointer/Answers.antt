@@ -1,7 +1,6 @@
 use Rattle.std.proofs.Common.{◌≡◌, ℕ, ◌+◌, ◌<◌, sym, ◌∙◌, refl, arith, subst}
 use Rattle.cell_rows.specs.Rows.{cell}
-use Rattle.ecp_line.specs.Layout.{pointer_cell, width}
-use Rattle.ecp_line.proofs.Digits.{width-small}
+use Rattle.ecp_line.{specs.Layout.{pointer_cell, width}, proofs.Digits.width-small}
 use Rattle.ecp_line.proofs.Wanting.{run-none, run-more, run-moved, digits-none, digits-more, digits-done, others-more}
 use Rattle.ecp_line.proofs.ecp.Ecp.pointer.Goals as goal
 

@@ -1,10 +1,8 @@
-use Rattle.ecp_line.specs.Layout.{number, pointer, pointer_cell}
+use Rattle.ecp_line.{specs.Layout.{number, pointer, pointer_cell}, proofs.Digits.{number-none, number-one, number-zero, number-lt, width-small, shifted, weight-small}}
+use Rattle.ecp_line.proofs.{Places.pointer-lt, ecp.Ecp.pointer_of.Goals.{then-get, else-get}}
+use Rattle.ecp_line.proofs.ecp.Ecp.pointer_of.Goals as goal
 use Rattle.std.proofs.Common.{ℕ, ◌≡◌, ◌∙◌, sym, arith, ap}
 use Rattle.cell_rows.specs.Rows.{cell}
-use Rattle.ecp_line.proofs.Places.{pointer-lt}
-use Rattle.ecp_line.proofs.Digits.{number-none, number-one, number-zero, number-lt, width-small, shifted, weight-small}
-use Rattle.ecp_line.proofs.ecp.Ecp.pointer_of.Goals as goal
-use Rattle.ecp_line.proofs.ecp.Ecp.pointer_of.Goals.{then-get, else-get}
 
 pub loop-digit-init : goal.loop-digit-init
 loop-digit-init g c = sym (number-none (cell c.args.cells.now) c.pointer_cell-first.result)

@@ -1,9 +1,8 @@
 use Rattle.std.proofs.Common.{◌∙◌, sym, arith}
 use Rattle.cell_rows.specs.Rows.{cell}
-use Rattle.ecp_line.proofs.Places.{full-lt, entries-order}
-use Rattle.ecp_line.proofs.Sources.{source-lt, source-none, source-passed, source-replaced}
-use Rattle.ecp_line.proofs.ecp.Ecp.source_below.Goals as goal
+use Rattle.ecp_line.proofs.{Places.{full-lt, entries-order}, Sources.{source-lt, source-none, source-passed, source-replaced}}
 use Rattle.ecp_line.proofs.ecp.Ecp.source_below.Goals.{then-pointer_of-bit, else-pointer_of-bit}
+use Rattle.ecp_line.proofs.ecp.Ecp.source_below.Goals as goal
 
 pub loop-entry-init : goal.loop-entry-init
 loop-entry-init g c = sym (source-none g.row.B (cell c.args.cells.now) c.args.bit)

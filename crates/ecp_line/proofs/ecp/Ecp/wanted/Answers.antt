@@ -1,7 +1,6 @@
 use Rattle.std.proofs.Common.{arith, ◌∙◌}
 use Rattle.cell_rows.specs.Rows.{cell}
-use Rattle.ecp_line.proofs.Correcting.{wanted-more}
-use Rattle.ecp_line.proofs.ReadRows.{wanted-start}
+use Rattle.ecp_line.proofs.{Correcting.wanted-more, ReadRows.wanted-start}
 use Rattle.ecp_line.proofs.ecp.Ecp.wanted.Goals as goal
 
 pub loop-entry-init : goal.loop-entry-init

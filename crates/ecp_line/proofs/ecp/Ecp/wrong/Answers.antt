@@ -1,7 +1,6 @@
 use Rattle.std.proofs.Common.{arith}
 use Rattle.cell_rows.specs.Rows.{cell}
-use Rattle.ecp_line.specs.Layout.{decoded}
-use Rattle.ecp_line.proofs.ReadRows.{lowest-wrong, IfSome-map}
+use Rattle.ecp_line.{specs.Layout.decoded, proofs.ReadRows.{lowest-wrong, IfSome-map}}
 use Rattle.ecp_line.proofs.ecp.Ecp.wrong.Goals as goal
 
 pub returns-clause-some : goal.returns-clause-some

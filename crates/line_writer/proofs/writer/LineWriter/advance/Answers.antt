@@ -1,7 +1,6 @@
 use Rattle.std.proofs.Common.{arith, sym, ◌∙◌}
 use Rattle.cell_rows.specs.Rows.{cell}
-use Rattle.line_writer.proofs.Settling.{pointed}
-use Rattle.line_writer.proofs.Going.{going-on, done, none-wrong, wrong-held, point-phase}
+use Rattle.line_writer.proofs.{Going.{going-on, done, none-wrong, wrong-held, point-phase}, Settling.pointed}
 use Rattle.line_writer.proofs.writer.LineWriter.advance.Goals as goal
 
 pub returns-in_default-clause-line : goal.returns-in_default-clause-line

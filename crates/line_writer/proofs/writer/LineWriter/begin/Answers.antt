@@ -1,11 +1,7 @@
 use Rattle.std.proofs.Common.{◌≡◌, ℕ, arith, sym, subst, ◌∙◌}
-use Rattle.cell_rows.specs.declared.row.Cells.{Cells}
-use Rattle.cell_rows.specs.Rows.{cell}
-use Rattle.cell_rows.specs.Device.{LineState}
+use Rattle.cell_rows.specs.{Device.LineState, Rows.cell, declared.row.Cells.Cells}
 use Rattle.ecp_line.specs.Layout.{active, Sound, Prefix}
-use Rattle.line_writer.specs.Phases.{IsCleared}
-use Rattle.line_writer.specs.Writing.{IsInOrder}
-use Rattle.line_writer.proofs.Settling.{cleared-already}
+use Rattle.line_writer.{specs.Phases.IsCleared, specs.Writing.IsInOrder, proofs.Settling.cleared-already}
 use Rattle.line_writer.proofs.writer.LineWriter.begin.Goals as goal
 
 in_order : (g : _) (c : goal.After-filling g) (line : LineState g.row.B g.row.M) → line.held ≡ c.args.seen → Sound g.row.B g.row.M g.row.E (cell line.held) line.stuck

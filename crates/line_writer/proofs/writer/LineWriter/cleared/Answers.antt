@@ -1,8 +1,7 @@
 use Rattle.std.proofs.Common.{arith, sym, ◌∙◌}
 use Rattle.std.proofs.lemmas.Bool.{and_parts}
 use Rattle.cell_rows.specs.Rows.{cell}
-use Rattle.line_writer.proofs.Settling.{cleared-all, cleared-worn}
-use Rattle.line_writer.proofs.Going.{wrong-held, clear-phase, writing-clear}
+use Rattle.line_writer.proofs.{Going.{wrong-held, clear-phase, writing-clear}, Settling.{cleared-all, cleared-worn}}
 use Rattle.line_writer.proofs.writer.LineWriter.cleared.Goals as goal
 
 pub returns-in-Some-clause-line : goal.returns-in-Some-clause-line

@@ -1,9 +1,7 @@
 use Rattle.std.proofs.Common.{ℕ, sym, ap, ◌∙◌, subst, arith}
-use Rattle.cell_rows.proofs.ByteLemmas.{xor_false}
-use Rattle.cell_rows.specs.Rows.{cell}
+use Rattle.cell_rows.{specs.Rows.cell, proofs.ByteLemmas.xor_false}
 use Rattle.ecp_line.specs.Layout.{Prefix, source_below}
-use Rattle.line_writer.proofs.Settling.{filled-wrong, filled-worn, filled-ready}
-use Rattle.line_writer.proofs.Going.{wrong-held, fill-phase, writing-fill, lowest-held}
+use Rattle.line_writer.proofs.{Going.{wrong-held, fill-phase, writing-fill, lowest-held}, Settling.{filled-wrong, filled-worn, filled-ready}}
 use Rattle.line_writer.proofs.writer.LineWriter.filled.Goals as goal
 
 pub returns-in-Some-clause-line : goal.returns-in-Some-clause-line

@@ -2,11 +2,7 @@ use Rattle.std.proofs.Common.{arith, sym, ap, subst, inr}
 use Rattle.std.proofs.lemmas.Bool.{both_ways}
 use Rattle.cell_rows.specs.Rows.{cell}
 use Rattle.program_verify.specs.declared.prog.Prog.{Prog}
-use Rattle.line_writer.specs.Phases.{IsFilling}
-use Rattle.line_writer.specs.Writing.{HasBegun}
-use Rattle.line_writer.specs.declared.writer.Progress.{Progress}
-use Rattle.line_writer.proofs.Making.{filling-made}
-use Rattle.line_writer.proofs.Going.{none-wrong}
+use Rattle.line_writer.{specs.Phases.IsFilling, specs.Writing.HasBegun, specs.declared.writer.Progress.Progress, proofs.Going.none-wrong, proofs.Making.filling-made}
 use Rattle.line_writer.proofs.Rounds.{writing-with, progress-with}
 use Rattle.line_writer.proofs.writer.LineWriter.filling.Goals as goal
 

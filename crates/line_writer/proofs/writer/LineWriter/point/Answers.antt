@@ -1,10 +1,7 @@
 use Rattle.std.proofs.Common.{arith, sym, ◌∙◌, subst}
 use Rattle.cell_rows.specs.Rows.{cell}
 use Rattle.program_verify.specs.declared.prog.Prog.{Prog}
-use Rattle.line_writer.specs.Phases.{IsPointing}
-use Rattle.line_writer.proofs.Making.{pointing-made}
-use Rattle.line_writer.proofs.Settling.{pointed}
-use Rattle.line_writer.proofs.Going.{wrong-held}
+use Rattle.line_writer.{specs.Phases.IsPointing, proofs.Going.wrong-held, proofs.Making.pointing-made, proofs.Settling.pointed}
 use Rattle.line_writer.proofs.writer.LineWriter.point.Goals as goal
 
 pub returns-in-Settled-clause-line : goal.returns-in-Settled-clause-line

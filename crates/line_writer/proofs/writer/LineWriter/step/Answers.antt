@@ -1,6 +1,5 @@
 use Rattle.std.proofs.Common.{arith}
-use Rattle.line_writer.specs.Writing.{IsWriting, IsProgress}
-use Rattle.line_writer.proofs.Rounds.{round-made, sound-writing, unused, worn, writing-with, progress-with}
+use Rattle.line_writer.{specs.Writing.{IsWriting, IsProgress}, proofs.Rounds.{round-made, sound-writing, unused, worn, writing-with, progress-with}}
 use Rattle.line_writer.proofs.writer.LineWriter.step.Goals as goal
 
 -- the round leads to the next phase that has a cell to pulse

@@ -1,10 +1,7 @@
 use Rattle.std.proofs.Common.{true, cond, eqb, sym, ap, ◌∙◌, subst, arith}
-use Rattle.cell_rows.specs.declared.row.Cells.{Cells}
-use Rattle.cell_rows.specs.Rows.{cell}
-use Rattle.program_verify.specs.declared.prog.Prog.{Prog}
-use Rattle.program_verify.specs.Programming.{IsGoing}
-use Rattle.line_writer.specs.Phases.{IsSwitching}
-use Rattle.line_writer.proofs.Making.{switching-made}
+use Rattle.cell_rows.specs.{Rows.cell, declared.row.Cells.Cells}
+use Rattle.program_verify.specs.{Programming.IsGoing, declared.prog.Prog.Prog}
+use Rattle.line_writer.{specs.Phases.IsSwitching, proofs.Making.switching-made}
 use Rattle.line_writer.proofs.writer.LineWriter.switch.Goals as goal
 
 pub returns-clause-line : goal.returns-clause-line

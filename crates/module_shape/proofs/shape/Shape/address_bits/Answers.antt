@@ -1,8 +1,6 @@
 use Rattle.std.proofs.Common.{◌≡◌, ◌^◌, sym, ap, ◌∙◌, arith}
-use Rattle.feistel_map.specs.Log2.{log2}
-use Rattle.feistel_map.proofs.Powers.{log2-between, bits_some, bits_few}
-use Rattle.module_shape.specs.Limits.{total_of}
-use Rattle.module_shape.proofs.Bounds.{lines_some}
+use Rattle.feistel_map.{specs.Log2.log2, proofs.Powers.{log2-between, bits_some, bits_few}}
+use Rattle.module_shape.{specs.Limits.total_of, proofs.Bounds.lines_some}
 use Rattle.module_shape.proofs.shape.Shape.address_bits.Goals as goal
 
 is_log : (c : goal.After-ilog2) → c.ilog2.result ≡ log2 (total_of c.args.self.now)

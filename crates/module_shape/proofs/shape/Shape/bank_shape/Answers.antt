@@ -1,7 +1,6 @@
 use Rattle.std.proofs.Common.{◌≡◌, ap}
 use Rattle.bank_shape.specs.Shape.{lines_in}
-use Rattle.module_shape.specs.Addresses.{array_lines_of, module_of}
-use Rattle.module_shape.proofs.Bounds.{banks_apart}
+use Rattle.module_shape.{specs.Addresses.{array_lines_of, module_of}, proofs.Bounds.banks_apart}
 use Rattle.module_shape.proofs.shape.Shape.bank_shape.Goals as goal
 
 pub returns-clause-within : goal.returns-clause-within

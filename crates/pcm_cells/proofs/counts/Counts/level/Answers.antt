@@ -1,6 +1,5 @@
 use Rattle.std.proofs.Common.{◌-◌, arith, ap, sym, refl, ◌∙◌}
-use Rattle.pcm_cells.specs.Planes.{bit_in, number_of}
-use Rattle.pcm_cells.proofs.CountLemmas.{block_count-bits, block_count-meta, kept_count-bits, kept_count-meta}
+use Rattle.pcm_cells.{specs.Planes.{bit_in, number_of}, proofs.CountLemmas.{block_count-bits, block_count-meta, kept_count-bits, kept_count-meta}}
 use Rattle.pcm_cells.proofs.counts.Counts.level.Goals as goal
 
 pub returns-then-block-clause-here : goal.returns-then-block-clause-here

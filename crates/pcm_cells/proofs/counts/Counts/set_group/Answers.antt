@@ -1,7 +1,6 @@
-use Rattle.std.proofs.lemmas.List.{length-set}
 use Rattle.std.proofs.Common.{◌≡◌, ◌+◌, ◌-◌, ◌*◌, ◌∙◌, ap, refl, arith, slice_set}
-use Rattle.pcm_cells.specs.Counts.{count_in}
-use Rattle.pcm_cells.proofs.CountLemmas.{count-bits, count-meta, count_in_written, count_in_kept, kept_row-bits, kept_row-meta}
+use Rattle.std.proofs.lemmas.List.{length-set}
+use Rattle.pcm_cells.{specs.Counts.count_in, proofs.CountLemmas.{count-bits, count-meta, count_in_written, count_in_kept, kept_row-bits, kept_row-meta}}
 use Rattle.pcm_cells.proofs.counts.Counts.set_group.Goals as goal
 
 pub returns-then-group-clause-here : goal.returns-then-group-clause-here

@@ -1,8 +1,7 @@
 use Rattle.std.proofs.Common.{◌+◌, ◌*◌, ◌∙◌, refl}
-use Rattle.pcm_cells.specs.Planes.{bit_in}
-use Rattle.cell_rows.proofs.ByteLemmas.{digit_xor, digit_and}
-use Rattle.pcm_cells.proofs.PlaneLemmas.{digit_grown, digit_kept}
+use Rattle.pcm_cells.{specs.Planes.bit_in, proofs.PlaneLemmas.{digit_grown, digit_kept}}
 use Rattle.pcm_cells.proofs.digits.Digits.advance.Goals as goal
+use Rattle.cell_rows.proofs.ByteLemmas.{digit_xor, digit_and}
 
 pub returns-clause-here : goal.returns-clause-here
 returns-clause-here g c i low =

@@ -1,6 +1,5 @@
 use Rattle.std.proofs.Common.{ℕ, ◌+◌, ◌*◌}
-use Rattle.cell_rows.specs.Rows.{cell}
-use Rattle.cell_rows.proofs.ByteLemmas.{digit_xor}
+use Rattle.cell_rows.{specs.Rows.cell, proofs.ByteLemmas.digit_xor}
 use Rattle.pcm_cells.proofs.PlaneLemmas.{digit-is, below_digits}
 use Rattle.pcm_cells.proofs.digits.Digits.below.Goals as goal
 

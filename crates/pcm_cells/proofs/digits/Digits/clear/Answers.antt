@@ -1,7 +1,6 @@
 use Rattle.std.proofs.Common.{◌≡◌, ◌+◌, ◌*◌, false, refl, ◌∙◌, ap, eqb}
 use Rattle.std.proofs.lemmas.Nat.Bits.{bit_at-zero}
-use Rattle.pcm_cells.specs.Planes.{bit_in}
-use Rattle.pcm_cells.proofs.PlaneLemmas.{digit-is, digit_kept}
+use Rattle.pcm_cells.{specs.Planes.bit_in, proofs.PlaneLemmas.{digit-is, digit_kept}}
 use Rattle.pcm_cells.proofs.digits.Digits.clear.Goals as goal
 
 pub returns-clause-here : goal.returns-clause-here

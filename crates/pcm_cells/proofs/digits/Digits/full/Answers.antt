@@ -1,8 +1,6 @@
 use Rattle.std.proofs.Common.{◌≡◌, ℕ, ◌+◌, ◌*◌, ◌&&◌, refl, sym, ◌∙◌, bit_and}
-use Rattle.cell_rows.specs.Rows.{cell}
-use Rattle.pcm_cells.specs.Planes.{bit_in}
-use Rattle.cell_rows.proofs.ByteLemmas.{digit_and}
-use Rattle.pcm_cells.proofs.PlaneLemmas.{digit-is, number_not_full}
+use Rattle.cell_rows.{specs.Rows.cell, proofs.ByteLemmas.digit_and}
+use Rattle.pcm_cells.{specs.Planes.bit_in, proofs.PlaneLemmas.{digit-is, number_not_full}}
 use Rattle.pcm_cells.proofs.digits.Digits.full.Goals as goal
 
 pub returns : goal.returns

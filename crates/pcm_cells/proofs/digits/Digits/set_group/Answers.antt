@@ -1,6 +1,5 @@
 use Rattle.std.proofs.Common.{◌≡◌, ◌+◌, ◌*◌, ◌∙◌, ap, refl, arith}
-use Rattle.pcm_cells.specs.Planes.{bit_in}
-use Rattle.pcm_cells.proofs.PlaneLemmas.{digit-is, digit_kept}
+use Rattle.pcm_cells.{specs.Planes.bit_in, proofs.PlaneLemmas.{digit-is, digit_kept}}
 use Rattle.pcm_cells.proofs.digits.Digits.set_group.Goals as goal
 
 pub returns-clause-here : goal.returns-clause-here

@@ -1,10 +1,7 @@
 use Rattle.std.proofs.Common.{◌≡◌, ◌+◌, ◌-◌, ◌*◌, ◌∙◌, sym, ap, arith, slice_index}
 use Rattle.cell_rows.specs.Rows.{cell, members}
 use Rattle.cell_wear.specs.Told.{most}
-use Rattle.pcm_cells.specs.Seeded.{LifeLine}
-use Rattle.pcm_cells.specs.Pages.{changes_of}
-use Rattle.pcm_cells.proofs.PagingLemmas.{told, seen-none, seen_at}
-use Rattle.pcm_cells.proofs.WearLemmas.{changes_since, drawn_changes, drawn_stuck}
+use Rattle.pcm_cells.{specs.Pages.changes_of, specs.Seeded.LifeLine, proofs.PagingLemmas.{told, seen-none, seen_at}, proofs.WearLemmas.{changes_since, drawn_changes, drawn_stuck}}
 use Rattle.pcm_cells.proofs.pages.Pages.cell_wear.Goals as goal
 
 pub returns-in-0-clause-stuck : goal.returns-in-0-clause-stuck

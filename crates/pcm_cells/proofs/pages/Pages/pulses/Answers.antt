@@ -1,6 +1,5 @@
 use Rattle.std.proofs.Common.{◌≡◌, ◌+◌, ◌-◌, ◌∙◌, refl, sym, ap, arith, slice_index}
-use Rattle.pcm_cells.proofs.PageLemmas.{drawn_is}
-use Rattle.pcm_cells.proofs.PagingLemmas.{told, seen-none, seen_at}
+use Rattle.pcm_cells.proofs.{PageLemmas.drawn_is, PagingLemmas.{told, seen-none, seen_at}}
 use Rattle.pcm_cells.proofs.pages.Pages.pulses.Goals as goal
 
 pub returns-in-0 : goal.returns-in-0

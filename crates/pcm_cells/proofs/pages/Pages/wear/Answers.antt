@@ -1,9 +1,6 @@
 use Rattle.std.proofs.Common.{◌≡◌, ◌<◌, ◌∙◌, cond, sym, ap, arith, length, length-set, set, get_or-set_same}
-use Rattle.cell_rows.specs.Rows.{cell}
-use Rattle.cell_rows.specs.Device.{counted}
-use Rattle.pcm_cells.specs.Seeded.{seeded, seeded_cell}
-use Rattle.pcm_cells.specs.Pages.{line_seen, drawn_line}
-use Rattle.pcm_cells.proofs.PagingLemmas.{paging_kept, seen-some, seen_at, written_others}
+use Rattle.cell_rows.specs.{Device.counted, Rows.cell}
+use Rattle.pcm_cells.{specs.Pages.{line_seen, drawn_line}, specs.Seeded.{seeded, seeded_cell}, proofs.PagingLemmas.{paging_kept, seen-some, seen_at, written_others}}
 use Rattle.pcm_cells.proofs.pages.Pages.wear.Goals as goal
 
 pub returns-clause-cells : goal.returns-clause-cells

@@ -1,8 +1,6 @@
 use Rattle.std.proofs.Common.{◌≡◌, ◌<◌, ◌∙◌, length, set, sym, ap, subst, arith}
 use Rattle.cell_rows.specs.Rows.{cell}
-use Rattle.pcm_cells.specs.Follows.{Follows}
-use Rattle.pcm_cells.specs.Scripted.{ScriptedArray, Turns, scripted, scripted_cell, scripted_lines}
-use Rattle.pcm_cells.proofs.ScriptedLemmas.{line_turned}
+use Rattle.pcm_cells.{specs.Follows.Follows, specs.Scripted.{ScriptedArray, Turns, scripted, scripted_cell, scripted_lines}, proofs.ScriptedLemmas.line_turned}
 use Rattle.pcm_cells.proofs.script.ScriptArray.turn.Goals as goal
 
 pub unreachable-requires : goal.unreachable-requires

@@ -1,9 +1,6 @@
 use Rattle.std.proofs.Common.{refl, arith}
-use Rattle.std.proofs.lemmas.List.{length-replicate}
-use Rattle.std.proofs.lemmas.Result.{on_ok_weaker}
-use Rattle.pcm_cells.specs.Cell.{line_state}
-use Rattle.pcm_cells.specs.Scripted.{blank_scripted}
-use Rattle.pcm_cells.proofs.LineLemmas.{blank_lines}
+use Rattle.std.proofs.{lemmas.List.length-replicate, lemmas.Result.on_ok_weaker}
+use Rattle.pcm_cells.{specs.Cell.line_state, specs.Scripted.blank_scripted, proofs.LineLemmas.blank_lines}
 use Rattle.pcm_cells.proofs.script.ScriptArrayCellArray.power_up.Goals as goal
 
 pub returns-clause-ok : goal.returns-clause-ok

@@ -1,5 +1,4 @@
-use Rattle.pcm_cells.specs.Scripted.{scripted_line}
-use Rattle.pcm_cells.proofs.ScriptedLemmas.{scripted_device_step}
+use Rattle.pcm_cells.{specs.Scripted.scripted_line, proofs.ScriptedLemmas.scripted_device_step}
 use Rattle.pcm_cells.proofs.script.ScriptArrayCellArray.pulse.Goals as goal
 
 pub returns-clause-step : goal.returns-clause-step

@@ -1,8 +1,6 @@
 use Rattle.std.proofs.Common.{sym, subst}
 use Rattle.cell_rows.specs.Device.{TornStep}
-use Rattle.pcm_cells.specs.Cell.{line_state}
-use Rattle.pcm_cells.specs.Scripted.{scripted_bounds, scripted_line, ScriptedArray}
-use Rattle.pcm_cells.proofs.ScriptedLemmas.{scripted_torn_step}
+use Rattle.pcm_cells.{specs.Cell.line_state, specs.Scripted.{scripted_bounds, scripted_line, ScriptedArray}, proofs.ScriptedLemmas.scripted_torn_step}
 use Rattle.pcm_cells.proofs.script.ScriptArrayCellArray.tear.Goals as goal
 
 pub returns-clause-step : goal.returns-clause-step

@@ -1,10 +1,7 @@
 use Rattle.std.proofs.Common.{◌≡◌, ◌≤◌, ◌∙◌, rules, sym, subst, ap, arith, length, refl, Option, Some}
 use Rattle.cell_rows.specs.declared.array.Wear.{Wear}
-use Rattle.pcm_cells.specs.Seeded.{SeededArray, bounds_of}
-use Rattle.pcm_cells.specs.Paging.{seeded_lines, seeded_wear, lines_seen}
-use Rattle.pcm_cells.specs.Endurance.{AreBounded, IsInRange}
-use Rattle.pcm_cells.proofs.EnduranceLemmas.{bounded_kept}
-use Rattle.pcm_cells.proofs.PagingLemmas.{lines_size, wears_lines}
+use Rattle.pcm_cells.specs.{Endurance.{AreBounded, IsInRange}, Paging.{seeded_lines, seeded_wear, lines_seen}, Seeded.{SeededArray, bounds_of}}
+use Rattle.pcm_cells.proofs.{EnduranceLemmas.bounded_kept, PagingLemmas.{lines_size, wears_lines}}
 use Rattle.pcm_cells.proofs.seeded.MemArray.wear.Goals as goal
 
 pub unreachable-requires : goal.unreachable-requires

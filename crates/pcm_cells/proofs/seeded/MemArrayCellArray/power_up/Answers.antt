@@ -1,12 +1,8 @@
 use Rattle.std.proofs.Common.{◌≤◌, arith, ℕ, ◌∙◌, refl, sym, ap, subst, length, Some, None}
-use Rattle.cell_rows.specs.declared.array.Wear.{Wear}
-use Rattle.pcm_cells.specs.Endurance.{IsInRange}
 use Rattle.std.proofs.lemmas.List.{length-replicate}
-use Rattle.pcm_cells.specs.Paging.{lines_seen}
-use Rattle.pcm_cells.specs.Seeded.{bounds_of}
-use Rattle.pcm_cells.proofs.EnduranceLemmas.{bounded_none, bounded_new}
-use Rattle.pcm_cells.proofs.SeededLemmas.{drawn_is_blank}
-use Rattle.pcm_cells.proofs.PagingLemmas.{lines_size, blank_drawn}
+use Rattle.cell_rows.specs.declared.array.Wear.{Wear}
+use Rattle.pcm_cells.{specs.Endurance.IsInRange, specs.Paging.lines_seen, specs.Seeded.bounds_of, proofs.EnduranceLemmas.{bounded_none, bounded_new}}
+use Rattle.pcm_cells.proofs.{PagingLemmas.{lines_size, blank_drawn}, SeededLemmas.drawn_is_blank}
 use Rattle.pcm_cells.proofs.seeded.MemArrayCellArray.power_up.Goals as goal
 
 pub returns-clause-ok : goal.returns-clause-ok

@@ -1,9 +1,6 @@
 use Rattle.std.proofs.Common.{◌∙◌, ap, arith, refl, subst, sym, Option}
-use Rattle.cell_rows.specs.declared.array.Wear.{Wear}
-use Rattle.cell_rows.specs.Device.{DeviceStep}
-use Rattle.pcm_cells.specs.Seeded.{bounds_of, life_state, seeded_line}
-use Rattle.pcm_cells.proofs.SeededLemmas.{seeded_device_step}
-use Rattle.pcm_cells.proofs.EnduranceLemmas.{bounded_keeps, masked_within}
+use Rattle.cell_rows.specs.{Device.DeviceStep, declared.array.Wear.Wear}
+use Rattle.pcm_cells.{specs.Seeded.{bounds_of, life_state, seeded_line}, proofs.EnduranceLemmas.{bounded_keeps, masked_within}, proofs.SeededLemmas.seeded_device_step}
 use Rattle.pcm_cells.proofs.seeded.MemArrayCellArray.pulse.Goals as goal
 
 pub returns-clause-step : goal.returns-clause-step

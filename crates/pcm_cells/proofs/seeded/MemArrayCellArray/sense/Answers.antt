@@ -1,7 +1,5 @@
 use Rattle.std.proofs.Common.{◌≡◌, ◌<◌, ◌≤◌, ◌∙◌, rules, sym, ap, arith, length, get_or}
-use Rattle.pcm_cells.specs.Seeded.{lifeless}
-use Rattle.pcm_cells.specs.Paging.{seeded_lines}
-use Rattle.pcm_cells.proofs.PagingLemmas.{lines_size, lines_at}
+use Rattle.pcm_cells.{specs.Paging.seeded_lines, specs.Seeded.lifeless, proofs.PagingLemmas.{lines_size, lines_at}}
 use Rattle.pcm_cells.proofs.seeded.MemArrayCellArray.sense.Goals as goal
 
 pub held-requires : goal.held-requires

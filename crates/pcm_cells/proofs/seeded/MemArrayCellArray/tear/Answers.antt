@@ -1,9 +1,7 @@
 use Rattle.std.proofs.Common.{◌∙◌, ap, arith, refl, subst, sym, Option}
-use Rattle.cell_rows.specs.declared.array.Wear.{Wear}
-use Rattle.cell_rows.specs.Device.{ChangesOnly, TornStep}
-use Rattle.pcm_cells.specs.Seeded.{bounds_of, life_state, seeded_line, seeded_state, SeededArray}
+use Rattle.cell_rows.specs.{Device.{ChangesOnly, TornStep}, declared.array.Wear.Wear}
+use Rattle.pcm_cells.{specs.Seeded.{bounds_of, life_state, seeded_line, seeded_state, SeededArray}, proofs.EnduranceLemmas.{bounded_keeps, masked_within}}
 use Rattle.pcm_cells.proofs.SeededLemmas.{seeded_torn_step}
-use Rattle.pcm_cells.proofs.EnduranceLemmas.{bounded_keeps, masked_within}
 use Rattle.pcm_cells.proofs.seeded.MemArrayCellArray.tear.Goals as goal
 
 pub returns-clause-step : goal.returns-clause-step

@@ -1,6 +1,5 @@
 use Rattle.std.proofs.Common.{◌≡◌, ◌+◌, ◌*◌, ◌∙◌, sym, ap, arith}
-use Rattle.cell_wear.specs.Told.{most}
-use Rattle.cell_wear.proofs.Most.{most-zero, most-more}
+use Rattle.cell_wear.{specs.Told.most, proofs.Most.{most-zero, most-more}}
 use Rattle.pcm_cells.proofs.seeded.SeededLine.cell_wear.Goals as goal
 
 pub loop-number-init : goal.loop-number-init

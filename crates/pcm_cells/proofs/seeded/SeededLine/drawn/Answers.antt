@@ -1,19 +1,12 @@
-use Rattle.std.proofs.lemmas.List.{length-set}
-use Rattle.std.proofs.lemmas.Bool.{leb-true}
 use Rattle.std.proofs.Common.{rules, ◌≡◌, ℕ, ◌+◌, ◌*◌, ◌<◌, ◌≤◌, ◌∙◌, ap, sym, subst, arith, bit_xor}
-use Rattle.rand_core.specs.Stream.{next_u64}
-use Rattle.rand_core.specs.Steps.{stream_of, steps_u64_high}
+use Rattle.std.proofs.{lemmas.Bool.leb-true, lemmas.List.length-set}
+use Rattle.rand_core.specs.{Steps.{stream_of, steps_u64_high}, Stream.next_u64}
 use Rattle.rand_xoshiro.specs.Xoshiro256.{plus_plus}
 use Rattle.cell_rows.specs.Rows.{cell}
-use Rattle.pcm_cells.specs.Planes.{digit}
-use Rattle.pcm_cells.specs.Counts.{count}
-use Rattle.seeded_words.specs.Words.{xoshiro_of, stream_after, word_at}
-use Rattle.pcm_cells.specs.Seeded.{endurance, miss_limit, stuck_value}
-use Rattle.pcm_cells.specs.Pages.{drawn_line, HaveSameLife}
-use Rattle.pcm_cells.proofs.PageLemmas.{drawn_alike}
-use Rattle.seeded_words.proofs.Drawn.{stream_after-zero, stream_after-more, word_at-is}
-use Rattle.pcm_cells.proofs.LifeLemmas.{limits_more, ends_more, counts_more, group_more}
+use Rattle.pcm_cells.specs.{Counts.count, Pages.{drawn_line, HaveSameLife}, Planes.digit, Seeded.{endurance, miss_limit, stuck_value}}
+use Rattle.pcm_cells.proofs.{LifeLemmas.{limits_more, ends_more, counts_more, group_more}, PageLemmas.drawn_alike}
 use Rattle.pcm_cells.proofs.seeded.SeededLine.drawn.Goals as goal
+use Rattle.seeded_words.{specs.Words.{xoshiro_of, stream_after, word_at}, proofs.Drawn.{stream_after-zero, stream_after-more, word_at-is}}
 
 none_below : (n : ℕ) {X : Type 0} → n < 0 → X
 none_below n h = absurd (omega (arith, h))

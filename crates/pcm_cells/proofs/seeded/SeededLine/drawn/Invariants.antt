@@ -2,11 +2,9 @@ use Rattle.std.proofs.Common.{◌≡◌, ℕ, ◌+◌, ◌*◌, ◌%◌, ◌<◌
 use Rattle.rand_core.specs.Steps.{stream_of, steps_u64_high}
 use Rattle.rand_xoshiro.specs.Xoshiro256.{plus_plus}
 use Rattle.cell_rows.specs.Rows.{cell}
-use Rattle.pcm_cells.specs.Planes.{bit_in, digit, number_of}
-use Rattle.pcm_cells.specs.Counts.{count}
-use Rattle.seeded_words.specs.Words.{xoshiro_of, stream_after, word_at}
-use Rattle.pcm_cells.specs.Seeded.{endurance, miss_limit, stuck_value}
+use Rattle.pcm_cells.specs.{Counts.count, Planes.{bit_in, digit, number_of}, Seeded.{endurance, miss_limit, stuck_value}}
 use Rattle.pcm_cells.proofs.seeded.SeededLine.drawn.Given as goal
+use Rattle.seeded_words.specs.Words.{xoshiro_of, stream_after, word_at}
 
 -- the groups so far have the lives of their words
 abbrev pub invariant-loop-group : goal.invariant-loop-group

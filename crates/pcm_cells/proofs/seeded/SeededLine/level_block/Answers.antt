@@ -1,10 +1,7 @@
 use Rattle.std.proofs.Common.{◌≡◌, ℕ, ◌+◌, ◌-◌, ◌*◌, ◌/◌, ◌<◌, ◌≤◌, rules, subst, inl, inr, refl, ◌∙◌, ap, arith}
 use Rattle.std.proofs.lemmas.Bool.{cases_eq}
 use Rattle.cell_rows.specs.Rows.{cell}
-use Rattle.pcm_cells.specs.Planes.{digit}
-use Rattle.pcm_cells.specs.Counts.{count}
-use Rattle.pcm_cells.proofs.SeededLemmas.{calm_kept, less_none}
-use Rattle.pcm_cells.proofs.CalmLemmas.{left_same}
+use Rattle.pcm_cells.{specs.Counts.count, specs.Planes.digit, proofs.CalmLemmas.left_same, proofs.SeededLemmas.{calm_kept, less_none}}
 use Rattle.pcm_cells.proofs.seeded.SeededLine.level_block.Goals as goal
 
 pub invariant_of-self : goal.invariant_of-self

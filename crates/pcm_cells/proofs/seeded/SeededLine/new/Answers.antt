@@ -1,11 +1,6 @@
 use Rattle.std.proofs.Common.{◌≡◌, ℕ, ◌+◌, ◌*◌, ◌≤◌, ◌/◌, ◌∙◌, false, length, refl, arith}
-use Rattle.cell_rows.specs.declared.row.Cells.{Cells}
-use Rattle.cell_rows.specs.Rows.{cell}
-use Rattle.cell_rows.proofs.RowLemmas.{cell_past}
-use Rattle.pcm_cells.proofs.PlaneLemmas.{digit-is}
-use Rattle.pcm_cells.proofs.SeededLemmas.{told_calm}
-use Rattle.pcm_cells.proofs.seeded.SeededLine.new.Given.{Over}
-use Rattle.pcm_cells.proofs.seeded.SeededLine.new.Goals.{Start}
+use Rattle.cell_rows.{specs.Rows.cell, specs.declared.row.Cells.Cells, proofs.RowLemmas.cell_past}
+use Rattle.pcm_cells.proofs.{PlaneLemmas.digit-is, SeededLemmas.told_calm, seeded.SeededLine.new.Given.Over, seeded.SeededLine.new.Goals.Start}
 use Rattle.pcm_cells.proofs.seeded.SeededLine.new.Goals as goal
 
 -- a row of its sizes

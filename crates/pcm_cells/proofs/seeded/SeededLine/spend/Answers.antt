@@ -1,10 +1,7 @@
 use Rattle.std.proofs.Common.{◌≡◌, ℕ, ◌+◌, ◌-◌, ◌*◌, ◌&&◌, ◌/◌, ◌≤◌, ◌<◌, false, true≢false, cond, eqb, rules, slice_index, refl, subst, sym, ◌∙◌, ap, arith}
-use Rattle.std.specs.Prelude.{nat_le}
-use Rattle.std.proofs.lemmas.Nat.Bits.{bit_at-zero}
-use Rattle.cell_rows.specs.Rows.{cell}
-use Rattle.pcm_cells.specs.Planes.{bit_in, digit}
-use Rattle.pcm_cells.specs.Counts.{count}
-use Rattle.cell_rows.proofs.ByteLemmas.{digit_and}
+use Rattle.std.{specs.Prelude.nat_le, proofs.lemmas.Nat.Bits.bit_at-zero}
+use Rattle.cell_rows.{specs.Rows.cell, proofs.ByteLemmas.digit_and}
+use Rattle.pcm_cells.specs.{Counts.count, Planes.{bit_in, digit}}
 use Rattle.pcm_cells.proofs.SeededLemmas.{left_is, left_kept, calm_last, calm_here, calm_level, less_none, level_here, calm_kept, both_false, in_row, in_block, none_few}
 use Rattle.pcm_cells.proofs.seeded.SeededLine.spend.Goals as goal
 

@@ -1,10 +1,6 @@
-use Rattle.std.proofs.Common.{◌≡◌, ℕ, ◌+◌, ◌*◌, ◌%◌, ◌≤◌, ◌&&◌, rules, slice_index, true, cond, refl, sym, ◌∙◌, ap, arith}
-use Rattle.cell_rows.specs.Rows.{cell}
-use Rattle.pcm_cells.specs.Planes.{bit_in, digit}
-use Rattle.pcm_cells.specs.Seeded.{LifeLine, left_of, seeded, seeded_cell}
-use Rattle.std.proofs.Common.{bit_and}
-use Rattle.cell_rows.proofs.ByteLemmas.{digit_and, digit_or}
-use Rattle.pcm_cells.proofs.FollowsLemmas.{followed_block}
+use Rattle.std.proofs.Common.{◌≡◌, ℕ, ◌+◌, ◌*◌, ◌%◌, ◌≤◌, ◌&&◌, rules, slice_index, true, cond, refl, sym, ◌∙◌, ap, arith, bit_and}
+use Rattle.cell_rows.{specs.Rows.cell, proofs.ByteLemmas.{digit_and, digit_or}}
+use Rattle.pcm_cells.{specs.Planes.{bit_in, digit}, specs.Seeded.{LifeLine, left_of, seeded, seeded_cell}, proofs.FollowsLemmas.followed_block}
 use Rattle.pcm_cells.proofs.SeededLemmas.{worn_follows, worn_kept, missing_few, or_false, stuck_before}
 use Rattle.pcm_cells.proofs.seeded.SeededLine.wear_block.Goals as goal
 

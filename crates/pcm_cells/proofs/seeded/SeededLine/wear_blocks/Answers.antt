@@ -1,10 +1,8 @@
 use Rattle.std.proofs.Common.{◌≡◌, ◌+◌, ◌*◌, ◌∙◌, ap, arith}
-use Rattle.pcm_cells.specs.Seeded.{seeded, seeded_cell}
-use Rattle.cell_rows.specs.Rows.{cell}
-use Rattle.pcm_cells.proofs.FollowsLemmas.{followed_group, followed_clear}
-use Rattle.pcm_cells.proofs.BlockLemmas.{block_clear}
+use Rattle.pcm_cells.{specs.Seeded.{seeded, seeded_cell}, proofs.BlockLemmas.block_clear, proofs.FollowsLemmas.{followed_group, followed_clear}}
 use Rattle.pcm_cells.proofs.seeded.SeededLine.wear_blocks.Goals.{then-block-ne0, else-block-ne0}
 use Rattle.pcm_cells.proofs.seeded.SeededLine.wear_blocks.Goals as goal
+use Rattle.cell_rows.specs.Rows.{cell}
 
 pub loop-block-preserved : goal.loop-block-preserved
 loop-block-preserved g c =

@@ -1,7 +1,6 @@
 use Rattle.std.proofs.Common.{◌≡◌, ◌*◌}
 use Rattle.cell_rows.specs.Rows.{cell}
-use Rattle.pcm_cells.specs.Follows.{FollowsIn}
-use Rattle.pcm_cells.specs.Seeded.{seeded, seeded_cell}
+use Rattle.pcm_cells.specs.{Follows.FollowsIn, Seeded.{seeded, seeded_cell}}
 use Rattle.pcm_cells.proofs.seeded.SeededLine.wear_blocks.Given as goal
 
 -- the blocks so far have worn

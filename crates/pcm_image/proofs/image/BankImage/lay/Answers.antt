@@ -1,6 +1,5 @@
 use Rattle.std.proofs.Common.{arith}
-use Rattle.pcm_image.specs.Giving.{head_view}
-use Rattle.pcm_image.proofs.Laying.{bank_masked}
+use Rattle.pcm_image.{specs.Giving.head_view, proofs.Laying.bank_masked}
 use Rattle.pcm_image.proofs.image.BankImage.lay.Goals as goal
 
 pub lay_entries-requires : goal.lay_entries-requires

@@ -1,8 +1,7 @@
 use Rattle.std.proofs.Common.{◌∙◌, ◌+◌, ◌*◌, ◌/◌, ◌%◌, ap, arith}
 use Rattle.std.proofs.lemmas.Nat.{div_below}
 use Rattle.start_gap.specs.Rotation.{place_by}
-use Rattle.pcm_image.specs.Giving.{head_view}
-use Rattle.pcm_image.proofs.Heads.{head-fits, slot_below}
+use Rattle.pcm_image.{specs.Giving.head_view, proofs.Heads.{head-fits, slot_below}}
 use Rattle.pcm_image.proofs.image.BankImage.slot.Goals as goal
 
 pub returns-clause-is : goal.returns-clause-is

@@ -1,8 +1,6 @@
 use Rattle.std.proofs.Common.{◌^◌, ap, refl, ◌∙◌}
-use Rattle.feistel_map.specs.Network.{network_of, feistel}
-use Rattle.feistel_map.proofs.Powers.{bits_some, bits_few}
-use Rattle.pcm_image.specs.Saved.{total_in}
-use Rattle.pcm_image.proofs.Heads.{head-fits, is_log}
+use Rattle.feistel_map.{specs.Network.{network_of, feistel}, proofs.Powers.{bits_some, bits_few}}
+use Rattle.pcm_image.{specs.Saved.total_in, proofs.Heads.{head-fits, is_log}}
 use Rattle.pcm_image.proofs.image.Image.mixed.Goals as goal
 
 pub new-requires-clause-some_bits : goal.new-requires-clause-some_bits

@@ -1,21 +1,14 @@
 use Rattle.std.proofs.Common.{arith, ◌∙◌, ℕ, ◌≡◌, ◌+◌, ◌++◌, ◌<◌, ◌≤◌, length, Some, refl, sym, ap, subst}
 use Rattle.std.specs.Prelude.{slice_get}
-use Rattle.row_rules.specs.declared.Asks.TheVariants.{Cuts}
+use Rattle.row_rules.specs.{declared.Asks.Asks, declared.Asks.TheVariants.Cuts}
 use Rattle.bank_timing.proofs.Sizes.{timed_fits, outcome_fits}
-use Rattle.pcm_module.specs.State.{ModuleState}
-use Rattle.pcm_module.specs.Taking.{Takes}
-use Rattle.pcm_module.proofs.Serving.{module_kept, module_at, at_above}
-use Rattle.masked_bytes.proofs.Lists.{item-at}
-use Rattle.pcm_module.proofs.Draining.{reached_all, reached_bank}
+use Rattle.pcm_module.specs.{State.ModuleState, Taking.Takes, Telling.{TellsByBanks, rows_at, rows_taking}}
+use Rattle.pcm_module.proofs.{AsIf.{as_if, opens_back, at_as_if, step_as_if, stays_open}, Cuts.{CutsUpTo, cut_none, cut_replays, cut_one, cut_every, in_list}}
+use Rattle.pcm_module.proofs.{Draining.{reached_all, reached_bank}, InOrder.{next_bank, of_bank, step_leaves, tells_own}, Serving.{module_kept, module_at, at_above}}
+use Rattle.pcm_module.proofs.side_by_side.Module.cut.Goals as goal
+use Rattle.masked_bytes.proofs.{Lists.item-at, Truth.neither_first}
 use Rattle.result_rows.specs.declared.Outcome.TheVariants as out
 use Rattle.module_laws.specs.Asking.{Asked}
-use Rattle.row_rules.specs.declared.Asks.{Asks}
-use Rattle.masked_bytes.proofs.Truth.{neither_first}
-use Rattle.pcm_module.specs.Telling.{TellsByBanks, rows_at, rows_taking}
-use Rattle.pcm_module.proofs.InOrder.{next_bank, of_bank, step_leaves, tells_own}
-use Rattle.pcm_module.proofs.AsIf.{as_if, opens_back, at_as_if, step_as_if, stays_open}
-use Rattle.pcm_module.proofs.Cuts.{CutsUpTo, cut_none, cut_replays, cut_one, cut_every, in_list}
-use Rattle.pcm_module.proofs.side_by_side.Module.cut.Goals as goal
 
 pub set-requires : goal.set-requires
 set-requires g c =

@@ -1,7 +1,5 @@
-use Rattle.row_rules.specs.declared.Asks.{Asks}
-use Rattle.row_rules.specs.declared.Asks.TheVariants.{Cuts}
-use Rattle.pcm_module.specs.Telling.{TellsByBanks, rows_taking}
-use Rattle.pcm_module.proofs.Cuts.{IsCutting}
+use Rattle.row_rules.specs.{declared.Asks.Asks, declared.Asks.TheVariants.Cuts}
+use Rattle.pcm_module.{specs.Telling.{TellsByBanks, rows_taking}, proofs.Cuts.IsCutting}
 use Rattle.pcm_module.proofs.side_by_side.Module.cut.Given as goal
 
 abbrev pub invariant-loop-bank : goal.invariant-loop-bank

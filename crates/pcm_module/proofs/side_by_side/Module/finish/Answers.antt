@@ -1,13 +1,8 @@
 use Rattle.std.proofs.Common.{arith, ◌++◌, true, false}
-use Rattle.bank_timing.specs.Extending.{outcome_in}
+use Rattle.bank_timing.{specs.Extending.outcome_in, proofs.Sizes.timed_fits}
 use Rattle.run_laws.specs.FinishedLaws.{ends_of}
-use Rattle.pcm_module.specs.State.{ModuleState, bank_at}
-use Rattle.pcm_module.specs.Draining.{AreDrained}
-use Rattle.pcm_module.proofs.Views.{state_of}
-use Rattle.pcm_module.proofs.Draining.{may_finish, drain_every, drained_ends, module_drained}
-use Rattle.bank_timing.proofs.Sizes.{timed_fits}
-use Rattle.pcm_module.proofs.side_by_side.Module.finish.Given.{Over}
-use Rattle.pcm_module.proofs.side_by_side.Module.finish.Goals.{After-drain_all}
+use Rattle.pcm_module.{specs.Draining.AreDrained, specs.State.{ModuleState, bank_at}, proofs.Draining.{may_finish, drain_every, drained_ends, module_drained}}
+use Rattle.pcm_module.proofs.{Views.state_of, side_by_side.Module.finish.Given.Over, side_by_side.Module.finish.Goals.After-drain_all}
 use Rattle.pcm_module.proofs.side_by_side.Module.finish.Goals as goal
 
 pub drain_all-requires : goal.drain_all-requires

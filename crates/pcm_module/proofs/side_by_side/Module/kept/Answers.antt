@@ -5,12 +5,9 @@ use Rattle.bank_invariant.specs.State.{BankState}
 use Rattle.module_shape.specs.Addresses.{module_of, bank_shape}
 use Rattle.clock_laws.specs.State.{ClockState}
 use Rattle.bank_timing.proofs.Sizes.{timed_fits, bank_fits}
-use Rattle.pcm_module.specs.State.{ModuleState}
-use Rattle.pcm_module.specs.Shaped.{IsBankOf}
-use Rattle.pcm_module.proofs.Banks.{from_get}
-use Rattle.pcm_module.proofs.TakenRows.{bank_there}
-use Rattle.masked_bytes.proofs.Lists.{item-at}
+use Rattle.pcm_module.{specs.Shaped.IsBankOf, specs.State.ModuleState, proofs.Banks.from_get, proofs.TakenRows.bank_there}
 use Rattle.pcm_module.proofs.side_by_side.Module.kept.Goals as goal
+use Rattle.masked_bytes.proofs.Lists.{item-at}
 
 pub bank-requires : goal.bank-requires
 bank-requires g c = (timed_fits g.row.B g.row.M g.row.E c.self.invariant.layout, bank_fits c.self.invariant.layout)

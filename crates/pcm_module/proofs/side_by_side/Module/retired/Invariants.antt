@@ -1,7 +1,6 @@
 use Rattle.std.proofs.Common.{◌≡◌, ℕ, ◌*◌, ◌≤◌}
 use Rattle.end_laws.specs.Ends.{BankEnd}
-use Rattle.pcm_module.specs.State.{AreEndsOf}
-use Rattle.pcm_module.specs.Roles.{spares_used_in}
+use Rattle.pcm_module.specs.{Roles.spares_used_in, State.AreEndsOf}
 use Rattle.pcm_module.proofs.side_by_side.Module.retired.Given as goal
 
 abbrev pub invariant-loop-bank : goal.invariant-loop-bank

@@ -1,13 +1,8 @@
 use Rattle.std.proofs.Common.{◌≤◌, sym, subst}
-use Rattle.pcm_module.specs.State.{ModuleState}
-use Rattle.pcm_module.specs.Replaying.{IsReplayed}
-use Rattle.pcm_module.specs.Settling.{AreSettled}
-use Rattle.pcm_module.proofs.Views.{state_of}
-use Rattle.pcm_module.proofs.Settles.{may_settle, settle_every, module_settled}
-use Rattle.bank_timing.proofs.Sizes.{timed_fits}
-use Rattle.pcm_module.proofs.side_by_side.Module.settle.Given.{Over}
-use Rattle.pcm_module.proofs.side_by_side.Module.settle.Goals.{After-settle_all}
+use Rattle.pcm_module.{specs.Replaying.IsReplayed, specs.Settling.AreSettled, specs.State.ModuleState, proofs.Settles.{may_settle, settle_every, module_settled}}
+use Rattle.pcm_module.proofs.{Views.state_of, side_by_side.Module.settle.Given.Over, side_by_side.Module.settle.Goals.After-settle_all}
 use Rattle.pcm_module.proofs.side_by_side.Module.settle.Goals as goal
+use Rattle.bank_timing.proofs.Sizes.{timed_fits}
 
 pub settle_all-requires : goal.settle_all-requires
 settle_all-requires g c = (

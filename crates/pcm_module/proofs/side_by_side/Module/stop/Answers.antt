@@ -1,10 +1,7 @@
 use Rattle.std.proofs.Common.{◌++◌, true}
-use Rattle.bank_timing.specs.Extending.{outcome_in}
+use Rattle.bank_timing.{specs.Extending.outcome_in, proofs.Sizes.timed_fits}
 use Rattle.run_laws.specs.FinishedLaws.{ends_of}
-use Rattle.pcm_module.specs.State.{ModuleState, bank_at}
-use Rattle.pcm_module.proofs.Views.{state_of}
-use Rattle.pcm_module.proofs.Draining.{may_stop_all, drain_every, drained_ends, module_drained}
-use Rattle.bank_timing.proofs.Sizes.{timed_fits}
+use Rattle.pcm_module.{specs.State.{ModuleState, bank_at}, proofs.Draining.{may_stop_all, drain_every, drained_ends, module_drained}, proofs.Views.state_of}
 use Rattle.pcm_module.proofs.side_by_side.Module.stop.Goals.{After-stop_all}
 use Rattle.pcm_module.proofs.side_by_side.Module.stop.Goals as goal
 

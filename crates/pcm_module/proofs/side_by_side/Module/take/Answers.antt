@@ -3,8 +3,7 @@ use Rattle.trace_reader.specs.declared.event.EventOp.TheVariants.{Read, Write, M
 use Rattle.masked_bytes.proofs.Layering.{IsMasked-all_given}
 use Rattle.module_shape.specs.Limits.{total_of}
 use Rattle.bank_timing.proofs.Sizes.{entry_fits}
-use Rattle.pcm_module.proofs.Sizes.{module_fits}
-use Rattle.pcm_module.proofs.Events.{takes_event, order_event, op_for}
+use Rattle.pcm_module.proofs.{Events.{takes_event, order_event, op_for}, Sizes.module_fits}
 use Rattle.pcm_module.proofs.side_by_side.Module.take.Goals as goal
 
 pub write-requires : goal.write-requires

@@ -1,10 +1,8 @@
 use Rattle.std.proofs.Common.{refl, arith}
-use Rattle.pcm_module.proofs.Views.{state_of}
-use Rattle.pcm_module.proofs.Serving.{ComesTo, comes, may_arrive, taken_kept, write_taken, write_in_order}
-use Rattle.bank_timing.proofs.Sizes.{timed_fits, entry_fits}
-use Rattle.pcm_module.proofs.side_by_side.Module.write.Given.{Over}
+use Rattle.pcm_module.proofs.{Serving.{ComesTo, comes, may_arrive, taken_kept, write_taken, write_in_order}, Views.state_of, side_by_side.Module.write.Given.Over}
 use Rattle.pcm_module.proofs.side_by_side.Module.write.Goals.{After-index_mut-timed}
 use Rattle.pcm_module.proofs.side_by_side.Module.write.Goals as goal
+use Rattle.bank_timing.proofs.Sizes.{timed_fits, entry_fits}
 
 -- the write comes to the bank of its line
 arrives : (g : Over) (c : After-index_mut-timed g)

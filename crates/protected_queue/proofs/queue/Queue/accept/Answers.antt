@@ -1,8 +1,7 @@
 use Rattle.std.proofs.Common.{rules, ◌<◌, ◌≤◌, refl, sym, length}
 use Rattle.masked_bytes.proofs.Queueing.{newest_index-within, candidate_index-newest}
-use Rattle.protected_queue.proofs.Accepting.{accept_answer-Some, accept_answer-room, accept_answer-full, IsQueue-append}
+use Rattle.protected_queue.proofs.{Accepting.{accept_answer-Some, accept_answer-room, accept_answer-full, IsQueue-append}, queue.Queue.accept.Goals.{in-Ok, in-Err}}
 use Rattle.protected_queue.proofs.queue.Queue.accept.Goals as goal
-use Rattle.protected_queue.proofs.queue.Queue.accept.Goals.{in-Ok, in-Err}
 
 pub merge-requires : goal.merge-requires
 merge-requires g c =

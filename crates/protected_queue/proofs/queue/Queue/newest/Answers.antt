@@ -1,6 +1,5 @@
 use Rattle.std.proofs.Common.{◌≡◌, ℕ, ◌-◌, suc, refl, sym, ◌∙◌, ap, subst, drop, arith}
-use Rattle.masked_bytes.specs.Entries.{layer_of}
-use Rattle.masked_bytes.proofs.Queueing.{layer_of-none}
+use Rattle.masked_bytes.{specs.Entries.layer_of, proofs.Queueing.layer_of-none}
 use Rattle.protected_queue.proofs.Accepting.{layer_of-more, layer_of-passed, newest_index-None}
 use Rattle.protected_queue.proofs.queue.Queue.newest.Goals as goal
 

@@ -1,9 +1,7 @@
 use Rattle.std.proofs.Common.{arith, ℕ, ◌+◌, ◌<◌, Option, IfSome, ap, sym, subst, ◌∙◌}
 use Rattle.cell_rows.specs.Device.{LineState}
 use Rattle.line_writer.specs.Writing.{HasBegun}
-use Rattle.reg_lines.specs.declared.Change.{Change}
-use Rattle.reg_lines.proofs.Held.{HasStepped, held-stepped, held-same, done-holds, begun-goes, begun-fresh}
-use Rattle.reg_lines.proofs.regs.RegLines.begin.Given.{Over}
+use Rattle.reg_lines.{specs.declared.Change.Change, proofs.Held.{HasStepped, held-stepped, held-same, done-holds, begun-goes, begun-fresh}, proofs.regs.RegLines.begin.Given.Over}
 use Rattle.reg_lines.proofs.regs.RegLines.begin.Goals.{After-keep}
 use Rattle.reg_lines.proofs.regs.RegLines.begin.Goals as goal
 

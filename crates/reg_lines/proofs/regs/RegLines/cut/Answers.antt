@@ -1,10 +1,8 @@
 use Rattle.std.proofs.Common.{arith, ◌≡◌, ◌+◌, [], Some, None, false, ap, sym, ◌∙◌}
-use Rattle.bank_model.specs.Touching.{Touches}
+use Rattle.bank_model.{specs.Touching.Touches, proofs.Touched.{touches-nothing, touches-tear}}
 use Rattle.line_writer.proofs.Untouched.{untouched-tear}
-use Rattle.reg_lines.specs.Regs.{RegsState, AreHeld}
-use Rattle.reg_lines.specs.Keeping.{broken_off, torn_line}
+use Rattle.reg_lines.specs.{Keeping.{broken_off, torn_line}, Regs.{RegsState, AreHeld}}
 use Rattle.reg_lines.proofs.Held.{held-broken, held-stopped, running-going, quiet-cut, written-stands, view_of}
-use Rattle.bank_model.proofs.Touched.{touches-nothing, touches-tear}
 use Rattle.reg_lines.proofs.regs.RegLines.cut.Goals.{in-Some+in-Some-change+then-tearing, in-Some+in-Some-change+else-tearing, in-Some+in_default-change, in_default}
 use Rattle.reg_lines.proofs.regs.RegLines.cut.Goals as goal
 

@@ -1,13 +1,9 @@
 use Rattle.std.proofs.Common.{arith, ◌≡◌, ◌≢◌, ℕ, ◌+◌, false, [], ◌∷◌, Some, sym, subst, ◌∙◌}
-use Rattle.line_writer.specs.Writing.{IsWorn}
-use Rattle.line_writer.proofs.Untouched.{untouched-round, AreUntouched-beside}
-use Rattle.reg_lines.specs.Regs.{RegsState}
-use Rattle.bank_model.specs.Touching.{Touches}
-use Rattle.bank_model.proofs.Touched.{touches-round}
-use Rattle.reg_lines.proofs.Held.{HasStepped, held-stepped, sound-beside, writing-of, running-going, kept-over, view_of}
-use Rattle.reg_lines.proofs.regs.RegLines.iterate.Given.{Over}
-use Rattle.reg_lines.proofs.regs.RegLines.iterate.Goals.{After-keep}
+use Rattle.line_writer.{specs.Writing.IsWorn, proofs.Untouched.{untouched-round, AreUntouched-beside}}
+use Rattle.reg_lines.{specs.Regs.RegsState, proofs.Held.{HasStepped, held-stepped, sound-beside, writing-of, running-going, kept-over, view_of}}
+use Rattle.reg_lines.proofs.{regs.RegLines.iterate.Given.Over, regs.RegLines.iterate.Goals.After-keep}
 use Rattle.reg_lines.proofs.regs.RegLines.iterate.Goals as goal
+use Rattle.bank_model.{specs.Touching.Touches, proofs.Touched.touches-round}
 
 -- the writing of the change has gone on
 stepped : (g : Over) (c : After-keep g)

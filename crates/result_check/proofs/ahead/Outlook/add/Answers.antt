@@ -1,7 +1,7 @@
 use Rattle.std.proofs.Common.{◌≡◌, Some}
 use Rattle.result_check.specs.Finding.{line_written}
-use Rattle.trace_rows.specs.Rows.{asks_of}
 use Rattle.result_check.proofs.ahead.Outlook.add.Goals as goal
+use Rattle.trace_rows.specs.Rows.{asks_of}
 
 pub returns-in-Some : goal.returns-in-Some
 returns-in-Some g c = λ rows h.

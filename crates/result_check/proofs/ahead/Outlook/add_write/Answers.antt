@@ -3,10 +3,9 @@ use Rattle.std.specs.Prelude.{slice_set}
 use Rattle.result_rows.specs.declared.Outcome.{Outcome}
 use Rattle.result_rows.specs.declared.Outcome.TheVariants as out
 use Rattle.check_verdict.specs.Judged.{a_row}
-use Rattle.result_check.specs.Coming.{IsOutlook}
-use Rattle.result_check.proofs.Coming.{written_is, outlook_stored, outlook_accepted, outlook_worn}
-use Rattle.masked_bytes.proofs.Lists.{item-at}
+use Rattle.result_check.{specs.Coming.IsOutlook, proofs.Coming.{written_is, outlook_stored, outlook_accepted, outlook_worn}}
 use Rattle.result_check.proofs.ahead.Outlook.add_write.Goals as goal
+use Rattle.masked_bytes.proofs.Lists.{item-at}
 
 pub returns-in-Stored : goal.returns-in-Stored
 returns-in-Stored g c =

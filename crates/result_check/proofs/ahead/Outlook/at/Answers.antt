@@ -1,10 +1,8 @@
 use Rattle.std.proofs.Common.{◌≡◌, ◌∙◌, length, Some, sym, ap, arith}
-use Rattle.result_check.specs.Coming.{coming_for}
-use Rattle.result_check.specs.Finding.{line_asked}
-use Rattle.trace_rows.specs.Rows.{asks_of}
-use Rattle.result_check.proofs.Coming.{asked_below, looked_up}
-use Rattle.masked_bytes.proofs.Lists.{item-at}
+use Rattle.result_check.{specs.Coming.coming_for, specs.Finding.line_asked, proofs.Coming.{asked_below, looked_up}}
 use Rattle.result_check.proofs.ahead.Outlook.at.Goals as goal
+use Rattle.trace_rows.specs.Rows.{asks_of}
+use Rattle.masked_bytes.proofs.Lists.{item-at}
 
 pub returns-in-Some : goal.returns-in-Some
 returns-in-Some g c = λ rows h.

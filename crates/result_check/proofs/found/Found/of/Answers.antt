@@ -1,14 +1,11 @@
 use Rattle.std.proofs.Common.{◌≡◌, ℕ, ◌+◌, suc, Some, length, refl, sym, subst, arith}
-use Rattle.std.specs.Prelude.{slice_get, IsPermutation}
-use Rattle.std.proofs.lemmas.Option.{slice_get_read}
-use Rattle.std.proofs.lemmas.List.Sorted.{IsNonDecreasingBy-from_sort}
+use Rattle.std.{specs.Prelude.{slice_get, IsPermutation}, proofs.lemmas.List.Sorted.IsNonDecreasingBy-from_sort, proofs.lemmas.Option.slice_get_read}
 use Rattle.trace_rows.specs.Rows.{rows_with, row_of}
-use Rattle.result_check.specs.Tables.{IsRowOf}
-use Rattle.result_check.proofs.Finding.{IsFoundTo, outcome_there, rows_next, rows_length, found_more, found_all}
+use Rattle.result_check.{specs.Tables.IsRowOf, proofs.Finding.{IsFoundTo, outcome_there, rows_next, rows_length, found_more, found_all}}
 use Rattle.result_check.proofs.Rows.{one_of_all, one_of_every, short_of_brief}
+use Rattle.result_check.proofs.found.Found.of.Goals as goal
 use Rattle.trace_reader.proofs.Sizes.{event_fits}
 use Rattle.result_rows.proofs.Sizes.{outcome_fits}
-use Rattle.result_check.proofs.found.Found.of.Goals as goal
 
 pub add-requires : goal.add-requires
 add-requires g c =

@@ -1,11 +1,7 @@
 use Rattle.std.proofs.Common.{◌≡◌, ◌<◌, ◌∙◌, Some, length, sym, ap, subst}
 use Rattle.std.specs.Prelude.{IfSome}
-use Rattle.check_verdict.specs.Fitting.{room_kept}
-use Rattle.check_verdict.specs.States.{Facts}
-use Rattle.check_verdict.specs.Passing.{joined_room}
-use Rattle.check_verdict.specs.Verdicts.{bank_in}
-use Rattle.result_check.specs.Keeping.{facts_in, Knows}
-use Rattle.result_check.proofs.Keeping.{knows_settled, knows_seen, bank_exists, facts_settled}
+use Rattle.check_verdict.specs.{Fitting.room_kept, Passing.joined_room, States.Facts, Verdicts.bank_in}
+use Rattle.result_check.{specs.Keeping.{facts_in, Knows}, proofs.Keeping.{knows_settled, knows_seen, bank_exists, facts_settled}}
 use Rattle.result_check.proofs.kept.Kept.find_room.Goals as goal
 
 pub returns-in-Some-clause-knows : goal.returns-in-Some-clause-knows

@@ -1,14 +1,10 @@
 use Rattle.std.proofs.Common.{◌≡◌, ◌∙◌, refl, sym, ap, subst}
 use Rattle.std.specs.Prelude.{slice_set}
-use Rattle.check_verdict.specs.States.{after_write}
-use Rattle.check_verdict.specs.declared.lines.Line.{Line}
-use Rattle.result_check.specs.Lines.{IsLineBehind}
-use Rattle.result_check.proofs.Lists.{some_same}
-use Rattle.masked_bytes.proofs.Lists.{item-at}
-use Rattle.result_check.proofs.Keeping.{facts_got}
-use Rattle.result_rows.proofs.Sizes.{outcome_fits}
-use Rattle.result_check.proofs.Sizes.{line_fits, bytes_fit}
+use Rattle.check_verdict.specs.{States.after_write, declared.lines.Line.Line}
+use Rattle.result_check.{specs.Lines.IsLineBehind, proofs.Keeping.facts_got, proofs.Lists.some_same, proofs.Sizes.{line_fits, bytes_fit}}
 use Rattle.result_check.proofs.kept.Kept.pass_write.Goals as goal
+use Rattle.masked_bytes.proofs.Lists.{item-at}
+use Rattle.result_rows.proofs.Sizes.{outcome_fits}
 
 pub pass_line-requires : goal.pass_line-requires
 pass_line-requires g c = (line_fits g.row.B c.requires.small, (bytes_fit g.row.B c.requires.small, (bytes_fit g.row.B c.requires.small, outcome_fits g.row.B c.requires.small)))

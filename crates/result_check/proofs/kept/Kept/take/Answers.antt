@@ -1,17 +1,12 @@
 use Rattle.std.proofs.Common.{◌≡◌, ◌<◌, length, sym, ap, subst, arith}
 use Rattle.std.specs.Prelude.{true, replicate}
-use Rattle.row_rules.specs.declared.Asks.{Asks}
-use Rattle.row_rules.specs.declared.Asks.TheVariants.{Reads, Writes}
-use Rattle.row_rules.specs.Lines.{IsOfLines}
-use Rattle.check_verdict.specs.Judged.{a_row}
-use Rattle.check_verdict.specs.Verdicts.{bank_in}
+use Rattle.row_rules.specs.{Lines.IsOfLines, declared.Asks.Asks, declared.Asks.TheVariants.{Reads, Writes}}
+use Rattle.check_verdict.specs.{Judged.a_row, Verdicts.bank_in}
 use Rattle.trace_rows.specs.Rows.{asks_of}
-use Rattle.result_check.specs.Keeping.{IsNext, HasPassed}
-use Rattle.result_check.proofs.Meeting.{next_of, may_take, fourth_below, few_wait}
-use Rattle.result_check.proofs.Sizes.{bytes_fit}
+use Rattle.result_check.{specs.Keeping.{IsNext, HasPassed}, proofs.Meeting.{next_of, may_take, fourth_below, few_wait}, proofs.Sizes.bytes_fit}
+use Rattle.result_check.proofs.kept.Kept.take.Goals as goal
 use Rattle.trace_reader.proofs.Sizes.{op_fits}
 use Rattle.result_rows.proofs.Sizes.{outcome_fits}
-use Rattle.result_check.proofs.kept.Kept.take.Goals as goal
 
 pub take_read-requires : goal.take_read-requires
 take_read-requires g c =

@@ -1,12 +1,10 @@
 use Rattle.std.proofs.Common.{◌≡◌, ◌∙◌, List, length, sym, ap, arith}
 use Rattle.std.specs.Prelude.{slice_get}
-use Rattle.check_verdict.specs.Banks.{facts_of}
-use Rattle.check_verdict.specs.declared.lines.Line.{Line}
+use Rattle.check_verdict.specs.{Banks.facts_of, declared.lines.Line.Line}
 use Rattle.trace_rows.specs.Rows.{asks_of}
-use Rattle.result_check.proofs.Keeping.{is_settled}
-use Rattle.masked_bytes.proofs.Lists.{item-at}
-use Rattle.result_check.proofs.Taking.{read_taken}
+use Rattle.result_check.proofs.{Keeping.is_settled, Taking.read_taken}
 use Rattle.result_check.proofs.kept.Kept.take_read.Goals as goal
+use Rattle.masked_bytes.proofs.Lists.{item-at}
 
 pub returns-in-Some-clause-passes : goal.returns-in-Some-clause-passes
 returns-in-Some-clause-passes g c = λ before after h.

@@ -1,13 +1,9 @@
 use Rattle.std.proofs.Common.{◌≡◌, ◌<◌, ◌∙◌, List, length, sym, ap, subst, arith}
-use Rattle.check_verdict.specs.Banks.{facts_of}
-use Rattle.check_verdict.specs.declared.lines.Line.{Line}
+use Rattle.check_verdict.specs.{Banks.facts_of, declared.lines.Line.Line}
 use Rattle.trace_rows.specs.Rows.{asks_of}
-use Rattle.result_check.specs.Keeping.{KnowsLines}
-use Rattle.result_check.proofs.Keeping.{is_settled}
-use Rattle.result_check.proofs.Lines.{lines_pass}
-use Rattle.masked_bytes.proofs.Lists.{item-at}
-use Rattle.result_check.proofs.Taking.{write_taken}
+use Rattle.result_check.{specs.Keeping.KnowsLines, proofs.Keeping.is_settled, proofs.Lines.lines_pass, proofs.Taking.write_taken}
 use Rattle.result_check.proofs.kept.Kept.take_write.Goals as goal
+use Rattle.masked_bytes.proofs.Lists.{item-at}
 
 pub returns-in-Some-clause-passes : goal.returns-in-Some-clause-passes
 returns-in-Some-clause-passes g c = λ before after h.

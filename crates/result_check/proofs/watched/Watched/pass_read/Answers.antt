@@ -1,8 +1,7 @@
 use Rattle.std.proofs.Common.{◌∙◌, sym, subst, ap}
 use Rattle.std.specs.Prelude.{min}
 use Rattle.check_verdict.specs.Banks.{facts_of}
-use Rattle.result_check.specs.Watching.{IsWatched}
-use Rattle.result_check.proofs.Watching.{watched_none, watched_read}
+use Rattle.result_check.{specs.Watching.IsWatched, proofs.Watching.{watched_none, watched_read}}
 use Rattle.result_check.proofs.watched.Watched.pass_read.Goals as goal
 
 pub invariant_of-self : goal.invariant_of-self

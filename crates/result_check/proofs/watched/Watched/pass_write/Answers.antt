@@ -1,11 +1,7 @@
 use Rattle.std.proofs.Common.{◌++◌, [], ◌∷◌, List, refl, sym, subst}
 use Rattle.std.specs.Prelude.{filter}
-use Rattle.check_verdict.specs.declared.members.Member.{Member}
-use Rattle.check_verdict.specs.Banks.{facts_of}
-use Rattle.check_verdict.specs.Fitting.{IsKnown}
-use Rattle.check_verdict.specs.Joined.{stays_beside}
-use Rattle.result_check.specs.Watching.{IsWatched}
-use Rattle.result_check.proofs.Watching.{watched_none, watched_written}
+use Rattle.check_verdict.specs.{Banks.facts_of, Fitting.IsKnown, Joined.stays_beside, declared.members.Member.Member}
+use Rattle.result_check.{specs.Watching.IsWatched, proofs.Watching.{watched_none, watched_written}}
 use Rattle.result_check.proofs.watched.Watched.pass_write.Goals as goal
 
 pub invariant_of-self : goal.invariant_of-self

@@ -1,12 +1,7 @@
 use Rattle.std.proofs.Common.{◌≡◌, ◌∙◌, sym, subst, ap}
 use Rattle.std.specs.Prelude.{nat_le, not}
-use Rattle.check_verdict.specs.Banks.{facts_of}
-use Rattle.check_verdict.specs.Fitting.{IsKnown}
-use Rattle.check_verdict.proofs.Pairs.{known-filter}
-use Rattle.check_verdict.specs.States.{Facts, settled}
-use Rattle.check_verdict.specs.Members.{never}
-use Rattle.result_check.specs.Watching.{NoneEndsBelow, least_of}
-use Rattle.result_check.proofs.Watching.{none_below_least, settled_already}
+use Rattle.check_verdict.{specs.Banks.facts_of, specs.Fitting.IsKnown, specs.Members.never, specs.States.{Facts, settled}, proofs.Pairs.known-filter}
+use Rattle.result_check.{specs.Watching.{NoneEndsBelow, least_of}, proofs.Watching.{none_below_least, settled_already}}
 use Rattle.result_check.proofs.watched.Watched.settle.Goals as goal
 
 pub invariant_of-self : goal.invariant_of-self

@@ -1,9 +1,7 @@
 use Rattle.std.proofs.Common.{◌≡◌, ◌+◌, ◌*◌, ◌∙◌, ap}
-use Rattle.start_gap.specs.Rotation.{place_after}
-use Rattle.start_gap.specs.Slots.{slot_at}
+use Rattle.start_gap.specs.{Rotation.place_after, Slots.slot_at}
 use Rattle.pcm_io.specs.Reserved.{appended}
-use Rattle.rotation_reports.specs.MapText.{array_lines_of}
-use Rattle.rotation_reports.proofs.Bounds.{six_fields, map_row-is}
+use Rattle.rotation_reports.{specs.MapText.array_lines_of, proofs.Bounds.{six_fields, map_row-is}}
 use Rattle.rotation_reports.proofs.line_rows.Map.print_row.Goals as goal
 
 pub returns-clause-after : goal.returns-clause-after

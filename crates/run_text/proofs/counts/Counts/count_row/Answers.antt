@@ -1,8 +1,7 @@
 use Rattle.result_rows.specs.declared.Outcome.TheVariants as out
 use Rattle.std.proofs.Common.{ap, arith}
 use Rattle.row_rules.specs.Answers.{is_stored, is_merged, is_queued, is_full, is_worn, is_answered, is_forwarded, is_busy, is_lost}
-use Rattle.run_text.specs.Counting.{is_cut}
-use Rattle.run_text.proofs.Counted.{count-fits, counts-row}
+use Rattle.run_text.{specs.Counting.is_cut, proofs.Counted.{count-fits, counts-row}}
 use Rattle.run_text.proofs.counts.Counts.count_row.Goals as goal
 
 pub returns-in-Unset : goal.returns-in-Unset

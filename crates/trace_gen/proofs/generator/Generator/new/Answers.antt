@@ -1,6 +1,5 @@
 use Rattle.std.proofs.Common.{rules}
-use Rattle.trace_gen.specs.Generated.{IsLongMix}
-use Rattle.trace_gen.proofs.Lawful.{long-mix}
+use Rattle.trace_gen.{specs.Generated.IsLongMix, proofs.Lawful.long-mix}
 use Rattle.trace_gen.proofs.generator.Generator.new.Goals as goal
 
 pub long-requires : goal.long-requires

@@ -1,6 +1,5 @@
 use Rattle.std.proofs.Common.{◌≢◌, ◌+◌, ◌%◌, ◌<◌, ◌≤◌, ◌∙◌, ap, sym, arith}
-use Rattle.trace_gen.specs.Generated.{words_left}
-use Rattle.trace_gen.proofs.Drawn.{left-more, left-none}
+use Rattle.trace_gen.{specs.Generated.words_left, proofs.Drawn.{left-more, left-none}}
 use Rattle.trace_gen.proofs.generator.Generator.next_event.Goals as goal
 
 pub returns-then-self : goal.returns-then-self

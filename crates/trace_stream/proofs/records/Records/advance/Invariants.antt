@@ -1,6 +1,5 @@
 use Rattle.std.proofs.Common.{◌≡◌, ◌<◌, length}
-use Rattle.trace_stream.specs.Machine.{state_of}
-use Rattle.trace_stream.specs.Kept.{GoesOn}
+use Rattle.trace_stream.specs.{Kept.GoesOn, Machine.state_of}
 use Rattle.trace_stream.proofs.records.Records.advance.Given as goal
 
 -- the record goes on with what is left

@@ -1,6 +1,5 @@
 use Rattle.std.proofs.Common.{sym, ap, ◌∙◌}
-use Rattle.trace_stream.specs.Kept.{Kept}
-use Rattle.trace_stream.proofs.Steps.{end-ends, end-none}
+use Rattle.trace_stream.{specs.Kept.Kept, proofs.Steps.{end-ends, end-none}}
 use Rattle.trace_stream.proofs.records.Records.finish.Goals as goal
 
 pub returns-then-not-ends_at_end-clause-none : goal.returns-then-not-ends_at_end-clause-none

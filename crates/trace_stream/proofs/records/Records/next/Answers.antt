@@ -1,9 +1,7 @@
 use Rattle.std.proofs.Common.{◌++◌, ap, sym, ◌∙◌, append_assoc, arith}
-use Rattle.std.proofs.lemmas.Bool.{false≢true}
-use Rattle.std.proofs.lemmas.List.{length-append}
+use Rattle.std.proofs.{lemmas.Bool.false≢true, lemmas.List.length-append}
 use Rattle.pcm_io.proofs.ByteLemmas.{Takes-Takes}
-use Rattle.trace_stream.specs.Arrived.{Arrived}
-use Rattle.trace_stream.proofs.Steps.{finds-finished, goes-goes, goes-more, none-decides, stays-stays}
+use Rattle.trace_stream.{specs.Arrived.Arrived, proofs.Steps.{finds-finished, goes-goes, goes-more, none-decides, stays-stays}}
 use Rattle.trace_stream.proofs.records.Records.next.Goals as goal
 
 pub returns-then-not-some-clause-found : goal.returns-then-not-some-clause-found

@@ -1,9 +1,7 @@
 use Rattle.std.proofs.Common.{◌≡◌, ◌<◌, ◌≤◌, ◌++◌, ℕ, List, [], length, true}
 use Rattle.std.specs.Io.KnownBytes.{IsAtEnd}
 use Rattle.pcm_io.specs.Taking.{Takes}
-use Rattle.trace_stream.specs.Arrived.{StaysEnded}
-use Rattle.trace_stream.specs.Machine.{state_of}
-use Rattle.trace_stream.specs.Kept.{GoesOn, decides}
+use Rattle.trace_stream.specs.{Arrived.StaysEnded, Kept.{GoesOn, decides}, Machine.state_of}
 use Rattle.trace_stream.proofs.records.Records.next.Given as goal
 
 -- the record goes on with the bytes that were taken so far, one at least for each piece

@@ -1,6 +1,5 @@
 use Rattle.std.proofs.Common.{ap, refl}
-use Rattle.trace_stream.specs.Kept.{Kept}
-use Rattle.trace_stream.proofs.Steps.{goes-byte, ends-byte, first-byte}
+use Rattle.trace_stream.{specs.Kept.Kept, proofs.Steps.{goes-byte, ends-byte, first-byte}}
 use Rattle.trace_stream.proofs.records.Records.take_byte.Goals as goal
 
 pub returns-in-Skip-clause-goes_on : goal.returns-in-Skip-clause-goes_on

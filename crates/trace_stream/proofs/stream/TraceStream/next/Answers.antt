@@ -1,7 +1,5 @@
 use Rattle.std.proofs.Common.{refl, sym, ◌∙◌}
-use Rattle.trace_stream.specs.Machine.{state_of}
-use Rattle.trace_stream.specs.Stream.{Standing}
-use Rattle.trace_stream.proofs.Lawful.{asked-lawful}
+use Rattle.trace_stream.{specs.Machine.state_of, specs.Stream.Standing, proofs.Lawful.asked-lawful}
 use Rattle.trace_stream.proofs.Rows.{asks-faulty, asks-none, asks-some, asks-too_many, happens-counted, no-front, no-front-past}
 use Rattle.trace_stream.proofs.stream.TraceStream.next.Goals as goal
 
