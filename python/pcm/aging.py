@@ -32,8 +32,9 @@ def aging(runs: Sequence[Run]) -> Section:
     words += [f"No snapshots of {run.name}." for run in runs if not run.snapshots]
     caption = "Over the rows; stored, full, worn and lost since the row above"
     tables = [_table(run, f"{run.name}: {caption}" if several else caption) for run in told]
-    text = f'<div class="pictures shared">{figures}</div>' + "".join(looked(" ".join(words)) for _ in words[:1])
-    return "aging", "As the module ages", looked(_LOOK) + text + folded("The numbers", *tables)
+    lacking = looked(" ".join(words)) if words else ""
+    text = f'{looked(_LOOK)}<div class="pictures shared">{figures}</div>{lacking}'
+    return "aging", "As the module ages", text + folded("The numbers", *tables)
 
 
 def _any(runs: Sequence[Run], name: str) -> bool:
@@ -102,18 +103,22 @@ def _pointers(runs: Sequence[Run]) -> List[Picture]:
         last, first = run.snapshots[-1], tallies.first_with(run.snapshots, "pointers", 1)
         return "none" if first is None else f"{last.pointers:,} behind {last.rows:,} rows, the first by row {first:,}"
 
+    if not _any(runs, "pointers"):
+        return []
     curves = _curves(runs, "pointers")
-    return [of_rows("Active pointers of all array lines", _each(runs, told), _fit(curves, "pointers"), curves)] * _any(runs, "pointers")
+    return [of_rows("Active pointers of all array lines", _each(runs, told), _fit(curves, "pointers"), curves)]
 
 
 def _spares(runs: Sequence[Run]) -> List[Picture]:
     """The spares in use; half of them is marked where it is one number."""
+    if not _any(runs, "retired"):
+        return []
     bounds = {run.spares for run in runs}
     bound: Optional[int] = bounds.pop() if len(bounds) == 1 else None
     curves = _curves(runs, "retired")
     axis = _fit(curves, "spares", 0.625 * (bound or 0))
     mark = (bound / 2, f"half of the {bound:,} spares") if bound else None
-    return [of_rows("Spares in use", _each(runs, _spares_told), axis, curves, mark=mark)] * _any(runs, "retired")
+    return [of_rows("Spares in use", _each(runs, _spares_told), axis, curves, mark=mark)]
 
 
 def _spares_told(run: Run) -> str:

@@ -39,7 +39,7 @@ def _ran(runs: Sequence[Run], version: str) -> Section:
     rows = "".join(f'<tr><th scope="row"><code>--{escaped(name)}</code></th>{_values(runs, name)}</tr>' for name in told)
     head = "".join(f'<th scope="col" class="words">{unbroken(run.name)}</th>' for run in runs)
     assumed = ", ".join(f"--{name} {run.options[name]}" for name in names for run in runs[:1] if name not in told)
-    text = f'<div class="wide"><table class="options"><thead><tr><th scope="col">option</th>{head}</tr></thead><tbody>{rows}</tbody></table></div>'
+    text = f'<div class="wide"><table class="options"><thead><tr><th scope="col">option</th>{head}</tr></thead><tbody>{rows}</tbody></table></div>' if told else ""
     text += f"<p>Assumed, as the program's defaults: {unbroken(assumed)}.</p>" if assumed else ""
     listed = "".join(
         f'<tr><th scope="row">{unbroken(run.name)}</th><td class="words">{escaped(file.kind)}</td><td class="words path">{unbroken(file.name)}</td>'
