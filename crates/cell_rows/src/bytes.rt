@@ -30,8 +30,8 @@ fn with_bit(byte: u8, index: usize, value: bool) -> u8
 
 pub(crate) fn set_bit(bytes: &mut [u8], number: usize, value: bool)
     requires { number < 8 * length bytes.old }
-    ensures { (n : ℕ) → bit_of bytes.new n ≡ (if nat_eq n number then value else bit_of bytes.old
-        n) }
+    ensures { (n : ℕ) → bit_of bytes.new n
+        ≡ (if nat_eq n number then value else bit_of bytes.old n) }
 {
     bytes[number / 8] = with_bit(bytes[number / 8], number % 8, value);
 }

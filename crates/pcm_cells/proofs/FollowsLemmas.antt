@@ -1,7 +1,11 @@
 -- Families of cells that follow a rule, cell by cell and group by group.
-use Rattle.std.proofs.Common.{◌≡◌, ◌≢◌, ℕ, ◌+◌, ◌-◌, ◌*◌, ◌/◌, ◌<◌, ◌≤◌, Bool, true, false, cond, refl, subst, ◌∙◌, ap, inl, inr, arith}
-use Rattle.std.proofs.lemmas.Bool.{cases_eq, cases_lt}
+use Rattle.std.proofs.Common.{◌≡◌, ◌≢◌, ℕ, ◌+◌, ◌-◌, ◌*◌, ◌/◌, ◌<◌, ◌≤◌, Bool, false, cond, refl, subst, ◌∙◌, inl, inr, arith}
+use Rattle.std.proofs.lemmas.Bool.{cases_lt}
 use Rattle.pcm_cells.specs.Follows.{Follows, FollowsIn}
+
+-- no group yet
+pub followed_none : {X : Type 0} (at_cell : ℕ) (mask : ℕ → Bool) (rule : ℕ → X → X) (old : ℕ → X) → FollowsIn at_cell at_cell mask rule old old
+followed_none {X} at_cell mask rule old = record { inside = λ n from to. absurd (omega (arith, from, to)); below = λ n h. refl; above = λ n h. refl }
 
 -- one group more
 pub followed_group : {X : Type 0} (from mid_at to : ℕ) (mask : ℕ → Bool) (rule : ℕ → X → X) (old mid new : ℕ → X)

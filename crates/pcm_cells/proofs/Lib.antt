@@ -1,4 +1,5 @@
 pub mod BlockLemmas
+pub mod SizeLemmas
 pub mod FollowsLemmas
 pub mod LineLemmas
 pub mod PlaneLemmas

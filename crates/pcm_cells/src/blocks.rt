@@ -5,8 +5,8 @@ ghost use Rattle.pcm_cells.specs.Planes.{bit_in, number_of};
 // Of each cell that is in the mask the wanted bit, and of each other one the bit as it is.
 pub(crate) fn chosen(bits: u64, mask: u64, want: u64) -> u64
     ensures is { result ≡ bit_xor bits (bit_and (bit_xor bits want) mask) }
-    ensures bits { (i : ℕ) → bit_in result i ≡ (if bit_in mask i then bit_in want i else bit_in bits
-        i) }
+    ensures bits { (i : ℕ) → bit_in result i ≡ (if bit_in mask i then bit_in want i
+        else bit_in bits i) }
 {
     bits ^ (bits ^ want) & mask
 }

@@ -1,5 +1,5 @@
 // The array whose cells wear out as a seed says.
-ghost use Rattle.std.specs.Prelude.{◌≡◌, ◌≢◌, ℕ, ◌+◌, ◌-◌, ◌*◌, ◌%◌, ◌<◌, ◌≤◌, max, true, false, length, OnOk, OnErr, slice_index};
+ghost use Rattle.std.specs.Prelude.{◌≡◌, ◌≢◌, ℕ, ◌+◌, ◌-◌, ◌*◌, ◌%◌, ◌<◌, ◌≤◌, true, false, length, OnOk, OnErr, slice_index};
 
 use crate::CellState;
 use crate::blocks::{are_many, byte_at, chosen, life, reached, spend, with_life, without};
@@ -46,12 +46,6 @@ fn miss_limit(wear: Wear, word: u64) -> u8
     ensures few { result ≤ 7 }
 {
     ((word >> 32) % 8).min(wear.misses as u64) as u8
-}
-
-fn greater(one: u32, other: u32) -> u32
-    ensures { result ≡ max one other }
-{
-    one.max(other)
 }
 
 /// The cells of one line, and the life of each.
@@ -341,7 +335,7 @@ impl<const B: usize, const M: usize> SeededLine<B, M> {
         let mut changes = 0;
         for number in 0..8 * (B + M) as u16 {
             let left = self.left_at(number);
-            changes = greater(changes, drawn.left_at(number).saturating_sub(left));
+            changes = changes.max(drawn.left_at(number).saturating_sub(left));
         }
         CellWear {
             stuck: self.settled.stuck.count(),

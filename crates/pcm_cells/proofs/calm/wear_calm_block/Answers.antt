@@ -1,47 +1,44 @@
-use Rattle.std.proofs.Common.{◌≡◌, ℕ, ◌+◌, ◌-◌, ◌*◌, ◌%◌, ◌≤◌, ◌&&◌, Bool, true, false, not, cond, eqb, rules, refl, sym, ◌∙◌, ap, arith, bit_and}
+use Rattle.std.proofs.Common.{◌≡◌, ℕ, ◌+◌, ◌-◌, ◌*◌, ◌%◌, ◌&&◌, Bool, true, false, not, cond, eqb, refl, sym, ◌∙◌, ap, arith, bit_and}
 use Rattle.std.{specs.Prelude.nat_le, proofs.lemmas.Nat.Bits.bit_at-zero}
 use Rattle.cell_rows.{specs.Rows.cell, proofs.ByteLemmas.{digit_and, swapped}}
 use Rattle.pcm_cells.{specs.Counts.count, specs.Planes.{bit_in, digit}, specs.Seeded.{LifeLine, life_of, seeded, seeded_cell}, proofs.CalmLemmas.calm_parts}
 use Rattle.pcm_cells.proofs.{FollowsLemmas.followed_block, SeededLemmas.{worn_follows, worn_kept, missing_few, left_is, left_kept, calm_last, calm_here, in_row}}
+use Rattle.pcm_cells.proofs.SizeLemmas.{digits_fit, row_fits}
 use Rattle.pcm_cells.proofs.calm.wear_calm_block.Goals as goal
 
 pub advance-requires : goal.advance-requires
-advance-requires g c =
-    let few_bytes : g.row.B ≤ 128 = c.requires.shape.1 in
-    let few_check : g.row.M ≤ 16 = c.requires.shape.3 in (
-      search rules,
-      (
-        c.requires.whole,
-        (
-          c.requires.exists,
-          λ i low more.
-              let n : ℕ = 64 * c.args.block + i in
-              let live : bit_in c.without-live.result i ≡ (not (cell c.args.settled.now.stuck n) && (not (c.args.tearing && eqb (i % 2) 1) && cell c.args.mask.now n)) =
-              c.without-live.ensures i
-              ∙ rw (c.block-2.ensures i low, digit_and c.block.result c.args.reach i, c.block.ensures i low, c.requires.reach i low)
-              (ap (λ b. not (cell c.args.settled.now.stuck n) && b) (swapped (cell c.args.mask.now n) (not (c.args.tearing && eqb (i % 2) 1)))) in
-              c.requires.few i low
-              ((calm_parts (cell c.args.settled.now.stuck n) (c.args.tearing && eqb (i % 2) 1) (cell c.args.mask.now n) (bit_in (bit_and c.without-live.result c.below.result) i)
-              (bit_in c.without-live.result i) (bit_in c.without-changing.result i) live (c.without-changing.ensures i) more).1),
-        ),
-      ),
-    )
+advance-requires g c = (
+  digits_fit c.requires.shape,
+  (
+    c.requires.whole,
+    (
+      c.requires.exists,
+      λ i low more.
+          let n : ℕ = 64 * c.args.block + i in
+          let live : bit_in c.without-live.result i ≡ (not (cell c.args.settled.now.stuck n) && (not (c.args.tearing && eqb (i % 2) 1) && cell c.args.mask.now n)) =
+          c.without-live.ensures i
+          ∙ rw (c.block-2.ensures i low, digit_and c.block.result c.args.reach i, c.block.ensures i low, c.requires.reach i low)
+          (ap (λ b. not (cell c.args.settled.now.stuck n) && b) (swapped (cell c.args.mask.now n) (not (c.args.tearing && eqb (i % 2) 1)))) in
+          c.requires.few i low
+          ((calm_parts (cell c.args.settled.now.stuck n) (c.args.tearing && eqb (i % 2) 1) (cell c.args.mask.now n) (bit_in (bit_and c.without-live.result c.below.result) i)
+          (bit_in c.without-live.result i) (bit_in c.without-changing.result i) live (c.without-changing.ensures i) more).1),
+    ),
+  ),
+)
 
 pub advance-requires-2 : goal.advance-requires-2
-advance-requires-2 g c =
-    let few_bytes : g.row.B ≤ 128 = c.requires.shape.1 in
-    let few_check : g.row.M ≤ 16 = c.requires.shape.3 in (
-      search rules,
-      (
-        c.requires.whole,
-        (
-          c.requires.exists,
-          λ i low h.
-              missing_few c.args.moving.now.misses c.args.settled.now.limits (64 * c.args.block + i) (bit_in c.without-live.result i) (bit_in (bit_and c.without-live.result c.below.result) i)
-              (digit_and c.without-live.result c.below.result i ∙ ap (λ b. bit_in c.without-live.result i && b) (c.below.ensures i low)) h,
-        ),
-      ),
-    )
+advance-requires-2 g c = (
+  digits_fit c.requires.shape,
+  (
+    c.requires.whole,
+    (
+      c.requires.exists,
+      λ i low h.
+          missing_few c.args.moving.now.misses c.args.settled.now.limits (64 * c.args.block + i) (bit_in c.without-live.result i) (bit_in (bit_and c.without-live.result c.below.result) i)
+          (digit_and c.without-live.result c.below.result i ∙ ap (λ b. bit_in c.without-live.result i && b) (c.below.ensures i low)) h,
+    ),
+  ),
+)
 
 pub returns-clause-cells : goal.returns-clause-cells
 returns-clause-cells g c =
@@ -84,3 +81,30 @@ returns-clause-cells g c =
     refl refl)
     (λ n apart. worn_kept old new n (c.set_block.ensures.others n apart) refl (c.advance-2.ensures.others n apart)
     (left_kept c.args.moving.now.spent c.advance.new.self c.args.settled.now.left c.args.settled.now.left n refl (c.advance.ensures.others n apart)) refl refl)
+
+pub block-requires : goal.block-requires
+block-requires g c = (row_fits c.requires.shape, (c.requires.whole, c.requires.exists))
+
+pub block-requires-2 : goal.block-requires-2
+block-requires-2 g c = (row_fits c.requires.shape, (c.requires.whole, c.requires.exists))
+
+pub block-requires-3 : goal.block-requires-3
+block-requires-3 g c = (row_fits c.requires.shape, (c.requires.whole, c.requires.exists))
+
+pub block-requires-4 : goal.block-requires-4
+block-requires-4 g c = (row_fits c.requires.shape, (c.requires.whole, c.requires.exists))
+
+pub below-requires : goal.below-requires
+below-requires g c = (digits_fit c.requires.shape, (c.requires.whole, c.requires.exists))
+
+pub without-live-requires : goal.without-live-requires
+without-live-requires g c = tt
+
+pub without-changing-requires : goal.without-changing-requires
+without-changing-requires g c = tt
+
+pub chosen-now-requires : goal.chosen-now-requires
+chosen-now-requires g c = tt
+
+pub set_block-requires : goal.set_block-requires
+set_block-requires g c = (row_fits c.requires.shape, (c.requires.whole, c.requires.exists))

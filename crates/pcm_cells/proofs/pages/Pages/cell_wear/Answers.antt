@@ -1,7 +1,8 @@
 use Rattle.std.proofs.Common.{◌≡◌, ◌+◌, ◌-◌, ◌*◌, ◌∙◌, sym, ap, arith, slice_index}
 use Rattle.cell_rows.specs.Rows.{cell, members}
 use Rattle.cell_wear.specs.Told.{most}
-use Rattle.pcm_cells.{specs.Pages.changes_of, specs.Seeded.LifeLine, proofs.PagingLemmas.{told, seen-none, seen_at}, proofs.WearLemmas.{changes_since, drawn_changes, drawn_stuck}}
+use Rattle.pcm_cells.{specs.Pages.changes_of, specs.Seeded.LifeLine, proofs.PagingLemmas.{told, seen-none, seen_at}, proofs.SizeLemmas.line_fits}
+use Rattle.pcm_cells.proofs.WearLemmas.{changes_since, drawn_changes, drawn_stuck}
 use Rattle.pcm_cells.proofs.pages.Pages.cell_wear.Goals as goal
 
 pub returns-in-0-clause-stuck : goal.returns-in-0-clause-stuck
@@ -44,3 +45,15 @@ index-requires-in_default g c =
     let line = c.args.line in
     let page = told p.table.items line c.index.result.now c.requires.exists c.index.ensures in
     omega (arith, page, p.paging.made line)
+
+pub index-requires : goal.index-requires
+index-requires g c = grind arith
+
+pub drawn-drawn-requires : goal.drawn-drawn-requires
+drawn-drawn-requires g c = (line_fits c.requires.shape, (c.args.self.now.wears, c.requires.shape))
+
+pub overflow_sub-page : goal.overflow_sub-page
+overflow_sub-page g c = grind arith
+
+pub cell_wear-requires : goal.cell_wear-requires
+cell_wear-requires g c = (line_fits c.requires.shape, c.requires.shape)

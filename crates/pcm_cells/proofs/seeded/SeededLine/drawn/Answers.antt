@@ -1,15 +1,26 @@
-use Rattle.std.proofs.Common.{rules, ◌≡◌, ℕ, ◌+◌, ◌*◌, ◌<◌, ◌≤◌, ◌∙◌, ap, sym, subst, arith, bit_xor}
-use Rattle.std.proofs.{lemmas.Bool.leb-true, lemmas.List.length-set}
+use Rattle.std.proofs.Common.{◌≡◌, ℕ, ◌+◌, ◌*◌, ◌<◌, ◌≤◌, ◌∙◌, ap, sym, subst, arith, bit_xor, eqb, refl, Fits, w64}
+use Rattle.std.proofs.{lemmas.Bool.leb-true, lemmas.List.length-set, lemmas.Nat.Bits.bit_at-zero}
 use Rattle.rand_core.specs.{Steps.{stream_of, steps_u64_high}, Stream.next_u64}
 use Rattle.rand_xoshiro.specs.Xoshiro256.{plus_plus}
 use Rattle.cell_rows.specs.Rows.{cell}
 use Rattle.pcm_cells.specs.{Counts.count, Pages.{drawn_line, HaveSameLife}, Planes.digit, Seeded.{endurance, miss_limit, stuck_value}}
 use Rattle.pcm_cells.proofs.{LifeLemmas.{limits_more, ends_more, counts_more, group_more}, PageLemmas.drawn_alike}
+use Rattle.pcm_cells.proofs.SizeLemmas.{counts_fit, digits_fit, groups_fit, line_fits, row_fits}
 use Rattle.pcm_cells.proofs.seeded.SeededLine.drawn.Goals as goal
+use borrow.Author.Count.{falls}
 use Rattle.seeded_words.{specs.Words.{xoshiro_of, stream_after, word_at}, proofs.Drawn.{stream_after-zero, stream_after-more, word_at-is}}
 
 none_below : (n : ℕ) {X : Type 0} → n < 0 → X
 none_below n h = absurd (omega (arith, h))
+
+offset_few : (n : ℕ) → n < 8 → Fits w64 (n * 4)
+offset_few n low = omega (arith, low)
+
+none_more : (n : ℕ) → n + 0 ≡ n
+none_more n = omega arith
+
+three_few : 3 < 4
+three_few = omega arith
 
 so_far : (n all done : ℕ) → n < all → all ≤ done → n < done
 so_far n all done low end = omega (arith, low, end)
@@ -67,13 +78,12 @@ loop-group-preserved g c =
 
 pub new-requires : goal.new-requires
 new-requires g c =
-    let few_bytes : g.row.B ≤ 128 = c.requires.shape.1 in
-    let few_check : g.row.M ≤ 16 = c.requires.shape.3 in
     let many : (n : ℕ) → n < 8 * (g.row.B + g.row.M) → 8 ≤ c.args.wear.lo → 8 ≤ count c.loop-group.left n =
     λ n low lo.
     let all = 8 * (g.row.B + g.row.M) in
     omega (arith, c.loop-group.invariant.left n (so_far n all (8 * c.loop-group.group) low (omega arith)), lo) in
-    (search rules, (search rules, (search rules, (search rules, (c.requires.shape, λ told n low. many n low (leb-true 8 c.args.wear.lo told))))))
+    let shape = c.requires.shape in
+    (counts_fit shape, (digits_fit shape, (row_fits shape, (line_fits shape, (shape, λ told n low. many n low (leb-true 8 c.args.wear.lo told))))))
 
 pub returns : goal.returns
 returns g c =
@@ -84,3 +94,73 @@ returns g c =
     subst (HaveSameLife (drawn_line g.row.B g.row.M c.args.wear c.args.number)) (sym c.new.ensures.is)
     (drawn_alike c.args.wear c.args.number c.loop-group.left c.loop-group.limits c.loop-group.ends
     (λ n h. i.left n (drawn n h)) (λ n h. i.limits n (drawn n h)) c.new.ensures.no_limits (λ n h. i.ends n (drawn n h)) c.new.ensures.no_ends)
+
+pub seed_from_u64-words-requires : goal.seed_from_u64-words-requires
+seed_from_u64-words-requires g c = tt
+
+pub zero-left-requires : goal.zero-left-requires
+zero-left-requires g c = counts_fit c.requires.shape
+
+pub zero-limits-requires : goal.zero-limits-requires
+zero-limits-requires g c = digits_fit c.requires.shape
+
+pub zero-ends-requires : goal.zero-ends-requires
+zero-ends-requires g c = row_fits c.requires.shape
+
+pub overflow_add-group-end : goal.overflow_add-group-end
+overflow_add-group-end g c = groups_fit c.requires.shape
+
+pub loop-index-init : goal.loop-index-init
+loop-index-init g c = record {
+  words = rw none_more c.loop-group.invariant.words;
+  size = refl;
+  left = λ j h. none_below j h;
+  limits = λ j h. none_below j h;
+  ends = λ j h. none_below j h;
+  none = λ i h. ap (λ x. eqb x 1) (bit_at-zero i);
+}
+
+pub next_u64-word-requires : goal.next_u64-word-requires
+next_u64-word-requires g c = tt
+
+pub endurance-requires : goal.endurance-requires
+endurance-requires g c = c.requires.wear
+
+pub offset_bounds-counts-index : goal.offset_bounds-counts-index
+offset_bounds-counts-index g c = offset_few _ c.loop-index-test.true
+
+pub bounds-counts-index : goal.bounds-counts-index
+bounds-counts-index g c = c.loop-index-test.true
+
+pub miss_limit-requires : goal.miss_limit-requires
+miss_limit-requires g c = tt
+
+pub life-requires : goal.life-requires
+life-requires g c = c.miss_limit.ensures.few
+
+pub with_life-planes-requires-clause-fits : goal.with_life-planes-requires-clause-fits
+with_life-planes-requires-clause-fits g c = c.loop-index-test.true
+
+pub with_life-planes-requires-clause-small : goal.with_life-planes-requires-clause-small
+with_life-planes-requires-clause-small g c = c.life.ensures.small
+
+pub with_life-planes-requires-clause-apart : goal.with_life-planes-requires-clause-apart
+with_life-planes-requires-clause-apart g c = c.life.ensures.apart
+
+pub set_group-requires : goal.set_group-requires
+set_group-requires g c = (counts_fit c.requires.shape, c.loop-group-test.true)
+
+pub set_group-requires-in-loop-group : goal.set_group-requires-in-loop-group
+set_group-requires-in-loop-group g c = (digits_fit c.requires.shape, c.loop-group-test.true)
+
+pub byte_at-requires : goal.byte_at-requires
+byte_at-requires g c = three_few
+
+pub set_group-requires-in-loop-group-2 : goal.set_group-requires-in-loop-group-2
+set_group-requires-in-loop-group-2 g c = (row_fits c.requires.shape, c.loop-group-test.true)
+
+pub loop-index-smaller : goal.loop-index-smaller
+loop-index-smaller g c = falls 8 c.loop-index.index c.loop-index-test.true
+
+pub loop-group-smaller : goal.loop-group-smaller
+loop-group-smaller g c = falls _ c.loop-group.group c.loop-group-test.true

@@ -1,14 +1,15 @@
-use Rattle.std.proofs.Common.{◌≡◌, ℕ, ◌+◌, ◌-◌, ◌*◌, ◌/◌, ◌<◌, ◌≤◌, rules, subst, inl, inr, refl, ◌∙◌, ap, arith}
+use Rattle.std.proofs.Common.{◌≡◌, ℕ, ◌+◌, ◌-◌, ◌*◌, ◌/◌, ◌<◌, ◌≤◌, subst, inl, inr, refl, ◌∙◌, ap, arith}
 use Rattle.std.proofs.lemmas.Bool.{cases_eq}
 use Rattle.cell_rows.specs.Rows.{cell}
 use Rattle.pcm_cells.{specs.Counts.count, specs.Planes.digit, proofs.CalmLemmas.left_same, proofs.SeededLemmas.{calm_kept, less_none}}
+use Rattle.pcm_cells.proofs.SizeLemmas.{block_in, counts_fit, digits_fit, row_fits}
 use Rattle.pcm_cells.proofs.seeded.SeededLine.level_block.Goals as goal
 
 pub invariant_of-self : goal.invariant_of-self
 invariant_of-self g c = (
   c.self.invariant.0,
   calm_kept c.self.inside.calm (cell c.self.inside.settled.stuck) (count c.self.inside.settled.left) (count c.level.new.self) (8 * (g.row.B + g.row.M)) c.args.block c.are_many.result
-      (search rules) c.self.invariant.1
+      (block_in c.requires.shape c.args.block _ c.requires.exists c.self.told) c.self.invariant.1
       (λ many i low live. subst (λ k. 8 ≤ k) (c.block.ensures i low) (c.are_many.ensures many i low (c.block-stuck.ensures i low ∙ live)))
       c.level.ensures.others,
 )
@@ -31,3 +32,24 @@ returns g c =
     ap (λ xs. record { line = record { held = c.self.inside.moving.held; stuck = c.self.inside.settled.stuck; misses = c.self.inside.moving.misses; pulses = c.self.inside.pulses }; left = xs; limits = c.self.inside.settled.limits; ends = c.self.inside.settled.ends })
     (left_same c.self.inside.moving.spent c.clear.new.self c.self.inside.settled.left c.level.new.self (λ n h. same n))
     ∙ c.self.view_is
+
+pub block-stuck-requires : goal.block-stuck-requires
+block-stuck-requires g c = (row_fits c.requires.shape, (c.requires.whole, c.requires.exists))
+
+pub planes-low-requires : goal.planes-low-requires
+planes-low-requires g c = (digits_fit c.requires.shape, (c.requires.whole, c.requires.exists))
+
+pub level-requires : goal.level-requires
+level-requires g c = (counts_fit c.requires.shape, (c.requires.whole, c.requires.exists))
+
+pub clear-requires : goal.clear-requires
+clear-requires g c = (digits_fit c.requires.shape, (c.requires.whole, c.requires.exists))
+
+pub block-requires : goal.block-requires
+block-requires g c = (counts_fit c.requires.shape, (c.requires.whole, c.requires.exists))
+
+pub are_many-requires : goal.are_many-requires
+are_many-requires g c = tt
+
+pub bounds-self-inside-block : goal.bounds-self-inside-block
+bounds-self-inside-block g c = block_in c.requires.shape c.args.block _ c.requires.exists refl

@@ -1,6 +1,6 @@
 use Rattle.std.proofs.Common.{◌≡◌, ℕ, ◌+◌, ◌*◌, ◌≤◌, ◌/◌, ◌∙◌, false, length, refl, arith}
 use Rattle.cell_rows.{specs.Rows.cell, specs.declared.row.Cells.Cells, proofs.RowLemmas.cell_past}
-use Rattle.pcm_cells.proofs.{PlaneLemmas.digit-is, SeededLemmas.told_calm, seeded.SeededLine.new.Given.Over, seeded.SeededLine.new.Goals.Start}
+use Rattle.pcm_cells.proofs.{PlaneLemmas.digit-is, SeededLemmas.told_calm, SizeLemmas.{digits_fit, row_fits}, seeded.SeededLine.new.Given.Over, seeded.SeededLine.new.Goals.Start}
 use Rattle.pcm_cells.proofs.seeded.SeededLine.new.Goals as goal
 
 -- a row of its sizes
@@ -42,16 +42,16 @@ returns-clause-no_ends g c n past =
     past_row c.args.ends n (sized_ends g (goal.at.returns-clause-no_ends g c).Start) past
 
 pub zero-requires : goal.zero-requires
-zero-requires g c = grind arith
+zero-requires g c = row_fits c.requires.shape
 
 pub zero-requires-2 : goal.zero-requires-2
-zero-requires-2 g c = grind arith
+zero-requires-2 g c = digits_fit c.requires.shape
 
 pub zero-requires-3 : goal.zero-requires-3
-zero-requires-3 g c = grind arith
+zero-requires-3 g c = digits_fit c.requires.shape
 
 pub zero-requires-4 : goal.zero-requires-4
-zero-requires-4 g c = grind arith
+zero-requires-4 g c = row_fits c.requires.shape
 
 pub returns-clause-is : goal.returns-clause-is
 returns-clause-is g c = grind arith

@@ -1,26 +1,25 @@
-use Rattle.std.proofs.Common.{◌≡◌, ℕ, ◌+◌, ◌-◌, ◌*◌, ◌&&◌, ◌/◌, ◌≤◌, ◌<◌, false, true≢false, cond, eqb, rules, slice_index, refl, subst, sym, ◌∙◌, ap, arith}
+use Rattle.std.proofs.Common.{◌≡◌, ℕ, ◌+◌, ◌-◌, ◌*◌, ◌&&◌, ◌/◌, ◌≤◌, ◌<◌, false, true≢false, cond, eqb, slice_index, refl, subst, sym, ◌∙◌, ap, arith}
 use Rattle.std.{specs.Prelude.nat_le, proofs.lemmas.Nat.Bits.bit_at-zero}
 use Rattle.cell_rows.{specs.Rows.cell, proofs.ByteLemmas.digit_and}
 use Rattle.pcm_cells.specs.{Counts.count, Planes.{bit_in, digit}}
 use Rattle.pcm_cells.proofs.SeededLemmas.{left_is, left_kept, calm_last, calm_here, calm_level, less_none, level_here, calm_kept, both_false, in_row, in_block, none_few}
+use Rattle.pcm_cells.proofs.SizeLemmas.{block_in, counts_fit, digits_fit, row_fits}
 use Rattle.pcm_cells.proofs.seeded.SeededLine.spend.Goals as goal
 
 pub advance-requires : goal.advance-requires
-advance-requires g c =
-    let few_bytes : g.row.B ≤ 128 = c.requires.shape.1 in
-    let few_check : g.row.M ≤ 16 = c.requires.shape.3 in (
-      search rules,
-      (
-        c.requires.whole,
-        (
-          c.requires.exists,
-          λ i low more.
-              let none : (bit_in c.full.result i && bit_in c.args.changing i) ≡ false =
-              sym (digit_and c.full.result c.args.changing i) ∙ ap (λ x. bit_in x i) c.if-full-changing-eq0.true ∙ ap (λ x. eqb x 1) (bit_at-zero i) in
-              c.full.ensures i low (both_false _ _ none more),
-        ),
-      ),
-    )
+advance-requires g c = (
+  digits_fit c.requires.shape,
+  (
+    c.requires.whole,
+    (
+      c.requires.exists,
+      λ i low more.
+          let none : (bit_in c.full.result i && bit_in c.args.changing i) ≡ false =
+          sym (digit_and c.full.result c.args.changing i) ∙ ap (λ x. bit_in x i) c.if-full-changing-eq0.true ∙ ap (λ x. eqb x 1) (bit_at-zero i) in
+          c.full.ensures i low (both_false _ _ none more),
+    ),
+  ),
+)
 
 pub returns-then-full-changing-eq0-clause-last : goal.returns-then-full-changing-eq0-clause-last
 returns-then-full-changing-eq0-clause-last g c i low =
@@ -95,7 +94,7 @@ pub invariant_of-self-2 : goal.invariant_of-self-2
 invariant_of-self-2 g c = (
   c.self.invariant.0,
   calm_kept c.self.inside.calm (cell c.self.inside.settled.stuck) (count c.self.inside.settled.left) (count c.set_block.new.self) (8 * (g.row.B + g.row.M)) c.args.block c.are_many-calm.result
-      (search rules) c.self.invariant.1
+      (block_in c.requires.shape c.args.block _ c.requires.exists c.self.told) c.self.invariant.1
       (λ many. absurd (true≢false (sym many ∙ c.if-calm.false)))
       (λ n apart. c.set_block.ensures.others n apart ∙ c.level.ensures.others n apart),
 )
@@ -143,15 +142,13 @@ returns-then-full-changing-eq0-clause-ends g c = ap (λ s. s.ends) c.self.view_i
 
 pub advance-requires-then-calm : goal.advance-requires-then-calm
 advance-requires-then-calm g c =
-    let few_bytes : g.row.B ≤ 128 = c.requires.shape.1 in
-    let few_check : g.row.M ≤ 16 = c.requires.shape.3 in
-    (search rules, (c.requires.whole, (c.requires.exists, λ i low more. rw (c.clear.ensures.here i low) none_few)))
+    (digits_fit c.requires.shape, (c.requires.whole, (c.requires.exists, λ i low more. rw (c.clear.ensures.here i low) none_few)))
 
 pub invariant_of-self-then-calm : goal.invariant_of-self-then-calm
 invariant_of-self-then-calm g c = (
   c.self.invariant.0,
   calm_kept c.self.inside.calm (cell c.self.inside.settled.stuck) (count c.self.inside.settled.left) (count c.level.new.self) (8 * (g.row.B + g.row.M)) c.args.block c.are_many-calm.result
-      (search rules) c.self.invariant.1
+      (block_in c.requires.shape c.args.block _ c.requires.exists c.self.told) c.self.invariant.1
       (λ many i low live. subst (λ k. 8 ≤ k) (c.block.ensures i low) (c.are_many-calm.ensures many i low (c.block-stuck.ensures i low ∙ live)))
       c.level.ensures.others,
 )
@@ -175,37 +172,37 @@ pub returns-clause-ends : goal.returns-clause-ends
 returns-clause-ends g c = ap (λ s. s.ends) c.self.view_is
 
 pub bounds-self-inside-block : goal.bounds-self-inside-block
-bounds-self-inside-block g c = grind arith
+bounds-self-inside-block g c = block_in c.requires.shape c.args.block _ c.requires.exists refl
 
 pub full-requires : goal.full-requires
-full-requires g c = grind arith
+full-requires g c = (digits_fit c.requires.shape, (c.requires.whole, c.requires.exists))
 
 pub block-stuck-requires : goal.block-stuck-requires
-block-stuck-requires g c = grind arith
+block-stuck-requires g c = (row_fits c.requires.shape, (c.requires.whole, c.requires.exists))
 
 pub planes-low-requires : goal.planes-low-requires
-planes-low-requires g c = grind arith
+planes-low-requires g c = (digits_fit c.requires.shape, (c.requires.whole, c.requires.exists))
 
 pub block-requires : goal.block-requires
-block-requires g c = grind arith
+block-requires g c = (counts_fit c.requires.shape, (c.requires.whole, c.requires.exists))
 
 pub level-requires : goal.level-requires
-level-requires g c = grind arith
+level-requires g c = (counts_fit c.requires.shape, (c.requires.whole, c.requires.exists))
 
 pub clear-requires : goal.clear-requires
-clear-requires g c = grind arith
+clear-requires g c = (digits_fit c.requires.shape, (c.requires.whole, c.requires.exists))
 
 pub are_many-calm-requires : goal.are_many-calm-requires
-are_many-calm-requires g c = grind arith
+are_many-calm-requires g c = tt
 
 pub bounds-self-inside-block-2 : goal.bounds-self-inside-block-2
-bounds-self-inside-block-2 g c = grind arith
+bounds-self-inside-block-2 g c = block_in c.requires.shape c.args.block _ c.requires.exists refl
 
 pub set_block-requires : goal.set_block-requires
-set_block-requires g c = grind arith
+set_block-requires g c = (counts_fit c.requires.shape, (c.requires.whole, c.requires.exists))
 
 pub spend-last-requires : goal.spend-last-requires
 spend-last-requires g c = grind arith
 
 pub block-requires-2 : goal.block-requires-2
-block-requires-2 g c = grind arith
+block-requires-2 g c = (counts_fit c.requires.shape, (c.requires.whole, c.requires.exists))

@@ -1,17 +1,15 @@
-use Rattle.std.proofs.Common.{◌≡◌, ℕ, ◌+◌, ◌*◌, ◌%◌, ◌≤◌, ◌&&◌, rules, slice_index, true, cond, refl, sym, ◌∙◌, ap, arith, bit_and}
+use Rattle.std.proofs.Common.{◌≡◌, ℕ, ◌+◌, ◌*◌, ◌%◌, ◌&&◌, slice_index, true, cond, eqb, refl, sym, ◌∙◌, ap, arith, bit_and}
 use Rattle.cell_rows.{specs.Rows.cell, proofs.ByteLemmas.{digit_and, digit_or}}
-use Rattle.pcm_cells.{specs.Planes.{bit_in, digit}, specs.Seeded.{LifeLine, left_of, seeded, seeded_cell}, proofs.FollowsLemmas.followed_block}
-use Rattle.pcm_cells.proofs.SeededLemmas.{worn_follows, worn_kept, missing_few, or_false, stuck_before}
+use Rattle.pcm_cells.{specs.Planes.{bit_in, digit}, specs.Seeded.{LifeLine, left_of, seeded, seeded_cell}, proofs.CalmLemmas.calm_parts, proofs.FollowsLemmas.followed_block}
+use Rattle.pcm_cells.proofs.{SeededLemmas.{worn_follows, worn_kept, missing_few, or_false, stuck_before}, SizeLemmas.{digits_fit, line_fits, row_fits}}
 use Rattle.pcm_cells.proofs.seeded.SeededLine.wear_block.Goals as goal
 
 pub advance-requires : goal.advance-requires
 advance-requires g c =
-    let few_bytes : g.row.B ≤ 128 = c.requires.shape.1 in
-    let few_check : g.row.M ≤ 16 = c.requires.shape.3 in
     let misses : c.self-2.inside.moving.misses ≡ c.self.inside.moving.misses =
     ap (λ s. s.line.misses) c.self-2.view_is ∙ ap (λ l. l.misses) c.spend-last.ensures.line ∙ sym (ap (λ s. s.line.misses) c.self.view_is) in
     let live = bit_in c.without-live.result in (
-      search rules,
+      digits_fit c.requires.shape,
       (
         c.requires.whole,
         (
@@ -78,43 +76,63 @@ invariant_of-self g c =
     )
 
 pub block-stuck-requires : goal.block-stuck-requires
-block-stuck-requires g c = grind arith
+block-stuck-requires g c = (row_fits c.requires.shape, (c.requires.whole, c.requires.exists))
 
 pub block-requires : goal.block-requires
-block-requires g c = grind arith
+block-requires g c = (row_fits c.requires.shape, (c.requires.whole, c.requires.exists))
 
 pub reached-requires : goal.reached-requires
-reached-requires g c = grind arith
+reached-requires g c = tt
 
 pub without-live-requires : goal.without-live-requires
-without-live-requires g c = grind arith
+without-live-requires g c = tt
 
 pub below-requires : goal.below-requires
-below-requires g c = grind arith
+below-requires g c = (digits_fit c.requires.shape, (c.requires.whole, c.requires.exists))
 
 pub without-changing-requires : goal.without-changing-requires
-without-changing-requires g c = grind arith
+without-changing-requires g c = tt
 
 pub block-requires-2 : goal.block-requires-2
-block-requires-2 g c = grind arith
+block-requires-2 g c = (row_fits c.requires.shape, (c.requires.whole, c.requires.exists))
 
 pub block-requires-3 : goal.block-requires-3
-block-requires-3 g c = grind arith
+block-requires-3 g c = (row_fits c.requires.shape, (c.requires.whole, c.requires.exists))
 
 pub chosen-value-requires : goal.chosen-value-requires
-chosen-value-requires g c = grind arith
+chosen-value-requires g c = tt
 
 pub block-requires-4 : goal.block-requires-4
-block-requires-4 g c = grind arith
+block-requires-4 g c = (row_fits c.requires.shape, (c.requires.whole, c.requires.exists))
 
 pub chosen-held-requires : goal.chosen-held-requires
-chosen-held-requires g c = grind arith
+chosen-held-requires g c = tt
 
 pub set_block-requires : goal.set_block-requires
-set_block-requires g c = grind arith
+set_block-requires g c = (row_fits c.requires.shape, (c.requires.whole, c.requires.exists))
 
 pub set_block-requires-2 : goal.set_block-requires-2
-set_block-requires-2 g c = grind arith
+set_block-requires-2 g c = (row_fits c.requires.shape, (c.requires.whole, c.requires.exists))
 
 pub returns-clause-pulses : goal.returns-clause-pulses
 returns-clause-pulses g c = grind arith
+
+pub spend-last-requires : goal.spend-last-requires
+spend-last-requires g c =
+    let stuck = c.self.inside.settled.stuck in (
+      line_fits c.requires.shape,
+      (
+        c.requires.exists,
+        (
+          c.requires.shape,
+          (
+            c.requires.whole,
+            λ i low more.
+                rw (← c.self.view_is)
+                ((calm_parts (cell stuck (64 * c.args.block + i)) (c.args.tearing && eqb (i % 2) 1) (bit_in c.block.result i)
+                (bit_in (bit_and c.without-live.result c.below.result) i) (bit_in c.without-live.result i) (bit_in c.without-changing.result i)
+                (c.without-live.ensures i ∙ rw (c.block-stuck.ensures i low, c.reached.ensures i low) refl) (c.without-changing.ensures i) more).0),
+          ),
+        ),
+      ),
+    )

@@ -1,7 +1,8 @@
-use Rattle.std.proofs.Common.{◌≡◌, ◌+◌, ◌*◌, ◌∙◌, ap, arith}
-use Rattle.pcm_cells.{specs.Seeded.{seeded, seeded_cell}, proofs.BlockLemmas.block_clear, proofs.FollowsLemmas.{followed_group, followed_clear}}
-use Rattle.pcm_cells.proofs.seeded.SeededLine.wear_blocks.Goals.{then-block-ne0, else-block-ne0}
+use Rattle.std.proofs.Common.{◌≡◌, ◌+◌, ◌*◌, ◌∙◌, refl, ap, arith}
+use Rattle.pcm_cells.{specs.Seeded.{seeded, seeded_cell}, proofs.BlockLemmas.block_clear, proofs.FollowsLemmas.{followed_none, followed_group, followed_clear}}
+use Rattle.pcm_cells.proofs.{SizeLemmas.{block_exists, blocks_all, groups_fit, line_fits, row_fits}, seeded.SeededLine.wear_blocks.Goals.{then-block-ne0, else-block-ne0}}
 use Rattle.pcm_cells.proofs.seeded.SeededLine.wear_blocks.Goals as goal
+use borrow.Author.Count.{falls}
 use Rattle.cell_rows.specs.Rows.{cell}
 
 pub loop-block-preserved : goal.loop-block-preserved
@@ -31,3 +32,25 @@ loop-block-preserved g c =
             pulses = ap (λ line. line.line.pulses) w.self-is ∙ invariant.pulses;
           }
     ]
+
+pub overflow_add-block-end : goal.overflow_add-block-end
+overflow_add-block-end g c = groups_fit c.requires.shape
+
+pub loop-block-init : goal.loop-block-init
+loop-block-init g c = record { cells = followed_none 0 _ _ _; pulses = refl }
+
+pub block-requires : goal.block-requires
+block-requires g c = (row_fits c.requires.shape, (c.requires.whole, block_exists g.row.B g.row.M c.loop-block.block c.loop-block-test.true))
+
+pub wear_block-requires : goal.wear_block-requires
+wear_block-requires g c = (line_fits c.requires.shape, (row_fits c.requires.shape, (block_exists g.row.B g.row.M c.loop-block.block c.loop-block-test.true, (c.requires.shape, c.requires.whole))))
+
+pub returns-clause-cells : goal.returns-clause-cells
+returns-clause-cells g c =
+    rw (← blocks_all g.row.B g.row.M c.loop-block.block c.requires.whole c.loop-block-test.false c.loop-block.auto.block-end) c.loop-block.invariant.cells
+
+pub returns-clause-pulses : goal.returns-clause-pulses
+returns-clause-pulses g c = c.loop-block.invariant.pulses
+
+pub loop-block-smaller : goal.loop-block-smaller
+loop-block-smaller g c = falls _ c.loop-block.block c.loop-block-test.true
