@@ -15,5 +15,5 @@ pub mod Judged
 pub mod States
 pub mod Passing
 pub mod VerdictLaws
-pub mod Pairs
+pub mod Twins
 pub mod NextKeys

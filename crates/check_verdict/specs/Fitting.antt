@@ -1,13 +1,11 @@
 -- The queue's rule in the words of what is kept of a bank.
 use Rattle.std.specs.List.{list_all, list_any}
-use Rattle.std.specs.Prelude.{◌≡◌, ℕ, ◌+◌, ◌==◌, ◌&&◌, ◌||◌, Bool, true, false, IsTrue, not, List, [], ◌∷◌, Option, Some, None, length, reverse, nat_le, nat_lt, count_by}
-use Rattle.std.specs.Prelude.{if◌then◌else◌}
+use Rattle.std.specs.Prelude.{ℕ, ◌+◌, ◌==◌, ◌&&◌, ◌||◌, Bool, true, false, not, List, [], ◌∷◌, Option, Some, None, length, reverse, nat_le, nat_lt, if◌then◌else◌}
 use Rattle.result_rows.specs.declared.Outcome.{Outcome}
 use Rattle.result_rows.specs.declared.Outcome.TheVariants as out
 use Rattle.row_rules.specs.{Answers.is_full, declared.Row.Row}
 use Rattle.check_judging.specs.{Few.few_by, Keys.{reach, key, up_to}}
-use Rattle.check_verdict.specs.{Covering.comes_by, Members.never, declared.members.Member.Member, declared.members.Twins.Twins}
-use Rattle.check_verdict.specs.declared.members.Twins.TheVariants.{Nowhere, Only, Anywhere}
+use Rattle.check_verdict.specs.{Covering.comes_by, Members.never, declared.members.Member.Member}
 
 -- a member is of this line
 abbrev pub is_of : ℕ → Member → Bool
@@ -26,35 +24,10 @@ abbrev pub has_twins : List Member → Bool
 has_twins [] = false
 has_twins (m ∷ ms) = list_any (is_of m.line) ms || has_twins ms
 
--- no two of these have one line, unless it is this one
-abbrev pub pairs_only : ℕ → List Member → Bool
-pairs_only line [] = true
-pairs_only line (m ∷ ms) = (m.line == line || not (list_any (is_of m.line) ms)) && pairs_only line ms
-
--- no two of these members have one line but where they may
-abbrev pub IsKnown : Twins → List Member → Type 0
-IsKnown Nowhere members = has_twins members ≡ false
-IsKnown (Only line) members = IsTrue (pairs_only line members)
-IsKnown Anywhere members = Unit {0}
-
--- by that a line may have two members
-abbrev pub may_have_two : Twins → ℕ → Bool
-may_have_two Nowhere line = false
-may_have_two (Only pair) line = pair == line
-may_have_two Anywhere line = true
-
--- a member is of this line, and isn't merged into a later write of it
-abbrev pub is_staying : ℕ → Member → Bool
-is_staying line m = is_of line m && not m.merged
-
--- where two of these members may have one line once a write of a line joins, by where they might before
-abbrev pub twins_with : ℕ → List Member → Twins → Twins
-twins_with line members Nowhere = if list_any (is_staying line) members then Only line else Nowhere
-twins_with line members (Only pair) =
-    if pair == line || not (list_any (is_staying line) members) then Only pair
-    else if nat_le (count_by (is_of pair) members) 1 then Only line
-    else Anywhere
-twins_with line members Anywhere = Anywhere
+-- how many of these have a later one of their line
+abbrev pub twins_in : List Member → ℕ
+twins_in [] = 0
+twins_in (m ∷ ms) = (if list_any (is_of m.line) ms then 1 else 0) + twins_in ms
 
 -- a member isn't stored before all of these
 abbrev pub follows : Member → List Member → Bool

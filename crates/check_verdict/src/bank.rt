@@ -1,7 +1,8 @@
 //! What is kept of a bank, as time passes and behind each row.
 
-ghost use Rattle.std.specs.Prelude.{◌≡◌, ◌<◌, ◌^◌, ◌-◌, IfOk, filter, nat_lt};
+ghost use Rattle.std.specs.Prelude.{◌≡◌, ◌<◌, ◌≤◌, ◌^◌, ◌-◌, IfOk, OnErr, filter, nat_lt};
 ghost use Rattle.std.specs.List.{list_any};
+ghost use Rattle.std.specs.Vec.{vec_len, vec_capacity};
 ghost use Rattle.check_verdict.specs.Banks.{facts_of};
 ghost use Rattle.check_verdict.specs.Fitting.{is_of};
 ghost use Rattle.check_verdict.specs.Joined.{stays_beside};
@@ -46,10 +47,12 @@ fn let_go(waits: &mut Vec<u64>, tick: u64)
     );
 }
 
-/// Lets the member leave that is merged into a write of this line, where the line has members or not.
+/// Lets the member leave that is merged into a write of this line, where the line has members or not. Room that there was stays.
 fn let_merge(members: &mut Vec<Member>, has_mates: bool, line: u32)
     requires { has_mates ≡ list_any (is_of line) members.old.items }
-    ensures { members.new.items ≡ filter (stays_beside line) members.old.items }
+    ensures items { members.new.items ≡ filter (stays_beside line) members.old.items }
+    ensures len { vec_len members.new ≤ vec_len members.old }
+    ensures capacity { vec_capacity members.new ≡ vec_capacity members.old }
 {
     if has_mates {
         members.retain(
@@ -99,11 +102,13 @@ impl Bank {
         outcome: &Outcome<B>,
     ) -> Result<(), AllocError>
         requires { has_mates ≡ list_any (is_of member.line) self.old.members.items }
-        ensures { IfOk result (λ _. facts_of self.new
+        ensures ok { IfOk result (λ _. facts_of self.new
             ≡ spec.after_write member.line member outcome.now (facts_of self.old)) }
+        ensures err { OnErr result (facts_of self.new ≡ facts_of self.old) }
     {
         match outcome {
             Outcome::Stored { .. } | Outcome::Merged { .. } | Outcome::Queued { .. } => {
+                self.members.reserve(1)?;
                 let_merge(&mut self.members, has_mates, member.line);
                 self.members.push(member)?;
             }
@@ -132,8 +137,9 @@ impl Bank {
         outcome: &Outcome<B>,
     ) -> Result<(), AllocError>
         requires { self.old.lost < 2 ^ 32 - 1 }
-        ensures { IfOk result (λ _. facts_of self.new
+        ensures ok { IfOk result (λ _. facts_of self.new
             ≡ spec.after_read tick outcome.now (facts_of self.old)) }
+        ensures err { OnErr result (facts_of self.new ≡ facts_of self.old) }
     {
         match outcome {
             Outcome::Read { tick: at, .. } => {

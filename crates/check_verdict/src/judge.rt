@@ -66,9 +66,8 @@ fn latest_store(rules: &Rules, bank: u8, arrived: u64, at: u64, keys: &Keys, cut
     requires few { length cuts.now ≤ 400_000 }
     requires order { arrived ≤ at }
     requires short { at < reach }
-    ensures { result
-        ≡ latest_kept rules.now keys.now.stores.items keys.now.reads.items cuts.now bank arrived
-        at }
+    ensures { let stores = keys.now.stores.items in
+        result ≡ latest_kept rules.now stores keys.now.reads.items cuts.now bank arrived at }
 {
     let from = key(bank, arrived);
     let to = key(bank, at);

@@ -14,7 +14,7 @@ pub mod members;
 pub mod queue;
 mod reads;
 mod serving;
-mod settling;
+pub mod settling;
 mod timing;
 mod wearing;
 

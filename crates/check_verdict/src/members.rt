@@ -20,17 +20,6 @@ pub struct Member {
     pub leave: u64,
 }
 
-/// Which lines may have two members in a queue.
-#[derive(Clone, Copy, Debug)]
-pub enum Twins {
-    /// No line has two.
-    Nowhere,
-    /// No other line has two.
-    Only(u32),
-    /// Each line may have two.
-    Anywhere,
-}
-
 /// Whether a member is not stored at this tick.
 fn ends_elsewhere(member: &Member, tick: u64) -> bool
     ensures { result ≡ spec.ends_elsewhere tick member.now }

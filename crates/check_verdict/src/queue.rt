@@ -1,19 +1,14 @@
 //! What the queue holds, and what it says of a row's answer, by the members that are kept of a bank.
 
-ghost use Rattle.std.specs.Prelude.{◌≡◌, ◌==◌, ◌&&◌, ◌||◌, ◌++◌, [], ◌∷◌, ℕ, not, nat_le, nat_lt, count_by, filter, slice_get};
+ghost use Rattle.std.specs.Prelude.{◌≡◌, ◌==◌, ◌&&◌, ◌||◌, ◌++◌, [], ◌∷◌, not, nat_le, nat_lt, count_by};
 ghost use Rattle.std.specs.List.{list_all, list_any};
 ghost use Rattle.std.specs.List.Sorted.{IsNonDecreasing};
-ghost use Rattle.check_judging.specs.Few.{few_by};
-ghost use Rattle.check_judging.specs.Keys as keys_spec;
 ghost use Rattle.check_verdict.specs.Covering.{comes_by};
 ghost use Rattle.check_verdict.specs.Fitting as spec;
-ghost use Rattle.check_verdict.specs.Fitting.{IsKnown};
-ghost use Rattle.check_verdict.specs.declared.members.Twins.TheVariants as twin;
-ghost use Rattle.check_verdict.specs.Joined.{stays_beside};
 ghost use Rattle.check_verdict.specs.Members.{never};
-ghost use Rattle.check_verdict.specs.declared.members.Member.{Member};
 
-use crate::members::{Member, NEVER, Twins};
+use crate::keys::{line_key, next_key};
+use crate::members::{Member, NEVER};
 use result_rows::Outcome;
 
 /// Whether a member is of this line.
@@ -70,122 +65,6 @@ fn all_precede(all: &[Member], newest: &Member, others: &[Member]) -> bool
         .all(|other| is_apart_or_precedes(all, newest, other))
 }
 
-/// Whether a line may have two members, by what is known.
-fn may_have_two(twins: Twins, line: u32) -> bool
-    ensures { result ≡ spec.may_have_two twins line }
-{
-    match twins {
-        Twins::Nowhere => false,
-        Twins::Only(pair) => pair == line,
-        Twins::Anywhere => true,
-    }
-}
-
-/// Whether at most one of the others is of the newest member's line, and that one precedes it.
-fn few_precede(all: &[Member], newest: &Member, others: &[Member]) -> bool
-    ensures { result ≡ few_by (spec.is_of newest.now.line) (spec.precedes all.now newest.now)
-        others.now }
-{
-    match count_of(others, newest.line) {
-        0 => true,
-        1 => all_precede(all, newest, others),
-        _ => false,
-    }
-}
-
-/// Whether at most one of the others is of the newest member's line, and that one precedes it; which lines may have two
-/// members, the others and the newest together, is known, so that most lines aren't counted.
-fn finds_few(all: &[Member], newest: &Member, others: &[Member], twins: Twins) -> bool
-    requires { IsKnown twins (others.now ++ newest.now ∷ []) }
-    ensures { result ≡ few_by (spec.is_of newest.now.line) (spec.precedes all.now newest.now)
-        others.now }
-{
-    !may_have_two(twins, newest.line) || few_precede(all, newest, others)
-}
-
-/// Whether two of these have one line.
-fn has_twins(members: &[Member]) -> bool
-    ensures { result ≡ spec.has_twins members.now }
-{
-    match members.first() {
-        None => false,
-        Some(first) => {
-            let rest = &members[1..];
-            has_line(rest, first.line) || has_twins(rest)
-        }
-    }
-}
-
-/// Whether a member is of a line, and isn't merged into a later write of it.
-fn is_staying(member: &Member, line: u32) -> bool
-    ensures { result ≡ spec.is_staying line member.now }
-{
-    member.line == line && !member.merged
-}
-
-/// Whether one of these is of a line, and isn't merged into a later write of it. The newest are looked at first.
-fn has_staying(members: &[Member], line: u32) -> bool
-    ensures { result ≡ list_any (spec.is_staying line) members.now }
-{
-    for index in (0..members.len()).rev() {
-        if is_staying(&members[index], line) {
-            return true;
-        }
-    }
-    false
-}
-
-/// What is known once a write of a line joins, where no line but `pair` may have had two members.
-fn only_with(pair: u32, members: &[Member], line: u32) -> Twins
-    ensures { result ≡ spec.twins_with line members.now (twin.Only pair) }
-{
-    if pair == line || !has_staying(members, line) {
-        Twins::Only(pair)
-    } else if count_of(members, pair) <= 1 {
-        Twins::Only(line)
-    } else {
-        Twins::Anywhere
-    }
-}
-
-/// What is known once a write of a line joins, where no line had two members.
-fn first_with(members: &[Member], line: u32) -> Twins
-    ensures { result ≡ spec.twins_with line members.now twin.Nowhere }
-{
-    if has_staying(members, line) {
-        Twins::Only(line)
-    } else {
-        Twins::Nowhere
-    }
-}
-
-/// What is known once a write joins of a line that has members.
-fn twins_beside(twins: Twins, members: &[Member], line: u32) -> Twins
-    ensures { result ≡ spec.twins_with line members.now twins }
-{
-    match twins {
-        Twins::Nowhere => first_with(members, line),
-        Twins::Only(pair) => only_with(pair, members, line),
-        Twins::Anywhere => Twins::Anywhere,
-    }
-}
-
-/// What is known once a write of a line joins, where the line has members or not. It holds too where it is refused.
-pub fn twins_with(twins: Twins, has_mates: bool, members: &[Member], line: u32) -> Twins
-    requires known { IsKnown twins members.now }
-    requires mates { has_mates ≡ list_any (spec.is_of line) members.now }
-    ensures exact { result ≡ spec.twins_with line members.now twins }
-    ensures joins { (m : Member) → m.line ≡ line
-        → IsKnown result (filter (stays_beside line) members.now ++ m ∷ []) }
-    ensures stays { IsKnown result members.now }
-{
-    if has_mates {
-        twins_beside(twins, members, line)
-    } else {
-        twins
-    }
-}
-
 /// Whether a tick is that of nothing that happens.
 fn is_never(tick: u64) -> bool
     ensures { result ≡ (tick == never) }
@@ -219,29 +98,25 @@ fn follows(newest: &Member, others: &[Member]) -> bool
     is_never(newest.end) || some_end_by(others, newest.end)
 }
 
-/// Whether the newest member isn't stored first where two of a line stand.
-fn passes_none(newest: &Member, others: &[Member], twins: Twins) -> bool
-    requires { IsKnown twins others.now }
-    ensures { result ≡ (spec.follows newest.now others.now || not (spec.has_twins others.now)) }
+/// Whether the newest member finds at most one other of its line, which precedes it, and isn't stored first where two of a line
+/// stand. So many of all have a later one of their line: where none has, no other is looked at.
+fn joins_well(all: &[Member], newest: &Member, others: &[Member], twins: usize) -> bool
+    requires { twins ≡ spec.twins_in (others.now ++ newest.now ∷ []) }
+    ensures { result ≡ spec.joins_well all.now newest.now others.now }
 {
-    match twins {
-        Twins::Nowhere => true,
-        Twins::Only(line) => follows(newest, others) || count_of(others, line) <= 1,
-        Twins::Anywhere => follows(newest, others) || !has_twins(others),
+    if twins == 0 {
+        return true;
+    }
+    match count_of(others, newest.line) {
+        0 => follows(newest, others),
+        1 => all_precede(all, newest, others) && (twins == 1 || follows(newest, others)),
+        _ => false,
     }
 }
 
-/// Whether the newest member finds few of its line among the others, and isn't stored first where two of a line stand.
-fn joins_well(all: &[Member], newest: &Member, others: &[Member], twins: Twins) -> bool
-    requires { IsKnown twins (others.now ++ newest.now ∷ []) }
-    ensures { result ≡ spec.joins_well all.now newest.now others.now }
-{
-    finds_few(all, newest, others, twins) && passes_none(newest, others, twins)
-}
-
 /// Whether these members are in order, where all but the newest are.
-fn in_order(members: &[Member], twins: Twins) -> bool
-    requires { IsKnown twins members.now }
+fn in_order(members: &[Member], twins: usize) -> bool
+    requires { twins ≡ spec.twins_in members.now }
     ensures { result ≡ spec.in_order members.now }
 {
     match members.last() {
@@ -253,16 +128,17 @@ fn in_order(members: &[Member], twins: Twins) -> bool
     }
 }
 
-/// Whether a bank holds no more than it may, where its pairs are in order but for the newest member, and this is known of them.
+/// Whether a bank holds no more than it may, where its pairs are in order but for the newest member, and so many members have a
+/// later one of their line.
 pub fn has_room(
     writes: u32,
     reads: u32,
     members: &[Member],
     waits: &[u64],
     lost: u32,
-    twins: Twins,
+    twins: usize,
 ) -> bool
-    requires { IsKnown twins members.now }
+    requires { twins ≡ spec.twins_in members.now }
     ensures { result ≡ spec.room_kept writes reads members.now waits.now lost }
 {
     members.len() <= writes as usize
@@ -313,41 +189,6 @@ pub fn write_fits<const B: usize>(
         Outcome::Merged { tick: at } => next == Some(*at),
         _ => true,
     }
-}
-
-/// How many of these keys, which don't fall, are at most this one.
-fn up_to(keys: &[u128], key: u128) -> usize
-    requires { IsNonDecreasing keys.now }
-    ensures { result ≡ keys_spec.up_to key keys.now }
-{
-    keys.partition_point(
-        |k: &u128| -> bool
-            ensures { result ≡ keys_spec.is_up_to key k.now }
-        { *k <= key },
-    )
-}
-
-/// The key of a tick of a line.
-pub fn line_key(line: u32, tick: u64) -> u128
-    ensures { result ≡ keys_spec.key line tick }
-{
-    line as u128 * 1_125_899_906_842_624 + tick as u128
-}
-
-/// The key at an index, if there is one.
-fn key_at(keys: &[u128], index: usize) -> Option<u128>
-    ensures { result ≡ slice_get keys.now index }
-{
-    keys.get(index).copied()
-}
-
-/// The next of these keys, which don't fall, above this one: so it is at most another exactly where keys lie between the two.
-fn next_key(keys: &[u128], key: u128) -> Option<u128>
-    requires { IsNonDecreasing keys.now }
-    ensures { (other : ℕ) → nat_lt (keys_spec.up_to key keys.now) (keys_spec.up_to other keys.now)
-        ≡ comes_by other result }
-{
-    key_at(keys, up_to(keys, key))
 }
 
 /// Whether a key, if there is one, is at most this one.

@@ -1,13 +1,13 @@
 -- What ends next in a bank.
-use Rattle.std.proofs.Common.{◌≡◌, ℕ, ◌<◌, ◌≤◌, ◌&&◌, Bool, true, false, List, [], ◌∷◌, ◌++◌, Option, refl, sym, ap, ◌∙◌, cond, subst, arith}
-use Rattle.std.{specs.List.list_all, specs.Prelude.{filter, nat_le, nat_lt, not, min}, proofs.Math.Nat.{min-le_left, min-le_right}}
+use Rattle.std.proofs.Common.{◌≡◌, ℕ, ◌+◌, ◌-◌, ◌<◌, ◌≤◌, ◌&&◌, Bool, true, false, List, [], ◌∷◌, ◌++◌, length, length-append, Option, refl, sym, ap, ◌∙◌, cond, subst, arith}
+use Rattle.std.{specs.List.{list_all, list_any}, specs.Prelude.{filter, nat_le, nat_lt, not, min}, proofs.Math.Nat.{min-le_left, min-le_right}}
 use Rattle.std.proofs.{lemmas.Bool.{leb-true, le-leb, lt-ltb, lt-leb}, lemmas.List.Folds.list_all-append}
-use Rattle.masked_bytes.proofs.Truth.{and_first, and_second}
+use Rattle.masked_bytes.proofs.{Counting.one_if, Truth.{and_first, and_second}}
 use Rattle.result_rows.specs.declared.Outcome.{Outcome}
 use Rattle.result_rows.specs.declared.Outcome.TheVariants as out
 use Rattle.check_judging.specs.Distances.{later_of}
-use Rattle.check_verdict.specs.{Fitting.IsKnown, Joined.stays_beside, Kept.{ended, least_end}, Members.never, States.{Facts, settled, after_write, after_read}}
-use Rattle.check_verdict.specs.{declared.members.Member.Member, declared.members.Twins.Twins, declared.members.Twins.TheVariants.Anywhere}
+use Rattle.check_verdict.specs.{Fitting.{is_of, twins_in}, Joined.stays_beside, Kept.{ended, least_end}, Members.never, States.{Facts, settled, after_write, after_read}}
+use Rattle.check_verdict.{specs.declared.members.Member.Member, proofs.Twins.{none_leaves, twins-few, twins-joined}}
 use Rattle.result_check.specs.Watching.{NoneEndsBelow, IsWatched, least_of, read_at}
 
 -- a bound on some numbers
@@ -19,13 +19,6 @@ module _ {A : Type 0} (f : A → ℕ) where
       let b = leb-true next first le in
       let own : nat_le next (f y) ≡ true = le-leb next (f y) (omega (arith, a, b)) in
       ap (λ c. c && list_all (λ y. nat_le next (f y)) xs) own ∙ bound_less first next xs le (and_second _ _ h)
-
-  pub bound_zero : (xs : List A) → list_all (λ y. nat_le 0 (f y)) xs ≡ true
-  bound_zero [] = refl
-  bound_zero (y ∷ xs) = ap (λ c. c && list_all (λ y. nat_le 0 (f y)) xs) (le-leb 0 (f y) (omega arith)) ∙ bound_zero xs
-
-pub none_below_zero : (f : Facts) → NoneEndsBelow 0 f
-none_below_zero f = record { stores = bound_zero (λ (m : Member). m.end) f.members; reads = bound_zero (λ (v : ℕ). v) f.waits }
 
 -- the least of some ticks is at most each
 end_below : (first : ℕ) (ms : List Member) → least_end first ms ≤ first
@@ -147,46 +140,93 @@ module _ {n : ℕ} (next : ℕ) (f : Facts) (none : NoneEndsBelow next f) where
   none_read tick (out.Busy u) = sooner_none next never f none
   none_read tick (out.Cut u) = sooner_none next never f none
 
-module _ {n : ℕ} (twins : Twins) (f : Facts) where
-  -- the only line that may have two, behind a write and a read
-  pairs_written : (line : ℕ) (m : Member) (o : Outcome n) → IsKnown twins (filter (stays_beside line) f.members ++ m ∷ []) → IsKnown twins f.members
-      → IsKnown twins (after_write line m o f).members
-  pairs_written line m (out.Stored u place) joins stays = joins
-  pairs_written line m (out.Merged u) joins stays = joins
-  pairs_written line m (out.Queued u) joins stays = joins
-  pairs_written line m (out.Worn u) joins stays = stays
-  pairs_written line m out.Unset joins stays = stays
-  pairs_written line m (out.Full u) joins stays = stays
-  pairs_written line m (out.Read u place bytes) joins stays = stays
-  pairs_written line m (out.Forwarded u bytes) joins stays = stays
-  pairs_written line m (out.Busy u) joins stays = stays
-  pairs_written line m (out.Lost u) joins stays = stays
-  pairs_written line m (out.Cut u) joins stays = stays
+module _ {n : ℕ} (twins : ℕ) (f : Facts) (is : twins ≡ twins_in f.members) where
+  -- behind a write whose line has members as many lines have members as before
+  twins_paired : (line : ℕ) (m : Member) (o : Outcome n) → m.line ≡ line → list_any (is_of line) f.members ≡ true
+      → twins_in (after_write line m o f).members + length f.members ≡ twins + length (after_write line m o f).members
+  twins_paired line m o of mates = by o
+    where
+      joins : twins_in (filter (stays_beside line) f.members ++ (m ∷ [])) + length f.members ≡ twins + length (filter (stays_beside line) f.members ++ (m ∷ []))
+      joins =
+          let k = twins-joined line m of f.members in
+          let i : one_if (list_any (is_of line) f.members) ≡ 1 = ap one_if mates in
+          let l : length (filter (stays_beside line) f.members ++ (m ∷ [])) ≡ length (filter (stays_beside line) f.members) + 1 =
+          length-append (filter (stays_beside line) f.members) (m ∷ []) in
+          omega (arith, k, i, l, is)
 
-  pairs_read : (tick : ℕ) (o : Outcome n) → IsKnown twins f.members → IsKnown twins (after_read tick o f).members
-  pairs_read tick (out.Read u place bytes) h = h
-  pairs_read tick (out.Lost u) h = h
-  pairs_read tick out.Unset h = h
-  pairs_read tick (out.Stored u place) h = h
-  pairs_read tick (out.Merged u) h = h
-  pairs_read tick (out.Queued u) h = h
-  pairs_read tick (out.Full u) h = h
-  pairs_read tick (out.Worn u) h = h
-  pairs_read tick (out.Forwarded u bytes) h = h
-  pairs_read tick (out.Busy u) h = h
-  pairs_read tick (out.Cut u) h = h
+      by : (o : Outcome n) → twins_in (after_write line m o f).members + length f.members ≡ twins + length (after_write line m o f).members
+      by (out.Stored u place) = joins
+      by (out.Merged u) = joins
+      by (out.Queued u) = joins
+      by (out.Worn u) = omega (arith, is)
+      by out.Unset = omega (arith, is)
+      by (out.Full u) = omega (arith, is)
+      by (out.Read u place bytes) = omega (arith, is)
+      by (out.Forwarded u bytes) = omega (arith, is)
+      by (out.Busy u) = omega (arith, is)
+      by (out.Lost u) = omega (arith, is)
+      by (out.Cut u) = omega (arith, is)
 
--- nothing is known beside a bank
-pub watched_none : (f : Facts) → IsWatched 0 Anywhere f
-watched_none f = record { ends = none_below_zero f; pairs = tt }
+  -- and behind one whose line has none
+  twins_apart : (line : ℕ) (m : Member) (o : Outcome n) → m.line ≡ line → list_any (is_of line) f.members ≡ false
+      → twins ≡ twins_in (after_write line m o f).members
+  twins_apart line m o of none = by o
+    where
+      joins : twins ≡ twins_in (filter (stays_beside line) f.members ++ m ∷ [])
+      joins =
+          let k = twins-joined line m of f.members in
+          let i : one_if (list_any (is_of line) f.members) ≡ 0 = ap one_if none in
+          let l : length f.members ≡ length (filter (stays_beside line) f.members) = ap length (none_leaves line f.members none) in
+          omega (arith, k, i, l, is)
 
--- behind a write and a read
-pub watched_written : {n : ℕ} (next line : ℕ) (twins : Twins) (m : Member) (o : Outcome n) (f g : Facts) → NoneEndsBelow next f
-    → IsKnown twins (filter (stays_beside line) f.members ++ m ∷ []) → IsKnown twins f.members → g ≡ after_write line m o f → IsWatched (min next m.end) twins g
-watched_written next line twins m o f g none joins stays is =
-    subst (λ f'. IsWatched (min next m.end) twins f') (sym is) (record { ends = none_written next f none line m o; pairs = pairs_written twins f line m o joins stays })
+      by : (o : Outcome n) → twins ≡ twins_in (after_write line m o f).members
+      by (out.Stored u place) = joins
+      by (out.Merged u) = joins
+      by (out.Queued u) = joins
+      by (out.Worn u) = is
+      by out.Unset = is
+      by (out.Full u) = is
+      by (out.Read u place bytes) = is
+      by (out.Forwarded u bytes) = is
+      by (out.Busy u) = is
+      by (out.Lost u) = is
+      by (out.Cut u) = is
 
-pub watched_read : {n : ℕ} (next tick : ℕ) (twins : Twins) (o : Outcome n) (f g : Facts) → IsWatched next twins f → g ≡ after_read tick o f
-    → IsWatched (min next (read_at o)) twins g
-watched_read next tick twins o f g had is =
-    subst (λ f'. IsWatched (min next (read_at o)) twins f') (sym is) (record { ends = none_read next f had.ends tick o; pairs = pairs_read twins f tick o had.pairs })
+  -- behind a read
+  twins_read : (tick : ℕ) (o : Outcome n) → twins ≡ twins_in (after_read tick o f).members
+  twins_read tick (out.Read u place bytes) = is
+  twins_read tick (out.Lost u) = is
+  twins_read tick out.Unset = is
+  twins_read tick (out.Stored u place) = is
+  twins_read tick (out.Merged u) = is
+  twins_read tick (out.Queued u) = is
+  twins_read tick (out.Full u) = is
+  twins_read tick (out.Worn u) = is
+  twins_read tick (out.Forwarded u bytes) = is
+  twins_read tick (out.Busy u) = is
+  twins_read tick (out.Cut u) = is
+
+-- behind a write whose line has members, behind one whose line has none, and behind a read
+module _ {n : ℕ} (next twins : ℕ) (f g : Facts) (had : IsWatched next twins f) where
+  module _ (line : ℕ) (m : Member) (o : Outcome n) (of : m.line ≡ line) (is : g ≡ after_write line m o f) where
+    pub lines_stay : list_any (is_of line) f.members ≡ true → (twins ≤ length f.members) × (twins_in g.members + length f.members ≡ twins + length g.members)
+    lines_stay mates = (
+      subst (λ k. k ≤ length f.members) (sym had.pairs) (twins-few f.members),
+      subst (λ (h : Facts). twins_in h.members + length f.members ≡ twins + length h.members) (sym is) (twins_paired twins f had.pairs line m o of mates),
+    )
+
+    pub watched_paired : list_any (is_of line) f.members ≡ true → IsWatched (min next m.end) (length g.members - (length f.members - twins)) g
+    watched_paired mates = record {
+      ends = subst (λ h. NoneEndsBelow (min next m.end) h) (sym is) (none_written next f had.ends line m o);
+      pairs = let k = lines_stay mates in omega (arith, k.0, k.1);
+    }
+
+    pub watched_apart : list_any (is_of line) f.members ≡ false → IsWatched (min next m.end) twins g
+    watched_apart none =
+        subst (λ f'. IsWatched (min next m.end) twins f') (sym is)
+        (record { ends = none_written next f had.ends line m o; pairs = twins_apart twins f had.pairs line m o of none })
+
+  pub watched_read : (tick : ℕ) (o : Outcome n) → g ≡ after_read tick o f → IsWatched (min next (read_at o)) twins g
+  watched_read tick o is =
+      subst (λ f'. IsWatched (min next (read_at o)) twins f') (sym is)
+      (record { ends = none_read next f had.ends tick o; pairs = twins_read twins f had.pairs tick o })

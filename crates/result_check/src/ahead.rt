@@ -98,8 +98,8 @@ impl Outlook {
         ensures { (rows : List (Row B)) (asks : Asks B) → line_written asks ≡ Some line
             → IsOutlook banks.now rows self.old.next.items self.old.soonest.items
             self.old.worn.items
-            → IsOutlook banks.now (a_row tick asks outcome.now
-            ∷ rows) self.new.next.items self.new.soonest.items self.new.worn.items }
+            → IsOutlook banks.now (a_row tick asks outcome.now ∷ rows) self.new.next.items
+            self.new.soonest.items self.new.worn.items }
     {
         match outcome {
             Outcome::Stored { tick: at, .. } => {
@@ -122,8 +122,8 @@ impl Outlook {
         requires worn { length self.old.worn.items ≡ 256 }
         ensures { (rows : List (Row B)) → IsOutlook banks.now rows self.old.next.items
             self.old.soonest.items self.old.worn.items
-            → IsOutlook banks.now (row_of event.now outcome.now
-            ∷ rows) self.new.next.items self.new.soonest.items self.new.worn.items }
+            → IsOutlook banks.now (row_of event.now outcome.now ∷ rows) self.new.next.items
+            self.new.soonest.items self.new.worn.items }
     {
         if let Some(line) = line_written(&event.op) {
             self.add_write(banks, event.tick, line, outcome);

@@ -8,9 +8,8 @@ ghost use Rattle.trace_rows.specs.Rows.{rows_with, asks_of, row_of};
 ghost use Rattle.row_rules.specs.Lines.{IsOfLines};
 ghost use Rattle.result_check.specs.Tables.{IsTable, IsFound};
 
-use check_verdict::keys::key;
+use check_verdict::keys::{key, line_key};
 use check_verdict::known::Keys;
-use check_verdict::queue::line_key;
 use result_rows::{Outcome, Results};
 use std::alloc::{AllocError, Global};
 use trace_reader::{Event, EventOp};
@@ -80,8 +79,8 @@ impl Found {
         requires table { IsTable (length banks.now) (rows_with events.now results.now) }
         requires few { length events.now ≤ 400_000 }
         requires rows { length results.now ≡ length events.now }
-        ensures { IfOk result (λ found. IsFound banks.now (rows_with events.now results.now)
-            found) }
+        ensures { let rows = rows_with events.now results.now in
+            IfOk result (λ found. IsFound banks.now rows found) }
     {
         let mut found = Found {
             keys: Keys {

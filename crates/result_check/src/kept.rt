@@ -88,8 +88,8 @@ fn pass_line<const B: usize>(
     given: &[bool; B],
     outcome: &Outcome<B>,
 ) -> Result<(), AllocError>
-    ensures { IfOk result (λ _. IsLineBehind B tick bytes.now given.now outcome.now line.old
-        line.new) }
+    ensures { IfOk result
+        (λ _. IsLineBehind B tick bytes.now given.now outcome.now line.old line.new) }
 {
     if accepts(outcome) {
         return line.pass(tick, stored_at(outcome), bytes, given);
@@ -297,9 +297,8 @@ impl<const B: usize> Kept<B> {
     ) -> Result<Option<Rule>, AllocError>
         requires small { B ≤ 128 }
         requires asked { asks_of op.now ≡ Writes row.line bytes.now given.now }
-        requires may { MayTake grounds.rules.now grounds.banks.now grounds.keys.now row.tick
-            row.line
-            outcome.now self.old.banks.items self.old.lines.items }
+        requires may { MayTake grounds.rules.now grounds.banks.now grounds.keys.now
+            row.tick row.line outcome.now self.old.banks.items self.old.lines.items }
         requires cuts { IsNonDecreasing grounds.cuts.now }
         requires few { length grounds.cuts.now ≤ 400_000 }
         ensures number { IfOk result (λ _. length self.new.banks.items
@@ -308,13 +307,11 @@ impl<const B: usize> Kept<B> {
             ≡ length self.old.lines.items) }
         ensures passes { (before after : List (Row B))
             → let r = a_row row.tick (asks_of op.now) outcome.now in
-            IsNext grounds.entry.rules.now grounds.entry.banks.now grounds.entry.keys.now before r
-            after
-            self.old.banks.items self.old.joined self.old.lines.items row.room
-            grounds.entry.coming grounds.entry.cuts.now
+            IsNext grounds.entry.rules.now grounds.entry.banks.now grounds.entry.keys.now
+            before r after self.old.banks.items self.old.joined self.old.lines.items
+            row.room grounds.entry.coming grounds.entry.cuts.now
             → IfOk result (λ broken. HasPassed grounds.entry.rules.now grounds.entry.banks.now
-            before r after
-            broken self.new.banks.items self.new.joined self.new.lines.items) }
+            before r after broken self.new.banks.items self.new.joined self.new.lines.items) }
     {
         let number = bank_of(grounds.banks, row.line);
         self.settle(grounds.banks, row.tick, row.line);
@@ -346,12 +343,10 @@ impl<const B: usize> Kept<B> {
     ) -> Result<Option<Rule>, AllocError>
         requires small { B ≤ 128 }
         requires asked { asks_of op.now ≡ Reads row.line }
-        requires may { MayTake grounds.rules.now grounds.banks.now grounds.keys.now row.tick
-            row.line
-            outcome.now self.old.banks.items self.old.lines.items }
+        requires may { MayTake grounds.rules.now grounds.banks.now grounds.keys.now
+            row.tick row.line outcome.now self.old.banks.items self.old.lines.items }
         requires fourth { let f = facts_in self.old.banks.items (bank_in grounds.banks.now row.line)
-            in
-            IfSome f.fourth (λ came. came < reach) }
+            in IfSome f.fourth (λ came. came < reach) }
         requires few { let f = facts_in self.old.banks.items (bank_in grounds.banks.now row.line) in
             length (settled row.tick f).waits + (settled row.tick f).lost ≤ 400_000 }
         ensures number { IfOk result (λ _. length self.new.banks.items
@@ -360,13 +355,11 @@ impl<const B: usize> Kept<B> {
             ≡ length self.old.lines.items) }
         ensures passes { (before after : List (Row B))
             → let r = a_row row.tick (asks_of op.now) outcome.now in
-            IsNext grounds.entry.rules.now grounds.entry.banks.now grounds.entry.keys.now before r
-            after
-            self.old.banks.items self.old.joined self.old.lines.items row.room
-            grounds.entry.coming grounds.entry.cuts.now
+            IsNext grounds.entry.rules.now grounds.entry.banks.now grounds.entry.keys.now
+            before r after self.old.banks.items self.old.joined self.old.lines.items
+            row.room grounds.entry.coming grounds.entry.cuts.now
             → IfOk result (λ broken. HasPassed grounds.entry.rules.now grounds.entry.banks.now
-            before r after
-            broken self.new.banks.items self.new.joined self.new.lines.items) }
+            before r after broken self.new.banks.items self.new.joined self.new.lines.items) }
     {
         let number = bank_of(grounds.banks, row.line);
         self.settle(grounds.banks, row.tick, row.line);
@@ -397,10 +390,10 @@ impl<const B: usize> Kept<B> {
             (before after : List (Row B))
             (coming : Coming) (cuts : List ℕ)
             → let r = a_cut tick outcome.now in
-            IsNext rules banks keys before r after
-            self.old.banks.items self.old.joined self.old.lines.items room coming cuts
-            → HasPassed rules banks before r after
-            result self.new.banks.items self.new.joined self.new.lines.items }
+            IsNext rules banks keys before r after self.old.banks.items self.old.joined
+            self.old.lines.items room coming cuts
+            → HasPassed rules banks before r after result self.new.banks.items self.new.joined
+            self.new.lines.items }
     {
         let broken = judge_cut(tick, room, outcome);
         match broken {
@@ -430,22 +423,19 @@ impl<const B: usize> Kept<B> {
         requires few { length grounds.cuts.now ≤ 400_000 }
         requires met { (before : List (Row B)) × (after : List (Row B))
             × Meets grounds.rules.now grounds.banks.now grounds.keys.now
-            before (row_of event.now outcome.now) after
-            self.old.banks.items self.old.joined self.old.lines.items grounds.coming
-            grounds.cuts.now }
+            before (row_of event.now outcome.now) after self.old.banks.items self.old.joined
+            self.old.lines.items grounds.coming grounds.cuts.now }
         ensures number { IfOk result (λ _. length self.new.banks.items
             ≡ length self.old.banks.items) }
         ensures lines { IfOk result (λ _. length self.new.lines.items
             ≡ length self.old.lines.items) }
         ensures passes { (before after : List (Row B))
             → let r = row_of event.now outcome.now in
-            Meets grounds.entry.rules.now grounds.entry.banks.now grounds.entry.keys.now before r
-            after
-            self.old.banks.items self.old.joined self.old.lines.items
+            Meets grounds.entry.rules.now grounds.entry.banks.now grounds.entry.keys.now
+            before r after self.old.banks.items self.old.joined self.old.lines.items
             grounds.entry.coming grounds.entry.cuts.now
             → IfOk result (λ broken. HasPassed grounds.entry.rules.now grounds.entry.banks.now
-            before r after
-            broken self.new.banks.items self.new.joined self.new.lines.items) }
+            before r after broken self.new.banks.items self.new.joined self.new.lines.items) }
     {
         let tick = event.tick;
         let room = self.find_room(grounds.rules, grounds.banks, tick);

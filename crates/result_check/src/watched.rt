@@ -1,5 +1,5 @@
 //! What is kept of a bank, with a tick below which nothing of it ends, so that a bank that nothing leaves is settled at once, and
-//! with the lines that may have two members, so that no others are sought for two.
+//! with the number of members that have a later one of their line, so that none is sought where there is none.
 
 ghost use Rattle.std.specs.Prelude.{◌≡◌, ◌<◌, ◌^◌, ◌-◌, IfOk};
 ghost use Rattle.check_verdict.specs.Banks.{facts_of};
@@ -10,8 +10,9 @@ ghost use Rattle.result_check.specs.Watching as watching;
 ghost use Rattle.result_check.specs.Watching.{least_of};
 
 use check_verdict::bank::Bank;
-use check_verdict::members::{Member, NEVER, Twins};
-use check_verdict::queue::{has_line, has_room, twins_with};
+use check_verdict::members::{Member, NEVER};
+use check_verdict::queue::{has_line, has_room};
+use check_verdict::settling::twins_left;
 use result_rows::Outcome;
 use std::alloc::{AllocError, Global};
 use std::marker::Model;
@@ -22,8 +23,8 @@ pub struct Watched {
     bank: Bank,
     // No write is stored below this tick, and no read that waits is read.
     next: u64,
-    // Which lines may have two members.
-    twins: Twins,
+    // How many members have a later one of their line.
+    twins: usize,
 }
 
 impl Model for Watched {
@@ -67,7 +68,7 @@ impl Watched {
         Watched {
             bank: Bank::new(alloc),
             next: 0,
-            twins: Twins::Nowhere,
+            twins: 0,
         }
     }
 
@@ -97,6 +98,7 @@ impl Watched {
         ensures { self.new ≡ spec.settled tick self.old }
     {
         if self.next <= tick {
+            self.twins = twins_left(&self.bank.members, tick, self.twins);
             let first = self.bank.settle(tick);
             self.next = first.min(first_of(&self.bank.waits));
         }
@@ -108,18 +110,18 @@ impl Watched {
         member: Member,
         outcome: &Outcome<B>,
     ) -> Result<(), AllocError>
-        ensures { IfOk result (λ _. self.new ≡ spec.after_write member.line member outcome.now
-            self.old) }
+        ensures { IfOk result
+            (λ _. self.new ≡ spec.after_write member.line member outcome.now self.old) }
     {
-        let next = self.next.min(member.end);
+        let stood = self.bank.members.len();
         let has_mates = has_line(&self.bank.members, member.line);
-        let twins = twins_with(self.twins, has_mates, &self.bank.members, member.line);
-        // Where memory runs out nothing is known.
-        self.next = 0;
-        self.twins = Twins::Anywhere;
         self.bank.pass_write(member, has_mates, outcome)?;
-        self.next = next;
-        self.twins = twins;
+        self.next = self.next.min(member.end);
+        // Where others of its line stand, no line more has members.
+        if has_mates {
+            let lines = stood - self.twins;
+            self.twins = self.bank.members.len() - lines;
+        }
         Ok(())
     }
 
@@ -132,14 +134,8 @@ impl Watched {
         requires { self.old.lost < 2 ^ 32 - 1 }
         ensures { IfOk result (λ _. self.new ≡ spec.after_read tick outcome.now self.old) }
     {
-        let next = self.next.min(read_at(outcome));
-        let twins = self.twins;
-        // Where memory runs out nothing is known.
-        self.next = 0;
-        self.twins = Twins::Anywhere;
         self.bank.pass_read(tick, outcome)?;
-        self.next = next;
-        self.twins = twins;
+        self.next = self.next.min(read_at(outcome));
         Ok(())
     }
 

@@ -1,11 +1,11 @@
-use Rattle.std.proofs.Common.{◌≡◌, ◌-◌, ◌++◌, [], ◌∷◌, length, Some, sym, subst, ap, ◌∙◌, rules}
+use Rattle.std.proofs.Common.{◌≡◌, ◌-◌, ◌++◌, [], ◌∷◌, length, Some, sym, ap, ◌∙◌, rules}
 use Rattle.std.specs.Prelude.{slice_get, take}
-use Rattle.check_verdict.{specs.Fitting.{IsKnown, joins_well, in_order}, proofs.Fits.{order_split, last_split}}
+use Rattle.check_verdict.{specs.Fitting.{twins_in, joins_well, in_order}, proofs.Fits.{order_split, last_split}}
 use Rattle.check_verdict.proofs.queue.in_order.Goals as goal
 
 pub joins_well-requires : goal.joins_well-requires
 joins_well-requires c =
-    subst (IsKnown c.args.twins) (sym (last_split c.args.members.now c.in-Some.newest.now c.in-Some.ensures.value)) c.requires
+    c.requires ∙ ap twins_in (sym (last_split c.args.members.now c.in-Some.newest.now c.in-Some.ensures.value))
 
 pub returns-in-Some : goal.returns-in-Some
 returns-in-Some c =
