@@ -3,16 +3,16 @@ ghost use Rattle.std.specs.Prelude.{◌≡◌, ℕ, ◌+◌, ◌≤◌, List, []
 ghost use Rattle.pcm_io.specs.Faults.{Rose};
 ghost use Rattle.pcm_io.specs.Giving.{AppendsPrefix};
 ghost use Rattle.pcm_io.specs.Reserved.{reserved, appended, room_in};
-ghost use Rattle.wear_report.specs.declared.Role.{Role as RoleOf};
-ghost use Rattle.wear_report.specs.WearText.{role_text};
+ghost use Rattle.bank_shape.specs.declared.Role.{Role as RoleOf};
 ghost use Rattle.run_text.specs.Gathering.{Printed};
 ghost use Rattle.lines_report.specs.declared.row.LineCells.{LineCells as CellsOf};
 ghost use Rattle.lines_report.specs.LinesText.{changes_text, lines_header_text, lines_row_text, lines_text, stuck_text};
 
+use bank_shape::Role;
 use cell_wear::CellWear;
 use pcm_io::{Sink, Text, WriteFault};
 use run_text::{ROW_ROOM, TEXT_ROOM, make_room};
-use wear_report::Role;
+use wear_report::push_role;
 
 /// What the cells of an array line say of it.
 #[derive(Clone, Copy, Debug, Drop, PartialEq, Eq)]
@@ -33,24 +33,6 @@ pub fn print_lines_header(text: &mut Text)
     text.push(b"array,bank,pulses,role,pointers,stuck,changes\n");
 }
 
-#[tactic(auto, using(pcm_io::proofs::DigitLemmas::ten_digits))]
-fn push_role(role: Role, text: &mut Text)
-    requires { 15 ≤ room_in text.old }
-    ensures after { text.new ≡ appended text.old (role_text role) }
-    ensures room { room_in text.old ≤ room_in text.new + 15 }
-{
-    match role {
-        Role::Line(line) => {
-            text.push(b"line ");
-            text.push_number(line as u64);
-        }
-        Role::Gap => text.push(b"gap"),
-        Role::Free => text.push(b"free"),
-        Role::Retired => text.push(b"retired"),
-        Role::Control => text.push(b"control"),
-    }
-}
-
 // The last two fields: both are empty where the array doesn't tell them.
 #[tactic(auto, using(pcm_io::proofs::DigitLemmas::ten_digits))]
 fn push_wear(wear: Option<CellWear>, text: &mut Text)
@@ -61,8 +43,7 @@ fn push_wear(wear: Option<CellWear>, text: &mut Text)
 {
     match wear {
         Some(wear) => {
-            text.push_number(wear.stuck as u64);
-            text.push(b",");
+            text.push_number_then(wear.stuck as u64, b",");
             text.push_number(wear.changes as u64);
         }
         None => text.push(b","),
@@ -74,16 +55,12 @@ fn push_row(array_line: u32, bank: u32, pulses: u64, role: Role, cells: LineCell
     requires { 96 ≤ room_in text.old }
     ensures { text.new ≡ appended text.old (lines_row_text array_line bank pulses role cells) }
 {
-    text.push_number(array_line as u64);
-    text.push(b",");
-    text.push_number(bank as u64);
-    text.push(b",");
-    text.push_number(pulses);
-    text.push(b",");
+    text.push_number_then(array_line as u64, b",");
+    text.push_number_then(bank as u64, b",");
+    text.push_number_then(pulses, b",");
     push_role(role, text);
     text.push(b",");
-    text.push_number(cells.pointers as u64);
-    text.push(b",");
+    text.push_number_then(cells.pointers as u64, b",");
     push_wear(cells.wear, text);
     text.push(b"\n");
 }

@@ -73,8 +73,8 @@ impl Source for MemSource {
     fn read(&mut self, buf: &mut [u8]) -> Result<usize, Failed>
         requires { 0 < length buf.old }
         ensures bound { ReadsAtMost result buf.new }
-        ensures next { ReadConsumes (Some self.old.stock.left) (Some self.new.stock.left) result
-            buf.new }
+        ensures next { ReadConsumes (Some self.old.stock.left) (Some self.new.stock.left)
+            result buf.new }
         ensures counted { MatchResult result
             (λ n. self.new.stock.taken ≡ raised_by self.old.stock.taken n)
             (λ _. self.new.stock.taken ≡ self.old.stock.taken) }

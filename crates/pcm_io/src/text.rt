@@ -1,5 +1,5 @@
 // A text in memory that was reserved before.
-ghost use Rattle.std.specs.Prelude.{◌≡◌, ◌+◌, ◌*◌, ◌≤◌, length, decimal, IfOk};
+ghost use Rattle.std.specs.Prelude.{◌≡◌, ◌+◌, ◌*◌, ◌≤◌, ◌++◌, length, codes, decimal, IfOk};
 ghost use Rattle.hex.specs.Hex.{encode_lower};
 ghost use Rattle.pcm_io.specs.Reserved.{reserved, room_in, appended};
 
@@ -56,6 +56,16 @@ impl Text {
         };
     }
 
+    /// Puts the bytes at the end, and a comma behind them.
+    pub fn push_field(&mut self, field: &[u8])
+        requires { length field.now + 1 ≤ room_in self.old }
+        ensures after { self.new ≡ appended self.old (field.now ++ codes ",") }
+        ensures room { room_in self.new + (length field.now + 1) ≡ room_in self.old }
+    {
+        self.push(field);
+        self.push(b",");
+    }
+
     /// Puts the decimal digits of the number at the end; they are at most 20.
     pub fn push_number(&mut self, number: u64)
         requires { length (decimal number) ≤ room_in self.old }
@@ -63,6 +73,17 @@ impl Text {
         ensures room { room_in self.new + length (decimal number) ≡ room_in self.old }
     {
         self.push(Buffer::new().format(number).as_bytes());
+    }
+
+    /// Puts the decimal digits of the number at the end, and these bytes behind them.
+    pub fn push_number_then(&mut self, number: u64, end: &[u8])
+        requires { length (decimal number) + length end.now ≤ room_in self.old }
+        ensures after { self.new ≡ appended self.old (decimal number ++ end.now) }
+        ensures room { room_in self.new + (length (decimal number) + length end.now)
+            ≡ room_in self.old }
+    {
+        self.push_number(number);
+        self.push(end);
     }
 
     /// Puts two lower-case hexadecimal digits for each byte at the end.

@@ -57,8 +57,8 @@ pub fn read_all<S: Source>(
 /// Writes all the bytes, in as many calls as the sink wants.
 pub fn write_all<K: Sink>(sink: &mut K, bytes: &[u8]) -> Result<(), WriteFault>
     ensures ok { OnOk result (Appends (K.written sink.old) (K.written sink.new) bytes.now) }
-    ensures prefix { OnErr result (AppendsPrefix (K.written sink.old) (K.written sink.new)
-        bytes.now) }
+    ensures prefix { OnErr result
+        (AppendsPrefix (K.written sink.old) (K.written sink.new) bytes.now) }
     ensures fault { OnErr result (Rose (K.faults sink.old) (K.faults sink.new)) }
     ensures never_falls { K.faults sink.old ≤ K.faults sink.new }
 {

@@ -8,12 +8,17 @@ use Rattle.result_rows.specs.{declared.Op.Op, declared.Outcome.Outcome}
 use Rattle.result_rows.specs.declared.Op.TheVariants as op
 use Rattle.result_rows.specs.declared.Outcome.TheVariants as out
 
--- seven fields that were pushed one by one, with a comma behind each but the last, and LF at the end
+-- three fields that were pushed one by one, with a comma behind each, and then four more and LF
 pub pieces-row : (t : Reserved) (a b c d e f g : List ℕ) →
-    appended (appended (appended (appended (appended (appended (appended (appended t (a ++ codes ",")) (b ++ codes ",")) (c ++ codes ","))
-    (d ++ codes ",")) (e ++ codes ",")) (f ++ codes ",")) g) (codes "\n")
+    appended (appended (appended (appended t (a ++ codes ",")) (b ++ codes ",")) (c ++ codes ",")) (join_with_byte 44 (d ∷ e ∷ f ∷ g ∷ []) ++ codes "\n")
     ≡ appended t (join_with_byte 44 (a ∷ b ∷ c ∷ d ∷ e ∷ f ∷ g ∷ []) ++ codes "\n")
 pieces-row t a b c d e f g = simp append_assoc
+
+-- four fields that were pushed one by one, with a comma behind each but the last, and LF at the end
+pub pieces-outcome : (t : Reserved) (d e f g : List ℕ) →
+    appended (appended (appended (appended (appended t (d ++ codes ",")) (e ++ codes ",")) (f ++ codes ",")) g) (codes "\n")
+    ≡ appended t (join_with_byte 44 (d ∷ e ∷ f ∷ g ∷ []) ++ codes "\n")
+pieces-outcome t d e f g = simp append_assoc
 
 -- the letter of an operation is one byte
 pub length-op_letter : (asked : Op) → length (op_letter asked) ≡ 1

@@ -31,11 +31,18 @@ hex_or_empty None = []
 hex_or_empty (Some bytes) = encode_lower bytes
 
 module _ {n : ℕ} where
+  -- the four fields that tell an outcome
+  abbrev pub outcome_fields : Outcome n → List (List ℕ)
+  outcome_fields outcome =
+      outcome_word outcome ∷ decimal_or_empty (tick_of outcome) ∷ decimal_or_empty (place_of outcome) ∷ hex_or_empty (bytes_of outcome) ∷ []
+
+  -- what stands of an outcome in a row: its fields with commas between, and LF at the end
+  abbrev pub outcome_text : Outcome n → List ℕ
+  outcome_text outcome = join_with_byte 44 (outcome_fields outcome) ++ codes "\n"
+
   -- the seven fields of a row
   abbrev pub row_fields : ℕ → Op → ℕ → Outcome n → List (List ℕ)
-  row_fields row asked line outcome =
-      decimal row ∷ op_letter asked ∷ decimal_or_empty (line_of asked line) ∷ outcome_word outcome
-      ∷ decimal_or_empty (tick_of outcome) ∷ decimal_or_empty (place_of outcome) ∷ hex_or_empty (bytes_of outcome) ∷ []
+  row_fields row asked line outcome = decimal row ∷ op_letter asked ∷ decimal_or_empty (line_of asked line) ∷ outcome_fields outcome
 
   -- one row: the fields with commas between, and LF at the end
   abbrev pub row_text : ℕ → Op → ℕ → Outcome n → List ℕ

@@ -1,10 +1,9 @@
 // The bytes of the results.
 ghost use Rattle.std.specs.Prelude.{◌≡◌, ◌+◌, ◌*◌, ◌≤◌, ◌++◌, Some, length, codes, decimal};
-ghost use Rattle.std.specs.Option.{ForSome};
 ghost use Rattle.pcm_io.specs.Reserved.{room_in, appended};
 ghost use Rattle.hex.specs.Hex.{encode_lower};
 ghost use Rattle.result_rows.specs.Outcomes.{op_of, outcome_word, tick_of, place_of, bytes_of};
-ghost use Rattle.result_rows.specs.RowText.{header_text, op_letter, line_of, decimal_or_empty, hex_or_empty, row_text};
+ghost use Rattle.result_rows.specs.RowText.{header_text, op_letter, line_of, decimal_or_empty, hex_or_empty, outcome_text, row_text};
 
 use crate::{Op, Outcome};
 use pcm_io::Text;
@@ -17,21 +16,29 @@ pub fn header() -> &'static [u8]
 }
 
 /// Appends the row of one outcome: numbers in decimal, bytes in lower-case hexadecimal digits, LF at the end.
-#[tactic(auto, using(pcm_io::proofs::DigitLemmas::six_digits))]
+#[tactic(auto, using(pcm_io::proofs::DigitLemmas::ten_digits))]
 pub fn print_row<const B: usize>(row: u32, op: Op, line: u32, outcome: &Outcome<B>, text: &mut Text)
     requires size { B ≤ 128 }
     requires room { 64 + 2 * B ≤ room_in text.old }
     requires belongs { op_of outcome.now ≡ Some op }
-    requires row { row ≤ 400000 }
     requires line { line ≤ 65535 }
-    requires place { ForSome (place_of outcome.now) (λ place. place ≤ 98831) }
     ensures after { text.new ≡ appended text.old (row_text row op line outcome.now) }
     ensures room { room_in text.old ≤ room_in text.new + (64 + 2 * B) }
 {
-    push_number_field(Some(row as u64), text);
-    push_field(letter(op), text);
+    text.push_number_then(row as u64, b",");
+    text.push_field(letter(op));
     push_number_field(line_if_any(op, line), text);
-    push_field(word(outcome), text);
+    print_outcome(outcome, text);
+}
+
+/// Appends what a row tells of its outcome, the same fields as the last four of a row, and LF.
+pub fn print_outcome<const B: usize>(outcome: &Outcome<B>, text: &mut Text)
+    requires size { B ≤ 128 }
+    requires room { 43 + 2 * B ≤ room_in text.old }
+    ensures after { text.new ≡ appended text.old (outcome_text outcome.now) }
+    ensures room { room_in text.old ≤ room_in text.new + (43 + 2 * B) }
+{
+    text.push_field(word(outcome));
     push_number_field(tick(outcome), text);
     push_number_field(place(outcome), text);
     push_bytes(outcome, text);
@@ -100,27 +107,16 @@ fn tick<const B: usize>(outcome: &Outcome<B>) -> Option<u64>
     }
 }
 
-#[tactic(auto, using(pcm_io::proofs::DigitLemmas::five_digits))]
+#[tactic(auto, using(pcm_io::proofs::DigitLemmas::ten_digits))]
 fn place<const B: usize>(outcome: &Outcome<B>) -> Option<u64>
-    requires { ForSome (place_of outcome.now) (λ place. place ≤ 98831) }
     ensures place { result ≡ place_of outcome.now }
-    ensures short { length (decimal_or_empty result) ≤ 5 }
+    ensures short { length (decimal_or_empty result) ≤ 10 }
 {
     match outcome {
         Outcome::Stored { place, .. } => Some(*place as u64),
         Outcome::Read { place, .. } => Some(*place as u64),
         _ => None,
     }
-}
-
-// Appends a field, and the comma behind it.
-fn push_field(field: &[u8], text: &mut Text)
-    requires { length field.now + 1 ≤ room_in text.old }
-    ensures after { text.new ≡ appended text.old (field.now ++ codes ",") }
-    ensures room { room_in text.new + length field.now + 1 ≡ room_in text.old }
-{
-    text.push(field);
-    text.push(b",");
 }
 
 fn push_optional(number: Option<u64>, text: &mut Text)

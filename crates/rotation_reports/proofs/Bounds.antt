@@ -1,5 +1,5 @@
 -- How large the numbers of a row are.
-use Rattle.std.proofs.Common.{◌≡◌, ℕ, ◌+◌, ◌*◌, ◌<◌, ◌≤◌, List, [], ◌∷◌, append_assoc, refl, arith}
+use Rattle.std.proofs.Common.{◌≡◌, ℕ, ◌+◌, ◌*◌, ◌<◌, ◌≤◌, List, [], ◌∷◌, ◌++◌, append_assoc, refl, arith}
 use Rattle.std.{specs.Prelude.{codes, decimal}, proofs.lemmas.Nat.mul-le}
 use Rattle.pcm_io.specs.Reserved.{Reserved, appended}
 use Rattle.start_gap.specs.{Rotation.{place_after, move_after}, Slots.slot_at, declared.Move.Move}
@@ -18,14 +18,13 @@ bank_few bank array_lines p q = mul-le bank array_lines 15 67617 (omega arith) q
 
 -- the fields of a row, put behind a text one by one
 pub six_fields : (t : Reserved) (a b c d e f : List ℕ) →
-    appended (appended (appended (appended (appended (appended (appended (appended (appended (appended (appended (appended t a)
-    (codes ",")) b) (codes ",")) c) (codes ",")) d) (codes ",")) e) (codes ",")) f) (codes "\n")
+    appended (appended (appended (appended (appended (appended t (a ++ codes ",")) (b ++ codes ",")) (c ++ codes ",")) (d ++ codes ","))
+    (e ++ codes ",")) (f ++ codes "\n")
     ≡ appended t (row_of (a ∷ b ∷ c ∷ d ∷ e ∷ f ∷ []))
 six_fields t a b c d e f = simp append_assoc
 
 pub four_fields : (t : Reserved) (a b c d : List ℕ) →
-    appended (appended (appended (appended (appended (appended (appended (appended t a)
-    (codes ",")) b) (codes ",")) c) (codes ",")) d) (codes "\n")
+    appended (appended (appended (appended t (a ++ codes ",")) (b ++ codes ",")) (c ++ codes ",")) (d ++ codes "\n")
     ≡ appended t (row_of (a ∷ b ∷ c ∷ d ∷ []))
 four_fields t a b c d = simp append_assoc
 

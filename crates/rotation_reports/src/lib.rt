@@ -5,13 +5,11 @@
 mod line_rows;
 mod move_rows;
 
-ghost use Rattle.std.specs.Prelude.{◌≡◌, ℕ, ◌+◌, ◌^◌, ◌<◌, ◌≤◌, length, decimal};
-ghost use Rattle.pcm_io.specs.Reserved.{room_in, appended};
+ghost use Rattle.std.specs.Prelude.{◌≡◌, ◌≤◌};
 ghost use Rattle.start_gap.specs.Rotation.{IsRotation, StandsFor};
 
 pub use line_rows::{Map, MapOptions, print_map_header};
 pub use move_rows::{print_move_row, print_moves_header};
-use pcm_io::Text;
 use start_gap::Registers;
 
 // The registers of a region of n lines after so many moves from the beginning on.
@@ -25,29 +23,4 @@ fn registers_after(n: u32, moves: u64) -> Registers
     let places = n as u64 + 1;
     let in_turn = moves % (n as u64 * places);
     Registers::at(n, (in_turn / places) as u32, n - (in_turn % places) as u32)
-}
-
-// Appends a number of at most five digits, and the byte behind it.
-#[tactic(auto, using(pcm_io::proofs::DigitLemmas::five_digits))]
-fn push_short(number: u32, end: &[u8], text: &mut Text)
-    requires short { number < 10 ^ 5 }
-    requires one { length end.now ≡ 1 }
-    requires room { 6 ≤ room_in text.old }
-    ensures after { text.new ≡ appended (appended text.old (decimal number)) end.now }
-    ensures room { room_in text.old ≤ room_in text.new + 6 }
-{
-    text.push_number(number as u64);
-    text.push(end);
-}
-
-// Appends a number, and the byte behind it.
-#[tactic(auto, using(pcm_io::proofs::DigitLemmas::twenty_digits))]
-fn push_number(number: u64, end: &[u8], text: &mut Text)
-    requires one { length end.now ≡ 1 }
-    requires room { 21 ≤ room_in text.old }
-    ensures after { text.new ≡ appended (appended text.old (decimal number)) end.now }
-    ensures room { room_in text.old ≤ room_in text.new + 21 }
-{
-    text.push_number(number);
-    text.push(end);
 }

@@ -6,7 +6,7 @@ ghost use Rattle.start_gap.specs.Slots.{slot_at};
 ghost use Rattle.bank_shape.specs.Shape.{if_array};
 ghost use Rattle.rotation_reports.specs.MapText.{IsMapOptions, map_header, map_row, map_address, lines_of, array_lines_of};
 
-use crate::{push_number, push_short, registers_after};
+use crate::registers_after;
 use bank_shape::Home;
 use feistel_map::{Address, Feistel};
 use pcm_io::Text;
@@ -60,6 +60,7 @@ impl Map {
     }
 
     /// Appends the row of a line of the module.
+    #[tactic(auto, using(pcm_io::proofs::DigitLemmas::five_digits, pcm_io::proofs::DigitLemmas::ten_digits))]
     pub fn print_row(&self, line: u32, text: &mut Text)
         requires exists { line < lines_of self.now }
         requires room { 64 ≤ room_in text.old }
@@ -69,12 +70,12 @@ impl Map {
         let address = self.address(line);
         let place = self.registers.place(address.offset);
         let array = array_line(&self.options, address, place);
-        push_short(line, b",", text);
-        push_short(address.bank, b",", text);
-        push_short(address.region, b",", text);
-        push_short(address.offset, b",", text);
-        push_short(place, b",", text);
-        push_number(array as u64, b"\n", text);
+        text.push_number_then(line as u64, b",");
+        text.push_number_then(address.bank as u64, b",");
+        text.push_number_then(address.region as u64, b",");
+        text.push_number_then(address.offset as u64, b",");
+        text.push_number_then(place as u64, b",");
+        text.push_number_then(array as u64, b"\n");
     }
 
     // The address of a line.

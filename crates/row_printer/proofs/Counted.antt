@@ -5,8 +5,7 @@ use Rattle.masked_bytes.proofs.Counting.{count-cons, count-append, one_if}
 use Rattle.result_rows.specs.{Table.{outcome_at, with_outcome}, declared.Outcome.Outcome}
 use Rattle.result_rows.specs.declared.Outcome.TheVariants as out
 use Rattle.row_rules.specs.Answers.{is_stored, is_merged, is_queued, is_full, is_worn, is_answered, is_forwarded, is_busy, is_lost}
-use Rattle.run_text.specs.{Counting.{is_cut, counts_of}, Laws.{is_unset, rows_counted}}
-use Rattle.row_printer.specs.Counting.{with_one}
+use Rattle.run_text.{specs.Counting.{is_cut, counts_of, with_one}, specs.Laws.{is_unset, rows_counted}, proofs.Adding.all-counted}
 
 -- a count, where one that failed a test becomes another
 one-more : (b : Bool) (count : ℕ) → cond b 1 0 + count ≡ cond b (count + 1) count
@@ -69,44 +68,8 @@ counts-open xs = rw (
 ) refl
 
 module _ {n : ℕ} where
-  -- a row is counted once, or is open
-  abbrev is_one : (Outcome n → Bool) → Outcome n → ℕ
-  is_one p x = one_if (p x)
-
-  once : (x : Outcome n) → is_one is_stored x + is_one is_merged x + is_one is_queued x + is_one is_full x + is_one is_worn x + is_one is_answered x + is_one is_forwarded x + is_one is_busy x + is_one is_lost x + is_one is_cut x + is_one is_unset x ≡ 1
-  once out.Unset = refl
-  once (out.Stored tick place) = refl
-  once (out.Merged tick) = refl
-  once (out.Queued tick) = refl
-  once (out.Full tick) = refl
-  once (out.Worn tick) = refl
-  once (out.Read tick place bytes) = refl
-  once (out.Forwarded tick bytes) = refl
-  once (out.Busy tick) = refl
-  once (out.Lost tick) = refl
-  once (out.Cut tick) = refl
-
-  all-counted : (xs : List (Outcome n)) → rows_counted (counts_of xs) + count_by is_unset xs ≡ length xs
-  all-counted [] = refl
-  all-counted (x ∷ xs) = omega (
-    arith,
-    all-counted xs,
-    once x,
-    count-cons is_stored x xs,
-    count-cons is_merged x xs,
-    count-cons is_queued x xs,
-    count-cons is_full x xs,
-    count-cons is_worn x xs,
-    count-cons is_answered x xs,
-    count-cons is_forwarded x xs,
-    count-cons is_busy x xs,
-    count-cons is_lost x xs,
-    count-cons is_cut x xs,
-    count-cons is_unset x xs,
-  )
-
-  unset-one : (x : Outcome n) → x ≡ out.Unset → is_one is_unset x ≡ 1
-  unset-one x same = ap (is_one is_unset) same
+  unset-one : (x : Outcome n) → x ≡ out.Unset → one_if (is_unset x) ≡ 1
+  unset-one x same = ap (λ y. one_if (is_unset y)) same
 
   some-open : (xs : List (Outcome n)) (i : ℕ) → slice_get xs i ≡ Some out.Unset → 1 ≤ count_by is_unset xs
   some-open [] i at = cc at

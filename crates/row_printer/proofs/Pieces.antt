@@ -3,15 +3,11 @@ use Rattle.std.proofs.Common.{◌≡◌, ℕ, List, [], ◌∷◌, ◌++◌, app
 use Rattle.std.specs.{List.join_with_byte, Prelude.codes}
 use Rattle.pcm_io.specs.Reserved.{Reserved, appended}
 
--- five fields that were pushed one by one, with a comma behind each but the last, and LF at the end
+-- a row's number and a comma, and then four fields and LF
 pub pieces-told : (t : Reserved) (a d e f g : List ℕ) →
-    appended (appended (appended (appended (appended (appended t (a ++ codes ",")) (d ++ codes ",")) (e ++ codes ",")) (f ++ codes ",")) g) (codes "\n")
+    appended (appended t (a ++ codes ",")) (join_with_byte 44 (d ∷ e ∷ f ∷ g ∷ []) ++ codes "\n")
     ≡ appended t (join_with_byte 44 (a ∷ d ∷ e ∷ f ∷ g ∷ []) ++ codes "\n")
 pieces-told t a d e f g = simp append_assoc
-
--- three pieces that were pushed one by one
-pub pieces-three : (t : Reserved) (a d e : List ℕ) → appended (appended (appended t a) d) e ≡ appended t (a ++ d ++ e)
-pieces-three t a d e = simp append_assoc
 
 -- ten counts that were pushed one by one, with a comma behind each
 pub pieces-counts : (t : Reserved) (a b d e f g h i j k : List ℕ) →
@@ -21,6 +17,6 @@ pieces-counts t a b d e f g h i j k = simp append_assoc
 
 -- the numbers of a snapshot, with its counts in one piece
 pub pieces-snapshot : (t : Reserved) (a b counts d e f g h : List ℕ) →
-    appended (appended (appended (appended (appended (appended (appended (appended (appended t (a ++ codes ",")) (b ++ codes ",")) (counts)) (d ++ codes ",")) (e ++ codes ",")) (f ++ codes ",")) (g ++ codes ",")) (h)) (codes "\n")
+    appended (appended (appended (appended (appended (appended (appended (appended t (a ++ codes ",")) (b ++ codes ",")) counts) (d ++ codes ",")) (e ++ codes ",")) (f ++ codes ",")) (g ++ codes ",")) (h ++ codes "\n")
     ≡ appended t (a ++ codes "," ++ b ++ codes "," ++ counts ++ join_with_byte 44 (d ∷ e ∷ f ∷ g ∷ h ∷ []) ++ codes "\n")
 pieces-snapshot t a b counts d e f g h = simp append_assoc

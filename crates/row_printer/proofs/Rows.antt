@@ -3,8 +3,8 @@ use Rattle.std.proofs.Common.{◌≡◌, ℕ, ◌^◌, ◌<◌, ◌≤◌, List,
 use Rattle.std.{specs.Prelude.{IsTrue, is_some}, proofs.lemmas.List.length-replicate}
 use Rattle.pcm_io.{specs.Faults.Rose, specs.Giving.AppendsPrefix, specs.Reserved.{Reserved, appended}, proofs.ByteLemmas.AppendsPrefix-longer}
 use Rattle.result_rows.specs.{Outcomes.op_of, Table.{HasRow, outcome_at, with_outcome}, declared.Outcome.Outcome, declared.Outcome.TheVariants.Unset}
-use Rattle.run_text.{specs.Counting.counts_of, specs.Gathering.Printed, specs.Laws.rows_counted, specs.declared.counts.Counts.Counts, proofs.Gathered.printed-more}
-use Rattle.row_printer.specs.{Counting.with_one, Printing.{Prints, stream_text, table_of}, Snapshots.{snapshot_line, snapshots_header, snapshots_text}}
+use Rattle.run_text.{specs.Counting.{counts_of, with_one}, specs.Gathering.Printed, specs.Laws.rows_counted, specs.declared.counts.Counts.Counts, proofs.Gathered.printed-more}
+use Rattle.row_printer.specs.{Printing.{Prints, stream_text, table_of}, Snapshots.{snapshot_line, snapshots_header, snapshots_text}}
 use Rattle.row_printer.specs.{Telling.{told_header, told_line, told_text, outcomes_in, recorded, TellsOnce}, declared.snapshot.Snapshot.Snapshot, declared.told.Shown.Shown}
 use Rattle.row_printer.specs.{declared.told.Shown.TheVariants.{Nothing, Rows, Snapshots}, declared.told.Told.Told, declared.told.Told.TheVariants.Became}
 use Rattle.row_printer.proofs.{Counted.{counts-more, counted-below}, Once.{once-more, open-untold}}

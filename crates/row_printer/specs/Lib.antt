@@ -1,6 +1,5 @@
 -- What the contracts of a printer of rows cite.
 pub mod Telling
-pub mod Counting
 pub mod Snapshots
 pub mod Printing
 pub mod GoingOn

@@ -1,6 +1,6 @@
 -- The lines of a stream, which tells what became of each row of a trace as soon as that is known, and each tick to which the banks came.
 use Rattle.std.specs.{List.join_with_byte, Prelude.{◌≡◌, ℕ, ◌≤◌, ◌==◌, ◌||◌, Bool, false, IsTrue, is_some, List, [], ◌∷◌, ◌++◌, codes, decimal}}
-use Rattle.result_rows.specs.{Outcomes.{op_of, outcome_word, tick_of, place_of, bytes_of}, RowText.{decimal_or_empty, hex_or_empty}, Table.with_outcome, declared.Outcome.Outcome}
+use Rattle.result_rows.specs.{Outcomes.op_of, RowText.outcome_fields, Table.with_outcome, declared.Outcome.Outcome}
 use Rattle.row_printer.specs.{declared.told.Told.Told, declared.told.Told.TheVariants.{Became, Settled}}
 
 -- the first line of a stream
@@ -14,9 +14,7 @@ settled_row tick = codes ",settled," ++ decimal tick ++ codes ",,\n"
 module _ {n : ℕ} where
   -- the line of one outcome: the row's number, and what became of it
   abbrev pub told_row : ℕ → Outcome n → List ℕ
-  told_row row outcome =
-      join_with_byte 44 (decimal row ∷ outcome_word outcome ∷ decimal_or_empty (tick_of outcome) ∷ decimal_or_empty (place_of outcome) ∷ hex_or_empty (bytes_of outcome) ∷ [])
-      ++ codes "\n"
+  told_row row outcome = join_with_byte 44 (decimal row ∷ outcome_fields outcome) ++ codes "\n"
 
   -- a line
   abbrev pub told_line : Told n → List ℕ

@@ -16,7 +16,6 @@ ghost use Rattle.row_printer.specs.declared.snapshot.Snapshot.{Snapshot as Taken
 ghost use Rattle.row_printer.specs.Snapshots.{IsShown, is_due, takes_snapshots};
 ghost use Rattle.row_printer.specs.Printing.{IsPrinting, Prints, PrintsOn, stream_text, table_told, text_told};
 
-use crate::counting::{count, counts_short, no_counts};
 use crate::snapshot::{Snapshot, print_snapshot, snapshots_header};
 use crate::text::{print_told, stream_header};
 use crate::told::{Shown, Told};
@@ -89,7 +88,7 @@ impl<const B: usize, S: Sink + Drop> RowPrinter<B, S> {
             rows: 0,
             prints,
             broken: false,
-            counts: no_counts(),
+            counts: Counts::none(),
         }
     }
 
@@ -229,7 +228,7 @@ impl<const B: usize, S: Sink + Drop> RowPrinter<B, S> {
         ensures { result ≡ any_short (table_told self.now) }
     {
         short_rows_are_counted();
-        counts_short(&self.counts)
+        self.counts.any_short()
     }
 
     /// Gives back the sink, and the text with what is still to be written.
@@ -270,7 +269,7 @@ impl<const B: usize, S: Sink + Drop> Outcomes<B> for RowPrinter<B, S> {
             &mut self.text,
             &mut *self.sink,
         );
-        count(&mut self.counts, &outcome);
+        self.counts.count(&outcome);
         self.told = self.told.and(&line);
     }
 }

@@ -1,34 +1,60 @@
 -- The ten counts of a table add up to its rows, and some row falls short where a count says so.
-use Rattle.std.proofs.Common.{ℕ, suc, ◌+◌, ◌≡◌, Bool, true, false, ◌||◌, cond, nat_lt, List, [], ◌∷◌, length, count_by, zero-add, ap, sym, ◌∙◌, refl, arith}
-use Rattle.std.{specs.List.list_any, proofs.lemmas.Bool.{lt-ltb, or_parts}, proofs.lemmas.List.Sums.sum_by-cons}
+use Rattle.std.proofs.Common.{ℕ, ◌+◌, ◌≡◌, Bool, true, false, ◌||◌, cond, nat_lt, List, [], ◌∷◌, length, count_by, zero-add, ap, sym, ◌∙◌, refl, arith}
+use Rattle.std.{specs.List.list_any, proofs.lemmas.Bool.{lt-ltb, or_parts}}
+use Rattle.masked_bytes.proofs.Counting.{count-cons, one_if}
 use Rattle.result_rows.specs.declared.Outcome.{Outcome}
 use Rattle.result_rows.specs.declared.Outcome.TheVariants as out
 use Rattle.row_rules.specs.Answers.{is_stored, is_merged, is_queued, is_full, is_worn, is_answered, is_forwarded, is_busy, is_lost}
 use Rattle.run_text.specs.{Counting.{is_cut, counts_of}, Laws.{is_unset, rows_counted, rows_short, EachRowIsCountedOnce, ShortRowsAreCounted}, Shortfall.is_short}
 
--- 1 for what passes a test, and else 0
-abbrev one_if : {X : Type 0} → (X → Bool) → X → ℕ
-one_if p x = cond (p x) 1 0
-
-count-cons : {X : Type 0} (p : X → Bool) (x : X) (xs : List X) → count_by p (x ∷ xs) ≡ one_if p x + count_by p xs
-count-cons p x xs = sum_by-cons (λ y. cond (p y) 1 0) x xs
+-- none of a list that has none passes a test
+none-counted : {X : Type 0} (p : X → Bool) (xs : List X) → list_any p xs ≡ false → count_by p xs ≡ 0
+none-counted p [] none = refl
+none-counted p (x ∷ xs) none =
+    let parts = or_parts (p x) (list_any p xs) none in
+    let first : one_if (p x) ≡ 0 = ap one_if parts.0 in
+    omega (arith, count-cons p x xs, first, none-counted p xs parts.1)
 
 module _ {n : ℕ} where
-  -- a row that is set has one outcome
-  once : (x : Outcome n) → is_unset x ≡ false → one_if is_stored x + one_if is_merged x + one_if is_queued x + one_if is_full x + one_if is_worn x + one_if is_answered x + one_if is_forwarded x + one_if is_busy x + one_if is_lost x + one_if is_cut x ≡ 1
-  once out.Unset set = cc
-  once (out.Stored tick place) set = refl
-  once (out.Merged tick) set = refl
-  once (out.Queued tick) set = refl
-  once (out.Full tick) set = refl
-  once (out.Worn tick) set = refl
-  once (out.Read tick place bytes) set = refl
-  once (out.Forwarded tick bytes) set = refl
-  once (out.Busy tick) set = refl
-  once (out.Lost tick) set = refl
-  once (out.Cut tick) set = refl
+  -- 1 for an outcome that passes a test, and else 0
+  abbrev is_one : (Outcome n → Bool) → Outcome n → ℕ
+  is_one p x = one_if (p x)
 
-  short-once : (x : Outcome n) → one_if is_queued x + one_if is_full x + one_if is_worn x + one_if is_busy x + one_if is_lost x ≡ cond (is_short x) 1 0
+  -- a row has one outcome, or is open
+  once : (x : Outcome n) → is_one is_stored x + is_one is_merged x + is_one is_queued x + is_one is_full x + is_one is_worn x + is_one is_answered x + is_one is_forwarded x + is_one is_busy x + is_one is_lost x + is_one is_cut x + is_one is_unset x ≡ 1
+  once out.Unset = refl
+  once (out.Stored tick place) = refl
+  once (out.Merged tick) = refl
+  once (out.Queued tick) = refl
+  once (out.Full tick) = refl
+  once (out.Worn tick) = refl
+  once (out.Read tick place bytes) = refl
+  once (out.Forwarded tick bytes) = refl
+  once (out.Busy tick) = refl
+  once (out.Lost tick) = refl
+  once (out.Cut tick) = refl
+
+  -- the rows that are counted, and those that are open, are all
+  pub all-counted : (xs : List (Outcome n)) → rows_counted (counts_of xs) + count_by is_unset xs ≡ length xs
+  all-counted [] = refl
+  all-counted (x ∷ xs) = omega (
+    arith,
+    all-counted xs,
+    once x,
+    count-cons is_stored x xs,
+    count-cons is_merged x xs,
+    count-cons is_queued x xs,
+    count-cons is_full x xs,
+    count-cons is_worn x xs,
+    count-cons is_answered x xs,
+    count-cons is_forwarded x xs,
+    count-cons is_busy x xs,
+    count-cons is_lost x xs,
+    count-cons is_cut x xs,
+    count-cons is_unset x xs,
+  )
+
+  short-once : (x : Outcome n) → is_one is_queued x + is_one is_full x + is_one is_worn x + is_one is_busy x + is_one is_lost x ≡ cond (is_short x) 1 0
   short-once out.Unset = refl
   short-once (out.Stored tick place) = refl
   short-once (out.Merged tick) = refl
@@ -41,22 +67,7 @@ module _ {n : ℕ} where
   short-once (out.Lost tick) = refl
   short-once (out.Cut tick) = refl
 
-  counted-cons : (x : Outcome n) (xs : List (Outcome n)) → rows_counted (counts_of (x ∷ xs)) ≡ (one_if is_stored x + one_if is_merged x + one_if is_queued x + one_if is_full x + one_if is_worn x + one_if is_answered x + one_if is_forwarded x + one_if is_busy x + one_if is_lost x + one_if is_cut x) + rows_counted (counts_of xs)
-  counted-cons x xs = omega (
-    arith,
-    count-cons is_stored x xs,
-    count-cons is_merged x xs,
-    count-cons is_queued x xs,
-    count-cons is_full x xs,
-    count-cons is_worn x xs,
-    count-cons is_answered x xs,
-    count-cons is_forwarded x xs,
-    count-cons is_busy x xs,
-    count-cons is_lost x xs,
-    count-cons is_cut x xs,
-  )
-
-  short-cons : (x : Outcome n) (xs : List (Outcome n)) → rows_short (counts_of (x ∷ xs)) ≡ (one_if is_queued x + one_if is_full x + one_if is_worn x + one_if is_busy x + one_if is_lost x) + rows_short (counts_of xs)
+  short-cons : (x : Outcome n) (xs : List (Outcome n)) → rows_short (counts_of (x ∷ xs)) ≡ (is_one is_queued x + is_one is_full x + is_one is_worn x + is_one is_busy x + is_one is_lost x) + rows_short (counts_of xs)
   short-cons x xs = omega (
     arith,
     count-cons is_queued x xs,
@@ -67,15 +78,7 @@ module _ {n : ℕ} where
   )
 
 pub counted-once : EachRowIsCountedOnce
-counted-once n [] set = refl
-counted-once n (x ∷ xs) set =
-    let parts = or_parts (is_unset x) (list_any is_unset xs) set in
-    let one : one_if is_stored x + one_if is_merged x + one_if is_queued x + one_if is_full x + one_if is_worn x + one_if is_answered x + one_if is_forwarded x + one_if is_busy x + one_if is_lost x + one_if is_cut x ≡ 1 = once x parts.0 in
-    let more : rows_counted (counts_of xs) ≡ length xs = counted-once n xs parts.1 in
-    counted-cons x xs ∙ ap (λ m. m + rows_counted (counts_of xs)) one ∙ ap (λ m. 1 + m) more ∙ one-more (length xs)
-  where
-    one-more : (m : ℕ) → 1 + m ≡ suc m
-    one-more m = omega arith
+counted-once n xs set = omega (arith, all-counted xs, none-counted is_unset xs set)
 
 some-or : (b : Bool) (rest : ℕ) → (b || nat_lt 0 rest) ≡ nat_lt 0 (cond b 1 0 + rest)
 some-or true rest = sym (lt-ltb 0 (1 + rest) (omega arith))

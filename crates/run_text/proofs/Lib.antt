@@ -2,7 +2,7 @@
 -- summary, and on sums of pulses.
 pub mod Gathered
 mod Rows
-mod Adding
+pub mod Adding
 mod Counted
 mod SummaryLines
 mod Summed

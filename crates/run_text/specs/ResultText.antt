@@ -1,8 +1,8 @@
 -- The text of a run's results.
-use Rattle.std.specs.{Option.ForSome, Prelude.{◌≡◌, ℕ, ◌+◌, ◌≤◌, List, [], ◌∷◌, ◌++◌, length, Some, slice_get}}
+use Rattle.std.specs.Prelude.{◌≡◌, ℕ, ◌+◌, ◌≤◌, List, [], ◌∷◌, ◌++◌, length, Some, slice_get}
 use Rattle.trace_reader.specs.{declared.event.Event.Event, declared.event.EventOp.EventOp}
 use Rattle.trace_reader.specs.declared.event.EventOp.TheVariants as op
-use Rattle.result_rows.specs.{Outcomes.{op_of, place_of}, RowText.{header_text, row_text}, declared.Op.Op, declared.Outcome.Outcome}
+use Rattle.result_rows.specs.{Outcomes.op_of, RowText.{header_text, row_text}, declared.Op.Op, declared.Outcome.Outcome}
 use Rattle.result_rows.specs.declared.Op.TheVariants as kind
 
 module _ {n : ℕ} where
@@ -31,11 +31,10 @@ module _ {n : ℕ} where
   unfoldable pub results_text : List (Event n) → List (Outcome n) → List ℕ
   results_text events outcomes = header_text ++ rows_text 1 events outcomes
 
-  -- the outcome is one of the row's operation, and a row has room for its line and its place
+  -- the outcome is one of the row's operation, and a row has room for its line
   pub record IsPrintable (event : Event n) (outcome : Outcome n) : Type 0 where
     pub belongs : op_of outcome ≡ Some (asked event.op)
     pub line : named_line event.op ≤ 65535
-    pub place : ForSome (place_of outcome) (λ place. place ≤ 98831)
 
   -- each row has an outcome with which it can be printed
   pub record ArePrintable (events : List (Event n)) (outcomes : List (Outcome n)) : Type 0 where

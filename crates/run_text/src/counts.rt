@@ -1,7 +1,7 @@
 // How many rows had each outcome.
-ghost use Rattle.std.specs.Prelude.{◌≡◌, ◌-◌, ◌≤◌, take};
-ghost use Rattle.result_rows.specs.Table.{HasRow};
-ghost use Rattle.run_text.specs.Counting.{counts_of};
+ghost use Rattle.std.specs.Prelude.{◌≡◌, ◌<◌, ◌≤◌, nat_lt};
+ghost use Rattle.run_text.specs.Counting.{counts_of, with_one};
+ghost use Rattle.run_text.specs.Laws.{rows_counted, rows_short};
 
 use result_rows::{Outcome, Results};
 
@@ -21,12 +21,22 @@ pub struct Counts {
 }
 
 impl Counts {
-    /// The counts of a table. A row that isn't set is counted nowhere.
-    pub fn of<const B: usize>(results: &Results<B>) -> Counts
-        requires { B ≤ 128 }
-        ensures { result ≡ counts_of results.now }
+    /// Nothing is counted yet.
+    pub fn none() -> Counts
+        ensures { result ≡ record {
+          stored = 0;
+          merged = 0;
+          queued = 0;
+          full = 0;
+          worn = 0;
+          read = 0;
+          forwarded = 0;
+          busy = 0;
+          lost = 0;
+          cut = 0;
+        } }
     {
-        let mut counts = Counts {
+        Counts {
             stored: 0,
             merged: 0,
             queued: 0,
@@ -37,21 +47,27 @@ impl Counts {
             busy: 0,
             lost: 0,
             cut: 0,
-        };
+        }
+    }
+
+    /// The counts of a table. A row that isn't set is counted nowhere.
+    pub fn of<const B: usize>(results: &Results<B>) -> Counts
+        requires { B ≤ 128 }
+        ensures { result ≡ counts_of results.now }
+    {
+        let mut counts = Counts::none();
         for before in 0..results.rows() {
-            counts.count_row(results, before + 1);
+            counts.count(results.get(before + 1));
         }
         counts
     }
 
-    // Counts a row, once all rows before it are counted.
-    fn count_row<const B: usize>(&mut self, results: &Results<B>, row: u32)
-        requires size { B ≤ 128 }
-        requires exists { HasRow results.now row }
-        requires before { self.old ≡ counts_of (take (row - 1) results.now) }
-        ensures { self.new ≡ counts_of (take row results.now) }
+    /// Counts one outcome more.
+    pub fn count<const B: usize>(&mut self, outcome: &Outcome<B>)
+        requires { rows_counted self.old < 4294967295 }
+        ensures { self.new ≡ with_one self.old outcome.now }
     {
-        match results.get(row) {
+        match outcome {
             Outcome::Unset => {}
             Outcome::Stored { .. } => self.stored += 1,
             Outcome::Merged { .. } => self.merged += 1,
@@ -64,5 +80,12 @@ impl Counts {
             Outcome::Lost { .. } => self.lost += 1,
             Outcome::Cut { .. } => self.cut += 1,
         }
+    }
+
+    /// Whether a row that was counted falls short of what it asks for.
+    pub fn any_short(&self) -> bool
+        ensures { result ≡ nat_lt 0 (rows_short self.now) }
+    {
+        self.queued > 0 || self.full > 0 || self.worn > 0 || self.busy > 0 || self.lost > 0
     }
 }

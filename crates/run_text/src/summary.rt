@@ -44,8 +44,7 @@ fn push_line(word: &[u8], number: u64, text: &mut Text)
 {
     text.push(word);
     text.push(b" ");
-    text.push_number(number);
-    text.push(b"\n");
+    text.push_number_then(number, b"\n");
 }
 
 /// Writes the summary of a run: how many rows it has and how many had each outcome, how many spares are used, and how many

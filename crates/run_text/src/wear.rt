@@ -3,13 +3,14 @@ ghost use Rattle.std.specs.Prelude.{◌≡◌, ℕ, ◌≤◌, List, [], ◌∷�
 ghost use Rattle.pcm_io.specs.Faults.{Rose};
 ghost use Rattle.pcm_io.specs.Giving.{AppendsPrefix};
 ghost use Rattle.pcm_io.specs.Reserved.{reserved, appended};
-ghost use Rattle.wear_report.specs.declared.Role.{Role as RoleOf};
+ghost use Rattle.bank_shape.specs.declared.Role.{Role as RoleOf};
 ghost use Rattle.wear_report.specs.WearText.{wear_header_text, wear_text};
 ghost use Rattle.run_text.specs.Gathering.{Printed};
 
 use crate::room::{ROW_ROOM, TEXT_ROOM, make_room};
+use bank_shape::Role;
 use pcm_io::{Sink, Text, WriteFault};
-use wear_report::{Role, header, print_role};
+use wear_report::{header, print_role};
 
 /// Begins a wear report in an empty text.
 pub fn print_wear_header(text: &mut Text)

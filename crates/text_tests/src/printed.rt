@@ -5,6 +5,7 @@ ghost use Rattle.pcm_io.specs.Reserved.{reserved};
 ghost use Rattle.wear_report.specs.WearText.{wear_text};
 ghost use Rattle.run_text.specs.ResultText.{ArePrintable};
 
+use bank_shape::Role;
 use pcm_io::{MemSink, Sink, Text, WriteFault};
 use result_rows::{Outcome, Results};
 use run_text::{
@@ -14,7 +15,7 @@ use std::alloc::{AllocError, Global};
 use std::process::Abort;
 use std::test::Fail;
 use trace_reader::{Event, EventOp, MOST_ROWS};
-use wear_report::{Role, header};
+use wear_report::header;
 
 // An empty text of so much room, and a sink whose call with this number fails.
 fn desk(alloc: Global, room: usize, fails: u32) -> Result<(Text, MemSink), AllocError>

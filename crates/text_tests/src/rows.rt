@@ -1,6 +1,5 @@
 ghost use Rattle.std.specs.Prelude.{◌≡◌, ◌≤◌, Some};
-ghost use Rattle.std.specs.Option.{ForSome};
-ghost use Rattle.result_rows.specs.Outcomes.{op_of, place_of};
+ghost use Rattle.result_rows.specs.Outcomes.{op_of};
 
 use crate::expected::assert_text;
 use pcm_io::Text;
@@ -11,9 +10,7 @@ use std::test::Fail;
 fn print<const B: usize>(text: &mut Text, row: u32, op: Op, line: u32, outcome: &Outcome<B>)
     requires size { B ≤ 128 }
     requires belongs { op_of outcome.now ≡ Some op }
-    requires row { row ≤ 400000 }
     requires line { line ≤ 65535 }
-    requires place { ForSome (place_of outcome.now) (λ place. place ≤ 98831) }
 {
     if text.room() >= 64 + 2 * B {
         print_row(row, op, line, outcome, text);

@@ -1,7 +1,8 @@
 use crate::expected::assert_text;
+use bank_shape::Role;
 use pcm_io::Text;
 use std::test::Fail;
-use wear_report::{Role, header, print_role};
+use wear_report::{header, print_role};
 
 #[test]
 fn a_row_of_each_role(rt: HostRuntime) -> Result<(), Fail> {

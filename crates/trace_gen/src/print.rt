@@ -1,5 +1,5 @@
 //! The rows of a trace.
-ghost use Rattle.std.specs.Prelude.{◌≡◌, ◌+◌, ◌*◌, ◌≤◌, ◌∷◌, length};
+ghost use Rattle.std.specs.Prelude.{◌≡◌, ◌+◌, ◌*◌, ◌≤◌, ◌∷◌, ◌++◌, codes, length};
 ghost use Rattle.pcm_io.specs.Reserved.{room_in, appended};
 ghost use Rattle.hex.specs.Hex.{encode_lower};
 ghost use Rattle.trace_gen.specs.EventText.{trace_header, pair_text, masked_text, op_letter, line_text, data_text, event_row};
@@ -22,12 +22,9 @@ pub fn print_event<const B: usize>(event: &Event<B>, text: &mut Text)
     ensures after { text.new ≡ appended text.old (event_row event.now) }
     ensures room { room_in text.old ≤ room_in text.new + (64 + 2 * B) }
 {
-    text.push_number(event.tick);
-    text.push(b",");
-    text.push(letter(&event.op));
-    text.push(b",");
+    text.push_number_then(event.tick, b",");
+    text.push_field(letter(&event.op));
     push_line(&event.op, text);
-    text.push(b",");
     push_data(&event.op, text);
     text.push(b"\n");
 }
@@ -44,16 +41,17 @@ fn letter<const B: usize>(op: &EventOp<B>) -> &'static [u8]
     }
 }
 
+// The line that an event names, or nothing, and the comma behind it.
 #[tactic(auto, using(pcm_io::proofs::DigitLemmas::ten_digits))]
 fn push_line<const B: usize>(op: &EventOp<B>, text: &mut Text)
-    requires room { 10 ≤ room_in text.old }
-    ensures after { text.new ≡ appended text.old (line_text op.now) }
-    ensures room { room_in text.old ≤ room_in text.new + 10 }
+    requires room { 11 ≤ room_in text.old }
+    ensures after { text.new ≡ appended text.old (line_text op.now ++ codes ",") }
+    ensures room { room_in text.old ≤ room_in text.new + 11 }
 {
     match op {
         EventOp::Read(line) | EventOp::Write(line, _) | EventOp::Mask(line, _, _) =>
-            text.push_number(*line as u64),
-        EventOp::Cut => {}
+            text.push_number_then(*line as u64, b","),
+        EventOp::Cut => text.push(b","),
     }
 }
 

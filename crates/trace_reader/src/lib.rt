@@ -13,6 +13,5 @@ mod trace;
 pub use decimal::number;
 pub use event::{Event, EventOp};
 pub use fault::{Kind, ParseFault, TraceFault};
-pub use payload::Values;
 pub use row::{LATEST_TICK, read_fields};
 pub use trace::{MOST_ROWS, parse};

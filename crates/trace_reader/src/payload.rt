@@ -13,32 +13,21 @@ pub struct MaskedBytes<const B: usize> {
     pub given: [bool; B],
 }
 
-/// What `hex` says of each character.
-#[derive(Drop)]
-pub struct Values;
-
-impl Values {
-    /// The same for every text.
-    pub fn new() -> Values {
-        Values
-    }
-
-    // The value of a digit, 255 of any other character. Nothing is looked up, so that LLVM reads many digits at once.
-    #[tactic(auto, using(crate::proofs::Table::value_of_digit))]
-    fn value(&self, character: u8) -> u8
-        ensures { result ≡ value_of character }
-    {
-        match character {
-            b'A'..=b'F' => character - 55,
-            b'a'..=b'f' => character - 87,
-            b'0'..=b'9' => character - 48,
-            _ => 255,
-        }
+// The value of a digit, 255 of any other character. Nothing is looked up, so that LLVM reads many digits at once.
+#[tactic(auto, using(crate::proofs::Table::value_of_digit))]
+fn value(character: u8) -> u8
+    ensures { result ≡ value_of character }
+{
+    match character {
+        b'A'..=b'F' => character - 55,
+        b'a'..=b'f' => character - 87,
+        b'0'..=b'9' => character - 48,
+        _ => 255,
     }
 }
 
 /// The `B` bytes that a text of `2 * B` hexadecimal digits of either case writes.
-pub fn bytes_from_digits<const B: usize>(values: &Values, text: &[u8]) -> Option<[u8; B]>
+pub fn bytes_from_digits<const B: usize>(text: &[u8]) -> Option<[u8; B]>
     ensures { result ≡ bytes_of B text.now }
 {
     if text.len() % 2 != 0 || text.len() / 2 != B {
@@ -48,8 +37,8 @@ pub fn bytes_from_digits<const B: usize>(values: &Values, text: &[u8]) -> Option
     // A digit's value is below 16, and so are the bits of many; of any other character it is not.
     let mut seen = 0;
     'pairs: for i in 0..B {
-        let high = values.value(text[2 * i]);
-        let low = values.value(text[2 * i + 1]);
+        let high = value(text[2 * i]);
+        let low = value(text[2 * i + 1]);
         seen |= high | low;
         bytes[i] = high % 16 * 16 + low % 16;
     }

@@ -7,7 +7,7 @@ ghost use Rattle.trace_reader.specs.Rows.{text_at, line_of, read_of, write_of, m
 use crate::decimal::number;
 use crate::event::{Event, EventOp};
 use crate::fault::Kind;
-use crate::payload::{Values, bytes_from_digits, bytes_from_pairs};
+use crate::payload::{bytes_from_digits, bytes_from_pairs};
 use csv::ByteRecord;
 
 /// The greatest tick of a trace: 2 to the power 40.
@@ -45,17 +45,12 @@ fn plain_read<const B: usize>(line: &[u8], payload: &[u8], lines: u32) -> Result
 
 // A write has a line and all its bytes.
 #[tactic(auto, unfolding(crate::specs::Rows::write_of))]
-fn whole_write<const B: usize>(
-    line: &[u8],
-    payload: &[u8],
-    lines: u32,
-    values: &Values,
-) -> Result<EventOp<B>, Kind>
+fn whole_write<const B: usize>(line: &[u8], payload: &[u8], lines: u32) -> Result<EventOp<B>, Kind>
     requires { 1 ≤ lines }
     ensures { result ≡ write_of B lines line.now payload.now }
 {
     let line = read_line(line, lines)?;
-    let bytes = bytes_from_digits(values, payload).ok_or(Kind::Payload)?;
+    let bytes = bytes_from_digits(payload).ok_or(Kind::Payload)?;
     Ok(EventOp::Write(line, bytes))
 }
 
@@ -76,14 +71,13 @@ fn read_op<const B: usize>(
     line: &[u8],
     payload: &[u8],
     lines: u32,
-    values: &Values,
 ) -> Result<EventOp<B>, Kind>
     requires { 1 ≤ lines }
     ensures { result ≡ op_of B lines op.now line.now payload.now }
 {
     match op {
         b"R" => plain_read(line, payload, lines),
-        b"W" => whole_write(line, payload, lines, values),
+        b"W" => whole_write(line, payload, lines),
         b"M" => masked_write(line, payload, lines),
         b"C" => {
             if !line.is_empty() {
@@ -106,7 +100,6 @@ pub fn read_fields<const B: usize>(
     payload: &[u8],
     lines: u32,
     before: u64,
-    values: &Values,
 ) -> Result<Event<B>, Kind>
     requires { 1 ≤ lines }
     ensures { result ≡ row_of B lines before tick.now op.now line.now payload.now }
@@ -115,7 +108,7 @@ pub fn read_fields<const B: usize>(
     if tick < before {
         return Err(Kind::Order);
     }
-    let op = read_op(op, line, payload, lines, values)?;
+    let op = read_op(op, line, payload, lines)?;
     Ok(Event { tick, op })
 }
 
@@ -125,7 +118,6 @@ pub fn read_event<const B: usize>(
     row: &ByteRecord,
     lines: u32,
     before: u64,
-    values: &Values,
 ) -> Result<Event<B>, Kind>
     requires { 1 ≤ lines }
     ensures { result ≡ event_of B lines before (fields_of row.now) }
@@ -140,6 +132,5 @@ pub fn read_event<const B: usize>(
         field(row, 3),
         lines,
         before,
-        values,
     )
 }

@@ -7,7 +7,6 @@ ghost use Rattle.trace_reader.specs.Trace.{is_header, rows_from, trace_of};
 
 use crate::event::Event;
 use crate::fault::{Kind, ParseFault, TraceFault};
-use crate::payload::Values;
 use crate::records::{next_row, open};
 use crate::row::{field, read_event};
 use csv::{ByteRecord, Reader};
@@ -34,7 +33,6 @@ fn read_rows<const B: usize>(
     reader: &mut Reader<&[u8]>,
     row: &mut ByteRecord,
     lines: u32,
-    values: &Values,
 ) -> Result<Vec<Event<B>>, ParseFault>
     requires lines { 1 ≤ lines }
     requires small { B ≤ 128 }
@@ -52,7 +50,7 @@ fn read_rows<const B: usize>(
         if !next_row(reader, row)? {
             return Ok(events);
         }
-        let event = match read_event(row, lines, before, values) {
+        let event = match read_event(row, lines, before) {
             Ok(event) => event,
             Err(kind) => return Err(ParseFault::Trace(TraceFault { row: number, kind })),
         };
@@ -89,6 +87,5 @@ pub fn parse<const B: usize>(
             kind: Kind::Header,
         }));
     }
-    let values = Values::new();
-    read_rows(alloc, &mut reader, &mut row, lines, &values)
+    read_rows(alloc, &mut reader, &mut row, lines)
 }

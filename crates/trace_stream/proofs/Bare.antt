@@ -6,8 +6,8 @@ use Rattle.trace_reader.specs.{Rows.{event_at, event_of, op_of, text_at, tick_of
 use Rattle.trace_reader.specs.{declared.event.Event.Event, declared.event.EventOp.EventOp, declared.fault.Kind.Kind, declared.fault.TraceFault.TraceFault}
 use Rattle.trace_reader.specs.declared.fault.Kind.TheVariants as kind
 use Rattle.trace_reader.specs.declared.fault.ParseFault.TheVariants as whole
-use Rattle.trace_stream.specs.Asked.{asked_event, asked_of, asked_settle, is_settle, rows_after, settle_of, tick_asked}
-use Rattle.trace_stream.specs.Laws.{BareLaw, FaultBackLaw, all_events, events_asked, records_of}
+use Rattle.trace_stream.specs.Asked.{asked_event, asked_of, asked_settle, events_in, is_settle, rows_after, settle_of, tick_asked}
+use Rattle.trace_stream.specs.Laws.{BareLaw, FaultBackLaw, all_events, records_of}
 use Rattle.trace_stream.specs.{Stream.{and_then_asked, asked_before, is_past, stream_fault_at, stream_of, stream_records, stream_rows}, declared.asked.Asked.Asked}
 use Rattle.trace_stream.{specs.declared.asked.Asked.TheVariants.{Happens, Settle}, specs.declared.fault.StreamFault.StreamFault, proofs.Lawful.settle-lawful}
 use Rattle.trace_stream.proofs.Traces.{asked-ok, event-four, row_by}
@@ -57,7 +57,7 @@ behind first (Ok rest) asked h =
     (rest, refl, same)
 
 bare-rows : (n lines rows before early : ℕ) (records : List (List (List ℕ))) (asked : List (Asked n)) → early ≤ before → stream_rows n lines rows before records ≡ Ok asked
-    → stream_rows n lines rows early (bare records) ≡ Ok (all_events (events_asked asked))
+    → stream_rows n lines rows early (bare records) ≡ Ok (all_events (events_in asked))
 unfolding stream_rows
 bare-rows n lines rows before early [] asked less h =
     let none : [] ≡ asked = cc in
@@ -67,28 +67,28 @@ bare-rows n lines rows before early (fields ∷ rest) asked less h =
     (λ rows before early others. bare-rows n lines rows before early rest others)
   where
     Rest : Type 0
-    Rest = (rows before early : ℕ) (others : List (Asked n)) → early ≤ before → stream_rows n lines rows before rest ≡ Ok others → stream_rows n lines rows early (bare rest) ≡ Ok (all_events (events_asked others))
+    Rest = (rows before early : ℕ) (others : List (Asked n)) → early ≤ before → stream_rows n lines rows before rest ≡ Ok others → stream_rows n lines rows early (bare rest) ≡ Ok (all_events (events_in others))
 
     settles : (r : Result ℕ Kind) → settle_of before fields ≡ r → and_then_asked (rows + 1) (asked_settle {n = n} r) (λ asked. stream_rows n lines (rows_after rows asked) (tick_asked asked) rest) ≡ Ok asked → Rest
-        → stream_rows n lines rows early (bare rest) ≡ Ok (all_events (events_asked asked))
+        → stream_rows n lines rows early (bare rest) ≡ Ok (all_events (events_in asked))
     settles (Err kind) e q more = cc q
     settles (Ok tick) e q more =
         let first : Asked n = Settle tick in
         let b = behind first (stream_rows n lines rows tick rest) asked q in
         let lawful = settle-lawful before tick fields e in
-        more rows tick early b.0 (omega (arith, less, lawful.0)) b.1 ∙ ap (λ (all : List (Asked n)). Ok (all_events (events_asked all))) b.2
+        more rows tick early b.0 (omega (arith, less, lawful.0)) b.1 ∙ ap (λ (all : List (Asked n)). Ok (all_events (events_in all))) b.2
 
     happens : (r : Result (Event n) Kind) → event_of n lines before fields ≡ r → and_then_asked (rows + 1) (asked_event r) (λ asked. stream_rows n lines (rows_after rows asked) (tick_asked asked) rest) ≡ Ok asked → Rest
-        → and_then_asked (rows + 1) (asked_of n lines early fields) (λ asked. stream_rows n lines (rows_after rows asked) (tick_asked asked) (bare rest)) ≡ Ok (all_events (events_asked asked))
+        → and_then_asked (rows + 1) (asked_of n lines early fields) (λ asked. stream_rows n lines (rows_after rows asked) (tick_asked asked) (bare rest)) ≡ Ok (all_events (events_in asked))
     happens (Err kind) e q more = cc q
     happens (Ok event) e q more =
         let b = behind (Happens event) (stream_rows n lines (rows + 1) event.tick rest) asked q in
         rw (asked-ok n lines early fields event (earlier n lines before early fields event less e), more (rows + 1) event.tick event.tick b.0 (omega arith) b.1)
-        (ap (λ (all : List (Asked n)). Ok (all_events (events_asked all))) b.2)
+        (ap (λ (all : List (Asked n)). Ok (all_events (events_in all))) b.2)
 
     by : (settle : Bool) → is_settle fields ≡ settle → (past : Bool) → is_past rows fields ≡ past
         → (if past then Err fault.TooMany else and_then_asked (rows + 1) (asked_of n lines before fields) (λ asked. stream_rows n lines (rows_after rows asked) (tick_asked asked) rest)) ≡ Ok asked → Rest
-        → stream_rows n lines rows early (cond (not settle) (fields ∷ bare rest) (bare rest)) ≡ Ok (all_events (events_asked asked))
+        → stream_rows n lines rows early (cond (not settle) (fields ∷ bare rest) (bare rest)) ≡ Ok (all_events (events_in asked))
     by settle is true e q more = cc q
     by true is false e q more = settles (settle_of before fields) refl (rw (asked-settles n lines before fields is) at q) more
     by false is false e q more = rw e (happens (event_of n lines before fields) refl (rw (asked-happens n lines before fields is) at q) more)
@@ -112,11 +112,11 @@ pub bare-streams : BareLaw
 unfolding stream_of stream_records
 bare-streams n lines bytes less asked same h = ap (stream_records n lines) same ∙ go (records_of bytes) h
   where
-    go : (all : List (List (List ℕ))) → stream_records n lines all ≡ Ok asked → stream_records n lines (bare all) ≡ Ok (all_events (events_asked asked))
+    go : (all : List (List (List ℕ))) → stream_records n lines all ≡ Ok asked → stream_records n lines (bare all) ≡ Ok (all_events (events_in asked))
     go [] q = cc q
     go (first ∷ rows) q = by (is_header first) refl q
       where
-        by : (b : Bool) → is_header first ≡ b → (if b then stream_rows n lines 0 0 rows else stream_fault_at 0 kind.Header) ≡ Ok asked → stream_records n lines (bare (first ∷ rows)) ≡ Ok (all_events (events_asked asked))
+        by : (b : Bool) → is_header first ≡ b → (if b then stream_rows n lines 0 0 rows else stream_fault_at 0 kind.Header) ≡ Ok asked → stream_records n lines (bare (first ∷ rows)) ≡ Ok (all_events (events_in asked))
         by true is q =
             let kept : is_settle first ≡ false = header-op first is in
             rw (kept, is) (bare-rows n lines 0 0 0 rows asked (omega arith) q)

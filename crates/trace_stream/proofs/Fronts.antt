@@ -2,7 +2,7 @@
 use Rattle.std.proofs.Common.{◌≡◌, ◌⊎◌, ℕ, suc, ◌+◌, ◌==◌, ◌&&◌, not, List, [], ◌∷◌, length, take, true, false, Bool, inl, inr, refl, sym, ap, subst, ◌∙◌, arith}
 use Rattle.std.{specs.Prelude.{Result, Ok, Err}, proofs.lemmas.Bool.Decides.nat_tests}
 use Rattle.trace_reader.specs.{Trace.is_header, declared.fault.Kind.Kind}
-use Rattle.trace_stream.specs.{Asked.{asked_of, is_settle, rows_after, tick_asked}, Laws.{FrontFaultLaw, FrontLaw, StandsBehind, events_asked, headless, records_of}}
+use Rattle.trace_stream.specs.{Asked.{asked_of, events_in, is_settle, rows_after, tick_asked}, Laws.{FrontFaultLaw, FrontLaw, StandsBehind, headless, records_of}}
 use Rattle.trace_stream.specs.Stream.{asked_before, front_of, front_records, front_rows, is_past, most_streamed, stream_of, stream_records, stream_rows}
 use Rattle.trace_stream.specs.{declared.asked.Asked.Asked, declared.asked.Asked.TheVariants.{Happens, Settle}, declared.fault.StreamFault.StreamFault}
 use Rattle.trace_stream.proofs.Rows.{front-asks, front-faulty, front-past, front-read, front-wrong, header-read, header-wrong, row-asks, row-faulty, row-none, row-past}
@@ -19,14 +19,14 @@ past-most rows fields past = by (rows == most_streamed) refl past
 -- all rows stand in front, or those in front of the fault, behind so many rows with a number
 abbrev IsFront : {n : ℕ} → ℕ → Result (List (Asked n)) StreamFault → List (Asked n) → Type 0
 IsFront rows (Ok all) front = front ≡ all
-IsFront rows (Err e) front = StandsBehind (rows + length (events_asked front)) e
+IsFront rows (Err e) front = StandsBehind (rows + length (events_in front)) e
 
 front-before : {n : ℕ} (rows : ℕ) (asked : Asked n) (r : Result (List (Asked n)) StreamFault) (front : List (Asked n))
     → IsFront (rows_after rows asked) r front → IsFront rows (asked_before asked r) (asked ∷ front)
 front-before rows asked (Ok all) front is = ap (λ rest. asked ∷ rest) is
 front-before rows (Settle tick) (Err e) front is = is
 front-before rows (Happens event) (Err e) front is =
-    let count : rows + 1 + length (events_asked front) ≡ rows + length (events_asked (Happens event ∷ front)) = omega arith in
+    let count : rows + 1 + length (events_in front) ≡ rows + length (events_in (Happens event ∷ front)) = omega arith in
     subst (λ (k : ℕ). StandsBehind k e) count is
 
 module _ (n lines : ℕ) where
@@ -88,13 +88,13 @@ module _ (n lines : ℕ) where
   OfText all (Err e) front =
       ((e ≡ headless) × (front ≡ []))
       ⊎ (((count : ℕ) × (stream_records n lines (take count all) ≡ Ok front) × (stream_records n lines (take (suc count) all) ≡ Err e))
-      × StandsBehind (length (events_asked front)) e)
+      × StandsBehind (length (events_in front)) e)
 
   of-rows : (first : List (List ℕ)) (rows : List (List (List ℕ))) (r : Result (List (Asked n)) StreamFault) → is_header first ≡ true
       → Alone 0 0 rows r → IsFront 0 r (front_rows n lines 0 0 rows) → OfText (first ∷ rows) r (front_rows n lines 0 0 rows)
   of-rows first rows (Ok all) right alone is = is
   of-rows first rows (Err e) right alone is =
-      let count : 0 + length (events_asked (front_rows n lines 0 0 rows)) ≡ length (events_asked (front_rows n lines 0 0 rows)) = omega arith in
+      let count : 0 + length (events_in (front_rows n lines 0 0 rows)) ≡ length (events_in (front_rows n lines 0 0 rows)) = omega arith in
       inr (
         (
           suc alone.0,

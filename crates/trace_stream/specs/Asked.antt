@@ -1,5 +1,5 @@
 -- What a row of a streamed trace asks for, or its first fault.
-use Rattle.std.specs.{Prelude.{ℕ, ◌+◌, ◌==◌, ◌&&◌, ◌≤◌, nat_lt, not, Bool, if◌then◌else◌, List, length, codes, Result, Ok, Err}, Str.bytes_eq}
+use Rattle.std.specs.{Prelude.{ℕ, ◌+◌, ◌==◌, ◌&&◌, ◌≤◌, nat_lt, not, Bool, if◌then◌else◌, List, [], ◌∷◌, length, codes, Result, Ok, Err}, Str.bytes_eq}
 use Rattle.trace_reader.specs.{Events.IsEventFor, Rows.{event_of, latest_tick, or_fault, text_at, tick_of}, declared.event.Event.Event, declared.fault.Kind.Kind}
 use Rattle.trace_reader.specs.declared.fault.Kind.TheVariants as kind
 use Rattle.trace_stream.specs.{declared.asked.Asked.Asked, declared.asked.Asked.TheVariants.{Happens, Settle}}
@@ -27,6 +27,12 @@ module _ {n : ℕ} where
   abbrev pub rows_after : ℕ → Asked n → ℕ
   rows_after rows (Happens event) = rows + 1
   rows_after rows (Settle tick) = rows
+
+  -- the events among what rows ask: a settle is none
+  abbrev pub events_in : List (Asked n) → List (Event n)
+  events_in [] = []
+  events_in (Happens event ∷ rest) = event ∷ events_in rest
+  events_in (Settle tick ∷ rest) = events_in rest
 
   -- an event, or the tick of a row that settles, as what a row asks for
   abbrev pub asked_event : Result (Event n) Kind → Result (Asked n) Kind

@@ -1,11 +1,11 @@
 -- What a streamed trace has to do with a whole one.
-use Rattle.std.specs.{List.list_any, Prelude.{◌≡◌, ◌≢◌, ◌⊎◌, ℕ, suc, ◌+◌, ◌≤◌, not, false, List, [], ◌∷◌, length, map, filter, take, Ok, Err}}
+use Rattle.std.specs.{List.list_any, Prelude.{◌≡◌, ◌≢◌, ◌⊎◌, ℕ, suc, ◌+◌, ◌≤◌, not, false, List, [], length, map, filter, take, Ok, Err}}
 use Rattle.csv.specs.Reading.{default_config, records, strip_bom}
 use Rattle.trace_reader.specs.{Trace.{most_rows, trace_of}, declared.event.Event.Event, declared.fault.TraceFault.TraceFault}
 use Rattle.trace_reader.specs.declared.fault.Kind.TheVariants as kind
 use Rattle.trace_reader.specs.declared.fault.ParseFault.TheVariants as whole
-use Rattle.trace_stream.specs.{Asked.is_settle, Stream.{front_of, most_streamed, stream_of, stream_records}, declared.asked.Asked.Asked}
-use Rattle.trace_stream.specs.{declared.asked.Asked.TheVariants.{Happens, Settle}, declared.fault.StreamFault.StreamFault}
+use Rattle.trace_stream.specs.{Asked.{events_in, is_settle}, Stream.{front_of, most_streamed, stream_of, stream_records}, declared.asked.Asked.Asked}
+use Rattle.trace_stream.specs.{declared.asked.Asked.TheVariants.Happens, declared.fault.StreamFault.StreamFault}
 use Rattle.trace_stream.specs.declared.fault.StreamFault.TheVariants as fault
 
 -- the records of a text, as `csv` reads them
@@ -34,12 +34,6 @@ headless = fault.Trace (record { row = 0; kind = kind.Header })
 abbrev pub all_events : {n : ℕ} → List (Event n) → List (Asked n)
 all_events events = map (λ event. Happens event) events
 
--- the events among what rows ask
-abbrev pub events_asked : {n : ℕ} → List (Asked n) → List (Event n)
-events_asked [] = []
-events_asked (Happens event ∷ rest) = event ∷ events_asked rest
-events_asked (Settle tick ∷ rest) = events_asked rest
-
 -- every trace is a streamed trace of the same events
 abbrev pub TraceLaw : Type 0
 TraceLaw = (n lines : ℕ) (bytes : List ℕ) (events : List (Event n)) → trace_of n lines bytes ≡ Ok events
@@ -63,7 +57,7 @@ FaultBackLaw = (n lines : ℕ) (bytes : List ℕ) (found : TraceFault) → list_
 -- rows that settle change no event: a text without them asks for the same events
 abbrev pub BareLaw : Type 0
 BareLaw = (n lines : ℕ) (bytes bare : List ℕ) (asked : List (Asked n)) → records_of bare ≡ filter (λ fields. not (is_settle fields)) (records_of bytes)
-    → stream_of n lines bytes ≡ Ok asked → stream_of n lines bare ≡ Ok (all_events (events_asked asked))
+    → stream_of n lines bytes ≡ Ok asked → stream_of n lines bare ≡ Ok (all_events (events_in asked))
 
 -- where no row has a fault, all rows stand in front
 abbrev pub FrontLaw : Type 0
@@ -73,4 +67,4 @@ FrontLaw = (n lines : ℕ) (bytes : List ℕ) (all : List (Asked n)) → stream_
 abbrev pub FrontFaultLaw : Type 0
 FrontFaultLaw = (n lines : ℕ) (bytes : List ℕ) (e : StreamFault) → stream_of n lines bytes ≡ Err e
     → ((e ≡ headless) × (front_of n lines bytes ≡ []))
-    ⊎ (BreaksBehind n lines bytes (front_of n lines bytes) e × StandsBehind (length (events_asked (front_of n lines bytes))) e)
+    ⊎ (BreaksBehind n lines bytes (front_of n lines bytes) e × StandsBehind (length (events_in (front_of n lines bytes))) e)

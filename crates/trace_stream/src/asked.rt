@@ -5,7 +5,7 @@ ghost use Rattle.trace_reader.specs.Trace.{is_header};
 ghost use Rattle.trace_stream.specs.Asked.{asked_of, is_settle, rows_after, settle_of, tick_asked};
 
 use crate::kept::Gathered;
-use trace_reader::{Event, Kind, LATEST_TICK, Values, number, read_fields};
+use trace_reader::{Event, Kind, LATEST_TICK, number, read_fields};
 
 /// What one row of a streamed trace asks for.
 #[derive(Clone, Copy, Debug, PartialEq)]
@@ -77,12 +77,7 @@ fn read_settle(row: &Gathered, before: u64) -> Result<u64, Kind>
 
 // What happens by a row that doesn't settle.
 #[tactic(auto, unfolding(trace_reader::specs::Rows::event_of))]
-fn read_event<const B: usize>(
-    row: &Gathered,
-    lines: u32,
-    before: u64,
-    values: &Values,
-) -> Result<Event<B>, Kind>
+fn read_event<const B: usize>(row: &Gathered, lines: u32, before: u64) -> Result<Event<B>, Kind>
     requires { 1 ≤ lines }
     ensures { result ≡ event_of B lines before row.now.fields }
 {
@@ -96,24 +91,18 @@ fn read_event<const B: usize>(
         row.field(3),
         lines,
         before,
-        values,
     )
 }
 
 /// What a record asks for as a row, by what is kept of it, where the row before has the tick `before`.
 #[tactic(auto, unfolding(crate::specs::Asked::asked_of))]
-pub fn read_asked<const B: usize>(
-    row: &Gathered,
-    lines: u32,
-    before: u64,
-    values: &Values,
-) -> Result<Asked<B>, Kind>
+pub fn read_asked<const B: usize>(row: &Gathered, lines: u32, before: u64) -> Result<Asked<B>, Kind>
     requires { 1 ≤ lines }
     ensures { result ≡ asked_of B lines before row.now.fields }
 {
     if is_settle_row(row) {
         Ok(Asked::Settle(read_settle(row, before)?))
     } else {
-        Ok(Asked::Happens(read_event(row, lines, before, values)?))
+        Ok(Asked::Happens(read_event(row, lines, before)?))
     }
 }

@@ -17,7 +17,7 @@ use crate::records::Records;
 use pcm_io::Source;
 use std::alloc::Global;
 use std::marker::Model;
-use trace_reader::{Kind, TraceFault, Values};
+use trace_reader::{Kind, TraceFault};
 
 /// The greatest number of rows that have a number: all behind the header but those that settle.
 pub const MOST_STREAMED: u32 = 4_294_967_294;
@@ -27,7 +27,6 @@ pub const MOST_STREAMED: u32 = 4_294_967_294;
 #[derive(Drop)]
 pub struct TraceStream {
     records: Records,
-    values: Values,
     lines: u32,
     rows: u32,
     tick: u64,
@@ -99,7 +98,6 @@ impl TraceStream {
         }
         Ok(TraceStream {
             records,
-            values: Values::new(),
             lines,
             rows: 0,
             tick: 0,
@@ -153,7 +151,7 @@ impl TraceStream {
         if is_past(self.rows, row) {
             return Err(StreamFault::TooMany);
         }
-        match read_asked(row, self.lines, self.tick, &self.values) {
+        match read_asked(row, self.lines, self.tick) {
             Ok(asked) => {
                 self.rows = asked.rows_after(self.rows);
                 self.tick = asked.tick();

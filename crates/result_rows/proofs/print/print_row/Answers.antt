@@ -3,17 +3,10 @@ use Rattle.result_rows.proofs.print.print_row.Goals as goal
 
 pub returns-clause-after : goal.returns-clause-after
 returns-clause-after g c = rw (
-  c.push.ensures.after,
-  c.push_bytes.ensures.after,
-  c.push_number_field-4.ensures.after,
-  c.place.ensures.place,
-  c.push_number_field-3.ensures.after,
-  c.tick.ensures.tick,
-  c.push_field-2.ensures.after,
-  c.word.ensures.word,
-  c.push_number_field-2.ensures.after,
+  c.print_outcome.ensures.after,
+  c.push_number_field.ensures.after,
   c.line_if_any.ensures.line,
   c.push_field.ensures.after,
   c.letter.ensures.letter,
-  c.push_number_field.ensures.after,
+  c.push_number_then.ensures.after,
 ) (pieces-row c.args.text.now _ _ _ _ _ _ _)

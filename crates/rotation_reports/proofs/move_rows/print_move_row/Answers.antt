@@ -9,5 +9,5 @@ returns-clause-after c =
     let move : c.next_move-next.result ≡ move_after c.args.lines c.args.moves
     = c.next_move-next.ensures.after c.args.moves c.registers_after.ensures.stands
     ∙ ap (λ n. move_after n c.args.moves) c.registers_after.ensures.lines in
-    rw (c.push_short-3.ensures.after, c.push_short-2.ensures.after, c.push_short.ensures.after, c.push_number.ensures.after)
+    rw (c.push_number_then-4.ensures.after, c.push_number_then-3.ensures.after, c.push_number_then-2.ensures.after, c.push_number_then.ensures.after)
     (four_fields c.args.text.now _ _ _ _ ∙ ap (appended c.args.text.now) (move_row-is _ _ _ move))

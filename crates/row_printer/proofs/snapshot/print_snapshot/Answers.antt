@@ -3,13 +3,12 @@ use Rattle.row_printer.proofs.snapshot.print_snapshot.Goals as goal
 
 pub returns : goal.returns
 returns c = rw (
-  c.push.ensures.after,
-  c.push_number.ensures.after,
-  c.push_large-4.ensures.after,
-  c.push_large-3.ensures.after,
-  c.push_large-2.ensures.after,
-  c.push_count-2.ensures.after,
+  c.push_number_then-7.ensures.after,
+  c.push_number_then-6.ensures.after,
+  c.push_number_then-5.ensures.after,
+  c.push_number_then-4.ensures.after,
+  c.push_number_then-3.ensures.after,
   c.push_counts.ensures.after,
-  c.push_large.ensures.after,
-  c.push_count.ensures.after,
+  c.push_number_then-2.ensures.after,
+  c.push_number_then.ensures.after,
 ) (pieces-snapshot c.args.text.now _ _ _ _ _ _ _ _)

@@ -3,14 +3,14 @@ use Rattle.row_printer.proofs.snapshot.push_counts.Goals as goal
 
 pub returns-clause-after : goal.returns-clause-after
 returns-clause-after c = rw (
-  c.push_count-10.ensures.after,
-  c.push_count-9.ensures.after,
-  c.push_count-8.ensures.after,
-  c.push_count-7.ensures.after,
-  c.push_count-6.ensures.after,
-  c.push_count-5.ensures.after,
-  c.push_count-4.ensures.after,
-  c.push_count-3.ensures.after,
-  c.push_count-2.ensures.after,
-  c.push_count.ensures.after,
+  c.push_number_then-10.ensures.after,
+  c.push_number_then-9.ensures.after,
+  c.push_number_then-8.ensures.after,
+  c.push_number_then-7.ensures.after,
+  c.push_number_then-6.ensures.after,
+  c.push_number_then-5.ensures.after,
+  c.push_number_then-4.ensures.after,
+  c.push_number_then-3.ensures.after,
+  c.push_number_then-2.ensures.after,
+  c.push_number_then.ensures.after,
 ) (pieces-counts c.args.text.now _ _ _ _ _ _ _ _ _ _)

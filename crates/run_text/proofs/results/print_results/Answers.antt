@@ -20,9 +20,8 @@ print_row-requires g c =
     let back : c.loop-i.i + 1 - 1 ≡ c.loop-i.i = omega arith in
     let outcome : slice_get c.args.results.now c.loop-i.i ≡ Some c.get.result.now = rw back at c.get.ensures in
     let is : IsPrintable c.index-events-i.result c.get.result.now = c.requires.printable.each c.loop-i.i c.index-events-i.result c.get.result.now at outcome in
-    let number : c.loop-i.i + 1 ≤ 400000 = omega arith in
     let room : 64 + 2 * g.row.B ≤ room_in c.make_room.new.text = omega (arith, c.requires.size, c.in_ok-make_room.ensures.ok.room_left) in
-    (search rules, (c.requires.size, (room, (rw c.asked_by-op.ensures is.belongs, (number, (rw c.line_named_by-line.ensures is.line, is.place))))))
+    (search rules, (c.requires.size, (room, (rw c.asked_by-op.ensures is.belongs, rw c.line_named_by-line.ensures is.line))))
 
 pub loop-i-preserved : goal.loop-i-preserved
 loop-i-preserved g c =

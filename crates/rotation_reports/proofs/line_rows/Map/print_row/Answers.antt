@@ -14,11 +14,11 @@ returns-clause-after c =
     + slot_at c.args.self.now.lines c.address-address.result.region c.place-place.result
     = rw (← same) c.array_line-array.ensures in
     rw (
-      c.push_number.ensures.after,
-      c.push_short-5.ensures.after,
-      c.push_short-4.ensures.after,
-      c.push_short-3.ensures.after,
-      c.push_short-2.ensures.after,
-      c.push_short.ensures.after,
+      c.push_number_then-6.ensures.after,
+      c.push_number_then-5.ensures.after,
+      c.push_number_then-4.ensures.after,
+      c.push_number_then-3.ensures.after,
+      c.push_number_then-2.ensures.after,
+      c.push_number_then.ensures.after,
     ) (six_fields c.args.text.now _ _ _ _ _ _
     ∙ ap (appended c.args.text.now) (map_row-is c.args.self.now c.args.line _ _ _ c.address-address.ensures.address place array))

@@ -8,5 +8,5 @@ use Rattle.row_printer.proofs.printer.RowPrinter.short.Goals as goal
 pub returns : goal.returns
 returns g c =
     rw (← c.self.view_is)
-    (c.counts_short.ensures ∙ ap (λ counts. nat_lt 0 (rows_short counts)) c.self.invariant.counted
+    (c.any_short.ensures ∙ ap (λ counts. nat_lt 0 (rows_short counts)) c.self.invariant.counted
     ∙ sym (c.short_rows_are_counted.ensures g.row.B (table_of c.self.inside.rows (items c.self.inside.told))))

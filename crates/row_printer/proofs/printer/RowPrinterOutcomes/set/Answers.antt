@@ -18,7 +18,7 @@ invariant_of-self g c =
       shown = c.self.invariant.shown;
       limit = c.print_line-self-inside.ensures.limit;
       once = rw (outcomes-more told c.args.row c.args.outcome) (tells-next c.self.inside.rows (outcomes_in told) c.args.row c.args.outcome c.self.invariant.once exists unset c.requires.told);
-      counted = set-counted c.self.inside.rows told c.args.row c.args.outcome c.self.inside.counts c.count.new.counts c.self.invariant.counted c.count.ensures unset;
+      counted = set-counted c.self.inside.rows told c.args.row c.args.outcome c.self.inside.counts c.count.new.self c.self.invariant.counted c.count.ensures unset;
     })
 
 pub returns-clause-table : goal.returns-clause-table
