@@ -3,7 +3,7 @@ use Rattle.std.proofs.Common.{◌≡◌, ℕ, ◌<◌, ◌≤◌, not, refl, sym
 use Rattle.std.{specs.Prelude.{IsSomeAnd, IfSome, IsTrue}, proofs.lemmas.Bool.and_parts}
 use Rattle.masked_bytes.specs.{Entries.{completed, head_line, head_row}, Masked.laid, declared.entry.Entry.Entry}
 use Rattle.cell_rows.specs.{Device.{ArrayState, LineState}, declared.row.Cells.Cells}
-use Rattle.ecp_line.specs.Reading.{decode, IsSoundLine}
+use Rattle.ecp_line.specs.{ArrayLines.decoded, Reading.{decode, IsSoundLine}}
 use Rattle.start_gap.specs.{Rotation.move_by, declared.Move.Move}
 use Rattle.bank_shape.specs.{Kinds.{is_store, is_copy}, Shape.{slots_of, slot_at}, declared.BankShape.BankShape, declared.Work.Work}
 use Rattle.bank_shape.specs.{declared.Work.TheVariants.{Nothing, Store, Copy}, declared.answer.Step.Step, declared.waiting.Waiting.Waiting}
@@ -14,7 +14,7 @@ use Rattle.power_recovery.specs.{Events.{completed_kept, stored_kept}, Kept.{Kep
 use Rattle.power_recovery.proofs.{Bundle.{next_work-store, next_work-copy, head-known, due_region-Some}, Frames.next_work-completed, Placing.slot_of-within}
 use Rattle.bank_model.specs.Events.{BankEvent, Begin}
 use Rattle.bank_invariant.specs.{Beginning.begun_with, Holds.Holds, Retiring.ended, State.{BankState, Operation, target_of, is_free, may_begin}, Storing.resting}
-use Rattle.bank_invariant.{specs.Tied.{StandsAs, decoded, AreSound, IsOf, IsTied}, proofs.Awaiting.tied_sensed, proofs.Finishing.{begun_stored_law, next_store-line}}
+use Rattle.bank_invariant.{specs.Tied.{StandsAs, AreSound, IsOf, IsTied}, proofs.Awaiting.tied_sensed, proofs.Finishing.{begun_stored_law, next_store-line}}
 use Rattle.bank_invariant.proofs.{Iterating.from-within, Starting.{begun_store_law, begun_copy_law, whole-completed, free-off, AreSound-completed}}
 use Rattle.bank_invariant.proofs.{Targets.{next_store-slot, next_copy-region}, Turned.moved_at_once_law}
 use Rattle.bank_core.specs.{Beginning.{head_over, bytes_for, begun_kept, IsBegin}, Stepping.{with_kept, step_from, left_by, done_from, done_kept}}

@@ -3,13 +3,13 @@ use Rattle.std.proofs.Common.{◌≡◌, ℕ, ◌+◌, ◌*◌, ◌-◌, ◌<◌
 use Rattle.std.proofs.{Math.Nat.zero-mod, lemmas.List.get_or-replicate}
 use Rattle.masked_bytes.proofs.Layering.{laid-none_given}
 use Rattle.cell_rows.specs.Device.{ArrayState}
-use Rattle.ecp_line.proofs.Blank.{Sound-blank, decode-blank}
+use Rattle.ecp_line.{specs.ArrayLines.decoded, proofs.Blank.{Sound-blank, decode-blank}}
 use Rattle.line_writer.proofs.{Orderly.orderly-blank, Untouched.untouched-blank}
 use Rattle.start_gap.specs.Rotation.{turn}
 use Rattle.region_regs.specs.Region.{RegionState, first_region}
 use Rattle.bank_shape.specs.{Shape.{IsBankShape, slots_of}, declared.BankShape.BankShape}
 use Rattle.power_recovery.{specs.Events.first_kept, specs.Kept.{KeptState, no_region, slot_of}, proofs.Bundle.IsKept-first, proofs.Placing.slot_of-within}
-use Rattle.bank_invariant.specs.{Holds.{Holds, IsRegionAfter}, State.first_bank, Tied.decoded}
+use Rattle.bank_invariant.specs.{Holds.{Holds, IsRegionAfter}, State.first_bank}
 use Rattle.bank_core.specs.Steps.{IsFreshFor}
 
 region_after : (lines psi : ℕ) → 1 ≤ lines → IsRegionAfter 0 0 psi (first_region lines psi)

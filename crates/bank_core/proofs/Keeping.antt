@@ -3,8 +3,9 @@ use Rattle.std.proofs.Common.{◌≡◌, ℕ, ◌+◌, ◌<◌, ◌≤◌, cond,
 use Rattle.std.{specs.Prelude.{IfSome, IsTrue}, proofs.lemmas.Bool.{ltb-true, ltb-false}}
 use Rattle.cell_rows.specs.Device.{ArrayState}
 use Rattle.spare_pool.specs.Table.{used_by}
-use Rattle.line_writer.specs.{Orderly.AreOrderly, Untouched.AreUntouched, Writing.{IsProgress, IsWorn}, declared.writer.Progress.Progress}
+use Rattle.line_writer.specs.{Orderly.AreOrderly, Writing.{IsProgress, IsWorn}, declared.writer.Progress.Progress}
 use Rattle.line_writer.specs.declared.writer.Progress.TheVariants as progress
+use Rattle.ecp_line.specs.{Reading.IsWornLine, Untouched.AreUntouched}
 use Rattle.bank_shape.specs.{Shape.{slots_of, lines_in}, declared.Work.Work, declared.Work.TheVariants.{Nothing, Store, Copy}, declared.answer.Step.Step}
 use Rattle.bank_shape.specs.declared.waiting.Waiting.{Waiting}
 use Rattle.bank_shape.specs.declared.answer.Step.TheVariants as did
@@ -16,7 +17,6 @@ use Rattle.bank_invariant.proofs.Iterating.{iterated_law, IsOf-differs}
 use Rattle.bank_invariant.proofs.Retiring.{exhausted_law, retired_law, may_iterate, retired-count, unmarked, marked-target, AreSound-retired}
 use Rattle.bank_invariant.proofs.Targets.{IsTargetOf, running-target, AreSound-differs, AreUntouched-differs, AreOrderly-differs, DiffersAt-round, target-exists}
 use Rattle.bank_invariant.proofs.{Tearing.{running_of, in_progress_of}, Turned.moved_law}
-use Rattle.ecp_line.specs.Reading.{IsWornLine}
 use Rattle.bank_core.specs.{Stepping.{done_from, done_kept, step_from, left_by, IsWriterStep, IsIteration}, Steps.is_some_work}
 
 -- a work writes the slot that the history says
@@ -302,3 +302,10 @@ module _ {n m e : ℕ} where
       let some = some_running old.running runs in
       iteration-holds tick h old new some.0 answer before after holds some.1
       (subst (λ (r : Option (Operation n m e)). IfSome r (λ op. IsIteration tick op old new answer before after)) some.1 step)
+
+  -- what the line write in progress is for is the next work
+  pub stepped-work : (bank : BankState n m e) (array : ArrayState n m) (work : Work) → IsTrue (is_some bank.running) → IsTied bank array
+      → IfSome bank.running (λ op. work ≡ op.work) → work ≡ next_work bank.kept
+  stepped-work bank array work runs tied is =
+      let some = some_running bank.running runs in
+      subst (λ (r : Option (Operation n m e)). IfSome r (λ op. work ≡ op.work)) some.1 is ∙ (tied-running bank array some.0 tied some.1).next

@@ -5,8 +5,8 @@ use Rattle.cell_rows.specs.{Device.{ArrayState, LineState}, declared.row.Cells.C
 use Rattle.bank_shape.specs.{Shape.slot_at, declared.Work.Work, declared.Work.TheVariants.{Nothing, Store, Copy}, declared.answer.Step.Step}
 use Rattle.line_writer.specs.Writing.{Writes, HasBegun, steps_left, most_steps}
 use Rattle.power_recovery.specs.{Events.completed_kept, Kept.{KeptState, array_line, next_work}}
-use Rattle.bank_invariant.specs.{State.{BankState, Operation, target_of}, Tied.decoded}
-use Rattle.ecp_line.specs.Reading.{IsSoundLine}
+use Rattle.bank_invariant.specs.State.{BankState, Operation, target_of}
+use Rattle.ecp_line.specs.{ArrayLines.decoded, Reading.IsSoundLine}
 use Rattle.bank_core.specs.Stepping.{with_kept, step_from, left_by}
 
 module _ {n : ℕ} where

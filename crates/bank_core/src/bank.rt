@@ -12,7 +12,7 @@ ghost use Rattle.bank_invariant.specs.Holds.{Holds};
 ghost use Rattle.bank_invariant.specs.Serving.{read_from};
 ghost use Rattle.bank_core.specs.Steps.{IsFreshFor, has_work, after_read, lost_taken};
 
-use bank_shape::answer::ReadAnswer;
+use bank_shape::answer::{ReadAnswer, Step};
 use bank_shape::waiting::Waiting;
 use bank_shape::{BankShape, Work};
 use circular_buffer::HeapCircularBuffer;
@@ -28,6 +28,15 @@ pub(crate) struct Running<const B: usize, const M: usize, const E: usize> {
     pub(crate) work: Work,
     pub(crate) target: u32,
     pub(crate) writer: LineWriter<B, M, E>,
+}
+
+/// What the begin of a line write or an iteration of one answers.
+#[derive(Clone, Copy)]
+pub struct Stepped {
+    /// What the line write is for.
+    pub work: Work,
+    /// How far it has come.
+    pub step: Step,
 }
 
 /// A bank of lines of `B` bytes with `M` check bytes and `E` error-correcting pointers. Each call is one event.

@@ -19,7 +19,7 @@ ghost use Rattle.bank_core.specs.Steps.{is_some_work};
 ghost use Rattle.bank_core.specs.Stepping.{step_from, left_by};
 ghost use Rattle.bank_core.specs.Beginning.{IsBegin, IsOfSoundLine};
 
-use crate::bank::{Bank, Running};
+use crate::bank::{Bank, Running, Stepped};
 use bank_shape::Work;
 use bank_shape::answer::Step;
 use cell_rows::{CellArray, Cells};
@@ -63,30 +63,33 @@ impl<const B: usize, const M: usize, const E: usize> Bank<B, M, E> {
 
     /// Begins the next line write: senses its array line, for a copy its source first, and pulses nothing. A store's head is
     /// completed from what its array line is read as. Where that line is read as the bytes already, the write is done at once.
-    pub fn begin<A: CellArray<B, M>>(&mut self, array: &mut A, tick: u64) -> Step
+    pub fn begin<A: CellArray<B, M>>(&mut self, array: &mut A, tick: u64) -> Stepped
         requires ready { IsTrue (may_begin self.old) }
         requires tied { IsTied self.old (A.state array.old) }
-        ensures begins { IsBegin self.old self.new result (A.state array.old) (A.state array.new) }
-        ensures touches { Touches tick (lines_sensed self.old.kept (next_work self.old.kept)) None
-            false
+        ensures work { result.work ≡ next_work self.old.kept }
+        ensures begins { IsBegin self.old self.new result.step
             (A.state array.old) (A.state array.new) }
+        ensures touches { Touches tick (lines_sensed self.old.kept (next_work self.old.kept))
+            None false (A.state array.old) (A.state array.new) }
         ensures tied { IsTied self.new (A.state array.new) }
         ensures holds { (h : List (BankEvent B)) → Holds h self.old (A.state array.old)
-            → Holds (Begin result ∷ h) self.new (A.state array.new) }
+            → Holds (Begin result.step ∷ h) self.new (A.state array.new) }
     {
-        self.begin_next(array, tick)
+        let work = self.kept.next_work();
+        let step = self.begin_next(array, tick, work);
+        Stepped { work, step }
     }
 
-    // Begins the next work, as `begin` does, whose promises on histories aren't made here.
-    fn begin_next<A: CellArray<B, M>>(&mut self, array: &mut A, tick: u64) -> Step
+    // Begins this work, the next, as `begin` does, whose promises on histories aren't made here.
+    fn begin_next<A: CellArray<B, M>>(&mut self, array: &mut A, tick: u64, work: Work) -> Step
         requires ready { IsTrue (may_begin self.old) }
+        requires next { work ≡ next_work self.old.kept }
         requires tied { IsTied self.old (A.state array.old) }
         ensures begins { IsBegin self.old self.new result (A.state array.old) (A.state array.new) }
-        ensures touches { Touches tick (lines_sensed self.old.kept (next_work self.old.kept)) None
-            false
-            (A.state array.old) (A.state array.new) }
+        ensures touches { Touches tick (lines_sensed self.old.kept (next_work self.old.kept))
+            None false (A.state array.old) (A.state array.new) }
     {
-        match self.kept.next_work() {
+        match work {
             Work::Nothing => unreachable!(),
             Work::Store { line, slot } => self.begin_store(array, tick, line, slot),
             Work::Copy { region, step } => self.begin_copy(array, tick, region, step),
@@ -188,9 +191,8 @@ impl<const B: usize, const M: usize, const E: usize> Bank<B, M, E> {
         requires place { target ≡ target_of self.old.kept (Copy region step) }
         requires sound { IsOfSoundLine E seen }
         ensures { (old new : ArrayState B M)
-            → (old.line (array_line self.old.kept (slot_at self.old.kept.shape region
-            step.from))).held
-            ≡ copied.entry
+            → (old.line (array_line self.old.kept
+            (slot_at self.old.kept.shape region step.from))).held ≡ copied.entry
             → (old.line target).held ≡ seen.entry → IsSoundLine E (old.line target)
             → new.line target ≡ old.line target → IsBegin self.old self.new result old new }
     {
@@ -210,11 +212,10 @@ impl<const B: usize, const M: usize, const E: usize> Bank<B, M, E> {
         requires some { IsTrue (is_some_work running.work) }
         requires next { running.work ≡ next_work self.old.kept }
         requires begun { HasBegun running.writer.progress }
-        ensures answer { result ≡ step_from self.old.kept (running_of running.entry)
-            running.entry.writer.progress }
+        ensures answer { result
+            ≡ step_from self.old.kept (running_of running.entry) running.entry.writer.progress }
         ensures bank { self.new ≡ left_by self.old (running_of running.entry)
-            (running_of running.entry)
-            running.entry.writer.progress }
+            (running_of running.entry) running.entry.writer.progress }
     {
         match running.writer.status() {
             Progress::More => {

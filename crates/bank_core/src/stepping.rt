@@ -13,7 +13,7 @@ ghost use Rattle.bank_core.specs.Running.{running_of};
 ghost use Rattle.bank_core.specs.Steps.{is_some_work};
 ghost use Rattle.bank_core.specs.Stepping.{done_from, done_kept, worn_from, worn_kept, with_kept, IsWriterStep, IsIteration};
 
-use crate::bank::{Bank, Running};
+use crate::bank::{Bank, Running, Stepped};
 use bank_shape::Work;
 use bank_shape::answer::Step;
 use cell_rows::CellArray;
@@ -36,19 +36,33 @@ impl<const B: usize, const M: usize, const E: usize> Running<B, M, E> {
 
 impl<const B: usize, const M: usize, const E: usize> Bank<B, M, E> {
     /// One step of the line write in progress: one pulse and one sense of its line. Only after `More` is it still in progress.
-    pub fn iterate<A: CellArray<B, M>>(&mut self, array: &mut A, tick: u64) -> Step
+    pub fn iterate<A: CellArray<B, M>>(&mut self, array: &mut A, tick: u64) -> Stepped
         requires runs { IsTrue (is_some self.old.running) }
         requires tied { IsTied self.old (A.state array.old) }
-        ensures step { IfSome self.old.running (λ op. IsIteration tick op self.old self.new result
-            (A.state array.old) (A.state array.new)) }
+        ensures work { result.work ≡ next_work self.old.kept }
+        ensures step { IfSome self.old.running (λ op. IsIteration tick op
+            self.old self.new result.step (A.state array.old) (A.state array.new)) }
         ensures touches { IfSome self.old.running
             (λ op. Touches tick (op.target ∷ []) (Some op.target) false
             (A.state array.old) (A.state array.new)) }
         ensures tied { IsTied self.new (A.state array.new) }
         ensures holds { (h : List (BankEvent B)) → Holds h self.old (A.state array.old)
-            → Holds (Iterate result ∷ h) self.new (A.state array.new) }
+            → Holds (Iterate result.step ∷ h) self.new (A.state array.new) }
     {
-        self.advance(array, tick)
+        let work = self.work_in_progress();
+        let step = self.advance(array, tick);
+        Stepped { work, step }
+    }
+
+    // What the line write in progress is for.
+    fn work_in_progress(&self) -> Work
+        requires runs { IsTrue (is_some self.now.running) }
+        ensures { IfSome self.now.running (λ op. result ≡ op.work) }
+    {
+        let Some(running) = &self.running else {
+            unreachable!();
+        };
+        running.work
     }
 
     // Advances the running line write, as `iterate` does, whose promises on histories aren't made here.

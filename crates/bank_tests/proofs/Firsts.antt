@@ -5,8 +5,7 @@ use Rattle.result_rows.specs.declared.Outcome.{Outcome}
 use Rattle.bank_shape.specs.{declared.BankShape.BankShape, declared.pace.Pace.Pace}
 use Rattle.bank_invariant.specs.State.{first_bank}
 use Rattle.clock_laws.specs.{Leads.Leads, State.ClockState}
-use Rattle.bank_timing.specs.Extending.{AreOpen, first_clock}
-use Rattle.bank_tests.specs.Going.{IsGoing}
+use Rattle.bank_timing.specs.Extending.{AreOpen, first_clock, IsGoing}
 
 -- nothing stands in its queue, and nothing waits
 first-open : {n : ℕ} (m e : ℕ) (shape : BankShape) (results : List (Outcome n)) → AreOpen {n = n} {m = m} {e = e} (first_bank shape) results

@@ -164,7 +164,7 @@ fn begin<A: CellArray<64, 8>>(bank: &mut Bank<64, 8, 6>, array: &mut A) -> Saw
     ensures tied { IsTied bank.new (A.state array.new) }
 {
     if bank.may_begin() {
-        did(bank.begin(array, 0))
+        did(bank.begin(array, 0).step)
     } else {
         Saw::Refused
     }
@@ -176,7 +176,7 @@ fn iterate<A: CellArray<64, 8>>(bank: &mut Bank<64, 8, 6>, array: &mut A) -> Saw
     ensures tied { IsTied bank.new (A.state array.new) }
 {
     if bank.running() {
-        did(bank.iterate(array, 0))
+        did(bank.iterate(array, 0).step)
     } else {
         Saw::Refused
     }

@@ -1,10 +1,9 @@
 // The roles of all array lines of a small bank.
-use bank_shape::{BankShape, Home};
+use bank_shape::{BankShape, Home, Role};
 use masked_bytes::entry::Entry;
 use pcm_module::{role_in, used_in};
 use power_recovery::kept::Kept;
 use std::test::*;
-use wear_report::Role;
 
 // Two regions of two lines, so that slots 0 to 2 and 3 to 5 are theirs, and three spares.
 const SHAPE: BankShape = BankShape {

@@ -9,7 +9,7 @@ ghost use Rattle.power_recovery.specs.Slots.{bank_lines};
 ghost use Rattle.bank_model.specs.Timing.{TimedEvent};
 ghost use Rattle.clock_laws.specs.Leads.{Leads};
 ghost use Rattle.bank_timing.specs.Extending.{IsOpen};
-ghost use Rattle.bank_tests.specs.Going.{IsGoing};
+ghost use Rattle.bank_timing.specs.Extending.{IsGoing};
 
 use crate::entries::first_byte;
 use crate::faults::{Fault, misses, script, sticks};

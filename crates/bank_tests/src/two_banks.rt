@@ -2,12 +2,12 @@
 #![tactic(auto, using(ecp_line::proofs::Sizes::layout_64))]
 
 use crate::playing::{Call, Saw, played};
+use bank_shape::Role;
 use module_shape::{Home, Policy, RawShape, Shape};
 use pcm_cells::{Act, MemArray, Script, ScriptArray};
 use pcm_module::Module;
 use std::alloc::{AllocError, Global};
 use std::test::Fail;
-use wear_report::Role;
 
 const SIZES: RawShape = RawShape {
     banks: 2,

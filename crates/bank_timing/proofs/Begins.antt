@@ -2,21 +2,20 @@
 use Rattle.std.proofs.Common.{◌≡◌, ℕ, ◌+◌, ◌<◌, ◌≤◌, ◌&&◌, not, Bool, true, false, List, ◌∷◌, Option, Some, None, is_some, refl, sym, ap, subst, ◌∙◌}
 use Rattle.std.{specs.Prelude.IsTrue, proofs.lemmas.Bool.false≢true}
 use Rattle.cell_rows.specs.Device.{ArrayState, LineState}
-use Rattle.ecp_line.specs.Reading.{decode}
+use Rattle.ecp_line.specs.{ArrayLines.decoded, Reading.decode}
 use Rattle.result_rows.specs.declared.Outcome.{Outcome}
 use Rattle.bank_shape.specs.{declared.Work.Work, declared.answer.Step.Step, declared.clock.Action.Action, declared.clock.Doing.Doing, declared.clock.Doing.TheVariants.Beginning}
 use Rattle.line_writer.specs.{Writing.IsProgress, declared.writer.LineWriter.LineWriter, declared.writer.Progress.Progress}
 use Rattle.line_writer.specs.declared.writer.Progress.TheVariants as progress
 use Rattle.power_recovery.specs.Kept.{next_work}
 use Rattle.bank_model.specs.{Events.{BankEvent, Begin}, Timing.{TimedEvent, core, ends}, Touching.Touches}
-use Rattle.bank_invariant.specs.{Beginning.lines_sensed, Holds.Holds, State.{BankState, is_free, may_begin}, Tied.decoded}
+use Rattle.bank_invariant.specs.{Beginning.lines_sensed, Holds.Holds, State.{BankState, is_free, may_begin}}
 use Rattle.bank_core.specs.{Beginning.IsBegin, Stepping.step_from}
 use Rattle.clock_laws.specs.{Actions.{IsCompletion, GoesOn, LeavesBegun}, Completing.after_action, Fitting.{Fits, IsFit}, Leads.Leads, Putting.{item_by, put_if}}
 use Rattle.clock_laws.{specs.State.{ClockState, next_action}, proofs.Ending.begin_ends_law, proofs.Fitting.needs_law, proofs.Others.apart_law, proofs.Putting.no_writer}
 use Rattle.reg_lines.specs.Regs.{IsWritingOf}
-use Rattle.bank_timing.{specs.Completing.{Completes, step_recorded, region_of, item_from}, specs.Extending.AreOpen, proofs.Acting.{next-fits, next-ends}, proofs.Changes.item-named}
+use Rattle.bank_timing.{specs.Completing.{Completes, step_recorded, item_from}, specs.Extending.AreOpen, proofs.Acting.{next-fits, next-ends}, proofs.Changes.item-named}
 use Rattle.bank_timing.proofs.LineWrites.{Steps, step-completes, begin-steps, begin-leaves}
-use Rattle.spare_pool.specs.Table.{used_by}
 
 -- where a line write may be begun, none is in progress, and the work is free
 free-parts : {A : Type 0} (r : Option A) (free : Bool) → (not (is_some r) && free) ≡ true → (r ≡ None) × (free ≡ true)
@@ -93,8 +92,8 @@ module _ {n m e : ℕ} (clock : ClockState n m e) (action : Action) (next : next
             begin_ends_law n m e answer action begins.op.work xs clock bank (put_if (item_by clock.bank.kept answer) bank.kept clock.regs) old new leads (sym begins.work) end leaves
 
     -- the item that the code names is that which the step changes, and it has a control line
-    pub begun-item : item_from bank.kept.shape (region_of clock.bank.kept.shape (next_work clock.bank.kept)) (used_by clock.bank.kept.table) answer ≡ item_by clock.bank.kept answer
+    pub begun-item : item_from bank.kept.shape (next_work clock.bank.kept) answer ≡ item_by clock.bank.kept answer
     begun-item =
-        ap (λ shape. item_from shape (region_of clock.bank.kept.shape (next_work clock.bank.kept)) (used_by clock.bank.kept.table) answer) begun-steps.shape
-        ∙ subst (λ (a : Step). item_from clock.bank.kept.shape (region_of clock.bank.kept.shape (next_work clock.bank.kept)) (used_by clock.bank.kept.table) a ≡ item_by clock.bank.kept a) (sym begins.is)
+        ap (λ shape. item_from shape (next_work clock.bank.kept) answer) begun-steps.shape
+        ∙ subst (λ (a : Step). item_from clock.bank.kept.shape (next_work clock.bank.kept) a ≡ item_by clock.bank.kept a) (sym begins.is)
         (item-named clock.bank.kept begins.op begins.op.writer.progress (next_work clock.bank.kept) begins.work refl)

@@ -1,5 +1,5 @@
 -- The change that a step of the bank's line write brings, and that the control lines go on to hold what the bank keeps.
-use Rattle.std.proofs.Common.{◌≡◌, ℕ, ◌+◌, ◌/◌, ◌<◌, ◌≤◌, nat_lt, if◌then◌else◌, Bool, true, false, List, [], ◌∷◌, Option, Some, None, refl, sym, ap, subst, ◌∙◌, arith, ltb-true}
+use Rattle.std.proofs.Common.{◌≡◌, ℕ, ◌+◌, ◌-◌, ◌/◌, ◌<◌, nat_lt, if◌then◌else◌, Bool, true, false, List, [], ◌∷◌, Option, Some, None, refl, sym, ap, subst, ◌∙◌, arith, ltb-true}
 use Rattle.std.specs.Prelude.{IfSome}
 use Rattle.masked_bytes.specs.{Entries.head_line, declared.entry.Entry.Entry}
 use Rattle.cell_rows.specs.Device.{ArrayState}
@@ -19,7 +19,7 @@ use Rattle.register_laws.proofs.{Determining.all-items, Holding.controls-items, 
 use Rattle.bank_invariant.specs.State.{BankState, Operation}
 use Rattle.clock_laws.{specs.Completing.after_action, specs.Putting.{item_by, put_if, region_due}, specs.State.ClockState, proofs.Controls.control-kept}
 use Rattle.bank_core.specs.Stepping.{step_from}
-use Rattle.bank_timing.specs.Completing.{region_of, item_from, with_regs, recorded_clock}
+use Rattle.bank_timing.specs.Completing.{item_from, with_regs, recorded_clock}
 
 -- what a bank keeps after a step that is answered so, with the change of its item put: the item has a control line, and the control
 -- lines hold what the bank keeps then
@@ -130,42 +130,43 @@ module _ {n : ℕ} (kept : KeptState n) where
       by false None (e ∷ es) is = absurd (cc)
 
   pub item-named : {m e : ℕ} (op : Operation n m e) (p : Progress) (work : Work) → op.work ≡ work → next_work kept ≡ work
-      → item_from kept.shape (region_of kept.shape work) (used_by kept.table) (step_from kept op p) ≡ item_by kept (step_from kept op p)
+      → item_from kept.shape work (step_from kept op p) ≡ item_by kept (step_from kept op p)
   item-named op progress.More work is next = refl
   item-named op progress.Stored work is next =
-      subst (λ (w : Work). item_from kept.shape (region_of kept.shape work) (used_by kept.table) (step_from kept (record { work = w; target = op.target; writer = op.writer }) progress.Stored)
+      subst (λ (w : Work). item_from kept.shape work (step_from kept (record { work = w; target = op.target; writer = op.writer }) progress.Stored)
       ≡ item_by kept (step_from kept (record { work = w; target = op.target; writer = op.writer }) progress.Stored)) (sym is) (by work next)
     where
       by : (work : Work) → next_work kept ≡ work
-          → item_from kept.shape (region_of kept.shape work) (used_by kept.table) (step_from kept (record { work = work; target = op.target; writer = op.writer }) progress.Stored)
+          → item_from kept.shape work (step_from kept (record { work = work; target = op.target; writer = op.writer }) progress.Stored)
           ≡ item_by kept (step_from kept (record { work = work; target = op.target; writer = op.writer }) progress.Stored)
       by Nothing next = refl
       by (Store line slot) next = ap (λ (line : ℕ). item_if kept.shape.home (line / kept.shape.lines)) (store-line line slot next)
       by (Copy region step) next = ap (λ (region : ℕ). item_if kept.shape.home region) (copy-region region step next)
   item-named op (progress.Worn cause) work is next = by (nat_lt (used_by kept.table) kept.shape.spares)
     where
-      by : (b : Bool) → item_from kept.shape (region_of kept.shape work) (used_by kept.table) (if b then did.Retired (target_slot kept op.work) (slots_of kept.shape + used_by kept.table) else did.Exhausted)
+      behind : (slots used : ℕ) → slots + used - slots ≡ used
+      behind slots used = omega (arith)
+
+      by : (b : Bool) → item_from kept.shape work (if b then did.Retired (target_slot kept op.work) (slots_of kept.shape + used_by kept.table) else did.Exhausted)
           ≡ item_by kept (if b then did.Retired (target_slot kept op.work) (slots_of kept.shape + used_by kept.table) else did.Exhausted)
-      by true = refl
+      by true = ap (λ (spare : ℕ). item_if kept.shape.home (kept.shape.regions + spare)) (behind (slots_of kept.shape) (used_by kept.table))
       by false = refl
 
 -- what a put of that change asks for
-pub record PutReady {n m e : ℕ} (bank : BankState n m e) (regs : RegsState n m e) (region used : ℕ) (answer : Step) : Type 0 where
-  pub free : IfSome (item_from bank.kept.shape region used answer) (λ item. regs.change ≡ None)
-  pub items : IfSome (item_from bank.kept.shape region used answer) (λ item. item < regs.items)
-  pub known : IfSome (item_from bank.kept.shape region used answer) (λ item. item < items_of bank.kept.shape)
-  pub few : used ≤ bank.kept.shape.spares
+pub record PutReady {n m e : ℕ} (bank : BankState n m e) (regs : RegsState n m e) (work : Work) (answer : Step) : Type 0 where
+  pub free : IfSome (item_from bank.kept.shape work answer) (λ item. regs.change ≡ None)
+  pub items : IfSome (item_from bank.kept.shape work answer) (λ item. item < regs.items)
+  pub known : IfSome (item_from bank.kept.shape work answer) (λ item. item < items_of bank.kept.shape)
 
-pub put-ready : {n m e : ℕ} (old : KeptState n) (new : BankState n m e) (regs : RegsState n m e) (array : ArrayState n m) (region used : ℕ) (answer : Step) → Control old regs array → IsKept old → regs.change ≡ None
-    → new.kept.shape ≡ old.shape → Puts old new.kept regs answer → item_from new.kept.shape region used answer ≡ item_by old answer → used ≡ used_by old.table → PutReady new regs region used answer
-put-ready {n} {m} {e} old new regs array region used answer control range alone shape puts item is_used =
+pub put-ready : {n m e : ℕ} (old : KeptState n) (new : BankState n m e) (regs : RegsState n m e) (array : ArrayState n m) (work : Work) (answer : Step) → Control old regs array → regs.change ≡ None
+    → new.kept.shape ≡ old.shape → Puts old new.kept regs answer → item_from new.kept.shape work answer ≡ item_by old answer → PutReady new regs work answer
+put-ready {n} {m} {e} old new regs array work answer control alone shape puts item =
     record {
       free = subst (λ (i : Option ℕ). IfSome i (λ item. regs.change ≡ None)) (sym item) (each (item_by old answer) (λ item. regs.change ≡ None) (λ item below. alone) puts.exists);
       items = subst (λ (i : Option ℕ). IfSome i (λ item. item < regs.items)) (sym item)
           (each (item_by old answer) (λ item. item < regs.items) (λ item below. subst (λ (count : ℕ). item < count) (sym control.own.items) below) puts.exists);
       known = subst (λ (i : Option ℕ). IfSome i (λ item. item < items_of new.kept.shape)) (sym item)
           (each (item_by old answer) (λ item. item < items_of new.kept.shape) (λ item below. subst (λ (s : BankShape). item < items_of s) (sym shape) (controls-items old.shape item below)) puts.exists);
-      few = subst (λ (s : BankShape). used ≤ s.spares) (sym shape) (omega (arith, is_used, range.spares, range.table.within));
     }
   where
     each : (i : Option ℕ) (P : ℕ → Type 0) → ((item : ℕ) → item < controls_of old.shape → P item) → IfSome i (λ item. item < controls_of old.shape) → IfSome i P
@@ -173,13 +174,13 @@ put-ready {n} {m} {e} old new regs array region used answer control range alone 
     each (Some item) P from is = from item is
 
 -- the clock after the step was recorded and its change put is that after the action
-module _ {n m e : ℕ} (clock : ClockState n m e) (bank : BankState n m e) (action : Action) (region used : ℕ) where
+module _ {n m e : ℕ} (clock : ClockState n m e) (bank : BankState n m e) (action : Action) (work : Work) where
   abbrev put_then : Step → ClockState n m e
   put_then answer =
-      with_regs (put_if (item_from bank.kept.shape region used answer) bank.kept clock.regs)
+      with_regs (put_if (item_from bank.kept.shape work answer) bank.kept clock.regs)
       (recorded_clock answer (record { bank = bank; regs = clock.regs; pace = clock.pace; tick = ends clock.pace action; action = None; arrivals = clock.arrivals; cancels = clock.cancels; drained = clock.drained }))
 
-  pub begun-clock : (answer : Step) → item_from bank.kept.shape region used answer ≡ item_by clock.bank.kept answer
+  pub begun-clock : (answer : Step) → item_from bank.kept.shape work answer ≡ item_by clock.bank.kept answer
       → put_then answer ≡ after_action clock bank (put_if (item_by clock.bank.kept answer) bank.kept clock.regs) action (Begin answer)
   begun-clock answer item =
       ap (λ (i : Option ℕ). with_regs (put_if i bank.kept clock.regs) (recorded_clock answer (record { bank = bank; regs = clock.regs; pace = clock.pace; tick = ends clock.pace action; action = None; arrivals = clock.arrivals; cancels = clock.cancels; drained = clock.drained }))) item
@@ -193,7 +194,7 @@ module _ {n m e : ℕ} (clock : ClockState n m e) (bank : BankState n m e) (acti
       by (did.Retired slot line) = refl
       by did.Exhausted = refl
 
-  pub iterated-clock : (answer : Step) → item_from bank.kept.shape region used answer ≡ item_by clock.bank.kept answer
+  pub iterated-clock : (answer : Step) → item_from bank.kept.shape work answer ≡ item_by clock.bank.kept answer
       → put_then answer ≡ after_action clock bank (put_if (item_by clock.bank.kept answer) bank.kept clock.regs) action (Iterate answer)
   iterated-clock answer item =
       ap (λ (i : Option ℕ). with_regs (put_if i bank.kept clock.regs) (recorded_clock answer (record { bank = bank; regs = clock.regs; pace = clock.pace; tick = ends clock.pace action; action = None; arrivals = clock.arrivals; cancels = clock.cancels; drained = clock.drained }))) item

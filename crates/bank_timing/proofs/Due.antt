@@ -5,7 +5,7 @@ use Rattle.result_rows.specs.declared.Outcome.{Outcome}
 use Rattle.bank_shape.specs.{declared.clock.Action.Action, declared.clock.Doing.Doing}
 use Rattle.bank_model.specs.Timing.{TimedEvent}
 use Rattle.clock_laws.specs.{Fitting.IsFit, Leads.Leads, State.{ClockState, next_action}}
-use Rattle.bank_timing.{specs.Clock.IsClock, specs.Completing.MayComplete, specs.Extending.AreOpen, specs.declared.clocked.Timed.TheInside.Inside, proofs.Acting.begun-before}
+use Rattle.bank_timing.{specs.Clock.IsClock, specs.Completing.MayEnd, specs.Extending.AreOpen, specs.declared.clocked.Timed.TheInside.Inside, proofs.Acting.begun-before}
 use Rattle.bank_timing.proofs.Views.{clock_of}
 
 -- an action of a kind runs from now on and has what it needs; some history leads to the clock over an array, and the rows that stand
@@ -25,7 +25,7 @@ pub record IsDueAlone {n m e : ℕ} (clock : ClockState n m e) (action : Action)
   pub led : (xs : List (TimedEvent n m)) × Leads xs clock array
 
 module _ {n m e : ℕ} (t : Inside n m e) {now : ClockState n m e} {action : Action} (same : clock_of t ≡ now) (inv : IsClock t.bank t.regs t.pace t.tick t.action t.arrivals.capacity)
-    {kind : Doing} {array : ArrayState n m} (may : MayComplete now action kind array) where
+    {kind : Doing} {array : ArrayState n m} (may : MayEnd now action kind array) where
   -- the action is that which runs from now on, by the fields too
   runs : next_action (clock_of t) ≡ Some action
   runs = subst (λ (clock : ClockState n m e). next_action clock ≡ Some action) (sym same) may.next

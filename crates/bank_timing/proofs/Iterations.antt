@@ -9,15 +9,15 @@ use Rattle.line_writer.specs.Orderly.{IsLive}
 use Rattle.line_writer.specs.declared.writer.Progress.TheVariants as progress
 use Rattle.power_recovery.specs.Kept.{next_work}
 use Rattle.bank_model.specs.{Events.{BankEvent, Iterate}, History.iterated, Timing.{TimedEvent, core, ends}, Touching.{Touches, Strikes, AreStruck}}
-use Rattle.bank_invariant.{specs.Holds.Holds, specs.State.{BankState, Operation}, specs.Tied.{decoded, IsOf}, proofs.Fine.strikes-round, proofs.Tearing.running_of}
+use Rattle.bank_invariant.{specs.Holds.Holds, specs.State.{BankState, Operation}, specs.Tied.IsOf, proofs.Fine.strikes-round, proofs.Tearing.running_of}
+use Rattle.ecp_line.specs.ArrayLines.{decoded}
 use Rattle.bank_core.specs.Stepping.{IsIteration, step_from}
 use Rattle.clock_laws.specs.{Actions.{IsCompletion, GoesOn, LeavesIterated}, Completing.after_action, Fitting.{Fits, IsFit}, Leads.Leads, Putting.{item_by, put_if}}
 use Rattle.clock_laws.{specs.State.{ClockState, next_action}, proofs.Ending.iterate_ends_law, proofs.Fitting.needs_law, proofs.Others.apart_law, proofs.Putting.no_writer}
 use Rattle.clock_laws.proofs.Together.{controls_stay_law}
 use Rattle.reg_lines.specs.Regs.{RegsState, IsWritingOf}
-use Rattle.bank_timing.{specs.Completing.{Completes, step_recorded, region_of, item_from}, specs.Extending.AreOpen, proofs.Acting.{next-fits, next-ends}}
-use Rattle.bank_timing.proofs.{Begins.stored-reads, Changes.item-named, LineWrites.{Steps, step-completes, iterate-steps, iterate-leaves}}
-use Rattle.spare_pool.specs.Table.{used_by}
+use Rattle.bank_timing.{specs.Completing.{Completes, step_recorded, item_from}, specs.Extending.AreOpen, proofs.Acting.{next-fits, next-ends}, proofs.Begins.stored-reads}
+use Rattle.bank_timing.proofs.{Changes.item-named, LineWrites.{Steps, step-completes, iterate-steps, iterate-leaves}}
 
 module _ {n m e : ℕ} (clock : ClockState n m e) (action : Action) (next : next_action clock ≡ Some action) (doing : action.doing ≡ Iterating) (fit : IsFit clock.bank clock.regs clock.action) (alone : clock.regs.change ≡ None) where
   pub iterate-ready : IsTrue (is_some clock.bank.running)
@@ -98,16 +98,16 @@ module _ {n m e : ℕ} (clock : ClockState n m e) (action : Action) (next : next
 
     -- the item that the code names is that which the step changes
     pub iterated-item : IfSome clock.bank.running (λ op. IsIteration (ends clock.pace action) op clock.bank bank answer old new)
-        → item_from bank.kept.shape (region_of clock.bank.kept.shape (next_work clock.bank.kept)) (used_by clock.bank.kept.table) answer ≡ item_by clock.bank.kept answer
+        → item_from bank.kept.shape (next_work clock.bank.kept) answer ≡ item_by clock.bank.kept answer
     iterated-item iterates =
-        ap (λ shape. item_from shape (region_of clock.bank.kept.shape (next_work clock.bank.kept)) (used_by clock.bank.kept.table) answer) (iterated-steps iterates).shape
+        ap (λ shape. item_from shape (next_work clock.bank.kept) answer) (iterated-steps iterates).shape
         ∙ by clock.bank.running refl iterate-ready iterates
       where
         by : (r : Option (Operation n m e)) → clock.bank.running ≡ r → IsTrue (is_some r) → IfSome r (λ op. IsIteration (ends clock.pace action) op clock.bank bank answer old new)
-            → item_from clock.bank.kept.shape (region_of clock.bank.kept.shape (next_work clock.bank.kept)) (used_by clock.bank.kept.table) answer ≡ item_by clock.bank.kept answer
+            → item_from clock.bank.kept.shape (next_work clock.bank.kept) answer ≡ item_by clock.bank.kept answer
         by None is some iterates = absurd (false≢true some)
         by (Some op) is some iterates =
-            subst (λ (a : Step). item_from clock.bank.kept.shape (region_of clock.bank.kept.shape (next_work clock.bank.kept)) (used_by clock.bank.kept.table) a ≡ item_by clock.bank.kept a) (sym iterates.is)
+            subst (λ (a : Step). item_from clock.bank.kept.shape (next_work clock.bank.kept) a ≡ item_by clock.bank.kept a) (sym iterates.is)
             (item-named clock.bank.kept op iterates.now.writer.progress (next_work clock.bank.kept) (sym (next-work op is iterates)) refl)
 
     pub iterated-whole : 1 ≤ clock.pace.read → 1 ≤ clock.pace.iter → IfSome clock.bank.running (λ op. IsIteration (ends clock.pace action) op clock.bank bank answer old new)

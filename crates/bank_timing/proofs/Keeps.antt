@@ -109,7 +109,7 @@ module _ {n m e : ℕ} (clock : ClockState n m e) (action : Action) (next : next
         keep-completes clock action regs old new results (KeepIterate answer) refl later unset
         (subst (λ (r : RegsState n m e). actions_left clock.bank r < actions_left clock.bank clock.regs) (sym step.leaves) (less answer))
         (λ xs leads.
-        keep_iterate_ends_law n m e answer action step.writer step.now xs clock regs old new leads step.runs
+        keep_iterate_ends_law n m e answer action xs clock regs old new leads step
         (record {
           next = next;
           doing = doing;
@@ -118,8 +118,7 @@ module _ {n m e : ℕ} (clock : ClockState n m e) (action : Action) (next : next
           touches = touches;
           leaves = step.leaves;
           control = iterated_law n m e (ends clock.pace action) clock.bank.kept clock.regs regs old new answer leads.holds.kept leads.control step touches whole held;
-        })
-        step.step.fewer step)
+        }))
       where
         less : (answer : Keep) → actions_left clock.bank (kept_on answer step.now clock.regs) < actions_left clock.bank clock.regs
         less keep.More = (falling_law n m e clock.bank clock.regs).after_keep_iteration step.writer step.now stands running step.runs step.step.fewer

@@ -15,7 +15,8 @@ use Rattle.power_recovery.specs.{Events.{stored_kept, moved_kept, retired_kept, 
 use Rattle.power_recovery.proofs.Bundle.{next_work-store}
 use Rattle.bank_model.specs.{Events.BankEvent, History.Awaited, Timing.{TimedEvent, Core, ends}}
 use Rattle.bank_laws.specs.{Outcomes.{outcome_by, step_outcome}, Ticks.ends_action}
-use Rattle.bank_invariant.specs.{State.{BankState, Operation, is_free, target_of}, Tied.decoded}
+use Rattle.bank_invariant.specs.State.{BankState, Operation, is_free, target_of}
+use Rattle.ecp_line.specs.ArrayLines.{decoded}
 use Rattle.reg_lines.specs.Regs.{RegsState}
 use Rattle.clock_laws.specs.{Actions.{GoesOn, LeavesBegun, LeavesIterated}, Completing.{completed as completed_event, after_action}, Leads.Leads, Putting.{item_by, put_if}}
 use Rattle.clock_laws.{specs.Remaining.actions_left, specs.Standing.AreApart, specs.State.ClockState, proofs.Remaining.falling_law}

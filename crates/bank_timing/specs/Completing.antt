@@ -1,9 +1,9 @@
 -- What the end of an action makes of a bank with its clock, of its array and of the results.
-use Rattle.std.specs.Prelude.{◌≡◌, ℕ, ◌+◌, ◌/◌, ◌<◌, ◌≤◌, List, [], ◌∷◌, Option, None, Some}
+use Rattle.std.specs.Prelude.{◌≡◌, ℕ, ◌+◌, ◌-◌, ◌/◌, ◌<◌, ◌≤◌, List, [], ◌∷◌, Option, None, Some}
 use Rattle.cell_rows.specs.Device.{ArrayState}
 use Rattle.result_rows.specs.{Table.with_outcome, declared.Outcome.Outcome}
 use Rattle.result_rows.specs.declared.Outcome.TheVariants as out
-use Rattle.bank_shape.specs.{declared.BankShape.BankShape, declared.Work.Work, declared.Work.TheVariants.{Nothing, Store, Copy}, declared.answer.Keep.Keep}
+use Rattle.bank_shape.specs.{Shape.slots_of, declared.BankShape.BankShape, declared.Work.Work, declared.Work.TheVariants.{Nothing, Store, Copy}, declared.answer.Keep.Keep}
 use Rattle.bank_shape.specs.{declared.answer.Step.Step, declared.clock.Action.Action, declared.clock.Doing.Doing}
 use Rattle.bank_shape.specs.declared.answer.Step.TheVariants as did
 use Rattle.bank_shape.specs.declared.answer.Keep.TheVariants as keep
@@ -37,13 +37,13 @@ region_of shape Nothing = 0
 region_of shape (Store line slot) = line / shape.lines
 region_of shape (Copy region step) = region
 
--- the item that a step changes, where its work is of this region and so many spares were used before it
-abbrev pub item_from : BankShape → ℕ → ℕ → Step → Option ℕ
-item_from shape region used did.More = None
-item_from shape region used (did.Stored row place) = item_if shape.home region
-item_from shape region used (did.Moved step) = item_if shape.home region
-item_from shape region used (did.Retired slot line) = item_if shape.home (shape.regions + used)
-item_from shape region used did.Exhausted = item_if shape.home (shape.regions + shape.spares)
+-- the item that a step of a line write for this work changes: the work's region, the spare whose array line is given, or the mark
+abbrev pub item_from : BankShape → Work → Step → Option ℕ
+item_from shape work did.More = None
+item_from shape work (did.Stored row place) = item_if shape.home (region_of shape work)
+item_from shape work (did.Moved step) = item_if shape.home (region_of shape work)
+item_from shape work (did.Retired slot line) = item_if shape.home (shape.regions + (line - slots_of shape))
+item_from shape work did.Exhausted = item_if shape.home (shape.regions + shape.spares)
 
 module _ {n m e : ℕ} where
   -- the clock with other arrival ticks
@@ -61,13 +61,18 @@ module _ {n m e : ℕ} where
   recorded_clock step clock =
       record { bank = clock.bank; regs = clock.regs; pace = clock.pace; tick = clock.tick; action = clock.action; arrivals = arrivals_by step clock.arrivals; cancels = cancels_by_step step clock.cancels; drained = clock.drained }
 
--- an action of a kind runs from now on and may be completed: some history leads to the bank over this array, and its tick is one that no
--- drain passes
-pub record MayComplete {n m e : ℕ} (clock : ClockState n m e) (action : Action) (kind : Doing) (array : ArrayState n m) : Type 0 where
+-- an action of a kind runs from now on and may end: some history leads to the bank over this array, and its tick is one that no drain
+-- passes
+pub record MayEnd {n m e : ℕ} (clock : ClockState n m e) (action : Action) (kind : Doing) (array : ArrayState n m) : Type 0 where
   pub led : (xs : List (TimedEvent n m)) × Leads xs clock array
   pub next : next_action clock ≡ Some action
   pub doing : action.doing ≡ kind
   pub within : clock.tick ≤ last_tick_with_drain
+
+-- it may be completed: it may end, and the rows that stand have no outcome yet
+pub record MayComplete {n m e : ℕ} (clock : ClockState n m e) (action : Action) (kind : Doing) (array : ArrayState n m) (results : List (Outcome n)) : Type 0 where
+  pub ends : MayEnd clock action kind array
+  pub unset : AreOpen clock.bank results
 
 -- the action ended at its last tick, and no action runs; each history that led to the bank is extended by one event, which ends an
 -- action; no row came, and less is left to do

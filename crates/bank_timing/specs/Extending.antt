@@ -81,6 +81,13 @@ pub record GoesOn {n m e : ℕ} (tick : ℕ) (old new : ClockState n m e) (resul
   pub unset : AreOpen new.bank recorded
   pub others : LeavesOthers old.bank results recorded
 
+-- a bank goes on: it isn't drained, some history leads to it over this array, and the rows that stand in its queue or wait have no
+-- outcome yet
+pub record IsGoing {n m e : ℕ} (clock : ClockState n m e) (array : ArrayState n m) (results : List (Outcome n)) : Type 0 where
+  pub running : clock.drained ≡ false
+  pub led : (xs : List (TimedEvent n m)) × Leads xs clock array
+  pub unset : AreOpen clock.bank results
+
 -- a row arrived with this event, at the tick at which the bank stands: each history that led to the bank goes on with the event, behind
 -- what comes first; the rows that stand have no outcome yet, and each row but this one and them keeps its own
 pub record Arrives {n m e : ℕ} (row : ℕ) (event : BankEvent n) (first : List (TimedEvent n m) → List (TimedEvent n m)) (old new : ClockState n m e) (before after : ArrayState n m) (results recorded : List (Outcome n)) : Type 0 where

@@ -4,7 +4,8 @@ use Rattle.cell_rows.specs.{Device.ArrayState, declared.array.Sense.Sense}
 use Rattle.row_rules.specs.Table.{KeepsRows}
 use Rattle.bank_shape.specs.{declared.BankShape.BankShape, declared.pace.Pace.Pace}
 use Rattle.bank_model.specs.{Adding.senses_of, Timing.TimedEvent}
-use Rattle.bank_laws.specs.{Laws.{KeepsPlaces, KeepsLog, rules_of, log_of}, Outcomes.table_of}
+use Rattle.right_runs.specs.{Banks.rules_of, KeepsLog.KeepsLog, KeepsPlaces.KeepsPlaces}
+use Rattle.bank_laws.specs.{Laws.log_of, Outcomes.table_of}
 use Rattle.tick_laws.specs.TickLaws.{WaitsForReads}
 
 -- the table of a history keeps the laws of rows, over its array those of places, and with a log whose senses of the bank's lines

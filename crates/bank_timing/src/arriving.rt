@@ -16,7 +16,7 @@ ghost use Rattle.bank_model.specs.Timing.{is_doing, is_writing};
 ghost use Rattle.bank_model.specs.After.{is_store_of};
 ghost use Rattle.power_recovery.specs.Kept.{next_work};
 ghost use Rattle.bank_timing.specs.Completing.{with_arrivals};
-ghost use Rattle.bank_timing.specs.Extending.{Arrives, AreOpen, IsOpen};
+ghost use Rattle.bank_timing.specs.Extending.{Arrives, AreOpen, IsGoing, IsOpen};
 
 use crate::clocked::Timed;
 use bank_core::arriving::Arrived;
@@ -32,13 +32,10 @@ use row_telling::Outcomes;
 impl<const B: usize, const M: usize, const E: usize> Timed<B, M, E> {
     /// A write of a bank line arrives now; the number of its row is above those of all before it.
     pub fn arrive_write<R: Outcomes<B>>(&mut self, entry: Entry<B>, results: &mut R)
-        requires going { self.old.drained ≡ false }
-        requires led { (xs : List (TimedEvent B M)) × (array : ArrayState B M)
-            × Leads xs self.old array }
+        requires going { (array : ArrayState B M) × IsGoing self.old array (R.table results.old) }
         requires exists { entry.line < bank_lines self.old.bank.kept.shape }
         requires rises { self.old.bank.rows_below ≤ entry.row }
         requires masked { IsMasked B entry.bytes entry.given }
-        requires unset { AreOpen self.old.bank (R.table results.old) }
         requires fresh { IsOpen (R.table results.old) entry.row }
         ensures arrives { (array : ArrayState B M)
             → Arrives entry.entry.row
@@ -73,8 +70,8 @@ impl<const B: usize, const M: usize, const E: usize> Timed<B, M, E> {
     // The entry of the queue at an index, into which a write was merged, arrived now.
     fn arrive_again(&mut self, index: usize)
         requires there { index < length self.old.arrivals }
-        ensures { self.new ≡ with_arrivals (slice_set self.old.arrivals index self.old.tick)
-            self.old }
+        ensures { self.new
+            ≡ with_arrivals (slice_set self.old.arrivals index self.old.tick) self.old }
     {
         let Some(tick) = self.arrivals.get_mut(index) else {
             unreachable!()
@@ -91,15 +88,13 @@ impl<const B: usize, const M: usize, const E: usize> Timed<B, M, E> {
         line: u32,
         results: &mut R,
     )
-        requires going { self.old.drained ≡ false }
-        requires led { (xs : List (TimedEvent B M)) × Leads xs self.old (A.state array.old) }
+        requires going { IsGoing self.old (A.state array.old) (R.table results.old) }
         requires exists { line < bank_lines self.old.bank.kept.shape }
         requires rises { self.old.bank.rows_below ≤ row }
-        requires unset { AreOpen self.old.bank (R.table results.old) }
         requires fresh { IsOpen (R.table results.old) row }
         ensures arrives { Arrives row (Read row line (read_from self.old.bank line))
-            (λ xs. cancel_first xs self.old line) self.old self.new (A.state array.old)
-            (A.state array.new)
+            (λ xs. cancel_first xs self.old line) self.old self.new
+            (A.state array.old) (A.state array.new)
             (R.table results.old) (R.table results.new) }
         ensures goes_on { R.goes_on results.old results.new }
     {

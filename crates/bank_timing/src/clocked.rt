@@ -10,7 +10,7 @@ ghost use Rattle.bank_shape.specs.declared.Home.TheVariants.{Array};
 ghost use Rattle.clock_laws.specs.State.{next_action, is_busy, may_start};
 ghost use Rattle.clock_laws.specs.Leads.{Leads};
 ghost use Rattle.clock_laws.specs.Passing.{at_tick};
-ghost use Rattle.bank_timing.specs.Extending.{Extends, GoesOn, AreOpen, IsQuiet, first_clock, last_tick};
+ghost use Rattle.bank_timing.specs.Extending.{Extends, GoesOn, IsGoing, IsQuiet, first_clock, last_tick};
 
 use bank_core::bank::Bank;
 use bank_shape::clock::{Action, Doing, choose};
@@ -121,11 +121,9 @@ impl<const B: usize, const M: usize, const E: usize> Timed<B, M, E> {
         to: u64,
         results: &mut R,
     )
-        requires going { self.old.drained ≡ false }
-        requires led { (xs : List (TimedEvent B M)) × Leads xs self.old (A.state array.old) }
+        requires going { IsGoing self.old (A.state array.old) (R.table results.old) }
         requires forward { self.old.tick ≤ to }
         requires within { to ≤ last_tick }
-        requires unset { AreOpen self.old.bank (R.table results.old) }
         ensures ran { GoesOn to self.old self.new (R.table results.old) (R.table results.new) }
         ensures extends { (xs : List (TimedEvent B M)) → Leads xs self.old (A.state array.old)
             → (added : List (TimedEvent B M))

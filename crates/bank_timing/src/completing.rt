@@ -2,15 +2,14 @@
 ghost use Rattle.std.specs.Prelude.{◌≡◌, ◌<◌, ◌≤◌, List, None, IfSome, IsTrue, is_some, slice_get};
 ghost use Rattle.bank_shape.specs.declared.clock.Doing.TheVariants.{Serving, Beginning, Iterating};
 ghost use Rattle.result_rows.specs.declared.Outcome.{Outcome as RowOutcome};
-ghost use Rattle.spare_pool.specs.Table.{used_by};
 ghost use Rattle.bank_shape.specs.Shape.{IsBankShape};
-ghost use Rattle.power_recovery.specs.Kept.{next_work};
 ghost use Rattle.register_laws.specs.Items.{items_of, item_values, region_values, spare_values, mark_values};
 ghost use Rattle.clock_laws.specs.Putting.{put_if};
 ghost use Rattle.bank_timing.specs.Extending.{AreOpen};
-ghost use Rattle.bank_timing.specs.Completing.{MayComplete, Completes, IsRecordable, step_recorded, recorded_clock, with_regs, region_of, item_from, cancels_by_step, cancels_by_keep};
+ghost use Rattle.bank_timing.specs.Completing.{MayEnd, MayComplete, Completes, IsRecordable, step_recorded, recorded_clock, with_regs, region_of, item_from, cancels_by_step, cancels_by_keep};
 
 use crate::clocked::Timed;
+use bank_core::bank::Stepped;
 use bank_shape::answer::{Keep, Served, Step};
 use bank_shape::clock::{Action, Doing};
 use bank_shape::{BankShape, Home, Work};
@@ -30,10 +29,10 @@ impl<const B: usize, const M: usize, const E: usize> Timed<B, M, E> {
         action: Action,
         results: &mut R,
     )
-        requires due { MayComplete self.old action action.doing (A.state array.old) }
-        requires unset { AreOpen self.old.bank (R.table results.old) }
-        ensures completes { Completes self.old self.new action (A.state array.old)
-            (A.state array.new)
+        requires due { MayComplete self.old action action.doing (A.state array.old)
+            (R.table results.old) }
+        ensures completes { Completes self.old self.new action
+            (A.state array.old) (A.state array.new)
             (R.table results.old) (R.table results.new) }
         ensures goes_on { R.goes_on results.old results.new }
     {
@@ -51,10 +50,10 @@ impl<const B: usize, const M: usize, const E: usize> Timed<B, M, E> {
         action: Action,
         results: &mut R,
     )
-        requires due { MayComplete self.old action Serving (A.state array.old) }
-        requires unset { AreOpen self.old.bank (R.table results.old) }
-        ensures completes { Completes self.old self.new action (A.state array.old)
-            (A.state array.new)
+        requires due { MayComplete self.old action Serving (A.state array.old)
+            (R.table results.old) }
+        ensures completes { Completes self.old self.new action
+            (A.state array.old) (A.state array.new)
             (R.table results.old) (R.table results.new) }
         ensures goes_on { R.goes_on results.old results.new }
     {
@@ -78,10 +77,10 @@ impl<const B: usize, const M: usize, const E: usize> Timed<B, M, E> {
         action: Action,
         results: &mut R,
     )
-        requires due { MayComplete self.old action Beginning (A.state array.old) }
-        requires unset { AreOpen self.old.bank (R.table results.old) }
-        ensures completes { Completes self.old self.new action (A.state array.old)
-            (A.state array.new)
+        requires due { MayComplete self.old action Beginning (A.state array.old)
+            (R.table results.old) }
+        ensures completes { Completes self.old self.new action
+            (A.state array.old) (A.state array.new)
             (R.table results.old) (R.table results.new) }
         ensures goes_on { R.goes_on results.old results.new }
     {
@@ -98,10 +97,10 @@ impl<const B: usize, const M: usize, const E: usize> Timed<B, M, E> {
         action: Action,
         results: &mut R,
     )
-        requires due { MayComplete self.old action Iterating (A.state array.old) }
-        requires unset { AreOpen self.old.bank (R.table results.old) }
-        ensures completes { Completes self.old self.new action (A.state array.old)
-            (A.state array.new)
+        requires due { MayComplete self.old action Iterating (A.state array.old)
+            (R.table results.old) }
+        ensures completes { Completes self.old self.new action
+            (A.state array.old) (A.state array.new)
             (R.table results.old) (R.table results.new) }
         ensures goes_on { R.goes_on results.old results.new }
     {
@@ -113,11 +112,11 @@ impl<const B: usize, const M: usize, const E: usize> Timed<B, M, E> {
 
     // The writing of the change begins.
     fn begin_change<A: CellArray<B, M>>(&mut self, array: &mut A, action: Action)
-        requires due { MayComplete self.old action Beginning (A.state array.old) }
+        requires due { MayEnd self.old action Beginning (A.state array.old) }
         requires stands { IsTrue (is_some self.old.regs.change) }
         ensures { (results : List (RowOutcome B)) → AreOpen self.old.bank results
-            → Completes self.old self.new action (A.state array.old) (A.state array.new) results
-            results }
+            → Completes self.old self.new action (A.state array.old) (A.state array.new)
+            results results }
     {
         self.tick = action.ends(self.pace.read, self.pace.iter);
         self.action = None;
@@ -127,11 +126,11 @@ impl<const B: usize, const M: usize, const E: usize> Timed<B, M, E> {
 
     // It goes on by an iteration.
     fn iterate_change<A: CellArray<B, M>>(&mut self, array: &mut A, action: Action)
-        requires due { MayComplete self.old action Iterating (A.state array.old) }
+        requires due { MayEnd self.old action Iterating (A.state array.old) }
         requires stands { IsTrue (is_some self.old.regs.change) }
         ensures { (results : List (RowOutcome B)) → AreOpen self.old.bank results
-            → Completes self.old self.new action (A.state array.old) (A.state array.new) results
-            results }
+            → Completes self.old self.new action (A.state array.old) (A.state array.new)
+            results results }
     {
         self.tick = action.ends(self.pace.read, self.pace.iter);
         self.action = None;
@@ -146,20 +145,19 @@ impl<const B: usize, const M: usize, const E: usize> Timed<B, M, E> {
         action: Action,
         results: &mut R,
     )
-        requires due { MayComplete self.old action Beginning (A.state array.old) }
-        requires unset { AreOpen self.old.bank (R.table results.old) }
+        requires due { MayComplete self.old action Beginning (A.state array.old)
+            (R.table results.old) }
         requires alone { self.old.regs.change ≡ None }
-        ensures completes { Completes self.old self.new action (A.state array.old)
-            (A.state array.new)
+        ensures completes { Completes self.old self.new action
+            (A.state array.old) (A.state array.new)
             (R.table results.old) (R.table results.new) }
         ensures goes_on { R.goes_on results.old results.new }
     {
         self.tick = action.ends(self.pace.read, self.pace.iter);
         self.action = None;
-        let (region, used) = changes_next(self.bank.kept());
-        let step = self.bank.begin(array, self.tick);
+        let Stepped { work, step } = self.bank.begin(array, self.tick);
         self.record(step, results);
-        self.put(region, used, step);
+        self.put(work, step);
     }
 
     // It goes on by an iteration.
@@ -169,20 +167,19 @@ impl<const B: usize, const M: usize, const E: usize> Timed<B, M, E> {
         action: Action,
         results: &mut R,
     )
-        requires due { MayComplete self.old action Iterating (A.state array.old) }
-        requires unset { AreOpen self.old.bank (R.table results.old) }
+        requires due { MayComplete self.old action Iterating (A.state array.old)
+            (R.table results.old) }
         requires alone { self.old.regs.change ≡ None }
-        ensures completes { Completes self.old self.new action (A.state array.old)
-            (A.state array.new)
+        ensures completes { Completes self.old self.new action
+            (A.state array.old) (A.state array.new)
             (R.table results.old) (R.table results.new) }
         ensures goes_on { R.goes_on results.old results.new }
     {
         self.tick = action.ends(self.pace.read, self.pace.iter);
         self.action = None;
-        let (region, used) = changes_next(self.bank.kept());
-        let step = self.bank.iterate(array, self.tick);
+        let Stepped { work, step } = self.bank.iterate(array, self.tick);
         self.record(step, results);
-        self.put(region, used, step);
+        self.put(work, step);
     }
 
     // A step of the bank's line write came so far: a write that is stored leaves the queue, and has its outcome.
@@ -206,21 +203,20 @@ impl<const B: usize, const M: usize, const E: usize> Timed<B, M, E> {
         }
     }
 
-    // The change that a step of the bank's line write brings is put, with the values that the bank keeps now.
-    fn put(&mut self, region: u32, used: u32, step: Step)
-        requires free { IfSome (item_from self.old.bank.kept.shape region used step)
+    // The change that a step of the bank's line write for this work brings is put, with the values that the bank keeps now.
+    fn put(&mut self, work: Work, step: Step)
+        requires free { IfSome (item_from self.old.bank.kept.shape work step)
             (λ item. self.old.regs.change ≡ None) }
-        requires items { IfSome (item_from self.old.bank.kept.shape region used step)
+        requires items { IfSome (item_from self.old.bank.kept.shape work step)
             (λ item. item < self.old.regs.items) }
-        requires known { IfSome (item_from self.old.bank.kept.shape region used step)
+        requires known { IfSome (item_from self.old.bank.kept.shape work step)
             (λ item. item < items_of self.old.bank.kept.shape) }
-        requires few { used ≤ self.old.bank.kept.shape.spares }
         requires rests { self.old.action ≡ None }
-        ensures { self.new ≡ with_regs (put_if (item_from self.old.bank.kept.shape region used step)
+        ensures { self.new ≡ with_regs (put_if (item_from self.old.bank.kept.shape work step)
             self.old.bank.kept self.old.regs) self.old }
     {
         let shape = *self.bank.kept().shape();
-        if let Some(item) = item_from(&shape, region, used, step) {
+        if let Some(item) = item_from(&shape, work, step) {
             let values = item_values(self.bank.kept(), item);
             self.regs.put(Change { item, values });
         }
@@ -247,36 +243,32 @@ fn cancels_by_keep(keep: Keep, cancels: u32) -> u32
     }
 }
 
-// The region of the next work, and how many spares are used.
-fn changes_next<const B: usize>(kept: &Kept<B>) -> (u32, u32)
-    requires few { B ≤ 128 }
-    ensures region { result.0 ≡ region_of kept.now.shape (next_work kept.now) }
-    ensures used { result.1 ≡ used_by kept.now.table }
-{
-    let used = kept.remap().used();
-    let region = match kept.next_work() {
-        Work::Nothing => 0,
-        Work::Store { line, .. } => line / kept.shape().lines,
-        Work::Copy { region, .. } => region,
-    };
-    (region, used)
-}
-
-// The item that a step changes, if the registers are in the array.
-fn item_from(shape: &BankShape, region: u32, used: u32, step: Step) -> Option<u32>
+// The item that a step of a line write for this work changes, if the registers are in the array.
+fn item_from(shape: &BankShape, work: Work, step: Step) -> Option<u32>
     requires limits { IsBankShape shape.now }
-    requires few { used ≤ shape.now.spares }
-    ensures { result ≡ item_from shape.now region used step }
+    ensures { result ≡ item_from shape.now work step }
 {
     if let Home::Guarded = shape.home {
         return None;
     }
     match step {
         Step::More => None,
-        Step::Stored { .. } => Some(region),
-        Step::Moved(_) => Some(region),
-        Step::Retired { .. } => Some(shape.regions + used),
+        Step::Stored { .. } => Some(region_of(shape, work)),
+        Step::Moved(_) => Some(region_of(shape, work)),
+        Step::Retired { line, .. } => Some(shape.regions + line.saturating_sub(shape.slots())),
         Step::Exhausted => Some(shape.regions + shape.spares),
+    }
+}
+
+// The region of a work.
+fn region_of(shape: &BankShape, work: Work) -> u32
+    requires limits { IsBankShape shape.now }
+    ensures { result ≡ region_of shape.now work }
+{
+    match work {
+        Work::Nothing => 0,
+        Work::Store { line, .. } => line / shape.lines,
+        Work::Copy { region, .. } => region,
     }
 }
 

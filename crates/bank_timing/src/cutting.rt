@@ -15,7 +15,7 @@ ghost use Rattle.clock_laws.specs.Arriving.{cancels_for};
 ghost use Rattle.clock_laws.specs.Actions.{ReachesBy};
 ghost use Rattle.bank_timing.specs.Cancelling.{cancel_by, cancelled_by};
 ghost use Rattle.clock_laws.specs.Cutting.{cut};
-ghost use Rattle.bank_timing.specs.Extending.{Extends, GoesOn, AreOpen};
+ghost use Rattle.bank_timing.specs.Extending.{Extends, GoesOn, IsGoing};
 ghost use Rattle.bank_timing.specs.Losing.{LosesOpen, lost_recorded, with_lost};
 
 use crate::clocked::Timed;
@@ -29,9 +29,7 @@ use row_telling::Outcomes;
 impl<const B: usize, const M: usize, const E: usize> Timed<B, M, E> {
     /// The power is cut now: an iteration that runs is torn, any other action is dropped, and each waiting read is lost.
     pub fn power_cut<A: CellArray<B, M>, R: Outcomes<B>>(&mut self, array: &mut A, results: &mut R)
-        requires going { self.old.drained ≡ false }
-        requires led { (xs : List (TimedEvent B M)) × Leads xs self.old (A.state array.old) }
-        requires unset { AreOpen self.old.bank (R.table results.old) }
+        requires going { IsGoing self.old (A.state array.old) (R.table results.old) }
         ensures ran { GoesOn self.old.tick self.old self.new (R.table results.old)
             (R.table results.new) }
         ensures extends { (xs : List (TimedEvent B M)) → Leads xs self.old (A.state array.old)
@@ -80,8 +78,7 @@ impl<const B: usize, const M: usize, const E: usize> Timed<B, M, E> {
         ensures clock { self.new ≡ cancelled_by self.old.regs.change self.old }
         ensures reaches { (xs : List (TimedEvent B M)) → Leads xs self.old (A.state array.old)
             → ReachesBy self.old.bank.kept.shape xs (cancel_by self.old.regs.change xs self.old)
-            self.new
-            (A.state array.old) (A.state array.new) }
+            self.new (A.state array.old) (A.state array.new) }
     {
         let tearing = is_iterating(self.action);
         self.action = None;

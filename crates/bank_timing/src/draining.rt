@@ -6,7 +6,7 @@ ghost use Rattle.bank_model.specs.Timing.{TimedEvent};
 ghost use Rattle.clock_laws.specs.State.{next_action};
 ghost use Rattle.clock_laws.specs.Draining.{FollowsStores};
 ghost use Rattle.clock_laws.specs.Leads.{Leads};
-ghost use Rattle.bank_timing.specs.Extending.{RunsDown, AreOpen, IsOpen, LeavesOthers, last_tick};
+ghost use Rattle.bank_timing.specs.Extending.{RunsDown, AreOpen, IsGoing, IsOpen, LeavesOthers, last_tick};
 ghost use Rattle.bank_timing.specs.Laws.{KeepsLaws};
 ghost use Rattle.bank_timing.specs.Draining.{Drains, DrainsTo, AreQueueable, AreQueued, closed};
 ghost use Rattle.bank_laws.specs.Resting.{IsCutOff};
@@ -29,10 +29,8 @@ impl<const B: usize, const M: usize, const E: usize> Timed<B, M, E> {
     /// log; a read that found fewer than four cancels of the line write then in progress waited for the reads before it alone; and
     /// each region's registers stand for the gap moves that its stores give.
     pub fn drain<A: CellArray<B, M>, R: Outcomes<B>>(&mut self, array: &mut A, results: &mut R)
-        requires going { self.old.drained ≡ false }
-        requires led { (xs : List (TimedEvent B M)) × Leads xs self.old (A.state array.old) }
+        requires going { IsGoing self.old (A.state array.old) (R.table results.old) }
         requires within { self.old.tick ≤ last_tick }
-        requires unset { AreOpen self.old.bank (R.table results.old) }
         ensures drained { self.new.drained ≡ true }
         ensures rows { self.new.bank.rows_below ≡ self.old.bank.rows_below }
         ensures drains { (xs : List (TimedEvent B M)) → Leads xs self.old (A.state array.old)
@@ -59,10 +57,7 @@ impl<const B: usize, const M: usize, const E: usize> Timed<B, M, E> {
     /// The power stays off: nothing is done any more, and the writes that stand in the queue are queued, with the ticks of their
     /// arrival. Every history that leads here and ends with a power cut is then a whole one.
     pub fn stop<R: Outcomes<B>>(&mut self, results: &mut R)
-        requires going { self.old.drained ≡ false }
-        requires led { (array : ArrayState B M) × (xs : List (TimedEvent B M))
-            × Leads xs self.old array }
-        requires unset { AreOpen self.old.bank (R.table results.old) }
+        requires going { (array : ArrayState B M) × IsGoing self.old array (R.table results.old) }
         ensures clock { self.new ≡ closed self.old }
         ensures stops { (xs : List (TimedEvent B M)) (array : ArrayState B M)
             → Leads xs self.old array → IsCutOff xs

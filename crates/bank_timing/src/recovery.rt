@@ -52,9 +52,8 @@ fn recover_regions<A: CellArray<B, M>, const B: usize, const M: usize, const E: 
         (A.state array.old) }
     ensures kept { (kept : KeptState B) → IsReadable kept bank.old.kept regs.now (A.state array.old)
         → bank.new ≡ with_kept bank.old (spares_back 0 kept) }
-    ensures touches { Touches tick (numbers_from regs.now.base bank.old.kept.shape.regions) None
-        false
-        (A.state array.old) (A.state array.new) }
+    ensures touches { Touches tick (numbers_from regs.now.base bank.old.kept.shape.regions)
+        None false (A.state array.old) (A.state array.new) }
 {
     let shape = *bank.kept().shape();
     for i in 0..shape.regions {

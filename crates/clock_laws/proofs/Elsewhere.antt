@@ -3,12 +3,12 @@ use Rattle.std.proofs.Common.{◌≡◌, ℕ, ◌+◌, ◌<◌, ◌≤◌, List,
 use Rattle.std.specs.Prelude.{IfSome}
 use Rattle.masked_bytes.specs.{Entries.{Layer, layer_of}, Masked.laid}
 use Rattle.cell_rows.specs.Device.{ArrayState, LineState}
-use Rattle.ecp_line.specs.Reading.{decode, IsSoundLine, IsWornLine}
+use Rattle.ecp_line.specs.{ArrayLines.decoded, Reading.{decode, IsSoundLine, IsWornLine}}
 use Rattle.line_writer.{specs.Orderly.IsLive, proofs.Orderly.AreOrderly-same, proofs.Untouched.AreUntouched-same}
 use Rattle.bank_shape.specs.{Shape.{slots_of, slot_at, control_line}, declared.Work.Work, declared.Work.TheVariants.{Nothing, Store, Copy}, declared.waiting.Waiting.Waiting}
 use Rattle.power_recovery.specs.{Kept.{KeptState, IsKept, array_line, stands_at, due_region, due_work}, Slots.bank_lines}
 use Rattle.bank_model.specs.{Events.BankEvent, History.{Awaited, waits, iterated}, Timing.core}
-use Rattle.bank_invariant.specs.{Holds.Holds, State.{BankState, Operation, target_of}, Tied.{decoded, IsUnderWay, IsOf, IsRunning, AreSound, AreTied}}
+use Rattle.bank_invariant.specs.{Holds.Holds, State.{BankState, Operation, target_of}, Tied.{IsUnderWay, IsOf, IsRunning, AreSound, AreTied}}
 use Rattle.bank_invariant.proofs.Awaiting.{waits-known}
 use Rattle.clock_laws.{specs.Extending.ElsewhereLaw, proofs.Controls.{change-known, control-elsewhere}}
 use Rattle.clock_laws.proofs.{Ranges.{control-in, IsSlotOrSpare, array_line-in, stands_at-in, target-in, due-in, source-within, HasSource}, Wearing.has-aged-same}

@@ -3,7 +3,7 @@ use Rattle.std.proofs.Common.{◌≡◌, ℕ, ◌<◌, false, List, [], ◌∷�
 use Rattle.std.specs.Prelude.{IfSome, IsSomeAnd, IsTrue, All}
 use Rattle.masked_bytes.specs.{Entries.{layer_of, head_row, head_line}, Masked.laid, declared.entry.Entry.Entry}
 use Rattle.cell_rows.specs.Device.{ArrayState, LineState}
-use Rattle.ecp_line.{specs.Reading.decode, proofs.Bytes.length-decode}
+use Rattle.ecp_line.{specs.ArrayLines.decoded, specs.Reading.decode, proofs.Bytes.length-decode}
 use Rattle.start_gap.specs.declared.Move.{Move}
 use Rattle.bank_shape.specs.{Kinds.is_copy, Shape.slot_at, declared.BankShape.BankShape, declared.Work.Work, declared.Work.TheVariants.{Nothing, Store, Copy}}
 use Rattle.bank_shape.specs.{declared.answer.Step.Step, declared.clock.Action.Action, declared.clock.Doing.Doing, declared.waiting.Waiting.Waiting}
@@ -16,7 +16,7 @@ use Rattle.bank_model.specs.Touching.{AreStruck, Touches, shown}
 use Rattle.bank_laws.{specs.Pairs.ArePaired, proofs.Pairs.pair_law}
 use Rattle.reg_lines.specs.Regs.{RegsState}
 use Rattle.register_laws.specs.Telling.{AreTold}
-use Rattle.bank_invariant.specs.{Beginning.{sources, lines_sensed}, Holds.waiting_of, State.{BankState, Operation, target_of}, Tied.{decoded, IsOf}}
+use Rattle.bank_invariant.specs.{Beginning.{sources, lines_sensed}, Holds.waiting_of, State.{BankState, Operation, target_of}, Tied.IsOf}
 use Rattle.bank_invariant.proofs.{Awaiting.waits-known, Finishing.next_store-line, Naming.{AreNamed, queue-named, head-named}, Targets.next_store-slot, Tearing.running_of}
 use Rattle.clock_laws.specs.{Actions.{IsCompletion, GoesOn, ServeEndsLaw, WritesCopy, ReadsAsHead, BeginEndsLaw, IterateEndsLaw}, Completing.{completed, EndsDoing}}
 use Rattle.clock_laws.specs.{Extending.is_tear, Leads.{Leads, CopiesWhatItSensed}, Putting.{item_with, put_if}, State.ClockState, Tearing.GoesOnWriting}

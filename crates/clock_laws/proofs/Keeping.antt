@@ -143,16 +143,18 @@ keep_begin_ends_law n m e answer action writer xs clock regs old new leads idle 
     sensed (Some change) touches = touches
 
 pub keep_iterate_ends_law : KeepIterateEndsLaw
-keep_iterate_ends_law n m e answer action before writer xs clock regs old new leads is step fewer iteration =
+keep_iterate_ends_law n m e answer action xs clock regs old new leads iteration step =
     let x : TimedEvent n m = keep_completed clock action (KeepIterate answer) new in
-    let count : rounds_after xs + steps_left before ≤ most_steps e =
-    subst (λ (w : Option (LineWriter n m e)). IfSome w (λ writer. rounds_after xs + steps_left writer ≤ most_steps e)) is leads.regs.steps in
-    let some : 0 < steps_left before = some_steps clock.regs old before leads.control.held is in
+    let writer = iteration.now in
+    let fewer = iteration.step.fewer in
+    let count : rounds_after xs + steps_left iteration.writer ≤ most_steps e =
+    subst (λ (w : Option (LineWriter n m e)). IfSome w (λ writer. rounds_after xs + steps_left writer ≤ most_steps e)) iteration.runs leads.regs.steps in
+    let some : 0 < steps_left iteration.writer = some_steps clock.regs old iteration.writer leads.control.held iteration.runs in
     let told : AreTold clock.bank.kept.shape (x ∷ xs) regs =
     subst (λ (regs : RegsState n m e). AreTold clock.bank.kept.shape (x ∷ xs) regs) (sym step.leaves)
     (kept-told xs clock old leads x (KeepIterate answer) answer writer (rounds_after xs + 1) refl refl refl (halts answer) refl (λ more. omega (arith, count, fewer))) in
     keep-finish xs clock old leads (KeepIterate answer) action regs (lines_by clock.regs.base clock.regs.change) (line_by clock.regs.base clock.regs.change) new step.next step.doing step.later step.stands (
-      sym leads.regs.writing ∙ ap (λ (w : Option (LineWriter n m e)). is_some w) is,
+      sym leads.regs.writing ∙ ap (λ (w : Option (LineWriter n m e)). is_some w) iteration.runs,
       omega (arith, count, some),
       λ more. let left : 0 < steps_left writer = some_steps regs new writer step.control.held (writes answer more step.leaves) in omega (arith, count, fewer, left),
     )
@@ -164,7 +166,7 @@ keep_iterate_ends_law n m e answer action before writer xs clock regs old new le
     halts keep.Done = refl
     halts keep.Halted = refl
 
-    writes : (answer : Keep) → answer ≡ keep.More → regs ≡ kept_on answer writer clock.regs → regs.writer ≡ Some writer
+    writes : (answer : Keep) → answer ≡ keep.More → regs ≡ kept_on answer iteration.now clock.regs → regs.writer ≡ Some iteration.now
     writes keep.More more leaves = ap (λ (regs : RegsState n m e). regs.writer) leaves
     writes keep.Done more leaves = absurd (cc)
     writes keep.Halted more leaves = absurd (cc)

@@ -1,13 +1,12 @@
 -- What a history leaves of the array.
 use Rattle.std.proofs.Common.{◌≡◌, ℕ, ◌+◌, Option, Some, None, sym, ap, subst, ◌∙◌, arith}
 use Rattle.std.specs.Prelude.{IsTrue, IfSome, IsSomeAnd}
-use Rattle.ecp_line.specs.Reading.{is_worn_line}
+use Rattle.ecp_line.specs.{ArrayLines.is_worn_at, Reading.is_worn_line}
 use Rattle.bank_shape.specs.Shape.{control_line}
 use Rattle.bank_model.specs.{Changes.change_after, Timing.core}
 use Rattle.reg_lines.specs.declared.Change.{Change}
 use Rattle.register_laws.specs.Telling.{item_of}
 use Rattle.spare_pool.specs.Table.{Table, line_by, used_by}
-use Rattle.bank_laws.specs.Laws.{is_worn_at}
 use Rattle.bank_invariant.proofs.Agreeing.{due-target}
 use Rattle.clock_laws.specs.Ending.{LeavingLaw}
 

@@ -1,7 +1,7 @@
 -- The unused check cells of a bank's lines are untouched.
 use Rattle.std.proofs.Common.{◌≡◌, ℕ, ◌+◌, ◌-◌, ◌<◌, inl, inr, subst, arith}
 use Rattle.std.proofs.lemmas.Bool.{cases_lt}
-use Rattle.line_writer.specs.Untouched.{HasUntouched}
+use Rattle.ecp_line.specs.Untouched.{HasUntouched}
 use Rattle.bank_shape.specs.Shape.{slots_of}
 use Rattle.clock_laws.specs.Ending.{UntouchedLaw}
 

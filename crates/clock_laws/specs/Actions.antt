@@ -14,7 +14,8 @@ use Rattle.line_writer.specs.{Writing.{steps_left, most_steps}, declared.writer.
 use Rattle.reg_lines.specs.{Keeping.{kept_on, broken_off}, Regs.RegsState, declared.Change.Change}
 use Rattle.reg_lines.specs.Keeping as writing
 use Rattle.register_laws.specs.Control.{Control}
-use Rattle.bank_invariant.specs.{Beginning.lines_sensed, Holds.Holds, State.{BankState, Operation, target_of}, Tied.decoded}
+use Rattle.bank_invariant.specs.{Beginning.lines_sensed, Holds.Holds, State.{BankState, Operation, target_of}}
+use Rattle.ecp_line.specs.ArrayLines.{decoded}
 use Rattle.clock_laws.specs.{Arriving.cancels_for, Completing.{EndsDoing, IsAlone, completed, after_action, keep_completed, after_keep}}
 use Rattle.clock_laws.specs.{Cutting.{tears_now, cut, after_cut, cancel, keep_cancel, after_cancel}, Fitting.IsFit, Leads.{Leads, Reaches}, Putting.{put_if, item_with}}
 use Rattle.clock_laws.specs.{State.{ClockState, next_action}, Tearing.TearsControl}
@@ -137,15 +138,13 @@ KeepBeginEndsLaw =
     → answer ≢ keep.Halted → steps_left writer ≤ most_steps e
     → LeadsOn clock.bank.kept.shape xs (keep_completed clock action (KeepBegin answer) new) (after_keep clock regs action (KeepBegin answer)) old new
 
--- an iteration of it, by one step of its line write, after which fewer are left
+-- an iteration of it, by one step of its line write
 abbrev pub KeepIterateEndsLaw : Type 0
 KeepIterateEndsLaw =
-    (n m e : ℕ) (answer : Keep) (action : Action) (before writer : LineWriter n m e) (xs : List (TimedEvent n m))
+    (n m e : ℕ) (answer : Keep) (action : Action) (xs : List (TimedEvent n m))
     (clock : ClockState n m e) (regs : RegsState n m e) (old new : ArrayState n m)
-    → Leads xs clock old → clock.regs.writer ≡ Some before
-    → IsKeepStep clock regs Iterating action answer writer (writing.line_of clock.regs clock.regs.change) (writing.target_of clock.regs clock.regs.change) old new
-    → steps_left writer < steps_left before
-    → writing.IsIteration (ends clock.pace action) clock.regs regs answer old new
+    → Leads xs clock old → (iteration : writing.IsIteration (ends clock.pace action) clock.regs regs answer old new)
+    → IsKeepStep clock regs Iterating action answer iteration.now (writing.line_of clock.regs clock.regs.change) (writing.target_of clock.regs clock.regs.change) old new
     → LeadsOn clock.bank.kept.shape xs (keep_completed clock action (KeepIterate answer) new) (after_keep clock regs action (KeepIterate answer)) old new
 
 -- Cuts

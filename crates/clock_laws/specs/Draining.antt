@@ -5,7 +5,9 @@ use Rattle.start_gap.specs.Rotation.{StandsFor}
 use Rattle.power_recovery.specs.Kept.{region_at}
 use Rattle.bank_model.specs.{Events.{Serve, Begin, Iterate}, Lawful.Lawful, Timing.{Happens, Core, Regs, KeepBegin, KeepIterate, TimedEvent}}
 use Rattle.bank_shape.specs.declared.pace.Pace.{Pace}
-use Rattle.bank_laws.specs.{Laws.is_worn_at, Outcomes.table_of, Places.is_moved, Ticks.ends_action}
+use Rattle.ecp_line.specs.ArrayLines.{is_worn_at}
+use Rattle.bank_laws.specs.{Outcomes.table_of, Ticks.ends_action}
+use Rattle.right_runs.specs.Ends.{is_moved}
 use Rattle.clock_laws.specs.{Leads.Leads, State.{ClockState, next_action}}
 
 -- how many ticks the action lasted that this ended; an arrival or a cut ends none

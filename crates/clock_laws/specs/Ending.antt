@@ -1,7 +1,7 @@
 -- What a history leaves of the array, for the laws of places and of wear, and for the runs of a module.
 use Rattle.std.specs.Prelude.{ℕ, List}
 use Rattle.cell_rows.specs.Device.{ArrayState}
-use Rattle.line_writer.specs.Untouched.{AreUntouched}
+use Rattle.ecp_line.specs.Untouched.{AreUntouched}
 use Rattle.bank_shape.specs.Shape.{lines_in}
 use Rattle.bank_model.specs.Timing.{TimedEvent}
 use Rattle.bank_laws.specs.Laws.{LeavesArray}

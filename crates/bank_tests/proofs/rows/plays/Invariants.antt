@@ -1,5 +1,5 @@
 use Rattle.std.proofs.Common.{◌+◌, ◌≤◌}
-use Rattle.bank_tests.specs.Going.{IsGoing}
+use Rattle.bank_timing.specs.Extending.{IsGoing}
 use Rattle.bank_tests.proofs.rows.plays.Given as goal
 
 -- the bank may take the next row

@@ -1,9 +1,6 @@
 use Rattle.std.proofs.Common.{arith}
 use Rattle.bank_core.proofs.bank.Bank.begin_next.Goals as goal
 
-pub next_work-requires : goal.next_work-requires
-next_work-requires g c = grind arith
-
 pub unreachable-requires : goal.unreachable-requires
 unreachable-requires g c = grind arith
 

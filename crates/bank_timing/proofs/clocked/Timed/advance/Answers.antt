@@ -5,7 +5,7 @@ use Rattle.bank_timing.proofs.clocked.Timed.advance.Goals as goal
 
 pub loop-self-init : goal.loop-self-init
 loop-self-init g c =
-    (ran-none c.args.self.now (g.A.CellArray.state c.args.array.now) (g.R.Outcomes.table c.args.results.now) c.requires.led c.requires.unset, c.requires.forward, refl, g.met.R.Outcomes.stands c.args.results.now)
+    (ran-none c.args.self.now (g.A.CellArray.state c.args.array.now) (g.R.Outcomes.table c.args.results.now) c.requires.going.led c.requires.going.unset, c.requires.forward, refl, g.met.R.Outcomes.stands c.args.results.now)
 
 pub loop-self-preserved-in-None : goal.loop-self-preserved-in-None
 loop-self-preserved-in-None g c =
@@ -55,7 +55,7 @@ pub complete-requires : goal.complete-requires
 complete-requires g c =
     let next = sym c.next_action.ensures ∙ c.in-Some.is in
     let ran = c.loop-self.invariant.0 in
-    (timed_fits g.row.B g.row.M g.row.E c.self.invariant.layout, (record { led = ran.led; next = next; doing = refl; within = before-drain c.loop-self.self.tick c.args.to c.loop-self.invariant.1 c.requires.within }, ran.unset))
+    (timed_fits g.row.B g.row.M g.row.E c.self.invariant.layout, record { ends = record { led = ran.led; next = next; doing = refl; within = before-drain c.loop-self.self.tick c.args.to c.loop-self.invariant.1 c.requires.within }; unset = ran.unset })
 
 pub loop-self-smaller-then-end-to : goal.loop-self-smaller-then-end-to
 loop-self-smaller-then-end-to g c = grind arith
@@ -82,7 +82,7 @@ returns g c =
         drained = c.loop-self.invariant.2;
         rows = ran.bound;
         unset = ran.unset;
-        others = ran-others c.args.self.now c.loop-self.self (g.A.CellArray.state c.args.array.now) (g.A.CellArray.state c.loop-self.array) (g.R.Outcomes.table c.args.results.now) (g.R.Outcomes.table c.loop-self.results) c.requires.led ran;
+        others = ran-others c.args.self.now c.loop-self.self (g.A.CellArray.state c.args.array.now) (g.A.CellArray.state c.loop-self.array) (g.R.Outcomes.table c.args.results.now) (g.R.Outcomes.table c.loop-self.results) c.requires.going.led ran;
       };
       extends = ran.extends;
       goes_on = c.loop-self.invariant.3;

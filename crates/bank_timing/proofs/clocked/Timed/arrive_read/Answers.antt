@@ -4,7 +4,7 @@ use Rattle.bank_timing.proofs.clocked.Timed.arrive_read.Goals as goal
 
 pub take_read-requires : goal.take_read-requires
 take_read-requires g c =
-    (assumption, ((c.requires.led.0, g.A.CellArray.state c.args.array.now, c.requires.led.1), (c.requires.exists, (c.requires.rises, (sym c.cancels_for.ensures ∙ c.if-cancels_for.false, (c.requires.unset, c.requires.fresh))))))
+    (assumption, ((c.requires.going.led.0, g.A.CellArray.state c.args.array.now, c.requires.going.led.1), (c.requires.exists, (c.requires.rises, (sym c.cancels_for.ensures ∙ c.if-cancels_for.false, (c.requires.going.unset, c.requires.fresh))))))
 
 pub cancels_for-requires : goal.cancels_for-requires
 cancels_for-requires g c = assumption
@@ -12,12 +12,12 @@ cancels_for-requires g c = assumption
 pub read_cancelled-requires : goal.read_cancelled-requires
 read_cancelled-requires g c = (
   assumption,
-  (c.requires.led, (c.requires.exists, (c.requires.rises, sym c.cancels_for.ensures ∙ c.if-cancels_for.true))),
+  (c.requires.going.led, (c.requires.exists, (c.requires.rises, sym c.cancels_for.ensures ∙ c.if-cancels_for.true))),
 )
 
 pub returns-then-cancels_for : goal.returns-then-cancels_for
 returns-then-cancels_for g c = record {
-  arrives = arrives-first (λ xs. first-then xs c.args.self.now c.args.line (sym c.cancels_for.ensures ∙ c.if-cancels_for.true)) (c.read_cancelled.ensures.arrives (g.R.Outcomes.table c.args.results.now) c.requires.unset c.requires.fresh);
+  arrives = arrives-first (λ xs. first-then xs c.args.self.now c.args.line (sym c.cancels_for.ensures ∙ c.if-cancels_for.true)) (c.read_cancelled.ensures.arrives (g.R.Outcomes.table c.args.results.now) c.requires.going.unset c.requires.fresh);
   goes_on = g.met.R.Outcomes.stands c.args.results.now;
 }
 

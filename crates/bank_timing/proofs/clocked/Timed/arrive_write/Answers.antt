@@ -17,10 +17,10 @@ write-requires g c =
 -- the bank takes the write, with the answer that it gives
 taken : (g : Over) (c : After-write g) (became : Arrived) → c.write.result ≡ became
     → TakesWrite c.args.entry.row c.args.entry.line c.args.entry.bytes c.args.entry.given (clock_of c.self.inside) (g.R.Outcomes.table c.args.results.now) (answer_of became) c.write.new.self
-taken g c became is = record {
-  led = rw (← c.self.view_is) at c.requires.led;
+taken g c became is = let going = rw (← c.self.view_is) at c.requires.going in record {
+  led = (going.1.led.0, going.0, going.1.led.1);
   rises = rw (← c.self.view_is) at c.requires.rises;
-  unset = rw (← c.self.view_is) at c.requires.unset;
+  unset = going.1.unset;
   fresh = c.requires.fresh;
   answered = sym c.write.ensures.answer ∙ ap answer_of is;
   left = rw is at c.write.ensures.bank;

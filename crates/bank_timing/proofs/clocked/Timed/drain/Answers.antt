@@ -41,7 +41,7 @@ returns-clause-others g c =
     record { bank = t.bank; regs = t.regs; pace = t.pace; tick = t.tick; action = t.action; arrivals = t.arrivals.items; cancels = t.cancels; drained = t.drained } in
     let ran = rw (← c.self.view_is) at c.settle.ensures.ran in
     let queued = rw c.kept.ensures.kept at c.leave_queued.ensures.queued in
-    drain-others c.args.self.now clock (g.A.CellArray.state c.args.array.now) (g.A.CellArray.state c.settle.new.array) (g.R.Outcomes.table c.args.results.now) (g.R.Outcomes.table c.settle.new.results) ran (g.R.Outcomes.table c.leave_queued.new.results) queued c.requires.led
+    drain-others c.args.self.now clock (g.A.CellArray.state c.args.array.now) (g.A.CellArray.state c.settle.new.array) (g.R.Outcomes.table c.args.results.now) (g.R.Outcomes.table c.settle.new.results) ran (g.R.Outcomes.table c.leave_queued.new.results) queued c.requires.going.led
 
 pub returns-clause-laws : goal.returns-clause-laws
 returns-clause-laws g c =
@@ -76,7 +76,7 @@ pub reads_keep_their_law-requires : goal.reads_keep_their_law-requires
 reads_keep_their_law-requires g c = tt
 
 pub settle-requires : goal.settle-requires
-settle-requires g c = (assumption, (c.requires.led, (c.requires.within, c.requires.unset)))
+settle-requires g c = (assumption, (c.requires.going.led, (c.requires.within, c.requires.going.unset)))
 
 pub invariant_of-self : goal.invariant_of-self
 invariant_of-self g c = c.self.invariant

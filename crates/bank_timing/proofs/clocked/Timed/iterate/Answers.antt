@@ -3,7 +3,7 @@ use Rattle.bank_timing.proofs.Sizes.{regs_fits, timed_fits}
 use Rattle.bank_timing.proofs.clocked.Timed.iterate.Goals as goal
 
 pub returns-in-Some-clause-completes : goal.returns-in-Some-clause-completes
-returns-in-Some-clause-completes g c = c.iterate_change.ensures (g.R.Outcomes.table c.args.results.now) c.requires.unset
+returns-in-Some-clause-completes g c = c.iterate_change.ensures (g.R.Outcomes.table c.args.results.now) c.requires.due.unset
 
 pub change-requires : goal.change-requires
 change-requires g c = regs_fits g.row.B g.row.M g.row.E c.self.invariant.layout
@@ -12,14 +12,14 @@ pub iterate_change-requires : goal.iterate_change-requires
 iterate_change-requires g c =
     let is = sym c.change.ensures ∙ c.in-Some.is in (
       timed_fits g.row.B g.row.M g.row.E c.self.invariant.layout,
-      (c.requires.due, rw (← c.self.view_is, is) refl),
+      (c.requires.due.ends, rw (← c.self.view_is, is) refl),
     )
 
 pub iterate_work-requires : goal.iterate_work-requires
 iterate_work-requires g c =
     let is = sym c.change.ensures ∙ c.in-None.is in (
       timed_fits g.row.B g.row.M g.row.E c.self.invariant.layout,
-      (c.requires.due, (c.requires.unset, rw (← c.self.view_is) is)),
+      (c.requires.due, rw (← c.self.view_is) is),
     )
 
 pub returns-in-None-clause-completes : goal.returns-in-None-clause-completes

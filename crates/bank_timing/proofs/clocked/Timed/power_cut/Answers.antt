@@ -19,22 +19,22 @@ change-is g c = rw (c.is_some-stands.ensures, c.change.ensures) at c.tears_chang
 
 pub cut-requires : goal.cut-requires
 cut-requires g c =
-    let m = meets c.self.view_is c.self.invariant.fit c.requires.led c.requires.unset in
+    let m = meets c.self.view_is c.self.invariant.fit c.requires.going.led c.requires.going.unset in
     (bank_fits c.self.invariant.layout, (ap length m.led.1.taken, (cut-ready m c.tears_work-work.result (work-is g (goal.at.cut-requires g c).After-tears_change-change), m.led.1.holds.tied)))
 
 pub cut-requires-2 : goal.cut-requires-2
 cut-requires-2 g c =
-    let m = meets c.self.view_is c.self.invariant.fit c.requires.led c.requires.unset in
+    let m = meets c.self.view_is c.self.invariant.fit c.requires.going.led c.requires.going.unset in
     let was = (goal.at.cut-requires-2 g c).After-tears_change-change in
     (regs_fits g.row.B g.row.M g.row.E c.self.invariant.layout, (cut-change-ready m c.tears_change-change.result (change-is g was), (cut-control m c.tears_work-work.result (work-is g was) c.cut.ensures.touches).held))
 
 pub lose-requires : goal.lose-requires
-lose-requires g c = (timed_fits g.row.B g.row.M g.row.E c.self.invariant.layout, rw c.cut.ensures.bank (cut-open (meets c.self.view_is c.self.invariant.fit c.requires.led c.requires.unset)))
+lose-requires g c = (timed_fits g.row.B g.row.M g.row.E c.self.invariant.layout, rw c.cut.ensures.bank (cut-open (meets c.self.view_is c.self.invariant.fit c.requires.going.led c.requires.going.unset)))
 
 -- the control lines hold what the bank keeps, also behind the cut of the change
 pub read_back-requires : goal.read_back-requires
 read_back-requires g c =
-    let m = meets c.self.view_is c.self.invariant.fit c.requires.led c.requires.unset in
+    let m = meets c.self.view_is c.self.invariant.fit c.requires.going.led c.requires.going.unset in
     let was = (goal.at.read_back-requires g c).After-tears_change-change in
     let held : AreHeld (broken_off c.self.inside.regs) (g.A.CellArray.state c.cut-2.new.array) = rw c.cut-2.ensures.regs at c.cut-2.ensures.held in
     rw (c.lose.ensures.clock, c.cut.ensures.bank, c.cut-2.ensures.regs) (
@@ -62,7 +62,7 @@ returns-clause-extends g c =
     rw (c.lose.ensures.results, c.read_back.ensures.clock, c.lose.ensures.clock, c.cut.ensures.bank, c.cut-2.ensures.regs)
     (subst (λ (now : ClockState g.row.B g.row.M g.row.E). CutExtends now (after_cut clock (bank_with_lost [] (cut_off clock.bank))) (g.A.CellArray.state c.args.array.now) (g.A.CellArray.state c.read_back.new.array)
     (g.R.Outcomes.table c.args.results.now) (lost_recorded clock.tick (rows_of clock.bank.waiting) (g.R.Outcomes.table c.args.results.now))) c.self.view_is
-    (cut-extends (meets c.self.view_is c.self.invariant.fit c.requires.led c.requires.unset) c.tears_work-work.result (work-is g was) c.cut.ensures.touches c.tears_change-change.result (change-is g was) c.cut-2.ensures.touches held
+    (cut-extends (meets c.self.view_is c.self.invariant.fit c.requires.going.led c.requires.going.unset) c.tears_work-work.result (work-is g was) c.cut.ensures.touches c.tears_change-change.result (change-is g was) c.cut-2.ensures.touches held
     (third g (goal.at.returns-clause-extends g c).After-read_back) (holds_on g (goal.at.returns-clause-extends g c).After-lose) c.cut.ensures.torn c.cut-2.ensures.torn))
 
 pub change-requires : goal.change-requires
@@ -88,7 +88,7 @@ returns-clause-goes_on g c = c.lose.ensures.goes_on
 
 pub returns-clause-ran : goal.returns-clause-ran
 returns-clause-ran g c =
-    let m = meets c.self.view_is c.self.invariant.fit c.requires.led c.requires.unset in
+    let m = meets c.self.view_is c.self.invariant.fit c.requires.going.led c.requires.going.unset in
     let was = (goal.at.returns-clause-ran g c).After-tears_change-change in
     let held : AreHeld (broken_off c.self.inside.regs) (g.A.CellArray.state c.cut-2.new.array) = rw c.cut-2.ensures.regs at c.cut-2.ensures.held in
     rw (c.lose.ensures.results, c.read_back.ensures.clock, c.lose.ensures.clock, c.cut.ensures.bank, ← c.self.view_is)

@@ -24,11 +24,8 @@ invariant_of-self g c =
 pub shape-requires : goal.shape-requires
 shape-requires g c = grind arith
 
-pub item_from-requires-clause-limits : goal.item_from-requires-clause-limits
-item_from-requires-clause-limits g c = grind arith
-
-pub item_from-requires-clause-few : goal.item_from-requires-clause-few
-item_from-requires-clause-few g c = grind arith
+pub item_from-requires : goal.item_from-requires
+item_from-requires g c = grind arith
 
 pub item_values-values-requires : goal.item_values-values-requires
 item_values-values-requires g c = grind arith

@@ -3,16 +3,16 @@ use Rattle.bank_timing.proofs.{Due.{due, due-begun}, Serves.{serve-ready, serve-
 use Rattle.bank_timing.proofs.clocked.Timed.serve.Goals as goal
 
 pub ends-self-inside-requires : goal.ends-self-inside-requires
-ends-self-inside-requires g c = omega (arith, due-begun c.self.inside c.self.view_is c.self.invariant c.requires.due, c.requires.due.within)
+ends-self-inside-requires g c = omega (arith, due-begun c.self.inside c.self.view_is c.self.invariant c.requires.due.ends, c.requires.due.ends.within)
 
 pub serve-row-requires : goal.serve-row-requires
 serve-row-requires g c =
-    let d = due c.self.inside c.self.view_is c.self.invariant c.requires.due c.requires.unset in
+    let d = due c.self.inside c.self.view_is c.self.invariant c.requires.due.ends c.requires.due.unset in
     (bank_fits c.self.invariant.layout, (served_fits g.row.B g.row.M g.row.E c.self.invariant.layout, (serve-ready (clock_of c.self.inside) c.args.action d.next d.doing d.fit, d.led.1.holds.tied)))
 
 pub set-requires : goal.set-requires
 set-requires g c =
-    let d = due c.self.inside c.self.view_is c.self.invariant c.requires.due c.requires.unset in
+    let d = due c.self.inside c.self.view_is c.self.invariant c.requires.due.ends c.requires.due.unset in
     let own = serve-unset (clock_of c.self.inside) c.args.action d.next d.doing d.fit (g.A.CellArray.state c.args.array.now) (g.A.CellArray.state c.serve-row.new.array) (g.R.Outcomes.table c.args.results.now) c.serve-row.result c.serve-row.ensures.answer d.unset in
     (outcome_fits g.row.B g.row.M g.row.E c.self.invariant.layout, (own.exists, (own.unset, refl)))
 
@@ -22,7 +22,7 @@ invariant_of-self g c =
 
 pub returns-clause-completes : goal.returns-clause-completes
 returns-clause-completes g c =
-    let d = due c.self.inside c.self.view_is c.self.invariant c.requires.due c.requires.unset in
+    let d = due c.self.inside c.self.view_is c.self.invariant c.requires.due.ends c.requires.due.unset in
     let touches = rw c.ends-self-inside.ensures at c.serve-row.ensures.touches in
     rw (← c.self.view_is, c.set.ensures.table, c.ends-self-inside.ensures)
     (serve-whole (clock_of c.self.inside) c.args.action d.next d.doing d.fit (g.A.CellArray.state c.args.array.now) (g.A.CellArray.state c.serve-row.new.array) (g.R.Outcomes.table c.args.results.now) c.serve-row.result c.serve-row.ensures.answer d.unset

@@ -14,15 +14,16 @@ pub complete-requires : goal.complete-requires
 complete-requires g c =
     let kept = c.loop-action.invariant in (
       timed_fits g.row.B g.row.M g.row.E c.self.invariant.layout,
-      (
-        record {
-          led = kept.0.led;
-          next = sym c.next_action.ensures ∙ c.in-Some.is;
-          doing = refl;
-          within = within-of c.loop-action.self.tick (actions_left c.loop-action.self.bank c.loop-action.self.regs) kept.1;
-        },
-        kept.0.unset,
-      ),
+      record {
+        ends =
+            record {
+              led = kept.0.led;
+              next = sym c.next_action.ensures ∙ c.in-Some.is;
+              doing = refl;
+              within = within-of c.loop-action.self.tick (actions_left c.loop-action.self.bank c.loop-action.self.regs) kept.1;
+            };
+        unset = kept.0.unset;
+      },
     )
 
 pub loop-action-preserved : goal.loop-action-preserved
