@@ -8,7 +8,7 @@ use Rattle.row_rules.specs.{Table.is_of, declared.Asks.Asks, declared.Asks.TheVa
 use Rattle.bank_model.specs.Timing.{TimedEvent}
 use Rattle.clock_laws.specs.{Standing.has_waiting, State.ClockState}
 use Rattle.module_laws.specs.Asking.{Asked, asked_in, asked_of}
-use Rattle.run_laws.specs.Runs.{bank_of_line, line_in_bank}
+use Rattle.right_runs.specs.Banks.{bank_of_line, line_in_bank}
 use Rattle.pcm_module.specs.{Replaying.{Replays, ReplaysIn, asked_in_bank}, State.ModuleState, Telling.{has_standing, comes_to, is_asked_of, rows_at, rows_taking}}
 use Rattle.pcm_module.proofs.{Moving.standing_named, Naming.{is_numbered, names}, TakenRows.bank_there}
 

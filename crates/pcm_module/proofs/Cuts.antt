@@ -14,7 +14,7 @@ use Rattle.module_shape.specs.{Addresses.{bank_shape, module_of, array_lines_of}
 use Rattle.clock_laws.specs.{Leads.Leads, Standing.has_waiting, State.ClockState}
 use Rattle.module_laws.specs.Asking.{Asked}
 use Rattle.bank_timing.specs.Extending.{IsOpen, outcome_in}
-use Rattle.run_laws.specs.Runs.{pacing_in, bank_of_line, line_in_bank}
+use Rattle.right_runs.specs.Banks.{pacing_in, bank_of_line, line_in_bank}
 use Rattle.pcm_module.specs.{Replaying.{BankReplays, Replays, IsReplayed, RowsFall, asked_in_bank}, Shaped.IsModule, State.{ModuleState, StandsNowhere}, Stepping.{IsAt, IsStep}}
 use Rattle.pcm_module.{specs.Taking.{Takes, StaysBeyond}, proofs.AsIf.{as_if, rows_as_if, own_there, other_there}}
 use Rattle.pcm_module.proofs.{Banks.{AllReplay, changed, changed_at, changed_off, from_get, all_step, cuts_apart}, Beyond.{stays_same, stays_both, stays_by}}

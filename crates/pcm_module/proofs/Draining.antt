@@ -14,8 +14,9 @@ use Rattle.clock_laws.specs.{Leads.Leads, Standing.{has_waiting, arrives_with}, 
 use Rattle.module_laws.{specs.Asking.{Asked, AreAsked, asked_of}, proofs.LastCuts.cut-last}
 use Rattle.row_rules.specs.{declared.Asks.Asks, declared.Asks.TheVariants.Cuts}
 use Rattle.bank_timing.specs.{Draining.DrainsTo, Extending.{LeavesOthers, outcome_in}}
-use Rattle.end_laws.specs.{EndLaws.IsEndOf, Ends.BankEnd}
-use Rattle.run_laws.specs.{Finishing.IsFinishedTo, Runs.{pacing_in, bank_of_line, line_in_bank}}
+use Rattle.end_laws.specs.EndLaws.{IsEndOf}
+use Rattle.right_runs.specs.{Banks.{pacing_in, bank_of_line, line_in_bank}, Ends.BankEnd}
+use Rattle.run_laws.specs.Finishing.{IsFinishedTo}
 use Rattle.pcm_module.specs.{Draining.{MayFinish, MayEnd, MayStop, IsDrainedTo, DrainedIf, AreDrained}, Replaying.{Replays, ReplaysIn, IsReplayed, asked_in_bank}}
 use Rattle.pcm_module.{specs.Shaped.{IsModule, IsBankOf}, specs.State.{ModuleState, AreEndsOf, bank_at, first_bank}, proofs.Arriving.own_asked}
 use Rattle.pcm_module.proofs.{Banks.{banks_off, changed, changed_at, changed_off, at_get, from_get, cuts_apart}, Becoming.own_falls, Beyond.{stays_same, stays_both, stays_by}}

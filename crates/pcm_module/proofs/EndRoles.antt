@@ -1,14 +1,13 @@
 -- The end of a bank by what it keeps, and what that says of the module: its lines by their names, and its used spares.
 use Rattle.std.proofs.Common.{◌≡◌, ℕ, ◌+◌, ◌-◌, ◌*◌, ◌%◌, ◌<◌, None, refl, sym, ap, subst, ◌∙◌, arith}
 use Rattle.std.proofs.{Math.Nat.mul_comm, lemmas.Nat.{mul-add-lt, mod-mul-add}}
-use Rattle.wear_report.specs.{declared.Role.Role, declared.Role.TheVariants.{Line, Gap, Free, Retired, Control}}
+use Rattle.bank_shape.specs.{declared.BankShape.BankShape, declared.Role.Role, declared.Role.TheVariants.{Line, Gap, Free, Retired, Control}}
 use Rattle.start_gap.specs.Rotation.{Rotation, IsRotation, StandsFor, turn}
-use Rattle.bank_shape.specs.declared.BankShape.{BankShape}
 use Rattle.power_recovery.specs.Kept.{KeptState, IsKept, region_at, array_line}
 use Rattle.module_shape.specs.{Addresses.{module_of, bank_shape}, declared.raw.RawShape.RawShape}
-use Rattle.end_laws.specs.{EndLaws.IsEndOf, Ends.BankEnd, Roles.IsRole}
+use Rattle.end_laws.specs.EndLaws.{IsEndOf}
+use Rattle.right_runs.specs.{Banks.line_named, Ends.BankEnd, Roles.IsRole}
 use Rattle.clock_laws.specs.State.{ClockState}
-use Rattle.run_laws.specs.Runs.{line_named}
 use Rattle.pcm_module.{specs.State.{ModuleState, bank_at, AreEndsOf}, proofs.Draining.at_bank}
 
 -- registers stand for a number of moves below a full turn

@@ -9,7 +9,7 @@ use Rattle.bank_model.specs.Timing.{TimedEvent}
 use Rattle.clock_laws.specs.{Leads.Leads, Standing.has_waiting, State.ClockState}
 use Rattle.module_laws.specs.Asking.{Asked}
 use Rattle.bank_timing.specs.Extending.{LeavesOthers, LeavesOthersThan, outcome_in}
-use Rattle.run_laws.specs.Runs.{bank_of_line}
+use Rattle.right_runs.specs.Banks.{bank_of_line}
 use Rattle.pcm_module.specs.{State.ModuleState, Stepping.IsStep, Telling.{TellsOf, TellsByBanks, TellsInOrder, comes_to, has_standing, rows_at, rows_taking}}
 use Rattle.pcm_module.proofs.{AsIf.other_there, Moving.left_alone, TakenRows.bank_there}
 

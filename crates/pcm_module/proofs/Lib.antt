@@ -21,5 +21,6 @@ mod Serving
 mod Events
 mod Making
 mod Translating
+pub mod Tables
 mod EndRoles
 mod Placed

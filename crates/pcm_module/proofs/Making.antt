@@ -16,7 +16,7 @@ use Rattle.module_laws.specs.Asking.{Asked}
 use Rattle.row_rules.specs.Lines.{IsOfLines}
 use Rattle.clock_laws.specs.{Leads.Leads, State.ClockState}
 use Rattle.bank_timing.specs.Extending.{first_clock, outcome_in}
-use Rattle.run_laws.specs.Runs.{pacing_in}
+use Rattle.right_runs.specs.Banks.{pacing_in}
 use Rattle.pcm_module.specs.{Replaying.{BankReplays, ReplaysIn, Replays, outcome_so_far}, Shaped.{IsModule, IsBankOf}, State.{ModuleState, first_bank, banks_from}}
 use Rattle.pcm_module.proofs.Banks.{at_get}
 

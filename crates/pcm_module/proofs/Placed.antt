@@ -3,11 +3,11 @@ use Rattle.std.proofs.Common.{◌≡◌, ℕ, ◌+◌, ◌-◌, ◌*◌, ◌/◌
 use Rattle.std.proofs.lemmas.Nat.{mul-add-lt, div_below, div-mul-add, mod-mul-add, div-add-mod'}
 use Rattle.spare_pool.specs.Table.{IsOwner, line_by, used_by}
 use Rattle.spare_pool.specs.declared.Owner.TheVariants as owned
-use Rattle.wear_report.specs.declared.Role.TheVariants.{Line, Gap, Free, Retired}
+use Rattle.bank_shape.specs.{Shape.{slots_of, slot_at, slot_moved, controls_from}, declared.Role.TheVariants.{Line, Gap, Free, Retired}}
 use Rattle.start_gap.specs.Rotation.{Rotation, StandsFor, place_after, gap_after}
-use Rattle.bank_shape.specs.Shape.{slots_of, slot_at, slot_moved, controls_from}
 use Rattle.power_recovery.specs.Kept.{KeptState, IsKept, region_at, array_line}
-use Rattle.end_laws.{specs.EndLaws.IsEndOf, specs.Ends.BankEnd, specs.Roles.{IsRole, used_spares}, proofs.Used.used-same}
+use Rattle.end_laws.{specs.EndLaws.IsEndOf, proofs.Used.used-same}
+use Rattle.right_runs.specs.{Ends.BankEnd, Roles.{IsRole, used_spares}}
 
 module _ {n : ℕ} (kept : KeptState n) (range : IsKept kept) where
   -- ---- the region of a slot, and its place there

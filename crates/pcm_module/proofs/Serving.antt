@@ -15,7 +15,7 @@ use Rattle.module_laws.specs.Asking.{Asked}
 use Rattle.module_shape.specs.{Addresses.{module_of, lines_of, bank_shape}, Limits.total_of, declared.raw.RawShape.RawShape}
 use Rattle.clock_laws.specs.{Leads.Leads, State.ClockState}
 use Rattle.bank_timing.specs.Extending.{IsOpen, LeavesOthersThan, last_tick}
-use Rattle.run_laws.specs.Runs.{pacing_in, bank_of_line, line_in_bank}
+use Rattle.right_runs.specs.Banks.{pacing_in, bank_of_line, line_in_bank}
 use Rattle.pcm_module.specs.{Replaying.{BankReplays, IsReplayed, asked_in_bank}, Shaped.{IsModule, IsBankOf}, State.ModuleState, Stepping.{MayCome, MayArrive, IsAt, IsStep}}
 use Rattle.pcm_module.{specs.Taking.Takes, specs.Telling.{TellsInOrder, rows_taking}, proofs.Banks.{from_get, at_get}, proofs.InOrder.{in_order, step_leaves_but}}
 use Rattle.pcm_module.proofs.TakenRows.{takes_one}

@@ -12,7 +12,7 @@ use Rattle.module_shape.specs.Addresses.{module_of, bank_shape}
 use Rattle.clock_laws.specs.{Leads.Leads, Standing.has_waiting, State.ClockState}
 use Rattle.module_laws.specs.Asking.{Asked}
 use Rattle.bank_timing.specs.Extending.{Extends, IsOpen, IsQuiet, LeavesOthers, last_tick}
-use Rattle.run_laws.specs.Runs.{pacing_in, bank_of_line, line_in_bank}
+use Rattle.right_runs.specs.Banks.{pacing_in, bank_of_line, line_in_bank}
 use Rattle.pcm_module.specs.{Replaying.{BankReplays, Replays, ReplaysIn, IsReplayed, asked_in_bank}, Settling.{IsAtTick, MaySettle, AreSettled}, Shaped.{IsModule, IsBankOf}}
 use Rattle.pcm_module.{specs.State.ModuleState, specs.Stepping.IsAt, proofs.Arriving.own_asked}
 use Rattle.pcm_module.proofs.{Banks.{AllReplay, changed, changed_at, changed_off, at_get, from_get, all_extend, cuts_apart}, Beyond.{stays_same, stays_both, stays_by}}

@@ -13,7 +13,7 @@ use Rattle.module_shape.specs.{Addresses.{module_of, bank_shape}, Limits.total_o
 use Rattle.clock_laws.specs.{Leads.Leads, Standing.has_waiting, State.ClockState}
 use Rattle.module_laws.specs.Asking.{Asked, asked_in, AreAsked}
 use Rattle.bank_timing.specs.Extending.{IsOpen, outcome_in}
-use Rattle.run_laws.specs.Runs.{pacing_in, bank_of_line, line_in_bank}
+use Rattle.right_runs.specs.Banks.{pacing_in, bank_of_line, line_in_bank}
 use Rattle.pcm_module.specs.{Replaying.{BankReplays, Replays, IsReplayed, RowsFall, outcome_so_far, asked_in_bank}, State.{ModuleState, bank_at, first_bank}}
 use Rattle.pcm_module.{specs.Stepping.{IsAt, IsStep}, specs.Taking.Takes, proofs.Banks.{grows_at, grown_at, grown_off, from_get, all_step, cuts_apart}, proofs.Beyond.stays_by}
 use Rattle.pcm_module.proofs.{Moving.{untouched, left_alone, open_kept}, Naming.{is_numbered, names, not_named, above_all, apart_rows, rows_of_bank_all}}

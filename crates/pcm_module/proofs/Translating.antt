@@ -9,7 +9,7 @@ use Rattle.feistel_map.specs.Network.{Network}
 use Rattle.module_shape.{specs.Addresses.{module_of, bank_shape, lines_of, array_lines_of}, specs.Limits.total_of, proofs.Bounds.banks_apart}
 use Rattle.module_laws.specs.Serves.{AreLines}
 use Rattle.clock_laws.specs.State.{ClockState}
-use Rattle.run_laws.specs.Runs.{mixed_line, bank_of_line, line_in_bank}
+use Rattle.right_runs.specs.Banks.{mixed_line, bank_of_line, line_in_bank}
 use Rattle.pcm_module.{specs.Shaped.{IsModule, IsBankOf}, specs.State.{ModuleState, bank_at, stands_in}, proofs.Draining.at_bank}
 
 -- what stands among the array lines of two banks is of one

@@ -10,7 +10,7 @@ use Rattle.row_rules.specs.declared.Asks.TheVariants.{Cuts}
 use Rattle.module_laws.specs.{Asking.{Asked, AreAsked}, Serves.AreRecorded}
 use Rattle.clock_laws.specs.{Leads.Leads, State.ClockState}
 use Rattle.bank_timing.specs.Extending.{outcome_in, last_tick}
-use Rattle.run_laws.specs.Runs.{pacing_in}
+use Rattle.right_runs.specs.Banks.{pacing_in}
 use Rattle.pcm_module.specs.{Replaying.{IsLogged, Replays, ReplaysIn, asked_in_bank}, State.{ModuleState, StandsNowhere}, Taking.StaysBeyond}
 
 -- the last row that was asked for is a power cut, at this tick

@@ -11,7 +11,7 @@ use Rattle.module_shape.specs.{Addresses.{module_of, bank_shape, array_lines_of}
 use Rattle.module_laws.specs.{Asking.{Asked, asked_of, AreAsked}, Serves.TicksFall}
 use Rattle.clock_laws.specs.{Leads.Leads, State.ClockState}
 use Rattle.bank_timing.specs.Extending.{AreOpen, outcome_in}
-use Rattle.run_laws.specs.Runs.{pacing_in, bank_of_line, line_in_bank}
+use Rattle.right_runs.specs.Banks.{pacing_in, bank_of_line, line_in_bank}
 use Rattle.pcm_module.specs.State.{ModuleState}
 
 -- the outcome so far of a row that asks this

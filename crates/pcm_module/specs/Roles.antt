@@ -1,7 +1,7 @@
 -- How many spares of a module's banks are used, by the ends of its banks.
 use Rattle.std.specs.Prelude.{ℕ, zero, suc, ◌+◌}
 use Rattle.module_shape.specs.{Addresses.{module_of, bank_shape}, declared.raw.RawShape.RawShape}
-use Rattle.end_laws.specs.{Ends.BankEnd, Roles.used_spares}
+use Rattle.right_runs.specs.{Ends.BankEnd, Roles.used_spares}
 
 -- how many spares of the first so many banks are used
 abbrev pub spares_used_in : RawShape → (ℕ → BankEnd) → ℕ → ℕ

@@ -5,8 +5,8 @@ use Rattle.power_recovery.specs.Kept.{stands_at}
 use Rattle.module_shape.specs.{Addresses.{module_of, bank_shape}, declared.raw.RawShape.RawShape}
 use Rattle.clock_laws.specs.{Standing.has_waiting, State.ClockState}
 use Rattle.bank_timing.specs.Extending.{first_clock}
-use Rattle.end_laws.specs.{EndLaws.IsEndOf, Ends.BankEnd}
-use Rattle.run_laws.specs.Runs.{pacing_in, bank_of_line, line_in_bank}
+use Rattle.end_laws.specs.EndLaws.{IsEndOf}
+use Rattle.right_runs.specs.{Banks.{pacing_in, bank_of_line, line_in_bank}, Ends.BankEnd}
 
 -- a module: its sizes, the seed of its randomiser, its banks in order, the tick of the last row and a bound above the rows that were
 -- handed in, and whether it was finished, so that nothing comes any more

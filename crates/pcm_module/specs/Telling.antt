@@ -7,7 +7,7 @@ use Rattle.bank_invariant.specs.State.{BankState}
 use Rattle.module_laws.specs.Asking.{Asked}
 use Rattle.clock_laws.specs.Standing.{has_waiting}
 use Rattle.bank_timing.specs.Extending.{outcome_in}
-use Rattle.run_laws.specs.Runs.{bank_of_line}
+use Rattle.right_runs.specs.Banks.{bank_of_line}
 use Rattle.pcm_module.specs.State.{ModuleState, bank_at}
 
 -- whether a row stands in the queue of a bank, or waits there

@@ -4,13 +4,13 @@ ghost use Rattle.std.specs.Prelude.{◌≡◌, ◌+◌, ◌<◌, ◌≤◌};
 ghost use Rattle.spare_pool.specs.Table.{used_by};
 ghost use Rattle.bank_shape.specs.Shape.{lines_in, slots_of};
 ghost use Rattle.power_recovery.specs.Kept.{array_line};
-ghost use Rattle.end_laws.specs.Ends.{BankEnd};
+ghost use Rattle.right_runs.specs.Ends.{BankEnd};
 ghost use Rattle.end_laws.specs.EndLaws.{IsEndOf};
-ghost use Rattle.end_laws.specs.Roles.{IsRole, used_spares};
+ghost use Rattle.right_runs.specs.Roles.{IsRole, used_spares};
 
+use bank_shape::Role;
 use power_recovery::kept::Kept;
 use spare_pool::Owner;
-use wear_report::Role;
 
 /// What one of the bank's array lines is used for. A line goes by its number in the bank: its region times the lines of a
 /// region, and its number there.

@@ -6,8 +6,8 @@ ghost use Rattle.bank_model.specs.Timing.{TimedEvent};
 ghost use Rattle.module_shape.specs.Addresses.{module_of, array_lines_of};
 ghost use Rattle.module_laws.specs.Asking.{Asked, row_with};
 ghost use Rattle.bank_timing.specs.Extending.{outcome_in};
-ghost use Rattle.end_laws.specs.Ends.{BankEnd};
-ghost use Rattle.run_laws.specs.Runs.{RunsRight, StopsRight};
+ghost use Rattle.right_runs.specs.Ends.{BankEnd};
+ghost use Rattle.right_runs.specs.Runs.{RunsRight, StopsRight};
 ghost use Rattle.run_laws.specs.Finishing.{IsFinished, IsStopped};
 ghost use Rattle.pcm_module.specs.State.{ModuleState, AreEndsOf, StandsNowhere, bank_at};
 ghost use Rattle.pcm_module.specs.Replaying.{Replays};
@@ -32,6 +32,7 @@ impl<const B: usize, const M: usize, const E: usize> Module<B, M, E> {
         ensures finished { self.new.finished ≡ true }
         ensures shape { self.new.shape ≡ self.old.shape }
         ensures seed { self.new.seed ≡ self.old.seed }
+        ensures tick { self.new.tick ≡ self.old.tick }
         ensures table { length (R.table results.new) ≡ length (R.table results.old) }
 
         // each bank's history goes on until nothing is left to do there
@@ -73,6 +74,7 @@ impl<const B: usize, const M: usize, const E: usize> Module<B, M, E> {
         ensures finished { self.new.finished ≡ true }
         ensures shape { self.new.shape ≡ self.old.shape }
         ensures seed { self.new.seed ≡ self.old.seed }
+        ensures tick { self.new.tick ≡ self.old.tick }
         ensures table { length (R.table results.new) ≡ length (R.table results.old) }
         ensures stops { (array : ArrayState B M)
             (h : ℕ → List (TimedEvent B M)) (asked : List (Asked B))

@@ -1,16 +1,16 @@
 // What the array lines of a module are used for.
 ghost use Rattle.std.specs.Prelude.{◌≡◌, ◌+◌, ◌*◌, ◌/◌, ◌<◌, ◌≤◌, ℕ};
 ghost use Rattle.module_shape.specs.Addresses.{module_of, lines_of, array_lines_of, bank_shape};
-ghost use Rattle.end_laws.specs.Ends.{BankEnd};
-ghost use Rattle.end_laws.specs.Roles.{IsRole};
-ghost use Rattle.run_laws.specs.Runs.{line_named};
+ghost use Rattle.right_runs.specs.Ends.{BankEnd};
+ghost use Rattle.right_runs.specs.Roles.{IsRole};
+ghost use Rattle.right_runs.specs.Banks.{line_named};
 ghost use Rattle.pcm_module.specs.State.{AreEndsOf};
 ghost use Rattle.pcm_module.specs.Roles.{spares_used};
 
 use crate::bank_roles::{role_in, used_in};
 use crate::side_by_side::Module;
+use bank_shape::Role;
 use module_shape::Shape;
-use wear_report::Role;
 
 impl<const B: usize, const M: usize, const E: usize> Module<B, M, E> {
     /// What an array line is used for; a line goes by its number in the module.

@@ -8,7 +8,7 @@ ghost use Rattle.result_rows.specs.declared.Outcome.{Outcome};
 ghost use Rattle.power_recovery.specs.Kept.{IsKept};
 ghost use Rattle.module_shape.specs.Limits.{IsShape, total_of};
 ghost use Rattle.module_shape.specs.Addresses.{module_of, lines_of, array_lines_of, bank_shape};
-ghost use Rattle.run_laws.specs.Runs.{bank_of_line, line_in_bank};
+ghost use Rattle.right_runs.specs.Banks.{bank_of_line, line_in_bank};
 ghost use Rattle.pcm_module.specs.State.{banks_from, bank_at, stands_in};
 ghost use Rattle.pcm_module.specs.Replaying.{Replays};
 

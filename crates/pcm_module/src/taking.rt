@@ -1,18 +1,8 @@
 // The rows of a trace, one after the other.
-ghost use Rattle.std.specs.Prelude.{◌≡◌, ◌≢◌, ◌*◌, ◌+◌, ◌<◌, ◌≤◌, ℕ, List, ◌∷◌, ◌++◌, length, false};
 ghost use Rattle.masked_bytes.specs.Masked.{IsMasked};
-ghost use Rattle.result_rows.specs.Table.{HasRow};
 ghost use Rattle.row_rules.specs.declared.Asks.TheVariants.{Reads, Writes, Cuts};
-ghost use Rattle.trace_reader.specs.Events.{IsEventFor};
-ghost use Rattle.bank_model.specs.Timing.{TimedEvent};
-ghost use Rattle.module_shape.specs.Limits.{total_of};
-ghost use Rattle.module_shape.specs.Addresses.{module_of, array_lines_of};
-ghost use Rattle.module_laws.specs.Asking.{Asked};
-ghost use Rattle.bank_timing.specs.Extending.{IsOpen, outcome_in, last_tick};
 ghost use Rattle.pcm_module.specs.Asking.{asked_by};
-ghost use Rattle.pcm_module.specs.State.{StandsNowhere};
-ghost use Rattle.pcm_module.specs.Replaying.{Replays, IsReplayed};
-ghost use Rattle.pcm_module.specs.Taking.{Takes, StaysBeyond};
+ghost use Rattle.pcm_module.specs.Taking.{MayTake, MayTakeRow, Takes};
 ghost use Rattle.pcm_module.specs.Telling.{TellsInOrder, rows_taking};
 ghost use Rattle.trace_rows.specs.Rows.{asks_of};
 
@@ -34,58 +24,13 @@ impl<const B: usize, const M: usize, const E: usize> Module<B, M, E> {
         event: &Event<B>,
         results: &mut R,
     )
-        requires going { self.old.finished ≡ false }
-        requires replays { (h : ℕ → List (TimedEvent B M)) × (asked : List (Asked B))
-            × Replays h asked self.old (A.state array.old) (R.table results.old) }
-        requires event { IsEventFor (total_of self.old.shape) self.old.tick event.now }
-        requires rises { self.old.rows_below ≤ row }
-        requires open { IsOpen (R.table results.old) row }
-        ensures shape { self.new.shape ≡ self.old.shape }
-        ensures seed { self.new.seed ≡ self.old.seed }
-        ensures going { self.new.finished ≡ false }
-        ensures tick { self.new.tick ≡ event.now.tick }
-        ensures rows { self.new.rows_below ≡ row + 1 }
-        ensures table { length (R.table results.new) ≡ length (R.table results.old) }
-
-        // each bank's history goes on, and leads on with this row
-        ensures replays { (h : ℕ → List (TimedEvent B M)) (asked : List (Asked B))
-            → Replays h asked self.old (A.state array.old) (R.table results.old)
-            → (added : ℕ → List (TimedEvent B M))
-            × Replays (λ bank. added bank ++ h bank) (asked_by row event.now ∷ asked) self.new
-            (A.state array.new) (R.table results.new) }
-        ensures open { (other : ℕ) → row < other → IsOpen (R.table results.old) other
-            → IsOpen (R.table results.new) other }
-        ensures others { (other : ℕ) → HasRow (R.table results.old) other → other ≢ row
-            → StandsNowhere self.old other
-            → outcome_in (R.table results.new) other ≡ outcome_in (R.table results.old) other }
-        ensures stays { StaysBeyond
-            (self.old.shape.banks * array_lines_of (module_of self.old.shape))
-            (A.state array.old) (A.state array.new) }
-        ensures goes_on { R.goes_on results.old results.new }
-
-        // bank by bank, and behind the banks the row's own outcome where it comes to none
-        ensures order { TellsInOrder R.goes_on R.table
-            (rows_taking self.old row (asks_of event.now.op))
-            self.old.shape.banks row results.old results.new }
-    {
-        self.take(array, row, event, results);
-    }
-
-    // What its operation asks is taken.
-    fn take<A: CellArray<B, M>, R: Outcomes<B>>(
-        &mut self,
-        array: &mut A,
-        row: u32,
-        event: &Event<B>,
-        results: &mut R,
-    )
-        requires led { IsReplayed self.old (A.state array.old) (R.table results.old) }
-        requires event { IsEventFor (total_of self.old.shape) self.old.tick event.now }
-        requires rises { self.old.rows_below ≤ row }
-        requires fresh { IsOpen (R.table results.old) row }
+        requires may_take { MayTakeRow row event.now self.old (A.state array.old)
+            (R.table results.old) }
         ensures takes { Takes (asked_by row event.now) self.old self.new
             (A.state array.old) (A.state array.new) (R.table results.old) (R.table results.new) }
         ensures goes_on { R.goes_on results.old results.new }
+
+        // bank by bank, and behind the banks the row's own outcome where it comes to none
         ensures order { TellsInOrder R.goes_on R.table
             (rows_taking self.old row (asks_of event.now.op))
             self.old.shape.banks row results.old results.new }
@@ -120,12 +65,8 @@ impl<const B: usize, const M: usize, const E: usize> Module<B, M, E> {
         line: u32,
         results: &mut R,
     )
-        requires led { IsReplayed self.old (A.state array.old) (R.table results.old) }
-        requires forward { self.old.tick ≤ tick }
-        requires within { tick ≤ last_tick }
-        requires exists { line < total_of self.old.shape }
-        requires rises { self.old.rows_below ≤ row }
-        requires fresh { IsOpen (R.table results.old) row }
+        requires may_take { MayTake (record { row = row; tick = tick; asks = Reads line })
+            self.old (A.state array.old) (R.table results.old) }
         ensures takes { Takes (record { row = row; tick = tick; asks = Reads line })
             self.old self.new (A.state array.old) (A.state array.new)
             (R.table results.old) (R.table results.new) }
@@ -148,13 +89,13 @@ impl<const B: usize, const M: usize, const E: usize> Module<B, M, E> {
         entry: Entry<B>,
         results: &mut R,
     )
-        requires led { IsReplayed self.old (A.state array.old) (R.table results.old) }
-        requires forward { self.old.tick ≤ tick }
-        requires within { tick ≤ last_tick }
-        requires exists { entry.line < total_of self.old.shape }
+        requires may_take { MayTake (record {
+          row = entry.row;
+          tick = tick;
+          asks = Writes entry.line entry.bytes entry.given;
+        }) self.old (A.state array.old)
+            (R.table results.old) }
         requires masked { IsMasked B entry.bytes entry.given }
-        requires rises { self.old.rows_below ≤ entry.row }
-        requires fresh { IsOpen (R.table results.old) entry.row }
         ensures takes { Takes
             (record {
               row = entry.entry.row;
@@ -186,11 +127,8 @@ impl<const B: usize, const M: usize, const E: usize> Module<B, M, E> {
         row: u32,
         results: &mut R,
     )
-        requires led { IsReplayed self.old (A.state array.old) (R.table results.old) }
-        requires forward { self.old.tick ≤ tick }
-        requires within { tick ≤ last_tick }
-        requires rises { self.old.rows_below ≤ row }
-        requires fresh { IsOpen (R.table results.old) row }
+        requires may_take { MayTake (record { row = row; tick = tick; asks = Cuts })
+            self.old (A.state array.old) (R.table results.old) }
         ensures takes { Takes (record { row = row; tick = tick; asks = Cuts }) self.old self.new
             (A.state array.old) (A.state array.new) (R.table results.old) (R.table results.new) }
         ensures goes_on { R.goes_on results.old results.new }

@@ -3,7 +3,6 @@ pub mod Shapes
 pub mod Drawing
 pub mod Telling
 pub mod Deciding
-pub mod Tables
 mod Replaying
 pub mod Printable
 mod Worn

@@ -1,33 +1,22 @@
 -- That each row of a right run can be printed.
-use Rattle.std.proofs.Common.{◌≡◌, ℕ, zero, suc, ◌*◌, ◌<◌, ◌≤◌, List, [], ◌∷◌, length, Some, refl, ap, ◌∙◌, subst, arith, reverse}
-use Rattle.std.{specs.Option.ForSome, specs.Prelude.{slice_get, All}, proofs.lemmas.List.reverse-reverse, proofs.lemmas.List.Elements.All-get_or}
+use Rattle.std.proofs.Common.{◌≡◌, ℕ, ◌≤◌, List, length, Some, ap, ◌∙◌, subst, arith, reverse}
+use Rattle.std.{specs.Prelude.{slice_get, All}, proofs.lemmas.List.reverse-reverse, proofs.lemmas.List.Elements.All-get_or}
 use Rattle.std.proofs.lemmas.Option.{get_or_from_slice_get, slice_get_within}
 use Rattle.check_laws.proofs.Soon.{All-reverse}
-use Rattle.check_text.proofs.Standing.{own-op}
-use Rattle.trace_rows.{specs.Rows.{row_of, rows_with}, proofs.Lines.lines-exist as rows-exist}
+use Rattle.check_text.proofs.Asked.{own-op}
+use Rattle.trace_rows.{specs.Rows.{row_of, rows_with}, proofs.Lines.{lines-exist as rows-exist, row-at}}
 use Rattle.cell_rows.specs.Device.{ArrayState}
 use Rattle.trace_reader.{specs.Events.{AreEventsFor, IsOpFor}, specs.declared.event.Event.Event, specs.declared.event.EventOp.EventOp, proofs.Lawful.AreEventsFor-at}
 use Rattle.trace_reader.specs.declared.event.EventOp.TheVariants as op
-use Rattle.result_rows.specs.{Outcomes.{op_of, place_of}, declared.Outcome.Outcome}
-use Rattle.row_rules.specs.{Lines.IsOfLines, declared.Row.Row}
-use Rattle.module_shape.specs.{Addresses.{module_of, array_lines_of}, Limits.{IsShape, total_of}, declared.raw.RawShape.RawShape}
-use Rattle.end_laws.specs.Ends.{BankEnd}
-use Rattle.run_laws.specs.{RowsOfRuns.{FewArrayLinesLaw, LinesExist, OwnOutcomesLaw, PlacesExistLaw, op_asked}, Runs.RunsRight}
+use Rattle.result_rows.specs.{Outcomes.op_of, declared.Outcome.Outcome}
+use Rattle.row_rules.specs.{Lines.IsOfLines, Rows.op_asked, declared.Row.Row}
+use Rattle.module_shape.specs.{Limits.{IsShape, total_of}, declared.raw.RawShape.RawShape}
+use Rattle.right_runs.specs.{Ends.BankEnd, Runs.RunsRight}
+use Rattle.run_laws.specs.RowsOfRuns.{LinesExist, OwnOutcomesLaw}
 use Rattle.run_text.specs.ResultText.{ArePrintable, named_line}
 use Rattle.pcm_top.specs.Rows.{rows_of}
 
 module _ {n : ℕ} where
-  -- the row of an event
-  row-at : (events : List (Event n)) (outcomes : List (Outcome n)) (i : ℕ) (event : Event n) (outcome : Outcome n)
-      → slice_get events i ≡ Some event → slice_get outcomes i ≡ Some outcome → slice_get (rows_with events outcomes) i ≡ Some (row_of event outcome)
-  row-at [] outcomes i event outcome at is = absurd (cc at)
-  row-at (first ∷ events) [] i event outcome at is = absurd (cc is)
-  row-at (first ∷ events) (own ∷ outcomes) zero event outcome at is =
-      let same : first ≡ event = cc in
-      let alike : own ≡ outcome = cc in
-      rw (same, alike) refl
-  row-at (first ∷ events) (own ∷ outcomes) (suc i) event outcome at is = row-at events outcomes i event outcome at is
-
   -- what every row of a run's table is, the row of each event is
   pub row-of-event : (P : Row n → Type 0) (events : List (Event n)) (outcomes : List (Outcome n)) (i : ℕ) (event : Event n) (outcome : Outcome n)
       → slice_get events i ≡ Some event → slice_get outcomes i ≡ Some outcome → All P (rows_of events outcomes) → P (row_of event outcome)
@@ -51,19 +40,15 @@ module _ {n : ℕ} where
 
   -- each row of a right run has an outcome with which it can be printed
   pub are-printable : {m : ℕ} (e : ℕ) (raw : RawShape) (seed : ℕ) (events : List (Event n)) (outcomes : List (Outcome n)) (array : ArrayState n m) (ends : ℕ → BankEnd)
-      → OwnOutcomesLaw → PlacesExistLaw → FewArrayLinesLaw → IsShape raw → AreEventsFor (total_of raw) 0 events → length outcomes ≡ length events
+      → OwnOutcomesLaw → IsShape raw → AreEventsFor (total_of raw) 0 events → length outcomes ≡ length events
       → RunsRight e raw seed (rows_of events outcomes) array ends → ArePrintable events outcomes
-  are-printable {m} e raw seed events outcomes array ends own exist few shape lawful size right = record {
+  are-printable {m} e raw seed events outcomes array ends own shape lawful size right = record {
     one_each = size;
     each = λ i event outcome at is.
         let rows = rows_of events outcomes in
         let mine = row-of-event (λ r. op_of r.outcome ≡ Some (op_asked r.asks)) events outcomes i event outcome at is (own n m e raw seed rows array ends right) in
-        let there = row-of-event (λ r. ForSome (place_of r.outcome) (λ place. place < raw.banks * array_lines_of (module_of raw))) events outcomes i event outcome at is
-        (exist n m e raw seed rows array ends shape (lines-exist raw events outcomes lawful) right) in
-        let most = few raw shape in
         record {
           belongs = mine ∙ ap Some (own-op event.op);
           line = small-line (total_of raw) event.op shape.few_in_all ((AreEventsFor-at (total_of raw) 0 events i event lawful at).0);
-          place = λ place found. omega (arith, there place found);
         };
   }

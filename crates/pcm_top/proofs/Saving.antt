@@ -1,18 +1,19 @@
 -- The image of a run that was made.
 use Rattle.std.proofs.Common.{◌≡◌, ℕ, ◌^◌, ◌<◌, List, Option, Some, None, refl, sym, subst, reverse}
 use Rattle.std.specs.Prelude.{IsSomeAnd, OnOk, OnErr, Result, Ok, Err, slice_get, unwrap_or}
-use Rattle.pcm_top.{specs.Images.senses_for, specs.Played.IsPlayed, specs.Rows.rows_of, specs.RunText.IsRunText, proofs.Tables.rows-are}
+use Rattle.pcm_top.specs.{Images.senses_for, Played.IsPlayed, Rows.rows_of, RunText.IsRunText}
+use Rattle.pcm_module.{specs.Asking.asked_for, specs.State.{AreEndsOf, ModuleState, bank_at, first_bank}, proofs.Tables.rows-forwards}
 use Rattle.cell_rows.specs.Device.{ArrayState}
 use Rattle.trace_reader.specs.declared.event.Event.{Event}
 use Rattle.result_rows.specs.declared.Outcome.{Outcome}
 use Rattle.row_rules.specs.declared.Row.{Row}
 use Rattle.module_shape.specs.{Limits.IsShape, declared.raw.RawShape.RawShape}
 use Rattle.bank_timing.specs.Extending.{outcome_in}
-use Rattle.end_laws.specs.{EndLaws.IsEndOf, Ends.BankEnd}
-use Rattle.run_laws.specs.Runs.{RunsRight}
+use Rattle.end_laws.specs.EndLaws.{IsEndOf}
+use Rattle.right_runs.specs.{Ends.BankEnd, Runs.RunsRight}
 use Rattle.pcm_image.specs.{Saved.Saved, Spelling.image_bytes}
-use Rattle.image_laws.specs.{SavedRuns.{AreRowsTo, IsLeft, SavedLaw, SensedSince, StaysRightLaw}, Saving.saved_of}
-use Rattle.pcm_module.specs.{Asking.asked_for, State.{AreEndsOf, ModuleState, bank_at, first_bank}}
+use Rattle.right_images.specs.{SavesRun.AreRowsTo, Saving.saved_of, SensedSince.SensedSince}
+use Rattle.image_laws.specs.SavedRuns.{IsLeft, SavedLaw, StaysRightLaw}
 use Rattle.command_line.specs.{declared.job.Print.Print, declared.job.Print.TheVariants.Image}
 use Rattle.image_text.{specs.Sensing.SensesRows, proofs.Sensing.senses-none}
 use Rattle.module_prints.specs.{Images.kept_in, WearReports.HaveRoles}
@@ -50,7 +51,7 @@ module _ {n m e : ℕ} (pcm : ModuleState n m e) (before array : ArrayState n m)
     banks = bank_at pcm;
     before = before;
     finished = played.finished;
-    rows_are = sym (rows-are events outcomes played.one_each);
+    rows_are = sym (rows-forwards events outcomes played.one_each);
     saved = refl;
     sensed = count;
     since = since;

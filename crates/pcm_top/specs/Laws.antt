@@ -4,8 +4,7 @@ use Rattle.cell_rows.specs.Device.{ArrayState}
 use Rattle.trace_reader.specs.{Events.AreEventsFor, declared.event.Event.Event}
 use Rattle.result_rows.specs.declared.Outcome.{Outcome}
 use Rattle.module_shape.specs.{Limits.{IsShape, total_of}, declared.raw.RawShape.RawShape}
-use Rattle.end_laws.specs.Ends.{BankEnd}
-use Rattle.run_laws.specs.Runs.{RunsRight}
+use Rattle.right_runs.specs.{Ends.BankEnd, Runs.RunsRight}
 use Rattle.run_text.specs.ResultText.{ArePrintable}
 use Rattle.pcm_top.specs.Rows.{rows_of}
 use Rattle.module_prints.specs.WearReports.{HaveRoles}

@@ -8,6 +8,7 @@ pub mod Checking
 pub mod Rows
 pub mod Ready
 pub mod Played
+pub mod Printing
 pub mod Images
 pub mod RunText
 pub mod Showing

@@ -5,9 +5,9 @@ use Rattle.trace_reader.specs.declared.event.Event.{Event}
 use Rattle.result_rows.specs.declared.Outcome.{Outcome}
 use Rattle.run_text.specs.Shortfall.{any_short}
 use Rattle.rotation_reports.specs.{MapText.map_text, MovesText.moves_text}
-use Rattle.end_laws.specs.Ends.{BankEnd}
-use Rattle.run_laws.specs.Runs.{RunsRight}
-use Rattle.image_laws.specs.SavedRuns.{AreRowsTo, IsLeft}
+use Rattle.right_runs.specs.{Ends.BankEnd, Runs.RunsRight}
+use Rattle.right_images.specs.SavesRun.{AreRowsTo}
+use Rattle.image_laws.specs.SavedRuns.{IsLeft}
 use Rattle.pcm_image.specs.Saved.{Saved}
 use Rattle.command_line.specs.{declared.job.Job.Job, declared.job.Job.TheVariants.{Run, Gen, Map, Moves, Show, Check}, declared.job.LineSize.LineSize}
 use Rattle.command_line.specs.{declared.job.LineSize.TheVariants.{Bytes64, Bytes128}, declared.job.Print.TheVariants.Image, declared.job.Refusal.Refusal}

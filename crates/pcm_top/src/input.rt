@@ -29,8 +29,8 @@ fn read_trace<const B: usize, S: Source>(
     requires small { B ≤ 128 }
     requires lines { 1 ≤ lines }
     ensures gives { let s = source_change S.left S.taken S.faults source.old source.new in
-        Gives (λ events. ReadsTrace B lines s events.items) (λ fault. IsReadFault B lines fault s) s
-        result }
+        Gives (λ events. ReadsTrace B lines s events.items)
+        (λ fault. IsReadFault B lines fault s) s result }
     ensures events { IfOk result (λ events. AreEventsFor lines 0 events.items) }
     ensures rows { IfOk result (λ events. vec_len events ≤ MOST_ROWS) }
 {

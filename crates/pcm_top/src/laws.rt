@@ -2,17 +2,12 @@
 //! nothing when it runs.
 ghost use Rattle.pcm_top.specs.Laws.{PrintableLaw};
 
-use run_laws::{
-    array_lines_are_few, array_lines_have_one_role, places_are_array_lines,
-    rows_have_their_own_outcomes,
-};
+use run_laws::{array_lines_have_one_role, rows_have_their_own_outcomes};
 
 /// Each row of a right run can be printed, and each array line has one role.
 pub fn right_runs_can_be_printed()
     ensures { PrintableLaw }
 {
     rows_have_their_own_outcomes();
-    places_are_array_lines();
-    array_lines_are_few();
     array_lines_have_one_role();
 }

@@ -1,9 +1,8 @@
 // The memory of a run.
-ghost use Rattle.std.specs.Prelude.{◌≡◌, ◌≤◌, IfOk, Some};
-ghost use Rattle.pcm_io.specs.Reserved.{reserved};
+ghost use Rattle.std.specs.Prelude.{◌≤◌, IfOk};
 ghost use Rattle.ecp_line.specs.Layout.{IsLayout};
 ghost use Rattle.command_line.specs.Jobs.{IsRun};
-ghost use Rattle.pcm_top.specs.Ready.{IsReady};
+ghost use Rattle.pcm_top.specs.Ready.{HasTaken};
 
 use cell_rows::CellArray;
 use command_line::RunJob;
@@ -25,10 +24,8 @@ pub fn take_memory<const B: usize, const M: usize, const E: usize, A: CellArray<
     requires layout { IsLayout B M E }
     requires wide { 16 ≤ B }
     requires job { IsRun job.now }
-    ensures ready { IfOk result (λ taken.
-        IsReady job.now.shape job.now.seed rows taken.0 (A.state array.new) taken.1) }
-    ensures wear { IfOk result (λ taken. (A.state array.new).wear ≡ Some job.now.wear) }
-    ensures text { IfOk result (λ taken. taken.2 ≡ reserved TEXT_ROOM) }
+    ensures taken { IfOk result (λ taken.
+        HasTaken job.now rows taken.0 (A.state array.new) taken.1 taken.2) }
 {
     array.power_up(alloc, job.shape.array_lines(), job.wear)?;
     Ok((

@@ -4,19 +4,16 @@ ghost use Rattle.std.specs.Io.KnownBytes.{Appends};
 ghost use Rattle.pcm_io.specs.Faults.{Rose};
 ghost use Rattle.pcm_io.specs.Giving.{AppendsPrefix};
 ghost use Rattle.pcm_io.specs.Reserved.{reserved};
-ghost use Rattle.module_shape.specs.Addresses.{array_lines_of, module_of};
-ghost use Rattle.end_laws.specs.Ends.{BankEnd};
-ghost use Rattle.run_text.specs.ResultText.{ArePrintable};
+ghost use Rattle.right_runs.specs.Ends.{BankEnd};
 ghost use Rattle.pcm_module.specs.State.{AreEndsOf};
 ghost use Rattle.ecp_line.specs.Layout.{IsLayout};
-ghost use Rattle.module_shape.specs.Limits.{IsShape};
-ghost use Rattle.image_laws.specs.Saving.{saved_of};
+ghost use Rattle.right_images.specs.Saving.{saved_of};
 ghost use Rattle.image_text.specs.Sensing.{SensesRows, SensesSome};
-ghost use Rattle.run_laws.specs.Runs.{RunsRight};
+ghost use Rattle.right_runs.specs.Runs.{RunsRight};
 ghost use Rattle.module_prints.specs.WearReports.{HaveRoles};
 ghost use Rattle.module_prints.specs.Images.{WritesRows, kept_in};
 ghost use Rattle.pcm_top.specs.Images.{senses_for};
-ghost use Rattle.pcm_top.specs.Played.{IsPlayed};
+ghost use Rattle.pcm_top.specs.Printing.{MayPrint};
 ghost use Rattle.pcm_top.specs.Rows.{rows_of};
 ghost use Rattle.pcm_top.specs.RunText.{IsRunText};
 
@@ -45,12 +42,7 @@ pub fn print_run<const B: usize, const M: usize, const E: usize, A: CellArray<B,
     requires layout { IsLayout B M E }
     requires room { text.old ≡ reserved TEXT_ROOM }
     requires rows { length events.now ≤ MOST_ROWS }
-    requires printable { ArePrintable events.now results.now }
-    requires seed { job.now.seed ≡ pcm.now.seed }
-    requires shape { IsShape pcm.now.shape }
-    requires played { IsPlayed pcm.now events.now results.now (A.state array.old) }
-    requires size { (A.state array.old).lines
-        ≡ pcm.now.shape.banks * array_lines_of (module_of pcm.now.shape) }
+    requires may_print { MayPrint job.now pcm.now events.now results.now (A.state array.old) }
     ensures ok { OnOk result ((ends : ℕ → BankEnd) → AreEndsOf pcm.now ends
         → RunsRight E pcm.now.shape pcm.now.seed (rows_of events.now results.now)
         (A.state array.new) ends

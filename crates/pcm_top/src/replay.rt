@@ -1,14 +1,10 @@
 // The events of a trace, replayed on a module.
-ghost use Rattle.std.specs.Prelude.{◌≡◌, ◌≤◌, ℕ, length};
+ghost use Rattle.std.specs.Prelude.{◌≤◌, length};
 ghost use Rattle.ecp_line.specs.Layout.{IsLayout};
 ghost use Rattle.trace_reader.specs.Events.{AreEventsFor};
 ghost use Rattle.module_shape.specs.Limits.{total_of};
-ghost use Rattle.end_laws.specs.Ends.{BankEnd};
-ghost use Rattle.run_laws.specs.Runs.{RunsRight};
-ghost use Rattle.pcm_module.specs.State.{AreEndsOf};
 ghost use Rattle.pcm_top.specs.Ready.{IsReady};
-ghost use Rattle.pcm_top.specs.Rows.{rows_of};
-ghost use Rattle.pcm_top.specs.Played.{IsPlayed};
+ghost use Rattle.pcm_top.specs.Played.{HasReplayed};
 
 use cell_rows::CellArray;
 use pcm_module::Module;
@@ -27,14 +23,8 @@ pub fn replay<const B: usize, const M: usize, const E: usize, A: CellArray<B, M>
         pcm.old (A.state array.old) results.old }
     requires events { AreEventsFor (total_of pcm.old.shape) 0 events.now }
     requires rows { length events.now ≤ MOST_ROWS }
-    ensures shape { pcm.new.shape ≡ pcm.old.shape }
-    ensures seed { pcm.new.seed ≡ pcm.old.seed }
-    ensures table { length results.new ≡ length events.now }
-    ensures right { (ends : ℕ → BankEnd) × AreEndsOf pcm.new ends
-        × RunsRight E pcm.new.shape pcm.new.seed (rows_of events.now results.new)
-        (A.state array.new) ends }
-    ensures played { IsPlayed pcm.new events.now results.new (A.state array.new) }
-    ensures wear { (A.state array.new).wear ≡ (A.state array.old).wear }
+    ensures { HasReplayed E pcm.old.shape pcm.old.seed events.now results.new
+        (A.state array.old) (A.state array.new) pcm.new }
 {
     for (i, event) in events.iter().enumerate() {
         pcm.event(array, i as u32 + 1, event, results);

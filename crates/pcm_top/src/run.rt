@@ -1,13 +1,10 @@
 // The command `run`.
-ghost use Rattle.std.specs.Prelude.{◌≡◌, ◌≤◌, length, Some};
-ghost use Rattle.pcm_io.specs.Reserved.{reserved};
+ghost use Rattle.std.specs.Prelude.{◌≡◌, ◌≤◌};
 ghost use Rattle.ecp_line.specs.Layout.{IsLayout};
 ghost use Rattle.command_line.specs.Jobs.{IsRun};
-ghost use Rattle.module_shape.specs.Limits.{total_of};
-ghost use Rattle.trace_reader.specs.Events.{AreEventsFor};
 ghost use Rattle.program_calls.specs.Calls.{lent_array, lent_sink, lent_source, sink_change};
 ghost use Rattle.pcm_top.specs.Ends.{EndsRun, Plays};
-ghost use Rattle.pcm_top.specs.Ready.{IsReady};
+ghost use Rattle.pcm_top.specs.Ready.{MayPlay};
 ghost use Rattle.pcm_top.specs.Running.{done_by, status_done};
 
 use crate::fault::Fault;
@@ -22,9 +19,9 @@ use image_laws::sensed_runs_stay_right;
 use pcm_io::{Sink, Source, Text, WriteFault};
 use pcm_module::Module;
 use result_rows::Results;
-use run_text::{TEXT_ROOM, any_short};
+use run_text::any_short;
 use std::alloc::Global;
-use trace_reader::{Event, MOST_ROWS};
+use trace_reader::Event;
 
 /// How a job was done.
 #[derive(Clone, Copy, Debug, PartialEq, Eq)]
@@ -73,13 +70,8 @@ fn play<const B: usize, const M: usize, const E: usize, A: CellArray<B, M>, K: S
 ) -> Result<Done, WriteFault>
     requires layout { IsLayout B M E }
     requires wide { 16 ≤ B }
-    requires job { IsRun job.now }
-    requires events { AreEventsFor (total_of job.now.shape) 0 events.now }
-    requires rows { length events.now ≤ MOST_ROWS }
-    requires ready { IsReady job.now.shape job.now.seed (length events.now)
-        pcm.old (A.state array.old) results.old }
-    requires wear { (A.state array.old).wear ≡ Some job.now.wear }
-    requires text { text.old ≡ reserved TEXT_ROOM }
+    requires may_play { MayPlay job.now events.now pcm.old (A.state array.old)
+        results.old text.old }
     ensures { Plays B M E job.now events.now (A.state array.new)
         (sink_change K.written K.faults out.old out.new) result }
 {

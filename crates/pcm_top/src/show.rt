@@ -26,8 +26,7 @@ fn print_row<const B: usize>(line: u32, bytes: &[u8; B], text: &mut Text)
     requires room { 320 ≤ room_in text.old }
     ensures { text.new ≡ appended text.old (row_of (decimal line ∷ encode_lower bytes.now ∷ [])) }
 {
-    text.push_number(line as u64);
-    text.push(b",");
+    text.push_number_then(line as u64, b",");
     text.push_hex(bytes);
     text.push(b"\n");
 }

@@ -11,13 +11,11 @@ pub power_cut-requires : goal.power_cut-requires
 power_cut-requires g c =
     let run = c.advance.ensures.extends c.requires.may.led.0 c.requires.may.led.1 in (
       timed_fits g.row.B g.row.M g.row.E c.requires.may.layout,
-      (
-        c.advance.ensures.ran.drained ∙ c.requires.may.going,
-        (
-          (run.0 ++ c.requires.may.led.0, run.1.leads),
-          c.advance.ensures.ran.unset,
-        ),
-      ),
+      record {
+        running = c.advance.ensures.ran.drained ∙ c.requires.may.going;
+        led = (run.0 ++ c.requires.may.led.0, run.1.leads);
+        unset = c.advance.ensures.ran.unset;
+      },
     )
 
 pub returns-clause-at : goal.returns-clause-at
@@ -45,7 +43,7 @@ returns-clause-step g c row xs leads =
 pub advance-requires : goal.advance-requires
 advance-requires g c =
     let may = c.requires.may in
-    (timed_fits g.row.B g.row.M g.row.E may.layout, (may.going, (may.led, (may.forward, (may.within, may.open_rows)))))
+    (timed_fits g.row.B g.row.M g.row.E may.layout, (record { running = may.going; led = may.led; unset = may.open_rows }, (may.forward, may.within)))
 
 pub returns-clause-goes_on : goal.returns-clause-goes_on
 returns-clause-goes_on g c = g.met.R.Outcomes.follows _ _ _ c.advance.ensures.goes_on c.power_cut.ensures.goes_on

@@ -20,17 +20,12 @@ arrive_read-requires g c =
     let still = open_on c.requires.may.comes.led.0 run.0 c.args.timed.now c.advance.new.self c.advance.new.self before after after (g.R.Outcomes.table c.args.results.now) (g.R.Outcomes.table c.advance.new.results) (g.R.Outcomes.table c.advance.new.results) c.requires.may.comes.led.1 run.2 run.1 c.args.row c.requires.may.rises c.requires.may.fresh in (
       timed_fits g.row.B g.row.M g.row.E c.requires.may.comes.layout,
       (
-        c.advance.ensures.ran.drained ∙ c.requires.may.comes.going,
-        (
-          (run.0 ++ c.requires.may.comes.led.0, run.1.leads),
-          (
-            stays,
-            (
-              omega (arith, c.advance.ensures.ran.rows, c.requires.may.rises),
-              (c.advance.ensures.ran.unset, still),
-            ),
-          ),
-        ),
+        record {
+          running = c.advance.ensures.ran.drained ∙ c.requires.may.comes.going;
+          led = (run.0 ++ c.requires.may.comes.led.0, run.1.leads);
+          unset = c.advance.ensures.ran.unset;
+        },
+        (stays, (omega (arith, c.advance.ensures.ran.rows, c.requires.may.rises), still)),
       ),
     )
 
@@ -66,7 +61,7 @@ returns-clause-step g c xs leads =
 pub advance-requires : goal.advance-requires
 advance-requires g c =
     let may = c.requires.may.comes in
-    (timed_fits g.row.B g.row.M g.row.E may.layout, (may.going, (may.led, (may.forward, (may.within, may.open_rows)))))
+    (timed_fits g.row.B g.row.M g.row.E may.layout, (record { running = may.going; led = may.led; unset = may.open_rows }, (may.forward, may.within)))
 
 pub returns-clause-goes_on : goal.returns-clause-goes_on
 returns-clause-goes_on g c = g.met.R.Outcomes.follows _ _ _ c.advance.ensures.goes_on c.arrive_read.ensures.goes_on

@@ -22,17 +22,15 @@ arrive_write-requires g c =
       (
         entry_fits g.row.B c.requires.may.comes.layout.shape.1,
         (
-          c.advance.ensures.ran.drained ∙ c.requires.may.comes.going,
           (
-            (run.0 ++ c.requires.may.comes.led.0, after, run.1.leads),
-            (
-              stays,
-              (
-                omega (arith, c.advance.ensures.ran.rows, c.requires.may.rises),
-                (c.requires.masked, (c.advance.ensures.ran.unset, still)),
-              ),
-            ),
+            after,
+            record {
+              running = c.advance.ensures.ran.drained ∙ c.requires.may.comes.going;
+              led = (run.0 ++ c.requires.may.comes.led.0, run.1.leads);
+              unset = c.advance.ensures.ran.unset;
+            },
           ),
+          (stays, (omega (arith, c.advance.ensures.ran.rows, c.requires.may.rises), (c.requires.masked, still))),
         ),
       ),
     )
@@ -64,7 +62,7 @@ returns-clause-step g c xs leads =
 pub advance-requires : goal.advance-requires
 advance-requires g c =
     let may = c.requires.may.comes in
-    (timed_fits g.row.B g.row.M g.row.E may.layout, (may.going, (may.led, (may.forward, (may.within, may.open_rows)))))
+    (timed_fits g.row.B g.row.M g.row.E may.layout, (record { running = may.going; led = may.led; unset = may.open_rows }, (may.forward, may.within)))
 
 pub returns-clause-goes_on : goal.returns-clause-goes_on
 returns-clause-goes_on g c = g.met.R.Outcomes.follows _ _ _ c.advance.ensures.goes_on c.arrive_write.ensures.goes_on

@@ -23,14 +23,12 @@ drain-requires g c =
     let f = next_replays false of (g.A.CellArray.state c.args.array.now) (g.R.Outcomes.table c.args.results.now) bank banks (g.A.CellArray.state c.loop-bank.array) (g.R.Outcomes.table c.loop-bank.results) clock so_far exists is may.led.0 may.led.1 may.led.2 may.led.3 in (
       timed_fits g.row.B g.row.M g.row.E c.requires.layout,
       (
-        f.going,
-        (
-          ((so_far.replays may.led.0 may.led.1 may.led.2 may.led.3).0 bank ++ may.led.0 bank, f.leads),
-          (
-            time_left clock.tick of.tick _ f.in_time may.in_time,
-            f.open_rows,
-          ),
-        ),
+        record {
+          running = f.going;
+          led = ((so_far.replays may.led.0 may.led.1 may.led.2 may.led.3).0 bank ++ may.led.0 bank, f.leads);
+          unset = f.open_rows;
+        },
+        time_left clock.tick of.tick _ f.in_time may.in_time,
       ),
     )
 

@@ -24,11 +24,12 @@ stop-requires g c =
     let f = next_replays true of array (g.R.Outcomes.table c.args.results.now) bank banks array (g.R.Outcomes.table c.loop-bank.results) clock so_far exists is may.led.0 may.led.1 may.led.2 may.led.3 in (
       timed_fits g.row.B g.row.M g.row.E c.requires.layout,
       (
-        f.going,
-        (
-          (array, (so_far.replays may.led.0 may.led.1 may.led.2 may.led.3).0 bank ++ may.led.0 bank, f.leads),
-          f.open_rows,
-        ),
+        array,
+        record {
+          running = f.going;
+          led = ((so_far.replays may.led.0 may.led.1 may.led.2 may.led.3).0 bank ++ may.led.0 bank, f.leads);
+          unset = f.open_rows;
+        },
       ),
     )
 

@@ -27,11 +27,12 @@ advance-requires g c =
     let f = settle_replays c.args.tick of (g.A.CellArray.state c.args.array.now) (g.R.Outcomes.table c.args.results.now) bank banks (g.A.CellArray.state c.loop-bank.array) (g.R.Outcomes.table c.loop-bank.results) clock so_far exists is may.led.0 may.led.1 may.led.2 in (
       timed_fits g.row.B g.row.M g.row.E c.requires.layout,
       (
-        f.going,
-        (
-          ((so_far.replays may.led.0 may.led.1 may.led.2).0 bank ++ may.led.0 bank, f.leads),
-          (f.in_time, (may.within, f.open_rows)),
-        ),
+        record {
+          running = f.going;
+          led = ((so_far.replays may.led.0 may.led.1 may.led.2).0 bank ++ may.led.0 bank, f.leads);
+          unset = f.open_rows;
+        },
+        (f.in_time, may.within),
       ),
     )
 

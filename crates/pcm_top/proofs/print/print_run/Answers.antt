@@ -2,7 +2,7 @@ use Rattle.std.proofs.Common.{refl, sym, ap, ◌∙◌, subst, arith}
 use Rattle.std.specs.Prelude.{OnOk}
 use Rattle.run_text.proofs.Gathered.{on_err, on_ok}
 use Rattle.image_text.{specs.Sensing.{SensesRows, SensesSome}, proofs.Sensing.senses-none}
-use Rattle.image_laws.specs.Saving.{saved_of}
+use Rattle.right_images.specs.Saving.{saved_of}
 use Rattle.module_prints.specs.Images.{WritesRows, kept_in}
 use Rattle.pcm_top.{specs.Images.senses_for, proofs.Saving.{image-text, no-image, senses-nothing}, proofs.Worn.wear-text}
 use Rattle.pcm_top.proofs.print.print_run.Goals as goal
@@ -59,13 +59,13 @@ pub returns-in-Image-clause-ok : goal.returns-in-Image-clause-ok
 returns-in-Image-clause-ok g c =
     on_ok c.print_image.result _ _ c.print_image.ensures.ok
     (image-text c.images_are_of_their_runs.ensures c.args.pcm.now c.args.job.now.seed (g.A.CellArray.state c.args.array.now) (g.A.CellArray.state c.print_image.new.array) c.args.events.now c.args.results.now c.args.job.now.print _ c.in-Image.is
-    c.requires.seed (omega arith) c.requires.shape c.requires.played c.print_image.ensures.sensed.0 c.print_image.ensures.sensed.2.since)
+    c.requires.may_print.seed (omega arith) c.requires.may_print.shape c.requires.may_print.played c.print_image.ensures.sensed.0 c.print_image.ensures.sensed.2.since)
 
 pub returns-in-Image-clause-prefix : goal.returns-in-Image-clause-prefix
 returns-in-Image-clause-prefix g c =
     on_err c.print_image.result _ _ c.print_image.ensures.prefix
     (image-text c.images_are_of_their_runs.ensures c.args.pcm.now c.args.job.now.seed (g.A.CellArray.state c.args.array.now) (g.A.CellArray.state c.print_image.new.array) c.args.events.now c.args.results.now c.args.job.now.print _ c.in-Image.is
-    c.requires.seed (omega arith) c.requires.shape c.requires.played c.print_image.ensures.sensed.0 c.print_image.ensures.sensed.2.since)
+    c.requires.may_print.seed (omega arith) c.requires.may_print.shape c.requires.may_print.played c.print_image.ensures.sensed.0 c.print_image.ensures.sensed.2.since)
 
 pub returns-in-Image-clause-sensed : goal.returns-in-Image-clause-sensed
 returns-in-Image-clause-sensed g c =
@@ -76,7 +76,7 @@ pub returns-in-Image-clause-part : goal.returns-in-Image-clause-part
 returns-in-Image-clause-part g c =
     on_err c.print_image.result _ _ c.print_image.ensures.part
     (λ part is.
-    subst (λ seed. WritesRows (g.A.CellArray.state c.print_image.new.array) (saved_of c.args.pcm.now.shape seed (kept_in c.args.pcm.now) (g.A.CellArray.state c.args.array.now)) (g.K.Sink.written c.args.out.now) (g.K.Sink.written c.print_image.new.out)) c.requires.seed part)
+    subst (λ seed. WritesRows (g.A.CellArray.state c.print_image.new.array) (saved_of c.args.pcm.now.shape seed (kept_in c.args.pcm.now) (g.A.CellArray.state c.args.array.now)) (g.K.Sink.written c.args.out.now) (g.K.Sink.written c.print_image.new.out)) c.requires.may_print.seed part)
 
 pub returns-in-Image-clause-all : goal.returns-in-Image-clause-all
 returns-in-Image-clause-all g c =

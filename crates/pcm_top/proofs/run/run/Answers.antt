@@ -34,7 +34,8 @@ drop-pcm-inside-requires-2-room-T-Destruct g c κs = timed_fits g.row.B g.row.M 
 pub play-requires : goal.play-requires
 play-requires g c =
     let few = c.in_ok-events.ensures.rows in
-    let rows : c.len.result ≡ length c.as_slice.result.now = omega (arith, c.len.ensures, c.as_slice.ensures.len, few) in (
+    let rows : c.len.result ≡ length c.as_slice.result.now = omega (arith, c.len.ensures, c.as_slice.ensures.len, few) in
+    let had = c.in-Ok.ensures.taken in (
       omega arith,
       (
         event_fits g.row.B c.requires.layout.shape.1,
@@ -44,19 +45,12 @@ play-requires g c =
             c.requires.layout,
             (
               c.requires.wide,
-              (
-                c.requires.job,
-                (
-                  rw c.as_slice.ensures.value c.in_ok-events.ensures.events,
-                  (
-                    omega (arith, c.as_slice.ensures.len, few),
-                    (
-                      ready-for _ _ _ _ _ _ _ rows c.in-Ok.ensures.ready,
-                      (c.in-Ok.ensures.wear, c.in-Ok.ensures.text),
-                    ),
-                  ),
-                ),
-              ),
+              record {
+                asked = c.requires.job;
+                lawful = rw c.as_slice.ensures.value c.in_ok-events.ensures.events;
+                rows = omega (arith, c.as_slice.ensures.len, few);
+                taken = record { ready = ready-for _ _ _ _ _ _ _ rows had.ready; wear = had.wear; roomy = had.roomy };
+              },
             ),
           ),
         ),

@@ -20,13 +20,13 @@ loop-bank-init g c =
     let s = c.self.inside in
     let old : ModuleState g.row.B g.row.M g.row.E = record { shape = s.shape; seed = s.seed; banks = s.banks.items; tick = s.tick; rows_below = s.rows_below; finished = s.finished } in
     let same : old ≡ c.args.self.now = c.self.view_is in
-    let rises : s.tick ≤ c.args.tick = subst (λ (o : ModuleState g.row.B g.row.M g.row.E). o.tick ≤ c.args.tick) (sym same) c.requires.forward in
-    let above : s.rows_below ≤ c.args.row = subst (λ (o : ModuleState g.row.B g.row.M g.row.E). o.rows_below ≤ c.args.row) (sym same) c.requires.rises in (
+    let rises : s.tick ≤ c.args.tick = subst (λ (o : ModuleState g.row.B g.row.M g.row.E). o.tick ≤ c.args.tick) (sym same) c.requires.may_take.forward in
+    let above : s.rows_below ≤ c.args.row = subst (λ (o : ModuleState g.row.B g.row.M g.row.E). o.rows_below ≤ c.args.row) (sym same) c.requires.may_take.rises in (
       rw (← same) (record {
         is = c.self.invariant;
         same = refl;
-        cuts = cut_none c.args.row c.args.tick old (g.A.CellArray.state c.args.array.now) (g.R.Outcomes.table c.args.results.now) rises above c.requires.fresh.exists;
-        fresh = c.requires.fresh;
+        cuts = cut_none c.args.row c.args.tick old (g.A.CellArray.state c.args.array.now) (g.R.Outcomes.table c.args.results.now) rises above c.requires.may_take.fresh.exists;
+        fresh = c.requires.may_take.fresh;
       }),
       g.met.R.Outcomes.stands c.args.results.now,
       refl,
@@ -42,16 +42,16 @@ cut_at-requires g c =
     let exists : c.loop-bank.bank < old.shape.banks = reached_bank c.loop-bank.bank c.banks-banks.result c.self.inside.shape.banks old.shape.banks c.loop-bank-test.true c.banks-banks.ensures.number ends in
     let within : c.loop-bank.bank < length items = in_list c.loop-bank.bank old.shape.banks c.loop-bank.self-inside.shape.banks (length items) exists banks inv.is.count in
     let is : slice_get items c.loop-bank.bank ≡ Some c.index_mut.result.now = item-at items c.loop-bank.bank c.index_mut.result.now within c.index_mut.ensures.value in
-    let led = c.requires.led in
+    let led = c.requires.may_take.replayed in
     let xs = (inv.cuts.replays led.0 led.1 led.2).0 c.loop-bank.bank ++ led.0 c.loop-bank.bank in
-    let f = cut_replays c.args.row c.args.tick old (g.A.CellArray.state c.args.array.now) (g.R.Outcomes.table c.args.results.now) c.requires.forward c.requires.rises c.requires.fresh.exists c.loop-bank.bank items (g.A.CellArray.state c.loop-bank.array) (as_if c.args.row (out.Cut c.args.tick) (g.R.Outcomes.table c.loop-bank.results)) c.index_mut.result.now exists is inv.cuts led.0 led.1 led.2 in (
+    let f = cut_replays c.args.row c.args.tick old (g.A.CellArray.state c.args.array.now) (g.R.Outcomes.table c.args.results.now) c.requires.may_take.forward c.requires.may_take.rises c.requires.may_take.fresh.exists c.loop-bank.bank items (g.A.CellArray.state c.loop-bank.array) (as_if c.args.row (out.Cut c.args.tick) (g.R.Outcomes.table c.loop-bank.results)) c.index_mut.result.now exists is inv.cuts led.0 led.1 led.2 in (
       timed_fits g.row.B g.row.M g.row.E inv.is.layout,
       record {
         layout = inv.is.layout;
         going = f.going;
         led = (xs, f.leads);
         forward = f.in_time;
-        within = c.requires.within;
+        within = c.requires.may_take.within;
         open_rows = opens_back c.args.row (out.Cut c.args.tick) (λ none. cc) c.index_mut.result.now (g.R.Outcomes.table c.loop-bank.results) inv.fresh.exists f.open_rows;
       },
     )
@@ -66,9 +66,9 @@ loop-bank-preserved g c =
     let exists : c.loop-bank.bank < old.shape.banks = reached_bank c.loop-bank.bank c.banks-banks.result c.self.inside.shape.banks old.shape.banks c.loop-bank-test.true c.banks-banks.ensures.number ends in
     let within : c.loop-bank.bank < length items = in_list c.loop-bank.bank old.shape.banks c.loop-bank.self-inside.shape.banks (length items) exists banks inv.is.count in
     let is : slice_get items c.loop-bank.bank ≡ Some c.index_mut.result.now = item-at items c.loop-bank.bank c.index_mut.result.now within c.index_mut.ensures.value in
-    let led = c.requires.led in
+    let led = c.requires.may_take.replayed in
     let xs = (inv.cuts.replays led.0 led.1 led.2).0 c.loop-bank.bank ++ led.0 c.loop-bank.bank in
-    let f = cut_replays c.args.row c.args.tick old (g.A.CellArray.state c.args.array.now) (g.R.Outcomes.table c.args.results.now) c.requires.forward c.requires.rises c.requires.fresh.exists c.loop-bank.bank items (g.A.CellArray.state c.loop-bank.array) (as_if c.args.row (out.Cut c.args.tick) (g.R.Outcomes.table c.loop-bank.results)) c.index_mut.result.now exists is inv.cuts led.0 led.1 led.2 in
+    let f = cut_replays c.args.row c.args.tick old (g.A.CellArray.state c.args.array.now) (g.R.Outcomes.table c.args.results.now) c.requires.may_take.forward c.requires.may_take.rises c.requires.may_take.fresh.exists c.loop-bank.bank items (g.A.CellArray.state c.loop-bank.array) (as_if c.args.row (out.Cut c.args.tick) (g.R.Outcomes.table c.loop-bank.results)) c.index_mut.result.now exists is inv.cuts led.0 led.1 led.2 in
     let real = g.R.Outcomes.table c.loop-bank.results in
     let told = g.R.Outcomes.table c.cut_at.new.results in
     let clock = c.index_mut.result.now in
@@ -82,7 +82,7 @@ loop-bank-preserved g c =
       record {
         is = module_kept c.loop-bank.self-inside.shape c.loop-bank.self-inside.seed c.loop-bank.self-inside.feistel items c.loop-bank.self-inside.tick c.loop-bank.self-inside.tick c.loop-bank.bank clock next inv.is inv.is.in_time within is s.1.extends.shape s.1.extends.leads.holds.kept;
         same = inv.same;
-        cuts = cut_one c.args.row c.args.tick old (g.A.CellArray.state c.args.array.now) (g.R.Outcomes.table c.args.results.now) c.requires.forward c.requires.rises c.requires.fresh.exists c.loop-bank.bank items between (as_if c.args.row (out.Cut c.args.tick) real) clock exists is inv.cuts
+        cuts = cut_one c.args.row c.args.tick old (g.A.CellArray.state c.args.array.now) (g.R.Outcomes.table c.args.results.now) c.requires.may_take.forward c.requires.may_take.rises c.requires.may_take.fresh.exists c.loop-bank.bank items between (as_if c.args.row (out.Cut c.args.tick) real) clock exists is inv.cuts
             after (as_if c.args.row (out.Cut c.args.tick) told) next
             (at_as_if c.args.row (out.Cut c.args.tick) xs s.0 clock next between after real told f.leads s.1.extends inv.fresh.exists below c.args.tick c.args.row
             (at_above c.args.tick clock.bank.rows_below c.args.row next told c.cut_at.ensures.at f.below))
@@ -99,7 +99,7 @@ loop-bank-preserved g c =
 
 pub invariant_of-self : goal.invariant_of-self
 invariant_of-self g c =
-    module_at c.loop-bank.self-inside.shape c.loop-bank.self-inside.seed c.loop-bank.self-inside.feistel c.loop-bank.self-inside.banks.items c.loop-bank.self-inside.tick c.args.tick c.loop-bank.invariant.0.is c.requires.within
+    module_at c.loop-bank.self-inside.shape c.loop-bank.self-inside.seed c.loop-bank.self-inside.feistel c.loop-bank.self-inside.banks.items c.loop-bank.self-inside.tick c.args.tick c.loop-bank.invariant.0.is c.requires.may_take.within
 
 pub returns : goal.returns
 returns g c =
@@ -112,7 +112,7 @@ returns g c =
     let banks : s.shape.banks ≡ old.shape.banks = ap (λ (o : ModuleState g.row.B g.row.M g.row.E). o.shape.banks) inv.same in
     let all : c.loop-bank.bank ≡ old.shape.banks =
     reached_all c.loop-bank.bank c.banks-banks.result c.self.inside.shape.banks old.shape.banks c.loop-bank.auto.bank-end c.loop-bank-test.false c.banks-banks.ensures.number ends in
-    let taken = cut_every c.args.row c.args.tick old (g.A.CellArray.state c.args.array.now) (g.R.Outcomes.table c.args.results.now) c.requires.forward c.requires.rises c.requires.fresh.exists c.loop-bank.bank items (g.A.CellArray.state c.loop-bank.array)
+    let taken = cut_every c.args.row c.args.tick old (g.A.CellArray.state c.args.array.now) (g.R.Outcomes.table c.args.results.now) c.requires.may_take.forward c.requires.may_take.rises c.requires.may_take.fresh.exists c.loop-bank.bank items (g.A.CellArray.state c.loop-bank.array)
     (g.R.Outcomes.table c.set.new.self) all
     (subst (CutsUpTo (record { row = c.args.row; tick = c.args.tick; asks = Cuts }) old (g.A.CellArray.state c.args.array.now) (g.R.Outcomes.table c.args.results.now) c.loop-bank.bank items (g.A.CellArray.state c.loop-bank.array))
     (sym c.set.ensures.table) inv.cuts) in

@@ -1,5 +1,5 @@
 use Rattle.std.proofs.Common.{◌≡◌, ℕ, ◌*◌, ◌≤◌}
-use Rattle.end_laws.specs.Ends.{BankEnd}
+use Rattle.right_runs.specs.Ends.{BankEnd}
 use Rattle.pcm_module.specs.{Roles.spares_used_in, State.AreEndsOf}
 use Rattle.pcm_module.proofs.side_by_side.Module.retired.Given as goal
 

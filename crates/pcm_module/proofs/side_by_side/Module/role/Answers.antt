@@ -1,9 +1,7 @@
 use Rattle.std.proofs.Common.{arith, ◌≡◌, ℕ, ◌/◌, ◌<◌, ap, subst}
-use Rattle.wear_report.specs.declared.Role.TheVariants.{Line}
-use Rattle.bank_shape.specs.declared.BankShape.{BankShape}
+use Rattle.bank_shape.specs.{declared.BankShape.BankShape, declared.Role.TheVariants.Line}
 use Rattle.module_shape.specs.{Addresses.{module_of, array_lines_of, bank_shape}, declared.raw.RawShape.RawShape}
-use Rattle.end_laws.specs.Roles.{IsRole}
-use Rattle.run_laws.specs.Runs.{line_named}
+use Rattle.right_runs.specs.{Banks.line_named, Roles.IsRole}
 use Rattle.pcm_module.{specs.State.ModuleState, proofs.EndRoles.{end_at, same_role, line_role, held_within}, proofs.Sizes.module_fits}
 use Rattle.pcm_module.proofs.side_by_side.Module.role.Goals as goal
 

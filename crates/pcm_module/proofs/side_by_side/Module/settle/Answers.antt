@@ -1,4 +1,4 @@
-use Rattle.std.proofs.Common.{◌≤◌, sym, subst}
+use Rattle.std.proofs.Common.{◌≤◌, refl, sym, subst}
 use Rattle.pcm_module.{specs.Replaying.IsReplayed, specs.Settling.AreSettled, specs.State.ModuleState, proofs.Settles.{may_settle, settle_every, module_settled}}
 use Rattle.pcm_module.proofs.{Views.state_of, side_by_side.Module.settle.Given.Over, side_by_side.Module.settle.Goals.After-settle_all}
 use Rattle.pcm_module.proofs.side_by_side.Module.settle.Goals as goal
@@ -52,3 +52,18 @@ returns-clause-goes_on g c = c.settle_all.ensures.goes_on
 pub returns-clause-order : goal.returns-clause-order
 returns-clause-order g c =
     rw (← c.self.view_is) (c.settle_all.ensures.order (state_of c.self.inside) (may_settle c.self.view_is c.self.invariant c.requires.forward c.requires.within c.requires.replays))
+
+pub returns-clause-shape : goal.returns-clause-shape
+returns-clause-shape g c = rw (← c.self.view_is) refl
+
+pub returns-clause-seed : goal.returns-clause-seed
+returns-clause-seed g c = rw (← c.self.view_is) refl
+
+pub returns-clause-going : goal.returns-clause-going
+returns-clause-going g c = rw (← c.self.view_is) at c.requires.going
+
+pub returns-clause-tick : goal.returns-clause-tick
+returns-clause-tick g c = refl
+
+pub returns-clause-rows : goal.returns-clause-rows
+returns-clause-rows g c = rw (← c.self.view_is) refl

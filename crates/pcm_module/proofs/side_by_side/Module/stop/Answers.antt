@@ -1,4 +1,4 @@
-use Rattle.std.proofs.Common.{◌++◌, true}
+use Rattle.std.proofs.Common.{◌++◌, true, refl}
 use Rattle.bank_timing.{specs.Extending.outcome_in, proofs.Sizes.timed_fits}
 use Rattle.run_laws.specs.FinishedLaws.{ends_of}
 use Rattle.pcm_module.{specs.State.{ModuleState, bank_at}, proofs.Draining.{may_stop_all, drain_every, drained_ends, module_drained}, proofs.Views.state_of}
@@ -51,3 +51,12 @@ pub returns-clause-order : goal.returns-clause-order
 returns-clause-order g c =
     let led = rw (← c.self.view_is) at c.requires.replays in
     rw (← c.self.view_is) (c.stop_all.ensures.order (state_of c.self.inside) led.0 (may_stop_all c.self.invariant led.1 led.2 led.3 led.4))
+
+pub returns-clause-finished : goal.returns-clause-finished
+returns-clause-finished g c = refl
+
+pub returns-clause-shape : goal.returns-clause-shape
+returns-clause-shape g c = rw (← c.self.view_is) refl
+
+pub returns-clause-seed : goal.returns-clause-seed
+returns-clause-seed g c = rw (← c.self.view_is) refl

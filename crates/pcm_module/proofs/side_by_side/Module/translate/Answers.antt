@@ -1,6 +1,7 @@
 use Rattle.std.proofs.Common.{arith, ◌≡◌, ℕ, ◌+◌, ◌*◌, ◌<◌, ◌≤◌, sym, subst, ◌∙◌}
 use Rattle.module_shape.specs.Addresses.{module_of, array_lines_of}
-use Rattle.run_laws.{specs.Runs.bank_of_line, proofs.Mixing.lines_law}
+use Rattle.right_runs.specs.Banks.{bank_of_line}
+use Rattle.run_laws.proofs.Mixing.{lines_law}
 use Rattle.pcm_module.{specs.Shaped.IsModule, specs.State.ModuleState, proofs.Translating.{stands_from, stands_to, stands_apart, line_stands}}
 use Rattle.pcm_module.proofs.side_by_side.Module.translate.Goals as goal
 

@@ -9,16 +9,16 @@ arrives : (g : Over) (c : After-index_mut-timed g)
     → ComesTo (state_of c.self.inside) (g.A.CellArray.state c.args.array.now) (g.R.Outcomes.table c.args.results.now) c.args.entry.row c.args.tick c.args.entry.line c.place-place.result.bank c.place-place.result.line c.index_mut-timed.result.now
 arrives g c =
     let place = c.place-place.ensures in
-    comes c.self.view_is c.self.invariant c.requires.led c.requires.forward c.requires.rises c.requires.exists c.requires.fresh
+    comes c.self.view_is c.self.invariant c.requires.may_take.replayed c.requires.may_take.forward c.requires.may_take.rises c.requires.may_take.exist c.requires.may_take.fresh
     place.bank place.line place.bank_exists place.line_exists c.index_mut-timed.ensures.value
 
 pub write_at-requires : goal.write_at-requires
 write_at-requires g c =
     let h = arrives g (goal.at.write_at-requires g c).After-index_mut-timed in
-    (timed_fits g.row.B g.row.M g.row.E c.self.invariant.layout, (entry_fits g.row.B c.self.invariant.layout.shape.1, (may_arrive h c.self.invariant.layout c.requires.within, c.requires.masked)))
+    (timed_fits g.row.B g.row.M g.row.E c.self.invariant.layout, (entry_fits g.row.B c.self.invariant.layout.shape.1, (may_arrive h c.self.invariant.layout c.requires.may_take.within, c.requires.masked)))
 
 pub invariant_of-self : goal.invariant_of-self
-invariant_of-self g c = taken_kept (arrives g (goal.at.invariant_of-self g c).After-index_mut-timed) c.self.invariant c.requires.within c.write_at.ensures.step
+invariant_of-self g c = taken_kept (arrives g (goal.at.invariant_of-self g c).After-index_mut-timed) c.self.invariant c.requires.may_take.within c.write_at.ensures.step
 
 pub returns : goal.returns
 returns g c =

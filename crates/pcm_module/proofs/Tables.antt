@@ -1,4 +1,4 @@
--- The table of a run, by its numbered rows and by its events.
+-- The table of events with outcomes, by its numbered rows and by its events.
 use Rattle.std.proofs.Common.{◌≡◌, ℕ, ◌+◌, ◌-◌, List, [], ◌∷◌, ◌++◌, length, map, reverse, refl, sym, ap, ◌∙◌, arith, append_assoc}
 use Rattle.std.{specs.Prelude.{slice_get, unwrap_or}, proofs.lemmas.List.{append-nil, length_push}}
 use Rattle.masked_bytes.proofs.Lists.{turned}
@@ -9,7 +9,6 @@ use Rattle.trace_rows.specs.Rows.{row_of, rows_with}
 use Rattle.module_laws.specs.Asking.{Asked, row_with}
 use Rattle.bank_timing.specs.Extending.{outcome_in}
 use Rattle.pcm_module.specs.Asking.{asked_by, asked_for}
-use Rattle.pcm_top.specs.Rows.{rows_of}
 
 map-reverse : {A B : Type 0} (f : A → B) (xs ys : List A) → map f (reverse xs ++ ys) ≡ reverse (map f xs) ++ map f ys
 map-reverse f [] ys = refl
@@ -52,10 +51,10 @@ module _ {n : ℕ} where
       ∙ ap (λ (all : List (Outcome n)). map (row_with (outcome_in all)) (numbered (length (before ++ outcome ∷ []) + 1) events)) (sym next)
       ∙ with-outcomes (before ++ outcome ∷ []) events outcomes (omega (arith, size)))
 
-  -- the numbered rows of a run, the newest first, are its table
-  pub rows-are : (events : List (Event n)) (outcomes : List (Outcome n)) → length outcomes ≡ length events
-      → map (row_with (outcome_in outcomes)) (asked_for (reverse events)) ≡ rows_of events outcomes
-  rows-are events outcomes size =
+  -- the numbered rows of events, the newest first, are their table
+  pub rows-forwards : (events : List (Event n)) (outcomes : List (Outcome n)) → length outcomes ≡ length events
+      → map (row_with (outcome_in outcomes)) (asked_for (reverse events)) ≡ reverse (rows_with events outcomes)
+  rows-forwards events outcomes size =
       ap (λ (es : List (Event n)). map (row_with (outcome_in outcomes)) (asked_for es)) (sym (append-nil (reverse events)))
       ∙ ap (map (row_with (outcome_in outcomes))) (asked-forwards events [])
       ∙ map-reverse (row_with (outcome_in outcomes)) (numbered 1 events) []
