@@ -5,8 +5,8 @@ use Rattle.bank_model.specs.Timing.{TimedEvent}
 use Rattle.module_shape.specs.{Limits.IsShape, declared.raw.RawShape.RawShape}
 use Rattle.run_laws.specs.FinishedLaws.{LinesLaw}
 use Rattle.row_printer.specs.{Printing.table_of, Telling.became, declared.told.Told.Told}
-use Rattle.trace_stream.specs.declared.asked.Asked.{Asked}
-use Rattle.row_stream.specs.{Asking.events_in, Serving.{AreKnown, TellsAlong, line_of}}
+use Rattle.trace_stream.specs.{Asked.events_in, declared.asked.Asked.Asked}
+use Rattle.row_stream.specs.Serving.{AreKnown, TellsAlong, line_of}
 use Rattle.moment_laws.{specs.Moments.{AlongLaw, MomentLaw, WasMoment}, specs.Streams.{BegunStreamLaw, WholeStreamLaw}, proofs.Moment.{by-history, by-rows, all-queued}}
 
 pub moment_law : LinesLaw → MomentLaw
@@ -75,5 +75,5 @@ whole_law along n m e job source array told served is row later before same =
     (along n m e job.shape job.seed _ ended.history ended.said is.shape ended.along row later before same)
 
 pub begun_law : AlongLaw → {S : Type 0} → BegunStreamLaw S
-begun_law along n m e job source asked told served is =
+begun_law along n m e job source array asked told served is =
     along n m e job.shape job.seed asked served.history told is.shape served.along

@@ -11,10 +11,11 @@ use Rattle.bank_shape.specs.{declared.BankShape.BankShape, declared.pace.Pace.Pa
 use Rattle.bank_model.specs.{Events.newest as newest_by, Timing.{TimedEvent, core}}
 use Rattle.bank_laws.{specs.Outcomes.rows_from, proofs.Serves.newest_same, proofs.Settling.opens}
 use Rattle.module_shape.specs.{Addresses.{module_of, bank_shape}, Limits.{IsShape, total_of}, declared.raw.RawShape.RawShape}
-use Rattle.module_laws.{specs.Asking.{Asked, row_with, asked_of, bank_table}, proofs.Serving.newest_in_bank, proofs.Tables.rows_of_asked}
+use Rattle.module_laws.{specs.Asking.{Asked, row_with, asked_of}, proofs.Serving.newest_in_bank, proofs.Tables.rows_of_asked}
+use Rattle.right_runs.specs.{Banks.{bank_of_line, line_in_bank, pacing_in}, Tables.bank_table}
 use Rattle.clock_laws.specs.State.{ClockState}
 use Rattle.bank_timing.specs.Extending.{outcome_in}
-use Rattle.run_laws.specs.{FinishedLaws.LinesLaw, Runs.{bank_of_line, line_in_bank, pacing_in}}
+use Rattle.run_laws.specs.FinishedLaws.{LinesLaw}
 use Rattle.pcm_module.specs.{Asking.asked_for, Replaying.{BankReplays, Replays}, State.{ModuleState, bank_at, first_bank}}
 use Rattle.row_stream.{specs.Ending.rows_of, proofs.Tables.rows-are}
 use Rattle.moment_laws.{specs.Moments.{IsQueuedNow, so_far, stand_now}, proofs.Queueing.{IsQueuedBy, by_lines, queued-so-far}, proofs.Rows.{IsRight, bank-so-far, newest-so-far}}

@@ -7,7 +7,8 @@ use Rattle.row_rules.specs.{Answers.accepts, Rows.newest, Table.{is_of, of_bank}
 use Rattle.bank_shape.specs.declared.BankShape.{BankShape}
 use Rattle.bank_model.specs.{Events.{Write, Read, Serve, Begin, Iterate, Cut}, Timing.{Happens, Core, Regs, TimedEvent}}
 use Rattle.bank_laws.specs.Outcomes.{outcome_of, ended, row_with as row_of, rows_from}
-use Rattle.module_laws.specs.Asking.{Asked, row_with, row_in, bank_table, AreAsked, IsAsked}
+use Rattle.module_laws.specs.Asking.{Asked, row_with, AreAsked, IsAsked}
+use Rattle.right_runs.specs.Tables.{row_in, bank_table}
 use Rattle.pcm_module.specs.Replaying.{outcome_so_far}
 use Rattle.moment_laws.specs.Moments.{so_far}
 

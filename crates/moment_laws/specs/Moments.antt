@@ -12,11 +12,11 @@ use Rattle.module_shape.specs.{Limits.{IsShape, total_of}, declared.raw.RawShape
 use Rattle.module_laws.specs.Asking.{Asked}
 use Rattle.bank_invariant.specs.Holds.{stands_for}
 use Rattle.bank_timing.specs.Extending.{outcome_in}
-use Rattle.run_laws.specs.Runs.{bank_of_line, line_in_bank}
+use Rattle.right_runs.specs.Banks.{bank_of_line, line_in_bank}
 use Rattle.pcm_module.specs.{Asking.asked_for, State.{ModuleState, bank_at}}
 use Rattle.row_printer.specs.{Printing.table_of, declared.told.Told.Told}
-use Rattle.trace_stream.specs.declared.asked.Asked.{Asked as StreamAsked}
-use Rattle.row_stream.specs.{Asking.events_in, Ending.rows_of, Serving.{HasServed, TellsAlong}}
+use Rattle.trace_stream.specs.{Asked.events_in, declared.asked.Asked.Asked as StreamAsked}
+use Rattle.row_stream.specs.{Ending.rows_of, Serving.{HasServed, TellsAlong}}
 
 -- a row as it stands: a write whose outcome isn't known yet counts as queued
 abbrev pub so_far : {n : ℕ} → Row n → Row n

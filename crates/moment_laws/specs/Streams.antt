@@ -18,6 +18,6 @@ WholeStreamLaw S =
 -- one of which only first rows were served
 abbrev pub BegunStreamLaw : Type 0 → Type 0
 BegunStreamLaw S =
-    (n m e : ℕ) (job : StreamJob) (source : LentSource S) (asked : List (Asked n)) (told : List (Told n))
-    (served : IsServedInPart n m e job source asked told) → IsStreamJob job
+    (n m e : ℕ) (job : StreamJob) (source : LentSource S) (array : ArrayState n m) (asked : List (Asked n)) (told : List (Told n))
+    (served : IsServedInPart n m e job source array asked told) → IsStreamJob job
     → LosesNothingAlong e job.shape job.seed asked served.history told

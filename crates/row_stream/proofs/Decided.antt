@@ -2,10 +2,10 @@
 use Rattle.std.proofs.Common.{◌≡◌, ℕ, List, [], ◌∷◌, reverse, Option, refl, sym, ap, subst, ◌∙◌}
 use Rattle.std.{specs.Prelude.{Ok, Err}, proofs.lemmas.List.reverse-reverse}
 use Rattle.trace_reader.specs.declared.event.Event.{Event}
-use Rattle.run_laws.specs.Runs.{RunsRightTo}
+use Rattle.right_runs.specs.Runs.{RunsRightTo}
 use Rattle.row_printer.specs.Printing.{table_of}
-use Rattle.trace_stream.specs.{Stream.{front_of, stream_of}, declared.asked.Asked.Asked, declared.asked.Asked.TheVariants.{Happens, Settle}}
-use Rattle.row_stream.specs.{Asking.events_in, Ending.rows_of, Laws.{FaultyLaw, ReadLaw, SettleLaw, without_settles}}
+use Rattle.trace_stream.specs.{Asked.events_in, Stream.{front_of, stream_of}, declared.asked.Asked.Asked, declared.asked.Asked.TheVariants.{Happens, Settle}}
+use Rattle.row_stream.specs.{Ending.rows_of, Laws.{FaultyLaw, ReadLaw, SettleLaw, without_settles}}
 
 module _ {S : Type 0} (left : S → Option (List ℕ)) (taken faults : S → ℕ) where
   pub one-end : ReadLaw left taken faults

@@ -8,8 +8,8 @@ use Rattle.pcm_module.specs.State.{ModuleState}
 use Rattle.row_printer.specs.{declared.snapshot.Snapshot.Snapshot, declared.told.Shown.Shown, declared.told.Told.Told}
 use Rattle.trace_reader.{specs.Events.{AreEventsFor, IsEventFor}, specs.declared.event.Event.Event, proofs.Lawful.lawful-first}
 use Rattle.trace_gen.specs.{Generated.{IsLongMix, generated}, Laws.IsGenerated, declared.mix.Mix.Mix}
-use Rattle.trace_stream.specs.{Laws.all_events, declared.asked.Asked.Asked, declared.asked.Asked.TheVariants.Happens}
-use Rattle.row_stream.specs.{Asking.{behind_of, behind_op, events_in}, Serving.IsServing, declared.stop.Behind.Behind, declared.stop.Behind.TheVariants.Nothing}
+use Rattle.trace_stream.specs.{Asked.events_in, Laws.all_events, declared.asked.Asked.Asked, declared.asked.Asked.TheVariants.Happens}
+use Rattle.row_stream.specs.{Asking.{behind_of, behind_op}, Serving.IsServing, declared.stop.Behind.Behind, declared.stop.Behind.TheVariants.Nothing}
 
 -- a module has a line
 pub total-some : (raw : RawShape) → IsShape raw → 1 ≤ total_of raw

@@ -7,10 +7,10 @@ use Rattle.cell_rows.specs.Device.{ArrayState}
 use Rattle.trace_reader.specs.declared.event.Event.{Event}
 use Rattle.result_rows.specs.{Table.HasRow, declared.Outcome.Outcome}
 use Rattle.row_rules.specs.{Serving.{is_served, may_have, owed}, declared.Asks.Asks, declared.Asks.TheVariants.{Reads, Writes, Cuts}, declared.Row.Row}
-use Rattle.trace_rows.specs.Rows.{row_of, rows_with}
+use Rattle.trace_rows.{specs.Rows.{row_of, rows_with}, proofs.Lines.row-at}
 use Rattle.module_shape.specs.declared.raw.RawShape.{RawShape}
-use Rattle.end_laws.specs.Ends.{BankEnd}
-use Rattle.run_laws.{specs.Runs.RunsRightTo, proofs.Lifting.{each-all, each-passes}}
+use Rattle.right_runs.specs.{Ends.BankEnd, Runs.RunsRightTo}
+use Rattle.run_laws.proofs.Lifting.{each-all, each-passes}
 use Rattle.row_printer.{specs.Printing.table_of, specs.Telling.{outcomes_in, tells, TellsOnce}, specs.declared.told.Told.Told, proofs.Once.stays-told}
 use Rattle.row_stream.{specs.Ending.rows_of, proofs.Growing.none}
 
@@ -36,17 +36,6 @@ module _ {n : ℕ} where
   all-set e raw seed off rows array ends right =
       each-all (λ before r. IsSet r) IsSet (λ before r h. h) rows
       (each-passes (λ before r. IsSet r) is_served (λ before r after h is. unset-not r.tick r.asks (owed before r.asks) r.outcome is h) rows [] right.serves.served)
-
-  -- the row of an event
-  row-at : (events : List (Event n)) (outcomes : List (Outcome n)) (i : ℕ) (event : Event n) (outcome : Outcome n)
-      → slice_get events i ≡ Some event → slice_get outcomes i ≡ Some outcome → slice_get (rows_with events outcomes) i ≡ Some (row_of event outcome)
-  row-at [] outcomes i event outcome at is = absurd (cc at)
-  row-at (first ∷ events) [] i event outcome at is = absurd (cc is)
-  row-at (first ∷ events) (own ∷ outcomes) zero event outcome at is =
-      let same : first ≡ event = cc in
-      let alike : own ≡ outcome = cc in
-      rw (same, alike) refl
-  row-at (first ∷ events) (own ∷ outcomes) (suc i) event outcome at is = row-at events outcomes i event outcome at is
 
   -- each row of a right run was told
   pub each-told : {m : ℕ} (e : ℕ) (raw : RawShape) (seed : ℕ) (off : Bool) (events : List (Event n)) (places : ℕ) (told : List (Told n)) (array : ArrayState n m) (ends : ℕ → BankEnd)

@@ -9,12 +9,12 @@ use Rattle.bank_model.specs.Timing.{TimedEvent}
 use Rattle.bank_timing.specs.Extending.{outcome_in}
 use Rattle.module_shape.specs.declared.raw.RawShape.{RawShape}
 use Rattle.module_laws.specs.Asking.{row_with}
-use Rattle.end_laws.specs.Ends.{BankEnd}
-use Rattle.run_laws.specs.{Finishing.IsFinishedTo, Runs.RunsRightTo}
+use Rattle.right_runs.specs.{Ends.BankEnd, Runs.RunsRightTo}
+use Rattle.run_laws.specs.Finishing.{IsFinishedTo}
 use Rattle.pcm_module.specs.{Asking.asked_for, Draining.IsLastCut, State.{AreEndsOf, ModuleState, bank_at}}
 use Rattle.row_printer.specs.{Printing.table_of, Telling.became, declared.snapshot.Snapshot.Snapshot, declared.told.Shown.Shown, declared.told.Told.Told}
-use Rattle.trace_stream.specs.{declared.asked.Asked.Asked, declared.asked.Asked.TheVariants.{Happens, Settle}}
-use Rattle.row_stream.specs.{Asking.{behind_of, behind_op, cut_if, events_in, tick_reached, with_cut}, Ending.IsLeft, Serving.{ComeByBanks, IsServing, SnapsAlong}}
+use Rattle.trace_stream.specs.{Asked.events_in, declared.asked.Asked.Asked, declared.asked.Asked.TheVariants.{Happens, Settle}}
+use Rattle.row_stream.specs.{Asking.{behind_of, behind_op, cut_if, tick_reached, with_cut}, Ending.IsLeft, Serving.{ComeByBanks, IsServing, SnapsAlong}}
 use Rattle.row_stream.{specs.declared.stop.Behind.Behind, specs.declared.stop.Behind.TheVariants.{Nothing, Going, Off}, proofs.Tables.rows-are}
 
 -- an operation behind which the power is off is a cut

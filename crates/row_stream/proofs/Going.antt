@@ -10,14 +10,13 @@ use Rattle.module_laws.specs.Asking.{Asked as AskedRow}
 use Rattle.bank_timing.specs.Extending.{IsOpen}
 use Rattle.pcm_module.specs.{Asking.{asked_by, asked_for}, Replaying.Replays, State.{ModuleState, AreEndsOf}}
 use Rattle.pcm_module.{specs.Telling.{TellsByBanks, TellsInOrder, is_asked_of, rows_at, rows_taking}, proofs.Asked.{standing_asked, taking_asked}}
-use Rattle.run_laws.specs.Runs.{bank_of_line}
+use Rattle.right_runs.specs.{Banks.bank_of_line, Ends.BankEnd}
 use Rattle.trace_rows.specs.Rows.{asks_of}
 use Rattle.row_printer.specs.{Printing.{Printing, PrintsOn, table_of, table_told}, Snapshots.{AddsDue, is_due}, Telling.{became, outcomes_in, recorded, TellsOnce}}
 use Rattle.row_printer.specs.{declared.snapshot.Snapshot.Snapshot, declared.told.Shown.Shown, declared.told.Told.Told, declared.told.Told.TheVariants.{Became, Settled}}
-use Rattle.trace_stream.specs.{declared.asked.Asked.Asked, declared.asked.Asked.TheVariants.{Happens, Settle}}
-use Rattle.row_stream.specs.{Asking.events_in, Looking.IsSnapshot, Serving.{ComeBehind, ComeByBanks, ComeInOrder, HasServed, IsServing, SnapsAlong}}
+use Rattle.trace_stream.specs.{Asked.events_in, declared.asked.Asked.Asked, declared.asked.Asked.TheVariants.{Happens, Settle}}
+use Rattle.row_stream.specs.{Looking.IsSnapshot, Serving.{ComeBehind, ComeByBanks, ComeInOrder, HasServed, IsServing, SnapsAlong}}
 use Rattle.row_stream.proofs.{Growing.{none, longer, open-last, replays-longer}, Order.{ToldSo, come-by-banks, come-in-order}, Standing.ends-now}
-use Rattle.end_laws.specs.Ends.{BankEnd}
 
 -- a line that answers a settle tells no outcome
 outcomes-settled : {n : ℕ} (told : List (Told n)) (tick : ℕ) → outcomes_in (told ++ Settled tick ∷ []) ≡ outcomes_in told

@@ -8,7 +8,8 @@ use Rattle.result_rows.specs.declared.Outcome.{Outcome}
 use Rattle.bank_model.specs.Timing.{TimedEvent, core}
 use Rattle.clock_laws.specs.State.{ClockState}
 use Rattle.module_laws.specs.Asking.{Asked}
-use Rattle.end_laws.specs.{EndLaws.{IsEndOf, end_of}, Ends.BankEnd}
+use Rattle.end_laws.specs.EndLaws.{IsEndOf, end_of}
+use Rattle.right_runs.specs.Ends.{BankEnd}
 use Rattle.pcm_module.specs.{Replaying.{Replays, ReplaysIn}, State.{AreEndsOf, ModuleState, bank_at, first_bank}}
 use Rattle.row_stream.specs.Looking.{pointers_of_first}
 

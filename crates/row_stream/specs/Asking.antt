@@ -1,16 +1,10 @@
 -- What the rows of a stream ask. Here it stands with the newest first.
 use Rattle.std.specs.Prelude.{ℕ, Bool, true, false, List, [], ◌∷◌}
-use Rattle.trace_reader.specs.{declared.event.Event.Event, declared.event.EventOp.EventOp, declared.event.EventOp.TheVariants.{Read, Write, Mask, Cut}}
+use Rattle.trace_reader.specs.{declared.event.EventOp.EventOp, declared.event.EventOp.TheVariants.{Read, Write, Mask, Cut}}
 use Rattle.trace_stream.specs.{declared.asked.Asked.Asked, declared.asked.Asked.TheVariants.{Happens, Settle}}
 use Rattle.row_stream.specs.{declared.stop.Behind.Behind, declared.stop.Behind.TheVariants.{Nothing, Going, Off}}
 
 module _ {n : ℕ} where
-  -- the events among what rows ask: a settle is none
-  abbrev pub events_in : List (Asked n) → List (Event n)
-  events_in [] = []
-  events_in (Happens event ∷ before) = event ∷ events_in before
-  events_in (Settle tick ∷ before) = events_in before
-
   -- the tick that was reached
   abbrev pub tick_reached : List (Asked n) → ℕ
   tick_reached [] = 0

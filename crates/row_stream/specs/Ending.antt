@@ -8,13 +8,13 @@ use Rattle.bank_timing.specs.Extending.{outcome_in}
 use Rattle.row_rules.specs.declared.Row.{Row}
 use Rattle.trace_rows.specs.Rows.{rows_with}
 use Rattle.module_shape.specs.declared.raw.RawShape.{RawShape}
-use Rattle.end_laws.specs.Ends.{BankEnd}
-use Rattle.run_laws.specs.{Finishing.IsFinishedTo, Runs.RunsRightTo}
+use Rattle.right_runs.specs.{Ends.BankEnd, Runs.RunsRightTo}
+use Rattle.run_laws.specs.Finishing.{IsFinishedTo}
 use Rattle.pcm_module.specs.{Asking.asked_for, State.{AreEndsOf, ModuleState, bank_at}}
 use Rattle.row_printer.specs.{Printing.table_of, Snapshots.{AddsDue, takes_snapshots}, Telling.became, declared.snapshot.Snapshot.Snapshot, declared.told.Shown.Shown}
 use Rattle.row_printer.specs.declared.told.Told.{Told}
-use Rattle.trace_stream.specs.declared.asked.Asked.{Asked}
-use Rattle.row_stream.specs.{Asking.{events_in, tick_reached}, Looking.IsSnapshot, Serving.{ComeByBanks, SnapsAlong, TellsAlong}}
+use Rattle.trace_stream.specs.{Asked.events_in, declared.asked.Asked.Asked}
+use Rattle.row_stream.specs.{Asking.tick_reached, Looking.IsSnapshot, Serving.{ComeByBanks, SnapsAlong, TellsAlong}}
 
 -- the table of events, the newest first, with the outcomes of the rows from the first on: the newest row first
 abbrev pub rows_of : {n : ℕ} → List (Event n) → List (Outcome n) → List (Row n)

@@ -2,12 +2,12 @@
 use Rattle.std.specs.Prelude.{◌≡◌, ℕ, ◌≤◌, Bool, true, List, [], ◌∷◌, ◌++◌, Option}
 use Rattle.cell_rows.specs.Device.{ArrayState}
 use Rattle.module_shape.specs.declared.raw.RawShape.{RawShape}
-use Rattle.end_laws.specs.Ends.{BankEnd}
-use Rattle.run_laws.specs.Runs.{RunsRightTo}
+use Rattle.right_runs.specs.{Ends.BankEnd, Runs.RunsRightTo}
 use Rattle.pcm_module.specs.State.{AreEndsOf, ModuleState}
 use Rattle.row_printer.specs.{Printing.table_of, Telling.{outcomes_in, tells, TellsOnce}, declared.told.Told.Told}
-use Rattle.trace_stream.specs.{Arrived.Comes, declared.asked.Asked.Asked, declared.asked.Asked.TheVariants.{Happens, Settle}, declared.fault.StreamFault.StreamFault}
-use Rattle.row_stream.specs.{Asking.events_in, Ending.{HasEnded, rows_of}, Sourcing.{IsFaulty, IsRead}}
+use Rattle.trace_stream.specs.{Arrived.Comes, Asked.events_in, declared.asked.Asked.Asked, declared.asked.Asked.TheVariants.{Happens, Settle}}
+use Rattle.trace_stream.specs.declared.fault.StreamFault.{StreamFault}
+use Rattle.row_stream.specs.{Ending.{HasEnded, rows_of}, Sourcing.{IsFaulty, IsRead}}
 
 -- an outcome of each of so many rows was told
 abbrev pub TellsEach : {n : ℕ} → ℕ → List (Told n) → Type 0

@@ -1,12 +1,12 @@
 -- What a snapshot of a stream says.
-use Rattle.std.specs.Prelude.{◌≡◌, ℕ, zero, suc, ◌+◌, ◌/◌, ◌==◌, if◌then◌else◌, List}
+use Rattle.std.specs.Prelude.{◌≡◌, ℕ, zero, suc, ◌+◌, ◌/◌, ◌==◌, if◌then◌else◌, Bool, List}
 use Rattle.cell_rows.specs.{Device.ArrayState, Rows.cell}
 use Rattle.cell_wear.specs.Told.{most}
 use Rattle.ecp_line.specs.Layout.{active}
-use Rattle.end_laws.specs.Ends.{BankEnd}
+use Rattle.right_runs.specs.Ends.{BankEnd}
 use Rattle.run_text.specs.{Counting.counts_of, Pulses.pulses_in_all}
 use Rattle.pcm_module.specs.{Roles.spares_used, State.{AreEndsOf, ModuleState}}
-use Rattle.row_printer.specs.{Printing.table_of, declared.snapshot.Snapshot.Snapshot, declared.told.Told.Told}
+use Rattle.row_printer.specs.{Printing.{Printing, table_of}, Snapshots.AddsDue, declared.snapshot.Snapshot.Snapshot, declared.told.Told.Told}
 
 module _ {n m : ℕ} where
   -- the pointers that are active in the first so many lines, by the check cells of each, where a line has e
@@ -32,3 +32,11 @@ pub record IsSnapshot {n m e : ℕ} (places at : ℕ) (told : List (Told n)) (mo
   pub most : snapshot.most ≡ most_pulses array
   pub mean : snapshot.mean ≡ mean_of (pulses_in_all array) array.lines
   pub pointers : snapshot.pointers ≡ pointers_of_first e array array.lines
+
+-- a look at what stands at a tick: where a snapshot is due, one of it comes behind those before, and nothing else that was told changes
+pub record Looks {n m e : ℕ} {S : Type 0} (due : Bool) (at : ℕ) (module_ : ModuleState n m e) (array : ArrayState n m) (old new : Printing n S) : Type 0 where
+  pub rows : new.rows ≡ old.rows
+  pub told : new.told ≡ old.told
+  pub prints : new.prints ≡ old.prints
+  pub snapshots : (ends : ℕ → BankEnd) → AreEndsOf module_ ends
+      → AddsDue due (IsSnapshot old.rows at old.told module_ array) old.snapshots new.snapshots

@@ -5,12 +5,12 @@ use Rattle.trace_reader.specs.{Rows.latest_tick, declared.event.Event.Event}
 use Rattle.result_rows.specs.declared.Outcome.{Outcome}
 use Rattle.bank_model.specs.Timing.{TimedEvent}
 use Rattle.module_shape.specs.declared.raw.RawShape.{RawShape}
-use Rattle.run_laws.specs.Runs.{bank_of_line}
+use Rattle.right_runs.specs.Banks.{bank_of_line}
 use Rattle.pcm_module.specs.{Asking.asked_for, Replaying.Replays, State.ModuleState, Telling.is_asked_of}
-use Rattle.row_printer.specs.{Printing.table_of, Snapshots.{AddsDue, is_due}, Telling.became, declared.snapshot.Snapshot.Snapshot, declared.told.Shown.Shown}
+use Rattle.row_printer.specs.{Printing.{Printing, table_of}, Snapshots.{AddsDue, is_due}, Telling.became, declared.snapshot.Snapshot.Snapshot, declared.told.Shown.Shown}
 use Rattle.row_printer.specs.{declared.told.Told.Told, declared.told.Told.TheVariants.Settled}
-use Rattle.trace_stream.specs.{declared.asked.Asked.Asked, declared.asked.Asked.TheVariants.{Happens, Settle}}
-use Rattle.row_stream.specs.{Asking.{events_in, tick_reached}, Looking.IsSnapshot}
+use Rattle.trace_stream.specs.{Asked.events_in, declared.asked.Asked.Asked, declared.asked.Asked.TheVariants.{Happens, Settle}}
+use Rattle.row_stream.specs.{Asking.tick_reached, Looking.IsSnapshot}
 
 module _ {n m e : ℕ} (raw : RawShape) (seed : ℕ) where
   -- a module of these sizes and this seed was handed these events, and histories of its banks, which asked for exactly these, led to it over the
@@ -88,3 +88,18 @@ pub record IsServing {n m e : ℕ} (raw : RawShape) (seed : ℕ) (asked : List (
   pub counted : places ≡ length (events_in asked)
   pub tick : module_.tick ≡ tick_reached asked
   pub in_time : module_.tick ≤ latest_tick
+
+-- rows may be served by a module over an array, and told by this printer: some were so far
+pub record MayServe {n m e : ℕ} {S : Type 0} (module_ : ModuleState n m e) (array : ArrayState n m) (out : Printing n S) : Type 0 where
+  pub raw : RawShape
+  pub seed : ℕ
+  pub before : List (Asked n)
+  pub serving : IsServing raw seed before module_ array out.rows out.told out.prints out.snapshots
+
+-- whatever was served before, it goes on like this; what is shown of it stays, and the cells' wear is drawn as before
+pub record ServesOn {n m e : ℕ} {S : Type 0} (on : List (Asked n) → List (Asked n)) (old new : ModuleState n m e)
+    (before after : ArrayState n m) (out now : Printing n S) : Type 0 where
+  pub serving : (raw : RawShape) (seed : ℕ) (asked : List (Asked n)) → IsServing raw seed asked old before out.rows out.told out.prints out.snapshots
+      → IsServing raw seed (on asked) new after now.rows now.told now.prints now.snapshots
+  pub prints : now.prints ≡ out.prints
+  pub wear : after.wear ≡ before.wear

@@ -1,5 +1,5 @@
 -- What the rows that a source gave have to do with its bytes. What was asked stands with the newest first.
-use Rattle.std.specs.{Io.KnownBytes.{Consumes, IsAtEnd}, Prelude.{◌≡◌, ℕ, ◌≤◌, ◌^◌, ◌-◌, Bool, true, List, ◌++◌, length, reverse, Option, Ok}}
+use Rattle.std.specs.{Io.KnownBytes.{Consumes, IsAtEnd}, Prelude.{◌≡◌, ℕ, ◌≤◌, ◌^◌, ◌-◌, Bool, true, List, [], ◌++◌, length, reverse, Option, Ok}}
 use Rattle.pcm_io.specs.{Faults.Rose, Taking.Takes}
 use Rattle.trace_stream.specs.{Arrived.Comes, Stream.{HasFault, HasFront, front_of, stream_of}, declared.asked.Asked.Asked, declared.fault.StreamFault.StreamFault}
 use Rattle.trace_stream.specs.declared.fault.StreamFault.TheVariants as fault
@@ -50,6 +50,6 @@ module _ {n : ℕ} (lines : ℕ) {S : Type 0} (left : S → Option (List ℕ)) (
   HasStopped (Input fault.TooMany) = IsFaulty fault.TooMany
   HasStopped (Input fault.Read) = HasCome × Rose (faults old) (faults new)
   HasStopped (Input fault.Endless) = HasCome × (faults new ≡ faults old) × TookPast
-  HasStopped (Input fault.NoMemory) = HasCome × (faults new ≡ faults old)
+  HasStopped (Input fault.NoMemory) = HasCome × (faults new ≡ faults old) × (asked ≡ [])
   HasStopped Endless = HasCome × (faults new ≡ faults old) × (length asked ≡ 2 ^ 64 - 1)
   HasStopped Output = HasCome × (faults new ≡ faults old)

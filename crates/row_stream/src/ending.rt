@@ -6,7 +6,7 @@ ghost use Rattle.row_stream.specs.declared.stop.Behind.TheVariants.{Off};
 ghost use Rattle.trace_stream.specs.declared.asked.Asked.{Asked as StreamAsked};
 ghost use Rattle.row_printer.specs.Printing.{IsPrinting};
 ghost use Rattle.row_stream.specs.Asking.{behind_of, cut_behind, cut_if, off_behind, stays_off, with_cut};
-ghost use Rattle.row_stream.specs.Serving.{IsServing};
+ghost use Rattle.row_stream.specs.Serving.{IsServing, MayServe, ServesOn};
 ghost use Rattle.row_stream.specs.Ending.{EndsShowing, IsLeft};
 
 use crate::looking::show_last;
@@ -121,19 +121,12 @@ fn serve_cut<const B: usize, const M: usize, const E: usize, A: TellsCells<B, M>
 )
     requires layout { IsLayout B M E }
     requires few { out.old.rows < 4294967295 }
-    requires serving { (raw : RawShape) × (seed : ℕ) × (before : List (StreamAsked B))
-        × IsServing raw seed before pcm.old (A.state array.old) out.old.rows out.old.told
-        out.old.prints out.old.snapshots }
-    ensures serving { (raw : RawShape) (seed : ℕ) (before : List (StreamAsked B))
-        → IsServing raw seed before pcm.old (A.state array.old) out.old.rows out.old.told
-        out.old.prints out.old.snapshots
-        → IsServing raw seed (cut_behind before) pcm.new (A.state array.new) out.new.rows
-        out.new.told out.new.prints out.new.snapshots }
-    ensures prints { out.new.prints ≡ out.old.prints }
+    requires serving { MayServe pcm.old (A.state array.old) out.old }
+    ensures serves { ServesOn cut_behind pcm.old pcm.new (A.state array.old)
+        (A.state array.new) out.old out.new }
     ensures printing { (before : Option (List ℕ)) (first : ℕ)
         → IsPrinting K.written K.faults before first out.old
         → IsPrinting K.written K.faults before first out.new }
-    ensures wear { (A.state array.new).wear ≡ (A.state array.old).wear }
 {
     let event = Event {
         tick: pcm.tick(),

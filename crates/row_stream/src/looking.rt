@@ -1,11 +1,9 @@
 // Snapshots of a module and its array, which are only looked at for them.
-ghost use Rattle.std.specs.Prelude.{◌≡◌, ℕ, List, Option, max, true};
+ghost use Rattle.std.specs.Prelude.{◌≡◌, ℕ, List, Option, true};
 ghost use Rattle.ecp_line.specs.Layout.{IsLayout};
-ghost use Rattle.end_laws.specs.Ends.{BankEnd};
-ghost use Rattle.pcm_module.specs.State.{AreEndsOf};
 ghost use Rattle.row_printer.specs.Printing.{IsPrinting};
-ghost use Rattle.row_printer.specs.Snapshots.{AddsDue, is_due, takes_snapshots};
-ghost use Rattle.row_stream.specs.Looking.{IsSnapshot, mean_of, most_pulses, pointers_of_first};
+ghost use Rattle.row_printer.specs.Snapshots.{is_due, takes_snapshots};
+ghost use Rattle.row_stream.specs.Looking.{Looks, mean_of, most_pulses, pointers_of_first};
 
 use cell_rows::CellArray;
 use cell_wear::TellsCells;
@@ -15,19 +13,13 @@ use pcm_module::Module;
 use row_printer::{RowPrinter, Snapshot};
 use run_text::sum_pulses;
 
-fn greater(one: u64, other: u64) -> u64
-    ensures { result ≡ max one other }
-{
-    if one < other { other } else { one }
-}
-
 // The pulses of the array line that has most.
 fn most<A: CellArray<B, M>, const B: usize, const M: usize>(array: &A) -> u64
     ensures { result ≡ most_pulses (A.state array.now) }
 {
-    let mut most = 0;
+    let mut most: u64 = 0;
     for line in 0..array.lines() {
-        most = greater(most, array.pulses(line));
+        most = most.max(array.pulses(line));
     }
     most
 }
@@ -59,12 +51,8 @@ fn show<const B: usize, const M: usize, const E: usize, A: TellsCells<B, M>, K: 
     out: &mut RowPrinter<B, K>,
 )
     requires layout { IsLayout B M E }
-    ensures rows { out.new.rows ≡ out.old.rows }
-    ensures told { out.new.told ≡ out.old.told }
-    ensures prints { out.new.prints ≡ out.old.prints }
-    ensures snapshots { (ends : ℕ → BankEnd) → AreEndsOf pcm.now ends
-        → AddsDue true (IsSnapshot out.old.rows tick out.old.told pcm.now (A.state array.now))
-        out.old.snapshots out.new.snapshots }
+    ensures looks { Looks true tick pcm.now (A.state array.now)
+        out.old out.new }
     ensures printing { (before : Option (List ℕ)) (first : ℕ)
         → IsPrinting K.written K.faults before first out.old
         → IsPrinting K.written K.faults before first out.new }
@@ -92,13 +80,8 @@ pub fn show_due<
     K: Sink + Drop,
 >(pcm: &Module<B, M, E>, array: &A, out: &mut RowPrinter<B, K>)
     requires layout { IsLayout B M E }
-    ensures rows { out.new.rows ≡ out.old.rows }
-    ensures told { out.new.told ≡ out.old.told }
-    ensures prints { out.new.prints ≡ out.old.prints }
-    ensures snapshots { (ends : ℕ → BankEnd) → AreEndsOf pcm.now ends
-        → AddsDue (is_due out.old.prints out.old.rows)
-        (IsSnapshot out.old.rows pcm.now.tick out.old.told pcm.now (A.state array.now))
-        out.old.snapshots out.new.snapshots }
+    ensures looks { Looks (is_due out.old.prints out.old.rows) pcm.now.tick
+        pcm.now (A.state array.now) out.old out.new }
     ensures printing { (before : Option (List ℕ)) (first : ℕ)
         → IsPrinting K.written K.faults before first out.old
         → IsPrinting K.written K.faults before first out.new }
@@ -117,13 +100,8 @@ pub fn show_last<
     K: Sink + Drop,
 >(tick: u64, pcm: &Module<B, M, E>, array: &A, out: &mut RowPrinter<B, K>)
     requires layout { IsLayout B M E }
-    ensures rows { out.new.rows ≡ out.old.rows }
-    ensures told { out.new.told ≡ out.old.told }
-    ensures prints { out.new.prints ≡ out.old.prints }
-    ensures snapshots { (ends : ℕ → BankEnd) → AreEndsOf pcm.now ends
-        → AddsDue (takes_snapshots out.old.prints)
-        (IsSnapshot out.old.rows tick out.old.told pcm.now (A.state array.now)) out.old.snapshots
-        out.new.snapshots }
+    ensures looks { Looks (takes_snapshots out.old.prints) tick pcm.now (A.state array.now)
+        out.old out.new }
     ensures printing { (before : Option (List ℕ)) (first : ℕ)
         → IsPrinting K.written K.faults before first out.old
         → IsPrinting K.written K.faults before first out.new }

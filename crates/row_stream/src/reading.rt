@@ -10,7 +10,7 @@ ghost use Rattle.trace_stream.specs.Asked.{IsAskedFor};
 ghost use Rattle.trace_stream.specs.declared.asked.Asked.{Asked as StreamAsked};
 ghost use Rattle.row_printer.specs.Printing.{IsPrinting, text_told};
 ghost use Rattle.row_stream.specs.Asking.{behind_of};
-ghost use Rattle.row_stream.specs.Serving.{IsServing};
+ghost use Rattle.row_stream.specs.Serving.{IsServing, MayServe, ServesOn};
 ghost use Rattle.row_stream.specs.Sourcing.{HasStopped, IsRead};
 
 use crate::serving::serve;
@@ -33,15 +33,9 @@ pub fn feed<const B: usize, const M: usize, const E: usize, A: TellsCells<B, M>,
     requires layout { IsLayout B M E }
     requires asked { IsAskedFor (total_of pcm.old.shape) pcm.old.tick asked.now }
     requires few { out.old.rows < 4294967295 }
-    requires serving { (raw : RawShape) × (seed : ℕ) × (before : List (StreamAsked B))
-        × IsServing raw seed before pcm.old (A.state array.old) out.old.rows out.old.told
-        out.old.prints out.old.snapshots }
-    ensures serving { (raw : RawShape) (seed : ℕ) (before : List (StreamAsked B))
-        → IsServing raw seed before pcm.old (A.state array.old) out.old.rows out.old.told
-        out.old.prints out.old.snapshots
-        → IsServing raw seed (asked.now ∷ before) pcm.new (A.state array.new) out.new.rows
-        out.new.told out.new.prints out.new.snapshots }
-    ensures prints { out.new.prints ≡ out.old.prints }
+    requires serving { MayServe pcm.old (A.state array.old) out.old }
+    ensures serves { ServesOn (λ before. asked.now ∷ before) pcm.old pcm.new (A.state array.old)
+        (A.state array.new) out.old out.new }
     ensures printing { (before : Option (List ℕ)) (first : ℕ)
         → IsPrinting K.written K.faults before first out.old
         → IsPrinting K.written K.faults before first out.new }
@@ -52,7 +46,6 @@ pub fn feed<const B: usize, const M: usize, const E: usize, A: TellsCells<B, M>,
         → IsPrinting K.written K.faults before first out.old
         → AppendsPrefix before (K.written out.new.sink) (text_told out.new)
         × Rose first (K.faults out.new.sink)) }
-    ensures wear { (A.state array.new).wear ≡ (A.state array.old).wear }
 {
     serve(pcm, array, asked, out);
     out.flush()

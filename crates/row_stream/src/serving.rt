@@ -9,7 +9,7 @@ ghost use Rattle.trace_stream.specs.Asked.{IsAskedFor};
 ghost use Rattle.trace_stream.specs.declared.asked.Asked.{Asked as StreamAsked};
 ghost use Rattle.trace_stream.specs.declared.asked.Asked.TheVariants.{Happens, Settle};
 ghost use Rattle.row_printer.specs.Printing.{IsPrinting};
-ghost use Rattle.row_stream.specs.Serving.{IsServing};
+ghost use Rattle.row_stream.specs.Serving.{MayServe, ServesOn};
 
 use crate::looking::show_due;
 use cell_wear::TellsCells;
@@ -30,19 +30,12 @@ pub fn serve<const B: usize, const M: usize, const E: usize, A: TellsCells<B, M>
     requires layout { IsLayout B M E }
     requires asked { IsAskedFor (total_of pcm.old.shape) pcm.old.tick asked.now }
     requires few { out.old.rows < 4294967295 }
-    requires serving { (raw : RawShape) × (seed : ℕ) × (before : List (StreamAsked B))
-        × IsServing raw seed before pcm.old (A.state array.old) out.old.rows out.old.told
-        out.old.prints out.old.snapshots }
-    ensures serving { (raw : RawShape) (seed : ℕ) (before : List (StreamAsked B))
-        → IsServing raw seed before pcm.old (A.state array.old) out.old.rows out.old.told
-        out.old.prints out.old.snapshots
-        → IsServing raw seed (asked.now ∷ before) pcm.new (A.state array.new) out.new.rows
-        out.new.told out.new.prints out.new.snapshots }
-    ensures prints { out.new.prints ≡ out.old.prints }
+    requires serving { MayServe pcm.old (A.state array.old) out.old }
+    ensures serves { ServesOn (λ before. asked.now ∷ before) pcm.old pcm.new (A.state array.old)
+        (A.state array.new) out.old out.new }
     ensures printing { (before : Option (List ℕ)) (first : ℕ)
         → IsPrinting K.written K.faults before first out.old
         → IsPrinting K.written K.faults before first out.new }
-    ensures wear { (A.state array.new).wear ≡ (A.state array.old).wear }
 {
     match asked {
         Asked::Happens(event) => serve_event(pcm, array, event, out),
@@ -61,20 +54,12 @@ pub fn serve_event<
     requires layout { IsLayout B M E }
     requires event { IsEventFor (total_of pcm.old.shape) pcm.old.tick event.now }
     requires few { out.old.rows < 4294967295 }
-    requires serving { (raw : RawShape) × (seed : ℕ) × (before : List (StreamAsked B))
-        × IsServing raw seed before pcm.old (A.state array.old) out.old.rows out.old.told
-        out.old.prints out.old.snapshots }
-    ensures serving { (raw : RawShape) (seed : ℕ) (before : List (StreamAsked B))
-        → IsServing raw seed before pcm.old (A.state array.old) out.old.rows out.old.told
-        out.old.prints out.old.snapshots
-        → IsServing raw seed (Happens event.now
-        ∷ before) pcm.new (A.state array.new) out.new.rows out.new.told out.new.prints
-        out.new.snapshots }
-    ensures prints { out.new.prints ≡ out.old.prints }
+    requires serving { MayServe pcm.old (A.state array.old) out.old }
+    ensures serves { ServesOn (λ before. Happens event.now ∷ before) pcm.old pcm.new
+        (A.state array.old) (A.state array.new) out.old out.new }
     ensures printing { (before : Option (List ℕ)) (first : ℕ)
         → IsPrinting K.written K.faults before first out.old
         → IsPrinting K.written K.faults before first out.new }
-    ensures wear { (A.state array.new).wear ≡ (A.state array.old).wear }
 {
     out.add_row();
     let row = out.rows();
@@ -94,19 +79,12 @@ fn serve_settle<
     requires layout { IsLayout B M E }
     requires rises { pcm.old.tick ≤ tick }
     requires in_time { tick ≤ latest_tick }
-    requires serving { (raw : RawShape) × (seed : ℕ) × (before : List (StreamAsked B))
-        × IsServing raw seed before pcm.old (A.state array.old) out.old.rows out.old.told
-        out.old.prints out.old.snapshots }
-    ensures serving { (raw : RawShape) (seed : ℕ) (before : List (StreamAsked B))
-        → IsServing raw seed before pcm.old (A.state array.old) out.old.rows out.old.told
-        out.old.prints out.old.snapshots
-        → IsServing raw seed (Settle tick ∷ before) pcm.new (A.state array.new) out.new.rows
-        out.new.told out.new.prints out.new.snapshots }
-    ensures prints { out.new.prints ≡ out.old.prints }
+    requires serving { MayServe pcm.old (A.state array.old) out.old }
+    ensures serves { ServesOn (λ before. Settle tick ∷ before) pcm.old pcm.new (A.state array.old)
+        (A.state array.new) out.old out.new }
     ensures printing { (before : Option (List ℕ)) (first : ℕ)
         → IsPrinting K.written K.faults before first out.old
         → IsPrinting K.written K.faults before first out.new }
-    ensures wear { (A.state array.new).wear ≡ (A.state array.old).wear }
 {
     pcm.settle(array, tick, out);
     out.tells_once();

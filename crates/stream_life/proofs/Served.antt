@@ -5,9 +5,9 @@ use Rattle.cell_rows.specs.Device.{ArrayState, CellBounds}
 use Rattle.ecp_line.specs.Layout.{IsLayout}
 use Rattle.row_rules.specs.{Ticking.tries, declared.Row.Row}
 use Rattle.module_shape.specs.{Addresses.{module_of, bank_shape}, Limits.IsShape, declared.raw.RawShape.RawShape}
-use Rattle.end_laws.specs.Ends.{BankEnd}
+use Rattle.right_runs.specs.{Banks.rules_in, Ends.BankEnd, Runs.RunsRightTo, Tables.table_in}
 use Rattle.lifetime_laws.specs.Lifetime.{AskedLaw, most_hot_works, most_asked_works}
-use Rattle.run_laws.specs.{Lasting.{AliveLaw, Outlasts, OutlastsAsked}, Runs.{RunsRightTo, table_in, rules_in}}
+use Rattle.run_laws.specs.Lasting.{AliveLaw, Outlasts, OutlastsAsked}
 use Rattle.stream_life.specs.{CutOff.CutOffLaw, Lasting.{IsAliveTo, StreamLastingLaw, AskedStreamLaw, rows_served}}
 
 -- what a trace asks for is no less than what it stores

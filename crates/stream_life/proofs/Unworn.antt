@@ -2,16 +2,14 @@
 use Rattle.std.proofs.Common.{◌≡◌, ◌⊎◌, inl, inr, ℕ, zero, suc, ◌+◌, ◌-◌, ◌*◌, ◌/◌, ◌<◌, ◌≤◌, ◌&&◌, ◌||◌, not, Bool, true, false, List, [], ◌∷◌, refl, arith}
 use Rattle.std.{specs.Prelude.IsTrue, proofs.Math.Nat.mul-le-mul_left, proofs.lemmas.Bool.{and_parts, and_from, false_from_ne_true}, proofs.lemmas.Nat.div_below}
 use Rattle.cell_rows.specs.Device.{ArrayState}
-use Rattle.ecp_line.specs.Layout.{IsLayout}
+use Rattle.ecp_line.specs.{ArrayLines.is_worn_at, Layout.IsLayout}
 use Rattle.row_rules.specs.{Answers.is_queued, Rows.{each_row, asks_write}, Table.KeepsRows, Ticking.tries, Wearing.worn_row, declared.Row.Row, declared.Rules.Rules}
 use Rattle.bank_shape.specs.{Shape.{slots_of, lines_in}, declared.BankShape.BankShape}
 use Rattle.bank_shape.specs.declared.Home.TheVariants as home
 use Rattle.module_shape.specs.Addresses.{module_of, bank_shape}
-use Rattle.bank_laws.specs.{Laws.{KeepsPlaces, KeepsPlacesTo, is_worn_at}, Places.{is_worn_out, may_leave, is_wear_true_to, pulses_among}}
-use Rattle.end_laws.specs.{Ends.IsRemapped, Roles.used_among}
-use Rattle.lifetime_laws.specs.{Endurance.{KeepsControls, SoundRowsLaw, UnwornLaw, is_unrefused}, Lifetime.{BearsWorks, ControlsLaw, HotLinesLaw, KeepsLines, most_hot_works}}
-use Rattle.lifetime_laws.specs.Works.{most_works}
-use Rattle.run_laws.specs.Runs.{table_in, rules_in}
+use Rattle.right_runs.specs.{Banks.rules_in, Ends.IsRemapped, KeepsLines.KeepsLines, KeepsPlaces.{KeepsPlaces, KeepsPlacesTo, pulses_among}, LineWrites.most_works}
+use Rattle.right_runs.specs.{Roles.used_among, Tables.table_in, WornLines.{is_worn_out, may_leave, is_wear_true_to}}
+use Rattle.lifetime_laws.specs.{Endurance.{KeepsControls, SoundRowsLaw, UnwornLaw, is_unrefused}, Lifetime.{BearsWorks, ControlsLaw, HotLinesLaw, most_hot_works}}
 use Rattle.stream_life.specs.CutOff.{CutOffLaw}
 
 -- ---- the lines

@@ -1,14 +1,13 @@
 -- What a bank is like behind whose last row the power stays off, over cells that endure what its hot lines bring.
 use Rattle.std.specs.Prelude.{◌≡◌, ℕ, ◌+◌, ◌<◌, IsTrue, IsFalse, List, []}
 use Rattle.cell_rows.specs.Device.{ArrayState}
-use Rattle.ecp_line.specs.Layout.{IsLayout}
+use Rattle.ecp_line.specs.{ArrayLines.is_worn_at, Layout.IsLayout}
 use Rattle.row_rules.specs.{Rows.each_row, declared.Row.Row}
 use Rattle.bank_shape.specs.Shape.{slots_of}
 use Rattle.module_shape.specs.{Addresses.{module_of, bank_shape}, Limits.IsShape, declared.raw.RawShape.RawShape}
-use Rattle.bank_laws.specs.{Laws.is_worn_at, Places.may_leave}
-use Rattle.end_laws.specs.{Ends.BankEnd, Roles.used_spares}
+use Rattle.right_runs.specs.{Banks.rules_in, Ends.BankEnd, Roles.used_spares, Runs.StopsRight, Tables.table_in, WornLines.may_leave}
 use Rattle.lifetime_laws.specs.{Endurance.is_unrefused, Lifetime.BearsControls}
-use Rattle.run_laws.specs.{Lasting.Outlasts, Runs.{table_in, rules_in, StopsRight}}
+use Rattle.run_laws.specs.Lasting.{Outlasts}
 
 -- a bank that wore out nowhere before the power went for good: no cell of a slot's own line is stuck, and none such is worn; no row tells
 -- of wear, each slot has its own line, and no spare is used. Writes may stand in its queue, but where cells bear its control lines too

@@ -5,11 +5,12 @@ use Rattle.pcm_cells.specs.Seeded.{SeededArray, seeded_state, bounds_of}
 use Rattle.ecp_line.specs.Layout.{IsLayout}
 use Rattle.row_rules.specs.declared.Row.{Row}
 use Rattle.module_shape.specs.declared.raw.RawShape.{RawShape}
-use Rattle.end_laws.specs.Ends.{BankEnd}
+use Rattle.right_runs.specs.Ends.{BankEnd}
 use Rattle.run_laws.specs.Lasting.{IsAlive, Outlasts, OutlastsAsked}
 use Rattle.row_printer.specs.{Printing.table_of, declared.told.Told.Told}
 use Rattle.stream_words.specs.{Jobs.IsStreamJob, declared.job.StreamJob.StreamJob}
-use Rattle.row_stream.specs.{Asking.{events_in, stays_off, with_cut}, Ending.rows_of}
+use Rattle.trace_stream.specs.Asked.{events_in}
+use Rattle.row_stream.specs.{Asking.{stays_off, with_cut}, Ending.rows_of}
 use Rattle.stream_top.specs.{Calls.LentSource, Streams.{IsServed, is_off}}
 use Rattle.stream_life.specs.CutOff.{IsUnworn}
 

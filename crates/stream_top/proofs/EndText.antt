@@ -3,11 +3,12 @@ use Rattle.std.proofs.Common.{◌≡◌, ℕ, List, [], refl, sym, ap, ◌∙◌
 use Rattle.std.specs.Prelude.{Result, Ok, Err, OnErr, OnOk}
 use Rattle.pcm_io.specs.Reserved.{Reserved, appended, reserved}
 use Rattle.cell_rows.specs.Device.{ArrayState}
-use Rattle.wear_report.specs.{WearText.wear_text, declared.Role.Role}
+use Rattle.wear_report.specs.WearText.{wear_text}
+use Rattle.bank_shape.specs.declared.Role.{Role}
 use Rattle.lines_report.specs.{LinesText.lines_text, declared.row.LineCells.LineCells}
-use Rattle.end_laws.specs.Ends.{BankEnd}
+use Rattle.right_runs.specs.Ends.{BankEnd}
 use Rattle.pcm_image.specs.{Saved.Saved, Spelling.image_bytes}
-use Rattle.image_laws.specs.Saving.{saved_of}
+use Rattle.right_images.specs.Saving.{saved_of}
 use Rattle.image_text.{specs.Sensing.SensesRows, proofs.Sensing.senses-none}
 use Rattle.run_text.specs.{Pulses.pulses_in_all, SummaryText.summary_text, declared.counts.Counts.Counts}
 use Rattle.pcm_module.specs.{Roles.spares_used, State.{AreEndsOf, ModuleState}}

@@ -5,21 +5,21 @@ use Rattle.pcm_io.{specs.Giving.AppendsPrefix, proofs.ByteLemmas.{Appends-Append
 use Rattle.wear_report.specs.WearText.{wear_text}
 use Rattle.lines_report.specs.{LinesText.lines_text, declared.row.LineCells.LineCells}
 use Rattle.module_shape.specs.{Addresses.{array_lines_of, module_of}, Limits.IsShape, declared.raw.RawShape.RawShape}
-use Rattle.end_laws.specs.Ends.{BankEnd}
+use Rattle.right_runs.specs.Ends.{BankEnd}
 use Rattle.run_text.specs.{Counting.counts_of, Pulses.pulses_in_all, SummaryText.summary_text, declared.counts.Counts.Counts}
 use Rattle.cell_rows.specs.Device.{ArrayState}
 use Rattle.pcm_image.specs.{Saved.Saved, Spelling.image_bytes}
-use Rattle.image_laws.specs.Saving.{first_rows, saved_of}
+use Rattle.right_images.specs.Saving.{first_rows, saved_of}
 use Rattle.image_text.{specs.Sensing.SensesRows, proofs.Sensing.senses-none}
 use Rattle.pcm_module.specs.{Roles.spares_used, State.ModuleState}
 use Rattle.module_prints.{specs.Images.{WritesRows, kept_in}, specs.WearReports.{HaveRoles, IsWearReport, cells_at}, proofs.Wearing.{worn-goes_on, worn-none}}
 use Rattle.program_calls.specs.Calls.{GetsPart, IsUntouched, Lent, SinkChange, SinkFails}
 use Rattle.row_printer.specs.{Printing.{stream_text, table_of}, Telling.{outcomes_in, TellsOnce}, declared.snapshot.Snapshot.Snapshot, declared.told.Shown.Shown}
 use Rattle.row_printer.specs.declared.told.Told.{Told}
-use Rattle.row_stream.specs.{Asking.{stays_off, with_cut}, Ending.SnapsAll, Laws.EachToldLaw, Serving.{IsServing, SnapsAlong}}
+use Rattle.row_stream.specs.{Asking.{stays_off, with_cut}, Ending.SnapsAll, Laws.EachToldLaw, Serving.{HasServed, IsServing, SnapsAlong}}
 use Rattle.stream_words.specs.{declared.job.StreamJob.StreamJob, declared.job.StreamPrint.StreamPrint}
 use Rattle.stream_words.specs.declared.job.StreamPrint.TheVariants.{Rows, Summary, Wear, Lines, Image, Snapshots}
-use Rattle.trace_stream.specs.declared.asked.Asked.{Asked}
+use Rattle.trace_stream.specs.{Asked.events_in, declared.asked.Asked.Asked}
 use Rattle.stream_top.specs.{Calls.LentSource, FaultLines.{fault_line, status_of}, Leaving.{IsClosing, Leaves, LeavesLaw, senses_for}}
 use Rattle.stream_top.specs.Promises.{Breaks, Call, EndsCall, IsAsleep, IsRefused, IsStatusOf, IsUnread, KeepsPromises, OthersOn, OthersUntouched, Stops}
 use Rattle.stream_top.specs.Streams.{BreaksOff, Closes, HasPlayed, IsServed, IsServedInPart, StopsBy, Streams, StreamsUpTo, done_by, is_off, rows_told, shown_by, status_done}
@@ -72,23 +72,26 @@ nothing-before (Snapshots every) told snaps is = absurd (cc is)
 
 module _ {S : Type 0} (n m e : ℕ) (job : StreamJob) (source : LentSource S) (module_ : ModuleState n m e) (before : ArrayState n m) (places : ℕ) (told : List (Told n)) (prints : Shown) (snaps : List Snapshot) (alike : prints ≡ shown_by job.print)
     (once : TellsOnce places (outcomes_in told)) where
-  part-of : (asked : List (Asked n)) → IsServing job.shape job.seed asked module_ before places told prints snaps → IsServedInPart n m e job source asked told
-  part-of asked serving = record {
+  part-of : before.wear ≡ Some job.wear → (asked : List (Asked n)) → IsServing job.shape job.seed asked module_ before places told prints snaps → IsServedInPart n m e job source before asked told
+  part-of wear asked serving = record {
     history = serving.history;
     along = serving.along;
+    module_ = module_;
+    left = subst (λ (k : ℕ). HasServed job.shape job.seed (events_in asked) serving.history module_ before (table_of k told)) serving.counted serving.served;
+    wear = wear;
     snapshots = snaps;
     snaps = subst (λ (p : Shown). SnapsAlong e job.shape job.seed p asked serving.history told serving.along snaps) alike serving.snaps;
     once = subst (λ (k : ℕ). TellsOnce k (outcomes_in told)) serving.counted once;
   }
 
   -- a stream that stopped at a fault
-  pub stream-stops : (out : SinkChange) (fault : Fault) (asked : List (Asked n)) → IsServing job.shape job.seed asked module_ before places told prints snaps → StopsBy n m e job source job.input fault asked
-      → Appends out.written_before out.written_now (stream_text prints told snaps) → StreamsUpTo n m e job source out fault
+  pub stream-stops : before.wear ≡ Some job.wear → (out : SinkChange) (fault : Fault) (asked : List (Asked n)) → IsServing job.shape job.seed asked module_ before places told prints snaps → StopsBy n m e job source job.input fault asked
+      → Appends out.written_before out.written_now (stream_text prints told snaps) → StreamsUpTo n m e job source out before fault
   unfolding part-of
-  stream-stops out fault asked serving stops gets = record {
+  stream-stops wear out fault asked serving stops gets = record {
     asked = asked;
     told = told;
-    served = part-of asked serving;
+    served = part-of wear asked serving;
     cause = stops;
     written = subst (λ (p : Shown). Appends out.written_before out.written_now (stream_text p told snaps)) alike gets;
   }
@@ -221,7 +224,7 @@ module _ {S : Type 0} (n m e : ℕ) (job : StreamJob) (source : LentSource S) (m
     served = inr (record {
       asked = asked;
       told = told;
-      served = part-of asked some.0;
+      served = part-of wear asked some.0;
       cause = some.1;
       part = subst (λ (p : Shown). AppendsPrefix out.written_before out.written_now (stream_text p told snaps)) alike part.0;
     });

@@ -1,20 +1,21 @@
 -- What a stream leaves that was served to its end.
-use Rattle.std.proofs.Common.{ℕ, ◌+◌, ◌*◌, ◌^◌, ◌<◌, Bool, true, false, inl, inr, List, ◌++◌, Option, Some, None, refl, sym, arith}
+use Rattle.std.proofs.Common.{ℕ, ◌+◌, ◌^◌, ◌<◌, Bool, true, false, List, ◌++◌, Option, Some, None, refl, sym}
 use Rattle.std.specs.Prelude.{IsSomeAnd, slice_get, unwrap_or}
 use Rattle.cell_rows.specs.Device.{ArrayState}
-use Rattle.bank_shape.specs.{Shape.{slots_of, controls_from, IsBankShape}, declared.BankShape.BankShape}
-use Rattle.bank_laws.specs.Laws.{is_worn_at}
+use Rattle.ecp_line.specs.ArrayLines.{is_worn_at}
 use Rattle.bank_timing.specs.Extending.{outcome_in}
-use Rattle.module_shape.{specs.Addresses.{module_of, array_lines_of, bank_shape}, specs.Limits.IsShape, specs.declared.raw.RawShape.RawShape, proofs.Bounds.banks_apart}
-use Rattle.end_laws.specs.{EndLaws.IsEndOf, Ends.{BankEnd, IsRemapped}, Roles.RoleLaw}
-use Rattle.run_laws.specs.{RowsOfRuns.FewArrayLinesLaw, Runs.{RunsRightTo, line_named}}
+use Rattle.module_shape.specs.{Addresses.{module_of, bank_shape}, Limits.IsShape, declared.raw.RawShape.RawShape}
+use Rattle.end_laws.specs.{EndLaws.IsEndOf, Roles.RoleLaw}
+use Rattle.right_runs.specs.{Banks.line_named, Ends.BankEnd, Runs.RunsRightTo}
+use Rattle.run_laws.proofs.Roles.{below_controls, is_bank_shape}
 use Rattle.row_rules.specs.declared.Row.{Row}
-use Rattle.image_laws.specs.{SavedRuns.{IsLeftTo, SavedLaw, SavedToLaw, SavesRunTo, SensedSince, StaysRightLaw, StaysRightToLaw, StaysStoppedLaw, StoppedSavedLaw}, Saving.saved_of}
+use Rattle.image_laws.specs.SavedRuns.{IsLeftTo, SavedLaw, SavedToLaw, StaysRightLaw, StaysRightToLaw, StaysStoppedLaw, StoppedSavedLaw}
+use Rattle.right_images.specs.{SavesRun.SavesRunTo, Saving.saved_of, SensedSince.SensedSince}
 use Rattle.pcm_module.specs.{Asking.asked_for, State.{ModuleState, bank_at, first_bank}}
 use Rattle.module_prints.specs.{Images.kept_in, WearReports.HaveRoles}
 use Rattle.row_printer.specs.{Printing.table_of, declared.told.Told.Told}
-use Rattle.row_stream.{specs.Asking.events_in, specs.Ending.{HasEnded, rows_of}, proofs.Tables.rows-are}
-use Rattle.trace_stream.specs.declared.asked.Asked.{Asked}
+use Rattle.trace_stream.specs.{Asked.events_in, declared.asked.Asked.Asked}
+use Rattle.row_stream.{specs.Ending.{HasEnded, rows_of}, proofs.Tables.rows-are}
 use Rattle.stream_top.specs.Leaving.{LeavesLaw}
 
 -- the laws of what drained, and of what the power left
@@ -28,38 +29,11 @@ saved-by drained stopped true = stopped
 
 -- ---- roles
 
-is-bank-shape : FewArrayLinesLaw → (raw : RawShape) (bank : ℕ) → IsShape raw → bank < raw.banks → IsBankShape (bank_shape (module_of raw) bank)
-is-bank-shape law raw bank is few = record {
-  some_regions = is.some_regions;
-  few_regions = is.few_regions;
-  some_lines = omega (arith, is.some_lines);
-  few_lines = is.few_lines;
-  few_spares = is.few_spares;
-  some_writes = is.some_writes;
-  few_writes = is.few_writes;
-  some_reads = is.some_reads;
-  few_reads = is.few_reads;
-  some_psi = is.some_psi;
-  few_psi = is.few_psi;
-  fits = fits;
-}
-  where
-    fits : bank * array_lines_of (module_of raw) + array_lines_of (module_of raw) < 2 ^ 32
-    fits = omega (arith, banks_apart bank raw.banks (array_lines_of (module_of raw)) few, law raw is)
-
-below-controls : (shape : BankShape) (worn : ℕ → Bool) (table : ℕ → ℕ) → IsRemapped shape worn table
-    → (slot : ℕ) → slot < slots_of shape → table slot < controls_from shape
-below-controls shape worn table remapped slot exists =
-    elim (remapped.lines slot exists) [
-      | inl own ↦ omega (arith, own, exists)
-      | inr spare ↦ spare.1
-    ]
-
-have-roles : RoleLaw → FewArrayLinesLaw → {n m : ℕ} (e : ℕ) (raw : RawShape) (seed : ℕ) (off : Bool) (rows : List (Row n)) (array : ArrayState n m) (ends : ℕ → BankEnd)
+have-roles : RoleLaw → {n m : ℕ} (e : ℕ) (raw : RawShape) (seed : ℕ) (off : Bool) (rows : List (Row n)) (array : ArrayState n m) (ends : ℕ → BankEnd)
     → IsShape raw → RunsRightTo e raw seed off rows array ends → HaveRoles raw seed ends
-have-roles law few e raw seed off rows array ends is right = λ bank at exists.
-    law (bank_shape (module_of raw) bank) (line_named raw seed bank) (ends bank) at (is-bank-shape few raw bank is exists) (right.end bank exists).lines.apart
-    (below-controls (bank_shape (module_of raw) bank) (is_worn_at e array) (ends bank).table (right.end bank exists).lines)
+have-roles law e raw seed off rows array ends is right = λ bank at exists.
+    law (bank_shape (module_of raw) bank) (line_named raw seed bank) (ends bank) at (is_bank_shape raw bank is exists) (right.end bank exists).lines.apart
+    (below_controls (bank_shape (module_of raw) bank) (is_worn_at e array) (ends bank).table (right.end bank exists).lines)
 
 -- ---- what is saved
 
@@ -100,8 +74,8 @@ module _ {n m e : ℕ} (raw : RawShape) (seed : ℕ) (off : Bool) (asked : List 
       let exists : bank < module_.shape.banks = rw (ended.shape) lt in
       there (λ clock. IsEndOf clock.bank.kept (ended.ends bank)) (slice_get module_.banks bank) (first_bank module_.shape bank) (ended.are bank exists))
 
-pub leaves-law : StaysRightLaw → StaysStoppedLaw → SavedLaw → StoppedSavedLaw → RoleLaw → FewArrayLinesLaw → LeavesLaw
-leaves-law stays stays_stopped saved saved_stopped roles few n m e raw seed off asked module_ before array places told sensed is low senses ended =
+pub leaves-law : StaysRightLaw → StaysStoppedLaw → SavedLaw → StoppedSavedLaw → RoleLaw → LeavesLaw
+leaves-law stays stays_stopped saved saved_stopped roles n m e raw seed off asked module_ before array places told sensed is low senses ended =
     let right = right-now raw seed off asked module_ before array places told sensed ended senses.since (stays-by stays stays_stopped off) is in (
       record {
         since = senses;
@@ -109,5 +83,5 @@ leaves-law stays stays_stopped saved saved_stopped roles few n m e raw seed off 
         left = left-of raw seed off asked module_ before array places told sensed ended senses.since;
         saves = saves-now raw seed off asked module_ before array places told sensed ended senses.since (saved-by saved saved_stopped off) is low right;
       },
-      have-roles roles few e raw seed off (rows_of (events_in asked) (table_of places told)) array ended.ends is right,
+      have-roles roles e raw seed off (rows_of (events_in asked) (table_of places told)) array ended.ends is right,
     )

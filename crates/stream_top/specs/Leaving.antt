@@ -2,21 +2,22 @@
 use Rattle.std.specs.Prelude.{◌≡◌, ℕ, ◌^◌, ◌<◌, Bool, List, []}
 use Rattle.cell_rows.specs.Device.{ArrayState}
 use Rattle.row_rules.specs.declared.Row.{Row}
-use Rattle.wear_report.specs.{WearText.wear_text, declared.Role.Role}
+use Rattle.wear_report.specs.WearText.{wear_text}
+use Rattle.bank_shape.specs.declared.Role.{Role}
 use Rattle.lines_report.specs.{LinesText.lines_text, declared.row.LineCells.LineCells}
 use Rattle.module_shape.specs.{Limits.IsShape, declared.raw.RawShape.RawShape}
-use Rattle.end_laws.specs.Ends.{BankEnd}
-use Rattle.run_laws.specs.Runs.{RunsRightTo}
+use Rattle.right_runs.specs.{Ends.BankEnd, Runs.RunsRightTo}
 use Rattle.pcm_image.specs.{Saved.Saved, Spelling.image_bytes}
-use Rattle.image_laws.specs.{SavedRuns.{IsLeftTo, SavesRunTo}, Saving.saved_of}
+use Rattle.image_laws.specs.SavedRuns.{IsLeftTo}
+use Rattle.right_images.specs.{SavesRun.SavesRunTo, Saving.saved_of}
 use Rattle.image_text.specs.Sensing.{SensesRows}
 use Rattle.run_text.specs.{Pulses.pulses_in_all, SummaryText.summary_text, declared.counts.Counts.Counts}
 use Rattle.pcm_module.specs.{Roles.spares_used, State.ModuleState}
 use Rattle.module_prints.specs.{Images.kept_in, WearReports.{HaveRoles, IsWearReport}}
 use Rattle.row_printer.specs.{Printing.table_of, declared.told.Told.Told}
-use Rattle.row_stream.specs.{Asking.events_in, Ending.{HasEnded, rows_of}}
+use Rattle.trace_stream.specs.{Asked.events_in, declared.asked.Asked.Asked}
+use Rattle.row_stream.specs.Ending.{HasEnded, rows_of}
 use Rattle.stream_words.specs.{declared.job.StreamPrint.StreamPrint, declared.job.StreamPrint.TheVariants.{Rows, Summary, Wear, Lines, Image, Snapshots}}
-use Rattle.trace_stream.specs.declared.asked.Asked.{Asked}
 
 -- rows left a module over an array, of whose lines the first, so many, were sensed since, each once and in their order, at tick 0: by the ends of its
 -- banks they are right over the array as it is now, and the module is saved as what these rows left, with each line's newest bytes

@@ -1,5 +1,6 @@
 pub mod Calls
 pub mod FaultLines
 pub mod Leaving
+pub mod Taking
 pub mod Streams
 pub mod Promises

@@ -55,8 +55,8 @@ module _ {A V S K : Type 0} (call : Call A V S K) where
 
   -- how far it came, and why no further: up to a row, or there was no memory to begin with
   abbrev pub StopsOn : StreamJob → Fault → LineSize → Type 0
-  StopsOn job fault Bytes64 = StreamsUpTo 64 8 6 job call.source call.out.seen fault
-  StopsOn job fault Bytes128 = StreamsUpTo 128 16 8 job call.source call.out.seen fault
+  StopsOn job fault Bytes64 = StreamsUpTo 64 8 6 job call.source call.out.seen call.array.seen.0 fault
+  StopsOn job fault Bytes128 = StreamsUpTo 128 16 8 job call.source call.out.seen call.wide.seen.0 fault
 
   abbrev pub Stops : Result StreamJob Refusal → Fault → Type 0
   Stops (Err e) fault = ((fault ≡ Usage) ⊎ (fault ≡ NoMemory)) × IsAsleep

@@ -17,9 +17,9 @@ use Rattle.row_printer.specs.declared.told.Shown.TheVariants as shown
 use Rattle.stream_words.specs.{declared.job.End.End, declared.job.End.TheVariants.{Drain, Off}, declared.job.StreamJob.StreamJob, declared.job.StreamPrint.StreamPrint}
 use Rattle.stream_words.specs.declared.job.StreamPrint.TheVariants.{Rows, Summary, Wear, Lines, Image, Snapshots}
 use Rattle.trace_gen.specs.Generated.{generated}
-use Rattle.trace_stream.specs.{Laws.all_events, declared.asked.Asked.Asked}
+use Rattle.trace_stream.specs.{Asked.events_in, Laws.all_events, declared.asked.Asked.Asked}
 use Rattle.trace_stream.specs.declared.fault.StreamFault.TheVariants as from
-use Rattle.row_stream.specs.{Asking.{events_in, stays_off, with_cut}, Ending.{EndsShowing, HasEnded, SnapsAll, rows_of}, Laws.TellsEach, Serving.{SnapsAlong, TellsAlong}}
+use Rattle.row_stream.specs.{Asking.{stays_off, with_cut}, Ending.{EndsShowing, HasEnded, SnapsAll, rows_of}, Laws.TellsEach, Serving.{HasServed, SnapsAlong, TellsAlong}}
 use Rattle.row_stream.specs.{Sourcing.{HasStopped, IsRead}, declared.stop.Stop.Stop, declared.stop.Stop.TheVariants.{Input as No, Endless, Output}}
 use Rattle.stream_top.specs.{Calls.LentSource, Leaving.{IsClosing, Leaves, senses_for}, declared.done.Done.Done, declared.done.Done.TheVariants.{Whole, Short}}
 use Rattle.stream_top.specs.{declared.fault.Fault.Fault, declared.fault.Fault.TheVariants.{Usage, Trace, Read, Write, TooLong, NoMemory}}
@@ -125,10 +125,13 @@ module _ {S : Type 0} (n m e : ℕ) (job : StreamJob) (source : LentSource S) wh
       IsClosing job.shape job.seed served.places (counts_of (table_of served.places told)) served.ended.ends array (cells_at e array changes) served.saved job.print text
 
   -- only its first rows were, which asked this, and this was told: row by row what became known, once of a row; and
-  -- these snapshots were taken, each of what its row left
-  pub record IsServedInPart (asked : List (Asked n)) (told : List (Told n)) : Type 0 where
+  -- these snapshots were taken, each of what its row left. The array, which was powered up with the job's wear, is as the last of these rows left it
+  pub record IsServedInPart (array : ArrayState n m) (asked : List (Asked n)) (told : List (Told n)) : Type 0 where
     pub history : ℕ → List (TimedEvent n m)
     pub along : TellsAlong e job.shape job.seed asked history told
+    pub module_ : ModuleState n m e
+    pub left : HasServed job.shape job.seed (events_in asked) history module_ array (table_of (length (events_in asked)) told)
+    pub wear : array.wear ≡ Some job.wear
     pub snapshots : List Snapshot
     pub snaps : SnapsAlong e job.shape job.seed (shown_by job.print) asked history told along snapshots
     pub once : TellsOnce (length (events_in asked)) (outcomes_in told)
@@ -146,10 +149,10 @@ module _ {S : Type 0} (n m e : ℕ) (job : StreamJob) (source : LentSource S) wh
       pub ending : done ≡ done_by (table_of served.places told)
 
     -- it stopped at this fault; exactly what was known by then was written
-    pub record StreamsUpTo (fault : Fault) : Type 0 where
+    pub record StreamsUpTo (array : ArrayState n m) (fault : Fault) : Type 0 where
       pub asked : List (Asked n)
       pub told : List (Told n)
-      pub served : IsServedInPart asked told
+      pub served : IsServedInPart array asked told
       pub cause : StopsBy job.input fault asked
       pub written : Gets out (stream_text (shown_by job.print) told served.snapshots)
 
@@ -165,16 +168,16 @@ module _ {S : Type 0} (n m e : ℕ) (job : StreamJob) (source : LentSource S) wh
       pub rows : job.print ≡ Image → WritesRows array served.saved out.written_before out.written_now
 
     -- its first rows were served, and first bytes of what was told of them were written
-    pub record BeginsInPart : Type 0 where
+    pub record BeginsInPart (array : ArrayState n m) : Type 0 where
       pub asked : List (Asked n)
       pub told : List (Told n)
-      pub served : IsServedInPart asked told
+      pub served : IsServedInPart array asked told
       pub cause : StopsBy job.input Write asked
       pub part : GetsPart out (stream_text (shown_by job.print) told served.snapshots)
 
     -- the output failed, behind the last row or before
     pub record BreaksOff (array : ArrayState n m) (changes : ℕ → Option (ℕ → ℕ)) : Type 0 where
-      pub served : StreamsInPart array changes ⊎ BeginsInPart
+      pub served : StreamsInPart array changes ⊎ BeginsInPart array
       pub fails : SinkFails out
 
   -- how a stream ends: it is served to its end; or the output fails; or it stops at a fault that has its cause; or there is no memory to begin with,
@@ -183,5 +186,5 @@ module _ {S : Type 0} (n m e : ℕ) (job : StreamJob) (source : LentSource S) wh
     pub done : IfOk result (Streams out.seen array changes)
     pub write : result ≡ Err Write → BreaksOff out.seen array changes
     pub cause : IfErr result (λ fault. fault ≢ Write
-        → StreamsUpTo out.seen fault ⊎ ((fault ≡ NoMemory) × (source.now ≡ source.before) × IsUntouched out))
+        → StreamsUpTo out.seen array fault ⊎ ((fault ≡ NoMemory) × (source.now ≡ source.before) × IsUntouched out))
     pub unread : is_source job.input ≡ false → source.now ≡ source.before

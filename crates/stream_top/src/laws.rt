@@ -6,7 +6,6 @@ use image_laws::{
     images_are_of_their_runs, sensed_runs_stay_right, sensed_stops_stay_right,
     stopped_images_are_of_their_runs,
 };
-use run_laws::array_lines_are_few;
 
 /// What a stream leaves that has ended, drained or with the power off, stays right where its array is only sensed, is saved with each
 /// line's newest bytes, and has one role for each array line.
@@ -18,5 +17,4 @@ pub fn ended_streams_are_kept()
     images_are_of_their_runs();
     stopped_images_are_of_their_runs();
     lines_have_one_role();
-    array_lines_are_few();
 }

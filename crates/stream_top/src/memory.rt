@@ -1,10 +1,8 @@
 // The memory of a stream.
-ghost use Rattle.std.specs.Prelude.{◌≡◌, ◌≤◌, ◌<◌, ◌^◌, ℕ, List, [], IfOk, Some, false};
-ghost use Rattle.pcm_io.specs.Reserved.{reserved};
+ghost use Rattle.std.specs.Prelude.{◌≤◌, IfOk};
 ghost use Rattle.ecp_line.specs.Layout.{IsLayout};
-ghost use Rattle.row_printer.specs.declared.told.Shown.{Shown};
-ghost use Rattle.row_stream.specs.Serving.{IsServing};
 ghost use Rattle.stream_words.specs.Jobs.{IsStreamJob};
+ghost use Rattle.stream_top.specs.Taking.{HasTaken};
 
 use cell_rows::CellArray;
 use pcm_io::Text;
@@ -23,11 +21,8 @@ pub fn take_memory<const B: usize, const M: usize, const E: usize, A: CellArray<
     requires layout { IsLayout B M E }
     requires wide { 16 ≤ B }
     requires job { IsStreamJob job.now }
-    ensures ready { IfOk result (λ taken. (shown : Shown)
-        → IsServing job.now.shape job.now.seed [] taken.0 (A.state array.new) 0 [] shown []) }
-    ensures wear { IfOk result (λ taken. (A.state array.new).wear ≡ Some job.now.wear) }
-    ensures seed { IfOk result (λ taken. job.now.seed < 2 ^ 64) }
-    ensures text { IfOk result (λ taken. taken.1 ≡ reserved TEXT_ROOM) }
+    ensures taken { IfOk result (λ taken.
+        HasTaken job.now taken.0 (A.state array.new) taken.1) }
 {
     array.power_up(alloc, job.shape.array_lines(), job.wear)?;
     Ok((

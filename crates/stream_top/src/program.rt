@@ -61,8 +61,8 @@ fn stream_on<A: TellsCells<64, 8>, V: TellsCells<128, 16>, S: Source, K: Sink + 
 // The job of the words.
 fn read_words(alloc: Global, words: &[String]) -> Result<StreamJob, Fault>
     ensures ok { IfOk result (λ job. stream_job_of (map string_bytes words.now) ≡ Ok job) }
-    ensures err { IfErr result (λ fault. IsRefused (stream_job_of (map string_bytes words.now))
-        fault) }
+    ensures err { IfErr result (λ fault.
+        IsRefused (stream_job_of (map string_bytes words.now)) fault) }
     ensures in_range { IfOk result IsStreamJob }
 {
     match read_stream_job(alloc, words) {

@@ -34,7 +34,7 @@ serve_event-requires g c =
               drawn-next s.0 s.1 c.rows.pcm state c.rows.out.rows c.rows.out.told c.rows.out.prints c.rows.out.snapshots _ c.rows.generator c.rows.behind had c.in-Some.event c.next_event.new.self c.in-Some.ensures,
               (
                 drawn-few s.0 s.1 c.rows.pcm state c.rows.out.rows c.rows.out.told c.rows.out.prints c.rows.out.snapshots _ c.rows.generator c.rows.behind had,
-                (s.0, s.1, had.asked, had.serving),
+                record { raw = s.0; seed = s.1; before = had.asked; serving = had.serving },
               ),
             ),
           ),
@@ -49,10 +49,10 @@ rows-preserved g c = record {
       drawn-more raw own c.rows.pcm (g.A.CellArray.state c.rows.array) c.rows.out.rows c.rows.out.told c.rows.out.prints c.rows.out.snapshots (generated g.row.B c.args.seed (total_of raw) c.args.mix) c.rows.generator c.rows.behind
       (c.rows.invariant.drawn raw own had) c.in-Some.event c.next_event.new.self c.in-Some.ensures
       c.serve_event.new.pcm (g.A.CellArray.state c.serve_event.new.array) c.serve_event.new.out.rows c.serve_event.new.out.told c.serve_event.new.out.prints c.serve_event.new.out.snapshots c.behind_event-behind.result
-      (λ served. c.serve_event.ensures.serving raw own (c.rows.invariant.drawn raw own had).asked served) c.behind_event-behind.ensures;
-  prints = c.serve_event.ensures.prints ∙ c.rows.invariant.prints;
+      (λ served. c.serve_event.ensures.serves.serving raw own (c.rows.invariant.drawn raw own had).asked served) c.behind_event-behind.ensures;
+  prints = c.serve_event.ensures.serves.prints ∙ c.rows.invariant.prints;
   printing = λ before first h. c.serve_event.ensures.printing before first (c.rows.invariant.printing before first h);
-  wear = c.serve_event.ensures.wear ∙ c.rows.invariant.wear;
+  wear = c.serve_event.ensures.serves.wear ∙ c.rows.invariant.wear;
 }
 
 pub returns-then-broken-clause-few : goal.returns-then-broken-clause-few
@@ -62,7 +62,7 @@ returns-then-broken-clause-few g c =
     let more = drawn-more s.0 s.1 c.rows.pcm (g.A.CellArray.state c.rows.array) c.rows.out.rows c.rows.out.told c.rows.out.prints c.rows.out.snapshots all c.rows.generator c.rows.behind
     (c.rows.invariant.drawn s.0 s.1 s.2) c.in-Some.event c.next_event.new.self c.in-Some.ensures
     c.serve_event.new.pcm (g.A.CellArray.state c.serve_event.new.array) c.serve_event.new.out.rows c.serve_event.new.out.told c.serve_event.new.out.prints c.serve_event.new.out.snapshots c.behind_event-behind.result
-    (λ served. c.serve_event.ensures.serving s.0 s.1 (c.rows.invariant.drawn s.0 s.1 s.2).asked served) c.behind_event-behind.ensures in
+    (λ served. c.serve_event.ensures.serves.serving s.0 s.1 (c.rows.invariant.drawn s.0 s.1 s.2).asked served) c.behind_event-behind.ensures in
     drawn-few s.0 s.1 c.serve_event.new.pcm (g.A.CellArray.state c.serve_event.new.array) c.serve_event.new.out.rows c.serve_event.new.out.told c.serve_event.new.out.prints c.serve_event.new.out.snapshots all c.next_event.new.self c.behind_event-behind.result more
 
 pub returns-then-broken-clause-stopped : goal.returns-then-broken-clause-stopped
@@ -70,7 +70,7 @@ returns-then-broken-clause-stopped g c = λ raw own had.
     let more = drawn-more raw own c.rows.pcm (g.A.CellArray.state c.rows.array) c.rows.out.rows c.rows.out.told c.rows.out.prints c.rows.out.snapshots (generated g.row.B c.args.seed (total_of raw) c.args.mix) c.rows.generator c.rows.behind
     (c.rows.invariant.drawn raw own had) c.in-Some.event c.next_event.new.self c.in-Some.ensures
     c.serve_event.new.pcm (g.A.CellArray.state c.serve_event.new.array) c.serve_event.new.out.rows c.serve_event.new.out.told c.serve_event.new.out.prints c.serve_event.new.out.snapshots c.behind_event-behind.result
-    (λ served. c.serve_event.ensures.serving raw own (c.rows.invariant.drawn raw own had).asked served) c.behind_event-behind.ensures in
+    (λ served. c.serve_event.ensures.serves.serving raw own (c.rows.invariant.drawn raw own had).asked served) c.behind_event-behind.ensures in
     (more.asked, more.serving, all_events c.next_event.new.self, more.drawn)
 
 pub returns-then-broken-clause-printing : goal.returns-then-broken-clause-printing

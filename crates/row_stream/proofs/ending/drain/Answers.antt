@@ -1,5 +1,6 @@
 use Rattle.std.proofs.Common.{false}
-use Rattle.row_stream.{specs.Asking.events_in, proofs.Ends.has-ended, proofs.Going.banks-order}
+use Rattle.trace_stream.specs.Asked.{events_in}
+use Rattle.row_stream.proofs.{Ends.has-ended, Going.banks-order}
 use Rattle.row_stream.proofs.ending.drain.Goals as goal
 use Rattle.pcm_module.specs.Asking.{asked_for}
 

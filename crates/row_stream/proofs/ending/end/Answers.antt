@@ -9,15 +9,15 @@ returns-clause-ended g c = λ raw seed asked had is.
     let out = c.leave.new.out in
     let array = g.A.CellArray.state c.leave.new.array in
     let Last : ℕ → Type 0 = λ tick. AddsDue (takes_snapshots out.prints) (IsSnapshot out.rows tick out.told c.leave.new.pcm array) out.snapshots c.show_last.new.out.snapshots in
-    let last : Last (tick_reached (with_cut c.args.off asked)) = subst Last (c.tick-tick.ensures ∙ had.tick ∙ sym (cut-tick c.args.off asked)) (c.show_last.ensures.snapshots left.0.ends left.0.are) in
+    let last : Last (tick_reached (with_cut c.args.off asked)) = subst Last (c.tick-tick.ensures ∙ had.tick ∙ sym (cut-tick c.args.off asked)) (c.show_last.ensures.looks.snapshots left.0.ends left.0.are) in
     let Ends : ℕ → List (Told g.row.B) → Shown → Type 0 = λ rows told prints.
     EndsShowing raw seed (stays_off c.args.off asked) (with_cut c.args.off asked) c.leave.new.pcm array rows told prints c.show_last.new.out.snapshots in
-    subst (λ rows. Ends rows c.show_last.new.out.told c.show_last.new.out.prints) (sym c.show_last.ensures.rows)
-    (subst (λ told. Ends out.rows told c.show_last.new.out.prints) (sym c.show_last.ensures.told)
-    (subst (λ prints. Ends out.rows out.told prints) (sym c.show_last.ensures.prints) (left.0, (out.snapshots, left.1, last))))
+    subst (λ rows. Ends rows c.show_last.new.out.told c.show_last.new.out.prints) (sym c.show_last.ensures.looks.rows)
+    (subst (λ told. Ends out.rows told c.show_last.new.out.prints) (sym c.show_last.ensures.looks.told)
+    (subst (λ prints. Ends out.rows out.told prints) (sym c.show_last.ensures.looks.prints) (left.0, (out.snapshots, left.1, last))))
 
 pub returns-clause-prints : goal.returns-clause-prints
-returns-clause-prints g c = c.show_last.ensures.prints ∙ c.leave.ensures.prints
+returns-clause-prints g c = c.show_last.ensures.looks.prints ∙ c.leave.ensures.prints
 
 pub returns-clause-printing : goal.returns-clause-printing
 returns-clause-printing g c = λ before first h. c.show_last.ensures.printing before first (c.leave.ensures.printing before first h)

@@ -12,12 +12,16 @@ serve_event-requires g c =
         event_fits g.row.B c.requires.layout.shape.1,
         (
           omega arith,
-          (c.requires.layout, (cut-next _ c.args.pcm.now.tick c.tick.result c.tick.ensures s.3.in_time, (c.requires.few, s))),
+          (c.requires.layout, (cut-next _ c.args.pcm.now.tick c.tick.result c.tick.ensures s.serving.in_time, (c.requires.few, s))),
         ),
       ),
     )
 
-pub returns-clause-serving : goal.returns-clause-serving
-returns-clause-serving g c = λ raw seed before had.
-    let P : ℕ → Type 0 = λ tick. IsServing raw seed (Happens (record { tick = tick; op = Cut }) ∷ before) c.serve_event.new.pcm (g.A.CellArray.state c.serve_event.new.array) c.serve_event.new.out.rows c.serve_event.new.out.told c.serve_event.new.out.prints c.serve_event.new.out.snapshots in
-    subst P (c.tick.ensures ∙ had.tick) (c.serve_event.ensures.serving raw seed before had)
+pub returns-clause-serves : goal.returns-clause-serves
+returns-clause-serves g c = record {
+  serving = λ raw seed before had.
+      let P : ℕ → Type 0 = λ tick. IsServing raw seed (Happens (record { tick = tick; op = Cut }) ∷ before) c.serve_event.new.pcm (g.A.CellArray.state c.serve_event.new.array) c.serve_event.new.out.rows c.serve_event.new.out.told c.serve_event.new.out.prints c.serve_event.new.out.snapshots in
+      subst P (c.tick.ensures ∙ had.tick) (c.serve_event.ensures.serves.serving raw seed before had);
+  prints = c.serve_event.ensures.serves.prints;
+  wear = c.serve_event.ensures.serves.wear;
+}

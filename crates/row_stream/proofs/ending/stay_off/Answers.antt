@@ -5,7 +5,7 @@ use Rattle.row_stream.proofs.ending.stay_off.Goals as goal
 pub stop-requires : goal.stop-requires
 stop-requires g c =
     let s = c.requires.serving in
-    (omega arith, (omega arith, (c.requires.layout, (s.0, s.1, cut_behind s.2, c.serve_cut.ensures.serving s.0 s.1 s.2 s.3, refl))))
+    (omega arith, (omega arith, (c.requires.layout, (s.0, s.1, cut_behind s.2, c.serve_cut.ensures.serves.serving s.0 s.1 s.2 s.3, refl))))
 
 pub stop-requires-in-Off : goal.stop-requires-in-Off
 stop-requires-in-Off g c =
@@ -20,7 +20,7 @@ returns-in-Nothing-clause-ended g c = λ raw seed asked had is.
 pub returns-in-Going-clause-ended : goal.returns-in-Going-clause-ended
 returns-in-Going-clause-ended g c = λ raw seed asked had is.
     let P : Behind → Type 0 = λ b. IsLeft raw seed (off_behind b) (cut_if b asked) c.stop.new.pcm (g.A.CellArray.state c.serve_cut.new.array) c.stop.new.out.rows c.stop.new.out.told c.stop.new.out.prints c.stop.new.out.snapshots in
-    subst P (sym c.in-Going.is ∙ is) (c.stop.ensures.ended raw seed (cut_behind asked) (c.serve_cut.ensures.serving raw seed asked had) refl)
+    subst P (sym c.in-Going.is ∙ is) (c.stop.ensures.ended raw seed (cut_behind asked) (c.serve_cut.ensures.serves.serving raw seed asked had) refl)
 
 pub returns-in-Going-clause-printing : goal.returns-in-Going-clause-printing
 returns-in-Going-clause-printing g c = λ before first h. c.stop.ensures.printing before first (c.serve_cut.ensures.printing before first h)

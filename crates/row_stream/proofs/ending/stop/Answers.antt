@@ -1,5 +1,6 @@
 use Rattle.std.proofs.Common.{arith, true}
-use Rattle.row_stream.{specs.Asking.events_in, proofs.Ends.{has-ended, last-cut}, proofs.Going.banks-order}
+use Rattle.trace_stream.specs.Asked.{events_in}
+use Rattle.row_stream.proofs.{Ends.{has-ended, last-cut}, Going.banks-order}
 use Rattle.row_stream.proofs.ending.stop.Goals as goal
 use Rattle.pcm_module.specs.Asking.{asked_for}
 

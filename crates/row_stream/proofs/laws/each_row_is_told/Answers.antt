@@ -1,4 +1,5 @@
-use Rattle.row_stream.{specs.Asking.events_in, proofs.Each.each-told}
+use Rattle.trace_stream.specs.Asked.{events_in}
+use Rattle.row_stream.proofs.Each.{each-told}
 use Rattle.row_stream.proofs.laws.each_row_is_told.Goals as goal
 
 pub returns : goal.returns

@@ -8,5 +8,5 @@ loop-line-init g c = sym (most-zero _)
 
 pub loop-line-preserved : goal.loop-line-preserved
 loop-line-preserved g c =
-    most-on (λ line. ((g.A.CellArray.state c.args.array.now).line line).pulses) c.loop-line.line c.loop-line.most c.pulses.result c.greater-most.result
-    c.loop-line.invariant c.pulses.ensures c.greater-most.ensures
+    most-on (λ line. ((g.A.CellArray.state c.args.array.now).line line).pulses) c.loop-line.line c.loop-line.most c.pulses.result c.max-most.result
+    c.loop-line.invariant c.pulses.ensures c.max-most.ensures

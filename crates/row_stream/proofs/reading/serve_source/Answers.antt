@@ -52,7 +52,7 @@ feed-requires g c =
             c.requires.layout,
             (
               next-asked s.0 s.1 g.S.Source.left g.S.Source.taken g.S.Source.faults c.args.source.now c.rows.pcm (g.A.CellArray.state c.rows.array) c.rows.out.rows c.rows.out.told c.rows.out.prints c.rows.out.snapshots c.rows.source c.rows.stream c.rows.behind c.rows.counter had c.in-Ok-Some.asked lawful,
-              (next-few s.0 s.1 g.S.Source.left g.S.Source.taken g.S.Source.faults c.args.source.now c.rows.pcm (g.A.CellArray.state c.rows.array) c.rows.out.rows c.rows.out.told c.rows.out.prints c.rows.out.snapshots c.rows.source c.rows.stream c.rows.behind c.rows.counter had, (s.0, s.1, had.asked, had.serving)),
+              (next-few s.0 s.1 g.S.Source.left g.S.Source.taken g.S.Source.faults c.args.source.now c.rows.pcm (g.A.CellArray.state c.rows.array) c.rows.out.rows c.rows.out.told c.rows.out.prints c.rows.out.snapshots c.rows.source c.rows.stream c.rows.behind c.rows.counter had, record { raw = s.0; seed = s.1; before = had.asked; serving = had.serving }),
             ),
           ),
         ),
@@ -68,7 +68,7 @@ returns-in_default-feed-clause-few g c =
     let next = c.in-Ok-Some.ensures.ok in
     let row = rw c.in-Ok-Some.field-0-is at c.in-Ok-Some.ensures.row in
     let more = fed-more raw seed g.S.Source.left g.S.Source.taken g.S.Source.faults c.args.source.now c.rows.pcm (g.A.CellArray.state c.rows.array) c.rows.out.rows c.rows.out.told c.rows.out.prints c.rows.out.snapshots c.rows.source c.rows.stream c.rows.behind c.rows.counter had c.feed.new.pcm (g.A.CellArray.state c.feed.new.array) c.feed.new.out.rows c.feed.new.out.told c.feed.new.out.prints c.feed.new.out.snapshots c.next.new.source c.next.new.self c.in-Ok-Some.asked (behind_of (c.in-Ok-Some.asked ∷ []))
-    (λ served. c.feed.ensures.serving raw seed had.asked served) (λ before. behind-any c.in-Ok-Some.asked before) next.0 next.1 next.2 (rw c.in-Ok-Some.field-0-is at next.3) c.in-Ok-Some.ensures.lines row.0 row.1 row.2 (c.in-Ok-Some.ensures.no_fault (λ is. cc is)) in
+    (λ served. c.feed.ensures.serves.serving raw seed had.asked served) (λ before. behind-any c.in-Ok-Some.asked before) next.0 next.1 next.2 (rw c.in-Ok-Some.field-0-is at next.3) c.in-Ok-Some.ensures.lines row.0 row.1 row.2 (c.in-Ok-Some.ensures.no_fault (λ is. cc is)) in
     next-few raw seed g.S.Source.left g.S.Source.taken g.S.Source.faults c.args.source.now c.feed.new.pcm (g.A.CellArray.state c.feed.new.array) c.feed.new.out.rows c.feed.new.out.told c.feed.new.out.prints c.feed.new.out.snapshots c.next.new.source c.next.new.self (behind_of (c.in-Ok-Some.asked ∷ [])) _ more
 
 pub returns-in_default-feed-clause-stopped : goal.returns-in_default-feed-clause-stopped
@@ -77,7 +77,7 @@ returns-in_default-feed-clause-stopped g c = λ raw seed start.
     let next = c.in-Ok-Some.ensures.ok in
     let row = rw c.in-Ok-Some.field-0-is at c.in-Ok-Some.ensures.row in
     let more = fed-more raw seed g.S.Source.left g.S.Source.taken g.S.Source.faults c.args.source.now c.rows.pcm (g.A.CellArray.state c.rows.array) c.rows.out.rows c.rows.out.told c.rows.out.prints c.rows.out.snapshots c.rows.source c.rows.stream c.rows.behind c.rows.counter had c.feed.new.pcm (g.A.CellArray.state c.feed.new.array) c.feed.new.out.rows c.feed.new.out.told c.feed.new.out.prints c.feed.new.out.snapshots c.next.new.source c.next.new.self c.in-Ok-Some.asked (behind_of (c.in-Ok-Some.asked ∷ []))
-    (λ served. c.feed.ensures.serving raw seed had.asked served) (λ before. behind-any c.in-Ok-Some.asked before) next.0 next.1 next.2 (rw c.in-Ok-Some.field-0-is at next.3) c.in-Ok-Some.ensures.lines row.0 row.1 row.2 (c.in-Ok-Some.ensures.no_fault (λ is. cc is)) in (
+    (λ served. c.feed.ensures.serves.serving raw seed had.asked served) (λ before. behind-any c.in-Ok-Some.asked before) next.0 next.1 next.2 (rw c.in-Ok-Some.field-0-is at next.3) c.in-Ok-Some.ensures.lines row.0 row.1 row.2 (c.in-Ok-Some.ensures.no_fault (λ is. cc is)) in (
       more.asked,
       more.serving,
       (
@@ -120,7 +120,8 @@ returns-in-Err-next-clause-stopped g c = λ raw seed start.
       had.asked,
       had.serving,
       fed-stopped raw seed g.S.Source.left g.S.Source.taken g.S.Source.faults c.args.source.now c.rows.pcm (g.A.CellArray.state c.rows.array) c.rows.out.rows c.rows.out.told c.rows.out.prints c.rows.out.snapshots c.rows.source c.rows.stream c.rows.behind c.rows.counter had c.next.new.source c.next.new.self c.in-Err-next.fault e.fault c.rows.invariant.end (λ is. e.read (ap Err is)) (λ is. e.endless (ap Err is))
-          (λ other. e.no_fault (λ is. let same : c.in-Err-next.fault ≡ fault.Read = cc in other same)),
+          (λ other. e.no_fault (λ is. let same : c.in-Err-next.fault ≡ fault.Read = cc in other same))
+          (λ is. e.memory (ap Err is)),
     )
 
 pub rows-preserved : goal.rows-preserved
@@ -131,12 +132,12 @@ rows-preserved g c = record {
       let next = c.in-Ok-Some.ensures.ok in
       let row = rw c.in-Ok-Some.field-0-is at c.in-Ok-Some.ensures.row in
       fed-more raw seed g.S.Source.left g.S.Source.taken g.S.Source.faults c.args.source.now c.rows.pcm (g.A.CellArray.state c.rows.array) c.rows.out.rows c.rows.out.told c.rows.out.prints c.rows.out.snapshots c.rows.source c.rows.stream c.rows.behind c.rows.counter had c.feed.new.pcm (g.A.CellArray.state c.feed.new.array) c.feed.new.out.rows c.feed.new.out.told c.feed.new.out.prints c.feed.new.out.snapshots c.next.new.source c.next.new.self c.in-Ok-Some.asked c.behind_asked-behind.result
-      (λ served. c.feed.ensures.serving raw seed had.asked served) c.behind_asked-behind.ensures next.0 next.1 next.2 (rw c.in-Ok-Some.field-0-is at next.3) c.in-Ok-Some.ensures.lines row.0 row.1 row.2 (c.in-Ok-Some.ensures.no_fault (λ is. cc is));
+      (λ served. c.feed.ensures.serves.serving raw seed had.asked served) c.behind_asked-behind.ensures next.0 next.1 next.2 (rw c.in-Ok-Some.field-0-is at next.3) c.in-Ok-Some.ensures.lines row.0 row.1 row.2 (c.in-Ok-Some.ensures.no_fault (λ is. cc is));
   «end» = c.in-Ok-Some.ensures.end c.rows.invariant.end;
-  prints = c.feed.ensures.prints ∙ c.rows.invariant.prints;
+  prints = c.feed.ensures.serves.prints ∙ c.rows.invariant.prints;
   printing = λ before first h. c.feed.ensures.printing before first (c.rows.invariant.printing before first h);
   written = λ before first h. c.in-Ok-feed.ensures.written before first (c.rows.invariant.printing before first h);
-  wear = c.feed.ensures.wear ∙ c.rows.invariant.wear;
+  wear = c.feed.ensures.serves.wear ∙ c.rows.invariant.wear;
   calm = c.in-Ok-Some.ensures.no_fault (λ is. cc is) ∙ c.rows.invariant.calm;
 }
 

@@ -2,22 +2,20 @@ use Rattle.std.proofs.Common.{◌∙◌}
 use Rattle.row_stream.proofs.Going.{banks-order, serving-settle}
 use Rattle.row_stream.proofs.serving.serve_settle.Goals as goal
 
-pub returns-clause-serving : goal.returns-clause-serving
-returns-clause-serving g c = λ raw seed before had.
-    let on = c.settle.ensures.goes_on in
-    let e = c.settle.ensures in
-    let same = c.settled.ensures.rows in
-    let order = banks-order raw seed before c.args.pcm.now (g.A.CellArray.state c.args.array.now) c.args.out.now.rows c.args.out.now.told c.args.out.now.prints c.args.out.now.snapshots had g.K.Sink.written g.K.Sink.faults c.args.out.now c.settle.new.results c.tells_once.ensures e.order in
-    serving-settle raw seed before c.args.pcm.now (g.A.CellArray.state c.args.array.now) c.args.out.now.rows c.args.out.now.told c.args.out.now.prints c.args.out.now.snapshots had c.args.tick
-    c.settle.new.self (g.A.CellArray.state c.settle.new.array) c.settled.new.self.rows c.settle.new.results.told c.settled.new.self.told c.settled.new.self.prints c.settled.new.self.snapshots
-    (same ∙ on.rows) order.outcomes order.told order.are c.settled.ensures.told e.shape e.seed e.going e.tick c.requires.in_time e.rows (rw same e.table) (rw same e.replays)
-    (c.settled.ensures.prints ∙ on.prints) (c.settled.ensures.snapshots ∙ on.snapshots)
-
-pub returns-clause-prints : goal.returns-clause-prints
-returns-clause-prints g c = c.settled.ensures.prints ∙ c.settle.ensures.goes_on.prints
+pub returns-clause-serves : goal.returns-clause-serves
+returns-clause-serves g c = record {
+  serving = λ raw seed before had.
+      let on = c.settle.ensures.goes_on in
+      let e = c.settle.ensures in
+      let same = c.settled.ensures.rows in
+      let order = banks-order raw seed before c.args.pcm.now (g.A.CellArray.state c.args.array.now) c.args.out.now.rows c.args.out.now.told c.args.out.now.prints c.args.out.now.snapshots had g.K.Sink.written g.K.Sink.faults c.args.out.now c.settle.new.results c.tells_once.ensures e.order in
+      serving-settle raw seed before c.args.pcm.now (g.A.CellArray.state c.args.array.now) c.args.out.now.rows c.args.out.now.told c.args.out.now.prints c.args.out.now.snapshots had c.args.tick
+      c.settle.new.self (g.A.CellArray.state c.settle.new.array) c.settled.new.self.rows c.settle.new.results.told c.settled.new.self.told c.settled.new.self.prints c.settled.new.self.snapshots
+      (same ∙ on.rows) order.outcomes order.told order.are c.settled.ensures.told e.shape e.seed e.going e.tick c.requires.in_time e.rows (rw same e.table) (rw same e.replays)
+      (c.settled.ensures.prints ∙ on.prints) (c.settled.ensures.snapshots ∙ on.snapshots);
+  prints = c.settled.ensures.prints ∙ c.settle.ensures.goes_on.prints;
+  wear = c.settle.ensures.stays.wear;
+}
 
 pub returns-clause-printing : goal.returns-clause-printing
 returns-clause-printing g c = λ before first h. c.settled.ensures.printing before first (c.settle.ensures.goes_on.printing before first h)
-
-pub returns-clause-wear : goal.returns-clause-wear
-returns-clause-wear g c = c.settle.ensures.stays.wear

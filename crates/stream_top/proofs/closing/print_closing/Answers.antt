@@ -2,7 +2,7 @@ use Rattle.std.proofs.Common.{◌∙◌, refl, sym, ap, subst, arith}
 use Rattle.std.specs.{Io.KnownBytes.Appends, Prelude.OnOk}
 use Rattle.pcm_io.{specs.Giving.AppendsPrefix, proofs.ByteLemmas.Appends-nothing}
 use Rattle.run_text.proofs.Gathered.{on_err, on_ok}
-use Rattle.image_laws.specs.Saving.{saved_of}
+use Rattle.right_images.specs.Saving.{saved_of}
 use Rattle.image_text.{specs.Sensing.{SensesRows, SensesSome}, proofs.Sensing.senses-none}
 use Rattle.module_prints.specs.{Images.{WritesRows, kept_in}, WearReports.cells_at}
 use Rattle.stream_top.specs.Leaving.{senses_for}
