@@ -4,7 +4,7 @@ use Rattle.std.{specs.Prelude.{IsSomeAnd, All}, proofs.lemmas.Bool.eqb-false, pr
 use Rattle.masked_bytes.specs.{Entries.{Layer, layer_of, AllMasked}, Masked.{laid, gives_all}, declared.entry.Entry.Entry}
 use Rattle.masked_bytes.proofs.{Layering.{length-laid, laid-all_given, joined-all_given, gives_all-all_given, all_given-gives_all}, Queueing.IsLayer-layer_of}
 use Rattle.cell_rows.specs.{Device.{ArrayState, LineState, Senses}, declared.array.Sense.Sense}
-use Rattle.ecp_line.specs.Reading.{decode, IsSoundLine, IsWornLine}
+use Rattle.ecp_line.specs.{ArrayLines.decoded, Reading.{decode, IsSoundLine, IsWornLine}}
 use Rattle.line_writer.{specs.Orderly.IsLive, proofs.Orderly.AreOrderly-same, proofs.Untouched.AreUntouched-same}
 use Rattle.bank_shape.specs.{Shape.slot_at, declared.BankShape.BankShape, declared.Work.Work, declared.Work.TheVariants.{Nothing, Store, Copy}}
 use Rattle.bank_shape.specs.{declared.answer.ReadAnswer.ReadAnswer, declared.waiting.Waiting.Waiting}
@@ -13,7 +13,7 @@ use Rattle.power_recovery.specs.Kept.{KeptState, array_line, stands_at}
 use Rattle.bank_model.specs.{Answers.{MayAll, IsServed}, Events.{BankEvent, Write, Read, Serve, Begin, Iterate, Cut, newest}, History.{Awaited, awaited, queue, waits, iterated}}
 use Rattle.bank_model.{specs.Touching.Touches, proofs.Newest.length-newest, proofs.Rising.RowsBelow-more}
 use Rattle.bank_invariant.specs.{Holds.{Holds, waiting_of}, Serving.{kept_with, served_from, WaitingLaw, SensedLaw, MayReadLaw, MayServeLaw, ServedLaw}}
-use Rattle.bank_invariant.{specs.State.{BankState, Operation}, specs.Tied.{StandsAs, decoded, IsUnderWay, IsOf, IsRunning, AreSound, AreTied}, proofs.Agreeing.agree_law}
+use Rattle.bank_invariant.{specs.State.{BankState, Operation}, specs.Tied.{StandsAs, IsUnderWay, IsOf, IsRunning, AreSound, AreTied}, proofs.Agreeing.agree_law}
 
 -- Arrays that stand as before
 

@@ -4,7 +4,7 @@ use Rattle.std.{specs.Prelude.{IsSomeAnd, IsTrue, IfSome}, proofs.lemmas.Bool.{c
 use Rattle.masked_bytes.specs.{Entries.{Layer, layer_of, completed, head_line, head_row, AllMasked}, Masked.{laid, gives_all, IsMasked}, declared.entry.Entry.Entry}
 use Rattle.masked_bytes.proofs.{Layering.{laid-all_given, all_given-gives_all}, Standing.{layer_of-head, layer_of-head_other}}
 use Rattle.cell_rows.specs.Device.{ArrayState, LineState}
-use Rattle.ecp_line.{specs.Reading.decode, proofs.Bytes.length-decode}
+use Rattle.ecp_line.{specs.ArrayLines.decoded, specs.Reading.decode, proofs.Bytes.length-decode}
 use Rattle.region_regs.specs.Region.{RegionState, after_store}
 use Rattle.line_writer.specs.Writing.{steps_left, most_steps}
 use Rattle.bank_shape.specs.{Kinds.is_store, Shape.slots_of, declared.Work.Work, declared.Work.TheVariants.{Nothing, Store, Copy}}
@@ -15,7 +15,7 @@ use Rattle.power_recovery.proofs.{Bundle.{next_work-store, none_due, head-known,
 use Rattle.bank_model.specs.{After.work_after, Answers.{IsDone, IsIterated}, Events.{BankEvent, Begin, newest, line_of_row}}
 use Rattle.bank_model.specs.History.{Awaited, waits, iterated, stored_in, moved_in}
 use Rattle.bank_invariant.specs.{Holds.{Holds, IsRegionAfter, stands_for}, State.{BankState, Operation, target_of}, Storing.{StoredLaw, BegunStoredLaw, resting}, Tearing.DiffersAt}
-use Rattle.bank_invariant.{specs.Tied.{decoded, AreSound, IsOf}, proofs.Agreeing.agree_law, proofs.Awaiting.sensed_law, proofs.Iterating.{under_way-steps, served-differs}}
+use Rattle.bank_invariant.{specs.Tied.{AreSound, IsOf}, proofs.Agreeing.agree_law, proofs.Awaiting.sensed_law, proofs.Iterating.{under_way-steps, served-differs}}
 use Rattle.bank_invariant.proofs.{Naming.{AreNamed, queue-named, head-named}, Targets.{next_store-slot, decoded-other, AreSound-differs, AreUntouched-differs, AreOrderly-differs}}
 use Rattle.bank_invariant.proofs.Tearing.{running_of, target_of_running, in_progress_of}
 

@@ -14,9 +14,10 @@ use Rattle.power_recovery.specs.{Kept.{KeptState, IsKept, region_at, slot_of, ar
 use Rattle.power_recovery.proofs.{Bundle.due_region-Some, Placing.{slot_of-within, slot_at-place}}
 use Rattle.bank_model.specs.{Answers.MayAll, Events.{BankEvent, Write, Read, Serve, Begin, Iterate, Cut}, History.{Awaited, waits, iterated}}
 use Rattle.bank_invariant.specs.{Holds.{Holds, waiting_of}, Iterating.{IteratedLaw, IsLater}, State.{BankState, Operation, target_of}, Tearing.DiffersAt}
-use Rattle.bank_invariant.specs.Tied.{decoded, AreSound, IsOf, IsRunning, IsUnderWay}
+use Rattle.bank_invariant.specs.Tied.{AreSound, IsOf, IsRunning, IsUnderWay}
 use Rattle.bank_invariant.proofs.Targets.{target-orderly, next_copy-region, decoded-other, decoded-off, stands_for-differs, AreSound-differs, AreUntouched-differs}
 use Rattle.bank_invariant.proofs.{Targets.AreOrderly-differs, Tearing.{running_of, target_of_running, in_progress_of, not_exhausted_of}}
+use Rattle.ecp_line.specs.ArrayLines.{decoded}
 
 -- each read that waits is of a line of the bank
 pub waits-known : {n : ℕ} (shape : BankShape) (most : ℕ) (h : List (BankEvent n)) → MayAll shape most h

@@ -9,7 +9,8 @@ use Rattle.bank_shape.specs.{Shape.slots_of, declared.BankShape.BankShape}
 use Rattle.bank_shape.specs.declared.answer.ReadAnswer.TheVariants as came
 use Rattle.line_writer.specs.{Orderly.IsLive, Writing.{steps_left, most_steps}}
 use Rattle.power_recovery.specs.Kept.{region_at, stands_at}
-use Rattle.bank_invariant.specs.{Holds.{Holds, IsRegionAfter, stands_for, waiting_of}, State.BankState, Steps.{ForwardedLaw, BusyLaw, CutLaw}, Tied.decoded}
+use Rattle.bank_invariant.specs.{Holds.{Holds, IsRegionAfter, stands_for, waiting_of}, State.BankState, Steps.{ForwardedLaw, BusyLaw, CutLaw}}
+use Rattle.ecp_line.specs.ArrayLines.{decoded}
 
 -- what the invariant takes from a history, besides that its events may happen and its rows
 pub record Said (n : ℕ) : Type 0 where

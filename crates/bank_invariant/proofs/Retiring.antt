@@ -9,9 +9,9 @@ use Rattle.bank_shape.specs.{Shape.slots_of, declared.Work.Work, declared.Work.T
 use Rattle.power_recovery.specs.{Events.{retired_kept, exhausted_kept}, Kept.{KeptState, IsKept, slot_of, array_line, stands_at, target_slot, due_region, due_work}}
 use Rattle.power_recovery.{specs.Slots.bank_lines, proofs.Bundle.{IsKept-exhausted, IsKept-retired}, proofs.Frames.array_line-retired, proofs.Placing.slot_of-within}
 use Rattle.bank_model.specs.{Events.BankEvent, History.{Awaited, waits, iterated, retired}}
-use Rattle.ecp_line.{specs.Reading.{IsSoundLine, IsWornLine}, proofs.Bytes.length-decode}
-use Rattle.bank_invariant.specs.{Holds.{Holds, stands_for}, Retiring.{ExhaustedLaw, RetiredLaw}, State.{BankState, Operation, target_of}, Tearing.DiffersAt}
-use Rattle.bank_invariant.{specs.Tied.{decoded, AreSound}, proofs.Iterating.{under_way-steps, waits-off, served-differs}}
+use Rattle.ecp_line.{specs.ArrayLines.decoded, specs.Reading.{IsSoundLine, IsWornLine}, proofs.Bytes.length-decode}
+use Rattle.bank_invariant.specs.{Holds.{Holds, stands_for}, Retiring.{ExhaustedLaw, RetiredLaw}, State.{BankState, Operation, target_of}, Tearing.DiffersAt, Tied.AreSound}
+use Rattle.bank_invariant.proofs.Iterating.{under_way-steps, waits-off, served-differs}
 use Rattle.bank_invariant.proofs.Targets.{IsTargetOf, laid-whole, decoded-off, stands_for-differs, AreSound-differs, AreUntouched-differs, AreOrderly-differs}
 use Rattle.bank_invariant.proofs.Tearing.{running_of, target_of_running, in_progress_of, not_exhausted_of}
 

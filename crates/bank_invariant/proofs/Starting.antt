@@ -5,13 +5,13 @@ use Rattle.masked_bytes.specs.{Entries.{Layer, layer_of, no_layer, completed, he
 use Rattle.masked_bytes.proofs.{Layering.{length-laid, laid-none_given, gives_all-all_given, laid-again}, Standing.{layer_of-head, layer_of-completed, layer_of-completed_other}}
 use Rattle.masked_bytes.proofs.Truth.{and_second}
 use Rattle.cell_rows.specs.Device.{ArrayState, LineState}
-use Rattle.ecp_line.{specs.Reading.decode, proofs.Bytes.length-decode}
+use Rattle.ecp_line.{specs.ArrayLines.decoded, specs.Reading.decode, proofs.Bytes.length-decode}
 use Rattle.line_writer.specs.Writing.{most_steps}
 use Rattle.bank_shape.specs.{Kinds.{is_store, is_copy}, Shape.slot_at, declared.Work.Work, declared.Work.TheVariants.Store, declared.waiting.Waiting.Waiting}
 use Rattle.power_recovery.specs.{Events.completed_kept, Kept.{KeptState, slot_of, array_line, stands_at, due_region, next_work}, Slots.bank_lines}
 use Rattle.power_recovery.proofs.{Bundle.{next_work-store, next_work-copy, head-known, IsKept-completed}, Frames.next_work-completed}
 use Rattle.bank_model.specs.{Events.newest, History.{begun, due_after}}
-use Rattle.bank_invariant.specs.{Beginning.{BegunStoreLaw, BegunCopyLaw}, Holds.Holds, State.{target_of, is_free}, Tied.{decoded, AreSound, IsOf}}
+use Rattle.bank_invariant.specs.{Beginning.{BegunStoreLaw, BegunCopyLaw}, Holds.Holds, State.{target_of, is_free}, Tied.{AreSound, IsOf}}
 use Rattle.bank_invariant.proofs.{Agreeing.agree_law, Alone.{IsHeadAlone, head-alone}, Awaiting.sensed_law, Finishing.{whole-laid, next_store-line}}
 use Rattle.bank_invariant.proofs.Targets.{next_store-slot, next_copy-region}
 

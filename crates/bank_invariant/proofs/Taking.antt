@@ -2,7 +2,7 @@
 use Rattle.std.proofs.Common.{◌≡◌, ◌≢◌, ℕ, ◌+◌, ◌<◌, ◌==◌, Bool, true, false, if◌then◌else◌, nat_lt, List, [], ◌∷◌, ◌++◌, length, slice_get, Option, Some, None, IfSome, IsSomeAnd, refl, sym, subst, ap, ◌∙◌, arith, eqb-true}
 use Rattle.std.proofs.lemmas.Bool.{eqb-false, lt-ltb}
 use Rattle.cell_rows.specs.Device.{ArrayState}
-use Rattle.ecp_line.proofs.Bytes.{length-decode}
+use Rattle.ecp_line.{specs.ArrayLines.decoded, proofs.Bytes.length-decode}
 use Rattle.masked_bytes.specs.Entries.{Layer, stacked, layer_of, candidate, candidate_index, newest_index, merged, merged_at, row_at, RowsApart, AllMasked}
 use Rattle.masked_bytes.{specs.Masked.{laid, IsMasked}, specs.declared.entry.Entry.Entry, proofs.Layering.laid-laid}
 use Rattle.masked_bytes.proofs.Queueing.{IsLayer, IsLayer-layer_of, layer_of-append, layer_of-append_other, newest_index-within, candidate_index-newest, candidate-index}
@@ -14,7 +14,7 @@ use Rattle.bank_shape.specs.declared.answer.WriteAnswer.TheVariants as wrote
 use Rattle.power_recovery.{specs.Events.accepted_kept, specs.Kept.{KeptState, next_work, stands_at}, proofs.Bundle.{IsKept-accepted, next_work-store, next_work-copy}}
 use Rattle.power_recovery.proofs.Frames.{head-accepted_busy, next_work-accepted, next_work-due}
 use Rattle.bank_model.{specs.Answers.{accept_answer, head_busy_after}, specs.Events.{BankEvent, Write, newest}, specs.History.{queue, has_exhausted}, proofs.Rising.RowsBelow-more}
-use Rattle.bank_invariant.specs.{State.{Operation, target_of, is_storing}, Tied.{decoded, IsOf, IsRunning, AreTied}, Writes.{FullLaw, ExhaustedWriteLaw, AcceptedLaw, MergedLaw}}
+use Rattle.bank_invariant.specs.{State.{Operation, target_of, is_storing}, Tied.{IsOf, IsRunning, AreTied}, Writes.{FullLaw, ExhaustedWriteLaw, AcceptedLaw, MergedLaw}}
 use Rattle.bank_invariant.proofs.Quiet.{same_said}
 
 -- Refused

@@ -4,9 +4,9 @@ use Rattle.std.{specs.Prelude.{IsTrue, IsSomeAnd, All}, proofs.lemmas.Bool.cases
 use Rattle.masked_bytes.specs.{Entries.{layer_of, AllMasked}, Masked.{laid, gives_all, all_given}, declared.entry.Entry.Entry}
 use Rattle.masked_bytes.proofs.{Layering.{laid-all_given, all_given-gives_all}, Standing.layer_of-head}
 use Rattle.cell_rows.specs.Device.{ArrayState, LineState}
-use Rattle.ecp_line.{specs.Reading.{decode, IsSoundLine, IsWornLine}, proofs.Bytes.length-decode}
+use Rattle.ecp_line.{specs.ArrayLines.decoded, specs.Reading.{decode, IsSoundLine, IsWornLine}, specs.Untouched.AreUntouched, proofs.Bytes.length-decode}
 use Rattle.program_verify.specs.{Programming.{IsRound, IsTear}, declared.prog.Prog.Prog}
-use Rattle.line_writer.specs.{Orderly.{IsOrderly, AreOrderly}, Untouched.{AreUntouched, LeavesUnused}, declared.writer.LineWriter.LineWriter}
+use Rattle.line_writer.specs.{Orderly.{IsOrderly, AreOrderly}, Untouched.LeavesUnused, declared.writer.LineWriter.LineWriter}
 use Rattle.line_writer.proofs.{Orderly.{orderly-round, orderly-tear, AreOrderly-beside}, Rounds.leaves-round, Untouched.{untouched-round, untouched-tear, AreUntouched-beside}}
 use Rattle.spare_pool.{specs.Table.{line_by, used_by}, proofs.Lines.line_by-within}
 use Rattle.bank_shape.specs.{Shape.{slots_of, slot_at, lines_in}, declared.Work.Work, declared.Work.TheVariants.{Nothing, Store, Copy}, declared.waiting.Waiting.Waiting}
@@ -14,7 +14,7 @@ use Rattle.bank_shape.proofs.Sizes.{slot_at-within}
 use Rattle.start_gap.specs.{Rotation.move_by, declared.Move.Move}
 use Rattle.power_recovery.specs.{Kept.{KeptState, IsKept, AllBelow, region_at, slot_of, array_line, stands_at, target_slot, due_region, due_work, next_work}, Slots.bank_lines}
 use Rattle.power_recovery.proofs.{Bundle.due_region-Some, Placing.{slot_of-within, slot_of-apart, slot_of-off_gap}}
-use Rattle.bank_invariant.specs.{Holds.stands_for, State.target_of, Tearing.DiffersAt, Tied.{decoded, IsUnderWay, AreSound, IsOf}}
+use Rattle.bank_invariant.specs.{Holds.stands_for, State.target_of, Tearing.DiffersAt, Tied.{IsUnderWay, AreSound, IsOf}}
 
 -- the head is of this line and gives each byte of it
 abbrev pub IsGivenWhole : {n : ℕ} → List (Entry n) → ℕ → Type 0

@@ -5,7 +5,8 @@ use Rattle.masked_bytes.specs.{Entries.layer_of, Masked.laid}
 use Rattle.cell_rows.specs.Device.{ArrayState, LineState, CellBounds}
 use Rattle.start_gap.{specs.Rotation.{StandsFor, place_by, move_by, advanced}, specs.declared.Move.Move, proofs.Turning.stands-advanced}
 use Rattle.region_regs.specs.Region.{RegionState, after_move}
-use Rattle.line_writer.specs.{Orderly.IsOrderly, Untouched.HasUntouched, Writing.{steps_left, most_steps}}
+use Rattle.line_writer.specs.{Orderly.IsOrderly, Writing.{steps_left, most_steps}}
+use Rattle.ecp_line.specs.{ArrayLines.decoded, Reading.IsSoundLine, Untouched.HasUntouched}
 use Rattle.bank_shape.{specs.Kinds.is_copy, specs.Shape.{slots_of, slot_at}, specs.declared.Work.Work, specs.declared.Work.TheVariants.Copy, proofs.Sizes.slot_at-within}
 use Rattle.bank_shape.specs.declared.answer.Step.TheVariants as did
 use Rattle.power_recovery.specs.{Kept.{KeptState, IsKept, no_region, region_at, slot_of, array_line, stands_at, due_region, next_work}, Slots.bank_lines}
@@ -13,9 +14,8 @@ use Rattle.power_recovery.proofs.Bundle.{due_region-Some, next_work-copy, IsKept
 use Rattle.power_recovery.proofs.{Frames.{moved_at, moved_kept-at, slot_of-moved, slot_of-moved_region, slot_of-moved_other}, Placing.{slot_of-within, slot_of-off_gap}}
 use Rattle.bank_model.specs.{After.{work_after, may_begin_after}, Answers.IsDone, Events.{BankEvent, Begin, Iterate, newest}}
 use Rattle.bank_model.specs.History.{Awaited, queue, begun, waits, in_progress, iterated, stores, stored_in, moved_in, due_after, first_or}
-use Rattle.ecp_line.specs.Reading.{IsSoundLine}
 use Rattle.bank_invariant.specs.{Holds.{Holds, IsRegionAfter, stands_for}, Moving.{MovedLaw, MovedAtOnceLaw, moved}, State.{BankState, Operation, target_of, is_free}}
-use Rattle.bank_invariant.{specs.Tearing.DiffersAt, specs.Tied.{decoded, AreTied}, proofs.Agreeing.agree_law, proofs.Iterating.{waits-known, under_way-steps}}
+use Rattle.bank_invariant.{specs.Tearing.DiffersAt, specs.Tied.AreTied, proofs.Agreeing.agree_law, proofs.Iterating.{waits-known, under_way-steps}}
 use Rattle.bank_invariant.proofs.Targets.{IsTargetOf, next_copy-region, running-target, decoded-other, AreSound-differs, AreUntouched-differs, AreOrderly-differs}
 use Rattle.bank_invariant.proofs.Tearing.{running_of, in_progress_of}
 

@@ -8,7 +8,8 @@ use Rattle.bank_shape.specs.declared.answer.Step.TheVariants as did
 use Rattle.line_writer.specs.Writing.{steps_left, most_steps}
 use Rattle.power_recovery.specs.{Events.completed_kept, Kept.{KeptState, array_line, next_work}}
 use Rattle.bank_model.specs.Events.{BankEvent, Begin}
-use Rattle.bank_invariant.specs.{Holds.Holds, State.{BankState, Operation, may_begin, target_of}, Tied.{StandsAs, decoded, IsUnderWay}}
+use Rattle.bank_invariant.specs.{Holds.Holds, State.{BankState, Operation, may_begin, target_of}, Tied.{StandsAs, IsUnderWay}}
+use Rattle.ecp_line.specs.ArrayLines.{decoded}
 
 module _ {n : ℕ} where
   -- the array line that a work copies

@@ -9,7 +9,8 @@ use Rattle.line_writer.specs.{Orderly.IsLive, Writing.{steps_left, most_steps}}
 use Rattle.power_recovery.specs.Kept.{KeptState, IsKept, region_at, stands_at}
 use Rattle.bank_model.specs.{Answers.MayAll, Events.{BankEvent, newest, RowsBelow}}
 use Rattle.bank_model.specs.History.{Awaited, queue, waits, in_progress, iterated, stores, stored_in, moved_in, retired, has_exhausted, first_or}
-use Rattle.bank_invariant.specs.{State.BankState, Tied.{decoded, IsTied}}
+use Rattle.bank_invariant.specs.{State.BankState, Tied.IsTied}
+use Rattle.ecp_line.specs.ArrayLines.{decoded}
 
 -- a region's registers and counter after so many moves and stores
 pub record IsRegionAfter (moves stores psi : ℕ) (state : RegionState) : Type 0 where

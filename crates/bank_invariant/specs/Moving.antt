@@ -6,7 +6,8 @@ use Rattle.bank_shape.specs.{Shape.slot_at, declared.Work.TheVariants.Copy}
 use Rattle.bank_shape.specs.declared.answer.Step.TheVariants as did
 use Rattle.power_recovery.specs.{Events.moved_kept, Kept.{array_line, next_work}}
 use Rattle.bank_model.specs.Events.{BankEvent, Begin, Iterate}
-use Rattle.bank_invariant.specs.{Holds.Holds, State.{BankState, Operation, target_of}, Tearing.DiffersAt, Tied.{StandsAs, decoded}}
+use Rattle.bank_invariant.specs.{Holds.Holds, State.{BankState, Operation, target_of}, Tearing.DiffersAt, Tied.StandsAs}
+use Rattle.ecp_line.specs.ArrayLines.{decoded}
 
 -- the bank after the gap move that was due: nothing is in progress
 abbrev pub moved : {n m e : ℕ} → BankState n m e → BankState n m e

@@ -7,7 +7,8 @@ use Rattle.power_recovery.specs.Kept.{stands_at}
 use Rattle.bank_shape.specs.{declared.answer.ReadAnswer.ReadAnswer, declared.answer.Served.Served, declared.waiting.Waiting.Waiting}
 use Rattle.bank_shape.specs.declared.answer.ReadAnswer.TheVariants as came
 use Rattle.bank_model.specs.{Answers.MayHappen, Events.{BankEvent, Read, Serve}}
-use Rattle.bank_invariant.specs.{Holds.Holds, State.BankState, Tied.{StandsAs, decoded}}
+use Rattle.bank_invariant.specs.{Holds.Holds, State.BankState, Tied.StandsAs}
+use Rattle.ecp_line.specs.ArrayLines.{decoded}
 
 -- a read of a line, with what the queue gives of it
 abbrev pub kept_with : {n : ℕ} → ℕ → ℕ → Layer → Waiting n

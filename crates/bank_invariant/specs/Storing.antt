@@ -6,7 +6,8 @@ use Rattle.bank_shape.specs.declared.Work.TheVariants.{Store}
 use Rattle.bank_shape.specs.declared.answer.Step.TheVariants as did
 use Rattle.power_recovery.specs.{Events.{completed_kept, stored_kept}, Kept.{KeptState, array_line, next_work}}
 use Rattle.bank_model.specs.Events.{BankEvent, Begin, Iterate}
-use Rattle.bank_invariant.specs.{Holds.Holds, State.{BankState, Operation, may_begin}, Tearing.DiffersAt, Tied.{StandsAs, decoded}}
+use Rattle.bank_invariant.specs.{Holds.Holds, State.{BankState, Operation, may_begin}, Tearing.DiffersAt, Tied.StandsAs}
+use Rattle.ecp_line.specs.ArrayLines.{decoded}
 
 module _ {n m e : ℕ} where
   -- the bank with no line write in progress that keeps this

@@ -1,9 +1,9 @@
 -- What a step or a tear of the line write in progress does to the array, and the law of a cut that tears one.
 use Rattle.std.specs.Prelude.{◌≡◌, ◌≢◌, ℕ, true, List, ◌∷◌, Some}
 use Rattle.cell_rows.specs.Device.{ArrayState}
-use Rattle.line_writer.specs.{Orderly.IsOrderly, Untouched.HasUntouched}
+use Rattle.line_writer.specs.Orderly.{IsOrderly}
+use Rattle.ecp_line.specs.{Reading.IsSoundLine, Untouched.HasUntouched}
 use Rattle.bank_model.specs.Events.{BankEvent, Cut}
-use Rattle.ecp_line.specs.Reading.{IsSoundLine}
 use Rattle.bank_invariant.specs.{Holds.Holds, State.{BankState, Operation}, Steps.cut_off}
 
 -- an array differs from an older one at most at this line, which is sound, whose stuck cells are stuck still, which is orderly if it was,

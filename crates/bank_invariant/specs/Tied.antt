@@ -2,10 +2,10 @@
 use Rattle.std.specs.Prelude.{◌≡◌, ◌≢◌, ℕ, ◌+◌, ◌<◌, ◌≤◌, IsTrue, List, Option, None, IfSome, IsSomeAnd, slice_get, All}
 use Rattle.masked_bytes.specs.Masked.{gives_all}
 use Rattle.cell_rows.specs.Device.{ArrayState, LineState}
-use Rattle.ecp_line.specs.Reading.{decode, IsSoundLine, IsWornLine}
+use Rattle.ecp_line.specs.{ArrayLines.decoded, Reading.{IsSoundLine, IsWornLine}, Untouched.AreUntouched}
 use Rattle.spare_pool.specs.Table.{line_by, used_by}
 use Rattle.bank_shape.specs.{Shape.{slots_of, lines_in, slot_at}, declared.Work.Work, declared.Work.TheVariants.{Nothing, Store, Copy}, declared.waiting.Waiting.Waiting}
-use Rattle.line_writer.specs.{Orderly.AreOrderly, Untouched.AreUntouched, Writing.Writes, declared.writer.LineWriter.LineWriter}
+use Rattle.line_writer.specs.{Orderly.AreOrderly, Writing.Writes, declared.writer.LineWriter.LineWriter}
 use Rattle.line_writer.specs.declared.writer.Progress.TheVariants as progress
 use Rattle.power_recovery.specs.Kept.{KeptState, array_line, due_region, due_work, next_work}
 use Rattle.bank_invariant.specs.State.{BankState, Operation, target_of}
@@ -15,10 +15,6 @@ pub record StandsAs {n m : ℕ} (old new : ArrayState n m) : Type 0 where
   pub lines : new.lines ≡ old.lines
   pub line : (at : ℕ) → new.line at ≡ old.line at
   pub bounds : new.bounds ≡ old.bounds
-
--- what an array line is read as
-abbrev pub decoded : {n m : ℕ} → ℕ → ArrayState n m → ℕ → List ℕ
-decoded e array line = decode e (array.line line).held
 
 module _ {n m : ℕ} where
   -- a line write has a step left, and its writer and its line are to each other as the writer says

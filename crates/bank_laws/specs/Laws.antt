@@ -1,44 +1,14 @@
 -- The laws of a bank, over a lawful history at whose end the bank has no work.
-use Rattle.std.specs.Prelude.{◌≡◌, ◌≢◌, ◌&&◌, nat_le, nat_lt, length, ℕ, ◌+◌, ◌<◌, ◌≤◌, Bool, false, IsTrue, List, [], filter, ◌++◌, All, IfSome}
+use Rattle.std.specs.Prelude.{◌≡◌, ◌≢◌, ◌&&◌, nat_le, nat_lt, length, ℕ, ◌+◌, ◌<◌, ◌≤◌, Bool, IsTrue, List, [], filter, ◌++◌, All, IfSome}
 use Rattle.cell_rows.specs.{Device.ArrayState, declared.array.Sense.Sense}
-use Rattle.ecp_line.specs.Reading.{decode, is_worn_line}
-use Rattle.row_rules.specs.{Rows.each_row, Table.KeepsRows, declared.Row.Row, declared.Rules.Rules}
-use Rattle.bank_shape.specs.{Shape.{slots_of, controls_of, control_line, lines_in}, declared.BankShape.BankShape, declared.pace.Pace.Pace}
+use Rattle.row_rules.specs.Table.{KeepsRows}
+use Rattle.bank_shape.specs.{Shape.{slots_of, control_line, lines_in}, declared.BankShape.BankShape, declared.pace.Pace.Pace}
 use Rattle.spare_pool.specs.Table.{line_from}
 use Rattle.bank_model.specs.{Adding.senses_of, After.{array_line_after, slot_of_work, due_work}, Changes.{change_after, halted_after}}
-use Rattle.bank_model.specs.{History.{retired, has_exhausted, due_after, queue}, Lawful.Lawful, Sensing.{pulses_of, most_steps}, Timing.{TimedEvent, core}}
-use Rattle.bank_laws.specs.{Logs.{has_sense, has_controls, is_line_fair_to}, Outcomes.table_of, Places.{is_placed, is_wear_true_to, is_taken_to, most_pulses, pulses_among}}
-use Rattle.bank_laws.specs.Resting.{IsStill, EndsIn}
-
--- the rules of a bank. A line write takes at most `8 * (3 * e + 2)` steps
-abbrev pub rules_of : ℕ → BankShape → Pace → Rules
-rules_of e shape pace =
-    record { writes = shape.writes; reads = shape.reads; spares = shape.spares; read_ticks = pace.read; iter_ticks = pace.iter; steps = most_steps e; policy = pace.policy; twice = nat_lt 0 (controls_of shape) }
-
--- whether an array line is worn
-abbrev pub is_worn_at : {n m : ℕ} → ℕ → ArrayState n m → ℕ → Bool
-is_worn_at e array line = is_worn_line e (array.line line).held (array.line line).stuck
-
-module _ {n m : ℕ} (e : ℕ) (shape : BankShape) (array : ArrayState n m) where
-  -- what the rows of a bank's table, the newest first, are to the array in the end. No control line is worn before there are any
-  pub record KeepsPlacesTo (off : Bool) (rules : Rules) (rows : List (Row n)) : Type 0 where
-    pub worn : IsTrue (each_row (is_wear_true_to off shape (is_worn_at e array)) rows [])
-    pub pulses : pulses_among (λ line. (array.line line).pulses) shape.base (lines_in shape) ≤ most_pulses rules rows
-    pub placed : IsTrue (each_row (is_placed shape (is_worn_at e array)) rows [])
-    pub taken : IsTrue (each_row (is_taken_to off rules shape (is_worn_at e array)) rows [])
-
-  abbrev pub KeepsPlaces : Rules → List (Row n) → Type 0
-  KeepsPlaces = KeepsPlacesTo false
-
-  -- what the log shows of the rows and of the bank's lines
-  pub record KeepsLogTo (off : Bool) (rules : Rules) (rows : List (Row n)) (log : List (Sense n m)) : Type 0 where
-    pub sensed : IsTrue (each_row (has_sense (decode e) log) rows [])
-    pub lines : (line : ℕ) → shape.base ≤ line → line < shape.base + lines_in shape
-        → IsTrue (is_line_fair_to rules rows off log (nat_lt line (shape.base + slots_of shape + shape.spares)) line (array.line line).pulses)
-    pub controls : IsTrue (each_row (has_controls shape log) rows [])
-
-  abbrev pub KeepsLog : Rules → List (Row n) → List (Sense n m) → Type 0
-  KeepsLog = KeepsLogTo false
+use Rattle.bank_model.specs.{History.{retired, has_exhausted, due_after, queue}, Lawful.Lawful, Sensing.pulses_of, Timing.{TimedEvent, core}}
+use Rattle.bank_laws.specs.{Outcomes.table_of, Resting.{IsStill, EndsIn}}
+use Rattle.ecp_line.specs.ArrayLines.{is_worn_at}
+use Rattle.right_runs.specs.{Banks.rules_of, KeepsLog.KeepsLogTo, KeepsPlaces.KeepsPlacesTo}
 
 -- what holds of the array in the end: each line has the pulses of the history; the lines that were retired, the target that found no
 -- spare, and the control line at which the writing of a change has halted, are worn

@@ -1,9 +1,7 @@
 pub mod Bounds
 pub mod Laws
-pub mod Logs
 pub mod Outcomes
 pub mod Pairs
-pub mod Places
 pub mod Room
 pub mod RowLaws
 pub mod Settling

@@ -3,7 +3,8 @@ use Rattle.std.specs.Prelude.{ℕ, ◌≤◌, ◌++◌, IsTrue, List, All}
 use Rattle.row_rules.specs.Queueing.{has_room}
 use Rattle.bank_shape.specs.{declared.BankShape.BankShape, declared.pace.Pace.Pace}
 use Rattle.bank_model.specs.{Lawful.Lawful, Timing.{TimedEvent, last_tick}}
-use Rattle.bank_laws.specs.{Laws.{IsSized, rules_of}, Outcomes.rows_from, Resting.IsStill}
+use Rattle.bank_laws.specs.{Laws.IsSized, Outcomes.rows_from, Resting.IsStill}
+use Rattle.right_runs.specs.Banks.{rules_of}
 
 -- at any tick between two of its events, a bank holds no more than it may
 abbrev pub RoomLaw : (n m : ℕ) → Type 0

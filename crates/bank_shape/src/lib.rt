@@ -1,4 +1,4 @@
-//! The sizes of one bank of the memory, and what a bank writes next.
+//! The sizes of one bank of the memory, what a bank writes next, and what its array lines are used for.
 //!
 //! A bank rotates the lines of its regions by Start-Gap (Qureshi et al., MICRO 2009): a region of `lines` lines has
 //! `lines + 1` places, one of them the gap. The places of all regions, one region after the other, are the bank's slots.
@@ -54,6 +54,21 @@ pub enum Work {
     Store { line: u32, slot: u32 },
     /// A gap move of a region is due.
     Copy { region: u32, step: Move },
+}
+
+/// What an array line is used for.
+#[derive(Clone, Copy, Debug, PartialEq, Eq)]
+pub enum Role {
+    /// It holds this line of the module.
+    Line(u32),
+    /// It is the gap of a region, which holds no line (Start-Gap, Qureshi et al., MICRO 2009).
+    Gap,
+    /// It is a spare that isn't used.
+    Free,
+    /// It wore out, and its slot was given another array line.
+    Retired,
+    /// It keeps registers of the bank.
+    Control,
 }
 
 impl BankShape {

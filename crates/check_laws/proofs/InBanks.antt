@@ -6,7 +6,8 @@ use Rattle.result_rows.specs.declared.Outcome.{Outcome}
 use Rattle.row_rules.specs.{Lines.IsOfLines, Queueing.has_room, Rows.{RowTest, each_row}, Table.{is_of, of_bank}, declared.Asks.Asks}
 use Rattle.row_rules.specs.{declared.Asks.TheVariants.{Reads, Writes, Cuts}, declared.Row.Row, declared.Rules.Rules}
 use Rattle.check_verdict.specs.Verdicts.{bank_in, in_bank, all_have_room}
-use Rattle.module_laws.{specs.Asking.{row_in, bank_table}, specs.Serves.{AreLines, finds_room_in}, proofs.Serving.same_line}
+use Rattle.right_runs.specs.Tables.{row_in, bank_table, finds_room_in}
+use Rattle.module_laws.{specs.Serves.AreLines, proofs.Serving.same_line}
 use Rattle.check_laws.proofs.Renaming.{IsIn, AreIn, room-named}
 
 -- a line of a bank

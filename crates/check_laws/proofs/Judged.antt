@@ -8,9 +8,9 @@ use Rattle.cell_rows.specs.Device.{ArrayState}
 use Rattle.check_verdict.specs.{Judging.VerdictLaw, Verdicts.{bank_in, in_bank, all_have_room, keeps_all}}
 use Rattle.module_shape.specs.{Limits.total_of, declared.raw.RawShape.RawShape}
 use Rattle.module_laws.specs.Serves.{AreLines}
-use Rattle.end_laws.specs.Ends.{BankEnd}
-use Rattle.run_laws.specs.{FinishedLaws.LinesLaw, Runs.{bank_of_line, line_in_bank, rules_in, table_in, RunsRight}}
-use Rattle.check_laws.{specs.Verdicts.{banks_of, RulesKeptLaw, YesLaw}, proofs.InBanks.{Exist, exist-all, AreBanks, IsOfBank, apart, IsOfTables, all_rooms, in_tables}}
+use Rattle.right_runs.specs.{Banks.{bank_of_line, line_in_bank, rules_in, banks_of}, Ends.BankEnd, Runs.RunsRight, Tables.table_in}
+use Rattle.run_laws.specs.FinishedLaws.{LinesLaw}
+use Rattle.check_laws.{specs.Verdicts.{RulesKeptLaw, YesLaw}, proofs.InBanks.{Exist, exist-all, AreBanks, IsOfBank, apart, IsOfTables, all_rooms, in_tables}}
 use Rattle.check_laws.proofs.{Renaming.queue-named, Timing.{wear-named, ticks-named}}
 
 module _ {n : ℕ} where

@@ -10,7 +10,8 @@ use Rattle.row_rules.specs.Queueing.{is_first, is_at_head, read_fits, merge_fits
 use Rattle.row_rules.specs.{Rows.{asks_read, asks_write, asks_write_of, line_of, given_of, accepted_of, write_of, is_cut}, declared.Asks.Asks}
 use Rattle.row_rules.specs.{declared.Asks.TheVariants.{Reads, Writes, Cuts}, declared.Row.Row, declared.Rules.Rules}
 use Rattle.row_rules.specs.Queueing as queue
-use Rattle.module_laws.{specs.Asking.{asks_in, row_in}, proofs.Serving.cuts-named}
+use Rattle.right_runs.specs.Tables.{asks_in, row_in}
+use Rattle.module_laws.proofs.Serving.{cuts-named}
 
 module _ {n : ℕ} where
   -- a test of the rows with other numbers is a test of the rows

@@ -9,7 +9,8 @@ use Rattle.row_rules.specs.{Answers.{is_answered, is_lost, is_worn, stored_after
 use Rattle.row_rules.specs.Ticking.{longest, store_up_to, last_store, came_since, delay, bound, no_cut_below, first_cut_at, read_in_time, stores_in, reads_in, cuts_to}
 use Rattle.row_rules.specs.{Ticking.{store_in_time, apart, asks_in_time, is_in_time}, Wearing.{worn_row, worn_by, store_fits, is_wear_final}, declared.Asks.Asks}
 use Rattle.row_rules.specs.{declared.Asks.TheVariants.{Reads, Writes, Cuts}, declared.Row.Row, declared.Rules.Rules}
-use Rattle.module_laws.{specs.Asking.{asks_in, row_in}, proofs.Serving.cuts-named}
+use Rattle.right_runs.specs.Tables.{asks_in, row_in}
+use Rattle.module_laws.proofs.Serving.{cuts-named}
 use Rattle.check_laws.proofs.Renaming.{any-same, all-same, reads-named, writes-named, waiting-named}
 
 count-same : {n : ℕ} (f : Row n → Row n) (test other : Row n → Bool) → ((q : Row n) → test (f q) ≡ other q) → (rows : List (Row n)) → count_by test (map f rows) ≡ count_by other rows

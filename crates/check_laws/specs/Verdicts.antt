@@ -1,15 +1,11 @@
 -- The verdict on the rows of a right run.
-use Rattle.std.specs.{List.range_with_len, Prelude.{◌≡◌, ℕ, List, map, reverse}}
+use Rattle.std.specs.Prelude.{◌≡◌, ℕ, List, reverse}
 use Rattle.cell_rows.specs.Device.{ArrayState}
 use Rattle.row_rules.specs.declared.Row.{Row}
 use Rattle.check_verdict.specs.{Verdicts.{verdict_of, RowsOk}, declared.Verdict.TheVariants.Yes}
-use Rattle.module_shape.specs.{Limits.{IsShape, total_of}, declared.raw.RawShape.RawShape}
-use Rattle.end_laws.specs.Ends.{BankEnd}
-use Rattle.run_laws.specs.{RowsOfRuns.LinesExist, Runs.{bank_of_line, rules_in, RunsRight}}
-
--- the bank of each line of a module
-abbrev pub banks_of : RawShape → ℕ → List ℕ
-banks_of raw seed = map (bank_of_line raw seed) (range_with_len 0 (total_of raw))
+use Rattle.module_shape.specs.{Limits.IsShape, declared.raw.RawShape.RawShape}
+use Rattle.right_runs.specs.{Banks.{rules_in, banks_of}, Ends.BankEnd, Runs.RunsRight}
+use Rattle.run_laws.specs.RowsOfRuns.{LinesExist}
 
 -- each row of a right run keeps each rule by which results are judged
 abbrev pub RulesKeptLaw : Type 0

@@ -6,11 +6,10 @@ use Rattle.result_rows.specs.{declared.Op.Op, declared.Outcome.Outcome}
 use Rattle.result_rows.specs.declared.Outcome.TheVariants as out
 use Rattle.check_reader.specs.ResultRows.{MayStand, EachMayStand}
 use Rattle.module_shape.specs.{Limits.total_of, declared.raw.RawShape.RawShape}
-use Rattle.run_laws.specs.Runs.{bank_of_line}
+use Rattle.right_runs.specs.Banks.{bank_of_line, banks_of}
 use Rattle.row_rules.specs.declared.Rules.{Rules}
 use Rattle.check_verdict.specs.Within.{AreWithin}
 use Rattle.result_check.specs.Checkable.{IsCheckable, IsTimed}
-use Rattle.check_laws.specs.Verdicts.{banks_of}
 use Rattle.check_text.specs.Checked.{asks_in}
 
 timed : {n : ℕ} (asked : Op) (outcome : Outcome n) → MayStand asked outcome → IsTimed outcome

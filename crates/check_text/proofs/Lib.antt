@@ -1,8 +1,7 @@
 mod Faults
 mod Judged
 mod Printed
-mod Plain
+pub mod Plain
 mod Breaking
 mod Behind
-pub mod Standing
-pub mod JudgedRuns
+pub mod Asked

@@ -7,10 +7,9 @@ use Rattle.check_reader.specs.{ResultRows.{AreResults, IsFault}, Splitting.Begin
 use Rattle.check_reader.specs.declared.fault.ResultFault.TheVariants as reading
 use Rattle.run_text.specs.ResultText.{asked, named_line}
 use Rattle.module_shape.specs.{Limits.total_of, declared.raw.RawShape.RawShape}
-use Rattle.run_laws.specs.Runs.{rules_in}
+use Rattle.right_runs.specs.Banks.{rules_in, banks_of}
 use Rattle.check_verdict.specs.{Verdicts.verdict_of, declared.Verdict.Verdict}
 use Rattle.trace_rows.specs.Rows.{rows_with}
-use Rattle.check_laws.specs.Verdicts.{banks_of}
 use Rattle.check_text.specs.declared.fault.TextFault.{TextFault}
 use Rattle.check_text.specs.declared.fault.TextFault.TheVariants as fault
 

@@ -4,4 +4,3 @@ pub mod Causes
 pub mod VerdictText
 pub mod PrintedLaw
 pub mod SplitLaw
-pub mod JudgedRuns

@@ -1,6 +1,6 @@
 //! The bank of each line of a module.
 ghost use Rattle.std.specs.Prelude.{◌≡◌, IfOk};
-ghost use Rattle.check_laws.specs.Verdicts.{banks_of};
+ghost use Rattle.right_runs.specs.Banks.{banks_of};
 
 use feistel_map::Feistel;
 use module_shape::Shape;

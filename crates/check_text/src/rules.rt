@@ -1,7 +1,7 @@
 //! The rules that a module's rows keep.
 ghost use Rattle.std.specs.Prelude.{◌≡◌, ◌≤◌};
 ghost use Rattle.check_verdict.specs.Within.{AreWithin};
-ghost use Rattle.run_laws.specs.Runs.{rules_in};
+ghost use Rattle.right_runs.specs.Banks.{rules_in};
 
 use module_shape::{Home, Shape};
 use result_check::Rules;

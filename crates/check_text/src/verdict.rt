@@ -28,8 +28,7 @@ pub fn print_verdict(verdict: Verdict, text: &mut Text)
         Verdict::Yes => text.push(b"ok\n"),
         Verdict::No { row, rule } => {
             text.push(b"row ");
-            text.push_number(u64::from(row));
-            text.push(b": ");
+            text.push_number_then(u64::from(row), b": ");
             text.push(word(rule));
             text.push(b"\n");
         }

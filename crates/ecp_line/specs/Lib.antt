@@ -1,3 +1,5 @@
 pub mod Layout
 pub mod Reading
 pub mod Steps
+pub mod ArrayLines
+pub mod Untouched

@@ -1,5 +1,5 @@
-//! Error-correcting pointers: where the entries of a memory line stand, and how the line is read by them.
-//! Each entry replaces one data cell that is stuck by a spare cell, and a later entry takes precedence.
+//! Error-correcting pointers: where those of a memory line stand, and how the line is read by them.
+//! Each replaces one data cell that is stuck by a spare cell, and a later one takes precedence.
 #![tactic(auto)]
 
 mod ecp;

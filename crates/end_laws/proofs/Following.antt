@@ -11,11 +11,13 @@ use Rattle.bank_shape.specs.declared.answer.Step.TheVariants as did
 use Rattle.power_recovery.specs.Kept.{array_line}
 use Rattle.bank_model.specs.{After.{slot_after, array_line_after, stands_at_after}, Events.{BankEvent, Write, Read, Serve, Begin, Iterate, Cut}}
 use Rattle.bank_model.specs.{History.{retired, moved_in, stored_in}, Lawful.Lawful, Sensing.most_steps, Timing.{Happens, Core, Regs, TimedEvent, core, core_of}}
-use Rattle.bank_laws.specs.{Laws.{IsSized, LeavesArray, is_worn_at}, Outcomes.{outcome_of, ended, row_with, rows_from}, Places.region_stores}
-use Rattle.bank_laws.proofs.{Asked.{Asked, asked-within, wrote-asked, queue-wrote}, Settling.{lawful_before, above_all}, Waiting.may_all, Walking.{Passes, walk, rows_after}}
+use Rattle.bank_laws.{specs.Laws.{IsSized, LeavesArray}, specs.Outcomes.{outcome_of, ended, row_with, rows_from}, proofs.Asked.{Asked, asked-within, wrote-asked, queue-wrote}}
+use Rattle.bank_laws.proofs.{Settling.{lawful_before, above_all}, Waiting.may_all, Walking.{Passes, walk, rows_after}}
+use Rattle.ecp_line.specs.ArrayLines.{is_worn_at}
+use Rattle.right_runs.specs.{Ends.{has_place, outcome_ends, is_still_there}, Places.region_stores}
 use Rattle.place_laws.proofs.{Moves.{keeps, none-due}, Placed.{between_products, asked-later, SumsUp, stores-below, same_line}, Slots.slot_moved-within}
 use Rattle.place_laws.proofs.{Splits.{IsStoredAt, stored-at}, Tables.between}
-use Rattle.end_laws.{specs.EndLaws.StillThereLaw, specs.Ends.{has_place, outcome_ends, is_still_there}, proofs.Leaving.{agreeing, recounted, leaves}}
+use Rattle.end_laws.{specs.EndLaws.StillThereLaw, proofs.Leaving.{agreeing, recounted, leaves}}
 
 -- after more retirements a slot has the line that it had, or a greater one, which is a spare; and no other slot has that line
 pub record Follows (slots slot : ℕ) (before now : List ℕ) : Type 0 where

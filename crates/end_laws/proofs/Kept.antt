@@ -13,8 +13,9 @@ use Rattle.bank_laws.{specs.Laws.IsSized, specs.Outcomes.{outcome_of, ended, tab
 use Rattle.bank_laws.proofs.{Given.{given_of, given-layer, given-alone, given-other}, Pairs.{AllLong, KeepsPairs, keeps_pairs}, Serves.{same_bytes-same, newest_same}}
 use Rattle.bank_laws.proofs.{Settling.opens, Waiting.may_all}
 use Rattle.queue_laws.proofs.{Covering.is_covered, Covers.unstored_by, Floors.{since, floor_of}, Showing.Front}
-use Rattle.bank_invariant.specs.Tied.{decoded}
-use Rattle.end_laws.{specs.EndLaws.{KeptLaw, StandsLaw, whole_head}, specs.Ends.{is_excepted, is_kept_line, place_by_table}, proofs.Leaving.agreeing}
+use Rattle.ecp_line.specs.ArrayLines.{decoded}
+use Rattle.end_laws.{specs.EndLaws.{KeptLaw, StandsLaw, whole_head}, proofs.Leaving.agreeing}
+use Rattle.right_runs.specs.Ends.{is_excepted, is_kept_line, place_by_table}
 
 module _ {n : ℕ} where
   -- the entries of a line that isn't the head's, or whose head lacks a byte, give what the writes from the floor on give

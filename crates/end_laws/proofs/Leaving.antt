@@ -4,7 +4,8 @@ use Rattle.std.specs.Prelude.{IsTrue}
 use Rattle.cell_rows.specs.Device.{ArrayState}
 use Rattle.spare_pool.specs.Table.{Table, line_by, used_by}
 use Rattle.bank_model.specs.{Events.BankEvent, Sensing.pulses_of, Timing.{TimedEvent, core}}
-use Rattle.bank_laws.specs.Laws.{LeavesArray, is_worn_at}
+use Rattle.bank_laws.specs.Laws.{LeavesArray}
+use Rattle.ecp_line.specs.ArrayLines.{is_worn_at}
 use Rattle.bank_invariant.{specs.Bridge.AgreesWith, specs.Holds.Holds, specs.State.BankState, proofs.Agreeing.{agree_law, due-target}}
 use Rattle.place_laws.proofs.Moved.{moved_law}
 use Rattle.end_laws.specs.EndLaws.{IsHaltedWorn, GapsLaw}

@@ -9,7 +9,8 @@ use Rattle.bank_model.specs.{Events.{Write, Read, Serve, Begin, Iterate, Cut}, H
 use Rattle.bank_model.specs.Timing.{Happens, Core, Regs, TimedEvent, core, core_of}
 use Rattle.bank_laws.{specs.Outcomes.{outcome_of, ended, row_with, rows_from, table_of}, proofs.Asked.{Wrote, queue-wrote}, proofs.Lines.{Stands, stands-row}}
 use Rattle.bank_laws.proofs.{Settling.{opens, above_all}, Waiting.may_all}
-use Rattle.end_laws.specs.{EndLaws.{QueuedLaw, whole_head}, Ends.is_excused}
+use Rattle.end_laws.specs.EndLaws.{QueuedLaw, whole_head}
+use Rattle.right_runs.specs.Ends.{is_excused}
 
 module _ {n m : ℕ} (shape : BankShape) (all : List (TimedEvent n m)) where
   -- a row that was written and has no outcome is queued in the end

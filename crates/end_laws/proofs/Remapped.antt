@@ -5,9 +5,10 @@ use Rattle.cell_rows.specs.Device.{ArrayState}
 use Rattle.spare_pool.{specs.Table.line_by, proofs.Lines.{HasSpare, line_by-cases, only_own}}
 use Rattle.bank_shape.specs.Shape.{slots_of}
 use Rattle.power_recovery.specs.Kept.{KeptState, IsKept, array_line}
-use Rattle.bank_laws.specs.Laws.{is_worn_at}
+use Rattle.ecp_line.specs.ArrayLines.{is_worn_at}
 use Rattle.bank_invariant.specs.Tied.{AreSound}
-use Rattle.end_laws.specs.{EndLaws.RemappedLaw, Ends.IsRemapped}
+use Rattle.end_laws.specs.EndLaws.{RemappedLaw}
+use Rattle.right_runs.specs.Ends.{IsRemapped}
 
 module _ {n m : ℕ} (e : ℕ) (kept : KeptState n) (array : ArrayState n m) (range : IsKept kept) (sound : AreSound e kept array) where
   -- a slot that was given a spare has left a worn line

@@ -1,14 +1,15 @@
 -- Each array line has one role: a slot that has it is a line's or a gap, and one that no slot has is free or retired.
 use Rattle.std.proofs.Common.{◌≡◌, ◌≢◌, ℕ, zero, suc, ◌+◌, ◌-◌, ◌*◌, ◌/◌, ◌%◌, ◌<◌, ◌≤◌, ◌⊎◌, inl, inr, refl, sym, ap, ◌∙◌, arith}
 use Rattle.std.proofs.{lemmas.Bool.{cases_lt, cases_eq}, lemmas.Nat.{mul-add-lt, mod_below, div_below, div-mul-add, mod-mul-add, div-add-mod'}}
-use Rattle.wear_report.specs.{declared.Role.Role, declared.Role.TheVariants.{Line, Gap, Free, Retired, Control}}
+use Rattle.bank_shape.specs.{Shape.{slots_of, slot_at, slot_moved, controls_from, IsBankShape}, declared.BankShape.BankShape, declared.Role.Role}
+use Rattle.bank_shape.{specs.declared.Role.TheVariants.{Line, Gap, Free, Retired, Control}, proofs.Sizes.slot_at-within}
 use Rattle.start_gap.specs.Rotation.{Rotation, IsRotation, StandsFor, place_by, place_after, gap_after}
 use Rattle.start_gap.proofs.Places.{rotation_after, rotation_after-range, rotation_after-stands, place_after-off_gap, place_after-apart}
 use Rattle.start_gap.proofs.Turning.{line_before, line_behind, place-stands, gap-stands}
-use Rattle.bank_shape.{specs.Shape.{slots_of, slot_at, slot_moved, controls_from, IsBankShape}, specs.declared.BankShape.BankShape, proofs.Sizes.slot_at-within}
 use Rattle.power_recovery.proofs.Placing.{slot_at-region, slot_at-place, same_line}
 use Rattle.place_laws.proofs.Slots.{slot_moved-within, gap-within}
-use Rattle.end_laws.specs.{Ends.BankEnd, Roles.{used_among, used_spares, IsRole, HasOneRole, RoleLaw}}
+use Rattle.right_runs.specs.{Ends.BankEnd, Roles.{used_among, used_spares, IsRole, HasOneRole}}
+use Rattle.end_laws.specs.Roles.{RoleLaw}
 
 -- the used spares reach up to every slot's line
 pub used-reaches : (shape : BankShape) (table : ℕ → ℕ) (slots slot : ℕ) → slot < slots → table slot < shape.base + slots_of shape + used_among shape table slots

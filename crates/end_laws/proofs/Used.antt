@@ -4,7 +4,8 @@ use Rattle.std.proofs.Math.Seq.{get_or-append_seam}
 use Rattle.spare_pool.{specs.Table.{line_from, line_by, used_by}, proofs.Lines.{line_from-more, line_by-within}}
 use Rattle.bank_shape.specs.{Shape.slots_of, declared.BankShape.BankShape}
 use Rattle.power_recovery.specs.Kept.{KeptState, IsKept, array_line}
-use Rattle.end_laws.{specs.Roles.{used_among, used_spares, UsedLaw}, proofs.Roles.used-reaches}
+use Rattle.right_runs.specs.Roles.{used_among, used_spares}
+use Rattle.end_laws.{specs.Roles.UsedLaw, proofs.Roles.used-reaches}
 
 -- a list is empty, or has a last item
 record HasLast (xs : List ℕ) : Type 0 where

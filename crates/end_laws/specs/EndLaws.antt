@@ -7,9 +7,10 @@ use Rattle.row_rules.specs.Rows.{each_row, newest}
 use Rattle.bank_shape.specs.{Shape.{slots_of, control_line}, declared.BankShape.BankShape, declared.pace.Pace.Pace}
 use Rattle.power_recovery.specs.Kept.{KeptState, region_at, array_line}
 use Rattle.bank_model.specs.{Changes.{change_after, halted_after}, Events.BankEvent, History.moved_in, Lawful.Lawful, Timing.{TimedEvent, core}}
-use Rattle.bank_invariant.specs.{Holds.Holds, State.BankState, Tied.decoded}
-use Rattle.bank_laws.specs.{Laws.{IsSized, is_worn_at}, Outcomes.table_of, Places.is_moved_to, Resting.EndsIn}
-use Rattle.end_laws.specs.Ends.{BankEnd, EndsWithTo, IsRemapped, place_by_table, is_kept_line, is_still_there, is_excepted, is_excused}
+use Rattle.bank_invariant.specs.{Holds.Holds, State.BankState}
+use Rattle.ecp_line.specs.ArrayLines.{decoded, is_worn_at}
+use Rattle.bank_laws.specs.{Laws.IsSized, Outcomes.table_of, Resting.EndsIn}
+use Rattle.right_runs.specs.Ends.{is_moved_to, BankEnd, EndsWithTo, IsRemapped, place_by_table, is_kept_line, is_still_there, is_excepted, is_excused}
 
 -- a bank's end is that of what it keeps; an excepted line is that of the head of its queue, which gives every byte
 pub record IsEndOf {n : ℕ} (kept : KeptState n) (end : BankEnd) : Type 0 where

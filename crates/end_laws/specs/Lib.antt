@@ -1,3 +1,2 @@
-pub mod Ends
 pub mod EndLaws
 pub mod Roles

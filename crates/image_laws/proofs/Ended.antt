@@ -8,12 +8,15 @@ use Rattle.bank_shape.specs.{Shape.slots_of, declared.BankShape.BankShape, decla
 use Rattle.power_recovery.specs.Kept.{KeptState, region_at, no_region as no_kept}
 use Rattle.bank_model.specs.{History.{moved_in, stored_in}, Lawful.Lawful, Sensing.most_steps, Timing.{TimedEvent, core}}
 use Rattle.bank_invariant.specs.{Holds.Holds, State.BankState}
-use Rattle.bank_laws.{specs.Laws.is_worn_at, specs.Outcomes.table_of, specs.Places.{region_stores, is_moved_to, may_leave}, proofs.Waiting.may_all}
+use Rattle.ecp_line.specs.ArrayLines.{is_worn_at}
+use Rattle.bank_laws.{specs.Outcomes.table_of, proofs.Waiting.may_all}
+use Rattle.right_runs.specs.{Ends.{is_moved_to, BankEnd}, Places.region_stores, Roles.used_spares, WornLines.may_leave}
 use Rattle.place_laws.proofs.{Moved.region_stores-counted, Moves.keeps, Placed.{between_products, at_product}}
 use Rattle.module_shape.specs.{Addresses.{module_of, bank_shape}, declared.raw.RawShape.RawShape}
-use Rattle.end_laws.{specs.EndLaws.IsEndOf, specs.Ends.BankEnd, specs.Roles.used_spares, proofs.Used.used-same}
+use Rattle.end_laws.{specs.EndLaws.IsEndOf, proofs.Used.used-same}
 use Rattle.pcm_image.specs.Standing.{no_region}
-use Rattle.image_laws.{specs.SavedRuns.SavesEnd, specs.Saving.{head_of, saved_bank, saved_region}, proofs.Keeping.{registers-saved, slots-saved}}
+use Rattle.right_images.specs.{SavedBanks.SavesEnd, Saving.{head_of, saved_bank, saved_region}}
+use Rattle.image_laws.proofs.Keeping.{registers-saved, slots-saved}
 use Rattle.masked_bytes.proofs.Truth.{and_first}
 
 -- two successive numbers leave different rests

@@ -10,9 +10,11 @@ use Rattle.bank_shape.specs.{Shape.slots_of, declared.BankShape.BankShape, decla
 use Rattle.bank_shape.specs.declared.Home.TheVariants as home
 use Rattle.power_recovery.specs.Kept.{KeptState, IsKept, AllBelow, region_at, no_region as no_kept}
 use Rattle.module_shape.specs.{Addresses.{module_of, bank_shape}, Limits.{IsShape, is_power_between, total_of}, declared.raw.RawShape.RawShape}
-use Rattle.end_laws.specs.{EndLaws.IsEndOf, Ends.BankEnd}
+use Rattle.end_laws.specs.EndLaws.{IsEndOf}
+use Rattle.right_runs.specs.Ends.{BankEnd}
 use Rattle.pcm_image.specs.{Saved.{Head, IsHead, IsSavedBank, IsSavedEntry, IsSavedRegion, lines_in, slots_in}, Standing.{rotation_of, table_of, no_region}}
-use Rattle.image_laws.{specs.Saving.{head_of, home_number, saved_bank, saved_entry, saved_region}, proofs.Factors.{first-test, second-test, third-test}}
+use Rattle.right_images.specs.Saving.{head_of, home_number, saved_bank, saved_entry, saved_region}
+use Rattle.image_laws.proofs.Factors.{first-test, second-test, third-test}
 
 within : (least most n : ℕ) → is_power_of_two n ≡ true → least ≤ n → n ≤ most → is_power_between least most n ≡ true
 within least most n power low high =

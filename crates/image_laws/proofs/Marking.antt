@@ -10,16 +10,18 @@ use Rattle.bank_shape.specs.{Shape.{controls_from, controls_of, control_line}, d
 use Rattle.power_recovery.{specs.Kept.{KeptState, region_at, no_region as no_kept}, proofs.Bundle.{due_region-Some, due_region-is}}
 use Rattle.bank_model.specs.{Changes.{change_after, halted_after}, Events.{Write, Read, Serve, Begin, Iterate, Cut}, History.{queue, due_after, has_exhausted}}
 use Rattle.bank_model.specs.{Lawful.{Lawful, IsIdle, MayCome}, Running.{is_over, over_by}, Sensing.most_steps, Timing.{Happens, Core, Regs, TimedEvent, core}}
-use Rattle.bank_laws.specs.{Laws.{IsSized, LeavesArray, is_worn_at}, Outcomes.{outcome_of, ended, row_with, rows_from, table_of}, Places.worn_among, Resting.EndsIn}
+use Rattle.bank_laws.specs.{Laws.{IsSized, LeavesArray}, Outcomes.{outcome_of, ended, row_with, rows_from, table_of}, Resting.EndsIn}
 use Rattle.bank_laws.proofs.{Ending.{Onwards, write_outcome}, Serves.{may_at, onwards_at}, Settling.{opens, above_all}, Waiting.may_all}
 use Rattle.bank_laws.proofs.Wears.{worn_outcome, refused-exhausted, exhausted_later}
+use Rattle.ecp_line.specs.ArrayLines.{is_worn_at}
+use Rattle.right_runs.specs.WornLines.{worn_among}
 use Rattle.queue_laws.{specs.EntryLaws.{line_written, given_by, is_head_begun}, proofs.Owned.{AreOwn, queue-own}}
 use Rattle.place_laws.proofs.WornOut.{idle-queued, idle-due, worn_out, worn_control, change-within}
 use Rattle.bank_invariant.specs.{Bridge.AgreesWith, Holds.Holds, State.BankState}
 use Rattle.pcm_image.specs.{Saved.SavedBank, Standing.no_region}
-use Rattle.image_laws.specs.{Queued.{QueuedWrite, coming, merging, queued_after, by_order, queued_writes}, SavedRuns.{SavesMarkTo, SavesQueue, has_work, is_due, queued_row}}
-use Rattle.image_laws.{specs.Saving.{saved_bank, saved_entry, saved_region}, proofs.Begun.{begun-again, keeps-begun}}
-use Rattle.image_laws.proofs.Queueing.{Alike, first-again, queue-alike, queue-by_rows}
+use Rattle.right_images.specs.{Queued.{QueuedWrite, coming, merging, queued_after, by_order, queued_writes}, SavedBanks.{SavesMarkTo, SavesQueue, has_work, is_due, queued_row}}
+use Rattle.right_images.specs.Saving.{saved_bank, saved_entry, saved_region}
+use Rattle.image_laws.proofs.{Begun.{begun-again, keeps-begun}, Queueing.{Alike, first-again, queue-alike, queue-by_rows}}
 
 -- Lists
 

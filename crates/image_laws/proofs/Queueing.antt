@@ -18,8 +18,8 @@ use Rattle.bank_laws.proofs.{Pending.covered_on, Serves.{newest_same, onwards_at
 use Rattle.bank_laws.proofs.Waiting.{may_all}
 use Rattle.queue_laws.{specs.EntryLaws.{line_written, given_by, is_head_begun}, proofs.Owned.{IsOwn, AreOwn, EachOwn, queue-own}}
 use Rattle.pcm_image.specs.declared.EntryImage.{EntryImage}
-use Rattle.image_laws.{specs.Queued.{QueuedWrite, first_again, coming, queued_after, by_order, queued_writes, entry_by, entries_by}, specs.Saving.saved_entry, proofs.Begun.Again}
-use Rattle.image_laws.proofs.Heads.{above, written-below, HeadWhole, head-whole}
+use Rattle.right_images.specs.{Queued.{QueuedWrite, first_again, coming, queued_after, by_order, queued_writes, entry_by, entries_by}, Saving.saved_entry}
+use Rattle.image_laws.proofs.{Begun.Again, Heads.{above, written-below, HeadWhole, head-whole}}
 use Rattle.image_laws.proofs.Placing.{Numbered, fits, merging_as, put, writes, writes-put, Each, each-map, each-both, Match, match-stands, match-stays, match-accepted, match-drop}
 use Rattle.image_laws.proofs.Placing.{match-begun, match-merged, each-accepted, each-merged}
 

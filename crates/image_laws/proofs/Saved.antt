@@ -3,23 +3,23 @@ use Rattle.std.proofs.Common.{◌≡◌, true, ℕ, ◌*◌, ◌^◌, ◌<◌, L
 use Rattle.std.{specs.Prelude.{Bool, map}, proofs.Math.Nat.mod-lt, proofs.Math.Path.fun_ext, proofs.lemmas.List.Elements.{All-map, All-from_get_or}}
 use Rattle.std.proofs.{lemmas.List.FromFn.{get_or-map-range_with_len, length-map-range_with_len}, lemmas.Nat.mul-le}
 use Rattle.cell_rows.specs.{Device.{ArrayState, LineState}, Rows.zero_row}
-use Rattle.ecp_line.specs.Reading.{is_worn_line}
+use Rattle.ecp_line.specs.{ArrayLines.is_worn_at, Reading.is_worn_line}
 use Rattle.row_rules.specs.{Lines.IsOfLines, Rows.newest, declared.Row.Row}
 use Rattle.bank_shape.specs.{declared.BankShape.BankShape, declared.pace.Pace.Pace}
 use Rattle.power_recovery.specs.Kept.{KeptState}
 use Rattle.bank_model.specs.Timing.{TimedEvent, core}
-use Rattle.bank_laws.{specs.Laws.{IsSized, LeavesArray, is_worn_at}, specs.Outcomes.table_of, specs.Places.is_moved_to, specs.Resting.EndsIn, proofs.Serves.newest_same}
-use Rattle.bank_laws.proofs.Settling.{opens}
+use Rattle.bank_laws.{specs.Laws.{IsSized, LeavesArray}, specs.Outcomes.table_of, specs.Resting.EndsIn, proofs.Serves.newest_same, proofs.Settling.opens}
+use Rattle.right_runs.specs.{Banks.{bank_of_line, line_in_bank}, Ends.{is_moved_to, BankEnd}, Runs.RunsRightTo, Tables.table_in}
 use Rattle.bank_invariant.specs.{Bridge.{AgreeLaw, AgreesWith}, Holds.stands_for as kept_for}
 use Rattle.module_shape.specs.{Addresses.{module_of, bank_shape}, Limits.{IsShape, total_of}, declared.raw.RawShape.RawShape}
 use Rattle.module_laws.{specs.Asking.row_with, specs.Serves.BankTableLaw, proofs.Serving.newest_in_bank}
 use Rattle.clock_laws.specs.{Ending.LeavingLaw, Leads.Leads, State.ClockState}
-use Rattle.end_laws.specs.{EndLaws.IsEndOf, Ends.BankEnd}
-use Rattle.run_laws.{specs.FinishedLaws.LinesLaw, specs.Runs.{RunsRightTo, bank_of_line, line_in_bank, table_in}, proofs.Finished.sized}
+use Rattle.end_laws.specs.EndLaws.{IsEndOf}
+use Rattle.run_laws.{specs.FinishedLaws.LinesLaw, proofs.Finished.sized}
 use Rattle.pcm_image.specs.{Saved.{Saved, SavedBank, IsSaved, IsSavedBank, IsSavedRow}, Standing.{no_bank, own_bytes, stands_for}}
-use Rattle.image_laws.specs.SavedRuns.{AreRows, IsLeftTo, SavedToLaw, SavesEnd, SavesMarkTo, SavesQueue, SavesRunTo}
-use Rattle.image_laws.{specs.Saving.{head_of, saved_bank, saved_banks, saved_cells, saved_of}, proofs.Ended.saves-end, proofs.Keeping.{bank-right, head-right}}
-use Rattle.image_laws.proofs.{Marking.{saves-mark, saves-queue}, Standing.{lines-same, own-saved}}
+use Rattle.right_images.specs.{SavedBanks.{SavesEnd, SavesMarkTo, SavesQueue}, SavesRun.{AreRows, SavesRunTo}, Saving.{head_of, saved_bank, saved_banks, saved_cells, saved_of}}
+use Rattle.image_laws.{specs.SavedRuns.{IsLeftTo, SavedToLaw}, proofs.Ended.saves-end, proofs.Keeping.{bank-right, head-right}, proofs.Marking.{saves-mark, saves-queue}}
+use Rattle.image_laws.proofs.Standing.{lines-same, own-saved}
 
 -- what the image of a run follows from
 pub record ImageLaws : Type 0 where

@@ -12,7 +12,7 @@ use Rattle.power_recovery.{specs.Kept.{KeptState, IsKept, region_at, slot_of as 
 use Rattle.module_shape.specs.{Addresses.{module_of, bank_shape, array_lines_of}, Limits.IsShape, declared.raw.RawShape.RawShape}
 use Rattle.bank_invariant.specs.Holds.{stands_for as kept_for}
 use Rattle.pcm_image.{specs.Saved.array_lines_in, specs.Standing.{entry_of, own_bytes, slot_of, stands_at}, proofs.Heads.{row_below, slot_below}}
-use Rattle.image_laws.specs.Saving.{head_of, home_number, saved_bank, saved_cells, saved_entry, saved_of, saved_region}
+use Rattle.right_images.specs.Saving.{head_of, home_number, saved_bank, saved_cells, saved_entry, saved_of, saved_region}
 
 -- entries without their rows give the same
 layers-same : {n : ℕ} (es : List (Entry n)) (line : ℕ) → layer_of (map entry_of (map saved_entry es)) line ≡ layer_of es line

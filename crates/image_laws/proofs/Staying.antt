@@ -6,14 +6,15 @@ use Rattle.cell_rows.specs.{Device.{ArrayState, sense_of}, declared.array.Sense.
 use Rattle.row_rules.specs.declared.Row.{Row}
 use Rattle.bank_shape.specs.{Shape.lines_in, declared.BankShape.BankShape, declared.pace.Pace.Pace}
 use Rattle.bank_model.specs.{Adding.senses_of, Lawful.Lawful, Timing.TimedEvent}
-use Rattle.bank_laws.specs.{Laws.{KeepsLogTo, LeavesArray, log_of}, Outcomes.table_of, Whole.WholeLogLaw}
+use Rattle.right_runs.specs.{Banks.{bank_of_line, line_in_bank, pacing_in, rules_in}, Ends.BankEnd, KeepsLog.KeepsLogTo, Runs.RunsRightTo, Tables.table_in}
+use Rattle.bank_laws.specs.{Laws.{LeavesArray, log_of}, Outcomes.table_of, Whole.WholeLogLaw}
 use Rattle.clock_laws.specs.Ending.{LeavingLaw}
 use Rattle.module_shape.specs.{Addresses.{module_of, bank_shape}, Limits.IsShape, declared.raw.RawShape.RawShape}
 use Rattle.module_laws.specs.Serves.{BankTableLaw}
-use Rattle.end_laws.specs.Ends.{BankEnd}
-use Rattle.run_laws.{specs.Runs.{RunsRightTo, bank_of_line, line_in_bank, pacing_in, rules_in, table_in}, proofs.Finished.sized}
+use Rattle.run_laws.proofs.Finished.{sized}
 use Rattle.pcm_image.specs.Saved.{Saved}
-use Rattle.image_laws.specs.SavedRuns.{IsLeftTo, SensedSince, StaysRightToLaw, first_senses}
+use Rattle.image_laws.specs.SavedRuns.{IsLeftTo, StaysRightToLaw}
+use Rattle.right_images.specs.SensedSince.{SensedSince, first_senses}
 
 -- but for its log the array is as it was
 but-log : {n m : ℕ} (count : ℕ) (before after : ArrayState n m) → SensedSince count before after

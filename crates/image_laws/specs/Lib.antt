@@ -1,4 +1,2 @@
-pub mod Saving
-pub mod Queued
 pub mod SavedRuns
 pub mod Sizes

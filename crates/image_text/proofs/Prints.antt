@@ -7,7 +7,7 @@ use Rattle.run_text.{specs.Gathering.Printed, proofs.Gathered.{printed-first, pr
 use Rattle.spare_pool.specs.Table.{Table}
 use Rattle.power_recovery.specs.Kept.{KeptState}
 use Rattle.pcm_image.specs.Spelling.{bank_bytes, entry_bytes, region_bytes, u8, u16, u32}
-use Rattle.image_laws.specs.Saving.{saved_bank, saved_entry, saved_region}
+use Rattle.right_images.specs.Saving.{saved_bank, saved_entry, saved_region}
 use Rattle.image_text.specs.Printing.{PrintsMore, PrintsPart}
 
 -- a piece that is put into a text with room for it

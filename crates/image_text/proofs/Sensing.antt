@@ -4,7 +4,7 @@ use Rattle.std.{specs.List.flat_map, proofs.lemmas.Bool.cases_eq, proofs.lemmas.
 use Rattle.pcm_io.specs.Reserved.{Reserved}
 use Rattle.cell_rows.specs.{Device.{ArrayState, Senses, sense_of}, declared.array.Sense.Sense, declared.row.Cells.Cells}
 use Rattle.pcm_image.specs.{Saved.IsSavedRow, Spelling.cells_bytes}
-use Rattle.image_laws.specs.{SavedRuns.{AreRowsTo, SensedSince, first_senses}, Saving.saved_cells}
+use Rattle.right_images.specs.{SavesRun.AreRowsTo, Saving.saved_cells, SensedSince.{SensedSince, first_senses}}
 use Rattle.image_text.{specs.Printing.PrintsPart, specs.Sensing.{PrintsRows, SensesRows, SensesSome}, proofs.Prints.{part-all, part-same}}
 
 pub sensed-none : {n m : ℕ} (array : ArrayState n m) → SensedSince 0 array array

@@ -5,7 +5,7 @@ use Rattle.cell_rows.specs.Device.{ArrayState}
 use Rattle.power_recovery.specs.Kept.{KeptState}
 use Rattle.module_shape.specs.declared.raw.RawShape.{RawShape}
 use Rattle.pcm_image.specs.Spelling.{bank_bytes, cells_bytes, head_bytes, image_bytes}
-use Rattle.image_laws.specs.Saving.{first_rows, head_of, saved_banks, saved_cells, saved_of}
+use Rattle.right_images.specs.Saving.{first_rows, head_of, saved_banks, saved_cells, saved_of}
 
 pub head-pieces : (n : ℕ) {m : ℕ} (given raw : RawShape) (seed : ℕ) (keeps : ℕ → KeptState n) (array : ArrayState n m) → given ≡ raw
     → head_bytes n (head_of given seed) ++ (flat_map bank_bytes (saved_banks keeps raw.banks) ++ flat_map cells_bytes (saved_cells array array.lines))

@@ -3,7 +3,7 @@ use Rattle.std.specs.{List.flat_map, Prelude.{ℕ, ◌≤◌, List, Option}}
 use Rattle.pcm_io.specs.Reserved.{Reserved}
 use Rattle.cell_rows.specs.Device.{ArrayState}
 use Rattle.pcm_image.specs.Spelling.{cells_bytes}
-use Rattle.image_laws.specs.{SavedRuns.{AreRowsTo, SensedSince}, Saving.saved_cells}
+use Rattle.right_images.specs.{SavesRun.AreRowsTo, Saving.saved_cells, SensedSince.SensedSince}
 use Rattle.image_text.specs.Printing.{PrintsPart}
 
 -- the first lines of an array were sensed, so many, each once and in their order, and each has the bytes of a line

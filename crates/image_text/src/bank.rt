@@ -4,7 +4,7 @@ ghost use Rattle.std.specs.List.{flat_map};
 ghost use Rattle.pcm_io.specs.Faults.{Rose};
 ghost use Rattle.power_recovery.specs.Kept.{IsKept};
 ghost use Rattle.pcm_image.specs.Spelling.{u32, bank_bytes, entry_bytes, region_bytes};
-ghost use Rattle.image_laws.specs.Saving.{saved_bank, saved_entry, saved_region};
+ghost use Rattle.right_images.specs.Saving.{saved_bank, saved_entry, saved_region};
 ghost use Rattle.image_text.specs.Printing.{PrintsMore, PrintsPart};
 
 use crate::pieces::{print_count, print_entry, print_mark, print_region, print_slot};

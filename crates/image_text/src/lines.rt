@@ -4,7 +4,7 @@ ghost use Rattle.std.specs.List.{flat_map};
 ghost use Rattle.pcm_io.specs.Faults.{Rose};
 ghost use Rattle.cell_rows.specs.Shape.{IsShape};
 ghost use Rattle.pcm_image.specs.Spelling.{cells_bytes};
-ghost use Rattle.image_laws.specs.Saving.{saved_cells};
+ghost use Rattle.right_images.specs.Saving.{saved_cells};
 ghost use Rattle.image_text.specs.Printing.{PrintsMore};
 ghost use Rattle.image_text.specs.Sensing.{PrintsRows, SensesRows, SensesSome};
 

@@ -3,7 +3,7 @@ ghost use Rattle.std.specs.Prelude.{◌≡◌, ◌≤◌, ◌++◌, OnOk, OnErr}
 ghost use Rattle.pcm_io.specs.Faults.{Rose};
 ghost use Rattle.pcm_io.specs.Reserved.{appended, room_in};
 ghost use Rattle.pcm_image.specs.Spelling.{u8, u16, u32, head_bytes, region_bytes, entry_bytes, cells_bytes};
-ghost use Rattle.image_laws.specs.Saving.{head_of, home_number};
+ghost use Rattle.right_images.specs.Saving.{head_of, home_number};
 ghost use Rattle.image_text.specs.Printing.{PrintsMore, PrintsPart};
 
 use cell_rows::Cells;

@@ -4,10 +4,9 @@ use Rattle.std.{specs.List.list_any, specs.Prelude.{count_by, nat_lt}, proofs.Ma
 use Rattle.std.proofs.lemmas.Nat.{le-div}
 use Rattle.row_rules.specs.{Answers.is_stored, Rows.{asks_write, line_of, is_cut}, declared.Row.Row}
 use Rattle.bank_shape.specs.{Shape.slot_moved, declared.BankShape.BankShape}
-use Rattle.bank_laws.specs.Places.{region_stores}
-use Rattle.lifetime_laws.specs.Lifetime.{other_stores, asked_writes, other_asked, most_hot_works, most_asked_works, most_asked_kept, AskedLaw}
-use Rattle.lifetime_laws.{specs.Spread.{most_at, most_moves, finding_at}, specs.Works.most_kept, proofs.Counting.{one-few, passing-within}, proofs.Ranks.count-imp}
-use Rattle.lifetime_laws.proofs.Stays.{stay_law, tight_law}
+use Rattle.right_runs.specs.{LineWrites.{most_moves, most_kept}, Places.region_stores}
+use Rattle.lifetime_laws.specs.{Lifetime.{other_stores, asked_writes, other_asked, most_hot_works, most_asked_works, most_asked_kept, AskedLaw}, Spread.{most_at, finding_at}}
+use Rattle.lifetime_laws.proofs.{Counting.{one-few, passing-within}, Ranks.count-imp, Stays.{stay_law, tight_law}}
 use Rattle.masked_bytes.proofs.Counting.{one_if}
 
 most_at-more : (shape : BankShape) (a b : ℕ) → 1 ≤ shape.lines → 1 ≤ shape.psi → a ≤ b → most_at shape.lines shape.psi a ≤ most_at shape.lines shape.psi b

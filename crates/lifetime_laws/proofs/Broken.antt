@@ -10,9 +10,10 @@ use Rattle.bank_shape.specs.declared.answer.Step.TheVariants as did
 use Rattle.bank_model.specs.{After.target_after, Changes.{change_after, change_by}, Events.{BankEvent, Write, Read, Serve, Begin, Iterate, Cut}}
 use Rattle.bank_model.specs.{History.{in_progress, goes_on, moved_in, stored_in}, Lawful.{Lawful, MayCome}, Running.{cancels_after, cancels_with}, Sensing.most_steps}
 use Rattle.bank_model.specs.{Timing.{Happens, Core, Regs, TimedEvent, core, core_of}, Works.{tally, works_on}}
-use Rattle.bank_laws.{specs.Outcomes.table_of, specs.Places.region_stores, proofs.Targets.{WorkAfter, spares_work, working, target-same}, proofs.Waiting.may_all}
+use Rattle.bank_laws.{specs.Outcomes.table_of, proofs.Targets.{WorkAfter, spares_work, working, target-same}, proofs.Waiting.may_all}
+use Rattle.right_runs.specs.{LineWrites.{stores_at, most_works}, Places.region_stores}
 use Rattle.place_laws.proofs.{Cancels.cancels-kept, Moves.keeps, Pulses.cuts-counted, Storing.{stored-counted, region-stored}, Tables.region-all, Trying.{cuts_in, cuts_power}}
-use Rattle.lifetime_laws.{specs.Works.{stores_at, most_works, WorksLaw}, proofs.Counting.{one-few, passing-within}}
+use Rattle.lifetime_laws.{specs.Works.WorksLaw, proofs.Counting.{one-few, passing-within}}
 use Rattle.lifetime_laws.proofs.{Ended.{below_one, gave_tally, cut_tally, works-split, moves-into, gives-once, not-over}, Landing.{any, stored_tally, stores-landed}}
 use Rattle.lifetime_laws.proofs.Stays.{copies_law}
 use Rattle.masked_bytes.proofs.{Counting.one_if, Truth.and_first}

@@ -10,11 +10,12 @@ use Rattle.bank_model.specs.{After.work_after, Answers.MayAll, Changes.{item_if,
 use Rattle.bank_model.specs.Events.{BankEvent, Write, Read, Serve, Begin, Iterate, Cut, line_of_row}
 use Rattle.bank_model.specs.{History.{first_or, stores, stored_in, moved_in, retired, has_exhausted, in_progress}, Lawful.Lawful, Running.{busy_by, busy_after, cancels_after}}
 use Rattle.bank_model.specs.{Sensing.{is_at, most_steps, pulses_of}, Timing.{TimedEvent, core}, Works.{written_on, rounds_on}}
-use Rattle.bank_laws.{specs.Laws.IsSized, specs.Outcomes.table_of, specs.Places.region_stores, proofs.Waiting.may_all}
+use Rattle.bank_laws.{specs.Laws.IsSized, specs.Outcomes.table_of, proofs.Waiting.may_all}
+use Rattle.right_runs.specs.{LineWrites.{most_changes, most_kept}, Places.region_stores}
 use Rattle.place_laws.proofs.{Cancels.cancels-kept, Moves.keeps, Pulses.{cuts-counted, bounded}, Slots.{begin-retires_none, begin-exhausts_none}}
 use Rattle.place_laws.proofs.{Storing.{stored-counted, region-stored}, Tables.region-all, Trying.{cuts_in, exhausted-idle}}
 use Rattle.log_laws.proofs.Within.{row_line-within, last-within}
-use Rattle.lifetime_laws.{specs.Works.{most_changes, most_kept, ControlPulsesLaw, ControlAgesLaw}, proofs.Broken.by-policy, proofs.Ended.below_one}
+use Rattle.lifetime_laws.{specs.Works.{ControlPulsesLaw, ControlAgesLaw}, proofs.Broken.by-policy, proofs.Ended.below_one}
 use Rattle.lifetime_laws.proofs.Keeping.{is_item, changes_of, IsKept, Kept, kept, Written, written, none-cond, stops-cond}
 use Rattle.masked_bytes.proofs.Counting.{one_if}
 

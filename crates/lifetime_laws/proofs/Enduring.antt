@@ -4,7 +4,8 @@ use Rattle.std.{specs.Prelude.nat_lt, proofs.lemmas.Bool.{false_from_ne_true, le
 use Rattle.cell_rows.specs.{Rows.{cell, members}, declared.row.Cells.Cells}
 use Rattle.ecp_line.specs.{Layout.{IsLayout, width, some_below, full_cell, activity_cell}, Reading.is_worn_line}
 use Rattle.line_writer.proofs.Orderly.{members-none}
-use Rattle.lifetime_laws.specs.{Endurance.UnwornLaw, Lifetime.ControlsLaw, Works.most_kept}
+use Rattle.lifetime_laws.specs.{Endurance.UnwornLaw, Lifetime.ControlsLaw}
+use Rattle.right_runs.specs.LineWrites.{most_kept}
 use Rattle.row_rules.specs.Ticking.{tries}
 use Rattle.bank_shape.specs.Shape.{control_line}
 

@@ -15,7 +15,8 @@ use Rattle.bank_laws.proofs.{Answering.{merged-there, served-first, first-there}
 use Rattle.bank_laws.proofs.Waiting.{may_all}
 use Rattle.place_laws.proofs.{Counts.{writes_with, writes-same, writes-more}, Storing.none_first, Tables.rows-counted, Working.{IsStoreOf, done-store}}
 use Rattle.masked_bytes.proofs.Counting.{one_if}
-use Rattle.lifetime_laws.specs.{Spread.{is_stored_on, stores_on}, Works.stores_at}
+use Rattle.right_runs.specs.LineWrites.{is_stored_on, stores_at}
+use Rattle.lifetime_laws.specs.Spread.{stores_on}
 
 -- a store's answer for such a line with this place
 abbrev pub is_done_on : {n : ℕ} → (ℕ → Bool) → ℕ → List (BankEvent n) → Step → Bool

@@ -10,13 +10,13 @@ use Rattle.row_rules.specs.{declared.Asks.TheVariants.{Reads, Writes, Cuts}, dec
 use Rattle.bank_shape.specs.{Shape.{slots_of, slot_moved}, declared.BankShape.BankShape, declared.pace.Pace.Pace}
 use Rattle.bank_model.specs.{Changes.{change_after, keeping_after}, History.in_progress, Lawful.Lawful, Running.{busy_by, busy_after}, Sensing.{most_steps, pulses_of}}
 use Rattle.bank_model.specs.{Timing.{TimedEvent, core}, Works.{works_on, held_on}}
-use Rattle.bank_laws.{specs.Laws.is_worn_at, specs.Outcomes.table_of, specs.Places.{region_stores, is_place_after, is_placed}, specs.Resting.IsStill, proofs.Changing.changed-idle}
-use Rattle.bank_laws.proofs.Works.{idle-held}
+use Rattle.ecp_line.specs.ArrayLines.{is_worn_at}
+use Rattle.bank_laws.{specs.Outcomes.table_of, specs.Resting.IsStill, proofs.Changing.changed-idle, proofs.Works.idle-held}
+use Rattle.right_runs.specs.{LineWrites.{is_stored_on, stores_at, most_works}, Places.{region_stores, is_place_after, is_placed}}
 use Rattle.lifetime_laws.specs.{Endurance.KeepsControls, Lifetime.{BearsControls, own_stores, other_stores, most_hot_works, AttackLaw, HotLinesLaw, KeptLinesLaw, LifetimeLaw}}
-use Rattle.lifetime_laws.specs.{Spread.{is_stored_on, stores_on, most_at, finding_at, stay}, Works.{stores_at, most_works, LinePulsesLaw, LineAgesLaw}}
-use Rattle.lifetime_laws.proofs.{Broken.works_law, Changed.{control_pulses_law, control_ages_law}, Counting.passing-none, Enduring.{unworn_law, controls_law}}
-use Rattle.lifetime_laws.proofs.{Ranks.{count-sum, Each}, Sound.sound_rows_law, Spreading.{IsPlacedBy, placed-each, home-placed, found_law, spread_law}, Stays.{stay_law, even_law}}
-use Rattle.lifetime_laws.proofs.Writing.{pulses_on_law}
+use Rattle.lifetime_laws.{specs.Spread.{stores_on, most_at, finding_at, stay}, specs.Works.{LinePulsesLaw, LineAgesLaw}, proofs.Broken.works_law}
+use Rattle.lifetime_laws.proofs.{Changed.{control_pulses_law, control_ages_law}, Counting.passing-none, Enduring.{unworn_law, controls_law}, Ranks.{count-sum, Each}}
+use Rattle.lifetime_laws.proofs.{Sound.sound_rows_law, Spreading.{IsPlacedBy, placed-each, home-placed, found_law, spread_law}, Stays.{stay_law, even_law}, Writing.pulses_on_law}
 use Rattle.place_laws.proofs.Pulses.{bounded}
 use Rattle.masked_bytes.proofs.Counting.{one_if, count-cons}
 

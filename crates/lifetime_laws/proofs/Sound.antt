@@ -3,8 +3,8 @@ use Rattle.std.proofs.Common.{◌≡◌, ◌⊎◌, inl, inr, ℕ, zero, suc, �
 use Rattle.std.{specs.Prelude.{nat_lt, IsTrue}, proofs.lemmas.Bool.{and_parts, and_from, false_from_ne_true, leb-true}}
 use Rattle.row_rules.specs.{Answers.is_queued, Rows.{each_row, asks_write}, Wearing.worn_row, declared.Row.Row}
 use Rattle.bank_shape.specs.{Shape.{slots_of, controls_of}, declared.BankShape.BankShape}
-use Rattle.bank_laws.specs.{Laws.is_worn_at, Places.{worn_among, is_worn_out, may_leave, is_wear_true}}
-use Rattle.end_laws.specs.Roles.{used_among}
+use Rattle.ecp_line.specs.ArrayLines.{is_worn_at}
+use Rattle.right_runs.specs.{Roles.used_among, WornLines.{worn_among, is_worn_out, may_leave, is_wear_true}}
 use Rattle.lifetime_laws.{specs.Endurance.{is_unrefused, is_unqueued, KeepsControls, SoundRowsLaw, NoneRetiredLaw}, proofs.Counting.one-few}
 use Rattle.masked_bytes.proofs.Counting.{one_if}
 

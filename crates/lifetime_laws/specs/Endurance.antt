@@ -1,11 +1,10 @@
 -- What a bank over cells that endure never shows: a worn line of a slot, a write that is refused, one that stays in the queue.
 use Rattle.std.specs.Prelude.{◌≡◌, ℕ, ◌+◌, ◌<◌, ◌≤◌, ◌&&◌, not, Bool, IsTrue, IsFalse, List, []}
 use Rattle.cell_rows.specs.Device.{ArrayState}
-use Rattle.ecp_line.specs.Layout.{IsLayout}
+use Rattle.ecp_line.specs.{ArrayLines.is_worn_at, Layout.IsLayout}
 use Rattle.row_rules.specs.{Answers.is_queued, Rows.{RowTest, each_row, asks_write}, Wearing.worn_row, declared.Row.Row, declared.Rules.Rules}
 use Rattle.bank_shape.specs.{Shape.{slots_of, controls_of, control_line}, declared.BankShape.BankShape}
-use Rattle.bank_laws.specs.{Laws.{KeepsPlaces, is_worn_at}, Places.may_leave}
-use Rattle.end_laws.specs.{Ends.{BankEnd, EndsWith}, Roles.used_spares}
+use Rattle.right_runs.specs.{Ends.{BankEnd, EndsWith}, KeepsPlaces.KeepsPlaces, Roles.used_spares, WornLines.may_leave}
 
 -- ---- lines
 

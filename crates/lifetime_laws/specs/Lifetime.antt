@@ -1,14 +1,15 @@
 -- How long a module lives under the rotation: a bank whose hot lines are few keeps every slot's own line.
 use Rattle.std.specs.{List.list_any, Prelude.{ℕ, ◌+◌, ◌*◌, ◌/◌, ◌<◌, ◌≤◌, ◌==◌, ◌&&◌, not, nat_lt, Bool, if◌then◌else◌, IsTrue, IsFalse, List, [], ◌∷◌, length, count_by}}
 use Rattle.cell_rows.specs.Device.{CellBounds, ArrayState}
-use Rattle.ecp_line.specs.Layout.{IsLayout}
+use Rattle.ecp_line.specs.{ArrayLines.is_worn_at, Layout.IsLayout}
 use Rattle.row_rules.specs.{Answers.is_stored, Rows.{each_row, asks_write, asks_write_of, line_of, is_cut}, Table.KeepsRows, Ticking.{is_in_time, tries}, declared.Row.Row}
 use Rattle.row_rules.specs.declared.Rules.{Rules}
-use Rattle.bank_shape.specs.{Shape.{slots_of, controls_of, control_line}, declared.BankShape.BankShape, declared.pace.Pace.Pace}
-use Rattle.bank_model.specs.{Aging.{Ages, AreAged, AreControlsAged}, Lawful.Lawful, Timing.{TimedEvent, core}}
-use Rattle.bank_laws.specs.{Laws.{IsSized, LeavesArray, KeepsPlaces, is_worn_at, rules_of}, Outcomes.table_of, Places.{region_stores, is_placed, may_leave}, Resting.IsStill}
-use Rattle.lifetime_laws.specs.{Endurance.{KeepsControls, is_unrefused, is_unqueued}, Spread.{most_at, most_moves, stay, stores_on}}
-use Rattle.lifetime_laws.specs.Works.{most_works, most_each, most_kept, stores_at}
+use Rattle.bank_shape.specs.{Shape.{slots_of, controls_of}, declared.BankShape.BankShape, declared.pace.Pace.Pace}
+use Rattle.bank_model.specs.{Aging.{AreAged, AreControlsAged}, Lawful.Lawful, Timing.{TimedEvent, core}}
+use Rattle.bank_laws.specs.{Laws.{IsSized, LeavesArray}, Outcomes.table_of, Resting.IsStill}
+use Rattle.right_runs.specs.{Banks.rules_of, KeepsLines.KeepsLines, KeepsPlaces.KeepsPlaces, LineWrites.{most_moves, most_kept, stores_at}, Places.{region_stores, is_placed}}
+use Rattle.right_runs.specs.WornLines.{may_leave}
+use Rattle.lifetime_laws.specs.{Endurance.{KeepsControls, is_unrefused, is_unqueued}, Spread.{most_at, stay, stores_on}}
 
 -- the stores of a region that are of none of these lines
 abbrev pub other_stores : {n : ℕ} → BankShape → ℕ → List ℕ → List (Row n) → ℕ
@@ -39,17 +40,6 @@ AttackLaw =
     → IsTrue (each_row (is_in_time rules) rows []) → IsTrue (each_row (is_placed shape worn) rows [])
     → (shape.lines + 1) * stores_on line (shape.base + slot) rows
     ≤ own_stores line rows + other_stores shape (line / shape.lines) (line ∷ []) rows + shape.lines * stay shape.lines shape.psi
-
--- what the pulses of each slot's own array line, and of each control line, are to the rows of a bank's table, and how each has aged
-pub record KeepsLines {n m : ℕ} (shape : BankShape) (array : ArrayState n m) (rules : Rules) (rows : List (Row n)) : Type 0 where
-  pub pulses : (slot : ℕ) → slot < slots_of shape
-      → (array.line (shape.base + slot)).pulses ≤ most_each rules * most_works shape rows slot
-  pub ages : (slot : ℕ) → slot < slots_of shape
-      → Ages array.bounds (tries rules.policy * most_works shape rows slot) (array.line (shape.base + slot))
-  pub controls : (item : ℕ) → item < controls_of shape
-      → (array.line (control_line shape item)).pulses ≤ most_each rules * most_kept shape rows item
-  pub control_ages : (item : ℕ) → item < controls_of shape
-      → Ages array.bounds (tries rules.policy * most_kept shape rows item) (array.line (control_line shape item))
 
 -- so it is for every history of a bank, and the array that it leaves
 abbrev pub KeptLinesLaw : Type 0

@@ -1,22 +1,17 @@
 -- How the stores of one line of a bank are spread over the places of its region.
-use Rattle.std.specs.Prelude.{◌≡◌, ℕ, zero, suc, ◌+◌, ◌*◌, ◌/◌, ◌%◌, ◌<◌, ◌≤◌, ◌==◌, ◌&&◌, Bool, false, if◌then◌else◌, min, List, [], count_by, IsTrue}
-use Rattle.result_rows.specs.declared.Outcome.{Outcome}
+use Rattle.std.specs.Prelude.{◌≡◌, ℕ, zero, suc, ◌+◌, ◌*◌, ◌/◌, ◌%◌, ◌<◌, ◌≤◌, ◌==◌, ◌&&◌, Bool, if◌then◌else◌, min, List, [], count_by, IsTrue}
 use Rattle.result_rows.specs.declared.Outcome.TheVariants as out
 use Rattle.row_rules.specs.{Answers.is_stored, Rows.{each_row, asks_write_of}, Ticking.is_in_time, declared.Row.Row, declared.Rules.Rules}
 use Rattle.start_gap.specs.Rotation.{turn, gap_after}
 use Rattle.bank_shape.specs.{Shape.{slots_of, slot_moved}, declared.BankShape.BankShape, declared.pace.Pace.Pace}
 use Rattle.bank_model.specs.{Lawful.Lawful, Timing.TimedEvent}
-use Rattle.bank_laws.specs.{Laws.IsSized, Outcomes.table_of, Places.{region_stores, is_placed}}
+use Rattle.bank_laws.specs.{Laws.IsSized, Outcomes.table_of}
+use Rattle.right_runs.specs.{LineWrites.{is_stored_on, most_moves}, Places.{region_stores, is_placed}}
 
 -- how many of the numbers below n pass a test
 abbrev pub passing : (ℕ → Bool) → ℕ → ℕ
 passing test zero = 0
 passing test (suc n) = (if test n then 1 else 0) + passing test n
-
--- stored on this array line
-abbrev pub is_stored_on : {n : ℕ} → ℕ → Outcome n → Bool
-is_stored_on at (out.Stored tick place) = place == at
-is_stored_on at _ = false
 
 -- how many writes of a line were stored on an array line, by the places of the rows
 abbrev pub stores_on : {n : ℕ} → ℕ → ℕ → List (Row n) → ℕ
@@ -62,10 +57,6 @@ EvenLaw =
 -- without a full stay all stores may be at one place: that is so where no gap moves
 abbrev pub OneStayLaw : Type 0
 OneStayLaw = (lines psi count : ℕ) → 1 ≤ lines → 1 ≤ psi → count ≤ stay lines psi → most_at lines psi count ≡ count
-
--- of so many successive moves of a region, at most so many copy into one place
-abbrev pub most_moves : ℕ → ℕ → ℕ
-most_moves lines moves = moves / (lines + 1) + min 1 (moves % (lines + 1))
 
 abbrev pub CopiesLaw : Type 0
 CopiesLaw = (lines place moves : ℕ) → passing (λ t. gap_after lines t == place) moves ≤ most_moves lines moves

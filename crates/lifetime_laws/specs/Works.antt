@@ -1,28 +1,12 @@
 -- How many line writes one array line takes by the rows, and how many pulses: a slot's own line, and a control line, which is written by
 -- line writes of its own.
-use Rattle.std.specs.Prelude.{ℕ, ◌+◌, ◌*◌, ◌/◌, ◌<◌, ◌≤◌, ◌&&◌, nat_lt, if◌then◌else◌, List, count_by}
+use Rattle.std.specs.Prelude.{ℕ, ◌+◌, ◌*◌, ◌<◌, ◌≤◌, List}
 use Rattle.cell_rows.specs.Device.{ArrayState}
-use Rattle.row_rules.specs.{Answers.is_stored, Rows.{asks_write, is_cut}, Ticking.tries, declared.Row.Row, declared.Rules.Rules}
+use Rattle.row_rules.specs.Ticking.{tries}
 use Rattle.bank_shape.specs.{Shape.{slots_of, controls_from, controls_of, control_line}, declared.BankShape.BankShape, declared.pace.Pace.Pace}
 use Rattle.bank_model.specs.{Aging.{Ages, AreAged, AreControlsAged}, Lawful.Lawful, Sensing.{most_steps, pulses_of}, Timing.{TimedEvent, core}, Works.{works_on, held_on}}
-use Rattle.bank_laws.specs.{Laws.{IsSized, LeavesArray, rules_of}, Outcomes.table_of, Places.region_stores, Resting.IsStill}
-use Rattle.lifetime_laws.specs.Spread.{is_stored_on, most_moves}
-
--- how many writes were stored on an array line, of whatever line
-abbrev pub stores_at : {n : ℕ} → ℕ → List (Row n) → ℕ
-stores_at at rows = count_by (λ q. asks_write q.asks && is_stored_on at q.outcome) rows
-
--- the most line writes of a slot's own array line, each begun once: its stores, the gap moves into it, one that gives it up, and one
--- for each cut
-abbrev pub most_works : {n : ℕ} → BankShape → List (Row n) → ℕ → ℕ
-most_works shape rows slot =
-    stores_at (shape.base + slot) rows
-    + most_moves shape.lines (region_stores is_stored shape (slot / (shape.lines + 1)) rows / shape.psi)
-    + 1 + count_by is_cut rows
-
--- the most pulses of one line write, as often as it may be begun
-abbrev pub most_each : Rules → ℕ
-most_each rules = tries rules.policy * rules.steps
+use Rattle.bank_laws.specs.{Laws.{IsSized, LeavesArray}, Outcomes.table_of, Resting.IsStill}
+use Rattle.right_runs.specs.{Banks.rules_of, LineWrites.{most_works, most_each, most_kept}}
 
 -- each array line but the control lines has at most so many pulses for each line write that ended on it, and those of the one in progress
 abbrev pub PulsesOnLaw : Type 0
@@ -53,17 +37,6 @@ LineAgesLaw =
     → Ages array.bounds (tries pace.policy * most_works shape (table_of shape xs) slot) (array.line (shape.base + slot))
 
 -- ---- control lines
-
--- the most changes of an item by the rows: of a region's one for each of its stores and moves, of a spare's and of the mark one
-abbrev pub most_changes : {n : ℕ} → BankShape → List (Row n) → ℕ → ℕ
-most_changes shape rows item =
-    if nat_lt item shape.regions
-    then region_stores is_stored shape item rows + region_stores is_stored shape item rows / shape.psi
-    else 1
-
--- the most line writes of an item's control line, each begun once: one for each change, and one for each cut
-abbrev pub most_kept : {n : ℕ} → BankShape → List (Row n) → ℕ → ℕ
-most_kept shape rows item = most_changes shape rows item + count_by is_cut rows
 
 -- the pulses of a control line
 abbrev pub ControlPulsesLaw : Type 0

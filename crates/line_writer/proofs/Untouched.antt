@@ -3,7 +3,8 @@ use Rattle.std.proofs.Common.{◌≡◌, ◌≢◌, ℕ, ◌+◌, ◌<◌, false
 use Rattle.std.proofs.lemmas.Bool.{cases_eq}
 use Rattle.cell_rows.specs.{Device.{ArrayState, LineState, IsCellKept, IsBlank}, Rows.cell, declared.row.Cells.Cells}
 use Rattle.program_verify.specs.{Programming.{IsRound, IsTear, is_wrong}, declared.prog.Prog.Prog}
-use Rattle.line_writer.specs.Untouched.{IsUntouched, HasUntouched, AreUntouched, LeavesUnused}
+use Rattle.ecp_line.specs.Untouched.{IsUntouched, HasUntouched, AreUntouched}
+use Rattle.line_writer.specs.Untouched.{LeavesUnused}
 
 module _ {n m : ℕ} (e : ℕ) where
   -- a cell that is kept is as untouched as it was

@@ -5,7 +5,8 @@ use Rattle.row_rules.specs.declared.Rules.{Rules}
 use Rattle.bank_shape.specs.{Pausing.is_cancelling, declared.BankShape.BankShape, declared.pace.Pace.Pace}
 use Rattle.bank_shape.specs.declared.answer.ReadAnswer.TheVariants as came
 use Rattle.bank_model.specs.{Events.{BankEvent, Write, Read, Serve, Begin, Iterate, Cut}, Lawful.{Lawful, MayCome, IsRead}, Timing.{Happens, Core, Regs, TimedEvent}}
-use Rattle.bank_laws.{specs.Logs.is_broken, specs.Outcomes.{row_with, rows_from}, proofs.Settling.lawful_before}
+use Rattle.right_runs.specs.Logs.{is_broken}
+use Rattle.bank_laws.{specs.Outcomes.{row_with, rows_from}, proofs.Settling.lawful_before}
 
 between : (from at to : ℕ) → from ≤ at → at ≤ to → (nat_le from at && nat_le at to) ≡ true
 between from at to le lt = and_from (nat_le from at) _ (le-leb from at le) (le-leb at to lt)

@@ -4,7 +4,7 @@ use Rattle.std.{specs.List.list_any, specs.Prelude.{nat_le, nat_lt, All}, proofs
 use Rattle.masked_bytes.proofs.Truth.{and_first, and_second}
 use Rattle.cell_rows.specs.declared.array.Sense.{Sense}
 use Rattle.row_rules.specs.{Wearing.worn_row, declared.Row.Row, declared.Rules.Rules}
-use Rattle.bank_laws.specs.Logs.{is_broken, follows, tears, follow_on, follow_on_to, begins_unpulsed, begins_unpulsed_to}
+use Rattle.right_runs.specs.Logs.{is_broken, follows, tears, follow_on, follow_on_to, begins_unpulsed, begins_unpulsed_to}
 
 -- the last sense of a list that begins with this one
 abbrev pub last_of : {n m : ℕ} → Sense n m → List (Sense n m) → Sense n m

@@ -6,7 +6,8 @@ use Rattle.cell_rows.specs.declared.array.Sense.{Sense}
 use Rattle.bank_shape.specs.{Shape.lines_in, declared.BankShape.BankShape, declared.pace.Pace.Pace}
 use Rattle.bank_model.specs.{Adding.senses_of, Changes.all_controls, Events.{Write, Read, Serve, Begin, Iterate, Cut}, Lawful.{Lawful, MayCome}, Sensing.{pulses_of, read_again}}
 use Rattle.bank_model.specs.Timing.{Happens, Core, Regs, TimedEvent}
-use Rattle.bank_laws.{specs.Laws.log_of, specs.Logs.has_controls, specs.Outcomes.{row_with, rows_from}, proofs.Serves.may_at, proofs.Walking.{Passes, walk, rows_after}}
+use Rattle.bank_laws.{specs.Laws.log_of, specs.Outcomes.{row_with, rows_from}, proofs.Serves.may_at, proofs.Walking.{Passes, walk, rows_after}}
+use Rattle.right_runs.specs.Logs.{has_controls}
 use Rattle.log_laws.{specs.Laws.ControlsLaw, proofs.Owning.among, proofs.Sensed.any-filter}
 
 -- what holds of each line that is among these holds of them

@@ -8,8 +8,9 @@ use Rattle.bank_shape.specs.{declared.clock.Doing.TheVariants.Serving, declared.
 use Rattle.bank_model.specs.{Adding.senses_of, After.may_begin_after, Changes.{change_after, keeping_after, halted_after, line_of_change}, Events.Cut, History.waits}
 use Rattle.bank_model.specs.{Lawful.{Lawful, IsIdle}, Running.{choice_after, ready_by, ready_after}, Sensing.pulses_of}
 use Rattle.bank_model.specs.Timing.{Happens, Core, TimedEvent, core, is_empty, last_tick}
-use Rattle.bank_laws.specs.{Laws.{IsSized, rules_of}, Logs.{begins_unpulsed_to, follow_on_to}, Outcomes.{row_with, rows_from, table_of}, Resting.{IsCutOff, EndsIn}}
-use Rattle.bank_laws.{specs.Settling.AreOpen, proofs.Counted.counted-cases, proofs.Serves.idle-waits, proofs.Settling.opens, proofs.Targets.work-begins}
+use Rattle.bank_laws.{specs.Laws.IsSized, specs.Outcomes.{row_with, rows_from, table_of}, specs.Resting.{IsCutOff, EndsIn}, specs.Settling.AreOpen, proofs.Counted.counted-cases}
+use Rattle.bank_laws.proofs.{Serves.idle-waits, Settling.opens, Targets.work-begins}
+use Rattle.right_runs.specs.{Banks.rules_of, Logs.{begins_unpulsed_to, follow_on_to}}
 use Rattle.row_rules.specs.Rows.{is_cut}
 use Rattle.log_laws.{specs.Laws.PulseStepsLaw, proofs.Chains.{last_of, follow-same, begin-same, follow-off, begin-off, torn-end}, proofs.Owning.{own, own-kept, own-log}}
 use Rattle.log_laws.proofs.{Pulsing.{Torn, Due, Busy, Shown}, Stepping.step}

@@ -7,7 +7,8 @@ use Rattle.row_rules.specs.{declared.Row.Row, declared.Rules.Rules}
 use Rattle.bank_shape.specs.{declared.BankShape.BankShape, declared.pace.Pace.Pace}
 use Rattle.bank_model.specs.{Adding.senses_of, After.target_after, Changes.{change_after, keeping_after, halted_after, line_of_change}, History.in_progress, Running.running}
 use Rattle.bank_model.specs.{Sensing.pulses_of, Timing.{TimedEvent, core, last_tick}}
-use Rattle.bank_laws.{specs.Logs.{is_broken, follows, follow_on}, proofs.Targets.WorkAfter}
+use Rattle.right_runs.specs.Logs.{is_broken, follows, follow_on}
+use Rattle.bank_laws.proofs.Targets.{WorkAfter}
 use Rattle.log_laws.proofs.{Chains.{last_of, last_of-more, last_of-all, Follow, follow-more, follow-alike}, Firsts.BeganFrom, Owning.own}
 
 module _ {n m : ℕ} (shape : BankShape) (pace : Pace) (rules : Rules) (rows : List (Row n)) (wears : Bool) (line : ℕ) (all : List (TimedEvent n m)) where

@@ -13,8 +13,8 @@ use Rattle.bank_shape.specs.declared.answer.ReadAnswer.TheVariants as came
 use Rattle.bank_shape.specs.declared.answer.Step.TheVariants as did
 use Rattle.bank_model.specs.{Adding.senses_of, After.stands_at_after, Answers.IsServed, Events.{Write, Read, Serve, Begin, Iterate, Cut, RowsBelow}, History.{Awaited, waits}}
 use Rattle.bank_model.specs.{Lawful.{Lawful, MayCome}, Sensing.{pulses_of, stand_of, IsLaid, IsReadRight}, Timing.{Happens, Core, Regs, TimedEvent, core, core_of}}
-use Rattle.bank_laws.{specs.Logs.is_sensed, specs.Outcomes.{on_row, outcome_with, outcome_of}, specs.Standing.has_wait, proofs.Serves.same_bytes-same, proofs.Settling.opens}
-use Rattle.bank_laws.proofs.Standing.{stand_apart}
+use Rattle.right_runs.specs.Logs.{is_sensed}
+use Rattle.bank_laws.{specs.Outcomes.{on_row, outcome_with, outcome_of}, specs.Standing.has_wait, proofs.Serves.same_bytes-same, proofs.Settling.opens, proofs.Standing.stand_apart}
 use Rattle.log_laws.proofs.{Naming.rows_below-end, Outing.core-append, Storing.{one_sense, now-sensed, older-sensed}}
 
 -- a read that waits with this one's row is this one

@@ -12,10 +12,10 @@ use Rattle.row_rules.specs.{Queueing.cover, Serving.{may_have, same_bytes}, decl
 use Rattle.row_rules.specs.Rows as rows
 use Rattle.bank_shape.specs.{Shape.lines_in, declared.BankShape.BankShape, declared.answer.WriteAnswer.WriteAnswer, declared.pace.Pace.Pace}
 use Rattle.bank_shape.specs.declared.answer.ReadAnswer.TheVariants as came
-use Rattle.bank_laws.specs.{Laws.{IsSized, log_of}, Logs.{is_sensed, outcome_sensed, has_sense}, Outcomes.{outcome_of, ended, row_with, rows_from}, Settling.AreOpen}
-use Rattle.bank_laws.{specs.Ticks.ends_action, proofs.Ending.{Onwards, own_answer, outcome-may, write_outcome}, proofs.Fates.{IsSettled, awaits-new}}
-use Rattle.bank_laws.proofs.{Given.{given_of, given-layer}, Serves.{idle-waits, may_at, newest_same, onwards_at}, Settling.opens, Waiting.settled_all}
-use Rattle.bank_laws.proofs.Walking.{Passes, walk, rows_after}
+use Rattle.bank_laws.specs.{Laws.{IsSized, log_of}, Outcomes.{outcome_of, ended, row_with, rows_from}, Settling.AreOpen, Ticks.ends_action}
+use Rattle.bank_laws.proofs.{Ending.{Onwards, own_answer, outcome-may, write_outcome}, Fates.{IsSettled, awaits-new}, Given.{given_of, given-layer}}
+use Rattle.bank_laws.proofs.{Serves.{idle-waits, may_at, newest_same, onwards_at}, Settling.opens, Waiting.settled_all, Walking.{Passes, walk, rows_after}}
+use Rattle.right_runs.specs.Logs.{is_sensed, outcome_sensed, has_sense}
 use Rattle.log_laws.{specs.Laws.SensedLaw, proofs.Reading.read-sensed, proofs.Storing.stored-sensed, proofs.Uncovering.cover-same}
 
 pub any-filter : {X : Type 0} (p keep : X → Bool) (xs : List X) → list_any p (filter keep xs) ≡ true → list_any p xs ≡ true

@@ -13,9 +13,10 @@ use Rattle.bank_model.specs.{Events.{BankEvent, Write, Read, Serve, Begin, Itera
 use Rattle.bank_model.specs.{Lawful.{Lawful, MayCome, IsNext, IsNextKept}, Running.{tears_bank, running, running_at, chosen_after, left, left_by}}
 use Rattle.bank_model.specs.Sensing.{is_at, most_steps, pulses_of, read_again, kept_sensed}
 use Rattle.bank_model.specs.Timing.{Happens, Core, Regs, Keeping, KeepBegin, KeepIterate, KeepCut, TimedEvent, is_doing, core, core_of, last_tick}
-use Rattle.bank_laws.specs.{Laws.{IsSized, rules_of}, Logs.{is_broken, follows}, Outcomes.rows_from, Settling.AreOpen, Ticks.ends_action}
-use Rattle.bank_laws.proofs.{Changing.{changed-idle, halted-stops}, Counted.{counted-cases, pulses-few}, Entries.either, Settling.lawful_before}
+use Rattle.bank_laws.{specs.Laws.IsSized, specs.Outcomes.rows_from, specs.Settling.AreOpen, specs.Ticks.ends_action, proofs.Changing.{changed-idle, halted-stops}}
+use Rattle.bank_laws.proofs.{Counted.{counted-cases, pulses-few}, Entries.either, Settling.lawful_before}
 use Rattle.bank_laws.proofs.{Targets.{WorkAfter, spares_work, working, target-same, begin-works, unexhausted}, Ticks.last_tick-rises, Waiting.may_all}
+use Rattle.right_runs.specs.{Banks.rules_of, Logs.{is_broken, follows}}
 use Rattle.place_laws.proofs.WornOut.{change-within}
 use Rattle.log_laws.proofs.{Breaking.{cut-here, read-behind, cut-broken}, Chains.{last_of, same_follows, step_follows}, Firsts.{BeganFrom, started-from, left-from}}
 use Rattle.log_laws.proofs.{Owning.{own, among, own-none, own-lacks, own-all, numbers-from, numbers-all}, Pulsing.{Due, Busy, Torn, Unseen, Seen, Shown, quiet, noted, tears}}

@@ -15,8 +15,8 @@ use Rattle.bank_shape.specs.declared.answer.Step.TheVariants as did
 use Rattle.bank_model.specs.{Adding.senses_of, After.{array_line_after, slot_of_work, sources_of, target_after, work_after}, Answers.IsDone}
 use Rattle.bank_model.specs.{Events.{BankEvent, Write, Read, Serve, Begin, Iterate, Cut, newest, up_to, line_of_row}, History.waits, Lawful.{Lawful, MayCome}}
 use Rattle.bank_model.specs.{Sensing.{pulses_of, IsReadRight}, Timing.{Happens, Core, Regs, TimedEvent, core}}
-use Rattle.bank_laws.{specs.Logs.is_sensed, specs.Outcomes.{on_row, outcome_with, outcome_of}, specs.Standing.has_wait, proofs.Serves.same_bytes-same}
-use Rattle.bank_laws.proofs.Wears.{not_stored, lost_not_stored}
+use Rattle.right_runs.specs.Logs.{is_sensed}
+use Rattle.bank_laws.{specs.Outcomes.{on_row, outcome_with, outcome_of}, specs.Standing.has_wait, proofs.Serves.same_bytes-same, proofs.Wears.{not_stored, lost_not_stored}}
 use Rattle.log_laws.proofs.Outing.{line-in, up_to-in, unstored-first}
 
 -- the senses of one line are one sense

@@ -5,7 +5,8 @@ use Rattle.ecp_line.specs.Reading.{decode}
 use Rattle.row_rules.specs.Rows.{each_row}
 use Rattle.bank_shape.specs.{Shape.{slots_of, lines_in}, declared.BankShape.BankShape, declared.pace.Pace.Pace}
 use Rattle.bank_model.specs.{Adding.senses_of, Lawful.Lawful, Timing.TimedEvent}
-use Rattle.bank_laws.specs.{Laws.{LeavesArray, IsSized, rules_of, log_of}, Logs.{has_sense, has_controls, is_line_fair_to}, Outcomes.table_of, Resting.{IsStill, EndsIn}}
+use Rattle.bank_laws.specs.{Laws.{LeavesArray, IsSized, log_of}, Outcomes.table_of, Resting.{IsStill, EndsIn}}
+use Rattle.right_runs.specs.{Banks.rules_of, Logs.{has_sense, has_controls, is_line_fair_to}}
 
 -- the senses of each of a bank's lines begin at no pulses, go on by at most one pulse, an iteration or broken off, and end with
 -- the line's pulses; senses that show those may have been added

@@ -6,7 +6,8 @@ use Rattle.result_rows.specs.declared.Outcome.{Outcome}
 use Rattle.result_rows.specs.declared.Outcome.TheVariants as out
 use Rattle.row_rules.specs.{Answers.accepts, Lines.IsOfLines, Rows.{each_row, newest, asks_cut}, Serving.{is_served, may_have, owed}, Table.{is_of, of_bank}, declared.Asks.Asks}
 use Rattle.row_rules.specs.{declared.Asks.TheVariants.{Reads, Writes, Cuts}, declared.Row.Row}
-use Rattle.module_laws.specs.{Asking.{row_in, bank_table, asks_in}, Serves.{AreLines, ServedByBanksLaw}}
+use Rattle.right_runs.specs.Tables.{row_in, bank_table, asks_in}
+use Rattle.module_laws.specs.Serves.{AreLines, ServedByBanksLaw}
 
 module _ {n : ℕ} where
   -- what a row may have doesn't go by the number of its line

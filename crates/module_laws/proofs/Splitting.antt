@@ -5,10 +5,10 @@ use Rattle.result_rows.specs.declared.Outcome.{Outcome}
 use Rattle.row_rules.specs.{Queueing.has_room, Rows.each_row, Table.is_of, declared.Row.Row}
 use Rattle.bank_shape.specs.{declared.BankShape.BankShape, declared.pace.Pace.Pace}
 use Rattle.bank_model.specs.{Events.{Write, Read, Serve, Begin, Iterate, Cut}, Lawful.Lawful, Timing.{Happens, Core, Regs, TimedEvent, last_tick}}
-use Rattle.bank_laws.{specs.Laws.{IsSized, rules_of}, specs.Outcomes.rows_from, specs.Resting.IsStill, specs.Room.RoomLaw, proofs.Settling.lawful_before}
-use Rattle.bank_laws.proofs.Ticks.{last_tick-rises}
-use Rattle.module_laws.specs.Asking.{Asked, row_with, asked_in, asked_of, bank_table, AreAsked, IsAsked}
-use Rattle.module_laws.{specs.Serves.{AreRecorded, TicksFall, last_outcome, finds_room_in, RoomByBankLaw}, proofs.Tables.{rows_of_asked, rows_are}}
+use Rattle.bank_laws.{specs.Laws.IsSized, specs.Outcomes.rows_from, specs.Resting.IsStill, specs.Room.RoomLaw, proofs.Settling.lawful_before, proofs.Ticks.last_tick-rises}
+use Rattle.right_runs.specs.{Banks.rules_of, Tables.{bank_table, finds_room_in}}
+use Rattle.module_laws.specs.{Asking.{Asked, row_with, asked_in, asked_of, AreAsked, IsAsked}, Serves.{AreRecorded, TicksFall, last_outcome, RoomByBankLaw}}
+use Rattle.module_laws.proofs.Tables.{rows_of_asked, rows_are}
 
 abbrev By : {n : ℕ} → ℕ → Asked n → Type 0
 By tick b = b.tick ≤ tick

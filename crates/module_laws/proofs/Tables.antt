@@ -7,7 +7,8 @@ use Rattle.row_rules.specs.{Table.{is_of, of_bank}, declared.Asks.Asks, declared
 use Rattle.bank_shape.specs.declared.BankShape.{BankShape}
 use Rattle.bank_model.specs.{Events.{Write, Read, Serve, Begin, Iterate, Cut}, Timing.{Happens, Core, Regs, TimedEvent}}
 use Rattle.bank_laws.specs.Outcomes.{outcome_of, ended, row_with as row_of, rows_from}
-use Rattle.module_laws.specs.{Asking.{Asked, row_with, asked_in, asked_of, row_in, bank_table, AreAsked, IsAsked}, Serves.{last_outcome, AreRecorded, BankTableLaw}}
+use Rattle.module_laws.specs.{Asking.{Asked, row_with, asked_in, asked_of, AreAsked, IsAsked}, Serves.{last_outcome, AreRecorded, BankTableLaw}}
+use Rattle.right_runs.specs.Tables.{row_in, bank_table}
 
 module _ {n : ℕ} (bank_of line_in : ℕ → ℕ) (bank : ℕ) (outcome : ℕ → Outcome n) where
   -- the rows of a bank are those of what was asked of it

@@ -1,8 +1,9 @@
 -- What the rows of a trace ask of a module, and what arrives in one bank.
 use Rattle.std.specs.Prelude.{◌≡◌, ℕ, Bool, true, false, List, [], ◌∷◌, map, filter}
 use Rattle.result_rows.specs.declared.Outcome.{Outcome}
-use Rattle.row_rules.specs.{Table.{is_of, of_bank}, declared.Asks.Asks, declared.Asks.TheVariants.{Reads, Writes, Cuts}, declared.Row.Row}
+use Rattle.row_rules.specs.{Table.is_of, declared.Asks.Asks, declared.Asks.TheVariants.{Reads, Writes, Cuts}, declared.Row.Row}
 use Rattle.bank_model.specs.{Events.{BankEvent, Write, Read, Cut}, Timing.{Happens, Core, Regs, TimedEvent}}
+use Rattle.right_runs.specs.Tables.{asks_in}
 
 -- a row with its number, as it is asked for
 pub record Asked (n : ℕ) : Type 0 where
@@ -15,25 +16,12 @@ abbrev pub row_with : {n : ℕ} → (ℕ → Outcome n) → Asked n → Row n
 row_with outcome a = record { tick = a.tick; asks = a.asks; outcome = outcome a.row }
 
 module _ {n : ℕ} (bank_of line_in : ℕ → ℕ) where
-  -- the same with the line's number in its bank
-  abbrev pub asks_in : Asks n → Asks n
-  asks_in (Reads line) = Reads (line_in line)
-  asks_in (Writes line bytes given) = Writes (line_in line) bytes given
-  asks_in Cuts = Cuts
-
   abbrev pub asked_in : Asked n → Asked n
-  asked_in a = record { row = a.row; tick = a.tick; asks = asks_in a.asks }
-
-  abbrev pub row_in : Row n → Row n
-  row_in r = record { tick = r.tick; asks = asks_in r.asks; outcome = r.outcome }
+  asked_in a = record { row = a.row; tick = a.tick; asks = asks_in bank_of line_in a.asks }
 
   -- what is asked of one bank, the cuts included
   abbrev pub asked_of : ℕ → List (Asked n) → List (Asked n)
   asked_of bank asked = map asked_in (filter (λ a. is_of bank_of bank a.asks) asked)
-
-  -- a bank's table out of that of the module, with the numbers that the lines have there
-  abbrev pub bank_table : ℕ → List (Row n) → List (Row n)
-  bank_table bank rows = map row_in (of_bank bank_of bank rows)
 
 -- the rows of a bank's history are what was asked of the bank, both the newest first: each write and read has the number, the line
 -- and the tick of its row, and each power cut the tick of its row, which has no number in the history. What is no arrival has no row,

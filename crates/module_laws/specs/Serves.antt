@@ -2,12 +2,12 @@
 use Rattle.std.specs.Prelude.{◌≡◌, ℕ, ◌<◌, ◌≤◌, IsTrue, List, [], ◌∷◌, All, map}
 use Rattle.result_rows.specs.declared.Outcome.{Outcome}
 use Rattle.result_rows.specs.declared.Outcome.TheVariants as out
-use Rattle.row_rules.specs.{Lines.IsOfLines, Queueing.has_room, Rows.{RowTest, each_row}, Serving.is_served, declared.Asks.Asks, declared.Asks.TheVariants.{Reads, Writes, Cuts}}
-use Rattle.row_rules.specs.{declared.Row.Row, declared.Rules.Rules}
+use Rattle.row_rules.specs.{Lines.IsOfLines, Rows.each_row, Serving.is_served, declared.Asks.Asks, declared.Asks.TheVariants.{Reads, Writes, Cuts}, declared.Row.Row}
 use Rattle.bank_shape.specs.{declared.BankShape.BankShape, declared.pace.Pace.Pace}
 use Rattle.bank_model.specs.{Lawful.Lawful, Timing.{TimedEvent, last_tick}, Told.IsWhole}
-use Rattle.bank_laws.specs.{Laws.{IsSized, rules_of}, Outcomes.{table_of, outcome_of, ended}, Resting.{IsStill, IsCutOff}, Room.RoomLaw}
-use Rattle.module_laws.specs.Asking.{Asked, row_with, asked_of, bank_table, AreAsked}
+use Rattle.bank_laws.specs.{Laws.IsSized, Outcomes.{table_of, outcome_of, ended}, Resting.{IsStill, IsCutOff}, Room.RoomLaw}
+use Rattle.right_runs.specs.{Banks.rules_of, Tables.{bank_table, finds_room_in}}
+use Rattle.module_laws.specs.Asking.{Asked, row_with, asked_of, AreAsked}
 
 -- the outcome of a row that asks this, where its bank's history has come to its end
 abbrev pub last_outcome : {n m : ℕ} → BankShape → List (TimedEvent n m) → Asked n → Asks n → Outcome n
@@ -43,10 +43,6 @@ ServedByBanksLaw =
 abbrev pub TicksFall : {n : ℕ} → List (Asked n) → Type 0
 TicksFall [] = Unit {0}
 TicksFall (a ∷ asked) = All (λ b. b.tick ≤ a.tick) asked × TicksFall asked
-
--- as a row comes, a bank holds no more writes and reads than it may, whichever bank the row is of
-abbrev pub finds_room_in : {n : ℕ} → (ℕ → ℕ) → (ℕ → ℕ) → Rules → ℕ → RowTest n
-finds_room_in bank_of line_in rules bank before r after = has_room rules r.tick (bank_table bank_of line_in bank before)
 
 -- every row of a module finds so, where at any tick between two of its events each bank holds no more than it may
 abbrev pub RoomByBankLaw : Type 0

@@ -4,10 +4,9 @@ use Rattle.std.{specs.Io.KnownBytes.Appends, specs.Prelude.{slice_get, IsSomeAnd
 use Rattle.std.proofs.{lemmas.Bool.cases_eq, lemmas.List.{append-nil, length_push}}
 use Rattle.cell_rows.specs.Device.{ArrayState}
 use Rattle.pcm_io.specs.{Giving.AppendsPrefix, Reserved.Reserved}
-use Rattle.wear_report.specs.declared.Role.{Role}
+use Rattle.bank_shape.specs.declared.Role.{Role}
 use Rattle.module_shape.specs.{Addresses.{module_of, array_lines_of, bank_shape}, Limits.IsShape, declared.raw.RawShape.RawShape}
-use Rattle.end_laws.specs.{Ends.BankEnd, Roles.IsRole}
-use Rattle.run_laws.specs.Runs.{line_named}
+use Rattle.right_runs.specs.{Banks.line_named, Ends.BankEnd, Roles.IsRole}
 use Rattle.run_text.specs.Gathering.{Printed}
 use Rattle.pcm_module.specs.State.{AreEndsOf, ModuleState}
 use Rattle.module_prints.specs.WearReports.{HaveRoles, IsWearReport, IsWearRow, bank_with}

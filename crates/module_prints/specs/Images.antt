@@ -4,7 +4,7 @@ use Rattle.pcm_io.specs.Giving.{AppendsPrefix}
 use Rattle.cell_rows.specs.Device.{ArrayState}
 use Rattle.power_recovery.specs.Kept.{KeptState}
 use Rattle.pcm_image.specs.{Saved.Saved, Spelling.image_bytes}
-use Rattle.image_laws.specs.{SavedRuns.AreRowsTo, Saving.first_rows}
+use Rattle.right_images.specs.{SavesRun.AreRowsTo, Saving.first_rows}
 use Rattle.pcm_module.specs.State.{ModuleState, bank_at}
 
 -- what a bank of a module keeps

@@ -4,10 +4,9 @@ use Rattle.cell_rows.specs.{Device.ArrayState, Rows.cell}
 use Rattle.cell_wear.specs.Told.{wear_told}
 use Rattle.ecp_line.specs.Layout.{active}
 use Rattle.lines_report.specs.declared.row.LineCells.{LineCells}
-use Rattle.wear_report.specs.declared.Role.{Role}
+use Rattle.bank_shape.specs.declared.Role.{Role}
 use Rattle.module_shape.specs.{Addresses.{module_of, array_lines_of, bank_shape}, declared.raw.RawShape.RawShape}
-use Rattle.end_laws.specs.{Ends.BankEnd, Roles.{HasOneRole, IsRole}}
-use Rattle.run_laws.specs.Runs.{line_named}
+use Rattle.right_runs.specs.{Banks.line_named, Ends.BankEnd, Roles.{HasOneRole, IsRole}}
 
 -- the bank of an array line of a module of these sizes
 abbrev pub bank_with : RawShape → ℕ → ℕ

@@ -7,7 +7,7 @@ ghost use Rattle.pcm_io.specs.Giving.{AppendsPrefix};
 ghost use Rattle.pcm_io.specs.Reserved.{reserved};
 ghost use Rattle.ecp_line.specs.Layout.{IsLayout};
 ghost use Rattle.pcm_image.specs.Spelling.{bank_bytes, image_bytes};
-ghost use Rattle.image_laws.specs.Saving.{saved_banks, saved_of};
+ghost use Rattle.right_images.specs.Saving.{saved_banks, saved_of};
 ghost use Rattle.image_text.specs.Printing.{PrintsMore, PrintsPart};
 ghost use Rattle.image_text.specs.Sensing.{SensesRows, SensesSome};
 ghost use Rattle.module_prints.specs.Images.{WritesRows, kept_in};

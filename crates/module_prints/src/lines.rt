@@ -5,10 +5,10 @@ ghost use Rattle.pcm_io.specs.Faults.{Rose};
 ghost use Rattle.pcm_io.specs.Giving.{AppendsPrefix};
 ghost use Rattle.pcm_io.specs.Reserved.{reserved};
 ghost use Rattle.ecp_line.specs.Layout.{IsLayout};
-ghost use Rattle.wear_report.specs.declared.Role.{Role};
+ghost use Rattle.bank_shape.specs.declared.Role.{Role};
 ghost use Rattle.lines_report.specs.LinesText.{lines_text};
 ghost use Rattle.module_shape.specs.Addresses.{array_lines_of, module_of};
-ghost use Rattle.end_laws.specs.Ends.{BankEnd};
+ghost use Rattle.right_runs.specs.Ends.{BankEnd};
 ghost use Rattle.pcm_module.specs.State.{AreEndsOf};
 ghost use Rattle.module_prints.specs.WearReports.{HaveRoles, IsWearReport, cells_at};
 

@@ -4,7 +4,9 @@ use Rattle.std.proofs.lemmas.Bool.{eq-eqb, cases_lt, and_from, or_left, or_right
 use Rattle.row_rules.specs.Answers.{is_stored}
 use Rattle.bank_shape.specs.{declared.BankShape.BankShape, declared.pace.Pace.Pace}
 use Rattle.bank_model.specs.{History.{moved_in, stored_in, due_after}, Lawful.Lawful, Sensing.most_steps, Timing.{TimedEvent, core}}
-use Rattle.bank_laws.{specs.Laws.is_worn_at, specs.Outcomes.table_of, specs.Places.{region_stores, may_leave}, proofs.Waiting.may_all}
+use Rattle.ecp_line.specs.ArrayLines.{is_worn_at}
+use Rattle.bank_laws.{specs.Outcomes.table_of, proofs.Waiting.may_all}
+use Rattle.right_runs.specs.{Places.region_stores, WornLines.may_leave}
 use Rattle.place_laws.{specs.PlaceLaws.MovedLaw, proofs.Moves.{KeepsMoves, keeps, none-due}, proofs.Placed.{between_products, at_product}}
 use Rattle.place_laws.proofs.{Storing.{stored-counted, region-stored}, Tables.region-all, Taken.left_off, WornOut.idle-due}
 

@@ -1,7 +1,7 @@
 -- Of more lines than slots, many have no slot: lines that are worn, counted.
 use Rattle.std.proofs.Common.{◌≡◌, ℕ, zero, suc, ◌+◌, ◌<◌, ◌≤◌, ◌==◌, inl, inr, Bool, refl, sym, ap, ◌∙◌, arith}
 use Rattle.std.proofs.lemmas.Bool.{eq-eqb, ne_eqb, cases_eq}
-use Rattle.bank_laws.specs.Places.{worn_among}
+use Rattle.right_runs.specs.WornLines.{worn_among}
 use Rattle.masked_bytes.proofs.Counting.{one_if}
 
 -- how many of the first k slots have a line

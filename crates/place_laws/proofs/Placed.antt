@@ -9,10 +9,11 @@ use Rattle.row_rules.specs.{Answers.stored_before, Rows.{asks_write, line_of}, d
 use Rattle.bank_shape.specs.{Shape.slots_of, declared.BankShape.BankShape, declared.pace.Pace.Pace}
 use Rattle.bank_model.specs.{After.{slot_after, stands_at_after}, Events.{Write, Read, Serve, Begin, Iterate, Cut}, History.{retired, moved_in, stored_in}, Lawful.Lawful}
 use Rattle.bank_model.specs.{Sensing.most_steps, Timing.{Happens, Core, Regs, TimedEvent, core, core_of}}
-use Rattle.bank_laws.specs.{Laws.{IsSized, LeavesArray, is_worn_at}, Outcomes.{outcome_of, ended, row_with, rows_from, table_of}}
-use Rattle.bank_laws.specs.{Places.{region_stores, is_place_after, is_place_about, outcome_placed, is_placed}, Ticks.ends_action}
+use Rattle.bank_laws.specs.{Laws.{IsSized, LeavesArray}, Outcomes.{outcome_of, ended, row_with, rows_from, table_of}, Ticks.ends_action}
 use Rattle.bank_laws.proofs.{Asked.{Asked, asked-one, asked-within, wrote-asked, queue-wrote, waits-asked}, Settling.{lawful_before, above_all}, Waiting.may_all}
 use Rattle.bank_laws.proofs.Walking.{Passes, walk, rows_after}
+use Rattle.ecp_line.specs.ArrayLines.{is_worn_at}
+use Rattle.right_runs.specs.Places.{region_stores, is_place_after, is_place_about, outcome_placed, is_placed}
 use Rattle.place_laws.{specs.PlaceLaws.PlacedLaw, proofs.Moves.{keeps, none-due, next_product}, proofs.Slots.{slot_moved-within, retired-few, IsAway, away-later}}
 use Rattle.place_laws.proofs.{Splits.{IsStoredAt, stored-at, IsReadAt, read-at}, Storing.{before-counted, region-stored}, Tables.{region-counted, between}}
 use Rattle.masked_bytes.proofs.Counting.{one_if}

@@ -9,8 +9,8 @@ use Rattle.bank_shape.specs.declared.Home.TheVariants as home
 use Rattle.bank_model.specs.{After.due_moves, Answers.MayAll, Changes.{change_after, halted_after}, Events.{Write, Read, Serve, Begin, Iterate, Cut}}
 use Rattle.bank_model.specs.{History.{has_exhausted, retired, waits, due_after}, Lawful.Lawful, Running.{over_by, busy_after, made_after, is_over, choice_after, cancels_after}}
 use Rattle.bank_model.specs.{Sensing.{most_steps, pulses_of}, Timing.{Happens, Core, Regs, TimedEvent, core, is_empty}}
-use Rattle.bank_laws.specs.{Laws.{IsSized, rules_of}, Outcomes.{outcome_of, ended, row_with, rows_from, table_of}, Places.{pulses_among, most_pulses}, Resting.IsStill}
-use Rattle.bank_laws.proofs.Waiting.{may_all}
+use Rattle.bank_laws.{specs.Laws.IsSized, specs.Outcomes.{outcome_of, ended, row_with, rows_from, table_of}, specs.Resting.IsStill, proofs.Waiting.may_all}
+use Rattle.right_runs.specs.{Banks.rules_of, KeepsPlaces.{pulses_among, most_pulses}}
 use Rattle.place_laws.{specs.PlaceLaws.PulsesLaw, proofs.Cancels.cancels-kept, proofs.Moves.next_product}
 use Rattle.place_laws.proofs.{Pulsing.{ends_in, cancels_in, pulses_in, pulses-kept, held_by, held-idle}, Slots.retired-few, Storing.stored-counted, Tables.all-counted}
 use Rattle.place_laws.proofs.{Trying.{all_stores, all_moves, cuts_power, cuts_in, moves-few, causes, unwritten, each, ends-few}, WornOut.none-ready}

@@ -10,7 +10,8 @@ use Rattle.bank_model.specs.{After.may_begin_after, Changes.{change_after, chang
 use Rattle.bank_model.specs.{Events.{BankEvent, Write, Read, Serve, Begin, Iterate, Cut}, History.{goes_on, in_progress, iterated}, Lawful.{Lawful, MayCome}}
 use Rattle.bank_model.specs.{Running.{busy_by, made_by, busy_after, made_after, running_at, tears_bank}, Sensing.{is_at, most_steps, pulses_of, pulsed_by, torn_control}}
 use Rattle.bank_model.specs.Timing.{Happens, Core, Regs, KeepBegin, KeepIterate, KeepCut, TimedEvent, is_doing, core, core_of}
-use Rattle.bank_laws.{specs.Places.pulses_among, proofs.Changing.{busy-none, busy-some, made-none, made-some, changed-idle}, proofs.Works.{counted-few, tearing-going}}
+use Rattle.right_runs.specs.KeepsPlaces.{pulses_among}
+use Rattle.bank_laws.proofs.{Changing.{busy-none, busy-some, made-none, made-some, changed-idle}, Works.{counted-few, tearing-going}}
 use Rattle.masked_bytes.proofs.{Counting.one_if, Truth.and_first}
 use Rattle.place_laws.proofs.{Moves.next_product, Owners.{once, once-few}}
 

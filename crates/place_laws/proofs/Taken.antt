@@ -11,10 +11,12 @@ use Rattle.bank_shape.specs.{Shape.{controls_of, control_line}, declared.BankSha
 use Rattle.bank_shape.specs.declared.answer.WriteAnswer.TheVariants as wrote
 use Rattle.bank_model.specs.{Changes.{change_after, halted_after}, Events.{Write, Read, Serve, Begin, Iterate, Cut}, History.{queue, has_exhausted}}
 use Rattle.bank_model.specs.{Lawful.{Lawful, IsIdle, MayCome}, Running.{over_by, is_over}, Timing.{Happens, Core, Regs, TimedEvent, core}}
-use Rattle.bank_laws.specs.{Laws.{IsSized, LeavesArray, is_worn_at, rules_of}, Outcomes.{outcome_of, ended, row_with, rows_from, table_of}}
-use Rattle.bank_laws.{specs.Places.{is_worn_out, may_leave, is_wear_true_to, is_taken_to}, specs.Resting.EndsIn, specs.RowLaws.is_room_fair, proofs.Answering.merged-there}
-use Rattle.bank_laws.proofs.{Ending.{Onwards, IsOutcome, write_outcome}, Fates.{IsLeft, WriteFate, new-push, new-merged}, Pending.queue_law, Resting.ends-still}
-use Rattle.bank_laws.proofs.{Serves.{may_at, onwards_at, served_law}, Settling.opens, Walking.{Passes, walk, rows_after}, Wears.{worn_outcome, refused-exhausted, exhausted_later}}
+use Rattle.bank_laws.specs.{Laws.{IsSized, LeavesArray}, Outcomes.{outcome_of, ended, row_with, rows_from, table_of}, Resting.EndsIn, RowLaws.is_room_fair}
+use Rattle.bank_laws.proofs.{Answering.merged-there, Ending.{Onwards, IsOutcome, write_outcome}, Fates.{IsLeft, WriteFate, new-push, new-merged}, Pending.queue_law}
+use Rattle.bank_laws.proofs.{Resting.ends-still, Serves.{may_at, onwards_at, served_law}, Settling.opens, Walking.{Passes, walk, rows_after}}
+use Rattle.bank_laws.proofs.Wears.{worn_outcome, refused-exhausted, exhausted_later}
+use Rattle.ecp_line.specs.ArrayLines.{is_worn_at}
+use Rattle.right_runs.specs.{Banks.rules_of, WornLines.{is_worn_out, may_leave, is_wear_true_to, is_taken_to}}
 use Rattle.place_laws.{specs.PlaceLaws.{WornLaw, TakenLaw}, proofs.WornOut.{worn_out, worn_control, change-within, idle-queued}}
 
 taken_if : (writes count : ℕ) (left fine : Bool) → (left ≡ false → count < writes → fine ≡ true) → (not (nat_lt count writes && not left) || fine) ≡ true

@@ -17,8 +17,10 @@ use Rattle.bank_model.specs.Events.{BankEvent, Write, Read, Serve, Begin, Iterat
 use Rattle.bank_model.specs.{History.{Awaited, first_or, stores, moved_in, retired, has_exhausted, due_after, queue, waits, in_progress}, Lawful.{Lawful, IsIdle, MayCome}}
 use Rattle.bank_model.specs.{Running.{busy_by, ready_by, over_by, busy_after, ready_after, is_over, choice_after}, Sensing.most_steps}
 use Rattle.bank_model.specs.Timing.{Happens, Core, Regs, KeepBegin, KeepIterate, KeepCut, TimedEvent, core, is_empty}
-use Rattle.bank_laws.{specs.Laws.{IsSized, LeavesArray, is_worn_at}, specs.Places.{worn_among, is_worn_out}, proofs.Asked.{asked-within, wrote-asked, wrote-line, queue-wrote}}
-use Rattle.bank_laws.proofs.{Lines.Stands, Serves.idle-waits, Settling.above_all, Waiting.may_all}
+use Rattle.bank_laws.{specs.Laws.{IsSized, LeavesArray}, proofs.Asked.{asked-within, wrote-asked, wrote-line, queue-wrote}, proofs.Lines.Stands, proofs.Serves.idle-waits}
+use Rattle.bank_laws.proofs.{Settling.above_all, Waiting.may_all}
+use Rattle.ecp_line.specs.ArrayLines.{is_worn_at}
+use Rattle.right_runs.specs.WornLines.{worn_among, is_worn_out}
 use Rattle.place_laws.proofs.{Moves.some-due, Owners.{owners, owners-some, worn-many}, Slots.{slot_moved-within, gap-within, begin-retires_none, begin-exhausts_none}}
 use Rattle.place_laws.proofs.Working.{IsStoreOf, done-store}
 

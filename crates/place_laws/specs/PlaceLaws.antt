@@ -4,8 +4,9 @@ use Rattle.cell_rows.specs.Device.{ArrayState}
 use Rattle.row_rules.specs.Rows.{each_row}
 use Rattle.bank_shape.specs.{Shape.lines_in, declared.BankShape.BankShape, declared.pace.Pace.Pace}
 use Rattle.bank_model.specs.{History.moved_in, Lawful.Lawful, Timing.{TimedEvent, core}}
-use Rattle.bank_laws.specs.{Laws.{IsSized, LeavesArray, is_worn_at, rules_of}, Outcomes.table_of}
-use Rattle.bank_laws.specs.{Places.{is_placed, is_moved_to, is_wear_true_to, is_taken_to, most_pulses, pulses_among}, Resting.{IsStill, EndsIn}}
+use Rattle.bank_laws.specs.{Laws.{IsSized, LeavesArray}, Outcomes.table_of, Resting.{IsStill, EndsIn}}
+use Rattle.ecp_line.specs.ArrayLines.{is_worn_at}
+use Rattle.right_runs.specs.{Banks.rules_of, Ends.is_moved_to, KeepsPlaces.{most_pulses, pulses_among}, Places.is_placed, WornLines.{is_wear_true_to, is_taken_to}}
 
 -- each row carries the array line where its line stood at its tick, or a spare where that line is worn in the end
 abbrev pub PlacedLaw : Type 0

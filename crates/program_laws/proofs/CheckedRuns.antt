@@ -9,9 +9,9 @@ use Rattle.result_rows.specs.declared.Outcome.{Outcome}
 use Rattle.check_verdict.specs.{declared.Verdict.Verdict, declared.Verdict.TheVariants.Yes}
 use Rattle.module_shape.specs.Limits.{total_of}
 use Rattle.run_text.specs.ResultText.{results_text}
-use Rattle.check_text.specs.{Checked.{HasVerdict, IsTextFault}, JudgedRuns.{IsJudgedOk, IsRunOf, JudgedRunsLaw, ShortLaw}, SplitLaw.EndsItsLine, VerdictText.verdict_text}
-use Rattle.check_text.{specs.declared.fault.TextFault.TextFault, proofs.JudgedRuns.some-lines}
+use Rattle.check_text.specs.{Checked.{HasVerdict, IsTextFault}, SplitLaw.EndsItsLine, VerdictText.verdict_text, declared.fault.TextFault.TextFault}
 use Rattle.check_text.specs.declared.fault.TextFault.TheVariants as text
+use Rattle.judged_runs.{specs.JudgedRuns.{IsJudgedOk, IsRunOf, JudgedRunsLaw, ShortLaw}, proofs.JudgedRuns.some-lines}
 use Rattle.command_line.specs.{Jobs.{IsInput, IsRun}, declared.job.Input.Input, declared.job.Input.TheVariants.{Source, Drawn}, declared.job.LineSize.LineSize}
 use Rattle.command_line.specs.{declared.job.LineSize.TheVariants.{Bytes64, Bytes128}, declared.job.Print.Print, declared.job.Print.TheVariants.Results, declared.job.RunJob.RunJob}
 use Rattle.program_laws.specs.CheckedRuns.{CheckedLaw, IsTraceOf, SaysOk, check_with}

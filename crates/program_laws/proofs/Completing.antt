@@ -14,7 +14,7 @@ use Rattle.command_line.specs.{Jobs.IsInput, declared.job.Input.Input, declared.
 use Rattle.program_calls.specs.Calls.{SourceChange}
 use Rattle.pcm_top.{specs.Inputs.ComeFrom, specs.Rows.rows_of, specs.Running.done_by, specs.declared.run.Done.TheVariants.Whole, proofs.Printable.{lines-exist, row-of-event}}
 use Rattle.program_laws.specs.Laws.{CompletenessLaw}
-use Rattle.check_text.proofs.JudgedRuns.{some-lines}
+use Rattle.judged_runs.proofs.JudgedRuns.{some-lines}
 
 all-fail : {n : ℕ} (test : Outcome n → Bool) (rows : List (Row n)) → list_any test (map (λ r. r.outcome) rows) ≡ false → All (λ r. test r.outcome ≡ false) rows
 all-fail test [] h = All-nil (λ r. test r.outcome ≡ false)

@@ -1,7 +1,7 @@
 -- That a run of drawn events is a run of their text.
 use Rattle.std.proofs.Common.{◌≡◌, ℕ, ◌≤◌, List, length, refl, sym, subst, arith}
 use Rattle.std.specs.Io.KnownBytes.{IsAtEnd}
-use Rattle.check_text.proofs.JudgedRuns.{some-lines}
+use Rattle.judged_runs.proofs.JudgedRuns.{some-lines}
 use Rattle.cell_rows.specs.Device.{ArrayState}
 use Rattle.trace_reader.specs.declared.event.Event.{Event}
 use Rattle.trace_gen.specs.{EventText.trace_text, Generated.{IsMix, generated}, Laws.{GeneratedSizeLaw, GeneratedTextLaw}, declared.mix.Mix.Mix}

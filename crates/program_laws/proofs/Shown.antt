@@ -5,10 +5,11 @@ use Rattle.cell_rows.specs.Device.{ArrayState}
 use Rattle.row_rules.specs.{Rows.newest, declared.Row.Row}
 use Rattle.rotation_reports.specs.Rows.{rows_from}
 use Rattle.module_shape.specs.{Limits.total_of, declared.raw.RawShape.RawShape}
-use Rattle.end_laws.specs.Ends.{BankEnd}
+use Rattle.right_runs.specs.Ends.{BankEnd}
 use Rattle.pcm_image.specs.{Saved.{Saved, total_in}, Spelling.image_bytes, Standing.stands_for, declared.ImageFault.ImageFault}
 use Rattle.pcm_image.proofs.Whole.{image_again, size-is}
-use Rattle.image_laws.specs.{SavedRuns.{AreRows, AreRowsTo, SavesRun}, Sizes.ShortImageLaw}
+use Rattle.right_images.specs.SavesRun.{AreRows, AreRowsTo, SavesRun}
+use Rattle.image_laws.specs.Sizes.{ShortImageLaw}
 use Rattle.command_line.specs.{declared.job.Print.Print, declared.job.Print.TheVariants.Image, declared.job.RunJob.RunJob}
 use Rattle.program_calls.specs.Calls.{Gets, GetsPart, SinkChange, SourceChange}
 use Rattle.pcm_top.specs.{Calls.Deed, Images.senses_for, Reading.trace_room, Rows.rows_of, RunText.IsRunText, Running.RunIsWritten}

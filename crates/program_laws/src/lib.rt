@@ -9,8 +9,8 @@ ghost use Rattle.program_laws.specs.ShownRuns.{ShownLaw};
 
 mod whole;
 
-use check_text::{printed_results_are_short, right_runs_are_judged_ok};
 use image_laws::images_are_short;
+use judged_runs::{printed_results_are_short, right_runs_are_judged_ok};
 use run_laws::{
     lasting_traces_live_on, no_row_falls_short, reads_are_not_lost_without_cuts, room_is_taken,
     runs_live_on,

@@ -10,7 +10,8 @@ use Rattle.bank_shape.specs.declared.answer.WriteAnswer.TheVariants as wrote
 use Rattle.bank_model.specs.{Answers.{head_busy_after, accept_answer, write_answer}, Events.{BankEvent, Write, Read, Serve, Begin, Iterate, Cut}}
 use Rattle.bank_model.specs.{History.{queue, waits, has_exhausted}, Lawful.{Lawful, MayCome}, Sensing.most_steps, Timing.{Happens, Core, Regs, TimedEvent, core, last_tick}}
 use Rattle.bank_model.specs.Told.{tick_of_row}
-use Rattle.bank_laws.{specs.Laws.rules_of, specs.Outcomes.{outcome_of, ended, row_with, rows_from}, specs.Room.RoomLaw, specs.Ticks.ends_action, proofs.Answering.IsHead}
+use Rattle.right_runs.specs.Banks.{rules_of}
+use Rattle.bank_laws.{specs.Outcomes.{outcome_of, ended, row_with, rows_from}, specs.Room.RoomLaw, specs.Ticks.ends_action, proofs.Answering.IsHead}
 use Rattle.bank_laws.proofs.{Ending.{Onwards, write_outcome}, Holding.bound_law, Later.{EndsAbove, ends_later, ends_at_row, ends_push}, Lines.{Stands, Covered, stands-line}}
 use Rattle.bank_laws.proofs.{Pairs.{keeps_pairs, no_candidate-head, no_candidate-rest}, Pending.{full_outcome, covered_on, queue_length}, Serves.{may_at, onwards_at, idle-waits}}
 use Rattle.bank_laws.proofs.{Settling.{opens, lawful_before}, Ticks.last_tick-rises, Waiting.{may_all, awaiting_length}, Walking.{Passes, walk, rows_after}}

@@ -5,7 +5,8 @@ use Rattle.masked_bytes.{specs.Masked.gives_all, proofs.Truth.{and_first, and_se
 use Rattle.row_rules.specs.{Answers.is_full, Queueing.{pending, waiting, cover, is_refused, is_at_head, read_fits, merge_fits, queue_fits, is_queue_fair}}
 use Rattle.row_rules.specs.{Rows.{RowTest, each_row, asks_read, asks_write, line_of, write_of}, declared.Asks.Asks, declared.Asks.TheVariants.{Reads, Writes, Cuts}}
 use Rattle.row_rules.{specs.declared.Row.Row, specs.declared.Rules.Rules, proofs.Passing.passes_both}
-use Rattle.bank_laws.{specs.Laws.rules_of, specs.Outcomes.table_of, specs.RowLaws.{is_room_fair, is_wait_fair, is_merge_fair}, proofs.Merging.merge_law, proofs.Pending.queue_law}
+use Rattle.right_runs.specs.Banks.{rules_of}
+use Rattle.bank_laws.{specs.Outcomes.table_of, specs.RowLaws.{is_room_fair, is_wait_fair, is_merge_fair}, proofs.Merging.merge_law, proofs.Pending.queue_law}
 use Rattle.bank_laws.proofs.Waiting.{wait_law}
 use Rattle.queue_laws.{specs.QueueLaws.{finds_pairs_few, is_refusal_fair, is_forward_fair, QueueFairLaw}, proofs.Forwards.forward_law, proofs.Rooms.{pairs_few_law, refusal_law}}
 

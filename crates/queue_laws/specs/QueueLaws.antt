@@ -5,7 +5,8 @@ use Rattle.row_rules.specs.{Answers.is_full, Queueing.{pending, waiting, cover, 
 use Rattle.row_rules.specs.Rows.{RowTest, each_row, asks_read, asks_write, line_of, write_of}
 use Rattle.bank_shape.specs.{declared.BankShape.BankShape, declared.pace.Pace.Pace}
 use Rattle.bank_model.specs.{Lawful.Lawful, Timing.TimedEvent}
-use Rattle.bank_laws.specs.{Laws.{IsSized, rules_of}, Outcomes.table_of, Resting.IsStill}
+use Rattle.bank_laws.specs.{Laws.IsSized, Outcomes.table_of, Resting.IsStill}
+use Rattle.right_runs.specs.Banks.{rules_of}
 
 -- a test holds of each row of the table that a lawful history leaves at whose end the bank is still. The test may depend on how
 -- many entries a line has, on the bank's shape and on its pace

@@ -2,9 +2,9 @@
 use Rattle.std.proofs.Common.{◌≡◌, ◌≢◌, ℕ, ◌+◌, ◌<◌, ◌≤◌, refl, sym, ap, subst, ◌∙◌, arith, Bool, true, false, Option, Some, None, eqb, eqb-true, eq-eqb}
 use Rattle.std.specs.Prelude.{IfSome, IsSomeAnd, IsTrue, is_some}
 use Rattle.cell_rows.specs.Device.{ArrayState, LineState}
-use Rattle.ecp_line.specs.Reading.{decode, IsSoundLine, IsWornLine}
-use Rattle.line_writer.specs.{Untouched.{HasUntouched, AreUntouched}, Writing.{Writes, IsProgress, HasBegun, IsWorn}, declared.writer.LineWriter.LineWriter}
-use Rattle.line_writer.{specs.declared.writer.Progress.Progress, proofs.Untouched.{AreUntouched-same, AreUntouched-beside}}
+use Rattle.ecp_line.specs.{Reading.{decode, IsSoundLine, IsWornLine}, Untouched.{HasUntouched, AreUntouched}}
+use Rattle.line_writer.specs.{Writing.{Writes, IsProgress, HasBegun, IsWorn}, declared.writer.LineWriter.LineWriter, declared.writer.Progress.Progress}
+use Rattle.line_writer.proofs.Untouched.{AreUntouched-same, AreUntouched-beside}
 use Rattle.line_writer.specs.declared.writer.Progress.TheVariants as progress
 use Rattle.bank_shape.specs.declared.answer.Keep.{Keep}
 use Rattle.bank_shape.specs.declared.answer.Keep.TheVariants as keep

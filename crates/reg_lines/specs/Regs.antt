@@ -1,8 +1,8 @@
 -- What contracts see of the control lines of a bank and of the change that stands, and what ties them to the array.
 use Rattle.std.specs.Prelude.{◌≡◌, ℕ, ◌+◌, ◌^◌, ◌<◌, ◌≤◌, ◌==◌, Bool, if◌then◌else◌, IsTrue, List, Option, Some, None, IfSome, IsSomeAnd, is_some}
 use Rattle.cell_rows.specs.{Device.{ArrayState, LineState}, Rows.cell}
-use Rattle.ecp_line.specs.{Layout.{IsLayout, Sound}, Reading.{decode, is_worn_line}}
-use Rattle.line_writer.specs.{Untouched.AreUntouched, Writing.Writes, declared.writer.LineWriter.LineWriter}
+use Rattle.ecp_line.specs.{Layout.{IsLayout, Sound}, Reading.{decode, is_worn_line}, Untouched.AreUntouched}
+use Rattle.line_writer.specs.{Writing.Writes, declared.writer.LineWriter.LineWriter}
 use Rattle.line_writer.specs.declared.writer.Progress.TheVariants as progress
 use Rattle.reg_lines.specs.{Values.{encoded, values_in}, declared.Change.Change}
 

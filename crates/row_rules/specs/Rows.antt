@@ -2,6 +2,8 @@
 use Rattle.std.specs.Prelude.{ℕ, List, [], ◌∷◌, Bool, true, false, ◌&&◌, ◌==◌, if◌then◌else◌, replicate}
 use Rattle.masked_bytes.specs.Masked.{laid}
 use Rattle.row_rules.specs.{Answers.accepts, declared.Asks.Asks, declared.Asks.TheVariants.{Reads, Writes, Cuts}, declared.Row.Row}
+use Rattle.result_rows.specs.declared.Op.{Op}
+use Rattle.result_rows.specs.declared.Op.TheVariants as op
 
 module _ {n : ℕ} where
   abbrev pub asks_read : Asks n → Bool
@@ -75,3 +77,9 @@ RowTest n = List (Row n) → Row n → List (Row n) → Bool
 abbrev pub each_row : {n : ℕ} → RowTest n → List (Row n) → List (Row n) → Bool
 each_row test [] after = true
 each_row test (r ∷ before) after = test before r after && each_row test before (r ∷ after)
+
+-- the operation that a row asks for
+abbrev pub op_asked : {n : ℕ} → Asks n → Op
+op_asked (Reads line) = op.Read
+op_asked (Writes line bytes given) = op.Write
+op_asked Cuts = op.Cut

@@ -3,10 +3,11 @@ use Rattle.std.proofs.Common.{◌≡◌, ℕ, Bool, List, refl, sym, subst}
 use Rattle.cell_rows.specs.Device.{ArrayState}
 use Rattle.bank_shape.specs.{declared.BankShape.BankShape, declared.pace.Pace.Pace}
 use Rattle.bank_model.specs.{Lawful.Lawful, Timing.{TimedEvent, core}}
-use Rattle.bank_laws.specs.{Laws.{IsSized, LeavesArray, is_worn_at}, Outcomes.table_of, Resting.EndsIn}
-use Rattle.bank_invariant.specs.Tied.{decoded}
+use Rattle.bank_laws.specs.{Laws.{IsSized, LeavesArray}, Outcomes.table_of, Resting.EndsIn}
+use Rattle.ecp_line.specs.ArrayLines.{is_worn_at, decoded}
 use Rattle.clock_laws.specs.{Ending.LeavingLaw, Leads.Leads, State.ClockState}
-use Rattle.end_laws.{specs.EndLaws.{IsHaltedWorn, IsEndOf, RemappedLaw, GapsLaw, KeptLaw, QueuedLaw, StillThereLaw, end_of}, specs.Ends.EndsWithTo, proofs.Ending.excepted-whole}
+use Rattle.end_laws.{specs.EndLaws.{IsHaltedWorn, IsEndOf, RemappedLaw, GapsLaw, KeptLaw, QueuedLaw, StillThereLaw, end_of}, proofs.Ending.excepted-whole}
+use Rattle.right_runs.specs.Ends.{EndsWithTo}
 
 module _ {n m e : ℕ} (xs : List (TimedEvent n m)) (clock : ClockState n m e) (array : ArrayState n m) (leads : Leads xs clock array) where
   -- the end of a bank is that of what it keeps

@@ -7,14 +7,14 @@ use Rattle.result_rows.specs.{Outcomes.{op_of, place_of}, declared.Op.Op, declar
 use Rattle.result_rows.specs.declared.Op.TheVariants as op
 use Rattle.result_rows.specs.declared.Outcome.TheVariants as out
 use Rattle.row_rules.specs.{Answers.{accepts, is_queued, is_lost, is_busy, is_forwarded, is_answered}, Queueing.{waiting, queue_fits, cover, is_at_head}}
-use Rattle.row_rules.specs.{Rows.{each_row, asks_read, is_cut}, Serving.may_have, Table.{is_of, of_bank}, Ticking.{first_cut_at, is_in_time, read_in_time, asks_in_time}}
+use Rattle.row_rules.specs.{Rows.{each_row, asks_read, is_cut, op_asked}, Serving.may_have, Table.{is_of, of_bank}, Ticking.{first_cut_at, is_in_time, read_in_time, asks_in_time}}
 use Rattle.row_rules.specs.{declared.Asks.Asks, declared.Asks.TheVariants.{Reads, Writes, Cuts}, declared.Row.Row, declared.Rules.Rules}
 use Rattle.run_text.specs.Shortfall.{is_short}
-use Rattle.module_laws.{specs.Asking.{row_in, bank_table}, proofs.Serving.cuts-named}
+use Rattle.right_runs.specs.{Places.{is_place_after, is_place_about, outcome_placed}, Tables.{row_in, bank_table}}
+use Rattle.module_laws.proofs.Serving.{cuts-named}
 use Rattle.bank_shape.specs.{Shape.{slots_of, slot_moved, lines_in}, declared.BankShape.BankShape}
-use Rattle.bank_laws.specs.Places.{is_place_after, is_place_about, outcome_placed}
 use Rattle.place_laws.proofs.Slots.{slot_moved-within}
-use Rattle.run_laws.{specs.RowsOfRuns.op_asked, proofs.Lifting.Each}
+use Rattle.run_laws.proofs.Lifting.{Each}
 
 -- an outcome that a row may have is of its operation
 pub own_outcome : {n : ℕ} (tick : ℕ) (asks : Asks n) (newest : List ℕ) (o : Outcome n) → may_have tick asks newest o ≡ true → op_of o ≡ Some (op_asked asks)

@@ -4,20 +4,20 @@ use Rattle.std.{specs.Prelude.All, proofs.Math.Nat.one-le-mul, proofs.lemmas.Lis
 use Rattle.std.proofs.lemmas.Nat.{mod_below, div_below, div-add-mod'}
 use Rattle.cell_rows.specs.{Device.ArrayState, declared.array.Sense.Sense}
 use Rattle.result_rows.specs.declared.Outcome.{Outcome}
-use Rattle.line_writer.specs.Untouched.{HasUntouched, AreUntouched}
+use Rattle.ecp_line.specs.{ArrayLines.{is_worn_at, decoded}, Untouched.{HasUntouched, AreUntouched}}
 use Rattle.row_rules.specs.{Lines.IsOfLines, Table.KeepsRows, declared.Row.Row}
 use Rattle.bank_shape.specs.{Shape.lines_in, declared.BankShape.BankShape}
 use Rattle.bank_model.specs.{Adding.senses_of, Lawful.Lawful, Timing.TimedEvent}
 use Rattle.clock_laws.specs.{Ending.{LeavingLaw, UntouchedLaw}, Leads.HasAged, State.ClockState}
-use Rattle.bank_laws.specs.{Laws.{IsSized, LeavesArray, KeepsPlacesTo, KeepsLogTo, is_worn_at}, Outcomes.table_of, Resting.IsStill}
-use Rattle.bank_laws.{specs.Whole.{WholeTableLaw, WholePlaceLaw, WholeLogLaw, WholeRoomLaw}, proofs.Resting.ends-still}
+use Rattle.bank_laws.specs.{Laws.{IsSized, LeavesArray}, Outcomes.table_of, Resting.IsStill, Whole.{WholeTableLaw, WholePlaceLaw, WholeLogLaw, WholeRoomLaw}}
+use Rattle.bank_laws.proofs.Resting.{ends-still}
+use Rattle.right_runs.specs.{Banks.{bank_of_line, line_in_bank, pacing_in, rules_in}, Ends.EndsWithTo, KeepsLines.KeepsLines, KeepsLog.KeepsLogTo, KeepsPlaces.KeepsPlacesTo}
+use Rattle.right_runs.specs.{Runs.{ServesTo, RunsRightTo}, Tables.table_in}
 use Rattle.module_shape.specs.{Addresses.{module_of, array_lines_of, bank_shape}, Limits.{IsShape, total_of}, declared.raw.RawShape.RawShape}
 use Rattle.module_laws.specs.{Asking.{Asked, row_with}, Serves.{BankTableLaw, ServedByBanksLaw, RoomByBankLaw}}
-use Rattle.bank_invariant.specs.Tied.{decoded}
-use Rattle.end_laws.specs.{EndLaws.{RemappedLaw, GapsLaw, KeptLaw, QueuedLaw, StillThereLaw}, Ends.EndsWithTo}
-use Rattle.lifetime_laws.specs.Lifetime.{KeepsLines, KeptLinesLaw}
-use Rattle.run_laws.specs.{FinishedLaws.{EndedLaw, ends_of}, Finishing.IsFinishedTo, Runs.{bank_of_line, line_in_bank, pacing_in, rules_in, table_in, ServesTo, RunsRightTo}}
-use Rattle.run_laws.proofs.{Banks.{is_end, is_lawful, leaves, ends_right}, Mixing.lines_law}
+use Rattle.end_laws.specs.EndLaws.{RemappedLaw, GapsLaw, KeptLaw, QueuedLaw, StillThereLaw}
+use Rattle.lifetime_laws.specs.Lifetime.{KeptLinesLaw}
+use Rattle.run_laws.{specs.FinishedLaws.{EndedLaw, ends_of}, specs.Finishing.IsFinishedTo, proofs.Banks.{is_end, is_lawful, leaves, ends_right}, proofs.Mixing.lines_law}
 
 -- the laws of a bank
 pub record BankLaws : Type 0 where

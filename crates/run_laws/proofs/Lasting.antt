@@ -2,11 +2,11 @@
 use Rattle.std.proofs.Common.{ℕ, ◌*◌, ◌≤◌, arith}
 use Rattle.std.proofs.Math.Nat.{mul-le-mul_left}
 use Rattle.module_shape.specs.Addresses.{module_of, bank_shape}
-use Rattle.bank_laws.specs.Laws.{is_worn_at}
-use Rattle.bank_invariant.specs.Tied.{decoded}
+use Rattle.ecp_line.specs.ArrayLines.{is_worn_at, decoded}
 use Rattle.lifetime_laws.specs.{Endurance.NoneRetiredLaw, Lifetime.{AskedLaw, LifetimeLaw, LivesOn, most_hot_works, most_asked_works}}
 use Rattle.row_rules.specs.Ticking.{tries}
-use Rattle.run_laws.specs.{Lasting.{AliveLaw, AskedAliveLaw}, Runs.{table_in, rules_in}}
+use Rattle.run_laws.specs.Lasting.{AliveLaw, AskedAliveLaw}
+use Rattle.right_runs.specs.{Banks.rules_in, Tables.table_in}
 
 pub alive_law : LifetimeLaw → NoneRetiredLaw → AliveLaw
 alive_law lifetime retired n m e raw seed rows array ends hot bank shape layout right exists few =

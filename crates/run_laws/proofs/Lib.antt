@@ -4,5 +4,5 @@ pub mod Finished
 pub mod Lifting
 mod Facts
 mod Rows
-mod Roles
+pub mod Roles
 mod Lasting

@@ -4,7 +4,7 @@ use Rattle.std.{specs.Prelude.All, proofs.lemmas.List.Elements.{All-nil, All-con
 use Rattle.masked_bytes.proofs.Truth.{and_first, and_second}
 use Rattle.row_rules.specs.{Lines.IsOfLines, Rows.{RowTest, each_row}, Table.{is_of, of_bank}, declared.Asks.Asks, declared.Asks.TheVariants.{Reads, Writes, Cuts}}
 use Rattle.row_rules.specs.declared.Row.{Row}
-use Rattle.module_laws.specs.Asking.{asks_in, row_in, bank_table}
+use Rattle.right_runs.specs.Tables.{asks_in, row_in, bank_table}
 
 module _ {n : ℕ} where
   -- each of these rows, the newest first, is this over the rows before it

@@ -6,7 +6,8 @@ use Rattle.feistel_map.specs.Network.{Network, AreHalves, left_bits, right_bits,
 use Rattle.feistel_map.specs.declared.halves.Halves.{Halves}
 use Rattle.feistel_map.proofs.Inverse.{halves_of-range, joined-below, left_round-range, right_round-range, feistel-apart, feistel-unfeistel, unfeistel-feistel}
 use Rattle.module_shape.{specs.Addresses.{module_of, lines_of}, specs.Limits.{IsShape, total_of}, specs.declared.raw.RawShape.RawShape, proofs.Bounds.total-is}
-use Rattle.run_laws.specs.{FinishedLaws.{LinesLaw, NamedLaw, AreNamed}, Runs.{mixed_line, bank_of_line, line_in_bank, line_named}}
+use Rattle.run_laws.specs.FinishedLaws.{LinesLaw, NamedLaw, AreNamed}
+use Rattle.right_runs.specs.Banks.{mixed_line, bank_of_line, line_in_bank, line_named}
 
 left-range : (b key : ℕ) (h : Halves) → AreHalves b h → AreHalves b (left_round b key h)
 left-range b key h range = left_round-range b (mixed key h.right % 2 ^ left_bits b) h range (mod_below (mixed key h.right) (2 ^ left_bits b) (pow_pos (left_bits b)))

@@ -2,9 +2,10 @@
 use Rattle.std.proofs.Common.{ℕ, ◌+◌, ◌*◌, ◌^◌, ◌<◌, Bool, inl, inr, arith}
 use Rattle.bank_shape.specs.{Shape.{slots_of, controls_from, IsBankShape}, declared.BankShape.BankShape}
 use Rattle.module_shape.{specs.Addresses.{module_of, array_lines_of, bank_shape}, specs.Limits.IsShape, specs.declared.raw.RawShape.RawShape, proofs.Bounds.banks_apart}
-use Rattle.bank_laws.specs.Laws.{is_worn_at}
-use Rattle.end_laws.specs.{Ends.IsRemapped, Roles.RoleLaw}
-use Rattle.run_laws.{specs.FinishedLaws.RolesLaw, specs.Runs.line_named, proofs.Rows.few_array_lines_law}
+use Rattle.ecp_line.specs.ArrayLines.{is_worn_at}
+use Rattle.right_runs.specs.{Banks.line_named, Ends.IsRemapped}
+use Rattle.end_laws.specs.Roles.{RoleLaw}
+use Rattle.run_laws.{specs.FinishedLaws.RolesLaw, proofs.Rows.few_array_lines_law}
 
 -- the shape of each bank is one that a bank may have
 pub is_bank_shape : (raw : RawShape) (bank : ℕ) → IsShape raw → bank < raw.banks → IsBankShape (bank_shape (module_of raw) bank)
@@ -27,7 +28,7 @@ is_bank_shape raw bank is few = record {
     fits = omega (arith, banks_apart bank raw.banks (array_lines_of (module_of raw)) few, few_array_lines_law raw is)
 
 -- no slot has a control line
-below_controls : (shape : BankShape) (worn : ℕ → Bool) (table : ℕ → ℕ) → IsRemapped shape worn table
+pub below_controls : (shape : BankShape) (worn : ℕ → Bool) (table : ℕ → ℕ) → IsRemapped shape worn table
     → (slot : ℕ) → slot < slots_of shape → table slot < controls_from shape
 below_controls shape worn table remapped slot exists =
     elim (remapped.lines slot exists) [

@@ -7,14 +7,13 @@ use Rattle.cell_rows.specs.Device.{ArrayState}
 use Rattle.result_rows.specs.Outcomes.{op_of, place_of}
 use Rattle.result_rows.specs.declared.Op.TheVariants as op
 use Rattle.run_text.specs.Shortfall.{is_short, any_short}
-use Rattle.row_rules.specs.{Answers.{accepts, is_queued, is_lost}, Lines.IsOfLines, Queueing.{pending, has_room, is_queue_fair}, Rows.{line_of, is_cut}, Serving.{is_served, owed}}
-use Rattle.row_rules.specs.{declared.Asks.Asks, declared.Asks.TheVariants.{Reads, Writes, Cuts}, declared.Row.Row}
-use Rattle.bank_laws.specs.{Laws.is_worn_at, Places.{is_placed, is_taken, may_leave}}
+use Rattle.row_rules.specs.{Answers.{accepts, is_queued, is_lost}, Lines.IsOfLines, Queueing.{pending, has_room, is_queue_fair}, Rows.{line_of, is_cut, op_asked}}
+use Rattle.row_rules.specs.{Serving.{is_served, owed}, declared.Asks.Asks, declared.Asks.TheVariants.{Reads, Writes, Cuts}, declared.Row.Row}
+use Rattle.ecp_line.specs.ArrayLines.{is_worn_at}
+use Rattle.right_runs.specs.{Banks.{bank_of_line, line_in_bank, rules_in}, Ends.BankEnd, Places.is_placed, Runs.RunsRight, Tables.table_in, WornLines.{is_taken, may_leave}}
 use Rattle.module_shape.specs.{Addresses.{module_of, array_lines_of, bank_shape}, Limits.{IsShape, total_of}, declared.raw.RawShape.RawShape}
 use Rattle.module_shape.proofs.Bounds.{array_lines_few, banks_apart}
-use Rattle.end_laws.specs.Ends.{BankEnd}
-use Rattle.run_laws.specs.RowsOfRuns.{op_asked, LinesExist, NoCuts, HasRoom, FindsPlace, OwnOutcomesLaw, PlacesExistLaw, FewArrayLinesLaw, NoneLostLaw, RoomIsTakenLaw}
-use Rattle.run_laws.specs.{RowsOfRuns.NoneShortLaw, Runs.{bank_of_line, line_in_bank, rules_in, table_in, RunsRight}}
+use Rattle.run_laws.specs.RowsOfRuns.{LinesExist, NoCuts, HasRoom, FindsPlace, OwnOutcomesLaw, PlacesExistLaw, FewArrayLinesLaw, NoneLostLaw, RoomIsTakenLaw, NoneShortLaw}
 use Rattle.run_laws.proofs.Facts.{IsOfBank, own_outcome, placed-of_bank, cut-nowhere, IsKept, reads-kept, uncut_in_bank, unread-kept, IsBusyFair, busy-fair, taken-parts}
 use Rattle.run_laws.proofs.{Facts.{read-unshort, write-unshort, cut-unshort}, Lifting.{Each, each-passes, each-all, each-at, each-of, both, with_all, lifted, InOwnBank}}
 use Rattle.run_laws.proofs.Mixing.{bank-exists, line-exists}

@@ -6,9 +6,10 @@ use Rattle.bank_model.specs.Timing.{TimedEvent, core}
 use Rattle.module_shape.specs.{Addresses.{module_of, lines_of, bank_shape}, Limits.{IsShape, total_of}, declared.raw.RawShape.RawShape}
 use Rattle.module_laws.specs.{Asking.{Asked, row_with}, Serves.AreLines}
 use Rattle.clock_laws.specs.State.{ClockState}
-use Rattle.end_laws.specs.{EndLaws.{IsEndOf, end_of}, Ends.BankEnd, Roles.HasOneRole}
+use Rattle.end_laws.specs.EndLaws.{IsEndOf, end_of}
+use Rattle.right_runs.specs.{Banks.{bank_of_line, line_in_bank, line_named}, Ends.BankEnd, Roles.HasOneRole, Runs.{RunsRight, RunsRightTo}}
 use Rattle.row_rules.specs.declared.Row.{Row}
-use Rattle.run_laws.specs.{Finishing.IsFinishedTo, Runs.{bank_of_line, line_in_bank, line_named, RunsRight, RunsRightTo}}
+use Rattle.run_laws.specs.Finishing.{IsFinishedTo}
 
 -- the lines of a module: each is of one of its banks, and no two have one number there
 abbrev pub LinesLaw : Type 0

@@ -8,7 +8,7 @@ use Rattle.module_shape.specs.{Addresses.{module_of, array_lines_of, bank_shape}
 use Rattle.module_laws.specs.{Asking.{Asked, asked_of, AreAsked}, Serves.{AreRecorded, TicksFall}}
 use Rattle.row_rules.specs.Lines.{IsOfLines}
 use Rattle.clock_laws.specs.{Leads.Leads, State.ClockState}
-use Rattle.run_laws.specs.Runs.{bank_of_line, line_in_bank, pacing_in}
+use Rattle.right_runs.specs.Banks.{bank_of_line, line_in_bank, pacing_in}
 
 module _ {n m e : ℕ} (raw : RawShape) (seed : ℕ) where
   -- each bank's history, which asked for the bank's rows, leads to what it is now, and nothing is left to do, or the power is off

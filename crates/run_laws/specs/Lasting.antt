@@ -5,9 +5,8 @@ use Rattle.ecp_line.specs.Layout.{IsLayout}
 use Rattle.row_rules.specs.declared.Row.{Row}
 use Rattle.bank_shape.specs.Shape.{slots_of}
 use Rattle.module_shape.specs.{Addresses.{module_of, bank_shape}, Limits.IsShape, declared.raw.RawShape.RawShape}
-use Rattle.end_laws.specs.{Ends.BankEnd, Roles.used_spares}
+use Rattle.right_runs.specs.{Banks.rules_in, Ends.BankEnd, Roles.used_spares, Runs.RunsRight, Tables.table_in}
 use Rattle.lifetime_laws.specs.Lifetime.{LivesOn, BearsWorks, BearsAskedWorks}
-use Rattle.run_laws.specs.Runs.{table_in, rules_in, RunsRight}
 
 module _ {n : ℕ} (bounds : CellBounds) (e : ℕ) (raw : RawShape) (seed : ℕ) (rows : List (Row n)) (bank : ℕ) (hot : ℕ → List ℕ) where
   -- cells endure more changes than any slot's own line of a bank may take line writes by a run's stores and cuts: in each region by its

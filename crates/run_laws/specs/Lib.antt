@@ -1,4 +1,3 @@
-pub mod Runs
 pub mod Finishing
 pub mod FinishedLaws
 pub mod RowsOfRuns

@@ -1,21 +1,14 @@
 -- What a right run says of each row of its module.
 use Rattle.std.specs.{Option.ForSome, Prelude.{◌≡◌, ℕ, ◌*◌, ◌<◌, ◌≤◌, IsTrue, IsFalse, Bool, length, List, [], ◌∷◌, ◌++◌, map, Some, All}}
 use Rattle.cell_rows.specs.Device.{ArrayState}
-use Rattle.result_rows.specs.{Outcomes.{op_of, place_of}, declared.Op.Op}
+use Rattle.result_rows.specs.Outcomes.{op_of, place_of}
 use Rattle.result_rows.specs.declared.Op.TheVariants as op
 use Rattle.run_text.specs.Shortfall.{any_short}
-use Rattle.row_rules.specs.{Answers.{accepts, is_queued, is_lost}, Lines.IsOfLines, Queueing.{pending, waiting}, Rows.is_cut, declared.Asks.Asks}
+use Rattle.row_rules.specs.{Answers.{accepts, is_queued, is_lost}, Lines.IsOfLines, Queueing.{pending, waiting}, Rows.{is_cut, op_asked}, declared.Asks.Asks}
 use Rattle.row_rules.specs.{declared.Asks.TheVariants.{Reads, Writes, Cuts}, declared.Row.Row}
-use Rattle.bank_laws.specs.{Laws.is_worn_at, Places.may_leave}
+use Rattle.ecp_line.specs.ArrayLines.{is_worn_at}
+use Rattle.right_runs.specs.{Banks.bank_of_line, Ends.BankEnd, Runs.RunsRight, Tables.table_in, WornLines.may_leave}
 use Rattle.module_shape.specs.{Addresses.{module_of, array_lines_of, bank_shape}, Limits.{IsShape, total_of}, declared.raw.RawShape.RawShape}
-use Rattle.end_laws.specs.Ends.{BankEnd}
-use Rattle.run_laws.specs.Runs.{bank_of_line, table_in, RunsRight}
-
--- the operation that a row asks for
-abbrev pub op_asked : {n : ℕ} → Asks n → Op
-op_asked (Reads line) = op.Read
-op_asked (Writes line bytes given) = op.Write
-op_asked Cuts = op.Cut
 
 -- each line that the rows name is one of the module's
 abbrev pub LinesExist : {n : ℕ} → RawShape → List (Row n) → Type 0

@@ -16,10 +16,11 @@ use Rattle.bank_model.specs.{Changes.change_after, Events.{Write, Read, Serve, B
 use Rattle.bank_model.specs.{Lawful.{Lawful, MayCome, would_cancel}, Running.{busy_after, made_after, drops_begin, left_by, running_at, cancels_after}}
 use Rattle.bank_model.specs.Timing.{Happens, Core, Regs, KeepBegin, KeepIterate, KeepCut, TimedEvent, is_writing, is_empty, core, core_of, last_tick}
 use Rattle.masked_bytes.specs.Entries.{layer_of}
-use Rattle.bank_laws.specs.{Laws.rules_of, Outcomes.{outcome_with, outcome_of, row_with, rows_from}, Standing.has_wait, Ticks.ends_action}
-use Rattle.bank_laws.proofs.{Answering.{IsFirst, served-first}, Ending.{Onwards, own_answer}, Fates.{Awaits, IsSettled, ReadFate, awaits-has, awaits-new}}
-use Rattle.bank_laws.proofs.{Serves.{may_at, onwards_at}, Settling.{opens, lawful_before}, Standing.stand_apart, Ticks.last_tick-rises}
-use Rattle.bank_laws.proofs.{Waiting.{waits_length, cancels-none, settled_all}, Walking.{Passes, walk, rows_after}}
+use Rattle.right_runs.specs.Banks.{rules_of}
+use Rattle.bank_laws.{specs.Outcomes.{outcome_with, outcome_of, row_with, rows_from}, specs.Standing.has_wait, specs.Ticks.ends_action, proofs.Answering.{IsFirst, served-first}}
+use Rattle.bank_laws.proofs.{Ending.{Onwards, own_answer}, Fates.{Awaits, IsSettled, ReadFate, awaits-has, awaits-new}, Serves.{may_at, onwards_at}}
+use Rattle.bank_laws.proofs.{Settling.{opens, lawful_before}, Standing.stand_apart, Ticks.last_tick-rises, Waiting.{waits_length, cancels-none, settled_all}}
+use Rattle.bank_laws.proofs.Walking.{Passes, walk, rows_after}
 use Rattle.tick_laws.{specs.TickLaws.{reads_in_time, ReadTimeLaw}, proofs.Actions.{since, since-up, FitsAll, running_at-fits}}
 use Rattle.tick_laws.proofs.{Afterwards.{none-below, first-behind, rows_after-append, late-cuts}, Cancelling.{stored_at, idle_runs}}
 use Rattle.tick_laws.proofs.{Settings.{SetAt, row_set, setting, unset_before, unset_waits}, Tallies.stores_by}

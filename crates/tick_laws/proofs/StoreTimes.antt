@@ -13,7 +13,8 @@ use Rattle.bank_shape.specs.declared.answer.Step.TheVariants as did
 use Rattle.bank_model.specs.{After.{work_after, due_moves}, Answers.IsDone, Changes.{change_after, halted_after, halted_by}, Events.{Write, Read, Serve, Begin, Iterate, Cut}}
 use Rattle.bank_model.specs.{History.{queue, waits, due_after, has_exhausted}, Lawful.{Lawful, MayCome}, Running.{cancels_with, cancels_after}}
 use Rattle.bank_model.{specs.Timing.{Happens, Core, Regs, TimedEvent, core, core_of, last_tick}, proofs.Within.due_moves-few}
-use Rattle.bank_laws.specs.{Laws.rules_of, Outcomes.{on_row, outcome_with, outcome_of, ended, row_with, rows_from}, Ticks.ends_action}
+use Rattle.right_runs.specs.Banks.{rules_of}
+use Rattle.bank_laws.specs.{Outcomes.{on_row, outcome_with, outcome_of, ended, row_with, rows_from}, Ticks.ends_action}
 use Rattle.bank_laws.proofs.{Answering.{head-there, first-there, stored-head, served-first}, Counting.{among, hits}, Ending.own_row, Entries.either, Later.last-later}
 use Rattle.bank_laws.proofs.{Pending.{writes_in, write_rows, queue-asked}, Settling.{opens, lawful_before}, Ticks.{last_tick-rises, last-below}, Waiting.waits-asked}
 use Rattle.bank_laws.proofs.{Walking.rows_after, Wears.exhausted-stores_none}

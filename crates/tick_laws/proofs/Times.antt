@@ -8,7 +8,8 @@ use Rattle.row_rules.specs.{Ticking.{store_in_time, is_in_time}, declared.Asks.T
 use Rattle.bank_shape.specs.{declared.BankShape.BankShape, declared.answer.WriteAnswer.WriteAnswer, declared.pace.Pace.Pace}
 use Rattle.bank_shape.specs.declared.answer.WriteAnswer.TheVariants as wrote
 use Rattle.bank_model.specs.{Events.{Write, Read, Serve, Begin, Iterate, Cut}, History.queue, Lawful.{Lawful, MayCome}, Timing.{Happens, Core, Regs, TimedEvent, core, core_of}}
-use Rattle.bank_laws.{specs.Laws.rules_of, specs.Outcomes.{outcome_of, ended, row_with, rows_from}, proofs.Answering.merged-there, proofs.Ending.{Onwards, own_answer}}
+use Rattle.right_runs.specs.Banks.{rules_of}
+use Rattle.bank_laws.{specs.Outcomes.{outcome_of, ended, row_with, rows_from}, proofs.Answering.merged-there, proofs.Ending.{Onwards, own_answer}}
 use Rattle.bank_laws.proofs.{Fates.{new-push, new-merged}, Serves.{may_at, onwards_at}, Walking.{Passes, walk, rows_after}}
 use Rattle.tick_laws.{specs.TickLaws.{is_apart, reads_in_time, stores_in_time, StoreTimeLaw, InTimeLaw}, proofs.Apart.apart_at, proofs.ReadTimes.read_at}
 use Rattle.tick_laws.proofs.StoreTimes.{IsInTime, in_end}

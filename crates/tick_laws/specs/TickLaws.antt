@@ -7,7 +7,8 @@ use Rattle.result_rows.specs.declared.Outcome.TheVariants as out
 use Rattle.bank_shape.specs.{Pausing.is_cancelling, declared.BankShape.BankShape, declared.pace.Pace.Pace}
 use Rattle.bank_shape.specs.declared.answer.ReadAnswer.TheVariants as came
 use Rattle.bank_model.specs.{Events.Read, History.waits, Lawful.Lawful, Running.{cancels_after, running_at}, Timing.{TimedEvent, Core, core, ends, last_tick}}
-use Rattle.bank_laws.specs.{Laws.{IsSized, rules_of}, Outcomes.{table_of, outcome_of, row_with}, Resting.IsStill}
+use Rattle.bank_laws.specs.{Laws.IsSized, Outcomes.{table_of, outcome_of, row_with}, Resting.IsStill}
+use Rattle.right_runs.specs.Banks.{rules_of}
 
 -- a row is read or stored apart from every row before it
 abbrev pub is_apart : {n : ℕ} → ℕ → RowTest n

@@ -1,6 +1,6 @@
--- The lines that the rows of a trace ask for.
-use Rattle.std.proofs.Common.{ℕ, List, [], ◌∷◌}
-use Rattle.std.{specs.Prelude.All, proofs.lemmas.List.Elements.{All-nil, All-cons}}
+-- Which row is that of an event, and the lines that the rows of a trace ask for.
+use Rattle.std.proofs.Common.{◌≡◌, ℕ, zero, suc, List, [], ◌∷◌, Some, refl}
+use Rattle.std.{specs.Prelude.{slice_get, All}, proofs.lemmas.List.Elements.{All-nil, All-cons}}
 use Rattle.trace_reader.specs.{Events.{AreEventsFor, IsOpFor}, declared.event.Event.Event, declared.event.EventOp.EventOp}
 use Rattle.trace_reader.specs.declared.event.EventOp.TheVariants.{Read, Write, Mask, Cut}
 use Rattle.result_rows.specs.declared.Outcome.{Outcome}
@@ -8,6 +8,17 @@ use Rattle.row_rules.specs.{Lines.IsOfLines, declared.Row.Row}
 use Rattle.trace_rows.specs.Rows.{asks_of, row_of, rows_with}
 
 module _ {n : ℕ} where
+  -- the row of an event
+  pub row-at : (events : List (Event n)) (outcomes : List (Outcome n)) (i : ℕ) (event : Event n) (outcome : Outcome n)
+      → slice_get events i ≡ Some event → slice_get outcomes i ≡ Some outcome → slice_get (rows_with events outcomes) i ≡ Some (row_of event outcome)
+  row-at [] outcomes i event outcome at is = absurd (cc at)
+  row-at (first ∷ events) [] i event outcome at is = absurd (cc is)
+  row-at (first ∷ events) (own ∷ outcomes) zero event outcome at is =
+      let same : first ≡ event = cc in
+      let alike : own ≡ outcome = cc in
+      rw (same, alike) refl
+  row-at (first ∷ events) (own ∷ outcomes) (suc i) event outcome at is = row-at events outcomes i event outcome at is
+
   -- a lawful operation asks for a line that exists
   pub of-lines : (lines : ℕ) (op : EventOp n) → IsOpFor lines op → IsOfLines lines (asks_of op)
   of-lines lines (Read line) h = h

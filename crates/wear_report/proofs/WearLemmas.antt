@@ -2,7 +2,8 @@
 use Rattle.std.proofs.Common.{ℕ, ◌+◌, ◌^◌, ◌<◌, ◌≤◌, ◌≡◌, List, [], ◌∷◌, ◌++◌, length, length-append, append_assoc, add-zero, suc, sym, refl, arith, lit≤}
 use Rattle.std.specs.Fmt.{decimal}
 use Rattle.pcm_io.proofs.DigitLemmas.{ten_digits, twenty_digits}
-use Rattle.wear_report.specs.{WearText.{role_text, wear_row_text, wear_rows_text}, declared.Role.Role, declared.Role.TheVariants.{Line, Gap, Free, Retired, Control}}
+use Rattle.wear_report.specs.WearText.{role_text, wear_row_text, wear_rows_text}
+use Rattle.bank_shape.specs.{declared.Role.Role, declared.Role.TheVariants.{Line, Gap, Free, Retired, Control}}
 
 -- the rows of two lists
 pub wear_rows_text-append : (array_line : ℕ) (first second : List (ℕ × ℕ × Role)) → wear_rows_text array_line (first ++ second) ≡ wear_rows_text array_line first ++ wear_rows_text (array_line + length first) second

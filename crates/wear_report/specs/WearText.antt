@@ -1,6 +1,6 @@
 -- The wear report: a header, and one row for each array line, from 0 on.
 use Rattle.std.specs.{List.join_with_byte, Prelude.{ℕ, ◌+◌, List, [], ◌∷◌, ◌++◌, codes, decimal}}
-use Rattle.wear_report.specs.{declared.Role.Role, declared.Role.TheVariants.{Line, Gap, Free, Retired, Control}}
+use Rattle.bank_shape.specs.{declared.Role.Role, declared.Role.TheVariants.{Line, Gap, Free, Retired, Control}}
 
 -- the first line of the report
 abbrev pub wear_header_text : List ℕ

@@ -6,22 +6,8 @@ ghost use Rattle.std.specs.Prelude.{◌≡◌, ◌+◌, ◌≤◌};
 ghost use Rattle.pcm_io.specs.Reserved.{room_in, appended};
 ghost use Rattle.wear_report.specs.WearText.{wear_header_text, role_text, wear_row_text};
 
+pub use bank_shape::Role;
 use pcm_io::Text;
-
-/// What an array line is used for.
-#[derive(Clone, Copy, Debug, PartialEq, Eq)]
-pub enum Role {
-    /// It holds this line of the module.
-    Line(u32),
-    /// It is the gap of a region, which holds no line (Start-Gap, Qureshi et al., MICRO 2009).
-    Gap,
-    /// It is a spare that isn't used.
-    Free,
-    /// It wore out, and its slot was given another array line.
-    Retired,
-    /// It keeps registers of the bank.
-    Control,
-}
 
 /// The first line of the report, with its LF.
 pub fn header() -> &'static [u8]
@@ -37,18 +23,16 @@ pub fn print_role(array_line: u32, bank: u32, pulses: u64, role: Role, text: &mu
     ensures after { text.new ≡ appended text.old (wear_row_text array_line bank pulses role) }
     ensures room { room_in text.old ≤ room_in text.new + 64 }
 {
-    text.push_number(array_line as u64);
-    text.push(b",");
-    text.push_number(bank as u64);
-    text.push(b",");
-    text.push_number(pulses);
-    text.push(b",");
+    text.push_number_then(array_line as u64, b",");
+    text.push_number_then(bank as u64, b",");
+    text.push_number_then(pulses, b",");
     push_role(role, text);
     text.push(b"\n");
 }
 
+/// Appends the word of a role, and of a line of the module its number.
 #[tactic(auto, using(pcm_io::proofs::DigitLemmas::ten_digits))]
-fn push_role(role: Role, text: &mut Text)
+pub fn push_role(role: Role, text: &mut Text)
     requires { 15 ≤ room_in text.old }
     ensures after { text.new ≡ appended text.old (role_text role) }
     ensures room { room_in text.old ≤ room_in text.new + 15 }

@@ -3,7 +3,7 @@ use Rattle.std.proofs.Common.{◌≡◌, true, false, List, [], ◌∷◌, refl}
 use Rattle.result_rows.specs.declared.Outcome.TheVariants as out
 use Rattle.row_rules.specs.{declared.Asks.TheVariants.Writes, declared.Row.Row}
 use Rattle.worked_tables.specs.TableExamples.{W, M, whole, both}
-use Rattle.image_laws.specs.Queued.{entries_by, queued_writes}
+use Rattle.right_images.specs.Queued.{entries_by, queued_writes}
 
 -- the write of line 1 at tick 6 was merged into that of tick 9, whose entry stands in its place
 abbrev merged_rows : List (Row 2)

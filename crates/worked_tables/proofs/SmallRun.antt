@@ -6,19 +6,14 @@ use Rattle.rand_core.specs.{Steps.stream_of, Stream.next_u64}
 use Rattle.seeded_words.specs.Words.{stream_after, word_at}
 use Rattle.cell_rows.specs.declared.array.Sense.{Sense}
 use Rattle.cell_rows.specs.Rows as cells
-use Rattle.ecp_line.specs.Reading.{decode}
+use Rattle.ecp_line.specs.{ArrayLines.{is_worn_at, decoded}, Reading.decode, Untouched.HasUntouched}
 use Rattle.ecp_line.specs.Layout as layout
-use Rattle.line_writer.specs.Untouched.{HasUntouched}
 use Rattle.row_rules.specs.{Rows.each_row, Serving.is_served, Table.KeepsRows, declared.Row.Row}
 use Rattle.worked_tables.specs.Runs.{small, reading, misplaced, first_bank, second_bank, senses, holding, ended, touched, forgotten, NeverRight, unmoved, hammered, strained}
 use Rattle.worked_tables.specs.TableExamples.{whole}
 use Rattle.module_shape.specs.Addresses.{module_of, bank_shape}
-use Rattle.module_laws.specs.Serves.{finds_room_in}
-use Rattle.bank_laws.specs.{Laws.{KeepsPlaces, KeepsLog, is_worn_at}, Logs.is_line_fair, Places.is_moved}
-use Rattle.bank_invariant.specs.Tied.{decoded}
-use Rattle.end_laws.specs.Ends.{BankEnd, EndsWith, IsRemapped, is_kept_line, place_by_table}
-use Rattle.lifetime_laws.specs.Lifetime.{KeepsLines}
-use Rattle.run_laws.specs.Runs.{bank_of_line, line_in_bank, line_named, rules_in, table_in, RunsRight}
+use Rattle.right_runs.specs.{Banks.{bank_of_line, line_in_bank, line_named, rules_in}, Ends.{is_moved, BankEnd, EndsWith, IsRemapped, is_kept_line, place_by_table}}
+use Rattle.right_runs.specs.{KeepsLines.KeepsLines, KeepsLog.KeepsLog, KeepsPlaces.KeepsPlaces, Logs.is_line_fair, Runs.RunsRight, Tables.{finds_room_in, table_in}}
 
 pub where_8_is : (bank_of_line small 0 8 ≡ 1) × (line_in_bank small 0 8 ≡ 5) × (line_named small 0 1 5 ≡ 8)
 unfolding next_u64 stream_of stream_after word_at

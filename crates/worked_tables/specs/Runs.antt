@@ -7,8 +7,7 @@ use Rattle.row_rules.specs.declared.Row.{Row}
 use Rattle.worked_tables.specs.{HistoryExamples.holds, TableExamples.{W, R, whole}}
 use Rattle.bank_shape.specs.{declared.Home.TheVariants.Guarded, declared.pace.Policy.TheVariants.Pause}
 use Rattle.module_shape.specs.declared.raw.RawShape.{RawShape}
-use Rattle.end_laws.specs.Ends.{BankEnd}
-use Rattle.run_laws.specs.Runs.{RunsRight}
+use Rattle.right_runs.specs.{Ends.BankEnd, Runs.RunsRight}
 
 abbrev pub small : RawShape
 small = record {

@@ -4,8 +4,7 @@ use Rattle.result_rows.specs.declared.Outcome.TheVariants as out
 use Rattle.row_rules.specs.declared.Row.{Row}
 use Rattle.worked_tables.specs.{Runs.small, TableExamples.{W, R, whole}}
 use Rattle.check_verdict.specs.{Verdicts.verdict_of, declared.Verdict.Verdict}
-use Rattle.run_laws.specs.Runs.{rules_in}
-use Rattle.check_laws.specs.Verdicts.{banks_of}
+use Rattle.right_runs.specs.Banks.{rules_in, banks_of}
 
 -- the verdict on rows of the small module
 abbrev pub verdict_on : List (Row 2) → Verdict

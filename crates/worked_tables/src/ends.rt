@@ -6,8 +6,8 @@ ghost use Rattle.row_rules.specs.Rows.{each_row};
 ghost use Rattle.worked_tables.specs.TableExamples.{whole};
 ghost use Rattle.worked_tables.specs.HistoryTables.{none_worn};
 ghost use Rattle.worked_tables.specs.HistoryExamples.{small};
-ghost use Rattle.end_laws.specs.Ends.{is_excused, is_kept_line, is_still_there};
-ghost use Rattle.end_laws.specs.Roles.{used_spares};
+ghost use Rattle.right_runs.specs.Ends.{is_excused, is_kept_line, is_still_there};
+ghost use Rattle.right_runs.specs.Roles.{used_spares};
 ghost use Rattle.worked_tables.specs.Ends.{half_stored_rows, slot_3_has, stored_rows, worn_3};
 
 /// Of a line of a finished bank every byte is the newest one, in the array or in the queue; of others it isn't.

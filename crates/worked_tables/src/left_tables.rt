@@ -7,10 +7,11 @@ ghost use Rattle.row_rules.specs.Rows.{each_row};
 ghost use Rattle.worked_tables.specs.Faults.{first_fault};
 ghost use Rattle.bank_model.specs.Adding.{senses_of};
 ghost use Rattle.worked_tables.specs.HistoryExamples.{small, pace, paused, not_paused, cancelled, two_entries, dropped_begin};
-ghost use Rattle.bank_laws.specs.Laws.{rules_of};
-ghost use Rattle.bank_laws.specs.Logs.{has_sense, is_line_fair};
+ghost use Rattle.right_runs.specs.Banks.{rules_of};
+ghost use Rattle.right_runs.specs.Logs.{has_sense, is_line_fair};
 ghost use Rattle.bank_laws.specs.Outcomes.{table_of};
-ghost use Rattle.bank_laws.specs.Places.{is_placed, is_taken};
+ghost use Rattle.right_runs.specs.Places.{is_placed};
+ghost use Rattle.right_runs.specs.WornLines.{is_taken};
 ghost use Rattle.worked_tables.specs.HistoryTables.{table, paused_rows, not_paused_rows, cancelled_rows, two_entries_rows, dropped_begin_rows, plain_bytes, none_worn, read_elsewhere, left_undone};
 
 /// Each worked history leaves the table that was worked out by hand.

@@ -7,10 +7,10 @@ ghost use Rattle.row_rules.specs.Answers.{is_stored};
 ghost use Rattle.row_rules.specs.Ticking.{is_in_time};
 ghost use Rattle.worked_tables.specs.TableExamples.{small};
 ghost use Rattle.bank_shape.specs.declared.pace.Policy.TheVariants.{Pause, Cancel};
-ghost use Rattle.bank_laws.specs.Places.{is_placed, region_stores};
+ghost use Rattle.right_runs.specs.Places.{is_placed, region_stores};
 ghost use Rattle.worked_tables.specs.HistoryTables.{none_worn};
-ghost use Rattle.lifetime_laws.specs.Spread.{most_at, most_moves, stores_on};
-ghost use Rattle.lifetime_laws.specs.Works.{stores_at, most_each, most_kept};
+ghost use Rattle.lifetime_laws.specs.Spread.{most_at, stores_on};
+ghost use Rattle.right_runs.specs.LineWrites.{most_moves, stores_at, most_each, most_kept};
 ghost use Rattle.lifetime_laws.specs.Lifetime.{most_hot_works, most_asked_works, BearsControls, BearsWorks};
 ghost use Rattle.worked_tables.specs.Lifetimes.{two_in_array, two_lines, storing, always, waiting_for_slot_0, stores_of, sixteen_regions, one_hot_line_each, its_first, all_first, enduring, most_promised, most_promised_in_array};
 

@@ -2,8 +2,10 @@
 //! nothing to run.
 
 ghost use Rattle.std.specs.Prelude.{◌≡◌, ℕ};
-ghost use Rattle.end_laws.specs.Ends.{BankEnd};
-ghost use Rattle.run_laws.specs.Runs.{RunsRight, bank_of_line, line_in_bank, line_named, table_in};
+ghost use Rattle.right_runs.specs.Ends.{BankEnd};
+ghost use Rattle.right_runs.specs.Runs.{RunsRight};
+ghost use Rattle.right_runs.specs.Banks.{bank_of_line, line_in_bank, line_named};
+ghost use Rattle.right_runs.specs.Tables.{table_in};
 ghost use Rattle.worked_tables.specs.Runs.{small, reading, misplaced, first_bank, second_bank, ended, touched, forgotten, hammered, strained, unmoved, NeverRight};
 
 /// Which bank has line 8, under which number, and which rows each bank gets.

@@ -1,5 +1,5 @@
 use Rattle.std.proofs.Common.{◌≡◌, ◌++◌, ◌∷◌, [], rules}
-use Rattle.run_laws.specs.Runs.{bank_of_line}
+use Rattle.right_runs.specs.Banks.{bank_of_line}
 use Rattle.check_text.proofs.Judged.{one_bank_more}
 use Rattle.check_text.proofs.banks.banks.Goals as goal
 

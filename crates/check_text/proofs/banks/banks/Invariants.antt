@@ -1,6 +1,6 @@
 use Rattle.std.proofs.Common.{◌≡◌, map}
 use Rattle.std.specs.List.{range_with_len}
-use Rattle.run_laws.specs.Runs.{bank_of_line}
+use Rattle.right_runs.specs.Banks.{bank_of_line}
 use Rattle.check_text.proofs.banks.banks.Given as goal
 
 -- those of the lines so far

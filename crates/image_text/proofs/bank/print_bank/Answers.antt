@@ -1,7 +1,7 @@
 use Rattle.std.proofs.Common.{◌++◌, length, refl}
 use Rattle.std.specs.{List.flat_map, Prelude.map}
 use Rattle.pcm_image.specs.Spelling.{bank_bytes, entry_bytes, region_bytes, u8, u16, u32}
-use Rattle.image_laws.specs.Saving.{saved_bank, saved_entry, saved_region}
+use Rattle.right_images.specs.Saving.{saved_bank, saved_entry, saved_region}
 use Rattle.run_text.proofs.Gathered.{on_err, on_err_any}
 use Rattle.image_text.proofs.Prints.{part-of-1, part-of-2, part-of-3, part-of-4, part-of-5, whole-bank}
 use Rattle.image_text.proofs.bank.print_bank.Goals as goal

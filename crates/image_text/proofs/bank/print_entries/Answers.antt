@@ -1,7 +1,7 @@
 use Rattle.std.proofs.Common.{◌∙◌, map, refl, sym, ap, arith}
 use Rattle.std.{specs.Prelude.option_copied, proofs.Math.ListN.get_or-map, proofs.lemmas.List.length-map, proofs.lemmas.Option.get_or_from_slice_get}
 use Rattle.pcm_image.specs.Spelling.{entry_bytes}
-use Rattle.image_laws.specs.Saving.{saved_entry}
+use Rattle.right_images.specs.Saving.{saved_entry}
 use Rattle.run_text.proofs.Gathered.{on_err_any}
 use Rattle.image_text.proofs.Prints.{more-all, more-next, more-none, part-next}
 use Rattle.image_text.proofs.bank.print_entries.Goals as goal

@@ -1,7 +1,7 @@
 use Rattle.std.proofs.Common.{◌≡◌, ◌≤◌, length, take, map}
 use Rattle.std.specs.List.{flat_map}
 use Rattle.pcm_image.specs.Spelling.{entry_bytes}
-use Rattle.image_laws.specs.Saving.{saved_entry}
+use Rattle.right_images.specs.Saving.{saved_entry}
 use Rattle.image_text.specs.Printing.{PrintsMore}
 use Rattle.image_text.proofs.bank.print_entries.Given as goal
 

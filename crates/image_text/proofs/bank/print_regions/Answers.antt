@@ -3,7 +3,7 @@ use Rattle.std.proofs.{Math.ListN.get_or-map, lemmas.List.length-map}
 use Rattle.bank_shape.specs.declared.BankShape.{BankShape}
 use Rattle.power_recovery.specs.Kept.{no_region}
 use Rattle.pcm_image.specs.Spelling.{region_bytes}
-use Rattle.image_laws.specs.Saving.{saved_region}
+use Rattle.right_images.specs.Saving.{saved_region}
 use Rattle.run_text.proofs.Gathered.{on_err_any}
 use Rattle.image_text.proofs.Prints.{more-all, more-next, more-none, part-next}
 use Rattle.image_text.proofs.bank.print_regions.Goals as goal

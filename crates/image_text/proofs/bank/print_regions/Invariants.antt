@@ -1,7 +1,7 @@
 use Rattle.std.proofs.Common.{◌≡◌, ◌≤◌, length, take, map}
 use Rattle.std.specs.List.{flat_map}
 use Rattle.pcm_image.specs.Spelling.{region_bytes}
-use Rattle.image_laws.specs.Saving.{saved_region}
+use Rattle.right_images.specs.Saving.{saved_region}
 use Rattle.image_text.specs.Printing.{PrintsMore}
 use Rattle.image_text.proofs.bank.print_regions.Given as goal
 

@@ -1,7 +1,7 @@
 use Rattle.std.proofs.Common.{◌≡◌, ◌+◌, ◌∙◌, refl, sym, ap, subst, arith, rules}
 use Rattle.std.proofs.lemmas.List.FromFn.{get_or-map-range_with_len, length-map-range_with_len}
 use Rattle.pcm_image.specs.Spelling.{cells_bytes}
-use Rattle.image_laws.specs.Saving.{saved_cells}
+use Rattle.right_images.specs.Saving.{saved_cells}
 use Rattle.run_text.proofs.Gathered.{on_err_any}
 use Rattle.image_text.{specs.Sensing.SensesRows, proofs.Prints.{more-all, more-next, more-none, part-to}, proofs.Sensing.{prints-rows, senses-more, senses-none}}
 use Rattle.image_text.proofs.lines.print_rows.Goals as goal

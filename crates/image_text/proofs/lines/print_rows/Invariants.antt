@@ -1,7 +1,7 @@
 use Rattle.std.proofs.Common.{◌≡◌, ◌≤◌, take}
 use Rattle.std.specs.List.{flat_map}
 use Rattle.pcm_image.specs.Spelling.{cells_bytes}
-use Rattle.image_laws.specs.Saving.{saved_cells}
+use Rattle.right_images.specs.Saving.{saved_cells}
 use Rattle.image_text.specs.{Printing.PrintsMore, Sensing.SensesRows}
 use Rattle.image_text.proofs.lines.print_rows.Given as goal
 

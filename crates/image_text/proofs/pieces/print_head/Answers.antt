@@ -1,5 +1,5 @@
 use Rattle.pcm_image.specs.Spelling.{head_bytes}
-use Rattle.image_laws.specs.Saving.{head_of}
+use Rattle.right_images.specs.Saving.{head_of}
 use Rattle.run_text.proofs.Gathered.{on_err_any}
 use Rattle.image_text.proofs.Prints.{piece-part, piece-printed}
 use Rattle.image_text.proofs.pieces.print_head.Goals as goal

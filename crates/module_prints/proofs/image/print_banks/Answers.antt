@@ -3,7 +3,7 @@ use Rattle.std.proofs.lemmas.List.FromFn.{get_or-map-range_with_len, length-map-
 use Rattle.module_shape.specs.declared.raw.RawShape.{RawShape}
 use Rattle.bank_timing.proofs.Sizes.{timed_fits, bank_fits}
 use Rattle.pcm_image.specs.Spelling.{bank_bytes}
-use Rattle.image_laws.specs.Saving.{saved_bank, saved_banks}
+use Rattle.right_images.specs.Saving.{saved_bank, saved_banks}
 use Rattle.run_text.proofs.Gathered.{on_err_any}
 use Rattle.module_prints.{specs.Images.kept_in, proofs.Clocks.clock-is}
 use Rattle.module_prints.proofs.image.print_banks.Goals as goal

@@ -1,7 +1,7 @@
 use Rattle.std.proofs.Common.{◌≡◌, ◌≤◌, take}
 use Rattle.std.specs.List.{flat_map}
 use Rattle.pcm_image.specs.Spelling.{bank_bytes}
-use Rattle.image_laws.specs.Saving.{saved_banks}
+use Rattle.right_images.specs.Saving.{saved_banks}
 use Rattle.image_text.specs.Printing.{PrintsMore}
 use Rattle.module_prints.specs.Images.{kept_in}
 use Rattle.module_prints.proofs.image.print_banks.Given as goal

@@ -1,7 +1,7 @@
 use Rattle.std.proofs.Common.{◌++◌, subst, arith}
 use Rattle.std.specs.List.{flat_map}
 use Rattle.pcm_image.specs.Spelling.{bank_bytes, cells_bytes, head_bytes, image_bytes}
-use Rattle.image_laws.specs.Saving.{first_rows, head_of, saved_banks, saved_cells, saved_of}
+use Rattle.right_images.specs.Saving.{first_rows, head_of, saved_banks, saved_cells, saved_of}
 use Rattle.run_text.proofs.Gathered.{on_err, on_err_any, on_ok}
 use Rattle.image_text.{specs.Printing.PrintsPart, proofs.Prints.{part-of-1, part-of-2, part-then, prints-part, prints-whole}, proofs.Sensing.{rows-after, rows-part, senses-none}}
 use Rattle.image_text.proofs.Whole.{head-pieces, rows-pieces}

@@ -1,5 +1,5 @@
 use Rattle.std.proofs.Common.{◌*◌, refl}
-use Rattle.lifetime_laws.specs.Works.{most_kept}
+use Rattle.right_runs.specs.LineWrites.{most_kept}
 use Rattle.worked_tables.{specs.Lifetimes.{two_in_array, storing, always}, proofs.Below.each-less}
 use Rattle.worked_tables.proofs.lifetimes.control_lines_count_by_changes.Goals as goal
 

@@ -1,5 +1,5 @@
-use Rattle.check_text.proofs.JudgedRuns.{judged_runs_law}
-use Rattle.check_text.proofs.right_runs_are_judged_ok.Goals as goal
+use Rattle.judged_runs.proofs.JudgedRuns.{judged_runs_law}
+use Rattle.judged_runs.proofs.right_runs_are_judged_ok.Goals as goal
 
 pub returns : goal.returns
 returns c =

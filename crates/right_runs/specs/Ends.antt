@@ -1,14 +1,25 @@
 -- Where each line's newest bytes are in the end.
 use Rattle.std.specs.List.{list_any}
-use Rattle.std.specs.Prelude.{◌≡◌, ◌⊎◌, ℕ, ◌+◌, ◌*◌, ◌/◌, ◌<◌, ◌≤◌, ◌==◌, ◌&&◌, ◌||◌, nat_lt, nat_le, Bool, true, false, IsTrue, List, [], ◌∷◌, ◌++◌, Option, Some, None}
+use Rattle.std.specs.Prelude.{ℕ, ◌+◌, ◌/◌, ◌%◌, ◌==◌, ◌&&◌, ◌||◌, Bool, List, false, ◌≡◌, ◌⊎◌, ◌<◌, ◌≤◌, IsTrue, nat_lt, nat_le, true, ◌∷◌, ◌++◌, Option, Some, None, ◌*◌, []}
+use Rattle.row_rules.specs.{Answers.{is_stored, stored_before, is_queued}, Queueing.unstored, Rows.{newest, RowTest, line_of, write_of, each_row}, Serving.same_bytes}
+use Rattle.row_rules.specs.declared.Row.{Row}
+use Rattle.bank_shape.specs.{Shape.{slots_of, slot_moved}, declared.BankShape.BankShape}
+use Rattle.right_runs.specs.{Places.region_stores, WornLines.may_leave}
 use Rattle.masked_bytes.specs.Masked.{laid}
 use Rattle.result_rows.specs.declared.Outcome.{Outcome}
 use Rattle.result_rows.specs.declared.Outcome.TheVariants as out
-use Rattle.row_rules.specs.{Answers.{is_stored, is_queued, stored_before}, Queueing.unstored, Rows.{RowTest, each_row, line_of, write_of, newest}, Serving.same_bytes}
-use Rattle.row_rules.specs.declared.Row.{Row}
-use Rattle.bank_shape.specs.{Shape.{slots_of, slot_moved}, declared.BankShape.BankShape}
-use Rattle.bank_laws.specs.Places.{region_stores, is_moved_to}
 use Rattle.bank_model.specs.Sensing.{is_at}
+
+-- the moves of a region in the end. One that is due may be left, too, where the power is off
+abbrev pub is_moved_to : {n : ℕ} → Bool → BankShape → (ℕ → Bool) → List (Row n) → ℕ → ℕ → Bool
+is_moved_to off shape worn rows region moves =
+    let count = region_stores is_stored shape region rows in
+    moves == count / shape.psi
+    || (moves + 1 == count / shape.psi && (count % shape.psi == 0 && (off || may_leave shape worn)))
+
+-- the same where the power isn't off
+abbrev pub is_moved : {n : ℕ} → BankShape → (ℕ → Bool) → List (Row n) → ℕ → ℕ → Bool
+is_moved shape worn rows region moves = is_moved_to false shape worn rows region moves
 
 -- an array line for each slot of a bank, no two the same: its own, or a spare where its own is worn
 pub record IsRemapped (shape : BankShape) (worn : ℕ → Bool) (table : ℕ → ℕ) : Type 0 where
@@ -29,12 +40,14 @@ is_kept_line rows line held = same_bytes (laid (newest rows line) (unstored is_s
 abbrev pub has_place : ℕ → (ℕ → Bool) → ℕ → ℕ → Bool
 has_place spares_from worn now place = now == place || (nat_lt place now && (nat_le spares_from now && worn place))
 
+-- a row with this outcome: a stored one is still where the table has its slot
 abbrev pub outcome_ends : {n : ℕ} → BankShape → (ℕ → Bool) → (ℕ → ℕ) → ℕ → List (Row n) → Outcome n → Bool
 outcome_ends shape worn table line all (out.Stored tick place) =
     has_place (shape.base + slots_of shape) worn
     (table (slot_moved shape line (region_stores (stored_before tick) shape (line / shape.lines) all / shape.psi))) place
 outcome_ends shape worn table line all outcome = true
 
+-- each row that was stored
 abbrev pub is_still_there : {n : ℕ} → BankShape → (ℕ → Bool) → (ℕ → ℕ) → RowTest n
 is_still_there shape worn table before r after = outcome_ends shape worn table (line_of r.asks) (before ++ r ∷ after) r.outcome
 
@@ -42,6 +55,7 @@ is_still_there shape worn table before r after = outcome_ends shape worn table (
 abbrev pub is_excepted : Option ℕ → ℕ → Bool
 is_excepted = is_at
 
+-- no line is excepted, or one whose line has a write that is queued
 abbrev pub is_excused : {n : ℕ} → Option ℕ → List (Row n) → Bool
 is_excused None rows = true
 is_excused (Some at) rows = list_any (λ r. write_of at r && is_queued r.outcome) rows
@@ -62,5 +76,6 @@ pub record EndsWithTo {n : ℕ} (off : Bool) (shape : BankShape) (worn : ℕ →
   pub queued : IsTrue (is_excused end.excepted rows)
   pub stored : IsTrue (each_row (is_still_there shape worn end.table) rows [])
 
+-- the same where the power isn't off
 abbrev pub EndsWith : {n : ℕ} → BankShape → (ℕ → Bool) → (ℕ → List ℕ) → List (Row n) → BankEnd → Type 0
 EndsWith shape worn held rows end = EndsWithTo false shape worn held rows end

@@ -1,18 +1,19 @@
--- What the senses of a log show of a bank's rows and of its lines.
-use Rattle.std.specs.{List.{list_any, list_all}, Prelude.{ℕ, ◌+◌, ◌==◌, ◌&&◌, ◌||◌, not, nat_lt, nat_le, Bool, true, false, List, [], ◌∷◌, filter}}
+-- What the senses of a log show of one row, and of one line.
+use Rattle.std.specs.{List.{list_any, list_all}, Prelude.{ℕ, ◌==◌, ◌&&◌, Bool, List, true, ◌∷◌, ◌||◌, not, nat_le, ◌+◌, nat_lt, [], false, filter}}
 use Rattle.cell_rows.specs.{declared.array.Sense.Sense, declared.row.Cells.Cells}
 use Rattle.masked_bytes.specs.Masked.{laid}
-use Rattle.bank_shape.specs.{Pausing.is_cancelling, declared.BankShape.BankShape}
-use Rattle.bank_model.specs.Changes.{all_controls}
 use Rattle.result_rows.specs.declared.Outcome.{Outcome}
 use Rattle.result_rows.specs.declared.Outcome.TheVariants as out
-use Rattle.row_rules.specs.{Queueing.cover, Rows.{RowTest, line_of, asks_read, is_cut, newest}, Serving.same_bytes, Wearing.worn_row, declared.Row.Row, declared.Rules.Rules}
+use Rattle.row_rules.specs.{Queueing.cover, Rows.{line_of, newest, RowTest, is_cut, asks_read}, Serving.same_bytes, Wearing.worn_row, declared.Row.Row, declared.Rules.Rules}
+use Rattle.bank_shape.specs.{Pausing.is_cancelling, declared.BankShape.BankShape}
+use Rattle.bank_model.specs.Changes.{all_controls}
 
 module _ {n m : ℕ} (read_as : Cells n m → List ℕ) (log : List (Sense n m)) where
   -- a sense of the place at the tick, whose cells give these bytes
   abbrev pub is_sensed : ℕ → ℕ → (List ℕ → Bool) → Bool
   is_sensed place tick gives = list_any (λ s. s.line == place && (s.tick == tick && gives (read_as s.cells))) log
 
+  -- a row with this outcome: a stored one's sense is read as the line's newest bytes, a read one's as its own, the queue's laid over
   abbrev pub outcome_sensed : List (Row n) → Row n → List (Row n) → Outcome n → Bool
   outcome_sensed before r after (out.Stored tick place) =
       is_sensed place tick (same_bytes (newest (r ∷ before) (line_of r.asks)))
@@ -53,6 +54,7 @@ module _ {n m : ℕ} (rules : Rules) (rows : List (Row n)) where
   follow_on_to off wears pulses s [] = (off && tears pulses s []) || s.pulses == pulses
   follow_on_to off wears pulses s (t ∷ ts) = (off && tears pulses s (t ∷ ts)) || (follows wears s t && follow_on_to off wears pulses t ts)
 
+  -- the same where the power isn't off
   abbrev pub follow_on : Bool → ℕ → Sense n m → List (Sense n m) → Bool
   follow_on = follow_on_to false
 
@@ -61,11 +63,14 @@ module _ {n m : ℕ} (rules : Rules) (rows : List (Row n)) where
   begins_unpulsed_to off wears pulses [] = pulses == 0
   begins_unpulsed_to off wears pulses (s ∷ ss) = s.pulses == 0 && follow_on_to off wears pulses s ss
 
+  -- the same where the power isn't off
   abbrev pub begins_unpulsed : Bool → ℕ → List (Sense n m) → Bool
   begins_unpulsed = begins_unpulsed_to false
 
+  -- what a log shows of a line that has so many pulses in the end
   abbrev pub is_line_fair_to : Bool → List (Sense n m) → Bool → ℕ → ℕ → Bool
   is_line_fair_to off log wears line pulses = begins_unpulsed_to off wears pulses (filter (λ s. s.line == line) log)
 
+  -- the same where the power isn't off
   abbrev pub is_line_fair : List (Sense n m) → Bool → ℕ → ℕ → Bool
   is_line_fair = is_line_fair_to false

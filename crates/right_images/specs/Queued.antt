@@ -1,8 +1,8 @@
 -- The writes that stand in a bank's queue in the end, by its rows alone.
-use Rattle.std.specs.{List.list_any, Prelude.{ℕ, ◌==◌, ◌&&◌, Bool, false, if◌then◌else◌, List, [], ◌∷◌, filter, map}}
+use Rattle.std.specs.{List.list_any, Prelude.{ℕ, List, ◌∷◌, ◌==◌, ◌&&◌, if◌then◌else◌, [], filter, Bool, false, map}}
 use Rattle.masked_bytes.specs.{Entries.{Layer, stacked}, Masked.all_given}
 use Rattle.result_rows.specs.declared.Outcome.{Outcome}
-use Rattle.row_rules.specs.{Answers.{is_merged, is_queued}, Rows.{accepted, line_of, bytes_of, given_of, newest}, declared.Row.Row}
+use Rattle.row_rules.specs.{Answers.{is_merged, is_queued}, Rows.{newest, line_of, bytes_of, given_of, accepted}, declared.Row.Row}
 use Rattle.pcm_image.specs.declared.EntryImage.{EntryImage}
 
 -- an accepted write: its line, what it and those that were merged into it give, the newest bytes of its line as it came, and what

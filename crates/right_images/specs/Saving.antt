@@ -1,13 +1,13 @@
 -- The image of a module: what its banks keep, and what the cells of its array hold.
-use Rattle.std.specs.{List.range_with_len, Prelude.{ℕ, if◌then◌else◌, List, map, take}}
-use Rattle.masked_bytes.specs.declared.entry.Entry.{Entry}
-use Rattle.region_regs.specs.Region.{RegionState}
-use Rattle.cell_rows.specs.{Device.ArrayState, declared.row.Cells.Cells}
+use Rattle.std.specs.{List.range_with_len, Prelude.{ℕ, if◌then◌else◌, map, List, take}}
 use Rattle.bank_shape.specs.declared.Home.{Home}
 use Rattle.bank_shape.specs.declared.Home.TheVariants as home
-use Rattle.power_recovery.specs.Kept.{KeptState}
 use Rattle.module_shape.specs.declared.raw.RawShape.{RawShape}
-use Rattle.pcm_image.specs.{Saved.{Saved, SavedBank, Head}, declared.EntryImage.EntryImage, declared.RegionImage.RegionImage}
+use Rattle.pcm_image.specs.{Saved.{Head, SavedBank, Saved}, declared.EntryImage.EntryImage, declared.RegionImage.RegionImage}
+use Rattle.region_regs.specs.Region.{RegionState}
+use Rattle.masked_bytes.specs.declared.entry.Entry.{Entry}
+use Rattle.power_recovery.specs.Kept.{KeptState}
+use Rattle.cell_rows.specs.{Device.ArrayState, declared.row.Cells.Cells}
 
 -- the number by which an image says where the registers are kept
 abbrev pub home_number : Home → ℕ
@@ -46,6 +46,7 @@ saved_bank kept = record {
 abbrev pub saved_banks : {n : ℕ} → (ℕ → KeptState n) → ℕ → List (SavedBank n)
 saved_banks kept count = map (λ bank. saved_bank (kept bank)) (range_with_len 0 count)
 
+-- the cells of so many array lines
 abbrev pub saved_cells : {n m : ℕ} → ArrayState n m → ℕ → List (Cells n m)
 saved_cells array count = map (λ line. (array.line line).held) (range_with_len 0 count)
 

@@ -12,16 +12,16 @@ use Rattle.trace_reader.specs.declared.event.EventOp.TheVariants.{Read, Write, M
 use Rattle.result_rows.specs.{Outcomes.{bytes_of, op_of, place_of, tick_of}, declared.Outcome.Outcome}
 use Rattle.result_rows.specs.declared.Outcome.TheVariants as out
 use Rattle.check_reader.specs.ResultRows.{AreBytes, EachMayStand}
-use Rattle.row_rules.specs.{Answers.accepts, Lines.IsOfLines, Rows.{each_row, newest}, Serving.{is_served, may_have, owed, same_bytes}, Ticking.{attempt, tries, writings}}
-use Rattle.row_rules.specs.{declared.Asks.Asks, declared.Asks.TheVariants.{Reads, Writes, Cuts}, declared.Row.Row, declared.Rules.Rules}
+use Rattle.row_rules.specs.{Answers.accepts, Lines.IsOfLines, Rows.{each_row, newest, op_asked}, Serving.{is_served, may_have, owed, same_bytes}}
+use Rattle.row_rules.specs.{Ticking.{attempt, tries, writings}, declared.Asks.Asks, declared.Asks.TheVariants.{Reads, Writes, Cuts}, declared.Row.Row, declared.Rules.Rules}
 use Rattle.check_verdict.specs.Verdicts.{RowsOk}
 use Rattle.trace_rows.{specs.Rows.{rows_with, row_of, asks_of}, proofs.Lines.lines-exist}
 use Rattle.run_text.specs.ResultText.{asked}
 use Rattle.module_shape.specs.{Addresses.{array_lines_of, module_of}, Limits.{IsShape, total_of}, declared.raw.RawShape.RawShape}
-use Rattle.end_laws.specs.Ends.{BankEnd}
-use Rattle.run_laws.specs.{RowsOfRuns.{FewArrayLinesLaw, LinesExist, OwnOutcomesLaw, PlacesExistLaw, op_asked}, Runs.{RunsRight, rules_in}}
+use Rattle.right_runs.specs.{Banks.rules_in, Ends.BankEnd, Runs.RunsRight}
+use Rattle.run_laws.specs.RowsOfRuns.{FewArrayLinesLaw, LinesExist, OwnOutcomesLaw, PlacesExistLaw}
 use Rattle.check_laws.{specs.Ticks.{SoonLaw, longest_among}, proofs.Soon.All-reverse}
-use Rattle.check_text.{specs.Checked.asks_in, proofs.Plain.{AllGiveBytes, GivesBytes, IsBytes-cons}}
+use Rattle.check_text.{specs.Checked.asks_in, proofs.Asked.own-op, proofs.Plain.{AllGiveBytes, GivesBytes, IsBytes-cons}}
 
 -- ---- bytes
 
@@ -138,12 +138,6 @@ module _ {n : ℕ} where
   rows-few (event ∷ events) (outcome ∷ outcomes) = omega (arith, rows-few events outcomes)
 
   -- ---- what a row of results may have
-
-  pub own-op : (op : EventOp n) → op_asked (asks_of op) ≡ asked op
-  own-op (Read line) = refl
-  own-op (Write line bytes) = refl
-  own-op (Mask line bytes given) = refl
-  own-op Cut = refl
 
   abbrev IsOwn : Row n → Type 0
   IsOwn r = op_of r.outcome ≡ Some (op_asked r.asks)

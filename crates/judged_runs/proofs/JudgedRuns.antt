@@ -9,17 +9,17 @@ use Rattle.result_rows.{specs.RowText.{header_text, row_text}, specs.declared.Op
 use Rattle.check_reader.specs.{ReadOnce.{AreAsks, IsReadOnce, ReadOnceLaw}, ResultRows.{AreResults, EachMayStand}, Splitting.{BeginResultsAt, BeginsWithHeader}}
 use Rattle.check_reader.specs.declared.fault.ResultFault.TheVariants as reading
 use Rattle.run_text.specs.ResultText.{asked, named_line, results_text, rows_text}
-use Rattle.end_laws.specs.Ends.{BankEnd}
+use Rattle.right_runs.specs.{Banks.{rules_in, banks_of}, Ends.BankEnd}
 use Rattle.module_shape.specs.{Limits.{IsShape, total_of}, declared.raw.RawShape.RawShape}
 use Rattle.row_rules.specs.declared.Row.{Row}
-use Rattle.run_laws.specs.{RowsOfRuns.{FewArrayLinesLaw, OwnOutcomesLaw, PlacesExistLaw}, Runs.rules_in}
+use Rattle.run_laws.specs.RowsOfRuns.{FewArrayLinesLaw, OwnOutcomesLaw, PlacesExistLaw}
 use Rattle.check_verdict.specs.{Verdicts.{RowsOk, verdict_of}, declared.Verdict.Verdict, declared.Verdict.TheVariants.Yes}
 use Rattle.trace_rows.specs.Rows.{rows_with}
-use Rattle.check_laws.specs.{Ticks.SoonLaw, Verdicts.{RulesKeptLaw, YesLaw, banks_of}}
-use Rattle.check_text.specs.Checked.{HasTrace, HasVerdict, IsResultsFault, IsTextFault, IsTraceFault, ask_of, asks_in, verdict_on}
-use Rattle.check_text.specs.{JudgedRuns.{IsJudgedOk, IsRunOf, JudgedRunsLaw, MayStandLaw, ShortLaw}, PrintedLaw.PrintedLaw, SplitLaw.SplitLaw, declared.fault.TextFault.TextFault}
-use Rattle.check_text.proofs.{Plain.{AllGiveBytes, records-ok}, Standing.{exist, may_stand}}
+use Rattle.check_laws.specs.{Ticks.SoonLaw, Verdicts.{RulesKeptLaw, YesLaw}}
+use Rattle.check_text.specs.{Checked.{HasTrace, HasVerdict, IsResultsFault, IsTextFault, IsTraceFault, ask_of, asks_in, verdict_on}, PrintedLaw.PrintedLaw, SplitLaw.SplitLaw}
+use Rattle.check_text.{specs.declared.fault.TextFault.TextFault, proofs.Plain.{AllGiveBytes, records-ok}}
 use Rattle.check_text.specs.declared.fault.TextFault.TheVariants as fault
+use Rattle.judged_runs.{specs.JudgedRuns.{IsJudgedOk, IsRunOf, JudgedRunsLaw, MayStandLaw, ShortLaw}, proofs.Standing.{exist, may_stand}}
 
 -- results begin at one byte
 begins-once : (bytes : List ℕ) (one other : ℕ) → BeginResultsAt bytes one → BeginResultsAt bytes other → one ≡ other

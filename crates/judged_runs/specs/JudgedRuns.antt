@@ -6,8 +6,7 @@ use Rattle.result_rows.specs.declared.Outcome.{Outcome}
 use Rattle.check_reader.specs.ResultRows.{EachMayStand}
 use Rattle.run_text.specs.ResultText.{results_text}
 use Rattle.module_shape.specs.{Limits.{IsShape, total_of}, declared.raw.RawShape.RawShape}
-use Rattle.end_laws.specs.Ends.{BankEnd}
-use Rattle.run_laws.specs.Runs.{RunsRight}
+use Rattle.right_runs.specs.{Ends.BankEnd, Runs.RunsRight}
 use Rattle.check_verdict.specs.{declared.Verdict.Verdict, declared.Verdict.TheVariants.Yes}
 use Rattle.trace_rows.specs.Rows.{rows_with}
 use Rattle.check_text.specs.{Checked.{HasVerdict, IsTextFault, asks_in}, SplitLaw.EndsItsLine, declared.fault.TextFault.TextFault}

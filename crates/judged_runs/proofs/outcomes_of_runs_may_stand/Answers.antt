@@ -1,5 +1,5 @@
-use Rattle.check_text.proofs.JudgedRuns.{may_stand_law}
-use Rattle.check_text.proofs.outcomes_of_runs_may_stand.Goals as goal
+use Rattle.judged_runs.proofs.JudgedRuns.{may_stand_law}
+use Rattle.judged_runs.proofs.outcomes_of_runs_may_stand.Goals as goal
 
 pub returns : goal.returns
 returns c =

@@ -1,0 +1,2 @@
+mod Standing
+pub mod JudgedRuns

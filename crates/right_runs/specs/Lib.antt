@@ -1,0 +1,12 @@
+pub mod Runs
+pub mod Banks
+pub mod Tables
+pub mod KeepsPlaces
+pub mod Places
+pub mod WornLines
+pub mod KeepsLines
+pub mod LineWrites
+pub mod KeepsLog
+pub mod Logs
+pub mod Ends
+pub mod Roles
