@@ -78,7 +78,7 @@ struct pcm {
 };
 
 /* Starts the program: words[0] is its path or a name on the search path, and the last of them is NULL. What it says of faults goes to the
-   caller's standard error. */
+   caller's standard error. Whatever it answers, pcm_close frees what it took. */
 static inline enum pcm_result pcm_open(struct pcm *pcm, const char *const words[]);
 /* A write of a whole line, of so many bytes, arrives. The bytes are copied. */
 static inline enum pcm_result pcm_write(struct pcm *pcm, uint64_t tick, uint32_t line, const uint8_t *bytes, size_t size);
@@ -89,7 +89,8 @@ static inline enum pcm_result pcm_write_masked(struct pcm *pcm, uint64_t tick, u
 static inline enum pcm_result pcm_read(struct pcm *pcm, uint64_t tick, uint32_t line);
 /* The power is cut, and is there again at once. */
 static inline enum pcm_result pcm_cut(struct pcm *pcm, uint64_t tick);
-/* Every bank goes on to a tick; behind the outcomes known by then pcm_next gives PCM_SETTLED. All rows before are handed to the program. */
+/* Every bank goes on to a tick; behind the outcomes known by then pcm_next gives PCM_SETTLED. All rows before are handed to the program, now
+   or by pcm_next. As of every row, PCM_FULL says that it wasn't taken. */
 static inline enum pcm_result pcm_settle(struct pcm *pcm, uint64_t tick);
 /* Hands all rows to the program. PCM_FULL where it waits for its answers to be taken. */
 static inline enum pcm_result pcm_flush(struct pcm *pcm);
@@ -102,15 +103,33 @@ static inline int pcm_close(struct pcm *pcm);
 
 /* From here on: how. */
 
+/* A pipe whose ends aren't 0, 1 or 2, which the caller may have closed: the program gets its own there. */
+static inline int pcm__pipe(int ends[2])
+{
+    int made[2];
+    if (pipe(made) != 0)
+        return -1;
+    for (int i = 0; i < 2; i++) {
+        ends[i] = fcntl(made[i], F_DUPFD_CLOEXEC, 3);
+        close(made[i]);
+    }
+    if (ends[0] >= 0 && ends[1] >= 0)
+        return 0;
+    for (int i = 0; i < 2; i++)
+        if (ends[i] >= 0)
+            close(ends[i]);
+    return -1;
+}
+
 static inline enum pcm_result pcm_open(struct pcm *pcm, const char *const words[])
 {
     int to[2], from[2];
     memset(pcm, 0, sizeof *pcm);
     pcm->to = pcm->from = -1;
     pcm->process = -1;
-    if (pipe(to) != 0)
+    if (pcm__pipe(to) != 0)
         return PCM_FAILED;
-    if (pipe(from) != 0) {
+    if (pcm__pipe(from) != 0) {
         close(to[0]);
         close(to[1]);
         return PCM_FAILED;
@@ -119,10 +138,6 @@ static inline enum pcm_result pcm_open(struct pcm *pcm, const char *const words[
     if (pcm->process == 0) {
         dup2(to[0], 0);
         dup2(from[1], 1);
-        close(to[0]);
-        close(to[1]);
-        close(from[0]);
-        close(from[1]);
         execvp(words[0], (char *const *)words);
         _exit(127);
     }
@@ -130,8 +145,7 @@ static inline enum pcm_result pcm_open(struct pcm *pcm, const char *const words[
     close(from[1]);
     pcm->to = to[1];
     pcm->from = from[0];
-    if (pcm->process < 0 || fcntl(pcm->to, F_SETFL, O_NONBLOCK) != 0 || fcntl(pcm->to, F_SETFD, FD_CLOEXEC) != 0
-        || fcntl(pcm->from, F_SETFD, FD_CLOEXEC) != 0)
+    if (pcm->process < 0 || fcntl(pcm->to, F_SETFL, O_NONBLOCK) != 0)
         return PCM_FAILED;
     memcpy(pcm->out, "tick,op,arg,data\n", 17);
     pcm->held = 17;
@@ -239,7 +253,11 @@ static inline enum pcm_result pcm_cut(struct pcm *pcm, uint64_t tick)
 static inline enum pcm_result pcm_settle(struct pcm *pcm, uint64_t tick)
 {
     enum pcm_result result = pcm__row(pcm, tick, 'S', 0, 0, NULL, NULL, 0);
-    return result == PCM_OK ? pcm_flush(pcm) : result;
+    if (result != PCM_OK)
+        return result;
+    /* (the row is taken now: what the pipe doesn't hold yet pcm_next hands over) */
+    result = pcm_flush(pcm);
+    return result == PCM_FULL ? PCM_OK : result;
 }
 
 /* The next line of the stream, without its end; NULL where `result` says why there is none. */
@@ -302,8 +320,12 @@ static inline enum pcm_result pcm_next(struct pcm *pcm, struct pcm_outcome *outc
         outcome->tick = strtoull(field[2], NULL, 10);
         outcome->place = (uint32_t)strtoul(field[3], NULL, 10);
         outcome->size = (uint32_t)(digits / 2);
-        for (size_t i = 0; i < digits / 2; i++)
-            outcome->bytes[i] = (uint8_t)(pcm__digit(field[4][2 * i]) << 4 | pcm__digit(field[4][2 * i + 1]));
+        for (size_t i = 0; i < digits / 2; i++) {
+            int high = pcm__digit(field[4][2 * i]), low = pcm__digit(field[4][2 * i + 1]);
+            if (high < 0 || low < 0)
+                return PCM_GARBLED;
+            outcome->bytes[i] = (uint8_t)(high << 4 | low);
+        }
         return PCM_OK;
     }
 }
@@ -327,10 +349,11 @@ static inline int pcm_close(struct pcm *pcm)
     if (pcm->from >= 0)
         close(pcm->from);
     pcm->to = pcm->from = -1;
-    if (pcm->process <= 0 || waitpid(pcm->process, &status, 0) < 0)
-        return -1;
+    pid_t ended = -1;
+    while (pcm->process > 0 && (ended = waitpid(pcm->process, &status, 0)) < 0 && errno == EINTR)
+        ;
     pcm->process = -1;
-    return WIFEXITED(status) ? WEXITSTATUS(status) : -1;
+    return ended > 0 && WIFEXITED(status) ? WEXITSTATUS(status) : -1;
 }
 
 #ifdef __cplusplus

@@ -72,6 +72,26 @@ static void many_rows_with_answers_taken_late(const char *const words[])
     check(pcm_close(&pcm) == 0, "status 0");
 }
 
+static void settles_with_answers_taken_late(const char *const words[])
+{
+    static struct pcm pcm;
+    struct pcm_outcome outcome;
+    int settled = 0, rows = 5000;
+    check(pcm_open(&pcm, words) == PCM_OK, "the program starts");
+    for (int i = 0; i < rows; i++) {
+        while (pcm_read(&pcm, 10 * (uint64_t)i, (uint32_t)(i % 4)) == PCM_FULL)
+            settled += pcm_next(&pcm, &outcome) == PCM_OK && outcome.kind == PCM_SETTLED;
+        while (pcm_settle(&pcm, 10 * (uint64_t)i) == PCM_FULL)
+            settled += pcm_next(&pcm, &outcome) == PCM_OK && outcome.kind == PCM_SETTLED;
+    }
+    while (pcm_finish(&pcm) == PCM_FULL)
+        settled += pcm_next(&pcm, &outcome) == PCM_OK && outcome.kind == PCM_SETTLED;
+    while (pcm_next(&pcm, &outcome) == PCM_OK)
+        settled += outcome.kind == PCM_SETTLED;
+    check(settled == rows, "each settle is answered once");
+    check(pcm_close(&pcm) == 0, "status 0");
+}
+
 static void errors_are_told(const char *const words[])
 {
     static struct pcm pcm;
@@ -81,9 +101,30 @@ static void errors_are_told(const char *const words[])
     check(pcm_next(&pcm, &outcome) == PCM_ENDED && pcm_close(&pcm) == 127, "and ends with status 127");
     check(pcm_open(&pcm, words) == PCM_OK && pcm_read(&pcm, 0, 99999) == PCM_OK && pcm_finish(&pcm) == PCM_OK, "a line that there isn't");
     check(pcm_next(&pcm, &outcome) == PCM_ENDED && pcm_close(&pcm) == 3, "is a fault of the trace");
+    const char *wrong[] = {"1,stored,5", "1,gone,5,3,", "1,read,5,3,0", "1,read,5,3,0x"};
+    for (int i = 0; i < 4; i++) {
+        const char *echoes[] = {"echo", wrong[i], NULL};
+        check(pcm_open(&pcm, echoes) == PCM_OK && pcm_next(&pcm, &outcome) == PCM_GARBLED && pcm_close(&pcm) == 0, "a line that is none");
+    }
     uint8_t bytes[PCM_MOST_BYTES + 1] = {0};
     check(pcm_open(&pcm, words) == PCM_OK && pcm_write(&pcm, 0, 0, bytes, sizeof bytes) == PCM_REFUSED, "too many bytes are refused");
     check(pcm_finish(&pcm) == PCM_OK && pcm_next(&pcm, &outcome) == PCM_ENDED && pcm_close(&pcm) == 0, "status 0");
+}
+
+static void standard_descriptors_may_be_closed(const char *const words[])
+{
+    static struct pcm pcm;
+    struct pcm_outcome outcome;
+    int status = 0;
+    pid_t child = fork();
+    if (child == 0) {
+        close(0);
+        close(1);
+        int told = pcm_open(&pcm, words) == PCM_OK && pcm_read(&pcm, 0, 0) == PCM_OK && pcm_settle(&pcm, 9) == PCM_OK
+            && until_settled(&pcm, &outcome) == 1 && pcm_finish(&pcm) == PCM_OK && pcm_close(&pcm) == 0;
+        _exit(told ? 0 : 1);
+    }
+    check(child > 0 && waitpid(child, &status, 0) == child && status == 0, "a caller without standard input and output");
 }
 
 int main(int count, char **words)
@@ -98,7 +139,9 @@ int main(int count, char **words)
         all[n++] = options[i];
     answers_come_as_they_are_known(all);
     errors_are_told(all);
+    standard_descriptors_may_be_closed(all);
     many_rows_with_answers_taken_late(all);
+    settles_with_answers_taken_late(all);
     printf("%d passed, %d failed\n", passed, failed);
     return failed != 0;
 }

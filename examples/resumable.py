@@ -7,6 +7,7 @@ import concurrent.futures
 import csv
 import io
 import os
+import signal
 import subprocess
 import sys
 import threading
@@ -39,6 +40,8 @@ def printed(words, source):
         done = subprocess.run(words, stdout=subprocess.PIPE, stderr=subprocess.PIPE, check=False, **given)
     except OSError as why:
         raise Failure(str(why)) from None
+    if done.returncode < 0:
+        raise Failure(f"ended by signal {-done.returncode}, {signal.strsignal(-done.returncode)}")
     if done.returncode not in (0, 1):
         raise Failure(f"status {done.returncode}: {done.stderr.decode(errors='replace').strip()}")
     return done.returncode, done.stdout

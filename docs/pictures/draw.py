@@ -48,7 +48,7 @@ def module():
     p.text(434, 110, "head", 9)
     p.text(312, 140, "registers of each region", 13, "start")
     for number, words in enumerate(("Start", "Gap", "counter")):
-        p.named(494 + number * 43 - (number == 2) * 2, 126, 41 if number < 2 else 50, 20, words, PAPER, 10)
+        p.named(486 + number * 44, 126, 41 if number < 2 else 50, 20, words, PAPER, 10)
     p.text(312, 170, "remap table", 13, "start")
     p.named(420, 156, 150, 20, "worn slot → spare", PAPER, 11)
     p.text(312, 200, "mark", 13, "start")
@@ -218,7 +218,7 @@ def cells():
     p.text(14 + 11, 57, "0", 10, colour=SOFT)
     p.text(14 + stuck * 25 + 40, 90, "data cell x is stuck at the wrong bit", 12, "start", RED)
 
-    p.text(14, 134, "64 check cells", 13, "start", bold=True)
+    p.text(68, 134, "64 check cells", 13, "start", bold=True)
     for number in range(6):
         left = 14 + number * 118
         p.named(left, 146, 84, 26, f"pointer {number}", PALE_ORANGE if number == 0 else PALE if number < 5 else PALE_GREEN, 11)
@@ -288,7 +288,7 @@ def turn():
             p.arrow((x + 88, 78 + source * 44), (x + 126, 78 + gap * 44), colour=ORANGE)
     for at in range(places):
         p.text(18, 83 + at * 44, f"place {at}", 12, "start", SOFT)
-    p.text(430, 304, "Each gap move copies the line below the gap into the gap, or, with the gap at place 0, the line of place N to place 0.", 12, colour=SOFT)
+    p.text(430, 304, "Each gap move copies the line at the next lower place into the gap, or, with the gap at place 0, that of place N to place 0.", 12, colour=SOFT)
     p.text(430, 322, "After N + 1 moves each line stands one place further; after N (N + 1) moves all is as at first.", 12, colour=SOFT)
     return p
 

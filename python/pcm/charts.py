@@ -104,10 +104,10 @@ def _outline(picture: Picture, role: str, outlines: List[str]) -> None:
         picture.path("".join(outlines), None, _EDGES[role], 1.5)
 
 
-def of_heat(most: int, unit: str) -> Picture:
-    """What the colours and outlines of the maps say."""
+def of_heat(most: int, unit: str, control: bool) -> Picture:
+    """What the colours and outlines of the maps say, of which some have control lines or none has."""
     picture = Picture(WIDTH, 86, f"Colours and outlines of the maps, up to {most:,} {unit}", "", VARIABLES)
-    picture.text(2, 13, f"{unit}, up to (control lines may have more)", 12, "start", SOFT, italic=True)
+    picture.text(2, 13, f"{unit}, up to" + " (control lines may have more)" * control, 12, "start", SOFT, italic=True)
     x = 2.0
     for step, name in enumerate(HEAT):
         least, greatest = bounds(step, most) if step else (0, 0)
@@ -117,7 +117,8 @@ def of_heat(most: int, unit: str) -> Picture:
             picture.text(x + 23.5, 48, words, 11, "middle", SOFT)
             x += 50
     x = 2.0
-    for role, words in (("gap", "a region's gap"), ("retired", "retired"), ("free", "unused spare"), ("control", "control line")):
+    outlines = (("gap", "a region's gap"), ("retired", "retired"), ("free", "unused spare"), ("control", "control line"))
+    for role, words in outlines if control else outlines[:3]:
         picture.path(_square(x, 64, 14, 14), HEAT[0])
         _outline(picture, role, [_edge(role, x, 64, 14, 14)])
         picture.text(x + 20, 75, words, 12, "start")

@@ -12,6 +12,8 @@ from .runs import (
 
 # The options that `gen` takes, too.
 _GENERATED = ("banks", "regions", "lines", "line", "seed", *DRAWN)
+# The values of each option that takes no number.
+_WORDS = {"policy": ("pause", "plain", "cancel"), "registers": ("guarded", "array"), "input": ("source", "drawn"), "end": ("drain", "off")}
 
 
 class Asked(NamedTuple):
@@ -32,6 +34,9 @@ class Asked(NamedTuple):
 
 def gather(asked: Asked, program: Program = None) -> Run:
     """The run that is asked for. `FileFault` where a file isn't what it should be, or two aren't of one run."""
+    for name, value in asked.options.items():
+        if not (value in _WORDS[name] if name in _WORDS else value.isascii() and value.isdigit() and len(value) <= 20):
+            raise UsageError(2, f"--{name} doesn't take {value!r}")
     sources = _made(asked, program) if asked.runs else _read(asked)
     by_kind = {source.kind: source for source in sources}
     options, origins = {**DEFAULTS, **asked.options}, {name: "given" for name in asked.options}

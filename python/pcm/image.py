@@ -128,7 +128,7 @@ class Image:
         return bytes(data)
 
     def pointers(self, array_line: int) -> List[Tuple[int, int]]:
-        """The active entries of an array line by its own check cells: of each the bit that it points to, and what its own cell holds."""
+        """The active pointers of an array line by its own check cells: of each the bit that it points to, and what replaces it."""
         data, check = self._halves(array_line)
         bits, full, entries = _layout(self.line_bytes)
         width = bits.bit_length() - 1
@@ -141,7 +141,7 @@ class Image:
         ]
 
     def decode(self, array_line: int) -> bytes:
-        """The bytes that an array line stands for: its data cells, but for those that an active entry stands in for."""
+        """The bytes that an array line stands for: its data cells, but for those that an active pointer stands in for."""
         data, _ = self._halves(array_line)
         number = int.from_bytes(data, "little")
         for bit, value in self.pointers(array_line):
@@ -154,7 +154,7 @@ class Image:
 
 
 def _layout(line_bytes: int) -> Tuple[int, int, int]:
-    """Of a line: its bits, the check cell `full`, and its entries."""
+    """Of a line: its bits, the check cell `full`, and its pointers."""
     bits = 8 * line_bytes
     entries = 6 if line_bytes == 64 else 8
     return bits, entries * bits.bit_length(), entries

@@ -7,7 +7,7 @@ import tempfile
 from types import TracebackType
 from typing import Deque, Iterator, List, Optional, Sequence, Type
 
-from .errors import error_of
+from .errors import PcmError, UsageError, error_of
 from .outcomes import Outcome, Settled, told_of
 from .program import Program, program, words_of
 from .rows import HEADER
@@ -21,14 +21,17 @@ class Module:
 
     Rows are numbered from 1 in the order in which they are handed in; each call answers its row's number. Outcomes come from `settle`,
     `finish` and `outcomes`, each once, in the order in which they become known. Rows may be handed in at any rate and answers taken at
-    any time: what the pipes don't hold is kept here, so neither side ever waits for the other. A `Module` isn't to be used by two threads
-    at once.
+    any time: what the pipes don't hold is kept here, so neither side ever waits for the other. Behind `finish` or `close`, and where the
+    program draws the rows, none is taken (`ValueError`). A `Module` isn't to be used by two threads at once.
 
     Options are those of `pcm stream`, with `_` for `-`, as `banks=4`, `write_queue=8`, `policy="cancel"`, `end="off"`. `program` names
     the program (else the environment's PCM, or `./pcm` of the checkout)."""
 
     def __init__(self, *, program: Program = None, **options: object) -> None:
+        if options.get("print") not in (None, "rows"):
+            raise UsageError(2, "a Module tells the outcome of each row; for other prints there are run and snapshots")
         self._rows = 0
+        self._takes_rows = options.get("input") != "drawn"
         self._tail = b""
         self._out = bytearray(HEADER.encode())
         self._known: Deque[Outcome] = collections.deque()
@@ -47,7 +50,7 @@ class Module:
 
     def write(self, tick: int, line: int, data: bytes) -> int:
         """A write of a whole line arrives at a tick. Answers the row's number."""
-        return self._hand(f"{tick},W,{line},{bytes(data).hex()}\n")
+        return self._hand(f"{tick},W,{line},{memoryview(data).hex()}\n")
 
     def write_masked(self, tick: int, line: int, data: Sequence[Optional[int]]) -> int:
         """A write that gives some bytes of a line arrives at a tick; `None` stands for each byte that stays. Answers the row's number."""
@@ -63,7 +66,7 @@ class Module:
 
     def settle(self, tick: int) -> List[Outcome]:
         """Every bank goes on to a tick. Answers all outcomes known by then that weren't answered before."""
-        self._out += f"{tick},S,,\n".encode()
+        self._gather(f"{tick},S,,\n")
         self._settled = None
         while self._settled is None:
             if self._ended:
@@ -80,6 +83,7 @@ class Module:
     def finish(self) -> List[Outcome]:
         """No more rows come: the banks drain (or, with `end="off"`, the power stays off). Answers all outcomes that weren't answered
         before; `status` is then 0, or 1 where some row fell short of what it asked for."""
+        self._takes_rows = False
         while self._out and not self._ended:
             self._pump(wait=True)
         self._close_input()
@@ -91,6 +95,7 @@ class Module:
 
     def close(self) -> None:
         """Ends the program, whatever it does, and frees what it held."""
+        self._takes_rows = False
         if self._process.returncode is None:
             self._close_input()
             if not self._ended:
@@ -106,13 +111,18 @@ class Module:
 
     def __exit__(self, kind: Optional[Type[BaseException]], error: Optional[BaseException], trace: Optional[TracebackType]) -> None:
         try:
-            if error is None and self.status is None:
+            if error is None and self._process.returncode is None:
                 self.finish()
         finally:
             self.close()
 
-    def _hand(self, text: str) -> int:
+    def _gather(self, text: str) -> None:
+        if not self._takes_rows:
+            raise ValueError("no more rows are taken")
         self._out += text.encode()
+
+    def _hand(self, text: str) -> int:
+        self._gather(text)
         self._rows += 1
         if len(self._out) >= _GATHERED:
             self._pump(wait=False)
@@ -163,7 +173,10 @@ class Module:
         lines = (self._tail + piece).split(b"\n")
         self._tail = lines.pop()
         for line in lines:
-            told = told_of(line.decode())
+            try:
+                told = told_of(line.decode())
+            except (ValueError, KeyError):
+                raise PcmError(None, f"not a line of a stream: {line[:80]!r}") from None
             if isinstance(told, Settled):
                 self._settled = told.tick
             elif told is not None:

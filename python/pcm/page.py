@@ -144,7 +144,8 @@ def _maps(runs: Sequence[Run], values: Callable[[Run], Optional[List[int]]], uni
             "The numbers", by_group, tabled(f"The array lines with the most {unit}", ("array line", "bank", unit, "role"), rows)
         )
 
-    return beside(runs, part) + f"<figure>{charts.of_heat(most, unit).placed()}</figure>", every
+    key = charts.of_heat(most, unit, any(run.shape.in_array for run in runs if run.wear))
+    return beside(runs, part) + f"<figure>{key.placed()}</figure>", every
 
 
 def _row_of(group: tallies.Group, values: List[int]) -> Sequence[Cell]:

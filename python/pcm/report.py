@@ -126,7 +126,10 @@ def _short(words: Optional[str]) -> Optional[str]:
 
 def _words_of(words: str) -> Dict[str, str]:
     """Options that stand in one word, behind `run` or not."""
-    parts, found = shlex.split(words), {}
+    try:
+        parts, found = shlex.split(words), {}
+    except ValueError as wrong:
+        raise UsageError(2, f"--options {words!r}: {wrong}") from None
     if parts and parts[0] in ("run", "stream"):
         parts.pop(0)
     pairs: List[str] = []

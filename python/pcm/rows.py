@@ -1,4 +1,5 @@
 """The rows of a trace."""
+import re
 from dataclasses import dataclass
 from typing import IO, Iterable, Iterator, Optional, Sequence, Union
 
@@ -76,25 +77,42 @@ def write_trace(rows: Iterable[Row], file: IO[str]) -> int:
 def read_trace(file: Iterable[str]) -> Iterator[Row]:
     """The rows of a trace as this package and `pcm gen` write it: plain lines, without quotes. `ValueError` names a line that isn't so."""
     for number, line in enumerate(file):
-        fields = line.rstrip("\r\n").split(",")
+        text = line.rstrip("\r\n")
         if number == 0:
-            if line.rstrip("\r\n") + "\n" != HEADER:
+            if text + "\n" != HEADER:
                 raise ValueError("row 0: header")
             continue
         try:
-            tick, op, arg, data = fields
-            if op == "R":
-                yield Read(int(tick), int(arg))
-            elif op == "W":
-                yield Write(int(tick), int(arg), bytes.fromhex(data))
-            elif op == "M":
-                pairs = [data[at:at + 2] for at in range(0, len(data), 2)]
-                yield MaskedWrite(int(tick), int(arg), [None if pair == ".." else int(pair, 16) for pair in pairs])
-            elif op == "C":
-                yield PowerCut(int(tick))
-            elif op == "S":
-                yield Settle(int(tick))
-            else:
-                raise ValueError("op")
+            yield _row_of(text.split(","))
         except ValueError as wrong:
             raise ValueError(f"row {number}: {wrong}") from None
+
+
+def _row_of(fields: Sequence[str]) -> Row:
+    """The row of these fields; `ValueError` has the first thing wrong with it, a word of docs/FORMATS.md."""
+    if len(fields) != 4:
+        raise ValueError("fields")
+    op, data = fields[1], fields[3]
+    if op not in ("R", "W", "M", "C", "S"):
+        raise ValueError("op")
+    tick = _natural("tick", fields[0])
+    if op in ("C", "S"):
+        if fields[2] or data:
+            raise ValueError("line" if fields[2] else "payload")
+        return PowerCut(tick) if op == "C" else Settle(tick)
+    line = _natural("line", fields[2])
+    form = {"R": "", "W": "(?:[0-9a-fA-F]{2})+", "M": r"(?:[0-9a-fA-F]{2}|\.\.)+"}[op]
+    if not re.fullmatch(form, data):
+        raise ValueError("payload")
+    if op == "R":
+        return Read(tick, line)
+    if op == "W":
+        return Write(tick, line, bytes.fromhex(data))
+    pairs = (data[at:at + 2] for at in range(0, len(data), 2))
+    return MaskedWrite(tick, line, [None if pair == ".." else int(pair, 16) for pair in pairs])
+
+
+def _natural(kind: str, text: str) -> int:
+    if not (text.isascii() and text.isdigit()):
+        raise ValueError(kind)
+    return int(text)

@@ -69,8 +69,13 @@ class WholeTraces(unittest.TestCase):
         self.assertEqual((3, 2, "order"), (wrong.exception.status, wrong.exception.row, wrong.exception.kind))
 
     def test_lines_that_are_no_rows_are_named(self):
-        with self.assertRaisesRegex(ValueError, "row 1: op"):
-            list(pcm.read_trace(["tick,op,arg,data\n", "0,X,0,\n"]))
+        wrong = {
+            "0,R,0": "fields", "0,X,0,": "op", ",R,0,": "tick", " 1,R,0,": "tick", "0,R,-1,": "line", "0,C,1,": "line", "0,S,,1": "payload",
+            "0,R,0,00": "payload", "0,W,0,ab cd": "payload", "0,W,0,..": "payload", "0,M,0,.a": "payload",
+        }
+        for line, kind in wrong.items():
+            with self.assertRaisesRegex(ValueError, f"^row 2: {kind}$"):
+                list(pcm.read_trace(["tick,op,arg,data\n", "0,W,0,aB\n", line + "\n"]))
 
     def test_no_program_is_told(self):
         with self.assertRaises(FileNotFoundError):
@@ -153,6 +158,33 @@ class Streams(unittest.TestCase):
             with pcm.Module(lines=5) as module:
                 module.settle(0)
 
+    def test_behind_its_end_a_module_takes_no_row(self):
+        finished, closed, drawing = (pcm.Module(**SMALL, **more) for more in ({}, {}, {"input": "drawn", "rows": 5}))
+        finished.finish()
+        closed.close()
+        for module in (finished, closed, drawing):
+            for hand_in in (lambda: module.write(0, 0, ONES), lambda: module.cut(0), lambda: module.settle(0)):
+                with self.assertRaises(ValueError):
+                    hand_in()
+        self.assertEqual(5, len(drawing.finish()))
+        finished.close()
+        drawing.close()
+
+    def test_a_module_tells_rows_alone(self):
+        for what in ("summary", "image", "snapshots"):
+            with self.assertRaises(pcm.UsageError):
+                pcm.Module(print=what, **SMALL)
+        with pcm.Module(print="rows", **SMALL) as module:
+            with self.assertRaises(TypeError):
+                module.write(0, 0, 64)
+            self.assertEqual([], module.finish())
+
+    def test_lines_that_are_none_of_a_stream_are_told(self):
+        for line in ("1,gone,5,,", "1,stored,5", "1,read,5,3,0x"):
+            with pcm.Module(program=["printf", line + "%.0s\\n"]) as module:
+                with self.assertRaisesRegex(pcm.PcmError, "not a line of a stream"):
+                    module.finish()
+
     def test_full_pipes_in_both_directions(self):
         # (no answer is taken until all rows are handed in: both pipes fill, and neither side waits for ever)
         with pcm.Module(**SMALL) as module:
@@ -168,10 +200,10 @@ class Streams(unittest.TestCase):
         self.assertLess(late - soon, 1000)
 
     def test_a_module_that_is_dropped_ends_its_program(self):
-        module = pcm.Module(**SMALL)
-        module.write(0, 0, ONES)
-        module.close()
-        self.assertIsNotNone(module._process.returncode)
+        with pcm.Module(**SMALL) as module:
+            module.write(0, 0, ONES)
+            module.close()
+            self.assertIsNotNone(module._process.returncode)
 
 
 class Packages(unittest.TestCase):
