@@ -126,6 +126,12 @@ def check_help():
         page = subprocess.run([TOP / "pcm", "help", *words], capture_output=True)
         well = page.returncode == 0 and page.stdout.count(b"\n") > 3
         yield None if well else f"./pcm help {' '.join(words)}: no text"
+    pages = [subprocess.run([TOP / "pcm", *words], capture_output=True).stdout for words in (("help", "map"), ("map", "--help"))]
+    yield None if pages[0] == pages[1] else "./pcm map --help: not the page of ./pcm help map"
+    with tempfile.TemporaryDirectory() as room:
+        os.symlink(TOP / "pcm", f"{room}/pcm")
+        told = subprocess.run([f"{room}/pcm", "version"], capture_output=True, text=True).stdout
+        yield None if told == (TOP / "VERSION").read_text(encoding="utf-8") else "pcm through a link: not its version"
 
 
 # Code that is quoted.
