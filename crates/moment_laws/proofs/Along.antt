@@ -40,7 +40,7 @@ module _ {n m : ℕ} (e : ℕ) (raw : RawShape) (seed : ℕ) where
 
   module _ (moment : MomentLaw) (is : IsShape raw) where
     known : (row : Asked n) (before : List (Asked n)) (h : ℕ → List (TimedEvent n m)) (told : List (Told n))
-        → AreKnown e raw seed (events_in (row ∷ before)) h told → WasMoment e raw seed (events_in (row ∷ before)) h told
+        → AreKnown e raw seed row before h told → WasMoment e raw seed (events_in (row ∷ before)) h told
     known row before h told are = record {
       since = λ bank. [];
       history = h;

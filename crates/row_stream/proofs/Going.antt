@@ -1,6 +1,6 @@
 -- How a row of a stream is served.
-use Rattle.std.proofs.Common.{◌≡◌, ℕ, ◌+◌, ◌≤◌, false, List, [], ◌∷◌, ◌++◌, length, refl, sym, ap, ◌∙◌, subst, arith, replicate, true, Option}
-use Rattle.std.proofs.lemmas.List.{append-nil, length_push}
+use Rattle.std.proofs.Common.{◌≡◌, ℕ, ◌+◌, ◌<◌, ◌≤◌, false, List, [], ◌∷◌, ◌++◌, length, refl, sym, ap, ◌∙◌, subst, arith, replicate, true, Option}
+use Rattle.std.{proofs.lemmas.List.{append-nil, length_push}, specs.Prelude.{IsSomeAnd, slice_get}}
 use Rattle.cell_rows.specs.Device.{ArrayState}
 use Rattle.trace_reader.specs.{Rows.latest_tick, declared.event.Event.Event}
 use Rattle.result_rows.specs.declared.Outcome.{Outcome}
@@ -8,7 +8,7 @@ use Rattle.bank_model.specs.Timing.{TimedEvent}
 use Rattle.module_shape.specs.declared.raw.RawShape.{RawShape}
 use Rattle.module_laws.specs.Asking.{Asked as AskedRow}
 use Rattle.bank_timing.specs.Extending.{IsOpen}
-use Rattle.pcm_module.specs.{Asking.{asked_by, asked_for}, Replaying.Replays, State.{ModuleState, AreEndsOf}}
+use Rattle.pcm_module.specs.{Asking.{asked_by, asked_for}, Replaying.Replays, Settling.IsAtTick, State.{ModuleState, AreEndsOf}}
 use Rattle.pcm_module.{specs.Telling.{TellsByBanks, TellsInOrder, is_asked_of, rows_at, rows_taking}, proofs.Asked.{standing_asked, taking_asked}}
 use Rattle.right_runs.specs.{Banks.bank_of_line, Ends.BankEnd}
 use Rattle.trace_rows.specs.Rows.{asks_of}
@@ -112,7 +112,7 @@ module _ {n m e : ℕ} (raw : RawShape) (seed : ℕ) (asked : List (Asked n)) (m
       subst (B (length (event ∷ events_in asked)) event.tick) snapped (subst (λ at. B (length (event ∷ events_in asked)) at snaps1) tick (subst (λ k. B k new.tick snaps1) counted (adds ends.0 ends.1))) in
       record {
         history = h;
-        along = (had.history, told, had.along, led.0, refl, outcomes, tells ∙ sym (append-nil (told ++ became outcomes)), order, record { module_ = new; array = after; served = subst Q counted served });
+        along = (had.history, told, had.along, led.0, refl, outcomes, tells ∙ sym (append-nil (told ++ became outcomes)), order, record { module_ = new; array = after; served = subst Q counted served; tick = tick; settled = tt });
         snaps = (snaps, subst A (sym shows) had.snaps, added);
         served = served;
         counted = counted;
@@ -123,13 +123,14 @@ module _ {n m e : ℕ} (raw : RawShape) (seed : ℕ) (asked : List (Asked n)) (m
   -- so is a settle
   pub serving-settle : (at : ℕ) (new : ModuleState n m e) (after : ArrayState n m) (places2 : ℕ) (told1 told2 : List (Told n)) (shown2 : Shown) (snaps2 : List Snapshot)
       → places2 ≡ places → (outcomes : List (ℕ × Outcome n)) → told1 ≡ told ++ became outcomes → ComeByBanks raw seed (events_in asked) raw.banks outcomes → told2 ≡ told1 ++ Settled at ∷ []
-      → new.shape ≡ module_.shape → new.seed ≡ module_.seed → new.finished ≡ false → new.tick ≡ at → at ≤ latest_tick → new.rows_below ≡ module_.rows_below
+      → new.shape ≡ module_.shape → new.seed ≡ module_.seed → new.finished ≡ false → new.tick ≡ at → ((bank : ℕ) → bank < new.shape.banks → IsSomeAnd (slice_get new.banks bank) (IsAtTick at))
+      → at ≤ latest_tick → new.rows_below ≡ module_.rows_below
       → length (table_of places2 told1) ≡ length (table_of places told)
       → ((h : ℕ → List (TimedEvent n m)) (rows : List (AskedRow n)) → Replays h rows module_ array (table_of places told)
       → (added : ℕ → List (TimedEvent n m)) × Replays (λ bank. added bank ++ h bank) rows new after (table_of places2 told1))
       → shown2 ≡ shown → snaps2 ≡ snaps
       → IsServing raw seed (Settle at ∷ asked) new after places2 told2 shown2 snaps2
-  serving-settle at new after places2 told1 told2 shown2 snaps2 counts outcomes tells order tells2 shape seeded going tick in_time bound size leads shows snapped =
+  serving-settle at new after places2 told1 told2 shown2 snaps2 counts outcomes tells order tells2 shape seeded going tick settled in_time bound size leads shows snapped =
       let led = leads had.history (asked_for (events_in asked)) had.served.replays in
       let h : ℕ → List (TimedEvent n m) = λ bank. led.0 bank ++ had.history bank in
       let counted : places2 ≡ length (events_in asked) = counts ∙ had.counted in
@@ -158,7 +159,7 @@ module _ {n m e : ℕ} (raw : RawShape) (seed : ℕ) (asked : List (Asked n)) (m
           outcomes,
           tells2 ∙ ap (λ t. t ++ Settled at ∷ []) tells,
           order,
-          record { module_ = new; array = after; served = subst Q counted now },
+          record { module_ = new; array = after; served = subst Q counted now; tick = tick; settled = settled },
         );
         snaps = (snaps, subst (λ s. SnapsAlong e raw seed s asked had.history told had.along snaps) (sym shows) had.snaps, snapped);
         served = now;

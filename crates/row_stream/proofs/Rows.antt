@@ -1,6 +1,6 @@
 -- How the rows of a source are served.
-use Rattle.std.proofs.Common.{◌≡◌, ◌≢◌, ℕ, ◌<◌, ◌+◌, ◌-◌, ◌*◌, ◌^◌, ◌≤◌, Bool, true, false, List, [], ◌∷◌, ◌++◌, length, reverse, Option, Some, None, refl, sym, ap, ◌∙◌, subst, arith, length-append}
-use Rattle.std.{specs.Io.KnownBytes.IsAtEnd, specs.Prelude.{Result, Ok, Err, OnOk, OnErr}, proofs.lemmas.List.reverse-append}
+use Rattle.std.proofs.Common.{◌≡◌, ◌≢◌, ℕ, ◌<◌, ◌+◌, ◌-◌, ◌*◌, ◌^◌, ◌≤◌, Bool, true, false, List, [], ◌∷◌, ◌++◌, length, reverse, Option, Some, None, refl, sym, ap, ◌∙◌, subst, arith, inl, inr, length-append}
+use Rattle.std.{specs.Io.KnownBytes.IsAtEnd, specs.Prelude.{Result, Ok, Err, OnOk, OnErr}, proofs.{Common.append_assoc, lemmas.List.reverse-append}}
 use Prim.Native.Nat.{max}
 use prog.Memory.{up}
 use Rattle.cell_rows.specs.Device.{ArrayState}
@@ -8,12 +8,12 @@ use Rattle.pcm_io.{specs.Faults.Rose, specs.Taking.Takes, proofs.ByteLemmas.{Tak
 use Rattle.module_shape.specs.{Limits.total_of, declared.raw.RawShape.RawShape}
 use Rattle.pcm_module.specs.State.{ModuleState}
 use Rattle.row_printer.specs.{declared.snapshot.Snapshot.Snapshot, declared.told.Shown.Shown, declared.told.Told.Told}
-use Rattle.trace_stream.specs.{Arrived.StaysEnded, Asked.{IsAskedFor, rows_after, tick_asked, events_in}}
-use Rattle.trace_stream.specs.{Stream.{AsksNext, HasFault, HasFront, IsOfText, Opens, Standing, asked_from, front_from, front_of, stream_of}, declared.asked.Asked.Asked}
+use Rattle.trace_stream.specs.{Arrived.StaysEnded, Asked.{IsAskedFor, rows_after, tick_asked, events_in}, Kept.decides}
+use Rattle.trace_stream.specs.{Stream.{AsksNext, HasFault, HasFront, IsOfText, Opens, Standing, asked_from, front_from, front_of, front_rows, records_left, stream_of}, declared.asked.Asked.Asked}
 use Rattle.trace_stream.specs.{declared.asked.Asked.TheVariants.{Happens, Settle}, declared.fault.StreamFault.StreamFault}
 use Rattle.trace_stream.proofs.Runs.{HasAsked, asked-all, asked-faulty, asked-first, asked-front, asked-more}
 use Rattle.trace_stream.specs.declared.fault.StreamFault.TheVariants as fault
-use Rattle.row_stream.specs.{Asking.{behind_of, tick_reached}, Serving.IsServing, Sourcing.{Fronts, HasCome, HasStopped, IsFaulty, IsRead}, declared.stop.Behind.Behind}
+use Rattle.row_stream.specs.{Asking.{behind_of, tick_reached}, Serving.IsServing, Sourcing.{Fronts, HasAllCome, HasCome, HasStopped, IsFaulty, IsRead}, declared.stop.Behind.Behind}
 use Rattle.row_stream.specs.{declared.stop.Behind.TheVariants.Nothing, declared.stop.Stop.TheVariants.Input}
 
 -- what follows where a call went well, or didn't
@@ -89,7 +89,7 @@ module _ (n lines : ℕ) {S : Type 0} (left : S → Option (List ℕ)) (taken fa
   open-stopped new fault.TooMany text fails past calm =
       let of = text ((λ is. cc is), (λ is. cc is), (λ is. cc is)) in
       record { bytes = of.0; takes = of.2; ended = of.1; at_end = of.3; front = (of.4 n).1; fault = (of.4 n).0; calm = calm (λ is. cc is) }
-  open-stopped new fault.Read text fails past calm = (come-none new, fails refl)
+  open-stopped new fault.Read text fails past calm = (come-none new, fails refl, inr refl)
   open-stopped new fault.Endless text fails past calm = (come-none new, calm (λ is. cc is), past refl)
   open-stopped new fault.NoMemory text fails past calm = (come-none new, calm (λ is. cc is), refl)
 
@@ -184,6 +184,21 @@ module _ {n m e : ℕ} (raw : RawShape) (seed : ℕ) {S : Type 0} (left : S → 
       front = fronts (total_of raw) had.bytes had.asked stream had.has;
     }
 
+    -- all rows that came whole
+    fed-whole : (new : S) (bytes : List ℕ) → Takes (left mid) (left new) (taken mid) (taken new) bytes → stream.arrived.ended ≡ false
+        → decides stream.state 0 (stream.arrived.bytes ++ bytes) ≡ false → HasAllCome (total_of raw) left taken faults old new had.asked
+    unfolding front_from
+    fed-whole new bytes takes unended none = record {
+      bytes = had.bytes ++ bytes;
+      takes = Takes-Takes _ _ _ _ _ _ _ _ had.takes takes;
+      at = record { arrived = record { bytes = stream.arrived.bytes ++ bytes; ended = false }; state = stream.state; rows = stream.rows; tick = stream.tick; lines = stream.lines };
+      front = λ more.
+          let F : List ℕ → List (Asked n) = λ rest. front_rows n stream.lines stream.rows stream.tick (records_left stream.state rest) in
+          ap (front_of n (total_of raw)) (append_assoc had.bytes bytes more) ∙ had.has.front (bytes ++ more) (λ is. absurd (cc (is, unended)))
+          ∙ ap (λ rest. reverse had.asked ++ F rest) (sym (append_assoc stream.arrived.bytes bytes more));
+      undecided = none;
+    }
+
     fed-fault : (new : S) (now : Standing) (found : StreamFault) (bytes : List ℕ) → Takes (left mid) (left new) (taken mid) (taken new) bytes → StaysEnded stream.arrived.ended bytes now.arrived.ended
         → (now.arrived.ended ≡ true → IsAtEnd (left new)) → HasFault (asked_from n stream) bytes found now.arrived.ended
         → HasFront (front_from n stream) bytes [] now.arrived.ended → faults new ≡ faults mid
@@ -206,20 +221,24 @@ module _ {n m e : ℕ} (raw : RawShape) (seed : ℕ) {S : Type 0} (left : S → 
         × HasFront (front_from n stream) bytes [] now.arrived.ended)
         → (stream.arrived.ended ≡ true → IsAtEnd (left mid))
         → (found ≡ fault.Read → Rose (faults mid) (faults new))
+        → (found ≡ fault.Read → (bytes : List ℕ) × Takes (left mid) (left new) (taken mid) (taken new) bytes × (stream.arrived.ended ≡ false)
+        × (decides stream.state 0 (stream.arrived.bytes ++ bytes) ≡ false))
         → (found ≡ fault.Endless → (bytes : List ℕ) × Takes (left mid) (left new) (taken mid) (taken new) bytes × (2 ^ 64 - 1 ≤ length bytes))
         → (found ≢ fault.Read → faults new ≡ faults mid)
         → found ≢ fault.NoMemory
         → HasStopped (total_of raw) left taken faults old new had.asked (Input found)
-    fed-stopped new now (fault.Trace f) text ends fails past calm memory =
+    fed-stopped new now (fault.Trace f) text ends fails whole past calm memory =
         let of = text ((λ is. cc is), (λ is. cc is), (λ is. cc is)) in
         fed-fault new now (fault.Trace f) of.0 of.1 of.2 (of.3 ends) of.4 of.5 (calm (λ is. cc is))
-    fed-stopped new now fault.TooMany text ends fails past calm memory =
+    fed-stopped new now fault.TooMany text ends fails whole past calm memory =
         let of = text ((λ is. cc is), (λ is. cc is), (λ is. cc is)) in
         fed-fault new now fault.TooMany of.0 of.1 of.2 (of.3 ends) of.4 of.5 (calm (λ is. cc is))
-    fed-stopped new now fault.Read text ends fails past calm memory = (fed-come new ends, subst (λ k. Rose k (faults new)) had.calm (fails refl))
-    fed-stopped new now fault.Endless text ends fails past calm memory =
+    fed-stopped new now fault.Read text ends fails whole past calm memory =
+        let came = whole refl in
+        (fed-come new ends, subst (λ k. Rose k (faults new)) had.calm (fails refl), inl (fed-whole new came.0 came.1 came.2 came.3))
+    fed-stopped new now fault.Endless text ends fails whole past calm memory =
         let of = past refl in
         let more : length (had.bytes ++ of.0) ≡ length had.bytes + length of.0 = length-append had.bytes of.0 in
         let long : 2 ^ 64 - 1 ≤ length of.0 = of.2 in
         (fed-come new ends, calm (λ is. cc is) ∙ had.calm, (had.bytes ++ of.0, Takes-Takes _ _ _ _ _ _ _ _ had.takes of.1, omega (arith, more, long)))
-    fed-stopped new now fault.NoMemory text ends fails past calm memory = absurd (memory refl)
+    fed-stopped new now fault.NoMemory text ends fails whole past calm memory = absurd (memory refl)

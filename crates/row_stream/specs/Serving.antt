@@ -1,12 +1,12 @@
 -- What a module and what was told have to do with what the rows of a stream asked so far. What was asked stands with the newest first.
-use Rattle.std.specs.Prelude.{◌≡◌, ℕ, zero, suc, ◌+◌, ◌≤◌, Bool, true, false, List, [], ◌∷◌, ◌++◌, length, All}
+use Rattle.std.specs.Prelude.{◌≡◌, ℕ, zero, suc, ◌+◌, ◌<◌, ◌≤◌, Bool, true, false, List, [], ◌∷◌, ◌++◌, length, All, IsSomeAnd, slice_get}
 use Rattle.cell_rows.specs.Device.{ArrayState}
 use Rattle.trace_reader.specs.{Rows.latest_tick, declared.event.Event.Event}
 use Rattle.result_rows.specs.declared.Outcome.{Outcome}
 use Rattle.bank_model.specs.Timing.{TimedEvent}
 use Rattle.module_shape.specs.declared.raw.RawShape.{RawShape}
 use Rattle.right_runs.specs.Banks.{bank_of_line}
-use Rattle.pcm_module.specs.{Asking.asked_for, Replaying.Replays, State.ModuleState, Telling.is_asked_of}
+use Rattle.pcm_module.specs.{Asking.asked_for, Replaying.Replays, Settling.IsAtTick, State.ModuleState, Telling.is_asked_of}
 use Rattle.row_printer.specs.{Printing.{Printing, table_of}, Snapshots.{AddsDue, is_due}, Telling.became, declared.snapshot.Snapshot.Snapshot, declared.told.Shown.Shown}
 use Rattle.row_printer.specs.{declared.told.Told.Told, declared.told.Told.TheVariants.Settled}
 use Rattle.trace_stream.specs.{Asked.events_in, declared.asked.Asked.Asked, declared.asked.Asked.TheVariants.{Happens, Settle}}
@@ -54,11 +54,19 @@ is_due_behind shown (Happens event) rows = is_due shown rows
 is_due_behind shown (Settle tick) rows = false
 
 module _ {n m : ℕ} (e : ℕ) (raw : RawShape) (seed : ℕ) where
-  -- of these events exactly those outcomes were told which these histories gave so far, at the module and the array to which they led
-  pub record AreKnown (events : List (Event n)) (h : ℕ → List (TimedEvent n m)) (told : List (Told n)) : Type 0 where
+  -- behind a settle each bank has come to its tick
+  abbrev pub HasSettled : Asked n → ModuleState n m e → Type 0
+  HasSettled (Happens event) module_ = Unit {0}
+  HasSettled (Settle tick) module_ = (bank : ℕ) → bank < module_.shape.banks → IsSomeAnd (slice_get module_.banks bank) (IsAtTick tick)
+
+  -- of these rows exactly those outcomes were told which these histories gave so far, at the module and the array to which they led, which is
+  -- at the tick of the last row, and each of its banks where that is a settle
+  pub record AreKnown (asked : Asked n) (before : List (Asked n)) (h : ℕ → List (TimedEvent n m)) (told : List (Told n)) : Type 0 where
     pub module_ : ModuleState n m e
     pub array : ArrayState n m
-    pub served : HasServed raw seed events h module_ array (table_of (length events) told)
+    pub served : HasServed raw seed (events_in (asked ∷ before)) h module_ array (table_of (length (events_in (asked ∷ before))) told)
+    pub tick : module_.tick ≡ tick_reached (asked ∷ before)
+    pub settled : HasSettled asked module_
 
   -- row by row: rows that asked this brought these histories about, and this was told of them. As each row was served, the outcomes were told that
   -- the histories gave then and hadn't given before, no others, bank by bank, and behind them the line of the row
@@ -69,7 +77,7 @@ module _ {n m : ℕ} (e : ℕ) (raw : RawShape) (seed : ℕ) where
       × (added : ℕ → List (TimedEvent n m)) × (h ≡ (λ bank. added bank ++ earlier bank))
       × (outcomes : List (ℕ × Outcome n)) × (told ≡ (said ++ became outcomes) ++ line_of asked)
       × ComeInOrder raw seed asked (events_in before) outcomes
-      × AreKnown (events_in (asked ∷ before)) h told
+      × AreKnown asked before h told
 
   -- the snapshots that were taken of them: each stands behind a row with a number where one is due, and says what that row left
   abbrev pub SnapsAlong : Shown → (asked : List (Asked n)) (h : ℕ → List (TimedEvent n m)) (told : List (Told n)) → TellsAlong asked h told → List Snapshot → Type 0

@@ -292,3 +292,8 @@ comes-back old new bytes more stays comes = λ ended.
 pub none-decides : (s0 s : State) (fs0 fs : List (List ℕ)) (f0 f t0 t : List ℕ) → GoesOn s0 fs0 f0 t0 s fs f t → length fs < most_fields → t ≡ [] → decides s0 (length fs0) t0 ≡ false
 unfolding decides
 none-decides s0 s fs0 fs f0 f t0 t h few none = ap (decides s0 (length fs0)) (sym (append-nil t0)) ∙ h.decided few [] ∙ rw none refl
+
+-- what hasn't ended now hadn't before
+pub still-open : (old : Bool) (bytes : List ℕ) (new : Bool) → StaysEnded old bytes new → new ≡ false → old ≡ false
+still-open false bytes new stays is = refl
+still-open true bytes new stays is = absurd (cc ((stays refl).1, is))

@@ -128,6 +128,8 @@ impl Incoming {
         ensures still { OnOk result (StaysEnded self.old.ended self.new.bytes self.new.ended) }
         ensures end { OnOk result ((self.old.ended ≡ true → IsAtEnd (S.left source.old))
             → self.new.ended ≡ true → IsAtEnd (S.left source.new)) }
+        ensures untaken { OnErr result ((self.old.ended ≡ false) × Takes (S.left source.old)
+            (S.left source.new) (S.taken source.old) (S.taken source.new) []) }
         ensures fault { OnErr result (Rose (S.faults source.old) (S.faults source.new)) }
         ensures no_fault { OnOk result (S.faults source.new ≡ S.faults source.old) }
         ensures never_falls { S.faults source.old ≤ S.faults source.new }

@@ -149,6 +149,11 @@ impl Records {
             → source.new ≡ source.old }
         ensures end { OnOk result ((self.old.incoming.ended ≡ true → IsAtEnd (S.left source.old))
             → self.new.incoming.ended ≡ true → IsAtEnd (S.left source.new)) }
+        ensures sparing { result ≡ Err StreamFault.Read → (bytes : List ℕ)
+            × Takes (S.left source.old) (S.left source.new)
+            (S.taken source.old) (S.taken source.new) bytes
+            × (self.old.incoming.ended ≡ false)
+            × (decides (state_of self.old.place) 0 (self.old.incoming.bytes ++ bytes) ≡ false) }
         ensures err { IfErr result (λ e. (e ≡ StreamFault.Read) ⊎ (e ≡ StreamFault.Endless)) }
         ensures read { result ≡ Err StreamFault.Read
             → Rose (S.faults source.old) (S.faults source.new) }

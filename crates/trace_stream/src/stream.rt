@@ -1,5 +1,5 @@
 //! A streamed trace, row by row.
-ghost use Rattle.std.specs.Prelude.{◌≡◌, ◌≢◌, ◌-◌, ◌^◌, ◌≤◌, ℕ, List, [], Bool, true, length, Ok, Err, IfOk, IfErr, IfSome, OnOk};
+ghost use Rattle.std.specs.Prelude.{◌≡◌, ◌≢◌, ◌-◌, ◌^◌, ◌≤◌, ◌++◌, ℕ, List, [], Bool, true, false, length, Ok, Err, IfOk, IfErr, IfSome, OnOk};
 ghost use Rattle.std.specs.Io.KnownBytes.{IsAtEnd};
 ghost use Rattle.pcm_io.specs.Faults.{Rose};
 ghost use Rattle.pcm_io.specs.Taking.{Takes};
@@ -118,6 +118,11 @@ impl TraceStream {
             × AsksNext self.old bytes next self.new) }
         ensures prompt { decides self.old.state 0 self.old.arrived.bytes ≡ true
             → source.new ≡ source.old }
+        ensures sparing { result ≡ Err StreamFault.Read → (bytes : List ℕ)
+            × Takes (S.left source.old) (S.left source.new)
+            (S.taken source.old) (S.taken source.new) bytes
+            × (self.old.arrived.ended ≡ false)
+            × (decides self.old.state 0 (self.old.arrived.bytes ++ bytes) ≡ false) }
         ensures lawful { IfOk result (λ next. IfSome next
             (λ asked. IsAskedFor self.old.lines self.old.tick asked)) }
         ensures row { IfOk result (λ next. IfSome next (λ asked. (self.new.rows

@@ -119,7 +119,7 @@ returns-in-Err-next-clause-stopped g c = λ raw seed start.
     let e = c.in-Err-next.ensures in (
       had.asked,
       had.serving,
-      fed-stopped raw seed g.S.Source.left g.S.Source.taken g.S.Source.faults c.args.source.now c.rows.pcm (g.A.CellArray.state c.rows.array) c.rows.out.rows c.rows.out.told c.rows.out.prints c.rows.out.snapshots c.rows.source c.rows.stream c.rows.behind c.rows.counter had c.next.new.source c.next.new.self c.in-Err-next.fault e.fault c.rows.invariant.end (λ is. e.read (ap Err is)) (λ is. e.endless (ap Err is))
+      fed-stopped raw seed g.S.Source.left g.S.Source.taken g.S.Source.faults c.args.source.now c.rows.pcm (g.A.CellArray.state c.rows.array) c.rows.out.rows c.rows.out.told c.rows.out.prints c.rows.out.snapshots c.rows.source c.rows.stream c.rows.behind c.rows.counter had c.next.new.source c.next.new.self c.in-Err-next.fault e.fault c.rows.invariant.end (λ is. e.read (ap Err is)) (λ is. e.sparing (ap Err is)) (λ is. e.endless (ap Err is))
           (λ other. e.no_fault (λ is. let same : c.in-Err-next.fault ≡ fault.Read = cc in other same))
           (λ is. e.memory (ap Err is)),
     )

@@ -1,7 +1,7 @@
-use Rattle.std.proofs.Common.{◌++◌, ap, sym, ◌∙◌, append_assoc, arith}
-use Rattle.std.proofs.{lemmas.Bool.false≢true, lemmas.List.length-append}
+use Rattle.std.proofs.Common.{[], ◌++◌, ap, sym, ◌∙◌, append_assoc, arith}
+use Rattle.std.proofs.{lemmas.Bool.false≢true, lemmas.List.{append-nil, length-append}}
 use Rattle.pcm_io.proofs.ByteLemmas.{Takes-Takes}
-use Rattle.trace_stream.{specs.Arrived.Arrived, proofs.Steps.{finds-finished, goes-goes, goes-more, none-decides, stays-stays}}
+use Rattle.trace_stream.{specs.Arrived.Arrived, proofs.Steps.{finds-finished, goes-goes, goes-more, none-decides, stays-stays, still-open}}
 use Rattle.trace_stream.proofs.records.Records.next.Goals as goal
 
 pub returns-then-not-some-clause-found : goal.returns-then-not-some-clause-found
@@ -53,3 +53,11 @@ returns-then-not-some-clause-prompt g c = λ decides.
     let was = c.pieces.invariant.prompt decides in
     let none = none-decides _ _ _ _ _ _ _ _ (c.advance.ensures.goes_on c.if-advance.false) (c.advance.ensures.few c.if-advance.false) (c.advance.ensures.spent c.if-advance.false) in
     absurd (false≢true (sym none ∙ rw (was.0, was.1, was.2) decides))
+
+pub returns-in_default-clause-sparing : goal.returns-in_default-clause-sparing
+returns-in_default-clause-sparing g c = λ is.
+    let before = c.pieces.invariant.goes_on in
+    let goes = goes-goes _ _ _ _ _ _ _ _ _ _ _ _ c.pieces.invariant.few before.3 (c.advance.ensures.goes_on c.if-advance.false) in
+    let none = none-decides _ _ _ _ _ _ _ _ goes (c.advance.ensures.few c.if-advance.false) (c.advance.ensures.spent c.if-advance.false) in
+    let fails = c.in_default.ensures.untaken in
+    (before.0 ++ [], Takes-Takes _ _ _ _ _ _ _ _ before.1 fails.1, still-open _ _ _ before.2 (sym c.advance.ensures.same ∙ fails.0), rw (append-nil before.0) none)
