@@ -49,9 +49,9 @@ slot_moved shape line moves = slot_at shape (line / shape.lines) (place_after sh
 -- sizes that a bank may have; the number of each of its array lines is a u32
 pub record IsBankShape (shape : BankShape) : Type 0 where
   pub some_regions : 1 ≤ shape.regions
-  pub few_regions : shape.regions ≤ 16
+  pub few_regions : shape.regions ≤ 64
   pub some_lines : 1 ≤ shape.lines
-  pub few_lines : shape.lines ≤ 4096
+  pub few_lines : shape.lines ≤ 67108864
   pub few_spares : shape.spares ≤ 1024
   pub some_writes : 1 ≤ shape.writes
   pub few_writes : shape.writes ≤ 256

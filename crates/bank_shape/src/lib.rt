@@ -29,9 +29,9 @@ pub enum Home {
 pub struct BankShape {
     /// The first of the bank's array lines.
     pub base: u32,
-    /// How many regions the bank has, 1 to 16.
+    /// How many regions the bank has, 1 to 64.
     pub regions: u32,
-    /// How many lines each region has, 1 to 4,096.
+    /// How many lines each region has, 1 to 67,108,864.
     pub lines: u32,
     /// How many spare lines stand behind the slots, 0 to 1,024.
     pub spares: u32,

@@ -9,7 +9,7 @@ use Rattle.hex.specs.{Hex.{◌>>=◌, IsBytes, decode_sized, digit_or_error, hex
 use Rattle.hex.proofs.HexLemmas.{decode_of-ok, decode_sized-ok, decode_sized-twice}
 use Rattle.check_reader.specs.ResultRows.{AreBytes}
 use Rattle.trace_reader.specs.{Number.{is_number, number_of}, Payload.{Masked, bytes_of, masked_by, masked_of, pair_of, pairs_of}}
-use Rattle.trace_reader.specs.Rows.{cut_of, event_at, event_of, latest_tick, line_of, mask_of, op_of, or_fault, read_of, text_at, tick_of, write_of}
+use Rattle.trace_reader.specs.Rows.{cut_of, event_at, event_of, latest_tick, line_digits, line_of, mask_of, op_of, or_fault, read_of, text_at, tick_of, write_of}
 use Rattle.trace_reader.specs.{Trace.{and_then_rows, event_before, events_of, fault_at, is_header, most_rows, rows_from}, declared.event.Event.Event}
 use Rattle.trace_reader.specs.{declared.event.EventOp.EventOp, declared.event.EventOp.TheVariants.{Read, Write, Mask, Cut}, declared.fault.Kind.Kind}
 use Rattle.trace_reader.{specs.declared.fault.ParseFault.ParseFault, proofs.Lawful.or_fault-ok, proofs.Table.digit-small}
@@ -197,7 +197,7 @@ module _ (n lines : ℕ) (line payload : List ℕ) (op : EventOp n) where
       let a = or_fault-ok (line_of lines line) kind.Line _ op h in
       let b = if-ok (length payload == 0) (Ok (Read a.0)) kind.Payload op a.2 in
       let same : Read a.0 ≡ op = cc b.1 in
-      rw (← same) record { line_whole = number-whole 5 _ a.0 line a.1; payload_whole = empty-whole payload b.0; gives = tt }
+      rw (← same) record { line_whole = number-whole (line_digits lines) _ a.0 line a.1; payload_whole = empty-whole payload b.0; gives = tt }
 
   write-ok : write_of n lines line payload ≡ Ok op → OpOk line payload op
   unfolding write_of
@@ -206,7 +206,7 @@ module _ (n lines : ℕ) (line payload : List ℕ) (op : EventOp n) where
       let b = or_fault-ok (bytes_of n payload) kind.Payload _ op a.2 in
       let same : Write a.0 b.0 ≡ op = cc b.2 in
       let ok = bytes-ok n payload b.0 b.1 in
-      rw (← same) record { line_whole = number-whole 5 _ a.0 line a.1; payload_whole = hexes-whole payload ok.0; gives = (ok.1, ok.2) }
+      rw (← same) record { line_whole = number-whole (line_digits lines) _ a.0 line a.1; payload_whole = hexes-whole payload ok.0; gives = (ok.1, ok.2) }
 
   mask-ok : mask_of n lines line payload ≡ Ok op → OpOk line payload op
   unfolding mask_of
@@ -215,7 +215,7 @@ module _ (n lines : ℕ) (line payload : List ℕ) (op : EventOp n) where
       let b = or_fault-ok (masked_of n payload) kind.Payload _ op a.2 in
       let same : Mask a.0 b.0.bytes b.0.given ≡ op = cc b.2 in
       let ok = masked-ok n payload b.0 b.1 in
-      rw (← same) record { line_whole = number-whole 5 _ a.0 line a.1; payload_whole = ok.0; gives = (ok.1, ok.2) }
+      rw (← same) record { line_whole = number-whole (line_digits lines) _ a.0 line a.1; payload_whole = ok.0; gives = (ok.1, ok.2) }
 
   cut-ok : cut_of n lines line payload ≡ Ok op → OpOk line payload op
   unfolding cut_of

@@ -3,7 +3,7 @@ use Rattle.std.specs.{Int.is_power_of_two, Prelude.{◌≡◌, ◌≤◌, true, 
 use Rattle.clap.specs.Words.{App, Kinds, Row, Text, fault_of, first_of, subcommand_of}
 use Rattle.cell_rows.specs.Device.{IsWear}
 use Rattle.trace_gen.specs.Generated.{IsMix}
-use Rattle.module_shape.specs.Limits.{IsShape}
+use Rattle.module_shape.specs.Limits.{IsShape, IsSmall}
 use Rattle.command_line.specs.{Options.{with_some, number_option, line_of, shape_of, seed_of, wear_of, mix_of, print_of, input_of, from_of}, Table.pcm_app}
 use Rattle.command_line.specs.{declared.job.CheckJob.CheckJob, declared.job.GenJob.GenJob, declared.job.Input.Input, declared.job.Input.TheVariants.{Source, Drawn}}
 use Rattle.command_line.specs.{declared.job.Job.Job, declared.job.Job.TheVariants.{Run, Gen, Map, Moves, Show, Check}, declared.job.MapJob.MapJob, declared.job.MovesJob.MovesJob}
@@ -104,16 +104,19 @@ pub record IsMoves (job : MovesJob) : Type 0 where
 -- the numbers of each job are in range
 pub record IsRun (job : RunJob) : Type 0 where
   pub shape : IsShape job.shape
+  pub small : IsSmall job.shape
   pub wear : IsWear job.wear
   pub one_seed : job.wear.seed ≡ job.seed
   pub input : IsInput job.input
 
 pub record IsGen (job : GenJob) : Type 0 where
   pub shape : IsShape job.shape
+  pub small : IsSmall job.shape
   pub mix : IsMix job.mix
 
 pub record IsMap (job : MapJob) : Type 0 where
   pub shape : IsShape job.shape
+  pub small : IsSmall job.shape
   pub few_moves : job.from ≤ 16781312
 
 abbrev pub IsCheck : CheckJob → Type 0

@@ -7,7 +7,7 @@ use Rattle.cell_rows.specs.declared.array.Wear.{Wear}
 use Rattle.bank_shape.specs.{declared.Home.Home, declared.pace.Policy.Policy}
 use Rattle.bank_shape.specs.declared.Home.TheVariants as home
 use Rattle.bank_shape.specs.declared.pace.Policy.TheVariants as policy
-use Rattle.module_shape.specs.{Limits.shape_fault, declared.raw.Field.Field, declared.raw.RawShape.RawShape}
+use Rattle.module_shape.specs.{Limits.{most_large, most_small, shape_fault}, declared.raw.Field.Field, declared.raw.RawShape.RawShape}
 use Rattle.command_line.specs.{declared.job.Input.Input, declared.job.Input.TheVariants.{Source, Drawn}, declared.job.LineSize.LineSize}
 use Rattle.command_line.specs.{declared.job.LineSize.TheVariants.{Bytes64, Bytes128}, declared.job.Print.Print}
 use Rattle.command_line.specs.declared.job.Print.TheVariants as print
@@ -99,7 +99,11 @@ faultless raw (Some field) = None
 
 -- the sizes of the module, if it can have them
 unfoldable pub shape_of : List Row → Option RawShape
-shape_of rows = with_some (raw_of rows) (λ raw. faultless raw (shape_fault raw))
+shape_of rows = with_some (raw_of rows) (λ raw. faultless raw (shape_fault most_small raw))
+
+-- so of a module that serves a stream
+unfoldable pub large_shape_of : List Row → Option RawShape
+large_shape_of rows = with_some (raw_of rows) (λ raw. faultless raw (shape_fault most_large raw))
 
 -- the seed
 abbrev pub seed_of : List Row → Option ℕ

@@ -1,10 +1,10 @@
 // What the options of a command mean.
 ghost use Rattle.std.specs.Prelude.{◌≡◌, ◌≤◌, IfSome, IfOk, codes, option_map};
 ghost use Rattle.clap.specs.Words.{found_of, first_of, rows_of};
-ghost use Rattle.module_shape.specs.Limits.{IsShape};
+ghost use Rattle.module_shape.specs.Limits.{IsShape, IsSmall};
 ghost use Rattle.cell_rows.specs.Device.{IsWear};
 ghost use Rattle.trace_gen.specs.Generated.{IsMix};
-ghost use Rattle.command_line.specs.Options.{number_or, number_option, size_option, policy_of, home_of, line_of, print_of, input_of, raw_of, shape_of, seed_of, wear_of, mix_of, mix_within, from_of, HasMix, IsMixWithin};
+ghost use Rattle.command_line.specs.Options.{number_or, number_option, size_option, policy_of, home_of, line_of, print_of, input_of, large_shape_of, raw_of, shape_of, seed_of, wear_of, mix_of, mix_within, from_of, HasMix, IsMixWithin};
 
 use crate::job::{Input, LineSize, Print};
 use cell_rows::Wear;
@@ -161,8 +161,21 @@ fn raw(matches: &ArgMatches<'_>) -> Option<RawShape>
 pub fn shape(matches: &ArgMatches<'_>) -> Option<Shape>
     ensures exact { result ≡ shape_of (rows_of (found_of matches.now)) }
     ensures in_range { IfSome result IsShape }
+    ensures small { IfSome result IsSmall }
 {
     match Shape::new(raw(matches)?) {
+        Ok(shape) => Some(shape),
+        Err(_) => None,
+    }
+}
+
+/// The shape of a module that serves a stream; None where it can't have these sizes.
+#[tactic(auto, unfolding(crate::specs::Options::large_shape_of))]
+pub fn large_shape(matches: &ArgMatches<'_>) -> Option<Shape>
+    ensures exact { result ≡ large_shape_of (rows_of (found_of matches.now)) }
+    ensures in_range { IfSome result IsShape }
+{
+    match Shape::large(raw(matches)?) {
         Ok(shape) => Some(shape),
         Err(_) => None,
     }

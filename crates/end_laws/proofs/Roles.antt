@@ -48,7 +48,7 @@ find_slot table at (suc slots) = by (cases_eq (table slots) at) (find_slot table
         ])
 
 -- a place off the gap is that of a line
-line_at_place : (n t place : ℕ) → 1 ≤ n → n ≤ 4096 → place ≤ n → place ≢ gap_after n t → (line : ℕ) × (line < n) × (place_after n line t ≡ place)
+line_at_place : (n t place : ℕ) → 1 ≤ n → n ≤ 67108864 → place ≤ n → place ≢ gap_after n t → (line : ℕ) × (line < n) × (place_after n line t ≡ place)
 line_at_place n t place some few within off =
     let r : Rotation = rotation_after n t in
     let range : IsRotation r = rotation_after-range n t some few in

@@ -21,7 +21,7 @@ network_of bits seed = record { bits = bits; first = key_of seed 0; second = key
 -- its numbers are in range
 pub record IsNetwork (net : Network) : Type 0 where
   pub some_bits : 2 ≤ net.bits
-  pub few_bits : net.bits ≤ 16
+  pub few_bits : net.bits ≤ 32
   pub first_key : net.first < 2 ^ 16
   pub second_key : net.second < 2 ^ 16
   pub third_key : net.third < 2 ^ 16

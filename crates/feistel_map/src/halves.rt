@@ -1,4 +1,4 @@
-// The two halves of a number of 2 to 16 bits, and the rounds that change one by the other.
+// The two halves of a number of 2 to 32 bits, and the rounds that change one by the other.
 ghost use Rattle.std.specs.Prelude.{◌≡◌, ℕ, ◌%◌, ◌^◌, ◌<◌, ◌≤◌};
 ghost use Rattle.feistel_map.specs.Network.{AreHalves, left_bits, right_bits, halves_of, joined, mixed, left_round, right_round};
 
@@ -10,7 +10,7 @@ pub struct Halves {
 
 impl Halves {
     pub fn of(bits: u32, number: u32) -> Halves
-        requires few_bits { bits ≤ 16 }
+        requires few_bits { bits ≤ 32 }
         requires fits { number < 2 ^ bits }
         ensures halves { result ≡ halves_of bits number }
         ensures in_range { AreHalves bits result }
@@ -23,7 +23,7 @@ impl Halves {
     }
 
     pub fn join(self, bits: u32) -> u32
-        requires few_bits { bits ≤ 16 }
+        requires few_bits { bits ≤ 32 }
         requires in_range { AreHalves bits self }
         ensures number { result ≡ joined bits self }
         ensures fits { result < 2 ^ bits }
@@ -32,7 +32,7 @@ impl Halves {
     }
 
     pub fn change_left(self, bits: u32, key: u16) -> Halves
-        requires few_bits { bits ≤ 16 }
+        requires few_bits { bits ≤ 32 }
         requires in_range { AreHalves bits self }
         ensures round { result ≡ left_round bits key self }
         ensures in_range { AreHalves bits result }
@@ -45,7 +45,7 @@ impl Halves {
     }
 
     pub fn change_right(self, bits: u32, key: u16) -> Halves
-        requires few_bits { bits ≤ 16 }
+        requires few_bits { bits ≤ 32 }
         requires in_range { AreHalves bits self }
         ensures round { result ≡ right_round bits key self }
         ensures in_range { AreHalves bits result }

@@ -54,10 +54,10 @@ impl Model for Feistel {
 }
 
 impl Feistel {
-    /// The network over `bits` bits, 2 to 16, whose keys are the low 16 bits of the seed's first three words.
+    /// The network over `bits` bits, 2 to 32, whose keys are the low 16 bits of the seed's first three words.
     pub fn new(bits: u32, seed: u64) -> Feistel
         requires some_bits { 2 ≤ bits }
-        requires few_bits { bits ≤ 16 }
+        requires few_bits { bits ≤ 32 }
         ensures keys { result ≡ network_of bits seed }
         ensures in_range { IsNetwork result }
     {

@@ -9,7 +9,7 @@ use Rattle.spare_pool.specs.Table.{line_by, line_from}
 use Rattle.bank_shape.specs.{Shape.slots_of, declared.BankShape.BankShape, declared.Home.Home}
 use Rattle.bank_shape.specs.declared.Home.TheVariants as home
 use Rattle.power_recovery.specs.Kept.{KeptState, IsKept, AllBelow, region_at, no_region as no_kept}
-use Rattle.module_shape.specs.{Addresses.{module_of, bank_shape}, Limits.{IsShape, is_power_between, total_of}, declared.raw.RawShape.RawShape}
+use Rattle.module_shape.specs.{Addresses.{module_of, bank_shape}, Limits.{IsShape, IsSmall, is_power_between, total_of}, declared.raw.RawShape.RawShape}
 use Rattle.end_laws.specs.EndLaws.{IsEndOf}
 use Rattle.right_runs.specs.Ends.{BankEnd}
 use Rattle.pcm_image.specs.{Saved.{Head, IsHead, IsSavedBank, IsSavedEntry, IsSavedRegion, lines_in, slots_in}, Standing.{rotation_of, table_of, no_region}}
@@ -25,15 +25,15 @@ home-low : (h : Home) → home_number h < 2
 home-low home.Guarded = omega arith
 home-low home.Array = omega arith
 
-pub head-right : (raw : RawShape) (seed : ℕ) → IsShape raw → seed < 2 ^ 64 → IsHead (head_of raw seed)
-head-right raw seed is low =
+pub head-right : (raw : RawShape) (seed : ℕ) → IsShape raw → IsSmall raw → seed < 2 ^ 64 → IsHead (head_of raw seed)
+head-right raw seed is small low =
     let power : raw.banks * raw.regions * raw.lines ≡ 2 ^ log2 (total_of raw) = sym is.whole_bits in
     record {
-      banks = within 1 16 raw.banks (first-test _ raw.banks raw.regions raw.lines power) is.some_banks is.few_banks;
-      regions = within 1 16 raw.regions (second-test _ raw.banks raw.regions raw.lines power) is.some_regions is.few_regions;
+      banks = within 1 16 raw.banks (first-test _ raw.banks raw.regions raw.lines power) is.some_banks small.few_banks;
+      regions = within 1 16 raw.regions (second-test _ raw.banks raw.regions raw.lines power) is.some_regions small.few_regions;
       lines = and_from (is_power_between 4 4096 raw.lines) (nat_le (raw.banks * raw.regions * raw.lines) 65536)
-          (within 4 4096 raw.lines (third-test _ raw.banks raw.regions raw.lines power) is.some_lines is.few_lines)
-          (le-leb (raw.banks * raw.regions * raw.lines) 65536 is.few_in_all);
+          (within 4 4096 raw.lines (third-test _ raw.banks raw.regions raw.lines power) is.some_lines small.few_lines)
+          (le-leb (raw.banks * raw.regions * raw.lines) 65536 small.few_in_all);
       spares = is.few_spares;
       seed = low;
       home = home-low raw.home;

@@ -11,7 +11,7 @@ use Rattle.bank_model.specs.Timing.{TimedEvent, core}
 use Rattle.bank_laws.{specs.Laws.{IsSized, LeavesArray}, specs.Outcomes.table_of, specs.Resting.EndsIn, proofs.Serves.newest_same, proofs.Settling.opens}
 use Rattle.right_runs.specs.{Banks.{bank_of_line, line_in_bank}, Ends.{is_moved_to, BankEnd}, Runs.RunsRightTo, Tables.table_in}
 use Rattle.bank_invariant.specs.{Bridge.{AgreeLaw, AgreesWith}, Holds.stands_for as kept_for}
-use Rattle.module_shape.specs.{Addresses.{module_of, bank_shape}, Limits.{IsShape, total_of}, declared.raw.RawShape.RawShape}
+use Rattle.module_shape.specs.{Addresses.{module_of, bank_shape}, Limits.{IsShape, IsSmall, total_of}, declared.raw.RawShape.RawShape}
 use Rattle.module_laws.{specs.Asking.row_with, specs.Serves.BankTableLaw, proofs.Serving.newest_in_bank}
 use Rattle.clock_laws.specs.{Ending.LeavingLaw, Leads.Leads, State.ClockState}
 use Rattle.end_laws.specs.EndLaws.{IsEndOf}
@@ -46,9 +46,9 @@ module _ (off : Bool) (laws : ImageLaws) {n m : ℕ} (e : ℕ) (raw : RawShape) 
   part-right : (bank : ℕ) → bank < raw.banks → IsSavedBank (head_of raw seed) (saved_bank (kept bank))
   part-right bank lt = bank-right raw seed bank (kept bank) (left.finished.leads bank lt).holds.kept (left.finished.shapes bank lt)
 
-  right : AreRows array → IsSaved saved
-  right are = record {
-    head = head-right raw seed is low;
+  right : IsSmall raw → AreRows array → IsSaved saved
+  right small are = record {
+    head = head-right raw seed is small low;
     one_each = length-map-range_with_len (λ b. saved_bank (kept b)) 0 raw.banks;
     parts = All-from_get_or (IsSavedBank (head_of raw seed)) (saved_banks kept raw.banks) (no_bank n)
         (λ bank lt.

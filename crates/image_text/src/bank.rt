@@ -18,6 +18,7 @@ use spare_pool::Remap;
 
 // The registers of a region as an image has them.
 fn region_image(region: &Region) -> RegionImage
+    requires { region.now.rotation.lines ≤ 4096 }
     ensures { result ≡ saved_region region.now }
 {
     let registers = region.registers();
@@ -69,7 +70,8 @@ fn print_regions<const B: usize, K: Sink>(
     text: &mut Text,
     out: &mut K,
 ) -> Result<(), WriteFault>
-    requires { ROW_ROOM ≤ text.old.limit }
+    requires limit { ROW_ROOM ≤ text.old.limit }
+    requires lines { kept.now.shape.lines ≤ 4096 }
     ensures printed { OnOk result (PrintsMore text.old text.new (K.written out.old)
         (K.written out.new) (flat_map region_bytes (map saved_region kept.now.regions))) }
     ensures part { OnErr result (PrintsPart text.old (K.written out.old) (K.written out.new)
@@ -118,6 +120,7 @@ pub fn print_bank<const B: usize, K: Sink>(
     requires limit { ROW_ROOM ≤ text.old.limit }
     requires small { B ≤ 128 }
     requires in_range { IsKept kept.now }
+    requires lines { kept.now.shape.lines ≤ 4096 }
     ensures printed { OnOk result (PrintsMore text.old text.new (K.written out.old)
         (K.written out.new) (bank_bytes (saved_bank kept.now))) }
     ensures part { OnErr result (PrintsPart text.old (K.written out.old) (K.written out.new)

@@ -2,6 +2,7 @@
 ghost use Rattle.std.specs.Prelude.{◌≡◌, ◌≤◌, ◌++◌, OnOk, OnErr};
 ghost use Rattle.pcm_io.specs.Faults.{Rose};
 ghost use Rattle.pcm_io.specs.Reserved.{appended, room_in};
+ghost use Rattle.module_shape.specs.Limits.{IsSmall};
 ghost use Rattle.pcm_image.specs.Spelling.{u8, u16, u32, head_bytes, region_bytes, entry_bytes, cells_bytes};
 ghost use Rattle.right_images.specs.Saving.{head_of, home_number};
 ghost use Rattle.image_text.specs.Printing.{PrintsMore, PrintsPart};
@@ -27,7 +28,8 @@ fn number_of_home(home: Home) -> u8
 
 // The numbers of a module of these sizes, with lines of so many bytes, put at the end of a text.
 fn push_head(size: u8, shape: &Shape, seed: u64, text: &mut Text)
-    requires { ROW_ROOM ≤ room_in text.old }
+    requires room { ROW_ROOM ≤ room_in text.old }
+    requires small { IsSmall shape.now }
     ensures { text.new ≡ appended text.old (head_bytes size (head_of shape.now seed)) }
 {
     let raw = shape.raw();
@@ -50,7 +52,8 @@ pub fn print_head<K: Sink>(
     text: &mut Text,
     out: &mut K,
 ) -> Result<(), WriteFault>
-    requires { ROW_ROOM ≤ text.old.limit }
+    requires limit { ROW_ROOM ≤ text.old.limit }
+    requires small { IsSmall shape.now }
     ensures printed { OnOk result (PrintsMore text.old text.new (K.written out.old)
         (K.written out.new) (head_bytes size (head_of shape.now seed))) }
     ensures part { OnErr result (PrintsPart text.old (K.written out.old) (K.written out.new)

@@ -10,7 +10,7 @@ use Rattle.check_reader.specs.{ReadOnce.{AreAsks, IsReadOnce, ReadOnceLaw}, Resu
 use Rattle.check_reader.specs.declared.fault.ResultFault.TheVariants as reading
 use Rattle.run_text.specs.ResultText.{asked, named_line, results_text, rows_text}
 use Rattle.right_runs.specs.{Banks.{rules_in, banks_of}, Ends.BankEnd}
-use Rattle.module_shape.specs.{Limits.{IsShape, total_of}, declared.raw.RawShape.RawShape}
+use Rattle.module_shape.specs.{Limits.{IsShape, IsSmall, total_of}, declared.raw.RawShape.RawShape}
 use Rattle.row_rules.specs.declared.Row.{Row}
 use Rattle.run_laws.specs.RowsOfRuns.{FewArrayLinesLaw, OwnOutcomesLaw, PlacesExistLaw}
 use Rattle.check_verdict.specs.{Verdicts.{RowsOk, verdict_of}, declared.Verdict.Verdict, declared.Verdict.TheVariants.Yes}
@@ -75,7 +75,7 @@ unfolding results_text
 header-first events outcomes = (10 ∷ rows_text 1 events outcomes, refl, inr (rows_text 1 events outcomes, refl))
 
 module _ (n e : ℕ) (raw : RawShape) (seed : ℕ) (trace : List ℕ) (events : List (Event n)) (outcomes : List (Outcome n))
-    (some : 1 ≤ n) (is : IsShape raw) (reads : trace_of n (total_of raw) trace ≡ Ok events)
+    (some : 1 ≤ n) (is : IsShape raw) (small : IsSmall raw) (reads : trace_of n (total_of raw) trace ≡ Ok events)
     (begins : BeginResultsAt (trace ++ results_text events outcomes) (length trace))
     (results : AreResults (asks_in events) (results_text events outcomes) outcomes) (yes : verdict_on e raw seed events outcomes ≡ Yes) (once : ReadOnceLaw) where
   abbrev whole : List ℕ
@@ -91,7 +91,7 @@ module _ (n e : ℕ) (raw : RawShape) (seed : ℕ) (trace : List ℕ) (events : 
   lawful = trace_of-lawful n (total_of raw) trace events (some-lines raw is) reads
 
   read-once : IsReadOnce n (asks_in events) (results_text events outcomes)
-  read-once = once n (asks_in events) (results_text events outcomes) some (are-asks (total_of raw) events (some-lines raw is) is.few_in_all lawful.0 lawful.1)
+  read-once = once n (asks_in events) (results_text events outcomes) some (are-asks (total_of raw) events (some-lines raw is) small.few_in_all lawful.0 lawful.1)
 
   has : HasVerdict n e raw seed whole Yes
   has = record {
@@ -177,7 +177,7 @@ verdict-is law {n} {m} e raw seed trace events outcomes array ends run =
 pub may_stand_law : OwnOutcomesLaw → PlacesExistLaw → FewArrayLinesLaw → SoonLaw → RulesKeptLaw → MayStandLaw
 may_stand_law owned places few soon kept n m e raw seed trace events outcomes array ends run =
     let lawful = trace_of-lawful n (total_of raw) trace events (some-lines raw run.shape) run.reads in
-    may_stand e raw seed events outcomes array ends owned places few soon (banks_of raw seed) run.shape run.few lawful.0 lawful.1
+    may_stand e raw seed events outcomes array ends owned places few soon (banks_of raw seed) run.shape run.small run.few lawful.0 lawful.1
     (gives-bytes n (total_of raw) trace events run.reads) run.one_each run.right (rules-kept kept e raw seed trace events outcomes array ends run)
 
 -- the rows of results, from a number on
@@ -201,12 +201,12 @@ pub short_law : MayStandLaw → ShortLaw
 unfolding results_text
 short_law may n m e raw seed trace events outcomes array ends run =
     let lawful = trace_of-lawful n (total_of raw) trace events (some-lines raw run.shape) run.reads in
-    let rows = rows-short (total_of raw) 0 1 events outcomes (some-lines raw run.shape) run.shape.few_in_all lawful.0 (omega (arith, lawful.1)) (may n m e raw seed trace events outcomes array ends run) in
+    let rows = rows-short (total_of raw) 0 1 events outcomes (some-lines raw run.shape) run.small.few_in_all lawful.0 (omega (arith, lawful.1)) (may n m e raw seed trace events outcomes array ends run) in
     omega (arith, rows, length-append header_text (rows_text 1 events outcomes))
 
 pub judged_runs_law : YesLaw → MayStandLaw → SplitLaw → PrintedLaw → ReadOnceLaw → JudgedRunsLaw
 judged_runs_law law may split printed once n m e raw seed trace events outcomes array ends some run ended =
-    judged n e raw seed trace events outcomes some run.shape run.reads
+    judged n e raw seed trace events outcomes some run.shape run.small run.reads
     (split n (total_of raw) trace (results_text events outcomes) events run.reads ended (header-first events outcomes))
     (printed n events outcomes (may n m e raw seed trace events outcomes array ends run))
     (verdict-is law e raw seed trace events outcomes array ends run) once

@@ -17,7 +17,7 @@ use Rattle.row_rules.specs.{Ticking.{attempt, tries, writings}, declared.Asks.As
 use Rattle.check_verdict.specs.Verdicts.{RowsOk}
 use Rattle.trace_rows.{specs.Rows.{rows_with, row_of, asks_of}, proofs.Lines.lines-exist}
 use Rattle.run_text.specs.ResultText.{asked}
-use Rattle.module_shape.specs.{Addresses.{array_lines_of, module_of}, Limits.{IsShape, total_of}, declared.raw.RawShape.RawShape}
+use Rattle.module_shape.specs.{Addresses.{array_lines_of, module_of}, Limits.{IsShape, IsSmall, total_of}, declared.raw.RawShape.RawShape}
 use Rattle.right_runs.specs.{Banks.rules_in, Ends.BankEnd, Runs.RunsRight}
 use Rattle.run_laws.specs.RowsOfRuns.{FewArrayLinesLaw, LinesExist, OwnOutcomesLaw, PlacesExistLaw}
 use Rattle.check_laws.{specs.Ticks.{SoonLaw, longest_among}, proofs.Soon.All-reverse}
@@ -203,16 +203,16 @@ module _ {n m : ℕ} (e : ℕ) (raw : RawShape) (seed : ℕ) (events : List (Eve
   forwards : (P : Row n → Type 0) → All P (reverse all) → All P all
   forwards P h = subst (λ (rs : List (Row n)). All P rs) (reverse-reverse all) (All-reverse P (reverse all) h)
 
-  pub may_stand : OwnOutcomesLaw → PlacesExistLaw → FewArrayLinesLaw → SoonLaw → (banks : List ℕ) → IsShape raw → e ≤ 8 → AreEventsFor (total_of raw) 0 events → length events ≤ most_rows
+  pub may_stand : OwnOutcomesLaw → PlacesExistLaw → FewArrayLinesLaw → SoonLaw → (banks : List ℕ) → IsShape raw → IsSmall raw → e ≤ 8 → AreEventsFor (total_of raw) 0 events → length events ≤ most_rows
       → AllGiveBytes events → length outcomes ≡ length events → RunsRight e raw seed (reverse all) array ends → RowsOk (rules_in e raw 0) banks all → EachMayStand (asks_in events) outcomes
-  may_stand owned places lines soon banks is few lawful rows give size right ok =
+  may_stand owned places lines soon banks is small few lawful rows give size right ok =
       each-may events outcomes size
       (forwards IsOwn (owned n m e raw seed (reverse all) array ends right))
       (All-weaker (λ (r : Row n). ForSome (tick_of r.outcome) (λ tick. tick ≤ latest_tick + longest_among (rules_in e raw 0) (length all))) IsShort
       (λ r h tick at. let late = h tick at in omega (arith, late, short)) all (soon n (rules_in e raw 0) banks all latest_tick ok (ticks-early (total_of raw) 0 events outcomes lawful)))
       (forwards IsPlaced
       (All-weaker (λ (r : Row n). ForSome (place_of r.outcome) (λ place. place < raw.banks * array_lines_of (module_of raw))) IsPlaced
-      (λ r h place at. let below = h place at in omega (arith, below, lines raw is)) (reverse all) (places n m e raw seed (reverse all) array ends is (exist raw events outcomes lawful) right)))
+      (λ r h place at. let below = h place at in omega (arith, below, lines raw is small)) (reverse all) (places n m e raw seed (reverse all) array ends is (exist raw events outcomes lawful) right)))
       (forwards HasBytes (served-bytes (reverse all) [] (AllGive-reverse all (all-give events outcomes give)) right.serves.served))
     where
       short : latest_tick + longest_among (rules_in e raw 0) (length all) < 10 ^ 15

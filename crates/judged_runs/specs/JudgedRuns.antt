@@ -5,7 +5,7 @@ use Rattle.trace_reader.specs.{Trace.trace_of, declared.event.Event.Event}
 use Rattle.result_rows.specs.declared.Outcome.{Outcome}
 use Rattle.check_reader.specs.ResultRows.{EachMayStand}
 use Rattle.run_text.specs.ResultText.{results_text}
-use Rattle.module_shape.specs.{Limits.{IsShape, total_of}, declared.raw.RawShape.RawShape}
+use Rattle.module_shape.specs.{Limits.{IsShape, IsSmall, total_of}, declared.raw.RawShape.RawShape}
 use Rattle.right_runs.specs.{Ends.BankEnd, Runs.RunsRight}
 use Rattle.check_verdict.specs.{declared.Verdict.Verdict, declared.Verdict.TheVariants.Yes}
 use Rattle.trace_rows.specs.Rows.{rows_with}
@@ -16,6 +16,7 @@ use Rattle.check_text.specs.declared.fault.TextFault.TheVariants as fault
 pub record IsRunOf {n m : ℕ} (e : ℕ) (raw : RawShape) (seed : ℕ) (trace : List ℕ) (events : List (Event n)) (outcomes : List (Outcome n))
     (array : ArrayState n m) (ends : ℕ → BankEnd) : Type 0 where
   pub shape : IsShape raw
+  pub small : IsSmall raw
   pub few : e ≤ 8
   pub reads : trace_of n (total_of raw) trace ≡ Ok events
   pub one_each : length outcomes ≡ length events

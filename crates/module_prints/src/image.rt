@@ -10,7 +10,7 @@ ghost use Rattle.pcm_image.specs.Spelling.{bank_bytes, image_bytes};
 ghost use Rattle.right_images.specs.Saving.{saved_banks, saved_of};
 ghost use Rattle.image_text.specs.Printing.{PrintsMore, PrintsPart};
 ghost use Rattle.image_text.specs.Sensing.{SensesRows, SensesSome};
-ghost use Rattle.module_prints.specs.Images.{WritesRows, kept_in};
+ghost use Rattle.module_prints.specs.Images.{HasImage, WritesRows, kept_in};
 
 use cell_rows::CellArray;
 use image_text::{print_bank, print_head, print_rows};
@@ -27,6 +27,7 @@ fn print_banks<const B: usize, const M: usize, const E: usize, K: Sink>(
     requires layout { IsLayout B M E }
     requires limit { ROW_ROOM ≤ text.old.limit }
     requires small { B ≤ 128 }
+    requires image { HasImage pcm.now }
     ensures printed { OnOk result (PrintsMore text.old text.new (K.written out.old)
         (K.written out.new)
         (flat_map bank_bytes (saved_banks (kept_in pcm.now) pcm.now.shape.banks))) }
@@ -56,6 +57,7 @@ pub fn print_image<const B: usize, const M: usize, const E: usize, A: CellArray<
     requires checks { M ≤ 16 }
     requires room { text.old ≡ reserved TEXT_ROOM }
     requires seed { seed ≡ pcm.now.seed }
+    requires image { HasImage pcm.now }
     ensures ok { OnOk result (Appends (K.written out.old) (K.written out.new)
         (image_bytes (saved_of pcm.now.shape seed (kept_in pcm.now) (A.state array.old)))) }
     ensures prefix { OnErr result (AppendsPrefix (K.written out.old) (K.written out.new)

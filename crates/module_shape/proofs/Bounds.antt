@@ -1,9 +1,10 @@
 -- What sizes within the limits are like.
-use Rattle.std.proofs.Common.{◌≡◌, ℕ, ◌+◌, ◌*◌, ◌<◌, ◌≤◌, Bool, true, false, nat_le, List, [], ◌∷◌, None, refl, ap, ◌∙◌, arith}
+use Rattle.std.proofs.Common.{◌≡◌, ℕ, ◌+◌, ◌*◌, ◌^◌, ◌<◌, ◌≤◌, Bool, true, false, ◌&&◌, nat_le, List, [], ◌∷◌, None, refl, ap, ◌∙◌, arith}
 use Rattle.std.{specs.Int.is_power_of_two, proofs.Math.Nat.{mul_assoc, mul_comm, mul-add}, proofs.lemmas.Bool.and_parts, proofs.lemmas.Bool.Decides.nat_tests}
 use Rattle.std.proofs.lemmas.Nat.{mul-le}
-use Rattle.module_shape.specs.{Addresses.{module_of, lines_of}, Limits.{is_between, total_of, limits, first_broken, shape_fault, IsShape}, declared.raw.Field.Field}
-use Rattle.module_shape.{specs.declared.raw.RawShape.RawShape, proofs.Powers.size_of_powers}
+use Rattle.module_shape.specs.{Addresses.{module_of, lines_of}, Limits.{is_between, total_of, limits, first_broken, is_small, most_large, most_small, shape_fault, IsShape, IsSmall}, declared.raw.Field.Field}
+use Rattle.feistel_map.specs.Log2.{log2}
+use Rattle.module_shape.{specs.declared.raw.Most.Most, specs.declared.raw.RawShape.RawShape, proofs.Powers.size_of_powers}
 
 between : (least most n : ℕ) → is_between least most n ≡ true → (least ≤ n) × (n ≤ most)
 between least most n h =
@@ -30,10 +31,23 @@ all_kept (limit ∷ rest) h =
     (first.0, all_kept rest first.1)
 
 -- sizes with which nothing is wrong are within the limits
-pub within_limits : (raw : RawShape) → shape_fault raw ≡ None → IsShape raw
+pub record AreWithin (most : Most) (raw : RawShape) : Type 0 where
+  pub banks : (1 ≤ raw.banks) × (raw.banks ≤ most.banks)
+  pub regions : (1 ≤ raw.regions) × (raw.regions ≤ most.regions)
+  pub lines : (4 ≤ raw.lines) × (raw.lines ≤ most.lines)
+  pub total : total_of raw ≤ most.total
+  pub whole_bits : 2 ^ log2 (total_of raw) ≡ total_of raw
+  pub spares : raw.spares ≤ 1024
+  pub writes : (1 ≤ raw.writes) × (raw.writes ≤ 256)
+  pub reads : (1 ≤ raw.reads) × (raw.reads ≤ 256)
+  pub psi : (1 ≤ raw.psi) × (raw.psi ≤ 65535)
+  pub read_ticks : (1 ≤ raw.read_ticks) × (raw.read_ticks ≤ 255)
+  pub iter_ticks : (1 ≤ raw.iter_ticks) × (raw.iter_ticks ≤ 255)
+
+pub within_limits : (most : Most) (raw : RawShape) → shape_fault most raw ≡ None → AreWithin most raw
 unfolding shape_fault
-within_limits raw h =
-    let banks = all_kept (limits raw) h in
+within_limits most raw h =
+    let banks = all_kept (limits most raw) h in
     let regions = banks.1 in
     let lines = regions.1 in
     let total = lines.1 in
@@ -43,45 +57,80 @@ within_limits raw h =
     let psi = reads.1 in
     let read_ticks = psi.1 in
     let iter_ticks = read_ticks.1 in
-    let some_banks = and_parts (is_power_of_two raw.banks) (is_between 1 16 raw.banks) banks.0 in
-    let some_regions = and_parts (is_power_of_two raw.regions) (is_between 1 16 raw.regions) regions.0 in
-    let some_lines = and_parts (is_power_of_two raw.lines) (is_between 4 4096 raw.lines) lines.0 in
-    let b = between 1 16 raw.banks some_banks.1 in
-    let r = between 1 16 raw.regions some_regions.1 in
-    let l = between 4 4096 raw.lines some_lines.1 in
-    let w = between 1 256 raw.writes writes.0 in
-    let s = between 1 256 raw.reads reads.0 in
-    let p = between 1 65535 raw.psi psi.0 in
-    let t = between 1 255 raw.read_ticks read_ticks.0 in
-    let i = between 1 255 raw.iter_ticks iter_ticks.0 in
+    let some_banks = and_parts (is_power_of_two raw.banks) (is_between 1 most.banks raw.banks) banks.0 in
+    let some_regions = and_parts (is_power_of_two raw.regions) (is_between 1 most.regions raw.regions) regions.0 in
+    let some_lines = and_parts (is_power_of_two raw.lines) (is_between 4 most.lines raw.lines) lines.0 in
     record {
-      some_banks = b.0;
-      few_banks = b.1;
-      some_regions = r.0;
-      few_regions = r.1;
-      some_lines = l.0;
-      few_lines = l.1;
-      few_in_all = at_most 65536 (total_of raw) total.0;
+      banks = between 1 most.banks raw.banks some_banks.1;
+      regions = between 1 most.regions raw.regions some_regions.1;
+      lines = between 4 most.lines raw.lines some_lines.1;
+      total = at_most most.total (total_of raw) total.0;
       whole_bits = size_of_powers raw.banks raw.regions raw.lines some_banks.0 some_regions.0 some_lines.0;
-      few_spares = at_most 1024 raw.spares spares.0;
-      some_writes = w.0;
-      few_writes = w.1;
-      some_reads = s.0;
-      few_reads = s.1;
-      some_psi = p.0;
-      few_psi = p.1;
-      some_read_ticks = t.0;
-      few_read_ticks = t.1;
-      some_iter_ticks = i.0;
-      few_iter_ticks = i.1;
+      spares = at_most 1024 raw.spares spares.0;
+      writes = between 1 256 raw.writes writes.0;
+      reads = between 1 256 raw.reads reads.0;
+      psi = between 1 65535 raw.psi psi.0;
+      read_ticks = between 1 255 raw.read_ticks read_ticks.0;
+      iter_ticks = between 1 255 raw.iter_ticks iter_ticks.0;
     }
 
+-- limits that are within those of a large module
+shape-of : (most : Most) (raw : RawShape) → most.banks ≤ 64 → most.regions ≤ 64 → most.lines ≤ 67108864 → most.total ≤ 67108864 → AreWithin most raw → IsShape raw
+shape-of most raw banks regions lines total is = record {
+  some_banks = is.banks.0;
+  few_banks = omega (arith, is.banks.1, banks);
+  some_regions = is.regions.0;
+  few_regions = omega (arith, is.regions.1, regions);
+  some_lines = is.lines.0;
+  few_lines = omega (arith, is.lines.1, lines);
+  few_in_all = omega (arith, is.total, total);
+  whole_bits = is.whole_bits;
+  few_spares = is.spares;
+  some_writes = is.writes.0;
+  few_writes = is.writes.1;
+  some_reads = is.reads.0;
+  few_reads = is.reads.1;
+  some_psi = is.psi.0;
+  few_psi = is.psi.1;
+  some_read_ticks = is.read_ticks.0;
+  few_read_ticks = is.read_ticks.1;
+  some_iter_ticks = is.iter_ticks.0;
+  few_iter_ticks = is.iter_ticks.1;
+}
+
+pub large-shape : (raw : RawShape) → shape_fault most_large raw ≡ None → IsShape raw
+large-shape raw h = shape-of most_large raw (omega arith) (omega arith) (omega arith) (omega arith) (within_limits most_large raw h)
+
+pub small-shape : (raw : RawShape) → shape_fault most_small raw ≡ None → IsShape raw
+small-shape raw h = shape-of most_small raw (omega arith) (omega arith) (omega arith) (omega arith) (within_limits most_small raw h)
+
+pub is-small : (raw : RawShape) → shape_fault most_small raw ≡ None → IsSmall raw
+is-small raw h =
+    let is = within_limits most_small raw h in
+    record { few_banks = is.banks.1; few_regions = is.regions.1; few_lines = is.lines.1; few_in_all = is.total }
+
+-- the sizes that are tested so
+pub small-by : (raw : RawShape) → is_small raw ≡ true → IsSmall raw
+small-by raw h =
+    let banks = and_parts (nat_le raw.banks 16) (nat_le raw.regions 16 && (nat_le raw.lines 4096 && nat_le (total_of raw) 65536)) h in
+    let regions = and_parts (nat_le raw.regions 16) (nat_le raw.lines 4096 && nat_le (total_of raw) 65536) banks.1 in
+    let lines = and_parts (nat_le raw.lines 4096) (nat_le (total_of raw) 65536) regions.1 in
+    record { few_banks = at_most 16 raw.banks banks.0; few_regions = at_most 16 raw.regions regions.0; few_lines = at_most 4096 raw.lines lines.0; few_in_all = at_most 65536 (total_of raw) lines.1 }
+
+-- one bank has no more lines than all
+pub bank-few : (banks regions lines most : ℕ) → 1 ≤ banks → banks * regions * lines ≤ most → regions * lines ≤ most
+bank-few banks regions lines most some few =
+    omega (arith, mul-le 1 (regions * lines) banks (regions * lines) some (let same : regions * lines ≤ regions * lines = omega arith in same), mul_assoc banks regions lines)
+
+-- the product of at most 64 banks, 64 regions and any lines is below 2 to the power 64
+pub product-fits : (banks regions lines : ℕ) → banks ≤ 64 → regions ≤ 64 → lines < 2 ^ 32 → banks * regions * lines < 2 ^ 64
+product-fits banks regions lines few also low =
+    omega (arith, mul-le (banks * regions) lines 4096 4294967295 (mul-le banks regions 64 64 few also) (omega arith))
+
 -- the array lines of all banks
-slots_few : (banks regions lines spares : ℕ) → banks ≤ 16 → regions ≤ 16 → spares ≤ 1024 → banks * regions * lines ≤ 65536
-    → banks * (regions * (lines + 1) + spares) ≤ 82176
-slots_few banks regions lines spares few also low total =
-    let gaps = mul-le banks regions 16 16 few also in
-    let behind = mul-le banks spares 16 1024 few low in
+slots_few : (banks regions lines spares gaps behind total : ℕ) → banks * regions ≤ gaps → banks * spares ≤ behind → banks * regions * lines ≤ total
+    → banks * (regions * (lines + 1) + spares) ≤ total + gaps + behind
+slots_few banks regions lines spares gaps behind total some rest few =
     let slots = mul-add regions lines 1 in
     let all = mul-add banks (regions * (lines + 1)) spares in
     let in_slots : banks * (regions * (lines + 1)) ≡ banks * (regions * lines) + banks * (regions * 1)
@@ -89,11 +138,19 @@ slots_few banks regions lines spares few also low total =
     let places : banks * (regions * 1) ≡ banks * regions = ap (λ n. banks * n) (omega arith) in
     omega (arith, mul_assoc banks regions lines)
 
-pub array_lines_few : (banks regions lines spares controls : ℕ) → banks ≤ 16 → regions ≤ 16 → spares ≤ 1024 → banks * regions * lines ≤ 65536
-    → controls ≤ regions + spares + 1 → banks * (regions * (lines + 1) + spares + controls) ≤ 98832
+pub array_lines_few : (banks regions lines spares controls : ℕ) → banks ≤ 64 → regions ≤ 64 → spares ≤ 1024 → banks * regions * lines ≤ 67108864
+    → controls ≤ regions + spares + 1 → banks * (regions * (lines + 1) + spares + controls) ≤ 67248192
 array_lines_few banks regions lines spares controls few also low total most =
+    let behind = mul-le banks controls 64 1089 few (omega arith) in
+    let slots = slots_few banks regions lines spares 4096 65536 67108864 (mul-le banks regions 64 64 few also) (mul-le banks spares 64 1024 few low) total in
+    omega (arith, behind, slots, mul-add banks (regions * (lines + 1) + spares) controls)
+
+pub array_lines_small : (banks regions lines spares controls : ℕ) → banks ≤ 16 → regions ≤ 16 → spares ≤ 1024 → banks * regions * lines ≤ 65536
+    → controls ≤ regions + spares + 1 → banks * (regions * (lines + 1) + spares + controls) ≤ 98832
+array_lines_small banks regions lines spares controls few also low total most =
     let behind = mul-le banks controls 16 1041 few (omega arith) in
-    omega (arith, behind, slots_few banks regions lines spares few also low total, mul-add banks (regions * (lines + 1) + spares) controls)
+    let slots = slots_few banks regions lines spares 256 16384 65536 (mul-le banks regions 16 16 few also) (mul-le banks spares 16 1024 few low) total in
+    omega (arith, behind, slots, mul-add banks (regions * (lines + 1) + spares) controls)
 
 -- the array lines of a bank end before those of the next bank begin
 pub banks_apart : (bank next array_lines : ℕ) → bank < next → bank * array_lines + array_lines ≤ next * array_lines

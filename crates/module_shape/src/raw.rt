@@ -1,10 +1,48 @@
 // The sizes that a module is asked to have, and the first that it can't have.
-ghost use Rattle.std.specs.Prelude.{◌≡◌, ◌*◌, ◌≤◌};
-ghost use Rattle.module_shape.specs.Limits.{is_between, is_power_between, shape_fault};
+ghost use Rattle.std.specs.Prelude.{◌≡◌, ◌≤◌, nat_le};
+ghost use Rattle.module_shape.specs.Limits.{is_between, is_power_between, most_large, most_small, shape_fault, total_of};
 
 use bank_shape::{Home, Policy};
 
-/// The sizes of a module, in range or not.
+/// The greatest sizes that a module may have.
+#[derive(Clone, Copy, Debug, PartialEq, Eq)]
+pub struct Most {
+    /// Its banks.
+    pub banks: u32,
+    /// The regions of a bank.
+    pub regions: u32,
+    /// The lines of a region.
+    pub lines: u32,
+    /// Its lines in all.
+    pub total: u32,
+}
+
+/// Those of a module on which a whole trace is replayed.
+pub(crate) fn small() -> Most
+    ensures { result ≡ most_small }
+{
+    Most {
+        banks: 16,
+        regions: 16,
+        lines: 4096,
+        total: 65_536,
+    }
+}
+
+/// Those of a module that serves a stream.
+pub(crate) fn large() -> Most
+    ensures { result ≡ most_large }
+{
+    Most {
+        banks: 64,
+        regions: 64,
+        lines: 67_108_864,
+        total: 67_108_864,
+    }
+}
+
+/// The sizes of a module, in range or not. What stands here are the ranges of one on which a whole trace is replayed; one that
+/// serves a stream may have more banks, regions and lines.
 #[derive(Clone, Copy, Debug, PartialEq, Eq)]
 pub struct RawShape {
     /// How many banks the module has: a power of two, 1 to 16.
@@ -64,18 +102,29 @@ fn is_power_in(number: u32, least: u32, most: u32) -> bool
     number.is_power_of_two() && is_in(number, least, most)
 }
 
+// Whether sizes give at most so many lines in all.
+fn has_at_most(raw: &RawShape, most: u32) -> bool
+    requires few_banks { raw.now.banks ≤ 64 }
+    requires few_regions { raw.now.regions ≤ 64 }
+    ensures { result ≡ nat_le (total_of raw.now) most }
+{
+    u64::from(raw.banks * raw.regions) * u64::from(raw.lines) <= u64::from(most)
+}
+
 /// The first size out of range.
 #[tactic(auto, unfolding(crate::specs::Limits::shape_fault))]
-pub fn fault(raw: &RawShape) -> Option<Field>
-    ensures { result ≡ shape_fault raw.now }
+pub fn fault(raw: &RawShape, most: &Most) -> Option<Field>
+    requires few_banks { most.now.banks ≤ 64 }
+    requires few_regions { most.now.regions ≤ 64 }
+    ensures { result ≡ shape_fault most.now raw.now }
 {
-    if !is_power_in(raw.banks, 1, 16) {
+    if !is_power_in(raw.banks, 1, most.banks) {
         Some(Field::Banks)
-    } else if !is_power_in(raw.regions, 1, 16) {
+    } else if !is_power_in(raw.regions, 1, most.regions) {
         Some(Field::Regions)
-    } else if !is_power_in(raw.lines, 4, 4096) {
+    } else if !is_power_in(raw.lines, 4, most.lines) {
         Some(Field::Lines)
-    } else if raw.banks * raw.regions * raw.lines > 65_536 {
+    } else if !has_at_most(raw, most.total) {
         Some(Field::Total)
     } else if raw.spares > 1024 {
         Some(Field::Spares)

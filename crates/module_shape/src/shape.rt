@@ -1,12 +1,12 @@
 // The sizes of a module that it can have.
-ghost use Rattle.std.specs.Prelude.{◌≡◌, ◌+◌, ◌*◌, ◌^◌, ◌<◌, ◌≤◌, IfOk};
+ghost use Rattle.std.specs.Prelude.{◌≡◌, ◌+◌, ◌*◌, ◌^◌, ◌<◌, ◌≤◌, IfOk, IsTrue};
 ghost use Rattle.feistel_map.specs.Log2.{log2};
 ghost use Rattle.bank_shape.specs.Shape.{IsBankShape, controls_of, lines_in};
 ghost use Rattle.bank_shape.specs.Pausing.{IsPace};
-ghost use Rattle.module_shape.specs.Limits.{IsShape, accepted, total_of};
+ghost use Rattle.module_shape.specs.Limits.{IsShape, IsSmall, accepted, is_small, most_large, most_small, total_of};
 ghost use Rattle.module_shape.specs.Addresses.{module_of, pace_of, lines_of, array_lines_of, bank_shape, bank_of, bank_line_of};
 
-use crate::raw::{BadShape, RawShape, fault};
+use crate::raw::{BadShape, RawShape, fault, large, small};
 use bank_shape::{BankShape, Home, Pace};
 use feistel_map::Address;
 use std::marker::Model;
@@ -38,12 +38,24 @@ pub struct BankLine {
 }
 
 impl Shape {
-    /// The shape of these sizes, or the first one out of range.
+    /// The shape of these sizes, or the first one out of range: that of a module on which a whole trace is replayed.
     pub fn new(raw: RawShape) -> Result<Shape, BadShape>
-        ensures exact { result ≡ accepted raw }
+        ensures exact { result ≡ accepted most_small raw }
+        ensures in_range { IfOk result IsShape }
+        ensures small { IfOk result IsSmall }
+    {
+        match fault(&raw, &small()) {
+            Some(field) => Err(BadShape { field }),
+            None => Ok(Shape { raw }),
+        }
+    }
+
+    /// The same, of a module that serves a stream.
+    pub fn large(raw: RawShape) -> Result<Shape, BadShape>
+        ensures exact { result ≡ accepted most_large raw }
         ensures in_range { IfOk result IsShape }
     {
-        match fault(&raw) {
+        match fault(&raw, &large()) {
             Some(field) => Err(BadShape { field }),
             None => Ok(Shape { raw }),
         }
@@ -55,6 +67,18 @@ impl Shape {
         ensures in_range { IsShape self.now }
     {
         &self.raw
+    }
+
+    /// Whether the sizes are those of a module on which a whole trace is replayed.
+    pub fn is_small(&self) -> bool
+        ensures exact { result ≡ is_small self.now }
+        ensures small { IsTrue result → IsSmall self.now }
+    {
+        let most = small();
+        self.raw.banks <= most.banks
+            && self.raw.regions <= most.regions
+            && self.raw.lines <= most.lines
+            && self.total() <= most.total
     }
 
     /// How many banks the module has.
@@ -76,7 +100,7 @@ impl Shape {
     /// How many array lines the module has: those of all its banks.
     pub fn array_lines(&self) -> u32
         ensures number { result ≡ self.now.banks * array_lines_of (module_of self.now) }
-        ensures few { result ≤ 98832 }
+        ensures few { result ≤ 67248192 }
         ensures in_range { IsShape self.now }
     {
         self.raw.banks * self.bank_lines()
@@ -85,7 +109,7 @@ impl Shape {
     // How many array lines a bank has.
     fn bank_lines(&self) -> u32
         ensures number { result ≡ array_lines_of (module_of self.now) }
-        ensures few { self.now.banks * result ≤ 98832 }
+        ensures few { self.now.banks * result ≤ 67248192 }
         ensures in_range { IsShape self.now }
     {
         self.raw.regions * (self.raw.lines + 1) + self.raw.spares + self.control_lines()
@@ -108,7 +132,7 @@ impl Shape {
         ensures power { 2 ^ result ≡ total_of self.now }
         ensures exact { result ≡ log2 (total_of self.now) }
         ensures some { 2 ≤ result }
-        ensures few { result ≤ 16 }
+        ensures few { result ≤ 26 }
         ensures in_range { IsShape self.now }
     {
         self.total().ilog2()

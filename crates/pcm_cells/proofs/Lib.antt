@@ -10,6 +10,7 @@ pub mod LifeLemmas
 pub mod WearLemmas
 pub mod SeededLemmas
 pub mod CalmLemmas
+pub mod BookLemmas
 pub mod PageLemmas
 pub mod PagingLemmas
 pub mod EnduranceLemmas

@@ -197,5 +197,5 @@ blank_drawn {B} {M} p lines wear zeros same l h =
     let none : slice_index p.table.items l ≡ 0 = ap (λ xs. slice_index xs l) zeros ∙ get_or-replicate lines l 0 0 h in
     let within : l < length p.table.items = omega (arith, h, ap length zeros, length-replicate {A = ℕ} lines 0) in
     let is : get_or (lines_seen p) l (lifeless B M) ≡ drawn_line B M wear l =
-    lines_at p l (lifeless B M) within ∙ seen-none p.wear p.table.items p.pages.items l none ∙ ap (λ w. drawn_line B M w l) same in
+    lines_at p l (lifeless B M) within ∙ seen-none p.wear p.table.items p.pages.lines l none ∙ ap (λ w. drawn_line B M w l) same in
     subst (IsDrawn wear l) (sym is) (drawn_is B M wear l)

@@ -9,3 +9,4 @@ pub mod Seeded
 pub mod Pages
 pub mod Paging
 pub mod Endurance
+pub mod Book

@@ -5,7 +5,7 @@ use Rattle.pcm_cells.specs.{Pages.line_seen, Seeded.LifeLine, declared.pages.Pag
 
 -- the line with this number
 abbrev pub seen : {B M : ℕ} → Pages B M → ℕ → LifeLine B M
-seen p line = line_seen p.wear p.table.items p.pages.items line
+seen p line = line_seen p.wear p.table.items p.pages.lines line
 
 -- the lines, each as it is seen
 unfoldable pub lines_seen : {B M : ℕ} → Pages B M → List (LifeLine B M)

@@ -3,6 +3,7 @@
 #![tactic(auto)]
 
 mod blocks;
+mod book;
 mod calm;
 mod counts;
 mod digits;

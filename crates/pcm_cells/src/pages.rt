@@ -1,5 +1,5 @@
 // Lines that are kept from their first pulse on.
-ghost use Rattle.std.specs.Prelude.{◌≡◌, ◌≢◌, ℕ, ◌+◌, ◌*◌, ◌<◌, length, slice_index, vec_capacity, IfOk, replicate};
+ghost use Rattle.std.specs.Prelude.{◌≡◌, ◌≢◌, ℕ, ◌+◌, ◌*◌, ◌<◌, length, slice_index, IfOk, replicate};
 ghost use Rattle.cell_rows.specs.Rows.{cell, members};
 ghost use Rattle.cell_wear.specs.Told.{most};
 ghost use Rattle.cell_rows.specs.Shape.{IsShape, IsWhole};
@@ -8,6 +8,7 @@ ghost use Rattle.pcm_cells.specs.Follows.{Follows};
 ghost use Rattle.pcm_cells.specs.Seeded.{seeded, seeded_cell};
 ghost use Rattle.pcm_cells.specs.Pages.{IsPaging};
 
+use crate::book::Book;
 use crate::seeded::SeededLine;
 use cell_rows::{Cells, Wear};
 use cell_wear::CellWear;
@@ -21,9 +22,9 @@ pub(crate) struct Pages<const B: usize, const M: usize> {
     // Of each line: 0, or one more than the index of its page.
     table: Vec<u32>,
     // With room for as many as lines.
-    pages: Vec<SeededLine<B, M>>,
+    pages: Book<B, M>,
     ghost wears: { IsWear wear },
-    ghost paging: { IsPaging table.items pages.items (vec_capacity pages) },
+    ghost paging: { IsPaging table.items pages.lines pages.room },
 }
 
 impl<const B: usize, const M: usize> Pages<B, M> {
@@ -39,7 +40,7 @@ impl<const B: usize, const M: usize> Pages<B, M> {
         Ok(Pages {
             wear,
             table: vec![in alloc; 0; lines as usize]?,
-            pages: Vec::with_capacity(alloc, lines as usize)?,
+            pages: Book::blank(alloc, lines)?,
         })
     }
 
@@ -58,7 +59,7 @@ impl<const B: usize, const M: usize> Pages<B, M> {
     {
         match self.table[line as usize] {
             0 => Cells::zero(),
-            page => self.pages[page as usize - 1].held(),
+            page => self.pages.at(page as usize - 1).held(),
         }
     }
 
@@ -70,7 +71,7 @@ impl<const B: usize, const M: usize> Pages<B, M> {
     {
         match self.table[line as usize] {
             0 => 0,
-            page => self.pages[page as usize - 1].pulses(),
+            page => self.pages.at(page as usize - 1).pulses(),
         }
     }
 
@@ -90,7 +91,7 @@ impl<const B: usize, const M: usize> Pages<B, M> {
             },
             page => {
                 let drawn = SeededLine::drawn(self.wear, line);
-                self.pages[page as usize - 1].cell_wear(&drawn)
+                self.pages.at(page as usize - 1).cell_wear(&drawn)
             }
         }
     }
@@ -107,7 +108,7 @@ impl<const B: usize, const M: usize> Pages<B, M> {
         ensures wear { self.new.wear ≡ self.old.wear }
     {
         let index = self.pages.len();
-        self.pages.push_reserved(SeededLine::drawn(self.wear, line));
+        self.pages.push(SeededLine::drawn(self.wear, line));
         self.table[line as usize] = index as u32 + 1;
         index
     }
@@ -142,7 +143,6 @@ impl<const B: usize, const M: usize> Pages<B, M> {
         ensures wear { self.new.wear ≡ self.old.wear }
     {
         let index = self.page(line);
-        let page = &mut self.pages[index];
-        page.wear(tearing, mask, want);
+        self.pages.wear(index, tearing, mask, want);
     }
 }

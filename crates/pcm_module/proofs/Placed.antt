@@ -1,5 +1,6 @@
 -- What an array line is used for, by who has it, and what a slot is, by the registers of its region.
-use Rattle.std.proofs.Common.{◌≡◌, ℕ, ◌+◌, ◌-◌, ◌*◌, ◌/◌, ◌%◌, ◌<◌, ◌≤◌, sym, ap, subst, ◌∙◌, arith}
+use Rattle.std.proofs.Common.{◌≡◌, ℕ, ◌+◌, ◌-◌, ◌*◌, ◌/◌, ◌%◌, ◌^◌, ◌<◌, ◌≤◌, sym, ap, subst, ◌∙◌, arith}
+use Rattle.std.proofs.Math.Nat.{mul-add}
 use Rattle.std.proofs.lemmas.Nat.{mul-add-lt, div_below, div-mul-add, mod-mul-add, div-add-mod'}
 use Rattle.spare_pool.specs.Table.{IsOwner, line_by, used_by}
 use Rattle.spare_pool.specs.declared.Owner.TheVariants as owned
@@ -58,6 +59,21 @@ module _ {n : ℕ} (kept : KeptState n) (range : IsKept kept) where
         ap end.table (slot-of_line end.moves region offset (slot % (lines + 1)) slot offset-below placed (slot-whole slot lines all)) ∙ is.table slot exists,
         own,
       )
+
+  -- a line's number in the bank is a u32, since the numbers of its array lines are
+  pub line-fits : (slot lines offset : ℕ) (registers : Rotation) → slot < slots_of kept.shape → lines ≡ kept.shape.lines
+      → registers ≡ (region_at kept (slot / (lines + 1))).rotation → offset < registers.lines → slot / (lines + 1) * lines + offset < 2 ^ 32
+  line-fits slot lines offset registers exists all at below =
+      let region : ℕ = slot / (lines + 1) in
+      let number : region ≡ slot / (kept.shape.lines + 1) = ap (λ m. slot / (m + 1)) all in
+      let within : region < kept.shape.regions = subst (λ (r : ℕ). r < kept.shape.regions) (sym number) (region-exists slot exists) in
+      let count : registers.lines ≡ kept.shape.lines = ap (λ r. r.lines) at ∙ (range.regions region within).rotates in
+      let offset-below : offset < kept.shape.lines = omega (arith, below, count) in
+      let own : region * lines + offset ≡ region * kept.shape.lines + offset = ap (λ m. region * m + offset) all in
+      let low = line-exists region offset within offset-below in
+      let slots = mul-add kept.shape.regions kept.shape.lines 1 in
+      let fits = range.shape.fits in
+      omega (arith, own, low, slots, fits)
 
   pub gap-role : (slot lines : ℕ) (registers : Rotation) → slot < slots_of kept.shape → lines ≡ kept.shape.lines
       → registers ≡ (region_at kept (slot / (lines + 1))).rotation

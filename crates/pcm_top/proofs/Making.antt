@@ -3,7 +3,7 @@ use Rattle.std.proofs.Common.{◌≡◌, ℕ, ◌≤◌, List, length, Some, sym
 use Rattle.cell_rows.specs.Device.{ArrayState}
 use Rattle.trace_reader.specs.{Events.AreEventsFor, declared.event.Event.Event}
 use Rattle.result_rows.specs.declared.Outcome.{Outcome}
-use Rattle.module_shape.specs.{Limits.{IsShape, total_of}, declared.raw.RawShape.RawShape}
+use Rattle.module_shape.specs.{Limits.{IsShape, IsSmall, total_of}, declared.raw.RawShape.RawShape}
 use Rattle.right_runs.specs.{Ends.BankEnd, Runs.RunsRight}
 use Rattle.pcm_image.specs.Saved.{Saved}
 use Rattle.pcm_module.specs.State.{AreEndsOf, ModuleState}
@@ -30,10 +30,10 @@ module _ {n m e : ℕ} (job : RunJob) (array : ArrayState n m) (events : List (E
     (shape : pcm.shape ≡ job.shape) (seeded : pcm.seed ≡ job.seed) (size : length outcomes ≡ length events)
     (left : (ends : ℕ → BankEnd) × AreEndsOf pcm ends × RunsRight e pcm.shape pcm.seed (rows_of events outcomes) array ends) where
   -- it can be printed
-  pub can-print : PrintableLaw → IsShape job.shape → AreEventsFor (total_of job.shape) 0 events → CanBePrinted pcm.shape pcm.seed events outcomes left.0
-  can-print law in_range lawful =
+  pub can-print : PrintableLaw → IsShape job.shape → IsSmall job.shape → AreEventsFor (total_of job.shape) 0 events → CanBePrinted pcm.shape pcm.seed events outcomes left.0
+  can-print law in_range small lawful =
       let For : RawShape → Type 0 = λ raw. AreEventsFor (total_of raw) 0 events in
-      law n m e pcm.shape pcm.seed events outcomes array left.0 (subst IsShape (sym shape) in_range) (subst For (sym shape) lawful) size left.2
+      law n m e pcm.shape pcm.seed events outcomes array left.0 (subst IsShape (sym shape) in_range) (subst IsSmall (sym shape) small) (subst For (sym shape) lawful) size left.2
 
   -- it is one of the job's
   of-job : RunsRight e job.shape job.seed (rows_of events outcomes) array left.0

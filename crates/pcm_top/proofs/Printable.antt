@@ -10,7 +10,7 @@ use Rattle.trace_reader.{specs.Events.{AreEventsFor, IsOpFor}, specs.declared.ev
 use Rattle.trace_reader.specs.declared.event.EventOp.TheVariants as op
 use Rattle.result_rows.specs.{Outcomes.op_of, declared.Outcome.Outcome}
 use Rattle.row_rules.specs.{Lines.IsOfLines, Rows.op_asked, declared.Row.Row}
-use Rattle.module_shape.specs.{Limits.{IsShape, total_of}, declared.raw.RawShape.RawShape}
+use Rattle.module_shape.specs.{Limits.{IsShape, IsSmall, total_of}, declared.raw.RawShape.RawShape}
 use Rattle.right_runs.specs.{Ends.BankEnd, Runs.RunsRight}
 use Rattle.run_laws.specs.RowsOfRuns.{LinesExist, OwnOutcomesLaw}
 use Rattle.run_text.specs.ResultText.{ArePrintable, named_line}
@@ -40,15 +40,15 @@ module _ {n : ℕ} where
 
   -- each row of a right run has an outcome with which it can be printed
   pub are-printable : {m : ℕ} (e : ℕ) (raw : RawShape) (seed : ℕ) (events : List (Event n)) (outcomes : List (Outcome n)) (array : ArrayState n m) (ends : ℕ → BankEnd)
-      → OwnOutcomesLaw → IsShape raw → AreEventsFor (total_of raw) 0 events → length outcomes ≡ length events
+      → OwnOutcomesLaw → IsSmall raw → AreEventsFor (total_of raw) 0 events → length outcomes ≡ length events
       → RunsRight e raw seed (rows_of events outcomes) array ends → ArePrintable events outcomes
-  are-printable {m} e raw seed events outcomes array ends own shape lawful size right = record {
+  are-printable {m} e raw seed events outcomes array ends own small lawful size right = record {
     one_each = size;
     each = λ i event outcome at is.
         let rows = rows_of events outcomes in
         let mine = row-of-event (λ r. op_of r.outcome ≡ Some (op_asked r.asks)) events outcomes i event outcome at is (own n m e raw seed rows array ends right) in
         record {
           belongs = mine ∙ ap Some (own-op event.op);
-          line = small-line (total_of raw) event.op shape.few_in_all ((AreEventsFor-at (total_of raw) 0 events i event lawful at).0);
+          line = small-line (total_of raw) event.op small.few_in_all ((AreEventsFor-at (total_of raw) 0 events i event lawful at).0);
         };
   }

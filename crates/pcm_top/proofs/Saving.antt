@@ -1,5 +1,5 @@
 -- The image of a run that was made.
-use Rattle.std.proofs.Common.{◌≡◌, ℕ, ◌^◌, ◌<◌, List, Option, Some, None, refl, sym, subst, reverse}
+use Rattle.std.proofs.Common.{◌≡◌, ℕ, ◌^◌, ◌<◌, List, Option, Some, None, refl, sym, ap, subst, reverse, arith}
 use Rattle.std.specs.Prelude.{IsSomeAnd, OnOk, OnErr, Result, Ok, Err, slice_get, unwrap_or}
 use Rattle.pcm_top.specs.{Images.senses_for, Played.IsPlayed, Rows.rows_of, RunText.IsRunText}
 use Rattle.pcm_module.{specs.Asking.asked_for, specs.State.{AreEndsOf, ModuleState, bank_at, first_bank}, proofs.Tables.rows-forwards}
@@ -7,7 +7,8 @@ use Rattle.cell_rows.specs.Device.{ArrayState}
 use Rattle.trace_reader.specs.declared.event.Event.{Event}
 use Rattle.result_rows.specs.declared.Outcome.{Outcome}
 use Rattle.row_rules.specs.declared.Row.{Row}
-use Rattle.module_shape.specs.{Limits.IsShape, declared.raw.RawShape.RawShape}
+use Rattle.bank_shape.specs.declared.BankShape.{BankShape}
+use Rattle.module_shape.specs.{Limits.{IsShape, IsSmall}, declared.raw.RawShape.RawShape}
 use Rattle.bank_timing.specs.Extending.{outcome_in}
 use Rattle.end_laws.specs.EndLaws.{IsEndOf}
 use Rattle.right_runs.specs.{Ends.BankEnd, Runs.RunsRight}
@@ -16,7 +17,7 @@ use Rattle.right_images.specs.{SavesRun.AreRowsTo, Saving.saved_of, SensedSince.
 use Rattle.image_laws.specs.SavedRuns.{IsLeft, SavedLaw, StaysRightLaw}
 use Rattle.command_line.specs.{declared.job.Print.Print, declared.job.Print.TheVariants.Image}
 use Rattle.image_text.{specs.Sensing.SensesRows, proofs.Sensing.senses-none}
-use Rattle.module_prints.specs.{Images.kept_in, WearReports.HaveRoles}
+use Rattle.module_prints.specs.{Images.{HasImage, kept_in}, WearReports.HaveRoles}
 
 -- of an array nothing was sensed for a text that needs no sense
 pub senses-nothing : {n m : ℕ} {T E : Type 0} (r : Result T E) (print : Print) (array : ArrayState n m) → ((lines : ℕ) → senses_for print lines ≡ 0) → OnOk r (SensesRows (senses_for print array.lines) array array)
@@ -35,6 +36,13 @@ no-image (Err e) print P other = λ is. absurd (other is)
 there : {X : Type 0} (P : X → Type 0) (o : Option X) (d : X) → IsSomeAnd o P → P (unwrap_or o d)
 there P (Some x) d h = h
 there P None d h = absurd h
+
+-- a run that was made leaves a module with an image, where its sizes are those of one on which a whole trace is replayed
+pub has-image : {n m e : ℕ} (pcm : ModuleState n m e) (events : List (Event n)) (outcomes : List (Outcome n)) (array : ArrayState n m) → IsSmall pcm.shape → IsPlayed pcm events outcomes array → HasImage pcm
+has-image pcm events outcomes array small played = record {
+  small = small;
+  few_lines = λ bank low. omega (arith, ap (λ (s : BankShape). s.lines) (played.finished.shapes bank low), small.few_lines);
+}
 
 -- what is left of a run, some of whose array's lines were sensed for its text, each of them a row
 abbrev pub LeavesWith : {n m : ℕ} → ℕ → RawShape → ℕ → List (Row n) → ArrayState n m → (Saved n m → ℕ → Type 0) → Type 0
@@ -71,12 +79,12 @@ module _ {n m e : ℕ} (pcm : ModuleState n m e) (before array : ArrayState n m)
 
 -- so the text of a run that prints its image is written
 pub image-text : {n m e : ℕ} → SavedLaw → (pcm : ModuleState n m e) (seed : ℕ) (before array : ArrayState n m) (events : List (Event n)) (outcomes : List (Outcome n)) (print : Print) (P : List ℕ → Type 0)
-    → print ≡ Image → seed ≡ pcm.seed → seed < 2 ^ 64 → IsShape pcm.shape → IsPlayed pcm events outcomes before → (count : ℕ) → SensedSince count before array
+    → print ≡ Image → seed ≡ pcm.seed → seed < 2 ^ 64 → IsShape pcm.shape → IsSmall pcm.shape → IsPlayed pcm events outcomes before → (count : ℕ) → SensedSince count before array
     → P (image_bytes (saved_of pcm.shape seed (kept_in pcm) before))
     → (ends : ℕ → BankEnd) → AreEndsOf pcm ends → RunsRight e pcm.shape pcm.seed (rows_of events outcomes) array ends → HaveRoles pcm.shape pcm.seed ends
     → (whole : List ℕ) × IsRunText pcm.shape pcm.seed e events outcomes ends array print whole × P whole
 unfolding left-of
-image-text {n} {m} {e} law pcm seed before array events outcomes print P is same low shape played count since writes ends are right roles =
+image-text {n} {m} {e} law pcm seed before array events outcomes print P is same low shape small played count since writes ends are right roles =
     let s = saved_of pcm.shape pcm.seed (kept_in pcm) before in
     let left = left-of pcm before array events outcomes played count since in
     let Low : ℕ → Type 0 = λ k. k < 2 ^ 64 in
@@ -84,4 +92,4 @@ image-text {n} {m} {e} law pcm seed before array events outcomes print P is same
     let Writes : ℕ → Type 0 = λ k. P (image_bytes (saved_of pcm.shape k (kept_in pcm) before)) in
     let saves = law n m e pcm.shape pcm.seed (rows_of events outcomes) array ends s left shape (subst Low same low) right
     (λ bank lt. there (λ clock. IsEndOf clock.bank.kept (ends bank)) (slice_get pcm.banks bank) (first_bank pcm.shape bank) (are bank lt)) in
-    (image_bytes s, subst Of (sym is) ((s, left, saves, refl)), subst Writes same writes)
+    (image_bytes s, subst Of (sym is) ((s, left, saves, small, refl)), subst Writes same writes)

@@ -7,6 +7,7 @@ use Rattle.module_shape.specs.{Addresses.{array_lines_of, module_of}, Limits.IsS
 use Rattle.run_text.specs.ResultText.{ArePrintable}
 use Rattle.command_line.specs.declared.job.RunJob.{RunJob}
 use Rattle.pcm_module.specs.State.{ModuleState}
+use Rattle.module_prints.specs.Images.{HasImage}
 use Rattle.pcm_top.specs.Played.{IsPlayed}
 
 -- the run of a job can be printed: the module has replayed its events to the end, over an array of its size, and each row has its text
@@ -15,5 +16,6 @@ pub record MayPrint {n m e : ℕ} (job : RunJob) (pcm : ModuleState n m e)
   pub printable : ArePrintable events outcomes
   pub seed : job.seed ≡ pcm.seed
   pub shape : IsShape pcm.shape
+  pub image : HasImage pcm
   pub played : IsPlayed pcm events outcomes array
   pub size : array.lines ≡ pcm.shape.banks * array_lines_of (module_of pcm.shape)

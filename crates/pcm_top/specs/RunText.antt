@@ -6,7 +6,7 @@ use Rattle.result_rows.specs.declared.Outcome.{Outcome}
 use Rattle.wear_report.specs.WearText.{wear_text}
 use Rattle.bank_shape.specs.declared.Role.{Role}
 use Rattle.run_text.specs.{Counting.counts_of, Pulses.pulses_in_all, ResultText.results_text, SummaryText.summary_text}
-use Rattle.module_shape.specs.declared.raw.RawShape.{RawShape}
+use Rattle.module_shape.specs.{Limits.IsSmall, declared.raw.RawShape.RawShape}
 use Rattle.right_runs.specs.Ends.{BankEnd}
 use Rattle.pcm_image.specs.{Saved.Saved, Spelling.image_bytes}
 use Rattle.image_laws.specs.SavedRuns.{IsLeft}
@@ -28,4 +28,4 @@ module _ {n m : ℕ} (raw : RawShape) (seed : ℕ) where
       (rows : List (ℕ × ℕ × Role)) × IsWearReport raw seed ends array rows × (text ≡ wear_text rows)
   IsRunText e events outcomes ends array Image text =
       (s : Saved n m) × IsLeft e raw seed (rows_of events outcomes) array s
-      × SavesRun e raw seed (rows_of events outcomes) array ends s × (text ≡ image_bytes s)
+      × SavesRun e raw seed (rows_of events outcomes) array ends s × IsSmall raw × (text ≡ image_bytes s)

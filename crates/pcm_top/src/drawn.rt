@@ -1,6 +1,7 @@
 // The command `gen`.
 ghost use Rattle.std.specs.Prelude.{◌≡◌, ◌≤◌};
 ghost use Rattle.pcm_io.specs.Reserved.{reserved};
+ghost use Rattle.module_shape.specs.Limits.{IsSmall};
 ghost use Rattle.trace_gen.specs.EventText.{trace_text};
 ghost use Rattle.trace_gen.specs.Generated.{IsMix, generated};
 ghost use Rattle.pcm_top.specs.Jobs.{gen_text};
@@ -44,6 +45,7 @@ fn print_drawn<const B: usize, K: Sink>(
 fn print_job<K: Sink>(job: &GenJob, text: &mut Text, out: &mut K) -> Result<(), WriteFault>
     requires room { text.old ≡ reserved TEXT_ROOM }
     requires mix { IsMix job.now.mix }
+    requires small { IsSmall job.now.shape }
     ensures { Writes (gen_text job.now) (sink_change K.written K.faults out.old out.new) result }
 {
     let lines = job.shape.total();
@@ -55,7 +57,8 @@ fn print_job<K: Sink>(job: &GenJob, text: &mut Text, out: &mut K) -> Result<(), 
 
 /// Writes a generated trace.
 pub fn write_drawn<K: Sink>(alloc: Global, job: GenJob, out: &mut K) -> Result<(), Fault>
-    requires { IsMix job.mix }
+    requires mix { IsMix job.mix }
+    requires small { IsSmall job.shape }
     ensures { EndsText (gen_text job) (lent_sink K.written K.faults out.old out.new) result }
 {
     let mut text = Text::new(alloc, TEXT_ROOM)?;

@@ -1,6 +1,7 @@
 // The reports on rotation: `map` and `moves`.
 ghost use Rattle.std.specs.Prelude.{◌≡◌, ◌≤◌};
 ghost use Rattle.pcm_io.specs.Reserved.{reserved};
+ghost use Rattle.module_shape.specs.Limits.{IsSmall};
 ghost use Rattle.rotation_reports.specs.MapText.{IsMapOptions, map_text};
 ghost use Rattle.rotation_reports.specs.MovesText.{moves_text};
 ghost use Rattle.command_line.specs.Jobs.{IsMoves};
@@ -17,6 +18,7 @@ use std::alloc::Global;
 
 // What a map is told of.
 fn options_of(job: &MapJob) -> MapOptions
+    requires { IsSmall job.now.shape }
     ensures same { result ≡ map_options job.now }
     ensures in_range { IsMapOptions result }
 {
@@ -72,6 +74,7 @@ fn print_moves<K: Sink>(
 
 /// Writes the report `map`.
 pub fn report_map<K: Sink>(alloc: Global, job: MapJob, out: &mut K) -> Result<(), Fault>
+    requires { IsSmall job.shape }
     ensures { EndsText (map_text (map_options job))
         (lent_sink K.written K.faults out.old out.new) result }
 {

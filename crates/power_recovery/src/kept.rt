@@ -337,7 +337,7 @@ impl<const B: usize> Kept<B> {
 // Makes each region as it was at first.
 fn start_over(regions: &mut [Region], lines: u32, psi: u32)
     requires some_lines { 1 ≤ lines }
-    requires few_lines { lines ≤ 4096 }
+    requires few_lines { lines ≤ 67108864 }
     requires some_writes { 1 ≤ psi }
     requires few_writes { psi ≤ 65535 }
     ensures { regions.new ≡ replicate (length regions.old) (first_region lines psi) }

@@ -59,7 +59,7 @@ module _ (texts : GeneratedTextLaw) (sizes : GeneratedSizeLaw) (job : RunJob) (r
       is ∙ ap (λ (line : LineSize). trace_text (generated (bytes_in line) job.seed (total_of job.shape) mix)) (sym of) in
       record {
         reads =
-            ap (trace_of (bytes_in size) (total_of job.shape)) own ∙ texts (bytes_in size) job.seed (total_of job.shape) mix (some-lines job.shape run.shape) run.shape.few_in_all mixed
+            ap (trace_of (bytes_in size) (total_of job.shape)) own ∙ texts (bytes_in size) job.seed (total_of job.shape) mix (some-lines job.shape run.shape) run.small.few_in_all mixed
             ∙ ap (λ (events : List (Event (bytes_in size))). Ok events) (sym drawn);
         ended = subst EndsItsLine (sym own) (text-ends (generated (bytes_in size) job.seed (total_of job.shape) mix));
         short = omega (arith, ap length own, fits);
@@ -67,13 +67,13 @@ module _ (texts : GeneratedTextLaw) (sizes : GeneratedSizeLaw) (job : RunJob) (r
 
   fits-64 : (mix : Mix) → IsMix mix → length (trace_text (generated 64 job.seed (total_of job.shape) mix)) ≤ trace_room 64
   fits-64 mix mixed =
-      let size = sizes 64 job.seed (total_of job.shape) mix (some-lines job.shape run.shape) run.shape.few_in_all mixed in
+      let size = sizes 64 job.seed (total_of job.shape) mix (some-lines job.shape run.shape) run.small.few_in_all mixed in
       let few = mixed.few_rows in
       omega arith
 
   fits-128 : (mix : Mix) → IsMix mix → length (trace_text (generated 128 job.seed (total_of job.shape) mix)) ≤ trace_room 128
   fits-128 mix mixed =
-      let size = sizes 128 job.seed (total_of job.shape) mix (some-lines job.shape run.shape) run.shape.few_in_all mixed in
+      let size = sizes 128 job.seed (total_of job.shape) mix (some-lines job.shape run.shape) run.small.few_in_all mixed in
       let few = mixed.few_rows in
       omega arith
 
@@ -153,6 +153,7 @@ module _ (texts : GeneratedTextLaw) (sizes : GeneratedSizeLaw) (judges : JudgedR
       let outcomes : List (Outcome n) = made.run.outcomes in
       let one : IsRunOf e job.shape job.seed trace events outcomes array made.run.ends = record {
         shape = run.shape;
+        small = run.small;
         few = few;
         reads = whole.reads;
         one_each = made.run.one_each;

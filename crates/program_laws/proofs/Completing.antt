@@ -8,7 +8,7 @@ use Rattle.trace_gen.specs.Laws.{GeneratedLaw}
 use Rattle.result_rows.specs.{declared.Outcome.Outcome, declared.Outcome.TheVariants.Unset}
 use Rattle.run_text.specs.Shortfall.{any_short, is_short}
 use Rattle.row_rules.specs.declared.Row.{Row}
-use Rattle.module_shape.specs.Limits.{IsShape, total_of}
+use Rattle.module_shape.specs.Limits.{IsShape, IsSmall, total_of}
 use Rattle.run_laws.specs.RowsOfRuns.{NoneLostLaw, NoneShortLaw, RoomIsTakenLaw}
 use Rattle.command_line.specs.{Jobs.IsInput, declared.job.Input.Input, declared.job.Input.TheVariants.{Source, Drawn}, declared.job.RunJob.RunJob}
 use Rattle.program_calls.specs.Calls.{SourceChange}
@@ -38,18 +38,18 @@ whole-by : {n : ℕ} (outcomes : List (Outcome n)) → any_short outcomes ≡ fa
 whole-by outcomes none = rw none refl
 
 -- the events of a run are lawful
-lawful-input : (n : ℕ) (job : RunJob) (input : Input) (s : SourceChange) (events : List (Event n)) → GeneratedLaw → IsShape job.shape → IsInput input
+lawful-input : (n : ℕ) (job : RunJob) (input : Input) (s : SourceChange) (events : List (Event n)) → GeneratedLaw → IsShape job.shape → IsSmall job.shape → IsInput input
     → ComeFrom n job input s events → AreEventsFor (total_of job.shape) 0 events
-lawful-input n job Source s events generates shape is come =
+lawful-input n job Source s events generates shape small is come =
     (trace_of-lawful n (total_of job.shape) come.bytes events (some-lines job.shape shape) come.trace).0
-lawful-input n job (Drawn mix) s events generates shape is come =
+lawful-input n job (Drawn mix) s events generates shape small is come =
     let From : List (Event n) → Type 0 = λ es. AreEventsFor (total_of job.shape) 0 es in
-    subst From (sym come.1) ((generates n job.seed (total_of job.shape) _ (some-lines job.shape shape) shape.few_in_all is).lawful)
+    subst From (sym come.1) ((generates n job.seed (total_of job.shape) _ (some-lines job.shape shape) small.few_in_all is).lawful)
 
 pub completeness : GeneratedLaw → NoneLostLaw → RoomIsTakenLaw → NoneShortLaw → CompletenessLaw
 completeness generates lost room short n m e job s array run is =
     let rows = rows_of run.events run.outcomes in
-    let lawful = lawful-input n job job.input s run.events generates is.shape is.input run.come in
+    let lawful = lawful-input n job job.input s run.events generates is.shape is.small is.input run.come in
     let exist = lines-exist job.shape run.events run.outcomes lawful in
     record {
       none_lost = λ cuts. lost n m e job.shape job.seed rows array run.ends is.shape exist cuts run.right;

@@ -34,18 +34,18 @@ module _ (texts : GeneratedTextLaw) (sizes : GeneratedSizeLaw) (job : RunJob) (m
       record {
         bytes = text_of n;
         whole = record { takes = takes; ended = ended; within = fits };
-        trace = rw is (texts n job.seed (total_of job.shape) mix (some-lines job.shape run.shape) run.shape.few_in_all mixed);
+        trace = rw is (texts n job.seed (total_of job.shape) mix (some-lines job.shape run.shape) run.small.few_in_all mixed);
       }
 
   short-64 : length (text_of 64) ≤ trace_room 64
   short-64 =
-      let size = sizes 64 job.seed (total_of job.shape) mix (some-lines job.shape run.shape) run.shape.few_in_all mixed in
+      let size = sizes 64 job.seed (total_of job.shape) mix (some-lines job.shape run.shape) run.small.few_in_all mixed in
       let few = mixed.few_rows in
       omega arith
 
   short-128 : length (text_of 128) ≤ trace_room 128
   short-128 =
-      let size = sizes 128 job.seed (total_of job.shape) mix (some-lines job.shape run.shape) run.shape.few_in_all mixed in
+      let size = sizes 128 job.seed (total_of job.shape) mix (some-lines job.shape run.shape) run.small.few_in_all mixed in
       let few = mixed.few_rows in
       omega arith
 

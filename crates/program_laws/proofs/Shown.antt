@@ -4,7 +4,7 @@ use Rattle.std.specs.Prelude.{◌⊎◌, Result, Ok, Err}
 use Rattle.cell_rows.specs.Device.{ArrayState}
 use Rattle.row_rules.specs.{Rows.newest, declared.Row.Row}
 use Rattle.rotation_reports.specs.Rows.{rows_from}
-use Rattle.module_shape.specs.{Limits.total_of, declared.raw.RawShape.RawShape}
+use Rattle.module_shape.specs.{Limits.{IsSmall, total_of}, declared.raw.RawShape.RawShape}
 use Rattle.right_runs.specs.Ends.{BankEnd}
 use Rattle.pcm_image.specs.{Saved.{Saved, total_in}, Spelling.image_bytes, Standing.stands_for, declared.ImageFault.ImageFault}
 use Rattle.pcm_image.proofs.Whole.{image_again, size-is}
@@ -34,19 +34,19 @@ shown-is e raw seed rows array ends s saves =
 -- ---- what the bytes show
 
 shown-narrow : (raw : RawShape) (seed : ℕ) (rows : List (Row 64)) (array : ArrayState 64 8) (ends : ℕ → BankEnd) (s : Saved 64 8)
-    → AreRows array → SavesRun 6 raw seed rows array ends s → shown_of (image_bytes s) ≡ Ok (newest_text raw rows)
+    → IsSmall raw → AreRows array → SavesRun 6 raw seed rows array ends s → shown_of (image_bytes s) ≡ Ok (newest_text raw rows)
 unfolding shown_of
-shown-narrow raw seed rows array ends s are saves =
+shown-narrow raw seed rows array ends s small are saves =
     let size = size-is 64 8 s refl (omega arith) in
-    let read = image_again 64 8 refl (omega arith) refl s (saves.right are) in
+    let read = image_again 64 8 refl (omega arith) refl s (saves.right small are) in
     rw (size, read) (ap (λ t. Ok t) (shown-is 6 raw seed rows array ends s saves))
 
 shown-wide : (raw : RawShape) (seed : ℕ) (rows : List (Row 128)) (array : ArrayState 128 16) (ends : ℕ → BankEnd) (s : Saved 128 16)
-    → AreRows array → SavesRun 8 raw seed rows array ends s → shown_of (image_bytes s) ≡ Ok (newest_text raw rows)
+    → IsSmall raw → AreRows array → SavesRun 8 raw seed rows array ends s → shown_of (image_bytes s) ≡ Ok (newest_text raw rows)
 unfolding shown_of
-shown-wide raw seed rows array ends s are saves =
+shown-wide raw seed rows array ends s small are saves =
     let size = size-is 128 16 s refl (omega arith) in
-    let read = image_again 128 16 refl (omega arith) refl s (saves.right are) in
+    let read = image_again 128 16 refl (omega arith) refl s (saves.right small are) in
     rw (size, read) (ap (λ t. Ok t) (shown-is 8 raw seed rows array ends s saves))
 
 -- ---- what `show` makes of them
@@ -99,20 +99,20 @@ module _ (short : ShortImageLaw) where
       let Of : Print → Type 0 = λ p. IsRunText job.shape job.seed 6 written.run.events written.run.outcomes written.run.ends array p written.text in
       let image = subst Of is written.is_text in
       let are = rows-are 6 job s array out done written is in
-      let size = short 64 8 image.0 (omega arith) (omega arith) (image.2.right are) in
+      let size = short 64 8 image.0 (omega arith) (omega arith) (image.2.right image.3 are) in
       shows-as written.text (newest_text job.shape (rows_of written.run.events written.run.outcomes))
-      (ap shown_of image.3 ∙ shown-narrow job.shape job.seed (rows_of written.run.events written.run.outcomes) array written.run.ends image.0 are image.2)
-      (omega (arith, size, ap length image.3))
+      (ap shown_of image.4 ∙ shown-narrow job.shape job.seed (rows_of written.run.events written.run.outcomes) array written.run.ends image.0 image.3 are image.2)
+      (omega (arith, size, ap length image.4))
 
   wide : IsShown 128 16 8
   wide job s array out done written is =
       let Of : Print → Type 0 = λ p. IsRunText job.shape job.seed 8 written.run.events written.run.outcomes written.run.ends array p written.text in
       let image = subst Of is written.is_text in
       let are = rows-are 8 job s array out done written is in
-      let size = short 128 16 image.0 (omega arith) (omega arith) (image.2.right are) in
+      let size = short 128 16 image.0 (omega arith) (omega arith) (image.2.right image.3 are) in
       shows-as written.text (newest_text job.shape (rows_of written.run.events written.run.outcomes))
-      (ap shown_of image.3 ∙ shown-wide job.shape job.seed (rows_of written.run.events written.run.outcomes) array written.run.ends image.0 are image.2)
-      (omega (arith, size, ap length image.3))
+      (ap shown_of image.4 ∙ shown-wide job.shape job.seed (rows_of written.run.events written.run.outcomes) array written.run.ends image.0 image.3 are image.2)
+      (omega (arith, size, ap length image.4))
 
   pub shown-law : ShownLaw
   shown-law = (narrow, wide)

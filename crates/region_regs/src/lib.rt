@@ -9,7 +9,7 @@ ghost use Rattle.region_regs.specs.Region.{IsRegion, first_region, after_store, 
 use start_gap::Registers;
 use std::marker::Model;
 
-/// A region of 1 to 4,096 lines, whose gap moves every `psi` (1 to 65,535) stored writes.
+/// A region of 1 to 67,108,864 lines, whose gap moves every `psi` (1 to 65,535) stored writes.
 #[derive(Debug, Drop)]
 pub struct Region {
     registers: Registers,
@@ -35,7 +35,7 @@ impl Region {
     /// A region that made no gap move and stored no write.
     pub fn new(n: u32, psi: u32) -> Region
         requires some_lines { 1 ≤ n }
-        requires few_lines { n ≤ 4096 }
+        requires few_lines { n ≤ 67108864 }
         requires some_writes { 1 ≤ psi }
         requires few_writes { psi ≤ 65535 }
         ensures fresh { result ≡ first_region n psi }

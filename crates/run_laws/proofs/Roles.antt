@@ -5,7 +5,7 @@ use Rattle.module_shape.{specs.Addresses.{module_of, array_lines_of, bank_shape}
 use Rattle.ecp_line.specs.ArrayLines.{is_worn_at}
 use Rattle.right_runs.specs.{Banks.line_named, Ends.IsRemapped}
 use Rattle.end_laws.specs.Roles.{RoleLaw}
-use Rattle.run_laws.{specs.FinishedLaws.RolesLaw, proofs.Rows.few_array_lines_law}
+use Rattle.run_laws.{specs.FinishedLaws.RolesLaw, proofs.Rows.array_lines_fit}
 
 -- the shape of each bank is one that a bank may have
 pub is_bank_shape : (raw : RawShape) (bank : ℕ) → IsShape raw → bank < raw.banks → IsBankShape (bank_shape (module_of raw) bank)
@@ -25,7 +25,7 @@ is_bank_shape raw bank is few = record {
 }
   where
     fits : bank * array_lines_of (module_of raw) + array_lines_of (module_of raw) < 2 ^ 32
-    fits = omega (arith, banks_apart bank raw.banks (array_lines_of (module_of raw)) few, few_array_lines_law raw is)
+    fits = omega (arith, banks_apart bank raw.banks (array_lines_of (module_of raw)) few, array_lines_fit raw is)
 
 -- no slot has a control line
 pub below_controls : (shape : BankShape) (worn : ℕ → Bool) (table : ℕ → ℕ) → IsRemapped shape worn table

@@ -1,5 +1,5 @@
 -- What a right run says of each row.
-use Rattle.std.proofs.Common.{◌≡◌, ℕ, ◌+◌, ◌*◌, ◌<◌, ◌||◌, Bool, true, false, List, [], ◌∷◌, ◌++◌, map, length, Some, refl, ap, ◌∙◌, subst, arith}
+use Rattle.std.proofs.Common.{◌≡◌, ℕ, ◌+◌, ◌*◌, ◌<◌, ◌≤◌, ◌||◌, Bool, true, false, List, [], ◌∷◌, ◌++◌, map, length, Some, refl, ap, ◌∙◌, subst, arith}
 use Rattle.std.{specs.Option.ForSome, specs.Prelude.{All, nat_lt}, proofs.lemmas.Bool.lt-ltb, proofs.lemmas.List.Elements.{All-nil, All-head, All-tail}}
 use Rattle.masked_bytes.proofs.Truth.{and_second}
 use Rattle.bank_shape.{specs.Shape.controls_of, proofs.Sizes.if_array-le}
@@ -12,7 +12,7 @@ use Rattle.row_rules.specs.{Serving.{is_served, owed}, declared.Asks.Asks, decla
 use Rattle.ecp_line.specs.ArrayLines.{is_worn_at}
 use Rattle.right_runs.specs.{Banks.{bank_of_line, line_in_bank, rules_in}, Ends.BankEnd, Places.is_placed, Runs.RunsRight, Tables.table_in, WornLines.{is_taken, may_leave}}
 use Rattle.module_shape.specs.{Addresses.{module_of, array_lines_of, bank_shape}, Limits.{IsShape, total_of}, declared.raw.RawShape.RawShape}
-use Rattle.module_shape.proofs.Bounds.{array_lines_few, banks_apart}
+use Rattle.module_shape.proofs.Bounds.{array_lines_few, array_lines_small, banks_apart}
 use Rattle.run_laws.specs.RowsOfRuns.{LinesExist, NoCuts, HasRoom, FindsPlace, OwnOutcomesLaw, PlacesExistLaw, FewArrayLinesLaw, NoneLostLaw, RoomIsTakenLaw, NoneShortLaw}
 use Rattle.run_laws.proofs.Facts.{IsOfBank, own_outcome, placed-of_bank, cut-nowhere, IsKept, reads-kept, uncut_in_bank, unread-kept, IsBusyFair, busy-fair, taken-parts}
 use Rattle.run_laws.proofs.{Facts.{read-unshort, write-unshort, cut-unshort}, Lifting.{Each, each-passes, each-all, each-at, each-of, both, with_all, lifted, InOwnBank}}
@@ -28,9 +28,15 @@ own_outcomes_law n m e raw seed rows array ends right =
     (each-passes (λ before r. IsOwn r) is_served
     (λ before r after h. own_outcome r.tick r.asks (owed before r.asks) r.outcome h) rows [] right.serves.served)
 
-pub few_array_lines_law : FewArrayLinesLaw
-few_array_lines_law raw is =
+-- each array line's number is a u32
+pub array_lines_fit : (raw : RawShape) → IsShape raw → raw.banks * array_lines_of (module_of raw) ≤ 67248192
+array_lines_fit raw is =
     array_lines_few raw.banks raw.regions raw.lines raw.spares (controls_of (module_of raw).bank) is.few_banks is.few_regions is.few_spares is.few_in_all
+    (if_array-le raw.home (raw.regions + raw.spares + 1))
+
+pub few_array_lines_law : FewArrayLinesLaw
+few_array_lines_law raw is small =
+    array_lines_small raw.banks raw.regions raw.lines raw.spares (controls_of (module_of raw).bank) small.few_banks small.few_regions is.few_spares small.few_in_all
     (if_array-le raw.home (raw.regions + raw.spares + 1))
 
 module _ {n m : ℕ} (e : ℕ) (raw : RawShape) (seed : ℕ) (rows : List (Row n)) (array : ArrayState n m) (ends : ℕ → BankEnd)

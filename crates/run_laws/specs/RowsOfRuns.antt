@@ -8,7 +8,7 @@ use Rattle.row_rules.specs.{Answers.{accepts, is_queued, is_lost}, Lines.IsOfLin
 use Rattle.row_rules.specs.{declared.Asks.TheVariants.{Reads, Writes, Cuts}, declared.Row.Row}
 use Rattle.ecp_line.specs.ArrayLines.{is_worn_at}
 use Rattle.right_runs.specs.{Banks.bank_of_line, Ends.BankEnd, Runs.RunsRight, Tables.table_in, WornLines.may_leave}
-use Rattle.module_shape.specs.{Addresses.{module_of, array_lines_of, bank_shape}, Limits.{IsShape, total_of}, declared.raw.RawShape.RawShape}
+use Rattle.module_shape.specs.{Addresses.{module_of, array_lines_of, bank_shape}, Limits.{IsShape, IsSmall, total_of}, declared.raw.RawShape.RawShape}
 
 -- each line that the rows name is one of the module's
 abbrev pub LinesExist : {n : ℕ} → RawShape → List (Row n) → Type 0
@@ -45,9 +45,9 @@ PlacesExistLaw =
     → IsShape raw → LinesExist raw rows → RunsRight e raw seed rows array ends
     → All (λ r. ForSome (place_of r.outcome) (λ place. place < raw.banks * array_lines_of (module_of raw))) rows
 
--- a module has at most 98,832 array lines
+-- a module on which a whole trace is replayed has at most 98,832 array lines
 abbrev pub FewArrayLinesLaw : Type 0
-FewArrayLinesLaw = (raw : RawShape) → IsShape raw → raw.banks * array_lines_of (module_of raw) ≤ 98832
+FewArrayLinesLaw = (raw : RawShape) → IsShape raw → IsSmall raw → raw.banks * array_lines_of (module_of raw) ≤ 98832
 
 -- without power cuts no read is lost
 abbrev pub NoneLostLaw : Type 0

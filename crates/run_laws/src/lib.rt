@@ -91,7 +91,7 @@ pub fn places_are_array_lines()
     ensures { PlacesExistLaw }
 {}
 
-/// A module has at most 98,832 array lines.
+/// A module on which a whole trace is replayed has at most 98,832 array lines.
 pub fn array_lines_are_few()
     ensures { FewArrayLinesLaw }
 {}

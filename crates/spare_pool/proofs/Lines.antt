@@ -1,8 +1,8 @@
 -- Where the lines of the slots come from, and what one more retirement changes.
-use Rattle.std.proofs.Common.{◌≡◌, ℕ, ◌+◌, ◌-◌, ◌^◌, ◌<◌, ◌≤◌, ◌==◌, true, false, if◌then◌else◌, ◌⊎◌, inl, inr, List, [], ◌∷◌, ◌++◌, length, length-append, slice_index, get_or, take, refl, sym, ◌∙◌, ap, subst, add-one, arith}
+use Rattle.std.proofs.Common.{◌≡◌, ◌≢◌, ℕ, zero, suc, ◌+◌, ◌-◌, ◌^◌, ◌<◌, ◌≤◌, ◌==◌, true, false, if◌then◌else◌, ◌⊎◌, inl, inr, List, [], ◌∷◌, ◌++◌, length, length-append, slice_index, get_or, replicate, take, refl, sym, ◌∙◌, ap, subst, add-one, arith}
 use Rattle.std.proofs.{Math.ListN.{get_or-append, length-set, set}, Math.Seq.get_or-append_seam, lemmas.Bool.{cases_lt, cases_eq}, lemmas.Bool.Decides.nat_tests}
 use Rattle.std.proofs.{lemmas.Grind.{common_steps, get_or_default_zero}, lemmas.List.{get_or-set_same, get_or-set_other, get_or-take, length-take-le, take_more_set}}
-use Rattle.spare_pool.specs.Table.{Table, line_from, line_by, used_by, retired_table, IsTable, Stores, stored_table}
+use Rattle.spare_pool.specs.Table.{Table, line_from, line_by, line_kept, used_by, retired_table, IsTable, Stores, stored_table}
 
 -- a slot's line is a spare that it was given
 pub record HasSpare (next : ℕ) (replaced : List ℕ) (slot line : ℕ) : Type 0 where
@@ -107,19 +107,20 @@ IsTable-retired table slot range exists left = record {
 
 -- ---- the lists that hold a table
 
-pub read_line : (lines replaced : List ℕ) (used slot line : ℕ) → Stores lines replaced used → slot < length lines → line ≡ get_or lines slot line
-    → line ≡ line_by (stored_table lines replaced used) slot
-read_line lines replaced used slot line stores h e = e ∙ get_or_default_zero lines slot line h ∙ stores.each slot h
+pub read_line : (lines replaced : List ℕ) (used slot kept line : ℕ) → Stores lines replaced used → slot < length lines → kept ≡ get_or lines slot kept
+    → line ≡ line_kept kept slot → line ≡ line_by (stored_table lines replaced used) slot
+read_line lines replaced used slot kept line stores h e is =
+    is ∙ ap (λ k. line_kept k slot) (e ∙ get_or_default_zero lines slot kept h) ∙ stores.each slot h
 
-pub line-within : (lines replaced : List ℕ) (used slot line : ℕ) → Stores lines replaced used → slot < length lines → line ≡ get_or lines slot line
-    → line < length lines + used_by (stored_table lines replaced used)
-line-within lines replaced used slot line stores h e =
-    rw (read_line lines replaced used slot line stores h e) (line_by-within (stored_table lines replaced used) slot h)
+pub line-within : (lines replaced : List ℕ) (used slot kept line : ℕ) → Stores lines replaced used → slot < length lines → kept ≡ get_or lines slot kept
+    → line ≡ line_kept kept slot → line < length lines + used_by (stored_table lines replaced used)
+line-within lines replaced used slot kept line stores h e is =
+    rw (read_line lines replaced used slot kept line stores h e is) (line_by-within (stored_table lines replaced used) slot h)
 
-pub line-apart : (lines replaced : List ℕ) (used slot line : ℕ) → Stores lines replaced used → slot < length lines → line ≡ get_or lines slot line
-    → (other : ℕ) → other < length lines → line_by (stored_table lines replaced used) other ≡ line → other ≡ slot
-line-apart lines replaced used slot line stores h e other w same =
-    line_by-apart (stored_table lines replaced used) slot other h w (same ∙ read_line lines replaced used slot line stores h e)
+pub line-apart : (lines replaced : List ℕ) (used slot kept line : ℕ) → Stores lines replaced used → slot < length lines → kept ≡ get_or lines slot kept
+    → line ≡ line_kept kept slot → (other : ℕ) → other < length lines → line_by (stored_table lines replaced used) other ≡ line → other ≡ slot
+line-apart lines replaced used slot kept line stores h e is other w same =
+    line_by-apart (stored_table lines replaced used) slot other h w (same ∙ read_line lines replaced used slot kept line stores h e is)
 
 -- a used spare went to one slot alone
 pub spare-slot : (lines replaced : List ℕ) (used spare slot : ℕ) → Stores lines replaced used → spare < used → slot ≡ get_or replaced spare slot
@@ -154,18 +155,25 @@ pub stored_table-retired : (lines replaced : List ℕ) (used slot line : ℕ) �
     → stored_table (set lines slot line) (set replaced used slot) (used + 1) ≡ retired_table (stored_table lines replaced used) slot
 stored_table-retired lines replaced used slot line h = rw (length-set, length-set, take_more_set replaced used slot h) refl
 
-stores_each : (lines : List ℕ) (table : Table) (slot : ℕ) → slot < length lines
-    → ((other : ℕ) → other < length lines → slice_index lines other ≡ line_by table other)
-    → (other : ℕ) → other < length lines → slice_index (set lines slot (table.slots + used_by table)) other ≡ line_by (retired_table table slot) other
-stores_each lines table slot h each other w =
+-- what isn't 0 is the line
+kept_some : (kept slot : ℕ) → 1 ≤ kept → line_kept kept slot ≡ kept
+kept_some kept slot some =
+    let test : (kept == 0) ≡ false = grind (arith, nat_tests) in
+    rw test refl
+
+stores_each : (lines : List ℕ) (table : Table) (slot : ℕ) → slot < length lines → 1 ≤ table.slots
+    → ((other : ℕ) → other < length lines → line_kept (slice_index lines other) other ≡ line_by table other)
+    → (other : ℕ) → other < length lines → line_kept (slice_index (set lines slot (table.slots + used_by table)) other) other ≡ line_by (retired_table table slot) other
+stores_each lines table slot h some each other w =
     elim (cases_eq slot other) [
       | inl same ↦
           let test : (slot == other) ≡ true = grind (arith, nat_tests) in
-          rw (line_by-retired table slot other, test, ← same) (get_or-set_same lines slot (table.slots + used_by table) 0 h)
+          rw (line_by-retired table slot other, test, ← same)
+          (ap (λ k. line_kept k slot) (get_or-set_same lines slot (table.slots + used_by table) 0 h) ∙ kept_some (table.slots + used_by table) slot (omega (arith, some)))
       | inr apart ↦
           let test : (slot == other) ≡ false = grind (arith, nat_tests) in
           rw (line_by-retired table slot other, test)
-          (get_or-set_other lines slot other (table.slots + used_by table) 0 (λ e. apart (sym e)) ∙ each other w)
+          (ap (λ k. line_kept k other) (get_or-set_other lines slot other (table.slots + used_by table) 0 (λ e. apart (sym e))) ∙ each other w)
     ]
 
 pub stores-retired : (lines replaced : List ℕ) (used slot line : ℕ) → Stores lines replaced used → slot < length lines → used < length replaced
@@ -180,8 +188,8 @@ stores-retired lines replaced used slot line stores h left e =
       table = rw next (IsTable-retired table slot stores.table h (rw count left));
       within = rw length-set (omega arith);
       each = subst
-          (λ (t : Table). (other : ℕ) → other < length (set lines slot line) → slice_index (set lines slot line) other ≡ line_by t other)
-          (sym next) (rw (length-set, spare) (stores_each lines table slot h stores.each));
+          (λ (t : Table). (other : ℕ) → other < length (set lines slot line) → line_kept (slice_index (set lines slot line) other) other ≡ line_by t other)
+          (sym next) (rw (length-set, spare) (stores_each lines table slot h (omega (arith, h)) stores.each));
     }
 
 pub lines-retired : (lines replaced : List ℕ) (used slot line : ℕ) → Stores lines replaced used → used < length replaced
@@ -193,9 +201,76 @@ lines-retired lines replaced used slot line stores left other =
 
 -- the lists at the beginning
 pub stores-first : (lines replaced : List ℕ) → length lines + length replaced < 2 ^ 32
-    → ((slot : ℕ) → slot < length lines → slice_index lines slot ≡ slot) → Stores lines replaced 0
+    → ((slot : ℕ) → slot < length lines → line_kept (slice_index lines slot) slot ≡ slot) → Stores lines replaced 0
 stores-first lines replaced fits each = record {
   table = record { fits = fits; within = omega arith; known = λ spare below. absurd (omega arith) };
   within = omega arith;
   each = each;
 }
+
+-- ---- the slots that were given a spare are cleared, one after the other
+
+-- of the slots that the first so many spares were given to, nothing is kept any more; of each other slot what was kept, or nothing
+pub record AreCleared (old new replaced : List ℕ) (count : ℕ) : Type 0 where
+  pub size : length new ≡ length old
+  pub each : (slot : ℕ) → slot < length old
+      → (slice_index new slot ≡ 0) ⊎ ((slice_index new slot ≡ slice_index old slot) × ((spare : ℕ) → spare < count → slice_index replaced spare ≢ slot))
+
+pub cleared-none : (old replaced : List ℕ) → AreCleared old old replaced 0
+cleared-none old replaced = record { size = refl; each = λ slot exists. inr (refl, λ spare below. absurd (omega (arith, below))) }
+
+cleared-other : (replaced : List ℕ) (count at slot : ℕ) → at ≡ slice_index replaced count → at ≢ slot → ((spare : ℕ) → spare < count → slice_index replaced spare ≢ slot)
+    → (spare : ℕ) → spare < count + 1 → slice_index replaced spare ≢ slot
+cleared-other replaced count at slot is apart none spare below =
+    elim (cases_eq spare count) [
+      | inl last ↦ λ e. apart (is ∙ ap (λ (k : ℕ). slice_index replaced k) (sym last) ∙ e)
+      | inr before ↦ none spare (omega (arith, below, before))
+    ]
+
+pub cleared-more : (old new replaced : List ℕ) (count at : ℕ) → AreCleared old new replaced count → at ≡ slice_index replaced count → at < length old
+    → AreCleared old (set new at 0) replaced (count + 1)
+cleared-more old new replaced count at is same there = record {
+  size = length-set new at 0 ∙ is.size;
+  each =
+      λ slot exists.
+      elim (cases_eq at slot) [
+        | inl here ↦ inl (rw (← here) (get_or-set_same new at 0 0 (omega (arith, there, is.size))))
+        | inr apart ↦
+            let stays : slice_index (set new at 0) slot ≡ slice_index new slot = get_or-set_other new at slot 0 0 (λ e. apart (sym e)) in
+            elim (is.each slot exists) [
+              | inl none ↦ inl (stays ∙ none)
+              | inr more ↦ inr (stays ∙ more.0, cleared-other replaced count at slot same apart more.1)
+            ]
+      ];
+}
+
+-- then each slot has the line of its own number
+pub cleared-all : (old new replaced : List ℕ) (used count : ℕ) → Stores old replaced used → AreCleared old new replaced count → used ≤ count
+    → (slot : ℕ) → slot < length new → line_kept (slice_index new slot) slot ≡ slot
+cleared-all old new replaced used count stores is all slot exists =
+    let there : slot < length old = omega (arith, exists, is.size) in
+    elim (is.each slot there) [
+      | inl none ↦ ap (λ k. line_kept k slot) none
+      | inr more ↦
+          ap (λ k. line_kept k slot) more.0 ∙ stores.each slot there
+          ∙ elim (line_by-cases (stored_table old replaced used) slot) [
+            | inl own ↦ own
+            | inr spare ↦
+                let few : spare.spare < used = omega (arith, spare.given, length-take-le used replaced stores.within) in
+                absurd (more.1 spare.spare (omega (arith, few, all)) (sym (get_or-take used replaced spare.spare 0 few) ∙ spare.slot_is))
+          ]
+    ]
+
+pub stores-reset : (old new replaced : List ℕ) (used count : ℕ) → Stores old replaced used → AreCleared old new replaced count → used ≤ count → Stores new replaced 0
+stores-reset old new replaced used count stores is all =
+    stores-first new replaced (let fits = stores.table.fits in omega (arith, fits, is.size)) (cleared-all old new replaced used count stores is all)
+
+-- at first nothing is kept of a slot
+zero_at : (k n : ℕ) → slice_index (replicate k 0) n ≡ 0
+zero_at zero zero = refl
+zero_at zero (suc n) = refl
+zero_at (suc k) zero = refl
+zero_at (suc k) (suc n) = zero_at k n
+
+pub first-kept : (lines : List ℕ) (count slot : ℕ) → lines ≡ replicate count 0 → line_kept (slice_index lines slot) slot ≡ slot
+first-kept lines count slot is = ap (λ k. line_kept k slot) (ap (λ (xs : List ℕ). slice_index xs slot) is ∙ zero_at count slot)

@@ -41,6 +41,10 @@ pub record IsTable (table : Table) : Type 0 where
   pub within : used_by table ≤ table.spares
   pub known : (spare : ℕ) → spare < used_by table → slice_index table.replaced spare < table.slots
 
+-- the line of a slot by what is kept of it: 0 where it has the line of its own number
+abbrev pub line_kept : ℕ → ℕ → ℕ
+line_kept kept slot = if kept == 0 then slot else kept
+
 -- the lists hold the table of the first `used` retirements
 abbrev pub stored_table : List ℕ → List ℕ → ℕ → Table
 stored_table lines replaced used = record { slots = length lines; spares = length replaced; replaced = take used replaced }
@@ -48,4 +52,4 @@ stored_table lines replaced used = record { slots = length lines; spares = lengt
 pub record Stores (lines replaced : List ℕ) (used : ℕ) : Type 0 where
   pub table : IsTable (stored_table lines replaced used)
   pub within : used ≤ length replaced
-  pub each : (slot : ℕ) → slot < length lines → slice_index lines slot ≡ line_by (stored_table lines replaced used) slot
+  pub each : (slot : ℕ) → slot < length lines → line_kept (slice_index lines slot) slot ≡ line_by (stored_table lines replaced used) slot

@@ -3,7 +3,7 @@
 #![tactic(auto)]
 
 ghost use Rattle.std.specs.Prelude.{◌≡◌, ◌≢◌, ℕ, ◌+◌, ◌^◌, ◌<◌, ◌≤◌, ◌==◌, ◌↔◌, if◌then◌else◌, IsOk, IfOk, IfSome, IfNone, OnOk, OnErr, slice_index};
-ghost use Rattle.spare_pool.specs.Table.{Table, IsTable, IsOwner, first_table, line_by, used_by, retired_table};
+ghost use Rattle.spare_pool.specs.Table.{Table, IsTable, IsOwner, first_table, line_by, line_kept, used_by, retired_table};
 
 use std::alloc::{AllocError, Global};
 use std::marker::Model;
@@ -27,6 +27,7 @@ pub struct NoSpare;
 /// order, and then the spares.
 #[derive(Debug, Drop)]
 pub struct Remap {
+    // Of each slot: its line where that is a spare, and else 0, so that slots that were given none cost no memory of the machine.
     lines: Vec<u32>,
     replaced: Vec<u32>,
     used: u32,
@@ -49,10 +50,7 @@ impl Remap {
         ensures fresh { IfOk result (λ remap. remap ≡ first_table slots spares) }
         ensures in_range { IfOk result IsTable }
     {
-        let mut lines = Vec::with_capacity(alloc, slots as usize)?;
-        for slot in 0..slots {
-            lines.push(slot)?;
-        }
+        let lines = vec![in alloc; 0; slots as usize]?;
         let replaced = vec![in alloc; 0; spares as usize]?;
         Ok(Remap {
             lines,
@@ -70,7 +68,7 @@ impl Remap {
             → other ≡ slot }
         ensures in_range { IsTable self.now }
     {
-        self.lines[slot as usize]
+        line_kept(self.lines[slot as usize], slot)
     }
 
     /// Gives a slot the next spare line, which is the answer.
@@ -103,8 +101,9 @@ impl Remap {
         ensures first { self.new ≡ first_table self.old.slots self.old.spares }
         ensures in_range { IsTable self.new }
     {
-        for slot in 0..self.lines.len() {
-            self.lines[slot] = slot as u32;
+        for spare in 0..self.used as usize {
+            let slot = self.replaced[spare];
+            self.lines[slot as usize] = 0;
         }
         self.used = 0;
     }
@@ -141,9 +140,11 @@ impl Remap {
         ensures owner { IsOwner self.now line result }
         ensures in_range { IsTable self.now }
     {
+        // A field that is read makes known what is true of every table.
+        let _ = &self.lines;
         match self.only_taker(line) {
             None => Owner::Free,
-            Some(slot) if self.lines[slot as usize] == line => Owner::Slot(slot),
+            Some(slot) if self.line_of(slot) == line => Owner::Slot(slot),
             Some(_) => Owner::Retired,
         }
     }
@@ -166,4 +167,11 @@ impl Remap {
             None
         }
     }
+}
+
+// The line of a slot by what is kept of it.
+fn line_kept(kept: u32, slot: u32) -> u32
+    ensures { result ≡ line_kept kept slot }
+{
+    if kept == 0 { slot } else { kept }
 }

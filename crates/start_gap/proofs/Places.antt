@@ -97,7 +97,7 @@ advanced-range r range =
 abbrev pub rotation_after : ℕ → ℕ → Rotation
 rotation_after n t = record { lines = n; start = t % turn n / (n + 1); gap = n - t % turn n % (n + 1) }
 
-pub rotation_after-range : (n t : ℕ) → 1 ≤ n → n ≤ 4096 → IsRotation (rotation_after n t)
+pub rotation_after-range : (n t : ℕ) → 1 ≤ n → n ≤ 67108864 → IsRotation (rotation_after n t)
 rotation_after-range n t some few = record {
   some_lines = some;
   few_lines = few;
@@ -111,14 +111,14 @@ rotation_after-stands n t = record {
 }
 
 -- no line has the gap, and no two lines have one place
-pub place_after-off_gap : (n t line : ℕ) → 1 ≤ n → n ≤ 4096 → place_after n line t ≢ gap_after n t
+pub place_after-off_gap : (n t line : ℕ) → 1 ≤ n → n ≤ 67108864 → place_after n line t ≢ gap_after n t
 place_after-off_gap n t line some few e =
     let r : Rotation = rotation_after n t in
     let range : IsRotation r = rotation_after-range n t some few in
     let stands : StandsFor r t = rotation_after-stands n t in
     place-off_gap r line (place-stands r t line range stands ∙ e ∙ sym (gap-stands r t range stands))
 
-pub place_after-apart : (n t a b : ℕ) → 1 ≤ n → n ≤ 4096 → a < n → b < n → place_after n a t ≡ place_after n b t → a ≡ b
+pub place_after-apart : (n t a b : ℕ) → 1 ≤ n → n ≤ 67108864 → a < n → b < n → place_after n a t ≡ place_after n b t → a ≡ b
 place_after-apart n t a b some few p q e =
     let r : Rotation = rotation_after n t in
     let range : IsRotation r = rotation_after-range n t some few in

@@ -11,7 +11,7 @@ pub record Rotation : Type 0 where
 -- the registers are in range
 pub record IsRotation (r : Rotation) : Type 0 where
   pub some_lines : 1 ≤ r.lines
-  pub few_lines : r.lines ≤ 4096
+  pub few_lines : r.lines ≤ 67108864
   pub start_below : r.start < r.lines
   pub gap_within : r.gap ≤ r.lines
 

@@ -19,7 +19,7 @@ pub struct Move {
     pub to: u32,
 }
 
-/// The registers Start and Gap of a region of 1 to 4,096 lines.
+/// The registers Start and Gap of a region of 1 to 67,108,864 lines.
 #[derive(Clone, Copy, Debug, PartialEq, Eq)]
 pub struct Registers {
     lines: u32,
@@ -47,7 +47,7 @@ impl Registers {
     /// Every line in the place of its own number, and the gap behind them.
     pub fn new(n: u32) -> Registers
         requires some_lines { 1 ≤ n }
-        requires few_lines { n ≤ 4096 }
+        requires few_lines { n ≤ 67108864 }
         ensures fresh { result ≡ first_rotation n }
         ensures in_range { IsRotation result }
         ensures stands { StandsFor result 0 }

@@ -11,5 +11,5 @@ TextLaw = (n lines : ℕ) (events : List (Event n)) → lines ≤ most_lines →
 
 -- the text of a drawn trace is read as the events that were drawn
 abbrev pub DrawnLaw : Type 0
-DrawnLaw = (n seed lines : ℕ) (mix : Mix) → 1 ≤ lines → lines ≤ 65536 → IsLongMix mix
+DrawnLaw = (n seed lines : ℕ) (mix : Mix) → 1 ≤ lines → lines ≤ 67108864 → IsLongMix mix
     → stream_of n lines (trace_text (generated n seed lines mix)) ≡ Ok (all_events (generated n seed lines mix))

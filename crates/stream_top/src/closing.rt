@@ -10,7 +10,7 @@ ghost use Rattle.right_runs.specs.Ends.{BankEnd};
 ghost use Rattle.right_images.specs.Saving.{saved_of};
 ghost use Rattle.image_text.specs.Sensing.{SensesRows, SensesSome};
 ghost use Rattle.pcm_module.specs.State.{AreEndsOf};
-ghost use Rattle.module_prints.specs.Images.{WritesRows, kept_in};
+ghost use Rattle.module_prints.specs.Images.{HasImage, WritesRows, kept_in};
 ghost use Rattle.module_prints.specs.WearReports.{HaveRoles, cells_at};
 ghost use Rattle.stream_top.specs.Leaving.{IsClosing, senses_for};
 
@@ -35,6 +35,7 @@ pub fn print_closing<const B: usize, const M: usize, const E: usize, A: TellsCel
     requires layout { IsLayout B M E }
     requires room { text.old ≡ reserved TEXT_ROOM }
     requires seed { job.now.seed ≡ pcm.now.seed }
+    requires image { job.now.print ≡ StreamPrint.Image → HasImage pcm.now }
     requires size { (A.state array.old).lines
         ≡ pcm.now.shape.banks * array_lines_of (module_of pcm.now.shape) }
     ensures ok { OnOk result ((ends : ℕ → BankEnd) → AreEndsOf pcm.now ends

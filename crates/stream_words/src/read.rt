@@ -2,14 +2,16 @@
 ghost use Rattle.std.specs.Prelude.{◌≡◌, ◌≢◌, IfErr, IfOk, IfSome, Err, Ok, map, string_bytes};
 ghost use Rattle.clap.specs.Words.{found_of, rows_of};
 ghost use Rattle.command_line.specs.Jobs.{or_usage};
-ghost use Rattle.stream_words.specs.Jobs.{IsStreamJob, stream_job_of, stream_of};
+ghost use Rattle.module_shape.specs.Limits.{IsSmall};
+ghost use Rattle.stream_words.specs.declared.job.StreamPrint.TheVariants.{Image};
+ghost use Rattle.stream_words.specs.Jobs.{IsStreamJob, fitting, stream_job_of, stream_of};
 
 use crate::job::StreamJob;
-use crate::options::{end, long_mix, print};
+use crate::options::{can_print, end, long_mix, print};
 use crate::table::stream_command;
 use clap::ArgMatches;
 use command_line::Refusal;
-use command_line::options::{input, line, seed, shape, wear};
+use command_line::options::{input, large_shape, line, seed, wear};
 use std::alloc::Global;
 
 // The job of these options.
@@ -19,14 +21,14 @@ fn stream(matches: &ArgMatches<'_>) -> Option<StreamJob>
     ensures in_range { IfSome result IsStreamJob }
 {
     let line = line(matches)?;
-    let shape = shape(matches)?;
+    let shape = large_shape(matches)?;
     let seed = seed(matches)?;
     let wear = wear(matches, seed)?;
     let print = print(matches)?;
     let mix = long_mix(matches)?;
     let input = input(matches, mix)?;
     let end = end(matches)?;
-    Some(StreamJob {
+    fitting(StreamJob {
         line,
         shape,
         seed,
@@ -35,6 +37,19 @@ fn stream(matches: &ArgMatches<'_>) -> Option<StreamJob>
         input,
         end,
     })
+}
+
+// A job that writes what can be written of its module.
+fn fitting(job: StreamJob) -> Option<StreamJob>
+    requires ready { (job.print ≡ Image → IsSmall job.shape) → IsStreamJob job }
+    ensures exact { result ≡ fitting job }
+    ensures in_range { IfSome result IsStreamJob }
+{
+    if can_print(&job.shape, job.print) {
+        Some(job)
+    } else {
+        None
+    }
 }
 
 /// What the words behind the program's name ask for.

@@ -100,7 +100,7 @@ long_generated_law n seed lines mix some few is =
     }
 
 pub generated_law : GeneratedLaw
-generated_law n seed lines mix some few is = long_generated_law n seed lines mix some few (long-mix mix is)
+generated_law n seed lines mix some few is = long_generated_law n seed lines mix some (omega (arith, few)) (long-mix mix is)
 
 -- its text
 pub generated_text_law : GeneratedTextLaw

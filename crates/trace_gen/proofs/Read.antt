@@ -1,5 +1,5 @@
 -- A printed row is read as its event.
-use Rattle.std.proofs.Common.{◌≡◌, ℕ, zero, suc, ◌+◌, ◌-◌, ◌*◌, ◌/◌, ◌%◌, ◌^◌, ◌<◌, ◌≤◌, ◌==◌, Bool, true, false, List, [], ◌∷◌, ◌++◌, length, get_or, Some, refl, ap, ◌∙◌, arith, nat_lt, lit<, append-nil, map, length-append}
+use Rattle.std.proofs.Common.{◌≡◌, ℕ, zero, suc, ◌+◌, ◌-◌, ◌*◌, ◌/◌, ◌%◌, ◌^◌, ◌<◌, ◌≤◌, ◌==◌, Bool, true, false, if◌then◌else◌, List, [], ◌∷◌, ◌++◌, length, get_or, Some, refl, ap, ◌∙◌, arith, nat_le, nat_lt, lit<, append-nil, map, length-append}
 use Rattle.std.specs.{Char.is_ascii_digit, List.{join_with_byte, list_all, list_any}, Prelude.{codes, decimal, Ok}, Result.result_ok, Str.Parse.{AllDigits, digits_value}}
 use Rattle.std.proofs.{lemmas.Bool.Decides.nat_tests, lemmas.Fmt.{decimal_is_IsNumeral, length-decimal-le}, lemmas.Str.Parse.digit_from_value}
 use Rattle.csv.specs.{Machine.next_record, Reading.{default_config, records, records_from, records_next, strip_bom}, Records.field_at}
@@ -8,7 +8,7 @@ use Rattle.csv.specs.declared.parser.State.TheVariants as st
 use Rattle.hex.specs.Hex.{IsBytes, encode_lower, encode_with, hex_digit_value, lower_digits}
 use Rattle.hex.proofs.HexLemmas.{IsDigits-lower_digits, decode_of-encode_lower, decode_sized-twice, length-encode_with}
 use Rattle.trace_reader.specs.{Events.{AreEventsFor, IsEventFor, IsOpFor}, Number.number_of, Payload.bytes_of}
-use Rattle.trace_reader.specs.Rows.{cut_of, event_of, latest_tick, line_of, mask_of, op_of, read_of, tick_of, write_of}
+use Rattle.trace_reader.specs.Rows.{cut_of, event_of, latest_tick, line_digits, line_of, mask_of, op_of, read_of, tick_of, write_of}
 use Rattle.trace_reader.specs.{Trace.{events_of, is_header, most_rows, rows_from, trace_of}, declared.event.Event.Event, declared.event.EventOp.EventOp}
 use Rattle.trace_reader.{specs.declared.event.EventOp.TheVariants.{Read, Write, Mask, Cut}, proofs.Numbers.number_of-some}
 use Rattle.trace_gen.specs.EventText.{data_text, event_fields, event_row, event_rows, line_text, masked_text, op_letter, pair_text, trace_header, trace_text}
@@ -34,7 +34,16 @@ tick-read : (tick : ℕ) → tick ≤ latest_tick → tick_of (decimal tick) ≡
 tick-read tick small = number-read 13 latest_tick tick (lit< tt) (omega arith) (omega arith) small
 
 line-read : (lines line : ℕ) → lines ≤ most_lines → line < lines → line_of lines (decimal line) ≡ Some line
-line-read lines line few below = number-read 5 (lines - 1) line (lit< tt) (omega arith) (omega arith) (omega arith)
+line-read lines line few below =
+    number-read (line_digits lines) (lines - 1) line (some-digits (nat_le lines 100000)) (short (nat_le lines 100000) refl) (omega arith) (omega arith)
+  where
+    some-digits : (b : Bool) → 0 < (if b then 5 else 8)
+    some-digits true = lit< tt
+    some-digits false = lit< tt
+
+    short : (b : Bool) → nat_le lines 100000 ≡ b → line < 10 ^ (if b then 5 else 8)
+    short true is = let small : lines ≤ 100000 = grind (arith, nat_tests) in omega arith
+    short false is = omega arith
 
 -- printed bytes are read as the bytes
 bytes-read : (n : ℕ) (bytes : List ℕ) → length bytes ≡ n → IsBytes bytes → bytes_of n (encode_lower bytes) ≡ Some bytes

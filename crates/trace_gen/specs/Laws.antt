@@ -8,9 +8,9 @@ use Rattle.trace_reader.specs.{Events.{AreEventsFor, IsEventFor}, Rows.event_of,
 use Rattle.trace_reader.specs.declared.event.EventOp.TheVariants.{Read, Write, Mask, Cut}
 use Rattle.trace_gen.specs.{EventText.{event_fields, event_row, trace_text}, Generated.{IsLongMix, IsMix, bytes_of_words, generated, words_left}, declared.mix.Mix.Mix}
 
--- the line numbers of a trace have at most five digits
+-- the line numbers of a trace have at most eight digits
 abbrev pub most_lines : ℕ
-most_lines = 100000
+most_lines = 100000000
 
 module _ {n : ℕ} where
   -- what an operation gives are bytes
@@ -70,7 +70,7 @@ pub record IsGenerated {n : ℕ} (lines : ℕ) (mix : Mix) (events : List (Event
 
 -- of as many rows as their ticks allow
 abbrev pub LongGeneratedLaw : Type 0
-LongGeneratedLaw = (n seed lines : ℕ) (mix : Mix) → 1 ≤ lines → lines ≤ 65536 → IsLongMix mix → IsGenerated lines mix (generated n seed lines mix)
+LongGeneratedLaw = (n seed lines : ℕ) (mix : Mix) → 1 ≤ lines → lines ≤ 67108864 → IsLongMix mix → IsGenerated lines mix (generated n seed lines mix)
 
 -- a mix for a whole trace is one for a long one
 abbrev pub LongMixLaw : Type 0

@@ -60,7 +60,7 @@ impl<const B: usize> Generator<B> {
     /// The same, of as many rows as their ticks allow.
     pub fn long(seed: u64, lines: u32, mix: Mix) -> Generator<B>
         requires some_lines { 1 ≤ lines }
-        requires few_lines { lines ≤ 65536 }
+        requires few_lines { lines ≤ 67108864 }
         requires mix { IsLongMix mix }
         ensures { result ≡ generated B seed lines mix }
     {

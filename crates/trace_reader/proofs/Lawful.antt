@@ -5,7 +5,7 @@ use Rattle.std.proofs.{lemmas.Bool.Decides.nat_tests, lemmas.List.length-map}
 use Rattle.hex.{specs.Hex.decode_sized, specs.declared.error.FromHexError.FromHexError, proofs.HexLemmas.{decode_of-ok, decode_sized-ok, decode_sized-twice}}
 use Rattle.masked_bytes.specs.Masked.{zero_elsewhere, IsMasked}
 use Rattle.trace_reader.specs.{Events.{AreEventsFor, IsEventFor, IsOpFor}, Payload.{bytes_of, masked_of, masked_by, Masked, pairs_of}}
-use Rattle.trace_reader.specs.Rows.{cut_of, event_at, event_of, latest_tick, line_of, mask_of, op_of, or_fault, read_of, text_at, tick_of, write_of}
+use Rattle.trace_reader.specs.Rows.{cut_of, event_at, event_of, latest_tick, line_digits, line_of, mask_of, op_of, or_fault, read_of, text_at, tick_of, write_of}
 use Rattle.trace_reader.specs.{Trace.{and_then_rows, event_before, events_of, fault_at, is_header, most_rows, rows_from, trace_of}, declared.event.Event.Event}
 use Rattle.trace_reader.specs.{declared.event.EventOp.EventOp, declared.event.EventOp.TheVariants.{Read, Write, Mask, Cut}, declared.fault.Kind.Kind}
 use Rattle.trace_reader.{specs.declared.fault.ParseFault.ParseFault, proofs.Numbers.number_within, proofs.Pairs.{list_any-some, masked_from}}
@@ -68,7 +68,7 @@ if-ok false r fault u h = cc h
 
 line-below : (lines line : ℕ) (text : List ℕ) → 1 ≤ lines → line_of lines text ≡ Some line → line < lines
 line-below lines line text some h =
-    let within = number_within 5 (lines - 1) line text h in
+    let within = number_within (line_digits lines) (lines - 1) line text h in
     omega arith
 
 -- each operation

@@ -1,9 +1,9 @@
 -- When a text is a number.
-use Rattle.std.proofs.Common.{◌≡◌, ℕ, ◌+◌, ◌-◌, ◌*◌, ◌<◌, ◌≤◌, List, length, get_or, take, true, false, ◌&&◌, Some, None, refl, sym, ap, ◌∙◌, arith, nat_lt, nat_le}
+use Rattle.std.proofs.Common.{Bool, if◌then◌else◌, ◌≡◌, ℕ, ◌+◌, ◌-◌, ◌*◌, ◌<◌, ◌≤◌, List, length, get_or, take, true, false, ◌&&◌, Some, None, refl, sym, ap, ◌∙◌, arith, nat_lt, nat_le}
 use Rattle.std.{specs.Char.{is_ascii_digit, digit_value}, specs.List.list_all, specs.Str.Parse.digits_value, proofs.lemmas.Bool.Decides.nat_tests}
 use Rattle.std.proofs.{lemmas.Int.Digits.digits_value_more, lemmas.List.take_all, lemmas.List.Folds.{list_all_at, list_all_more}, lemmas.Str.digit_value_digit}
 use Rattle.std.proofs.lemmas.Str.Parse.{digits_value-take-le}
-use Rattle.trace_reader.specs.Number.{is_number, number_of}
+use Rattle.trace_reader.specs.{Number.{is_number, number_of}, Rows.line_digits}
 
 -- a text that is too short or too long
 pub number_of-length : (width most : ℕ) (text : List ℕ) → (nat_lt 0 (length text) && nat_le (length text) width) ≡ false → number_of width most text ≡ None
@@ -79,3 +79,11 @@ digit-back c digit = grind arith
 pub number_within : (width most value : ℕ) (text : List ℕ) → number_of width most text ≡ Some value → value ≤ most
 unfolding number_of
 number_within width most value text h = grind (arith, nat_tests)
+
+-- how many digits the number of a line may have
+pub line_digits-few : (lines : ℕ) → line_digits lines ≤ 8
+line_digits-few lines = by (nat_le lines 100000)
+  where
+    by : (b : Bool) → (if b then 5 else 8) ≤ 8
+    by true = omega arith
+    by false = omega arith

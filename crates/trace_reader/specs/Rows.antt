@@ -1,5 +1,5 @@
 -- What a row of a trace says: an event, or the first fault of the row.
-use Rattle.std.specs.{Prelude.{ℕ, ◌-◌, ◌==◌, nat_lt, not, if◌then◌else◌, List, [], length, codes, Option, Some, None, unwrap_or, Result, Ok, Err}, Str.bytes_eq}
+use Rattle.std.specs.{Prelude.{ℕ, ◌-◌, ◌==◌, nat_le, nat_lt, not, if◌then◌else◌, List, [], length, codes, Option, Some, None, unwrap_or, Result, Ok, Err}, Str.bytes_eq}
 use Rattle.csv.specs.Records.{field_at}
 use Rattle.trace_reader.specs.{Number.number_of, Payload.{bytes_of, masked_of}, declared.event.Event.Event, declared.event.EventOp.EventOp}
 use Rattle.trace_reader.specs.{declared.event.EventOp.TheVariants.{Read, Write, Mask, Cut}, declared.fault.Kind.Kind}
@@ -22,9 +22,13 @@ text_at fields i = unwrap_or (field_at fields i) []
 abbrev pub tick_of : List ℕ → Option ℕ
 tick_of text = number_of 13 latest_tick text
 
--- one of so many lines has up to 5 digits
+-- how many digits the number of one of so many lines has at most
+abbrev pub line_digits : ℕ → ℕ
+line_digits lines = if nat_le lines 100000 then 5 else 8
+
+-- one of so many lines
 abbrev pub line_of : ℕ → List ℕ → Option ℕ
-line_of lines text = number_of 5 (lines - 1) text
+line_of lines text = number_of (line_digits lines) (lines - 1) text
 
 -- an operation at a tick
 abbrev pub event_at : {n : ℕ} → ℕ → Result (EventOp n) Kind → Result (Event n) Kind

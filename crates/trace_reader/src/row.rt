@@ -2,7 +2,7 @@
 ghost use Rattle.std.specs.Prelude.{◌≡◌, ◌≤◌};
 ghost use Rattle.std.specs.Option.{ok_or};
 ghost use Rattle.csv.specs.Records.{fields_of};
-ghost use Rattle.trace_reader.specs.Rows.{text_at, line_of, read_of, write_of, mask_of, op_of, row_of, event_of};
+ghost use Rattle.trace_reader.specs.Rows.{text_at, line_digits, line_of, read_of, write_of, mask_of, op_of, row_of, event_of};
 
 use crate::decimal::number;
 use crate::event::{Event, EventOp};
@@ -20,12 +20,19 @@ pub fn field(row: &ByteRecord, index: usize) -> &[u8]
     row.get(index).unwrap_or(b"")
 }
 
+// How many digits the number of one of so many lines has at most.
+fn line_digits(lines: u32) -> usize
+    ensures { result ≡ line_digits lines }
+{
+    if lines <= 100_000 { 5 } else { 8 }
+}
+
 #[tactic(auto, using(crate::proofs::Numbers::number_within))]
 fn read_line(text: &[u8], lines: u32) -> Result<u32, Kind>
     requires { 1 ≤ lines }
     ensures { result ≡ ok_or (line_of lines text.now) Kind.Line }
 {
-    let line = number(text, 5, u64::from(lines - 1)).ok_or(Kind::Line)?;
+    let line = number(text, line_digits(lines), u64::from(lines - 1)).ok_or(Kind::Line)?;
     Ok(line as u32)
 }
 

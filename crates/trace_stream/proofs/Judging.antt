@@ -4,9 +4,9 @@ use Rattle.std.{specs.Prelude.{option_map, codes, if◌then◌else◌, Result, O
 use Rattle.std.proofs.{lemmas.List.{length-map, length-take, length-take-le, take_all}, lemmas.Slice.Eq.bytes_eq-Decides}
 use Rattle.csv.specs.Records.{field_at}
 use Rattle.trace_reader.specs.{Number.number_of, Payload.{Masked, bytes_of, masked_of}}
-use Rattle.trace_reader.specs.{Rows.{cut_of, event_at, event_of, latest_tick, line_of, mask_of, op_of, or_fault, read_of, text_at, tick_of, write_of}, Trace.is_header}
+use Rattle.trace_reader.specs.{Rows.{cut_of, event_at, event_of, latest_tick, line_digits, line_of, mask_of, op_of, or_fault, read_of, text_at, tick_of, write_of}, Trace.is_header}
 use Rattle.trace_reader.specs.{declared.event.Event.Event, declared.event.EventOp.EventOp, declared.event.EventOp.TheVariants.{Read, Write, Mask}, declared.fault.Kind.Kind}
-use Rattle.trace_reader.proofs.{Numbers.number_of-length, Pairs.masked_of-length, Table.{bytes_of-odd, bytes_of-other}}
+use Rattle.trace_reader.proofs.{Numbers.{line_digits-few, number_of-length}, Pairs.masked_of-length, Table.{bytes_of-odd, bytes_of-other}}
 use Rattle.trace_reader.specs.declared.fault.Kind.TheVariants as kind
 use Rattle.trace_stream.specs.{Asked.{asked_of, is_settle, settle_of}, Kept.{kept_field, kept_fields}}
 
@@ -130,7 +130,7 @@ module _ (n lines : ℕ) (small : n ≤ 128) where
   mask_by line found = or_fault line kind.Line (λ line. or_fault found kind.Payload (λ m. Ok (Mask line m.bytes m.given)))
 
   line-kept : (line : List ℕ) → line_of lines (kept_field line) ≡ line_of lines line
-  line-kept line = number-kept 5 _ line (omega arith)
+  line-kept line = number-kept (line_digits lines) _ line (omega (arith, line_digits-few lines))
 
   read-kept : (line payload : List ℕ) → read_of n lines (kept_field line) (kept_field payload) ≡ read_of n lines line payload
   unfolding read_of

@@ -1,5 +1,5 @@
 use Rattle.std.proofs.Common.{arith, ap, ◌∙◌}
-use Rattle.pcm_module.proofs.Placed.{gap-role, line-role}
+use Rattle.pcm_module.proofs.Placed.{gap-role, line-fits, line-role}
 use Rattle.pcm_module.proofs.bank_roles.role_of_slot.Goals as goal
 
 pub returns-in-Some : goal.returns-in-Some
@@ -42,4 +42,10 @@ pub overflow_mul-result : goal.overflow_mul-result
 overflow_mul-result g c = grind arith
 
 pub overflow_add-result : goal.overflow_add-result
-overflow_add-result g c = grind arith
+overflow_add-result g c =
+    omega (
+      arith,
+      line-fits c.args.kept.now c.region.ensures.in_range c.args.slot c.shape-shape.result.now.lines c.in-Some.offset c.registers.result.now c.requires
+          (ap (λ shape. shape.lines) c.shape-shape.ensures.shape) (c.registers.ensures.rotation ∙ ap (λ region. region.rotation) c.region.ensures.region)
+          c.in-Some.ensures.some.0,
+    )

@@ -59,13 +59,13 @@ pub returns-in-Image-clause-ok : goal.returns-in-Image-clause-ok
 returns-in-Image-clause-ok g c =
     on_ok c.print_image.result _ _ c.print_image.ensures.ok
     (image-text c.images_are_of_their_runs.ensures c.args.pcm.now c.args.job.now.seed (g.A.CellArray.state c.args.array.now) (g.A.CellArray.state c.print_image.new.array) c.args.events.now c.args.results.now c.args.job.now.print _ c.in-Image.is
-    c.requires.may_print.seed (omega arith) c.requires.may_print.shape c.requires.may_print.played c.print_image.ensures.sensed.0 c.print_image.ensures.sensed.2.since)
+    c.requires.may_print.seed (omega arith) c.requires.may_print.shape c.requires.may_print.image.small c.requires.may_print.played c.print_image.ensures.sensed.0 c.print_image.ensures.sensed.2.since)
 
 pub returns-in-Image-clause-prefix : goal.returns-in-Image-clause-prefix
 returns-in-Image-clause-prefix g c =
     on_err c.print_image.result _ _ c.print_image.ensures.prefix
     (image-text c.images_are_of_their_runs.ensures c.args.pcm.now c.args.job.now.seed (g.A.CellArray.state c.args.array.now) (g.A.CellArray.state c.print_image.new.array) c.args.events.now c.args.results.now c.args.job.now.print _ c.in-Image.is
-    c.requires.may_print.seed (omega arith) c.requires.may_print.shape c.requires.may_print.played c.print_image.ensures.sensed.0 c.print_image.ensures.sensed.2.since)
+    c.requires.may_print.seed (omega arith) c.requires.may_print.shape c.requires.may_print.image.small c.requires.may_print.played c.print_image.ensures.sensed.0 c.print_image.ensures.sensed.2.since)
 
 pub returns-in-Image-clause-sensed : goal.returns-in-Image-clause-sensed
 returns-in-Image-clause-sensed g c =

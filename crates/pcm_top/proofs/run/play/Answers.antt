@@ -1,8 +1,8 @@
 use Rattle.std.proofs.Common.{◌≡◌, ◌≤◌, refl, sym, ap, ◌∙◌, subst, arith, rules}
-use Rattle.module_shape.specs.Limits.{IsShape}
+use Rattle.module_shape.specs.Limits.{IsShape, IsSmall}
 use Rattle.run_text.proofs.Gathered.{on_err_any}
 use Rattle.trace_reader.proofs.Sizes.{event_fits}
-use Rattle.pcm_top.{specs.Images.senses_for, proofs.Making.{can-print, ready-itself, run-part, run-written}, proofs.Saving.{leaves-with, right-now}}
+use Rattle.pcm_top.{specs.Images.senses_for, proofs.Making.{can-print, ready-itself, run-part, run-written}, proofs.Saving.{has-image, leaves-with, right-now}}
 use Rattle.pcm_top.proofs.run.play.Goals as goal
 use Rattle.command_line.specs.declared.job.Print.TheVariants.{Image}
 use Rattle.module_prints.specs.Images.{WritesRows}
@@ -15,7 +15,7 @@ print_run-requires g c =
     let seeded : c.replay.new.pcm.seed ≡ job.seed = c.replay.ensures.seeded ∙ c.requires.may_play.taken.ready.seeded in
     let can =
     can-print job (g.A.CellArray.state c.replay.new.array) events c.replay.new.results c.replay.new.pcm shape seeded c.replay.ensures.played.one_each c.replay.ensures.right
-    c.right_runs_can_be_printed.ensures c.requires.may_play.asked.shape c.requires.may_play.lawful in (
+    c.right_runs_can_be_printed.ensures c.requires.may_play.asked.shape c.requires.may_play.asked.small c.requires.may_play.lawful in (
       omega arith,
       (
         event_fits g.row.B c.requires.layout.shape.1,
@@ -27,7 +27,7 @@ print_run-requires g c =
               c.requires.may_play.taken.roomy,
               (
                 c.requires.may_play.rows,
-                record { printable = can.rows; seed = sym seeded; shape = subst IsShape (sym shape) c.requires.may_play.asked.shape; played = c.replay.ensures.played; size = c.replay.ensures.right.2.size },
+                record { printable = can.rows; seed = sym seeded; shape = subst IsShape (sym shape) c.requires.may_play.asked.shape; image = has-image c.replay.new.pcm events c.replay.new.results (g.A.CellArray.state c.replay.new.array) (subst IsSmall (sym shape) c.requires.may_play.asked.small) c.replay.ensures.played; played = c.replay.ensures.played; size = c.replay.ensures.right.2.size },
               ),
             ),
           ),
@@ -69,7 +69,7 @@ returns-in_err-print_run g c =
     c.sensed_runs_stay_right.ensures (subst IsShape (sym shape) c.requires.may_play.asked.shape) left.0 left.2 in
     let can =
     can-print job before events c.replay.new.results c.replay.new.pcm shape seeded size left
-    c.right_runs_can_be_printed.ensures c.requires.may_play.asked.shape c.requires.may_play.lawful in
+    c.right_runs_can_be_printed.ensures c.requires.may_play.asked.shape c.requires.may_play.asked.small c.requires.may_play.lawful in
     record {
       done = search rules;
       in_part =
@@ -101,7 +101,7 @@ returns g c =
     c.sensed_runs_stay_right.ensures (subst IsShape (sym shape) c.requires.may_play.asked.shape) left.0 left.2 in
     let can =
     can-print job before events c.replay.new.results c.replay.new.pcm shape seeded size left
-    c.right_runs_can_be_printed.ensures c.requires.may_play.asked.shape c.requires.may_play.lawful in
+    c.right_runs_can_be_printed.ensures c.requires.may_play.asked.shape c.requires.may_play.asked.small c.requires.may_play.lawful in
     record {
       done =
           λ s come.

@@ -1,5 +1,7 @@
-use Rattle.std.proofs.Common.{◌≡◌, ℕ, ◌<◌, length, slice_index}
+use Rattle.std.proofs.Common.{◌≡◌}
+use Rattle.spare_pool.proofs.Lines.{AreCleared}
 use Rattle.spare_pool.proofs.Remap.reset.Given as goal
 
-abbrev pub invariant-loop-slot : goal.invariant-loop-slot
-invariant-loop-slot l = (length l.self-inside.lines.items ≡ length l.initial.self-inside.lines.items) × ((k : ℕ) → k < l.slot → slice_index l.self-inside.lines.items k ≡ k)
+abbrev pub invariant-loop-spare : goal.invariant-loop-spare
+invariant-loop-spare l = AreCleared l.initial.self-inside.lines.items l.self-inside.lines.items l.initial.self-inside.replaced.items l.spare
+    × (l.self-inside.replaced.items ≡ l.initial.self-inside.replaced.items)

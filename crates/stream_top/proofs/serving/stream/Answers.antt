@@ -1,8 +1,10 @@
-use Rattle.std.proofs.Common.{◌≡◌, ◌∙◌, ◌≤◌, inl, Err, Ok, ap, refl, arith}
+use Rattle.std.proofs.Common.{◌≡◌, ◌∙◌, ◌≤◌, inl, Err, Ok, ap, refl, arith, rules}
+use Rattle.row_stream.specs.Asking.{stays_off, with_cut}
 use Rattle.bank_timing.proofs.Sizes.{timed_fits}
 use Rattle.program_calls.specs.Calls.{sink_change}
-use Rattle.stream_top.specs.{Calls.source_between, Leaving.senses_for, Streams.shown_by}
+use Rattle.stream_top.specs.{Calls.source_between, Leaving.senses_for, Streams.{is_off, shown_by}}
 use Rattle.stream_top.proofs.Keeping.{calm-done, calm-fault, never-failed, stream-breaks, stream-part, stream-stops, stream-whole}
+use Rattle.stream_top.proofs.Playing.{has-image}
 use Rattle.stream_top.proofs.serving.stream.Goals as goal
 
 pub drop-pcm-inside-requires-room-T-Destruct : goal.drop-pcm-inside-requires-room-T-Destruct
@@ -29,6 +31,27 @@ play-requires g c = (
     ),
   ),
 )
+
+pub print_closing-requires : goal.print_closing-requires
+print_closing-requires g c =
+    let p = c.in-Ok-play.ensures.done in
+    let new = c.play.new in
+    (
+      omega arith,
+      (
+        c.requires.layout,
+        (
+          search rules,
+          (
+            search rules,
+            (
+              has-image c.args.job.now (stays_off (is_off c.args.job.now.end) p.0) (with_cut (is_off c.args.job.now.end) p.0) new.pcm (g.A.CellArray.state new.array) new.out.rows new.out.told c.requires.job p.1.1.0,
+              search rules,
+            ),
+          ),
+        ),
+      ),
+    )
 
 -- it stopped at a fault, or the output failed before the text of the end
 pub returns-in-Err-play : goal.returns-in-Err-play

@@ -1,5 +1,5 @@
 use Rattle.std.proofs.Common.{◌≡◌, ◌^◌, sym, ap, ◌∙◌, arith}
-use Rattle.feistel_map.{specs.Log2.log2, proofs.Powers.{log2-between, bits_some, bits_few}}
+use Rattle.feistel_map.{specs.Log2.log2, proofs.Powers.{log2-between, bits_some, bits_large}}
 use Rattle.module_shape.{specs.Limits.total_of, proofs.Bounds.lines_some}
 use Rattle.module_shape.proofs.shape.Shape.address_bits.Goals as goal
 
@@ -23,4 +23,4 @@ returns-clause-some c =
 pub returns-clause-few : goal.returns-clause-few
 returns-clause-few c =
     let inv = c.total.ensures.in_range in
-    bits_few _ c.total.result (omega (arith, inv.few_in_all, c.total.ensures.number)) c.ilog2.ensures.power_le
+    bits_large _ c.total.result (omega (arith, inv.few_in_all, c.total.ensures.number)) c.ilog2.ensures.power_le

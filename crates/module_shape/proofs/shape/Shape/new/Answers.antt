@@ -1,9 +1,13 @@
-use Rattle.module_shape.proofs.Bounds.{within_limits}
+use Rattle.std.proofs.Common.{ap, sym, ◌∙◌}
+use Rattle.module_shape.{specs.Limits.shape_fault, proofs.Bounds.{is-small, small-shape}}
 use Rattle.module_shape.proofs.shape.Shape.new.Goals as goal
-use Rattle.std.proofs.Common.{sym, ◌∙◌}
+
 
 pub invariant_of-result : goal.invariant_of-result
-invariant_of-result c = within_limits c.args.raw (sym c.fault.ensures ∙ c.in-None.is)
+invariant_of-result c = small-shape c.args.raw (ap (λ most. shape_fault most c.args.raw) (sym c.small.ensures) ∙ sym c.fault.ensures ∙ c.in-None.is)
 
 pub returns-in-None-clause-in_range : goal.returns-in-None-clause-in_range
-returns-in-None-clause-in_range c = within_limits c.args.raw (sym c.fault.ensures ∙ c.in-None.is)
+returns-in-None-clause-in_range c = small-shape c.args.raw (ap (λ most. shape_fault most c.args.raw) (sym c.small.ensures) ∙ sym c.fault.ensures ∙ c.in-None.is)
+
+pub returns-in-None-clause-small : goal.returns-in-None-clause-small
+returns-in-None-clause-small c = is-small c.args.raw (ap (λ most. shape_fault most c.args.raw) (sym c.small.ensures) ∙ sym c.fault.ensures ∙ c.in-None.is)

@@ -10,14 +10,14 @@ returns-in-0-clause-stuck g c =
     let p = c.args.self.now in
     let line = c.args.line in
     let none : slice_index p.table.items line ≡ 0 = told p.table.items line _ c.requires.exists c.index.ensures ∙ c.in-0.is in
-    sym (drawn_stuck p.wear line _ (seen-none p.wear p.table.items p.pages.items line none))
+    sym (drawn_stuck p.wear line _ (seen-none p.wear p.table.items p.pages.lines line none))
 
 pub returns-in-0-clause-changes : goal.returns-in-0-clause-changes
 returns-in-0-clause-changes g c =
     let p = c.args.self.now in
     let line = c.args.line in
     let none : slice_index p.table.items line ≡ 0 = told p.table.items line _ c.requires.exists c.index.ensures ∙ c.in-0.is in
-    sym (drawn_changes p.wear line _ (seen-none p.wear p.table.items p.pages.items line none))
+    sym (drawn_changes p.wear line _ (seen-none p.wear p.table.items p.pages.lines line none))
 
 pub returns-in_default-clause-stuck : goal.returns-in_default-clause-stuck
 returns-in_default-clause-stuck g c =
@@ -27,7 +27,7 @@ returns-in_default-clause-stuck g c =
     let at : slice_index p.table.items line ≡ page - 1 + 1 = told p.table.items line page c.requires.exists c.index.ensures ∙ omega arith in
     c.cell_wear.ensures.stuck
     ∙ sym (ap (λ (l : LifeLine g.row.B g.row.M). members (cell l.line.stuck) (8 * (g.row.B + g.row.M)))
-    (seen_at p.wear p.table.items p.pages.items _ line (page - 1) c.index-in_default.result.now p.paging at c.index-in_default.ensures))
+    (seen_at p.wear p.table.items p.pages.lines _ line (page - 1) c.at.result.now p.paging at c.at.ensures))
 
 pub returns-in_default-clause-changes : goal.returns-in_default-clause-changes
 returns-in_default-clause-changes g c =
@@ -35,16 +35,17 @@ returns-in_default-clause-changes g c =
     let line = c.args.line in
     let page = c.index.result.now in
     let at : slice_index p.table.items line ≡ page - 1 + 1 = told p.table.items line page c.requires.exists c.index.ensures ∙ omega arith in
-    c.cell_wear.ensures.changes ∙ changes_since p.wear line _ c.index-in_default.result.now c.drawn-drawn.ensures
+    c.cell_wear.ensures.changes ∙ changes_since p.wear line _ c.at.result.now c.drawn-drawn.ensures
     ∙ sym (ap (λ (l : LifeLine g.row.B g.row.M). most (changes_of p.wear line l) (8 * (g.row.B + g.row.M)))
-    (seen_at p.wear p.table.items p.pages.items _ line (page - 1) c.index-in_default.result.now p.paging at c.index-in_default.ensures))
+    (seen_at p.wear p.table.items p.pages.lines _ line (page - 1) c.at.result.now p.paging at c.at.ensures))
 
-pub index-requires-in_default : goal.index-requires-in_default
-index-requires-in_default g c =
+pub at-requires : goal.at-requires
+at-requires g c =
     let p = c.args.self.now in
     let line = c.args.line in
     let page = told p.table.items line c.index.result.now c.requires.exists c.index.ensures in
-    omega (arith, page, p.paging.made line)
+    let made = p.paging.made line in
+    (omega arith, (line_fits c.requires.shape, omega (arith, page, made)))
 
 pub index-requires : goal.index-requires
 index-requires g c = grind arith

@@ -1,4 +1,4 @@
-use Rattle.std.proofs.Common.{◌^◌, ap, refl, ◌∙◌}
+use Rattle.std.proofs.Common.{◌^◌, ap, refl, ◌∙◌, arith}
 use Rattle.feistel_map.{specs.Network.{network_of, feistel}, proofs.Powers.{bits_some, bits_few}}
 use Rattle.pcm_image.{specs.Saved.total_in, proofs.Heads.{head-fits, is_log}}
 use Rattle.pcm_image.proofs.image.Image.mixed.Goals as goal
@@ -7,7 +7,7 @@ pub new-requires-clause-some_bits : goal.new-requires-clause-some_bits
 new-requires-clause-some_bits g c = bits_some _ c.total.result c.total.ensures.some c.ilog2.ensures.next_power_gt
 
 pub new-requires-clause-few_bits : goal.new-requires-clause-few_bits
-new-requires-clause-few_bits g c = bits_few _ c.total.result c.total.ensures.few c.ilog2.ensures.power_le
+new-requires-clause-few_bits g c = omega (arith, bits_few _ c.total.result c.total.ensures.few c.ilog2.ensures.power_le)
 
 pub forward-requires : goal.forward-requires
 forward-requires g c = let e = ap (λ n. 2 ^ n) (is_log c.ilog2.result c.total.result (total_in c.args.self.now.head) c.ilog2.ensures.power_le c.ilog2.ensures.next_power_gt c.total.ensures.is) ∙ (head-fits c.args.self.now.head c.requires.saved.head).power in let bits = ap (λ n. n.bits) c.new.ensures.keys in rw bits (rw e c.requires.exists)

@@ -1,0 +1,33 @@
+-- Kept lines in chunks.
+use Rattle.std.specs.{Prelude.{ℕ, ◌≡◌, ◌-◌, ◌≤◌, min, Bool, List, [], ◌∷◌, ◌++◌, length, slice_index_or, slice_set, Vec, vec_capacity}, declared.alloc.Global.Global}
+use Rattle.cell_rows.specs.{Device.counted, Rows.cell, declared.row.Cells.Cells}
+use Rattle.pcm_cells.specs.{Follows.Follows, Seeded.{LifeLine, seeded, seeded_cell}}
+
+-- how many lines a chunk has room for
+abbrev pub chunk_room : ℕ
+chunk_room = 65536
+
+-- the lines of all chunks, one chunk behind the other
+unfoldable pub lines_in : {X : Type 0} → List (Vec X Global) → List X
+lines_in [] = []
+lines_in (chunk ∷ rest) = chunk.items ++ lines_in rest
+
+-- chunks hold so many lines and have room for so many: of each chunk as many as it has room for stand in it before one stands in the next
+unfoldable pub Hold : {X : Type 0} → ℕ → ℕ → List (Vec X Global) → Type 0
+Hold count room [] = (count ≡ 0) × (room ≡ 0)
+Hold count room (chunk ∷ rest) =
+    (length chunk.items ≡ min count chunk_room) × (min room chunk_room ≤ vec_capacity chunk) × Hold (count - chunk_room) (room - chunk_room) rest
+
+-- what contracts see: the lines, and for how many there is room
+pub record Kept (B M : ℕ) : Type 0 where
+  pub lines : List (LifeLine B M)
+  pub room : ℕ
+
+-- a pulse or a tear of the line of a number, and no other line changes
+pub record WearsAt {B M : ℕ} (index : ℕ) (tearing : Bool) (mask want : Cells B M) (old new : List (LifeLine B M)) : Type 0 where
+  pub before : LifeLine B M
+  pub after : LifeLine B M
+  pub was : before ≡ slice_index_or old index before
+  pub is : new ≡ slice_set old index after
+  pub cells : Follows (cell mask) (seeded tearing (cell want)) (seeded_cell before) (seeded_cell after)
+  pub pulses : after.line.pulses ≡ counted before.line.pulses
