@@ -5,3 +5,5 @@ pub mod Reading
 pub mod Traces
 pub mod Lawful
 pub mod Sizes
+pub mod Lanes
+pub mod PlainRows

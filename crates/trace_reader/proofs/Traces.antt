@@ -2,21 +2,20 @@
 use Rattle.std.proofs.Common.{◌≡◌, ℕ, ◌+◌, ◌<◌, ◌≤◌, List, [], ◌∷◌, ◌++◌, true, false, Bor, refl, sym, ap, ◌∙◌, arith, nat_lt}
 use Rattle.std.{specs.Prelude.{Result, Ok, Err}, proofs.lemmas.Bool.Decides.nat_tests, proofs.lemmas.List.{append_assoc, append-nil}}
 use Rattle.csv.specs.{Reading.{default_config, records, strip_bom}, declared.reader.Reader.Reader}
-use Rattle.trace_reader.specs.{Records.HasLeft, Rows.event_of, Trace.{and_then_rows, event_before, events_of, fault_at, is_header, most_rows, rows_from, trace_of}}
+use Rattle.trace_reader.specs.{Records.HasLeft, Rows.event_of, Trace.{after_events, and_then_rows, event_before, events_of, fault_at, is_header, most_rows, rows_from, trace_of}}
 use Rattle.trace_reader.specs.{declared.event.Event.Event, declared.fault.Kind.Kind, declared.fault.ParseFault.ParseFault}
 use Rattle.trace_reader.specs.declared.fault.Kind.TheVariants as kind
 use Rattle.trace_reader.specs.declared.fault.ParseFault.TheVariants as fault
 
--- events in front of those of the rows behind them
-abbrev pub after_events : {n : ℕ} → List (Event n) → Result (List (Event n)) ParseFault → Result (List (Event n)) ParseFault
-after_events events (Ok behind) = Ok (events ++ behind)
-after_events events (Err fault) = Err fault
-
-after_events-nil : {n : ℕ} (r : Result (List (Event n)) ParseFault) → r ≡ after_events [] r
+pub after_events-nil : {n : ℕ} (r : Result (List (Event n)) ParseFault) → r ≡ after_events [] r
 after_events-nil (Ok behind) = refl
 after_events-nil (Err fault) = refl
 
-after_events-one : {n : ℕ} (events : List (Event n)) (event : Event n) (r : Result (List (Event n)) ParseFault) → after_events events (event_before event r) ≡ after_events (events ++ (event ∷ [])) r
+-- where no events are in front
+pub after_none : (n : ℕ) (events : List (Event n)) (r : Result (List (Event n)) ParseFault) → events ≡ [] → r ≡ after_events events r
+after_none n events r none = rw none (after_events-nil r)
+
+pub after_events-one : {n : ℕ} (events : List (Event n)) (event : Event n) (r : Result (List (Event n)) ParseFault) → after_events events (event_before event r) ≡ after_events (events ++ (event ∷ [])) r
 after_events-one events event (Ok behind) = ap Ok (sym (append_assoc events (event ∷ []) behind))
 after_events-one events event (Err fault) = refl
 
@@ -26,8 +25,9 @@ pub record HasRead (n lines : ℕ) (total : Result (List (Event n)) ParseFault) 
   pub left : HasLeft reader rows
   pub is : total ≡ after_events events (rows_from n lines number before rows)
 
-pub begins : (n lines : ℕ) (reader : Reader (Bor (List ℕ))) (rows : List (List (List ℕ))) → HasLeft reader rows → HasRead n lines (rows_from n lines 1 0 rows) reader [] 1 0
-begins n lines reader rows left = record { rows = rows; left = left; is = after_events-nil (rows_from n lines 1 0 rows) }
+pub begins : (n lines : ℕ) (reader : Reader (Bor (List ℕ))) (rows : List (List (List ℕ))) (events : List (Event n)) (number before : ℕ) → HasLeft reader rows
+    → HasRead n lines (after_events events (rows_from n lines number before rows)) reader events number before
+begins n lines reader rows events number before left = record { rows = rows; left = left; is = refl }
 
 -- the header
 trace_of-records : (n lines : ℕ) (bytes : List ℕ) (all : List (List (List ℕ))) → records default_config (strip_bom bytes) ≡ all → trace_of n lines bytes ≡ events_of n lines all
@@ -55,7 +55,7 @@ rows-end n lines total reader events number before h none =
     h.is ∙ ap (λ (rows : List (List (List ℕ))). after_events events (rows_from n lines number before rows)) none ∙ ap Ok (append-nil events)
 
 -- a row more
-rows_from-step : (n lines number before : ℕ) (fields : List (List ℕ)) (rest : List (List (List ℕ))) → number ≤ most_rows
+pub rows_from-step : (n lines number before : ℕ) (fields : List (List ℕ)) (rest : List (List (List ℕ))) → number ≤ most_rows
     → rows_from n lines number before (fields ∷ rest) ≡ and_then_rows number (event_of n lines before fields) (λ event. rows_from n lines (number + 1) event.tick rest)
 unfolding rows_from
 rows_from-step n lines number before fields rest within =
@@ -95,3 +95,22 @@ unfolding rows_from
 rows-too_many n lines total reader events number before fields rest h some over =
     let more : nat_lt most_rows number ≡ true = grind (arith, nat_tests) in
     h.is ∙ ap (λ (rows : List (List (List ℕ))). after_events events (rows_from n lines number before rows)) some ∙ rw more refl
+
+-- a row more of a text, of which no reader is kept
+text-next : (n lines : ℕ) (total : Result (List (Event n)) ParseFault) (events : List (Event n)) (number before : ℕ) (fields : List (List ℕ)) (rest : List (List (List ℕ))) (r : Result (Event n) Kind)
+    → total ≡ after_events events (rows_from n lines number before (fields ∷ rest)) → number ≤ most_rows → event_of n lines before fields ≡ r
+    → total ≡ after_events events (and_then_rows number r (λ event. rows_from n lines (number + 1) event.tick rest))
+text-next n lines total events number before fields rest r is within e =
+    is ∙ ap (after_events events) (rows_from-step n lines number before fields rest within)
+    ∙ ap (λ (r : Result (Event n) Kind). after_events events (and_then_rows number r (λ event. rows_from n lines (number + 1) event.tick rest))) e
+
+pub text-faulty : (n lines : ℕ) (total : Result (List (Event n)) ParseFault) (events : List (Event n)) (number before : ℕ) (fields : List (List ℕ)) (rest : List (List (List ℕ))) (kind : Kind)
+    → total ≡ after_events events (rows_from n lines number before (fields ∷ rest)) → number ≤ most_rows → event_of n lines before fields ≡ Err kind → total ≡ fault_at number kind
+text-faulty n lines total events number before fields rest kind is within e = text-next n lines total events number before fields rest (Err kind) is within e
+
+pub text-read : (n lines : ℕ) (total : Result (List (Event n)) ParseFault) (events : List (Event n)) (number before : ℕ) (fields : List (List ℕ)) (rest : List (List (List ℕ))) (event : Event n)
+    → total ≡ after_events events (rows_from n lines number before (fields ∷ rest)) → number ≤ most_rows → event_of n lines before fields ≡ Ok event
+    → total ≡ after_events (events ++ (event ∷ [])) (rows_from n lines (number + 1) event.tick rest)
+text-read n lines total events number before fields rest event is within e =
+    text-next n lines total events number before fields rest (Ok event) is within e
+    ∙ after_events-one events event (rows_from n lines (number + 1) event.tick rest)

@@ -1,5 +1,5 @@
 -- What a text means as a trace: its events, or its first fault.
-use Rattle.std.specs.{Prelude.{ℕ, ◌+◌, ◌==◌, ◌&&◌, nat_lt, Bool, if◌then◌else◌, List, [], ◌∷◌, length, codes, Result, Ok, Err}, Str.bytes_eq}
+use Rattle.std.specs.{Prelude.{ℕ, ◌+◌, ◌==◌, ◌&&◌, nat_lt, Bool, if◌then◌else◌, List, [], ◌∷◌, ◌++◌, length, codes, Result, Ok, Err}, Str.bytes_eq}
 use Rattle.csv.specs.Reading.{default_config, records, strip_bom}
 use Rattle.trace_reader.specs.{Rows.{text_at, event_of}, declared.event.Event.Event, declared.fault.Kind.Kind, declared.fault.ParseFault.ParseFault}
 use Rattle.trace_reader.specs.declared.fault.Kind.TheVariants as kind
@@ -23,6 +23,11 @@ fault_at row kind = Err (fault.Trace (record { row = row; kind = kind }))
 abbrev pub event_before : {n : ℕ} → Event n → Result (List (Event n)) ParseFault → Result (List (Event n)) ParseFault
 event_before event (Ok events) = Ok (event ∷ events)
 event_before event (Err fault) = Err fault
+
+-- events in front of those of the rows behind them
+abbrev pub after_events : {n : ℕ} → List (Event n) → Result (List (Event n)) ParseFault → Result (List (Event n)) ParseFault
+after_events events (Ok behind) = Ok (events ++ behind)
+after_events events (Err fault) = Err fault
 
 -- the row's event and what stands behind it, or the row's fault
 abbrev pub and_then_rows : {n : ℕ} → ℕ → Result (Event n) Kind → (Event n → Result (List (Event n)) ParseFault) → Result (List (Event n)) ParseFault

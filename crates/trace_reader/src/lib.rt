@@ -6,6 +6,7 @@ mod decimal;
 mod event;
 mod fault;
 mod payload;
+mod plain;
 mod records;
 mod row;
 mod trace;

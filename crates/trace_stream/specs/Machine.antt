@@ -1,5 +1,5 @@
 -- `csv`'s machine with its default settings, by the states and the actions of this crate.
-use Rattle.std.specs.Prelude.{ℕ, ◌==◌, ◌&&◌, not, Bool, true, false}
+use Rattle.std.specs.{Int.{w64, trailing_zeros}, Prelude.{ℕ, ◌==◌, ◌&&◌, not, Bool, true, false, if◌then◌else◌}}
 use Rattle.csv.specs.declared.parser.State.{State}
 use Rattle.csv.specs.declared.parser.State.TheVariants as st
 use Rattle.csv.specs.declared.parser.Action as csv
@@ -42,3 +42,7 @@ takes_plain st.InQuoted = false
 takes_plain st.AfterQuote = false
 takes_plain st.InEscape = false
 takes_plain st.InComment = false
+
+-- the place of the lowest bit that is 1, or else this number
+abbrev pub first_set : ℕ → ℕ → ℕ
+first_set mask lanes = if mask == 0 then lanes else trailing_zeros w64 mask

@@ -1,41 +1,20 @@
-use Rattle.std.proofs.Common.{sym, ◌∙◌, arith}
+use Rattle.std.proofs.Common.{◌∙◌}
 use Rattle.std.proofs.lemmas.Result.{IfOk-weaker, MatchResult-weaker}
-use Rattle.csv.specs.{Reading.{default_config, records, strip_bom}, Records.fields_of}
-use Rattle.trace_reader.proofs.{Lawful.trace_of-lawful, Traces.{header-missing, header-wrong, header-read}}
-use Rattle.trace_reader.proofs.trace.parse.Goals.{then-not-branch-via-then-not-branch, then-not-branch-via-else-not-branch+then-not-is_header_row}
+use Rattle.trace_reader.proofs.{Lawful.trace_of-lawful}
 use Rattle.trace_reader.proofs.trace.parse.Goals as goal
 
-pub returns-then-not-branch-clause-err : goal.returns-then-not-branch-clause-err
-returns-then-not-branch-clause-err g c =
-    let all = records default_config (strip_bom c.args.bytes.now) in
-    let found = c.in_ok-next_row.ensures.found all c.open-reader.ensures in
-    λ other. elim c.then-not-branch.branch [
-      | then-not-branch-via-then-not-branch w ↦ header-missing g.row.B c.args.lines c.args.bytes.now (rw w.if-not-branch.true at found)
-      | then-not-branch-via-else-not-branch+then-not-is_header_row w ↦
-          let some = rw w.if-not-branch.false at found in
-          header-wrong g.row.B c.args.lines c.args.bytes.now (fields_of c.next_row.new.row) some.0 some.1 (sym w.is_header_row.ensures ∙ w.if-not-is_header_row.true)
-    ]
+pub returns-in-Some-clause-ok : goal.returns-in-Some-clause-ok
+returns-in-Some-clause-ok g c =
+    IfOk-weaker c.read_plain.result _ _ (λ v p. c.in-Some.ensures.3 g.row.B c.args.lines ∙ p) c.read_plain.ensures.ok
 
-pub read_rows-requires : goal.read_rows-requires
-read_rows-requires g c =
-    let all = records default_config (strip_bom c.args.bytes.now) in
-    let some = rw c.if-not-branch.false at (c.in_ok-next_row.ensures.found all c.open-reader.ensures) in
-    (omega (arith, c.requires.small), (c.requires.lines, (c.requires.small, (some.0, some.2))))
+pub returns-in-Some-clause-events : goal.returns-in-Some-clause-events
+returns-in-Some-clause-events g c =
+    IfOk-weaker c.read_plain.result _ _ (λ v p. (trace_of-lawful g.row.B c.args.lines c.args.bytes.now v.items c.requires.lines p).0) (returns-in-Some-clause-ok g c)
 
-pub returns-clause-ok : goal.returns-clause-ok
-returns-clause-ok g c =
-    let all = records default_config (strip_bom c.args.bytes.now) in
-    let some = rw c.if-not-branch.false at (c.in_ok-next_row.ensures.found all c.open-reader.ensures) in
-    let is = header-read g.row.B c.args.lines c.args.bytes.now (fields_of c.next_row.new.row) some.0 some.1 (sym c.is_header_row.ensures ∙ c.if-not-is_header_row.false) in
-    IfOk-weaker c.read_rows.result _ _ (λ v p. is ∙ p some.0 some.2) c.read_rows.ensures.ok
+pub returns-in-Some-clause-err : goal.returns-in-Some-clause-err
+returns-in-Some-clause-err g c =
+    MatchResult-weaker c.read_plain.result c.read_plain.ensures.err (λ v p. p) (λ e p other. c.in-Some.ensures.3 g.row.B c.args.lines ∙ p other)
 
-pub returns-clause-events : goal.returns-clause-events
-returns-clause-events g c =
-    IfOk-weaker c.read_rows.result _ _ (λ v p. (trace_of-lawful g.row.B c.args.lines c.args.bytes.now v.items c.requires.lines p).0) (returns-clause-ok g c)
-
-pub returns-clause-err : goal.returns-clause-err
-returns-clause-err g c =
-    let all = records default_config (strip_bom c.args.bytes.now) in
-    let some = rw c.if-not-branch.false at (c.in_ok-next_row.ensures.found all c.open-reader.ensures) in
-    let is = header-read g.row.B c.args.lines c.args.bytes.now (fields_of c.next_row.new.row) some.0 some.1 (sym c.is_header_row.ensures ∙ c.if-not-is_header_row.false) in
-    MatchResult-weaker c.read_rows.result c.read_rows.ensures.err (λ v p. p) (λ e p other. is ∙ p other some.0 some.2)
+pub returns-in-None-clause-events : goal.returns-in-None-clause-events
+returns-in-None-clause-events g c =
+    IfOk-weaker c.parse_all.result _ _ (λ v p. (trace_of-lawful g.row.B c.args.lines c.args.bytes.now v.items c.requires.lines p).0) c.parse_all.ensures.ok
