@@ -35,8 +35,7 @@ play-requires g c = (
 pub print_closing-requires : goal.print_closing-requires
 print_closing-requires g c =
     let p = c.in-Ok-play.ensures.done in
-    let new = c.play.new in
-    (
+    let new = c.play.new in (
       omega arith,
       (
         c.requires.layout,

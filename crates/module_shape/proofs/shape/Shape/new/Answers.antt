@@ -2,7 +2,6 @@ use Rattle.std.proofs.Common.{ap, sym, ◌∙◌}
 use Rattle.module_shape.{specs.Limits.shape_fault, proofs.Bounds.{is-small, small-shape}}
 use Rattle.module_shape.proofs.shape.Shape.new.Goals as goal
 
-
 pub invariant_of-result : goal.invariant_of-result
 invariant_of-result c = small-shape c.args.raw (ap (λ most. shape_fault most c.args.raw) (sym c.small.ensures) ∙ sym c.fault.ensures ∙ c.in-None.is)
 
