@@ -1,8 +1,13 @@
 mod Remapped
 mod Leaving
 mod Following
+pub mod Begun
+mod Heads
+mod Placing
+pub mod Queueing
+pub mod Refusing
 mod Kept
-mod Queued
+pub mod Queued
 pub mod Ending
 mod Roles
 pub mod Used

@@ -2,7 +2,7 @@
 //! is what a function here ensures; the functions do nothing when they run.
 #![tactic(auto)]
 
-ghost use Rattle.end_laws.specs.EndLaws.{EndLaw, GapsLaw, KeptLaw, QueuedLaw, RemappedLaw, StandsLaw, StillThereLaw};
+ghost use Rattle.end_laws.specs.EndLaws.{EndLaw, GapsLaw, KeptLaw, QueueLaw, RemappedLaw, StandsLaw, StillThereLaw, StoredBytesLaw};
 ghost use Rattle.end_laws.specs.Roles.{RoleLaw, UsedLaw};
 
 /// Each slot of a bank has an array line of its own: the one of its number, or a spare where that one is worn.
@@ -16,21 +16,25 @@ pub fn registers_follow_stores()
     ensures { GapsLaw }
 {}
 
-/// What the table's array line of each line is read as are its newest bytes, but for those of writes that were not stored; only
-/// the line of a head of the queue that gives every byte is excepted, whose store may have been broken off.
+/// What the table's array line of a line is read as, with what the queue gives of the line laid over, are its newest bytes.
 pub fn lines_are_kept()
     ensures { KeptLaw }
 {}
 
-/// The bytes of a line that the queue's entries give, over what the table's array line of it is read as, are its newest: no
-/// line is excepted here, since the entries themselves are looked at.
+/// A byte of a line that no write gives that was not stored stands in the array, but where the head of the queue gives every byte
+/// of that line: a store of it may have been broken off.
+pub fn stored_bytes_are_in_the_array()
+    ensures { StoredBytesLaw }
+{}
+
+/// The bytes of a line that the queue's entries give, as one layer over what the table's array line of it is read as, are its newest.
 pub fn queue_and_array_give_the_newest()
     ensures { StandsLaw }
 {}
 
-/// The line that is excepted has a write that is queued in the end.
-pub fn excepted_lines_are_queued()
-    ensures { QueuedLaw }
+/// By the rows the queue has an entry for each write that is queued, in their order, and what each gives.
+pub fn queues_follow_rows()
+    ensures { QueueLaw }
 {}
 
 /// Where a stored row says that its line was stored, the line's slot of then is still; or it has a later spare since, and
@@ -39,7 +43,7 @@ pub fn stored_rows_are_still_there()
     ensures { StillThereLaw }
 {}
 
-/// Each line's newest accepted bytes stand where the bank's own registers and remap table say, or still in its queue.
+/// Each line's newest accepted bytes stand where the bank's own registers and remap table say, with those of its queue laid over.
 pub fn newest_bytes_are_kept()
     ensures { EndLaw }
 {}

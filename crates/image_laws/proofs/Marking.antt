@@ -1,27 +1,24 @@
 -- The mark of a bank and what is left to do in it, by its rows and by what is saved of it.
-use Rattle.std.proofs.Common.{◌≡◌, ℕ, zero, suc, ◌<◌, ◌==◌, ◌&&◌, ◌||◌, not, ◌⊎◌, inl, inr, Bool, true, false, List, [], ◌∷◌, ◌++◌, map, filter, length, get_or, Option, Some, None, refl, sym, ap, ◌∙◌, subst, arith, cond, eqb-true, append_assoc}
+use Rattle.std.proofs.Common.{◌≡◌, ℕ, zero, suc, ◌<◌, ◌==◌, ◌&&◌, ◌||◌, not, ◌⊎◌, inl, inr, Bool, true, false, List, [], ◌∷◌, map, filter, length, get_or, Option, Some, None, refl, sym, ap, ◌∙◌, subst, arith, cond, eqb-true}
 use Rattle.std.{specs.List.list_any, specs.Prelude.IfSome, proofs.Math.ListN.get_or-map, proofs.lemmas.Bool.{eq-eqb, or_cases, or_left, or_right}, proofs.lemmas.List.length-map}
 use Rattle.result_rows.specs.declared.Outcome.{Outcome}
 use Rattle.result_rows.specs.declared.Outcome.TheVariants as out
 use Rattle.masked_bytes.specs.{Entries.has_row, declared.entry.Entry.Entry}
 use Rattle.cell_rows.specs.Device.{ArrayState}
-use Rattle.row_rules.specs.{Answers.{accepts, is_merged, is_queued, is_worn}, Rows.asks_write, Wearing.worn_row, declared.Row.Row}
+use Rattle.row_rules.specs.{Answers.{accepts, is_merged, is_queued}, Rows.asks_write, declared.Row.Row}
 use Rattle.bank_shape.specs.{Shape.{controls_from, controls_of, control_line}, declared.BankShape.BankShape, declared.pace.Pace.Pace}
 use Rattle.power_recovery.{specs.Kept.{KeptState, region_at, no_region as no_kept}, proofs.Bundle.{due_region-Some, due_region-is}}
-use Rattle.bank_model.specs.{Changes.{change_after, halted_after}, Events.{Write, Read, Serve, Begin, Iterate, Cut}, History.{queue, due_after, has_exhausted}}
-use Rattle.bank_model.specs.{Lawful.{Lawful, IsIdle, MayCome}, Running.{is_over, over_by}, Sensing.most_steps, Timing.{Happens, Core, Regs, TimedEvent, core}}
-use Rattle.bank_laws.specs.{Laws.{IsSized, LeavesArray}, Outcomes.{outcome_of, ended, row_with, rows_from, table_of}, Resting.EndsIn}
-use Rattle.bank_laws.proofs.{Ending.{Onwards, write_outcome}, Serves.{may_at, onwards_at}, Settling.{opens, above_all}, Waiting.may_all}
-use Rattle.bank_laws.proofs.Wears.{worn_outcome, refused-exhausted, exhausted_later}
+use Rattle.bank_model.specs.{Changes.{change_after, halted_after}, Events.{Read, Cut}, History.{queue, due_after, has_exhausted}, Lawful.{Lawful, IsIdle}}
+use Rattle.bank_model.specs.{Running.{is_over, over_by}, Sensing.most_steps, Timing.{TimedEvent, core}}
+use Rattle.bank_laws.{specs.Laws.{IsSized, LeavesArray}, specs.Outcomes.table_of, specs.Resting.EndsIn, proofs.Settling.above_all, proofs.Waiting.may_all}
 use Rattle.ecp_line.specs.ArrayLines.{is_worn_at}
-use Rattle.right_runs.specs.WornLines.{worn_among}
+use Rattle.right_runs.specs.{Ends.BankEnd, Queued.{QueueEntry, QueuedWrite, coming, entries_by, merging, queued_after, by_order, queued_writes}, WornLines.worn_among}
 use Rattle.queue_laws.{specs.EntryLaws.{line_written, given_by, is_head_begun}, proofs.Owned.{AreOwn, queue-own}}
 use Rattle.place_laws.proofs.WornOut.{idle-queued, idle-due, worn_out, worn_control, change-within}
 use Rattle.bank_invariant.specs.{Bridge.AgreesWith, Holds.Holds, State.BankState}
-use Rattle.pcm_image.specs.{Saved.SavedBank, Standing.no_region}
-use Rattle.right_images.specs.{Queued.{QueuedWrite, coming, merging, queued_after, by_order, queued_writes}, SavedBanks.{SavesMarkTo, SavesQueue, has_work, is_due, queued_row}}
-use Rattle.right_images.specs.Saving.{saved_bank, saved_entry, saved_region}
-use Rattle.image_laws.proofs.{Begun.{begun-again, keeps-begun}, Queueing.{Alike, first-again, queue-alike, queue-by_rows}}
+use Rattle.pcm_image.specs.{Saved.SavedBank, Standing.no_region, declared.EntryImage.EntryImage}
+use Rattle.right_images.specs.{Queued.entry_image, SavedBanks.{SavesMarkTo, SavesQueue, has_work, is_due, queued_row}, Saving.{saved_bank, saved_entry, saved_region}}
+use Rattle.end_laws.{specs.EndLaws.{IsEndOf, queue_entry}, proofs.Begun.keeps-begun, proofs.Queueing.{Alike, queue-alike, queue-by_rows}, proofs.Refusing.refused}
 
 -- Lists
 
@@ -125,35 +122,6 @@ module _ {n : ℕ} where
   any-alike shape all pace e l (f ∷ es) (w ∷ ws) a = (λ is. absurd (cc), λ g gs is. (w, ws, refl))
 
 module _ {n m : ℕ} (shape : BankShape) (pace : Pace) (e : ℕ) (all : List (TimedEvent n m)) (l : Lawful shape pace e all) where
-  -- a write that was refused as worn came when the bank was exhausted
-  refused : (later zs : List (TimedEvent n m)) → all ≡ later ++ zs → list_any worn_row (rows_from shape all zs) ≡ true → has_exhausted (core all) ≡ true
-  refused later [] same is = absurd (cc)
-  refused later (x ∷ zs) same is =
-      by x.happens x.cancels (may_at shape pace e all later x zs l same) (onwards_at shape pace e all later x zs l same)
-      (λ ex. subst (λ (xs : List (TimedEvent n m)). has_exhausted (core xs) ≡ true) (sym before) (exhausted_later shape pace e (later ++ x ∷ []) zs ex))
-      (refused (later ++ x ∷ []) zs before) is
-    where
-      before : all ≡ (later ++ x ∷ []) ++ zs
-      before = same ∙ sym (append_assoc later (x ∷ []) zs)
-
-      by : (h : Happens n) (cancels : Bool) → MayCome shape pace e zs x h → Onwards shape all zs x.tick h → (has_exhausted (core zs) ≡ true → has_exhausted (core all) ≡ true)
-          → (list_any worn_row (rows_from shape all zs) ≡ true → has_exhausted (core all) ≡ true)
-          → list_any worn_row (row_with shape all h x.tick cancels ++ rows_from shape all zs) ≡ true → has_exhausted (core all) ≡ true
-      by (Core (Write row line bytes given answer)) cancels may on now rest is = own (is_worn (ended x.tick (outcome_of shape all row))) refl is
-        where
-          own : (b : Bool) → is_worn (ended x.tick (outcome_of shape all row)) ≡ b → (b || list_any worn_row (rows_from shape all zs)) ≡ true → has_exhausted (core all) ≡ true
-          own true worn is =
-              now (refused-exhausted shape (core zs) line
-              (sym (worn_outcome x.tick answer (ended x.tick (outcome_of shape all row)) (write_outcome shape pace e all zs x row line bytes given answer (opens shape pace e all l) may on) worn) ∙ may.may.2))
-          own false worn is = rest is
-      by (Core (Read row line answer)) cancels may on now rest is = rest is
-      by (Core (Serve answer)) cancels may on now rest is = rest is
-      by (Core (Begin answer)) cancels may on now rest is = rest is
-      by (Core (Iterate answer)) cancels may on now rest is = rest is
-      by (Core (Cut tearing)) true may on now rest is = rest is
-      by (Core (Cut tearing)) false may on now rest is = rest is
-      by (Regs event) cancels may on now rest is = rest is
-
   -- a row is queued where the queue holds an entry
   pub empty-queue : queue shape (core all) ≡ [] → list_any queued_row (table_of shape all) ≡ false
   empty-queue none =
@@ -245,15 +213,17 @@ module _ {n m e : ℕ} (pace : Pace) (all : List (TimedEvent n m)) (bank : BankS
   begun-when : (is_head_begun shape (core all) ≡ true → due_after shape (core all) ≡ None) × (has_exhausted (core all) ≡ true → due_after shape (core all) ≡ None → is_head_begun shape (core all) ≡ true)
   begun-when = let k = keeps-begun shape (most_steps e) (core all) (may_all shape pace e all l) in (k.before, k.exhausted)
 
-  -- its entries
-  pub saves-queue : SavesQueue shape.psi table saved
-  saves-queue = record {
-    begun = is_head_begun shape (core all);
-    entries = ap (λ es. map saved_entry es) holds.entries ∙ queue-by_rows shape all pace e l;
-    none_due = λ is. none-saved (begun-when.0 is);
-    again = first-again shape all pace e l (queue shape (core all)) (queued_writes table) (is_head_begun shape (core all)) (queue-alike shape all pace e l)
-        (begun-again shape (most_steps e) (core all) (may_all shape pace e all l));
-    marked = λ mark none. begun-when.1 (mark-exhausted mark) (saved-none none);
+  -- its entries are those of its end
+  images-same : (es : List (Entry n)) → map saved_entry es ≡ map entry_image (map queue_entry es)
+  images-same [] = refl
+  images-same (x ∷ es) = ap (λ (rest : List (EntryImage n)). saved_entry x ∷ rest) (images-same es)
+
+  pub saves-queue : (end : BankEnd) → IsEndOf kept end → SavesQueue shape.psi table end saved
+  saves-queue end is = record {
+    entries = images-same kept.entries ∙ ap (λ (q : List QueueEntry). map entry_image q) (sym is.queue);
+    marked = λ mark none.
+        is.queue ∙ ap (λ (es : List (Entry n)). map queue_entry es) holds.entries ∙ queue-by_rows shape all pace e l
+        ∙ ap (λ (begun : Bool). entries_by begun (queued_writes table)) (begun-when.1 (mark-exhausted mark) (saved-none none));
   }
 
   left-over : has_exhausted (core all) ≡ true → has_work shape.psi table saved ≡ true

@@ -127,12 +127,12 @@ module _ (off : Bool) (laws : ImageLaws) {n m : ℕ} (e : ℕ) (raw : RawShape) 
         (subst (λ (rs : List (Row n)). SavesEnd (head_of raw seed) (bank_shape (module_of raw) bank) (is_worn_at e left.before) rs (ends bank) (saved_bank (kept bank))) (sym rows-of)
         (saves-end off raw seed bank clock.pace xs clock.bank left.before (ends bank) same is.some_psi leads.lawful leads.holds (of_ends bank exists) moved)))
 
-    saved-queue : SavesQueue raw.psi (table_in raw seed bank rows) part
+    saved-queue : SavesQueue raw.psi (table_in raw seed bank rows) (ends bank) part
     saved-queue =
         rw (part-at bank exists)
-        (subst (λ (s : BankShape). SavesQueue s.psi (table_in raw seed bank rows) (saved_bank (kept bank))) same
-        (subst (λ (rs : List (Row n)). SavesQueue (kept bank).shape.psi rs (saved_bank (kept bank))) (sym rows-of)
-        (saves-queue clock.pace xs clock.bank left.before sized-bank leads.lawful off idle leads.holds agrees leaves)))
+        (subst (λ (s : BankShape). SavesQueue s.psi (table_in raw seed bank rows) (ends bank) (saved_bank (kept bank))) same
+        (subst (λ (rs : List (Row n)). SavesQueue (kept bank).shape.psi rs (ends bank) (saved_bank (kept bank))) (sym rows-of)
+        (saves-queue clock.pace xs clock.bank left.before sized-bank leads.lawful off idle leads.holds agrees leaves (ends bank) (of_ends bank exists))))
 
     saved-mark : SavesMarkTo off shape (is_worn_at e array) (table_in raw seed bank rows) part
     saved-mark =

@@ -1,11 +1,11 @@
 -- The end of a bank by what it keeps, and what that says of the module: its lines by their names, and its used spares.
-use Rattle.std.proofs.Common.{◌≡◌, ℕ, ◌+◌, ◌-◌, ◌*◌, ◌%◌, ◌<◌, None, refl, sym, ap, subst, ◌∙◌, arith}
+use Rattle.std.proofs.Common.{◌≡◌, ℕ, ◌+◌, ◌-◌, ◌*◌, ◌%◌, ◌<◌, map, refl, sym, ap, subst, ◌∙◌, arith}
 use Rattle.std.proofs.{Math.Nat.mul_comm, lemmas.Nat.{mul-add-lt, mod-mul-add}}
 use Rattle.bank_shape.specs.{declared.BankShape.BankShape, declared.Role.Role, declared.Role.TheVariants.{Line, Gap, Free, Retired, Control}}
 use Rattle.start_gap.specs.Rotation.{Rotation, IsRotation, StandsFor, turn}
 use Rattle.power_recovery.specs.Kept.{KeptState, IsKept, region_at, array_line}
 use Rattle.module_shape.specs.{Addresses.{module_of, bank_shape}, declared.raw.RawShape.RawShape}
-use Rattle.end_laws.specs.EndLaws.{IsEndOf}
+use Rattle.end_laws.specs.EndLaws.{IsEndOf, queue_entry}
 use Rattle.right_runs.specs.{Banks.line_named, Ends.BankEnd, Roles.IsRole}
 use Rattle.clock_laws.specs.State.{ClockState}
 use Rattle.pcm_module.{specs.State.{ModuleState, bank_at, AreEndsOf}, proofs.Draining.at_bank}
@@ -26,14 +26,14 @@ stands_own r range = record { moves = ap (λ k. k % turn r.lines) whole ∙ mod-
 
 -- an end of a bank, by what the bank keeps
 pub own_end : {n : ℕ} → KeptState n → BankEnd
-own_end kept = record { table = array_line kept; moves = λ region. moves_of (region_at kept region).rotation; excepted = None }
+own_end kept = record { table = array_line kept; moves = λ region. moves_of (region_at kept region).rotation; queue = map queue_entry kept.entries }
 
 pub own_end-is : {n : ℕ} (kept : KeptState n) → IsKept kept → IsEndOf kept (own_end kept)
 unfolding own_end
 own_end-is kept range = record {
   table = λ slot exists. refl;
   moves = λ region exists. stands_own (region_at kept region).rotation (range.regions region exists).in_range.rotates;
-  excepted = tt;
+  queue = refl;
 }
 
 -- the end of a bank is that of what it keeps

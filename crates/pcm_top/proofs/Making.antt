@@ -52,10 +52,11 @@ module _ {n m e : ℕ} (job : RunJob) (array : ArrayState n m) (events : List (E
         let Seeded : ℕ → Type 0 = λ seed. IsRunText job.shape seed e events outcomes left.0 array job.print whole in
         subst Seeded seeded (subst Shaped shape is)
 
-    left-of-job : (Of : Saved n m → ℕ → Type 0) → LeavesWith e pcm.shape pcm.seed (rows_of events outcomes) array Of → LeavesWith e job.shape job.seed (rows_of events outcomes) array Of
+    left-of-job : (Of : Saved n m → ℕ → Type 0) → LeavesWith e pcm.shape pcm.seed (rows_of events outcomes) array left.0 Of
+        → LeavesWith e job.shape job.seed (rows_of events outcomes) array left.0 Of
     left-of-job Of is =
-        let Shaped : RawShape → Type 0 = λ raw. LeavesWith e raw pcm.seed (rows_of events outcomes) array Of in
-        let Seeded : ℕ → Type 0 = λ seed. LeavesWith e job.shape seed (rows_of events outcomes) array Of in
+        let Shaped : RawShape → Type 0 = λ raw. LeavesWith e raw pcm.seed (rows_of events outcomes) array left.0 Of in
+        let Seeded : ℕ → Type 0 = λ seed. LeavesWith e job.shape seed (rows_of events outcomes) array left.0 Of in
         subst Seeded seeded (subst Shaped shape is)
 
     -- its lines were sensed for a text that was written, or for a part of it
@@ -65,20 +66,20 @@ module _ {n m e : ℕ} (job : RunJob) (array : ArrayState n m) (events : List (E
     abbrev pub InPart : SinkChange → Saved n m → ℕ → Type 0
     InPart out saved count = (count ≤ senses_for job.print array.lines) × (job.print ≡ Image → WritesRows array saved out.written_before out.written_now)
 
-    pub run-written : (out : SinkChange) (done : Done) → done ≡ done_by outcomes → LeavesWith e pcm.shape pcm.seed (rows_of events outcomes) array Whole → HaveRoles pcm.shape pcm.seed left.0
+    pub run-written : (out : SinkChange) (done : Done) → done ≡ done_by outcomes → LeavesWith e pcm.shape pcm.seed (rows_of events outcomes) array left.0 Whole → HaveRoles pcm.shape pcm.seed left.0
         → ((ends : ℕ → BankEnd) → AreEndsOf pcm ends → RunsRight e pcm.shape pcm.seed (rows_of events outcomes) array ends → HaveRoles pcm.shape pcm.seed ends
         → (whole : List ℕ) × IsRunText pcm.shape pcm.seed e events outcomes ends array job.print whole × Gets out whole)
         → RunIsWritten n m e job s array out done
     run-written out done is leaves roles writes =
         let text = writes left.0 left.1 left.2 roles in
         let had = left-of-job Whole leaves in
-        record { run = made; text = text.0; is_text = text-of-job text.0 text.1; written = text.2; ending = is; left = record { saved = had.0; left = had.1; rows = had.2 }; sensed = had.3 }
+        record { run = made; text = text.0; is_text = text-of-job text.0 text.1; written = text.2; ending = is; left = record { saved = had.0; left = had.1; are = had.2; rows = had.3 }; sensed = had.4 }
 
-    pub run-part : (out : SinkChange) → LeavesWith e pcm.shape pcm.seed (rows_of events outcomes) array (InPart out) → HaveRoles pcm.shape pcm.seed left.0
+    pub run-part : (out : SinkChange) → LeavesWith e pcm.shape pcm.seed (rows_of events outcomes) array left.0 (InPart out) → HaveRoles pcm.shape pcm.seed left.0
         → ((ends : ℕ → BankEnd) → AreEndsOf pcm ends → RunsRight e pcm.shape pcm.seed (rows_of events outcomes) array ends → HaveRoles pcm.shape pcm.seed ends
         → (whole : List ℕ) × IsRunText pcm.shape pcm.seed e events outcomes ends array job.print whole × GetsPart out whole)
         → RunIsWrittenInPart n m e job s array out
     run-part out leaves roles writes =
         let text = writes left.0 left.1 left.2 roles in
         let had = left-of-job (InPart out) leaves in
-        record { run = made; text = text.0; is_text = text-of-job text.0 text.1; written = text.2; left = record { saved = had.0; left = had.1; rows = had.2 }; sensed = had.3.0; rows = had.3.1 }
+        record { run = made; text = text.0; is_text = text-of-job text.0 text.1; written = text.2; left = record { saved = had.0; left = had.1; are = had.2; rows = had.3 }; sensed = had.4.0; rows = had.4.1 }

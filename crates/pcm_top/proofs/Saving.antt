@@ -44,10 +44,19 @@ has-image pcm events outcomes array small played = record {
   few_lines = λ bank low. omega (arith, ap (λ (s : BankShape). s.lines) (played.finished.shapes bank low), small.few_lines);
 }
 
--- what is left of a run, some of whose array's lines were sensed for its text, each of them a row
-abbrev pub LeavesWith : {n m : ℕ} → ℕ → RawShape → ℕ → List (Row n) → ArrayState n m → (Saved n m → ℕ → Type 0) → Type 0
-LeavesWith {n} {m} e raw seed rows array Of =
-    (saved : Saved n m) × (left : IsLeft e raw seed rows array saved) × AreRowsTo left.sensed array × Of saved left.sensed
+-- these ends are of the banks of what is left
+abbrev pub AreOfLeft : {n m : ℕ} (e : ℕ) (raw : RawShape) (seed : ℕ) (rows : List (Row n)) (array : ArrayState n m) (saved : Saved n m) → IsLeft e raw seed rows array saved
+    → (ℕ → BankEnd) → Type 0
+AreOfLeft e raw seed rows array saved left ends = (bank : ℕ) → bank < raw.banks → IsEndOf (left.banks bank).bank.kept (ends bank)
+
+-- what is left of a run by these ends, some of whose array's lines were sensed for its text, each of them a row
+abbrev pub LeavesWith : {n m : ℕ} → ℕ → RawShape → ℕ → List (Row n) → ArrayState n m → (ℕ → BankEnd) → (Saved n m → ℕ → Type 0) → Type 0
+LeavesWith {n} {m} e raw seed rows array ends Of =
+    (saved : Saved n m) × (left : IsLeft e raw seed rows array saved) × AreOfLeft e raw seed rows array saved left ends × AreRowsTo left.sensed array × Of saved left.sensed
+
+-- the ends of a module's banks
+own-ends : {n m e : ℕ} (pcm : ModuleState n m e) (ends : ℕ → BankEnd) → AreEndsOf pcm ends → (bank : ℕ) → bank < pcm.shape.banks → IsEndOf (bank_at pcm bank).bank.kept (ends bank)
+own-ends pcm ends are bank lt = there (λ clock. IsEndOf clock.bank.kept (ends bank)) (slice_get pcm.banks bank) (first_bank pcm.shape bank) (are bank lt)
 
 module _ {n m e : ℕ} (pcm : ModuleState n m e) (before array : ArrayState n m) (events : List (Event n)) (outcomes : List (Outcome n))
     (played : IsPlayed pcm events outcomes before) (count : ℕ) (since : SensedSince count before array) where
@@ -66,9 +75,10 @@ module _ {n m e : ℕ} (pcm : ModuleState n m e) (before array : ArrayState n m)
   }
 
   -- and which of its lines were sensed for it
-  pub leaves-with : (Of : Saved n m → ℕ → Type 0) → AreRowsTo count array → Of (saved_of pcm.shape pcm.seed (kept_in pcm) before) count → LeavesWith e pcm.shape pcm.seed (rows_of events outcomes) array Of
+  pub leaves-with : (ends : ℕ → BankEnd) → AreEndsOf pcm ends → (Of : Saved n m → ℕ → Type 0) → AreRowsTo count array → Of (saved_of pcm.shape pcm.seed (kept_in pcm) before) count
+      → LeavesWith e pcm.shape pcm.seed (rows_of events outcomes) array ends Of
   unfolding left-of
-  leaves-with Of rows is = (saved_of pcm.shape pcm.seed (kept_in pcm) before, left-of, rows, is)
+  leaves-with ends are Of rows is = (saved_of pcm.shape pcm.seed (kept_in pcm) before, left-of, own-ends pcm ends are, rows, is)
 
   -- what was right of the array before is right of it now
   pub right-now : StaysRightLaw → IsShape pcm.shape → (ends : ℕ → BankEnd)
@@ -91,5 +101,5 @@ image-text {n} {m} {e} law pcm seed before array events outcomes print P is same
     let Of : Print → Type 0 = λ p. IsRunText pcm.shape pcm.seed e events outcomes ends array p (image_bytes s) in
     let Writes : ℕ → Type 0 = λ k. P (image_bytes (saved_of pcm.shape k (kept_in pcm) before)) in
     let saves = law n m e pcm.shape pcm.seed (rows_of events outcomes) array ends s left shape (subst Low same low) right
-    (λ bank lt. there (λ clock. IsEndOf clock.bank.kept (ends bank)) (slice_get pcm.banks bank) (first_bank pcm.shape bank) (are bank lt)) in
+    (own-ends pcm ends are) in
     (image_bytes s, subst Of (sym is) ((s, left, saves, small, refl)), subst Writes same writes)

@@ -1,10 +1,11 @@
 -- What a job does, and why a call does none of it.
-use Rattle.std.specs.Prelude.{◌≡◌, ◌⊎◌, ℕ, ◌≤◌, Bool, true, false, if◌then◌else◌, List, length, Some, Result, Ok, Err}
+use Rattle.std.specs.Prelude.{◌≡◌, ◌⊎◌, ℕ, ◌<◌, ◌≤◌, Bool, true, false, if◌then◌else◌, List, length, Some, Result, Ok, Err}
 use Rattle.cell_rows.specs.Device.{ArrayState}
 use Rattle.trace_reader.specs.declared.event.Event.{Event}
 use Rattle.result_rows.specs.declared.Outcome.{Outcome}
 use Rattle.run_text.specs.Shortfall.{any_short}
 use Rattle.rotation_reports.specs.{MapText.map_text, MovesText.moves_text}
+use Rattle.end_laws.specs.EndLaws.{IsEndOf}
 use Rattle.right_runs.specs.{Ends.BankEnd, Runs.RunsRight}
 use Rattle.right_images.specs.SavesRun.{AreRowsTo}
 use Rattle.image_laws.specs.SavedRuns.{IsLeft}
@@ -31,8 +32,8 @@ status_done Short = 1
 -- lines of n bytes with m check bytes and e error-correcting pointers
 module _ (n m e : ℕ) (job : RunJob) (s : SourceChange) (array : ArrayState n m) where
   -- a run: its events came from its input, each row has an outcome, and what a completed run leaves is right;
-  -- a completed read has its line's newest bytes, and each line's newest bytes are in the array or in a
-  -- queue. The array was powered up with the job's wear
+  -- a completed read has its line's newest bytes, and each line's newest bytes are those of the array with
+  -- those of its bank's queue laid over them. The array was powered up with the job's wear
   pub record Runs : Type 0 where
     pub events : List (Event n)
     pub come : ComeFrom n job job.input s events
@@ -46,11 +47,12 @@ module _ (n m e : ℕ) (job : RunJob) (s : SourceChange) (array : ArrayState n m
   abbrev pub IsTextOf : Runs → List ℕ → Type 0
   IsTextOf run text = IsRunText job.shape job.seed e run.events run.outcomes run.ends array job.print text
 
-  -- what it left of its array: histories of its banks lead there, and for its text the first lines were sensed
-  -- since, each once, in order and at tick 0. Each of them has the bytes of a line
+  -- what it left of its array: histories of its banks lead there, of which its ends are, and for its text the
+  -- first lines were sensed since, each once, in order and at tick 0. Each of them has the bytes of a line
   pub record HasLeft (run : Runs) : Type 0 where
     pub saved : Saved n m
     pub left : IsLeft e job.shape job.seed (rows_of run.events run.outcomes) array saved
+    pub are : (bank : ℕ) → bank < job.shape.banks → IsEndOf (left.banks bank).bank.kept (run.ends bank)
     pub rows : AreRowsTo left.sensed array
 
   -- it was made, and exactly its text was written, for which each line was sensed where it is an image, and

@@ -1,12 +1,12 @@
 -- What the image of a right run says of a bank, by the bank's rows.
-use Rattle.std.specs.{List.list_any, Prelude.{ℕ, slice_index_or, ◌≡◌, ◌≢◌, ◌+◌, ◌*◌, ◌<◌, Bool, IsTrue, List, length, ◌==◌, IsFalse, ◌&&◌, ◌||◌, ◌⊎◌, not}}
+use Rattle.std.specs.{List.list_any, Prelude.{ℕ, slice_index_or, ◌≡◌, ◌≢◌, ◌+◌, ◌*◌, ◌<◌, Bool, IsTrue, List, length, map, true, ◌==◌, IsFalse, ◌&&◌, ◌||◌, ◌⊎◌, not}}
 use Rattle.pcm_image.specs.{Saved.{SavedBank, Head}, Standing.{no_region, rotation_of, table_of}, declared.RegionImage.RegionImage}
 use Rattle.start_gap.specs.Rotation.{StandsFor}
 use Rattle.spare_pool.specs.Table.{line_by}
 use Rattle.row_rules.specs.{Answers.{is_stored, is_queued}, Rows.asks_write, Wearing.worn_row, declared.Row.Row}
 use Rattle.bank_shape.specs.{Shape.{slots_of, controls_from, controls_of}, declared.BankShape.BankShape}
-use Rattle.right_runs.specs.{Ends.BankEnd, Places.region_stores, Roles.used_spares, WornLines.{worn_among, is_worn_out}}
-use Rattle.right_images.specs.Queued.{entries_by, first_again, queued_writes}
+use Rattle.right_runs.specs.{Ends.BankEnd, Places.region_stores, Queued.{entries_by, queued_writes}, Roles.used_spares, WornLines.{worn_among, is_worn_out}}
+use Rattle.right_images.specs.Queued.{entry_image}
 
 -- the saved registers of a region
 abbrev pub region_in : {n : ℕ} → SavedBank n → ℕ → RegionImage
@@ -27,14 +27,10 @@ pub record SavesEnd {n : ℕ} (head : Head) (shape : BankShape) (worn : ℕ → 
 abbrev pub is_due : {n : ℕ} → ℕ → SavedBank n → Bool
 is_due psi b = list_any (λ region. region.counter == psi) b.regions
 
--- a saved bank has an entry for each write that is queued by its rows, in the queue's order. A store of the first of them was begun or
--- not: never where a gap move is due; always where another of them is of its line, or where the bank is marked and no move is due
-pub record SavesQueue {n : ℕ} (psi : ℕ) (rows : List (Row n)) (b : SavedBank n) : Type 0 where
-  pub begun : Bool
-  pub entries : b.entries ≡ entries_by begun (queued_writes rows)
-  pub none_due : IsTrue begun → IsFalse (is_due psi b)
-  pub again : IsTrue (first_again (queued_writes rows)) → IsTrue begun
-  pub marked : b.mark ≡ 1 → IsFalse (is_due psi b) → IsTrue begun
+-- a saved bank has the entries of its end's queue. Where the bank is marked and no gap move is due, a store of the first of them was begun
+pub record SavesQueue {n : ℕ} (psi : ℕ) (rows : List (Row n)) (end : BankEnd) (b : SavedBank n) : Type 0 where
+  pub entries : b.entries ≡ map entry_image end.queue
+  pub marked : b.mark ≡ 1 → IsFalse (is_due psi b) → end.queue ≡ entries_by true (queued_writes rows)
 
 -- a write that is queued in the end
 abbrev pub queued_row : {n : ℕ} → Row n → Bool

@@ -17,7 +17,7 @@ abbrev pub AreRows : {n m : ℕ} → ArrayState n m → Type 0
 AreRows array = AreRowsTo array.lines array
 
 -- a saved module is that of this run: it says how the module is built, what its cells hold, by which registers and tables the banks
--- end, by the rows which writes their queues hold and which banks are marked, and each line's newest bytes; what it says is in range, so
+-- end and what their queues give, by the rows which banks are marked, and each line's newest bytes; what it says is in range, so
 -- that it can be read from its bytes, where each row of the array is one and the sizes are those of a module on which a whole trace is replayed
 pub record SavesRunTo {n m : ℕ} (off : Bool) (e : ℕ) (raw : RawShape) (seed : ℕ) (rows : List (Row n)) (array : ArrayState n m) (ends : ℕ → BankEnd) (s : Saved n m) : Type 0 where
   pub head : s.head ≡ head_of raw seed
@@ -25,7 +25,7 @@ pub record SavesRunTo {n m : ℕ} (off : Bool) (e : ℕ) (raw : RawShape) (seed 
   pub cells : (line : ℕ) → line < array.lines → slice_index_or s.cells line (zero_row n m) ≡ (array.line line).held
   pub banks : (bank : ℕ) → bank < raw.banks
       → SavesEnd s.head (bank_shape (module_of raw) bank) (is_worn_at e array) (table_in raw seed bank rows) (ends bank) (slice_index_or s.parts bank (no_bank n))
-  pub queues : (bank : ℕ) → bank < raw.banks → SavesQueue raw.psi (table_in raw seed bank rows) (slice_index_or s.parts bank (no_bank n))
+  pub queues : (bank : ℕ) → bank < raw.banks → SavesQueue raw.psi (table_in raw seed bank rows) (ends bank) (slice_index_or s.parts bank (no_bank n))
   pub marks : (bank : ℕ) → bank < raw.banks
       → SavesMarkTo off (bank_shape (module_of raw) bank) (is_worn_at e array) (table_in raw seed bank rows) (slice_index_or s.parts bank (no_bank n))
   pub stands : (line : ℕ) → line < total_of raw → stands_for e s line ≡ newest rows line

@@ -1,14 +1,10 @@
 -- Where each line's newest bytes are in the end.
-use Rattle.std.specs.List.{list_any}
-use Rattle.std.specs.Prelude.{ℕ, ◌+◌, ◌/◌, ◌%◌, ◌==◌, ◌&&◌, ◌||◌, Bool, List, false, ◌≡◌, ◌⊎◌, ◌<◌, ◌≤◌, IsTrue, nat_lt, nat_le, true, ◌∷◌, ◌++◌, Option, Some, None, ◌*◌, []}
-use Rattle.row_rules.specs.{Answers.{is_stored, stored_before, is_queued}, Queueing.unstored, Rows.{newest, RowTest, line_of, write_of, each_row}, Serving.same_bytes}
-use Rattle.row_rules.specs.declared.Row.{Row}
+use Rattle.std.specs.{List.list_any, Prelude.{ℕ, ◌+◌, ◌/◌, ◌%◌, ◌==◌, ◌&&◌, ◌||◌, Bool, List, false, ◌≡◌, ◌⊎◌, ◌<◌, ◌≤◌, IsTrue, nat_lt, nat_le, true, ◌∷◌, ◌++◌, ◌*◌, []}}
+use Rattle.row_rules.specs.{Answers.{is_stored, stored_before}, Rows.{newest, RowTest, line_of, each_row}, Serving.same_bytes, Wearing.worn_row, declared.Row.Row}
 use Rattle.bank_shape.specs.{Shape.{slots_of, slot_moved}, declared.BankShape.BankShape}
-use Rattle.right_runs.specs.{Places.region_stores, WornLines.may_leave}
-use Rattle.masked_bytes.specs.Masked.{laid}
+use Rattle.right_runs.specs.{Places.region_stores, Queued.{QueueEntry, entries_by, first_again, laid_over, queued_writes}, WornLines.may_leave}
 use Rattle.result_rows.specs.declared.Outcome.{Outcome}
 use Rattle.result_rows.specs.declared.Outcome.TheVariants as out
-use Rattle.bank_model.specs.Sensing.{is_at}
 
 -- the moves of a region in the end. One that is due may be left, too, where the power is off
 abbrev pub is_moved_to : {n : ℕ} → Bool → BankShape → (ℕ → Bool) → List (Row n) → ℕ → ℕ → Bool
@@ -32,9 +28,9 @@ pub record IsRemapped (shape : BankShape) (worn : ℕ → Bool) (table : ℕ →
 abbrev pub place_by_table : BankShape → (ℕ → ℕ) → (ℕ → ℕ) → ℕ → ℕ
 place_by_table shape moves table line = table (slot_moved shape line (moves (line / shape.lines)))
 
--- the newest bytes of a line, where some may still stand in the queue: those of the array with the unstored ones laid over
-abbrev pub is_kept_line : {n : ℕ} → List (Row n) → ℕ → List ℕ → Bool
-is_kept_line rows line held = same_bytes (laid (newest rows line) (unstored is_stored line rows) held) (newest rows line)
+-- the newest bytes of a line: those of the array, with what the queue gives of it laid over them
+abbrev pub is_kept_line : {n : ℕ} → List (Row n) → List QueueEntry → ℕ → List ℕ → Bool
+is_kept_line rows queue line held = same_bytes (laid_over queue line held) (newest rows line)
 
 -- a stored row's slot has its place, or a spare of a greater number, and then the place is worn
 abbrev pub has_place : ℕ → (ℕ → Bool) → ℕ → ℕ → Bool
@@ -51,29 +47,35 @@ outcome_ends shape worn table line all outcome = true
 abbrev pub is_still_there : {n : ℕ} → BankShape → (ℕ → Bool) → (ℕ → ℕ) → RowTest n
 is_still_there shape worn table before r after = outcome_ends shape worn table (line_of r.asks) (before ++ r ∷ after) r.outcome
 
--- the line that is excepted, if there is one; it has a write that is still queued
-abbrev pub is_excepted : Option ℕ → ℕ → Bool
-is_excepted = is_at
-
--- no line is excepted, or one whose line has a write that is queued
-abbrev pub is_excused : {n : ℕ} → Option ℕ → List (Row n) → Bool
-is_excused None rows = true
-is_excused (Some at) rows = list_any (λ r. write_of at r && is_queued r.outcome) rows
-
--- what the end of a bank is: an array line of each slot, the moves of each region, and the line that is excepted
+-- what the end of a bank is: an array line of each slot, the moves of each region, and the entries of its queue, the oldest first
 pub record BankEnd : Type 0 where
   pub table : ℕ → ℕ
   pub moves : ℕ → ℕ
-  pub excepted : Option ℕ
+  pub queue : List QueueEntry
 
--- a bank in the end, over its table of rows, the newest first: by one table of lines and the moves of its regions each line's
--- newest bytes are in the array or still in the queue, with at most one line excepted. A move that is due may be left where the power is off
+-- each region has moved as often as its stores say: no move is due
+abbrev pub NoneDue : {n : ℕ} → BankShape → List (Row n) → BankEnd → Type 0
+NoneDue shape rows end = (region : ℕ) → region < shape.regions → end.moves region ≡ region_stores is_stored shape region rows / shape.psi
+
+-- the queue has an entry for each write that is queued by the rows, in the order in which they came there. A store of the first of them
+-- was begun or not: never where a gap move is due; always where another of them is of its line, or where a write was refused as worn
+-- and no move is due
+pub record QueueEnds {n : ℕ} (shape : BankShape) (rows : List (Row n)) (end : BankEnd) : Type 0 where
+  pub begun : Bool
+  pub entries : end.queue ≡ entries_by begun (queued_writes rows)
+  pub none_due : IsTrue begun → NoneDue shape rows end
+  pub again : IsTrue (first_again (queued_writes rows)) → IsTrue begun
+  pub worn : IsTrue (list_any worn_row rows) → NoneDue shape rows end → IsTrue begun
+
+-- a bank in the end, over its table of rows, the newest first: by one table of lines and the moves of its regions each line's newest
+-- bytes are those of the array with those of the queue laid over them, which holds the writes that are queued. A move that is due may be
+-- left where the power is off
 pub record EndsWithTo {n : ℕ} (off : Bool) (shape : BankShape) (worn : ℕ → Bool) (held : ℕ → List ℕ) (rows : List (Row n)) (end : BankEnd) : Type 0 where
   pub lines : IsRemapped shape worn end.table
   pub moved : (region : ℕ) → region < shape.regions → IsTrue (is_moved_to off shape worn rows region (end.moves region))
+  pub queue : QueueEnds shape rows end
   pub kept : (line : ℕ) → line < shape.regions * shape.lines
-      → IsTrue (is_excepted end.excepted line || is_kept_line rows line (held (place_by_table shape end.moves end.table line)))
-  pub queued : IsTrue (is_excused end.excepted rows)
+      → IsTrue (is_kept_line rows end.queue line (held (place_by_table shape end.moves end.table line)))
   pub stored : IsTrue (each_row (is_still_there shape worn end.table) rows [])
 
 -- the same where the power isn't off

@@ -8,5 +8,6 @@ pub mod KeepsLines
 pub mod LineWrites
 pub mod KeepsLog
 pub mod Logs
+pub mod Queued
 pub mod Ends
 pub mod Roles

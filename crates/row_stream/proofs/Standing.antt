@@ -17,7 +17,7 @@ module _ {n m e : ℕ} (h : ℕ → List (TimedEvent n m)) (asked : List (Asked 
     (had : Replays h asked module_ array results) where
   -- an end of what a bank keeps, by its history
   abbrev end_in : ℕ → ClockState n m e → BankEnd
-  end_in bank clock = record (end_of clock.bank.kept (core (h bank))) { excepted = None }
+  end_in bank clock = end_of clock.bank.kept (core (h bank))
 
   end-there : (bank : ℕ) (o : Option (ClockState n m e)) (other : ClockState n m e) → IsSomeAnd o (ReplaysIn module_ bank (h bank) asked array results)
       → IsSomeAnd o (λ clock. IsEndOf clock.bank.kept (end_in bank (unwrap_or o other)))
@@ -25,7 +25,7 @@ module _ {n m e : ℕ} (h : ℕ → List (TimedEvent n m)) (asked : List (Asked 
   end-there bank (Some clock) other is = record {
     table = λ slot exists. refl;
     moves = λ region exists. (is.leads.holds.regions region exists).registers;
-    excepted = tt;
+    queue = refl;
   }
 
   -- the banks of a module that was led to have ends

@@ -6,7 +6,7 @@ use Rattle.bank_model.specs.{Lawful.Lawful, Timing.{TimedEvent, core}}
 use Rattle.bank_laws.specs.{Laws.{IsSized, LeavesArray}, Outcomes.table_of, Resting.EndsIn}
 use Rattle.ecp_line.specs.ArrayLines.{is_worn_at, decoded}
 use Rattle.clock_laws.specs.{Ending.LeavingLaw, Leads.Leads, State.ClockState}
-use Rattle.end_laws.{specs.EndLaws.{IsHaltedWorn, IsEndOf, RemappedLaw, GapsLaw, KeptLaw, QueuedLaw, StillThereLaw, end_of}, proofs.Ending.excepted-whole}
+use Rattle.end_laws.specs.EndLaws.{IsHaltedWorn, IsEndOf, RemappedLaw, GapsLaw, KeptLaw, QueueLaw, StillThereLaw, end_of}
 use Rattle.right_runs.specs.Ends.{EndsWithTo}
 
 module _ {n m e : ℕ} (xs : List (TimedEvent n m)) (clock : ClockState n m e) (array : ArrayState n m) (leads : Leads xs clock array) where
@@ -15,7 +15,7 @@ module _ {n m e : ℕ} (xs : List (TimedEvent n m)) (clock : ClockState n m e) (
   is_end = record {
     table = λ slot exists. refl;
     moves = λ region exists. (leads.holds.regions region exists).registers;
-    excepted = excepted-whole clock.bank.kept.entries;
+    queue = refl;
   }
 
   module _ (shape : BankShape) (pace : Pace) (same : clock.bank.kept.shape ≡ shape) (paced : clock.pace ≡ pace) where
@@ -28,15 +28,15 @@ module _ {n m e : ℕ} (xs : List (TimedEvent n m)) (clock : ClockState n m e) (
     pub leaves : LeavingLaw → LeavesArray e shape xs array
     leaves law = subst (λ (s : BankShape). LeavesArray e s xs array) same (law n m e xs clock array leads)
 
-    pub ends_right : LeavingLaw → RemappedLaw → GapsLaw → KeptLaw → QueuedLaw → StillThereLaw → IsSized shape pace → (off : Bool) → EndsIn off shape pace xs
+    pub ends_right : LeavingLaw → RemappedLaw → GapsLaw → KeptLaw → QueueLaw → StillThereLaw → IsSized shape pace → (off : Bool) → EndsIn off shape pace xs
         → EndsWithTo off shape (is_worn_at e array) (decoded e array) (table_of shape xs) (end_of clock.bank.kept (core xs))
-    ends_right leaving remapped gaps kept queued still sized off idle =
+    ends_right leaving remapped gaps kept queue still sized off idle =
         subst (λ (s : BankShape). EndsWithTo off s (is_worn_at e array) (decoded e array) (table_of s xs) (end_of clock.bank.kept (core xs))) same
         (record {
           lines = remapped n m e (core xs) clock.bank array leads.holds;
           moved = λ region exists. gaps off n m e pace xs clock.bank array region sized' lawful' idle' leads.holds halted;
-          kept = λ line exists. kept n m e pace xs clock.bank array line sized' lawful' leads.holds exists;
-          queued = queued n m e pace xs clock.bank array lawful' leads.holds;
+          queue = queue n m e pace xs clock.bank array sized' lawful' leads.holds;
+          kept = λ line exists. kept n m e pace xs clock.bank array line lawful' leads.holds exists;
           stored = still n m e pace xs clock.bank array sized' lawful' leads.holds halted;
         })
       where

@@ -15,7 +15,7 @@ use Rattle.right_runs.specs.{Banks.{bank_of_line, line_in_bank, pacing_in, rules
 use Rattle.right_runs.specs.{Runs.{ServesTo, RunsRightTo}, Tables.table_in}
 use Rattle.module_shape.specs.{Addresses.{module_of, array_lines_of, bank_shape}, Limits.{IsShape, total_of}, declared.raw.RawShape.RawShape}
 use Rattle.module_laws.specs.{Asking.{Asked, row_with}, Serves.{BankTableLaw, ServedByBanksLaw, RoomByBankLaw}}
-use Rattle.end_laws.specs.EndLaws.{RemappedLaw, GapsLaw, KeptLaw, QueuedLaw, StillThereLaw}
+use Rattle.end_laws.specs.EndLaws.{RemappedLaw, GapsLaw, KeptLaw, QueueLaw, StillThereLaw}
 use Rattle.lifetime_laws.specs.Lifetime.{KeptLinesLaw}
 use Rattle.run_laws.{specs.FinishedLaws.{EndedLaw, ends_of}, specs.Finishing.IsFinishedTo, proofs.Banks.{is_end, is_lawful, leaves, ends_right}, proofs.Mixing.lines_law}
 
@@ -34,7 +34,7 @@ pub record BankLaws : Type 0 where
   pub remapped : RemappedLaw
   pub gaps : GapsLaw
   pub kept : KeptLaw
-  pub queued : QueuedLaw
+  pub queue : QueueLaw
   pub still : StillThereLaw
 
 -- each bank of a module has its sizes
@@ -108,7 +108,7 @@ module _ {n m e : ℕ} (off : Bool) (laws : BankLaws) (raw : RawShape) (seed : �
     ends =
         subst (λ (rs : List (Row n)). EndsWithTo off (shape_of bank) (is_worn_at e array) (decoded e array) rs (ends_of h banks bank)) (sym table)
         (ends_right (h bank) (banks bank) array (done.leads bank exists) (shape_of bank) (pacing_in raw) (done.shapes bank exists) (done.paces bank exists)
-        laws.leaving laws.remapped laws.gaps laws.kept laws.queued laws.still (sized raw bank is) off (done.idle bank exists))
+        laws.leaving laws.remapped laws.gaps laws.kept laws.queue laws.still (sized raw bank is) off (done.idle bank exists))
 
     -- the unused check cells of its lines are untouched
     untouched : AreUntouched e array (shape_of bank).base (lines_in (shape_of bank))

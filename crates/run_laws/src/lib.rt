@@ -8,7 +8,7 @@ ghost use Rattle.run_laws.specs.RowsOfRuns.{OwnOutcomesLaw, PlacesExistLaw, FewA
 
 use clock_laws::events::{histories_leave_the_array, unused_cells_stay_untouched};
 use end_laws::{
-    excepted_lines_are_queued, lines_are_kept, lines_have_one_role, registers_follow_stores,
+    lines_are_kept, lines_have_one_role, queues_follow_rows, registers_follow_stores,
     slots_have_their_lines, stored_rows_are_still_there,
 };
 use lifetime_laws::{
@@ -48,7 +48,7 @@ pub fn finished_runs_are_right()
     slots_have_their_lines();
     registers_follow_stores();
     lines_are_kept();
-    excepted_lines_are_queued();
+    queues_follow_rows();
     stored_rows_are_still_there();
 }
 
@@ -69,7 +69,7 @@ pub fn stopped_runs_are_right()
     slots_have_their_lines();
     registers_follow_stores();
     lines_are_kept();
-    excepted_lines_are_queued();
+    queues_follow_rows();
     stored_rows_are_still_there();
 }
 

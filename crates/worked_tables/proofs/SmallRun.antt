@@ -1,6 +1,6 @@
 -- The worked run is right, and altered ones are not.
 use Rattle.std.proofs.Common.{◌≡◌, ℕ, zero, suc, ◌+◌, ◌*◌, ◌/◌, ◌%◌, ◌<◌, ◌≤◌, ◌==◌, ◌&&◌, if◌then◌else◌, Bool, true, false, List, [], ◌∷◌, ◌++◌, inl, inr, lit<, lit≤, refl, sym, ap, ◌∙◌, subst, arith, cond}
-use Rattle.std.{specs.Int.bit_at, specs.Prelude.{nat_lt, nat_eq, slice_index}, proofs.lemmas.Bool.cases_eq, proofs.lemmas.Nat.Bits.bit_at-zero}
+use Rattle.std.{specs.Int.bit_at, specs.List.list_any, specs.Prelude.{nat_lt, nat_eq, slice_index}, proofs.lemmas.Bool.cases_eq, proofs.lemmas.Nat.Bits.bit_at-zero}
 use Rattle.masked_bytes.proofs.Truth.{and_first, and_second}
 use Rattle.rand_core.specs.{Steps.stream_of, Stream.next_u64}
 use Rattle.seeded_words.specs.Words.{stream_after, word_at}
@@ -8,12 +8,13 @@ use Rattle.cell_rows.specs.declared.array.Sense.{Sense}
 use Rattle.cell_rows.specs.Rows as cells
 use Rattle.ecp_line.specs.{ArrayLines.{is_worn_at, decoded}, Reading.decode, Untouched.HasUntouched}
 use Rattle.ecp_line.specs.Layout as layout
-use Rattle.row_rules.specs.{Rows.each_row, Serving.is_served, Table.KeepsRows, declared.Row.Row}
+use Rattle.row_rules.specs.{Rows.each_row, Serving.is_served, Table.KeepsRows, Wearing.worn_row, declared.Row.Row}
 use Rattle.worked_tables.specs.Runs.{small, reading, misplaced, first_bank, second_bank, senses, holding, ended, touched, forgotten, NeverRight, unmoved, hammered, strained}
-use Rattle.worked_tables.specs.TableExamples.{whole}
+use Rattle.worked_tables.specs.{Runs.{cut_short, emptied, queueing, first_byte, both_bytes}, TableExamples.whole}
 use Rattle.module_shape.specs.Addresses.{module_of, bank_shape}
-use Rattle.right_runs.specs.{Banks.{bank_of_line, line_in_bank, line_named, rules_in}, Ends.{is_moved, BankEnd, EndsWith, IsRemapped, is_kept_line, place_by_table}}
-use Rattle.right_runs.specs.{KeepsLines.KeepsLines, KeepsLog.KeepsLog, KeepsPlaces.KeepsPlaces, Logs.is_line_fair, Runs.RunsRight, Tables.{finds_room_in, table_in}}
+use Rattle.right_runs.specs.{Banks.{bank_of_line, line_in_bank, line_named, rules_in}, Ends.{is_moved, BankEnd, EndsWith, IsRemapped, QueueEnds, is_kept_line, place_by_table}}
+use Rattle.right_runs.specs.{KeepsLines.KeepsLines, KeepsLog.KeepsLog, KeepsPlaces.KeepsPlaces, Logs.is_line_fair, Queued.{QueueEntry, entries_by, queued_writes}}
+use Rattle.right_runs.specs.{Runs.{RunsRight, StopsRight}, Tables.{finds_room_in, table_in}}
 
 pub where_8_is : (bank_of_line small 0 8 ≡ 1) × (line_in_bank small 0 8 ≡ 5) × (line_named small 0 1 5 ≡ 8)
 unfolding next_u64 stream_of stream_after word_at
@@ -113,7 +114,7 @@ second_log = record { sensed = refl; lines = λ line low high. each-from (shows 
 -- a line's newest bytes are there
 abbrev is_there : ℕ → List (Row 2) → ℕ → Bool
 is_there bank rs line =
-    is_kept_line rs line (decoded 1 ended (place_by_table (bank_shape (module_of small) bank) (unmoved bank).moves (unmoved bank).table line))
+    is_kept_line rs [] line (decoded 1 ended (place_by_table (bank_shape (module_of small) bank) (unmoved bank).moves (unmoved bank).table line))
 
 abbrev is_right_moved : ℕ → List (Row 2) → ℕ → Bool
 is_right_moved bank rs region = is_moved (bank_shape (module_of small) bank) (is_worn_at 1 ended) rs region 0
@@ -121,13 +122,24 @@ is_right_moved bank rs region = is_moved (bank_shape (module_of small) bank) (is
 remapped : (bank : ℕ) → IsRemapped (bank_shape (module_of small) bank) (is_worn_at 1 ended) (unmoved bank).table
 remapped bank = record { apart = λ slot other below also same. omega (arith, same); lines = λ slot below. inl refl }
 
+-- no write is queued, and none was refused
+empty : (bank : ℕ) (rs : List (Row 2)) → queued_writes rs ≡ [] → entries_by false (queued_writes rs) ≡ [] → list_any worn_row rs ≡ false
+    → QueueEnds (bank_shape (module_of small) bank) rs (unmoved bank)
+empty bank rs none gives unworn = record {
+  begun = false;
+  entries = sym gives;
+  none_due = λ is. absurd (cc);
+  again = λ is. absurd (cc (none, is));
+  worn = λ is due. absurd (cc (unworn, is));
+}
+
 first_end : EndsWith (bank_shape (module_of small) 0) (is_worn_at 1 ended) (decoded 1 ended) (first_bank 0) (unmoved 0)
 unfolding decode layout.number layout.source_below layout.active layout.width layout.leading layout.some_below cells.cell cells.members lib.Count.count_trailing_zeros
 first_end = record {
   lines = remapped 0;
   moved = λ region below. each-from (is_right_moved 0 (first_bank 0)) 2 0 region refl (omega arith) below;
+  queue = empty 0 (first_bank 0) refl refl refl;
   kept = λ line below. each-from (is_there 0 (first_bank 0)) 8 0 line refl (omega arith) below;
-  queued = refl;
   stored = refl;
 }
 
@@ -136,8 +148,8 @@ unfolding decode layout.number layout.source_below layout.active layout.width la
 second_end = record {
   lines = remapped 1;
   moved = λ region below. each-from (is_right_moved 1 (second_bank 0x11)) 2 0 region refl (omega arith) below;
+  queue = empty 1 (second_bank 0x11) refl refl refl;
   kept = λ line below. each-from (is_there 1 (second_bank 0x11)) 8 0 line refl (omega arith) below;
-  queued = refl;
   stored = refl;
 }
 
@@ -240,3 +252,27 @@ hammered_is_wrong right = let many : 100 ≤ 80 = (right.serves.lines 1 (lit< tt
 pub strained_is_wrong : RunsRight 1 small 0 rows strained unmoved → ⊥
 unfolding next_u64 stream_of stream_after word_at
 strained_is_wrong right = let many : 10 ≤ 2 = ((right.serves.lines 1 (lit< tt)).ages 6 (lit< tt)).live (λ c. refl) 0 in absurd (omega (arith, many))
+
+-- where the array lost the bytes of a line, and the power stays off, the queue gives both of them
+pub lost_are_queued : (queue : List QueueEntry) → StopsRight 1 small 0 cut_short emptied (queueing queue) → queue ≡ both_bytes
+unfolding next_u64 stream_of stream_after word_at decode layout.number layout.source_below layout.active layout.width layout.leading layout.some_below cells.cell cells.members lib.Count.count_trailing_zeros
+lost_are_queued queue right = by (right.end 1 (lit< tt)).queue.begun (right.end 1 (lit< tt)).queue.entries ((right.end 1 (lit< tt)).kept 5 (lit< tt))
+  where
+    abbrev gives : Bool → List QueueEntry
+    gives begun = entries_by begun (queued_writes (table_in small 0 1 cut_short))
+
+    by : (begun : Bool) → queue ≡ gives begun → is_kept_line (table_in small 0 1 cut_short) queue 5 (whole 0) ≡ true → queue ≡ both_bytes
+    by true is kept = is
+    by false is kept =
+        let no : ◌≡◌ {A = Bool} false true = subst (λ (q : List QueueEntry). is_kept_line (table_in small 0 1 cut_short) q 5 (whole 0) ≡ true) is kept in
+        absurd (cc)
+
+-- so one that gives the first byte alone is refused
+pub lost_is_wrong : StopsRight 1 small 0 cut_short emptied (queueing first_byte) → ⊥
+lost_is_wrong right =
+    let no : ◌≡◌ {A = List Bool} (true ∷ false ∷ []) (true ∷ true ∷ []) = ap first_given (lost_are_queued first_byte right) in
+    absurd (cc)
+  where
+    first_given : List QueueEntry → List Bool
+    first_given [] = []
+    first_given (entry ∷ entries) = entry.gives.given

@@ -4,10 +4,10 @@ use Rattle.std.specs.Prelude.{ℕ, ◌+◌, ◌*◌, ◌==◌, false, if◌then�
 use Rattle.cell_rows.specs.{Device.{CellBounds, ArrayState, LineState}, declared.array.Sense.Sense}
 use Rattle.result_rows.specs.declared.Outcome.TheVariants as out
 use Rattle.row_rules.specs.declared.Row.{Row}
-use Rattle.worked_tables.specs.{HistoryExamples.holds, TableExamples.{W, R, whole}}
+use Rattle.worked_tables.specs.{HistoryExamples.{both, first, holds}, TableExamples.{C, M, W, R, whole}}
 use Rattle.bank_shape.specs.{declared.Home.TheVariants.Guarded, declared.pace.Policy.TheVariants.Pause}
 use Rattle.module_shape.specs.declared.raw.RawShape.{RawShape}
-use Rattle.right_runs.specs.{Ends.BankEnd, Runs.RunsRight}
+use Rattle.right_runs.specs.{Ends.BankEnd, Queued.QueueEntry, Runs.RunsRight}
 
 abbrev pub small : RawShape
 small = record {
@@ -81,4 +81,23 @@ NeverRight rows = (m e : ℕ) (array : ArrayState 2 m) (ends : ℕ → BankEnd) 
 
 -- each bank's slots have the array lines of their numbers, and no gap has moved
 abbrev pub unmoved : ℕ → BankEnd
-unmoved bank = record { table = λ slot. bank * 11 + slot; moves = λ region. 0; excepted = None }
+unmoved bank = record { table = λ slot. bank * 11 + slot; moves = λ region. 0; queue = [] }
+
+-- line 8 is stored, its first byte is written anew, and then the power goes for good
+abbrev pub cut_short : List (Row 2)
+cut_short = C 207 ∷ M 200 8 0xee (out.Queued 200) ∷ W 0 8 0x11 (out.Stored 15 17) ∷ []
+
+-- an array whose line 17, which was pulsed twice, is read as zeros
+abbrev pub emptied : ArrayState 2 1
+emptied = record { line = λ line. if line == 17 then holding 0 2 else holding 0 0; lines = 22; tears = 1; log = None; wear = None; bounds = never_missing }
+
+-- the same ends, but that the second bank's queue gives this
+abbrev pub queueing : List QueueEntry → ℕ → BankEnd
+queueing queue bank = record (unmoved bank) { queue = if bank == 1 then queue else [] }
+
+-- of line 8, number 5 of that bank, the first byte; and both
+abbrev pub first_byte : List QueueEntry
+first_byte = record { line = 5; gives = record { bytes = 0xee ∷ 0 ∷ []; given = first } } ∷ []
+
+abbrev pub both_bytes : List QueueEntry
+both_bytes = record { line = 5; gives = record { bytes = 0xee ∷ 0x11 ∷ []; given = both } } ∷ []

@@ -1,12 +1,14 @@
 //! A worked run of a small module, and altered ones that are refused. Each clause is computed from the definitions; there is
 //! nothing to run.
 
-ghost use Rattle.std.specs.Prelude.{◌≡◌, ℕ};
+ghost use Rattle.std.specs.Prelude.{◌≡◌, ◌∷◌, [], ℕ, List};
 ghost use Rattle.right_runs.specs.Ends.{BankEnd};
-ghost use Rattle.right_runs.specs.Runs.{RunsRight};
+ghost use Rattle.right_runs.specs.Runs.{RunsRight, StopsRight};
+ghost use Rattle.right_runs.specs.Queued.{QueueEntry};
+ghost use Rattle.row_rules.specs.Rows.{newest};
 ghost use Rattle.right_runs.specs.Banks.{bank_of_line, line_in_bank, line_named};
 ghost use Rattle.right_runs.specs.Tables.{table_in};
-ghost use Rattle.worked_tables.specs.Runs.{small, reading, misplaced, first_bank, second_bank, ended, touched, forgotten, hammered, strained, unmoved, NeverRight};
+ghost use Rattle.worked_tables.specs.Runs.{small, reading, misplaced, first_bank, second_bank, ended, touched, forgotten, hammered, strained, unmoved, cut_short, emptied, queueing, first_byte, both_bytes, NeverRight};
 
 /// Which bank has line 8, under which number, and which rows each bank gets.
 pub fn worked_lines_are_mixed()
@@ -26,4 +28,13 @@ pub fn worked_runs_are_judged()
     ensures forgotten { RunsRight 1 small 0 (reading 0x11 0) forgotten unmoved → ⊥ }
     ensures hammered { RunsRight 1 small 0 (reading 0x11 0) hammered unmoved → ⊥ }
     ensures strained { RunsRight 1 small 0 (reading 0x11 0) strained unmoved → ⊥ }
+{}
+
+/// Where a byte is neither in the array nor given by the queue, the power may not stay off: over an array that has lost both bytes of
+/// line 8 the queue gives both, as it does once a store of its write was begun.
+pub fn lost_bytes_are_refused()
+    ensures newest { newest cut_short 8 ≡ 0xee ∷ 0x11 ∷ [] }
+    ensures lost { StopsRight 1 small 0 cut_short emptied (queueing first_byte) → ⊥ }
+    ensures queued { (queue : List QueueEntry)
+        → StopsRight 1 small 0 cut_short emptied (queueing queue) → queue ≡ both_bytes }
 {}

@@ -18,7 +18,7 @@ returns c =
       remapped = c.slots_have_their_lines.ensures;
       gaps = c.registers_follow_stores.ensures;
       kept = c.lines_are_kept.ensures;
-      queued = c.excepted_lines_are_queued.ensures;
+      queue = c.queues_follow_rows.ensures;
       still = c.stored_rows_are_still_there.ensures;
     } in
     ended_law laws false

@@ -77,7 +77,7 @@ returns-in_err-print_run g c =
           (λ s come.
           run-part job array events c.replay.new.results c.replay.new.pcm shape seeded size (left.0, left.1, stays) s come
           (some.2.since.wear ∙ c.replay.ensures.wear ∙ c.requires.may_play.taken.wear) _
-          (leaves-with c.replay.new.pcm before array events c.replay.new.results c.replay.ensures.played some.0 some.2.since (λ saved count. (count ≤ senses_for job.print array.lines) × (job.print ≡ Image → WritesRows array saved (g.K.Sink.written c.args.out.now) (g.K.Sink.written c.print_run.new.out))) some.2.rows
+          (leaves-with c.replay.new.pcm before array events c.replay.new.results c.replay.ensures.played some.0 some.2.since left.0 left.1 (λ saved count. (count ≤ senses_for job.print array.lines) × (job.print ≡ Image → WritesRows array saved (g.K.Sink.written c.args.out.now) (g.K.Sink.written c.print_run.new.out))) some.2.rows
           (subst (λ lines. some.0 ≤ senses_for job.print lines) (sym some.2.since.lines) some.1, c.in_err-print_run.ensures.part))
           can.roles c.in_err-print_run.ensures.prefix);
       fault = on_err_any c.from_residual.result _ c.in_err-print_run.ensures.fault;
@@ -107,7 +107,7 @@ returns g c =
           λ s come.
           run-written job array events c.replay.new.results c.replay.new.pcm shape seeded size (left.0, left.1, stays) s come
           (some.2.since.wear ∙ c.replay.ensures.wear ∙ c.requires.may_play.taken.wear) _ c.ending.result c.ending.ensures
-          (leaves-with c.replay.new.pcm before array events c.replay.new.results c.replay.ensures.played (senses_for job.print before.lines) all.since (λ saved count. count ≡ senses_for job.print array.lines) all.rows
+          (leaves-with c.replay.new.pcm before array events c.replay.new.results c.replay.ensures.played (senses_for job.print before.lines) all.since left.0 left.1 (λ saved count. count ≡ senses_for job.print array.lines) all.rows
           (ap (senses_for job.print) (sym all.since.lines)))
           can.roles c.in_ok-print_run.ensures.ok;
       in_part = tt;

@@ -17,11 +17,10 @@ use Rattle.bank_laws.proofs.{Lines.{Stands, Covered, stands-row, stands-one, cov
 use Rattle.bank_laws.proofs.{Pending.covered_on, Serves.{newest_same, onwards_at}, Settling.{opens, above_all, lawful_before, stays, step_stays}, Standing.stand_apart}
 use Rattle.bank_laws.proofs.Waiting.{may_all}
 use Rattle.queue_laws.{specs.EntryLaws.{line_written, given_by, is_head_begun}, proofs.Owned.{IsOwn, AreOwn, EachOwn, queue-own}}
-use Rattle.pcm_image.specs.declared.EntryImage.{EntryImage}
-use Rattle.right_images.specs.{Queued.{QueuedWrite, first_again, coming, queued_after, by_order, queued_writes, entry_by, entries_by}, Saving.saved_entry}
-use Rattle.image_laws.proofs.{Begun.Again, Heads.{above, written-below, HeadWhole, head-whole}}
-use Rattle.image_laws.proofs.Placing.{Numbered, fits, merging_as, put, writes, writes-put, Each, each-map, each-both, Match, match-stands, match-stays, match-accepted, match-drop}
-use Rattle.image_laws.proofs.Placing.{match-begun, match-merged, each-accepted, each-merged}
+use Rattle.right_runs.specs.Queued.{QueueEntry, QueuedWrite, first_again, coming, queued_after, by_order, queued_writes, entry_by, entries_by}
+use Rattle.end_laws.{specs.EndLaws.queue_entry, proofs.Begun.Again, proofs.Heads.{above, written-below, HeadWhole, head-whole}}
+use Rattle.end_laws.proofs.Placing.{Numbered, fits, merging_as, put, writes, writes-put, Each, each-map, each-both, Match, match-stands, match-stays, match-accepted, match-drop}
+use Rattle.end_laws.proofs.Placing.{match-begun, match-merged, each-accepted, each-merged}
 
 module _ {n m : ℕ} (shape : BankShape) (all : List (TimedEvent n m)) where
   abbrev row_of : ℕ → ℕ → ℕ → List ℕ → List Bool → Row n
@@ -459,38 +458,36 @@ module _ {n m : ℕ} (shape : BankShape) (all : List (TimedEvent n m)) where
 
     -- so the entries are those by the rows
     same-given : (entry : Entry n) (w : QueuedWrite n) → IsAlike entry w → IsOwn (line_written entry.row (core all)) (given_by entry.row (core all)) false entry
-        → saved_entry entry ≡ entry_by false w
+        → queue_entry entry ≡ entry_by false w
     same-given entry w is own =
-        let layer = own.gives ∙ is.gives in
-        ap (λ (g : Layer). record { line = entry.line; bytes = g.bytes; given = g.given }) layer
-        ∙ ap (λ k. record { line = k; bytes = w.gives.bytes; given = w.gives.given }) is.line
+        ap (λ (g : Layer). record { line = entry.line; gives = g }) (own.gives ∙ is.gives) ∙ ap (λ (k : ℕ). record { line = k; gives = w.gives }) is.line
 
     same-whole : (entry : Entry n) (w : QueuedWrite n) → IsAlike entry w → IsOwn (line_written entry.row (core all)) (given_by entry.row (core all)) true entry
-        → entry.bytes ≡ newest (up_to entry.row (core all)) entry.line → saved_entry entry ≡ entry_by true w
+        → entry.bytes ≡ newest (up_to entry.row (core all)) entry.line → queue_entry entry ≡ entry_by true w
     same-whole entry w is own whole =
-        ap (λ (k : ℕ). record { line = k; bytes = entry.bytes; given = entry.given }) is.line
-        ∙ ap (λ bytes. record { line = w.line; bytes = bytes; given = entry.given }) (whole ∙ is.newest_is)
-        ∙ ap (λ given. record { line = w.line; bytes = w.newest; given = given }) (all_given-gives_all n entry.given own.given own.gives.0)
+        ap (λ (k : ℕ). record { line = k; gives = record { bytes = entry.bytes; given = entry.given } }) is.line
+        ∙ ap (λ (bytes : List ℕ). record { line = w.line; gives = record { bytes = bytes; given = entry.given } }) (whole ∙ is.newest_is)
+        ∙ ap (λ (given : List Bool). record { line = w.line; gives = record { bytes = w.newest; given = given } }) (all_given-gives_all n entry.given own.given own.gives.0)
 
     rest-same : (es : List (Entry n)) (ws : List (QueuedWrite n)) → Alike es ws → EachOwn (λ row. line_written row (core all)) (λ row. given_by row (core all)) es
-        → map saved_entry es ≡ map (entry_by false) ws
+        → map queue_entry es ≡ map (entry_by false) ws
     rest-same [] [] a own = refl
     rest-same [] (w ∷ ws) a own = absurd a
     rest-same (entry ∷ es) [] a own = absurd a
     rest-same (entry ∷ es) (w ∷ ws) a own =
-        ap (λ (first : EntryImage n). first ∷ map saved_entry es) (same-given entry w a.0 own.0) ∙ ap (λ rest. entry_by false w ∷ rest) (rest-same es ws a.1 own.1)
+        ap (λ (first : QueueEntry). first ∷ map queue_entry es) (same-given entry w a.0 own.0) ∙ ap (λ rest. entry_by false w ∷ rest) (rest-same es ws a.1 own.1)
 
     all-same : (whole : Bool) (es : List (Entry n)) (ws : List (QueuedWrite n)) → Alike es ws → AreOwn (λ row. line_written row (core all)) (λ row. given_by row (core all)) whole es
-        → (whole ≡ true → HeadWhole shape (core all) es) → map saved_entry es ≡ entries_by whole ws
+        → (whole ≡ true → HeadWhole shape (core all) es) → map queue_entry es ≡ entries_by whole ws
     all-same whole [] [] a own head = refl
     all-same whole [] (w ∷ ws) a own head = absurd a
     all-same whole (entry ∷ es) [] a own head = absurd a
     all-same true (entry ∷ es) (w ∷ ws) a own head =
-        ap (λ (first : EntryImage n). first ∷ map saved_entry es) (same-whole entry w a.0 own.0 (head refl)) ∙ ap (λ rest. entry_by true w ∷ rest) (rest-same es ws a.1 own.1)
+        ap (λ (first : QueueEntry). first ∷ map queue_entry es) (same-whole entry w a.0 own.0 (head refl)) ∙ ap (λ rest. entry_by true w ∷ rest) (rest-same es ws a.1 own.1)
     all-same false (entry ∷ es) (w ∷ ws) a own head =
-        ap (λ (first : EntryImage n). first ∷ map saved_entry es) (same-given entry w a.0 own.0) ∙ ap (λ rest. entry_by false w ∷ rest) (rest-same es ws a.1 own.1)
+        ap (λ (first : QueueEntry). first ∷ map queue_entry es) (same-given entry w a.0 own.0) ∙ ap (λ rest. entry_by false w ∷ rest) (rest-same es ws a.1 own.1)
 
-    pub queue-by_rows : map saved_entry (queue shape (core all)) ≡ entries_by (is_head_begun shape (core all)) (queued_writes (table_of shape all))
+    pub queue-by_rows : map queue_entry (queue shape (core all)) ≡ entries_by (is_head_begun shape (core all)) (queued_writes (table_of shape all))
     queue-by_rows =
         let b = above_all shape pace e all l in
         let may = may_all shape pace e all l in

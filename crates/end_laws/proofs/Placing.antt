@@ -5,7 +5,7 @@ use Rattle.masked_bytes.{specs.Entries.{has_row, laid_on, merged, completed_by},
 use Rattle.row_rules.specs.Answers.{is_merged}
 use Rattle.bank_model.specs.History.{begun}
 use Rattle.bank_laws.proofs.Lines.{Stands}
-use Rattle.right_images.specs.Queued.{QueuedWrite, merging, queued_after}
+use Rattle.right_runs.specs.Queued.{QueuedWrite, merging, queued_after}
 
 -- a write with the number of its row
 pub record Numbered (n : ℕ) : Type 0 where
