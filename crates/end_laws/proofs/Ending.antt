@@ -15,7 +15,7 @@ end_law off n m e pace xs bank array sized l idle holds halted = (
   record {
     lines = remapped_law n m e (core xs) bank array holds;
     moved = λ region exists. gaps_law off n m e pace xs bank array region sized l idle holds halted;
-    queue = queue_law n m e pace xs bank array sized l holds;
+    queue = queue_law off n m e pace xs bank array sized l idle holds halted;
     kept = λ line exists. kept_law n m e pace xs bank array line l holds exists;
     stored = still_there_law n m e pace xs bank array sized l holds halted;
   },

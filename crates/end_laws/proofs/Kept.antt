@@ -99,13 +99,13 @@ kept_law n m e pace xs bank array line l holds exists =
 pub stored_bytes_law : StoredBytesLaw
 stored_bytes_law n m e pace xs bank array line sized l holds exists = by (has_whole_head bank.kept.entries line) refl
   where
-    abbrev at : ℕ
+    at : ℕ
     at = place_by_table bank.kept.shape (moved_in bank.kept.shape.lines (core xs)) (array_line bank.kept) line
 
-    abbrev new : List ℕ
+    new : List ℕ
     new = rows.newest (table_of bank.kept.shape xs) line
 
-    abbrev free : List Bool
+    free : List Bool
     free = unstored is_stored line (table_of bank.kept.shape xs)
 
     given : has_whole_head bank.kept.entries line ≡ false → (layer_of bank.kept.entries line).given ≡ free

@@ -5,7 +5,7 @@ pub mod Begun
 mod Heads
 mod Placing
 pub mod Queueing
-pub mod Refusing
+pub mod Leftover
 mod Kept
 pub mod Queued
 pub mod Ending

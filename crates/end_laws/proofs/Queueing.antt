@@ -493,3 +493,24 @@ module _ {n m : ℕ} (shape : BankShape) (all : List (TimedEvent n m)) where
         let may = may_all shape pace e all l in
         all-same (is_head_begun shape (core all)) (queue shape (core all)) (queued_writes (table_of shape all)) queue-alike
         (queue-own shape (most_steps e) (core all) b.0 may b.1) (head-whole shape (most_steps e) (core all) b.0 may b.1)
+
+    -- a store was begun only where a write is queued
+    pub begun-some : is_head_begun shape (core all) ≡ true → queued_writes (table_of shape all) ≡ [] → ⊥
+    begun-some is none =
+        let b = above_all shape pace e all l in
+        by (queue shape (core all)) (subst (λ (ws : List (QueuedWrite n)). Alike (queue shape (core all)) ws) none queue-alike)
+        (subst (λ (whole : Bool). AreOwn (λ row. line_written row (core all)) (λ row. given_by row (core all)) whole (queue shape (core all))) is
+        (queue-own shape (most_steps e) (core all) b.0 (may_all shape pace e all l) b.1))
+      where
+        by : (es : List (Entry n)) → Alike es [] → AreOwn (λ row. line_written row (core all)) (λ row. given_by row (core all)) true es → ⊥
+        by [] a own = cc own
+        by (entry ∷ es) a own = a
+
+    -- and where one is queued the queue has a first entry
+    pub queue-first : (queued_writes (table_of shape all) ≡ [] → ⊥) → (row : ℕ) × (has_row (queue shape (core all)) row ≡ true)
+    queue-first some = by (queue shape (core all)) (queued_writes (table_of shape all)) queue-alike some
+      where
+        by : (es : List (Entry n)) (ws : List (QueuedWrite n)) → Alike es ws → (ws ≡ [] → ⊥) → (row : ℕ) × (has_row es row ≡ true)
+        by [] [] a some = absurd (some refl)
+        by [] (w ∷ ws) a some = absurd a
+        by (entry ∷ es) ws a some = (entry.row, ap (λ b. b || has_row es entry.row) (eq-eqb entry.row entry.row refl))

@@ -10,7 +10,7 @@ use Rattle.bank_model.specs.{Changes.{change_after, halted_after}, Events.BankEv
 use Rattle.bank_invariant.specs.{Holds.Holds, State.BankState}
 use Rattle.ecp_line.specs.ArrayLines.{decoded, is_worn_at}
 use Rattle.bank_laws.specs.{Laws.IsSized, Outcomes.table_of, Resting.EndsIn}
-use Rattle.right_runs.specs.{Ends.{is_moved_to, BankEnd, EndsWithTo, IsRemapped, QueueEnds, place_by_table, is_kept_line, is_still_there}, Queued.QueueEntry}
+use Rattle.right_runs.specs.{Ends.{is_moved_to, BankEnd, EndsWithTo, IsRemapped, QueueEndsTo, place_by_table, is_kept_line, is_still_there}, Queued.QueueEntry}
 
 -- what an entry of a queue gives
 abbrev pub queue_entry : {n : ℕ} → Entry n → QueueEntry
@@ -80,9 +80,10 @@ StandsLaw =
 -- the queue has an entry for each write that is queued by the rows, and whether a store of the first was begun
 abbrev pub QueueLaw : Type 0
 QueueLaw =
-    (n m e : ℕ) (pace : Pace) (xs : List (TimedEvent n m)) (bank : BankState n m e) (array : ArrayState n m)
-    → IsSized bank.kept.shape pace → Lawful bank.kept.shape pace e xs → Holds (core xs) bank array
-    → QueueEnds bank.kept.shape (table_of bank.kept.shape xs) (end_of bank.kept (core xs))
+    (off : Bool) (n m e : ℕ) (pace : Pace) (xs : List (TimedEvent n m)) (bank : BankState n m e) (array : ArrayState n m)
+    → IsSized bank.kept.shape pace → Lawful bank.kept.shape pace e xs → EndsIn off bank.kept.shape pace xs → Holds (core xs) bank array
+    → IsHaltedWorn e bank.kept.shape xs array
+    → QueueEndsTo off bank.kept.shape (is_worn_at e array) (table_of bank.kept.shape xs) (end_of bank.kept (core xs))
 
 -- the slot of each stored row has the row's place still, or a later spare where that place is worn
 abbrev pub StillThereLaw : Type 0

@@ -18,7 +18,7 @@ use Rattle.place_laws.proofs.WornOut.{idle-queued, idle-due, worn_out, worn_cont
 use Rattle.bank_invariant.specs.{Bridge.AgreesWith, Holds.Holds, State.BankState}
 use Rattle.pcm_image.specs.{Saved.SavedBank, Standing.no_region, declared.EntryImage.EntryImage}
 use Rattle.right_images.specs.{Queued.entry_image, SavedBanks.{SavesMarkTo, SavesQueue, has_work, is_due, queued_row}, Saving.{saved_bank, saved_entry, saved_region}}
-use Rattle.end_laws.{specs.EndLaws.{IsEndOf, queue_entry}, proofs.Begun.keeps-begun, proofs.Queueing.{Alike, queue-alike, queue-by_rows}, proofs.Refusing.refused}
+use Rattle.end_laws.{specs.EndLaws.{IsEndOf, queue_entry}, proofs.Begun.keeps-begun, proofs.Queueing.{Alike, queue-alike, queue-by_rows}, proofs.Leftover.{over-why, refused}}
 
 -- Lists
 
@@ -139,17 +139,6 @@ module _ {n m : ℕ} (shape : BankShape) (pace : Pace) (e : ℕ) (all : List (Ti
       by : (q : List (Entry n)) → queue shape (core all) ≡ q → (f : Entry n) × (fs : List (Entry n)) × (queue shape (core all) ≡ f ∷ fs)
       by [] none = absurd (cc (empty-queue none, is))
       by (f ∷ fs) some = (f, fs, some)
-
-  -- where no line write is begun any more the bank is exhausted, or a control line of it is worn
-  over-why : (array : ArrayState n m) → IsSized shape pace → LeavesArray e shape all array → is_over shape all ≡ true
-      → (has_exhausted (core all) ≡ true) ⊎ (0 < worn_among (is_worn_at e array) (controls_from shape) (controls_of shape))
-  over-why array sized leaves over = by (change_after shape all) (change-within shape pace e all sized.regions sized.lines l) over leaves.halted
-    where
-      by : (change : Option ℕ) → IfSome change (λ item. item < controls_of shape) → over_by change (halted_after all) (has_exhausted (core all)) ≡ true
-          → (halted_after all ≡ true → IfSome change (λ item. is_worn_at e array (control_line shape item) ≡ true))
-          → (has_exhausted (core all) ≡ true) ⊎ (0 < worn_among (is_worn_at e array) (controls_from shape) (controls_of shape))
-      by None exists ex halts = inl ex
-      by (Some item) exists halted halts = inr (worn_control shape pace e all array sized l leaves item exists (halts halted))
 
 module _ {n m e : ℕ} (pace : Pace) (all : List (TimedEvent n m)) (bank : BankState n m e) (array : ArrayState n m) (sized : IsSized bank.kept.shape pace)
     (l : Lawful bank.kept.shape pace e all) (off : Bool) (ends : EndsIn off bank.kept.shape pace all) (holds : Holds (core all) bank array) (agrees : AgreesWith (core all) bank)

@@ -4,7 +4,7 @@ use Rattle.feistel_map.specs.{Log2.log2, Network.{network_of, feistel, unfeistel
 use Rattle.module_shape.specs.{Addresses.{module_of, bank_of, bank_line_of, lines_of, pace_of, bank_shape}, Limits.total_of, declared.raw.RawShape.RawShape}
 use Rattle.row_rules.specs.declared.Rules.{Rules}
 use Rattle.bank_shape.specs.{Shape.controls_of, declared.BankShape.BankShape, declared.pace.Pace.Pace}
-use Rattle.bank_model.specs.Sensing.{most_steps}
+use Rattle.ecp_line.specs.Steps.{most_steps}
 
 module _ (raw : RawShape) (seed : ℕ) where
   -- the number that the static randomiser gives a line of the module

@@ -1,8 +1,8 @@
 -- Where each line's newest bytes are in the end.
-use Rattle.std.specs.{List.list_any, Prelude.{ℕ, ◌+◌, ◌/◌, ◌%◌, ◌==◌, ◌&&◌, ◌||◌, Bool, List, false, ◌≡◌, ◌⊎◌, ◌<◌, ◌≤◌, IsTrue, nat_lt, nat_le, true, ◌∷◌, ◌++◌, ◌*◌, []}}
+use Rattle.std.specs.{List.list_any, Prelude.{ℕ, ◌+◌, ◌/◌, ◌%◌, ◌==◌, ◌&&◌, ◌||◌, Bool, List, false, ◌≡◌, ◌≢◌, ◌⊎◌, ◌<◌, ◌≤◌, IsTrue, IsFalse, nat_lt, nat_le, true, ◌∷◌, ◌++◌, ◌*◌, []}}
 use Rattle.row_rules.specs.{Answers.{is_stored, stored_before}, Rows.{newest, RowTest, line_of, each_row}, Serving.same_bytes, Wearing.worn_row, declared.Row.Row}
-use Rattle.bank_shape.specs.{Shape.{slots_of, slot_moved}, declared.BankShape.BankShape}
-use Rattle.right_runs.specs.{Places.region_stores, Queued.{QueueEntry, entries_by, first_again, laid_over, queued_writes}, WornLines.may_leave}
+use Rattle.bank_shape.specs.{Shape.{slots_of, slot_moved, controls_from, controls_of}, declared.BankShape.BankShape}
+use Rattle.right_runs.specs.{Places.region_stores, Queued.{QueueEntry, entries_by, first_again, laid_over, queued_writes}, WornLines.{may_leave, worn_among}}
 use Rattle.result_rows.specs.declared.Outcome.{Outcome}
 use Rattle.result_rows.specs.declared.Outcome.TheVariants as out
 
@@ -58,14 +58,17 @@ abbrev pub NoneDue : {n : ℕ} → BankShape → List (Row n) → BankEnd → Ty
 NoneDue shape rows end = (region : ℕ) → region < shape.regions → end.moves region ≡ region_stores is_stored shape region rows / shape.psi
 
 -- the queue has an entry for each write that is queued by the rows, in the order in which they came there. A store of the first of them
--- was begun or not: never where a gap move is due; always where another of them is of its line, or where a write was refused as worn
--- and no move is due
-pub record QueueEnds {n : ℕ} (shape : BankShape) (rows : List (Row n)) (end : BankEnd) : Type 0 where
+-- was begun or not: never where no write is queued or a gap move is due; always where another of them is of its line. Where no move is
+-- due it was begun, too, where a write was refused as worn, and, where the power isn't off, unless a control line is worn
+pub record QueueEndsTo {n : ℕ} (off : Bool) (shape : BankShape) (worn : ℕ → Bool) (rows : List (Row n)) (end : BankEnd) : Type 0 where
   pub begun : Bool
   pub entries : end.queue ≡ entries_by begun (queued_writes rows)
+  pub some : IsTrue begun → queued_writes rows ≢ []
   pub none_due : IsTrue begun → NoneDue shape rows end
   pub again : IsTrue (first_again (queued_writes rows)) → IsTrue begun
-  pub worn : IsTrue (list_any worn_row rows) → NoneDue shape rows end → IsTrue begun
+  pub refused : IsTrue (list_any worn_row rows) → NoneDue shape rows end → IsTrue begun
+  pub left : IsFalse off → queued_writes rows ≢ [] → NoneDue shape rows end
+      → IsTrue begun ⊎ (0 < worn_among worn (controls_from shape) (controls_of shape))
 
 -- a bank in the end, over its table of rows, the newest first: by one table of lines and the moves of its regions each line's newest
 -- bytes are those of the array with those of the queue laid over them, which holds the writes that are queued. A move that is due may be
@@ -73,7 +76,7 @@ pub record QueueEnds {n : ℕ} (shape : BankShape) (rows : List (Row n)) (end : 
 pub record EndsWithTo {n : ℕ} (off : Bool) (shape : BankShape) (worn : ℕ → Bool) (held : ℕ → List ℕ) (rows : List (Row n)) (end : BankEnd) : Type 0 where
   pub lines : IsRemapped shape worn end.table
   pub moved : (region : ℕ) → region < shape.regions → IsTrue (is_moved_to off shape worn rows region (end.moves region))
-  pub queue : QueueEnds shape rows end
+  pub queue : QueueEndsTo off shape worn rows end
   pub kept : (line : ℕ) → line < shape.regions * shape.lines
       → IsTrue (is_kept_line rows end.queue line (held (place_by_table shape end.moves end.table line)))
   pub stored : IsTrue (each_row (is_still_there shape worn end.table) rows [])

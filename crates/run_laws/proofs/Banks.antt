@@ -35,7 +35,7 @@ module _ {n m e : ℕ} (xs : List (TimedEvent n m)) (clock : ClockState n m e) (
         (record {
           lines = remapped n m e (core xs) clock.bank array leads.holds;
           moved = λ region exists. gaps off n m e pace xs clock.bank array region sized' lawful' idle' leads.holds halted;
-          queue = queue n m e pace xs clock.bank array sized' lawful' leads.holds;
+          queue = queue off n m e pace xs clock.bank array sized' lawful' idle' leads.holds halted;
           kept = λ line exists. kept n m e pace xs clock.bank array line lawful' leads.holds exists;
           stored = still n m e pace xs clock.bank array sized' lawful' leads.holds halted;
         })

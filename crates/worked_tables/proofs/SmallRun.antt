@@ -12,8 +12,8 @@ use Rattle.row_rules.specs.{Rows.each_row, Serving.is_served, Table.KeepsRows, W
 use Rattle.worked_tables.specs.Runs.{small, reading, misplaced, first_bank, second_bank, senses, holding, ended, touched, forgotten, NeverRight, unmoved, hammered, strained}
 use Rattle.worked_tables.specs.{Runs.{cut_short, emptied, queueing, first_byte, both_bytes}, TableExamples.whole}
 use Rattle.module_shape.specs.Addresses.{module_of, bank_shape}
-use Rattle.right_runs.specs.{Banks.{bank_of_line, line_in_bank, line_named, rules_in}, Ends.{is_moved, BankEnd, EndsWith, IsRemapped, QueueEnds, is_kept_line, place_by_table}}
-use Rattle.right_runs.specs.{KeepsLines.KeepsLines, KeepsLog.KeepsLog, KeepsPlaces.KeepsPlaces, Logs.is_line_fair, Queued.{QueueEntry, entries_by, queued_writes}}
+use Rattle.right_runs.specs.{Banks.{bank_of_line, line_in_bank, line_named, rules_in}, Ends.{is_moved, BankEnd, EndsWith, IsRemapped, QueueEndsTo, is_kept_line, place_by_table}}
+use Rattle.right_runs.specs.{KeepsLines.KeepsLines, KeepsLog.KeepsLog, KeepsPlaces.KeepsPlaces, Logs.is_line_fair, Queued.{QueueEntry, QueuedWrite, entries_by, first_again, queued_writes}}
 use Rattle.right_runs.specs.{Runs.{RunsRight, StopsRight}, Tables.{finds_room_in, table_in}}
 
 pub where_8_is : (bank_of_line small 0 8 ≡ 1) × (line_in_bank small 0 8 ≡ 5) × (line_named small 0 1 5 ≡ 8)
@@ -123,14 +123,16 @@ remapped : (bank : ℕ) → IsRemapped (bank_shape (module_of small) bank) (is_w
 remapped bank = record { apart = λ slot other below also same. omega (arith, same); lines = λ slot below. inl refl }
 
 -- no write is queued, and none was refused
-empty : (bank : ℕ) (rs : List (Row 2)) → queued_writes rs ≡ [] → entries_by false (queued_writes rs) ≡ [] → list_any worn_row rs ≡ false
-    → QueueEnds (bank_shape (module_of small) bank) rs (unmoved bank)
-empty bank rs none gives unworn = record {
+empty : (bank : ℕ) (rs : List (Row 2)) → queued_writes rs ≡ [] → list_any worn_row rs ≡ false
+    → QueueEndsTo false (bank_shape (module_of small) bank) (is_worn_at 1 ended) rs (unmoved bank)
+empty bank rs none unworn = record {
   begun = false;
-  entries = sym gives;
+  entries = sym (ap (λ (ws : List (QueuedWrite 2)). entries_by false ws) none);
+  some = λ is. absurd (cc);
   none_due = λ is. absurd (cc);
-  again = λ is. absurd (cc (none, is));
-  worn = λ is due. absurd (cc (unworn, is));
+  again = λ is. absurd (cc (ap (λ (ws : List (QueuedWrite 2)). first_again ws) none, is));
+  refused = λ is moved. absurd (cc (unworn, is));
+  left = λ on some moved. absurd (some none);
 }
 
 first_end : EndsWith (bank_shape (module_of small) 0) (is_worn_at 1 ended) (decoded 1 ended) (first_bank 0) (unmoved 0)
@@ -138,7 +140,7 @@ unfolding decode layout.number layout.source_below layout.active layout.width la
 first_end = record {
   lines = remapped 0;
   moved = λ region below. each-from (is_right_moved 0 (first_bank 0)) 2 0 region refl (omega arith) below;
-  queue = empty 0 (first_bank 0) refl refl refl;
+  queue = empty 0 (first_bank 0) refl refl;
   kept = λ line below. each-from (is_there 0 (first_bank 0)) 8 0 line refl (omega arith) below;
   stored = refl;
 }
@@ -148,7 +150,7 @@ unfolding decode layout.number layout.source_below layout.active layout.width la
 second_end = record {
   lines = remapped 1;
   moved = λ region below. each-from (is_right_moved 1 (second_bank 0x11)) 2 0 region refl (omega arith) below;
-  queue = empty 1 (second_bank 0x11) refl refl refl;
+  queue = empty 1 (second_bank 0x11) refl refl;
   kept = λ line below. each-from (is_there 1 (second_bank 0x11)) 8 0 line refl (omega arith) below;
   stored = refl;
 }

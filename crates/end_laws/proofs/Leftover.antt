@@ -1,11 +1,17 @@
--- A write that was refused as worn came when the bank was exhausted.
-use Rattle.std.proofs.Common.{◌≡◌, ℕ, ◌||◌, Bool, true, false, List, [], ◌∷◌, ◌++◌, refl, sym, ◌∙◌, subst, append_assoc}
-use Rattle.std.specs.List.{list_any}
+-- Why a bank has work left: a write that was refused as worn came when it was exhausted, and where no line write is begun any more it is, or
+-- a control line of it is worn.
+use Rattle.std.proofs.Common.{◌≡◌, ℕ, ◌<◌, ◌||◌, ◌⊎◌, inl, inr, Option, Some, None, Bool, true, false, List, [], ◌∷◌, ◌++◌, refl, sym, ◌∙◌, subst, append_assoc}
+use Rattle.std.specs.{List.list_any, Prelude.IfSome}
+use Rattle.cell_rows.specs.Device.{ArrayState}
+use Rattle.ecp_line.specs.ArrayLines.{is_worn_at}
 use Rattle.row_rules.specs.{Answers.is_worn, Wearing.worn_row}
-use Rattle.bank_shape.specs.{declared.BankShape.BankShape, declared.pace.Pace.Pace}
-use Rattle.bank_model.specs.{Events.{Write, Read, Serve, Begin, Iterate, Cut}, History.has_exhausted, Lawful.{Lawful, MayCome}, Timing.{Happens, Core, Regs, TimedEvent, core}}
-use Rattle.bank_laws.{specs.Outcomes.{outcome_of, ended, row_with, rows_from}, proofs.Ending.{Onwards, write_outcome}, proofs.Serves.{may_at, onwards_at}, proofs.Settling.opens}
-use Rattle.bank_laws.proofs.Wears.{worn_outcome, refused-exhausted, exhausted_later}
+use Rattle.bank_shape.specs.{Shape.{controls_from, controls_of, control_line}, declared.BankShape.BankShape, declared.pace.Pace.Pace}
+use Rattle.bank_model.specs.{Changes.{change_after, halted_after}, Events.{Write, Read, Serve, Begin, Iterate, Cut}, History.has_exhausted, Lawful.{Lawful, MayCome}}
+use Rattle.bank_model.specs.{Running.{is_over, over_by}, Timing.{Happens, Core, Regs, TimedEvent, core}}
+use Rattle.bank_laws.specs.{Laws.{IsSized, LeavesArray}, Outcomes.{outcome_of, ended, row_with, rows_from}}
+use Rattle.bank_laws.proofs.{Ending.{Onwards, write_outcome}, Serves.{may_at, onwards_at}, Settling.opens, Wears.{worn_outcome, refused-exhausted, exhausted_later}}
+use Rattle.place_laws.proofs.WornOut.{worn_control, change-within}
+use Rattle.right_runs.specs.WornLines.{worn_among}
 
 module _ {n m : ℕ} (shape : BankShape) (pace : Pace) (e : ℕ) (all : List (TimedEvent n m)) (l : Lawful shape pace e all) where
   -- a write that was refused as worn came when the bank was exhausted
@@ -36,3 +42,14 @@ module _ {n m : ℕ} (shape : BankShape) (pace : Pace) (e : ℕ) (all : List (Ti
       by (Core (Cut tearing)) true may on now rest is = rest is
       by (Core (Cut tearing)) false may on now rest is = rest is
       by (Regs event) cancels may on now rest is = rest is
+
+  -- where no line write is begun any more the bank is exhausted, or a control line of it is worn
+  pub over-why : (array : ArrayState n m) → IsSized shape pace → LeavesArray e shape all array → is_over shape all ≡ true
+      → (has_exhausted (core all) ≡ true) ⊎ (0 < worn_among (is_worn_at e array) (controls_from shape) (controls_of shape))
+  over-why array sized leaves over = by (change_after shape all) (change-within shape pace e all sized.regions sized.lines l) over leaves.halted
+    where
+      by : (change : Option ℕ) → IfSome change (λ item. item < controls_of shape) → over_by change (halted_after all) (has_exhausted (core all)) ≡ true
+          → (halted_after all ≡ true → IfSome change (λ item. is_worn_at e array (control_line shape item) ≡ true))
+          → (has_exhausted (core all) ≡ true) ⊎ (0 < worn_among (is_worn_at e array) (controls_from shape) (controls_of shape))
+      by None exists ex halts = inl ex
+      by (Some item) exists halted halts = inr (worn_control shape pace e all array sized l leaves item exists (halts halted))
