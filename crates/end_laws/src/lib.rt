@@ -1,4 +1,4 @@
-//! The law of the end: a bank with nothing left to do has kept each line's newest bytes, in the array or in its queue. A law
+//! The law of the end: a bank with nothing left to do has kept each line's newest bytes, in the array and in its queue. A law
 //! is what a function here ensures; the functions do nothing when they run.
 #![tactic(auto)]
 

@@ -59,7 +59,7 @@ NoneDue shape rows end = (region : ℕ) → region < shape.regions → end.moves
 
 -- the queue has an entry for each write that is queued by the rows, in the order in which they came there. A store of the first of them
 -- was begun or not: never where no write is queued or a gap move is due; always where another of them is of its line. Where no move is
--- due it was begun, too, where a write was refused as worn, and, where the power isn't off, unless a control line is worn
+-- due it was begun, too, where a write was refused as worn, and where one is queued though the power isn't off, unless a control line is worn
 pub record QueueEndsTo {n : ℕ} (off : Bool) (shape : BankShape) (worn : ℕ → Bool) (rows : List (Row n)) (end : BankEnd) : Type 0 where
   pub begun : Bool
   pub entries : end.queue ≡ entries_by begun (queued_writes rows)

@@ -10,7 +10,7 @@ ghost use Rattle.right_runs.specs.Ends.{is_kept_line, is_still_there};
 ghost use Rattle.right_runs.specs.Roles.{used_spares};
 ghost use Rattle.worked_tables.specs.Ends.{half_queue, half_stored_rows, slot_3_has, stored_rows, worn_3};
 
-/// Of a line of a finished bank every byte is the newest one, in the array or in the queue; of others it isn't.
+/// Of a line of a finished bank every byte is the newest one, once the queue's are laid over; of others it isn't.
 pub fn worked_lines_are_kept()
     ensures kept { is_kept_line stored_rows [] 3 (whole 0x11) ≡ true }
     ensures other { is_kept_line stored_rows [] 3 (0x11 ∷ 0x22 ∷ []) ≡ false }
