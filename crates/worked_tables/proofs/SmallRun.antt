@@ -260,7 +260,7 @@ pub lost_are_queued : (queue : List QueueEntry) → StopsRight 1 small 0 cut_sho
 unfolding next_u64 stream_of stream_after word_at decode layout.number layout.source_below layout.active layout.width layout.leading layout.some_below cells.cell cells.members lib.Count.count_trailing_zeros
 lost_are_queued queue right = by (right.end 1 (lit< tt)).queue.begun (right.end 1 (lit< tt)).queue.entries ((right.end 1 (lit< tt)).kept 5 (lit< tt))
   where
-    abbrev gives : Bool → List QueueEntry
+    gives : Bool → List QueueEntry
     gives begun = entries_by begun (queued_writes (table_in small 0 1 cut_short))
 
     by : (begun : Bool) → queue ≡ gives begun → is_kept_line (table_in small 0 1 cut_short) queue 5 (whole 0) ≡ true → queue ≡ both_bytes
