@@ -1,7 +1,8 @@
 -- A byte order mark at the start of a text.
-use Rattle.std.proofs.Common.{◌≡◌, ◌≢◌, ℕ, ◌==◌, ◌&&◌, List, [], ◌∷◌, ◌++◌, Bool, true, false, refl, ap, arith}
+use Rattle.std.proofs.Common.{◌≡◌, ◌≢◌, ℕ, ◌==◌, ◌&&◌, List, [], ◌∷◌, ◌++◌, ◌∙◌, Bool, true, false, refl, ap, arith}
 use Rattle.std.proofs.lemmas.Bool.Decides.{nat_tests}
-use Rattle.trace_stream.specs.Arrived.{Arrived, Comes}
+use Rattle.trace_stream.specs.{Arrived.{Arrived, Comes}, Kept.{LacksHeader, decides}}
+use Rattle.csv.specs.declared.parser.State.TheVariants.{StartRecord}
 use Rattle.csv.specs.Reading.{strip_bom}
 
 neither : (p q : Bool) → (p && false && q) ≡ false
@@ -74,3 +75,21 @@ begun-third r a b c e other more = rw e (third-stays a b c more other)
 
 pub begun-mark : (r : Arrived) (a b c : ℕ) → r ≡ record { bytes = []; ended = false } → a ≡ 239 → b ≡ 187 → c ≡ 191 → (more : List ℕ) → strip_bom (a ∷ b ∷ c ∷ more) ≡ r.bytes ++ more
 begun-mark r a b c e p q s more = rw e (mark-goes a b c more p q s)
+
+-- the first bytes of a mark are no header
+pub lacks-none : LacksHeader []
+unfolding decides strip_bom
+lacks-none = refl
+
+pub lacks-one : (a : ℕ) → a ≡ 239 → LacksHeader (a ∷ [])
+unfolding decides strip_bom
+lacks-one a e = rw e refl
+
+pub lacks-two : (a b : ℕ) → a ≡ 239 → b ≡ 187 → LacksHeader (a ∷ b ∷ [])
+unfolding decides strip_bom
+lacks-two a b e f = rw (e, f) refl
+
+-- nor are bytes that decide of no record, behind those that were begun with
+pub lacks-more : (begun : Arrived) (bytes more : List ℕ) → ((rest : List ℕ) → Comes begun.ended rest → strip_bom (bytes ++ rest) ≡ begun.bytes ++ rest) → begun.ended ≡ false
+    → decides StartRecord 0 (begun.bytes ++ more) ≡ false → LacksHeader (bytes ++ more)
+lacks-more begun bytes more begins unended none = ap (decides StartRecord 0) (begins more (λ is. absurd (cc (is, unended)))) ∙ none

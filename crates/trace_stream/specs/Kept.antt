@@ -1,6 +1,6 @@
 -- What is kept of a record as it is read: enough to judge it, however long it is.
 use Rattle.std.specs.Prelude.{◌≡◌, ◌⊎◌, ◌||◌, ◌==◌, ◌<◌, ℕ, ◌+◌, List, [], ◌∷◌, ◌++◌, length, take, map, Bool, true, false, if◌then◌else◌, Option, Some, None, IsSomeAnd}
-use Rattle.csv.specs.{Machine.{Read, ends_at_end, is_end, step}, Reading.default_config, declared.parser.Action.Action, declared.parser.State.State}
+use Rattle.csv.specs.{Machine.{Read, ends_at_end, is_end, step}, Reading.{default_config, strip_bom}, declared.parser.Action.Action, declared.parser.State.State}
 use Rattle.csv.specs.declared.parser.State.TheVariants as st
 use Rattle.csv.specs.declared.parser.Action.TheVariants as act
 use Rattle.trace_stream.specs.Arrived.{Arrived, Comes}
@@ -66,6 +66,10 @@ decides s whole [] = false
 decides s whole (byte ∷ rest) =
     is_end (step default_config s byte).1 || ((whole_then (step default_config s byte).1 whole == most_fields)
     || decides (step default_config s byte).0 (whole_then (step default_config s byte).1 whole) rest)
+
+-- these first bytes of a text decide of no record, so that not even its header is whole
+abbrev pub LacksHeader : List ℕ → Type 0
+LacksHeader bytes = decides st.StartRecord 0 (strip_bom bytes) ≡ false
 
 -- the record that was begun in the first state is the one that the machine is now in, whatever comes behind; and where it has fewer than
 -- five fields yet, it is decided where that one is

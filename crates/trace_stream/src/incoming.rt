@@ -6,6 +6,7 @@ ghost use Rattle.csv.specs.Reading.{strip_bom};
 ghost use Rattle.pcm_io.specs.Faults.{Rose};
 ghost use Rattle.pcm_io.specs.Taking.{Takes};
 ghost use Rattle.trace_stream.specs.Arrived.{Comes, StaysEnded};
+ghost use Rattle.trace_stream.specs.Kept.{LacksHeader};
 
 use pcm_io::{Failed, Source};
 use std::marker::Model;
@@ -38,6 +39,8 @@ fn read_byte<S: Source>(source: &mut S) -> Result<Option<u8>, Failed>
     ensures takes { IfOk result (λ byte. Takes (S.left source.old) (S.left source.new)
         (S.taken source.old) (S.taken source.new) (option_to_list byte)) }
     ensures end { IfOk result (λ byte. byte ≡ None → IsAtEnd (S.left source.new)) }
+    ensures untaken { OnErr result (Takes (S.left source.old) (S.left source.new)
+        (S.taken source.old) (S.taken source.new) []) }
     ensures fault { OnErr result (Rose (S.faults source.old) (S.faults source.new)) }
     ensures no_fault { OnOk result (S.faults source.new ≡ S.faults source.old) }
     ensures never_falls { S.faults source.old ≤ S.faults source.new }
@@ -74,6 +77,9 @@ impl Incoming {
             × ((more : List ℕ) → Comes begun.ended more
             → strip_bom (bytes ++ more) ≡ begun.bytes ++ more)) }
         ensures end { IfOk result (λ begun. begun.ended ≡ true → IsAtEnd (S.left source.new)) }
+        ensures sparing { OnErr result ((bytes : List ℕ)
+            × Takes (S.left source.old) (S.left source.new)
+            (S.taken source.old) (S.taken source.new) bytes × LacksHeader bytes) }
         ensures fault { OnErr result (Rose (S.faults source.old) (S.faults source.new)) }
         ensures no_fault { OnOk result (S.faults source.new ≡ S.faults source.old) }
         ensures never_falls { S.faults source.old ≤ S.faults source.new }

@@ -5,7 +5,7 @@ ghost use Rattle.pcm_io.specs.Faults.{Rose};
 ghost use Rattle.pcm_io.specs.Taking.{Takes};
 ghost use Rattle.trace_stream.specs.Arrived.{StaysEnded};
 ghost use Rattle.trace_stream.specs.Asked.{IsAskedFor, rows_after, tick_asked};
-ghost use Rattle.trace_stream.specs.Kept.{decides};
+ghost use Rattle.trace_stream.specs.Kept.{LacksHeader, decides};
 ghost use Rattle.trace_stream.specs.Stream.{AsksNext, HasFault, HasFront, IsOfText, Opens, asked_from, front_from, front_of, is_past, stream_of};
 
 use crate::asked::{Asked, is_header_row, is_settle_row, read_asked};
@@ -71,6 +71,9 @@ impl TraceStream {
             × (ended ≡ true → IsAtEnd (S.left source.new))
             × ((n : ℕ) → HasFault (stream_of n lines) bytes e ended
             × HasFront (front_of n lines) bytes [] ended)) }
+        ensures sparing { result ≡ Err StreamFault.Read → (bytes : List ℕ)
+            × Takes (S.left source.old) (S.left source.new)
+            (S.taken source.old) (S.taken source.new) bytes × LacksHeader bytes }
         ensures read { result ≡ Err StreamFault.Read
             → Rose (S.faults source.old) (S.faults source.new) }
         ensures endless { result ≡ Err StreamFault.Endless

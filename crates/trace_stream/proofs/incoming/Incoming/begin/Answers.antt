@@ -1,6 +1,7 @@
 use Rattle.std.proofs.Common.{[], ◌∷◌}
+use Rattle.std.proofs.lemmas.Result.{err_from_is_err_and}
 use Rattle.pcm_io.proofs.ByteLemmas.{Takes-Takes}
-use Rattle.trace_stream.proofs.Marks.{begun-none, begun-one, begun-two, begun-first, begun-second, begun-third, begun-mark}
+use Rattle.trace_stream.proofs.Marks.{begun-none, begun-one, begun-two, begun-first, begun-second, begun-third, begun-mark, lacks-none, lacks-one, lacks-two}
 use Rattle.trace_stream.proofs.incoming.Incoming.begin.Goals as goal
 
 pub returns-in_default-clause-ok : goal.returns-in_default-clause-ok
@@ -57,3 +58,21 @@ returns-else-third-clause-ok g c =
       Takes-Takes _ _ _ _ _ _ _ _ (Takes-Takes _ _ _ _ _ _ _ _ first second) third,
       λ more comes. begun-third c.of-else-third.result c.in-Some.first c.in-Some-2.second c.in-Some-3.third c.of-else-third.ensures c.if-third.false more,
     )
+
+pub returns-in_err-first-clause-sparing : goal.returns-in_err-first-clause-sparing
+returns-in_err-first-clause-sparing g c =
+    let fault = err_from_is_err_and c.from_residual.result c.from_residual.ensures.1 in
+    rw fault.1 ([], c.in_err-first.ensures.untaken, lacks-none)
+
+pub returns-in_err-second-clause-sparing : goal.returns-in_err-second-clause-sparing
+returns-in_err-second-clause-sparing g c =
+    let first = rw c.in-Some.is at c.in_ok-first.ensures.takes in
+    let fault = err_from_is_err_and c.from_residual-in_err-second.result c.from_residual-in_err-second.ensures.1 in
+    rw fault.1 (c.in-Some.first ∷ [], Takes-Takes _ _ _ _ _ _ _ _ first c.in_err-second.ensures.untaken, lacks-one _ c.if-first.false)
+
+pub returns-in_err-third-clause-sparing : goal.returns-in_err-third-clause-sparing
+returns-in_err-third-clause-sparing g c =
+    let first = rw c.in-Some.is at c.in_ok-first.ensures.takes in
+    let second = rw c.in-Some-2.is at c.in_ok-second.ensures.takes in
+    let fault = err_from_is_err_and c.from_residual-in_err-third.result c.from_residual-in_err-third.ensures.1 in
+    rw fault.1 (c.in-Some.first ∷ c.in-Some-2.second ∷ [], Takes-Takes _ _ _ _ _ _ _ _ (Takes-Takes _ _ _ _ _ _ _ _ first second) c.in_err-third.ensures.untaken, lacks-two _ _ c.if-first.false c.if-second.false)

@@ -1,6 +1,6 @@
 use Rattle.std.proofs.Common.{◌≡◌, ◌++◌, ◌∙◌, ap, refl, sym, arith}
 use Rattle.std.{specs.Prelude.Err, proofs.lemmas.List.length-append, proofs.lemmas.Result.err_from_is_err_and}
-use Rattle.trace_stream.{specs.Machine.state_of, specs.Stream.Standing, specs.declared.fault.StreamFault.TheVariants.Endless, proofs.Rows.{opens, opens-none, opens-wrong}}
+use Rattle.trace_stream.{specs.Machine.state_of, specs.Stream.Standing, specs.declared.fault.StreamFault.TheVariants.{Endless, Read}, proofs.Marks.lacks-more, proofs.Rows.{opens, opens-none, opens-wrong}}
 use Rattle.trace_stream.proofs.stream.TraceStream.open.Goals.{then-not-found-via-then-not-found, then-not-found-via-else-not-found+then-not-is_header_row}
 use Rattle.trace_stream.proofs.stream.TraceStream.open.Goals as goal
 use Rattle.pcm_io.proofs.ByteLemmas.{Takes-Takes}
@@ -44,3 +44,15 @@ returns-in_err-found-clause-endless g c =
     let next = c.in_err-found.ensures.endless (ap Err same) in
     let joined = length-append begun.0 next.0 in
     (begun.0 ++ next.0, Takes-Takes _ _ _ _ _ _ _ _ begun.1 next.1, omega (arith, joined, next.2)))
+
+pub returns-in_default-clause-sparing : goal.returns-in_default-clause-sparing
+returns-in_default-clause-sparing g c = λ is. c.in_default.ensures.sparing
+
+pub returns-in_err-found-clause-sparing : goal.returns-in_err-found-clause-sparing
+returns-in_err-found-clause-sparing g c =
+    let fault = err_from_is_err_and c.from_residual-in_err-found.result c.from_residual-in_err-found.ensures.1 in
+    let begun = c.in-Ok.ensures.ok in
+    rw (fault.1, fault.2) (λ is.
+    let same : c.in_err-found.field-0.0 ≡ Read = cc is in
+    let next = c.in_err-found.ensures.sparing (ap Err same) in
+    (begun.0 ++ next.0, Takes-Takes _ _ _ _ _ _ _ _ begun.1 next.1, lacks-more _ _ _ begun.2 next.2 next.3))
