@@ -25,14 +25,16 @@ def of_counts(counts: Dict[str, int], most: int, title: str) -> Picture:
     told = ", ".join(f"{word} {counts[word]:,}" for word in OUTCOMES)
     picture = Picture(WIDTH, 262, title, told, VARIABLES)
     rows, y = max(1, sum(counts.values())), 4
+    # (all pictures of a page have bars of one length, which leave room for the longest count)
+    bar = WIDTH - 57 - 125 - max(68.0, 8 + width_of(f"{most:,}", 13))
     for word in OUTCOMES:
         group = {"stored": "writes", "read": "reads", "cut": "cuts"}.get(word)
         if group:
             y += 0 if word == "stored" else 10
             picture.text(2, y + 15, group, 12, "start", SOFT, italic=True)
         picture.text(118, y + 15, word, 13, "end")
-        picture.rectangle(125, y + 3, WIDTH - 250, 16, PALE)
-        picture.rectangle(125, y + 3, (WIDTH - 250) * counts[word] / max(1, most), 16, COLOURS[word])
+        picture.rectangle(125, y + 3, bar, 16, PALE)
+        picture.rectangle(125, y + 3, bar * counts[word] / max(1, most), 16, COLOURS[word])
         picture.text(WIDTH - 57, y + 15, f"{counts[word]:,}", 13, "end")
         picture.text(WIDTH - 4, y + 15, _share(counts[word], rows), 12, "end", SOFT)
         y += 23

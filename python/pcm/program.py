@@ -1,8 +1,13 @@
-"""Where the program is."""
+"""Where the program is, and how it is started."""
+import functools
 import os
 import pathlib
+import re
 import shutil
+import subprocess
 from typing import List, Optional, Sequence, Union
+
+from .errors import PcmError
 
 Program = Union[str, "os.PathLike[str]", Sequence[str], None]
 _CHECKOUT = pathlib.Path(__file__).resolve().parent.parent.parent
@@ -23,6 +28,42 @@ def program(given: Program = None) -> List[str]:
     if found is None:
         raise FileNotFoundError("no program pcm: name it by the argument `program` or by PCM in the environment")
     return [found]
+
+
+def command(name: str, given: Program = None) -> List[str]:
+    """The words that start a command of `pcm` (`run`, `gen`, .. or `stream`). Where `pcm` is the one of a checkout or an installed one, these
+    name the built program behind it, which is asked for once in a process: so it is built first where it isn't yet, which tells on standard
+    error how far it is, and no later call pays for the question. `PcmError` where it can't be built."""
+    words = program(given)
+    if len(words) != 1:
+        return [*words, name]
+    built = _built(shutil.which(words[0]) or words[0], name == "stream")
+    if built is None:
+        return [*words, name]
+    return [built] if name == "stream" else [built, name]
+
+
+@functools.lru_cache(maxsize=None)
+def _built(wrapper: str, streams: bool) -> Optional[str]:
+    """The built program behind `pcm`; none where it doesn't say, as another program by that name."""
+    if not _is_asked(wrapper):
+        return None
+    words = [wrapper, "path", *["stream"] * streams]
+    done = subprocess.run(words, stdin=subprocess.DEVNULL, stdout=subprocess.PIPE, check=False)
+    if done.returncode != 0:
+        raise PcmError(done.returncode, f"the program isn't built: `{' '.join(words)}` ended with status {done.returncode}")
+    built = os.fsdecode(done.stdout.rstrip(b"\n"))
+    return built if os.path.isabs(built) and os.access(built, os.X_OK) else None
+
+
+@functools.lru_cache(maxsize=None)
+def _is_asked(wrapper: str) -> bool:
+    """Whether this is the `pcm` that starts the built programs, which tells its version: they take no such word."""
+    try:
+        done = subprocess.run([wrapper, "version"], stdin=subprocess.DEVNULL, stdout=subprocess.PIPE, stderr=subprocess.DEVNULL, check=False)
+    except OSError:
+        return False
+    return done.returncode == 0 and re.fullmatch(rb"(pcm )?\d+\.\d+[^\n]*\n", done.stdout) is not None
 
 
 def words_of(options: "dict[str, object]") -> List[str]:

@@ -146,7 +146,8 @@ class Numbers(Room):
             ends[fields[3]].append(int(fields[4]))
         for kind in ("reads", "writes"):
             for row in tables[kind][0][1:]:
-                here = sorted(ticks["read"] + ticks["forwarded"] if row[0] == "answered" else ticks[row[0]])
+                both = {"answered": ("read", "forwarded"), "stored or merged": ("stored", "merged")}
+                here = sorted(tick for word in both.get(row[0], row[:1]) for tick in ticks[word])
                 self.assertEqual(len(here), row[1])
                 for percent, number in zip((50, 90, 99, 99.9), row[3:7]):
                     wanted = next((value for at, value in enumerate(here, 1) if 1000 * at >= round(10 * percent) * len(here)), "–")
