@@ -21,7 +21,6 @@ ONES = b"\xff" * 64
 WRAPPER = """#!/bin/sh
 echo "$*" >> {room}/calls
 case $1 in
-version) echo 1.2.1 ;;
 path) echo "building {room}" >&2; if [ "$2" = stream ]; then echo {room}/streams; else echo {room}/runs; fi ;;
 *) echo "not asked for" >&2; exit 70 ;;
 esac
@@ -72,7 +71,8 @@ class Rooms(unittest.TestCase):
         return str(path)
 
     def wrapper(self, text=WRAPPER):
-        """A wrapper around the program of these tests."""
+        """The `pcm` of a checkout around the program of these tests."""
+        (self.room / "crates.txt").touch()
         first, rest = pcm.program()[0], " ".join(pcm.program()[1:])
         self.script("runs", f'#!/bin/sh\nexec "{first}" {rest} "$@"\n')
         self.script("streams", f'#!/bin/sh\nexec "{first}" {rest} stream "$@"\n')
@@ -91,19 +91,20 @@ class Programs(Rooms):
         )
         done = subprocess.run([sys.executable, "-c", code], env=around(PCM=wrapper), capture_output=True, text=True, check=True)
         self.assertEqual(f"['{self.room}/runs', 'gen'] ['{self.room}/streams']\n", done.stdout)
-        self.assertEqual(["version", "path", "path stream"], (self.room / "calls").read_text().splitlines())
+        self.assertEqual(["path", "path stream"], (self.room / "calls").read_text().splitlines())
         self.assertEqual(2 * f"building {self.room}\n", done.stderr)
 
     def test_a_program_that_cannot_be_built_is_told(self):
-        wrapper = self.wrapper("#!/bin/sh\nif [ $1 = version ]; then echo 1.2.1; else exit 70; fi\n")
+        wrapper = self.wrapper("#!/bin/sh\nexit 70\n")
         with self.assertRaisesRegex(pcm.PcmError, "isn't built: .* path stream` ended with status 70") as fault:
             pcm.Module(program=wrapper)
         self.assertEqual(70, fault.exception.status)
 
     def test_another_program_by_that_name_is_started_as_it_is(self):
-        for text in ("echo usage >&2; exit 2", "echo 1.2.1", "exit 0"):
-            path = self.script("other", f"#!/bin/sh\n{text}\n")
+        wrapper = self.wrapper()
+        for path in (self.script("around", f'#!/bin/sh\nexec {wrapper} "$@"\n'), str(self.room / "runs"), "/nowhere/pcm"):
             self.assertEqual([path, "run"], pcm.command("run", path))
+        self.assertFalse((self.room / "calls").exists())
         self.assertEqual(["ssh", "there", "pcm", "stream"], pcm.command("stream", ["ssh", "there", "pcm"]))
 
 
