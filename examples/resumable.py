@@ -1,16 +1,26 @@
 """Tables of results that can be broken off: what examples/sweep and examples/every_cut share.
 
 A table of results has some columns that name a run, and behind them what was found. Rows that stand in its file aren't run again, rows
-that don't are added as their runs end, and in the end all stand in the asked order."""
+that don't are added as their runs end, and in the end all stand in the asked order. On standard output they stand in that order at once."""
 
 import concurrent.futures
 import csv
 import io
 import os
 import signal
+import stat
 import subprocess
 import sys
 import threading
+
+sys.dont_write_bytecode = True
+sys.path[1:1] = [os.path.join(os.path.dirname(os.path.dirname(os.path.realpath(__file__))), "python")]
+from pcm import PcmError, command  # noqa: E402
+from pcm.progress import Progress  # noqa: E402
+from pcm.words import explain  # noqa: E402
+
+# Texts are bytes: those that are no UTF-8 are handed on as they are.
+TEXT = {"encoding": "utf-8", "errors": "surrogateescape"}
 
 
 class Refusal(Exception):
@@ -19,6 +29,10 @@ class Refusal(Exception):
 
 class Failure(Exception):
     """Why a run has no results."""
+
+
+class BrokenOff(KeyboardInterrupt):
+    """A run was broken off by the terminal, as this process is."""
 
 
 def csv_row(cells):
@@ -33,35 +47,68 @@ def named(columns, number, row):
     return f"row {number} ({', '.join(name + '=' + cell for name, cell in zip(columns, row) if cell != '')})"
 
 
-def printed(words, source):
-    """The status of a program, 0 or 1, and the bytes that it prints; `source` is a file, or the bytes that it reads."""
-    given = {"input": source} if isinstance(source, bytes) else {"stdin": source}
-    try:
-        done = subprocess.run(words, stdout=subprocess.PIPE, stderr=subprocess.PIPE, check=False, **given)
-    except OSError as why:
-        raise Failure(str(why)) from None
-    if done.returncode < 0:
-        raise Failure(f"ended by signal {-done.returncode}, {signal.strsignal(-done.returncode)}")
-    if done.returncode not in (0, 1):
-        raise Failure(f"status {done.returncode}: {done.stderr.decode(errors='replace').strip()}")
-    return done.returncode, done.stdout
+class Program:
+    """The program's commands, each asked for once, and its processes, which can be ended all at once."""
 
+    def __init__(self, pcm):
+        self.pcm = pcm
+        self.words = {}
+        self.running = set()
 
-def try_program(program):
-    """Runs the program once, so that one that isn't built yet is built, and one that isn't there is told of once."""
-    try:
-        subprocess.run([program, "moves", "--lines", "4"], stdin=subprocess.DEVNULL, stdout=subprocess.DEVNULL, check=True)
-    except (OSError, subprocess.CalledProcessError) as why:
-        raise Refusal(f"the program doesn't run: {why}") from None
+    def begin(self, *names):
+        """Asks for the words of these commands, so that a program that isn't built yet is built, and tries the first one, so that one that
+        isn't there is told of once."""
+        try:
+            for name in ("moves", *names):
+                self.words[name] = command(name, self.pcm)
+            subprocess.run([*self.words["moves"], "--lines", "4"], stdin=subprocess.DEVNULL, stdout=subprocess.DEVNULL, check=True)
+        except (OSError, subprocess.CalledProcessError) as why:
+            raise Refusal(f"the program doesn't run: {why}") from None
+        except PcmError as why:
+            raise Refusal(str(why)) from None
+
+    def printed(self, name, words, source, trace=None):
+        """The status of a command, 0 or 1, and the bytes that it prints; `source` is a file, or the bytes that it reads, of this name."""
+        given = source if isinstance(source, bytes) else None
+        pipe = {"stdin": source if given is None else subprocess.PIPE, "stdout": subprocess.PIPE, "stderr": subprocess.PIPE}
+        try:
+            with subprocess.Popen([*self.words[name], *words], **pipe) as process:
+                self.running.add(process)
+                try:
+                    out, err = process.communicate(given)
+                finally:
+                    self.running.discard(process)
+        except OSError as why:
+            raise Failure(str(why)) from None
+        self.examine(process.returncode, err, [name, *words], trace)
+        return process.returncode, out
+
+    def examine(self, status, err, words, trace):
+        """Says why a run with this status has no results."""
+        if status in (-signal.SIGINT, 128 + signal.SIGINT):
+            raise BrokenOff
+        if status < 0:
+            raise Failure(f"ended by signal {-status}, {signal.strsignal(-status)}")
+        if status not in (0, 1):
+            said = err.decode(errors="replace").strip()
+            why = explain(words, said, trace)
+            raise Failure(f"status {status}: {said}" + (f": {why}" if why else ""))
+
+    def end(self):
+        """Ends what still runs."""
+        for process in list(self.running):
+            process.kill()
 
 
 def results_there(path, columns, found):
     """The results that stand in a file, by their rows. A last row that was broken off while it was written doesn't count."""
-    if not os.path.exists(path):
+    if path is None or not os.path.exists(path):
         return {}
-    with open(path, newline="", encoding="utf-8") as file:
+    if not stat.S_ISREG(os.stat(path).st_mode):
+        raise Refusal(f"{path} is no file that results could be kept in: name one, or - for standard output")
+    with open(path, newline="", **TEXT) as file:
         text = file.read()
-    rows = list(csv.reader(io.StringIO(text[: text.rfind("\n") + 1])))
+    rows = list(csv.reader(io.StringIO(text[: text.rfind("\n") + 1].removeprefix("\ufeff"))))
     if rows and rows[0] != columns + found:
         raise Refusal(f"{path} has other columns than these results; give it another name")
     whole = [row for row in rows[1:] if len(row) == len(columns + found)]
@@ -69,29 +116,39 @@ def results_there(path, columns, found):
 
 
 class Runs:
-    """Runs under way: what is found, what failed, and the file to which each result is added as it comes.
+    """Runs under way: what is found, what failed, and the file to which each result is added as it comes, or, where there is no path,
+    standard output, on which results wait for those of the rows before them.
 
     `rows` are the rows to run, a cell for each of `columns`; `run` gives a row's results, a cell for each of `found`, or a `Failure`."""
 
-    def __init__(self, path, columns, found, rows, run):
-        self.path, self.columns, self.found, self.run = path, columns, found, run
+    def __init__(self, path, columns, found, rows, run, progress=None):
+        self.path = None if path is None else os.path.realpath(path)
+        self.columns, self.found, self.run = columns, found, run
         self.results = results_there(path, columns, found)
         self.numbers = {row: number for number, row in reversed(list(enumerate(rows, 1)))}
         self.missing = [row for row in dict.fromkeys(rows) if row not in self.results]
-        self.done = self.failed = 0
+        self.unwritten = list(reversed(self.missing))
+        self.failures = set()
+        self.done = 0
         self.is_stopped = False
         self.lock = threading.Lock()
         self.file = None
+        self.progress = Progress(progress)
+
+    @property
+    def failed(self):
+        """How many runs failed."""
+        return len(self.failures)
 
     def tell(self, words):
-        """Writes a line on standard error, and the progress behind it where that is a terminal."""
-        if sys.stderr.isatty():
-            sys.stderr.write("\r\033[K")
+        """Writes a line on standard error, and the progress behind it where that is told."""
         if words:
+            self.progress.clear()
             print(words, file=sys.stderr)
-        if sys.stderr.isatty() and self.done < len(self.missing):
-            sys.stderr.write(f"{self.done} of {len(self.missing)} runs, {self.failed} failed")
-            sys.stderr.flush()
+        if self.done < len(self.missing):
+            failed = f", {self.failed} failed" if self.failed else ""
+            share = self.done / len(self.missing)
+            self.progress.tell(lambda: self.progress.line(self.done, share, f"of {len(self.missing):,} runs{failed}"))
 
     def one(self, row):
         """Runs one row, unless all was broken off."""
@@ -102,52 +159,106 @@ class Runs:
         except Failure as why:
             found, words = None, f"{named(self.columns, self.numbers[row], row)}: {why}"
         with self.lock:
+            if found is None and self.is_stopped:
+                return
             self.done += 1
             if found is None:
-                self.failed += 1
+                self.failures.add(row)
             else:
                 self.results[row] = found
-                self.file.write(csv_row(row + found))
-                self.file.flush()
+            self.add(row)
             self.tell(words)
+
+    def add(self, row):
+        """Writes a row that has ended to the file, or on standard output those whose turn has come."""
+        if self.path is not None:
+            if row in self.results:
+                self.file.write(csv_row(row + self.results[row]))
+                self.file.flush()
+            return
+        while self.unwritten and (self.unwritten[-1] in self.results or self.unwritten[-1] in self.failures):
+            first = self.unwritten.pop()
+            if first in self.results:
+                self.file.write(csv_row(first + self.results[first]))
+        self.file.flush()
 
     def store(self):
         """Writes all results: those of the rows in their order, then others that stood there."""
         rows = sorted(self.results, key=lambda row: self.numbers.get(row, len(self.numbers) + 1))
-        with open(self.path + ".new", "w", newline="", encoding="utf-8") as file:
+        with open(self.path + ".new", "w", newline="", **TEXT) as file:
             file.write(csv_row(self.columns + self.found))
             file.writelines(csv_row(row + self.results[row]) for row in rows)
         os.replace(self.path + ".new", self.path)
 
-    def run_all(self, jobs):
-        """Runs what is missing, so many rows at a time, and stores all results in their order."""
-        self.store()
-        with open(self.path, "a", newline="", encoding="utf-8") as self.file:
-            with concurrent.futures.ThreadPoolExecutor(jobs) as pool:
-                try:
-                    list(pool.map(self.one, self.missing))
-                finally:
-                    self.is_stopped = True
-        self.store()
+    def run_missing(self, jobs, program):
+        """Runs what is missing, so many rows at a time. Where that is broken off, what runs is ended."""
+        pool = concurrent.futures.ThreadPoolExecutor(jobs)
+        try:
+            for one in [pool.submit(self.one, row) for row in self.missing]:
+                self.wait_for(one)
+        finally:
+            self.is_stopped = True
+            self.progress.clear()
+            pool.shutdown(wait=False, cancel_futures=True)
+            program.end()
+            pool.shutdown()
+
+    def wait_for(self, one):
+        """Waits for the end of a row's run, and tells of progress meanwhile."""
+        while True:
+            try:
+                return one.result(timeout=0.5)
+            except concurrent.futures.TimeoutError:
+                with self.lock:
+                    self.tell(None)
+
+    def run_all(self, jobs, program):
+        """Runs what is missing and stores all results in their order."""
+        if self.path is None:
+            self.file = sys.stdout
+            self.file.write(csv_row(self.columns + self.found))
+            self.run_missing(jobs, program)
+        else:
+            self.store()
+            with open(self.path, "a", newline="", **TEXT) as self.file:
+                self.run_missing(jobs, program)
+            self.store()
         self.tell(f"{len(self.missing)} of {len(self.numbers)} rows run, {self.failed} failed")
 
 
 def begin(main, words):
     """The status of a script whose `main` takes these words: 1 where it refuses, 130 where it is broken off."""
+    for stream in (sys.stdout, sys.stderr):
+        stream.reconfigure(errors="surrogateescape")
     try:
-        return main(words)
-    except (Refusal, OSError) as why:
+        status = main(words)
+        sys.stdout.flush()
+        return status
+    except (Refusal, Failure, OSError) as why:
+        leave_output()
         print(why, file=sys.stderr)
         return 1
     except KeyboardInterrupt:
-        print("broken off; what was run is kept", file=sys.stderr)
+        leave_output()
+        print("broken off; what was written is kept", file=sys.stderr)
         return 130
+
+
+def leave_output():
+    """Hands on what standard output takes, and what it doesn't take nowhere, so that its end needs no more words."""
+    try:
+        sys.stdout.flush()
+    except OSError:
+        os.dup2(os.open(os.devnull, os.O_WRONLY), sys.stdout.fileno())
 
 
 def add_words(parser, here):
     """The words that all such scripts have."""
     parser.add_argument("--jobs", type=int, default=1, metavar="N", help="how many runs go on at a time (1)")
     parser.add_argument("--pcm", default=os.path.join(here, "..", "pcm"), metavar="PROGRAM", help="the program (pcm beside examples)")
+    parser.add_argument(
+        "--progress", action="store_true", default=None, help="tell how far it is, also where standard error isn't a terminal",
+    )
 
 
 def examine(parser, options):

@@ -1,4 +1,4 @@
-"""Makes the package's wheel, for `pip install ./python`, with the standard library alone: so no network is needed."""
+"""Makes the package's wheel, for `pip install ./python` and `pip install -e ./python`, with the standard library alone: so no network is needed."""
 import base64
 import hashlib
 import pathlib
@@ -21,13 +21,12 @@ def _metadata(project):
     )
 
 
-def build_wheel(wheel_directory, config_settings=None, metadata_directory=None):
-    """Writes the wheel (PEP 517), and answers its name."""
+def _built(wheel_directory, files):
+    """Writes a wheel of these files, by their names, with what every wheel has; answers its name."""
     project = _project()
     stem = f"{project['name']}-{project['version']}"
     about = f"{stem}.dist-info"
-    files = {f"pcm/{file.name}": file.read_bytes() for file in sorted((HERE / "pcm").glob("*.py"))}
-    files["pcm/py.typed"] = b""
+    files = dict(files)
     files[f"{about}/METADATA"] = _metadata(project).encode()
     files[f"{about}/WHEEL"] = b"Wheel-Version: 1.0\nGenerator: wheel_of\nRoot-Is-Purelib: true\nTag: py3-none-any\n"
     record = "".join(
@@ -40,6 +39,17 @@ def build_wheel(wheel_directory, config_settings=None, metadata_directory=None):
         for path, data in files.items():
             wheel.writestr(path, data)
     return name
+
+
+def build_wheel(wheel_directory, config_settings=None, metadata_directory=None):
+    """Writes the wheel (PEP 517), and answers its name."""
+    files = {f"pcm/{file.name}": file.read_bytes() for file in sorted((HERE / "pcm").glob("*.py"))}
+    return _built(wheel_directory, {**files, "pcm/py.typed": b""})
+
+
+def build_editable(wheel_directory, config_settings=None, metadata_directory=None):
+    """Writes a wheel that has the place of this folder alone, for `pip install -e` (PEP 660), and answers its name."""
+    return _built(wheel_directory, {"pcm_of_checkout.pth": f"{HERE}\n".encode()})
 
 
 def build_sdist(sdist_directory, config_settings=None):

@@ -1,7 +1,7 @@
 """Proves the crates that a program stands on, those that don't stand on each other side by side, and tells how far it is.
 
-Used by tools/build, tools/libraries and tools/times. What was made stands in out/rlibs: of each crate its library, a stamp of all that
-it was made of, and the processor seconds that its proof took, by which the next build is ordered."""
+Used by tools/build, tools/libraries and tools/times. What was proved is kept by tools/keeping.py, and with it the processor seconds that
+each proof took, by which the next build is ordered."""
 import contextlib
 import fcntl
 import functools
@@ -16,9 +16,9 @@ import sys
 import time
 
 import crates
+import keeping
 
 TOP = crates.TOP
-RLIBS = TOP / "out" / "rlibs"
 PROCESSORS = int(os.environ.get("RT_JOBS") or len(os.sched_getaffinity(0)))
 # As how many processors all of them are for one crate, and how many chains of crates get them all.
 ALL = 3.5
@@ -33,19 +33,19 @@ def kit_folder():
 
 
 def command(verb, crate, jobs, *more):
-    """The words of a `rattle build` or `rattle check` of a crate, over the libraries that stand in out/rlibs."""
+    """The words of a `rattle build` or `rattle check` of a crate, over the libraries that are kept."""
     kit, libraries = kit_folder(), crates.named(crate).libraries
-    own = [f"{it}={RLIBS}/{it}.rlib" for it in crates.below(crate)]
+    own = [f"{it}={keeping.library(it, stamp(it))}" for it in crates.below(crate)]
+    folders = [kit / "rlibs", *(keeping.entry(it, stamp(it)) for it in sorted(crates.needed(crate) - {crate}))]
     kits = [f"{it}={kit}/rlibs/{it}.rlib" for it in ("std", *libraries) if it not in crates.listed()]
     words = [kit / "bin" / "rattle", verb, "--crate-name", crate, crates.named(crate).root, "--links", f"{crate}=", "--jobs", jobs]
     words += [word for it in (*kits, *own) for word in ("--extern", it)]
-    words += [word for it in (kit / "rlibs", RLIBS) for word in ("-L", f"dependency={it}")]
+    words += [word for it in folders for word in ("-L", f"dependency={it}")]
     words += ["--antt-project", kit / "rattle" / "logic" / "antt-project.json", "--logic-built", kit / "logic_built"]
     return list(map(str, (*words, *more)))
 
 
-@functools.cache
-def stamp(crate):
+def sum_of(crate):
     """A checksum of all that a crate is made of: the kit, the crate's text, and what stands below."""
     sum_ = hashlib.sha256((kit_folder() / "KIT-ID").read_bytes())
     for file in crates.named(crate).files():
@@ -55,10 +55,22 @@ def stamp(crate):
 
 
 @functools.cache
+def stamp(crate):
+    """The same, as it was when this build first asked for it."""
+    return sum_of(crate)
+
+
+def stop_on_change(crate):
+    """Ends the build where a crate's text isn't what it was as its proof began: nobody knows what was proved."""
+    if sum_of(crate) != stamp(crate):
+        sys.exit(f"pcm: the text of {crate} changed while it was proved: build again")
+
+
+@functools.cache
 def seconds(crate):
-    """The processor seconds of a crate's proof: those of the last build here, or else a guess by the size of its text."""
+    """The processor seconds of a crate's proof: those of the last one, or else a guess by the size of its text."""
     with contextlib.suppress(OSError, ValueError):
-        return float((RLIBS / f"{crate}.seconds").read_text())
+        return float(keeping.seconds_file(crate).read_text())
     code, proofs = (sum(file.stat().st_size for file in crates.named(crate).files(part)) for part in ("src", "proofs"))
     return 10 + code / 400 + proofs / 10_000
 
@@ -97,62 +109,67 @@ class Build:
         self.program, self.order, below = program, Order(program), crates.needed(program) - {program}
         self.sorter = graphlib.TopologicalSorter({it: crates.below(it) for it in below})
         self.sorter.prepare()
-        self.waiting, self.running, self.spent = [], {}, {}
+        self.waiting, self.running, self.making, self.elsewhere, self.spent = [], {}, {}, set(), {}
         self.whole, self.proved, self.begun = len(below), 0, time.monotonic()
         self.log = crates.named(program).folder / "build.log"
         self.log.write_text("")
-        RLIBS.mkdir(parents=True, exist_ok=True)
 
     def begin(self, crate):
-        """Starts the proof of a crate, but where its library stands already."""
-        noted = RLIBS / f"{crate}.stamp"
-        if noted.is_file() and noted.read_text() == stamp(crate) and (RLIBS / f"{crate}.rlib").is_dir():
+        """Starts the proof of a crate, unless its library is kept; False where another build proves it just now."""
+        if keeping.is_kept(crate, stamp(crate)):
             self.pass_on(crate)
-            return
-        noted.unlink(missing_ok=True)
-        shutil.rmtree(RLIBS / f"{crate}.rlib", ignore_errors=True)
+            return True
+        making = keeping.Making(crate, stamp(crate))
+        if not making.begin():
+            if crate not in self.elsewhere:
+                say(f"another build proves {crate} just now: waiting for it")
+            self.elsewhere.add(crate)
+            return False
+        self.making[crate] = making
+        if keeping.is_kept(crate, stamp(crate)):
+            self.making.pop(crate).end()
+            self.pass_on(crate)
+            return True
         first, jobs = self.share(crate)
-        words = [*first, *command("build", crate, jobs, "--statements", "-o", RLIBS / f"{crate}.rlib")]
-        self.start(crate, words, crates.named(crate).folder)
+        words = [*first, *command("build", crate, jobs, "--statements", "-o", making.room / f"{crate}.rlib")]
+        self.start(crate, words, crates.named(crate).folder, making.room / "said")
+        return True
 
     def share(self, crate):
         """By which command a crate gets its part of the processors, and as how many."""
         return ((), PROCESSORS) if crate in self.order.wide else (("nice",), 1)
 
-    def start(self, crate, words, folder):
-        with open(self.said(crate), "w", encoding="utf-8") as said:
+    def start(self, crate, words, folder, said):
+        with open(said, "w", encoding="utf-8") as output:
             # (a group of its own, but no session: by those a processor may be shared whatever their priorities)
-            how = {"cwd": folder, "stdin": subprocess.DEVNULL, "stdout": said, "stderr": said, "preexec_fn": os.setpgrp}
-            self.running[subprocess.Popen(words, **how)] = crate
-
-    def said(self, crate):
-        return RLIBS / f"{crate}.said"
+            how = {"cwd": folder, "stdin": subprocess.DEVNULL, "stdout": output, "stderr": output, "preexec_fn": os.setpgrp}
+            self.running[subprocess.Popen(words, **how)] = crate, said
 
     def has_ended(self, proof):
         """Whether a proof has ended; then its processor time, with that of all that it started, is added up."""
         process, status, spent = os.wait4(proof.pid, os.WNOHANG)
         if process:
             proof.returncode = os.waitstatus_to_exitcode(status)
-            self.spent[self.running[proof]] = spent.ru_utime + spent.ru_stime
+            self.spent[self.running[proof][0]] = spent.ru_utime + spent.ru_stime
         return bool(process)
 
     def end(self, proof):
-        crate = self.running.pop(proof)
+        crate, said = self.running.pop(proof)
         with open(self.log, "a", encoding="utf-8") as log:
-            log.write(f"== {crate}\n{self.said(crate).read_text(errors='replace')}")
-        self.said(crate).unlink()
+            log.write(f"== {crate}\n{said.read_text(errors='replace')}")
         if proof.returncode != 0:
             sys.exit(f"pcm: the proof of {crate} failed; {self.log.relative_to(TOP)} says why")
         self.keep(crate)
+        keeping.seconds_file(crate).write_text(f"{self.spent[crate]:.1f}\n")
         self.pass_on(crate)
         minutes, seconds_ = divmod(int(time.monotonic() - self.begun), 60)
         done = f"{self.proved} of {self.whole} crates in {minutes} min {seconds_} s"
-        print(f"pcm: proved {done}: {crate}, {self.spent[crate]:.0f} s of processor time", file=sys.stderr, flush=True)
+        say(f"proved {done}: {crate}, {self.spent[crate]:.0f} s of processor time")
 
     def keep(self, crate):
-        """Notes what a library that was proved was made of, and how long that took."""
-        (RLIBS / f"{crate}.stamp").write_text(stamp(crate))
-        (RLIBS / f"{crate}.seconds").write_text(f"{self.spent[crate]:.1f}\n")
+        """Keeps a library that was proved."""
+        stop_on_change(crate)
+        self.making.pop(crate).keep()
 
     def pass_on(self, crate):
         """Lets those begin that waited for a crate alone."""
@@ -166,30 +183,52 @@ class Build:
         while self.sorter.is_active():
             self.waiting += self.sorter.get_ready()
             self.waiting.sort(key=self.order.seconds_behind, reverse=True)
-            for crate in [it for it in self.waiting if self.may_begin(it)]:
-                if self.may_begin(crate):
+            for crate in list(self.waiting):
+                if self.may_begin(crate) and self.begin(crate):
                     self.waiting.remove(crate)
-                    self.begin(crate)
             for proof in [it for it in self.running if self.has_ended(it)]:
                 self.end(proof)
-            if self.running:
+            if self.running or self.waiting:
                 time.sleep(0.2)
 
     def stop(self):
-        """Ends what is still running, with all that it started."""
+        """Ends what is still running, with all that it started, and gives up what it made."""
         for proof in self.running:
             with contextlib.suppress(ProcessLookupError):
                 os.killpg(proof.pid, signal.SIGKILL)
+            proof.wait()
+        for making in self.making.values():
+            making.end()
+
+
+def say(text):
+    print(f"pcm: {text}", file=sys.stderr, flush=True)
 
 
 @contextlib.contextmanager
 def alone():
-    """Waits for another build here to end."""
+    """Keeps other builds in this checkout out, and waits for one that works here; says so."""
     signal.signal(signal.SIGTERM, lambda *_: sys.exit(143))
-    RLIBS.parent.mkdir(exist_ok=True)
-    held = os.open(RLIBS.parent, os.O_RDONLY)
-    fcntl.flock(held, fcntl.LOCK_EX)
+    held = os.open(TOP / "tools", os.O_RDONLY)
     try:
-        yield
+        fcntl.flock(held, fcntl.LOCK_EX | fcntl.LOCK_NB)
+    except BlockingIOError:
+        say("another build works in this checkout: waiting until it ends")
+        fcntl.flock(held, fcntl.LOCK_EX)
+    except OSError:
+        # (some file systems have no locks)
+        pass
+    try:
+        with keeping.in_use():
+            yield
     finally:
         os.close(held)
+
+
+def guarded(main):
+    """Runs a script's main; where it is interrupted one line says so."""
+    try:
+        main()
+    except KeyboardInterrupt:
+        say("broken off; what was proved is kept, and a later call goes on from there")
+        sys.exit(130)

@@ -19,6 +19,7 @@ import argparse
 import os
 import re
 import shutil
+import sys
 import tempfile
 from typing import Callable, Iterable, NamedTuple, Optional
 
@@ -254,7 +255,7 @@ def parser_of(importer: Importer) -> argparse.ArgumentParser:
 
 
 def main(importer: Importer, words, source, out, told) -> int:
-    """Runs an importer; its status is 0, or 1 where the input is refused."""
+    """Runs an importer; its status is 0, 1 where the input is refused or the output isn't taken, or 130 where it is broken off."""
     options = parser_of(importer).parse_args(words)
     write = stream if options.stream else write_whole
     try:
@@ -262,4 +263,19 @@ def main(importer: Importer, words, source, out, told) -> int:
     except (Refusal, OSError) as why:
         print(why, file=told)
         return 1
+    except KeyboardInterrupt:
+        print("broken off", file=told)
+        return 130
     return 0
+
+
+def begin(importer: Importer) -> None:
+    """Runs an importer by the words and pipes of its process, and ends it."""
+    sys.stderr.reconfigure(errors="surrogateescape")
+    status = main(importer, sys.argv[1:], sys.stdin.buffer, sys.stdout.buffer, sys.stderr)
+    try:
+        sys.stdout.flush()
+    except OSError:
+        # (it was told of, and nothing more is written there in the end)
+        os.dup2(os.open(os.devnull, os.O_WRONLY), sys.stdout.fileno())
+    sys.exit(status)

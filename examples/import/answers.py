@@ -11,6 +11,7 @@ import sys
 import tempfile
 
 import accesses
+import columns
 import dramsim3
 import gem5
 import lackey
@@ -142,6 +143,53 @@ def answers_of_formats():
     yield same("lackey, instructions", run(lackey, "I  000000c0,4\n", "--instructions", "read"), fetched)
 
 
+def answers_of_columns():
+    """What becomes of tables of one's own columns."""
+    plain = ("--time", "1", "--op", "2", "--address", "3", "--bytes", "4")
+    read, write = (0, HEADER + "70,R,3,\n", ""), (0, HEADER + f"70,W,3,{DIGITS}\n", "")
+    names = ("--time", "at", "--op", "does", "--address", "where", "--bytes", "long")
+    for name, text, words in (
+        ("numbers", "70,r,192,64\n", plain), ("CRLF and empty lines", "70,READ,192,64\r\n\r\n\n", plain),
+        ("a mark", "\xef\xbb\xbf70,load,0xC0,64\n", plain), ("quotes", '"70","r",192,"64"\n', plain), ("more columns", "70,0,192,64,a,b\n", plain),
+        ("names", 'x,where,"does",at,long\nc,192,rd,70,64\n', names), ("a mark and names", "\xef\xbb\xbfat,does,where,long\n70,ld,192,64\n", names),
+        ("a name and numbers", "at,b,c,d\n70,r,192,64\n", ("--time", "at", *plain[2:])), ("hex", "70,r,c0,64\n", (*plain, "--hex")),
+        ("tabs", "70\tr\t192\t64\n", (*plain, "--separator", "tab")), ("blanks", " 70  r\t192 64\n", (*plain, "--separator", "blanks")),
+        ("bars", "70|r|192|64\n", (*plain, "--separator", "|")), ("lines", "70,r,3,1\n", (*plain, "--address-unit", "64", "--bytes-unit", "64")),
+        ("no size", "70,r,192\n", plain[:6]), ("comments", "# x\n70,r,192,64\n#\n", (*plain, "--comment", "#")),
+        ("microseconds", "0.7099,r,192,64\n", (*plain, "--time-unit", "100")), ("words", "70,GET,192,64\n", (*plain, "--reads", "get", "--writes", "put")),
+        ("others", "60,sync,,\n70,r,192,64\n", (*plain, "--others", "drop")), ("all", "70,192\n", ("--time", "1", "--address", "2", "--all", "read")),
+        ("no time", "x,0\n" * 7 + "r,192\n", ("--op", "1", "--address", "2", "--others", "drop", "--every", "10")),
+    ):
+        yield same(f"columns, {name}", run(columns, text, *words), read)
+    payload = ("--time", "1", "--op", "2", "--address", "3", "--payload", "4")
+    yield same("columns, a payload", run(columns, f"70,w,192,0x{DIGITS}\n70,r,192,\n", *payload), (0, write[1] + "70,R,3,\n", ""))
+    part = "70,M,3," + ".." * 62 + "0102\n"
+    yield same("columns, a part", run(columns, "70,w,254,0102\n", *payload), (0, HEADER + part, ""))
+    many = "".join(f"70,R,{line},\n" for line in range(65))
+    yield same("columns, many bytes", run(columns, "70,r,0,4160\n", *plain), (0, HEADER + many, ""))
+    for name, text, words, why in (
+        ("few fields", "70,r,192\n", plain, "line 1: 3 fields, where column 4 is read"),
+        ("a bad time", "1e3,r,192,64\n", plain, "line 1: the time is '1e3', not a decimal number"),
+        ("a bad address", "70,r,c0,64\n", plain, "line 1: the address is 'c0', not a decimal number; see --hex"),
+        ("no address", "70,r,,64\n", plain, "line 1: the address is '', not a whole number"),
+        ("a bad size", "70,r,192,-1\n", plain, "line 1: the number of bytes is '-1', not a whole number"),
+        ("no bytes", "70,r,192,0\n", plain, "line 1: 0 bytes; a line of the table has 1 to 1073741824"),
+        ("a bad operation", "70,x,192,64\n", plain, "line 1: the operation is 'x', neither of --reads nor of --writes; see --others"),
+        ("open quotes", '70,"r,192,64\n', plain, "line 1: quotes that aren't closed, or with text behind them"),
+        ("no such column", "at,does,where\n", names, "line 1: the column 'long' isn't in the first line: at, does, where"),
+        ("a column twice", "at,does,where,long,at\n", names, "line 1: the column 'at' stands twice in the first line: at, does, where, long, at"),
+        ("column 0", "", ("--op", "0", "--address", "1"), "columns are numbered from 1"),
+        ("no operations", "", ("--address", "1"), "--op names the column of operations, or --all tells what all of them are"),
+        ("a separator", "", (*plain, "--separator", ",,"), "--separator is one character, tab, comma, semicolon or blanks"),
+        ("a unit", "", (*plain, "--time-unit", "0"), "--time-unit is a number above 0, as 1000 or 0.5, not 0"),
+        ("a bad payload", "70,w,192,0\n", payload, "line 1: the payload isn't of hexadecimal digits, two a byte"),
+        ("another length", "70,w,192,0102,3\n", (*payload, "--bytes", "5"), "line 1: 2 bytes of payload, where the access has 3"),
+        ("times fall", "70,r,192,64\n69,r,192,64\n", plain, "line 2: cycle 69 comes behind cycle 70"),
+        ("beyond", "70,r,32768,64\n", plain, "line 1: line 512 is beyond the module's 512 lines; see --lines and --fold"),
+    ):
+        yield same(f"columns, {name}", run(columns, text, *words), (1, "", why + "\n"))
+
+
 def pieces_of(folder, rows, most):
     """What stands in a folder once some rows were cut into pieces; a refusal's text else."""
     status, printed, told = run(gem5, rows, "--most-rows", str(most), "--pieces", os.path.join(folder, "part"))
@@ -183,7 +231,8 @@ def answers_of_streams():
 def main():
     """Runs all tests; the status is 1 where one failed."""
     results = []
-    for answers in (answers_of_all, answers_of_options, answers_of_formats, answers_of_pieces, answers_of_streams):
+    groups = (answers_of_all, answers_of_options, answers_of_formats, answers_of_columns, answers_of_pieces, answers_of_streams)
+    for answers in groups:
         results.extend(answers())
     print(f"{sum(results)} passed, {len(results) - sum(results)} failed")
     return 0 if all(results) else 1

@@ -15,7 +15,6 @@ Written from the documented form, not tried on that tool's output.
 """
 
 import re
-import sys
 
 import accesses
 
@@ -40,4 +39,4 @@ def reader(options):
 IMPORTER = accesses.Importer(__doc__, reader)
 
 if __name__ == "__main__":
-    sys.exit(accesses.main(IMPORTER, sys.argv[1:], sys.stdin.buffer, sys.stdout.buffer, sys.stderr))
+    accesses.begin(IMPORTER)

@@ -17,7 +17,6 @@ Written from the documented form, not tried on that tool's output.
 """
 
 import re
-import sys
 
 import accesses
 
@@ -53,4 +52,4 @@ def add_options(parser):
 IMPORTER = accesses.Importer(__doc__, reader, add_options)
 
 if __name__ == "__main__":
-    sys.exit(accesses.main(IMPORTER, sys.argv[1:], sys.stdin.buffer, sys.stdout.buffer, sys.stderr))
+    accesses.begin(IMPORTER)

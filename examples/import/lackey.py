@@ -21,7 +21,6 @@ Written from the documented form, and tried on the output of Valgrind 3.19.
 """
 
 import re
-import sys
 
 import accesses
 
@@ -56,4 +55,4 @@ def add_options(parser):
 IMPORTER = accesses.Importer(__doc__, reader, add_options)
 
 if __name__ == "__main__":
-    sys.exit(accesses.main(IMPORTER, sys.argv[1:], sys.stdin.buffer, sys.stdout.buffer, sys.stderr))
+    accesses.begin(IMPORTER)

@@ -16,7 +16,6 @@ Written from the documented form, not tried on that tool's output.
 """
 
 import re
-import sys
 
 import accesses
 
@@ -49,4 +48,4 @@ def reader(options):
 IMPORTER = accesses.Importer(__doc__, reader, has_data=True)
 
 if __name__ == "__main__":
-    sys.exit(accesses.main(IMPORTER, sys.argv[1:], sys.stdin.buffer, sys.stdout.buffer, sys.stderr))
+    accesses.begin(IMPORTER)

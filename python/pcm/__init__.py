@@ -24,14 +24,15 @@ How a module ages, as a stream goes on::
 
 Ticks are the simulation's own unit of time, from 0 to 2**40, and never fall. A line is a line of the module, from 0. Options are those of
 the command line, with `_` for `-`: `docs/USING.md` of the repository has them all. A wrong option, a fault of the trace and an end of the
-program that isn't one of a whole run are exceptions (`PcmError`), which carry the program's status and its line.
+program that isn't one of a whole run are exceptions (`PcmError`), which carry the program's status, its line, and why. A program that isn't
+built yet is built first, which tells on standard error how far it is.
 """
 from .errors import OutOfMemory, PcmError, ReadFault, TooLong, TraceError, UsageError, WriteFault
 from .frames import to_frame
 from .image import Bank, Entry, Image, ImageError, Region
 from .module import Module
 from .outcomes import Busy, Cut, Forwarded, Full, Lost, Merged, Outcome, Queued, Read as ReadOutcome, Settled, Stored, Worn
-from .program import program
+from .program import command, program
 from .rows import MaskedWrite, PowerCut, Read, Settle, Write, read_trace, write_trace
 from .snapshots import Snapshot, SnapshotError, read_snapshots, snapshots
 from .whole import Result, ResultRow, WearLine, run
@@ -40,6 +41,6 @@ __version__ = "1.2.1"
 __all__ = [
     "Bank", "Busy", "Cut", "Entry", "Forwarded", "Full", "Image", "ImageError", "Lost", "MaskedWrite", "Merged", "Module", "OutOfMemory",
     "Outcome", "PcmError", "PowerCut", "Queued", "Read", "ReadFault", "ReadOutcome", "Region", "Result", "ResultRow", "Settle", "Settled",
-    "Snapshot", "SnapshotError", "Stored", "TooLong", "TraceError", "UsageError", "WearLine", "Worn", "Write", "WriteFault", "program",
+    "Snapshot", "SnapshotError", "Stored", "TooLong", "TraceError", "UsageError", "WearLine", "Worn", "Write", "WriteFault", "command", "program",
     "read_snapshots", "read_trace", "run", "snapshots", "to_frame", "write_trace",
 ]

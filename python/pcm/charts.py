@@ -25,14 +25,16 @@ def of_counts(counts: Dict[str, int], most: int, title: str) -> Picture:
     told = ", ".join(f"{word} {counts[word]:,}" for word in OUTCOMES)
     picture = Picture(WIDTH, 262, title, told, VARIABLES)
     rows, y = max(1, sum(counts.values())), 4
+    # (all pictures of a page have bars of one length, which leave room for the longest count)
+    bar = WIDTH - 57 - 125 - max(68.0, 8 + width_of(f"{most:,}", 13))
     for word in OUTCOMES:
         group = {"stored": "writes", "read": "reads", "cut": "cuts"}.get(word)
         if group:
             y += 0 if word == "stored" else 10
             picture.text(2, y + 15, group, 12, "start", SOFT, italic=True)
         picture.text(118, y + 15, word, 13, "end")
-        picture.rectangle(125, y + 3, WIDTH - 250, 16, PALE)
-        picture.rectangle(125, y + 3, (WIDTH - 250) * counts[word] / max(1, most), 16, COLOURS[word])
+        picture.rectangle(125, y + 3, bar, 16, PALE)
+        picture.rectangle(125, y + 3, bar * counts[word] / max(1, most), 16, COLOURS[word])
         picture.text(WIDTH - 57, y + 15, f"{counts[word]:,}", 13, "end")
         picture.text(WIDTH - 4, y + 15, _share(counts[word], rows), 12, "end", SOFT)
         y += 23
@@ -229,6 +231,10 @@ def of_rows(
 ) -> Picture:
     """Curves over the rows served, with their names below; `mark` is a level of the axis with its words."""
     span = max(1.0, *(curve.points[-1][0] for curve in curves))
+    # (one that lies on another before it is dashed, so that both are seen)
+    curves = [
+        one._replace(dashed=one.dashed or any(_lies_on(one, other, up) for other in curves[:at])) for at, one in enumerate(curves)
+    ]
     series = [Series("", one.colour, one.points, one.dashed, steps, dotted=False) for one in curves]
     named = [Series(shortened(one.name, 400), one.colour, (), one.dashed) for one in curves if one.name]
     rows, right = key_rows(named, WIDTH - 8), max(54.0, *(12 + width_of(one.end, 12) for one in curves))
@@ -244,6 +250,12 @@ def of_rows(
     for number, row in enumerate(rows):
         keys(picture, 4, 236 + 20 * number, row, 3)
     return picture
+
+
+def _lies_on(one: Curve, other: Curve, up: Axis) -> bool:
+    """Whether two curves of one length differ nowhere by more than a hundredth of the axis."""
+    pairs = zip(one.points, other.points)
+    return len(one.points) == len(other.points) and all(100 * abs(a[1] - b[1]) <= up.most - up.least for a, b in pairs)
 
 
 def shortened(words: str, width: float) -> str:

@@ -1,10 +1,13 @@
 """Gathers a run from its files, or by running the program, and holds the files to one another."""
 import subprocess
+import tempfile
 from typing import Dict, List, NamedTuple, Optional
 
 from . import tallies
 from .errors import UsageError, error_of
-from .program import Program, program as find_program
+from .pipes import cut, exchanged
+from .program import Program, command
+from .progress import Progress
 from .runs import (
     DEFAULTS, DRAWN, STREAMS, Arrival, FileFault, Run, Source, are_snapshots, arrivals_of, image_of, opened, results_of, shape_of_wear,
     snapshots_of, summary_of, wear_of,
@@ -32,12 +35,13 @@ class Asked(NamedTuple):
     every: Optional[str] = None
 
 
-def gather(asked: Asked, program: Program = None) -> Run:
+def gather(asked: Asked, program: Program = None, progress: Optional[Progress] = None) -> Run:
     """The run that is asked for. `FileFault` where a file isn't what it should be, or two aren't of one run."""
+    progress = progress or Progress(False)
     for name, value in asked.options.items():
         if not (value in _WORDS[name] if name in _WORDS else value.isascii() and value.isdigit() and len(value) <= 20):
             raise UsageError(2, f"--{name} doesn't take {value!r}")
-    sources = _made(asked, program) if asked.runs else _read(asked)
+    sources = _made(asked, program, progress) if asked.runs else _read(asked, progress)
     by_kind = {source.kind: source for source in sources}
     options, origins = {**DEFAULTS, **asked.options}, {name: "given" for name in asked.options}
     if options["input"] == "drawn":
@@ -55,12 +59,12 @@ def gather(asked: Asked, program: Program = None) -> Run:
     return run
 
 
-def _read(asked: Asked) -> List[Source]:
+def _read(asked: Asked, progress: Progress) -> List[Source]:
     named = (
         ("results", asked.results), ("trace", asked.trace), ("wear report", asked.wear), ("image", asked.image),
         ("snapshots", asked.snapshots), ("summary", asked.summary),
     )
-    sources = [opened(kind, name) for kind, name in named if name is not None]
+    sources = [opened(kind, name, progress) for kind, name in named if name is not None]
     if sources[0].kind == "results" and are_snapshots(sources[0]):
         if asked.snapshots is not None:
             raise UsageError(2, f"{sources[0].name}: snapshots, where --snapshots has some, too")
@@ -68,35 +72,49 @@ def _read(asked: Asked) -> List[Source]:
     return sources
 
 
-def _made(asked: Asked, program: Program) -> List[Source]:
+def _made(asked: Asked, program: Program, progress: Progress) -> List[Source]:
     """What the program makes of a trace, or of one that is drawn."""
-    words = find_program(program)
     if "end" in asked.options:
         raise UsageError(2, "--end is an option of streams: hand in what the stream printed")
     if asked.options.get("input") == "drawn":
-        generated = [name for name in asked.options if name in _GENERATED]
-        told = " ".join(f"--{name} {asked.options[name]}" for name in generated)
-        trace = Source("trace", f"pcm gen {told}".strip(), _ran([*words, "gen"], {name: asked.options[name] for name in generated}, b""))
+        generated = {name: value for name, value in asked.options.items() if name in _GENERATED}
+        told = " ".join(f"--{name} {value}" for name, value in generated.items())
+        trace = Source("trace", f"pcm gen {told}".strip(), _ran("gen", program, generated, b"", None, progress))
     elif asked.trace is None:
         raise UsageError(2, "a trace is wanted, or --input drawn")
     else:
-        trace = opened("trace", asked.trace)
+        trace = opened("trace", asked.trace, progress)
     sources = [trace]
     for kind, what in (("results", "results"), ("wear report", "wear"), ("image", "image"), ("summary", "summary")):
-        sources.append(Source(kind, f"pcm run --print {what}", _ran([*words, "run"], {**asked.options, "print": what}, trace.data)))
+        printed = _ran("run", program, {**asked.options, "print": what}, trace.data, asked.trace, progress)
+        sources.append(Source(kind, f"pcm run --print {what}", printed))
     if asked.every is not None:
-        more = {"print": "snapshots", "every": asked.every}
-        told = f"pcm stream --print snapshots --every {asked.every}"
-        sources.append(Source("snapshots", told, _ran([*words, "stream"], {**asked.options, **more}, trace.data)))
+        more = {**asked.options, "print": "snapshots", "every": asked.every}
+        printed = _ran("stream", program, more, trace.data, asked.trace, progress)
+        sources.append(Source("snapshots", f"pcm stream --print snapshots --every {asked.every}", printed))
     return sources
 
 
-def _ran(words: List[str], options: Dict[str, str], given: bytes) -> bytes:
-    full = [*words, *(word for name, value in options.items() for word in (f"--{name}", value))]
-    done = subprocess.run(full, input=given, stdout=subprocess.PIPE, stderr=subprocess.PIPE, check=False)
-    if done.returncode not in (0, 1):
-        raise error_of(done.returncode, done.stderr)
-    return done.stdout
+def _ran(name: str, program: Program, options: Dict[str, str], given: bytes, trace: Optional[str], progress: Progress) -> bytes:
+    """What a command prints of these bytes, which are those of a trace by its name."""
+    more = [word for option, value in options.items() for word in (f"--{option}", value)]
+    words, rows, pieces = [*command(name, program), *more], max(1, given.count(b"\n") - 1), [b""]
+
+    def tell() -> None:
+        # (of a stream's snapshots the last whole line begins with the rows that were served)
+        served = pieces[-1].rpartition(b"\n")[0].rpartition(b"\n")[2].partition(b",")[0]
+        if name == "stream" and served.isdigit():
+            progress.rows(int(served), int(served) / rows)
+        else:
+            progress.tell(lambda: f"pcm {name}" + f" --print {options['print']}" * ("print" in options))
+
+    with tempfile.TemporaryFile() as said:
+        with subprocess.Popen(words, stdin=subprocess.PIPE, stdout=subprocess.PIPE, stderr=said) as process:
+            pieces += exchanged(process, cut(given), tell, progress.shown)
+        if process.returncode not in (0, 1):
+            said.seek(0)
+            raise error_of(process.returncode, said.read(), [name, *more], None if trace == "-" else trace)
+    return b"".join(pieces)
 
 
 def _add_trace(run: Run, source: Source) -> None:

@@ -9,7 +9,8 @@ from typing import Deque, Iterator, List, Optional, Sequence, Type
 
 from .errors import PcmError, UsageError, error_of
 from .outcomes import Outcome, Settled, told_of
-from .program import Program, program, words_of
+from .program import Program, command, words_of
+from .progress import Progress
 from .rows import HEADER
 
 # Rows are gathered up to so many bytes before they are handed to the pipe.
@@ -25,21 +26,28 @@ class Module:
     program draws the rows, none is taken (`ValueError`). A `Module` isn't to be used by two threads at once.
 
     Options are those of `pcm stream`, with `_` for `-`, as `banks=4`, `write_queue=8`, `policy="cancel"`, `end="off"`. `program` names
-    the program (else the environment's PCM, or `./pcm` of the checkout)."""
+    the program (else the environment's PCM, or `./pcm` of the checkout). A call that waits for more than a second tells on standard error
+    how many rows have an outcome, and how many a second, where that is a terminal, or always with `progress=True`, or never with False."""
 
-    def __init__(self, *, program: Program = None, **options: object) -> None:
+    def __init__(self, *, program: Program = None, progress: Optional[bool] = None, **options: object) -> None:
         if options.get("print") not in (None, "rows"):
             raise UsageError(2, "a Module tells the outcome of each row; for other prints there are run and snapshots")
-        self._rows = 0
+        self._rows = self._answered = 0
+        self._progress = Progress(progress)
         self._takes_rows = options.get("input") != "drawn"
         self._tail = b""
         self._out = bytearray(HEADER.encode())
         self._known: Deque[Outcome] = collections.deque()
         self._settled: Optional[int] = None
         self.status: Optional[int] = None
+        self._options = words_of(options)
+        words = [*command("stream", program), *self._options]
         self._said = tempfile.TemporaryFile()
-        words = [*_start(program), "stream", *words_of(options)]
-        self._process = subprocess.Popen(words, stdin=subprocess.PIPE, stdout=subprocess.PIPE, stderr=self._said)
+        try:
+            self._process = subprocess.Popen(words, stdin=subprocess.PIPE, stdout=subprocess.PIPE, stderr=self._said)
+        except OSError:
+            self._said.close()
+            raise
         assert self._process.stdin is not None and self._process.stdout is not None
         self._to, self._from = self._process.stdin.fileno(), self._process.stdout.fileno()
         os.set_blocking(self._to, False)
@@ -72,6 +80,7 @@ class Module:
             if self._ended:
                 raise self._fail()
             self._pump(wait=True)
+        self._progress.clear()
         return self._take()
 
     def outcomes(self) -> Iterator[Outcome]:
@@ -89,6 +98,7 @@ class Module:
         self._close_input()
         while not self._ended:
             self._pump(wait=True)
+        self._progress.clear()
         if self._reap() not in (0, 1):
             raise self._fail()
         return self._take()
@@ -96,8 +106,9 @@ class Module:
     def close(self) -> None:
         """Ends the program, whatever it does, and frees what it held."""
         self._takes_rows = False
+        self._progress.clear()
+        self._close_input()
         if self._process.returncode is None:
-            self._close_input()
             if not self._ended:
                 self._process.kill()
             self._process.wait()
@@ -136,16 +147,19 @@ class Module:
         return known
 
     def _pump(self, wait: bool) -> None:
-        """Hands rows to the pipe and takes answers from it, as far as it lets; where asked, waits until one of the two was possible."""
+        """Hands rows to the pipe and takes answers from it, as far as it lets; where asked, waits until one of the two was possible, or it is
+        time to tell of progress."""
         if self._ended:
             return
+        if wait:
+            self._progress.rows(self._answered)
         if bool(self._out) != self._writing:
             self._writing = bool(self._out)
             if self._writing:
                 self._poll.register(self._to, selectors.EVENT_WRITE)
             else:
                 self._poll.unregister(self._to)
-        for key, _ in self._poll.select(None if wait else 0):
+        for key, _ in self._poll.select(0 if not wait else 0.5 if self._progress.shown else None):
             if key.fd == self._from:
                 self._take_in()
             elif self._writing:
@@ -181,6 +195,7 @@ class Module:
                 self._settled = told.tick
             elif told is not None:
                 self._known.append(told)
+                self._answered += 1
 
     def _close_input(self) -> None:
         if self._writing:
@@ -194,10 +209,7 @@ class Module:
         return self.status
 
     def _fail(self) -> Exception:
+        self._progress.clear()
         status = self._reap()
         self._said.seek(0)
-        return error_of(status, self._said.read())
-
-
-def _start(given: Program) -> List[str]:
-    return program(given)
+        return error_of(status, self._said.read(), ["stream", *self._options])

@@ -27,9 +27,14 @@ def page(runs: Sequence[Run], title: str, version: str) -> str:
         f"<title>{escaped(title)}</title><style>{STYLE}{LANDSCAPE * (len(runs) > 1)}</style></head>\n"
         f'<body class="{"alone" if len(runs) == 1 else "several"}"><header><h1>{escaped(title)}</h1><nav>{links}</nav></header>\n'
         f"<main>\n{body}</main>\n"
-        f"<footer>Made by <code>python3 -m pcm report</code> {escaped(version)}. Ticks are the simulation's own unit of time.</footer>"
+        f"<footer>Made by <code>python3 -m pcm report</code> {escaped(version)}. Ticks are the simulation's own unit of time.{_tick(runs)}</footer>"
         "</body></html>\n"
     )
+
+
+def _tick(runs: Sequence[Run]) -> str:
+    """What a tick stands for, where that was told."""
+    return "" if runs[0].tick_ns is None else f" Nanoseconds are ticks times {runs[0].tick_ns:g}, as was given."
 
 
 def _ran(runs: Sequence[Run], version: str) -> Section:
@@ -91,9 +96,13 @@ def _glance(runs: Sequence[Run]) -> str:
 
     row("rows", lambda run: run.total)
     row("rows that fell short", lambda run: sum(run.counts[word] for word in _FALLS_SHORT))
-    for word, words in (("read", "ticks of a read"), ("stored", "ticks until stored")):
+    for word, words in (("read", "of a read"), ("stored", "until stored")):
         for percent in (50, 99):
-            row(f"{words}, {percent}%", lambda run, word=word, at=percent: tallies.quantile(tallies.waits(run, word), at))
+            ticks = {id(run): tallies.quantile(tallies.waits(run, word), percent) for run in runs}
+            row(f"ticks {words}, {percent}%", lambda run, ticks=ticks: ticks[id(run)])
+            row(f"ns {words}, {percent}%", lambda run, ticks=ticks: _ns(run, ticks[id(run)]))
+    row("first row refused (full or worn)", lambda run: tallies.first_refused(run)[0])
+    row("its tick", lambda run: tallies.first_refused(run)[1])
     row("spares in use", tallies.retired)
     row("active pointers", lambda run: run.snapshots[-1].pointers if run.snapshots else None)
     row("pulses", tallies.all_pulses)
@@ -103,6 +112,11 @@ def _glance(runs: Sequence[Run]) -> str:
     row("most pulses of a control line", lambda run: _most(run, True))
     row("mean pulses of an array line", _mean)
     return tabled("Main numbers", ["", *(run.name for run in runs)], rows, "glance")
+
+
+def _ns(run: Run, ticks: Cell) -> Cell:
+    """Ticks in nanoseconds, where it is told how many a tick stands for."""
+    return None if run.tick_ns is None or not isinstance(ticks, (int, float)) else float(ticks * run.tick_ns)
 
 
 def _mean(run: Run) -> Cell:
@@ -215,10 +229,14 @@ _HEAD = ("rows", "mean", "50%", "90%", "99%", "99.9%", "most")
 def _quantiles(run: Run, kind: str) -> str:
     words = ("read", "forwarded", "lost") if kind == "reads" else ("stored", "merged")
     rows = [(word, *_spread(tallies.waits(run, word))) for word in words]
-    if kind == "reads":
-        answered = sorted(tallies.waits(run, "read") + tallies.waits(run, "forwarded"))
-        rows.insert(2, ("answered", *_spread(answered)))
-    return tabled("Ticks; at most so many in 50, 90, .. of 100 rows", ("outcome", *_HEAD), rows, kind)
+    # (those together that the dashed lines of the picture mark, where it shows both)
+    name = "answered" if kind == "reads" else "stored or merged"
+    rows.insert(2, (name, *_spread(sorted(tallies.waits(run, words[0]) + tallies.waits(run, words[1])))))
+    table = tabled("Ticks; at most so many in 50, 90, .. of 100 rows", ("outcome", *_HEAD), rows, kind)
+    if run.tick_ns is None:
+        return table
+    in_ns = [(word, count, *(_ns(run, ticks) for ticks in spread)) for word, count, *spread in rows]
+    return f"<div>{table}{tabled(f'The same in nanoseconds, {run.tick_ns:g} to a tick', ('outcome', *_HEAD), in_ns, f'{kind} ns')}</div>"
 
 
 def _spread(ordered: List[int]) -> List[Cell]:
@@ -246,7 +264,7 @@ def _writes(runs: Sequence[Run]) -> Section:
         return None
     look = (
         "From a write's arrival until it is stored, or until a newer write of its line took its place (merged). Look for a second hill: writes "
-        "that stood behind others in a long queue."
+        "that stood behind others in a long queue. The dashed lines are those of stored and merged together."
     )
     waits = _waits(runs, [("stored", BLUE), ("merged", PURPLE)], "Ticks in the queue", "writes")
     return "writes", "Time of writes in the queue", looked(look) + waits

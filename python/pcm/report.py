@@ -15,12 +15,16 @@ Each of these once for each run, in their order, or once for all:
 For all runs:
   --banks N ..      any option of a run by itself
   --every N         with --run: snapshots each N rows, by the program of streams
+  --tick-ns NS      how many nanoseconds a tick stands for, as 2.5: latencies are told in these, too
   --title WORDS     the page's title
   --output FILE     where the page is written, instead of standard output
+  --progress        standard error tells how far it is, also where that isn't a terminal
 
 RESULTS may be -, standard input. Options that aren't given are those that a file tells, and else the program's defaults. Files that
 aren't of one run are refused. Status 0; 2 for words that ask for nothing that can be done, 3 for a file that isn't what it should be,
-4 and 5 where reading or writing failed, and with --run that of the program."""
+4 and 5 where reading or writing failed, 130 where it is broken off, and with --run that of the program."""
+import os
+import re
 import shlex
 import sys
 from typing import Dict, List, Optional, Sequence
@@ -29,16 +33,30 @@ from .errors import PcmError, UsageError, WriteFault
 from .gathered import Asked, gather, known_options
 from .page import page
 from .program import Program
+from .progress import Progress
+from .runs import DEFAULTS, DRAWN, STREAMS
+from .words import near
 
 _OF_RUNS = ("trace", "wear", "image", "summary", "snapshots", "options", "name")
-_OF_ALL = ("every", "title", "output")
+_OF_ALL = ("every", "tick-ns", "title", "output")
+_ALONE = ("run", "progress")
 
 
-def report(asked: Sequence[Asked], title: str = "Report of pcm", program: Program = None) -> str:
-    """The page of some runs."""
+def report(
+    asked: Sequence[Asked], title: str = "Report of pcm", program: Program = None, tick_ns: Optional[float] = None,
+    progress: Optional[bool] = False,
+) -> str:
+    """The page of some runs; `tick_ns` are the nanoseconds of a tick, and `progress` as with `snapshots`."""
     from . import __version__
 
-    return page([gather(one, program) for one in asked], title, __version__)
+    watched = Progress(progress)
+    try:
+        runs = [gather(one, program, watched) for one in asked]
+    finally:
+        watched.clear()
+    for run in runs:
+        run.tick_ns = tick_ns
+    return page(runs, title, __version__)
 
 
 def main(words: Sequence[str]) -> int:
@@ -48,41 +66,67 @@ def main(words: Sequence[str]) -> int:
         return 0
     try:
         given = _parsed(words)
-        text = report(_asked(given), (given["title"] or ["Report of pcm"])[-1])
+        title, tick_ns = (given["title"] or ["Report of pcm"])[-1], _nanoseconds(given["tick-ns"])
+        text = report(_asked(given), title, tick_ns=tick_ns, progress=True if given["progress"] else None)
         _write(text, (given["output"] or [None])[-1])
     except PcmError as wrong:
-        print(f"report: {wrong}", file=sys.stderr)
-        return wrong.status or 1
+        return _told(str(wrong), wrong.status or 1)
     except FileNotFoundError as wrong:
-        print(f"report: {wrong}", file=sys.stderr)
-        return 4
+        return _told(str(wrong), 4)
+    except KeyboardInterrupt:
+        return _told("broken off", 130)
     return 0
 
 
+def _told(words: str, status: int) -> int:
+    """Says what went wrong, in whatever bytes names have; answers the status."""
+    print(f"report: {words.encode('utf-8', 'surrogateescape').decode('utf-8', 'replace')}", file=sys.stderr)
+    return status
+
+
 def _write(text: str, name: Optional[str]) -> None:
+    # (a name on the page may have been of any bytes)
+    data = text.encode("utf-8", "surrogateescape").decode("utf-8", "replace").encode()
     try:
         if name is None:
-            sys.stdout.buffer.write(text.encode())
+            sys.stdout.buffer.write(data)
             sys.stdout.flush()
         else:
-            with open(name, "w", encoding="utf-8") as file:
-                file.write(text)
+            with open(name, "wb") as file:
+                file.write(data)
     except OSError as wrong:
+        if name is None:
+            # (nothing more is written there in the end)
+            os.dup2(os.open(os.devnull, os.O_WRONLY), sys.stdout.fileno())
         raise WriteFault(5, f"{name or 'standard output'}: {wrong.strerror}") from None
+
+
+def _nanoseconds(words: Sequence[str]) -> Optional[float]:
+    """The nanoseconds of a tick."""
+    if not words:
+        return None
+    if not re.fullmatch(r"\d{1,12}(\.\d{1,12})?", words[-1], re.ASCII) or float(words[-1]) == 0:
+        raise UsageError(2, f"--tick-ns takes a number above 0, as 10 or 2.5, not {words[-1]!r}")
+    return float(words[-1])
 
 
 def _parsed(words: Sequence[str]) -> Dict[str, List[str]]:
     """The values of each word of the command line; those of no option stand under ''."""
-    given: Dict[str, List[str]] = {name: [] for name in ("", "run", *_OF_RUNS, *_OF_ALL, *known_options())}
+    given: Dict[str, List[str]] = {name: [] for name in ("", *_ALONE, *_OF_RUNS, *_OF_ALL, *known_options())}
     rest = list(words)
     while rest:
         word = rest.pop(0)
         name, equals, value = word[2:].partition("=")
-        if not word.startswith("--"):
+        if word[:1] != "-" or word == "-":
             given[""].append(word)
+        elif word[:2] != "--":
+            more = "; the page's file is named by --output FILE" if word == "-o" else f"; a file by this name is ./{word}"
+            raise UsageError(2, f"no option {word}{more}")
         elif name not in given or not name:
-            raise UsageError(2, f"no option {word}; --help tells which there are")
-        elif name == "run":
+            raise UsageError(2, f"no option {word}{near('--' + name, ['--' + it for it in given if it])}; --help tells which there are")
+        elif name in _ALONE:
+            if equals:
+                raise UsageError(2, f"--{name} takes no value")
             given[name].append("")
         elif equals or rest:
             given[name].append(value if equals else rest.pop(0))
@@ -110,18 +154,20 @@ def _asked(given: Dict[str, List[str]]) -> List[Asked]:
     column = {name: values * (count if len(values) == 1 else 1) or [None] * count for name, values in lists.items()}
     shared = {name: given[name][-1] for name in known_options() if given[name]}
     made = [{**shared, **_words_of(words or "")} for words in column["options"]]
-    by_words = len(files) < 2 <= count
-    names = [name or (_short(words) if by_words else file) for name, file, words in zip(column["name"], column["files"], column["options"])]
+    others = _by_options(made) if len(files) < 2 <= count else column["files"]
+    names = [name or other for name, other in zip(column["name"], others)]
     if runs:
         every = (given["every"] or [None])[-1]
         return [Asked(name, options, True, None, trace, every=every) for name, options, trace in zip(names, made, column["files"])]
-    others = zip(*(column[name] for name in ("files", "trace", "wear", "image", "summary", "snapshots")))
-    return [Asked(name, options, False, *rest) for name, options, rest in zip(names, made, others)]
+    rests = zip(*(column[name] for name in ("files", "trace", "wear", "image", "summary", "snapshots")))
+    return [Asked(name, options, False, *rest) for name, options, rest in zip(names, made, rests)]
 
 
-def _short(words: Optional[str]) -> Optional[str]:
-    """A run's name by its options, where all runs have one file."""
-    return " ".join(f"--{name} {value}" for name, value in _words_of(words).items()) if words else None
+def _by_options(made: Sequence[Dict[str, str]]) -> List[Optional[str]]:
+    """Names of runs that have one file, by the options in which they differ, or where they don't by all."""
+    whole = [{**DEFAULTS, **DRAWN, **STREAMS, **options} for options in made]
+    differ = [name for name in whole[0] if len({one[name] for one in whole}) > 1]
+    return [" ".join(f"--{name} {one[name]}" for name in differ or options) or None for one, options in zip(whole, made)]
 
 
 def _words_of(words: str) -> Dict[str, str]:

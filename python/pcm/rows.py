@@ -1,4 +1,5 @@
 """The rows of a trace."""
+import csv
 import re
 from dataclasses import dataclass
 from typing import IO, Iterable, Iterator, Optional, Sequence, Union
@@ -75,17 +76,28 @@ def write_trace(rows: Iterable[Row], file: IO[str]) -> int:
 
 
 def read_trace(file: Iterable[str]) -> Iterator[Row]:
-    """The rows of a trace as this package and `pcm gen` write it: plain lines, without quotes. `ValueError` names a line that isn't so."""
+    """The rows of a trace, as the program takes it: quotes, empty lines and a byte order mark are no fault. Open the file with newline="".
+    `ValueError` names the first row that isn't one."""
+    number = 0
+    try:
+        for record in csv.reader(_unmarked(file)):
+            if not record:
+                continue
+            if number:
+                yield _row_of(record)
+            elif ",".join(record) + "\n" != HEADER:
+                raise ValueError("header")
+            number += 1
+    except csv.Error:
+        raise ValueError(f"row {number}: fields") from None
+    except ValueError as wrong:
+        raise ValueError(f"row {number}: {wrong}") from None
+
+
+def _unmarked(file: Iterable[str]) -> Iterator[str]:
+    """Lines, of which the first has lost a byte order mark."""
     for number, line in enumerate(file):
-        text = line.rstrip("\r\n")
-        if number == 0:
-            if text + "\n" != HEADER:
-                raise ValueError("row 0: header")
-            continue
-        try:
-            yield _row_of(text.split(","))
-        except ValueError as wrong:
-            raise ValueError(f"row {number}: {wrong}") from None
+        yield line.removeprefix("\ufeff") if number == 0 else line
 
 
 def _row_of(fields: Sequence[str]) -> Row:

@@ -1,16 +1,19 @@
 """A run by the files that it left: its results or its snapshots, and where they are given its trace, wear report, image and summary."""
+import codecs
 import collections
 import csv
 import functools
 import hashlib
 import io
+import os
 import re
 import sys
 from dataclasses import dataclass, field
-from typing import Dict, Iterator, List, NamedTuple, Optional, Tuple
+from typing import BinaryIO, Dict, Iterator, List, NamedTuple, Optional, Tuple
 
 from .errors import PcmError, ReadFault
 from .image import Image, ImageError, _feistel
+from .progress import Progress
 from .snapshots import Snapshot, SnapshotError, read_snapshots
 
 OUTCOMES = ("stored", "merged", "queued", "full", "worn", "read", "forwarded", "busy", "lost", "cut")
@@ -104,11 +107,16 @@ class Source(NamedTuple):
         """The SHA-256 of its bytes."""
         return hashlib.sha256(self.data).hexdigest()
 
+    @property
+    def text(self) -> str:
+        """Its text, without a byte order mark."""
+        return self.data.removeprefix(codecs.BOM_UTF8).decode("utf-8", "replace")
+
 
 @dataclass
 class Run:
     """A run: its name, its options and where each is known from, its files, what became of each row of its trace (none of them, where
-    snapshots alone are known), and what else is known of it."""
+    snapshots alone are known), what else is known of it, and how many nanoseconds a tick stands for, where that was told."""
 
     name: str
     options: Dict[str, str]
@@ -120,6 +128,7 @@ class Run:
     image: Optional[Image] = None
     summary: Optional[Dict[str, int]] = None
     snapshots: List[Snapshot] = field(default_factory=list)
+    tick_ns: Optional[float] = None
     _banks: Dict[int, int] = field(default_factory=dict)
 
     @property
@@ -181,15 +190,29 @@ class Run:
         return self._banks[line]
 
 
-def opened(kind: str, name: str) -> Source:
+def opened(kind: str, name: str, progress: Optional[Progress] = None) -> Source:
     """A file's bytes; `-` is standard input."""
+    shown = os.fsencode(name).decode("utf-8", "replace")
     try:
         if name == "-":
-            return Source(kind, "standard input", sys.stdin.buffer.read())
+            return Source(kind, "standard input", b"".join(_pieces(sys.stdin.buffer, progress)))
         with open(name, "rb") as file:
-            return Source(kind, name, file.read())
+            return Source(kind, shown, file.read())
     except OSError as wrong:
-        raise ReadFault(4, f"{name}: {wrong.strerror}") from None
+        raise ReadFault(4, f"{shown}: {wrong.strerror}") from None
+
+
+def _pieces(file: BinaryIO, progress: Optional[Progress]) -> Iterator[bytes]:
+    """A pipe's bytes as they come, with the rows of so far as progress."""
+    rows = 0
+    while True:
+        piece = file.read1(1 << 18)
+        if not piece:
+            return
+        rows += piece.count(b"\n")
+        if progress is not None:
+            progress.rows(rows, None, "rows read")
+        yield piece
 
 
 def results_of(source: Source) -> List[Known]:
@@ -205,13 +228,13 @@ def results_of(source: Source) -> List[Known]:
 
 def are_snapshots(source: Source) -> bool:
     """Whether a file is one of snapshots, by its header."""
-    return source.data.split(b"\n", 1)[0].rstrip(b"\r") == ",".join(Snapshot._fields).encode()
+    return source.text.split("\n", 1)[0].rstrip("\r") == ",".join(Snapshot._fields)
 
 
 def snapshots_of(source: Source) -> List[Snapshot]:
     """The snapshots of a file; there is at least one."""
     try:
-        found = list(read_snapshots(source.data.decode("utf-8", "replace").splitlines()))
+        found = list(read_snapshots(source.text.splitlines()))
     except SnapshotError as wrong:
         raise FileFault(f"{source.name} {wrong}") from None
     if not found:
@@ -289,7 +312,7 @@ def shape_of_wear(source: Source, wear: List[Worn]) -> Shape:
 
 def _records(source: Source) -> Iterator[Tuple[int, List[str]]]:
     """The records of a file with commas, numbered from 0."""
-    reader = csv.reader(io.StringIO(source.data.decode("utf-8", "replace"), newline=""))
+    reader = csv.reader(io.StringIO(source.text, newline=""))
     at = 0
     try:
         for record in reader:

@@ -2,19 +2,18 @@
 import contextlib
 import itertools
 import os
-import selectors
 import subprocess
 import tempfile
 from typing import BinaryIO, Iterable, Iterator, NamedTuple, Optional, Union
 
 from .errors import error_of
-from .program import Program, program as find_program, words_of
+from .pipes import GATHERED, exchanged, lines_of
+from .program import Program, command, words_of
+from .progress import Progress
 from .rows import HEADER, Row
 
 # No number of the program has more digits.
 _DIGITS = 20
-# Rows are gathered up to so many bytes before they are handed to the pipe.
-_GATHERED = 1 << 16
 
 
 class Snapshot(NamedTuple):
@@ -95,31 +94,60 @@ def _parsed(at: int, fields: "list[str]") -> Snapshot:
 
 def snapshots(
     trace: Union[Iterable[Row], str, "os.PathLike[str]", None] = None, /, *, every: Optional[int] = None, program: Program = None,
-    **options: object,
+    progress: Optional[bool] = None, **options: object,
 ) -> Iterator[Snapshot]:
     """Replays a trace as a stream: rows, which are taken as the program takes them, or the path of a trace, or none with `input="drawn"`.
     Gives a snapshot each `every` rows served (the program's own number, if None), as it becomes known, and one in the end. Options are
-    those of `pcm stream`, with `_` for `-`. An end that isn't one of a whole stream is an exception behind the snapshots before it."""
-    words = [*find_program(program), "stream", "--print", "snapshots", *words_of({"every": every, **options})]
+    those of `pcm stream`, with `_` for `-`. An end that isn't one of a whole stream is an exception behind the snapshots before it.
+
+    A wait for the next snapshot that is longer than a second tells on standard error how many rows are served, how many a second and which
+    part of the trace, where that is a terminal, or always with `progress=True`, or never with False."""
+    more = ["--print", "snapshots", *words_of({"every": every, **options})]
+    words, path = [*command("stream", program), *more], None
     with contextlib.ExitStack() as held:
         said = held.enter_context(tempfile.TemporaryFile())
         if trace is None or isinstance(trace, (str, os.PathLike)):
-            given: Union[int, BinaryIO] = held.enter_context(open(os.devnull if trace is None else trace, "rb"))
+            path = None if trace is None else os.fspath(trace)
+            given: Union[int, BinaryIO] = held.enter_context(open(path or os.devnull, "rb"))
             pieces: Iterable[bytes] = ()
         else:
             given, pieces = subprocess.PIPE, _pieces(trace)
         process = held.enter_context(subprocess.Popen(words, stdin=given, stdout=subprocess.PIPE, stderr=said))
         # (where the snapshots are left before their end, the program ends too)
         held.callback(process.kill)
-        lines = _told(process, iter(pieces))
+        watched, last = Progress(progress), BEGIN
+        held.callback(watched.clear)
+        total = _total(options) if options.get("input") == "drawn" else None
+
+        def tell() -> None:
+            watched.rows(last.rows, last.rows / total if total else _share(given))
+
+        lines = lines_of(exchanged(process, iter(pieces), tell, watched.shown))
         header = next(lines, None)
         if header is not None:
-            yield from read_snapshots(itertools.chain([header], lines))
+            for last in read_snapshots(itertools.chain([header], lines)):
+                watched.clear()
+                yield last
         if process.wait() not in (0, 1):
             said.seek(0)
-            raise error_of(process.returncode, said.read())
+            raise error_of(process.returncode, said.read(), ["stream", *more], path)
         if header is None:
             raise SnapshotError(0, "header")
+
+
+def _total(options: "dict[str, object]") -> Optional[int]:
+    """The rows of a drawn trace."""
+    text = str(options.get("rows", 1000))
+    return int(text) if text.isascii() and text.isdigit() else None
+
+
+def _share(given: Union[int, BinaryIO]) -> Optional[float]:
+    """How far the program has read the file that it was handed: it reads by this file's own position."""
+    try:
+        size = 0 if isinstance(given, int) else os.fstat(given.fileno()).st_size
+        return None if isinstance(given, int) or not size else os.lseek(given.fileno(), 0, os.SEEK_CUR) / size
+    except OSError:
+        return None
 
 
 def _pieces(rows: Iterable[Row]) -> Iterator[bytes]:
@@ -127,44 +155,7 @@ def _pieces(rows: Iterable[Row]) -> Iterator[bytes]:
     gathered = bytearray(HEADER.encode())
     for row in rows:
         gathered += row.text().encode()
-        if len(gathered) >= _GATHERED:
+        if len(gathered) >= GATHERED:
             yield bytes(gathered)
             gathered.clear()
     yield bytes(gathered)
-
-
-def _told(process: "subprocess.Popen[bytes]", pieces: Iterator[bytes]) -> Iterator[str]:
-    """The lines that a process prints, while it is handed pieces as far as its pipe takes them: neither side waits for the other."""
-    left = tail = b""
-    with selectors.DefaultSelector() as poll:
-        assert process.stdout is not None
-        poll.register(process.stdout, selectors.EVENT_READ)
-        if process.stdin is not None:
-            os.set_blocking(process.stdin.fileno(), False)
-            poll.register(process.stdin, selectors.EVENT_WRITE)
-        while True:
-            for key, _ in poll.select():
-                if key.fileobj is process.stdout:
-                    piece = os.read(key.fd, _GATHERED)
-                    if not piece:
-                        return
-                    *lines, tail = (tail + piece).split(b"\n")
-                    yield from (line.decode(errors="replace") for line in lines)
-                else:
-                    left = left or next(pieces, b"")
-                    sent = _handed(key.fd, left)
-                    left = left[sent:]
-                    if sent is None:
-                        poll.unregister(key.fileobj)
-                        process.stdin.close()
-
-
-def _handed(pipe: int, piece: bytes) -> Optional[int]:
-    """How much of a piece a pipe has taken; None where nothing is left to hand over, or nobody takes it."""
-    try:
-        return os.write(pipe, piece) or None
-    except BlockingIOError:
-        return 0
-    except BrokenPipeError:
-        # (the program has ended; its lines, and why, are still to be read)
-        return None

@@ -1,5 +1,5 @@
 """The numbers of a run that a report shows."""
-from typing import Dict, Iterable, List, NamedTuple, Optional, Sequence
+from typing import Dict, Iterable, List, NamedTuple, Optional, Sequence, Tuple
 
 from .runs import Run, Worn
 from .snapshots import BEGIN, Snapshot
@@ -18,6 +18,14 @@ def quantile(ordered: Sequence[int], percent: float) -> Optional[int]:
         return None
     rank = -(-len(ordered) * round(percent * 10) // 1000)
     return ordered[max(0, rank - 1)]
+
+
+def first_refused(run: Run) -> Tuple[Optional[int], Optional[int]]:
+    """The number of the first write that is refused (full or worn), and its tick; of snapshots alone nothing is known of a single row."""
+    for number, row in enumerate(run.rows, 1):
+        if row.word in ("full", "worn"):
+            return number, row.tick
+    return None, None
 
 
 class Level(NamedTuple):

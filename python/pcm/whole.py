@@ -8,7 +8,7 @@ from typing import Dict, Iterable, List, Optional, Union
 from .errors import error_of
 from .image import Image
 from .outcomes import Outcome, outcome_of
-from .program import Program, program as find_program, words_of
+from .program import Program, command, words_of
 from .rows import Row, write_trace
 
 
@@ -47,17 +47,18 @@ class Result:
 def run(trace: Union[Iterable[Row], str, "os.PathLike[str]", None] = None, /, *, program: Program = None, **options: object) -> Result:
     """Replays a whole trace: rows, or the path of a trace, or none with `input="drawn"`. Options are those of `pcm run`, with `_` for `-`,
     as `banks=4`, `print="wear"`. At most 400,000 rows; `Module` takes any number."""
-    words = [*find_program(program), "run", *words_of(options)]
+    more = words_of(options)
+    words, path = [*command("run", program), *more], None
     if trace is None or isinstance(trace, (str, os.PathLike)):
-        given = open(os.devnull if trace is None else trace, "rb")
-        with given:
+        path = None if trace is None else os.fspath(trace)
+        with open(path or os.devnull, "rb") as given:
             done = subprocess.run(words, stdin=given, stdout=subprocess.PIPE, stderr=subprocess.PIPE, check=False)
     else:
         text = io.StringIO()
         write_trace(trace, text)
         done = subprocess.run(words, input=text.getvalue().encode(), stdout=subprocess.PIPE, stderr=subprocess.PIPE, check=False)
     if done.returncode not in (0, 1):
-        raise error_of(done.returncode, done.stderr)
+        raise error_of(done.returncode, done.stderr, ["run", *more], path)
     return result_of(done.returncode, done.stdout, str(options.get("print", "results")))
 
 

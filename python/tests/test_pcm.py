@@ -9,8 +9,9 @@ import tempfile
 import unittest
 
 PACKAGE = pathlib.Path(__file__).resolve().parent.parent
-sys.path.insert(0, str(PACKAGE))
+sys.path[:0] = [str(PACKAGE), str(PACKAGE / "tests")]
 import pcm  # noqa: E402
+from leaks import setUpModule, tearDownModule  # noqa: E402, F401
 
 SMALL = {"banks": 1, "regions": 1, "lines": 4, "spares": 2, "write_queue": 4, "read_queue": 4}
 ONES = b"\xff" * 64
@@ -207,28 +208,74 @@ class Streams(unittest.TestCase):
 
 
 class Packages(unittest.TestCase):
+    def installed(self, folder, *words):
+        """Installs the package into a folder, and answers what a program says that has the folder's packages."""
+        made = subprocess.run(
+            [sys.executable, "-m", "pip", "install", "--quiet", "--no-deps", "--target", folder, *words],
+            stdout=subprocess.PIPE, stderr=subprocess.STDOUT, check=False, env={**os.environ, "PIP_NO_INDEX": "1"},
+        )
+        if b"No module named pip" in made.stdout:
+            self.skipTest("this Python has no pip")
+        self.assertEqual(0, made.returncode, made.stdout.decode())
+        code = f"import site; site.addsitedir({folder!r}); import pcm; print(pcm.__version__, pcm.__file__)"
+        around = {name: value for name, value in os.environ.items() if name != "PYTHONPATH"}
+        return subprocess.run([sys.executable, "-c", code], cwd="/", stdout=subprocess.PIPE, text=True, env=around, check=True).stdout
+
     def test_the_wheel_installs_without_a_network(self):
         with tempfile.TemporaryDirectory() as folder:
-            made = subprocess.run(
-                [sys.executable, "-m", "pip", "install", "--quiet", "--no-deps", "--target", folder, str(PACKAGE)],
-                stdout=subprocess.PIPE, stderr=subprocess.STDOUT, check=False, env={**os.environ, "PIP_NO_INDEX": "1"},
-            )
-            if b"No module named pip" in made.stdout:
-                self.skipTest("this Python has no pip")
-            self.assertEqual(0, made.returncode, made.stdout.decode())
-            told = subprocess.run([sys.executable, "-c", "import pcm; print(pcm.__version__)"], cwd="/", stdout=subprocess.PIPE, text=True,
-                                  env={**os.environ, "PYTHONPATH": folder}, check=True).stdout
-            self.assertEqual(pcm.__version__, told.strip())
+            self.assertEqual(f"{pcm.__version__} {folder}/pcm/__init__.py\n", self.installed(folder, str(PACKAGE)))
 
-    def test_a_frame_of_pandas(self):
+    def test_it_is_installed_in_place_without_a_network(self):
+        with tempfile.TemporaryDirectory() as folder:
+            self.assertEqual(f"{pcm.__version__} {PACKAGE}/pcm/__init__.py\n", self.installed(folder, "-e", str(PACKAGE)))
+
+
+class Frames(unittest.TestCase):
+    ROWS = [pcm.Write(0, 0, ONES), pcm.PowerCut(7), pcm.MaskedWrite(50, 1, [1] + [None] * 63), pcm.Settle(60), pcm.Read(100, 0)]
+
+    def setUp(self):
         try:
             import pandas  # noqa: F401
         except ImportError:
             with self.assertRaises(ImportError):
                 pcm.to_frame([pcm.Cut(1, 0)])
-            return
-        frame = pcm.to_frame(pcm.run([pcm.Write(0, 0, ONES), pcm.Read(100, 0)], **SMALL).rows)
-        self.assertEqual(["stored", "read"], list(frame["outcome"]))
+            self.skipTest("this Python has no pandas")
+
+    def table(self, frame):
+        """The rows of a frame without data, None where a number is missing."""
+        plain = frame.drop(columns="data").astype(object)
+        return [list(frame.columns)] + plain.where(plain.notna(), None).values.tolist()
+
+    def test_outcomes_alone(self):
+        done = pcm.run([row for row in self.ROWS if not isinstance(row, pcm.Settle)], **SMALL)
+        frame = pcm.to_frame(done.rows)
+        self.assertEqual(["row", "op", "line", "outcome", "tick", "place", "data"], list(frame.columns))
+        self.assertEqual(["Int64"] * 4, [str(frame[name].dtype) for name in ("row", "line", "tick", "place")])
+        self.assertEqual([3, None], self.table(frame)[1][-1:] + self.table(frame)[2][-1:])
+        frame = pcm.to_frame([row.outcome for row in done.rows])
+        self.assertEqual([1, "stored", 22, 3], self.table(frame)[1])
+        self.assertEqual(["row", "outcome", "tick", "place", "data"], list(pcm.to_frame([]).columns))
+
+    def test_outcomes_with_their_rows(self):
+        with pcm.Module(end="off", **SMALL) as module:
+            for row in self.ROWS:
+                module._gather(row.text())
+            outcomes = sorted(module.finish(), key=lambda it: it.row)
+        with tempfile.TemporaryDirectory() as folder:
+            path = pathlib.Path(folder) / "trace.csv"
+            path.write_text("\ufefftick,op,arg,data\n" + "".join(row.text() for row in self.ROWS), encoding="utf-8")
+            tables = [self.table(pcm.to_frame(outcomes, trace, tick_ns=2.5)) for trace in (self.ROWS, path, str(path))]
+        self.assertEqual(tables[:1] * 3, tables)
+        self.assertEqual(
+            [["row", "op", "line", "asked", "outcome", "tick", "latency", "place", "data", "latency_ns"],
+             [1, "W", 0, 0, "stored", 22, 22, 3, 55.0], [2, "C", None, 7, "cut", 7, 0, None, 0.0],
+             [3, "M", 1, 50, "stored", 65, 15, 1, 37.5], [4, "R", 0, 100, "lost", 100, 0, None, 0.0],
+             [5, None, None, None, "cut", 100, None, None, None]],
+            tables[0],
+        )
+        self.assertEqual(["row", "op", "line", "asked", "outcome", "tick", "latency", "place", "data"], list(pcm.to_frame([], self.ROWS).columns))
+        with self.assertRaises(ValueError):
+            pcm.to_frame(outcomes, tick_ns=2.5)
 
 
 random.seed(1)

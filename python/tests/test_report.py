@@ -11,8 +11,10 @@ import tempfile
 import unittest
 import xml.etree.ElementTree
 
-sys.path.insert(0, str(pathlib.Path(__file__).resolve().parent.parent))
+HERE = pathlib.Path(__file__).resolve().parent
+sys.path[:0] = [str(HERE.parent), str(HERE)]
 import pcm  # noqa: E402
+from leaks import setUpModule, tearDownModule  # noqa: E402, F401
 from pcm import charts, report, runs, tallies  # noqa: E402
 from pcm.drawing import DARK, LIGHT  # noqa: E402
 
@@ -146,7 +148,8 @@ class Numbers(Room):
             ends[fields[3]].append(int(fields[4]))
         for kind in ("reads", "writes"):
             for row in tables[kind][0][1:]:
-                here = sorted(ticks["read"] + ticks["forwarded"] if row[0] == "answered" else ticks[row[0]])
+                both = {"answered": ("read", "forwarded"), "stored or merged": ("stored", "merged")}
+                here = sorted(tick for word in both.get(row[0], row[:1]) for tick in ticks[word])
                 self.assertEqual(len(here), row[1])
                 for percent, number in zip((50, 90, 99, 99.9), row[3:7]):
                     wanted = next((value for at, value in enumerate(here, 1) if 1000 * at >= round(10 * percent) * len(here)), "–")
@@ -289,6 +292,61 @@ class Pages(Room):
             trace = self.file("tick,op,arg,data\n" + rows)
             self.page("--run", trace, "--banks", "1", "--lines", "4", "--regions", "1", "--spares", "0")
 
+    def test_names_and_traces_in_any_bytes(self):
+        files = self.files_of(RUNS[8])
+        folder, results = os.fsencode(self.room.name), pathlib.Path(files["results"]).read_bytes()
+        name = os.path.join(folder, b"caf\xe9.csv")
+        with open(name, "wb") as file:
+            file.write(b"\xef\xbb\xbf" + results)
+        rows = pathlib.Path(files["trace"]).read_bytes().splitlines()
+        quoted = b"\r\n".join(b'"' + row.replace(b",", b'","') + b'"' for row in rows)
+        marked = self.file(b"\xef\xbb\xbf" + quoted.replace(b"\r\n", b"\r\n\r\n", 1) + b"\r\n\n")
+        more = ["--options", RUNS[8], "--name", "x"]
+        plain, text = self.page(files["results"], "--trace", files["trace"], *more), self.page(os.fsdecode(name), "--trace", marked, *more)
+        self.assertEqual(came_of(plain), came_of(text))
+        self.assertIn("caf\ufffd.csv", text)
+        self.refused(4, "caf\ufffd.none: No such file", os.fsdecode(os.path.join(folder, b"caf\xe9.none")))
+
+    def test_nanoseconds_are_ticks_times_what_is_told(self):
+        files = self.files_of(RUNS[8])
+        words = [files["results"], "--trace", files["trace"], "--options", RUNS[8]]
+        plain, text = self.page(*words), self.page(*words, "--tick-ns", "2.5")
+        glance = {row[0]: row[1] for row in Tables(text).found["glance"][0][1:]}
+        self.assertEqual(2.5 * glance["ticks of a read, 99%"], glance["ns of a read, 99%"])
+        for kind in ("reads", "writes"):
+            ticks, times = Tables(plain).found[kind][0][1:], Tables(text).found[f"{kind} ns"][0][1:]
+            self.assertEqual([row[:2] for row in ticks], [row[:2] for row in times])
+            self.assertEqual([2.5 * row[-1] if row[-1] != "–" else "–" for row in ticks], [row[-1] for row in times])
+        self.assertIn("Nanoseconds are ticks times 2.5", text)
+        self.assertNotIn("anosecond", plain)
+        for wrong in ("0", "-1", "1e3", "x"):
+            self.refused(2, "--tick-ns takes a number above 0", *words, "--tick-ns", wrong)
+
+    def test_the_first_refused_row(self):
+        trace = self.file(printed("gen", "--rows", "2000", "--step", "1", "--hot", "4"))
+        text = self.page("--run", trace, "--write-queue", "2", "--misses", "3")
+        results = printed("run", "--write-queue", "2", "--misses", "3", given=pathlib.Path(trace).read_bytes()).decode().splitlines()
+        first = next(line.split(",") for line in results if ",full," in line or ",worn," in line)
+        glance = {row[0]: row[1] for row in Tables(text).found["glance"][0][1:]}
+        self.assertEqual([int(first[0]), int(first[4])], [glance["first row refused (full or worn)"], glance["its tick"]])
+
+    def test_the_dashed_lines_are_in_the_table(self):
+        files = self.files_of(RUNS[2], step=4)
+        text = self.page(files["results"], "--trace", files["trace"], "--options", RUNS[2])
+        for kind, row in (("reads", "read"), ("writes", "stored or merged")):
+            there = {row[0]: row for row in Tables(text).found[kind][0][1:]}[row]
+            section = text[text.index(f'id="{kind}"'):]
+            marks = re.findall(r">(50|99)%: ([\d,]+)</text>", section[:section.index("</svg>")])
+            self.assertEqual([("50", there[3]), ("99", there[5])], [(at, float(number.replace(",", ""))) for at, number in marks])
+
+    def test_long_counts_stand_beside_their_bars(self):
+        for most in (999_999, 1_234_567, 12_345_678, 4_294_967_294):
+            counts = {**dict.fromkeys(runs.OUTCOMES, 0), "stored": most, "read": most // 3}
+            parts = xml.etree.ElementTree.fromstring(charts.of_counts(counts, most, "").placed())
+            bars = [float(it.get("x")) + float(it.get("width")) for it in parts if it.tag.endswith("rect")]
+            count = next(it for it in parts if it.text == f"{most:,}")
+            self.assertLess(max(bars), float(count.get("x")) - charts.width_of(count.text, 13) + 1)
+
     def test_a_wear_report_with_more_columns(self):
         files = self.files_of(RUNS[8])
         lines = pathlib.Path(files["wear"]).read_text().splitlines()
@@ -316,7 +374,10 @@ class WrongFiles(Room):
 
     def test_words_that_ask_for_nothing(self):
         self.refused(2, "usage")
-        self.refused(2, "no option --lanes", "x", "--lanes", "3")
+        self.refused(2, r"no option --lanes \(did you mean --lines\?\)", "x", "--lanes", "3")
+        self.refused(2, "no option -o; the page's file is named by --output FILE", "x", "-o", "y")
+        self.refused(2, "no option -x.csv; a file by this name is ./-x.csv", "-x.csv")
+        self.refused(2, "--progress takes no value", "x", "--progress=1")
         self.refused(2, "--trace wants a value", "x", "--trace")
         self.refused(2, "--options: no option --lanes", "x", "--options", "--lanes 3")
         self.refused(2, "No closing quotation", "x", "--options", "'--psi 3")
@@ -325,7 +386,7 @@ class WrongFiles(Room):
         self.refused(2, "2 times --trace, where there are 3 runs", "a", "b", "c", "--trace", "x", "--trace", "y")
         self.refused(2, "a trace is wanted", "--run")
         self.refused(2, "--run makes wear", "--run", "x", "--wear", "y")
-        self.refused(2, "usage: pcm", "--run", self.good["trace"], "--lines", "5")
+        self.refused(2, r"--lines 5: .*power of two.*\(usage: pcm", "--run", self.good["trace"], "--lines", "5")
 
     def test_files_that_cannot_be_read_or_written(self):
         self.refused(4, "nowhere.csv: No such file", "nowhere.csv")
@@ -368,7 +429,7 @@ class WrongFiles(Room):
         self.refused(3, "not of a module of these options", self.good["results"], "--options", self.words.replace("--seed 1", "--seed 12"))
 
     def test_a_fault_of_the_trace_is_the_programs(self):
-        self.refused(3, "trace row 2: order", "--run", self.file("tick,op,arg,data\n5,R,0,\n4,R,0,\n"))
+        self.refused(3, r"line 3: its tick 4 is below 5.*\(trace row 2: order\)", "--run", self.file("tick,op,arg,data\n5,R,0,\n4,R,0,\n"))
 
 
 if __name__ == "__main__":

@@ -10,6 +10,7 @@ import xml.etree.ElementTree
 HERE = pathlib.Path(__file__).resolve().parent
 sys.path[:0] = [str(HERE.parent), str(HERE)]
 import pcm  # noqa: E402
+from leaks import setUpModule, tearDownModule  # noqa: E402, F401
 from pcm import charts, plots, runs, tallies  # noqa: E402
 from pcm.drawing import VARIABLES, Picture  # noqa: E402
 from test_report import AGED, RUNS, Room, Tables, came_of, printed  # noqa: E402

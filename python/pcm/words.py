@@ -1,0 +1,435 @@
+"""The program's commands and options, in one table, and what is wrong with words or a trace that the program refused.
+
+The program itself says of faulty words only how it is used, and of a faulty trace which row and what kind of fault. `explain` says which
+word it is and what it may be, or on which line of the file the row stands and what its field should be. The wrapper `pcm` calls it where
+it speaks to a person, `pcm.errors` for its exceptions; the pages of help, the manual and the completions are checked against the table.
+
+    python3 words.py explain LINE WORD ..   what is wrong, by the program's line and its words; the file that it read is standard input
+    python3 words.py command WORD           that there is no such command, and which there are
+"""
+import difflib
+import os
+import re
+import sys
+from typing import Dict, List, NamedTuple, Optional, Sequence, Tuple
+
+LATEST_TICK = 2**40
+
+
+class Option(NamedTuple):
+    """An option of a command: what stands for its value, its default, and what it may be: a number from `least` to `most`, a power of two
+    where `power`, or one of some words or numbers."""
+
+    name: str
+    value: str
+    default: str
+    about: str
+    least: int = 0
+    most: int = 0
+    power: bool = False
+    choices: Tuple[str, ...] = ()
+
+    @property
+    def is_number(self) -> bool:
+        """Whether any number in a range is a value."""
+        return not self.choices
+
+    def range(self) -> str:
+        """What a value may be, in words."""
+        if self.choices:
+            return either(self.choices)
+        return f"{'a power of two, ' * self.power}{self.least} to {self.most}"
+
+    def takes(self, text: str) -> bool:
+        """Whether the program takes this value."""
+        if self.choices:
+            return text in self.choices
+        if not re.fullmatch(r"[0-9]{1,20}", text):
+            return False
+        number = int(text)
+        return self.least <= number <= self.most and not (self.power and number & (number - 1))
+
+
+class Command(NamedTuple):
+    """A command: what it does, what stands behind it on a command line, and its options in the order of its page."""
+
+    name: str
+    about: str
+    usage: str
+    options: Dict[str, Option]
+
+
+def either(words: Sequence[str]) -> str:
+    """Words as a list in a sentence: `a, b or c`."""
+    return " or ".join([", ".join(words[:-1]), words[-1]]) if len(words) > 1 else "".join(words)
+
+
+def _number(name: str, value: str, default: int, least: int, most: int, about: str) -> Option:
+    return Option(name, value, str(default), about, least, most)
+
+
+def _power(name: str, value: str, default: int, least: int, most: int, about: str) -> Option:
+    return Option(name, value, str(default), about, least, most, power=True)
+
+
+def _choice(name: str, value: str, about: str, *choices: str) -> Option:
+    return Option(name, value, choices[0], about, choices=choices)
+
+
+def _few(name: str, value: str, default: int, most: int, about: str) -> Option:
+    powers = tuple(str(1 << bit) for bit in range(most.bit_length()))
+    return Option(name, value, str(default), about, choices=powers)
+
+
+_RUN = [
+    _few("banks", "A", 4, 16, "banks of the module"),
+    _few("regions", "B", 2, 16, "regions of a bank"),
+    _power("lines", "N", 64, 4, 4096, "lines of a region"),
+    _choice("line", "BYTES", "bytes of a line", "64", "128"),
+    _number("spares", "S", 8, 0, 1024, "spare array lines of a bank"),
+    _number("seed", "X", 0, 0, 2**64 - 1, "draws keys, cells and drawn traces"),
+    _number("write-queue", "W", 32, 1, 256, "writes that a bank's queue holds"),
+    _number("read-queue", "R", 32, 1, 256, "reads that may wait at a bank"),
+    _number("psi", "N", 100, 1, 65535, "stores of a region between two gap moves"),
+    _choice("policy", "P", "what a waiting read does to a line write", "pause", "plain", "cancel"),
+    _choice("registers", "H", "where a bank keeps its registers", "guarded", "array"),
+    _number("read-ticks", "T", 5, 1, 255, "ticks of a sense"),
+    _number("iter-ticks", "T", 10, 1, 255, "ticks of a pulse and its sense"),
+    _number("lo", "N", 100000000, 1, 4000000000, "fewest changes that a cell endures"),
+    _number("hi", "N", 100000000, 1, 4000000000, "most changes that a cell endures"),
+    _number("misses", "N", 0, 0, 7, "pulses that a cell may miss before a change"),
+    _choice("input", "I", "where the trace comes from", "source", "drawn"),
+    _choice("print", "P", "what is printed", "results", "summary", "wear", "image"),
+]
+_DRAWN = [
+    _number("rows", "N", 1000, 1, 400000, "rows of the drawn trace"),
+    _number("write-percent", "N", 50, 0, 100, "writes among 100 drawn rows"),
+    _number("cuts", "N", 0, 0, 400000, "power cuts among the drawn rows"),
+    _number("step", "N", 10, 0, 65535, "most ticks between drawn rows"),
+    _number("hot", "N", 0, 0, 65536, "lines that nine of ten drawn rows go to"),
+]
+_STREAM = [
+    _few("banks", "A", 4, 64, "banks of the module"),
+    _few("regions", "B", 2, 64, "regions of a bank"),
+    _power("lines", "N", 64, 4, 2**26, "lines of a region"),
+    _choice("print", "P", "what is printed", "rows", "summary", "wear", "image", "lines", "snapshots"),
+    _number("every", "N", 100000, 1, 4294967295, "rows between snapshots"),
+    _choice("end", "E", "what becomes of the module behind the last row", "drain", "off"),
+    _number("rows", "N", 1000, 1, 4000000000, "rows of the drawn trace"),
+    _number("cuts", "N", 0, 0, 4000000000, "power cuts among the drawn rows"),
+]
+_FROM = _number("from", "T", 0, 0, 16781312, "gap moves that were made before")
+
+
+def _named(options: Sequence[Option]) -> Dict[str, Option]:
+    return {it.name: it for it in options}
+
+
+def _those(*names: str) -> Dict[str, Option]:
+    return {name: it for name, it in _named([*_RUN, *_DRAWN]).items() if name in names}
+
+
+_SIZES = ("banks", "regions", "lines")
+_CHECKED = ("write-queue", "read-queue", "read-ticks", "iter-ticks", "policy", "registers")
+COMMANDS = {
+    it.name: it
+    for it in (
+        Command("run", "replays a trace", "< TRACE", _named([*_RUN, *_DRAWN])),
+        Command("gen", "prints a drawn trace", "> TRACE", _those(*_SIZES, "line", "seed", *(it.name for it in _DRAWN))),
+        Command("map", "prints where each line stands", "", {**_those(*_SIZES, "spares", "registers", "seed"), "from": _FROM}),
+        Command("moves", "prints the gap moves of a region", "", {"lines": _power("lines", "N", 64, 4, 256, "lines of the region"), "from": _FROM}),
+        Command("show", "prints the newest bytes of a saved module", "< IMAGE", {}),
+        Command("check", "checks results behind their trace", "< TRACE-AND-RESULTS", _those(*_SIZES, "line", "spares", "seed", *_CHECKED)),
+        Command("stream", "replays a trace as it comes", "< TRACE", {**_named([*_RUN, *_DRAWN]), **_named(_STREAM)}),
+    )
+}
+# What the wrapper answers by itself.
+WRAPPERS = {"help": "prints this help", "version": "prints the version", "path": "prints where the built program is"}
+# The greatest number of lines of a module, by whether it serves a stream.
+MOST_LINES = {False: 65536, True: 2**26}
+
+
+# Words.
+
+
+def near(word: str, words: Sequence[str]) -> str:
+    """`(did you mean X?)` where one of the words is near, else nothing."""
+    found = difflib.get_close_matches(word.lower(), list(words), 1, 0.65) if word.strip("-") else []
+    return f" (did you mean {found[0]}?)" if found else ""
+
+
+def no_command(word: str) -> str:
+    """What to say of a word that stands where a command should."""
+    known = [*COMMANDS, *WRAPPERS]
+    if word.startswith("-"):
+        if word in ("--version", "-V", "-v"):
+            return f"{word} isn't a command: pcm version prints the version"
+        if word.partition("=")[0][2:] in COMMANDS["stream"].options:
+            return f"{word} stands where the command should: the command comes first, as in pcm run {word} .."
+        return f"{word} stands where the command should: {either(list(COMMANDS))}"
+    if os.path.exists(word):
+        return f"{word} is a file: a trace comes on standard input, as in pcm run < {word}"
+    return f"there is no command {word}" + (near(word, known) or f": there are {', '.join(COMMANDS)}")
+
+
+def _no_option(command: Command, word: str) -> str:
+    """What to say of a word that stands where an option should."""
+    name = word.partition("=")[0].lstrip("-")
+    marked = [f"--{it}" for it in command.options]
+    if not word.startswith("-"):
+        if os.path.exists(word):
+            return f"{word} is a file: what {command.name} reads comes on standard input, as in pcm {command.name} < {word}"
+        return f"{word} belongs to no option: each word is --OPTION or the value behind one" + near(f"--{word}", marked)
+    if not marked:
+        return f"{word}: {command.name} has no options"
+    if name in command.options:
+        return f"{word}: an option is written with two dashes, --{name}"
+    others = [it.name for it in COMMANDS.values() if name in it.options]
+    if word.startswith("--") and others:
+        return f"--{name} is no option of {command.name}, but of {either(others)}"
+    if not word.startswith("--") and len(name) == 1:
+        alike = [it for it in marked if it[2] == name]
+        return f"{word}: options are whole words with two dashes" + (f", as {either(alike)}" if alike else "")
+    return f"--{name} is no option of {command.name}" + (near(f"--{name.replace('_', '-')}", marked) or f" (pcm help {command.name} lists them)")
+
+
+def _bad_value(option: Option, text: str) -> str:
+    """What to say of a value that an option doesn't take."""
+    said = f"--{option.name} {text}" if text else f"--{option.name} ''"
+    if option.choices:
+        others = [it.name for it in COMMANDS.values() if option.name in it.options and text in it.options[option.name].choices]
+        return f"{said}: it may be {option.range()}" + (f" ({text} is for {either(others)})" if others else near(text, option.choices))
+    if not re.fullmatch(r"[0-9]{1,20}", text):
+        return f"{said}: it may be a number of decimal digits alone, {option.range()}"
+    number = int(text)
+    below = 1 << (number.bit_length() - 1) if number else 0
+    if option.power and option.least < number < option.most:
+        return f"{said}: it may be {option.range()}; nearest are {below} and {2 * below}"
+    return f"{said}: it may be {option.range()}"
+
+
+def _together(command: Command, given: Dict[str, str]) -> Optional[str]:
+    """What is wrong with values that are right each by itself."""
+    value = {name: given.get(name, it.default) for name, it in command.options.items()}
+    streams = command.name == "stream"
+    if "hi" in value and int(value["hi"]) < int(value["lo"]):
+        default = [f"--{name} {value[name]} (its default)" if name not in given else f"--{name} {value[name]}" for name in ("hi", "lo")]
+        return f"{default[0]} is below {default[1]}: give both, --lo not above --hi"
+    if "banks" in value:
+        lines = int(value["banks"]) * int(value["regions"]) * int(value["lines"])
+        if lines > MOST_LINES[streams]:
+            return f"banks x regions x lines are {lines}: a module of {command.name} has at most {MOST_LINES[streams]} lines"
+        if streams and value["print"] == "image" and (lines > MOST_LINES[False] or int(value["banks"]) > 16 or int(value["regions"]) > 16):
+            return "--print image: an image has at most 16 banks of 16 regions, and 65536 lines"
+    if "cuts" in value and int(value["cuts"]) > int(value["rows"]):
+        return f"--cuts {value['cuts']} are more than --rows {value['rows']}"
+    if streams and int(value["rows"]) * int(value["step"]) > LATEST_TICK:
+        return f"--rows times --step is {int(value['rows']) * int(value['step'])}: it may be at most {LATEST_TICK}"
+    if streams and "every" in given and value["print"] != "snapshots":
+        return "--every belongs to --print snapshots alone"
+    return None
+
+
+def wrong_word(words: Sequence[str]) -> Optional[str]:
+    """The first thing that is wrong with words, the command first; None where nothing is found."""
+    if not words:
+        return f"no command: give one of {', '.join(COMMANDS)}"
+    if words[0] not in COMMANDS:
+        return no_command(words[0])
+    command, given, at = COMMANDS[words[0]], {}, 1
+    while at < len(words):
+        word = words[at]
+        name, sign, text = word[2:].partition("=")
+        if not word.startswith("--") or name not in command.options:
+            return _no_option(command, word)
+        if name in given:
+            return f"--{name} stands twice"
+        at += 1
+        if not sign:
+            if at == len(words) or words[at].startswith("--"):
+                return f"--{name} lacks its value: it may be {command.options[name].range()}"
+            text = words[at]
+            at += 1
+        if not command.options[name].takes(text):
+            return _bad_value(command.options[name], text)
+        given[name] = text
+    return _together(command, given)
+
+
+# Traces.
+
+HEADER = ["tick", "op", "arg", "data"]
+RESULTS = "row,op,line,outcome,tick,place,data"
+# An explanation reads no more rows than this: nobody waits for it.
+MOST_ROWS = 5_000_000
+
+
+def _records(path: str):
+    """The records of a text as the program reads them, each with the number of the line on which it begins."""
+    import csv
+
+    csv.field_size_limit(2**31 - 1)
+    with open(path, encoding="latin-1", newline="") as text:
+        if text.read(3) != "\xef\xbb\xbf":
+            text.seek(0)
+        reader, begins = csv.reader(text), 1
+        for record in reader:
+            if record:
+                yield begins, record
+            begins = reader.line_num + 1
+
+
+def _shape_of(words: Sequence[str]) -> Tuple[int, int, bool]:
+    """The lines of the module, the bytes of a line, and whether rows come in a stream, by the words."""
+    command = COMMANDS.get(words[0] if words else "", COMMANDS["run"])
+    value = {name: it.default for name, it in COMMANDS["stream"].options.items()}
+    rest = list(words[1:])
+    while rest:
+        name, sign, text = rest.pop(0)[2:].partition("=")
+        value[name] = text if sign or not rest else rest.pop(0)
+    return int(value["banks"]) * int(value["regions"]) * int(value["lines"]), int(value["line"]), command.name == "stream"
+
+
+def _shown(text: str) -> str:
+    """Bytes of a field, short enough for a sentence."""
+    clean = "".join(it if it.isprintable() else f"\\x{ord(it):02x}" for it in text[:40])
+    return f"'{clean}'" + ".." * (len(text) > 40)
+
+
+def _wrong_payload(op: str, data: str, size: int) -> str:
+    if op not in ("W", "M"):
+        return f"the fourth field of {op} must be empty, and is {_shown(data)}"
+    kind = "hexadecimal digits" if op == "W" else "characters, two hexadecimal digits or .. for a byte"
+    if len(data) != 2 * size:
+        return f"the fourth field must have {2 * size} {kind}, for lines of {size} bytes, and has {len(data)}"
+    if op == "M" and not data.strip("."):
+        return "the fourth field of M gives no byte"
+    for at in range(0, len(data), 2 if op == "M" else 1):
+        piece = data[at : at + 2] if op == "M" else data[at]
+        if not re.fullmatch(r"[0-9a-fA-F]+" + r"|\.\." * (op == "M"), piece):
+            return f"the fourth field has {_shown(piece)} behind {at} characters, where it must be {kind}"
+    return "the fourth field isn't the row's bytes"
+
+
+def _wrong_field(record: List[str], last: Tuple[int, int], shape: Tuple[int, int, bool]) -> Optional[Tuple[str, str]]:
+    """The kind of a row's first fault and what is wrong with its field, None where it has none; `last` is the tick and line before."""
+    lines, size, streams = shape
+    if len(record) != 4:
+        return "fields", f"it has {len(record)} field{'s' * (len(record) != 1)}, and must have four: {','.join(HEADER)}"
+    tick, op, arg, data = record
+    if not re.fullmatch(r"[0-9]{1,13}", tick) or int(tick) > LATEST_TICK:
+        return "tick", f"the first field must be a tick, 0 to {LATEST_TICK} in digits, and is {_shown(tick)}"
+    if int(tick) < last[0]:
+        return "order", f"its tick {int(tick)} is below {last[0]}, the tick of the row before (line {last[1]})"
+    ops = ["R", "W", "M", "C", *["S"] * streams]
+    if op not in ops:
+        why = " (S, a settle, is a stream's alone)" if op == "S" else ""
+        return "op", f"the second field must be {either(ops)}, and is {_shown(op)}{why}"
+    if op in ("C", "S"):
+        if arg:
+            return "line", f"the third field of {op} must be empty, and is {_shown(arg)}"
+        return ("payload", _wrong_payload(op, data, size)) if data else None
+    if not re.fullmatch(r"[0-9]{1,8}", arg) or int(arg) >= lines or (len(arg) > 5 and not streams):
+        return "line", f"the third field must be a line, 0 to {lines - 1} (banks x regions x lines are {lines}), and is {_shown(arg)}"
+    pattern = {"R": "", "W": f"[0-9a-fA-F]{{{2 * size}}}", "M": rf"(?!\.*$)(?:[0-9a-fA-F]{{2}}|\.\.){{{size}}}"}[op]
+    return None if re.fullmatch(pattern, data) else ("payload", _wrong_payload(op, data, size))
+
+
+def _faulty_row(path: str, row: int, kind: str, words: Sequence[str]) -> Optional[str]:
+    """Where a faulty row stands in its file, and what is wrong there."""
+    shape, number, last = _shape_of(words), 0, (0, 1)
+    for begins, record in _records(path):
+        if number == 0:
+            if row == 0:
+                told = "results stand here, without their trace" if ",".join(record) == RESULTS else f"it is {_shown(','.join(record))}"
+                return f"line {begins}: a trace begins with {','.join(HEADER)}, and {told}"
+            number = 1
+            continue
+        found = _wrong_field(record, last, shape)
+        if found or number > row or number > MOST_ROWS:
+            if not found or number != row or found[0] != kind:
+                return None
+            told = found[1]
+            if kind == "fields" and len(record) == 7 and words[:1] == ["check"]:
+                told += f"; results begin behind a line that is exactly {RESULTS}, ended by LF, not CRLF"
+            return f"line {begins}: {told}"
+        number += not (shape[2] and record[1] == "S")
+        last = int(record[0]), begins
+    return "the file is empty: a trace begins with " + ",".join(HEADER) if row == 0 else None
+
+
+def _faulty_result(path: str, row: int) -> Optional[str]:
+    """Where a row stands that isn't one of results."""
+    with open(path, encoding="latin-1", newline="\n") as text:
+        begins, line = 0, ""
+        for begins, line in enumerate(text, 1):
+            if line.rstrip("\n") == RESULTS:
+                break
+        else:
+            return f"no line is exactly {RESULTS}"
+        for begins, line in enumerate(text, begins + 1):
+            row -= 1
+            if row == 0:
+                break
+    if row > 0:
+        return f"the results end with line {begins}: a row of the trace lacks its own"
+    line, ended = line.rstrip("\n"), line.endswith("\n")
+    if line.endswith("\r"):
+        return f"line {begins}: it ends with CRLF, and must end with LF"
+    fields = line.count(",") + 1
+    if fields != 7:
+        return f"line {begins}: it has {fields} field{'s' * (fields != 1)}, and must have seven: {RESULTS}"
+    return f"line {begins}: {_shown(line)} isn't a row that run prints" + ("" if ended else ": its line isn't ended")
+
+
+_IMAGE = {
+    "magic": "an image begins with PCMIMG01: it is what --print image writes, and nothing in front",
+    "size": "the bytes of a line must be 64 or 128", "shape": "a size of the module is out of its range",
+    "bank": "what a bank keeps is out of its range", "entry": "a write of a queue isn't one", "short": "the image ends here, in a field",
+    "extra": "bytes follow the image's last field",
+}
+
+
+def wrong_text(words: Sequence[str], line: str, path: Optional[str]) -> Optional[str]:
+    """What is wrong with a trace, results or an image, by the program's line of them and the file that it read."""
+    if found := re.fullmatch(r"image byte \d+: (\w+)", line):
+        return _IMAGE.get(found[1])
+    if line == "trace too long":
+        return None if words[:1] == ["stream"] else "run and check take 400,000 rows and 64 MiB of trace (128 MiB for lines of 128 bytes); stream has no such bound"
+    if path is None:
+        return None
+    try:
+        if found := re.fullmatch(r"trace row (\d+): (\w+)", line):
+            return _faulty_row(path, int(found[1]), found[2], words)
+        if found := re.fullmatch(r"results row (\d+)", line):
+            return _faulty_result(path, int(found[1]))
+    except (OSError, ValueError):
+        return None
+    return None
+
+
+def explain(words: Sequence[str], stderr: str, trace_path: Optional[str] = None) -> Optional[str]:
+    """What is wrong with words, the command first (`stream` too), or with the file that the program read, by its line on standard error.
+    One sentence without an end; None where nothing more can be said."""
+    lines = stderr.strip().splitlines()
+    line = lines[-1] if lines else ""
+    if line.startswith("usage: "):
+        return wrong_word(words)
+    return wrong_text(words, line, trace_path)
+
+
+def main(asked: Sequence[str]) -> int:
+    """Answers the wrapper."""
+    said: Optional[str] = None
+    if asked[:1] == ["command"]:
+        said = no_command(asked[1])
+    elif asked[:1] == ["explain"]:
+        regular = os.path.isfile("/dev/stdin")
+        said = explain(asked[2:], asked[1], "/dev/stdin" if regular else None)
+    if said:
+        print(f"pcm: {said}", file=sys.stderr)
+    return 0
+
+
+if __name__ == "__main__":
+    sys.exit(main(sys.argv[1:]))

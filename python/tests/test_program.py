@@ -1,0 +1,203 @@
+"""Tests of how the program is found and started, of what faults tell, of progress, of breaking off, and of what is left open."""
+import contextlib
+import io
+import os
+import pathlib
+import signal
+import subprocess
+import sys
+import tempfile
+import time
+import unittest
+
+PACKAGE = pathlib.Path(__file__).resolve().parent.parent
+sys.path[:0] = [str(PACKAGE), str(PACKAGE / "tests")]
+import pcm  # noqa: E402
+from leaks import setUpModule, tearDownModule  # noqa: E402, F401
+from pcm import progress  # noqa: E402
+
+ONES = b"\xff" * 64
+# Stands for the `pcm` of a checkout: it tells what it was called for, and names programs that are built.
+WRAPPER = """#!/bin/sh
+echo "$*" >> {room}/calls
+case $1 in
+path) echo "building {room}" >&2; if [ "$2" = stream ]; then echo {room}/streams; else echo {room}/runs; fi ;;
+*) echo "not asked for" >&2; exit 70 ;;
+esac
+"""
+# Twenty modules of faulty rows, whose exceptions are kept; prints how many descriptors are open before and behind them.
+LEAKS = """
+import os, pcm
+def faulty():
+    try:
+        with pcm.Module() as module:
+            module.write(5, 0, bytes(64))
+            module.settle(3)
+    except pcm.TraceError as fault:
+        return fault
+faulty()
+opened, faults = len(os.listdir("/proc/self/fd")), []
+for _ in range(20):
+    faults.append(faulty())
+    try:
+        pcm.Module(program="/nowhere/pcm")
+    except FileNotFoundError as fault:
+        faults.append(fault)
+print(opened, len(os.listdir("/proc/self/fd")), {str(fault) for fault in faults if isinstance(fault, pcm.TraceError)})
+"""
+SLOW = """#!/bin/sh
+echo rows,tick,stored,merged,queued,full,worn,read,forwarded,busy,lost,cut,retired,pulses,most,mean,pointers
+echo 100,9,0,0,0,0,0,0,0,0,0,0,0,0,0,0,0
+sleep 1.2
+echo 200,9,0,0,0,0,0,0,0,0,0,0,0,0,0,0,0
+"""
+
+
+def around(**more):
+    """The environment of a process that has the package."""
+    return {**os.environ, "PYTHONPATH": str(PACKAGE), "PYTHONDONTWRITEBYTECODE": "1", **more}
+
+
+class Rooms(unittest.TestCase):
+    def setUp(self):
+        folder = tempfile.TemporaryDirectory()
+        self.addCleanup(folder.cleanup)
+        self.room = pathlib.Path(folder.name)
+
+    def script(self, name, text):
+        path = self.room / name
+        path.write_text(text)
+        path.chmod(0o755)
+        return str(path)
+
+    def wrapper(self, text=WRAPPER):
+        """The `pcm` of a checkout around the program of these tests."""
+        (self.room / "crates.txt").touch()
+        first, rest = pcm.program()[0], " ".join(pcm.program()[1:])
+        self.script("runs", f'#!/bin/sh\nexec "{first}" {rest} "$@"\n')
+        self.script("streams", f'#!/bin/sh\nexec "{first}" {rest} stream "$@"\n')
+        return self.script("pcm", text.format(room=self.room))
+
+
+class Programs(Rooms):
+    def test_the_built_programs_are_asked_for_once(self):
+        wrapper = self.wrapper()
+        code = (
+            "import pcm\n"
+            "for _ in range(3): pcm.run([pcm.PowerCut(1)])\n"
+            "for _ in range(3):\n"
+            "    with pcm.Module() as module: module.cut(1)\n"
+            "print(pcm.command('gen'), pcm.command('stream'))\n"
+        )
+        done = subprocess.run([sys.executable, "-c", code], env=around(PCM=wrapper), capture_output=True, text=True, check=True)
+        self.assertEqual(f"['{self.room}/runs', 'gen'] ['{self.room}/streams']\n", done.stdout)
+        self.assertEqual(["path", "path stream"], (self.room / "calls").read_text().splitlines())
+        self.assertEqual(2 * f"building {self.room}\n", done.stderr)
+
+    def test_a_program_that_cannot_be_built_is_told(self):
+        wrapper = self.wrapper("#!/bin/sh\nexit 70\n")
+        with self.assertRaisesRegex(pcm.PcmError, "isn't built: .* path stream` ended with status 70") as fault:
+            pcm.Module(program=wrapper)
+        self.assertEqual(70, fault.exception.status)
+
+    def test_another_program_by_that_name_is_started_as_it_is(self):
+        wrapper = self.wrapper()
+        for path in (self.script("around", f'#!/bin/sh\nexec {wrapper} "$@"\n'), str(self.room / "runs"), "/nowhere/pcm"):
+            self.assertEqual([path, "run"], pcm.command("run", path))
+        self.assertFalse((self.room / "calls").exists())
+        self.assertEqual(["ssh", "there", "pcm", "stream"], pcm.command("stream", ["ssh", "there", "pcm"]))
+
+
+class Faults(Rooms):
+    def test_a_wrong_word_is_told_with_what_it_may_be(self):
+        for options, why in (({"psi": 0}, r"--psi 0: .*1 to 65535"), ({"polcy": "pause"}, r"--polcy .*did you mean --policy\?")):
+            for start in (lambda options=options: pcm.run([], **options), lambda options=options: self.settled(**options)):
+                with self.assertRaises(pcm.UsageError) as wrong:
+                    start()
+                self.assertRegex(wrong.exception.why, why)
+                self.assertRegex(str(wrong.exception), why + r".*\(usage: pcm ")
+
+    def settled(self, **options):
+        with pcm.Module(**options) as module:
+            module.settle(0)
+
+    def test_a_faulty_row_of_a_file_is_told_with_its_line(self):
+        path = self.room / "trace.csv"
+        path.write_text("tick,op,arg,data\n\n5,R,0,\n4,R,0,\n")
+        with self.assertRaises(pcm.TraceError) as wrong:
+            pcm.run(path)
+        self.assertEqual((2, "order"), (wrong.exception.row, wrong.exception.kind))
+        self.assertRegex(str(wrong.exception), r"^line 4: .*\(trace row 2: order\)$")
+
+    def test_traces_are_taken_as_the_program_takes_them(self):
+        path = self.room / "trace.csv"
+        path.write_bytes(b'\xef\xbb\xbf"tick",op,arg,data\r\n\r\n0,"W",0,' + b"ff" * 64 + b'\n"9",R,"0",\n\n')
+        with open(path, newline="", encoding="utf-8") as file:
+            rows = list(pcm.read_trace(file))
+        self.assertEqual([pcm.Write(0, 0, ONES), pcm.Read(9, 0)], rows)
+        self.assertEqual(pcm.run(rows), pcm.run(path))
+
+
+class Breaking(unittest.TestCase):
+    def broken_off(self, *words):
+        """What a process says that is broken off while it reads."""
+        with subprocess.Popen([sys.executable, *words], stdin=subprocess.PIPE, stdout=subprocess.PIPE, stderr=subprocess.PIPE, env=around()) as it:
+            time.sleep(1)
+            it.send_signal(signal.SIGINT)
+            it.wait(20)
+            return it.returncode, it.stdout.read(), it.stderr.read()
+
+    def test_a_report_says_one_line(self):
+        self.assertEqual((130, b"", b"report: broken off\n"), self.broken_off("-m", "pcm", "report", "-"))
+
+    def test_an_importer_and_cells_say_one_line(self):
+        examples = PACKAGE.parent / "examples"
+        self.assertEqual((130, b"", b"broken off\n"), self.broken_off(str(examples / "import" / "gem5.py")))
+        self.assertEqual((130, b"", b"cells: broken off\n"), self.broken_off(str(examples / "image" / "cells"), "-"))
+
+
+class Terminal(io.StringIO):
+    def isatty(self):
+        return True
+
+
+class ProgressLines(Rooms):
+    def told(self, shown, file):
+        """What is written for 10 rows each 0.3 s."""
+        now = [0.0]
+        with contextlib.redirect_stderr(file):
+            it = progress.Progress(shown, lambda: now[0])
+            for step in range(1, 41):
+                now[0] = 0.3 * step
+                it.rows(10 * step, step / 40)
+            it.clear()
+        return file.getvalue()
+
+    def test_a_terminal_has_one_line_that_goes(self):
+        text = self.told(None, Terminal())
+        self.assertTrue(text.startswith("\r\033[K40 rows, 33 a second, 10%, about 11 s more\r\033[K50 rows"))
+        self.assertTrue(text.endswith("400 rows, 33 a second, 100%\r\033[K"))
+        self.assertEqual("", self.told(False, Terminal()))
+
+    def test_another_file_has_lines_where_they_are_asked_for(self):
+        self.assertEqual("", self.told(None, io.StringIO()))
+        self.assertEqual("40 rows, 33 a second, 10%, about 11 s more\n380 rows, 33 a second, 95%, about 1 s more\n", self.told(True, io.StringIO()))
+
+    def test_snapshots_tell_of_a_long_wait(self):
+        slow, told = self.script("slow", SLOW), io.StringIO()
+        with contextlib.redirect_stderr(told):
+            self.assertEqual([100, 200], [one.rows for one in pcm.snapshots(input="drawn", rows=400, program=slow, progress=True)])
+        self.assertRegex(told.getvalue(), r"^100 rows, \d+ a second, 25%, about \d+ s more\n$")
+
+
+class Open(unittest.TestCase):
+    @unittest.skipUnless(pathlib.Path("/proc/self/fd").exists(), "open descriptors are told by /proc")
+    def test_a_module_leaves_nothing_open_whatever_ends_it(self):
+        done = subprocess.run([sys.executable, "-X", "dev", "-W", "error", "-c", LEAKS], env=around(), capture_output=True, text=True, check=True)
+        before, behind, faults = done.stdout.split(maxsplit=2)
+        self.assertEqual(("", before), (done.stderr, behind))
+        self.assertEqual("{'trace row 2: order'}\n", faults)
+
+
+if __name__ == "__main__":
+    unittest.main()

@@ -1,0 +1,355 @@
+#!/usr/bin/env python3
+"""Tests of tools/build and of ./pcm, over a small repository and a kit that proves nothing: what is built and when, what is kept and where,
+what is said, and that nothing is left where the gate refuses it. They need no kit and take seconds."""
+import os
+import pathlib
+import shutil
+import signal
+import stat
+import subprocess
+import sys
+import tempfile
+import time
+import unittest
+
+TOP = pathlib.Path(__file__).resolve().parent.parent
+# A compiler that notes for which crate it was called, waits as long as the file `slow` says, and makes what a compiler makes.
+COMPILER = """#!/bin/sh
+kit={kit}
+name= out= root=
+while [ $# -gt 0 ]; do
+    case $1 in
+        --crate-name) name=$2 root=$3; shift 2 ;;
+        -o) out=$2; shift ;;
+    esac
+    shift
+done
+echo "$name" >>"$kit/called"
+if [ -f "$kit/slow" ]; then sleep "$(cat "$kit/slow")"; fi
+if grep -q wrong "$root"; then echo "error: no proof"; exit 1; fi
+case $out in
+    *.rlib) mkdir -p "$out/interface/lang/src" && cp "$root" "$out/interface/lang/src/lib.rt" ;;
+    *) cp "$root" "$out" ;;
+esac
+echo "logic=proved functions=1"
+"""
+# A linker that makes a program which tells its words, and refuses those that pcm_cli refuses here.
+LINKER = """#!/bin/sh
+while [ $# -gt 0 ]; do if [ "$1" = -o ]; then out=$2; fi; shift; done
+cat >"$out" <<'END'
+#!/bin/sh
+case "$*" in
+    *-psi*0*) echo "usage: pcm run|gen|map|moves|show|check [options]" >&2; exit 2 ;;
+    *faulty*) echo "trace row 2: order" >&2; exit 3 ;;
+esac
+echo "$(basename "$0")" "$@"
+END
+chmod +x "$out"
+"""
+CRATES = "# 1. PARTS\nfirst:\nsecond: first\n# 2. PROGRAMS\npcm_cli: second\npcm_stream: first\n"
+
+
+class Room:
+    """A small repository, a kit, and a folder for what builds keep, in a folder of their own, whose name has a blank."""
+
+    def __init__(self):
+        self.folder = pathlib.Path(tempfile.mkdtemp(prefix="pcm tools "))
+        self.kit, self.cache = self.folder / "kit", self.folder / "cache"
+        (self.kit / "bin").mkdir(parents=True)
+        (self.kit / "KIT-ID").write_text("a kit for tests\n")
+        self.script(self.kit / "bin" / "rattle", COMPILER.format(kit=f"'{self.kit}'"))
+        self.script(self.kit / "bin" / "rattle-link", LINKER)
+        self.script(self.kit / "bin" / "rt", f"#!/bin/sh\necho '{self.kit}/START-HERE.md'\n")
+        self.top = self.repository("a clone")
+        self.around = {**os.environ, "XDG_CACHE_HOME": str(self.cache), "PATH": f"{self.kit}/bin:{os.environ['PATH']}"}
+        for name in ("PCM_EXPLAIN", "PCM_PROGRESS", "RT_JOBS"):
+            self.around.pop(name, None)
+
+    @staticmethod
+    def script(path, text):
+        path.write_text(text)
+        path.chmod(0o755)
+
+    def repository(self, name):
+        top = self.folder / name
+        for folder in ("tools", "python/pcm"):
+            shutil.copytree(TOP / folder, top / folder, ignore=shutil.ignore_patterns("__pycache__"))
+        for file in ("pcm", "VERSION", "docs/USING.md"):
+            (top / file).parent.mkdir(exist_ok=True)
+            shutil.copy(TOP / file, top / file)
+        (top / "crates.txt").write_text(CRATES)
+        for crate, root in (("first", "lib"), ("second", "lib"), ("pcm_cli", "main"), ("pcm_stream", "main")):
+            for part, file in (("src", f"{root}.rt"), ("specs", "Lib.antt"), ("proofs", "Lib.antt")):
+                (top / "crates" / crate / part).mkdir(parents=True)
+                (top / "crates" / crate / part / file).write_text(f"-- {crate}\n")
+        return top
+
+    def run(self, *words, top=None, **around):
+        how = {"cwd": self.folder, "env": {**self.around, **around}, "stdin": subprocess.DEVNULL, "capture_output": True, "text": True}
+        return subprocess.run([(top or self.top) / words[0], *words[1:]], **how, timeout=60)
+
+    def start(self, *words, top=None):
+        how = {"cwd": self.folder, "env": self.around, "stdin": subprocess.DEVNULL, "stderr": subprocess.PIPE, "text": True}
+        return subprocess.Popen([(top or self.top) / words[0], *words[1:]], **how)
+
+    def called(self):
+        """For which crates the compiler was called since this was asked last."""
+        file = self.kit / "called"
+        names = file.read_text().split() if file.exists() else []
+        file.unlink(missing_ok=True)
+        return sorted(names)
+
+    def refused(self):
+        """What the gate would refuse: Rattle's files outside a crate's text and the library in its out/."""
+        found = []
+        for path in self.top.rglob("*"):
+            inside = path.relative_to(self.top).parts
+            places = {".rt": ("src",), ".antt": ("specs", "proofs")}.get(path.suffix)
+            if places and not (inside[0] == "crates" and (inside[2] in places or inside[2:4] == ("out", "rlib"))):
+                found.append(str(path.relative_to(self.top)))
+        return found
+
+    def wait_for_call(self):
+        until = time.monotonic() + 20
+        while not (self.kit / "called").exists() and time.monotonic() < until:
+            time.sleep(0.02)
+
+
+class Builds(unittest.TestCase):
+    def setUp(self):
+        self.room = Room()
+        self.addCleanup(shutil.rmtree, self.room.folder, ignore_errors=True)
+
+    def build(self, *words, **how):
+        done = self.room.run("tools/build", *words, **how)
+        self.assertEqual(done.returncode, 0, done.stderr)
+        return done
+
+    def edit(self, path, text):
+        time.sleep(0.03)
+        (self.room.top / path).write_text(text)
+
+    def test_one_call_builds_several_programs_and_leaves_nothing_that_the_gate_refuses(self):
+        (self.room.top / "out" / "rlibs").mkdir(parents=True)
+        (self.room.top / "out" / "rlibs" / "old.rt").write_text("")
+        self.assertEqual(self.room.refused(), ["out/rlibs/old.rt"])
+        done = self.build("pcm_cli", "pcm_stream")
+        self.assertEqual(self.room.called(), ["first", "pcm_cli", "pcm_stream", "second"])
+        self.assertEqual(self.room.refused(), [])
+        self.assertIn("removed out/", done.stderr)
+        self.build("pcm_cli", "pcm_stream")
+        self.assertEqual(self.room.called(), [])
+
+    def test_a_second_clone_builds_at_once(self):
+        self.build("pcm_cli")
+        self.room.called()
+        other = self.room.repository("another clone")
+        self.build("pcm_cli", top=other)
+        self.assertEqual(self.room.called(), [])
+        self.assertEqual(self.room.run("pcm", "map", top=other).stdout, "pcm_cli map\n")
+
+    def test_what_changed_and_what_stands_on_it_is_proved_again(self):
+        self.build("pcm_cli", "pcm_stream")
+        self.room.called()
+        self.edit("crates/second/src/lib.rt", "fn other() {}\n")
+        self.assertEqual(self.room.run("pcm", "stream").stdout, "pcm_stream\n")
+        self.assertEqual(self.room.called(), [])
+        self.assertEqual(self.room.run("pcm", "map").stdout, "pcm_cli map\n")
+        self.assertEqual(self.room.called(), ["pcm_cli", "second"])
+        self.edit("crates/first/specs/Lib.antt", "-- another definition\n")
+        self.assertEqual(self.room.run("pcm", "stream").stdout, "pcm_stream\n")
+        self.assertEqual(self.room.called(), ["first", "pcm_stream"])
+
+    def test_an_edit_that_is_taken_back_finds_what_was_proved(self):
+        self.build("pcm_cli")
+        before = (self.room.top / "crates/second/src/lib.rt").read_text()
+        self.edit("crates/second/src/lib.rt", "fn other() {}\n")
+        self.build("pcm_cli")
+        self.room.called()
+        self.edit("crates/second/src/lib.rt", before)
+        self.assertEqual(self.room.run("pcm", "map").returncode, 0)
+        self.assertEqual(self.room.called(), [])
+
+    def test_a_proof_alone_makes_no_program_old(self):
+        self.build("pcm_cli")
+        self.room.called()
+        self.edit("crates/second/proofs/Lib.antt", "-- another proof\n")
+        self.assertEqual(self.room.run("pcm", "map").returncode, 0)
+        self.assertEqual(self.room.called(), [])
+        self.build("pcm_cli")
+        self.assertEqual(self.room.called(), ["pcm_cli", "second"])
+
+    def test_what_the_gate_built_is_run_until_a_text_is_newer(self):
+        self.build("pcm_cli")
+        made = (self.room.top / "crates/pcm_cli/out/pcm_cli").read_bytes()
+        shutil.rmtree(self.room.top / "crates/pcm_cli/out")
+        shutil.rmtree(self.room.cache)
+        self.room.called()
+        (self.room.top / "crates/pcm_cli/out").mkdir()
+        self.edit("crates/pcm_cli/out/pcm_cli", "")
+        (self.room.top / "crates/pcm_cli/out/pcm_cli").write_bytes(made)
+        (self.room.top / "crates/pcm_cli/out/pcm_cli").chmod(0o755)
+        self.assertEqual(self.room.run("pcm", "map").stdout, "pcm_cli map\n")
+        self.assertEqual(self.room.called(), [])
+        self.edit("crates/first/src/lib.rt", "fn other() {}\n")
+        self.assertEqual(self.room.run("pcm", "map").stdout, "pcm_cli map\n")
+        self.assertEqual(self.room.called(), ["first", "pcm_cli", "second"])
+
+    def test_a_proof_that_fails_is_told_in_one_sentence_and_nothing_is_kept(self):
+        self.edit("crates/second/src/lib.rt", "wrong\n")
+        done = self.room.run("tools/build", "pcm_cli")
+        self.assertEqual(done.returncode, 1)
+        self.assertEqual(done.stderr.splitlines()[-1], "pcm: the proof of second failed; crates/pcm_cli/build.log says why")
+        self.assertIn("error: no proof", (self.room.top / "crates/pcm_cli/build.log").read_text())
+        self.assertEqual(self.room.run("pcm", "map").returncode, 70)
+
+    def test_a_text_that_changes_while_it_is_proved_isnt_kept(self):
+        (self.room.kit / "slow").write_text("1")
+        build = self.room.start("tools/build", "pcm_stream")
+        self.room.wait_for_call()
+        (self.room.top / "crates/first/src/lib.rt").write_text("fn other() {}\n")
+        said = build.communicate(timeout=60)[1]
+        self.assertEqual(build.returncode, 1)
+        self.assertIn("the text of first changed while it was proved: build again", said)
+
+    def test_a_second_build_says_that_it_waits_and_then_makes_nothing(self):
+        (self.room.kit / "slow").write_text("0.5")
+        first = self.room.start("tools/build", "pcm_stream")
+        self.room.wait_for_call()
+        second = self.room.run("tools/build", "pcm_stream")
+        first.communicate(timeout=60)
+        self.assertEqual((first.returncode, second.returncode), (0, 0))
+        self.assertEqual(second.stderr, "pcm: another build works in this checkout: waiting until it ends\n")
+        self.assertEqual(self.room.called(), ["first", "pcm_stream"])
+
+    def test_builds_in_two_clones_prove_each_crate_once(self):
+        (self.room.kit / "slow").write_text("0.5")
+        other = self.room.repository("another clone")
+        builds = [self.room.start("tools/build", "pcm_cli", top=top) for top in (self.room.top, other)]
+        said = [it.communicate(timeout=60)[1] for it in builds]
+        self.assertEqual([it.returncode for it in builds], [0, 0], said)
+        self.assertEqual(self.room.called(), ["first", "pcm_cli", "second"])
+        self.assertTrue(any("another build proves first just now: waiting for it" in it for it in said))
+
+    def test_ctrl_c_ends_a_build_with_one_line_and_all_that_it_started(self):
+        (self.room.kit / "slow").write_text("30.071")
+        build = self.room.start("tools/build", "pcm_stream")
+        self.room.wait_for_call()
+        time.sleep(0.1)
+        build.send_signal(signal.SIGINT)
+        said = build.communicate(timeout=20)[1]
+        self.assertEqual(build.returncode, 130)
+        self.assertEqual(said.splitlines()[1:], ["pcm: broken off; what was proved is kept, and a later call goes on from there"])
+        self.assertEqual(list((self.room.cache / "leqallqu" / "making").iterdir()), [])
+        self.assertNotIn("30.071", subprocess.run(["ps", "-eo", "args"], capture_output=True, text=True).stdout)
+
+    def test_words_of_a_build(self):
+        self.assertIn("tools/build [PROGRAM ..]", self.build("--help").stdout)
+        done = self.room.run("tools/build", "first")
+        self.assertEqual(done.returncode, 1)
+        self.assertEqual(done.stderr, "pcm: first is no program: tools/build takes pcm_cli, pcm_stream, --clean or --help\n")
+        self.build("pcm_stream")
+        self.build("--clean")
+        self.assertEqual(list((self.room.cache / "leqallqu").iterdir()), [])
+
+    def test_where_the_cache_cant_be_made_another_folder_is_taken(self):
+        (self.room.folder / "temporary").mkdir()
+        place = {"XDG_CACHE_HOME": "/proc/none", "TMPDIR": str(self.room.folder / "temporary")}
+        self.build("pcm_stream", **place)
+        kept = self.room.folder / "temporary" / f"leqallqu-{os.getuid()}"
+        self.assertEqual(stat.S_IMODE(kept.stat().st_mode), 0o700)
+        done = self.room.run("tools/build", "pcm_cli", **{**place, "TMPDIR": "/proc/none"})
+        self.assertEqual((done.returncode, len(done.stderr.splitlines())), (1, 1))
+
+    def test_a_cache_in_the_checkout_isnt_used(self):
+        (self.room.folder / "temporary").mkdir()
+        self.build("pcm_stream", XDG_CACHE_HOME=str(self.room.top / ".cache"), TMPDIR=str(self.room.folder / "temporary"))
+        self.assertEqual(self.room.refused(), [])
+
+    def test_few_entries_of_a_crate_stay(self):
+        for number in range(5):
+            self.edit("crates/pcm_stream/src/main.rt", f"{number}\n")
+            self.build("pcm_stream")
+        kept = self.room.cache / "leqallqu" / "kept"
+        entries = sorted(kept.glob("pcm_stream-*"), key=lambda it: it.stat().st_mtime)
+        self.assertEqual(len(entries), 5)
+        for it in entries:
+            os.utime(it, (it.stat().st_mtime - 2 * 86400,) * 2)
+        self.build("pcm_stream")
+        self.assertEqual(len(list(kept.glob("pcm_stream-*"))), 3)
+
+
+class Wrapper(unittest.TestCase):
+    @classmethod
+    def setUpClass(cls):
+        cls.room = Room()
+        cls.room.run("tools/build", "pcm_cli", "pcm_stream")
+
+    @classmethod
+    def tearDownClass(cls):
+        shutil.rmtree(cls.room.folder, ignore_errors=True)
+
+    def test_it_hands_words_on(self):
+        self.assertEqual(self.room.run("pcm", "run", "--psi", "5 5", "").stdout, "pcm_cli run --psi 5 5 \n")
+        self.assertEqual(self.room.run("pcm", "stream", "--psi", "5").stdout, "pcm_stream --psi 5\n")
+
+    def test_it_runs_through_a_link_and_by_the_search_path(self):
+        os.symlink(self.room.top / "pcm", self.room.folder / "a link")
+        self.assertEqual(self.room.run("../a link", "map").stdout, "pcm_cli map\n")
+        os.symlink(self.room.top / "pcm", self.room.kit / "bin" / "pcm")
+        self.assertEqual(subprocess.run(["pcm", "map"], env=self.room.around, capture_output=True, text=True, cwd="/").stdout, "pcm_cli map\n")
+        done = subprocess.run(["sh", "pcm", "map"], env=self.room.around, capture_output=True, text=True, cwd=self.room.top)
+        self.assertEqual(done.stdout, "pcm_cli map\n")
+
+    def test_it_tells_where_the_programs_are(self):
+        self.assertEqual(self.room.run("pcm", "path").stdout, f"{self.room.top}/crates/pcm_cli/out/pcm_cli\n")
+        self.assertEqual(self.room.run("pcm", "path", "stream").stdout, f"{self.room.top}/crates/pcm_stream/out/pcm_stream\n")
+        done = self.room.run("pcm", "path", "gen")
+        self.assertEqual((done.returncode, done.stdout, len(done.stderr.splitlines())), (2, "", 1))
+
+    def test_without_a_kit_it_builds_nothing_and_says_so(self):
+        other = self.room.repository("without a kit")
+        done = self.room.run("pcm", "map", top=other, PATH="/usr/bin:/bin")
+        self.assertEqual(done.returncode, 70)
+        self.assertEqual(done.stderr, "pcm: the kit isn't here: there is no command rt (README.md says what the kit is)\n")
+        self.assertEqual(self.room.run("pcm", "version", top=other, PATH="/usr/bin:/bin").stdout, (TOP / "VERSION").read_text())
+
+    def test_without_words_it_says_how_to_go_on(self):
+        done = self.room.run("pcm")
+        self.assertEqual((done.returncode, done.stderr), (2, "usage: pcm run|gen|map|moves|show|check [options]\n"))
+        done = self.room.run("pcm", PCM_EXPLAIN="1")
+        self.assertEqual(done.stderr.splitlines()[0], "usage: pcm run|gen|map|moves|show|check [options]")
+        self.assertIn("pcm help", done.stderr)
+
+    def test_version_and_help(self):
+        for word in ("version", "--version"):
+            self.assertEqual(self.room.run("pcm", word).stdout, (TOP / "VERSION").read_text())
+        done = self.room.run("pcm", "help", "rum")
+        self.assertEqual((done.returncode, done.stdout), (2, ""))
+        self.assertEqual(done.stderr.splitlines()[0], "pcm: there is no command rum (did you mean run?)")
+        self.assertEqual(self.room.run("pcm", "help", "map").stdout, self.room.run("pcm", "map", "--help").stdout)
+
+    def test_what_is_wrong_is_said_to_a_person_alone_behind_the_programs_line(self):
+        line = "usage: pcm run|gen|map|moves|show|check [options]\n"
+        done = self.room.run("pcm", "run", "--psi", "0")
+        self.assertEqual((done.returncode, done.stderr), (2, line))
+        done = self.room.run("pcm", "run", "--psi", "0", PCM_EXPLAIN="1")
+        self.assertEqual((done.returncode, done.stderr), (2, f"{line}pcm: --psi 0: it may be 1 to 65535\n"))
+
+    def test_the_line_of_a_faulty_row_is_said(self):
+        trace = self.room.folder / "a trace"
+        trace.write_text("tick,op,arg,data\n\n5,R,0,\n3,R,0,\n")
+        with open(trace) as source:
+            how = {"stdin": source, "capture_output": True, "text": True, "env": {**self.room.around, "PCM_EXPLAIN": "1"}}
+            done = subprocess.run([self.room.top / "pcm", "faulty"], **how)
+        self.assertEqual(done.returncode, 3)
+        self.assertEqual(done.stderr, "trace row 2: order\npcm: line 4: its tick 3 is below 5, the tick of the row before (line 3)\n")
+
+    def test_a_pipe_that_is_closed_ends_it(self):
+        words = f"'{self.room.top}/pcm' map | head -c 0; exit ${{PIPESTATUS[0]}}"
+        done = subprocess.run(["bash", "-c", words], env={**self.room.around, "PCM_EXPLAIN": "1"}, capture_output=True, timeout=20)
+        self.assertIn(done.returncode, (0, 1, 2, 141))
+
+
+if __name__ == "__main__":
+    sys.exit(unittest.main())
