@@ -1,17 +1,18 @@
 /* pcm_stream.h: a proved phase-change memory module behind a pipe, for simulators in C and C++.
 
-   One header, C11 and C++17, POSIX. It starts `pcm stream`, sends rows of a trace, and takes outcomes as they become known. Nothing is
-   allocated, no thread is started, no signal is handled; each error is a return value. Where a program ends while rows are sent to it,
-   SIGPIPE comes: ignore it (signal(SIGPIPE, SIG_IGN)), and the calls answer PCM_ENDED.
+   One header, POSIX; it compiles as C11 and as C++17, with -pedantic-errors and without a macro of the caller's. It starts `pcm stream`, sends
+   rows of a trace, and takes outcomes as they become known. Nothing is allocated, no thread is started, no signal is handled or raised; each
+   error is a return value.
 
        struct pcm pcm;
        const char *words[] = {"./pcm", "stream", "--banks", "4", NULL};
-       if (pcm_open(&pcm, words) != PCM_OK) ..
+       if (pcm_open(&pcm, words) != PCM_OK) ..     // the program couldn't be started; errno tells why
        pcm_write(&pcm, 0, 7, bytes, 64);           // the row's number is pcm.rows
        pcm_read(&pcm, 100, 7);
        pcm_settle(&pcm, 1000);
        struct pcm_outcome outcome;
        while (pcm_next(&pcm, &outcome) == PCM_OK && outcome.kind != PCM_SETTLED) ..
+       if (pcm_write_sure(&pcm, 1000, 8, bytes, NULL, 64, NULL, NULL) == PCM_OK) ..   // it is accepted, so durable
        pcm_finish(&pcm);                           // no more rows; pcm_next then gives the rest, and PCM_ENDED behind the last
        int status = pcm_close(&pcm);
 
@@ -19,7 +20,12 @@
    or an outcome means is told by the repository's docs (USING.md, FORMATS.md).
 
    A struct pcm is the caller's: it holds two descriptors, a process, and two buffers (some 80 KiB together), and must not be moved while it is
-   open. It isn't to be used by two threads at once. */
+   open. It isn't to be used by two threads at once.
+
+   PCM_FULL comes only where answers of more than PCM_MOST_WAITING bytes wait to be taken. An answer has at most 48 bytes, that of a read two
+   more for each byte of its line. So who takes all answers behind each settle never meets it, as long as 48 for each row since the settle
+   before and for each write that then waited, and 2 for each byte that was asked for, are no more: with 4 banks, queues of 32 and lines
+   of 64 bytes 330 reads, or 1,200 writes, between two settles. */
 #ifndef PCM_STREAM_H
 #define PCM_STREAM_H
 
@@ -27,10 +33,14 @@
 #include <fcntl.h>
 #include <poll.h>
 #include <signal.h>
+#include <signal.h>
+#include <spawn.h>
+#include <stddef.h>
 #include <stdint.h>
 #include <stdio.h>
 #include <stdlib.h>
 #include <string.h>
+#include <sys/socket.h>
 #include <sys/types.h>
 #include <sys/wait.h>
 #include <unistd.h>
@@ -43,6 +53,11 @@ extern "C" {
 #define PCM_MOST_BYTES 128
 /* The longest row of a trace, and the longest line of a stream, with its end. */
 #define PCM_MOST_ROW 512
+/* So many bytes of answers are held for the caller at least, before PCM_FULL comes. */
+#define PCM_MOST_WAITING 64512
+/* The last tick, and the last row's number. */
+#define PCM_LAST_TICK (UINT64_C(1) << 40)
+#define PCM_LAST_ROW UINT32_C(4294967294)
 
 /* What a call answers. */
 enum pcm_result {
@@ -50,8 +65,10 @@ enum pcm_result {
     PCM_ENDED,   /* the program has ended, and there is no outcome left; pcm_close tells its status */
     PCM_FULL,    /* answers have to be taken first (pcm_next), before another row can be sent */
     PCM_FAILED,  /* a call of the system failed; errno tells why */
-    PCM_REFUSED, /* an argument is out of range; nothing was sent */
-    PCM_GARBLED  /* the program sent a line that isn't one of a stream */
+    PCM_REFUSED, /* an argument is out of range: a tick, the rows, a mask that gives nothing, a closed module; nothing was sent */
+    PCM_GARBLED, /* the program sent a line that isn't one of a stream */
+    PCM_SIZE,    /* the bytes aren't as many as a line has; nothing was sent */
+    PCM_DECLINED /* the module refused the write: it isn't accepted */
 };
 
 /* What became of a row, or that the module has settled. */
@@ -68,21 +85,36 @@ struct pcm_outcome {
     uint8_t bytes[PCM_MOST_BYTES];
 };
 
+/* The caller's own: what takes a row's text, its end among its `size` bytes, as it is sent: `op` is R, W, M, C or S. The rows but for S, behind
+   the header `tick,op,arg,data`, are a trace that plays the same again. The text is only lent. */
+typedef void (*pcm_logger)(void *context, char op, const char *row, size_t size);
+/* The caller's own: what takes an outcome, which is only lent. It calls nothing of this header. */
+typedef void (*pcm_taker)(void *context, const struct pcm_outcome *outcome);
+
 struct pcm {
     pid_t process;
     int to, from;          /* -1 where closed */
     uint32_t rows;         /* how many rows were sent: the number of the last one */
+    uint32_t line_size;    /* the bytes of a line, by the words of pcm_open. Where the program was told so otherwise, the caller sets it; 0: any */
+    uint64_t tick;         /* of the last row or settle */
+    uint32_t settles;      /* how many were sent whose PCM_SETTLED wasn't taken yet */
+    pcm_logger log;        /* the caller's, from pcm_open on, which sets it to NULL: each row is handed to it, with `context` */
+    void *context;
     size_t held, begin, end;
-    char out[16384];       /* rows that are still to be handed to the pipe */
+    char out[16384];       /* rows that are still to be handed to the program */
     char in[65536];        /* answers that were taken from it */
 };
 
-/* Starts the program: words[0] is its path or a name on the search path, and the last of them is NULL. What it says of faults goes to the
-   caller's standard error. Whatever it answers, pcm_close frees what it took. */
+/* Starts the program: words[0] is its path or a name on the search path, and the last of them is NULL; they are only lent. What it says of
+   faults goes to the caller's standard error. PCM_FAILED where it can't be started (under valgrind, which posix_spawn can't tell errors to,
+   it starts and ends with status 127). Whatever it answers, pcm_close frees what it took. */
 static inline enum pcm_result pcm_open(struct pcm *pcm, const char *const words[]);
+/* The same with a process group of the program's own: what a terminal sends (Ctrl-C, a hang-up) reaches the caller alone, and the program
+   ends once the caller has closed it or has ended. */
+static inline enum pcm_result pcm_open_apart(struct pcm *pcm, const char *const words[]);
 /* A write of a whole line, of so many bytes, arrives. The bytes are copied. */
 static inline enum pcm_result pcm_write(struct pcm *pcm, uint64_t tick, uint32_t line, const uint8_t *bytes, size_t size);
-/* A write that gives the bytes for which `given` isn't 0 (at least one) arrives. */
+/* A write that gives the bytes for which `given` isn't 0 (at least one) arrives. Both are copied. */
 static inline enum pcm_result pcm_write_masked(struct pcm *pcm, uint64_t tick, uint32_t line, const uint8_t *bytes, const uint8_t *given,
                                                size_t size);
 /* A read of a line arrives. */
@@ -92,6 +124,14 @@ static inline enum pcm_result pcm_cut(struct pcm *pcm, uint64_t tick);
 /* Every bank goes on to a tick; behind the outcomes known by then pcm_next gives PCM_SETTLED. All rows before are handed to the program, now
    or by pcm_next. As of every row, PCM_FULL says that it wasn't taken. */
 static inline enum pcm_result pcm_settle(struct pcm *pcm, uint64_t tick);
+/* The same in one call: it settles, and takes all that is known then. Each outcome but its own PCM_SETTLED is handed to `take` (NULL: it is
+   dropped). It never answers PCM_FULL. */
+static inline enum pcm_result pcm_settle_all(struct pcm *pcm, uint64_t tick, pcm_taker take, void *context);
+/* A write arrives (of a whole line where `given` is NULL), and is answered at once, by a settle at its tick: PCM_OK where it is accepted, so
+   that it outlives every power cut; PCM_DECLINED where its bank's queue is full or the bank is worn. Every outcome that became known,
+   a refusal of this write too, is handed to `take`, as by pcm_settle_all. It never answers PCM_FULL. */
+static inline enum pcm_result pcm_write_sure(struct pcm *pcm, uint64_t tick, uint32_t line, const uint8_t *bytes, const uint8_t *given, size_t size,
+                                             pcm_taker take, void *context);
 /* Hands all rows to the program. PCM_FULL where it waits for its answers to be taken. */
 static inline enum pcm_result pcm_flush(struct pcm *pcm);
 /* The next outcome. It waits for one: so call it only where one is to come, behind a settle or behind pcm_finish. */
@@ -103,17 +143,28 @@ static inline int pcm_close(struct pcm *pcm);
 
 /* From here on: how. */
 
-/* A pipe whose ends aren't 0, 1 or 2, which the caller may have closed: the program gets its own there. */
-static inline int pcm__pipe(int ends[2])
+extern char **environ;
+
+#ifdef SOCK_CLOEXEC
+#define PCM__CLOEXEC SOCK_CLOEXEC
+#else
+#define PCM__CLOEXEC 0
+#endif
+
+/* Two ends of a stream that no other program gets. Neither is 0, 1 or 2, which the caller may have closed: the program has its own there.
+   (Sockets, not a pipe: they are sent to without a signal where the program has ended.) */
+static inline int pcm__pair(int ends[2])
 {
     int made[2];
-    if (pipe(made) != 0)
+    ends[0] = ends[1] = -1;
+    if (socketpair(AF_UNIX, SOCK_STREAM | PCM__CLOEXEC, 0, made) != 0)
         return -1;
     for (int i = 0; i < 2; i++) {
-        ends[i] = fcntl(made[i], F_DUPFD_CLOEXEC, 3);
-        close(made[i]);
+        ends[i] = made[i] > 2 ? made[i] : fcntl(made[i], F_DUPFD, 3);
+        if (ends[i] != made[i])
+            close(made[i]);
     }
-    if (ends[0] >= 0 && ends[1] >= 0)
+    if (ends[0] >= 0 && ends[1] >= 0 && fcntl(ends[0], F_SETFD, FD_CLOEXEC) == 0 && fcntl(ends[1], F_SETFD, FD_CLOEXEC) == 0)
         return 0;
     for (int i = 0; i < 2; i++)
         if (ends[i] >= 0)
@@ -121,38 +172,84 @@ static inline int pcm__pipe(int ends[2])
     return -1;
 }
 
-static inline enum pcm_result pcm_open(struct pcm *pcm, const char *const words[])
+/* Starts the program over its ends of the streams. 0, or a number of errno.h. */
+static inline int pcm__start(struct pcm *pcm, const char *const words[], int is_apart, int in, int out)
+{
+    posix_spawn_file_actions_t actions;
+    posix_spawnattr_t how;
+    int fault = posix_spawn_file_actions_init(&actions);
+    if (fault != 0)
+        return fault;
+    fault = posix_spawnattr_init(&how);
+    if (fault == 0) {
+        fault = posix_spawn_file_actions_adddup2(&actions, in, 0);
+        if (fault == 0)
+            fault = posix_spawn_file_actions_adddup2(&actions, out, 1);
+        if (fault == 0 && is_apart)
+            fault = posix_spawnattr_setpgroup(&how, 0);
+        if (fault == 0 && is_apart)
+            fault = posix_spawnattr_setflags(&how, POSIX_SPAWN_SETPGROUP);
+        if (fault == 0)
+            fault = posix_spawnp(&pcm->process, words[0], &actions, &how, (char *const *)words, environ);
+        posix_spawnattr_destroy(&how);
+    }
+    posix_spawn_file_actions_destroy(&actions);
+    return fault;
+}
+
+/* The bytes of a line by the words of the program: 64, but where they ask for 128. (The program refuses all others.) */
+static inline uint32_t pcm__line_size(const char *const words[])
+{
+    for (int i = 1; words[0] != NULL && words[i] != NULL; i++) {
+        const char *value = strncmp(words[i], "--line=", 7) == 0 ? words[i] + 7 : strcmp(words[i], "--line") == 0 ? words[i + 1] : NULL;
+        if (value != NULL)
+            return strcmp(value, "128") == 0 ? 128 : 64;
+    }
+    return 64;
+}
+
+static inline enum pcm_result pcm__open(struct pcm *pcm, const char *const words[], int is_apart)
 {
     int to[2], from[2];
-    memset(pcm, 0, sizeof *pcm);
+    memset(pcm, 0, offsetof(struct pcm, out));
     pcm->to = pcm->from = -1;
     pcm->process = -1;
-    if (pcm__pipe(to) != 0)
+    pcm->line_size = pcm__line_size(words);
+    if (pcm__pair(to) != 0)
         return PCM_FAILED;
-    if (pcm__pipe(from) != 0) {
+    if (pcm__pair(from) != 0) {
         close(to[0]);
         close(to[1]);
         return PCM_FAILED;
     }
-    pcm->process = fork();
-    if (pcm->process == 0) {
-        dup2(to[0], 0);
-        dup2(from[1], 1);
-        execvp(words[0], (char *const *)words);
-        _exit(127);
-    }
+    int fault = pcm__start(pcm, words, is_apart, to[0], from[1]);
     close(to[0]);
     close(from[1]);
     pcm->to = to[1];
     pcm->from = from[0];
-    if (pcm->process < 0 || fcntl(pcm->to, F_SETFL, O_NONBLOCK) != 0)
+    if (fault != 0) {
+        pcm->process = -1;
+        errno = fault;
+        return PCM_FAILED;
+    }
+    if (fcntl(pcm->to, F_SETFL, O_NONBLOCK) != 0)
         return PCM_FAILED;
     memcpy(pcm->out, "tick,op,arg,data\n", 17);
     pcm->held = 17;
     return PCM_OK;
 }
 
-/* Takes answers from the pipe into what room there is. */
+static inline enum pcm_result pcm_open(struct pcm *pcm, const char *const words[])
+{
+    return pcm__open(pcm, words, 0);
+}
+
+static inline enum pcm_result pcm_open_apart(struct pcm *pcm, const char *const words[])
+{
+    return pcm__open(pcm, words, 1);
+}
+
+/* Takes answers into what room there is. */
 static inline enum pcm_result pcm__take(struct pcm *pcm)
 {
     if (pcm->begin > 0) {
@@ -175,22 +272,20 @@ static inline enum pcm_result pcm_flush(struct pcm *pcm)
     size_t sent = 0;
     enum pcm_result result = PCM_OK;
     while (sent < pcm->held && result == PCM_OK) {
-        ssize_t put = write(pcm->to, pcm->out + sent, pcm->held - sent);
+        ssize_t put = send(pcm->to, pcm->out + sent, pcm->held - sent, MSG_NOSIGNAL);
         if (put >= 0) {
             sent += (size_t)put;
-        } else if (errno == EPIPE) {
+        } else if (errno == EPIPE || errno == ECONNRESET) {
             result = PCM_ENDED;
         } else if (errno == EAGAIN) {
             /* the program waits for its answers to be taken, or is at work: take what comes while there is room */
-            size_t room = sizeof pcm->in - (pcm->end - pcm->begin);
             struct pollfd both[2] = {{pcm->to, POLLOUT, 0}, {pcm->from, POLLIN, 0}};
-            if (room < 2 * PCM_MOST_ROW)
+            if (pcm->end - pcm->begin > PCM_MOST_WAITING)
                 result = PCM_FULL;
-            else if (poll(both, 2, -1) < 0 && errno != EINTR)
-                result = PCM_FAILED;
-            else if (both[1].revents & (POLLIN | POLLHUP)) {
+            else if (poll(both, 2, -1) < 0)
+                result = errno == EINTR ? PCM_OK : PCM_FAILED;
+            else if (both[1].revents & (POLLIN | POLLHUP))
                 result = pcm__take(pcm);
-            }
         } else if (errno != EINTR) {
             result = PCM_FAILED;
         }
@@ -200,68 +295,146 @@ static inline enum pcm_result pcm_flush(struct pcm *pcm)
     return result;
 }
 
-/* Room for one more row. */
-static inline enum pcm_result pcm__room(struct pcm *pcm)
+/* Puts the digits of a number, and answers where they end. */
+static inline char *pcm__put_number(char *at, uint64_t number)
 {
-    return sizeof pcm->out - pcm->held >= PCM_MOST_ROW ? PCM_OK : pcm_flush(pcm);
+    char digits[20];
+    int count = 0;
+    do
+        digits[count++] = (char)('0' + number % 10);
+    while ((number /= 10) != 0);
+    while (count > 0)
+        *at++ = digits[--count];
+    return at;
 }
 
-static inline enum pcm_result pcm__row(struct pcm *pcm, uint64_t tick, char op, int has_line, uint32_t line, const uint8_t *bytes,
-                                       const uint8_t *given, size_t size)
+static inline enum pcm_result pcm__row(struct pcm *pcm, uint64_t tick, char op, uint32_t line, const uint8_t *bytes, const uint8_t *given,
+                                       size_t size)
 {
     static const char digits[] = "0123456789abcdef";
-    if (pcm->to < 0 || size > PCM_MOST_BYTES)
+    if (pcm->to < 0 || tick < pcm->tick || tick > PCM_LAST_TICK || (op != 'S' && pcm->rows >= PCM_LAST_ROW))
         return PCM_REFUSED;
-    enum pcm_result result = pcm__room(pcm);
-    if (result != PCM_OK)
-        return result;
-    char *row = pcm->out + pcm->held;
-    int at = has_line ? snprintf(row, 64, "%llu,%c,%lu,", (unsigned long long)tick, op, (unsigned long)line)
-                      : snprintf(row, 64, "%llu,%c,,", (unsigned long long)tick, op);
+    if (sizeof pcm->out - pcm->held < PCM_MOST_ROW) {
+        enum pcm_result result = pcm_flush(pcm);
+        if (result != PCM_OK)
+            return result;
+    }
+    char *row = pcm->out + pcm->held, *at = pcm__put_number(row, tick);
+    *at++ = ',';
+    *at++ = op;
+    *at++ = ',';
+    if (op != 'C' && op != 'S')
+        at = pcm__put_number(at, line);
+    *at++ = ',';
     for (size_t i = 0; i < size; i++) {
         int is = given == NULL || given[i] != 0;
-        row[at++] = is ? digits[bytes[i] >> 4] : '.';
-        row[at++] = is ? digits[bytes[i] & 15] : '.';
+        *at++ = is ? digits[bytes[i] >> 4] : '.';
+        *at++ = is ? digits[bytes[i] & 15] : '.';
     }
-    row[at++] = '\n';
-    pcm->held += (size_t)at;
-    pcm->rows += op != 'S';
+    *at++ = '\n';
+    pcm->held += (size_t)(at - row);
+    pcm->tick = tick;
+    if (op == 'S')
+        pcm->settles++;
+    else
+        pcm->rows++;
+    if (pcm->log != NULL)
+        pcm->log(pcm->context, op, row, (size_t)(at - row));
     return PCM_OK;
+}
+
+/* Whether a line may have so many bytes. */
+static inline int pcm__is_line(const struct pcm *pcm, size_t size)
+{
+    return size == pcm->line_size || (pcm->line_size == 0 && size > 0 && size <= PCM_MOST_BYTES);
 }
 
 static inline enum pcm_result pcm_write(struct pcm *pcm, uint64_t tick, uint32_t line, const uint8_t *bytes, size_t size)
 {
-    return pcm__row(pcm, tick, 'W', 1, line, bytes, NULL, size);
+    return pcm__is_line(pcm, size) ? pcm__row(pcm, tick, 'W', line, bytes, NULL, size) : PCM_SIZE;
 }
 
 static inline enum pcm_result pcm_write_masked(struct pcm *pcm, uint64_t tick, uint32_t line, const uint8_t *bytes, const uint8_t *given,
                                                size_t size)
 {
-    return pcm__row(pcm, tick, 'M', 1, line, bytes, given, size);
+    size_t first = 0;
+    if (!pcm__is_line(pcm, size))
+        return PCM_SIZE;
+    while (first < size && given[first] == 0)
+        first++;
+    return first < size ? pcm__row(pcm, tick, 'M', line, bytes, given, size) : PCM_REFUSED;
 }
 
 static inline enum pcm_result pcm_read(struct pcm *pcm, uint64_t tick, uint32_t line)
 {
-    return pcm__row(pcm, tick, 'R', 1, line, NULL, NULL, 0);
+    return pcm__row(pcm, tick, 'R', line, NULL, NULL, 0);
 }
 
 static inline enum pcm_result pcm_cut(struct pcm *pcm, uint64_t tick)
 {
-    return pcm__row(pcm, tick, 'C', 0, 0, NULL, NULL, 0);
+    return pcm__row(pcm, tick, 'C', 0, NULL, NULL, 0);
 }
 
 static inline enum pcm_result pcm_settle(struct pcm *pcm, uint64_t tick)
 {
-    enum pcm_result result = pcm__row(pcm, tick, 'S', 0, 0, NULL, NULL, 0);
+    enum pcm_result result = pcm__row(pcm, tick, 'S', 0, NULL, NULL, 0);
     if (result != PCM_OK)
         return result;
-    /* (the row is taken now: what the pipe doesn't hold yet pcm_next hands over) */
+    /* (the row is taken now: what the stream doesn't hold yet pcm_next hands over) */
     result = pcm_flush(pcm);
     return result == PCM_FULL ? PCM_OK : result;
 }
 
-/* The next line of the stream, without its end; NULL where `result` says why there is none. */
-static inline char *pcm__line(struct pcm *pcm, enum pcm_result *result)
+static inline enum pcm_result pcm_settle_all(struct pcm *pcm, uint64_t tick, pcm_taker take, void *context)
+{
+    struct pcm_outcome outcome;
+    enum pcm_result result;
+    while ((result = pcm_settle(pcm, tick)) == PCM_FULL && (result = pcm_next(pcm, &outcome)) == PCM_OK)
+        if (take != NULL)
+            take(context, &outcome);
+    while (result == PCM_OK && (result = pcm_next(pcm, &outcome)) == PCM_OK) {
+        if (outcome.kind == PCM_SETTLED && pcm->settles == 0)
+            break;
+        if (take != NULL)
+            take(context, &outcome);
+    }
+    return result;
+}
+
+/* What pcm_write_sure hands outcomes through: it looks for a refusal of its row. */
+struct pcm__watch {
+    uint32_t row;
+    int is_declined;
+    pcm_taker take;
+    void *context;
+};
+static inline void pcm__see(void *context, const struct pcm_outcome *outcome)
+{
+    struct pcm__watch *watch = (struct pcm__watch *)context;
+    if (outcome->row == watch->row && (outcome->kind == PCM_FULL_QUEUE || outcome->kind == PCM_WORN))
+        watch->is_declined = 1;
+    if (watch->take != NULL)
+        watch->take(watch->context, outcome);
+}
+
+static inline enum pcm_result pcm_write_sure(struct pcm *pcm, uint64_t tick, uint32_t line, const uint8_t *bytes, const uint8_t *given, size_t size,
+                                             pcm_taker take, void *context)
+{
+    struct pcm_outcome outcome;
+    enum pcm_result result;
+    while ((result = given == NULL ? pcm_write(pcm, tick, line, bytes, size) : pcm_write_masked(pcm, tick, line, bytes, given, size)) == PCM_FULL
+           && (result = pcm_next(pcm, &outcome)) == PCM_OK)
+        if (take != NULL)
+            take(context, &outcome);
+    if (result != PCM_OK)
+        return result;
+    struct pcm__watch watch = {pcm->rows, 0, take, context};
+    result = pcm_settle_all(pcm, tick, pcm__see, &watch);
+    return result == PCM_OK && watch.is_declined ? PCM_DECLINED : result;
+}
+
+/* The next line of the stream, whose end is set to 0; NULL where `result` says why there is none. */
+static inline const char *pcm__line(struct pcm *pcm, enum pcm_result *result)
 {
     for (size_t looked = 0;;) {
         char *begin = pcm->in + pcm->begin;
@@ -287,47 +460,53 @@ static inline int pcm__digit(char c)
     return c >= '0' && c <= '9' ? c - '0' : c >= 'a' && c <= 'f' ? c - 'a' + 10 : -1;
 }
 
+/* Reads the digits of a field, which may be empty, and its comma; NULL where it is none. */
+static inline const char *pcm__number(const char *at, uint64_t *number)
+{
+    for (*number = 0; *at >= '0' && *at <= '9'; at++)
+        *number = 10 * *number + (uint64_t)(*at - '0');
+    return *at == ',' ? at + 1 : NULL;
+}
+
+/* Reads a line of the stream. */
+static inline enum pcm_result pcm__outcome(const char *at, struct pcm_outcome *outcome)
+{
+    static const char *const words[] = {"stored,", "merged,", "queued,", "full,", "worn,", "read,", "forwarded,", "busy,", "lost,", "cut,", "settled,"};
+    uint64_t row, place;
+    int kind = 0;
+    if ((at = pcm__number(at, &row)) == NULL)
+        return PCM_GARBLED;
+    while (kind <= PCM_SETTLED && strncmp(at, words[kind], strlen(words[kind])) != 0)
+        kind++;
+    if (kind > PCM_SETTLED || (at = pcm__number(at + strlen(words[kind]), &outcome->tick)) == NULL || (at = pcm__number(at, &place)) == NULL)
+        return PCM_GARBLED;
+    outcome->kind = (enum pcm_kind)kind;
+    outcome->row = (uint32_t)row;
+    outcome->place = (uint32_t)place;
+    for (outcome->size = 0; *at != 0; at += 2) {
+        int high = pcm__digit(at[0]), low = high < 0 ? -1 : pcm__digit(at[1]);
+        if (low < 0 || outcome->size >= PCM_MOST_BYTES)
+            return PCM_GARBLED;
+        outcome->bytes[outcome->size++] = (uint8_t)(high << 4 | low);
+    }
+    return PCM_OK;
+}
+
 static inline enum pcm_result pcm_next(struct pcm *pcm, struct pcm_outcome *outcome)
 {
-    static const char *const words[] = {"stored", "merged", "queued", "full", "worn", "read", "forwarded", "busy", "lost", "cut", "settled"};
-    enum pcm_result result = PCM_OK;
-    while (pcm->held > 0 && (result = pcm_flush(pcm)) == PCM_OK)
-        ;
+    enum pcm_result result = pcm_flush(pcm);
+    const char *line;
     if (result == PCM_FAILED)
         return result;
-    for (;;) {
-        char *field[5], *line = pcm__line(pcm, &result);
+    do {
+        line = pcm__line(pcm, &result);
         if (line == NULL)
             return result;
-        for (int i = 0; i < 5; i++) {
-            field[i] = line;
-            line = line == NULL ? NULL : strchr(line, ',');
-            if (line != NULL)
-                *line++ = 0;
-            else if (i < 4)
-                return PCM_GARBLED;
-        }
-        if (strcmp(field[0], "row") == 0)
-            continue;
-        int kind = 0;
-        while (kind <= PCM_SETTLED && strcmp(field[1], words[kind]) != 0)
-            kind++;
-        size_t digits = strlen(field[4]);
-        if (kind > PCM_SETTLED || digits > 2 * PCM_MOST_BYTES || digits % 2 != 0)
-            return PCM_GARBLED;
-        outcome->kind = (enum pcm_kind)kind;
-        outcome->row = (uint32_t)strtoul(field[0], NULL, 10);
-        outcome->tick = strtoull(field[2], NULL, 10);
-        outcome->place = (uint32_t)strtoul(field[3], NULL, 10);
-        outcome->size = (uint32_t)(digits / 2);
-        for (size_t i = 0; i < digits / 2; i++) {
-            int high = pcm__digit(field[4][2 * i]), low = pcm__digit(field[4][2 * i + 1]);
-            if (high < 0 || low < 0)
-                return PCM_GARBLED;
-            outcome->bytes[i] = (uint8_t)(high << 4 | low);
-        }
-        return PCM_OK;
-    }
+    } while (strncmp(line, "row,", 4) == 0);
+    result = pcm__outcome(line, outcome);
+    if (result == PCM_OK && outcome->kind == PCM_SETTLED && pcm->settles > 0)
+        pcm->settles--;
+    return result;
 }
 
 static inline enum pcm_result pcm_finish(struct pcm *pcm)
@@ -335,7 +514,8 @@ static inline enum pcm_result pcm_finish(struct pcm *pcm)
     enum pcm_result result = pcm_flush(pcm);
     if (result == PCM_FULL || result == PCM_FAILED)
         return result;
-    close(pcm->to);
+    if (pcm->to >= 0)
+        close(pcm->to);
     pcm->to = -1;
     pcm->held = 0;
     return PCM_OK;

@@ -92,23 +92,156 @@ static void settles_with_answers_taken_late(const char *const words[])
     check(pcm_close(&pcm) == 0, "status 0");
 }
 
-static void errors_are_told(const char *const words[])
+static void what_cannot_start_is_told(void)
+{
+    static struct pcm pcm;
+    const char *none[] = {"/nowhere/pcm", NULL}, *folder[] = {"/", NULL}, *ends[] = {"false", NULL};
+    struct pcm_outcome outcome = {PCM_CUT, 0, 0, 0, 0, {0}};
+    check(pcm_open(&pcm, none) == PCM_FAILED && errno == ENOENT && pcm_close(&pcm) == -1, "what isn't there doesn't start");
+    check(pcm_open(&pcm, folder) == PCM_FAILED && errno == EACCES && pcm_close(&pcm) == -1, "nor what is no program");
+    check(pcm_write(&pcm, 0, 0, outcome.bytes, 64) == PCM_REFUSED && pcm_read(&pcm, 0, 0) == PCM_REFUSED, "nothing is sent to it");
+    check(pcm_open(&pcm, ends) == PCM_OK && pcm_finish(&pcm) == PCM_OK, "what ends at once starts");
+    check(pcm_next(&pcm, &outcome) == PCM_ENDED && pcm_close(&pcm) == 1, "and tells its status");
+}
+
+static void faults_are_told(const char *const words[])
 {
     static struct pcm pcm;
     struct pcm_outcome outcome;
-    const char *none[] = {"/nowhere/pcm", NULL};
-    check(pcm_open(&pcm, none) == PCM_OK && pcm_finish(&pcm) == PCM_OK, "what isn't there starts");
-    check(pcm_next(&pcm, &outcome) == PCM_ENDED && pcm_close(&pcm) == 127, "and ends with status 127");
+    int sent = 0;
     check(pcm_open(&pcm, words) == PCM_OK && pcm_read(&pcm, 0, 99999) == PCM_OK && pcm_finish(&pcm) == PCM_OK, "a line that there isn't");
     check(pcm_next(&pcm, &outcome) == PCM_ENDED && pcm_close(&pcm) == 3, "is a fault of the trace");
-    const char *wrong[] = {"1,stored,5", "1,gone,5,3,", "1,read,5,3,0", "1,read,5,3,0x"};
-    for (int i = 0; i < 4; i++) {
+    check(pcm_open(&pcm, words) == PCM_OK && pcm_read(&pcm, 0, 99999) == PCM_OK && pcm_settle(&pcm, 0) == PCM_OK, "another");
+    check(pcm_next(&pcm, &outcome) == PCM_ENDED, "the program has ended");
+    while (sent < 100000 && pcm_read(&pcm, 0, 0) == PCM_OK)
+        sent++;
+    check(sent < 100000 && pcm_settle(&pcm, 0) == PCM_ENDED, "rows behind it are told so, without a signal");
+    check(pcm_close(&pcm) == 3, "status 3");
+    const char *wrong[] = {"1,stored,5", "1,gone,5,3,", "1,read,5,3,0", "1,read,5,3,0x", "1,storedx,5,3,", "1,,5,3,", "x,stored,5,3,", "1,stored,5,x,", "1,stored"};
+    for (int i = 0; i < 9; i++) {
         const char *echoes[] = {"echo", wrong[i], NULL};
         check(pcm_open(&pcm, echoes) == PCM_OK && pcm_next(&pcm, &outcome) == PCM_GARBLED && pcm_close(&pcm) == 0, "a line that is none");
     }
-    uint8_t bytes[PCM_MOST_BYTES + 1] = {0};
-    check(pcm_open(&pcm, words) == PCM_OK && pcm_write(&pcm, 0, 0, bytes, sizeof bytes) == PCM_REFUSED, "too many bytes are refused");
-    check(pcm_finish(&pcm) == PCM_OK && pcm_next(&pcm, &outcome) == PCM_ENDED && pcm_close(&pcm) == 0, "status 0");
+}
+
+static void arguments_are_looked_at(const char *const words[], int count)
+{
+    static struct pcm pcm;
+    const char *wide[20] = {0}, *one[20] = {0};
+    uint8_t bytes[PCM_MOST_BYTES + 1] = {1}, none[PCM_MOST_BYTES] = {0};
+    struct pcm_outcome outcome;
+    for (int i = 0; i < count; i++)
+        wide[i] = one[i] = words[i];
+    wide[count] = "--line";
+    wide[count + 1] = "128";
+    one[count] = "--line=128";
+    check(pcm_open(&pcm, words) == PCM_OK && pcm.line_size == 64, "a line of 64 bytes");
+    const size_t sizes[] = {0, 1, 63, 65, 128, 129};
+    for (int i = 0; i < 6; i++)
+        check(pcm_write(&pcm, 0, 0, bytes, sizes[i]) == PCM_SIZE && pcm_write_masked(&pcm, 0, 0, bytes, bytes, sizes[i]) == PCM_SIZE,
+              "another size is refused");
+    check(pcm_write_masked(&pcm, 0, 0, bytes, none, 64) == PCM_REFUSED, "a mask that gives nothing is refused");
+    check(pcm_read(&pcm, PCM_LAST_TICK + 1, 0) == PCM_REFUSED, "a tick beyond the last one is refused");
+    check(pcm_read(&pcm, 7, 0) == PCM_OK && pcm_read(&pcm, 6, 0) == PCM_REFUSED && pcm_settle(&pcm, 6) == PCM_REFUSED, "so is one that falls");
+    check(pcm_cut(&pcm, PCM_LAST_TICK) == PCM_OK && pcm.rows == 2, "the last tick is one");
+    check(pcm_finish(&pcm) == PCM_OK && pcm_read(&pcm, PCM_LAST_TICK, 0) == PCM_REFUSED && pcm_finish(&pcm) == PCM_OK, "no row comes behind the end");
+    check(pcm_next(&pcm, &outcome) == PCM_OK && pcm_next(&pcm, &outcome) == PCM_OK && pcm_next(&pcm, &outcome) == PCM_ENDED, "two rows were sent");
+    check(pcm_close(&pcm) == 0, "status 0");
+    check(pcm_open(&pcm, wide) == PCM_OK && pcm_write(&pcm, 0, 0, bytes, 128) == PCM_OK && pcm_write(&pcm, 0, 0, bytes, 64) == PCM_SIZE, "a line of 128");
+    check(pcm_finish(&pcm) == PCM_OK && pcm_next(&pcm, &outcome) == PCM_OK && pcm_close(&pcm) == 0, "status 0");
+    check(pcm_open(&pcm, one) == PCM_OK && pcm.line_size == 128, "in one word");
+    pcm.line_size = 0;
+    check(pcm_write(&pcm, 0, 0, bytes, 128) == PCM_OK && pcm_write(&pcm, 0, 0, bytes, 129) == PCM_SIZE, "any size, where the caller says so");
+    check(pcm_finish(&pcm) == PCM_OK && pcm_next(&pcm, &outcome) == PCM_OK && pcm_close(&pcm) == 0, "status 0");
+}
+
+/* What is handed to a taker, and to a log. */
+static struct { int count, settled, strange; uint32_t rows[64]; enum pcm_kind kinds[64]; } taken;
+static void take(void *context, const struct pcm_outcome *outcome)
+{
+    taken.strange += context != &taken;
+    taken.settled += outcome->kind == PCM_SETTLED;
+    taken.rows[taken.count % 64] = outcome->row;
+    taken.kinds[taken.count++ % 64] = outcome->kind;
+}
+static char logged[4096];
+static void keep(void *context, char op, const char *row, size_t size)
+{
+    size_t at = strlen((char *)context);
+    if (op != 'S') {
+        memcpy((char *)context + at, row, size);
+        ((char *)context)[at + size] = 0;
+    }
+}
+
+static void writes_are_answered_at_once(const char *const words[], int count)
+{
+    static struct pcm pcm;
+    struct pcm_outcome outcome;
+    const char *narrow[20] = {0};
+    uint8_t bytes[64] = {1}, given[64] = {1};
+    for (int i = 0; i < count; i++)
+        narrow[i] = words[i];
+    narrow[count] = "--write-queue=2";
+    memset(&taken, 0, sizeof taken);
+    logged[0] = 0;
+    check(pcm_open(&pcm, narrow) == PCM_OK, "a queue of two writes");
+    pcm.log = keep;
+    pcm.context = logged;
+    check(pcm_write_sure(&pcm, 0, 0, bytes, NULL, 64, take, &taken) == PCM_OK && taken.count == 0, "a write is accepted");
+    check(pcm_write_sure(&pcm, 0, 1, bytes, given, 64, NULL, NULL) == PCM_OK, "another one, masked");
+    check(pcm_write_sure(&pcm, 1, 2, bytes, NULL, 64, take, &taken) == PCM_DECLINED, "the queue is full");
+    check(taken.count == 1 && taken.rows[0] == 3 && taken.kinds[0] == PCM_FULL_QUEUE, "so its outcome says");
+    check(pcm_write_sure(&pcm, 1, 1, bytes, NULL, 64, take, &taken) == PCM_OK && taken.count == 2, "a write that merges is accepted");
+    check(taken.rows[1] == 2 && taken.kinds[1] == PCM_MERGED, "and the one before it is told");
+    check(pcm_settle(&pcm, 1) == PCM_OK, "a settle of the caller's own");
+    check(pcm_write_sure(&pcm, 100, 2, bytes, NULL, 63, take, &taken) == PCM_SIZE && taken.count == 2, "a size that is none");
+    check(pcm_write_sure(&pcm, 100, 2, bytes, NULL, 64, take, &taken) == PCM_OK && taken.settled == 1, "which is told, the call's own isn't");
+    check(taken.count == 5 && pcm.settles == 0, "with what is stored by then");
+    taken.count = 0;
+    check(pcm_read(&pcm, 100, 2) == PCM_OK && pcm_settle_all(&pcm, 1000, take, &taken) == PCM_OK, "the module settles in one call");
+    check(taken.count == 2 && taken.kinds[0] == PCM_FORWARDED && taken.kinds[1] == PCM_STORED, "and tells what is known");
+    check(taken.strange == 0, "the caller's context is handed on");
+    check(pcm_finish(&pcm) == PCM_OK && pcm_next(&pcm, &outcome) == PCM_ENDED && pcm_close(&pcm) == 1, "status 1");
+    check(strncmp(logged, "0,W,0,01000000", 14) == 0 && strstr(logged, "\n0,M,1,01....") != NULL, "rows are logged as they were sent");
+    check(strstr(logged, "\n100,R,2,\n") != NULL && strchr(logged, 'S') == NULL, "all of them, in order");
+    check(pcm_open(&pcm, narrow) == PCM_OK && pcm_read(&pcm, 0, 99999) == PCM_OK, "a fault");
+    check(pcm_write_sure(&pcm, 0, 0, bytes, NULL, 64, take, &taken) == PCM_ENDED && pcm_close(&pcm) == 3, "is told by the next answer");
+}
+
+/* PCM_FULL comes where so many bytes wait as the header says, and never by the calls that take answers themselves. */
+static void full_has_its_bound(const char *const words[])
+{
+    static struct pcm pcm;
+    struct pcm_outcome outcome;
+    enum pcm_result result = PCM_OK;
+    int rows = 0;
+    check(pcm_open(&pcm, words) == PCM_OK, "the program starts");
+    while (rows < 1000000 && (result = pcm_read(&pcm, 10 * (uint64_t)rows, 0)) == PCM_OK)
+        rows++;
+    check(result == PCM_FULL && pcm.end - pcm.begin > PCM_MOST_WAITING && rows > 330, "it comes where many bytes wait");
+    memset(&taken, 0, sizeof taken);
+    check(pcm_settle_all(&pcm, 10 * (uint64_t)rows, take, &taken) == PCM_OK, "a settle that takes answers goes on");
+    check(pcm_settle_all(&pcm, 10 * (uint64_t)rows + 5, take, &taken) == PCM_OK && taken.count == rows, "each row is answered once");
+    for (int i = 0; i < 1000 && result != PCM_ENDED; i++) {
+        for (int n = 0; n < 330; n++)
+            if (pcm_read(&pcm, pcm.tick + 5, 0) != PCM_OK)
+                result = PCM_ENDED;
+        if (pcm_settle_all(&pcm, pcm.tick, NULL, NULL) != PCM_OK)
+            result = PCM_ENDED;
+    }
+    check(result == PCM_FULL, "and 330 reads between two settles never meet it");
+    check(pcm_finish(&pcm) == PCM_OK && pcm_next(&pcm, &outcome) == PCM_OK && pcm_next(&pcm, &outcome) == PCM_ENDED, "the last read");
+    check(pcm_close(&pcm) == 0, "status 0");
+}
+
+/* (The fifth field of /proc/PID/stat is its process group.) */
+static void a_group_of_its_own(void)
+{
+    static struct pcm pcm;
+    const char *asks[] = {"sh", "-c", "read -r a b c d e rest < /proc/$$/stat; [ $e = $$ ]", NULL};
+    check(pcm_open(&pcm, asks) == PCM_OK && pcm_finish(&pcm) == PCM_OK && pcm_close(&pcm) == 1, "a program of the caller's group");
+    check(pcm_open_apart(&pcm, asks) == PCM_OK && pcm_finish(&pcm) == PCM_OK && pcm_close(&pcm) == 0, "one with a group of its own");
 }
 
 static void standard_descriptors_may_be_closed(const char *const words[])
@@ -129,16 +262,20 @@ static void standard_descriptors_may_be_closed(const char *const words[])
 
 int main(int count, char **words)
 {
-    const char *all[16] = {0};
+    const char *all[20] = {0};
     const char *options[] = {"stream", "--banks", "1", "--regions", "1", "--lines", "4"};
     int n = 0;
-    signal(SIGPIPE, SIG_IGN);
     for (int i = 1; i < count && n < 4; i++)
         all[n++] = words[i];
     for (int i = 0; i < 7; i++)
         all[n++] = options[i];
     answers_come_as_they_are_known(all);
-    errors_are_told(all);
+    what_cannot_start_is_told();
+    faults_are_told(all);
+    arguments_are_looked_at(all, n);
+    writes_are_answered_at_once(all, n);
+    full_has_its_bound(all);
+    a_group_of_its_own();
     standard_descriptors_may_be_closed(all);
     many_rows_with_answers_taken_late(all);
     settles_with_answers_taken_late(all);

@@ -76,9 +76,9 @@ public:
     std::uint64_t write(std::uint64_t tick, std::uint32_t line, const Line &bytes)
     {
         for (;; tick += READ_TICKS) {
-            must(pcm_write(&pcm, tick, line, bytes.data(), bytes.size()));
-            const auto outcome = settled(tick, pcm.rows);
-            if (!outcome || outcome->kind != PCM_FULL_QUEUE) {
+            const auto answer = pcm_write_sure(&pcm, tick, line, bytes.data(), nullptr, bytes.size(), nullptr, nullptr);
+            if (answer != PCM_DECLINED) {
+                must(answer);
                 newest[line] = bytes;
                 return tick;
             }
@@ -109,7 +109,7 @@ private:
 
 class Cache {
 public:
-    explicit Cache(Memory &memory) : memory(memory) {}
+    explicit Cache(Memory &behind) : memory(behind) {}
     void access(std::uint32_t line, std::uint32_t word, bool is_write, std::uint64_t value)
     {
         auto &lines = sets[line % SETS];
@@ -137,7 +137,7 @@ public:
             waited += tick - begun;
         }
         if (is_write) {
-            for (int i = 0; i < 8; i++)
+            for (std::uint32_t i = 0; i < 8; i++)
                 lines.back().bytes[8 * word + i] = static_cast<std::uint8_t>(value >> 8 * i);
             lines.back().is_written = true;
         }
@@ -158,7 +158,6 @@ private:
 
 int main(int count, char **words)
 try {
-    signal(SIGPIPE, SIG_IGN);
     const std::string program = count > 1 ? words[1] : "./pcm", policy = count > 2 ? words[2] : "pause";
     const std::uint64_t accesses = count > 3 ? std::stoull(words[3]) : 20000;
     Memory memory({program.c_str(), "stream", "--banks", "4", "--regions", "1", "--lines", "64", "--write-queue", "8", "--policy", policy.c_str(),

@@ -1,0 +1,676 @@
+/* nbdkit_pcm.c: a phase-change memory module as a network block device, a plugin of nbdkit (1.32 or later).
+
+       make -C c                      # or: cc -std=c11 -O2 -fPIC -shared -o nbdkit-pcm-plugin.so c/nbdkit_pcm.c
+       nbdkit -U - c/nbdkit-pcm-plugin.so pcm=./pcm misses=3 --run 'nbdcopy disk.img $uri'
+
+   The export "" is the disk. The export "control" is 4096 bytes of text: read, it tells the disk's clock and what became of its rows; written
+   at its first byte, `cut` cuts the power there, `cut N` in N ticks whatever the disk does then, and `wait N` lets N ticks pass.
+   docs/USING.md ('A disk on a module') has the parameters and what is promised. */
+#define _POSIX_C_SOURCE 200809L
+#define NBDKIT_API_VERSION 2
+#include <nbdkit-plugin.h>
+
+#include "pcm_disk.h"
+
+#include <sys/stat.h>
+#include <time.h>
+
+#define THREAD_MODEL NBDKIT_THREAD_MODEL_SERIALIZE_ALL_REQUESTS
+#define CONTROL_SIZE 4096
+#define HEADER "tick,op,arg,data\n"
+
+struct connection {
+    int is_control;
+    int is_told;    /* that the power was cut */
+    uint64_t power; /* how many power cuts were before it */
+};
+
+static struct pcm_disk disk;
+static struct pcm_disk_shape shape;
+static char *program, *log_name, *args_name, *report_name;
+static const char *cut_ticks = "";  /* cuts that are still to come, by their ticks: a list with commas */
+static FILE *log_file;
+static int log_failed, rides;
+static uint64_t cuts, cut_state, tick_ns, row_ticks;
+static struct timespec begun;
+
+/* ---- Parameters: each is a number within its range, or one of some words. */
+
+enum is { IS_NUMBER, IS_POWER, IS_WORD, IS_TEXT };
+static struct parameter {
+    const char *name;
+    enum is is;
+    uint64_t least, most;
+    const char *words;      /* of IS_WORD: what it may be, the first by default, with bars between them */
+    uint64_t value;         /* the number, or which of the words */
+    const char *text;       /* of IS_WORD: the word that was given; of IS_TEXT: the text */
+    int is_given;
+} parameters[] = {
+    /* the module's, in the order of their words in FILE.args */
+    {"banks", IS_POWER, 1, 64, NULL, 16, NULL, 0},
+    {"regions", IS_POWER, 1, 64, NULL, 16, NULL, 0},
+    {"lines", IS_POWER, 4, PCM_DISK_LINES, NULL, 256, NULL, 0},
+    {"line", IS_POWER, 64, 128, NULL, 128, NULL, 0},
+    {"spares", IS_NUMBER, 0, 1024, NULL, 8, NULL, 0},
+    {"write-queue", IS_NUMBER, 1, 256, NULL, 32, NULL, 0},
+    {"read-queue", IS_NUMBER, 1, 256, NULL, 32, NULL, 0},
+    {"read-ticks", IS_NUMBER, 1, 255, NULL, 5, NULL, 0},
+    {"iter-ticks", IS_NUMBER, 1, 255, NULL, 10, NULL, 0},
+    {"seed", IS_NUMBER, 0, UINT64_MAX, NULL, 0, NULL, 0},
+    {"psi", IS_NUMBER, 1, 65535, NULL, 100, NULL, 0},
+    {"lo", IS_NUMBER, 1, 4000000000, NULL, 100000000, NULL, 0},
+    {"hi", IS_NUMBER, 1, 4000000000, NULL, 100000000, NULL, 0},
+    {"misses", IS_NUMBER, 0, 7, NULL, 0, NULL, 0},
+    {"policy", IS_WORD, 0, 0, "pause|plain|cancel", 0, "pause", 0},
+    {"registers", IS_WORD, 0, 0, "guarded|array", 0, "guarded", 0},
+    {"end", IS_WORD, 0, 0, "drain|off", 0, "drain", 0},
+    /* the disk's */
+    {"atomic", IS_WORD, 0, 0, "0|512|4096", 0, "0", 0},
+    {"straight", IS_WORD, 0, 0, "false|true", 0, "false", 0},
+    {"row-ticks", IS_NUMBER, 0, 1000000, NULL, 1, NULL, 0},
+    {"tick-ns", IS_NUMBER, 0, 1000000000, NULL, 0, NULL, 0},
+    {"cuts", IS_NUMBER, 0, UINT64_C(1) << 38, NULL, 0, NULL, 0},
+    {"cut-seed", IS_NUMBER, 0, UINT64_MAX, NULL, 1, NULL, 0},
+    {"cut-ticks", IS_TEXT, 0, 0, NULL, 0, "", 0},
+    {"on-cut", IS_WORD, 0, 0, "drop|ride", 0, "drop", 0},
+    {"pcm", IS_TEXT, 0, 0, NULL, 0, NULL, 0},
+    {"log", IS_TEXT, 0, 0, NULL, 0, NULL, 0},
+    {"report", IS_TEXT, 0, 0, NULL, 0, NULL, 0},
+};
+enum { PARAMETERS = sizeof parameters / sizeof *parameters, MODULES_OWN = 16, FIRST_OPTION = 10, OPTIONS = 7 };
+
+static struct parameter *parameter(const char *name)
+{
+    for (int i = 0; i < PARAMETERS; i++)
+        if (strcmp(parameters[i].name, name) == 0)
+            return &parameters[i];
+    return NULL;
+}
+
+/* Whether a text is a number: digits alone, not beyond the greatest one. */
+static int is_number(const char *text, uint64_t *number)
+{
+    const char *at = text;
+    for (*number = 0; *at >= '0' && *at <= '9'; at++) {
+        uint64_t digit = (uint64_t)(*at - '0');
+        if (*number > (UINT64_MAX - digit) / 10)
+            return 0;
+        *number = 10 * *number + digit;
+    }
+    return at > text && *at == 0;
+}
+
+static int set_number(struct parameter *it, const char *value)
+{
+    if (is_number(value, &it->value) && it->value >= it->least && it->value <= it->most && (it->is == IS_NUMBER || (it->value & (it->value - 1)) == 0))
+        return 0;
+    nbdkit_error("%s=%s: it is a %s from %llu to %llu", it->name, value, it->is == IS_POWER ? "power of two" : "number", (unsigned long long)it->least,
+                 (unsigned long long)it->most);
+    return -1;
+}
+
+static int set_word(struct parameter *it, const char *value)
+{
+    size_t size = strchr(value, '|') != NULL ? 0 : strlen(value);
+    it->value = 0;
+    for (const char *at = it->words; at != NULL; at = strchr(at, '|'), it->value++) {
+        at += *at == '|';
+        if (size > 0 && strncmp(at, value, size) == 0 && (at[size] == '|' || at[size] == 0)) {
+            it->text = value; /* (nbdkit keeps it) */
+            return 0;
+        }
+    }
+    nbdkit_error("%s=%s: it is one of %s", it->name, value, it->words);
+    return -1;
+}
+
+static int plugin_config(const char *key, const char *value)
+{
+    struct parameter *it = parameter(key);
+    if (it == NULL) {
+        nbdkit_error("there is no parameter %s; nbdkit --help PLUGIN names them", key);
+        return -1;
+    }
+    if (it->is_given) {
+        nbdkit_error("%s stands twice", key);
+        return -1;
+    }
+    it->is_given = 1;
+    if (it->is == IS_WORD)
+        return set_word(it, value);
+    if (it->is != IS_TEXT)
+        return set_number(it, value);
+    it->text = value;
+    return 0;
+}
+
+/* The ticks of cuts rise. */
+static int check_cut_ticks(const char *text)
+{
+    uint64_t before = 0, tick;
+    for (const char *at = text; *at != 0;) {
+        char one[21] = "";
+        size_t size = strcspn(at, ",");
+        memcpy(one, at, size < 20 ? size : 20);
+        if (size > 20 || !is_number(one, &tick) || tick <= before || tick > PCM_LAST_TICK || (at[size] == ',' && at[size + 1] == 0)) {
+            nbdkit_error("cut-ticks=%s: it is a list of rising ticks from 1 to 2^40, with commas between them", text);
+            return -1;
+        }
+        before = tick;
+        at += size + (at[size] == ',');
+    }
+    return 0;
+}
+
+static uint64_t value_of(const char *name)
+{
+    return parameter(name)->value;
+}
+
+/* What can't be said of one parameter alone. */
+static int check_together(void)
+{
+    uint64_t lo = value_of("lo"), hi = value_of("hi"), all = value_of("banks") * value_of("regions") * value_of("lines"), bytes = all * value_of("line");
+    if (lo > hi) {
+        nbdkit_error("lo=%llu is above hi=%llu (100000000 where it isn't given): give both", (unsigned long long)lo, (unsigned long long)hi);
+        return -1;
+    }
+    if (all > PCM_DISK_LINES) {
+        nbdkit_error("banks times regions times lines is %llu, and at most 2^26 = 67108864", (unsigned long long)all);
+        return -1;
+    }
+    if (shape.atomic != 0 && bytes < 2 * (uint64_t)shape.atomic + 4) {
+        nbdkit_error("atomic=%lu: a module of %llu bytes has no room for two such sectors", (unsigned long)shape.atomic, (unsigned long long)bytes);
+        return -1;
+    }
+    if (cuts != 0 && parameter("cut-ticks")->is_given) {
+        nbdkit_error("cuts draws the power cuts, cut-ticks names them: give one of the two");
+        return -1;
+    }
+    return 0;
+}
+
+/* Files by their whole names, since a server in the background changes its folder. */
+static int check_files(void)
+{
+    const char *name = parameter("pcm")->text, *log = parameter("log")->text, *report = parameter("report")->text;
+    size_t size = log == NULL ? 0 : strlen(log) + 1;
+    if (name == NULL)
+        name = access("./pcm", X_OK) == 0 ? "./pcm" : "pcm";
+    program = strchr(name, '/') != NULL ? nbdkit_realpath(name) : strdup(name); /* (a name without a slash is looked for on the search path) */
+    if (program == NULL)
+        return -1;
+    if (report != NULL) {
+        FILE *file = (report_name = nbdkit_absolute_path(report)) == NULL ? NULL : fopen(report_name, "ae");
+        if (file == NULL) {
+            nbdkit_error("%s: %m", report);
+            return -1;
+        }
+        fclose(file);
+    }
+    if (log == NULL)
+        return 0;
+    log_name = nbdkit_absolute_path(log);
+    size = log_name == NULL ? 0 : strlen(log_name) + sizeof ".args";
+    args_name = size == 0 ? NULL : malloc(size);
+    if (args_name == NULL)
+        return -1;
+    snprintf(args_name, size, "%s.args", log_name);
+    return 0;
+}
+
+static int plugin_config_complete(void)
+{
+    struct pcm_disk_shape given = {(uint32_t)value_of("banks"), (uint32_t)value_of("regions"), (uint32_t)value_of("lines"),
+                                   (uint32_t)value_of("line"), (uint32_t)value_of("spares"), (uint32_t)value_of("write-queue"),
+                                   (uint32_t)value_of("read-queue"), (uint32_t)value_of("read-ticks"), (uint32_t)value_of("iter-ticks"),
+                                   (uint32_t)strtoul(parameter("atomic")->text, NULL, 10), (uint32_t)value_of("straight"), value_of("seed")};
+    shape = given;
+    cuts = value_of("cuts");
+    cut_state = value_of("cut-seed");
+    cut_ticks = parameter("cut-ticks")->text;
+    tick_ns = value_of("tick-ns");
+    row_ticks = value_of("row-ticks");
+    rides = (int)value_of("on-cut");
+    return check_together() == 0 && check_cut_ticks(cut_ticks) == 0 ? check_files() : -1;
+}
+
+/* ---- Power cuts */
+
+/* The next cut: the next tick of the list, or one drawn by a word of SplitMix64. */
+static void next_cut(void)
+{
+    disk.cut_at = PCM_DISK_NEVER;
+    while (*cut_ticks != 0 && disk.cut_at == PCM_DISK_NEVER) {
+        uint64_t tick = strtoull(cut_ticks, NULL, 10);
+        cut_ticks += strcspn(cut_ticks, ",");
+        cut_ticks += *cut_ticks == ',';
+        if (tick > disk.now)
+            disk.cut_at = tick;
+    }
+    if (cuts != 0) {
+        uint64_t word = cut_state += UINT64_C(0x9e3779b97f4a7c15);
+        word = (word ^ word >> 30) * UINT64_C(0xbf58476d1ce4e5b9);
+        word = (word ^ word >> 27) * UINT64_C(0x94d049bb133111eb);
+        word ^= word >> 31;
+        disk.cut_at = disk.now + 1 + word % (2 * cuts);
+    }
+}
+
+/* ---- The log: a trace of the disk's rows. Beside it, FILE.args has the words of its module in one line, and the disk's own in a second. */
+
+static void keep_row(void *context, char op, const char *row, size_t size)
+{
+    (void)context;
+    if (op != 'S' && fwrite(row, 1, size, log_file) != size)
+        log_failed = 1;
+}
+
+static void args_text(char *to, size_t size)
+{
+    size_t at = 0;
+    for (int i = 0; i < MODULES_OWN; i++) {
+        const struct parameter *it = &parameters[i];
+        at += (size_t)(it->is == IS_WORD ? snprintf(to + at, size - at, "--%s %s", it->name, it->text)
+                                         : snprintf(to + at, size - at, "--%s %llu", it->name, (unsigned long long)it->value));
+        to[at++] = i + 1 < MODULES_OWN ? ' ' : '\n';
+    }
+    snprintf(to + at, size - at, "atomic %lu straight %lu\n", (unsigned long)shape.atomic, (unsigned long)shape.straight);
+}
+
+/* Refuses a log that was written with other options, by the first word that differs. */
+static int check_args(void)
+{
+    char wanted[1024], found[1024];
+    FILE *args = fopen(args_name, "re");
+    size_t size;
+    if (args == NULL) {
+        nbdkit_error("%s: %m: it should say with which options %s was written", args_name, log_name);
+        return -1;
+    }
+    size = fread(found, 1, sizeof found - 1, args);
+    fclose(args);
+    found[size] = 0;
+    args_text(wanted, sizeof wanted);
+    if (strcmp(found, wanted) == 0)
+        return 0;
+    char *of_found, *of_wanted, *name = strtok_r(found, " \n", &of_found), *other = strtok_r(wanted, " \n", &of_wanted);
+    const char *last = "its first word";
+    while (name != NULL && other != NULL && strcmp(name, other) == 0) {
+        last = name;
+        name = strtok_r(NULL, " \n", &of_found);
+        other = strtok_r(NULL, " \n", &of_wanted);
+    }
+    nbdkit_error("%s was written with other options: %s has %s behind %s, this server %s", log_name, args_name, name != NULL ? name : "nothing", last,
+                 other != NULL ? other : "nothing");
+    return -1;
+}
+
+static int write_args(void)
+{
+    char text[1024];
+    FILE *args = fopen(args_name, "we");
+    args_text(text, sizeof text);
+    if (args == NULL || fputs(text, args) < 0 || fflush(args) != 0 || fsync(fileno(args)) != 0) {
+        nbdkit_error("%s: %m", args_name);
+        if (args != NULL)
+            fclose(args);
+        return -1;
+    }
+    fclose(args);
+    return 0;
+}
+
+/* Opens the log, for this server alone. */
+static int open_log(void)
+{
+    struct flock whole = {.l_type = F_WRLCK, .l_whence = SEEK_SET};
+    int file = open(log_name, O_RDWR | O_CREAT | O_APPEND | O_CLOEXEC, 0666);
+    if (file < 0 || (log_file = fdopen(file, "a+")) == NULL || fseeko(log_file, 0, SEEK_SET) != 0) {
+        nbdkit_error("%s: %m", log_name);
+        return -1;
+    }
+    if (fcntl(file, F_SETLK, &whole) != 0) {
+        nbdkit_error("%s: %s", log_name, errno == EACCES || errno == EAGAIN ? "another server has it open" : strerror(errno));
+        return -1;
+    }
+    return 0;
+}
+
+/* What was logged is handed to the system, with `is_synced` to its own disk; else no later request is answered. */
+static int flush_log(int is_synced)
+{
+    if (log_file == NULL)
+        return 0;
+    if (fflush(log_file) != 0 || (is_synced && fdatasync(fileno(log_file)) != 0))
+        log_failed = 1;
+    if (log_failed)
+        nbdkit_error("%s can't be written: %m", log_name);
+    return log_failed ? EIO : 0;
+}
+
+/* Plays the rows of the log. One without its end was never answered (its server was ended while it wrote), and is taken away. */
+static int play_log(void)
+{
+    char row[PCM_MOST_ROW];
+    unsigned long long number = 0;
+    off_t at = 0;
+    for (; fgets(row, sizeof row, log_file) != NULL; at += (off_t)strlen(row), number++) {
+        int is_whole = strchr(row, '\n') != NULL, fault = 0;
+        if (number == 0 && strncmp(row, HEADER, strlen(row)) != 0) {
+            nbdkit_error("%s is no log: it doesn't begin with the header of a trace", log_name);
+            return -1;
+        }
+        if (!is_whole && strlen(row) < sizeof row - 1)
+            break;
+        if (number == 0 && check_args() != 0)
+            return -1;
+        if (number > 0)
+            fault = pcm_disk_replay(&disk, row);
+        if (fault != 0) {
+            nbdkit_error("%s, row %llu: %s", log_name, number, fault == EINVAL ? "it isn't a row of such a disk" : strerror(fault));
+            return -1;
+        }
+    }
+    if (ferror(log_file) || ftruncate(fileno(log_file), at) != 0 || fseeko(log_file, 0, SEEK_END) != 0) {
+        nbdkit_error("%s: %m", log_name);
+        return -1;
+    }
+    disk.pcm.log = keep_row;
+    if (at == 0) {
+        if (write_args() != 0)
+            return -1;
+        log_failed = fputs(HEADER, log_file) < 0;
+    } else {
+        int fault = pcm_disk_resume(&disk);
+        if (fault != 0) {
+            nbdkit_error("%s: the disk that it leaves can't be read: %s", log_name, strerror(fault));
+            return -1;
+        }
+    }
+    return flush_log(0) == 0 ? 0 : -1;
+}
+
+/* ---- The server's life */
+
+/* The module's options beside the shape, as words. */
+static const char *const *option_words(void)
+{
+    static char texts[OPTIONS][24];
+    static char names[OPTIONS][24];
+    static const char *words[2 * OPTIONS + 1];
+    for (int i = 0; i < OPTIONS; i++) {
+        const struct parameter *it = &parameters[FIRST_OPTION + i];
+        snprintf(names[i], sizeof names[i], "--%s", it->name);
+        snprintf(texts[i], sizeof texts[i], "%llu", (unsigned long long)it->value);
+        words[2 * i] = names[i];
+        words[2 * i + 1] = it->is == IS_WORD ? it->text : texts[i];
+    }
+    return words;
+}
+
+/* The program is started here, behind the fork of a server that goes to the background. */
+static int plugin_after_fork(void)
+{
+    const char *words[] = {program, "stream", NULL};
+    int fault;
+    if (log_name != NULL && open_log() != 0)
+        return -1;
+    fault = pcm_disk_open(&disk, words, &shape, option_words());
+    if (fault != 0) {
+        nbdkit_error("%s stream: %s", program, fault == EPIPE ? "it has ended: it isn't the program of streams, or not one of such modules" : strerror(fault));
+        return -1;
+    }
+    if (log_name != NULL && play_log() != 0)
+        return -1;
+    disk.rides = rides;
+    disk.row_ticks = (uint32_t)row_ticks;
+    next_cut();
+    clock_gettime(CLOCK_MONOTONIC, &begun);
+    begun.tv_sec -= (time_t)(disk.now * tick_ns / 1000000000);
+    return 0;
+}
+
+static int put_counts(char *to, size_t size)
+{
+    static const char *const words[] = {"stored", "merged", "queued", "full", "worn", "read", "forwarded", "busy", "lost", "cut"};
+    int at = snprintf(to, size, "tick %llu\nrows %lu\nsettles %llu\nwaiting %lu\nread_only %d\n", (unsigned long long)disk.now,
+                      (unsigned long)disk.pcm.rows, (unsigned long long)disk.settles, (unsigned long)disk.waiting, disk.worn);
+    for (int i = 0; i < PCM_SETTLED; i++)
+        at += snprintf(to + at, size - (size_t)at, "%s %llu\n", words[i], (unsigned long long)disk.count[i]);
+    return at;
+}
+
+/* Behind the last connection. */
+static void plugin_cleanup(void)
+{
+    char text[CONTROL_SIZE];
+    FILE *report;
+    int status = pcm_disk_close(&disk);
+    put_counts(text, sizeof text);
+    if (report_name != NULL) {
+        report = fopen(report_name, "we");
+        if (report == NULL || fprintf(report, "%sstatus %d\n", text, status) < 0)
+            nbdkit_error("%s: %m", report_name);
+        if (report != NULL)
+            fclose(report);
+    }
+    if (log_file != NULL && fclose(log_file) != 0)
+        nbdkit_error("%s: %m", log_name);
+}
+
+static void plugin_unload(void)
+{
+    free(program);
+    free(log_name);
+    free(args_name);
+    free(report_name);
+}
+
+/* ---- Connections */
+
+static void *plugin_open(int readonly)
+{
+    const char *name = nbdkit_export_name();
+    struct connection *it;
+    (void)readonly;
+    if (name == NULL || (*name != 0 && strcmp(name, "control") != 0)) {
+        nbdkit_error("there is no export '%s': there are '' and 'control'", name == NULL ? "" : name);
+        return NULL;
+    }
+    it = malloc(sizeof *it);
+    if (it == NULL)
+        return NULL;
+    it->is_control = *name != 0;
+    it->is_told = 0;
+    it->power = disk.count[PCM_CUT];
+    return it;
+}
+
+static void plugin_close(void *handle)
+{
+    free(handle);
+}
+
+static int plugin_list_exports(int readonly, int is_tls, struct nbdkit_exports *exports)
+{
+    (void)readonly;
+    (void)is_tls;
+    return nbdkit_add_export(exports, "", "the disk") == 0 ? nbdkit_add_export(exports, "control", "its clock and power switch") : -1;
+}
+
+static int64_t plugin_get_size(void *handle)
+{
+    const struct connection *it = handle;
+    return it->is_control ? CONTROL_SIZE : (int64_t)pcm_disk_size(&disk);
+}
+
+static int plugin_block_size(void *handle, uint32_t *minimum, uint32_t *preferred, uint32_t *maximum)
+{
+    (void)handle;
+    *minimum = 1;
+    *preferred = 4096;
+    *maximum = 0xffffffff;
+    return 0;
+}
+
+/* Writes are durable once they are answered, for every connection. */
+static int yes(void *handle)
+{
+    (void)handle;
+    return 1;
+}
+
+static int plugin_can_fua(void *handle)
+{
+    (void)handle;
+    return NBDKIT_FUA_NATIVE;
+}
+
+/* With real time: the tick that it is now, and a sleep until the disk's tick is over. */
+static int real_time(int is_end)
+{
+    struct timespec now;
+    uint64_t ns;
+    if (tick_ns == 0)
+        return 0;
+    clock_gettime(CLOCK_MONOTONIC, &now);
+    ns = (uint64_t)(now.tv_sec - begun.tv_sec) * 1000000000 + (uint64_t)now.tv_nsec - (uint64_t)begun.tv_nsec;
+    if (!is_end)
+        return pcm_disk_go_on(&disk, ns / tick_ns);
+    if (disk.now * tick_ns > ns) {
+        ns = disk.now * tick_ns - ns;
+        nbdkit_nanosleep((unsigned)(ns / 1000000000), (unsigned)(ns % 1000000000));
+    }
+    return 0;
+}
+
+/* Why a request failed, and what its client is told: EIO, but for a disk that only reads. */
+static int failed(struct connection *it, int fault, const char *what, uint32_t size, uint64_t offset)
+{
+    const char *why = fault == ESHUTDOWN ? "the power was cut" : fault == EROFS ? "the module is worn out" : fault == EPIPE ? "the program has ended"
+        : strerror(fault);
+    if (fault != ESHUTDOWN || !it->is_told)
+        nbdkit_error("%s of %lu bytes at %llu: %s", what, (unsigned long)size, (unsigned long long)offset, why);
+    it->is_told |= fault == ESHUTDOWN;
+    nbdkit_set_error(fault == EROFS || fault == EINVAL ? fault : EIO);
+    return -1;
+}
+
+/* A request of a connection to the disk: a write where `from` is there, else a read. */
+static int transfer(struct connection *it, void *to, const void *from, uint32_t size, uint64_t offset, int is_synced)
+{
+    uint64_t before = disk.count[PCM_CUT];
+    int fault = log_failed ? EIO : it->power != before && !rides ? ESHUTDOWN : real_time(0);
+    if (fault == 0)
+        fault = from != NULL ? pcm_disk_write(&disk, from, size, offset) : pcm_disk_read(&disk, to, size, offset);
+    if (fault == 0)
+        fault = real_time(1);
+    if (disk.count[PCM_CUT] != before)
+        next_cut();
+    if (flush_log(is_synced) != 0 && fault == 0)
+        fault = EIO;
+    return fault == 0 ? 0 : failed(it, fault, from != NULL ? "write" : "read", size, offset);
+}
+
+static int plugin_pread(void *handle, void *to, uint32_t size, uint64_t offset, uint32_t flags)
+{
+    struct connection *it = handle;
+    (void)flags;
+    if (it->is_control) {
+        char text[CONTROL_SIZE];
+        int end = put_counts(text, sizeof text);
+        memset(text + end, '\n', sizeof text - (size_t)end);
+        memcpy(to, text + offset, size);
+        return 0;
+    }
+    return transfer(it, to, NULL, size, offset, 0);
+}
+
+/* A word for the power switch or the clock. */
+static int command(const char *from, uint32_t size, uint64_t offset)
+{
+    char text[40] = "";
+    uint64_t ticks = 0, before = disk.count[PCM_CUT];
+    int is_cut, is_wait, fault = 0;
+    memcpy(text, from, size < sizeof text ? size : sizeof text - 1);
+    text[strcspn(text, "\n")] = 0;
+    is_cut = strcmp(text, "cut") == 0 || (strncmp(text, "cut ", 4) == 0 && is_number(text + 4, &ticks));
+    is_wait = strncmp(text, "wait ", 5) == 0 && is_number(text + 5, &ticks);
+    if (offset != 0 || (!is_cut && !is_wait) || ticks > PCM_LAST_TICK - disk.now) {
+        nbdkit_error("control takes 'cut', 'cut N' and 'wait N', N ticks up to 2^40 in all");
+        return EINVAL;
+    }
+    if (is_cut)
+        disk.cut_at = disk.now + ticks;
+    if (is_wait || ticks == 0)
+        fault = pcm_disk_go_on(&disk, disk.now + (is_wait ? ticks : 0));
+    if (disk.count[PCM_CUT] != before)
+        next_cut();
+    if (flush_log(0) != 0)
+        fault = EIO;
+    return fault == ESHUTDOWN ? 0 : fault; /* (that is what was asked for) */
+}
+
+static int plugin_pwrite(void *handle, const void *from, uint32_t size, uint64_t offset, uint32_t flags)
+{
+    struct connection *it = handle;
+    if (!it->is_control)
+        return transfer(it, NULL, from, size, offset, (flags & NBDKIT_FLAG_FUA) != 0);
+    int fault = command(from, size, offset);
+    return fault == 0 ? 0 : fault == EINVAL ? (nbdkit_set_error(EINVAL), -1) : failed(it, fault, "command", size, offset);
+}
+
+/* The module has nothing to flush; its log has. */
+static int plugin_flush(void *handle, uint32_t flags)
+{
+    (void)handle;
+    (void)flags;
+    if (flush_log(1) == 0)
+        return 0;
+    nbdkit_set_error(EIO);
+    return -1;
+}
+
+#define HELP \
+    "pcm=PROGRAM        the program `pcm` (./pcm, or pcm on the search path)\n" \
+    "log=FILE           a trace of all rows; where it has some, the disk is what they leave. FILE.args has its options\n" \
+    "report=FILE        counts of all outcomes, written at the end\n" \
+    "banks=A regions=B lines=N line=64|128 spares=S seed=X write-queue=W read-queue=R psi=N policy=pause|plain|cancel\n" \
+    "registers=guarded|array read-ticks=T iter-ticks=T lo=N hi=N misses=N end=drain|off\n" \
+    "                   the module's options, as of pcm stream\n" \
+    "atomic=0|512|4096  bytes of a sector that no power cut tears\n" \
+    "cuts=N cut-seed=X  a power cut each N ticks or so: drawn from 1 to 2N\n" \
+    "cut-ticks=T,T,..   power cuts at these ticks\n" \
+    "on-cut=drop|ride   connections that there are get EIO from then on, or notice nothing\n" \
+    "row-ticks=N        ticks from a row to the next\n" \
+    "straight=true      the disk's lines are the module's in their order\n" \
+    "tick-ns=N          real time: a tick lasts so many nanoseconds"
+
+static struct nbdkit_plugin plugin = {
+    .name = "pcm",
+    .longname = "phase-change memory module",
+    .description = "a disk on a verified simulator of phase-change memory",
+    .config_help = HELP,
+    .magic_config_key = "pcm",
+    .unload = plugin_unload,
+    .config = plugin_config,
+    .config_complete = plugin_config_complete,
+    .after_fork = plugin_after_fork,
+    .cleanup = plugin_cleanup,
+    .open = plugin_open,
+    .close = plugin_close,
+    .list_exports = plugin_list_exports,
+    .get_size = plugin_get_size,
+    .block_size = plugin_block_size,
+    .can_write = yes,
+    .can_flush = yes,
+    .can_fua = plugin_can_fua,
+    .can_multi_conn = yes,
+    .pread = plugin_pread,
+    .pwrite = plugin_pwrite,
+    .flush = plugin_flush,
+    .errno_is_preserved = 0,
+};
+
+NBDKIT_REGISTER_PLUGIN(plugin)

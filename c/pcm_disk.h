@@ -1,0 +1,656 @@
+/* pcm_disk.h: a proved phase-change memory module as a disk: bytes at offsets, over pcm_stream.h.
+
+   One header, POSIX; it compiles as C11 and as C++17, with -pedantic-errors and without a macro of the caller's. Nothing is allocated. Each call
+   answers 0, or a number of errno.h.
+
+       static struct pcm_disk disk;
+       struct pcm_disk_shape shape = pcm_disk_default;        // 16 banks of 16 regions of 256 lines of 128 bytes: 8 MiB
+       const char *program[] = {"./pcm", "stream", NULL};
+       int fault = pcm_disk_open(&disk, program, &shape, NULL);
+       if (fault == 0) fault = pcm_disk_write(&disk, bytes, 4096, 512);       // durable as soon as it answers 0
+       if (fault == 0) fault = pcm_disk_read(&disk, bytes, 4096, 512);
+       int status = pcm_disk_close(&disk);
+
+   What is promised. A write that answered 0 outlives every power cut: each of its lines is accepted by the module, and by the theorem
+   about the module a read gives a line's newest accepted write, however a cut tore the cells (MODEL.md, 'A power cut'). A write that a cut
+   ends is written up to some line of the module, and not from there on; no line is half written. With `atomic` the same holds of
+   sectors of 512 or 4,096 bytes. There is no cache to flush, and writes of one disk are made in their order.
+
+   Time. The disk has one clock, in the module's ticks, and one request at a time: a request begins where the one before it ended, and each of
+   its lines is a row, `row_ticks` behind the last. A write ends when all its lines are accepted; where too many lines wait to be stored,
+   it goes on once some are. A read ends when all its lines are answered. pcm_disk_go_on lets time pass in which nobody asks for
+   anything. Each wait has an end: a bank that stores nothing within the time in which MODEL.md says that it must has stopped.
+
+   Banks. Neighbouring lines of the disk go round the banks, and then round their regions, so that they are stored side by side. The disk knows
+   each line's bank (FORMATS.md, 'The randomiser's words') and never sends a bank more writes than its queue holds, nor more reads than
+   it lets wait: no row is `full` or `busy`.
+
+   Wear. Where a bank has found no spare, or has halted at a worn control line, the disk only reads from then on: writes answer EROFS,
+   and all that was accepted is read as before.
+
+   Logs. disk.pcm.log and disk.pcm.context (pcm_stream.h) are the caller's behind pcm_disk_open: the rows that are handed to it but for S,
+   behind a header, are a trace of the disk's life, which pcm_disk_replay plays again. */
+#ifndef PCM_DISK_H
+#define PCM_DISK_H
+
+#include "pcm_stream.h"
+
+#ifdef __cplusplus
+extern "C" {
+#endif
+
+/* The module's options that the disk must know, which are handed to the program, and how its bytes lie on the module. */
+struct pcm_disk_shape {
+    uint32_t banks, regions;    /* powers of two up to 64 (`pcm run`: 16) */
+    uint32_t lines;             /* of a region: a power of two from 4 on; all together at most 2^26 (`pcm run`: 2^16) */
+    uint32_t line;              /* bytes: 64 or 128 */
+    uint32_t spares, write_queue, read_queue, read_ticks, iter_ticks;
+    uint32_t atomic;            /* bytes of a sector that no cut tears: 512 or 4096; 0: lines are what isn't torn */
+    uint32_t straight;          /* not 0: the disk's lines are the module's in their order, of which neighbours often share a bank */
+    uint64_t seed;
+};
+static const struct pcm_disk_shape pcm_disk_default = {16, 16, 256, 128, 8, 32, 32, 5, 10, 0, 0, 0};
+
+/* No cut is due. */
+#define PCM_DISK_NEVER UINT64_MAX
+/* The most banks and lines of a module, and rows from a write's to the last one before it is known to be stored. */
+#define PCM_DISK_BANKS 64
+#define PCM_DISK_LINES (UINT32_C(1) << 26)
+#define PCM_DISK_SPAN 65536
+/* The largest sector, and how many entries of the map are looked up at once. */
+#define PCM_DISK_SECTOR 4096
+#define PCM_DISK_ENTRIES 32
+
+struct pcm_disk {
+    struct pcm_disk_shape shape;
+    uint64_t now;            /* the disk's clock: no row has a later tick, and nothing is known of what comes behind it */
+    uint64_t cut_at;         /* the caller's: the tick of the next power cut, or PCM_DISK_NEVER. It comes whatever the disk does then */
+    int rides;               /* the caller's: whether requests go on behind a cut (reads that it lost are asked again) */
+    uint32_t row_ticks;      /* the caller's: from a row to the next; 1 behind pcm_disk_open */
+    uint64_t count[PCM_SETTLED]; /* how often each outcome came, by enum pcm_kind */
+    uint64_t settles;        /* how often the program was waited for */
+    uint32_t waiting;        /* writes that are accepted and neither stored nor merged, as far as is known */
+    int worn;                /* not 0: a bank takes no writes any more, and the disk only reads */
+    /* From here on the disk's own. */
+    uint32_t key[3], low, high;     /* of the randomiser: its keys, and the sizes of its halves */
+    uint32_t sectors, free_block;   /* with `atomic`: how many there are, and which of the sectors + 1 blocks of lines holds none of them */
+    uint32_t writes[PCM_DISK_BANKS], reads[PCM_DISK_BANKS]; /* how many of each wait in a bank, as far as is known */
+    uint8_t bank_of[PCM_DISK_SPAN]; /* of a write that waits, by its row's number: its bank, from 1 */
+    int refused;             /* a write of this request was refused */
+    uint8_t *to;             /* where the bytes of this read go; NULL outside a read */
+    uint64_t offset;
+    size_t size;
+    uint32_t first_row, first_line, asked, unanswered; /* its rows under way: `asked` of them, from these numbers on */
+    uint8_t sector[PCM_DISK_SECTOR]; /* the one that is put together */
+    struct pcm pcm;
+};
+
+/* Starts a program of streams, `program` being its first words, with the shape and with other options of the module (`options`: words, NULL
+   behind them; or NULL). All words are only lent. Its module is new: all bytes are 0. EINVAL where there is no such shape; EPIPE where the
+   program refuses its options; what the system says where it can't be started. Whatever it answers, pcm_disk_close frees what it took. */
+static inline int pcm_disk_open(struct pcm_disk *disk, const char *const program[], const struct pcm_disk_shape *shape,
+                                const char *const options[]);
+/* A row of an earlier life of the disk, with its LF, is sent again: before the first request, and behind the rows before it. EINVAL where it
+   is none, or its tick falls. What it does to the module is what it did then; nobody is answered. */
+static inline int pcm_disk_replay(struct pcm_disk *disk, const char *row);
+/* Behind the last replayed row: the power was off since. All writes that were acknowledged then are there. */
+static inline int pcm_disk_resume(struct pcm_disk *disk);
+/* How many bytes it has. With `atomic` they are somewhat fewer than the module's: a block and a map of four bytes a sector are set aside. */
+static inline uint64_t pcm_disk_size(const struct pcm_disk *disk);
+/* Reads any bytes. Where it answers 0, each byte is that of the newest write which was acknowledged, or which a cut ended behind it.
+   ESHUTDOWN where a cut came meanwhile (`to` may have changed in part); EINVAL where it isn't all within the disk; EIO where time (2^40 ticks) or
+   rows (2^32 - 2) are at their end, or the program's answers are none; EPIPE where the program has ended. */
+static inline int pcm_disk_read(struct pcm_disk *disk, void *to, size_t size, uint64_t offset);
+/* Writes any bytes; a part of a line is a masked write. Where it answers 0, all are durable. Where it answers anything else, they are written
+   up to some line (with `atomic`, some sector), and not from there on: ESHUTDOWN where a cut came; EROFS where the disk only reads since a bank
+   takes no writes any more (then a line between may be missing, too); else as a read. */
+static inline int pcm_disk_write(struct pcm_disk *disk, const void *from, size_t size, uint64_t offset);
+/* Time passes up to a tick, where it isn't there yet: waiting writes are stored. ESHUTDOWN where a cut comes and the disk doesn't ride through
+   it: its clock stands at the cut then, and nothing that was acknowledged is lost. */
+static inline int pcm_disk_go_on(struct pcm_disk *disk, uint64_t tick);
+/* No more rows come: the module ends as the option --end says. Counts all outcomes that are left, and answers the program's status: 0; 1 where
+   a write was refused, or a cut lost reads; another where it had a fault, and -1 where it was killed. */
+static inline int pcm_disk_close(struct pcm_disk *disk);
+/* The bank of a line of the module, and the line of the module that is a line of the disk. */
+static inline uint32_t pcm_disk_bank(const struct pcm_disk *disk, uint32_t line);
+static inline uint32_t pcm_disk_line(const struct pcm_disk *disk, uint32_t line);
+
+/* From here on: how. */
+
+static inline uint32_t pcm_disk__all_lines(const struct pcm_disk *disk)
+{
+    return disk->shape.banks * disk->shape.regions * disk->shape.lines;
+}
+
+static inline uint64_t pcm_disk_size(const struct pcm_disk *disk)
+{
+    return disk->shape.atomic != 0 ? (uint64_t)disk->sectors * disk->shape.atomic : (uint64_t)pcm_disk__all_lines(disk) * disk->shape.line;
+}
+
+static inline int pcm_disk__fault(enum pcm_result result)
+{
+    return result == PCM_OK ? 0 : result == PCM_ENDED ? EPIPE : result == PCM_FAILED ? errno : EIO;
+}
+
+/* So many ticks one try of a line write takes at most (MODEL.md, 'How long it takes'). */
+static inline uint64_t pcm_disk__try(const struct pcm_disk *disk)
+{
+    return disk->shape.read_ticks + (uint64_t)(disk->shape.line == 64 ? 160 : 208) * disk->shape.iter_ticks;
+}
+
+/* A round of the randomiser: what a half, by a key, is xored into the other half with. (Halves have at most 13 bits, keys 16.) */
+static inline uint32_t pcm_disk__round(uint32_t half, uint32_t key, uint32_t size)
+{
+    return (half ^ key) * (half ^ key) % size;
+}
+
+static inline uint32_t pcm_disk_bank(const struct pcm_disk *disk, uint32_t line)
+{
+    uint32_t right = line % disk->low, left = line / disk->low;
+    left ^= pcm_disk__round(right, disk->key[0], disk->high);
+    right ^= pcm_disk__round(left, disk->key[1], disk->low);
+    left ^= pcm_disk__round(right, disk->key[2], disk->high);
+    return (left * disk->low + right) / (disk->shape.regions * disk->shape.lines);
+}
+
+static inline uint32_t pcm_disk_line(const struct pcm_disk *disk, uint32_t line)
+{
+    const struct pcm_disk_shape *shape = &disk->shape;
+    if (shape->straight)
+        return line;
+    uint32_t round = line / shape->banks;
+    uint32_t spread = (line % shape->banks * shape->regions + round % shape->regions) * shape->lines + round / shape->regions;
+    uint32_t right = spread % disk->low, left = spread / disk->low;
+    left ^= pcm_disk__round(right, disk->key[2], disk->high);
+    right ^= pcm_disk__round(left, disk->key[1], disk->low);
+    left ^= pcm_disk__round(right, disk->key[0], disk->high);
+    return left * disk->low + right;
+}
+
+/* The part of a read's line that was asked for goes to its caller. */
+static inline void pcm_disk__copy(struct pcm_disk *disk, const struct pcm_outcome *it)
+{
+    uint32_t line = disk->first_line + (it->row - disk->first_row);
+    uint64_t begin = (uint64_t)line * disk->shape.line, end = begin + disk->shape.line;
+    uint64_t from = begin < disk->offset ? disk->offset : begin;
+    uint64_t until = end > disk->offset + disk->size ? disk->offset + disk->size : end;
+    memcpy(disk->to + (from - disk->offset), it->bytes + (from - begin), (size_t)(until - from));
+    disk->reads[pcm_disk_bank(disk, pcm_disk_line(disk, line))]--;
+    disk->unanswered--;
+}
+
+/* What became of a row. */
+static inline void pcm_disk__note(struct pcm_disk *disk, const struct pcm_outcome *it)
+{
+    uint8_t *bank = &disk->bank_of[it->row % PCM_DISK_SPAN];
+    int is_asked = disk->to != NULL && it->row - disk->first_row < disk->asked;
+    if (it->kind >= PCM_SETTLED)
+        return;
+    disk->count[it->kind]++;
+    switch (it->kind) {
+    case PCM_FULL_QUEUE:
+    case PCM_WORN:
+        disk->refused = disk->worn = 1;
+        /* fall through */
+    case PCM_STORED:
+    case PCM_MERGED:
+        if (*bank != 0) {
+            disk->writes[*bank - 1]--;
+            disk->waiting--;
+            *bank = 0;
+        }
+        break;
+    case PCM_READ:
+    case PCM_FORWARDED:
+        if (is_asked && it->size == disk->shape.line)
+            pcm_disk__copy(disk, it);
+        break;
+    case PCM_BUSY:
+    case PCM_LOST:
+        disk->unanswered -= (uint32_t)is_asked;
+        break;
+    default:
+        break;
+    }
+}
+
+static inline void pcm_disk__take(void *context, const struct pcm_outcome *outcome)
+{
+    pcm_disk__note((struct pcm_disk *)context, outcome);
+}
+
+/* Every bank goes on to a tick; what is known then is noted. */
+static inline int pcm_disk__settle(struct pcm_disk *disk, uint64_t tick)
+{
+    disk->now = tick;
+    disk->settles++;
+    return pcm_disk__fault(pcm_settle_all(&disk->pcm, tick, pcm_disk__take, disk));
+}
+
+/* One row at the disk's tick. */
+static inline int pcm_disk__send(struct pcm_disk *disk, char op, uint32_t line, const uint8_t *bytes, const uint8_t *given)
+{
+    enum pcm_result result;
+    for (;;) {
+        if (op == 'C')
+            result = pcm_cut(&disk->pcm, disk->now);
+        else if (op == 'R')
+            result = pcm_read(&disk->pcm, disk->now, line);
+        else if (op == 'W')
+            result = pcm_write(&disk->pcm, disk->now, line, bytes, disk->shape.line);
+        else
+            result = pcm_write_masked(&disk->pcm, disk->now, line, bytes, given, disk->shape.line);
+        struct pcm_outcome outcome;
+        if (result != PCM_FULL || (result = pcm_next(&disk->pcm, &outcome)) != PCM_OK)
+            break;
+        pcm_disk__note(disk, &outcome);
+    }
+    if (result == PCM_OK && (op == 'W' || op == 'M')) {
+        uint32_t bank = pcm_disk_bank(disk, line);
+        disk->bank_of[disk->pcm.rows % PCM_DISK_SPAN] = (uint8_t)(bank + 1);
+        disk->writes[bank]++;
+        disk->waiting++;
+    }
+    return pcm_disk__fault(result);
+}
+
+/* Brings the clock to a tick; where the cut is due by then, it comes first. With `settles` all that is known then is noted. */
+static inline int pcm_disk__to(struct pcm_disk *disk, uint64_t tick, int settles)
+{
+    int fault = 0;
+    if (tick > PCM_LAST_TICK)
+        return EIO;
+    if (disk->cut_at <= tick) {
+        disk->now = disk->cut_at < disk->now ? disk->now : disk->cut_at;
+        disk->cut_at = PCM_DISK_NEVER;
+        fault = pcm_disk__send(disk, 'C', 0, NULL, NULL);
+        if (fault == 0)
+            fault = pcm_disk__settle(disk, disk->now);
+        if (fault == 0 && !disk->rides)
+            fault = ESHUTDOWN;
+    }
+    if (fault == 0 && settles)
+        fault = pcm_disk__settle(disk, tick);
+    else if (fault == 0)
+        disk->now = tick;
+    return fault;
+}
+
+/* Lets time pass until a bank takes one more write; where it holds all that it may, until it takes `wanted` more, if so many are stored
+   before its queue is half empty: so the bank is never idle, and the program isn't waited for at each line. A bank that has stopped
+   stores nothing within the time that every write is stored in: its writes stand in its queue for ever, and would be waited for as long. */
+static inline int pcm_disk__room(struct pcm_disk *disk, uint32_t bank, uint32_t wanted)
+{
+    uint64_t step = disk->shape.read_ticks + disk->shape.iter_ticks, still = 0;
+    uint64_t most = 5 * pcm_disk__try(disk) * (2 * (2 * (uint64_t)disk->shape.write_queue + disk->shape.spares) + 1);
+    uint32_t least = 1, half = disk->shape.write_queue / 2;
+    if (disk->writes[bank] >= disk->shape.write_queue && half > 1)
+        least = wanted < half ? wanted : half;
+    while (disk->writes[bank] + least > disk->shape.write_queue || disk->bank_of[(disk->pcm.rows + 1) % PCM_DISK_SPAN] != 0) {
+        uint64_t cuts = disk->count[PCM_CUT];
+        uint32_t held = disk->writes[bank] + least > disk->shape.write_queue ? disk->writes[bank] + least - disk->shape.write_queue : 1;
+        uint64_t jump = still < 64 * step ? step * held : step;
+        int fault = pcm_disk__to(disk, disk->now + jump, 1);
+        if (fault != 0)
+            return fault;
+        still = disk->count[PCM_CUT] != cuts ? 0 : still + jump;
+        if (still > most) {
+            disk->worn = 1;
+            return EROFS;
+        }
+        if (still > 64 * step)
+            step *= 2;
+    }
+    return 0;
+}
+
+/* Writes bytes of the disk's lines in their order. `refused` tells behind it whether one of them wasn't accepted. */
+static inline int pcm_disk__put(struct pcm_disk *disk, const uint8_t *from, size_t size, uint64_t offset)
+{
+    uint32_t line = disk->shape.line;
+    int fault = 0;
+    while (fault == 0 && size > 0) {
+        uint32_t at = (uint32_t)(offset % line), part = size < line - at ? (uint32_t)size : line - at;
+        uint32_t here = pcm_disk_line(disk, (uint32_t)(offset / line));
+        fault = pcm_disk__room(disk, pcm_disk_bank(disk, here), (uint32_t)(size / line / disk->shape.banks) + 1);
+        if (fault == 0)
+            fault = pcm_disk__to(disk, disk->now + disk->row_ticks, 0);
+        if (fault == 0 && part == line) {
+            fault = pcm_disk__send(disk, 'W', here, from, NULL);
+        } else if (fault == 0) {
+            uint8_t whole[PCM_MOST_BYTES] = {0}, given[PCM_MOST_BYTES] = {0};
+            memcpy(whole + at, from, part);
+            memset(given + at, 1, part);
+            fault = pcm_disk__send(disk, 'M', here, whole, given);
+        }
+        from += part;
+        offset += part;
+        size -= part;
+    }
+    /* what was sent is answered, whatever came: so no answer is left for the next request (behind a cut it has been) */
+    if (fault == 0)
+        fault = pcm_disk__to(disk, disk->now, 1);
+    else if (fault == EIO || fault == EROFS)
+        pcm_disk__settle(disk, disk->now);
+    return fault == 0 && disk->refused ? EROFS : fault;
+}
+
+/* The most reads that wait in a bank. */
+static inline uint32_t pcm_disk__most_reads(const struct pcm_disk *disk)
+{
+    uint32_t most = 0;
+    for (uint32_t i = 0; i < disk->shape.banks; i++)
+        most = disk->reads[i] > most ? disk->reads[i] : most;
+    return most;
+}
+
+/* Asks for lines from `next` on, as many as may wait at once, up to `end`; then lets time pass until all are answered. It ends early, and
+   all are to be asked for again, where a cut comes. */
+static inline int pcm_disk__ask(struct pcm_disk *disk, uint32_t next, uint32_t end)
+{
+    uint64_t cuts = disk->count[PCM_CUT], most;
+    int fault = 0;
+    disk->first_row = disk->pcm.rows + 1;
+    disk->first_line = next;
+    disk->asked = disk->unanswered = 0;
+    memset(disk->reads, 0, sizeof disk->reads);
+    while (fault == 0 && next + disk->asked < end && disk->count[PCM_CUT] == cuts) {
+        uint32_t here = pcm_disk_line(disk, next + disk->asked), bank = pcm_disk_bank(disk, here);
+        if (disk->reads[bank] >= disk->shape.read_queue)
+            break;
+        fault = pcm_disk__to(disk, disk->now + disk->row_ticks, 0);
+        if (fault != 0 || disk->count[PCM_CUT] != cuts)
+            break;
+        disk->asked++;
+        disk->unanswered++;
+        disk->reads[bank]++;
+        fault = pcm_disk__send(disk, 'R', here, NULL, NULL);
+    }
+    /* each bank answers at most one in so many ticks: the clock never goes further beyond the last answer than a sense takes */
+    most = disk->now + pcm_disk__try(disk) + (uint64_t)(disk->shape.read_queue + 2) * disk->shape.read_ticks;
+    while (fault == 0 && disk->unanswered > 0 && disk->count[PCM_CUT] == cuts)
+        fault = disk->now > most ? EIO : pcm_disk__to(disk, disk->now + (uint64_t)pcm_disk__most_reads(disk) * disk->shape.read_ticks, 1);
+    return fault;
+}
+
+/* Reads bytes of the disk's lines in their order. */
+static inline int pcm_disk__get(struct pcm_disk *disk, uint8_t *to, size_t size, uint64_t offset)
+{
+    uint32_t line = disk->shape.line, next = (uint32_t)(offset / line), end = (uint32_t)((offset + size + line - 1) / line);
+    int fault = 0;
+    disk->to = to;
+    disk->offset = offset;
+    disk->size = size;
+    while (fault == 0 && size > 0 && next < end) {
+        uint64_t cuts = disk->count[PCM_CUT];
+        fault = pcm_disk__ask(disk, next, end);
+        if (fault == 0 && disk->count[PCM_CUT] == cuts)
+            next += disk->asked;
+    }
+    disk->to = NULL;
+    return fault;
+}
+
+/* Sectors. Block b of the disk's lines are those of bytes b*atomic on; there are sectors + 1 blocks, and behind them the map, which has a word
+   of four bytes for each sector, the lowest byte first: the number of its block, xored with its own. So a new module's map, all 0, gives
+   each sector its own block, the last block is free, and ever after the words of all sectors and the free block's number, xored, are the
+   number of sectors. A sector is written into the free block; a masked write of its word, which is accepted or isn't, then makes it the sector's,
+   and the block before is free. (As the Linux block translation table, with one free block, since one request comes at a time.) */
+static inline uint64_t pcm_disk__word(const struct pcm_disk *disk, uint32_t sector)
+{
+    return ((uint64_t)disk->sectors + 1) * disk->shape.atomic + 4 * (uint64_t)sector;
+}
+
+/* Of so many words of the map: the blocks of sectors. EIO where one is none. */
+static inline int pcm_disk__blocks(struct pcm_disk *disk, uint32_t *blocks, uint32_t sector, uint32_t count)
+{
+    uint8_t words[4 * PCM_DISK_ENTRIES];
+    int fault = pcm_disk__get(disk, words, 4 * (size_t)count, pcm_disk__word(disk, sector));
+    for (uint32_t i = 0; fault == 0 && i < count; i++) {
+        const uint8_t *word = words + 4 * i;
+        blocks[i] = (sector + i) ^ ((uint32_t)word[0] | (uint32_t)word[1] << 8 | (uint32_t)word[2] << 16 | (uint32_t)word[3] << 24);
+        if (blocks[i] > disk->sectors)
+            fault = EIO;
+    }
+    return fault;
+}
+
+/* Which block is free, by the map. */
+static inline int pcm_disk__find_free(struct pcm_disk *disk)
+{
+    uint32_t blocks[PCM_DISK_ENTRIES], found = disk->sectors;
+    int fault = 0;
+    for (uint32_t sector = 0; fault == 0 && sector < disk->sectors; sector += PCM_DISK_ENTRIES) {
+        uint32_t count = disk->sectors - sector < PCM_DISK_ENTRIES ? disk->sectors - sector : PCM_DISK_ENTRIES;
+        fault = pcm_disk__blocks(disk, blocks, sector, count);
+        for (uint32_t i = 0; fault == 0 && i < count; i++)
+            found ^= blocks[i] ^ (sector + i);
+    }
+    disk->free_block = found;
+    return fault == 0 && found > disk->sectors ? EIO : fault;
+}
+
+/* Writes a part of one sector. */
+static inline int pcm_disk__put_sector(struct pcm_disk *disk, const uint8_t *from, uint32_t size, uint32_t sector, uint32_t at)
+{
+    uint32_t whole = disk->shape.atomic, block = 0, word;
+    int fault = pcm_disk__blocks(disk, &block, sector, 1);
+    if (fault == 0 && size < whole)
+        fault = pcm_disk__get(disk, disk->sector, whole, (uint64_t)block * whole);
+    if (fault == 0 && size < whole) {
+        memcpy(disk->sector + at, from, size);
+        from = disk->sector;
+    }
+    if (fault == 0)
+        fault = pcm_disk__put(disk, from, whole, (uint64_t)disk->free_block * whole);
+    if (fault != 0)
+        return fault;
+    word = sector ^ disk->free_block;
+    const uint8_t bytes[4] = {(uint8_t)word, (uint8_t)(word >> 8), (uint8_t)(word >> 16), (uint8_t)(word >> 24)};
+    uint32_t rows = disk->pcm.rows;
+    uint64_t cuts = disk->count[PCM_CUT];
+    fault = pcm_disk__put(disk, bytes, 4, pcm_disk__word(disk, sector));
+    /* (what was sent beside cuts is the word's row: it was accepted, also where the cut came behind it) */
+    if (disk->pcm.rows - rows > disk->count[PCM_CUT] - cuts && !disk->refused)
+        disk->free_block = block;
+    return fault;
+}
+
+static inline int pcm_disk__put_sectors(struct pcm_disk *disk, const uint8_t *from, size_t size, uint64_t offset)
+{
+    uint32_t whole = disk->shape.atomic;
+    int fault = 0;
+    while (fault == 0 && size > 0) {
+        uint32_t at = (uint32_t)(offset % whole), part = size < whole - at ? (uint32_t)size : whole - at;
+        fault = pcm_disk__put_sector(disk, from, part, (uint32_t)(offset / whole), at);
+        from += part;
+        offset += part;
+        size -= part;
+    }
+    return fault;
+}
+
+static inline int pcm_disk__get_sectors(struct pcm_disk *disk, uint8_t *to, size_t size, uint64_t offset)
+{
+    uint32_t whole = disk->shape.atomic, blocks[PCM_DISK_ENTRIES], held = 0, known = 0;
+    int fault = 0;
+    while (fault == 0 && size > 0) {
+        uint32_t sector = (uint32_t)(offset / whole), at = (uint32_t)(offset % whole), part = size < whole - at ? (uint32_t)size : whole - at;
+        if (sector >= held + known || known == 0) {
+            uint64_t left = (at + (uint64_t)size + whole - 1) / whole;
+            held = sector;
+            known = left < PCM_DISK_ENTRIES ? (uint32_t)left : PCM_DISK_ENTRIES;
+            fault = pcm_disk__blocks(disk, blocks, held, known);
+        }
+        if (fault == 0)
+            fault = pcm_disk__get(disk, to, part, (uint64_t)blocks[sector - held] * whole + at);
+        to += part;
+        offset += part;
+        size -= part;
+    }
+    return fault;
+}
+
+static inline int pcm_disk__bad(const struct pcm_disk *disk, size_t size, uint64_t offset)
+{
+    return offset > pcm_disk_size(disk) || size > pcm_disk_size(disk) - offset ? EINVAL : 0;
+}
+
+static inline int pcm_disk_write(struct pcm_disk *disk, const void *from, size_t size, uint64_t offset)
+{
+    int fault = pcm_disk__bad(disk, size, offset);
+    if (fault != 0 || size == 0)
+        return fault;
+    if (disk->worn)
+        return EROFS;
+    disk->refused = 0;
+    return disk->shape.atomic != 0 ? pcm_disk__put_sectors(disk, (const uint8_t *)from, size, offset)
+                                   : pcm_disk__put(disk, (const uint8_t *)from, size, offset);
+}
+
+static inline int pcm_disk_read(struct pcm_disk *disk, void *to, size_t size, uint64_t offset)
+{
+    int fault = pcm_disk__bad(disk, size, offset);
+    if (fault != 0)
+        return fault;
+    return disk->shape.atomic != 0 ? pcm_disk__get_sectors(disk, (uint8_t *)to, size, offset) : pcm_disk__get(disk, (uint8_t *)to, size, offset);
+}
+
+static inline int pcm_disk_go_on(struct pcm_disk *disk, uint64_t tick)
+{
+    return tick >= disk->now ? pcm_disk__to(disk, tick, 1) : 0;
+}
+
+/* Reads a number of a row, of at most so many digits, and its comma; NULL where there is none. */
+static inline const char *pcm_disk__field(const char *at, uint64_t *number, int most)
+{
+    const char *begin = at;
+    for (*number = 0; *at >= '0' && *at <= '9' && at - begin < most; at++)
+        *number = 10 * *number + (uint64_t)(*at - '0');
+    return at > begin && *at == ',' ? at + 1 : NULL;
+}
+
+/* Reads the bytes of a row that writes, and answers where they end; NULL where they are none. */
+static inline const char *pcm_disk__bytes(const char *at, char op, uint8_t *bytes, uint8_t *given, uint32_t size)
+{
+    for (uint32_t i = 0; i < size; i++, at += 2) {
+        int high = pcm__digit(at[0]), low = high < 0 ? -1 : pcm__digit(at[1]);
+        given[i] = low >= 0;
+        bytes[i] = low >= 0 ? (uint8_t)(high << 4 | low) : 0;
+        if (low < 0 && (op == 'W' || at[0] != '.' || at[1] != '.'))
+            return NULL;
+    }
+    return at;
+}
+
+static inline int pcm_disk_replay(struct pcm_disk *disk, const char *row)
+{
+    uint8_t bytes[PCM_MOST_BYTES], given[PCM_MOST_BYTES];
+    uint64_t tick = 0, line = 0;
+    const char *at = pcm_disk__field(row, &tick, 13);
+    char op = at != NULL ? *at : 0;
+    if (op == 0 || strchr("RWMC", op) == NULL || at[1] != ',' || tick < disk->now || tick > PCM_LAST_TICK)
+        return EINVAL;
+    at = op != 'C' ? pcm_disk__field(at + 2, &line, 8) : at[2] == ',' ? at + 3 : NULL;
+    if (at != NULL && (op == 'W' || op == 'M'))
+        at = pcm_disk__bytes(at, op, bytes, given, disk->shape.line);
+    if (at == NULL || strcmp(at, "\n") != 0 || line >= pcm_disk__all_lines(disk) || (op == 'M' && memchr(given, 1, disk->shape.line) == NULL))
+        return EINVAL;
+    disk->now = tick;
+    /* (a write's place among those that wait is free now, as it was then) */
+    const uint8_t *place = &disk->bank_of[(disk->pcm.rows + 1) % PCM_DISK_SPAN];
+    int fault = *place != 0 ? pcm_disk__settle(disk, tick) : 0;
+    if (fault == 0 && *place != 0)
+        fault = EINVAL;
+    return fault == 0 ? pcm_disk__send(disk, op, (uint32_t)line, bytes, given) : fault;
+}
+
+static inline int pcm_disk_resume(struct pcm_disk *disk)
+{
+    int fault = pcm_disk__send(disk, 'C', 0, NULL, NULL);
+    if (fault == 0)
+        fault = pcm_disk__settle(disk, disk->now);
+    return fault == 0 && disk->shape.atomic != 0 ? pcm_disk__find_free(disk) : fault;
+}
+
+/* Whether a number is a power of two from `least` to `most`. */
+static inline int pcm_disk__is_power(uint32_t number, uint32_t least, uint32_t most)
+{
+    return number >= least && number <= most && (number & (number - 1)) == 0;
+}
+
+/* The shape, its randomiser and its sectors. EINVAL where there is no such one. */
+static inline int pcm_disk__shape(struct pcm_disk *disk, const struct pcm_disk_shape *shape)
+{
+    uint64_t all = (uint64_t)shape->banks * shape->regions * shape->lines, bytes = all * shape->line;
+    disk->shape = *shape;
+    if (!pcm_disk__is_power(shape->banks, 1, PCM_DISK_BANKS) || !pcm_disk__is_power(shape->regions, 1, 64)
+        || !pcm_disk__is_power(shape->lines, 4, PCM_DISK_LINES) || all > PCM_DISK_LINES || !pcm_disk__is_power(shape->line, 64, PCM_MOST_BYTES))
+        return EINVAL;
+    for (uint64_t i = 0; i < 3; i++) {
+        uint64_t word = shape->seed + (i + 1) * UINT64_C(0x9e3779b97f4a7c15);
+        word = (word ^ word >> 30) * UINT64_C(0xbf58476d1ce4e5b9);
+        word = (word ^ word >> 27) * UINT64_C(0x94d049bb133111eb);
+        disk->key[i] = (uint32_t)(word ^ word >> 31) & 0xffff;
+    }
+    for (disk->low = 1; (uint64_t)disk->low * disk->low * 4 <= all;)
+        disk->low *= 2;
+    disk->high = (uint32_t)(all / disk->low);
+    if (shape->atomic == 0)
+        return 0;
+    if ((shape->atomic != 512 && shape->atomic != PCM_DISK_SECTOR) || bytes < 2 * (uint64_t)shape->atomic + 4)
+        return EINVAL;
+    disk->sectors = (uint32_t)((bytes - shape->atomic) / (shape->atomic + 4));
+    if (disk->sectors > 8)
+        disk->sectors -= disk->sectors % 8; /* (so the disk is of whole pages) */
+    disk->free_block = disk->sectors;
+    return 0;
+}
+
+static inline int pcm_disk_open(struct pcm_disk *disk, const char *const program[], const struct pcm_disk_shape *shape,
+                                const char *const options[])
+{
+    const uint64_t numbers[] = {shape->banks,       shape->regions,    shape->lines,      shape->line,       shape->spares,
+                                shape->write_queue, shape->read_queue, shape->read_ticks, shape->iter_ticks, shape->seed};
+    const char *const names[] = {"--banks",       "--regions",    "--lines",      "--line",       "--spares",
+                                 "--write-queue", "--read-queue", "--read-ticks", "--iter-ticks", "--seed"};
+    char texts[10][21];
+    const char *words[64] = {NULL};
+    int n = 0;
+    memset(disk, 0, offsetof(struct pcm_disk, pcm));
+    disk->pcm.to = disk->pcm.from = -1;
+    disk->pcm.process = -1;
+    disk->cut_at = PCM_DISK_NEVER;
+    disk->row_ticks = 1;
+    if (pcm_disk__shape(disk, shape) != 0)
+        return EINVAL;
+    for (int i = 0; program[i] != NULL && n < 8; i++)
+        words[n++] = program[i];
+    for (int i = 0; i < 10; i++) {
+        *pcm__put_number(texts[i], numbers[i]) = 0;
+        words[n++] = names[i];
+        words[n++] = texts[i];
+    }
+    for (int i = 0; options != NULL && options[i] != NULL; i++) {
+        if (n == 63)
+            return EINVAL;
+        words[n++] = options[i];
+    }
+    int fault = pcm_disk__fault(pcm_open_apart(&disk->pcm, words));
+    return fault == 0 ? pcm_disk__settle(disk, 0) : fault; /* (words that are refused show here) */
+}
+
+static inline int pcm_disk_close(struct pcm_disk *disk)
+{
+    struct pcm_outcome it;
+    if (disk->pcm.from >= 0 && pcm_finish(&disk->pcm) == PCM_OK)
+        while (pcm_next(&disk->pcm, &it) == PCM_OK)
+            pcm_disk__note(disk, &it);
+    return pcm_close(&disk->pcm);
+}
+
+#ifdef __cplusplus
+}
+#endif
+
+#endif

@@ -1,0 +1,376 @@
+/* Tests of pcm_disk.h over the program that the first word names. Prints 'N passed, M failed'. */
+#include "pcm_disk.h"
+
+static int passed, failed;
+
+static void check(int holds, const char *what)
+{
+    if (holds) {
+        passed++;
+    } else {
+        failed++;
+        fprintf(stderr, "failed: %s\n", what);
+    }
+}
+
+static uint64_t state = 88172645463325252u;
+static uint64_t draw(uint64_t below)
+{
+    state ^= state << 13;
+    state ^= state >> 7;
+    state ^= state << 17;
+    return (state >> 11) % below;
+}
+
+#define MOST 65536
+static const char *program[3] = {NULL, "stream", NULL};
+static struct pcm_disk disk;
+static uint8_t shadow[MOST], bytes[MOST], got[MOST];
+static const struct pcm_disk_shape small = {4, 2, 16, 64, 4, 8, 4, 5, 10, 0, 0, 0};
+
+static void fill(uint8_t *to, size_t size)
+{
+    for (size_t i = 0; i < size; i++)
+        to[i] = (uint8_t)draw(256);
+}
+
+/* Which part is asked for: any bytes, at most `most` of them. */
+static void draw_part(uint64_t *offset, size_t *size, uint64_t most)
+{
+    *offset = draw(pcm_disk_size(&disk));
+    *size = (size_t)(1 + draw(most));
+    if (*size > pcm_disk_size(&disk) - *offset)
+        *size = (size_t)(pcm_disk_size(&disk) - *offset);
+}
+
+static int reads_as_it_should(void)
+{
+    size_t size = (size_t)pcm_disk_size(&disk);
+    return pcm_disk_read(&disk, got, size, 0) == 0 && memcmp(got, shadow, size) == 0;
+}
+
+/* What a cut left of a write: the units (lines, or sectors) before some unit, and no other. It goes into `shadow`; 1 where some are
+   written and others aren't, 0 where all or none are, -1 where it is anything else. */
+static int left_of(size_t size, uint64_t offset, uint32_t unit)
+{
+    size_t edge = 0;
+    if (pcm_disk_read(&disk, got, size, offset) != 0)
+        return -1;
+    while (edge < size && got[edge] == bytes[edge])
+        edge++;
+    if (edge < size) {
+        uint64_t first = (offset + edge) / unit * unit;
+        edge = first > offset ? (size_t)(first - offset) : 0;
+    }
+    if (memcmp(got + edge, shadow + offset + edge, size - edge) != 0)
+        return -1;
+    memcpy(shadow + offset, got, size);
+    return edge > 0 && edge < size;
+}
+
+/* A log of rows, as a trace. */
+static void keep(void *log, char op, const char *row, size_t size)
+{
+    if (op != 'S')
+        fwrite(row, 1, size, (FILE *)log);
+}
+
+/* Requests beside an array, with cuts that the disk rides through, or that end a request. */
+static void requests(const struct pcm_disk_shape *shape, const char *const options[], int rides, FILE *log)
+{
+    int right = 1, whole = 1, cuts = 0, torn = 0, reads = 0;
+    memset(shadow, 0, sizeof shadow);
+    check(pcm_disk_open(&disk, program, shape, options) == 0, "a disk is opened");
+    disk.rides = rides;
+    disk.pcm.log = log != NULL ? keep : NULL;
+    disk.pcm.context = log;
+    for (int i = 0; i < 2000; i++) {
+        uint64_t offset, before = disk.count[PCM_CUT];
+        size_t size;
+        int fault;
+        if (disk.cut_at == PCM_DISK_NEVER && draw(4) == 0)
+            disk.cut_at = disk.now + draw(200);
+        draw_part(&offset, &size, 1500);
+        if (draw(2) == 0) {
+            fault = pcm_disk_read(&disk, got, size, offset);
+            right &= fault == 0 ? memcmp(got, shadow + offset, size) == 0 : fault == ESHUTDOWN && !rides;
+            reads += fault == 0;
+        } else {
+            fill(bytes, size);
+            fault = pcm_disk_write(&disk, bytes, size, offset);
+            if (fault == 0) {
+                memcpy(shadow + offset, bytes, size);
+            } else if (fault == ESHUTDOWN && !rides) {
+                int left = left_of(size, offset, shape->atomic != 0 ? shape->atomic : shape->line);
+                whole &= left >= 0;
+                torn += left > 0;
+            } else {
+                right = 0;
+            }
+        }
+        cuts += disk.count[PCM_CUT] != before;
+    }
+    disk.cut_at = PCM_DISK_NEVER;
+    check(right && reads > 300 && reads_as_it_should(), "every read is right");
+    check(whole && (rides || torn > 10), "a write that a cut ends is torn where the disk says");
+    check(cuts > 100, "the power is cut");
+    check(disk.count[PCM_FULL_QUEUE] == 0 && disk.count[PCM_BUSY] == 0, "no row is full or busy");
+    int status = pcm_disk_close(&disk), lost = disk.count[PCM_LOST] > 0;
+    check(status == lost, "the status tells of lost reads alone");
+    check(disk.waiting == 0, "nothing is left in a queue");
+}
+
+/* A cut at every tick of a write of three sectors, beginning and ending within some: each is the old one or the new one, and the first ones are
+   new. Answers how many writes were torn within a sector. */
+static int cuts_at_every_tick(const struct pcm_disk_shape *shape, uint32_t sector, const char *const options[], FILE *log)
+{
+    int right = 1, torn = 0, ended = 0, whole = 0, at = 0;
+    memset(shadow, 0, sizeof shadow);
+    check(pcm_disk_open(&disk, program, shape, options) == 0, "a disk is opened");
+    disk.pcm.log = log != NULL ? keep : NULL;
+    disk.pcm.context = log;
+    for (; at < 20000 && whole < 3; at++) {
+        uint64_t begin = draw(pcm_disk_size(&disk) / sector - 3) * sector, offset = begin + draw(sector);
+        size_t size = (size_t)(2 * sector + draw(sector));
+        fill(bytes, size);
+        disk.cut_at = disk.now + (uint64_t)at;
+        int fault = pcm_disk_write(&disk, bytes, size, offset);
+        if (fault == 0) {
+            memcpy(shadow + offset, bytes, size);
+            whole++;
+        } else if (fault == ESHUTDOWN) {
+            int left;
+            ended++;
+            if ((left = left_of(size, offset, sector)) < 0) {
+                torn++;
+                right &= pcm_disk_read(&disk, shadow + offset, size, offset) == 0;
+            }
+        } else {
+            right = 0;
+        }
+        disk.cut_at = PCM_DISK_NEVER;
+    }
+    check(right && ended > 30 && whole == 3, "a cut at each tick of a write");
+    check(reads_as_it_should(), "all is read as it was left");
+    check(pcm_disk_close(&disk) <= 1, "status 0 or 1");
+    return torn;
+}
+
+static int play(FILE *log, const struct pcm_disk_shape *shape)
+{
+    char row[PCM_MOST_ROW];
+    int fault = pcm_disk_open(&disk, program, shape, NULL);
+    rewind(log);
+    while (fault == 0 && fgets(row, sizeof row, log) != NULL)
+        fault = pcm_disk_replay(&disk, row);
+    fseek(log, 0, SEEK_END);
+    disk.pcm.log = keep;
+    disk.pcm.context = log;
+    return fault == 0 ? pcm_disk_resume(&disk) : fault;
+}
+
+/* A disk goes on from its log. */
+static void logs(const struct pcm_disk_shape *shape)
+{
+    FILE *log = tmpfile();
+    requests(shape, NULL, 0, log);
+    for (int again = 0; again < 3; again++) {
+        check(play(log, shape) == 0, "a log is replayed");
+        check(reads_as_it_should(), "it is read as it was");
+        shadow[1] ^= 1;
+        check(pcm_disk_write(&disk, shadow + 1, 1, 1) == 0, "it is written");
+        check(pcm_disk_close(&disk) <= 1, "it ends");
+    }
+    fclose(log);
+}
+
+static void rows_of_no_log(void)
+{
+    const char *none[] = {"5,W,0,12\n", "5,S,,\n", "a text", "", "\n", "5,C,,", "5,R,0,\r\n", "5,R,512,\n", "5,R,128,\n", "99999999999999,C,,\n",
+                          "5,R,,\n", "5,C,0,\n", "5,M,0,....\n", "-1,C,,\n"};
+    for (int i = 0; i < 14; i++) {
+        check(pcm_disk_open(&disk, program, &small, NULL) == 0 && pcm_disk_replay(&disk, none[i]) == EINVAL, "a row that is none is refused");
+        check(pcm_disk_close(&disk) == 0, "status 0");
+    }
+    check(pcm_disk_open(&disk, program, &small, NULL) == 0 && pcm_disk_replay(&disk, "5,R,127,\n") == 0, "a row");
+    check(pcm_disk_replay(&disk, "4,R,0,\n") == EINVAL && pcm_disk_close(&disk) == 0, "whose successor may not be earlier");
+}
+
+/* The disk's banks are those that `PROGRAM map` prints. */
+static void banks(uint32_t count, uint32_t regions, uint32_t lines, uint64_t seed)
+{
+    static struct pcm map;
+    static uint8_t seen[65536];
+    struct pcm_disk_shape shape = small;
+    char texts[4][21];
+    const char *words[] = {program[0], "map", "--banks", texts[0], "--regions", texts[1], "--lines", texts[2], "--seed", texts[3], NULL};
+    const uint64_t numbers[] = {count, regions, lines, seed};
+    uint32_t all = count * regions * lines, right = 0;
+    enum pcm_result result;
+    const char *text;
+    shape.banks = count;
+    shape.regions = regions;
+    shape.lines = lines;
+    shape.seed = seed;
+    for (int i = 0; i < 4; i++)
+        *pcm__put_number(texts[i], numbers[i]) = 0;
+    check(pcm_disk_open(&disk, program, &shape, NULL) == 0, "a disk");
+    check(pcm_open(&map, words) == PCM_OK, "its map");
+    close(map.to);
+    map.to = -1;
+    while ((text = pcm__line(&map, &result)) != NULL) {
+        char *end;
+        uint32_t line = (uint32_t)strtoul(text, &end, 10);
+        right += end > text && *end == ',' && pcm_disk_bank(&disk, line) == strtoul(end + 1, NULL, 10);
+    }
+    check(pcm_close(&map) == 0 && right == all, "each line is in its bank");
+    memset(seen, 0, sizeof seen);
+    for (uint32_t line = right = 0; line < all; line++) {
+        uint32_t here = pcm_disk_line(&disk, line);
+        right += pcm_disk_bank(&disk, here) == line % count && here < all && seen[here]++ == 0;
+    }
+    check(right == all, "the disk's lines are all of them, round the banks in turn");
+    check(pcm_disk_close(&disk) == 0, "status 0");
+}
+
+/* A disk of 64 MiB or more: no row is full or busy, over queues of one, and all is read. */
+static void large(uint32_t count, uint32_t regions, uint32_t lines, uint32_t straight)
+{
+    struct pcm_disk_shape shape = {count, regions, lines, 64, 4, 1, 1, 5, 10, 0, straight, 7};
+    static uint8_t part[40][4096];
+    uint64_t at[40];
+    int right = 1;
+    check(pcm_disk_open(&disk, program, &shape, NULL) == 0, "a large disk");
+    check(pcm_disk_size(&disk) == (uint64_t)count * regions * lines * 64, "of its size");
+    for (int i = 0; i < 40; i++) {
+        at[i] = i == 0 ? pcm_disk_size(&disk) - 4096 : draw(pcm_disk_size(&disk) / 8192) * 8192 + 17;
+        for (int j = 0; j < i; j++)
+            if (at[j] == at[i])
+                at[j] = PCM_DISK_NEVER;
+        fill(part[i], 4096);
+        right &= pcm_disk_write(&disk, part[i], 4096, at[i]) == 0;
+    }
+    for (int i = 0; i < 40; i++)
+        right &= at[i] == PCM_DISK_NEVER || (pcm_disk_read(&disk, got, 4096, at[i]) == 0 && memcmp(got, part[i], 4096) == 0);
+    check(right, "what is written is read");
+    check(disk.count[PCM_FULL_QUEUE] == 0 && disk.count[PCM_BUSY] == 0, "no row is full or busy");
+    check(pcm_disk_close(&disk) == 0, "status 0");
+}
+
+/* Cells wear out: writes then answer EROFS, no request waits for ever, and all that was answered is read. */
+static void worn(const char *registers, uint64_t idle, uint32_t atomic)
+{
+    const char *options[] = {"--lo", "20", "--hi", "60", "--registers", registers, NULL};
+    struct pcm_disk_shape shape = small;
+    uint32_t unit = atomic != 0 ? atomic : 64;
+    int right = 1, written = 0;
+    shape.atomic = atomic;
+    memset(shadow, 0, sizeof shadow);
+    check(pcm_disk_open(&disk, program, &shape, options) == 0, "a disk of few changes is opened");
+    for (int i = 0; i < 100000 && !disk.worn; i++) {
+        uint64_t offset = unit * draw(pcm_disk_size(&disk) / unit);
+        int fault;
+        fill(bytes, unit);
+        fault = pcm_disk_write(&disk, bytes, unit, offset);
+        if (fault == 0)
+            memcpy(shadow + offset, bytes, unit);
+        written += fault == 0;
+        right &= fault == 0 || (fault == EROFS && disk.worn);
+        right &= pcm_disk_go_on(&disk, disk.now + idle) == 0;
+    }
+    check(right && disk.worn && written > 50, "it wears out");
+    check(pcm_disk_write(&disk, bytes, unit, 0) == EROFS, "and takes no write then");
+    check(reads_as_it_should(), "and is read as it was");
+    disk.cut_at = disk.now;
+    check(pcm_disk_go_on(&disk, disk.now) == ESHUTDOWN, "the power is cut");
+    check(reads_as_it_should(), "and it is read so behind it");
+    check(pcm_disk_close(&disk) == 1, "status 1");
+}
+
+static void misuse(void)
+{
+    const char *wrong[] = {"--psi", "0", NULL}, *none[] = {"/nowhere/pcm", NULL};
+    struct pcm_disk_shape odd = small;
+    check(pcm_disk_open(&disk, none, &small, NULL) == ENOENT && pcm_disk_close(&disk) == -1, "no program");
+    check(pcm_disk_open(&disk, program, &small, wrong) == EPIPE && pcm_disk_close(&disk) == 2, "an option out of range");
+    const struct pcm_disk_shape shapes[] = {
+        {3, 2, 16, 64, 4, 8, 4, 5, 10, 0, 0, 0}, {128, 2, 16, 64, 4, 8, 4, 5, 10, 0, 0, 0},   {4, 0, 16, 64, 4, 8, 4, 5, 10, 0, 0, 0},
+        {4, 2, 2, 64, 4, 8, 4, 5, 10, 0, 0, 0},  {4, 2, 16, 32, 4, 8, 4, 5, 10, 0, 0, 0},     {4, 2, 16, 256, 4, 8, 4, 5, 10, 0, 0, 0},
+        {4, 2, 16, 64, 4, 8, 4, 5, 10, 1024, 0, 0}, {64, 64, 32768, 64, 4, 8, 4, 5, 10, 0, 0, 0}, {1, 1, 4, 64, 4, 8, 4, 5, 10, 512, 0, 0},
+    };
+    for (int i = 0; i < 9; i++)
+        check(pcm_disk_open(&disk, program, &shapes[i], NULL) == EINVAL && pcm_disk_close(&disk) == -1, "a shape that there isn't");
+    odd.spares = 5000;
+    check(pcm_disk_open(&disk, program, &odd, NULL) == EPIPE && pcm_disk_close(&disk) == 2, "too many spares");
+    check(pcm_disk_open(&disk, program, &small, NULL) == 0, "a disk");
+    check(pcm_disk_size(&disk) == 8192, "of 8 KiB");
+    disk.cut_at = 70;
+    check(pcm_disk_go_on(&disk, 69) == 0 && disk.now == 69, "before a cut");
+    check(pcm_disk_go_on(&disk, 100) == ESHUTDOWN && disk.now == 70 && disk.pcm.rows == 1, "the cut at its tick");
+    check(pcm_disk_go_on(&disk, 100) == 0 && disk.now == 100, "behind it");
+    check(pcm_disk_read(&disk, got, 2, 8191) == EINVAL && pcm_disk_write(&disk, got, 1, UINT64_MAX) == EINVAL, "beyond its end");
+    check(pcm_disk_read(&disk, got, 0, 8192) == 0 && pcm_disk_write(&disk, got, 0, 8192) == 0 && disk.pcm.rows == 1, "nothing at its end");
+    check(pcm_disk_go_on(&disk, PCM_LAST_TICK) == 0 && pcm_disk_read(&disk, got, 1, 0) == EIO, "at the end of time");
+    check(pcm_disk_close(&disk) == 0, "status 0");
+}
+
+/* Under each policy, with both homes of the registers and both sizes of lines, without sectors and with them. */
+static void all_requests(void)
+{
+    const char *policies[] = {"pause", "plain", "cancel"};
+    for (int i = 0; i < 3; i++)
+        for (int rides = 0; rides < 2; rides++) {
+            const char *options[] = {"--policy", policies[i], "--misses", "3", "--psi", "3", "--registers", rides ? "array" : "guarded", NULL};
+            struct pcm_disk_shape wide = small, sectors = small;
+            requests(&small, options, rides, NULL);
+            wide.line = 128;
+            wide.write_queue = wide.read_queue = wide.straight = 1;
+            requests(&wide, options, rides, NULL);
+            sectors.atomic = 512;
+            sectors.lines = 32;
+            requests(&sectors, options, rides, NULL);
+        }
+}
+
+static void all_ticks(void)
+{
+    const char *options[] = {"--misses", "3", "--psi", "3", NULL}, *array[] = {"--registers", "array", "--psi", "2", "--policy", "cancel", NULL};
+    struct pcm_disk_shape shape = small;
+    check(cuts_at_every_tick(&shape, 512, options, NULL) > 10, "without sectors some of 512 bytes are torn");
+    shape.atomic = 512;
+    check(cuts_at_every_tick(&shape, 512, options, NULL) == 0, "with sectors of 512 bytes none is");
+    check(cuts_at_every_tick(&shape, 512, array, NULL) == 0, "nor with registers in the array");
+    shape.atomic = 4096;
+    shape.lines = 64;
+    FILE *log = tmpfile();
+    check(cuts_at_every_tick(&shape, 4096, options, log) == 0, "nor one of 4096 bytes");
+    fclose(log);
+}
+
+int main(int count, char **words)
+{
+    struct pcm_disk_shape sectors = small;
+    program[0] = count > 1 ? words[1] : "./pcm";
+    alarm(600); /* (a disk that waits for ever is no disk) */
+    all_requests();
+    all_ticks();
+    banks(4, 2, 16, 0);
+    banks(16, 16, 256, 5);
+    banks(2, 16, 128, UINT64_MAX);
+    banks(1, 1, 8, 3);
+    large(64, 64, 256, 0);
+    large(16, 4, 16384, 1);
+    logs(&small);
+    sectors.atomic = 512;
+    logs(&sectors);
+    rows_of_no_log();
+    for (uint64_t idle = 0; idle < 4000; idle += 2000) {
+        worn("guarded", idle, 0);
+        worn("array", idle, 0);
+        worn("guarded", idle, 512);
+        worn("array", idle, 512);
+    }
+    misuse();
+    printf("%d passed, %d failed\n", passed, failed);
+    return failed != 0;
+}
