@@ -1,5 +1,5 @@
 -- Which array line each slot of a bank has, after some slots were given spare lines.
-use Rattle.std.specs.Prelude.{◌≡◌, ◌≢◌, ℕ, ◌+◌, ◌^◌, ◌<◌, ◌≤◌, ◌==◌, if◌then◌else◌, List, [], ◌∷◌, ◌++◌, length, take, slice_index}
+use Rattle.std.specs.Prelude.{◌≡◌, ◌≢◌, ℕ, ◌+◌, ◌^◌, ◌<◌, ◌≤◌, ◌==◌, ◌%◌, if◌then◌else◌, List, [], ◌∷◌, ◌++◌, length, map, take, slice_index}
 use Rattle.spare_pool.specs.{declared.Owner.Owner, declared.Owner.TheVariants.{Slot, Free, Retired}}
 
 -- a table: how many slots and spares there are, and the slots that were given a spare, in order
@@ -41,15 +41,23 @@ pub record IsTable (table : Table) : Type 0 where
   pub within : used_by table ≤ table.spares
   pub known : (spare : ℕ) → spare < used_by table → slice_index table.replaced spare < table.slots
 
--- the line of a slot by what is kept of it: 0 where it has the line of its own number
-abbrev pub line_kept : ℕ → ℕ → ℕ
-line_kept kept slot = if kept == 0 then slot else kept
+-- the chain of a slot, in which the spares that it was given are looked for
+abbrev pub chain_of : ℕ → ℕ
+chain_of slot = slot % 256
 
--- the lists hold the table of the first `used` retirements
-abbrev pub stored_table : List ℕ → List ℕ → ℕ → Table
-stored_table lines replaced used = record { slots = length lines; spares = length replaced; replaced = take used replaced }
+-- the newest of these retirements whose slot is of a chain, counted from 1, or 0 for none
+abbrev pub newest_of : List ℕ → ℕ → ℕ
+newest_of replaced chain = line_from 1 0 (map chain_of replaced) chain
 
-pub record Stores (lines replaced : List ℕ) (used : ℕ) : Type 0 where
-  pub table : IsTable (stored_table lines replaced used)
+-- the table of so many slots, and of the first `used` of these retirements
+abbrev pub stored_table : ℕ → List ℕ → ℕ → Table
+stored_table slots replaced used = record { slots = slots; spares = length replaced; replaced = take used replaced }
+
+-- the lists hold it: a chain begins with its newest spare, and each spare leads to the one before it
+pub record Stores (slots : ℕ) (replaced : List ℕ) (used : ℕ) (heads links : List ℕ) : Type 0 where
+  pub table : IsTable (stored_table slots replaced used)
   pub within : used ≤ length replaced
-  pub each : (slot : ℕ) → slot < length lines → line_kept (slice_index lines slot) slot ≡ line_by (stored_table lines replaced used) slot
+  pub chains : length heads ≡ 256
+  pub linked : length links ≡ length replaced
+  pub newest : (chain : ℕ) → chain < 256 → slice_index heads chain ≡ newest_of (take used replaced) chain
+  pub before : (spare : ℕ) → spare < used → slice_index links spare ≡ newest_of (take spare replaced) (chain_of (slice_index replaced spare))

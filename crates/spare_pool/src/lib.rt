@@ -3,7 +3,7 @@
 #![tactic(auto)]
 
 ghost use Rattle.std.specs.Prelude.{◌≡◌, ◌≢◌, ℕ, ◌+◌, ◌^◌, ◌<◌, ◌≤◌, ◌==◌, ◌↔◌, if◌then◌else◌, IsOk, IfOk, IfSome, IfNone, OnOk, OnErr, slice_index};
-ghost use Rattle.spare_pool.specs.Table.{Table, IsTable, IsOwner, first_table, line_by, line_kept, used_by, retired_table};
+ghost use Rattle.spare_pool.specs.Table.{Table, IsTable, IsOwner, first_table, line_by, used_by, retired_table};
 
 use std::alloc::{AllocError, Global};
 use std::marker::Model;
@@ -23,14 +23,21 @@ pub enum Owner {
 #[derive(Clone, Copy, Debug, PartialEq, Eq)]
 pub struct NoSpare;
 
+// How many chains of spares there are; the slots of a chain are equal but for a multiple of this.
+const CHAINS: u32 = 256;
+
 /// The lines of a bank's slots. Lines are counted from the first line of the bank: those of the slots come first, in
-/// order, and then the spares.
+/// order, and then the spares. Its memory goes by the spares, not by the slots.
 #[derive(Debug, Drop)]
 pub struct Remap {
-    // Of each slot: its line where that is a spare, and else 0, so that slots that were given none cost no memory of the machine.
-    lines: Vec<u32>,
+    slots: u32,
+    // Of each used spare, the slot that it was given to.
     replaced: Vec<u32>,
     used: u32,
+    // Of each chain, the newest used spare whose slot is of it, counted from 1, or 0 for none.
+    heads: Vec<u32>,
+    // Of each used spare, the newest one before it whose slot is of the same chain, so counted too.
+    links: Vec<u32>,
 }
 
 impl Model for Remap {
@@ -38,9 +45,9 @@ impl Model for Remap {
 
     ghost Value = { Table };
 
-    ghost view = { λ r. stored_table r.lines.items r.replaced.items r.used };
+    ghost view = { λ r. stored_table r.slots r.replaced.items r.used };
 
-    ghost invariant = { λ r. Stores r.lines.items r.replaced.items r.used };
+    ghost invariant = { λ r. Stores r.slots r.replaced.items r.used r.heads.items r.links.items };
 }
 
 impl Remap {
@@ -50,12 +57,15 @@ impl Remap {
         ensures fresh { IfOk result (λ remap. remap ≡ first_table slots spares) }
         ensures in_range { IfOk result IsTable }
     {
-        let lines = vec![in alloc; 0; slots as usize]?;
         let replaced = vec![in alloc; 0; spares as usize]?;
+        let heads = vec![in alloc; 0; CHAINS as usize]?;
+        let links = vec![in alloc; 0; spares as usize]?;
         Ok(Remap {
-            lines,
+            slots,
             replaced,
             used: 0,
+            heads,
+            links,
         })
     }
 
@@ -68,7 +78,25 @@ impl Remap {
             → other ≡ slot }
         ensures in_range { IsTable self.now }
     {
-        line_kept(self.lines[slot as usize], slot)
+        if self.used == 0 {
+            return slot;
+        }
+        self.find_line(slot)
+    }
+
+    // The line of a slot where spares are used: those of its chain are looked through, the newest first.
+    fn find_line(&self, slot: u32) -> u32
+        ensures { result ≡ line_by self.now slot }
+    {
+        let mut number = self.heads[(slot % CHAINS) as usize];
+        while number > 0 {
+            let spare = number - 1;
+            if self.replaced[spare as usize] == slot {
+                return self.slots + spare;
+            }
+            number = self.links[spare as usize];
+        }
+        slot
     }
 
     /// Gives a slot the next spare line, which is the answer.
@@ -89,11 +117,13 @@ impl Remap {
         if self.used as usize == self.replaced.len() {
             return Err(NoSpare);
         }
-        let line = self.lines.len() as u32 + self.used;
-        self.replaced[self.used as usize] = slot;
-        self.lines[slot as usize] = line;
-        self.used += 1;
-        Ok(line)
+        let spare = self.used;
+        let chain = (slot % CHAINS) as usize;
+        self.replaced[spare as usize] = slot;
+        self.links[spare as usize] = self.heads[chain];
+        self.heads[chain] = spare + 1;
+        self.used = spare + 1;
+        Ok(self.slots + spare)
     }
 
     /// Forgets all retirements: each slot has the line of its own number again. Takes no memory.
@@ -101,10 +131,7 @@ impl Remap {
         ensures first { self.new ≡ first_table self.old.slots self.old.spares }
         ensures in_range { IsTable self.new }
     {
-        for spare in 0..self.used as usize {
-            let slot = self.replaced[spare];
-            self.lines[slot as usize] = 0;
-        }
+        self.heads.fill(0);
         self.used = 0;
     }
 
@@ -141,7 +168,7 @@ impl Remap {
         ensures in_range { IsTable self.now }
     {
         // A field that is read makes known what is true of every table.
-        let _ = &self.lines;
+        let _ = &self.replaced;
         match self.only_taker(line) {
             None => Owner::Free,
             Some(slot) if self.line_of(slot) == line => Owner::Slot(slot),
@@ -158,20 +185,12 @@ impl Remap {
         ensures only { IfSome result (λ slot. (other : ℕ) → other < self.now.slots
             → line_by self.now other ≡ line → other ≡ slot) }
     {
-        let slots = self.lines.len() as u32;
-        if line < slots {
+        if line < self.slots {
             Some(line)
-        } else if line - slots < self.used {
-            Some(self.replaced[(line - slots) as usize])
+        } else if line - self.slots < self.used {
+            Some(self.replaced[(line - self.slots) as usize])
         } else {
             None
         }
     }
-}
-
-// The line of a slot by what is kept of it.
-fn line_kept(kept: u32, slot: u32) -> u32
-    ensures { result ≡ line_kept kept slot }
-{
-    if kept == 0 { slot } else { kept }
 }
