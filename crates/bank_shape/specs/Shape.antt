@@ -1,6 +1,6 @@
 -- The sizes of a bank: its slots, its array lines, and the slot where a line stands.
 use Rattle.std.specs.Prelude.{ℕ, Bool, true, false, ◌+◌, ◌*◌, ◌/◌, ◌%◌, ◌^◌, ◌<◌, ◌≤◌}
-use Rattle.start_gap.specs.Rotation.{place_after}
+use Rattle.start_gap.specs.Rotation.{most_lines, place_after}
 use Rattle.bank_shape.specs.{declared.BankShape.BankShape, declared.Home.Home}
 use Rattle.bank_shape.specs.declared.Home.TheVariants as home
 
@@ -51,7 +51,7 @@ pub record IsBankShape (shape : BankShape) : Type 0 where
   pub some_regions : 1 ≤ shape.regions
   pub few_regions : shape.regions ≤ 64
   pub some_lines : 1 ≤ shape.lines
-  pub few_lines : shape.lines ≤ 67108864
+  pub few_lines : shape.lines ≤ most_lines
   pub few_spares : shape.spares ≤ 1024
   pub some_writes : 1 ≤ shape.writes
   pub few_writes : shape.writes ≤ 256

@@ -2,12 +2,12 @@
 use Rattle.std.specs.{Prelude.{◌≡◌, ◌≤◌, ℕ, nat_le, if◌then◌else◌, List, codes, Option, Some, None}, Str.bytes_eq}
 use Rattle.clap.specs.Words.{Row, Text, first_of}
 use Rattle.trace_reader.specs.Number.{number_of}
-use Rattle.trace_gen.specs.declared.mix.Mix.{Mix}
+use Rattle.trace_gen.specs.{Generated.whole_lines, declared.mix.Mix.Mix}
 use Rattle.cell_rows.specs.declared.array.Wear.{Wear}
 use Rattle.bank_shape.specs.{declared.Home.Home, declared.pace.Policy.Policy}
 use Rattle.bank_shape.specs.declared.Home.TheVariants as home
 use Rattle.bank_shape.specs.declared.pace.Policy.TheVariants as policy
-use Rattle.module_shape.specs.{Limits.{most_large, most_small, shape_fault}, declared.raw.Field.Field, declared.raw.RawShape.RawShape}
+use Rattle.module_shape.specs.{Limits.{large_limits, shape_fault, small_limits}, declared.raw.Field.Field, declared.raw.RawShape.RawShape}
 use Rattle.command_line.specs.{declared.job.Input.Input, declared.job.Input.TheVariants.{Source, Drawn}, declared.job.LineSize.LineSize}
 use Rattle.command_line.specs.{declared.job.LineSize.TheVariants.{Bytes64, Bytes128}, declared.job.Print.Print}
 use Rattle.command_line.specs.declared.job.Print.TheVariants as print
@@ -97,13 +97,13 @@ abbrev pub faultless : RawShape → Option Field → Option RawShape
 faultless raw None = Some raw
 faultless raw (Some field) = None
 
--- the sizes of the module, if it can have them
+-- the sizes of a small module, if it can have them
 unfoldable pub shape_of : List Row → Option RawShape
-shape_of rows = with_some (raw_of rows) (λ raw. faultless raw (shape_fault most_small raw))
+shape_of rows = with_some (raw_of rows) (λ raw. faultless raw (shape_fault small_limits raw))
 
--- so of a module that serves a stream
+-- and those of a large one
 unfoldable pub large_shape_of : List Row → Option RawShape
-large_shape_of rows = with_some (raw_of rows) (λ raw. faultless raw (shape_fault most_large raw))
+large_shape_of rows = with_some (raw_of rows) (λ raw. faultless raw (shape_fault large_limits raw))
 
 -- the seed
 abbrev pub seed_of : List Row → Option ℕ
@@ -117,36 +117,40 @@ wear_of seed rows =
     with_some (number_option (codes "misses") 0 0 7 rows) (λ misses.
     if nat_le lo hi then Some (record { seed = seed; lo = lo; hi = hi; misses = misses }) else None)))
 
--- what the rows of a generated trace of at most so many rows are: no more cuts than rows
-unfoldable pub mix_within : ℕ → List Row → Option Mix
-mix_within most rows =
+-- what the rows of a generated trace are, of at most so many rows and hot lines: no more cuts than rows
+unfoldable pub mix_within : ℕ → ℕ → List Row → Option Mix
+mix_within most most_hot rows =
     with_some (number_option (codes "rows") 1000 1 most rows) (λ count.
     with_some (number_option (codes "write-percent") 50 0 100 rows) (λ percent.
     with_some (number_option (codes "cuts") 0 0 most rows) (λ cuts.
     with_some (number_option (codes "step") 10 0 65535 rows) (λ step.
-    with_some (number_option (codes "hot") 0 0 65536 rows) (λ hot.
+    with_some (number_option (codes "hot") 0 0 most_hot rows) (λ hot.
     if nat_le cuts count
     then Some (record { rows = count; write_percent = percent; cuts = cuts; step = step; hot = hot })
     else None)))))
 
 -- the rows that `run` draws and `gen` writes
 abbrev pub mix_of : List Row → Option Mix
-mix_of rows = mix_within 400000 rows
+mix_of rows = mix_within 400000 whole_lines rows
 
--- the numbers of a mix of at most so many rows are in range
-pub record IsMixWithin (most : ℕ) (mix : Mix) : Type 0 where
+-- the numbers of a mix of at most so many rows and hot lines are in range
+pub record IsMixWithin (most most_hot : ℕ) (mix : Mix) : Type 0 where
   pub some_rows : 1 ≤ mix.rows
   pub few_rows : mix.rows ≤ most
   pub percent : mix.write_percent ≤ 100
   pub few_cuts : mix.cuts ≤ mix.rows
   pub small_step : mix.step ≤ 65535
-  pub few_hot : mix.hot ≤ 65536
+  pub few_hot : mix.hot ≤ most_hot
 
 -- an input that is drawn has this mix
 abbrev pub HasMix : Mix → Input → Type 0
 HasMix mix Source = Unit {0}
 HasMix mix (Drawn own) = own ≡ mix
 
--- how many gap moves were made: up to a full turn of 4096 lines
+-- the most gap moves that a report may begin at: a full turn of 4,096 lines, which brings each line to where it was
+abbrev pub most_moves : ℕ
+most_moves = 16781312
+
+-- how many gap moves were made
 abbrev pub from_of : List Row → Option ℕ
-from_of rows = number_option (codes "from") 0 0 16781312 rows
+from_of rows = number_option (codes "from") 0 0 most_moves rows

@@ -4,7 +4,7 @@ ghost use Rattle.clap.specs.Words.{found_of, first_of, rows_of};
 ghost use Rattle.module_shape.specs.Limits.{IsShape, IsSmall};
 ghost use Rattle.cell_rows.specs.Device.{IsWear};
 ghost use Rattle.trace_gen.specs.Generated.{IsMix};
-ghost use Rattle.command_line.specs.Options.{number_or, number_option, size_option, policy_of, home_of, line_of, print_of, input_of, large_shape_of, raw_of, shape_of, seed_of, wear_of, mix_of, mix_within, from_of, HasMix, IsMixWithin};
+ghost use Rattle.command_line.specs.Options.{number_or, number_option, size_option, policy_of, home_of, line_of, print_of, input_of, large_shape_of, raw_of, shape_of, seed_of, wear_of, mix_of, mix_within, from_of, most_moves, HasMix, IsMixWithin};
 
 use crate::job::{Input, LineSize, Print};
 use cell_rows::Wear;
@@ -156,7 +156,7 @@ fn raw(matches: &ArgMatches<'_>) -> Option<RawShape>
     })
 }
 
-/// The shape of the module; None where it can't have these sizes.
+/// The shape of a small module, on which a whole trace is replayed; None where it can't have these sizes.
 #[tactic(auto, unfolding(crate::specs::Options::shape_of))]
 pub fn shape(matches: &ArgMatches<'_>) -> Option<Shape>
     ensures exact { result ≡ shape_of (rows_of (found_of matches.now)) }
@@ -169,7 +169,7 @@ pub fn shape(matches: &ArgMatches<'_>) -> Option<Shape>
     }
 }
 
-/// The shape of a module that serves a stream; None where it can't have these sizes.
+/// The shape of a large module, which serves a stream; None where it can't have these sizes.
 #[tactic(auto, unfolding(crate::specs::Options::large_shape_of))]
 pub fn large_shape(matches: &ArgMatches<'_>) -> Option<Shape>
     ensures exact { result ≡ large_shape_of (rows_of (found_of matches.now)) }
@@ -209,18 +209,18 @@ pub fn wear(matches: &ArgMatches<'_>, seed: u64) -> Option<Wear>
     })
 }
 
-/// What the rows of a generated trace of at most so many rows are.
+/// What the rows of a generated trace are, of at most so many rows and hot lines.
 #[tactic(auto, unfolding(crate::specs::Options::mix_within))]
-pub fn mix_within(matches: &ArgMatches<'_>, most: u32) -> Option<Mix>
+pub fn mix_within(matches: &ArgMatches<'_>, most: u32, most_hot: u32) -> Option<Mix>
     requires { 1000 ≤ most }
-    ensures exact { result ≡ mix_within most (rows_of (found_of matches.now)) }
-    ensures in_range { IfSome result (IsMixWithin most) }
+    ensures exact { result ≡ mix_within most most_hot (rows_of (found_of matches.now)) }
+    ensures in_range { IfSome result (IsMixWithin most most_hot) }
 {
     let rows = number_of(matches, "rows", 1000, 1, u64::from(most))?;
     let write_percent = number_of(matches, "write-percent", 50, 0, 100)?;
     let cuts = number_of(matches, "cuts", 0, 0, u64::from(most))?;
     let step = number_of(matches, "step", 10, 0, 65_535)?;
-    let hot = number_of(matches, "hot", 0, 0, 65_536)?;
+    let hot = number_of(matches, "hot", 0, 0, u64::from(most_hot))?;
     if rows < cuts {
         return None;
     }
@@ -238,13 +238,13 @@ pub(crate) fn mix(matches: &ArgMatches<'_>) -> Option<Mix>
     ensures exact { result ≡ mix_of (rows_of (found_of matches.now)) }
     ensures in_range { IfSome result IsMix }
 {
-    mix_within(matches, 400_000)
+    mix_within(matches, 400_000, 65_536)
 }
 
 // How many gap moves were made.
 pub(crate) fn from(matches: &ArgMatches<'_>) -> Option<u64>
     ensures exact { result ≡ from_of (rows_of (found_of matches.now)) }
-    ensures within { IfSome result (λ moves. moves ≤ 16781312) }
+    ensures within { IfSome result (λ moves. moves ≤ most_moves) }
 {
     number_of(matches, "from", 0, 0, 16_781_312)
 }

@@ -24,22 +24,21 @@ log2-between r n low high = halvings-between r n n (omega arith) low high
 pub log2-pow : (b : ℕ) → log2 (2 ^ b) ≡ b
 log2-pow b = log2-between b (2 ^ b) (omega arith) (omega (arith, pow_pos b))
 
--- how many bits the numbers of four lines or more have, and those of 65,536 and of 2^26 lines or fewer
+-- how many bits the numbers of four lines or more have, those of fewer lines than a power of two, and of 2^16 or 2^26 lines
 pub bits_some : (r n : ℕ) → 4 ≤ n → n < 2 * 2 ^ r → 2 ≤ r
 bits_some zero n some high = absurd (omega arith)
 bits_some (suc zero) n some high = absurd (omega arith)
 bits_some (suc (suc r)) n some high = omega arith
 
-pub bits_few : (r n : ℕ) → n ≤ 65536 → 2 ^ r ≤ n → r ≤ 16
-bits_few r n few low =
-    elim (cases_lt 16 r) [
-      | inl more ↦ absurd (omega (arith, pow-le-pow_right {n = 2} (lit< tt) {i = 17} {j = r} more))
+pub bits_below : (most r n : ℕ) → n < 2 ^ (most + 1) → 2 ^ r ≤ n → r ≤ most
+bits_below most r n few low =
+    elim (cases_lt most r) [
+      | inl more ↦ absurd (omega (arith, few, low, pow-le-pow_right {n = 2} (lit< tt) {i = most + 1} {j = r} (omega (arith, more))))
       | inr less ↦ less
     ]
 
+pub bits_few : (r n : ℕ) → n ≤ 65536 → 2 ^ r ≤ n → r ≤ 16
+bits_few r n few low = bits_below 16 r n (omega arith) low
+
 pub bits_large : (r n : ℕ) → n ≤ 67108864 → 2 ^ r ≤ n → r ≤ 26
-bits_large r n few low =
-    elim (cases_lt 26 r) [
-      | inl more ↦ absurd (omega (arith, pow-le-pow_right {n = 2} (lit< tt) {i = 27} {j = r} more))
-      | inr less ↦ less
-    ]
+bits_large r n few low = bits_below 26 r n (omega arith) low

@@ -2,9 +2,9 @@
 use Rattle.std.proofs.Common.{◌≡◌, ℕ, ◌+◌, ◌*◌, ◌^◌, ◌<◌, ◌≤◌, Bool, true, false, ◌&&◌, nat_le, List, [], ◌∷◌, None, refl, ap, ◌∙◌, arith}
 use Rattle.std.{specs.Int.is_power_of_two, proofs.Math.Nat.{mul_assoc, mul_comm, mul-add}, proofs.lemmas.Bool.and_parts, proofs.lemmas.Bool.Decides.nat_tests}
 use Rattle.std.proofs.lemmas.Nat.{mul-le}
-use Rattle.module_shape.specs.{Addresses.{module_of, lines_of}, Limits.{is_between, total_of, limits, first_broken, is_small, most_large, most_small, shape_fault, IsShape, IsSmall}, declared.raw.Field.Field}
+use Rattle.module_shape.specs.{Addresses.{module_of, lines_of}, Limits.{is_between, total_of, limits, first_broken, is_small, large_limits, small_limits, most_array_lines, shape_fault, IsShape, IsSmall}, declared.raw.Field.Field}
 use Rattle.feistel_map.specs.Log2.{log2}
-use Rattle.module_shape.{specs.declared.raw.Most.Most, specs.declared.raw.RawShape.RawShape, proofs.Powers.size_of_powers}
+use Rattle.module_shape.{specs.declared.raw.SizeLimits.SizeLimits, specs.declared.raw.RawShape.RawShape, proofs.Powers.size_of_powers}
 
 between : (least most n : ℕ) → is_between least most n ≡ true → (least ≤ n) × (n ≤ most)
 between least most n h =
@@ -31,7 +31,7 @@ all_kept (limit ∷ rest) h =
     (first.0, all_kept rest first.1)
 
 -- sizes with which nothing is wrong are within the limits
-pub record AreWithin (most : Most) (raw : RawShape) : Type 0 where
+pub record AreWithin (most : SizeLimits) (raw : RawShape) : Type 0 where
   pub banks : (1 ≤ raw.banks) × (raw.banks ≤ most.banks)
   pub regions : (1 ≤ raw.regions) × (raw.regions ≤ most.regions)
   pub lines : (4 ≤ raw.lines) × (raw.lines ≤ most.lines)
@@ -44,7 +44,7 @@ pub record AreWithin (most : Most) (raw : RawShape) : Type 0 where
   pub read_ticks : (1 ≤ raw.read_ticks) × (raw.read_ticks ≤ 255)
   pub iter_ticks : (1 ≤ raw.iter_ticks) × (raw.iter_ticks ≤ 255)
 
-pub within_limits : (most : Most) (raw : RawShape) → shape_fault most raw ≡ None → AreWithin most raw
+pub within_limits : (most : SizeLimits) (raw : RawShape) → shape_fault most raw ≡ None → AreWithin most raw
 unfolding shape_fault
 within_limits most raw h =
     let banks = all_kept (limits most raw) h in
@@ -75,7 +75,7 @@ within_limits most raw h =
     }
 
 -- limits that are within those of a large module
-shape-of : (most : Most) (raw : RawShape) → most.banks ≤ 64 → most.regions ≤ 64 → most.lines ≤ 67108864 → most.total ≤ 67108864 → AreWithin most raw → IsShape raw
+shape-of : (most : SizeLimits) (raw : RawShape) → most.banks ≤ large_limits.banks → most.regions ≤ large_limits.regions → most.lines ≤ large_limits.lines → most.total ≤ large_limits.total → AreWithin most raw → IsShape raw
 shape-of most raw banks regions lines total is = record {
   some_banks = is.banks.0;
   few_banks = omega (arith, is.banks.1, banks);
@@ -98,24 +98,30 @@ shape-of most raw banks regions lines total is = record {
   few_iter_ticks = is.iter_ticks.1;
 }
 
-pub large-shape : (raw : RawShape) → shape_fault most_large raw ≡ None → IsShape raw
-large-shape raw h = shape-of most_large raw (omega arith) (omega arith) (omega arith) (omega arith) (within_limits most_large raw h)
+pub large-shape : (raw : RawShape) → shape_fault large_limits raw ≡ None → IsShape raw
+large-shape raw h = shape-of large_limits raw (omega arith) (omega arith) (omega arith) (omega arith) (within_limits large_limits raw h)
 
-pub small-shape : (raw : RawShape) → shape_fault most_small raw ≡ None → IsShape raw
-small-shape raw h = shape-of most_small raw (omega arith) (omega arith) (omega arith) (omega arith) (within_limits most_small raw h)
+pub small-shape : (raw : RawShape) → shape_fault small_limits raw ≡ None → IsShape raw
+small-shape raw h = shape-of small_limits raw (omega arith) (omega arith) (omega arith) (omega arith) (within_limits small_limits raw h)
 
-pub is-small : (raw : RawShape) → shape_fault most_small raw ≡ None → IsSmall raw
+pub is-small : (raw : RawShape) → shape_fault small_limits raw ≡ None → IsSmall raw
 is-small raw h =
-    let is = within_limits most_small raw h in
+    let is = within_limits small_limits raw h in
     record { few_banks = is.banks.1; few_regions = is.regions.1; few_lines = is.lines.1; few_in_all = is.total }
 
 -- the sizes that are tested so
 pub small-by : (raw : RawShape) → is_small raw ≡ true → IsSmall raw
 small-by raw h =
-    let banks = and_parts (nat_le raw.banks 16) (nat_le raw.regions 16 && (nat_le raw.lines 4096 && nat_le (total_of raw) 65536)) h in
-    let regions = and_parts (nat_le raw.regions 16) (nat_le raw.lines 4096 && nat_le (total_of raw) 65536) banks.1 in
-    let lines = and_parts (nat_le raw.lines 4096) (nat_le (total_of raw) 65536) regions.1 in
-    record { few_banks = at_most 16 raw.banks banks.0; few_regions = at_most 16 raw.regions regions.0; few_lines = at_most 4096 raw.lines lines.0; few_in_all = at_most 65536 (total_of raw) lines.1 }
+    let most = small_limits in
+    let banks = and_parts (nat_le raw.banks most.banks) (nat_le raw.regions most.regions && (nat_le raw.lines most.lines && nat_le (total_of raw) most.total)) h in
+    let regions = and_parts (nat_le raw.regions most.regions) (nat_le raw.lines most.lines && nat_le (total_of raw) most.total) banks.1 in
+    let lines = and_parts (nat_le raw.lines most.lines) (nat_le (total_of raw) most.total) regions.1 in
+    record {
+      few_banks = at_most most.banks raw.banks banks.0;
+      few_regions = at_most most.regions raw.regions regions.0;
+      few_lines = at_most most.lines raw.lines lines.0;
+      few_in_all = at_most most.total (total_of raw) lines.1;
+    }
 
 -- one bank has no more lines than all
 pub bank-few : (banks regions lines most : ℕ) → 1 ≤ banks → banks * regions * lines ≤ most → regions * lines ≤ most
@@ -138,11 +144,11 @@ slots_few banks regions lines spares gaps behind total some rest few =
     let places : banks * (regions * 1) ≡ banks * regions = ap (λ n. banks * n) (omega arith) in
     omega (arith, mul_assoc banks regions lines)
 
-pub array_lines_few : (banks regions lines spares controls : ℕ) → banks ≤ 64 → regions ≤ 64 → spares ≤ 1024 → banks * regions * lines ≤ 67108864
-    → controls ≤ regions + spares + 1 → banks * (regions * (lines + 1) + spares + controls) ≤ 67248192
+pub array_lines_few : (banks regions lines spares controls : ℕ) → banks ≤ 64 → regions ≤ 64 → spares ≤ 1024 → banks * regions * lines ≤ large_limits.total
+    → controls ≤ regions + spares + 1 → banks * (regions * (lines + 1) + spares + controls) ≤ most_array_lines
 array_lines_few banks regions lines spares controls few also low total most =
     let behind = mul-le banks controls 64 1089 few (omega arith) in
-    let slots = slots_few banks regions lines spares 4096 65536 67108864 (mul-le banks regions 64 64 few also) (mul-le banks spares 64 1024 few low) total in
+    let slots = slots_few banks regions lines spares 4096 65536 large_limits.total (mul-le banks regions 64 64 few also) (mul-le banks spares 64 1024 few low) total in
     omega (arith, behind, slots, mul-add banks (regions * (lines + 1) + spares) controls)
 
 pub array_lines_small : (banks regions lines spares controls : ℕ) → banks ≤ 16 → regions ≤ 16 → spares ≤ 1024 → banks * regions * lines ≤ 65536

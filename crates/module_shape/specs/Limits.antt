@@ -1,8 +1,9 @@
--- Which sizes a module may have: one on which a whole trace is replayed, and one that serves a stream.
+-- Which sizes a module may have: a small one, on which a whole trace is replayed, and a large one, which serves a stream.
 use Rattle.std.specs.{Int.is_power_of_two, Prelude.{◌≡◌, ℕ, ◌*◌, ◌^◌, ◌≤◌, ◌&&◌, nat_le, Bool, if◌then◌else◌, List, [], ◌∷◌, Option, Some, None, Result, Ok, Err}}
 use Rattle.feistel_map.specs.Log2.{log2}
+use Rattle.start_gap.specs.Rotation.{most_lines}
 use Rattle.module_shape.specs.{declared.raw.BadShape.BadShape, declared.raw.Field.Field}
-use Rattle.module_shape.specs.{declared.raw.Field.TheVariants.{Banks, Regions, Lines, Total, Spares, Writes, Reads, Psi, ReadTicks, IterTicks}, declared.raw.Most.Most, declared.raw.RawShape.RawShape}
+use Rattle.module_shape.specs.{declared.raw.Field.TheVariants.{Banks, Regions, Lines, Total, Spares, Writes, Reads, Psi, ReadTicks, IterTicks}, declared.raw.SizeLimits.SizeLimits, declared.raw.RawShape.RawShape}
 
 -- whether a number lies between two others
 abbrev pub is_between : ℕ → ℕ → ℕ → Bool
@@ -16,16 +17,21 @@ is_power_between least most number = is_power_of_two number && is_between least 
 abbrev pub total_of : RawShape → ℕ
 total_of raw = raw.banks * raw.regions * raw.lines
 
--- the greatest sizes of a module on which a whole trace is replayed
-abbrev pub most_small : Most
-most_small = record { banks = 16; regions = 16; lines = 4096; total = 65536 }
+-- the greatest sizes of a small module, on which a whole trace is replayed: 4 MiB by lines of 64 bytes
+abbrev pub small_limits : SizeLimits
+small_limits = record { banks = 16; regions = 16; lines = 4096; total = 65536 }
 
--- and of one that serves a stream: 2 to the power 26 lines
-abbrev pub most_large : Most
-most_large = record { banks = 64; regions = 64; lines = 67108864; total = 67108864 }
+-- and of a large one, which serves a stream: 4 GiB
+abbrev pub large_limits : SizeLimits
+large_limits = record { banks = 64; regions = 64; lines = most_lines; total = most_lines }
+
+-- the most array lines of a large module: its lines, one more for each of 4,096 regions, and for each of 64 banks 1,024 spares and
+-- 1,089 control lines
+abbrev pub most_array_lines : ℕ
+most_array_lines = 67248192
 
 -- the limits, in the order in which they are looked at, and whether the numbers keep each
-abbrev pub limits : Most → RawShape → List (Field × Bool)
+abbrev pub limits : SizeLimits → RawShape → List (Field × Bool)
 limits most raw =
     (Banks, is_power_between 1 most.banks raw.banks)
     ∷ (Regions, is_power_between 1 most.regions raw.regions)
@@ -45,7 +51,7 @@ first_broken [] = None
 first_broken (limit ∷ rest) = if limit.1 then first_broken rest else Some limit.0
 
 -- what is wrong with the sizes of a module, if anything
-unfoldable pub shape_fault : Most → RawShape → Option Field
+unfoldable pub shape_fault : SizeLimits → RawShape → Option Field
 shape_fault most raw = first_broken (limits most raw)
 
 -- the sizes are accepted where nothing is wrong with them
@@ -53,18 +59,18 @@ abbrev pub accepted_by : RawShape → Option Field → Result RawShape BadShape
 accepted_by raw None = Ok raw
 accepted_by raw (Some field) = Err (record { field = field })
 
-abbrev pub accepted : Most → RawShape → Result RawShape BadShape
+abbrev pub accepted : SizeLimits → RawShape → Result RawShape BadShape
 accepted most raw = accepted_by raw (shape_fault most raw)
 
--- sizes within the limits of a module that serves a stream; its lines are numbered by whole bits
+-- sizes within the limits of a large module, as those of a small one are too; its lines are numbered by whole bits
 pub record IsShape (raw : RawShape) : Type 0 where
   pub some_banks : 1 ≤ raw.banks
-  pub few_banks : raw.banks ≤ 64
+  pub few_banks : raw.banks ≤ large_limits.banks
   pub some_regions : 1 ≤ raw.regions
-  pub few_regions : raw.regions ≤ 64
+  pub few_regions : raw.regions ≤ large_limits.regions
   pub some_lines : 4 ≤ raw.lines
-  pub few_lines : raw.lines ≤ 67108864
-  pub few_in_all : total_of raw ≤ 67108864
+  pub few_lines : raw.lines ≤ large_limits.lines
+  pub few_in_all : total_of raw ≤ large_limits.total
   pub whole_bits : 2 ^ log2 (total_of raw) ≡ total_of raw
   pub few_spares : raw.spares ≤ 1024
   pub some_writes : 1 ≤ raw.writes
@@ -78,13 +84,14 @@ pub record IsShape (raw : RawShape) : Type 0 where
   pub some_iter_ticks : 1 ≤ raw.iter_ticks
   pub few_iter_ticks : raw.iter_ticks ≤ 255
 
--- they are also within those of a module on which a whole trace is replayed
+-- they are also within those of a small module
 pub record IsSmall (raw : RawShape) : Type 0 where
-  pub few_banks : raw.banks ≤ 16
-  pub few_regions : raw.regions ≤ 16
-  pub few_lines : raw.lines ≤ 4096
-  pub few_in_all : total_of raw ≤ 65536
+  pub few_banks : raw.banks ≤ small_limits.banks
+  pub few_regions : raw.regions ≤ small_limits.regions
+  pub few_lines : raw.lines ≤ small_limits.lines
+  pub few_in_all : total_of raw ≤ small_limits.total
 
--- whether sizes of a module are those of one on which a whole trace is replayed
+-- whether the sizes of a module are those of a small one
 abbrev pub is_small : RawShape → Bool
-is_small raw = nat_le raw.banks 16 && (nat_le raw.regions 16 && (nat_le raw.lines 4096 && nat_le (total_of raw) 65536))
+is_small raw =
+    nat_le raw.banks small_limits.banks && (nat_le raw.regions small_limits.regions && (nat_le raw.lines small_limits.lines && nat_le (total_of raw) small_limits.total))

@@ -6,5 +6,5 @@ mod raw;
 mod shape;
 
 pub use bank_shape::{Home, Pace, Policy};
-pub use raw::{BadShape, Field, Most, RawShape};
+pub use raw::{BadShape, Field, RawShape, SizeLimits};
 pub use shape::{BankLine, Shape};

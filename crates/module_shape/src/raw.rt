@@ -1,27 +1,27 @@
 // The sizes that a module is asked to have, and the first that it can't have.
 ghost use Rattle.std.specs.Prelude.{◌≡◌, ◌≤◌, nat_le};
-ghost use Rattle.module_shape.specs.Limits.{is_between, is_power_between, most_large, most_small, shape_fault, total_of};
+ghost use Rattle.module_shape.specs.Limits.{is_between, is_power_between, large_limits, small_limits, shape_fault, total_of};
 
 use bank_shape::{Home, Policy};
 
 /// The greatest sizes that a module may have.
 #[derive(Clone, Copy, Debug, PartialEq, Eq)]
-pub struct Most {
-    /// Its banks.
+pub struct SizeLimits {
+    /// How many banks, a power of two.
     pub banks: u32,
-    /// The regions of a bank.
+    /// How many regions in a bank, a power of two.
     pub regions: u32,
-    /// The lines of a region.
+    /// How many lines in a region, a power of two.
     pub lines: u32,
-    /// Its lines in all.
+    /// How many lines in all.
     pub total: u32,
 }
 
-/// Those of a module on which a whole trace is replayed.
-pub(crate) fn small() -> Most
-    ensures { result ≡ most_small }
+/// Those of a small module, on which a whole trace is replayed: 4 MiB by lines of 64 bytes.
+pub(crate) fn small_limits() -> SizeLimits
+    ensures { result ≡ small_limits }
 {
-    Most {
+    SizeLimits {
         banks: 16,
         regions: 16,
         lines: 4096,
@@ -29,11 +29,11 @@ pub(crate) fn small() -> Most
     }
 }
 
-/// Those of a module that serves a stream.
-pub(crate) fn large() -> Most
-    ensures { result ≡ most_large }
+/// Those of a large module, which serves a stream: 4 GiB by lines of 64 bytes.
+pub(crate) fn large_limits() -> SizeLimits
+    ensures { result ≡ large_limits }
 {
-    Most {
+    SizeLimits {
         banks: 64,
         regions: 64,
         lines: 67_108_864,
@@ -41,15 +41,16 @@ pub(crate) fn large() -> Most
     }
 }
 
-/// The sizes of a module, in range or not. What stands here are the ranges of one on which a whole trace is replayed; one that
-/// serves a stream may have more banks, regions and lines.
+/// The sizes of a module, in range or not: a small one, on which a whole trace is replayed, or a large one, which serves a
+/// stream.
 #[derive(Clone, Copy, Debug, PartialEq, Eq)]
 pub struct RawShape {
-    /// How many banks the module has: a power of two, 1 to 16.
+    /// How many banks the module has: a power of two, 1 to 16, or to 64 in a large one.
     pub banks: u32,
-    /// How many regions each bank has: a power of two, 1 to 16.
+    /// How many regions each bank has: a power of two, 1 to 16, or to 64 in a large one.
     pub regions: u32,
-    /// How many lines each region has: a power of two, 4 to 4,096. The module has at most 65,536 lines.
+    /// How many lines each region has: a power of two, 4 to 4,096, and at most 65,536 in all; in a large module, at most
+    /// 67,108,864 in all.
     pub lines: u32,
     /// How many spare lines each bank has, 0 to 1,024.
     pub spares: u32,
@@ -113,7 +114,7 @@ fn has_at_most(raw: &RawShape, most: u32) -> bool
 
 /// The first size out of range.
 #[tactic(auto, unfolding(crate::specs::Limits::shape_fault))]
-pub fn fault(raw: &RawShape, most: &Most) -> Option<Field>
+pub fn fault(raw: &RawShape, most: &SizeLimits) -> Option<Field>
     requires few_banks { most.now.banks ≤ 64 }
     requires few_regions { most.now.regions ≤ 64 }
     ensures { result ≡ shape_fault most.now raw.now }

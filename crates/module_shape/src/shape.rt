@@ -3,10 +3,10 @@ ghost use Rattle.std.specs.Prelude.{◌≡◌, ◌+◌, ◌*◌, ◌^◌, ◌<�
 ghost use Rattle.feistel_map.specs.Log2.{log2};
 ghost use Rattle.bank_shape.specs.Shape.{IsBankShape, controls_of, lines_in};
 ghost use Rattle.bank_shape.specs.Pausing.{IsPace};
-ghost use Rattle.module_shape.specs.Limits.{IsShape, IsSmall, accepted, is_small, most_large, most_small, total_of};
+ghost use Rattle.module_shape.specs.Limits.{IsShape, IsSmall, accepted, is_small, large_limits, most_array_lines, small_limits, total_of};
 ghost use Rattle.module_shape.specs.Addresses.{module_of, pace_of, lines_of, array_lines_of, bank_shape, bank_of, bank_line_of};
 
-use crate::raw::{BadShape, RawShape, fault, large, small};
+use crate::raw::{BadShape, RawShape, fault, large_limits, small_limits};
 use bank_shape::{BankShape, Home, Pace};
 use feistel_map::Address;
 use std::marker::Model;
@@ -38,24 +38,24 @@ pub struct BankLine {
 }
 
 impl Shape {
-    /// The shape of these sizes, or the first one out of range: that of a module on which a whole trace is replayed.
+    /// The shape of a small module of these sizes, or the first one out of range.
     pub fn new(raw: RawShape) -> Result<Shape, BadShape>
-        ensures exact { result ≡ accepted most_small raw }
+        ensures exact { result ≡ accepted small_limits raw }
         ensures in_range { IfOk result IsShape }
         ensures small { IfOk result IsSmall }
     {
-        match fault(&raw, &small()) {
+        match fault(&raw, &small_limits()) {
             Some(field) => Err(BadShape { field }),
             None => Ok(Shape { raw }),
         }
     }
 
-    /// The same, of a module that serves a stream.
+    /// The same, of a large module.
     pub fn large(raw: RawShape) -> Result<Shape, BadShape>
-        ensures exact { result ≡ accepted most_large raw }
+        ensures exact { result ≡ accepted large_limits raw }
         ensures in_range { IfOk result IsShape }
     {
-        match fault(&raw, &large()) {
+        match fault(&raw, &large_limits()) {
             Some(field) => Err(BadShape { field }),
             None => Ok(Shape { raw }),
         }
@@ -69,12 +69,12 @@ impl Shape {
         &self.raw
     }
 
-    /// Whether the sizes are those of a module on which a whole trace is replayed.
+    /// Whether the sizes are those of a small module, on which a whole trace is replayed.
     pub fn is_small(&self) -> bool
         ensures exact { result ≡ is_small self.now }
         ensures small { IsTrue result → IsSmall self.now }
     {
-        let most = small();
+        let most = small_limits();
         self.raw.banks <= most.banks
             && self.raw.regions <= most.regions
             && self.raw.lines <= most.lines
@@ -100,7 +100,7 @@ impl Shape {
     /// How many array lines the module has: those of all its banks.
     pub fn array_lines(&self) -> u32
         ensures number { result ≡ self.now.banks * array_lines_of (module_of self.now) }
-        ensures few { result ≤ 67248192 }
+        ensures few { result ≤ most_array_lines }
         ensures in_range { IsShape self.now }
     {
         self.raw.banks * self.bank_lines()
@@ -109,7 +109,7 @@ impl Shape {
     // How many array lines a bank has.
     fn bank_lines(&self) -> u32
         ensures number { result ≡ array_lines_of (module_of self.now) }
-        ensures few { self.now.banks * result ≤ 67248192 }
+        ensures few { self.now.banks * result ≤ most_array_lines }
         ensures in_range { IsShape self.now }
     {
         self.raw.regions * (self.raw.lines + 1) + self.raw.spares + self.control_lines()

@@ -3,7 +3,7 @@ ghost use Rattle.std.specs.Prelude.{◌≡◌, ℕ, ◌+◌, ◌/◌, ◌%◌, �
 ghost use Rattle.masked_bytes.specs.Masked.{none_given, IsMasked};
 ghost use Rattle.masked_bytes.specs.Entries.{layer_of, newest_index, head_row};
 ghost use Rattle.protected_queue.specs.Queue.{accept_answer};
-ghost use Rattle.start_gap.specs.Rotation.{StandsFor, place_after};
+ghost use Rattle.start_gap.specs.Rotation.{StandsFor, most_lines, place_after};
 ghost use Rattle.spare_pool.specs.Table.{used_by, line_by};
 ghost use Rattle.bank_shape.specs.Shape.{IsBankShape, slots_of, lines_in, slot_at};
 ghost use Rattle.power_recovery.specs.Slots.{bank_lines};
@@ -337,7 +337,7 @@ impl<const B: usize> Kept<B> {
 // Makes each region as it was at first.
 fn start_over(regions: &mut [Region], lines: u32, psi: u32)
     requires some_lines { 1 ≤ lines }
-    requires few_lines { lines ≤ 67108864 }
+    requires few_lines { lines ≤ most_lines }
     requires some_writes { 1 ≤ psi }
     requires few_writes { psi ≤ 65535 }
     ensures { regions.new ≡ replicate (length regions.old) (first_region lines psi) }

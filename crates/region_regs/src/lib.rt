@@ -3,7 +3,7 @@
 #![tactic(auto)]
 
 ghost use Rattle.std.specs.Prelude.{◌≡◌, ◌≢◌, ℕ, ◌+◌, ◌≤◌, ◌↔◌, IsTrue};
-ghost use Rattle.start_gap.specs.Rotation.{IsRotation, StandsFor};
+ghost use Rattle.start_gap.specs.Rotation.{IsRotation, StandsFor, most_lines};
 ghost use Rattle.region_regs.specs.Region.{IsRegion, first_region, after_store, after_move};
 
 use start_gap::Registers;
@@ -35,7 +35,7 @@ impl Region {
     /// A region that made no gap move and stored no write.
     pub fn new(n: u32, psi: u32) -> Region
         requires some_lines { 1 ≤ n }
-        requires few_lines { n ≤ 67108864 }
+        requires few_lines { n ≤ most_lines }
         requires some_writes { 1 ≤ psi }
         requires few_writes { psi ≤ 65535 }
         ensures fresh { result ≡ first_region n psi }

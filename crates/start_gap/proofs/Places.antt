@@ -1,8 +1,8 @@
 -- One move takes one line into the gap and leaves all others; the same in closed form, for every number of moves.
 use Rattle.std.proofs.Common.{◌≡◌, ◌≢◌, ℕ, Bool, true, false, cond, ◌+◌, ◌-◌, ◌*◌, ◌/◌, ◌%◌, ◌<◌, ◌≤◌, ◌==◌, if◌then◌else◌, nat_lt, inl, inr, sym, ◌∙◌, ap, arith}
 use Rattle.std.proofs.{Math.Nat.{div-add-mod, add-mod-mod, mul-le-mul_left}, lemmas.Bool.cases_eq, lemmas.Bool.Decides.nat_tests, lemmas.Nat.{mod_below, div_below}}
-use Rattle.start_gap.specs.{Rotation.{Rotation, IsRotation, StandsFor, turn, place_after, gap_after, below_gap, moved_line, place_by, move_by, advanced}, declared.Move.Move}
-use Rattle.start_gap.proofs.Turning.{remainder, advanced-end, advanced-further, stands-advanced, gap-stands, place-stands, move-stands, place_by-moved, place-apart, place-off_gap}
+use Rattle.start_gap.specs.{Rotation.{Rotation, IsRotation, StandsFor, most_lines, turn, place_after, gap_after, below_gap, place_by, move_by, advanced}}
+use Rattle.start_gap.proofs.Turning.{remainder, advanced-end, advanced-further, gap-stands, place-stands, place_by-moved, place-apart, place-off_gap}
 
 -- ---- one move by the registers
 
@@ -97,7 +97,7 @@ advanced-range r range =
 abbrev pub rotation_after : ℕ → ℕ → Rotation
 rotation_after n t = record { lines = n; start = t % turn n / (n + 1); gap = n - t % turn n % (n + 1) }
 
-pub rotation_after-range : (n t : ℕ) → 1 ≤ n → n ≤ 67108864 → IsRotation (rotation_after n t)
+pub rotation_after-range : (n t : ℕ) → 1 ≤ n → n ≤ most_lines → IsRotation (rotation_after n t)
 rotation_after-range n t some few = record {
   some_lines = some;
   few_lines = few;
@@ -111,14 +111,14 @@ rotation_after-stands n t = record {
 }
 
 -- no line has the gap, and no two lines have one place
-pub place_after-off_gap : (n t line : ℕ) → 1 ≤ n → n ≤ 67108864 → place_after n line t ≢ gap_after n t
+pub place_after-off_gap : (n t line : ℕ) → 1 ≤ n → n ≤ most_lines → place_after n line t ≢ gap_after n t
 place_after-off_gap n t line some few e =
     let r : Rotation = rotation_after n t in
     let range : IsRotation r = rotation_after-range n t some few in
     let stands : StandsFor r t = rotation_after-stands n t in
     place-off_gap r line (place-stands r t line range stands ∙ e ∙ sym (gap-stands r t range stands))
 
-pub place_after-apart : (n t a b : ℕ) → 1 ≤ n → n ≤ 67108864 → a < n → b < n → place_after n a t ≡ place_after n b t → a ≡ b
+pub place_after-apart : (n t a b : ℕ) → 1 ≤ n → n ≤ most_lines → a < n → b < n → place_after n a t ≡ place_after n b t → a ≡ b
 place_after-apart n t a b some few p q e =
     let r : Rotation = rotation_after n t in
     let range : IsRotation r = rotation_after-range n t some few in

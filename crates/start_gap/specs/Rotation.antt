@@ -8,10 +8,14 @@ pub record Rotation : Type 0 where
   pub start : ℕ
   pub gap : ℕ
 
+-- the most lines that a region may have: 2 to the power 26
+abbrev pub most_lines : ℕ
+most_lines = 67108864
+
 -- the registers are in range
 pub record IsRotation (r : Rotation) : Type 0 where
   pub some_lines : 1 ≤ r.lines
-  pub few_lines : r.lines ≤ 67108864
+  pub few_lines : r.lines ≤ most_lines
   pub start_below : r.start < r.lines
   pub gap_within : r.gap ≤ r.lines
 

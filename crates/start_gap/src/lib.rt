@@ -4,7 +4,7 @@
 #![tactic(auto)]
 
 ghost use Rattle.std.specs.Prelude.{◌≡◌, ◌≢◌, ℕ, ◌+◌, ◌-◌, ◌*◌, ◌<◌, ◌≤◌, ◌==◌, ◌↔◌, if◌then◌else◌, IsNone, IfSome, MatchOption};
-ghost use Rattle.start_gap.specs.Rotation.{Rotation, IsRotation, StandsFor, first_rotation, turn, place_after, gap_after, below_gap, move_after, place_by, move_by, advanced};
+ghost use Rattle.start_gap.specs.Rotation.{Rotation, IsRotation, StandsFor, most_lines, first_rotation, turn, place_after, gap_after, below_gap, move_after, place_by, move_by, advanced};
 
 mod turn;
 
@@ -47,7 +47,7 @@ impl Registers {
     /// Every line in the place of its own number, and the gap behind them.
     pub fn new(n: u32) -> Registers
         requires some_lines { 1 ≤ n }
-        requires few_lines { n ≤ 67108864 }
+        requires few_lines { n ≤ most_lines }
         ensures fresh { result ≡ first_rotation n }
         ensures in_range { IsRotation result }
         ensures stands { StandsFor result 0 }

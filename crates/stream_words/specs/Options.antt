@@ -2,7 +2,7 @@
 use Rattle.std.specs.{Prelude.{ℕ, ◌*◌, ◌≤◌, nat_le, Bool, true, false, if◌then◌else◌, List, codes, Option, Some, None}, Str.bytes_eq}
 use Rattle.clap.specs.Words.{Row, Text, first_of}
 use Rattle.trace_reader.specs.{Number.number_of, Rows.latest_tick}
-use Rattle.trace_gen.specs.declared.mix.Mix.{Mix}
+use Rattle.trace_gen.specs.{Generated.stream_lines, declared.mix.Mix.Mix}
 use Rattle.module_shape.specs.{Limits.is_small, declared.raw.RawShape.RawShape}
 use Rattle.command_line.specs.Options.{mix_within, one_of_two, with_some}
 use Rattle.stream_words.specs.{declared.job.End.End, declared.job.End.TheVariants.{Drain, Off}, declared.job.StreamPrint.StreamPrint}
@@ -59,7 +59,7 @@ in_time mix = if nat_le (mix.rows * mix.step) latest_tick then Some mix else Non
 
 -- what the rows are that a stream draws
 abbrev pub long_mix_of : List Row → Option Mix
-long_mix_of rows = with_some (mix_within 4000000000 rows) in_time
+long_mix_of rows = with_some (mix_within 4000000000 stream_lines rows) in_time
 
 -- whether that can be written of a module of these sizes: an image has no room for those of a larger one
 abbrev pub can_be_printed : RawShape → StreamPrint → Bool

@@ -76,7 +76,7 @@ pub(crate) fn long_mix(matches: &ArgMatches<'_>) -> Option<Mix>
     ensures exact { result ≡ long_mix_of (rows_of (found_of matches.now)) }
     ensures in_range { IfSome result IsLongMix }
 {
-    let mix = mix_within(matches, 4_000_000_000)?;
+    let mix = mix_within(matches, 4_000_000_000, 67_108_864)?;
     if LATEST_TICK < u64::from(mix.rows) * u64::from(mix.step) {
         return None;
     }

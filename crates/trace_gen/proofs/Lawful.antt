@@ -5,7 +5,7 @@ use Rattle.rand_core.specs.Stream.{Stream, next_u64}
 use Rattle.rand_xoshiro.specs.{SplitMix64.splitmix_seed, Xoshiro256.of_seed}
 use Rattle.seeded_words.specs.Words.{xoshiro_of}
 use Rattle.trace_reader.specs.{Events.{AreEventsFor, IsEventFor, IsOpFor}, Rows.latest_tick, declared.event.Event.Event, declared.event.EventOp.EventOp}
-use Rattle.trace_gen.specs.Generated.{IsLongMix, IsMix, access_by, draws_write, event_drawn, events_drawn, generated, is_cut_row, line_drawn, op_drawn}
+use Rattle.trace_gen.specs.Generated.{IsLongMix, IsMix, access_by, draws_write, event_drawn, events_drawn, generated, is_cut_row, line_drawn, op_drawn, whole_lines}
 use Rattle.trace_gen.specs.{Laws.{AllHaveBytes, AllWithin, GeneratedLaw, GeneratedTextLaw, HasBytes, IsGenerated, LongGeneratedLaw, LongMixLaw}, declared.mix.Mix.Mix}
 use Rattle.trace_gen.proofs.{Cuts.cuts-all, Read.text_law, Words.{IsWords, after-word, fills}}
 
@@ -84,7 +84,7 @@ pub long-mix : LongMixLaw
 long-mix mix is =
     let small = span-small mix is in
     let rows : mix.rows ≤ 400000 = is.few_rows in
-    record { some_rows = is.some_rows; few_rows = omega arith; percent = is.percent; few_cuts = is.few_cuts; small_step = is.small_step; few_hot = is.few_hot; in_time = omega arith }
+    record { some_rows = is.some_rows; few_rows = omega arith; percent = is.percent; few_cuts = is.few_cuts; small_step = is.small_step; few_hot = omega (arith, is.few_hot); in_time = omega arith }
 
 pub long_generated_law : LongGeneratedLaw
 unfolding generated
@@ -111,5 +111,5 @@ generated_text_law n seed lines mix some few is =
     text_law n lines (generated n seed lines mix) (omega arith) all.lawful all.bytes (omega arith)
 
 -- the same of a list that has these events
-pub generated_as : (n seed lines : ℕ) (mix : Mix) (events : List (Event n)) → 1 ≤ lines → lines ≤ 65536 → IsMix mix → generated n seed lines mix ≡ events → IsGenerated lines mix events
+pub generated_as : (n seed lines : ℕ) (mix : Mix) (events : List (Event n)) → 1 ≤ lines → lines ≤ whole_lines → IsMix mix → generated n seed lines mix ≡ events → IsGenerated lines mix events
 generated_as n seed lines mix events some few is same = rw (← same) (generated_law n seed lines mix some few is)

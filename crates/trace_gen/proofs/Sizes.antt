@@ -5,7 +5,7 @@ use Rattle.hex.{specs.Hex.{encode_lower, encode_with, lower_digits}, proofs.HexL
 use Rattle.trace_reader.specs.{Events.{AreEventsFor, IsEventFor, IsOpFor}, declared.event.Event.Event, declared.event.EventOp.EventOp}
 use Rattle.trace_reader.specs.declared.event.EventOp.TheVariants.{Read, Write, Mask, Cut}
 use Rattle.pcm_io.proofs.DigitLemmas.{five_digits}
-use Rattle.trace_gen.specs.{EventText.{data_text, event_row, event_rows, line_text, masked_text, op_letter, pair_text}, Generated.generated, Laws.{AllWithin, GeneratedSizeLaw}}
+use Rattle.trace_gen.specs.{EventText.{data_text, event_row, event_rows, line_text, masked_text, op_letter, pair_text}, Generated.{generated, whole_lines}, Laws.{AllWithin, GeneratedSizeLaw}}
 use Rattle.trace_gen.proofs.Lawful.{generated_law, span-small}
 
 letter-size : (n : ℕ) (op : EventOp n) → length (op_letter op) ≡ 1
@@ -14,7 +14,7 @@ letter-size n (Write line bytes) = refl
 letter-size n (Mask line bytes given) = refl
 letter-size n Cut = refl
 
-line-size : (n lines : ℕ) (op : EventOp n) → lines ≤ 65536 → IsOpFor lines op → length (line_text op) ≤ 5
+line-size : (n lines : ℕ) (op : EventOp n) → lines ≤ whole_lines → IsOpFor lines op → length (line_text op) ≤ 5
 line-size n lines (Read line) few for = five_digits line (omega arith)
 line-size n lines (Write line bytes) few for =
     let below : line < lines = for.0 in
@@ -54,7 +54,7 @@ data-size n lines Cut for = omega arith
 fields-size : (a b c d : List ℕ) → length (join_with_byte 44 (a ∷ b ∷ c ∷ d ∷ []) ++ codes "\n") ≡ length a + length b + length c + length d + 4
 fields-size a b c d = simp length-append (omega arith)
 
-row-size : (n lines before : ℕ) (event : Event n) → lines ≤ 65536 → event.tick < 10 ^ 11 → IsEventFor lines before event → length (event_row event) ≤ 2 * n + 21
+row-size : (n lines before : ℕ) (event : Event n) → lines ≤ whole_lines → event.tick < 10 ^ 11 → IsEventFor lines before event → length (event_row event) ≤ 2 * n + 21
 row-size n lines before event few early for =
     let whole = fields-size (decimal event.tick) (op_letter event.op) (line_text event.op) (data_text event.op) in
     let tick : length (decimal event.tick) ≤ 11 = length-decimal-le 11 event.tick (lit< tt) early (omega arith) in
@@ -63,7 +63,7 @@ row-size n lines before event few early for =
     let bytes = data-size n lines event.op for.op in
     omega arith
 
-rows-size : (n lines before most : ℕ) (events : List (Event n)) → lines ≤ 65536 → most < 10 ^ 11 → AreEventsFor lines before events → AllWithin most events
+rows-size : (n lines before most : ℕ) (events : List (Event n)) → lines ≤ whole_lines → most < 10 ^ 11 → AreEventsFor lines before events → AllWithin most events
     → length (event_rows events) ≤ length events * (2 * n + 21)
 unfolding AreEventsFor AllWithin event_rows
 rows-size n lines before most [] few early for within = omega arith

@@ -6,6 +6,13 @@ use Rattle.seeded_words.specs.Words.{xoshiro_of}
 use Rattle.trace_reader.specs.{Rows.latest_tick, declared.event.Event.Event, declared.event.EventOp.EventOp, declared.event.EventOp.TheVariants.{Read, Write, Cut}}
 use Rattle.trace_gen.specs.declared.mix.Mix.{Mix}
 
+-- the most lines that a generated trace is of: one that is read whole, and one of a stream
+abbrev pub whole_lines : ℕ
+whole_lines = 65536
+
+abbrev pub stream_lines : ℕ
+stream_lines = 67108864
+
 -- the numbers of a mix are in range
 pub record IsMix (mix : Mix) : Type 0 where
   pub some_rows : 1 ≤ mix.rows
@@ -13,7 +20,7 @@ pub record IsMix (mix : Mix) : Type 0 where
   pub percent : mix.write_percent ≤ 100
   pub few_cuts : mix.cuts ≤ mix.rows
   pub small_step : mix.step ≤ 65535
-  pub few_hot : mix.hot ≤ 65536
+  pub few_hot : mix.hot ≤ whole_lines
 
 -- the numbers of a mix are in range, with more rows than a trace that is read whole may have, and its ticks stay in time
 pub record IsLongMix (mix : Mix) : Type 0 where
@@ -22,7 +29,7 @@ pub record IsLongMix (mix : Mix) : Type 0 where
   pub percent : mix.write_percent ≤ 100
   pub few_cuts : mix.cuts ≤ mix.rows
   pub small_step : mix.step ≤ 65535
-  pub few_hot : mix.hot ≤ 65536
+  pub few_hot : mix.hot ≤ stream_lines
   pub in_time : mix.rows * mix.step ≤ latest_tick
 
 -- cuts stand at the multiples of this row number

@@ -6,7 +6,7 @@ use Rattle.csv.specs.{Machine.next_record, Reading.default_config}
 use Rattle.csv.specs.declared.parser.State.TheVariants as st
 use Rattle.trace_reader.specs.{Events.{AreEventsFor, IsEventFor}, Rows.event_of, Trace.{most_rows, trace_of}, declared.event.Event.Event, declared.event.EventOp.EventOp}
 use Rattle.trace_reader.specs.declared.event.EventOp.TheVariants.{Read, Write, Mask, Cut}
-use Rattle.trace_gen.specs.{EventText.{event_fields, event_row, trace_text}, Generated.{IsLongMix, IsMix, bytes_of_words, generated, words_left}, declared.mix.Mix.Mix}
+use Rattle.trace_gen.specs.{EventText.{event_fields, event_row, trace_text}, Generated.{IsLongMix, IsMix, bytes_of_words, generated, stream_lines, whole_lines, words_left}, declared.mix.Mix.Mix}
 
 -- the line numbers of a trace have at most eight digits
 abbrev pub most_lines : ℕ
@@ -57,7 +57,7 @@ TextLaw = (n lines : ℕ) (events : List (Event n)) → lines ≤ most_lines →
 
 -- the text of a generated trace is read as the events that were drawn
 abbrev pub GeneratedTextLaw : Type 0
-GeneratedTextLaw = (n seed lines : ℕ) (mix : Mix) → 1 ≤ lines → lines ≤ 65536 → IsMix mix
+GeneratedTextLaw = (n seed lines : ℕ) (mix : Mix) → 1 ≤ lines → lines ≤ whole_lines → IsMix mix
     → trace_of n lines (trace_text (generated n seed lines mix)) ≡ Ok (generated n seed lines mix)
 
 -- what the events of a generated trace are like
@@ -70,14 +70,14 @@ pub record IsGenerated {n : ℕ} (lines : ℕ) (mix : Mix) (events : List (Event
 
 -- of as many rows as their ticks allow
 abbrev pub LongGeneratedLaw : Type 0
-LongGeneratedLaw = (n seed lines : ℕ) (mix : Mix) → 1 ≤ lines → lines ≤ 67108864 → IsLongMix mix → IsGenerated lines mix (generated n seed lines mix)
+LongGeneratedLaw = (n seed lines : ℕ) (mix : Mix) → 1 ≤ lines → lines ≤ stream_lines → IsLongMix mix → IsGenerated lines mix (generated n seed lines mix)
 
 -- a mix for a whole trace is one for a long one
 abbrev pub LongMixLaw : Type 0
 LongMixLaw = (mix : Mix) → IsMix mix → IsLongMix mix
 
 abbrev pub GeneratedLaw : Type 0
-GeneratedLaw = (n seed lines : ℕ) (mix : Mix) → 1 ≤ lines → lines ≤ 65536 → IsMix mix → IsGenerated lines mix (generated n seed lines mix)
+GeneratedLaw = (n seed lines : ℕ) (mix : Mix) → 1 ≤ lines → lines ≤ whole_lines → IsMix mix → IsGenerated lines mix (generated n seed lines mix)
 
 -- the bytes of a write are those of the next words, eight of each, lowest byte first
 abbrev pub PayloadLaw : Type 0
@@ -85,5 +85,5 @@ PayloadLaw = (words : ℕ) (state : List ℕ) → fill_bytes (8 * words) (words_
 
 -- a generated trace takes at most 17 bytes for its header, and for each row 21 bytes and two for each byte of a line
 abbrev pub GeneratedSizeLaw : Type 0
-GeneratedSizeLaw = (n seed lines : ℕ) (mix : Mix) → 1 ≤ lines → lines ≤ 65536 → IsMix mix
+GeneratedSizeLaw = (n seed lines : ℕ) (mix : Mix) → 1 ≤ lines → lines ≤ whole_lines → IsMix mix
     → length (trace_text (generated n seed lines mix)) ≤ 17 + mix.rows * (2 * n + 21)

@@ -1,6 +1,6 @@
 //! The generator of a trace.
 ghost use Rattle.std.specs.Prelude.{◌≡◌, ◌+◌, ◌≤◌, [], ◌∷◌, IfOk, MatchOption};
-ghost use Rattle.trace_gen.specs.Generated.{IsLongMix, IsMix, generated};
+ghost use Rattle.trace_gen.specs.Generated.{IsLongMix, IsMix, generated, stream_lines, whole_lines};
 ghost use Rattle.trace_gen.specs.Laws.{IsGenerated};
 
 use crate::draw::op;
@@ -50,7 +50,7 @@ impl<const B: usize> Generator<B> {
     /// The generator of a seed's trace for so many lines.
     pub fn new(seed: u64, lines: u32, mix: Mix) -> Generator<B>
         requires some_lines { 1 ≤ lines }
-        requires few_lines { lines ≤ 65536 }
+        requires few_lines { lines ≤ whole_lines }
         requires mix { IsMix mix }
         ensures { result ≡ generated B seed lines mix }
     {
@@ -60,7 +60,7 @@ impl<const B: usize> Generator<B> {
     /// The same, of as many rows as their ticks allow.
     pub fn long(seed: u64, lines: u32, mix: Mix) -> Generator<B>
         requires some_lines { 1 ≤ lines }
-        requires few_lines { lines ≤ 67108864 }
+        requires few_lines { lines ≤ stream_lines }
         requires mix { IsLongMix mix }
         ensures { result ≡ generated B seed lines mix }
     {
@@ -106,7 +106,7 @@ pub fn generate<const B: usize>(
     mix: Mix,
 ) -> Result<Vec<Event<B>>, AllocError>
     requires some_lines { 1 ≤ lines }
-    requires few_lines { lines ≤ 65536 }
+    requires few_lines { lines ≤ whole_lines }
     requires mix { IsMix mix }
     requires small { B ≤ 128 }
     ensures events { IfOk result (λ v. v.items ≡ generated B seed lines mix) }

@@ -14,7 +14,7 @@ pub struct Mix {
     pub cuts: u32,
     /// By how much the tick rises at most from row to row, 0 to 65,535.
     pub step: u32,
-    /// How many of the first lines are hot, 0 to 65,536. 0: none are.
+    /// How many of the first lines are hot, 0 to 65,536; of a long trace up to 67,108,864. 0: none are.
     pub hot: u32,
 }
 
