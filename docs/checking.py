@@ -10,6 +10,7 @@ import tempfile
 TOP = pathlib.Path(__file__).resolve().parent.parent
 sys.path.insert(0, str(TOP / "tools"))
 import crates
+import definitions
 
 COMMANDS = ("README.md", "docs/USING.md")
 HEADER = b"tick,op,arg,data\n"
@@ -233,10 +234,22 @@ def misplaced(text):
             yield f"{name} {crate}/{file}"
 
 
+def strayed(text):
+    """Lines of a tree whose definition isn't among those that the line above it, of which it is a branch, unfolds to."""
+    above = []
+    for branch, name, crate in re.findall(r"(?m)^(    \W*)(\w+)\s+(\w+)/specs/\w+\.antt", text):
+        above = [it for it in above if it[0] < len(branch)]
+        own = definitions.find(crate, name) if crate in crates.listed() else None
+        if own and above and above[-1][1] and own not in definitions.unfolded(above[-1][1]):
+            yield f"{name} under {above[-1][1].name}"
+        above.append((len(branch), own))
+
+
 def check_names():
     for document, text in documents().items():
         for word in sorted({*unknown_names(text), *unknown_options(text), *unknown_paths(document, text), *misplaced(text)}):
             yield f"{document}: {word} stands nowhere"
+        yield from (f"{document}: {it}, which doesn't unfold to it" for it in strayed(text))
         yield None
 
 

@@ -8,6 +8,7 @@ from unittest import mock
 
 sys.dont_write_bytecode = True
 import checking
+import definitions
 
 
 class Commands(unittest.TestCase):
@@ -77,6 +78,29 @@ class Requirements(unittest.TestCase):
 
     def test_a_case_of_stored_input_is_a_test(self):
         self.assertTrue(checking.is_test("played_tests", "a_header_alone_gives_a_header_alone"))
+
+
+class Trees(unittest.TestCase):
+    TREE = (
+        "    RunsRight      right_runs/specs/Runs.antt  the headline\n"
+        "    ├ EndsWithTo   right_runs/specs/Ends.antt  a bank\n"
+        "    │ └ newest     row_rules/specs/Rows.antt   the newest bytes\n"
+        "    └ is_served    row_rules/specs/Serving.antt\n"
+    )
+
+    def test_a_branch_is_what_its_stem_unfolds_to(self):
+        self.assertEqual(list(checking.strayed(self.TREE)), [])
+
+    def test_a_branch_of_another_stem_is_named(self):
+        strayed = self.TREE + "      └ SavesQueue right_images/specs/SavedBanks.antt\n"
+        self.assertEqual(list(checking.strayed(strayed)), ["SavesQueue under is_served"])
+
+    def test_imports_are_read_through_their_braces(self):
+        self.assertEqual(list(definitions.imported("Rattle.a.specs.{B.{c, d}, e.F}")), [["Rattle", "a", "specs", *it] for it in (["B", "c"], ["B", "d"], ["e", "F"])])
+
+    def test_a_definition_ends_before_the_next_comment(self):
+        text = "-- one\nabbrev pub one : Nat\none = two\n\nmodule _ (n : Nat) where\n  -- two\n  pub record Two : Type 0 where\n    pub field : Nat\n"
+        self.assertEqual(list(definitions.split(text)), ["one", "Two"])
 
 
 class Promises(unittest.TestCase):
