@@ -4,6 +4,7 @@
 
 What the program prints goes through unchanged, and its status is this one's. How far it is: the rows that it printed, how many a second,
 and which share of a file it read, or of its drawn rows it printed. Behind its own line it says what is wrong, as the wrapper does."""
+import contextlib
 import os
 import re
 import selectors
@@ -137,7 +138,8 @@ def main(asked: List[str]) -> int:
         if why:
             print(f"pcm: {why}", file=sys.stderr)
     if status < 0:
-        signal.signal(-status, signal.SIG_DFL)
+        with contextlib.suppress(OSError):
+            signal.signal(-status, signal.SIG_DFL)
         os.kill(os.getpid(), -status)
     return status
 
