@@ -3,6 +3,7 @@ import functools
 import os
 import pathlib
 import re
+import shutil
 import subprocess
 import sys
 import tempfile
@@ -11,6 +12,7 @@ TOP = pathlib.Path(__file__).resolve().parent.parent
 sys.path.insert(0, str(TOP / "tools"))
 import crates
 import definitions
+import pages
 
 COMMANDS = ("README.md", "docs/USING.md")
 HEADER = b"tick,op,arg,data\n"
@@ -94,17 +96,26 @@ def matches(wanted, got):
     return wanted[:cut] == got[:cut] and any(matches(rest, got[at:]) for at in range(cut, len(got) + 1))
 
 
+def installed(tree, program):
+    """Puts the wrapper and the programs into a folder as an installed tree has them; answers its folder in which commands run."""
+    room = pathlib.Path(tree, "bin")
+    for folder in (room, pathlib.Path(tree, "libexec", "pcm"), pathlib.Path(tree, "share", "pcm")):
+        folder.mkdir(parents=True)
+    shutil.copy(TOP / "pcm", room)
+    links = {f"bin/{it}": TOP / it for it in ("examples", "python", "c")}
+    links |= {"libexec/pcm/pcm_cli": program, "libexec/pcm/pcm_stream": STREAMS, "share/pcm/python": TOP / "python"}
+    links |= {"share/pcm/USING.md": TOP / "docs" / "USING.md", "share/pcm/VERSION": TOP / "VERSION"}
+    for name, target in links.items():
+        pathlib.Path(tree, name).symlink_to(target)
+    return str(room)
+
+
 def check_commands(program, writes):
     for document in COMMANDS:
         lines, changes = (TOP / document).read_text(encoding="utf-8").split("\n"), []
-        with tempfile.TemporaryDirectory() as room:
-            for folder in ("examples", "python", "c"):
-                os.symlink(TOP / folder, f"{room}/{folder}")
-            wrapper = pathlib.Path(f"{room}/pcm")
-            streams = f'if [ "$1" = stream ]; then shift; exec "{STREAMS}" "$@"; fi\n' if STREAMS.exists() else ""
-            wrapper.write_text(f'#!/bin/sh\n{streams}exec "{program}" "$@"\n')
-            wrapper.chmod(0o755)
-            around = {**os.environ, "PCM": str(wrapper), "PYTHONDONTWRITEBYTECODE": "1"}
+        with tempfile.TemporaryDirectory() as tree:
+            room = installed(tree, program)
+            around = {**os.environ, "PCM": f"{room}/pcm", "PYTHONDONTWRITEBYTECODE": "1"}
             for command, begin, end in blocks(lines):
                 how = {"cwd": room, "env": around, "stdin": subprocess.DEVNULL, "stdout": subprocess.PIPE, "stderr": subprocess.STDOUT}
                 ran = subprocess.run(["bash", "-c", command], text=True, **how)
@@ -120,6 +131,45 @@ def check_commands(program, writes):
             for begin, end, got in reversed(changes):
                 lines[begin:end] = [f"    {it}".rstrip() for it in got]
             (TOP / document).write_text("\n".join(lines), encoding="utf-8")
+
+
+def check_words(program):
+    """The table of options in python/pcm/words.py: the manual, and what each program takes and refuses at the ends of each range."""
+    for fault in pages.faults():
+        yield fault
+    with tempfile.TemporaryDirectory() as tree:
+        pcm = f"{installed(tree, program)}/pcm"
+        for name, command in pages.table().COMMANDS.items():
+            if name == "stream" and not STREAMS.exists():
+                continue
+            for option in command.options.values():
+                for text in {*option.choices, *(str(it) for it in ends(option)), "nothing"}:
+                    words = [name, f"--{option.name}", text, *beside(name, option.name, text)]
+                    ran = subprocess.run([pcm, *words], input=HEADER, capture_output=True)
+                    well = (ran.returncode != 2) == option.takes(text) and (ran.returncode != 2) == (pages.table().wrong_word(words) is None)
+                    yield None if well else f"{' '.join(words)}: status {ran.returncode}, and python/pcm/words.py says otherwise"
+
+
+def ends(option):
+    """The ends of an option's range and the numbers beyond; not the greatest size of a stream's module, which takes gigabytes."""
+    return {option.least - 1, option.least, option.most, option.most + 1} - {2**26}
+
+
+def beside(command, option, text):
+    """The words beside an option's value that let no other rule speak: sizes small, and rows at one tick."""
+    if option == "every":
+        return ["--print", "snapshots"]
+    if option == "lo" and text.isdigit():
+        return ["--hi", "4000000000"]
+    if option == "hi":
+        return ["--lo", "1"]
+    if option == "cuts":
+        return ["--rows", "400000" if command != "stream" else "4000000000", "--step", "0"]
+    if option == "rows":
+        return ["--step", "0"]
+    if option in ("banks", "regions"):
+        return ["--lines", "4"]
+    return ["--banks", "1", "--regions", "1"] if option == "lines" and command != "moves" else []
 
 
 def check_help():

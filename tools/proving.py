@@ -208,7 +208,8 @@ def say(text):
 @contextlib.contextmanager
 def alone():
     """Keeps other builds in this checkout out, and waits for one that works here; says so."""
-    signal.signal(signal.SIGTERM, lambda *_: sys.exit(143))
+    for it in (signal.SIGTERM, signal.SIGHUP):
+        signal.signal(it, lambda number, _: sys.exit(128 + number))
     held = os.open(TOP / "tools", os.O_RDONLY)
     try:
         fcntl.flock(held, fcntl.LOCK_EX | fcntl.LOCK_NB)

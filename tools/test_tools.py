@@ -12,6 +12,9 @@ import tempfile
 import time
 import unittest
 
+sys.dont_write_bytecode = True
+import pages
+
 TOP = pathlib.Path(__file__).resolve().parent.parent
 # A compiler that notes for which crate it was called, waits as long as the file `slow` says, and makes what a compiler makes.
 COMPILER = """#!/bin/sh
@@ -231,17 +234,19 @@ class Builds(unittest.TestCase):
         self.assertEqual(self.room.called(), ["first", "pcm_cli", "second"])
         self.assertTrue(any("another build proves first just now: waiting for it" in it for it in said))
 
-    def test_ctrl_c_ends_a_build_with_one_line_and_all_that_it_started(self):
+    def test_ctrl_c_and_other_signals_end_a_build_with_all_that_it_started(self):
         (self.room.kit / "slow").write_text("30.071")
-        build = self.room.start("tools/build", "pcm_stream")
-        self.room.wait_for_call()
-        time.sleep(0.1)
-        build.send_signal(signal.SIGINT)
-        said = build.communicate(timeout=20)[1]
-        self.assertEqual(build.returncode, 130)
-        self.assertEqual(said.splitlines()[1:], ["pcm: broken off; what was proved is kept, and a later call goes on from there"])
-        self.assertEqual(list((self.room.cache / "leqallqu" / "making").iterdir()), [])
-        self.assertNotIn("30.071", subprocess.run(["ps", "-eo", "args"], capture_output=True, text=True).stdout)
+        line = ["pcm: broken off; what was proved is kept, and a later call goes on from there"]
+        for number, told in ((signal.SIGINT, line), (signal.SIGTERM, []), (signal.SIGHUP, [])):
+            build = self.room.start("tools/build", "pcm_stream")
+            self.room.wait_for_call()
+            time.sleep(0.1)
+            build.send_signal(number)
+            said = build.communicate(timeout=20)[1]
+            self.assertEqual((build.returncode, said.splitlines()[1:]), (128 + number, told))
+            self.assertEqual(list((self.room.cache / "leqallqu" / "making").iterdir()), [])
+            self.assertNotIn("30.071", subprocess.run(["ps", "-eo", "args"], capture_output=True, text=True).stdout)
+            self.room.called()
 
     def test_words_of_a_build(self):
         self.assertIn("tools/build [PROGRAM ..]", self.build("--help").stdout)
@@ -349,6 +354,164 @@ class Wrapper(unittest.TestCase):
         words = f"'{self.room.top}/pcm' map | head -c 0; exit ${{PIPESTATUS[0]}}"
         done = subprocess.run(["bash", "-c", words], env={**self.room.around, "PCM_EXPLAIN": "1"}, capture_output=True, timeout=20)
         self.assertIn(done.returncode, (0, 1, 2, 141))
+
+
+class Installed(unittest.TestCase):
+    """An installed tree and an archive, where the checkout is gone."""
+
+    @classmethod
+    def setUpClass(cls):
+        cls.room = Room()
+        shutil.copytree(TOP / "c", cls.room.top / "c")
+        cls.prefix = cls.room.folder / "not there" / "a prefix"
+        cls.said = [cls.room.run("tools/install", "--prefix", str(cls.prefix)), cls.room.run("tools/dist", str(cls.room.folder))]
+        shutil.move(cls.room.top, cls.room.folder / "gone")
+
+    @classmethod
+    def tearDownClass(cls):
+        shutil.rmtree(cls.room.folder, ignore_errors=True)
+
+    def pcm(self, *words, **around):
+        return self.room.run("pcm", *words, top=self.prefix / "bin", PATH="/usr/bin:/bin", **around)
+
+    def test_it_runs_without_the_checkout_and_the_kit(self):
+        self.assertEqual([it.returncode for it in self.said], [0, 0], self.said)
+        self.assertEqual(self.pcm("map").stdout, "pcm_cli map\n")
+        self.assertEqual(self.pcm("stream", "--psi", "5").stdout, "pcm_stream --psi 5\n")
+        self.assertEqual(self.pcm("--version").stdout, (TOP / "VERSION").read_text())
+        self.assertIn("pcm show <", self.pcm("help", "show").stdout)
+        self.assertNotIn("./pcm", self.pcm("help", "show").stdout)
+        self.assertEqual(self.pcm("run", "--psi", "0", PCM_EXPLAIN="1").stderr.splitlines()[1:], ["pcm: --psi 0: it may be 1 to 65535"])
+        for path in self.prefix.rglob("*"):
+            self.assertTrue(path.is_symlink() or path.stat().st_mode & 0o444 == 0o444, path)
+
+    def test_the_package_finds_the_program_beside_it(self):
+        words = "import pcm; print(pcm.program())"
+        around = {"PATH": os.environ["PATH"], "PYTHONPATH": str(self.prefix / "share" / "pcm" / "python"), "PYTHONDONTWRITEBYTECODE": "1"}
+        done = subprocess.run([sys.executable, "-c", words], capture_output=True, text=True, env=around)
+        self.assertEqual(done.stdout, f"['{self.prefix}/share/pcm/pcm']\n", done.stderr)
+        self.assertEqual(subprocess.run([self.prefix / "share/pcm/pcm", "map"], capture_output=True, text=True).stdout, "pcm_cli map\n")
+
+    def test_what_was_installed_is_removed_and_nothing_else(self):
+        prefix = self.room.folder / "another prefix"
+        (prefix / "bin").mkdir(parents=True)
+        (prefix / "bin" / "other").write_text("")
+        gone = self.room.folder / "gone"
+        for words in ((), ("--remove",)):
+            done = self.room.run("tools/install", *words, "--prefix", str(prefix), top=gone)
+            self.assertEqual(done.returncode, 0, done.stderr)
+        self.assertEqual([str(it.relative_to(prefix)) for it in prefix.rglob("*")], ["bin", "bin/other"])
+        done = self.room.run("tools/install", "--remove", "--prefix", str(prefix), top=gone)
+        self.assertEqual((done.returncode, len(done.stderr.splitlines())), (1, 1))
+        done = self.room.run("tools/install", "--prefix", "/usr", "--destdir", str(self.room.folder / "stage"), top=gone)
+        self.assertEqual(done.returncode, 0, done.stderr)
+        self.assertTrue((self.room.folder / "stage" / "usr" / "bin" / "pcm").exists())
+        done = self.room.run("tools/install", "--prefix", "/proc/none", top=gone)
+        self.assertEqual((done.returncode, len(done.stderr.splitlines())), (1, 1), done.stderr)
+
+    def test_an_archive_has_its_sums_and_how_each_crate_was_proved(self):
+        name = f"pcm-{(TOP / 'VERSION').read_text().strip()}-x86_64-linux"
+        subprocess.run(["tar", "xzf", f"{name}.tar.gz"], cwd=self.room.folder, check=True)
+        tree = self.room.folder / name
+        subprocess.run(["sha256sum", "--quiet", "-c", "SHA256SUMS"], cwd=tree, check=True)
+        self.assertEqual(subprocess.run([tree / "bin" / "pcm", "map"], capture_output=True, text=True).stdout, "pcm_cli map\n")
+        proved = (tree / "PROVED").read_text()
+        for crate in ("first", "second", "pcm_cli", "pcm_stream"):
+            self.assertIn(f"\n{crate}: logic=proved functions=1\n", proved)
+
+
+class Pages(unittest.TestCase):
+    def test_the_manual_says_what_the_help_says(self):
+        self.assertEqual(list(pages.faults()), [])
+        text = " ".join(pages.read_of(pages.manual()))
+        self.assertIn("--psi N (100; 1 to 65535). A region's gap moves once", text)
+
+    def test_the_manual_is_read_without_a_warning(self):
+        if not shutil.which("man"):
+            self.skipTest("there is no man")
+        for name in ("pcm.1", "pcm-stream.1"):
+            around = {**os.environ, "LC_ALL": "C.UTF-8", "MANWIDTH": "80"}
+            done = subprocess.run(["man", "--warnings", "-l", "-"], input=pages.PAGES[name](), capture_output=True, text=True, env=around)
+            self.assertEqual((done.returncode, done.stderr), (0, ""))
+
+    def test_bash_completes_commands_options_and_values(self):
+        wanted = {
+            "pcm st": ["stream"], "pcm run --pol": ["--policy"], "pcm run --policy c": ["cancel"], "pcm run --policy = c": ["cancel"],
+            "pcm run --psi 5 --ps": [], "pcm help mo": ["moves"], "pcm path ": ["stream"], "pcm stream --print s": ["summary", "snapshots"],
+            "pcm run --print s": ["summary"], "pcm run --psi ": [], "pcm show ": ["--help"], "pcm run --banks 1": ["1", "16"],
+        }
+        for line, found in wanted.items():
+            words = line.split(" ")
+            script = f"{pages.bash()}\nCOMP_WORDS=({' '.join(repr(it) for it in words)}); COMP_CWORD={len(words) - 1}; _pcm; echo \"${{COMPREPLY[@]}}\""
+            done = subprocess.run(["bash", "-c", script], capture_output=True, text=True)
+            self.assertEqual((done.stdout.split(), done.stderr), (found, ""), line)
+
+
+class Words(unittest.TestCase):
+    def test_the_first_thing_that_is_wrong_is_named(self):
+        wanted = {
+            "run --polcy pause": "--polcy is no option of run (did you mean --policy?)",
+            "run --hi 5": "--hi 5 is below --lo 100000000 (its default): give both, --lo not above --hi",
+            "run -p 3": "-p: options are whole words with two dashes, as --psi, --policy or --print",
+            "run --lines 100": "--lines 100: it may be a power of two, 4 to 4096; nearest are 64 and 128",
+            "run --psi 1 --psi=2": "--psi stands twice",
+            "run --psi": "--psi lacks its value: it may be 1 to 65535",
+            "gen --psi 3": "--psi is no option of gen, but of run or stream",
+            "run --print rows": "--print rows: it may be results, summary, wear or image (rows is for stream)",
+            "stream --every 5": "--every belongs to --print snapshots alone",
+            "rum": "there is no command rum (did you mean run?)",
+            "run": None,
+            "stream --print snapshots --every 5 --rows=4000000000 --step 0 --input drawn": None,
+        }
+        for words, said in wanted.items():
+            self.assertEqual(pages.table().explain(words.split(), "usage: pcm\n"), said, words)
+
+    def test_a_faulty_row_is_found_in_its_file(self):
+        head, line = "tick,op,arg,data\n", "ab" * 64
+        wanted = [
+            (f"{head}0,R,0,\n\n5,R,0,,\n", "run", "trace row 2: fields", "line 4: it has 5 fields, and must have four: tick,op,arg,data"),
+            (f"{head}0,R,0,\n5,S,,\n6,X,0,\n", "stream", "trace row 2: op", "line 4: the second field must be R, W, M, C or S, and is 'X'"),
+            (f"{head}0,W,5,{line[:-1]}g\n", "run", "trace row 1: payload",
+             "line 2: the fourth field has 'g' behind 127 characters, where it must be hexadecimal digits"),
+            ("", "run", "trace row 0: header", "the file is empty: a trace begins with tick,op,arg,data"),
+            (f"\ufeff{head}-1,R,0,\n", "run", "trace row 1: tick", "line 2: the first field must be a tick, 0 to 1099511627776 in digits, and is '-1'"),
+            (f"{head}0,R,0,\nrow,op,line,outcome,tick,place,data\n1,R,0,read,5,5,\r\n", "check", "results row 1",
+             "line 4: it ends with CRLF, and must end with LF"),
+            (f"{head}0,R,0,\n", "run", "trace row 1: op", None),
+        ]
+        with tempfile.TemporaryDirectory() as room:
+            for text, command, line, said in wanted:
+                path = pathlib.Path(room, "trace")
+                path.write_text(text, encoding="utf-8", newline="")
+                self.assertEqual(pages.table().explain([command], f"{line}\n", str(path)), said, text)
+
+
+class Watching(unittest.TestCase):
+    """A program that is watched: its bytes, its status and its signals are its own."""
+
+    def watch(self, script, *words, **how):
+        with tempfile.TemporaryDirectory() as room:
+            program = pathlib.Path(room, "a program")
+            Room.script(program, f"#!/bin/sh\n{script}\n")
+            asked = [sys.executable, "-B", TOP / "python" / "pcm" / "watching.py", program, "stream", "--progress", *words]
+            return subprocess.run(asked, stderr=subprocess.PIPE, text=True, timeout=60, **{"stdout": subprocess.PIPE, **how})
+
+    def test_bytes_words_and_status_are_the_programs(self):
+        done = self.watch("echo \"$@\"; echo trouble >&2; exit 3", "--psi", "5")
+        self.assertEqual((done.returncode, done.stdout, done.stderr), (3, "--psi 5\n", "trouble\n"))
+        self.assertEqual(self.watch("kill -KILL $$").returncode, -signal.SIGKILL)
+
+    def test_a_fault_of_writing_is_the_programs(self):
+        with open("/dev/full", "w") as full:
+            done = self.watch("while echo row; do :; done; exit 5", stdout=full)
+        self.assertEqual((done.returncode, done.stderr), (5, "write fault\n"))
+
+    def test_it_tells_how_far_it_is(self):
+        done = self.watch("echo header; echo 5000,1; sleep 1.4; echo 6000,2", "--print", "snapshots")
+        self.assertEqual(done.stdout, "header\n5000,1\n6000,2\n")
+        self.assertRegex(done.stderr, r"^5,000 rows, [0-9,]+ a second\n")
+        done = self.watch("echo header; echo 5000,1; sleep 1.4", "--input=drawn", "--rows=4")
+        self.assertRegex(done.stderr, "^1 rows, .* a second, 25%, about")
 
 
 if __name__ == "__main__":

@@ -11,7 +11,10 @@ def main() -> int:
     words = sys.argv[1:]
     if words[:1] == ["report"]:
         return report.main(words[1:])
-    print(USAGE, file=sys.stderr)
+    if words[:1] in (["-h"], ["--help"]):
+        print(USAGE)
+        return 0
+    print(USAGE if not words else f"there is no command {words[0]}; {USAGE}", file=sys.stderr)
     return 2
 
 

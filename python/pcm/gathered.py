@@ -1,4 +1,5 @@
 """Gathers a run from its files, or by running the program, and holds the files to one another."""
+import functools
 import subprocess
 import tempfile
 from typing import Dict, List, NamedTuple, Optional
@@ -47,10 +48,11 @@ def gather(asked: Asked, program: Program = None, progress: Optional[Progress] =
     if options["input"] == "drawn":
         options = {**options, **{name: value for name, value in DRAWN.items() if name not in options}}
     files = [source for source in sources if not asked.runs or source.kind in ("trace", "results", "snapshots")]
-    rows = results_of(by_kind["results"]) if "results" in by_kind else []
+    rows = results_of(by_kind["results"], progress) if "results" in by_kind else []
     run = Run(asked.name or asked.results or asked.trace or "drawn", options, origins, files, rows)
     for kind, read in (
-        ("trace", _add_trace), ("wear report", _add_wear), ("image", _add_image), ("snapshots", _add_snapshots), ("summary", _add_summary),
+        ("trace", functools.partial(_add_trace, progress=progress)), ("wear report", _add_wear), ("image", _add_image),
+        ("snapshots", _add_snapshots), ("summary", _add_summary),
     ):
         if kind in by_kind:
             read(run, by_kind[kind])
@@ -108,6 +110,7 @@ def _ran(name: str, program: Program, options: Dict[str, str], given: bytes, tra
         else:
             progress.tell(lambda: f"pcm {name}" + f" --print {options['print']}" * ("print" in options))
 
+    progress.restart()
     with tempfile.TemporaryFile() as said:
         with subprocess.Popen(words, stdin=subprocess.PIPE, stdout=subprocess.PIPE, stderr=said) as process:
             pieces += exchanged(process, cut(given), tell, progress.shown)
@@ -117,11 +120,11 @@ def _ran(name: str, program: Program, options: Dict[str, str], given: bytes, tra
     return b"".join(pieces)
 
 
-def _add_trace(run: Run, source: Source) -> None:
+def _add_trace(run: Run, source: Source, progress: Progress) -> None:
     """The trace's rows must be those of the results; one cut may have been added behind them, where the power went."""
     if not run.has_rows:
         raise FileFault(f"{source.name}: a trace, where snapshots don't tell what became of each row")
-    arrivals = arrivals_of(source)
+    arrivals = arrivals_of(source, progress)
     if len(run.rows) == len(arrivals) + 1 and run.rows[-1].word == "cut":
         arrivals.append(Arrival(run.rows[-1].tick, "C", None))
     results = run.files[[file.kind for file in run.files].index("results")].name

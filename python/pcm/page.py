@@ -116,7 +116,10 @@ def _glance(runs: Sequence[Run]) -> str:
 
 def _ns(run: Run, ticks: Cell) -> Cell:
     """Ticks in nanoseconds, where it is told how many a tick stands for."""
-    return None if run.tick_ns is None or not isinstance(ticks, (int, float)) else float(ticks * run.tick_ns)
+    if run.tick_ns is None or not isinstance(ticks, (int, float)):
+        return None
+    ns = ticks * run.tick_ns
+    return int(ns) if isinstance(ticks, int) and ns == int(ns) else float(ns)
 
 
 def _mean(run: Run) -> Cell:
@@ -236,7 +239,8 @@ def _quantiles(run: Run, kind: str) -> str:
     if run.tick_ns is None:
         return table
     in_ns = [(word, count, *(_ns(run, ticks) for ticks in spread)) for word, count, *spread in rows]
-    return f"<div>{table}{tabled(f'The same in nanoseconds, {run.tick_ns:g} to a tick', ('outcome', *_HEAD), in_ns, f'{kind} ns')}</div>"
+    caption = f"The same in nanoseconds, {run.tick_ns:g} to a tick"
+    return f'<div class="tables">{table}{tabled(caption, ("outcome", *_HEAD), in_ns, kind + " ns")}</div>'
 
 
 def _spread(ordered: List[int]) -> List[Cell]:

@@ -20,6 +20,10 @@ class Progress:
         self._next = self._begun + _FIRST
         self._stands = False
 
+    def restart(self) -> None:
+        """Another part of the work begins: what is done a second is that of this part."""
+        self._begun = self._clock()
+
     @property
     def due(self) -> bool:
         """Whether a line would be told now."""

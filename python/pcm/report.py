@@ -52,11 +52,12 @@ def report(
     watched = Progress(progress)
     try:
         runs = [gather(one, program, watched) for one in asked]
+        for run in runs:
+            run.tick_ns = tick_ns
+        watched.tell(lambda: "making the page")
+        return page(runs, title, __version__)
     finally:
         watched.clear()
-    for run in runs:
-        run.tick_ns = tick_ns
-    return page(runs, title, __version__)
 
 
 def main(words: Sequence[str]) -> int:

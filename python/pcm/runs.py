@@ -205,6 +205,8 @@ def opened(kind: str, name: str, progress: Optional[Progress] = None) -> Source:
 def _pieces(file: BinaryIO, progress: Optional[Progress]) -> Iterator[bytes]:
     """A pipe's bytes as they come, with the rows of so far as progress."""
     rows = 0
+    if progress is not None:
+        progress.restart()
     while True:
         piece = file.read1(1 << 18)
         if not piece:
@@ -215,9 +217,9 @@ def _pieces(file: BinaryIO, progress: Optional[Progress]) -> Iterator[bytes]:
         yield piece
 
 
-def results_of(source: Source) -> List[Known]:
+def results_of(source: Source, progress: Optional[Progress] = None) -> List[Known]:
     """The rows of results, or those of a stream in the order of their numbers."""
-    records = _records(source)
+    records = _records(source, progress)
     header = next(records, (0, []))[1]
     if header == ["row", "op", "line", "outcome", "tick", "place", "data"]:
         return [_result(source, at, record) for at, record in records]
@@ -242,9 +244,9 @@ def snapshots_of(source: Source) -> List[Snapshot]:
     return found
 
 
-def arrivals_of(source: Source) -> List[Arrival]:
+def arrivals_of(source: Source, progress: Optional[Progress] = None) -> List[Arrival]:
     """The rows of a trace that have a number."""
-    records = _records(source)
+    records = _records(source, progress)
     if next(records, (0, []))[1] != ["tick", "op", "arg", "data"]:
         raise FileFault(f"{source.name} row 0: header")
     found: List[Arrival] = []
@@ -310,15 +312,19 @@ def shape_of_wear(source: Source, wear: List[Worn]) -> Shape:
     return shape
 
 
-def _records(source: Source) -> Iterator[Tuple[int, List[str]]]:
+def _records(source: Source, progress: Optional[Progress] = None) -> Iterator[Tuple[int, List[str]]]:
     """The records of a file with commas, numbered from 0."""
     reader = csv.reader(io.StringIO(source.text, newline=""))
-    at = 0
+    at, lines = 0, max(1, source.data.count(b"\n"))
+    if progress is not None:
+        progress.restart()
     try:
         for record in reader:
             if record:
                 yield at, record
                 at += 1
+            if progress is not None and at % 4096 == 0:
+                progress.rows(at, at / lines, f"rows of {source.name}")
     except csv.Error:
         raise FileFault(f"{source.name} row {at}: fields") from None
 

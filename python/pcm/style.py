@@ -21,7 +21,7 @@ a,summary{{color:var(--blue)}}
 .soft,footer,caption,thead th{{color:var(--soft)}}
 footer{{padding-bottom:2rem;font-size:.85rem}}
 .runs{{display:grid;gap:1.2rem 2rem;grid-template-columns:repeat(auto-fit,minmax(min(100%,22rem),1fr))}}
-.run{{min-width:0}}
+.run,.tables{{min-width:0}}
 .alone .run{{grid-column:1/-1}}
 .pictures{{display:grid;gap:1rem 2rem;grid-template-columns:repeat(auto-fit,minmax(min(100%,24rem),1fr));align-items:start}}
 .several .pictures{{grid-template-columns:1fr}}

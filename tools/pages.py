@@ -1,0 +1,225 @@
+"""The manual and the completions, made of docs/USING.md and of the table of options in python/pcm/words.py.
+
+Used by tools/install, tools/dist and tools/pages."""
+import importlib.util
+import re
+import sys
+
+import crates
+
+TOP = crates.TOP
+USING = TOP / "docs" / "USING.md"
+STATUSES = "The statuses:"
+
+
+def table():
+    """python/pcm/words.py, without the package around it."""
+    if "pcm_words" not in sys.modules:
+        found = importlib.util.spec_from_file_location("pcm_words", TOP / "python" / "pcm" / "words.py")
+        sys.modules["pcm_words"] = importlib.util.module_from_spec(found)
+        found.loader.exec_module(sys.modules["pcm_words"])
+    return sys.modules["pcm_words"]
+
+
+def section(heading):
+    """The lines of USING.md below a heading, without comments."""
+    text = re.search(rf"(?ms)^## {re.escape(heading)}\n(.*?)(?=^## |\Z)", USING.read_text(encoding="utf-8"))[1]
+    return re.sub(r"<!--.*?-->\n?", "", text).strip().replace("`./pcm", "`pcm").split("\n")
+
+
+# The manual.
+
+
+def roff(text, bold=True):
+    """A text of Markdown as one of roff: spans of code and strong words are bold, links are their text."""
+    text = re.sub(r"\[([^]]*)\]\([^)]*\)", r"\1", text).replace("\\", "\\e")
+    text = re.sub(r"[^\x00-\x7f]", lambda it: f"\\[u{ord(it[0]):04X}]", text)
+    marked = re.sub(r"\*\*(.+?)\*\*", r"`\1`", text).split("`")
+    for at in range(1, len(marked), 2):
+        marked[at] = f"\\fB{marked[at].replace('-', chr(92) + '-')}\\fR" if bold else marked[at]
+    text = "".join(marked).replace("'", "\\(aq")
+    return f"\\&{text}" if text.startswith(".") else text
+
+
+def body(lines):
+    """Paragraphs and lists as roff: an item that begins with a span of code in front of a bracket, a stop or a colon has that as its tag."""
+    for line in lines:
+        if not line.strip():
+            continue
+        item = re.match(r"- (\*\*\w+\*\*|\d+(?=:)|(?:`[^`]+`(?:, | and )?)+)(:? ?)(.*)", line)
+        if item and item[3]:
+            yield from (".TP", roff(item[1]) + ":" * (":" in item[2]), roff(item[3]))
+        elif line.startswith("- "):
+            yield from (".IP \\(bu 2", roff(line[2:]))
+        else:
+            yield from (".PP", roff(line))
+
+
+def page(name, about, synopsis, parts):
+    version = (TOP / "VERSION").read_text(encoding="utf-8").strip()
+    lines = [f'.TH {name.upper()} 1 "" "pcm {version}" "User Commands"', ".SH NAME", f"{name} \\- {roff(about)}", ".SH SYNOPSIS"]
+    for words in synopsis:
+        lines += [".PP", roff(words)]
+    for title, text in parts:
+        lines += [f'.SH "{title}"' if title.isupper() else f'.SS "{title}"', *body(text)]
+    return "\n".join(lines) + "\n"
+
+
+ABOUT = "simulates a phase-change memory module with its controller; each function of it is proved"
+ENVIRONMENT = [
+    "- `PCM_EXPLAIN`: 1 says behind the program's line what is wrong with a word or a trace, 0 never does; else it is said on a terminal.",
+    "- `PCM_PROGRESS`: 0 shows no progress of a stream on a terminal; `--progress` shows it elsewhere too.",
+]
+
+
+def manual():
+    """pcm(1)."""
+    commands, statuses = "\n".join(section("The commands")).split(STATUSES)
+    parts = [("DESCRIPTION", commands.split("\n")), ("COMMANDS", [])]
+    parts += [(f"pcm {it}", section(f"pcm {it}")) for it in table().COMMANDS if it != "stream"]
+    parts += [("EXIT STATUS", statuses.split("\n")), ("ENVIRONMENT", ENVIRONMENT), ("SEE ALSO", ["`pcm-stream`(1)"])]
+    return page("pcm", ABOUT, ["**pcm** *COMMAND* [`--option` *value* ..]".replace("*", "")], parts)
+
+
+def manual_of_streams():
+    """pcm-stream(1)."""
+    parts = [("DESCRIPTION", section("pcm stream")), ("ENVIRONMENT", ENVIRONMENT), ("SEE ALSO", ["`pcm`(1)"])]
+    return page("pcm-stream", "replays a trace as it comes", ["pcm stream [`--option` value ..] < trace.csv"], parts)
+
+
+def read_of(text):
+    """The words that a reader of a page sees."""
+    lines = [line for line in text.splitlines() if not re.match(r"\.(PP|TP|IP|TH)", line)]
+    lines = [re.sub(r'^\.S[HS] "?(.*?)"?$', r"\1", line) for line in lines]
+    plain = re.sub(r"\\f[BR]|\\&", "", "\n".join(lines)).replace("\\-", "-").replace("\\(aq", "'").replace("\\e", "\\")
+    return re.sub(r"\\\[u([0-9A-F]+)\]", lambda it: chr(int(it[1], 16)), plain).split()
+
+
+def wrong_range(name, told):
+    """What a bullet of USING.md says of an option's default and range, `(4; 1, 2, 4, 8 or 16)`, where that isn't what the table says."""
+    options = table().COMMANDS[name].options
+    for option, default, rest in re.findall(r"(?m)^- `--([a-z-]+) [A-Z]+`(?: and `[^`]+`)? \(`?([a-z0-9]+)`?(?: both)?(?:; ([^)]*))?\)", told):
+        known = options.get(option)
+        numbers = set(re.findall(r"\d+", rest.replace(",", "" if "power" in rest else ",")))
+        wanted = set(known.choices if known and known.choices else (str(known.least), str(known.most)) if known else ())
+        if known is None or default != known.default:
+            yield f"docs/USING.md: pcm {name}: --{option}: its default is {known.default if known else 'none: there is no such option'}"
+        elif rest and "the rows" not in rest and "power" not in rest and not numbers <= wanted | {known.default}:
+            yield f"docs/USING.md: pcm {name}: --{option}: it may be {known.range()}"
+        elif rest and "the rows" not in rest and not {str(known.most)} & numbers and not known.choices:
+            yield f"docs/USING.md: pcm {name}: --{option}: it may be at most {known.most}"
+
+
+def faults():
+    """What isn't so of the pages: each section's words stand there in their order, and each option of the table has its bullet."""
+    pages = {"pcm": " ".join(read_of(manual())), "pcm-stream": " ".join(read_of(manual_of_streams()))}
+    for name in table().COMMANDS:
+        text = re.sub(r"\[([^]]*)\]\([^)]*\)", r"\1", " ".join(section(f"pcm {name}")))
+        here = pages["pcm-stream" if name == "stream" else "pcm"]
+        for line in section(f"pcm {name}"):
+            plain = " ".join(re.sub(r"^- |\*\*|`", "", re.sub(r"\[([^]]*)\]\([^)]*\)", r"\1", line)).split())
+            if plain not in here:
+                yield f"the manual lacks: {plain[:60]}"
+        stated = text if name != "stream" else text + " ".join(section("pcm run"))
+        for option in table().COMMANDS[name].options:
+            if name in ("run", "stream") and option in ("rows", "write-percent", "cuts", "step", "hot"):
+                continue
+            if not re.search(rf"`--{option}\b[ `]", stated):
+                yield f"docs/USING.md: pcm {name} doesn't name --{option}"
+        yield from wrong_range(name, "\n".join(section(f"pcm {name}")))
+        for option in set(re.findall(r"`--([a-z-]+)", text)) - set(table().COMMANDS[name].options) - {"option", "print"}:
+            yield f"docs/USING.md: pcm {name} names --{option}, which python/pcm/words.py doesn't have"
+
+
+# Completions.
+
+
+def values(option):
+    return " ".join(option.choices)
+
+
+def bash():
+    """The completion for bash."""
+    words = table()
+    cases = []
+    for command in words.COMMANDS.values():
+        cases.append(f"        {command.name}) options=\"{' '.join(f'--{it}' for it in command.options)}\" ;;")
+    chosen = {}
+    for command in words.COMMANDS.values():
+        for option in command.options.values():
+            if option.choices:
+                chosen.setdefault((option.name, values(option)), []).append(command.name)
+    picks = [f'        {pattern} known="{known}" ;;' for (name, known), commands in chosen.items()
+             for pattern in ["|".join(f"{it}--{name}" for it in commands) + ")"]]
+    return f"""# bash completion for pcm(1), made from its table of options.
+_pcm() {{
+    local word=${{COMP_WORDS[COMP_CWORD]}} before=${{COMP_WORDS[COMP_CWORD - 1]}} command=${{COMP_WORDS[1]}} options="" known="" it
+    COMPREPLY=()
+    if [ "$COMP_CWORD" = 1 ]; then
+        mapfile -t COMPREPLY < <(compgen -W "{' '.join([*words.COMMANDS, *words.WRAPPERS])}" -- "$word")
+        return
+    fi
+    if [ "$word" = = ]; then
+        word=""
+    elif [ "$before" = = ]; then
+        before=${{COMP_WORDS[COMP_CWORD - 2]}}
+    fi
+    case $command$before in
+{chr(10).join(picks)}
+        helphelp) known="{' '.join(words.COMMANDS)}" ;;
+        pathpath) known=stream ;;
+        *--*) if [[ $before == --* && $before != --help ]]; then return; fi ;;
+    esac
+    if [ -n "$known" ]; then
+        mapfile -t COMPREPLY < <(compgen -W "$known" -- "$word")
+        return
+    fi
+    case $command in
+{chr(10).join(cases)}
+    esac
+    options=" $options --help "
+    for it in "${{COMP_WORDS[@]:2:COMP_CWORD - 2}}"; do options=${{options/ $it / }}; done
+    mapfile -t COMPREPLY < <(compgen -W "$options" -- "$word")
+}}
+complete -F _pcm pcm
+"""
+
+
+def zsh():
+    """The completion for zsh."""
+    words = table()
+    commands = [f"        '{it.name}:{it.about}'" for it in words.COMMANDS.values()]
+    commands += [f"        '{name}:{about}'" for name, about in words.WRAPPERS.items()]
+    cases = []
+    for command in words.COMMANDS.values():
+        cases.append(f"        {command.name})\n            _arguments \\")
+        for it in command.options.values():
+            known = f"({values(it)})" if it.choices else f"{it.range()} "
+            action = f":{it.value}:{known}" if it.choices else f":{it.value} ({it.range()}; {it.default}): "
+            cases.append(f"                '--{it.name}=[{it.about}]{action}' \\")
+        cases.append("                '--help[print the page of this command]' ;;")
+    return f"""#compdef pcm
+# zsh completion for pcm(1), made from its table of options.
+_pcm() {{
+    local -a commands
+    commands=(
+{chr(10).join(commands)}
+    )
+    if (( CURRENT == 2 )); then
+        _describe command commands
+        return
+    fi
+    local command=$words[2]
+    shift words
+    (( CURRENT-- ))
+    case $command in
+{chr(10).join(cases)}
+        help) _values command {' '.join(words.COMMANDS)} ;;
+        path) _values program stream ;;
+    esac
+}}
+_pcm "$@"
+"""
+
+
+PAGES = {"pcm.1": manual, "pcm-stream.1": manual_of_streams, "bash": bash, "zsh": zsh}
