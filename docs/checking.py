@@ -435,6 +435,55 @@ def check_pictures():
     yield None if drawn.returncode == 0 else drawn.stdout.strip() or f"docs/pictures/draw.py: {drawn.stderr.strip()}"
 
 
+# What stands where.
+
+# A time or an amount of memory, which depends on the machine.
+FIGURE = re.compile(r"\b\d[\d,.]* (?:s|seconds?|minutes?|hours?|ms|milliseconds?|microseconds?|MB|GB)\b")
+# Pages that may have such figures, and say where they come from.
+MEASURED = {"docs/FIGURES.md", "CHANGELOG.md"}
+SHORTEST_SENTENCE = 60
+
+
+def prose(text):
+    """A page without its blocks of code and its spans of code: what is left is sentences."""
+    text = re.sub(r"(?ms)^```.*?^```$|<!--.*?-->", "", text)
+    return "\n".join(re.sub(r"`[^`]*`", "", line) for line in text.split("\n") if not line.startswith("    "))
+
+
+def sentences(text):
+    """The sentences of a page that say something of their own, with their code, by one blank between words."""
+    text = re.sub(r"(?ms)^```.*?^```$|<!--.*?-->", "", text)
+    lines = (line for line in text.split("\n") if not line.startswith("    "))
+    for line in lines:
+        for sentence in re.split(r"(?<=[.:;!?])\s+", re.sub(r"^[\s>|*#-]+|[\s|]+$", "", line)):
+            if len(sentence) >= SHORTEST_SENTENCE and not sentence.startswith(("![", "[")):
+                yield " ".join(sentence.split())
+
+
+def measured(pages):
+    """Each figure of a machine that stands on a page of another kind."""
+    for document, text in pages.items():
+        if document not in MEASURED:
+            yield from (f"{document}: the figure '{it[0]}' belongs into docs/FIGURES.md" for it in FIGURE.finditer(prose(text)))
+
+
+def said_twice(pages):
+    """Each sentence that stands on two pages, but for those of CHANGELOG.md."""
+    first = {}
+    for document, text in pages.items():
+        if document == "CHANGELOG.md":
+            continue
+        for sentence in set(sentences(text)):
+            if first.setdefault(sentence, document) != document:
+                yield f"{document} and {first[sentence]} both say: {sentence}"
+
+
+def check_places():
+    pages = documents()
+    for found in (list(measured(pages)), list(said_twice(pages))):
+        yield from found or [None]
+
+
 # The version.
 
 

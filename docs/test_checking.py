@@ -27,6 +27,18 @@ class Commands(unittest.TestCase):
         self.assertFalse(checking.matches(["a", "...", "d"], ["a", "b"]))
 
 
+class Places(unittest.TestCase):
+    def test_a_figure_of_a_machine_is_found_but_where_figures_stand(self):
+        pages = {"docs/USING.md": "It takes 16 seconds, for 64 MiB.\n\n    sleep 5 s\n", "docs/FIGURES.md": "It takes 16 seconds."}
+        self.assertEqual(list(checking.measured(pages)), ["docs/USING.md: the figure '16 seconds' belongs into docs/FIGURES.md"])
+
+    def test_a_sentence_on_two_pages_is_found(self):
+        long = "A pulse has a mask and wanted values, and leaves the cells outside the mask as they are."
+        pages = {"a.md": f"Short. {long}", "b.md": f"- **Here**: more. {long} Again.", "CHANGELOG.md": long}
+        self.assertEqual(list(checking.said_twice(pages)), [f"b.md and a.md both say: {long}"])
+        self.assertEqual(list(checking.said_twice({"a.md": f"{long} {long}"})), [])
+
+
 class Quotes(unittest.TestCase):
     CODE = ["fn one() {", "    1", "}", "fn two() {", "    2", "}"]
 
