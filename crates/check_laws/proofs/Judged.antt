@@ -1,5 +1,5 @@
--- Each row of a right run keeps each rule.
-use Rattle.std.proofs.Common.{◌≡◌, ℕ, zero, suc, ◌+◌, ◌<◌, ◌&&◌, true, List, [], ◌∷◌, map, refl, sym, ◌∙◌, subst, arith}
+-- Rows that are served keep each rule, and so do those of a right run.
+use Rattle.std.proofs.Common.{◌≡◌, ℕ, zero, suc, ◌+◌, ◌<◌, ◌&&◌, Bool, true, false, List, [], ◌∷◌, map, refl, sym, ◌∙◌, subst, arith}
 use Rattle.std.{specs.List.range_with_len, specs.Prelude.{nat_le, reverse}, proofs.lemmas.Bool.{le-leb, and_from}, proofs.lemmas.List.reverse-reverse}
 use Rattle.std.proofs.{lemmas.List.FromFn.get_or-map-range_with_len, lemmas.Option.unwrap_or-slice_get}
 use Rattle.row_rules.specs.{Queueing.{has_room, is_queue_fair}, Rows.{RowTest, each_row}, Serving.is_served, Ticking.is_in_time, Wearing.is_wear_final, declared.Row.Row}
@@ -8,9 +8,9 @@ use Rattle.cell_rows.specs.Device.{ArrayState}
 use Rattle.check_verdict.specs.{Judging.VerdictLaw, Verdicts.{bank_in, in_bank, all_have_room, keeps_all}}
 use Rattle.module_shape.specs.{Limits.total_of, declared.raw.RawShape.RawShape}
 use Rattle.module_laws.specs.Serves.{AreLines}
-use Rattle.right_runs.specs.{Banks.{bank_of_line, line_in_bank, rules_in, banks_of}, Ends.BankEnd, Runs.RunsRight, Tables.table_in}
+use Rattle.right_runs.specs.{Banks.{bank_of_line, line_in_bank, rules_in, banks_of}, Runs.ServesTo, Tables.table_in}
 use Rattle.run_laws.specs.FinishedLaws.{LinesLaw}
-use Rattle.check_laws.{specs.Verdicts.{RulesKeptLaw, YesLaw}, proofs.InBanks.{Exist, exist-all, AreBanks, IsOfBank, apart, IsOfTables, all_rooms, in_tables}}
+use Rattle.check_laws.{specs.Verdicts.{RulesKeptLaw, ServedRulesLaw, ServedYesLaw, YesLaw}, proofs.InBanks.{Exist, exist-all, AreBanks, IsOfBank, apart, IsOfTables, all_rooms, in_tables}}
 use Rattle.check_laws.proofs.{Renaming.queue-named, Timing.{wear-named, ticks-named}}
 
 module _ {n : ℕ} where
@@ -35,7 +35,7 @@ module _ (raw : RawShape) (seed : ℕ) (known : AreLines raw.banks (total_of raw
   listed : (line : ℕ) → line < total_of raw → bank_in (banks_of raw seed) line ≡ bank_of_line raw seed line
   listed line exists = unwrap_or-slice_get (banks_of raw seed) line 0 ∙ get_or-map-range_with_len (bank_of_line raw seed) 0 (total_of raw) line line 0 exists (omega arith)
 
-  module _ {n m : ℕ} (e : ℕ) (rows : List (Row n)) (array : ArrayState n m) (ends : ℕ → BankEnd) (exist : Exist (total_of raw) rows) (right : RunsRight e raw seed rows array ends) where
+  module _ {n m : ℕ} (e : ℕ) (off : Bool) (rows : List (Row n)) (array : ArrayState n m) (exist : Exist (total_of raw) rows) (serves : ServesTo e raw seed off rows array) where
     abbrev rules : Rules
     rules = rules_in e raw 0
 
@@ -69,20 +69,26 @@ module _ (raw : RawShape) (seed : ℕ) (known : AreLines raw.banks (total_of raw
 
     pub all_kept : AreBanks raw.banks (banks_of raw seed) → each_row (keeps_all rules (banks_of raw seed)) rows [] ≡ true
     all_kept are =
-        passes_both is_served _ rows [] right.serves.served
+        passes_both is_served _ rows [] serves.served
         (passes_both _ _ rows []
         (passes_both (all_have_room (banks_of raw seed) rules) (in_bank (banks_of raw seed) (is_queue_fair rules)) rows []
-        (all_rooms raw.banks (total_of raw) (bank_of_line raw seed) (line_in_bank raw seed) known (banks_of raw seed) listed rules are rows [] exist (λ bank few. right.serves.room bank few))
-        (kept (is_queue_fair rules) queue_is (λ bank few. (right.serves.banks bank few).queue)))
-        (passes_both (in_bank (banks_of raw seed) is_wear_final) _ rows [] (kept is_wear_final wear_is (λ bank few. (right.serves.banks bank few).wear))
-        (passes_both (in_bank (banks_of raw seed) (is_in_time rules)) (λ before r after. true) rows [] (kept (is_in_time rules) ticks_are (λ bank few. (right.serves.banks bank few).ticks)) (passes_any rows []))))
+        (all_rooms raw.banks (total_of raw) (bank_of_line raw seed) (line_in_bank raw seed) known (banks_of raw seed) listed rules are rows [] exist (λ bank few. serves.room bank few))
+        (kept (is_queue_fair rules) queue_is (λ bank few. (serves.banks bank few).queue)))
+        (passes_both (in_bank (banks_of raw seed) is_wear_final) _ rows [] (kept is_wear_final wear_is (λ bank few. (serves.banks bank few).wear))
+        (passes_both (in_bank (banks_of raw seed) (is_in_time rules)) (λ before r after. true) rows [] (kept (is_in_time rules) ticks_are (λ bank few. (serves.banks bank few).ticks)) (passes_any rows []))))
 
-pub rules_kept_law : LinesLaw → RulesKeptLaw
-rules_kept_law lines n m e raw seed rows array ends is exist right =
+pub served_rules_law : LinesLaw → ServedRulesLaw
+served_rules_law lines off n m e raw seed rows array is exist serves =
     let known = lines raw seed is in
     subst (λ (rs : List (Row n)). each_row (keeps_all (rules_in e raw 0) (banks_of raw seed)) rs [] ≡ true) (sym (reverse-reverse rows))
-    (all_kept raw seed known e rows array ends (exist-all (total_of raw) rows exist) right (banks_in raw seed known.exists (total_of raw) 0 (omega arith)))
+    (all_kept raw seed known e off rows array (exist-all (total_of raw) rows exist) serves (banks_in raw seed known.exists (total_of raw) 0 (omega arith)))
 
-pub yes_law : VerdictLaw → RulesKeptLaw → YesLaw
-yes_law exact kept n m e raw seed rows array ends is exist right =
-    (exact n (rules_in e raw 0) (banks_of raw seed) (reverse rows)).0.yes (kept n m e raw seed rows array ends is exist right)
+pub served_yes_law : VerdictLaw → ServedRulesLaw → ServedYesLaw
+served_yes_law exact kept off n m e raw seed rows array is exist serves =
+    (exact n (rules_in e raw 0) (banks_of raw seed) (reverse rows)).0.yes (kept off n m e raw seed rows array is exist serves)
+
+pub rules_kept_law : ServedRulesLaw → RulesKeptLaw
+rules_kept_law served n m e raw seed rows array ends is exist right = served false n m e raw seed rows array is exist right.serves
+
+pub yes_law : ServedYesLaw → YesLaw
+yes_law served n m e raw seed rows array ends is exist right = served false n m e raw seed rows array is exist right.serves
