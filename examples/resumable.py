@@ -13,6 +13,9 @@ import subprocess
 import sys
 import threading
 
+# (until `begin` a script is broken off without a word)
+if signal.getsignal(signal.SIGINT) is signal.default_int_handler:
+    signal.signal(signal.SIGINT, signal.SIG_DFL)
 sys.dont_write_bytecode = True
 sys.path[1:1] = [os.path.join(os.path.dirname(os.path.dirname(os.path.realpath(__file__))), "python")]
 from pcm import PcmError, command  # noqa: E402
@@ -228,6 +231,8 @@ class Runs:
 
 def begin(main, words):
     """The status of a script whose `main` takes these words: 1 where it refuses, 130 where it is broken off."""
+    if signal.getsignal(signal.SIGINT) is signal.SIG_DFL:
+        signal.signal(signal.SIGINT, signal.default_int_handler)
     for stream in (sys.stdout, sys.stderr):
         stream.reconfigure(errors="surrogateescape")
     try:

@@ -10,6 +10,9 @@ bytes where the format has them. All else is done here, so every importer has th
 * A line ends with LF or CRLF; the last end may be missing. A line that isn't of the form ends the reading with `line N: WHY` on
   standard error and status 1. But for --stream nothing is written before all of the input is read. An input without accesses gives
   the header alone.
+* With --cache a write-back cache of so many lines stands between: an access that hits makes no row, a miss reads its line, unless all of
+  it is written, and the line that leaves its set, the one least recently used, is written whole where it was written to. What is in the
+  cache behind the last access stays there.
 * `pcm run` takes at most 400,000 rows. More are refused, or cut into pieces with --pieces; ticks go on from piece to piece.
 * With --stream rows are written as they are made, any number of them, for `./pcm stream`: so an importer stands in a pipe behind a
   program that is still running. What was written before a line that is refused stays written then.
@@ -86,21 +89,51 @@ def line_filler(options: argparse.Namespace) -> Callable[[int], bytes]:
     return fillers[options.data]
 
 
+class Cache:
+    """A write-back cache of whole lines: what accesses of a memory are left of those of a processor."""
+
+    def __init__(self, options: argparse.Namespace):
+        if options.cache % options.ways:
+            raise Refusal(f"--cache {options.cache} isn't a multiple of --ways {options.ways}")
+        if options.data == "trace":
+            raise Refusal("a cache has no bytes of the trace: --data zero, address or seed")
+        self.size, self.ways = options.size, options.ways
+        # (of each set its lines, the least recently used first, and whether each was written to)
+        self.sets = [{} for _ in range(options.cache // options.ways)]
+
+    def of(self, access: Access) -> Iterable[Access]:
+        """What the memory sees of an access."""
+        behind = access.address + access.size
+        for line in range(access.address // self.size, (behind - 1) // self.size + 1):
+            here, start = self.sets[line % len(self.sets)], line * self.size
+            written = here.pop(line, None)
+            if written is None:
+                if len(here) == self.ways:
+                    oldest = next(iter(here))
+                    if here.pop(oldest):
+                        yield Access(access.cycle, True, oldest * self.size, self.size)
+                if not (access.writes and access.address <= start and start + self.size <= behind):
+                    yield Access(access.cycle, False, start, self.size)
+            here[line] = bool(written) or access.writes
+
+
 class Rows:
     """Turns accesses into rows, one after the other."""
 
     def __init__(self, options: argparse.Namespace):
         self.options = options
         self.fill = line_filler(options)
+        self.cache = None if options.cache is None else Cache(options)
         self.cycle = 0
 
     def of(self, access: Access) -> Iterable[bytes]:
         """The rows of an access, one for each line that it touches."""
         self.check(access)
         self.cycle = access.cycle
-        last = access.address + access.size - 1
-        for line in range(access.address // self.options.size, last // self.options.size + 1):
-            yield self.row(access, line)
+        for one in (access,) if self.cache is None else self.cache.of(access):
+            last = one.address + one.size - 1
+            for line in range(one.address // self.options.size, last // self.options.size + 1):
+                yield self.row(one, line)
 
     def check(self, access: Access) -> None:
         """Refuses an access that no row can tell."""
@@ -246,6 +279,8 @@ def parser_of(importer: Importer) -> argparse.ArgumentParser:
     parser.add_argument("--data", choices=rules, default=rules[-1], help="the bytes of writes: all 0; in each eight bytes their own "
                         "address, lowest byte first; words of SplitMix64, new ones for each row; or those of the trace (%(default)s)")
     parser.add_argument("--seed", type=ranged(0, 2**64 - 1), default=0, help="seed of the words (0)")
+    parser.add_argument("--cache", type=ranged(1, 2**24), metavar="N", help="lines of a write-back cache in front of the memory (none)")
+    parser.add_argument("--ways", type=ranged(1, 2**24), default=4, metavar="N", help="lines of a set of the cache (4)")
     many = parser.add_mutually_exclusive_group()
     many.add_argument("--pieces", metavar="NAME", help="write NAME-001.csv, NAME-002.csv and so on in the place of standard output")
     many.add_argument("--stream", action="store_true", help="write rows as they are made, any number, for `./pcm stream`")

@@ -190,6 +190,32 @@ def answers_of_columns():
         yield same(f"columns, {name}", run(columns, text, *words), (1, "", why + "\n"))
 
 
+def answers_of_caches():
+    """What a cache leaves of accesses: misses, and lines that were written to as they leave."""
+
+    def through(*accesses):
+        return "".join(f"{'w' if writes else 'r'},{address},{size},0,{at}\n" for at, (writes, address, size) in enumerate(accesses))
+
+    def rows(*told):
+        return 0, HEADER + "".join(f"{at},{op},{line},{ZEROS if op == 'W' else ''}\n" for at, op, line in told), ""
+
+    one_set, words = ("--cache", "2", "--ways", "2"), ("--data", "zero")
+    lines = [(False, 0, 8), (False, 8, 8), (True, 64, 8), (False, 0, 64), (False, 128, 1), (False, 64, 1), (False, 0, 1)]
+    wanted = rows((0, "R", 0), (2, "R", 1), (4, "W", 1), (4, "R", 2), (5, "R", 1), (6, "R", 0))
+    yield same("a cache of one set", run(gem5, through(*lines), *one_set, *words), wanted)
+    whole = [(True, 0, 64), (True, 64, 128), (False, 0, 64), (False, 256, 64)]
+    wanted = rows((1, "W", 0), (2, "W", 1), (2, "R", 0), (3, "W", 2), (3, "R", 4))
+    yield same("whole lines", run(gem5, through(*whole), *one_set, *words), wanted)
+    sets = [(True, 0, 1), (True, 64, 1), (False, 128, 1), (False, 192, 1), (False, 0, 1)]
+    wanted = rows((0, "R", 0), (1, "R", 1), (2, "W", 0), (2, "R", 2), (3, "W", 1), (3, "R", 3), (4, "R", 0))
+    yield same("two sets", run(gem5, through(*sets), "--cache", "2", "--ways", "1", *words), wanted)
+    falls = (1, "", "line 2: cycle 69 comes behind cycle 70\n")
+    yield same("a hit that falls", run(gem5, "r,0,64,0,70\nr,0,64,0,69\n", *one_set), falls)
+    uneven = (1, "", "--cache 6 isn't a multiple of --ways 4\n")
+    yield same("an uneven cache", run(gem5, "", "--cache", "6"), uneven)
+    yield same("bytes of the trace", run(nvmain, "", "--cache", "8"), (1, "", "a cache has no bytes of the trace: --data zero, address or seed\n"))
+
+
 def pieces_of(folder, rows, most):
     """What stands in a folder once some rows were cut into pieces; a refusal's text else."""
     status, printed, told = run(gem5, rows, "--most-rows", str(most), "--pieces", os.path.join(folder, "part"))
@@ -231,7 +257,7 @@ def answers_of_streams():
 def main():
     """Runs all tests; the status is 1 where one failed."""
     results = []
-    groups = (answers_of_all, answers_of_options, answers_of_formats, answers_of_columns, answers_of_pieces, answers_of_streams)
+    groups = (answers_of_all, answers_of_options, answers_of_formats, answers_of_columns, answers_of_caches, answers_of_pieces, answers_of_streams)
     for answers in groups:
         results.extend(answers())
     print(f"{sum(results)} passed, {len(results) - sum(results)} failed")

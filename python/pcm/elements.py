@@ -20,7 +20,8 @@ def looked(words: str) -> str:
 def beside(runs: Sequence[Run], part: Part) -> str:
     """What a part says of each run, side by side."""
     named = len(runs) > 1
-    return '<div class="runs">' + "".join(
+    # (three don't stand two in a row and one below)
+    return f'<div class="runs{" three" * (len(runs) == 3)}">' + "".join(
         f'<div class="run">{f"<h3>{escaped(run.name)}</h3>" * named}{part(run)}</div>' for run in runs
     ) + "</div>"
 

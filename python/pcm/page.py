@@ -101,8 +101,10 @@ def _glance(runs: Sequence[Run]) -> str:
             ticks = {id(run): tallies.quantile(tallies.waits(run, word), percent) for run in runs}
             row(f"ticks {words}, {percent}%", lambda run, ticks=ticks: ticks[id(run)])
             row(f"ns {words}, {percent}%", lambda run, ticks=ticks: _ns(run, ticks[id(run)]))
-    row("first row refused (full or worn)", lambda run: tallies.first_refused(run)[0])
-    row("its tick", lambda run: tallies.first_refused(run)[1])
+    refused = {id(run): tallies.first_refused(run) for run in runs}
+    row("first row refused (full or worn)", lambda run: refused[id(run)][0] if run.has_rows else None)
+    row("first snapshot with a refused row, its rows", lambda run: None if run.has_rows else refused[id(run)][0])
+    row("tick of that", lambda run: refused[id(run)][1])
     row("spares in use", tallies.retired)
     row("active pointers", lambda run: run.snapshots[-1].pointers if run.snapshots else None)
     row("pulses", tallies.all_pulses)

@@ -9,7 +9,7 @@ from typing import List, Optional, Sequence, Union
 from .errors import PcmError
 
 Program = Union[str, "os.PathLike[str]", Sequence[str], None]
-# The checkout, or share/pcm of an installed tree.
+# The checkout, or share/pcm of an installed tree, where `pcm` is a link to the installed one.
 _TOP = pathlib.Path(__file__).resolve().parent.parent.parent
 
 
@@ -21,9 +21,9 @@ def program(given: Program = None) -> List[str]:
     named = os.environ.get("PCM")
     if named:
         return [named]
-    for here in (_TOP / "pcm", _TOP.parent.parent / "bin" / "pcm"):
-        if here.is_file() and os.access(here, os.X_OK):
-            return [str(here)]
+    here = _TOP / "pcm"
+    if here.is_file() and os.access(here, os.X_OK):
+        return [str(here)]
     found: Optional[str] = shutil.which("pcm")
     if found is None:
         raise FileNotFoundError("no program pcm: name it by the argument `program` or by PCM in the environment")

@@ -282,8 +282,7 @@ def wear_of(source: Source) -> List[Worn]:
 def summary_of(source: Source) -> Dict[str, int]:
     """The numbers of a summary, by their words."""
     words = ("rows", *OUTCOMES, "retired", "pulses")
-    lines = source.data.decode("ascii", "replace").splitlines()
-    pairs = [line.split(" ") for line in lines]
+    pairs = [line.split(" ") for line in source.text.splitlines()]
     if [pair[0] for pair in pairs] != list(words):
         raise FileFault(f"{source.name}: not a summary")
     return {pair[0]: _natural(source, at, pair[0], " ".join(pair[1:])) for at, pair in enumerate(pairs, 1)}

@@ -40,6 +40,12 @@ td.differs{{font-weight:bold}}
 .option,.options tbody th{{white-space:nowrap}}
 details{{margin:.5rem 0}}
 summary{{cursor:pointer}}
+@media screen{{
+.three{{grid-template-columns:1fr}}
+}}
+@media screen and (min-width:60rem){{
+.three{{grid-template-columns:repeat(3,1fr);column-gap:1.5rem}}
+}}
 @media (max-width:40rem){{
 header,main,footer{{padding-left:.8rem;padding-right:.8rem}}
 body{{font-size:14px}}

@@ -21,11 +21,10 @@ def quantile(ordered: Sequence[int], percent: float) -> Optional[int]:
 
 
 def first_refused(run: Run) -> Tuple[Optional[int], Optional[int]]:
-    """The number of the first write that is refused (full or worn), and its tick; of snapshots alone nothing is known of a single row."""
-    for number, row in enumerate(run.rows, 1):
-        if row.word in ("full", "worn"):
-            return number, row.tick
-    return None, None
+    """The number of the first write that is refused (full or worn), and its tick. Of snapshots alone those of the first by which one was."""
+    if run.has_rows:
+        return next(((number, row.tick) for number, row in enumerate(run.rows, 1) if row.word in ("full", "worn")), (None, None))
+    return next(((one.rows, one.tick) for one in run.snapshots if one.full + one.worn), (None, None))
 
 
 class Level(NamedTuple):

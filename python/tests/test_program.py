@@ -190,6 +190,14 @@ class ProgressLines(Rooms):
         self.assertRegex(told.getvalue(), r"^100 rows, \d+ a second, 25%, about \d+ s more\n$")
 
 
+    def test_a_module_tells_of_a_long_wait(self):
+        slow, told = self.script("slow", "#!/bin/sh\necho 1,cut,1,,\necho 2,cut,1,,\nsleep 1.2\necho 3,cut,2,,\n"), io.StringIO()
+        with contextlib.redirect_stderr(told), pcm.Module(program=slow, progress=True) as module:
+            self.assertEqual([1, 2, 3], [module.cut(tick) for tick in (1, 1, 2)])
+            self.assertEqual([pcm.Cut(1, 1), pcm.Cut(2, 1), pcm.Cut(3, 2)], module.finish())
+        self.assertRegex(told.getvalue(), r"^2 rows, [0-9.]+ a second\n$")
+
+
 class Open(unittest.TestCase):
     @unittest.skipUnless(pathlib.Path("/proc/self/fd").exists(), "open descriptors are told by /proc")
     def test_a_module_leaves_nothing_open_whatever_ends_it(self):

@@ -328,7 +328,7 @@ class Pages(Room):
         results = printed("run", "--write-queue", "2", "--misses", "3", given=pathlib.Path(trace).read_bytes()).decode().splitlines()
         first = next(line.split(",") for line in results if ",full," in line or ",worn," in line)
         glance = {row[0]: row[1] for row in Tables(text).found["glance"][0][1:]}
-        self.assertEqual([int(first[0]), int(first[4])], [glance["first row refused (full or worn)"], glance["its tick"]])
+        self.assertEqual([int(first[0]), int(first[4])], [glance["first row refused (full or worn)"], glance["tick of that"]])
 
     def test_the_dashed_lines_are_in_the_table(self):
         files = self.files_of(RUNS[2], step=4)

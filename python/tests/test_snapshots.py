@@ -95,6 +95,8 @@ class Pages(Room):
         glance = {row[0]: row[1] for row in tables["glance"][0][1:]}
         self.assertEqual([last.rows, last.retired, last.pulses, last.most, last.mean, last.pointers], [glance[name] for name in (
             "rows", "spares in use", "pulses", "most pulses of an array line", "mean pulses of an array line", "active pointers")])
+        first = next(one for one in made if one.full + one.worn)
+        self.assertEqual([first.rows, first.tick], [glance["first snapshot with a refused row, its rows"], glance["tick of that"]])
         rows = tables["aging"][0][1:]
         self.assertEqual(20, len(rows))
         self.assertEqual([last.rows, last.tick, last.most, last.mean, last.pointers, last.retired], rows[-1][:6])
@@ -137,6 +139,14 @@ class Pages(Room):
                 self.assertIn(f"{name}: ", picture.partition("</desc>")[0])
         self.assertEqual([1, 0], [text.count(f"<title>{word} between snapshots</title>") for word in ("Full", "Worn")])
         self.assertEqual(3, len(Tables(text).found["aging"]))
+
+    def test_a_curve_that_lies_on_another_is_dashed(self):
+        files = [self.file(text_of(drawn(9))), self.file(text_of(drawn(9))), self.file(text_of(drawn(9, most=900)))]
+        text = self.page(*files, "--name", "a", "--name", "b", "--name", "c")
+        for title, dashed in (("Mean pulses of an array line", [False, True, True]), ("Most pulses of an array line", [False, True, False])):
+            picture = re.search(rf"(?s)<title>{title}</title>.*?</svg>", text).group()
+            keys = [re.search(rf"<polyline [^>]*>\s*<text [^>]*>{at}: {name}<", picture).group() for at, name in ((1, "a"), (2, "b"), (3, "c"))]
+            self.assertEqual(dashed, ["stroke-dasharray" in key for key in keys])
 
     def test_a_run_without_snapshots_or_without_wear_is_told(self):
         none = drawn(3)
