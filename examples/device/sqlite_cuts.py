@@ -15,7 +15,8 @@ import random
 import sqlite3
 import sys
 
-import disks
+from disks import Disk
+from servers import run
 
 
 class Base:
@@ -33,10 +34,10 @@ class Base:
         if not is_first and self.words.recovery_ticks and self.draw.random() < 0.7:
             self.disk.control(f"cut {self.draw.randrange(1, self.words.recovery_ticks)}")
         # the kernel replays its journal: nothing may be left to mend behind it
-        disks.run("mount", "-t", "ext4", self.disk.loop, self.disk.mount)
-        disks.run("umount", self.disk.mount)
-        disks.run("e2fsck", "-fn", self.disk.loop)
-        disks.run("mount", "-t", "ext4", self.disk.loop, self.disk.mount)
+        run("mount", "-t", "ext4", self.disk.loop, self.disk.mount)
+        run("umount", self.disk.mount)
+        run("e2fsck", "-fn", self.disk.loop)
+        run("mount", "-t", "ext4", self.disk.loop, self.disk.mount)
         self.base = sqlite3.connect(os.path.join(self.disk.mount, "data.db"), isolation_level=None)
         self.base.execute(f"pragma journal_mode={self.words.mode}")
         self.base.execute(f"pragma synchronous={self.words.sync}")
@@ -124,8 +125,8 @@ def main():
     ask.add_argument("--block", default="1024", help="of ext4")
     ask.add_argument("--plugin")
     words = ask.parse_intermixed_args()
-    disk = disks.Disk(words.pcm, words.parameters, words.plugin, words.log)
-    disks.run("mkfs.ext4", "-q", "-b", words.block, disk.attach())
+    disk = Disk(words.pcm, words.parameters, words.plugin, words.log)
+    run("mkfs.ext4", "-q", "-b", words.block, disk.attach())
     disk.detach()
     base = Base(disk, words)
     for cycle in range(words.cycles + 1):
@@ -137,7 +138,7 @@ def main():
     base.close()
     disk.detach()
     disk.attach()
-    fsck = disks.run("e2fsck", "-fn", disk.loop)
+    fsck = run("e2fsck", "-fn", disk.loop)
     disk.detach()
     print("e2fsck -fn:", fsck.stdout.strip().splitlines()[-1])
     print("module:", disk.end())

@@ -17,10 +17,12 @@ import tempfile
 import time
 
 import nbd
+import servers
 
 PLUGIN, PCM = (os.path.realpath(it) for it in sys.argv[1:3])
 ROOM = pathlib.Path(tempfile.mkdtemp(prefix="pcm-device-"))
 SMALL = ["banks=4", "regions=2", "lines=64", "line=64", "spares=4"]
+STARTED = []
 passed = failed = 0
 
 
@@ -33,69 +35,17 @@ def check(holds, what):
         print(f"examples/device: failed: {what}", flush=True)
 
 
-class Server:
-    """A server of a disk, which ends with its `with`."""
-
-    def __init__(self, *parameters):
-        self.open, self.sock, ready = [], ROOM / "sock", ROOM / "pid"
-        for it in (self.sock, ready):
-            it.unlink(missing_ok=True)
-        self.report = ROOM / "report"
-        with open(ROOM / "err", "w") as err:
-            words = ["nbdkit", "-f", "-U", self.sock, "-P", ready, PLUGIN, f"report={self.report}", *parameters]
-            self.process = subprocess.Popen(words if any(it.startswith("pcm=") for it in parameters) else [*words, f"pcm={PCM}"], stderr=err)
-        while not ready.exists() and self.process.poll() is None:
-            time.sleep(0.01)
-
-    def __enter__(self):
-        return self
-
-    def __exit__(self, *_):
-        self.leave()
-
-    def leave(self):
-        """Ends it; it waits for its connections to be closed."""
-        for it in self.open:
-            try:
-                it.shutdown()
-            except nbd.Error:
-                pass
-        self.open.clear()
-        if self.process.poll() is None:
-            self.process.terminate()
-        try:
-            self.process.wait(20)
-        except subprocess.TimeoutExpired:
-            self.kill()
-            check(False, "a server ends")
-
-    def connect(self, export=""):
-        it = nbd.NBD()
-        it.connect_uri(f"nbd+unix:///{export}?socket={self.sock}")
-        self.open.append(it)
-        return it
-
-    def control(self, text=None):
-        """Gives the control export a word, and answers what it tells."""
-        it = self.connect("control")
-        if text:
-            it.pwrite(text.encode(), 0)
-        told = dict(line.split() for line in it.pread(4096, 0).decode().split("\n") if line)
-        self.open.pop().shutdown()
-        return {key: int(value) for key, value in told.items()}
-
-    def end(self):
-        """Ends it, and answers its report."""
-        self.leave()
-        return {key: int(value) for key, value in (line.split() for line in self.report.read_text().splitlines())}
-
-    def kill(self):
-        self.process.kill()
-        self.process.wait()
+def server(*parameters):
+    """A server, which ends with its `with`; of another program where `pcm=` says so."""
+    named = [it for it in parameters if it.startswith("pcm=")]
+    it = servers.Server(named[0][4:] if named else PCM, [it for it in parameters if it not in named], PLUGIN)
+    STARTED.append(it)
+    return it
 
 
 def said():
-    return (ROOM / "err").read_text()
+    """What the last server said."""
+    return STARTED[-1].said()
 
 
 def fails(call, number):
@@ -109,18 +59,18 @@ def fails(call, number):
 
 def images_go_in_and_out():
     (ROOM / "in").write_bytes(random.Random(1).randbytes(512 << 10))
-    with Server("lines=16", "misses=3") as server:
-        uri = f"nbd+unix:///?socket={server.sock}"
+    with server("lines=16", "misses=3") as it:
+        uri = f"nbd+unix:///?socket={it.sock}"
         for words in (["nbdcopy", ROOM / "in", uri], ["nbdcopy", uri, ROOM / "out"]):
             check(subprocess.run(words).returncode == 0, "nbdcopy")
         check((ROOM / "in").read_bytes() == (ROOM / "out").read_bytes(), "an image goes in and out")
-        told = server.end()
+        told = it.end()
         check(told["status"] == 0 and told["waiting"] == 0 and told["stored"] == told["read"] == 4096, f"its report: {told}")
 
 
 def parts_of_lines():
-    with Server(*SMALL, "misses=1") as server:
-        disk, draw = server.connect(), random.Random(2)
+    with server(*SMALL, "misses=1") as it:
+        disk, draw = it.connect(), random.Random(2)
         size, shadow, right = disk.get_size(), bytearray(disk.get_size()), True
         for _ in range(150):
             at = draw.randrange(size)
@@ -138,48 +88,48 @@ def parts_of_lines():
 
 
 def a_cut_ends_connections():
-    with Server("lines=16") as server:
-        old, data = server.connect(), bytes(range(1, 129)) * 32
-        check(server.control("cut 20")["cut"] == 0, "a cut is due")
+    with server("lines=16") as it:
+        old, data = it.connect(), bytes(range(1, 129)) * 32
+        check(it.control("cut 20")["cut"] == 0, "a cut is due")
         check(fails(lambda: old.pwrite(data, 4096), errno.EIO), "it ends a request")
         check(fails(lambda: old.pread(1, 0), errno.EIO) and fails(lambda: old.pwrite(b"x", 0), errno.EIO), "and its connection")
-        new = server.connect()
+        new = it.connect()
         found = new.pread(4096, 4096)
         edge = next(i for i in range(4097) if i == 4096 or found[i] != data[i])
         check(0 < edge < 4096 and edge % 128 == 0 and found[edge:] == bytes(4096 - edge), "a write is torn between lines")
         new.pwrite(data, 4096)
-        check(server.control("cut")["cut"] == 2 and fails(lambda: new.pread(1, 0), errno.EIO), "a cut at once")
-        check(server.connect().pread(4096, 4096) == data, "nothing that was answered is gone")
+        check(it.control("cut")["cut"] == 2 and fails(lambda: new.pread(1, 0), errno.EIO), "a cut at once")
+        check(it.connect().pread(4096, 4096) == data, "nothing that was answered is gone")
         check(said().count("the power was cut") == 2, "each connection's end is told once")
 
 
 def sectors_are_whole():
-    with Server(*SMALL, "atomic=4096", "misses=2") as server:
-        disk, before = server.connect(), bytes(4096)
+    with server(*SMALL, "atomic=4096", "misses=2") as it:
+        disk, before = it.connect(), bytes(4096)
         size, right, whole, at = disk.get_size(), True, 0, 1
         check(size % 4096 == 0 and size == 24576, f"a disk of sectors: {size} bytes")
         while right and whole < 3 and at < 1000:
             data = random.Random(at).randbytes(4096)
-            server.control(f"cut {at}")
+            it.control(f"cut {at}")
             try:
                 disk.pwrite(data, 8192)
                 whole += 1
                 before = data
-                server.control("cut")
+                it.control("cut")
             except nbd.Error:
-                disk = server.connect()
+                disk = it.connect()
                 found = disk.pread(4096, 8192)
                 right = found in (before, data)
                 before = found
-            disk = server.connect()
+            disk = it.connect()
             at += 3
         check(right and whole == 3 and at > 50, f"each is the old one or the new one, up to a cut {at} ticks behind")
         check(disk.pread(4096, 4096) == bytes(4096), "and no other one has changed")
 
 
 def clients_ride_through(*parameters):
-    with Server(*SMALL, "on-cut=ride", "policy=cancel", "registers=array", "misses=2", *parameters) as server:
-        disk, draw = server.connect(), random.Random(3)
+    with server(*SMALL, "on-cut=ride", "policy=cancel", "registers=array", "misses=2", *parameters) as it:
+        disk, draw = it.connect(), random.Random(3)
         size, shadow, right = disk.get_size(), bytearray(disk.get_size()), True
         for _ in range(150):
             at = draw.randrange(size - 512)
@@ -189,7 +139,7 @@ def clients_ride_through(*parameters):
             at = draw.randrange(size - 512)
             right &= disk.pread(512, at) == shadow[at:at + 512]
         check(right and disk.pread(size, 0) == shadow, "clients notice nothing of cuts")
-        return server.end()["cut"]
+        return it.end()["cut"]
 
 
 def cuts_are_drawn_or_named():
@@ -205,28 +155,28 @@ def log_of(log):
 
 def a_disk_goes_on_from_its_log():
     log = ROOM / "log.csv"
-    with Server(*SMALL, f"log={log}", "misses=1") as server:
-        disk, done = server.connect(), 0
+    with server(*SMALL, f"log={log}", "misses=1") as it:
+        disk, done = it.connect(), 0
         size, shadow, draw = disk.get_size(), bytearray(disk.get_size()), random.Random(4)
         for done in range(60):
             at, data = 64 * draw.randrange(size // 64 - 8), draw.randbytes(512)
             disk.pwrite(data, at)
             shadow[at:at + 512] = data
-        server.kill()
+        it.kill()
     with open(log, "a") as file:
         file.write("99999999,W,0,12")
     for again in range(2):
-        with Server(*SMALL, f"log={log}", "misses=1") as server:
-            disk = server.connect()
+        with server(*SMALL, f"log={log}", "misses=1") as it:
+            disk = it.connect()
             check(disk.pread(size, 0) == shadow, "a killed server's disk goes on from its log")
-            check(server.control()["cut"] == again + 1, "its power was off")
+            check(it.control()["cut"] == again + 1, "its power was off")
             disk.pwrite(b"more", 9)
             shadow[9:13] = b"more"
             (ROOM / "other").unlink(missing_ok=True)
             with_it = subprocess.run(["nbdkit", "-f", "-U", ROOM / "other", PLUGIN, f"pcm={PCM}", *SMALL, "misses=1", f"log={log}"], capture_output=True,
                                      text=True, timeout=20)
             check(with_it.returncode == 1 and "another server has it open" in with_it.stderr, f"a second server on a log is refused: {with_it}")
-            server.end()
+            it.end()
     rows, words, ops = log_of(log)
     check(ops.count("C") == 2 and "S" not in ops, "the log has the cuts between servers")
     trace = log.read_text()
@@ -241,12 +191,12 @@ def a_disk_goes_on_from_its_log():
 
 
 def refused(what, *parameters):
-    with Server(*parameters) as server:
+    with server(*parameters) as it:
         for _ in range(500):
-            if server.process.poll() is not None:
+            if it.process.poll() is not None:
                 break
             time.sleep(0.01)
-        check(server.process.poll() == 1 and what in said(), f"{parameters} is refused: {said()}")
+        check(it.process.poll() == 1 and what in said(), f"{parameters} is refused: {said()}")
 
 
 def other_logs_are_refused(log):
@@ -268,23 +218,23 @@ def other_logs_are_refused(log):
         check(other.read_text() == text, "a file of its owner's stays as it was")
     for text in ("", "tick,op"):
         other.write_text(text)
-        with Server(*SMALL, f"log={other}") as server:
-            check(server.connect().pread(1, 0) == b"\0", "a log that was hardly begun begins anew")
+        with server(*SMALL, f"log={other}") as it:
+            check(it.connect().pread(1, 0) == b"\0", "a log that was hardly begun begins anew")
         check(other.read_text().startswith("tick,op,arg,data\n"), "with its header")
 
 
 def the_control_export():
-    with Server(*SMALL) as server:
-        disk, control = server.connect(), server.connect("control")
+    with server(*SMALL) as it:
+        disk, control = it.connect(), it.connect("control")
         disk.pwrite(bytes([7]) * 4096, 0)
-        told = server.control()
+        told = it.control()
         check(told["rows"] == 64 and told["waiting"] > 0 and told["read_only"] == 0, f"it counts: {told}")
-        later = server.control("wait 5000")
+        later = it.control("wait 5000")
         check(later["tick"] == told["tick"] + 5000 and later["waiting"] == 0 and later["stored"] == 64, "time passes")
         for word in (b"cut x", b"cutt", b"wait", b"wait -1", b"cut 2000000000000", b"go"):
             check(fails(lambda: control.pwrite(word, 0), errno.EINVAL), f"{word} is none of its words")
         check(fails(lambda: control.pwrite(b"cut", 1), errno.EINVAL), "a word stands at its first byte")
-        check(fails(lambda: server.connect("other"), errno.EINVAL) or "no export 'other'" in said(), "there is no other export")
+        check(fails(lambda: it.connect("other"), errno.EINVAL) or "no export 'other'" in said(), "there is no other export")
 
 
 def wrong_parameters():
@@ -308,19 +258,19 @@ def children(process):
 
 
 def a_program_that_ends():
-    with Server(*SMALL) as server:
-        disk = server.connect()
+    with server(*SMALL) as it:
+        disk = it.connect()
         disk.pwrite(b"x" * 512, 0)
-        for child in children(server.process.pid):
+        for child in children(it.process.pid):
             os.kill(child, signal.SIGKILL)
         check(fails(lambda: disk.pwrite(b"y" * 512, 0), errno.EIO) and fails(lambda: disk.pread(512, 0), errno.EIO), "its requests fail")
         check("the program has ended" in said(), "and it is said why")
-        check(server.end()["status"] == -1, "so says the report")
+        check(it.end()["status"] == -1, "so says the report")
 
 
 def a_module_that_wears_out():
-    with Server("banks=2", "regions=1", "lines=16", "line=64", "spares=2", "lo=20", "hi=60") as server:
-        disk, draw, written = server.connect(), random.Random(1), 0
+    with server("banks=2", "regions=1", "lines=16", "line=64", "spares=2", "lo=20", "hi=60") as it:
+        disk, draw, written = it.connect(), random.Random(1), 0
         size = disk.get_size()
         shadow = bytearray(size)
         try:
@@ -332,19 +282,19 @@ def a_module_that_wears_out():
         except nbd.Error as error:
             check(error.errno == "EPERM" and written > 100, f"it only reads from then on: {error}")
         check(disk.pread(size, 0) == shadow, "and all that was answered is read")
-        check(server.control()["read_only"] == 1, "control says so")
-        server.control("cut")
-        check(server.connect().pread(size, 0) == shadow, "behind a power cut, too")
+        check(it.control()["read_only"] == 1, "control says so")
+        it.control("cut")
+        check(it.connect().pread(size, 0) == shadow, "behind a power cut, too")
 
 
 def real_time():
-    with Server(*SMALL, "tick-ns=100000") as server:
-        disk = server.connect()
+    with server(*SMALL, "tick-ns=100000") as it:
+        disk, begun = it.connect(), time.monotonic()
         disk.pwrite(b"x" * 512, 0)
-        begun, tick = time.monotonic(), server.control()["tick"]
+        tick = it.control()["tick"]
         for _ in range(20):
             disk.pread(512, 0)
-        seconds, ticks = time.monotonic() - begun, server.control()["tick"] - tick
+        seconds, ticks = time.monotonic() - begun, it.control()["tick"] - tick
         check(ticks >= 200 and seconds * 1e4 >= ticks - 50, f"{ticks} ticks of 0.1 ms took {seconds:.3f} s")
 
 
