@@ -237,16 +237,15 @@ static int plugin_config_complete(void)
 
 /* ---- Power cuts */
 
-/* The next cut: the next tick of the list, or one drawn by a word of SplitMix64. */
+/* The next cut: the next tick of the list, or one drawn by a word of SplitMix64. (At most one comes in a request; a tick of the list that has
+   passed meanwhile comes in the next one.) */
 static void next_cut(void)
 {
     disk.cut_at = PCM_DISK_NEVER;
-    while (*cut_ticks != 0 && disk.cut_at == PCM_DISK_NEVER) {
-        uint64_t tick = strtoull(cut_ticks, NULL, 10);
+    if (*cut_ticks != 0) {
+        disk.cut_at = strtoull(cut_ticks, NULL, 10);
         cut_ticks += strcspn(cut_ticks, ",");
         cut_ticks += *cut_ticks == ',';
-        if (tick > disk.now)
-            disk.cut_at = tick;
     }
     if (cuts != 0) {
         uint64_t word = cut_state += UINT64_C(0x9e3779b97f4a7c15);
@@ -425,7 +424,9 @@ static int plugin_after_fork(void)
         return -1;
     disk.rides = rides;
     disk.row_ticks = (uint32_t)row_ticks;
-    next_cut();
+    do /* (those of an earlier life are over) */
+        next_cut();
+    while (disk.cut_at <= disk.now && cuts == 0);
     clock_gettime(CLOCK_MONOTONIC, &begun);
     begun.tv_sec -= (time_t)(disk.now * tick_ns / 1000000000);
     return 0;

@@ -1,0 +1,126 @@
+"""A server of a disk on a module, for the scripts of this folder. It needs, of Debian, nbdkit, nbdkit-plugin-dev, python3-libnbd, make and gcc, and
+the system's python3."""
+import atexit
+import os
+import pathlib
+import shutil
+import signal
+import subprocess
+import sys
+import tempfile
+import time
+
+TOP = pathlib.Path(__file__).resolve().parent.parent.parent
+
+
+def run(*words, ok=(0,)):
+    done = subprocess.run(words, stdout=subprocess.PIPE, stderr=subprocess.STDOUT, text=True)
+    if done.returncode not in ok:
+        raise RuntimeError(f"{' '.join(map(str, words))}: status {done.returncode}: {done.stdout}")
+    return done
+
+
+def need(tools):
+    """Ends the script with status 77 where a tool isn't there: each stands with the package of Debian that has it."""
+    missing = {package for tool, package in tools.items() if not shutil.which(tool, path=f"{os.environ['PATH']}:/usr/sbin:/sbin")}
+    try:
+        import nbd  # noqa: F401
+    except ImportError:
+        missing.add("python3-libnbd, for the system's python3")
+    if missing:
+        print(f"{pathlib.Path(sys.argv[0]).name}: it lacks (Debian: apt-get install) {', '.join(sorted(missing))}", file=sys.stderr)
+        sys.exit(77)
+
+
+def numbers(text):
+    """What the control export and a report say: numbers by their words."""
+    return {key: int(value) for key, value in (line.split() for line in text.split("\n") if line)}
+
+
+class Server:
+    """It lives in a folder of its own, which goes away with the script, as the server does."""
+
+    def __init__(self, pcm, parameters, plugin=None, log=None):
+        """`log`: a file of the caller's, or True for one in the server's folder."""
+        need({"nbdkit": "nbdkit", "make": "make", "gcc": "gcc"})
+        self.dir = pathlib.Path(tempfile.mkdtemp(prefix="pcm-device-"))
+        self.process, self.open = None, []
+        atexit.register(self.leave)
+        for number in (signal.SIGTERM, signal.SIGHUP):
+            signal.signal(number, lambda *_: sys.exit(1))
+        if plugin is None:
+            run("make", "-s", "-C", TOP / "c", f"OUT={self.dir}")
+            plugin = self.dir / "nbdkit-pcm-plugin.so"
+        self.sock, self.report, ready = self.dir / "sock", self.dir / "report", self.dir / "pid"
+        words = ["nbdkit", "-f", "-U", self.sock, "-P", ready, plugin, f"pcm={pcm if '/' not in str(pcm) else os.path.abspath(pcm)}", *parameters]
+        if log:
+            self.log = self.dir / "log.csv" if log is True else pathlib.Path(log).absolute()
+            words.append(f"log={self.log}")
+        with open(self.dir / "said", "w") as said:
+            self.process = subprocess.Popen([*words, f"report={self.report}"], stderr=said)
+        while not ready.exists() and self.process.poll() is None:
+            time.sleep(0.01)
+
+    def said(self):
+        return (self.dir / "said").read_text()
+
+    def must_run(self):
+        if self.process.poll() is not None:
+            sys.exit(self.said())
+        return self
+
+    def uri(self, export=""):
+        return f"nbd+unix:///{export}?socket={self.sock}"
+
+    def connect(self, export=""):
+        import nbd
+        it = nbd.NBD()
+        it.connect_uri(self.uri(export))
+        self.open.append(it)
+        return it
+
+    def control(self, text=None):
+        """Gives the control export a word, and answers what it tells."""
+        it = self.connect("control")
+        if text:
+            it.pwrite(text.encode(), 0)
+        told = it.pread(4096, 0).decode()
+        self.open.pop().shutdown()
+        return numbers(told)
+
+    def stop(self):
+        """Ends it: it waits for its connections to be closed, so they are."""
+        for it in self.open:
+            try:
+                it.shutdown()
+            except Exception:  # (one that an error has ended)
+                pass
+        self.open.clear()
+        if self.process and self.process.poll() is None:
+            self.process.terminate()
+            try:
+                self.process.wait(30)
+            except subprocess.TimeoutExpired:
+                self.process.kill()
+                self.process.wait()
+
+    def kill(self):
+        self.process.kill()
+        self.process.wait()
+
+    def end(self):
+        """Ends it, and answers its report."""
+        self.stop()
+        return numbers(self.report.read_text())
+
+    def leave(self):
+        """Whatever happened: nothing is left."""
+        self.stop()
+        shutil.rmtree(self.dir, ignore_errors=True)
+        atexit.unregister(self.leave)
+
+    def __enter__(self):
+        return self
+
+    def __exit__(self, *_):
+        self.leave()

@@ -1,0 +1,321 @@
+#!/usr/bin/python3
+"""What the check of this folder tries of the plugin, over libnbd: copies, parts of lines, power cuts, sectors, restarts from a log, the control
+export, wrong parameters, a program that ends, a module that wears out, real time. Prints 'N passed, M failed'.
+
+    try_plugin.py PLUGIN PCM
+
+It needs nbdkit, libnbd-bin (nbdcopy), python3-libnbd and the system's python3, which has it."""
+import errno
+import os
+import pathlib
+import random
+import shutil
+import signal
+import subprocess
+import sys
+import tempfile
+import time
+
+import nbd
+import servers
+
+PLUGIN, PCM = (os.path.realpath(it) for it in sys.argv[1:3])
+ROOM = pathlib.Path(tempfile.mkdtemp(prefix="pcm-device-"))
+SMALL = ["banks=4", "regions=2", "lines=64", "line=64", "spares=4"]
+STARTED = []
+passed = failed = 0
+
+
+def check(holds, what):
+    global passed, failed
+    if holds:
+        passed += 1
+    else:
+        failed += 1
+        print(f"examples/device: failed: {what}", flush=True)
+
+
+def server(*parameters):
+    """A server, which ends with its `with`; of another program where `pcm=` says so."""
+    named = [it for it in parameters if it.startswith("pcm=")]
+    it = servers.Server(named[0][4:] if named else PCM, [it for it in parameters if it not in named], PLUGIN)
+    STARTED.append(it)
+    return it
+
+
+def said():
+    """What the last server said."""
+    return STARTED[-1].said()
+
+
+def fails(call, number):
+    """Whether a request is answered with an error."""
+    try:
+        call()
+    except nbd.Error as error:
+        return error.errno == errno.errorcode[number]
+    return False
+
+
+def images_go_in_and_out():
+    (ROOM / "in").write_bytes(random.Random(1).randbytes(512 << 10))
+    with server("lines=16", "misses=3") as it:
+        uri = f"nbd+unix:///?socket={it.sock}"
+        for words in (["nbdcopy", ROOM / "in", uri], ["nbdcopy", uri, ROOM / "out"]):
+            check(subprocess.run(words).returncode == 0, "nbdcopy")
+        check((ROOM / "in").read_bytes() == (ROOM / "out").read_bytes(), "an image goes in and out")
+        told = it.end()
+        check(told["status"] == 0 and told["waiting"] == 0 and told["stored"] == told["read"] == 4096, f"its report: {told}")
+
+
+def parts_of_lines():
+    with server(*SMALL, "misses=1") as it:
+        disk, draw = it.connect(), random.Random(2)
+        size, shadow, right = disk.get_size(), bytearray(disk.get_size()), True
+        for _ in range(150):
+            at = draw.randrange(size)
+            data = draw.randbytes(min(size - at, draw.randrange(1, 700)))
+            disk.pwrite(data, at)
+            shadow[at:at + len(data)] = data
+            at = draw.randrange(size)
+            count = min(size - at, draw.randrange(1, 700))
+            right &= disk.pread(count, at) == shadow[at:at + count]
+        check(right and disk.pread(size, 0) == shadow, "any bytes are written and read")
+        check(fails(lambda: disk.pread(2, size - 1), errno.EINVAL), "none beyond the end")
+        disk.zero(100, 50)
+        disk.flush()
+        check(disk.pread(100, 50) == bytes(100), "zeros are written")
+
+
+def a_cut_ends_connections():
+    with server("lines=16") as it:
+        old, data = it.connect(), bytes(range(1, 129)) * 32
+        check(it.control("cut 20")["cut"] == 0, "a cut is due")
+        check(fails(lambda: old.pwrite(data, 4096), errno.EIO), "it ends a request")
+        check(fails(lambda: old.pread(1, 0), errno.EIO) and fails(lambda: old.pwrite(b"x", 0), errno.EIO), "and its connection")
+        new = it.connect()
+        found = new.pread(4096, 4096)
+        edge = next(i for i in range(4097) if i == 4096 or found[i] != data[i])
+        check(0 < edge < 4096 and edge % 128 == 0 and found[edge:] == bytes(4096 - edge), "a write is torn between lines")
+        new.pwrite(data, 4096)
+        check(it.control("cut")["cut"] == 2 and fails(lambda: new.pread(1, 0), errno.EIO), "a cut at once")
+        check(it.connect().pread(4096, 4096) == data, "nothing that was answered is gone")
+        check(said().count("the power was cut") == 2, "each connection's end is told once")
+
+
+def sectors_are_whole():
+    with server(*SMALL, "atomic=4096", "misses=2") as it:
+        disk, before = it.connect(), bytes(4096)
+        size, right, whole, at = disk.get_size(), True, 0, 1
+        check(size % 4096 == 0 and size == 24576, f"a disk of sectors: {size} bytes")
+        while right and whole < 3 and at < 1000:
+            data = random.Random(at).randbytes(4096)
+            it.control(f"cut {at}")
+            try:
+                disk.pwrite(data, 8192)
+                whole += 1
+                before = data
+                it.control("cut")
+            except nbd.Error:
+                disk = it.connect()
+                found = disk.pread(4096, 8192)
+                right = found in (before, data)
+                before = found
+            disk = it.connect()
+            at += 3
+        check(right and whole == 3 and at > 50, f"each is the old one or the new one, up to a cut {at} ticks behind")
+        check(disk.pread(4096, 4096) == bytes(4096), "and no other one has changed")
+
+
+def clients_ride_through(*parameters):
+    with server(*SMALL, "on-cut=ride", "policy=cancel", "registers=array", "misses=2", *parameters) as it:
+        disk, draw = it.connect(), random.Random(3)
+        size, shadow, right = disk.get_size(), bytearray(disk.get_size()), True
+        for _ in range(150):
+            at = draw.randrange(size - 512)
+            data = draw.randbytes(512)
+            disk.pwrite(data, at)
+            shadow[at:at + 512] = data
+            at = draw.randrange(size - 512)
+            right &= disk.pread(512, at) == shadow[at:at + 512]
+        check(right and disk.pread(size, 0) == shadow, "clients notice nothing of cuts")
+        return it.end()["cut"]
+
+
+def cuts_are_drawn_or_named():
+    check(clients_ride_through("cuts=100") > 10, "cuts are drawn")
+    check(clients_ride_through("cut-ticks=10,500,501,900") == 4, "cuts are named")
+
+
+def log_of(log):
+    """The log, its words, and its operations."""
+    rows = log.read_text().splitlines()
+    return rows, (log.parent / (log.name + ".args")).read_text().splitlines()[0].split(), [row.split(",")[1] for row in rows[1:]]
+
+
+def a_disk_goes_on_from_its_log():
+    log = ROOM / "log.csv"
+    with server(*SMALL, f"log={log}", "misses=1") as it:
+        disk, done = it.connect(), 0
+        size, shadow, draw = disk.get_size(), bytearray(disk.get_size()), random.Random(4)
+        for done in range(60):
+            at, data = 64 * draw.randrange(size // 64 - 8), draw.randbytes(512)
+            disk.pwrite(data, at)
+            shadow[at:at + 512] = data
+        it.kill()
+    with open(log, "a") as file:
+        file.write("99999999,W,0,12")
+    for again in range(2):
+        with server(*SMALL, f"log={log}", "misses=1") as it:
+            disk = it.connect()
+            check(disk.pread(size, 0) == shadow, "a killed server's disk goes on from its log")
+            check(it.control()["cut"] == again + 1, "its power was off")
+            disk.pwrite(b"more", 9)
+            shadow[9:13] = b"more"
+            (ROOM / "other").unlink(missing_ok=True)
+            with_it = subprocess.run(["nbdkit", "-f", "-U", ROOM / "other", PLUGIN, f"pcm={PCM}", *SMALL, "misses=1", f"log={log}"], capture_output=True,
+                                     text=True, timeout=20)
+            check(with_it.returncode == 1 and "another server has it open" in with_it.stderr, f"a second server on a log is refused: {with_it}")
+            it.end()
+    rows, words, ops = log_of(log)
+    check(ops.count("C") == 2 and "S" not in ops, "the log has the cuts between servers")
+    trace = log.read_text()
+    run = subprocess.run([PCM, "run", *words], input=trace, capture_output=True, text=True)
+    check(run.returncode in (0, 1) and run.stdout.count("\n") == len(rows), "`pcm run` plays it")
+    judged = [it for i in range(0, len(words), 2) for it in words[i:i + 2] if words[i] not in ("--psi", "--lo", "--hi", "--misses")]
+    verdict = subprocess.run([PCM, "check", *judged], input=trace + run.stdout, capture_output=True, text=True)
+    check(verdict.stdout == "ok\n", f"`pcm check` says ok: {verdict.stdout}{verdict.stderr}")
+    streamed = subprocess.run([PCM, "stream", *words], input=trace, capture_output=True, text=True)
+    check(streamed.stdout.count("\n") == len(rows), "`pcm stream` plays it")
+    return log
+
+
+def refused(what, *parameters):
+    with server(*parameters) as it:
+        for _ in range(500):
+            if it.process.poll() is not None:
+                break
+            time.sleep(0.01)
+        check(it.process.poll() == 1 and what in said(), f"{parameters} is refused: {said()}")
+
+
+def other_logs_are_refused(log):
+    before = log.read_bytes()
+    refused("has 1 behind --misses, this server 2", *SMALL, "misses=2", f"log={log}")
+    refused("has 0 behind atomic, this server 512", *SMALL, "misses=1", "atomic=512", f"log={log}")
+    check(log.read_bytes() == before, "and stays as it was")
+    args = pathlib.Path(f"{log}.args")
+    args.rename(ROOM / "kept")
+    refused("it should say with which options", *SMALL, "misses=1", f"log={log}")
+    (ROOM / "kept").rename(args)
+    with open(log, "a") as file:
+        file.write("1,C,,\n")
+    refused("it isn't a row of such a disk", *SMALL, "misses=1", f"log={log}")
+    other = ROOM / "notes"
+    for text in ("my notes\n", "tick,op\n", "my notes"):
+        other.write_text(text)
+        refused("is no log", *SMALL, f"log={other}")
+        check(other.read_text() == text, "a file of its owner's stays as it was")
+    for text in ("", "tick,op"):
+        other.write_text(text)
+        with server(*SMALL, f"log={other}") as it:
+            check(it.connect().pread(1, 0) == b"\0", "a log that was hardly begun begins anew")
+        check(other.read_text().startswith("tick,op,arg,data\n"), "with its header")
+
+
+def the_control_export():
+    with server(*SMALL) as it:
+        disk, control = it.connect(), it.connect("control")
+        disk.pwrite(bytes([7]) * 4096, 0)
+        told = it.control()
+        check(told["rows"] == 64 and told["waiting"] > 0 and told["read_only"] == 0, f"it counts: {told}")
+        later = it.control("wait 5000")
+        check(later["tick"] == told["tick"] + 5000 and later["waiting"] == 0 and later["stored"] == 64, "time passes")
+        for word in (b"cut x", b"cutt", b"wait", b"wait -1", b"cut 2000000000000", b"go"):
+            check(fails(lambda: control.pwrite(word, 0), errno.EINVAL), f"{word} is none of its words")
+        check(fails(lambda: control.pwrite(b"cut", 1), errno.EINVAL), "a word stands at its first byte")
+        check(fails(lambda: it.connect("other"), errno.EINVAL) or "no export 'other'" in said(), "there is no other export")
+
+
+def wrong_parameters():
+    for parameter, what in (
+            ("banks=12", "a power of two from 1 to 64"), ("banks=128", "from 1 to 64"), ("lines=2", "from 4 to 67108864"), ("line=32", "from 64 to 128"),
+            ("regions=", "a power of two"), ("policy=wait", "pause|plain|cancel"), ("registers=disk", "guarded|array"), ("psi=0", "from 1 to 65535"),
+            ("spares=1025", "from 0 to 1024"), ("misses=8", "from 0 to 7"), ("write-queue=0", "from 1 to 256"), ("read-queue=257", "from 1 to 256"),
+            ("seed=-1", "from 0 to 18446744073709551615"), ("atomic=1024", "0|512|4096"), ("on-cut=wait", "drop|ride"), ("straight=1", "false|true"),
+            ("cut-ticks=5,5", "rising ticks"), ("tick-ns=x", "from 0 to 1000000000"), ("frog=1", "there is no parameter frog"),
+            ("lo=200000000", "is above hi"), ("pcm=/nowhere/pcm", "No such file"), ("pcm=/bin/false", "it has ended"), ("log=/nowhere/log", "No such file"),
+            ("tick-ns=-1", "from 0 to 1000000000")):
+        refused(what, parameter)
+    refused("psi stands twice", "psi=5", "psi=6")
+    refused("at most 2^26", "banks=64", "regions=64", "lines=32768")
+    refused("give one of the two", "cuts=5", "cut-ticks=9")
+    refused("has no room", "banks=1", "regions=1", "lines=4", "atomic=4096")
+
+
+def children(process):
+    return [int(it) for it in pathlib.Path(f"/proc/{process}/task/{process}/children").read_text().split()]
+
+
+def a_program_that_ends():
+    with server(*SMALL) as it:
+        disk = it.connect()
+        disk.pwrite(b"x" * 512, 0)
+        for child in children(it.process.pid):
+            os.kill(child, signal.SIGKILL)
+        check(fails(lambda: disk.pwrite(b"y" * 512, 0), errno.EIO) and fails(lambda: disk.pread(512, 0), errno.EIO), "its requests fail")
+        check("the program has ended" in said(), "and it is said why")
+        check(it.end()["status"] == -1, "so says the report")
+
+
+def a_module_that_wears_out():
+    with server("banks=2", "regions=1", "lines=16", "line=64", "spares=2", "lo=20", "hi=60") as it:
+        disk, draw, written = it.connect(), random.Random(1), 0
+        size = disk.get_size()
+        shadow = bytearray(size)
+        try:
+            while written < 100000:
+                at, data = 64 * draw.randrange(size // 64), draw.randbytes(64)
+                disk.pwrite(data, at)
+                shadow[at:at + 64] = data
+                written += 1
+        except nbd.Error as error:
+            check(error.errno == "EPERM" and written > 100, f"it only reads from then on: {error}")
+        check(disk.pread(size, 0) == shadow, "and all that was answered is read")
+        check(it.control()["read_only"] == 1, "control says so")
+        it.control("cut")
+        check(it.connect().pread(size, 0) == shadow, "behind a power cut, too")
+
+
+def real_time():
+    with server(*SMALL, "tick-ns=100000") as it:
+        disk, begun = it.connect(), time.monotonic()
+        disk.pwrite(b"x" * 512, 0)
+        tick = it.control()["tick"]
+        for _ in range(20):
+            disk.pread(512, 0)
+        seconds, ticks = time.monotonic() - begun, it.control()["tick"] - tick
+        check(ticks >= 200 and seconds * 1e4 >= ticks - 50, f"{ticks} ticks of 0.1 ms took {seconds:.3f} s")
+
+
+def main():
+    try:
+        images_go_in_and_out()
+        parts_of_lines()
+        a_cut_ends_connections()
+        sectors_are_whole()
+        cuts_are_drawn_or_named()
+        other_logs_are_refused(a_disk_goes_on_from_its_log())
+        the_control_export()
+        wrong_parameters()
+        a_program_that_ends()
+        a_module_that_wears_out()
+        real_time()
+    finally:
+        shutil.rmtree(ROOM)
+    print(f"{passed} passed, {failed} failed")
+    return failed != 0
+
+
+if __name__ == "__main__":
+    sys.exit(main())
