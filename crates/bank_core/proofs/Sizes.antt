@@ -25,7 +25,7 @@ writer_le p b h k = omega arith
 running_le : (w : ℕ) → w ≤ 700 → up 4 (24 + w) ≤ 760
 running_le w h = omega arith
 
-state_le : (r : ℕ) → r ≤ 760 → up 8 (up 8 (up 8 (up 8 (152 + up 4 (max 1 (max (4 + r) 1))) + 32) + 32) + 8) ≤ 4000
+state_le : (r : ℕ) → r ≤ 760 → up 8 (up 8 (up 8 (up 8 (184 + up 4 (max 1 (max (4 + r) 1))) + 32) + 32) + 8) ≤ 4000
 state_le r h = omega arith
 
 below : (a : ℕ) → a ≤ 4000 → a < 9223372036854775808
@@ -47,13 +47,13 @@ module _ {b m e : ℕ} (layout : IsLayout b m e) where
   writer_size = writer_le _ b (prog_le _ cells_size) layout.shape.1
 
   -- the size of a bank
-  pub bank_size : up 8 (up 8 (up 8 (up 8 (152 + up 4 (max 1 (max (4 + up 4 (24 + up 2 (up 2 (up 1 (up 1 (up 1
+  pub bank_size : up 8 (up 8 (up 8 (up 8 (184 + up 4 (max 1 (max (4 + up 4 (24 + up 2 (up 2 (up 1 (up 1 (up 1
       (0 + up 1 (up 1 (up 1 (up 1 (0 + up 1 (up 1 (0 + (b * 1)) + (m * 1)))
       + up 1 (up 1 (0 + (b * 1)) + (m * 1))) + up 1 (up 1 (0 + (b * 1)) + (m * 1))) + 1))
       + (b * 1)) + 1) + 1) + 6))) 1))) + 32) + 32) + 8) ≤ 4000
   bank_size = state_le _ (running_le _ writer_size)
 
-  pub bank_fits : up 8 (up 8 (up 8 (up 8 (152 + up 4 (max 1 (max (4 + up 4 (24 + up 2 (up 2 (up 1 (up 1 (up 1
+  pub bank_fits : up 8 (up 8 (up 8 (up 8 (184 + up 4 (max 1 (max (4 + up 4 (24 + up 2 (up 2 (up 1 (up 1 (up 1
       (0 + up 1 (up 1 (up 1 (up 1 (0 + up 1 (up 1 (0 + (b * 1)) + (m * 1)))
       + up 1 (up 1 (0 + (b * 1)) + (m * 1))) + up 1 (up 1 (0 + (b * 1)) + (m * 1))) + 1))
       + (b * 1)) + 1) + 1) + 6))) 1))) + 32) + 32) + 8) < 9223372036854775808
@@ -78,5 +78,5 @@ module _ {b m e : ℕ} (layout : IsLayout b m e) where
   bytes_fits = omega (arith, layout.shape.1)
 
 -- what a bank keeps fits
-pub kept_fits : 152 < 9223372036854775808
+pub kept_fits : 184 < 9223372036854775808
 kept_fits = omega arith

@@ -26,7 +26,7 @@ clock_fits : (s r : ℕ) → s ≤ 4000 → r ≤ 800 → up 8 (up 1 (up 4 (up 8
 clock_fits s r h k = omega (arith, h, k)
 
 pub timed_fits : (b m e : ℕ) → IsLayout b m e
-    → up 8 (up 1 (up 4 (up 8 (up 8 (up 8 (up 4 (up 4 (0 + up 8 (up 8 (up 8 (up 8 (152 + up 4 (max 1 (max (4 + up 4 (24 + up 2 (up 2 (up 1 (up 1 (up 1 (0 + up 1 (up 1 (up 1 (up 1 (0 + up 1 (up 1 (0 + (b * 1)) + (m * 1))) + up 1 (up 1 (0 + (b * 1)) + (m * 1))) + up 1 (up 1 (0 + (b * 1)) + (m * 1))) + 1)) + (b * 1)) + 1) + 1) + 6))) 1))) + 32) + 32) + 8)) + up 4 (30 + up 2 (max 1 (max (2 + up 2 (up 2 (up 1 (up 1 (up 1 (0 + up 1 (up 1 (up 1 (up 1 (0 + up 1 (up 1 (0 + (b * 1)) + (m * 1))) + up 1 (up 1 (0 + (b * 1)) + (m * 1))) + up 1 (up 1 (0 + (b * 1)) + (m * 1))) + 1)) + (b * 1)) + 1) + 1) + 6)) 1)))) + 12) + 8) + 24) + 32) + 4) + 1) < 9223372036854775808
+    → up 8 (up 1 (up 4 (up 8 (up 8 (up 8 (up 4 (up 4 (0 + up 8 (up 8 (up 8 (up 8 (184 + up 4 (max 1 (max (4 + up 4 (24 + up 2 (up 2 (up 1 (up 1 (up 1 (0 + up 1 (up 1 (up 1 (up 1 (0 + up 1 (up 1 (0 + (b * 1)) + (m * 1))) + up 1 (up 1 (0 + (b * 1)) + (m * 1))) + up 1 (up 1 (0 + (b * 1)) + (m * 1))) + 1)) + (b * 1)) + 1) + 1) + 6))) 1))) + 32) + 32) + 8)) + up 4 (30 + up 2 (max 1 (max (2 + up 2 (up 2 (up 1 (up 1 (up 1 (0 + up 1 (up 1 (up 1 (up 1 (0 + up 1 (up 1 (0 + (b * 1)) + (m * 1))) + up 1 (up 1 (0 + (b * 1)) + (m * 1))) + up 1 (up 1 (0 + (b * 1)) + (m * 1))) + 1)) + (b * 1)) + 1) + 1) + 6)) 1)))) + 12) + 8) + 24) + 32) + 4) + 1) < 9223372036854775808
 timed_fits b m e layout = clock_fits _ _ (bank_size layout) (regs_size b m e layout)
 
 -- an outcome fits, by the layout of its line
