@@ -30,8 +30,8 @@ pub fn worked_runs_are_judged()
     ensures strained { RunsRight 1 small 0 (reading 0x11 0) strained unmoved → ⊥ }
 {}
 
-/// Where a byte is neither in the array nor given by the queue, the power may not stay off: over an array that has lost both bytes of
-/// line 8 the queue gives both, as it does once a store of its write was begun.
+/// No right run leaves a byte neither in the array nor in the queue: over an array that has lost both bytes of line 8 the queue gives
+/// both, as it does once a store of its write was begun; a queue that gives the newer byte alone is refused.
 pub fn lost_bytes_are_refused()
     ensures newest { newest cut_short 8 ≡ 0xee ∷ 0x11 ∷ [] }
     ensures lost { StopsRight 1 small 0 cut_short emptied (queueing first_byte) → ⊥ }
