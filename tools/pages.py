@@ -185,18 +185,22 @@ complete -F _pcm pcm
 """
 
 
+def quoted(text):
+    """A text between a shell's single quotes."""
+    return text.replace("'", "'\\''")
+
+
 def zsh():
     """The completion for zsh."""
     words = table()
-    commands = [f"        '{it.name}:{it.about}'" for it in words.COMMANDS.values()]
-    commands += [f"        '{name}:{about}'" for name, about in words.WRAPPERS.items()]
+    commands = [f"        '{it.name}:{quoted(it.about)}'" for it in words.COMMANDS.values()]
+    commands += [f"        '{name}:{quoted(about)}'" for name, about in words.WRAPPERS.items()]
     cases = []
     for command in words.COMMANDS.values():
         cases.append(f"        {command.name})\n            _arguments \\")
         for it in command.options.values():
-            known = f"({values(it)})" if it.choices else f"{it.range()} "
-            action = f":{it.value}:{known}" if it.choices else f":{it.value} ({it.range()}; {it.default}): "
-            cases.append(f"                '--{it.name}=[{it.about}]{action}' \\")
+            action = f":{it.value}:({values(it)})" if it.choices else f":{it.value} ({it.range()}; {it.default}): "
+            cases.append(f"                '--{it.name}=[{quoted(it.about)}]{action}' \\")
         cases.append("                '--help[print the page of this command]' ;;")
     return f"""#compdef pcm
 # zsh completion for pcm(1), made from its table of options.

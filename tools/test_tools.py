@@ -434,6 +434,12 @@ class Pages(unittest.TestCase):
             done = subprocess.run(["man", "--warnings", "-l", "-"], input=pages.PAGES[name](), capture_output=True, text=True, env=around)
             self.assertEqual((done.returncode, done.stderr), (0, ""))
 
+    def test_the_completion_for_zsh_is_read(self):
+        if not shutil.which("zsh"):
+            self.skipTest("there is no zsh")
+        done = subprocess.run(["zsh", "-fn", "/dev/stdin"], input=pages.zsh(), capture_output=True, text=True)
+        self.assertEqual((done.returncode, done.stderr), (0, ""))
+
     def test_bash_completes_commands_options_and_values(self):
         wanted = {
             "pcm st": ["stream"], "pcm run --pol": ["--policy"], "pcm run --policy c": ["cancel"], "pcm run --policy = c": ["cancel"],
@@ -505,6 +511,10 @@ class Watching(unittest.TestCase):
         with open("/dev/full", "w") as full:
             done = self.watch("while echo row; do :; done; exit 5", stdout=full)
         self.assertEqual((done.returncode, done.stderr), (5, "write fault\n"))
+
+    def test_a_signal_goes_to_the_program_and_nothing_that_it_printed_is_lost(self):
+        done = self.watch("echo one; sleep 0.2; kill -INT $PPID; exec sleep 5")
+        self.assertEqual((done.returncode, done.stdout, done.stderr), (-signal.SIGINT, "one\n", ""))
 
     def test_it_tells_how_far_it_is(self):
         done = self.watch("echo header; echo 5000,1; sleep 1.4; echo 6000,2", "--print", "snapshots")

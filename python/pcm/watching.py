@@ -92,17 +92,15 @@ class Watched:
         return True
 
     def run(self) -> int:
-        """Waits for its end, and answers its status, negative where a signal ended it."""
-        stop = signal.signal(signal.SIGTERM, lambda *_: self._process.terminate())
+        """Waits for its end, and answers its status, negative where a signal ended it. A signal to end goes to the program, and what that
+        printed before still goes through."""
+        for it in (signal.SIGINT, signal.SIGTERM, signal.SIGHUP):
+            signal.signal(it, lambda number, _: self._process.send_signal(number))
         try:
             self._watch()
-        except KeyboardInterrupt:
-            # (a terminal's signal reached the program too)
-            self._process.send_signal(signal.SIGINT)
         finally:
             status = self._process.wait()
             self._progress.clear()
-            signal.signal(signal.SIGTERM, stop)
         if self._faulty:
             self._said, status = b"write fault\n", _WRITE_FAULT
         os.write(2, self._said)
