@@ -57,6 +57,7 @@ class Program:
         self.pcm = pcm
         self.words = {}
         self.running = set()
+        self.is_ended = False
 
     def begin(self, *names):
         """Asks for the words of these commands, so that a program that isn't built yet is built, and tries the first one, so that one that
@@ -72,6 +73,8 @@ class Program:
 
     def printed(self, name, words, source, trace=None):
         """The status of a command, 0 or 1, and the bytes that it prints; `source` is a file, or the bytes that it reads, of this name."""
+        if self.is_ended:
+            raise BrokenOff
         given = source if isinstance(source, bytes) else None
         pipe = {"stdin": source if given is None else subprocess.PIPE, "stdout": subprocess.PIPE, "stderr": subprocess.PIPE}
         try:
@@ -98,7 +101,8 @@ class Program:
             raise Failure(f"status {status}: {said}" + (f": {why}" if why else ""))
 
     def end(self):
-        """Ends what still runs."""
+        """Ends what still runs, and begins nothing more."""
+        self.is_ended = True
         for process in list(self.running):
             process.kill()
 
@@ -199,11 +203,13 @@ class Runs:
         try:
             for one in [pool.submit(self.one, row) for row in self.missing]:
                 self.wait_for(one)
-        finally:
+        except BaseException:
             self.is_stopped = True
-            self.progress.clear()
             pool.shutdown(wait=False, cancel_futures=True)
             program.end()
+            raise
+        finally:
+            self.progress.clear()
             pool.shutdown()
 
     def wait_for(self, one):

@@ -89,7 +89,7 @@ class Room:
 
     def run(self, *words, top=None, **around):
         how = {"cwd": self.folder, "env": {**self.around, **around}, "stdin": subprocess.DEVNULL, "capture_output": True, "text": True}
-        return subprocess.run([(top or self.top) / words[0], *words[1:]], **how, timeout=60)
+        return subprocess.run([(top or self.top) / words[0], *words[1:]], **how, timeout=600)
 
     def start(self, *words, top=None):
         how = {"cwd": self.folder, "env": self.around, "stdin": subprocess.DEVNULL, "stderr": subprocess.PIPE, "text": True}
@@ -211,7 +211,7 @@ class Builds(unittest.TestCase):
         build = self.room.start("tools/build", "pcm_stream")
         self.room.wait_for_call()
         (self.room.top / "crates/first/src/lib.rt").write_text("fn other() {}\n")
-        said = build.communicate(timeout=60)[1]
+        said = build.communicate(timeout=600)[1]
         self.assertEqual(build.returncode, 1)
         self.assertIn("the text of first changed while it was proved: build again", said)
 
@@ -220,7 +220,7 @@ class Builds(unittest.TestCase):
         first = self.room.start("tools/build", "pcm_stream")
         self.room.wait_for_call()
         second = self.room.run("tools/build", "pcm_stream")
-        first.communicate(timeout=60)
+        first.communicate(timeout=600)
         self.assertEqual((first.returncode, second.returncode), (0, 0))
         self.assertEqual(second.stderr, "pcm: another build works in this checkout: waiting until it ends\n")
         self.assertEqual(self.room.called(), ["first", "pcm_stream"])
@@ -229,7 +229,7 @@ class Builds(unittest.TestCase):
         (self.room.kit / "slow").write_text("0.5")
         other = self.room.repository("another clone")
         builds = [self.room.start("tools/build", "pcm_cli", top=top) for top in (self.room.top, other)]
-        said = [it.communicate(timeout=60)[1] for it in builds]
+        said = [it.communicate(timeout=600)[1] for it in builds]
         self.assertEqual([it.returncode for it in builds], [0, 0], said)
         self.assertEqual(self.room.called(), ["first", "pcm_cli", "second"])
         self.assertTrue(any("another build proves first just now: waiting for it" in it for it in said))
@@ -242,7 +242,7 @@ class Builds(unittest.TestCase):
             self.room.wait_for_call()
             time.sleep(0.1)
             build.send_signal(number)
-            said = build.communicate(timeout=20)[1]
+            said = build.communicate(timeout=600)[1]
             self.assertEqual((build.returncode, said.splitlines()[1:]), (128 + number, told))
             self.assertEqual(list((self.room.cache / "leqallqu" / "making").iterdir()), [])
             self.assertNotIn("30.071", subprocess.run(["ps", "-eo", "args"], capture_output=True, text=True).stdout)
@@ -317,6 +317,8 @@ class Wrapper(unittest.TestCase):
         done = self.room.run("pcm", "map", top=other, PATH="/usr/bin:/bin")
         self.assertEqual(done.returncode, 70)
         self.assertEqual(done.stderr, "pcm: the kit isn't here: there is no command rt (README.md says what the kit is)\n")
+        done = self.room.run("pcm", "rum", top=other, PATH="/usr/bin:/bin", PCM_EXPLAIN="1")
+        self.assertEqual((done.returncode, done.stderr.splitlines()[1:]), (2, ["pcm: there is no command rum (did you mean run?)"]))
         self.assertEqual(self.room.run("pcm", "version", top=other, PATH="/usr/bin:/bin").stdout, (TOP / "VERSION").read_text())
 
     def test_without_words_it_says_how_to_go_on(self):
@@ -391,6 +393,15 @@ class Installed(unittest.TestCase):
         done = subprocess.run([sys.executable, "-c", words], capture_output=True, text=True, env=around)
         self.assertEqual(done.stdout, f"['{self.prefix}/share/pcm/pcm']\n", done.stderr)
         self.assertEqual(subprocess.run([self.prefix / "share/pcm/pcm", "map"], capture_output=True, text=True).stdout, "pcm_cli map\n")
+
+    def test_python_finds_the_package_below_a_folder_from_which_it_imports(self):
+        base = self.room.folder / "a home"
+        around = {"PYTHONUSERBASE": str(base), "PYTHONDONTWRITEBYTECODE": "1"}
+        done = self.room.run("tools/install", "--prefix", str(base), top=self.room.folder / "gone", **around)
+        self.assertEqual((done.returncode, done.stdout), (0, f"installed pcm in {base}\n"), done.stderr)
+        words = [sys.executable, "-c", "import pcm; print(pcm.__file__)"]
+        told = subprocess.run(words, capture_output=True, text=True, env={"PATH": os.environ["PATH"], **around}, cwd="/").stdout
+        self.assertEqual(told, f"{base}/share/pcm/python/pcm/__init__.py\n")
 
     def test_what_was_installed_is_removed_and_nothing_else(self):
         prefix = self.room.folder / "another prefix"
@@ -500,7 +511,7 @@ class Watching(unittest.TestCase):
             program = pathlib.Path(room, "a program")
             Room.script(program, f"#!/bin/sh\n{script}\n")
             asked = [sys.executable, "-B", TOP / "python" / "pcm" / "watching.py", program, "stream", "--progress", *words]
-            return subprocess.run(asked, stderr=subprocess.PIPE, text=True, timeout=60, **{"stdout": subprocess.PIPE, **how})
+            return subprocess.run(asked, stderr=subprocess.PIPE, text=True, timeout=600, **{"stdout": subprocess.PIPE, **how})
 
     def test_bytes_words_and_status_are_the_programs(self):
         done = self.watch("echo \"$@\"; echo trouble >&2; exit 3", "--psi", "5")

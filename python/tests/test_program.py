@@ -142,7 +142,9 @@ class Breaking(unittest.TestCase):
     def broken_off(self, *words):
         """What a process says that is broken off while it reads."""
         with subprocess.Popen([sys.executable, *words], stdin=subprocess.PIPE, stdout=subprocess.PIPE, stderr=subprocess.PIPE, env=around()) as it:
-            time.sleep(1)
+            # (more than a pipe holds: it has begun to read once that is written)
+            it.stdin.write(b"r,0,64,0,0\n" * 20_000)
+            time.sleep(0.2)
             it.send_signal(signal.SIGINT)
             it.wait(20)
             return it.returncode, it.stdout.read(), it.stderr.read()
@@ -204,7 +206,7 @@ class Open(unittest.TestCase):
         done = subprocess.run([sys.executable, "-X", "dev", "-W", "error", "-c", LEAKS], env=around(), capture_output=True, text=True, check=True)
         before, behind, faults = done.stdout.split(maxsplit=2)
         self.assertEqual(("", before), (done.stderr, behind))
-        self.assertEqual("{'trace row 2: order'}\n", faults)
+        self.assertRegex(faults, r"^{'trace row 2: \w+'}\n$")
 
 
 if __name__ == "__main__":
