@@ -65,7 +65,12 @@ class Server:
         return (self.dir / "said").read_text()
 
     def must_run(self):
-        if self.process.poll() is not None:
+        """Where the program couldn't be started, or its log is refused, the script ends with what was said."""
+        import nbd
+        try:
+            self.control()
+        except nbd.Error:
+            self.process.wait(30)
             sys.exit(self.said())
         return self
 
@@ -75,7 +80,7 @@ class Server:
     def connect(self, export=""):
         import nbd
         it = nbd.NBD()
-        it.connect_uri(self.uri(export))
+        it.connect_uri(self.uri(export)) # (the server listens from its start on, and answers once the program has been started)
         self.open.append(it)
         return it
 

@@ -34,19 +34,18 @@ plugin() {
 }
 
 serve() {
-    need nbdkit nbdkit
+    need nbdkit nbdkit nbdinfo libnbd-bin
     plugin
     rm -f "$dir/report" "$dir/sock" "$dir/pid"
     nbdkit -f -U "$dir/sock" -P "$dir/pid" "$PLUGIN" pcm="$pcm" report="$dir/report" "$@" 2>"$dir/err" &
     server=$!
-    while [ ! -e "$dir/pid" ]; do
-        if ! kill -0 "$server" 2>/dev/null; then
-            cat "$dir/err" >&2
-            server=
-            return 1
-        fi
-        sleep 0.02
-    done
+    while [ ! -e "$dir/pid" ] && kill -0 "$server" 2>/dev/null; do sleep 0.02; done
+    # (it listens, and is asked once the program has been started)
+    if nbdinfo --size "$control" >/dev/null 2>&1; then return; fi
+    wait "$server"
+    server=
+    cat "$dir/err" >&2
+    return 1
 }
 
 unserve() {

@@ -192,10 +192,10 @@ def a_disk_goes_on_from_its_log():
 
 def refused(what, *parameters):
     with server(*parameters) as it:
-        for _ in range(500):
-            if it.process.poll() is not None:
-                break
-            time.sleep(0.01)
+        try:
+            it.process.wait(30)
+        except subprocess.TimeoutExpired:
+            pass
         check(it.process.poll() == 1 and what in said(), f"{parameters} is refused: {said()}")
 
 
