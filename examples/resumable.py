@@ -245,7 +245,11 @@ def begin(main, words):
         status = main(words)
         sys.stdout.flush()
         return status
-    except (Refusal, Failure, OSError) as why:
+    except OSError as why:
+        leave_output()
+        print(f"{why.filename}: {why.strerror}" if why.filename is not None else f"{why.strerror or why}", file=sys.stderr)
+        return 1
+    except (Refusal, Failure) as why:
         leave_output()
         print(why, file=sys.stderr)
         return 1
