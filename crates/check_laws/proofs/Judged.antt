@@ -10,8 +10,8 @@ use Rattle.module_shape.specs.{Limits.total_of, declared.raw.RawShape.RawShape}
 use Rattle.module_laws.specs.Serves.{AreLines}
 use Rattle.right_runs.specs.{Banks.{bank_of_line, line_in_bank, rules_in, banks_of}, Runs.ServesTo, Tables.table_in}
 use Rattle.run_laws.specs.FinishedLaws.{LinesLaw}
-use Rattle.check_laws.{specs.Verdicts.{RulesKeptLaw, ServedRulesLaw, ServedYesLaw, YesLaw}, proofs.InBanks.{Exist, exist-all, AreBanks, IsOfBank, apart, IsOfTables, all_rooms, in_tables}}
-use Rattle.check_laws.proofs.{Renaming.queue-named, Timing.{wear-named, ticks-named}}
+use Rattle.check_laws.specs.Verdicts.{RulesKeptLaw, ServedRulesLaw, ServedYesLaw, YesLaw}
+use Rattle.check_laws.proofs.{InBanks.{Exist, exist-all, AreBanks, IsOfBank, apart, IsOfTables, all_rooms, in_tables}, Renaming.queue-named, Timing.{wear-named, ticks-named}}
 
 module _ {n : ℕ} where
   -- the test that is always passed

@@ -6,7 +6,7 @@ use Rattle.bank_shape.specs.{Shape.{controls_from, controls_of}, declared.BankSh
 use Rattle.power_recovery.proofs.Bundle.{due_region-Some}
 use Rattle.bank_model.specs.{History.{due_after, moved_in, queue, stored_in}, Lawful.Lawful, Running.is_over, Sensing.most_steps, Timing.{TimedEvent, core}}
 use Rattle.bank_invariant.specs.{Holds.Holds, State.BankState}
-use Rattle.bank_laws.{specs.{Laws.IsSized, Outcomes.table_of, Resting.EndsIn}, proofs.Waiting.may_all}
+use Rattle.bank_laws.{specs.Laws.IsSized, specs.Outcomes.table_of, specs.Resting.EndsIn, proofs.Waiting.may_all}
 use Rattle.ecp_line.specs.ArrayLines.{is_worn_at}
 use Rattle.queue_laws.specs.EntryLaws.{is_head_begun}
 use Rattle.place_laws.proofs.{Moved.region_stores-counted, Moves.{KeepsMoves, keeps, none-due, some-due}, Placed.{at_product, between_products}, WornOut.idle-queued}

@@ -1,24 +1,23 @@
 -- The mark of a bank and what is left to do in it, by its rows and by what is saved of it.
 use Rattle.std.proofs.Common.{◌≡◌, ℕ, zero, suc, ◌<◌, ◌==◌, ◌&&◌, ◌||◌, not, ◌⊎◌, inl, inr, Bool, true, false, List, [], ◌∷◌, map, filter, length, get_or, Option, Some, None, refl, sym, ap, ◌∙◌, subst, arith, cond, eqb-true}
-use Rattle.std.{specs.List.list_any, specs.Prelude.IfSome, proofs.Math.ListN.get_or-map, proofs.lemmas.Bool.{eq-eqb, or_cases, or_left, or_right}, proofs.lemmas.List.length-map}
+use Rattle.std.{specs.List.list_any, proofs.Math.ListN.get_or-map, proofs.lemmas.Bool.{eq-eqb, or_cases, or_left, or_right}, proofs.lemmas.List.length-map}
 use Rattle.result_rows.specs.declared.Outcome.{Outcome}
 use Rattle.result_rows.specs.declared.Outcome.TheVariants as out
 use Rattle.masked_bytes.specs.{Entries.has_row, declared.entry.Entry.Entry}
 use Rattle.cell_rows.specs.Device.{ArrayState}
 use Rattle.row_rules.specs.{Answers.{accepts, is_merged, is_queued}, Rows.asks_write, declared.Row.Row}
-use Rattle.bank_shape.specs.{Shape.{controls_from, controls_of, control_line}, declared.BankShape.BankShape, declared.pace.Pace.Pace}
+use Rattle.bank_shape.specs.{Shape.{controls_from, controls_of}, declared.BankShape.BankShape, declared.pace.Pace.Pace}
 use Rattle.power_recovery.{specs.Kept.{KeptState, region_at, no_region as no_kept}, proofs.Bundle.{due_region-Some, due_region-is}}
-use Rattle.bank_model.specs.{Changes.{change_after, halted_after}, Events.{Read, Cut}, History.{queue, due_after, has_exhausted}, Lawful.{Lawful, IsIdle}}
-use Rattle.bank_model.specs.{Running.{is_over, over_by}, Sensing.most_steps, Timing.{TimedEvent, core}}
+use Rattle.bank_model.specs.{Events.{Read, Cut}, History.{queue, due_after, has_exhausted}, Lawful.{Lawful, IsIdle}, Running.is_over, Sensing.most_steps, Timing.{TimedEvent, core}}
 use Rattle.bank_laws.{specs.Laws.{IsSized, LeavesArray}, specs.Outcomes.table_of, specs.Resting.EndsIn, proofs.Settling.above_all, proofs.Waiting.may_all}
 use Rattle.ecp_line.specs.ArrayLines.{is_worn_at}
 use Rattle.right_runs.specs.{Ends.BankEnd, Queued.{QueueEntry, QueuedWrite, coming, entries_by, merging, queued_after, by_order, queued_writes}, WornLines.worn_among}
 use Rattle.queue_laws.{specs.EntryLaws.{line_written, given_by, is_head_begun}, proofs.Owned.{AreOwn, queue-own}}
-use Rattle.place_laws.proofs.WornOut.{idle-queued, idle-due, worn_out, worn_control, change-within}
+use Rattle.place_laws.proofs.WornOut.{idle-queued, idle-due, worn_out}
 use Rattle.bank_invariant.specs.{Bridge.AgreesWith, Holds.Holds, State.BankState}
 use Rattle.pcm_image.specs.{Saved.SavedBank, Standing.no_region, declared.EntryImage.EntryImage}
 use Rattle.right_images.specs.{Queued.entry_image, SavedBanks.{SavesMarkTo, SavesQueue, has_work, is_due, queued_row}, Saving.{saved_bank, saved_entry, saved_region}}
-use Rattle.end_laws.{specs.EndLaws.{IsEndOf, queue_entry}, proofs.Begun.keeps-begun, proofs.Queueing.{Alike, queue-alike, queue-by_rows}, proofs.Leftover.{over-why, refused}}
+use Rattle.end_laws.{specs.EndLaws.{IsEndOf, queue_entry}, proofs.Begun.keeps-begun, proofs.Leftover.{over-why, refused}, proofs.Queueing.{Alike, queue-alike, queue-by_rows}}
 
 -- Lists
 

@@ -1,5 +1,6 @@
 -- Where each line's newest bytes are in the end.
-use Rattle.std.specs.{List.list_any, Prelude.{ℕ, ◌+◌, ◌/◌, ◌%◌, ◌==◌, ◌&&◌, ◌||◌, Bool, List, false, ◌≡◌, ◌≢◌, ◌⊎◌, ◌<◌, ◌≤◌, IsTrue, IsFalse, nat_lt, nat_le, true, ◌∷◌, ◌++◌, ◌*◌, []}}
+use Rattle.std.specs.List.{list_any}
+use Rattle.std.specs.Prelude.{ℕ, ◌+◌, ◌/◌, ◌%◌, ◌==◌, ◌&&◌, ◌||◌, Bool, List, false, ◌≡◌, ◌≢◌, ◌⊎◌, ◌<◌, ◌≤◌, IsTrue, IsFalse, nat_lt, nat_le, true, ◌∷◌, ◌++◌, ◌*◌, []}
 use Rattle.row_rules.specs.{Answers.{is_stored, stored_before}, Rows.{newest, RowTest, line_of, each_row}, Serving.same_bytes, Wearing.worn_row, declared.Row.Row}
 use Rattle.bank_shape.specs.{Shape.{slots_of, slot_moved, controls_from, controls_of}, declared.BankShape.BankShape}
 use Rattle.right_runs.specs.{Places.region_stores, Queued.{QueueEntry, entries_by, first_again, laid_over, queued_writes}, WornLines.{may_leave, worn_among}}
