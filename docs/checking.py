@@ -146,7 +146,8 @@ def check_words(program):
                 for text in {*option.choices, *(str(it) for it in ends(option)), "nothing"}:
                     words = [name, f"--{option.name}", text, *beside(name, option.name, text)]
                     ran = subprocess.run([pcm, *words], input=HEADER, capture_output=True)
-                    well = (ran.returncode != 2) == option.takes(text) and (ran.returncode != 2) == (pages.table().wrong_word(words) is None)
+                    taken = ran.returncode != 2
+                    well = taken == option.takes(text) and taken == (pages.table().wrong_word(words) is None)
                     yield None if well else f"{' '.join(words)}: status {ran.returncode}, and python/pcm/words.py says otherwise"
 
 

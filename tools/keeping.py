@@ -2,8 +2,8 @@
 branch that comes back, finds it.
 
 The folder is leqallqu in XDG_CACHE_HOME (~/.cache unless it is given); where that can't be written, or lies in this checkout, where the
-gate refuses Rattle's files, leqallqu-UID in TMPDIR (/var/tmp). Each entry is a folder CRATE-CHECKSUM with a crate's library, or the program,
-and what its proof said. It is made in a folder beside them, which one build at a time holds, and comes to its place whole, by one rename.
+gate refuses Rattle's files, leqallqu-UID in TMPDIR (/var/tmp). Each entry is a folder CRATE-CHECKSUM with a crate's library, or the
+program, and what its proof said. It is made in a folder beside them, which one build at a time holds, and comes to its place whole, by one rename.
 Each build that uses an entry notes that; of each crate the three that were used last stay, and all that were used within a day. So the
 folder doesn't grow without bound, and `tools/build --clean` empties it. The gate reads none of it."""
 import contextlib

@@ -42,7 +42,7 @@ def roff(text, bold=True):
 
 
 def body(lines):
-    """Paragraphs and lists as roff: an item that begins with a span of code in front of a bracket, a stop or a colon has that as its tag."""
+    """Paragraphs and lists as roff: an item that begins with spans of code, a strong word or a number and a colon has that as its tag."""
     for line in lines:
         if not line.strip():
             continue
@@ -98,7 +98,8 @@ def read_of(text):
 def wrong_range(name, told):
     """What a bullet of USING.md says of an option's default and range, `(4; 1, 2, 4, 8 or 16)`, where that isn't what the table says."""
     options = table().COMMANDS[name].options
-    for option, default, rest in re.findall(r"(?m)^- `--([a-z-]+) [A-Z]+`(?: and `[^`]+`)? \(`?([a-z0-9]+)`?(?: both)?(?:; ([^)]*))?\)", told):
+    bullet = r"(?m)^- `--([a-z-]+) [A-Z]+`(?: and `[^`]+`)? \(`?([a-z0-9]+)`?(?: both)?(?:; ([^)]*))?\)"
+    for option, default, rest in re.findall(bullet, told):
         known = options.get(option)
         numbers = set(re.findall(r"\d+", rest.replace(",", "" if "power" in rest else ",")))
         wanted = set(known.choices if known and known.choices else (str(known.least), str(known.most)) if known else ())

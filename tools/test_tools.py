@@ -302,7 +302,8 @@ class Wrapper(unittest.TestCase):
         os.symlink(self.room.top / "pcm", self.room.folder / "a link")
         self.assertEqual(self.room.run("../a link", "map").stdout, "pcm_cli map\n")
         os.symlink(self.room.top / "pcm", self.room.kit / "bin" / "pcm")
-        self.assertEqual(subprocess.run(["pcm", "map"], env=self.room.around, capture_output=True, text=True, cwd="/").stdout, "pcm_cli map\n")
+        done = subprocess.run(["pcm", "map"], env=self.room.around, capture_output=True, text=True, cwd="/")
+        self.assertEqual(done.stdout, "pcm_cli map\n")
         done = subprocess.run(["sh", "pcm", "map"], env=self.room.around, capture_output=True, text=True, cwd=self.room.top)
         self.assertEqual(done.stdout, "pcm_cli map\n")
 
@@ -459,7 +460,8 @@ class Pages(unittest.TestCase):
         }
         for line, found in wanted.items():
             words = line.split(" ")
-            script = f"{pages.bash()}\nCOMP_WORDS=({' '.join(repr(it) for it in words)}); COMP_CWORD={len(words) - 1}; _pcm; echo \"${{COMPREPLY[@]}}\""
+            state = f"COMP_WORDS=({' '.join(repr(it) for it in words)}); COMP_CWORD={len(words) - 1}"
+            script = f'{pages.bash()}\n{state}; _pcm; echo "${{COMPREPLY[@]}}"'
             done = subprocess.run(["bash", "-c", script], capture_output=True, text=True)
             self.assertEqual((done.stdout.split(), done.stderr), (found, ""), line)
 
@@ -491,7 +493,8 @@ class Words(unittest.TestCase):
             (f"{head}0,W,5,{line[:-1]}g\n", "run", "trace row 1: payload",
              "line 2: the fourth field has 'g' behind 127 characters, where it must be hexadecimal digits"),
             ("", "run", "trace row 0: header", "the file is empty: a trace begins with tick,op,arg,data"),
-            (f"\ufeff{head}-1,R,0,\n", "run", "trace row 1: tick", "line 2: the first field must be a tick, 0 to 1099511627776 in digits, and is '-1'"),
+            (f"\ufeff{head}-1,R,0,\n", "run", "trace row 1: tick",
+             "line 2: the first field must be a tick, 0 to 1099511627776 in digits, and is '-1'"),
             (f"{head}0,R,0,\nrow,op,line,outcome,tick,place,data\n1,R,0,read,5,5,\r\n", "check", "results row 1",
              "line 4: it ends with CRLF, and must end with LF"),
             (f"{head}0,R,0,\n", "run", "trace row 1: op", None),

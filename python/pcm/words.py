@@ -137,7 +137,7 @@ COMMANDS = {
         Command("run", "replays a trace", "< TRACE", _named([*_RUN, *_DRAWN])),
         Command("gen", "prints a drawn trace", "> TRACE", _those(*_SIZES, "line", "seed", *(it.name for it in _DRAWN))),
         Command("map", "prints where each line stands", "", {**_those(*_SIZES, "spares", "registers", "seed"), "from": _FROM}),
-        Command("moves", "prints the gap moves of a region", "", {"lines": _power("lines", "N", 64, 4, 256, "lines of the region"), "from": _FROM}),
+        Command("moves", "prints the gap moves of a region", "", _named([_power("lines", "N", 64, 4, 256, "lines of the region"), _FROM])),
         Command("show", "prints the newest bytes of a saved module", "< IMAGE", {}),
         Command("check", "checks results behind their trace", "< TRACE-AND-RESULTS", _those(*_SIZES, "line", "spares", "seed", *_CHECKED)),
         Command("stream", "replays a trace as it comes", "< TRACE", {**_named([*_RUN, *_DRAWN]), **_named(_STREAM)}),
@@ -190,7 +190,8 @@ def _no_option(command: Command, word: str) -> str:
     if not word.startswith("--") and len(name) == 1:
         alike = [it for it in marked if it[2] == name]
         return f"{word}: options are whole words with two dashes" + (f", as {either(alike)}" if alike else "")
-    return f"--{name} is no option of {command.name}" + (near(f"--{name.replace('_', '-')}", marked) or f" (pcm help {command.name} lists them)")
+    other = near(f"--{name.replace('_', '-')}", marked) or f" (pcm help {command.name} lists them)"
+    return f"--{name} is no option of {command.name}{other}"
 
 
 def _bad_value(option: Option, text: str) -> str:
@@ -395,7 +396,8 @@ def wrong_text(words: Sequence[str], line: str, path: Optional[str]) -> Optional
     if found := re.fullmatch(r"image byte \d+: (\w+)", line):
         return _IMAGE.get(found[1])
     if line == "trace too long":
-        return None if words[:1] == ["stream"] else "run and check take 400,000 rows and 64 MiB of trace (128 MiB for lines of 128 bytes); stream has no such bound"
+        bound = "run takes a trace of 400,000 rows and 64 MiB (128 MiB for lines of 128 bytes): stream has no such bound"
+        return bound if words[:1] == ["run"] else None
     if path is None:
         return None
     try:
