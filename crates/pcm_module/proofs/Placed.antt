@@ -4,7 +4,7 @@ use Rattle.std.proofs.Math.Nat.{mul-add}
 use Rattle.std.proofs.lemmas.Nat.{mul-add-lt, div_below, div-mul-add, mod-mul-add, div-add-mod'}
 use Rattle.spare_pool.specs.Table.{IsOwner, line_by, used_by}
 use Rattle.spare_pool.specs.declared.Owner.TheVariants as owned
-use Rattle.bank_shape.specs.{Shape.{slots_of, slot_at, slot_moved, controls_from}, declared.Role.TheVariants.{Line, Gap, Free, Retired}}
+use Rattle.bank_shape.specs.{Shape.{slots_of, slot_at, slot_moved, controls_from}, declared.Role.Role, declared.Role.TheVariants.{Line, Gap, Free, Retired}}
 use Rattle.start_gap.specs.Rotation.{Rotation, StandsFor, place_after, gap_after}
 use Rattle.power_recovery.specs.Kept.{KeptState, IsKept, region_at, array_line}
 use Rattle.end_laws.{specs.EndLaws.IsEndOf, proofs.Used.used-same}
@@ -88,6 +88,14 @@ module _ {n : ℕ} (kept : KeptState n) (range : IsKept kept) where
       let placed : gap_after kept.shape.lines (end.moves region) ≡ slot % (lines + 1) =
       ap (λ m. gap_after m (end.moves region)) (sym count) ∙ sym (stands (end.moves region) stand) in
       (region, within, ap (λ p. end.table (slot_at kept.shape region p)) placed ∙ ap end.table (slot-whole slot lines all) ∙ is.table slot exists)
+
+  -- the array line of a slot is used for what the slot is used for
+  pub slot-role : (line at slot : ℕ) (role : Role) → kept.shape.base ≤ line → at ≡ line - kept.shape.base → IsOwner kept.table at (owned.Slot slot)
+      → ((end : BankEnd) → IsEndOf kept end → IsRole kept.shape (λ own. own) end (array_line kept slot) role)
+      → (end : BankEnd) → IsEndOf kept end → IsRole kept.shape (λ own. own) end line role
+  slot-role line at slot role begun same has roles end is =
+      let stands : array_line kept slot ≡ line = omega (arith, begun, same, has.1) in
+      subst (λ (of : ℕ). IsRole kept.shape (λ own. own) end of role) stands (roles end is)
 
   -- ---- what an array line is used for that no slot has
 

@@ -1,6 +1,6 @@
 use Rattle.std.proofs.Common.{arith, ℕ, ◌-◌, ◌<◌, ap, ◌∙◌, subst}
 use Rattle.bank_shape.specs.{Shape.controls_from, declared.BankShape.BankShape}
-use Rattle.pcm_module.proofs.Placed.{free-role, retired-role}
+use Rattle.pcm_module.proofs.Placed.{free-role, retired-role, slot-role}
 use Rattle.pcm_module.proofs.bank_roles.role_in.Goals as goal
 
 pub returns-in-Free : goal.returns-in-Free
@@ -15,6 +15,12 @@ pub returns-in-Retired : goal.returns-in-Retired
 returns-in-Retired g c =
     retired-role c.args.kept.now c.remap.ensures.in_range c.args.array_line (c.args.array_line - c.shape-shape.result.now.base) c.requires.begun
     (ap (λ shape. c.args.array_line - shape.base) c.shape-shape.ensures.shape) (rw c.remap.ensures.table at c.in-Retired.ensures.owner)
+
+pub returns-in-Slot : goal.returns-in-Slot
+returns-in-Slot g c =
+    slot-role c.args.kept.now c.remap.ensures.in_range c.args.array_line (c.args.array_line - c.shape-shape.result.now.base) c.in-Slot.slot c.role_of_slot.result
+    c.requires.begun (ap (λ shape. c.args.array_line - shape.base) c.shape-shape.ensures.shape) (rw c.remap.ensures.table at c.in-Slot.ensures.owner)
+    c.role_of_slot.ensures
 
 pub shape-shape-requires : goal.shape-shape-requires
 shape-shape-requires g c = grind arith
@@ -36,6 +42,3 @@ owner-requires g c = grind arith
 
 pub role_of_slot-requires : goal.role_of_slot-requires
 role_of_slot-requires g c = grind arith
-
-pub returns-in-Slot : goal.returns-in-Slot
-returns-in-Slot g c = grind arith
