@@ -8,7 +8,7 @@ use Rattle.pcm_io.{specs.Faults.Rose, specs.Taking.Takes, proofs.ByteLemmas.{Tak
 use Rattle.module_shape.specs.{Limits.total_of, declared.raw.RawShape.RawShape}
 use Rattle.pcm_module.specs.State.{ModuleState}
 use Rattle.row_printer.specs.{declared.snapshot.Snapshot.Snapshot, declared.told.Shown.Shown, declared.told.Told.Told}
-use Rattle.trace_stream.specs.{Arrived.StaysEnded, Asked.{IsAskedFor, rows_after, tick_asked, events_in}, Kept.decides}
+use Rattle.trace_stream.specs.{Arrived.StaysEnded, Asked.{IsAskedFor, rows_after, tick_asked, events_in}, Kept.{LacksHeader, decides}}
 use Rattle.trace_stream.specs.{Stream.{AsksNext, HasFault, HasFront, IsOfText, Opens, Standing, asked_from, front_from, front_of, front_rows, records_left, stream_of}, declared.asked.Asked.Asked}
 use Rattle.trace_stream.specs.{declared.asked.Asked.TheVariants.{Happens, Settle}, declared.fault.StreamFault.StreamFault}
 use Rattle.trace_stream.proofs.Runs.{HasAsked, asked-all, asked-faulty, asked-first, asked-front, asked-more}
@@ -80,18 +80,21 @@ module _ (n lines : ℕ) {S : Type 0} (left : S → Option (List ℕ)) (taken fa
       → (IsOfText found → (bytes : List ℕ) × (ended : Bool) × Takes (left old) (left new) (taken old) (taken new) bytes × (ended ≡ true → IsAtEnd (left new))
       × ((k : ℕ) → HasFault (stream_of k lines) bytes found ended × HasFront (front_of k lines) bytes [] ended))
       → (found ≡ fault.Read → Rose (faults old) (faults new))
+      → (found ≡ fault.Read → (bytes : List ℕ) × Takes (left old) (left new) (taken old) (taken new) bytes × LacksHeader bytes)
       → (found ≡ fault.Endless → (bytes : List ℕ) × Takes (left old) (left new) (taken old) (taken new) bytes × (2 ^ 64 - 1 ≤ length bytes))
       → (found ≢ fault.Read → faults new ≡ faults old)
       → HasStopped {n = n} lines left taken faults old new [] (Input found)
-  open-stopped new (fault.Trace f) text fails past calm =
+  open-stopped new (fault.Trace f) text fails lacks past calm =
       let of = text ((λ is. cc is), (λ is. cc is), (λ is. cc is)) in
       record { bytes = of.0; takes = of.2; ended = of.1; at_end = of.3; front = (of.4 n).1; fault = (of.4 n).0; calm = calm (λ is. cc is) }
-  open-stopped new fault.TooMany text fails past calm =
+  open-stopped new fault.TooMany text fails lacks past calm =
       let of = text ((λ is. cc is), (λ is. cc is), (λ is. cc is)) in
       record { bytes = of.0; takes = of.2; ended = of.1; at_end = of.3; front = (of.4 n).1; fault = (of.4 n).0; calm = calm (λ is. cc is) }
-  open-stopped new fault.Read text fails past calm = (come-none new, fails refl, inr refl)
-  open-stopped new fault.Endless text fails past calm = (come-none new, calm (λ is. cc is), past refl)
-  open-stopped new fault.NoMemory text fails past calm = (come-none new, calm (λ is. cc is), refl)
+  open-stopped new fault.Read text fails lacks past calm =
+      let came = lacks refl in
+      (come-none new, fails refl, inr (record { bytes = came.0; takes = came.1; lacks = came.2; none = refl }))
+  open-stopped new fault.Endless text fails lacks past calm = (come-none new, calm (λ is. cc is), past refl)
+  open-stopped new fault.NoMemory text fails lacks past calm = (come-none new, calm (λ is. cc is), refl)
 
 module _ {n m e : ℕ} (raw : RawShape) (seed : ℕ) {S : Type 0} (left : S → Option (List ℕ)) (taken faults : S → ℕ) (old : S) where
   -- the header was read

@@ -1,7 +1,7 @@
 -- What the rows that a source gave have to do with its bytes. What was asked stands with the newest first.
 use Rattle.std.specs.{Io.KnownBytes.{Consumes, IsAtEnd}, Prelude.{◌≡◌, ◌⊎◌, ℕ, ◌≤◌, ◌^◌, ◌-◌, Bool, true, false, List, [], ◌++◌, length, reverse, Option, Ok}}
 use Rattle.pcm_io.specs.{Faults.Rose, Taking.Takes}
-use Rattle.trace_stream.specs.{Arrived.Comes, Kept.decides, Stream.{HasFault, HasFront, Standing, front_from, front_of, stream_of}, declared.asked.Asked.Asked, declared.fault.StreamFault.StreamFault}
+use Rattle.trace_stream.specs.{Arrived.Comes, Kept.{LacksHeader, decides}, Stream.{HasFault, HasFront, Standing, front_from, front_of, stream_of}, declared.asked.Asked.Asked, declared.fault.StreamFault.StreamFault}
 use Rattle.trace_stream.specs.declared.fault.StreamFault.TheVariants as fault
 use Rattle.row_stream.specs.{declared.stop.Stop.Stop, declared.stop.Stop.TheVariants.{Input, Endless, Output}}
 
@@ -37,6 +37,13 @@ module _ {n : ℕ} (lines : ℕ) {S : Type 0} (left : S → Option (List ℕ)) (
     pub front : (more : List ℕ) → front_of n lines (bytes ++ more) ≡ reverse asked ++ front_from n at more
     pub undecided : decides at.state 0 at.arrived.bytes ≡ false
 
+  -- not even the header came whole, and nothing was asked
+  pub record HasNoHeader : Type 0 where
+    pub bytes : List ℕ
+    pub takes : Takes (left old) (left new) (taken old) (taken new) bytes
+    pub lacks : LacksHeader bytes
+    pub none : asked ≡ []
+
   -- its bytes have this fault, and in front of it stand exactly the rows that ask this, whatever may still come; no call failed
   pub record IsFaulty (e : StreamFault) : Type 0 where
     pub bytes : List ℕ
@@ -56,7 +63,7 @@ module _ {n : ℕ} (lines : ℕ) {S : Type 0} (left : S → Option (List ℕ)) (
   abbrev pub HasStopped : Stop → Type 0
   HasStopped (Input (fault.Trace f)) = IsFaulty (fault.Trace f)
   HasStopped (Input fault.TooMany) = IsFaulty fault.TooMany
-  HasStopped (Input fault.Read) = HasCome × Rose (faults old) (faults new) × (HasAllCome ⊎ (asked ≡ []))
+  HasStopped (Input fault.Read) = HasCome × Rose (faults old) (faults new) × (HasAllCome ⊎ HasNoHeader)
   HasStopped (Input fault.Endless) = HasCome × (faults new ≡ faults old) × TookPast
   HasStopped (Input fault.NoMemory) = HasCome × (faults new ≡ faults old) × (asked ≡ [])
   HasStopped Endless = HasCome × (faults new ≡ faults old) × (length asked ≡ 2 ^ 64 - 1)

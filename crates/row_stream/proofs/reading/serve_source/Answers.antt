@@ -16,7 +16,7 @@ returns-in-Err-clause-stopped g c = λ raw seed start.
     let e = c.in-Err.ensures in (
       [],
       rw (c.flush.ensures.rows, c.flush.ensures.told, c.flush.ensures.prints, c.flush.ensures.snapshots) start,
-      open-stopped g.row.B (total_of raw) g.S.Source.left g.S.Source.taken g.S.Source.faults c.args.source.now c.open.new.source c.in-Err.fault (rw lines at e.fault) (λ is. e.read (ap Err is)) (λ is. e.endless (ap Err is))
+      open-stopped g.row.B (total_of raw) g.S.Source.left g.S.Source.taken g.S.Source.faults c.args.source.now c.open.new.source c.in-Err.fault (rw lines at e.fault) (λ is. e.read (ap Err is)) (λ is. e.sparing (ap Err is)) (λ is. e.endless (ap Err is))
           (λ other. e.no_fault (λ is. let same : c.in-Err.fault ≡ fault.Read = cc in other same)),
     )
 
