@@ -14,7 +14,7 @@ import crates
 import definitions
 import pages
 
-COMMANDS = ("README.md", "docs/USING.md")
+COMMANDS = ("README.md", "docs/USING.md", "docs/VERIFYING.md")
 HEADER = b"tick,op,arg,data\n"
 RESULTS = b"row,op,line,outcome,tick,place,data\n"
 EXAMPLE = re.compile(r"Example: `((?:run|gen|map|moves|show|check|stream)\b[^`]*)`")
