@@ -1,9 +1,9 @@
--- Where a line stands in chunks, and what one more line and a change of one make of them.
-use Rattle.std.proofs.Common.{◌≡◌, ℕ, zero, suc, ◌+◌, ◌-◌, ◌*◌, ◌/◌, ◌%◌, ◌<◌, ◌≤◌, min, List, [], ◌∷◌, ◌++◌, length, get_or, set, refl, sym, ◌∙◌, ap, subst, inl, inr, arith, length-append, length-set, Vec, vec_capacity}
+-- Where a page stands in chunks, and what one more page and a change of one make of them.
+use Rattle.std.proofs.Common.{◌≡◌, ℕ, zero, suc, ◌+◌, ◌-◌, ◌*◌, ◌/◌, ◌%◌, ◌<◌, ◌≤◌, min, List, [], ◌∷◌, ◌++◌, length, get_or, set, refl, sym, ◌∙◌, ap, subst, inl, inr, arith, length-append, Vec, vec_capacity}
 use Rattle.std.{specs.declared.alloc.Global.Global, proofs.Math.ListN.get_or-append, proofs.lemmas.Bool.cases_lt}
 use Rattle.std.proofs.lemmas.List.{append-nil, append_assoc, set-append_left, set-append_right}
 use Rattle.std.proofs.Math.Seq.{get_or-append_right}
-use Rattle.pcm_cells.specs.Book.{Hold, chunk_room, lines_in}
+use Rattle.pcm_cells.specs.Book.{Hold, chunk_room, pages_in}
 
 -- ---- numbers
 
@@ -14,16 +14,16 @@ next-chunk : (i : ℕ) → chunk_room ≤ i → (i / chunk_room ≡ suc ((i - ch
 next-chunk i high = (omega (arith, high), omega (arith, high))
 
 module _ {X : Type 0} where
-  -- as many lines as are held
-  pub lines-count : (count room : ℕ) (chunks : List (Vec X Global)) → Hold count room chunks → length (lines_in chunks) ≡ count
-  unfolding Hold lines_in
-  lines-count count room [] hold = sym hold.0
-  lines-count count room (chunk ∷ rest) hold =
+  -- as many pages as are held
+  pub pages-count : (count room : ℕ) (chunks : List (Vec X Global)) → Hold count room chunks → length (pages_in chunks) ≡ count
+  unfolding Hold pages_in
+  pages-count count room [] hold = sym hold.0
+  pages-count count room (chunk ∷ rest) hold =
       let first : length chunk.items ≡ min count chunk_room = hold.0 in
-      let behind = lines-count (count - chunk_room) (room - chunk_room) rest hold.2 in
-      omega (arith, length-append chunk.items (lines_in rest), first, behind)
+      let behind = pages-count (count - chunk_room) (room - chunk_room) rest hold.2 in
+      omega (arith, length-append chunk.items (pages_in rest), first, behind)
 
-  -- there is a chunk for each line for which there is room
+  -- there is a chunk for each page for which there is room
   pub chunk-exists : (count room : ℕ) (chunks : List (Vec X Global)) (i : ℕ) → Hold count room chunks → i < room → i / chunk_room < length chunks
   unfolding Hold
   chunk-exists count room [] i hold low = absurd (omega (arith, hold.1, low))
@@ -35,16 +35,16 @@ module _ {X : Type 0} where
             rw (next-chunk i far).0 (omega (arith, behind))
       ]
 
-  -- where the line of a number stands
+  -- where the page of a number stands
   pub record Stands (chunks : List (Vec X Global)) (i : ℕ) (v : Vec X Global) : Type 0 where
     pub chunk : i / chunk_room < length chunks
-    pub line : i % chunk_room < length (get_or chunks (i / chunk_room) v).items
-    pub is : (d : X) → get_or (lines_in chunks) i d ≡ get_or (get_or chunks (i / chunk_room) v).items (i % chunk_room) d
+    pub page : i % chunk_room < length (get_or chunks (i / chunk_room) v).items
+    pub is : (d : X) → get_or (pages_in chunks) i d ≡ get_or (get_or chunks (i / chunk_room) v).items (i % chunk_room) d
     pub set_is : (w : Vec X Global) (x : X) → w.items ≡ set (get_or chunks (i / chunk_room) v).items (i % chunk_room) x
-        → lines_in (set chunks (i / chunk_room) w) ≡ set (lines_in chunks) i x
+        → pages_in (set chunks (i / chunk_room) w) ≡ set (pages_in chunks) i x
 
   pub stands : (count room : ℕ) (chunks : List (Vec X Global)) (i : ℕ) (v : Vec X Global) → Hold count room chunks → i < count → Stands chunks i v
-  unfolding Hold lines_in
+  unfolding Hold pages_in
   stands count room [] i v hold low = absurd (omega (arith, hold.0, low))
   stands count room (chunk ∷ rest) i v hold low =
       let first : length chunk.items ≡ min count chunk_room = hold.0 in
@@ -54,11 +54,11 @@ module _ {X : Type 0} where
             let inside : i < length chunk.items = omega (arith, first, low, here) in
             record {
               chunk = rw at.0 (omega arith);
-              line = rw (at.0, at.1) inside;
-              is = λ d. rw (at.0, at.1) (get_or-append chunk.items (lines_in rest) d i inside);
+              page = rw (at.0, at.1) inside;
+              is = λ d. rw (at.0, at.1) (get_or-append chunk.items (pages_in rest) d i inside);
               set_is = λ w x made.
                   let own : w.items ≡ set chunk.items i x = rw (at.0, at.1) at made in
-                  rw at.0 (ap (λ (xs : List X). xs ++ lines_in rest) own ∙ sym (set-append_left chunk.items (lines_in rest) i x inside));
+                  rw at.0 (ap (λ (xs : List X). xs ++ pages_in rest) own ∙ sym (set-append_left chunk.items (pages_in rest) i x inside));
             }
         | inr far ↦
             let at = next-chunk i far in
@@ -66,18 +66,18 @@ module _ {X : Type 0} where
             let behind = stands (count - chunk_room) (room - chunk_room) rest (i - chunk_room) v hold.2 (omega (arith, low, far)) in
             record {
               chunk = rw at.0 (let below = behind.chunk in omega (arith, below));
-              line = rw (at.0, at.1) behind.line;
+              page = rw (at.0, at.1) behind.page;
               is = λ d.
-                  get_or-append_right chunk.items (lines_in rest) i d (omega (arith, full, far))
-                  ∙ ap (λ (k : ℕ). get_or (lines_in rest) (i - k) d) full
+                  get_or-append_right chunk.items (pages_in rest) i d (omega (arith, full, far))
+                  ∙ ap (λ (k : ℕ). get_or (pages_in rest) (i - k) d) full
                   ∙ rw (at.0, at.1) (behind.is d);
               set_is = λ w x made.
                   let own = rw (at.0, at.1) at made in
-                  rw at.0 (ap (λ (xs : List X). chunk.items ++ xs) (behind.set_is w x own) ∙ sym (set-append_right chunk.items (lines_in rest) chunk_room i x full far));
+                  rw at.0 (ap (λ (xs : List X). chunk.items ++ xs) (behind.set_is w x own) ∙ sym (set-append_right chunk.items (pages_in rest) chunk_room i x full far));
             }
       ]
 
-  -- a chunk is replaced by one of as many lines and as much room
+  -- a chunk is replaced by one of as many pages and as much room
   pub hold-set : (count room : ℕ) (chunks : List (Vec X Global)) (c : ℕ) (v w : Vec X Global) → Hold count room chunks
       → length w.items ≡ length (get_or chunks c v).items → vec_capacity w ≡ vec_capacity (get_or chunks c v) → Hold count room (set chunks c w)
   unfolding Hold
@@ -85,27 +85,27 @@ module _ {X : Type 0} where
   hold-set count room (chunk ∷ rest) zero v w hold size same = (size ∙ hold.0, (let fits = hold.1 in omega (arith, fits, same)), hold.2)
   hold-set count room (chunk ∷ rest) (suc c) v w hold size same = (hold.0, hold.1, hold-set (count - chunk_room) (room - chunk_room) rest c v w hold.2 size same)
 
-  -- one more line behind all
+  -- one more page behind all
   pub record Takes (count room : ℕ) (chunks : List (Vec X Global)) (v : Vec X Global) : Type 0 where
     pub chunk : count / chunk_room < length chunks
     pub fits : length (get_or chunks (count / chunk_room) v).items < vec_capacity (get_or chunks (count / chunk_room) v)
     pub more : (w : Vec X Global) (x : X) → w.items ≡ (get_or chunks (count / chunk_room) v).items ++ x ∷ []
         → vec_capacity w ≡ vec_capacity (get_or chunks (count / chunk_room) v)
-        → Hold (count + 1) room (set chunks (count / chunk_room) w) × (lines_in (set chunks (count / chunk_room) w) ≡ lines_in chunks ++ x ∷ [])
+        → Hold (count + 1) room (set chunks (count / chunk_room) w) × (pages_in (set chunks (count / chunk_room) w) ≡ pages_in chunks ++ x ∷ [])
 
-  none-behind : (room : ℕ) (chunks : List (Vec X Global)) → Hold 0 room chunks → lines_in chunks ≡ []
-  unfolding Hold lines_in
+  none-behind : (room : ℕ) (chunks : List (Vec X Global)) → Hold 0 room chunks → pages_in chunks ≡ []
+  unfolding Hold pages_in
   none-behind room [] hold = refl
   none-behind room (chunk ∷ rest) hold =
       let first : length chunk.items ≡ 0 = (let size = hold.0 in omega (arith, size)) in
-      ap (λ (xs : List X). xs ++ lines_in rest) (empty chunk.items first) ∙ none-behind (room - chunk_room) rest hold.2
+      ap (λ (xs : List X). xs ++ pages_in rest) (empty chunk.items first) ∙ none-behind (room - chunk_room) rest hold.2
     where
       empty : (xs : List X) → length xs ≡ 0 → xs ≡ []
       empty [] none = refl
       empty (x ∷ xs) none = absurd (omega (arith, none))
 
   pub takes : (count room : ℕ) (chunks : List (Vec X Global)) (v : Vec X Global) → Hold count room chunks → count < room → Takes count room chunks v
-  unfolding Hold lines_in
+  unfolding Hold pages_in
   takes count room [] v hold low = absurd (omega (arith, hold.1, low))
   takes count room (chunk ∷ rest) v hold low =
       let first : length chunk.items ≡ min count chunk_room = hold.0 in
@@ -114,7 +114,7 @@ module _ {X : Type 0} where
         | inl here ↦
             let at = first-chunk count here in
             let none : count - chunk_room ≡ 0 = omega (arith, here) in
-            let empty : lines_in rest ≡ [] = none-behind (room - chunk_room) rest (subst (λ (k : ℕ). Hold k (room - chunk_room) rest) none hold.2) in
+            let empty : pages_in rest ≡ [] = none-behind (room - chunk_room) rest (subst (λ (k : ℕ). Hold k (room - chunk_room) rest) none hold.2) in
             record {
               chunk = rw at.0 (omega arith);
               fits = rw at.0 (omega (arith, first, fits, here, low));
@@ -127,7 +127,7 @@ module _ {X : Type 0} where
                       omega (arith, fits, room_same),
                       (let still : count + 1 - chunk_room ≡ count - chunk_room = omega (arith, here) in subst (λ (k : ℕ). Hold k (room - chunk_room) rest) (sym still) hold.2),
                     ),
-                    ap (λ (xs : List X). xs ++ lines_in rest) own ∙ ap (λ (ys : List X). (chunk.items ++ x ∷ []) ++ ys) empty ∙ append-nil (chunk.items ++ x ∷ [])
+                    ap (λ (xs : List X). xs ++ pages_in rest) own ∙ ap (λ (ys : List X). (chunk.items ++ x ∷ []) ++ ys) empty ∙ append-nil (chunk.items ++ x ∷ [])
                         ∙ sym (ap (λ (ys : List X). (chunk.items ++ ys) ++ x ∷ []) empty ∙ ap (λ (ys : List X). ys ++ x ∷ []) (append-nil chunk.items)),
                   );
             }
@@ -142,14 +142,14 @@ module _ {X : Type 0} where
                   let next : count + 1 - chunk_room ≡ count - chunk_room + 1 = omega (arith, far) in
                   rw at.0 (
                     (first ∙ omega (arith, far), fits, subst (λ (k : ℕ). Hold k (room - chunk_room) (set rest ((count - chunk_room) / chunk_room) w)) (sym next) is.0),
-                    ap (λ (xs : List X). chunk.items ++ xs) is.1 ∙ sym (append_assoc chunk.items (lines_in rest) (x ∷ [])),
+                    ap (λ (xs : List X). chunk.items ++ xs) is.1 ∙ sym (append_assoc chunk.items (pages_in rest) (x ∷ [])),
                   );
             }
       ]
 
   -- ---- new chunks
 
-  -- so many full chunks of room, without a line
+  -- so many full chunks of room, without a page
   pub record AreEmpty (index room : ℕ) (chunks : List (Vec X Global)) : Type 0 where
     pub hold : Hold 0 (min room (chunk_room * index)) chunks
     pub count : length chunks ≡ index
@@ -182,7 +182,7 @@ module _ {X : Type 0} where
       }
 
   pub empty-all : (index room : ℕ) (chunks : List (Vec X Global)) → AreEmpty index room chunks → room ≤ chunk_room * index
-      → Hold 0 room chunks × (lines_in chunks ≡ [])
+      → Hold 0 room chunks × (pages_in chunks ≡ [])
   empty-all index room chunks are all =
       let whole : min room (chunk_room * index) ≡ room = omega (arith, all) in
       let hold = subst (λ (k : ℕ). Hold 0 k chunks) whole are.hold in

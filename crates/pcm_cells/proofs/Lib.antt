@@ -12,6 +12,9 @@ pub mod SeededLemmas
 pub mod CalmLemmas
 pub mod BookLemmas
 pub mod PageLemmas
+pub mod YoungLemmas
+pub mod TableLemmas
 pub mod PagingLemmas
+pub mod AgeLemmas
 pub mod EnduranceLemmas
 pub mod LoggingLemmas

@@ -117,3 +117,31 @@ digit_grown old new n more none few low middle high =
 pub digit_kept : {B M : ℕ} (old new : Digits B M) (n : ℕ) → cell new.low n ≡ cell old.low n → cell new.middle n ≡ cell old.middle n
     → cell new.high n ≡ cell old.high n → digit new n ≡ digit old n
 digit_kept old new n low middle high = digit-is new n ∙ rw (low, middle, high, digit-is old n) refl
+
+-- one more, where 7 becomes 0 with a carry
+carried : (more a b c : Bool) → number_of (xor more a) (xor (more && a) b) (xor ((more && a) && b) c) + cond (((more && a) && b) && c) 8 0
+    ≡ number_of a b c + cond more 1 0
+carried true true true true = refl
+carried true true true false = refl
+carried true true false true = refl
+carried true true false false = refl
+carried true false true true = refl
+carried true false true false = refl
+carried true false false true = refl
+carried true false false false = refl
+carried false true true true = refl
+carried false true true false = refl
+carried false true false true = refl
+carried false true false false = refl
+carried false false true true = refl
+carried false false true false = refl
+carried false false false true = refl
+carried false false false false = refl
+
+pub digit_carried : {B M : ℕ} (old new : Digits B M) (n : ℕ) (more carry : Bool) → cell new.low n ≡ xor more (cell old.low n)
+    → cell new.middle n ≡ xor (more && cell old.low n) (cell old.middle n)
+    → cell new.high n ≡ xor ((more && cell old.low n) && cell old.middle n) (cell old.high n)
+    → carry ≡ (((more && cell old.low n) && cell old.middle n) && cell old.high n)
+    → digit new n + cond carry 8 0 ≡ digit old n + cond more 1 0
+digit_carried old new n more carry low middle high over =
+    rw (digit-is new n, low, middle, high, over, digit-is old n) (carried more (cell old.low n) (cell old.middle n) (cell old.high n))

@@ -22,6 +22,9 @@ settled_size row digits counts = up 4 (up 1 (up 1 (up 4 (0 + row) + counts) + di
 abbrev line_size : ℕ → ℕ → ℕ → ℕ
 line_size b moving settled = up 8 (up 1 (up 8 (up 4 (0 + moving) + settled) + 8) + b * 1)
 
+abbrev young_size : ℕ → ℕ → ℕ
+young_size row digits = up 8 (up 8 (up 1 (up 1 (up 1 (0 + row) + digits) + digits) + digits) + 8)
+
 row_few : (b m : ℕ) → b ≤ 128 → m ≤ 16 → row_size b m ≤ 200
 row_few b m few_b few_m = omega arith
 
@@ -36,6 +39,9 @@ moving_few row digits few_r few_d = omega arith
 
 settled_few : (row digits counts : ℕ) → row ≤ 200 → digits ≤ 700 → counts ≤ 5000 → settled_size row digits counts ≤ 7000
 settled_few row digits counts few_r few_d few_c = omega arith
+
+young_few : (row digits : ℕ) → row ≤ 200 → digits ≤ 700 → young_size row digits ≤ 3000
+young_few row digits few_r few_d = omega arith
 
 line_few : (b moving settled : ℕ) → b ≤ 128 → moving ≤ 2000 → settled ≤ 7000 → line_size b moving settled ≤ 10000
 line_few b moving settled few_b few_m few_s = omega arith
@@ -76,6 +82,9 @@ module _ {b m : ℕ} (shape : IsShape b m) where
 
   pub settled_fits : settled_size (row_size b m) (digits_size (row_size b m)) (counts_size b m) < 9223372036854775808
   settled_fits = less _ 7000 settled_at_most (omega arith)
+
+  pub young_fits : young_size (row_size b m) (digits_size (row_size b m)) < 9223372036854775808
+  young_fits = less _ 3000 (young_few _ _ row_at_most digits_at_most) (omega arith)
 
   pub line_fits : line_size b (moving_size (row_size b m) (digits_size (row_size b m))) (settled_size (row_size b m) (digits_size (row_size b m)) (counts_size b m)) < 9223372036854775808
   line_fits = below _ (line_few b _ _ shape.1 moving_at_most settled_at_most)

@@ -5,7 +5,7 @@ use Rattle.cell_wear.{specs.Told.{most, wear_told}, specs.declared.tells.CellWea
 use Rattle.pcm_cells.specs.{Pages.{HaveSameLife, changes_of, changes_with, drawn_line, word_of}, Planes.PlaneLine, Seeded.{LifeLine, endurance}}
 use Rattle.pcm_cells.{specs.declared.seeded.SeededCell.SeededCell, proofs.PageLemmas.drawn_is}
 
-members-none : (has : ℕ → Bool) (n : ℕ) → ((k : ℕ) → has k ≡ false) → members has n ≡ 0
+pub members-none : (has : ℕ → Bool) (n : ℕ) → ((k : ℕ) → has k ≡ false) → members has n ≡ 0
 unfolding members
 members-none has zero none = refl
 members-none has (suc n) none = rw (members-none has n none, none n) refl

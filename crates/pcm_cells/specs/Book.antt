@@ -1,29 +1,29 @@
--- Kept lines in chunks.
-use Rattle.std.specs.{Prelude.{ℕ, ◌≡◌, ◌-◌, ◌≤◌, min, Bool, List, [], ◌∷◌, ◌++◌, length, slice_index_or, slice_set, Vec, vec_capacity}, declared.alloc.Global.Global}
+-- Kept pages in chunks.
+use Rattle.std.specs.{Prelude.{ℕ, ◌≡◌, ◌+◌, ◌-◌, ◌≤◌, min, Bool, List, [], ◌∷◌, ◌++◌, length, slice_index_or, slice_set, Vec, vec_capacity}, declared.alloc.Global.Global}
 use Rattle.cell_rows.specs.{Device.counted, Rows.cell, declared.row.Cells.Cells}
-use Rattle.pcm_cells.specs.{Follows.Follows, Seeded.{LifeLine, seeded, seeded_cell}}
+use Rattle.pcm_cells.specs.{Follows.Follows, Seeded.{LifeLine, seeded, seeded_cell}, Young.{aging, young_cell}, declared.young.Young.Young}
 
--- how many lines a chunk has room for
+-- how many pages a chunk has room for
 abbrev pub chunk_room : ℕ
 chunk_room = 65536
 
--- the lines of all chunks, one chunk behind the other
-unfoldable pub lines_in : {X : Type 0} → List (Vec X Global) → List X
-lines_in [] = []
-lines_in (chunk ∷ rest) = chunk.items ++ lines_in rest
+-- the pages of all chunks, one chunk behind the other
+unfoldable pub pages_in : {X : Type 0} → List (Vec X Global) → List X
+pages_in [] = []
+pages_in (chunk ∷ rest) = chunk.items ++ pages_in rest
 
--- chunks hold so many lines and have room for so many: of each chunk as many as it has room for stand in it before one stands in the next
+-- chunks hold so many pages and have room for so many: of each chunk as many as it has room for stand in it before one stands in the next
 unfoldable pub Hold : {X : Type 0} → ℕ → ℕ → List (Vec X Global) → Type 0
 Hold count room [] = (count ≡ 0) × (room ≡ 0)
 Hold count room (chunk ∷ rest) =
     (length chunk.items ≡ min count chunk_room) × (min room chunk_room ≤ vec_capacity chunk) × Hold (count - chunk_room) (room - chunk_room) rest
 
--- what contracts see: the lines, and for how many there is room
-pub record Kept (B M : ℕ) : Type 0 where
-  pub lines : List (LifeLine B M)
+-- what contracts see: the pages, and for how many there is room
+pub record Kept (X : Type 0) : Type 0 where
+  pub pages : List X
   pub room : ℕ
 
--- a pulse or a tear of the line of a number, and no other line changes
+-- a pulse or a tear of the line on the page of a number, and no other page changes
 pub record WearsAt {B M : ℕ} (index : ℕ) (tearing : Bool) (mask want : Cells B M) (old new : List (LifeLine B M)) : Type 0 where
   pub before : LifeLine B M
   pub after : LifeLine B M
@@ -31,3 +31,12 @@ pub record WearsAt {B M : ℕ} (index : ℕ) (tearing : Bool) (mask want : Cells
   pub is : new ≡ slice_set old index after
   pub cells : Follows (cell mask) (seeded tearing (cell want)) (seeded_cell before) (seeded_cell after)
   pub pulses : after.line.pulses ≡ counted before.line.pulses
+
+-- the same of a young line
+pub record AgesAt {B M : ℕ} (index : ℕ) (tearing : Bool) (mask want : Cells B M) (old new : List (Young B M)) : Type 0 where
+  pub before : Young B M
+  pub after : Young B M
+  pub was : before ≡ slice_index_or old index before
+  pub is : new ≡ slice_set old index after
+  pub cells : Follows (cell mask) (aging tearing (cell want)) (young_cell before) (young_cell after)
+  pub pulses : after.pulses ≡ before.pulses + 1

@@ -7,6 +7,10 @@ pub mod Planes
 pub mod Counts
 pub mod Seeded
 pub mod Pages
+pub mod Young
+pub mod Table
+pub mod PageTable
+pub mod Paged
 pub mod Paging
 pub mod Endurance
 pub mod Book

@@ -1,6 +1,6 @@
 -- A line whose life isn't drawn yet, seen as if it were.
-use Rattle.std.specs.List.{range_with_len, sum_by}
-use Rattle.std.specs.Prelude.{ℕ, zero, suc, ◌≡◌, ◌≢◌, ◌+◌, ◌-◌, ◌*◌, ◌^◌, ◌<◌, ◌≤◌, Bool, cond, List, length, map, Option, None, Some, bit_xor, slice_index, slice_index_or}
+use Rattle.std.specs.List.{range_with_len}
+use Rattle.std.specs.Prelude.{ℕ, zero, suc, ◌≡◌, ◌+◌, ◌-◌, ◌*◌, Bool, cond, List, map, Option, None, Some, bit_xor, slice_index}
 use Rattle.cell_rows.specs.{declared.array.Wear.Wear, declared.row.Cells.Cells}
 use Rattle.pcm_cells.specs.{Planes.{bit_in, blank_planes}, Seeded.{LifeLine, SeededArray, seeded_cell, seeded_line, endurance, miss_limit, stuck_value}}
 use Rattle.pcm_cells.specs.declared.digits.Digits.{Digits}
@@ -56,25 +56,3 @@ seeded_changes array line = changes_with array.wear line (seeded_line array line
 pub record HaveSameLife {B M : ℕ} (a b : LifeLine B M) : Type 0 where
   pub line : a.line ≡ b.line
   pub cells : (n : ℕ) → seeded_cell a n ≡ seeded_cell b n
-
--- a line whose table has 0 is as it is drawn; else its page is that at one index less
-unfoldable pub page_seen : {B M : ℕ} → LifeLine B M → List (LifeLine B M) → ℕ → LifeLine B M
-page_seen drawn pages zero = drawn
-page_seen drawn pages (suc index) = slice_index_or pages index drawn
-
--- the line with this number
-abbrev pub line_seen : {B M : ℕ} → Wear → List ℕ → List (LifeLine B M) → ℕ → LifeLine B M
-line_seen {B} {M} wear table pages line = page_seen (drawn_line B M wear line) pages (slice_index table line)
-
--- 1 for a line without a page
-abbrev pub free : ℕ → ℕ
-free zero = 1
-free (suc index) = 0
-
--- each line has no page or one of its own, and there is room for those that are missing
-pub record IsPaging {X : Type 0} (table : List ℕ) (pages : List X) (capacity : ℕ) : Type 0 where
-  pub few : length table < 2 ^ 32
-  pub made : (line : ℕ) → slice_index table line ≤ length pages
-  pub apart : (k l : ℕ) → slice_index table k ≡ slice_index table l → slice_index table k ≢ 0 → k ≡ l
-  pub all : sum_by free table + length pages ≡ length table
-  pub room : length table ≤ capacity

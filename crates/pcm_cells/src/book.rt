@@ -1,40 +1,43 @@
-// Lines that are kept, one behind the other, in chunks: the room of all is taken at once, and no chunk asks for so much that a machine
+// Pages that are kept, one behind the other, in chunks: the room of all is taken at once, and no chunk asks for so much that a machine
 // refuses it alone.
-ghost use Rattle.std.specs.Prelude.{◌≡◌, ◌≤◌, ◌<◌, length, slice_index_or, IfOk, [], ◌∷◌, ◌++◌};
+ghost use Rattle.std.specs.Prelude.{◌≡◌, ℕ, ◌+◌, ◌*◌, ◌≤◌, ◌<◌, false, length, slice_index_or, IfOk, [], ◌∷◌, ◌++◌};
+ghost use Rattle.cell_rows.specs.Rows.{cell};
 ghost use Rattle.cell_rows.specs.Shape.{IsShape, IsWhole};
-ghost use Rattle.pcm_cells.specs.Book.{WearsAt};
+ghost use Rattle.pcm_cells.specs.Book.{AgesAt, WearsAt};
+ghost use Rattle.pcm_cells.specs.Young.{MayAge};
 
 use crate::seeded::SeededLine;
+use crate::young::Young;
 use cell_rows::Cells;
 use std::alloc::{AllocError, Global};
 use std::marker::Model;
 
-// How many lines a chunk has room for.
+// How many pages a chunk has room for.
 const CHUNK: usize = 65_536;
 
-/// Kept lines, with room for as many as were asked for.
+/// Kept pages, with room for as many as were asked for.
 #[derive(Drop)]
-pub(crate) struct Book<const B: usize, const M: usize> {
-    chunks: Vec<Vec<SeededLine<B, M>>>,
+pub(crate) struct Book<T> {
+    chunks: Vec<Vec<T>>,
     len: usize,
     room: usize,
 }
 
-impl<const B: usize, const M: usize> Model for Book<B, M> {
+impl<T> Model for Book<T> {
     ghost use Rattle.std.specs.Prelude.{◌^◌, ◌<◌, ◌≤◌};
-    ghost use Rattle.pcm_cells.specs.Book.{Kept, Hold, lines_in};
+    ghost use Rattle.pcm_cells.specs.Book.{Kept, Hold, pages_in};
 
-    ghost Value = { Kept B M };
+    ghost Value = { Kept T };
 
-    ghost view = { λ b. record { lines = lines_in b.chunks.items; room = b.room } };
+    ghost view = { λ b. record { pages = pages_in b.chunks.items; room = b.room } };
 
     ghost invariant = { λ b. Hold b.len b.room b.chunks.items × (b.len ≤ b.room) × (b.room < 2 ^ 32) };
 }
 
-impl<const B: usize, const M: usize> Book<B, M> {
-    /// No line, and room for so many.
-    pub(crate) fn blank(alloc: Global, lines: u32) -> Result<Book<B, M>, AllocError>
-        ensures { IfOk result (λ b. b ≡ record { lines = []; room = lines }) }
+impl<T: Drop> Book<T> {
+    /// No page, and room for one of each line.
+    pub(crate) fn blank(alloc: Global, lines: u32) -> Result<Book<T>, AllocError>
+        ensures { IfOk result (λ b. b ≡ record { pages = []; room = lines }) }
     {
         let room = lines as usize;
         let mut chunks = Vec::new(alloc);
@@ -49,33 +52,35 @@ impl<const B: usize, const M: usize> Book<B, M> {
         })
     }
 
-    /// How many lines are kept.
+    /// How many pages are kept.
     pub(crate) fn len(&self) -> usize
-        ensures { result ≡ length self.now.lines }
+        ensures { result ≡ length self.now.pages }
     {
         self.len
     }
 
-    /// A line by its number from 0.
-    pub(crate) fn at(&self, index: usize) -> &SeededLine<B, M>
-        requires { index < length self.now.lines }
-        ensures { result.now ≡ slice_index_or self.now.lines index result.now }
+    /// A page by its number from 0.
+    pub(crate) fn at(&self, index: usize) -> &T
+        requires { index < length self.now.pages }
+        ensures { result.now ≡ slice_index_or self.now.pages index result.now }
     {
         &self.chunks[index / CHUNK][index % CHUNK]
     }
 
     /// Keeps one more.
-    pub(crate) fn push(&mut self, line: SeededLine<B, M>)
-        requires { length self.old.lines < self.old.room }
-        ensures lines { self.new.lines ≡ self.old.lines ++ line.entry ∷ [] }
+    pub(crate) fn push(&mut self, page: T)
+        requires { length self.old.pages < self.old.room }
+        ensures pages { self.new.pages ≡ self.old.pages ++ page ∷ [] }
         ensures room { self.new.room ≡ self.old.room }
     {
         let chunk = &mut self.chunks[self.len / CHUNK];
-        chunk.push_reserved(line);
+        chunk.push_reserved(page);
         self.len += 1;
     }
+}
 
-    /// A pulse or a tear of a line by its number.
+impl<const B: usize, const M: usize> Book<SeededLine<B, M>> {
+    /// A pulse or a tear of the line on a page.
     pub(crate) fn wear(
         &mut self,
         index: usize,
@@ -83,14 +88,37 @@ impl<const B: usize, const M: usize> Book<B, M> {
         mask: &Cells<B, M>,
         want: &Cells<B, M>,
     )
-        requires exists { index < length self.old.lines }
+        requires exists { index < length self.old.pages }
         requires shape { IsShape B M }
         requires whole { IsWhole B M }
-        ensures wears { WearsAt index tearing mask.now want.now self.old.lines self.new.lines }
+        ensures wears { WearsAt index tearing mask.now want.now self.old.pages self.new.pages }
         ensures room { self.new.room ≡ self.old.room }
     {
         let chunk = &mut self.chunks[index / CHUNK];
-        let line = &mut chunk[index % CHUNK];
-        line.wear(tearing, mask, want);
+        let page = &mut chunk[index % CHUNK];
+        page.wear(tearing, mask, want);
+    }
+}
+
+impl<const B: usize, const M: usize> Book<Young<B, M>> {
+    /// A pulse or a tear of the young line on a page.
+    pub(crate) fn age(
+        &mut self,
+        index: usize,
+        tearing: bool,
+        mask: &Cells<B, M>,
+        want: &Cells<B, M>,
+    )
+        requires exists { index < length self.old.pages }
+        requires young { (page : Young B M) → page ≡ slice_index_or self.old.pages index page
+            → MayAge page }
+        requires shape { IsShape B M }
+        requires whole { IsWhole B M }
+        ensures ages { AgesAt index tearing mask.now want.now self.old.pages self.new.pages }
+        ensures room { self.new.room ≡ self.old.room }
+    {
+        let chunk = &mut self.chunks[index / CHUNK];
+        let page = &mut chunk[index % CHUNK];
+        page.wear(tearing, mask, want);
     }
 }

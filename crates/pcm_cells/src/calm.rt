@@ -79,7 +79,7 @@ pub(crate) fn has_room<const B: usize, const M: usize>(
 }
 
 // The cells that a pulse reaches, or a tear, which reaches those of even number alone.
-fn reach(tearing: bool) -> u64
+pub(crate) fn reach(tearing: bool) -> u64
     ensures { (i : ℕ) → i < 64 → bit_in result i ≡ not (tearing && nat_eq (i % 2) 1) }
 {
     if tearing {

@@ -87,6 +87,28 @@ impl<const B: usize, const M: usize> Digits<B, M> {
             .set_block(block, without((carry & middle) ^ high, none));
     }
 
+    // Over a block: the numbers of the cells in `more` grow by one, and 7 becomes 0, with a carry.
+    pub(crate) fn add(&mut self, block: usize, more: u64) -> u64
+        requires whole { IsWhole B M }
+        requires exists { 8 * block < B + M }
+        ensures here { (i : ℕ) → i < 64 → digit self.new (64 * block + i)
+            + (if bit_in result i then 8 else 0)
+            ≡ digit self.old (64 * block + i) + (if bit_in more i then 1 else 0) }
+        ensures others { (n : ℕ) → n / 64 ≢ block → digit self.new n ≡ digit self.old n }
+    {
+        let (low, middle, high) = (
+            self.low.block(block),
+            self.middle.block(block),
+            self.high.block(block),
+        );
+        let second = more & low;
+        let third = second & middle;
+        self.low.set_block(block, more ^ low);
+        self.middle.set_block(block, second ^ middle);
+        self.high.set_block(block, third ^ high);
+        third & high
+    }
+
     // As a mask over a block: the cells whose number is 7.
     pub(crate) fn full(&self, block: usize) -> u64
         requires whole { IsWhole B M }

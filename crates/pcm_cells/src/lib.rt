@@ -10,9 +10,12 @@ mod digits;
 mod levels;
 mod line;
 mod logged;
+mod page_table;
 mod pages;
 mod script;
 mod seeded;
+mod table;
+mod young;
 
 pub use cell_rows::{CellArray, Cells, Sense, Wear};
 pub use cell_wear::{CellWear, TellsCells};

@@ -1,148 +1,242 @@
 // Lines that are kept from their first pulse on.
-ghost use Rattle.std.specs.Prelude.{◌≡◌, ◌≢◌, ℕ, ◌+◌, ◌*◌, ◌<◌, length, slice_index, IfOk, replicate};
+ghost use Rattle.std.specs.Prelude.{◌≡◌, ◌≢◌, ℕ, ◌*◌, ◌+◌, ◌<◌, length, IfOk, IsTrue, IsSome, Some, None, replicate};
 ghost use Rattle.cell_rows.specs.Rows.{cell, members};
 ghost use Rattle.cell_wear.specs.Told.{most};
 ghost use Rattle.cell_rows.specs.Shape.{IsShape, IsWhole};
 ghost use Rattle.cell_rows.specs.Device.{IsWear, counted};
 ghost use Rattle.pcm_cells.specs.Follows.{Follows};
 ghost use Rattle.pcm_cells.specs.Seeded.{seeded, seeded_cell};
-ghost use Rattle.pcm_cells.specs.Pages.{IsPaging};
+ghost use Rattle.pcm_cells.specs.PageTable.{page_at};
+ghost use Rattle.pcm_cells.specs.Paged.{AreYoung, line_seen, young_or_blank};
+ghost use Rattle.pcm_cells.specs.Young.{IsYouth};
 
-use crate::book::Book;
+use crate::line::has_end;
+use crate::page_table::PageTable;
 use crate::seeded::SeededLine;
+use crate::young::Young;
 use cell_rows::{Cells, Wear};
 use cell_wear::CellWear;
 use std::alloc::{AllocError, Global};
 
-/// The lines of an array, each with a page from its first pulse or tear on. A line without a page is as its
-/// words will draw it: they depend on the seed and its number alone.
+/// The lines of an array. From its first pulse or tear on a line has a young page while none of its cells can be near its end, and
+/// from then on a grown one. A line without a page is as its words will draw it: they depend on the seed and its number alone.
 #[derive(Drop)]
 pub(crate) struct Pages<const B: usize, const M: usize> {
     wear: Wear,
-    // Of each line: 0, or one more than the index of its page.
-    table: Vec<u32>,
-    // With room for as many as lines.
-    pages: Book<B, M>,
+    // So many pulses a line may have while it is young.
+    limit: u64,
+    // That of a grown line is read no more.
+    young: PageTable<Young<B, M>>,
+    grown: PageTable<SeededLine<B, M>>,
     ghost wears: { IsWear wear },
-    ghost paging: { IsPaging table.items pages.lines pages.room },
+    ghost youth: { IsYouth wear limit },
+    ghost young_pages: { AreYoung limit young },
+    ghost same_lines: { length young ≡ length grown },
+}
+
+// So many pulses a line may have while it is young.
+fn young_limit(wear: Wear) -> u64
+    requires { IsWear wear }
+    ensures { IsYouth wear result }
+{
+    if wear.misses == 0 {
+        (wear.lo as u64 - 1).min(511)
+    } else {
+        0
+    }
 }
 
 impl<const B: usize, const M: usize> Pages<B, M> {
     ghost use Rattle.pcm_cells.specs.Pages.{HaveSameLife, changes_of};
-    ghost use Rattle.pcm_cells.specs.Paging.{seen};
+    ghost use Rattle.pcm_cells.specs.Paging.{seen, WearsLine};
 
     /// Lines without a page, and room for the pages of all.
     pub(crate) fn blank(alloc: Global, lines: u32, wear: Wear) -> Result<Pages<B, M>, AllocError>
         requires { IsWear wear }
         ensures wear { IfOk result (λ p. p.wear ≡ wear) }
-        ensures table { IfOk result (λ p. p.table.items ≡ replicate lines 0) }
+        ensures young { IfOk result (λ p. p.young ≡ replicate lines None) }
+        ensures grown { IfOk result (λ p. p.grown ≡ replicate lines None) }
     {
         Ok(Pages {
             wear,
-            table: vec![in alloc; 0; lines as usize]?,
-            pages: Book::blank(alloc, lines)?,
+            limit: young_limit(wear),
+            young: PageTable::blank(alloc, lines)?,
+            grown: PageTable::blank(alloc, lines)?,
         })
     }
 
     /// The number of lines.
     pub(crate) fn len(&self) -> u32
-        ensures { result ≡ length self.now.table.items }
+        ensures { result ≡ length self.now.grown }
     {
-        self.table.len() as u32
+        self.grown.len()
     }
 
     /// What the cells of the line hold.
     pub(crate) fn held(&self, line: u32) -> Cells<B, M>
-        requires exists { line < length self.now.table.items }
+        requires exists { line < length self.now.grown }
         requires shape { IsShape B M }
         ensures { result ≡ (seen self.now line).line.held }
     {
-        match self.table[line as usize] {
-            0 => Cells::zero(),
-            page => self.pages.at(page as usize - 1).held(),
+        match self.grown.get(line) {
+            Some(grown) => grown.held(),
+            None => match self.young.get(line) {
+                Some(young) => young.held,
+                None => Cells::zero(),
+            },
         }
     }
 
     /// How often the line was pulsed or torn.
     pub(crate) fn pulses(&self, line: u32) -> u64
-        requires exists { line < length self.now.table.items }
+        requires exists { line < length self.now.grown }
         requires shape { IsShape B M }
         ensures { result ≡ (seen self.now line).line.pulses }
     {
-        match self.table[line as usize] {
-            0 => 0,
-            page => self.pages.at(page as usize - 1).pulses(),
+        match self.grown.get(line) {
+            Some(grown) => grown.pulses(),
+            None => match self.young.get(line) {
+                Some(young) => young.pulses,
+                None => 0,
+            },
         }
     }
 
-    /// How the cells of the line are worn. The words of a line with a page are drawn again.
+    /// How the cells of the line are worn. The words of a grown line are drawn again.
     pub(crate) fn cell_wear(&self, line: u32) -> CellWear
-        requires exists { line < length self.now.table.items }
+        requires exists { line < length self.now.grown }
         requires shape { IsShape B M }
         ensures stuck { result.stuck ≡ members (cell (seen self.now line).line.stuck)
             (8 * (B + M)) }
         ensures changes { result.changes
             ≡ most (changes_of self.now.wear line (seen self.now line)) (8 * (B + M)) }
     {
-        match self.table[line as usize] {
-            0 => CellWear {
-                stuck: 0,
-                changes: 0,
-            },
-            page => {
+        match self.grown.get(line) {
+            Some(grown) => {
                 let drawn = SeededLine::drawn(self.wear, line);
-                self.pages.at(page as usize - 1).cell_wear(&drawn)
+                grown.cell_wear(&drawn)
             }
+            None => self.young_wear(line),
         }
     }
 
-    // Draws the words of a line without a page, and answers the index of its page.
-    fn make_page(&mut self, line: u32) -> usize
-        requires exists { line < length self.old.table.items }
-        requires none { slice_index self.old.table.items line ≡ 0 }
+    // How the cells of a line are worn that hasn't grown.
+    fn young_wear(&self, line: u32) -> CellWear
+        requires exists { line < length self.now.grown }
+        requires young { page_at self.now.grown line ≡ None }
         requires shape { IsShape B M }
-        ensures made { slice_index self.new.table.items line ≡ result + 1 }
-        ensures page { HaveSameLife (seen self.old line) (seen self.new line) }
-        ensures others { (n : ℕ) → n ≢ line → seen self.new n ≡ seen self.old n }
-        ensures lines { length self.new.table.items ≡ length self.old.table.items }
-        ensures wear { self.new.wear ≡ self.old.wear }
+        ensures stuck { result.stuck ≡ members (cell (seen self.now line).line.stuck)
+            (8 * (B + M)) }
+        ensures changes { result.changes
+            ≡ most (changes_of self.now.wear line (seen self.now line)) (8 * (B + M)) }
     {
-        let index = self.pages.len();
-        self.pages.push(SeededLine::drawn(self.wear, line));
-        self.table[line as usize] = index as u32 + 1;
-        index
+        let changes = match self.young.get(line) {
+            Some(young) => young.most_changes(),
+            None => 0,
+        };
+        CellWear { stuck: 0, changes }
     }
 
-    // The index of the line's page, which is made where there is none yet.
-    fn page(&mut self, line: u32) -> usize
-        requires exists { line < length self.old.table.items }
+    // Whether the line hasn't grown and stays young in one pulse more.
+    fn stays_young(&self, line: u32) -> bool
+        requires exists { line < length self.now.grown }
+        ensures young { IsTrue result → page_at self.now.grown line ≡ None }
+        ensures few { IsTrue result
+            → (young_or_blank (page_at self.now.young line)).pulses < self.now.limit }
+    {
+        match self.grown.get(line) {
+            Some(_) => false,
+            None => match self.young.get(line) {
+                Some(young) => young.pulses < self.limit,
+                None => 0 < self.limit,
+            },
+        }
+    }
+
+    // Gives a line a young page that has none.
+    fn start(&mut self, line: u32)
+        requires exists { line < length self.old.grown }
         requires shape { IsShape B M }
-        ensures made { slice_index self.new.table.items line ≡ result + 1 }
-        ensures page { HaveSameLife (seen self.old line) (seen self.new line) }
-        ensures others { (n : ℕ) → n ≢ line → seen self.new n ≡ seen self.old n }
-        ensures lines { length self.new.table.items ≡ length self.old.table.items }
+        ensures page { page_at self.new.young line
+            ≡ Some (young_or_blank (page_at self.old.young line)) }
+        ensures others { (n : ℕ) → n ≢ line → page_at self.new.young n ≡ page_at self.old.young n }
+        ensures lines { length self.new.young ≡ length self.old.young }
+        ensures grown { self.new.grown ≡ self.old.grown }
+        ensures limit { self.new.limit ≡ self.old.limit }
         ensures wear { self.new.wear ≡ self.old.wear }
     {
-        match self.table[line as usize] {
-            0 => self.make_page(line),
-            page => page as usize - 1,
+        if !self.young.has(line) {
+            self.young.insert(line, Young::blank());
         }
+    }
+
+    // A pulse or a tear of a line, in which it stays young.
+    fn age(&mut self, line: u32, tearing: bool, mask: &Cells<B, M>, want: &Cells<B, M>)
+        requires exists { line < length self.old.grown }
+        requires young { page_at self.old.grown line ≡ None }
+        requires few { (young_or_blank (page_at self.old.young line)).pulses < self.old.limit }
+        requires shape { IsShape B M }
+        requires whole { IsWhole B M }
+        ensures { WearsLine line tearing mask.now want.now self.old self.new }
+    {
+        has_end(mask);
+        self.start(line);
+        self.young.age(line, tearing, mask, want);
+    }
+
+    // The page of a line that has no grown one yet, whose words are drawn now.
+    fn drawn(&self, line: u32) -> SeededLine<B, M>
+        requires exists { line < length self.now.grown }
+        requires shape { IsShape B M }
+        requires whole { IsWhole B M }
+        ensures { HaveSameLife (line_seen self.now.wear line (page_at self.now.young line) None)
+            result }
+    {
+        match self.young.get(line) {
+            Some(young) => SeededLine::aged(self.wear, line, young),
+            None => SeededLine::drawn(self.wear, line),
+        }
+    }
+
+    // Gives a line a grown page that has none.
+    fn grow(&mut self, line: u32)
+        requires exists { line < length self.old.grown }
+        requires shape { IsShape B M }
+        requires whole { IsWhole B M }
+        ensures has { IsSome (page_at self.new.grown line) }
+        ensures page { HaveSameLife (seen self.old line) (seen self.new line) }
+        ensures others { (n : ℕ) → n ≢ line → seen self.new n ≡ seen self.old n }
+        ensures lines { length self.new.grown ≡ length self.old.grown }
+        ensures wear { self.new.wear ≡ self.old.wear }
+    {
+        if !self.grown.has(line) {
+            let page = self.drawn(line);
+            self.grown.insert(line, page);
+        }
+    }
+
+    // A pulse or a tear of a line, for which it grows.
+    fn wear_grown(&mut self, line: u32, tearing: bool, mask: &Cells<B, M>, want: &Cells<B, M>)
+        requires exists { line < length self.old.grown }
+        requires shape { IsShape B M }
+        requires whole { IsWhole B M }
+        ensures { WearsLine line tearing mask.now want.now self.old self.new }
+    {
+        self.grow(line);
+        self.grown.wear(line, tearing, mask, want);
     }
 
     /// A pulse or a tear of the line.
     pub(crate) fn wear(&mut self, line: u32, tearing: bool, mask: &Cells<B, M>, want: &Cells<B, M>)
-        requires exists { line < length self.old.table.items }
+        requires exists { line < length self.old.grown }
         requires shape { IsShape B M }
         requires whole { IsWhole B M }
-        ensures cells { Follows (cell mask.now) (seeded tearing (cell want.now))
-            (seeded_cell (seen self.old line)) (seeded_cell (seen self.new line)) }
-        ensures pulses { (seen self.new line).line.pulses
-            ≡ counted (seen self.old line).line.pulses }
-        ensures others { (n : ℕ) → n ≢ line → seen self.new n ≡ seen self.old n }
-        ensures lines { length self.new.table.items ≡ length self.old.table.items }
-        ensures wear { self.new.wear ≡ self.old.wear }
+        ensures { WearsLine line tearing mask.now want.now self.old self.new }
     {
-        let index = self.page(line);
-        self.pages.wear(index, tearing, mask, want);
+        if self.stays_young(line) {
+            self.age(line, tearing, mask, want);
+        } else {
+            self.wear_grown(line, tearing, mask, want);
+        }
     }
 }

@@ -8,6 +8,7 @@ use crate::counts::Counts;
 use crate::digits::Digits;
 use crate::line::has_end;
 use crate::pages::Pages;
+use crate::young::Young;
 use cell_rows::{CellArray, Cells, Wear};
 use cell_wear::{CellWear, TellsCells};
 use rand_core::{Rng, SeedableRng};
@@ -89,6 +90,7 @@ ghost use Rattle.pcm_cells.specs.Seeded.{seeded_cell, left_of, IsDrawn};
 ghost use Rattle.pcm_cells.specs.Counts.{count};
 ghost use Rattle.pcm_cells.specs.Pages.{drawn_line, HaveSameLife};
 ghost use Rattle.pcm_cells.specs.Planes.{bit_in, digit, blank_planes, zero_digits};
+ghost use Rattle.pcm_cells.specs.Young.{grown_line};
 ghost use Rattle.std.specs.Prelude.{◌/◌, ◌&&◌, nat_le, IsTrue, if◌then◌else◌};
 
 impl<const B: usize, const M: usize> SeededLine<B, M> {
@@ -150,6 +152,23 @@ impl<const B: usize, const M: usize> SeededLine<B, M> {
             ends.set_group(group, byte_at(planes, 3));
         }
         SeededLine::new(left, limits, ends, wear.lo >= 8)
+    }
+
+    // What stands for a young line, whose words are drawn now.
+    pub(crate) fn aged(wear: Wear, number: u32, young: &Young<B, M>) -> SeededLine<B, M>
+        requires wear { IsWear wear }
+        requires shape { IsShape B M }
+        requires whole { IsWhole B M }
+        ensures { HaveSameLife (grown_line wear number young.now) result }
+    {
+        let mut line = SeededLine::drawn(wear, number);
+        young.take_from(&mut line.settled.left);
+        line.moving.held = young.held;
+        line.pulses = young.pulses;
+        let calm = [false; B];
+        line.calm = calm;
+        line.level();
+        line
     }
 
     // Takes one from each count of a block that is in the mask, and answers those of them that were at most
@@ -351,8 +370,8 @@ ghost use Rattle.pcm_cells.specs.Seeded.{bounds_of, seeded_line, seeded_state, W
 /// and the line's number seed. A tear reaches the masked cells of even number alone. It tells no log.
 /// Contracts see it as a `SeededArray`.
 ///
-/// `power_up` takes room for all lines and draws no word: those of a line are
-/// drawn at its first pulse or tear.
+/// `power_up` takes room for all lines and draws no word: those of a line are drawn at the first pulse or tear
+/// at which one of its cells may be near its end, or may miss.
 #[derive(Drop)]
 pub struct MemArray<const B: usize, const M: usize> {
     lines: Option<Pages<B, M>>,

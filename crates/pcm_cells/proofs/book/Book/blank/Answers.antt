@@ -1,5 +1,5 @@
-use Rattle.std.proofs.Common.{◌≡◌, ◌<◌, ◌≤◌, ◌*◌, ap, arith, List}
-use Rattle.pcm_cells.{specs.Book.Kept, specs.Seeded.LifeLine, proofs.BookLemmas.{empty-all, empty-more, empty-none}}
+use Rattle.std.proofs.Common.{◌<◌, ◌≤◌, ◌*◌, ap, arith, List}
+use Rattle.pcm_cells.{proofs.BookLemmas.{empty-all, empty-more, empty-none}}
 use Rattle.pcm_cells.proofs.book.Book.blank.Goals as goal
 
 pub loop-index-init : goal.loop-index-init
@@ -15,7 +15,7 @@ loop-index-preserved g c =
 pub returns : goal.returns
 returns g c =
     let all : c.args.lines ≤ 65536 * c.loop-index.index = (let test = c.loop-index-test.false in omega (arith, test)) in
-    ap (λ (xs : List (LifeLine g.row.B g.row.M)). record { lines = xs; room = c.args.lines }) (empty-all c.loop-index.index c.args.lines c.loop-index.chunks.items c.loop-index.invariant all).1
+    ap (λ (xs : List g.row.T.Denot). record { pages = xs; room = c.args.lines }) (empty-all c.loop-index.index c.args.lines c.loop-index.chunks.items c.loop-index.invariant all).1
 
 pub invariant_of-result : goal.invariant_of-result
 invariant_of-result g c =

@@ -1,40 +1,30 @@
-use Rattle.std.proofs.Common.{◌≡◌, ◌+◌, ◌-◌, ◌∙◌, sym, ap, arith, slice_index}
-use Rattle.pcm_cells.proofs.{PageLemmas.drawn_is, PagingLemmas.{told, seen-none, seen_at}}
-use Rattle.pcm_cells.proofs.SizeLemmas.{line_fits}
+use Rattle.std.proofs.Common.{◌≡◌, ◌∙◌, sym, ap, Some, None}
+use Rattle.std.specs.Prelude.{option_copied}
+use Rattle.pcm_cells.{specs.PageTable.page_at, specs.Seeded.LifeLine, proofs.PageLemmas.drawn_is, proofs.PagingLemmas.{seen-drawn, seen-grown, seen-young}, proofs.YoungLemmas.grown_held}
 use Rattle.pcm_cells.proofs.pages.Pages.held.Goals as goal
 
-pub returns-in-0 : goal.returns-in-0
-returns-in-0 g c =
+pub returns-in-Some : goal.returns-in-Some
+returns-in-Some g c =
     let p = c.args.self.now in
     let line = c.args.line in
-    let none : slice_index p.table.items line ≡ 0 = told p.table.items line _ c.requires.exists c.index.ensures ∙ c.in-0.is in
+    let at : page_at p.grown line ≡ Some c.in-Some.grown.now = sym c.get.ensures ∙ ap option_copied c.in-Some.is in
+    c.held.ensures ∙ sym (ap (λ (l : LifeLine g.row.B g.row.M). l.line.held) (seen-grown p.wear line (page_at p.young line) (page_at p.grown line) c.in-Some.grown.now at))
+
+pub returns-in-Some-get : goal.returns-in-Some-get
+returns-in-Some-get g c =
+    let p = c.args.self.now in
+    let line = c.args.line in
+    let none : page_at p.grown line ≡ None = sym c.get.ensures ∙ ap option_copied c.in-None.is in
+    let at : page_at p.young line ≡ Some c.in-Some-get.young.now = sym c.get-in-None.ensures ∙ ap option_copied c.in-Some-get.is in
+    sym (ap (λ (l : LifeLine g.row.B g.row.M). l.line.held) (seen-young p.wear line (page_at p.young line) (page_at p.grown line) c.in-Some-get.young.now none at)
+    ∙ grown_held p.wear line c.in-Some-get.young.now)
+
+pub returns-in-None-get : goal.returns-in-None-get
+returns-in-None-get g c =
+    let p = c.args.self.now in
+    let line = c.args.line in
+    let none : page_at p.grown line ≡ None = sym c.get.ensures ∙ ap option_copied c.in-None.is in
+    let no_young : page_at p.young line ≡ None = sym c.get-in-None.ensures ∙ ap option_copied c.in-None-get.is in
     c.zero.ensures.bytes
-    ∙ sym (ap (λ l. l.line.held) (seen-none p.wear p.table.items p.pages.lines line none) ∙ ap (λ l. l.held) (drawn_is g.row.B g.row.M p.wear line).line)
-
-pub returns-in_default : goal.returns-in_default
-returns-in_default g c =
-    let p = c.args.self.now in
-    let line = c.args.line in
-    let page = c.index.result.now in
-    let at : slice_index p.table.items line ≡ page - 1 + 1 = told p.table.items line page c.requires.exists c.index.ensures ∙ omega arith in
-    c.held.ensures ∙ sym (ap (λ l. l.line.held) (seen_at p.wear p.table.items p.pages.lines _ line (page - 1) c.at.result.now p.paging at c.at.ensures))
-
-pub index-requires : goal.index-requires
-index-requires g c = grind arith
-
-pub zero-requires : goal.zero-requires
-zero-requires g c = grind arith
-
-pub overflow_sub-page : goal.overflow_sub-page
-overflow_sub-page g c = grind arith
-
-pub held-requires : goal.held-requires
-held-requires g c = grind arith
-
-pub at-requires : goal.at-requires
-at-requires g c =
-    let p = c.args.self.now in
-    let line = c.args.line in
-    let page = told p.table.items line c.index.result.now c.requires.exists c.index.ensures in
-    let made = p.paging.made line in
-    (omega arith, (line_fits c.requires.shape, omega (arith, page, made)))
+    ∙ sym (ap (λ (l : LifeLine g.row.B g.row.M). l.line.held) (seen-drawn p.wear line (page_at p.young line) (page_at p.grown line) none no_young)
+    ∙ ap (λ l. l.held) (drawn_is g.row.B g.row.M p.wear line).line)

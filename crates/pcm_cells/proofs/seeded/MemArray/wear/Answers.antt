@@ -11,7 +11,7 @@ unreachable-requires g c =
 
 pub wear-requires : goal.wear-requires
 wear-requires g c =
-    let is : length c.args.self.now.lines ≡ length c.in-Some.lines.table.items =
+    let is : length c.args.self.now.lines ≡ length c.in-Some.lines.grown =
     ap (λ a. length a.lines) (sym c.self.view_is) ∙ ap (λ o. length (seeded_lines o)) c.in-Some.is ∙ lines_size c.in-Some.lines in
     let few_bytes : g.row.B ≤ 128 = c.requires.shape.1 in
     let few_check : g.row.M ≤ 16 = c.requires.shape.3 in

@@ -1,7 +1,7 @@
-use Rattle.std.proofs.Common.{◌≤◌, arith, ℕ, ◌∙◌, refl, sym, ap, subst, length, Some, None}
+use Rattle.std.proofs.Common.{◌≤◌, arith, ◌∙◌, refl, sym, ap, subst, length, Option, Some, None}
 use Rattle.std.proofs.lemmas.List.{length-replicate}
 use Rattle.cell_rows.specs.declared.array.Wear.{Wear}
-use Rattle.pcm_cells.{specs.Endurance.IsInRange, specs.Paging.lines_seen, specs.Seeded.bounds_of, proofs.EnduranceLemmas.{bounded_none, bounded_new}}
+use Rattle.pcm_cells.{specs.Endurance.IsInRange, specs.Paging.lines_seen, specs.Seeded.{LifeLine, bounds_of}, proofs.EnduranceLemmas.{bounded_none, bounded_new}}
 use Rattle.pcm_cells.proofs.{PagingLemmas.{lines_size, blank_drawn}, SeededLemmas.drawn_is_blank}
 use Rattle.pcm_cells.proofs.seeded.MemArrayCellArray.power_up.Goals as goal
 
@@ -9,8 +9,8 @@ pub returns-clause-ok : goal.returns-clause-ok
 returns-clause-ok g c =
     let new = c.in_ok-blank.field-0 in
     record {
-      count = lines_size new ∙ ap length c.in_ok-blank.ensures.table ∙ length-replicate c.args.lines 0;
-      blank = λ l h. drawn_is_blank new.wear l _ (blank_drawn new c.args.lines new.wear c.in_ok-blank.ensures.table refl l h);
+      count = lines_size new ∙ ap length c.in_ok-blank.ensures.grown ∙ length-replicate c.args.lines None;
+      blank = λ l h. drawn_is_blank new.wear l _ (blank_drawn new c.args.lines new.wear refl c.in_ok-blank.ensures.young c.in_ok-blank.ensures.grown l h);
       tears = refl;
       log = λ senses told. cc;
       wear = ap Some c.in_ok-blank.ensures.wear;
@@ -18,7 +18,7 @@ returns-clause-ok g c =
     }
 
 pub returns-clause-drawn : goal.returns-clause-drawn
-returns-clause-drawn g c = blank_drawn c.in_ok-blank.field-0 c.args.lines c.args.wear c.in_ok-blank.ensures.table c.in_ok-blank.ensures.wear
+returns-clause-drawn g c = blank_drawn c.in_ok-blank.field-0 c.args.lines c.args.wear c.in_ok-blank.ensures.wear c.in_ok-blank.ensures.young c.in_ok-blank.ensures.grown
 
 pub invariant_of-self : goal.invariant_of-self
 invariant_of-self g c = (
@@ -36,6 +36,6 @@ invariant_of-self-2 g c =
       subst (λ (w : Wear). IsInRange (bounds_of (Some w))) (sym c.in_ok-blank.ensures.wear) (record { endures = omega arith; misses = c.requires.wear.3 }),
       bounded_new new.wear (lines_seen new)
           (λ l h.
-          blank_drawn new c.args.lines new.wear c.in_ok-blank.ensures.table refl l
-          (omega (arith, h, lines_size new, ap length c.in_ok-blank.ensures.table, length-replicate {A = ℕ} c.args.lines 0))),
+          blank_drawn new c.args.lines new.wear refl c.in_ok-blank.ensures.young c.in_ok-blank.ensures.grown l
+          (omega (arith, h, lines_size new, ap length c.in_ok-blank.ensures.grown, length-replicate {A = Option (LifeLine g.row.B g.row.M)} c.args.lines None))),
     )

@@ -8,7 +8,7 @@ held-requires g c =
     let shape = c.requires.shape in
     let few_bytes : g.row.B ≤ 128 = shape.1 in
     let few_check : g.row.M ≤ 16 = shape.3 in
-    let is : length c.args.self.now.lines ≡ length c.in-Some.lines.table.items =
+    let is : length c.args.self.now.lines ≡ length c.in-Some.lines.grown =
     ap (λ a. length a.lines) (sym c.self.view_is) ∙ ap (λ o. length (seeded_lines o)) c.in-Some.is ∙ lines_size c.in-Some.lines in
     (search rules, (search rules, (omega (arith, exists, is), shape)))
 
@@ -17,6 +17,6 @@ returns-clause-cells g c =
     let p = c.in-Some.lines in
     let lines : c.args.self.now.lines ≡ seeded_lines c.self.inside.lines = ap (λ a. a.lines) (sym c.self.view_is) in
     let is = lines ∙ ap seeded_lines c.in-Some.is in
-    let within : c.args.line < length p.table.items = omega (arith, c.requires.exists, ap length is, lines_size p) in
+    let within : c.args.line < length p.grown = omega (arith, c.requires.exists, ap length is, lines_size p) in
     c.held.ensures
     ∙ sym (ap (λ xs. (get_or xs c.args.line (lifeless g.row.B g.row.M)).line.held) is ∙ ap (λ l. l.line.held) (lines_at p c.args.line (lifeless g.row.B g.row.M) within))

@@ -1,0 +1,267 @@
+-- Lines of which no cell can be near its end.
+use Rattle.std.proofs.Common.{◌≡◌, ℕ, ◌+◌, ◌-◌, ◌*◌, ◌%◌, ◌<◌, ◌≤◌, ◌&&◌, Bool, true, false, not, cond, eqb, length, get_or, refl, sym, ◌∙◌, ap, inl, inr, arith, slice_index}
+use Rattle.std.{specs.Prelude.nat_le, proofs.lemmas.Bool.{cases_lt, lt-leb}}
+use Rattle.std.proofs.{lemmas.List.{get_or_past}, lemmas.List.FromFn.{get_or-map-range_with_len, length-map-range_with_len}}
+use Rattle.cell_rows.{specs.Rows.{cell, members}, specs.declared.array.Wear.Wear, specs.declared.row.Cells.Cells, proofs.RowLemmas.cell-zeros}
+use Rattle.cell_wear.{specs.Told.most, proofs.Most.most-same}
+use Rattle.pcm_cells.specs.{Counts.count, Follows.Follows, Pages.{word_of, drawn_line, HaveSameLife, changes_of}, Planes.{PlaneLine, digit}}
+use Rattle.pcm_cells.specs.Seeded.{LifeLine, left_of, endurance, miss_limit, stuck_value, pulsed, seeded, seeded_cell}
+use Rattle.pcm_cells.specs.Young.{YoungCell, IsYouth, IsYoung, MayAge, aging, blank_young, changes_in, grown_line, young_cell}
+use Rattle.pcm_cells.specs.{declared.counts.Counts.Counts, declared.digits.Digits.Digits, declared.seeded.SeededCell.SeededCell, declared.young.Young.Young}
+use Rattle.pcm_cells.proofs.{PageLemmas.{digits_of-digit, row_of-cell}, PlaneLemmas.{digit-zeros}, SeededLemmas.{left_is, left_size}, WearLemmas.members-none}
+
+pub changes-is : {B M : ℕ} (young : Young B M) (n : ℕ) → changes_in young n ≡ digit young.low n + 8 * digit young.middle n + 64 * digit young.high n
+unfolding changes_in
+changes-is young n = refl
+
+-- no cell of a new line has changed
+pub changes-none : (B M n : ℕ) → changes_in (blank_young B M) n ≡ 0
+unfolding changes_in
+changes-none B M n = rw (digit-zeros B M n) refl
+
+-- one change more, by the three digits
+pub changes_more : (l m h l2 m2 h2 old new : ℕ) (changing carry over none : Bool) → old ≡ l + 8 * m + 64 * h → new ≡ l2 + 8 * m2 + 64 * h2 → old < 511
+    → l2 + cond carry 8 0 ≡ l + cond changing 1 0 → m2 + cond over 8 0 ≡ m + cond carry 1 0 → h2 + cond none 8 0 ≡ h + cond over 1 0
+    → new ≡ cond changing (old + 1) old
+changes_more l m h l2 m2 h2 old new changing carry over true before after few low middle high = absurd (past changing carry over low middle high)
+  where
+    past : (changing carry over : Bool) → l2 + cond carry 8 0 ≡ l + cond changing 1 0 → m2 + cond over 8 0 ≡ m + cond carry 1 0 → h2 + 8 ≡ h + cond over 1 0 → ⊥
+    past true true true a b c = omega arith
+    past true true false a b c = omega arith
+    past true false true a b c = omega arith
+    past true false false a b c = omega arith
+    past false true true a b c = omega arith
+    past false true false a b c = omega arith
+    past false false true a b c = omega arith
+    past false false false a b c = omega arith
+changes_more l m h l2 m2 h2 old new true true true false before after few low middle high = omega arith
+changes_more l m h l2 m2 h2 old new true true false false before after few low middle high = omega arith
+changes_more l m h l2 m2 h2 old new true false true false before after few low middle high = omega arith
+changes_more l m h l2 m2 h2 old new true false false false before after few low middle high = omega arith
+changes_more l m h l2 m2 h2 old new false true true false before after few low middle high = omega arith
+changes_more l m h l2 m2 h2 old new false true false false before after few low middle high = omega arith
+changes_more l m h l2 m2 h2 old new false false true false before after few low middle high = omega arith
+changes_more l m h l2 m2 h2 old new false false false false before after few low middle high = omega arith
+
+-- one cell of a block ages, from what becomes of its digits and of its value
+pub ages_here : {B M : ℕ} (tearing masked : Bool) (want : ℕ → Bool) (old new : Young B M) (n : ℕ) (changing : Bool)
+    → changing ≡ (masked && not (tearing && eqb (n % 2) 1))
+    → cell new.held n ≡ cond changing (want n) (cell old.held n)
+    → changes_in new n ≡ cond changing (changes_in old n + 1) (changes_in old n)
+    → young_cell new n ≡ cond masked (aging tearing want n (young_cell old n)) (young_cell old n)
+ages_here {B} {M} tearing masked want old new n changing is value changes =
+    rw (value, changes, is) (by masked (tearing && eqb (n % 2) 1))
+  where
+    by : (masked torn : Bool)
+        → record { value = cond (masked && not torn) (want n) (cell old.held n); changes = cond (masked && not torn) (changes_in old n + 1) (changes_in old n) }
+        ≡ cond masked (cond torn (young_cell old n) (record { value = want n; changes = changes_in old n + 1 })) (young_cell old n)
+    by true true = refl
+    by true false = refl
+    by false true = refl
+    by false false = refl
+
+-- and one that isn't in the block stays
+pub stays_here : {B M : ℕ} (old new : Young B M) (n : ℕ) → cell new.held n ≡ cell old.held n → digit new.low n ≡ digit old.low n
+    → digit new.middle n ≡ digit old.middle n → digit new.high n ≡ digit old.high n → young_cell new n ≡ young_cell old n
+unfolding changes_in
+stays_here old new n value low middle high = rw (value, low, middle, high) refl
+
+-- a cell of a line that stands for a young one
+abbrev life_cell : ℕ → ℕ → Bool → YoungCell → SeededCell
+life_cell endures limit end c = record {
+  state = record { value = c.value; stuck = false; misses = 0 };
+  left = endures - c.changes;
+  limit = limit;
+  end = end;
+}
+
+grown_cell : {B M : ℕ} (wear : Wear) (line : ℕ) (young : Young B M) (n : ℕ) → n < 8 * (B + M)
+    → seeded_cell (grown_line wear line young) n
+    ≡ life_cell (endurance wear (word_of wear line n)) (miss_limit wear (word_of wear line n)) (stuck_value (word_of wear line n)) (young_cell young n)
+unfolding grown_line
+grown_cell {B} {M} wear line young n h =
+    rw (
+      cell-zeros B M n,
+      digit-zeros B M n,
+      get_or-map-range_with_len (λ k. endurance wear (word_of wear line k) - changes_in young k) 0 (8 * (B + M)) n n 0 h (omega arith),
+      digits_of-digit B M (λ k. miss_limit wear (word_of wear line k)) n h (omega arith),
+      row_of-cell B M (λ k. stuck_value (word_of wear line k)) n h,
+    )
+    refl
+
+grown_past : {B M : ℕ} (wear : Wear) (line : ℕ) (old new : Young B M) (n : ℕ) → 8 * (B + M) ≤ n → cell new.held n ≡ cell old.held n
+    → seeded_cell (grown_line wear line new) n ≡ seeded_cell (grown_line wear line old) n
+unfolding grown_line
+grown_past {B} {M} wear line old new n h value =
+    let size_new : length (grown_line wear line new).left ≡ 8 * (B + M) = length-map-range_with_len (λ k. endurance wear (word_of wear line k) - changes_in new k) 0 (8 * (B + M)) in
+    let size_old : length (grown_line wear line old).left ≡ 8 * (B + M) = length-map-range_with_len (λ k. endurance wear (word_of wear line k) - changes_in old k) 0 (8 * (B + M)) in
+    rw (
+      value,
+      get_or_past (grown_line wear line new).left n 0 (omega (arith, h, size_new)),
+      get_or_past (grown_line wear line old).left n 0 (omega (arith, h, size_old)),
+    )
+    refl
+
+many_left : (x : ℕ) → 2 ≤ x → nat_le x 1 ≡ false
+many_left x h = lt-leb x 1 (omega (arith, h))
+
+life_ages : (masked torn want end : Bool) (endures : ℕ) (old : YoungCell) → 2 ≤ endures - old.changes
+    → life_cell endures 0 end (cond masked (cond torn old (record { value = want; changes = old.changes + 1 })) old)
+    ≡ cond masked (cond torn (life_cell endures 0 end old) (pulsed want (life_cell endures 0 end old))) (life_cell endures 0 end old)
+life_ages false torn want end endures old many = refl
+life_ages true true want end endures old many = refl
+life_ages true false want end endures old many =
+    let one : endures - (old.changes + 1) ≡ endures - old.changes - 1 = omega arith in
+    rw (many_left (endures - old.changes) many, one) refl
+
+-- a young line's cells follow the rule of all
+pub young_follows : {B M : ℕ} (wear : Wear) (limit line : ℕ) (tearing : Bool) (mask want : Cells B M) (old new : Young B M)
+    → IsYouth wear limit → IsYoung limit old → old.pulses < limit → ((n : ℕ) → 8 * (B + M) ≤ n → cell mask n ≡ false)
+    → Follows (cell mask) (aging tearing (cell want)) (young_cell old) (young_cell new)
+    → Follows (cell mask) (seeded tearing (cell want)) (seeded_cell (grown_line wear line old)) (seeded_cell (grown_line wear line new))
+young_follows {B} {M} wear limit line tearing mask want old new youth young few past ages n =
+    elim (cases_lt n (8 * (B + M))) as (λ _. seeded_cell (grown_line wear line new) n
+    ≡ cond (cell mask n) (seeded tearing (cell want) n (seeded_cell (grown_line wear line old) n)) (seeded_cell (grown_line wear line old) n)) [
+      | inl low ↦
+          let word : ℕ = word_of wear line n in
+          let none : miss_limit wear word ≡ 0 = omega (arith, youth.sure (omega (arith, few))) in
+          let many : 2 ≤ endurance wear word - changes_in old n = omega (arith, young.changes n, few, youth.early) in
+          let cell_at : (young : Young B M) → seeded_cell (grown_line wear line young) n ≡ life_cell (endurance wear word) 0 (stuck_value word) (young_cell young n) =
+          λ young. grown_cell wear line young n low ∙ ap (λ l. life_cell (endurance wear word) l (stuck_value word) (young_cell young n)) none in
+          cell_at new ∙ ap (life_cell (endurance wear word) 0 (stuck_value word)) (ages n)
+          ∙ life_ages (cell mask n) (tearing && eqb (n % 2) 1) (cell want n) (stuck_value word) (endurance wear word) (young_cell old n) many
+          ∙ sym (ap (λ (c : SeededCell). cond (cell mask n) (seeded tearing (cell want) n c) c) (cell_at old))
+      | inr high ↦
+          rw (past n high)
+          (grown_past wear line old new n high
+          (ap (λ (c : YoungCell). c.value) (ages n) ∙ ap (λ b. (cond b (aging tearing (cell want) n (young_cell old n)) (young_cell old n)).value) (past n high)))
+    ]
+
+-- and it stays young
+pub young_ages : {B M : ℕ} (limit : ℕ) (tearing : Bool) (mask want : Cells B M) (old new : Young B M) → IsYoung limit old → old.pulses < limit
+    → Follows (cell mask) (aging tearing (cell want)) (young_cell old) (young_cell new) → new.pulses ≡ old.pulses + 1 → IsYoung limit new
+young_ages {B} {M} limit tearing mask want old new young few ages pulses = record {
+  pulses = omega (arith, pulses, few);
+  changes = λ n. omega (arith, young.changes n, pulses, grows n);
+}
+  where
+    more : (masked torn : Bool) (want : Bool) (c : YoungCell) → (cond masked (cond torn c (record { value = want; changes = c.changes + 1 })) c).changes ≤ c.changes + 1
+    more true true want c = omega arith
+    more true false want c = omega arith
+    more false true want c = omega arith
+    more false false want c = omega arith
+
+    grows : (n : ℕ) → changes_in new n ≤ changes_in old n + 1
+    grows n = rw (ap (λ (c : YoungCell). c.changes) (ages n)) (more (cell mask n) (tearing && eqb (n % 2) 1) (cell want n) (young_cell old n))
+
+-- and its digits have room for one change more
+pub may_age : {B M : ℕ} (wear : Wear) (limit : ℕ) (young : Young B M) → IsYouth wear limit → IsYoung limit young → young.pulses < limit → MayAge young
+may_age wear limit young youth is few = record {
+  changes = λ n. omega (arith, is.changes n, few, youth.few);
+  pulses = omega (arith, few, youth.few);
+}
+
+-- a new line
+pub blank_is_young : (B M limit : ℕ) → IsYoung limit (blank_young B M)
+blank_is_young B M limit = record { pulses = omega arith; changes = λ n. omega (arith, changes-none B M n) }
+
+-- a line that was never pulsed, as it is drawn and as a young one
+pub blank_alike : {B M : ℕ} (wear : Wear) (line : ℕ) (young : Young B M) → young ≡ blank_young B M → HaveSameLife (drawn_line B M wear line) (grown_line wear line young)
+unfolding drawn_line grown_line
+blank_alike {B} {M} wear line young is = record {
+  line = rw is refl;
+  cells = λ n.
+      let blank : Young B M = blank_young B M in
+      let size : length (drawn_line B M wear line).left ≡ 8 * (B + M) = length-map-range_with_len (λ k. endurance wear (word_of wear line k)) 0 (8 * (B + M)) in
+      let size_new : length (grown_line wear line blank).left ≡ 8 * (B + M) = length-map-range_with_len (λ k. endurance wear (word_of wear line k) - changes_in blank k) 0 (8 * (B + M)) in
+      rw is (elim (cases_lt n (8 * (B + M))) as (λ _. seeded_cell (drawn_line B M wear line) n ≡ seeded_cell (grown_line wear line blank) n) [
+        | inl low ↦
+            let whole : endurance wear (word_of wear line n) - changes_in blank n ≡ endurance wear (word_of wear line n) = omega (arith, changes-none B M n) in
+            rw (
+              get_or-map-range_with_len (λ k. endurance wear (word_of wear line k)) 0 (8 * (B + M)) n n 0 low (omega arith),
+              get_or-map-range_with_len (λ k. endurance wear (word_of wear line k) - changes_in blank k) 0 (8 * (B + M)) n n 0 low (omega arith),
+              whole,
+            )
+            refl
+        | inr high ↦
+            rw (
+              get_or_past (drawn_line B M wear line).left n 0 (omega (arith, high, size)),
+              get_or_past (grown_line wear line blank).left n 0 (omega (arith, high, size_new)),
+            )
+            refl
+      ]);
+}
+
+-- a line whose words were drawn later
+pub aged_alike : {B M : ℕ} (wear : Wear) (line : ℕ) (young : Young B M) (drawn : LifeLine B M) (spent : Digits B M) (old new : Counts B M)
+    → HaveSameLife (drawn_line B M wear line) drawn → drawn.left ≡ left_of spent old
+    → ((n : ℕ) → n < 8 * (B + M) → count new n ≡ count old n - changes_in young n)
+    → HaveSameLife (grown_line wear line young)
+    (record { line = record { held = young.held; stuck = drawn.line.stuck; misses = drawn.line.misses; pulses = young.pulses }; left = left_of spent new; limits = drawn.limits; ends = drawn.ends })
+unfolding drawn_line grown_line
+aged_alike {B} {M} wear line young drawn spent old new same left taken = record {
+  line = rw (sym (ap (λ (l : PlaneLine B M). l.stuck) same.line), sym (ap (λ (l : PlaneLine B M). l.misses) same.line)) refl;
+  cells = λ n.
+      let size : length (grown_line wear line young).left ≡ 8 * (B + M) = length-map-range_with_len (λ k. endurance wear (word_of wear line k) - changes_in young k) 0 (8 * (B + M)) in
+      let stuck = sym (ap (λ (c : SeededCell). c.state.stuck) (same.cells n)) in
+      let misses = sym (ap (λ (c : SeededCell). c.state.misses) (same.cells n)) in
+      let limit = sym (ap (λ (c : SeededCell). c.limit) (same.cells n)) in
+      let end = sym (ap (λ (c : SeededCell). c.end) (same.cells n)) in
+      elim (cases_lt n (8 * (B + M))) as (λ _. seeded_cell (grown_line wear line young) n
+      ≡ seeded_cell (record { line = record { held = young.held; stuck = drawn.line.stuck; misses = drawn.line.misses; pulses = young.pulses }; left = left_of spent new; limits = drawn.limits; ends = drawn.ends }) n) [
+        | inl low ↦
+            let was : endurance wear (word_of wear line n) ≡ count old n - digit spent n =
+            sym (get_or-map-range_with_len (λ k. endurance wear (word_of wear line k)) 0 (8 * (B + M)) n n 0 low (omega arith))
+            ∙ ap (λ (c : SeededCell). c.left) (same.cells n) ∙ ap (λ xs. get_or xs n 0) left ∙ left_is spent old n low in
+            let here : slice_index (left_of spent new) n ≡ endurance wear (word_of wear line n) - changes_in young n =
+            left_is spent new n low ∙ omega (arith, taken n low, was) in
+            rw (
+              get_or-map-range_with_len (λ k. endurance wear (word_of wear line k) - changes_in young k) 0 (8 * (B + M)) n n 0 low (omega arith),
+              here,
+              stuck,
+              misses,
+              limit,
+              end,
+            )
+            refl
+        | inr high ↦
+            rw (
+              get_or_past (grown_line wear line young).left n 0 (omega (arith, high, size)),
+              get_or_past (left_of spent new) n 0 (omega (arith, high, left_size spent new)),
+              stuck,
+              misses,
+              limit,
+              end,
+            )
+            refl
+      ];
+}
+
+-- how a young line is worn
+pub grown_stuck : {B M : ℕ} (wear : Wear) (line : ℕ) (young : Young B M) (row : LifeLine B M) → row ≡ grown_line wear line young
+    → members (cell row.line.stuck) (8 * (B + M)) ≡ 0
+unfolding grown_line
+grown_stuck {B} {M} wear line young row is = rw is (members-none _ (8 * (B + M)) (λ n. cell-zeros B M n))
+
+pub grown_changes : {B M : ℕ} (wear : Wear) (limit line : ℕ) (young : Young B M) (row : LifeLine B M) → IsYouth wear limit → IsYoung limit young → row ≡ grown_line wear line young
+    → most (changes_in young) (8 * (B + M)) ≡ most (changes_of wear line row) (8 * (B + M))
+unfolding grown_line
+grown_changes {B} {M} wear limit line young row youth is_young is =
+    rw is (most-same (changes_in young) (changes_of wear line (grown_line wear line young)) (8 * (B + M))
+    (λ n low.
+    let left = get_or-map-range_with_len (λ k. endurance wear (word_of wear line k) - changes_in young k) 0 (8 * (B + M)) n n 0 low (omega arith) in
+    omega (arith, left, is_young.changes n, is_young.pulses, youth.early)))
+
+-- the pulses of a young line
+pub grown_pulses : {B M : ℕ} (wear : Wear) (line : ℕ) (young : Young B M) → (grown_line wear line young).line.pulses ≡ young.pulses
+unfolding grown_line
+grown_pulses wear line young = refl
+
+pub grown_held : {B M : ℕ} (wear : Wear) (line : ℕ) (young : Young B M) → (grown_line wear line young).line.held ≡ young.held
+unfolding grown_line
+grown_held wear line young = refl
+
+-- the pulses aren't a part of the cells
+pub pulsed_same : {B M : ℕ} (young : Young B M) (pulses n : ℕ) → young_cell (record young { pulses = pulses }) n ≡ young_cell young n
+unfolding changes_in
+pulsed_same young pulses n = refl

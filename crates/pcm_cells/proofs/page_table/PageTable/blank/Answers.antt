@@ -1,0 +1,12 @@
+use Rattle.std.proofs.Common.{ap, arith}
+use Rattle.pcm_cells.{specs.Book.Kept, proofs.TableLemmas.{pages-blank, paging_blank}}
+use Rattle.pcm_cells.proofs.page_table.PageTable.blank.Goals as goal
+
+pub returns : goal.returns
+returns g c = pages-blank c.in_ok-blank-2.field-0.pages c.in_ok-blank.field-0 c.args.lines c.in_ok-blank.ensures
+
+pub invariant_of-result : goal.invariant_of-result
+invariant_of-result g c =
+    let pages = c.in_ok-blank-2.field-0 in
+    paging_blank c.in_ok-blank.field-0 pages.pages pages.room c.args.lines c.in_ok-blank.ensures (ap (λ (k : Kept g.row.T.Denot). k.pages) c.in_ok-blank-2.ensures)
+    (omega (arith, c.ranges.lines)) (omega (arith, ap (λ (k : Kept g.row.T.Denot). k.room) c.in_ok-blank-2.ensures))

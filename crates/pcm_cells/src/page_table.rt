@@ -1,0 +1,112 @@
+// The pages of lines, of which none has one at first.
+ghost use Rattle.std.specs.Prelude.{◌≡◌, ◌<◌, ℕ, length, slice_set, Some, None, IfOk, IsSome, is_some, option_copied, replicate};
+ghost use Rattle.cell_rows.specs.Shape.{IsShape, IsWhole};
+ghost use Rattle.pcm_cells.specs.PageTable.{AgesPage, WearsPage, page_at};
+ghost use Rattle.pcm_cells.specs.Young.{MayAge};
+
+use crate::book::Book;
+use crate::seeded::SeededLine;
+use crate::table::Table;
+use crate::young::Young;
+use cell_rows::Cells;
+use std::alloc::{AllocError, Global};
+use std::marker::Model;
+
+/// A page for each line that was given one. Contracts see it as the list of them.
+#[derive(Drop)]
+pub(crate) struct PageTable<T> {
+    // Of each line: 0, or one more than the index of its page.
+    table: Table,
+    // With room for as many as lines.
+    pages: Book<T>,
+}
+
+impl<T> Model for PageTable<T> {
+    ghost use Rattle.std.specs.Prelude.{List, Option};
+    ghost use Rattle.pcm_cells.specs.PageTable.{pages_of};
+    ghost use Rattle.pcm_cells.specs.Table.{IsPaging};
+
+    ghost Value = { List (Option T) };
+
+    ghost view = { λ p. pages_of p.pages.pages p.table };
+
+    ghost invariant = { λ p. IsPaging p.table p.pages.pages p.pages.room };
+}
+
+impl<T: Drop> PageTable<T> {
+    /// No page, and room for one of each line.
+    pub(crate) fn blank(alloc: Global, lines: u32) -> Result<PageTable<T>, AllocError>
+        ensures { IfOk result (λ p. p ≡ replicate lines None) }
+    {
+        Ok(PageTable {
+            table: Table::blank(alloc, lines)?,
+            pages: Book::blank(alloc, lines)?,
+        })
+    }
+
+    /// How many lines there are.
+    pub(crate) fn len(&self) -> u32
+        ensures { result ≡ length self.now }
+    {
+        self.table.len()
+    }
+
+    /// Whether the line has a page.
+    pub(crate) fn has(&self, line: u32) -> bool
+        requires { line < length self.now }
+        ensures { result ≡ is_some (page_at self.now line) }
+    {
+        self.table.get(line) != 0
+    }
+
+    /// The page of a line.
+    pub(crate) fn get(&self, line: u32) -> Option<&T>
+        requires { line < length self.now }
+        ensures { option_copied result ≡ page_at self.now line }
+    {
+        match self.table.get(line) {
+            0 => None,
+            page => Some(self.pages.at(page as usize - 1)),
+        }
+    }
+
+    /// Gives a page to a line that has none.
+    pub(crate) fn insert(&mut self, line: u32, page: T)
+        requires exists { line < length self.old }
+        requires none { page_at self.old line ≡ None }
+        ensures { self.new ≡ slice_set self.old line (Some page) }
+    {
+        let index = self.pages.len();
+        self.pages.push(page);
+        self.table.set(line, index as u32 + 1);
+    }
+}
+
+impl<const B: usize, const M: usize> PageTable<SeededLine<B, M>> {
+    /// A pulse or a tear of a line that has a page.
+    pub(crate) fn wear(&mut self, line: u32, tearing: bool, mask: &Cells<B, M>, want: &Cells<B, M>)
+        requires exists { line < length self.old }
+        requires has { IsSome (page_at self.old line) }
+        requires shape { IsShape B M }
+        requires whole { IsWhole B M }
+        ensures { WearsPage line tearing mask.now want.now self.old self.new }
+    {
+        let index = self.table.get(line) as usize - 1;
+        self.pages.wear(index, tearing, mask, want);
+    }
+}
+
+impl<const B: usize, const M: usize> PageTable<Young<B, M>> {
+    /// A pulse or a tear of a line that has a young page.
+    pub(crate) fn age(&mut self, line: u32, tearing: bool, mask: &Cells<B, M>, want: &Cells<B, M>)
+        requires exists { line < length self.old }
+        requires has { IsSome (page_at self.old line) }
+        requires young { (page : Young B M) → page_at self.old line ≡ Some page → MayAge page }
+        requires shape { IsShape B M }
+        requires whole { IsWhole B M }
+        ensures { AgesPage line tearing mask.now want.now self.old self.new }
+    {
+        let index = self.table.get(line) as usize - 1;
+        self.pages.age(index, tearing, mask, want);
+    }
+}
