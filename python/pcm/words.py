@@ -117,6 +117,7 @@ _STREAM = [
     _choice("end", "E", "what becomes of the module behind the last row", "drain", "off"),
     _number("rows", "N", 1000, 1, 4000000000, "rows of the drawn trace"),
     _number("cuts", "N", 0, 0, 4000000000, "power cuts among the drawn rows"),
+    _number("hot", "N", 0, 0, 2**26, "lines that nine of ten drawn rows go to"),
 ]
 _FROM = _number("from", "T", 0, 0, 16781312, "gap moves that were made before")
 
