@@ -71,7 +71,7 @@ module _ (texts : GeneratedTextLaw) (sizes : GeneratedSizeLaw) (job : RunJob) (m
     is_text = is.is_text;
     written = is.written;
     ending = is.ending;
-    left = record { saved = is.left.saved; left = is.left.left; rows = is.left.rows };
+    left = record { saved = is.left.saved; left = is.left.left; are = is.left.are; rows = is.left.rows };
     sensed = is.sensed;
   }
 
@@ -83,7 +83,7 @@ module _ (texts : GeneratedTextLaw) (sizes : GeneratedSizeLaw) (job : RunJob) (m
     text = is.text;
     is_text = is.is_text;
     written = is.written;
-    left = record { saved = is.left.saved; left = is.left.left; rows = is.left.rows };
+    left = record { saved = is.left.saved; left = is.left.left; are = is.left.are; rows = is.left.rows };
     sensed = is.sensed;
     rows = is.rows;
   }
