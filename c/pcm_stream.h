@@ -33,7 +33,6 @@
 #include <fcntl.h>
 #include <poll.h>
 #include <signal.h>
-#include <signal.h>
 #include <spawn.h>
 #include <stddef.h>
 #include <stdint.h>
