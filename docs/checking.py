@@ -22,9 +22,9 @@ EXAMPLE = re.compile(r"Example: `((?:run|gen|map|moves|show|check|stream)\b[^`]*
 STREAMS = TOP / "crates" / "pcm_stream" / "out" / "pcm_stream"
 WHOLE_LINE = re.compile(r"\b(?:[0-9a-f]{256}|[0-9a-f]{128})\b")
 HELP_PAGES = ((), ("run",), ("gen",), ("map",), ("moves",), ("show",), ("check",), ("stream",))
-# Words of documents that name nothing of this repository: units, commands of the system, and a type that DECISIONS.md says isn't there;
-# and words that stand for names.
-FOREIGN = {"MiB", "GiB", "renice", "parallel", "sbatch", "valgrind", "RulePolicy"}
+# Words of documents that name nothing of this repository: units, commands and calls of the system, a type of std, and one that
+# DECISIONS.md says isn't there; and words that stand for names.
+FOREIGN = {"MiB", "GiB", "renice", "parallel", "sbatch", "valgrind", "RulePolicy", "AllocError", "posix_spawnp"}
 FOREIGN_OPTIONS = {"option", "progress", "sshlogin", "anew"}
 PLACEHOLDER = re.compile(r"\b(NAME|TOOL|CRATE|PATH|LOG|PROGRAM|COMMAND|TABLE|FILE|WORD|SECTION|IMAGE|WHY|KIND|RULE|BYTES)\b")
 
@@ -296,10 +296,76 @@ def strayed(text):
         above.append((len(branch), own))
 
 
+# What declares a name in code (functions, types, fields, clauses, modules, macros) and in definitions and proofs.
+IN_CODE = re.compile(
+    r"\b(?:fn|struct|enum|trait|type|const|static|mod|union|extern|requires|ensures|as) (\w+)"
+    r"|^\s*(?:pub |ghost )?([a-z]\w*): |^\s*([A-Z]\w*)(?: ?[({,]|$)|\bmacro_rules! (\w+)", re.M)
+IN_DEFINITIONS = re.compile(r"^\s*(?:(?:abbrev|unfoldable|pub|mod|record|module|data) )*([^\s:(){}.,;]+)\s*(?:[:({]|where\b|=|$)", re.M)
+# What declares a name in Python, C and scripts.
+IN_SCRIPTS = re.compile(r"\b(?:def|class|struct|enum|import|from) (\w+)|^\s*(?:\w+[ *]+)*(\w+) ?(?:\(|=|:)|\b([A-Z][A-Z0-9_]+)\b|(\w+)=", re.M)
+
+
+def names_by(pattern, text):
+    return {name for found in pattern.findall(text) for name in ([found] if isinstance(found, str) else found) if name}
+
+
+@functools.cache
+def declared(crate):
+    """The names that a crate declares, in code, definitions and proofs, and those of its files and wrong bodies."""
+    found = set()
+    for file in crates.named(crate).files(*crates.PARTS):
+        text = re.sub(r"(?m)(?://|--).*$", "", file.read_text(encoding="utf-8"))
+        found |= names_by(IN_CODE if file.suffix == ".rt" else IN_DEFINITIONS, text) | {file.stem, file.parent.name}
+    found |= {it.stem for it in crates.named(crate).files("must-fail")}
+    stored = crates.named(crate).folder / "stdin"
+    return found | (set(re.findall(r"(?m)^case (\w+)$", stored.read_text(encoding="utf-8"))) if stored.is_file() else set())
+
+
+@functools.cache
+def declared_outside():
+    """The names that scripts, drivers and the Python package declare, those of libraries, and those of files."""
+    files = [it for folder in ("examples", "python", "c", "tools", "bench", "docs") for it in TOP.glob(f"{folder}/**/*") if it.is_file()]
+    found = {part for file in files for part in (file.stem, file.parent.name)} | FOREIGN
+    for file in (*files, TOP / "pcm", TOP / ".ci" / "run"):
+        if file.suffix in ("", ".py", ".sh", ".c", ".h", ".cpp"):
+            found |= names_by(IN_SCRIPTS, file.read_text(encoding="utf-8", errors="replace"))
+    return found | {library for crate in crates.listed().values() for library in (crate.name, *crate.libraries)}
+
+
+@functools.cache
+def all_declared():
+    return declared_outside().union(*(declared(crate) for crate in crates.listed()))
+
+
+def undeclared(text):
+    """Names of functions, types and definitions in spans of code that nothing declares, though they may stand in a comment or a text."""
+    prose = re.sub(r"(?ms)^```.*?^```$|^    .*?$|<!--.*?-->", "", text)
+    for span in re.findall(r"`([^`\n]+)`", prose):
+        if re.fullmatch(r"(?:\w+(?:::|\.))*\w+", span) and not PLACEHOLDER.search(span):
+            yield from (word for word in re.split(r"::|\.", span) if is_name(word) and word not in all_declared())
+
+
+# The section that has names by the crates in which the product's definition has them.
+NAMED_OTHERWISE = r"^## Names and places$.*?(?=^## |\Z)"
+
+
+def astray(text):
+    """Names that a page gives as a crate's, right behind it or in front of 'of' and it, and that the crate doesn't declare."""
+    text = re.sub(rf"(?ms)^```.*?^```$|<!--.*?-->|{NAMED_OTHERWISE}", "", text)
+    crate = r"([a-z]+(?:_[a-z]+)+)\b"
+    found = re.findall(rf"(?<![\w`/]){crate}(?:'s?)? (?:\*\*)?`([A-Za-z_:]+)`", text)
+    found += [(crate, name) for name, crate in re.findall(rf"`([A-Za-z_:]+)`(?:\*\*)? of {crate}", text)]
+    for crate, name in found:
+        if crate in crates.listed() and any(word not in declared(crate) for word in name.split("::")):
+            yield f"{crate} {name}"
+
+
 def check_names():
     for document, text in documents().items():
         for word in sorted({*unknown_names(text), *unknown_options(text), *unknown_paths(document, text), *misplaced(text)}):
             yield f"{document}: {word} stands nowhere"
+        for word in sorted({*undeclared(text), *astray(text)}):
+            yield f"{document}: {word}: no function, type or definition has this name there"
         yield from (f"{document}: {it}, which doesn't unfold to it" for it in strayed(text))
         yield None
 
@@ -483,6 +549,31 @@ def check_places():
     pages = documents()
     for found in (list(measured(pages)), list(said_twice(pages))):
         yield from found or [None]
+
+
+# Merge messages.
+
+# The last commit before which merges may name a folder of a machine.
+NAMES_FOLDERS_BEFORE = "30b5e8cc72"
+FOLDER = re.compile(r"(?<![\w.])(?:~|\.{1,2})?/\w[\w./-]*")
+
+
+def folders_of(messages):
+    """Yields of merges, each a commit and its message, those that name a folder of a machine, with the folder."""
+    for commit, message in messages:
+        for folder in FOLDER.findall(message)[:1]:
+            yield f"the message of merge {commit} names a folder of a machine, {folder}: say what is merged"
+
+
+def merges():
+    """The merges behind NAMES_FOLDERS_BEFORE: nothing where there is no history to look at."""
+    asked = ["git", "-C", TOP, "log", "--merges", "--format=%h%x00%B%x01", f"{NAMES_FOLDERS_BEFORE}..HEAD"]
+    told = subprocess.run(asked, capture_output=True, text=True)
+    return [it.strip().split("\0", 1) for it in told.stdout.split("\x01") if it.strip()] if told.returncode == 0 else []
+
+
+def check_merges():
+    yield from list(folders_of(merges())) or [None]
 
 
 # The version.

@@ -74,6 +74,22 @@ class Names(unittest.TestCase):
         self.assertEqual(checking.unknown_options("`pcm run --p" + "sy 1`"), {"--p" + "sy"})
         self.assertEqual(checking.unknown_paths("README.md", "`crates/" + gone + "/src/lib.rt`"), {f"crates/{gone}/src/lib.rt"})
 
+    def test_a_name_that_is_a_word_alone_is_no_function(self):
+        text = "`pcm_run`, `Registers::next_move`, `KeepsPromises`, and `Registers::every" + "_trace`; ``.\n\n    `no_" + "such`"
+        self.assertEqual(list(checking.undeclared(text)), ["every_trace"])
+
+    def test_a_name_is_one_of_the_crate_that_it_is_given_as(self):
+        text = "bank_laws `reads_are_served`, clock_laws' `Leads`, bank_timing's `Leads`; `Bank::read` of bank_core, `Leads` of bank_core"
+        self.assertEqual(list(checking.astray(text)), ["bank_timing Leads", "bank_core Leads"])
+        text = "## Names and places\n\n- `Entry` of protected_queue: elsewhere\n\n## Next\n\n`Leads` of bank_core"
+        self.assertEqual(list(checking.astray(text)), ["bank_core Leads"])
+
+    def test_what_code_definitions_and_scripts_declare_is_known(self):
+        code = "pub struct One {\n    pub two: u32,\n}\nenum Three {\n    Four,\n    Five(u32),\n}\npub fn six(a: u32)\n    ensures seven { a }\n"
+        self.assertLessEqual({"One", "two", "Three", "Four", "Five", "six", "seven"}, checking.names_by(checking.IN_CODE, code))
+        definitions = "abbrev pub one : Nat\none = two\n\npub record Three (n : Nat) : Type 0 where\n  pub four : Five\n"
+        self.assertEqual({"one", "Three", "four"}, checking.names_by(checking.IN_DEFINITIONS, definitions) - {"pub"})
+
     def test_a_definition_stands_in_the_file_that_the_tree_names(self):
         self.assertEqual(list(checking.misplaced("    └ Does    pcm_top/specs/Running.antt    what a job does")), [])
         self.assertEqual(list(checking.misplaced("    └ Does    pcm_top/specs/Calls.antt    what a job does")), ["Does pcm_top/specs/Calls.antt"])
@@ -139,6 +155,18 @@ class Links(unittest.TestCase):
                 good = "[a](one.md) [b](one.md#one-thing) [c](https://example.org/x)"
                 self.assertEqual(list(checking.broken_links("two.md", good)), [])
                 self.assertEqual(list(checking.broken_links("two.md", "[a](three.md) [b](one.md#two)")), ["three.md", "one.md#two"])
+
+
+class Merges(unittest.TestCase):
+    def test_a_message_that_names_a_folder_is_found(self):
+        messages = [("a1", "Merge branch 'main' of /work/one"), ("b2", "Merge branch 'main' of ../two"), ("c3", "Merge ~/three")]
+        messages.append(("d4", "Merge the C driver and/or the disk, 1/3"))
+        found = list(checking.folders_of(messages))
+        self.assertEqual([it.split(":")[0].split()[-1] for it in found], ["/work/one", "../two", "~/three"])
+
+    def test_without_a_history_there_is_nothing_to_look_at(self):
+        with tempfile.TemporaryDirectory() as room, mock.patch.object(checking, "TOP", pathlib.Path(room)):
+            self.assertEqual(checking.merges(), [])
 
 
 class Versions(unittest.TestCase):
