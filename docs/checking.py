@@ -302,7 +302,8 @@ IN_CODE = re.compile(
     r"|^\s*(?:pub |ghost )?([a-z]\w*): |^\s*([A-Z]\w*)(?: ?[({,]|$)|\bmacro_rules! (\w+)", re.M)
 IN_DEFINITIONS = re.compile(r"^\s*(?:(?:abbrev|unfoldable|pub|mod|record|module|data) )*([^\s:(){}.,;]+)\s*(?:[:({]|where\b|=|$)", re.M)
 # What declares a name in Python, C and scripts.
-IN_SCRIPTS = re.compile(r"\b(?:def|class|struct|enum|import|from) (\w+)|^\s*(?:\w+[ *]+)*(\w+) ?(?:\(|=|:)|\b([A-Z][A-Z0-9_]+)\b|(\w+)=", re.M)
+IN_SCRIPTS = re.compile(
+    r"\b(?:def|class|struct|enum|import|from) (\w+)|^\s*(?:\w+[ *]+)*(\w+) ?(?:\(|=|:)|\b([A-Z][A-Z0-9_]+)\b|(\w+)=", re.M)
 
 
 def names_by(pattern, text):
