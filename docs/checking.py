@@ -488,6 +488,26 @@ def broken_links(document, text):
             yield target
 
 
+# A section that a file of code names: docs/MODEL.md, 'Lifetime'.
+SECTION = re.compile(r"\b(?:docs/)?([A-Z]+)\.md(?:,| \(|:)? ?(['\"])([A-Z](?:(?!\2(?!\w)).)+)\2")
+
+
+def lost_sections(file, text, pages):
+    """Sections that a file of code names and that the page hasn't."""
+    for page, _, heading in SECTION.findall(text):
+        if slug(heading) not in headings(pages.get(f"docs/{page}.md", pages.get(f"{page}.md", ""))):
+            yield f"{file}: {page}.md has no section '{heading}'"
+
+
+def check_sections():
+    pages = documents()
+    for folder in ("c", "python", "examples", "tools", "bench"):
+        for file in sorted(TOP.glob(f"{folder}/**/*")):
+            if file.is_file() and file.suffix in ("", ".py", ".sh", ".c", ".h", ".cpp"):
+                yield from lost_sections(file.relative_to(TOP), file.read_text(encoding="utf-8", errors="replace"), pages)
+    yield None
+
+
 def check_links():
     pages = documents()
     for document, text in pages.items():

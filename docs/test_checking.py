@@ -157,6 +157,13 @@ class Links(unittest.TestCase):
                 self.assertEqual(list(checking.broken_links("two.md", "[a](three.md) [b](one.md#two)")), ["three.md", "one.md#two"])
 
 
+class Sections(unittest.TestCase):
+    def test_a_section_that_code_names_is_one_of_the_page(self):
+        pages = {"docs/MODEL.md": "# Model\n\n## A power cut\n\n## A line's end\n", "README.md": "# Pcm\n"}
+        text = "/* docs/MODEL.md, 'A power cut'; MODEL.md ('Life'); MODEL.md, 'A line's end', and README.md: \"Pcm\" */"
+        self.assertEqual(list(checking.lost_sections("a.c", text, pages)), ["a.c: MODEL.md has no section 'Life'"])
+
+
 class Merges(unittest.TestCase):
     def test_a_message_that_names_a_folder_is_found(self):
         messages = [("a1", "Merge branch 'main' of /work/one"), ("b2", "Merge branch 'main' of ../two"), ("c3", "Merge ~/three")]
