@@ -459,11 +459,21 @@ def promises(name, clause):
     return any(has_clause(crate, name, clause) for crate in crates.listed()) or clause in clauses_of_type(name.split("::")[0])
 
 
+def root_texts():
+    """What each crate's root file says of the crate, as one line."""
+    for crate in crates.listed().values():
+        lines = (crate.folder / crate.root).read_text(encoding="utf-8").splitlines()
+        yield f"crates/{crate.name}/{crate.root}", " ".join(line[3:].strip() for line in lines if line.startswith("//!"))
+
+
 def check_promises():
-    for functions, clauses in promised((TOP / "docs" / "PROMISES.md").read_text(encoding="utf-8")):
-        for clause in clauses:
-            well = any(promises(name, clause) for name in functions)
-            yield None if well else f"docs/PROMISES.md: {', '.join(functions)}: no clause {clause}"
+    for page, text in [("docs/PROMISES.md", (TOP / "docs" / "PROMISES.md").read_text(encoding="utf-8")), *root_texts()]:
+        for functions, clauses in promised(text):
+            for clause in clauses:
+                well = any(promises(name, clause) for name in functions)
+                yield None if well else f"{page}: {', '.join(functions)}: no clause {clause}"
+        if page != "docs/PROMISES.md":
+            yield from (f"{page}: {word}: no function, type or definition has this name" for word in sorted(undeclared(text)))
 
 
 # Links and pictures.

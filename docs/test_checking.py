@@ -137,6 +137,12 @@ class Promises(unittest.TestCase):
         found = [(["Registers::place"], ["after", "apart"]), (["read", "write"], ["fault", "next"])]
         self.assertEqual(list(checking.promised(text)), found)
 
+    def test_root_files_are_held_to_their_clauses_too(self):
+        told = [("crates/one/src/lib.rt", "Start: `Registers::place`: `apart`, `done`. `Registers::no_" + "place` moves.")]
+        with mock.patch.object(checking, "root_texts", lambda: told):
+            found = [it for it in checking.check_promises() if it]
+        self.assertEqual([it.rpartition(": ")[2] for it in found], ["no clause done", "no function, type or definition has this name"])
+
     def test_clauses_are_those_of_a_function_a_record_or_a_type(self):
         self.assertTrue(checking.promises("Registers::place", "apart"))
         self.assertTrue(checking.promises("KeepsPromises", "done"))
