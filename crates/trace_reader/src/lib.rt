@@ -3,6 +3,7 @@
 #![tactic(auto)]
 
 mod decimal;
+mod digits;
 mod event;
 mod fault;
 mod payload;
