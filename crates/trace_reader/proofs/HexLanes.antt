@@ -6,7 +6,7 @@ use Rattle.std.proofs.lemmas.List.{get_or-map, get_or-replicate, get_or_append_l
 use lib.Lanes.{chunk, zip2, sel_l, mask_l, pick_l, put_chunk, top}
 use Rattle.hex.specs.Hex.{hex_digit_value}
 use Rattle.trace_reader.specs.Payload.{Tells, value_of}
-use Rattle.trace_reader.proofs.{Lanes.joined, Table.{ReadsDigits, or_none, value_of_digit}}
+use Rattle.trace_reader.proofs.{Table.{ReadsDigits, or_none, value_of_digit}}
 
 pub itself : (v : List ℕ) → v ≡ map (λ x. x) v
 itself [] = refl

@@ -1,8 +1,12 @@
 //! Rows of plain bytes, which are read without a machine.
 ghost use Rattle.std.specs.Prelude.{◌≡◌, ℕ, ◌+◌, ◌-◌, ◌<◌, ◌≤◌, length, slice_index, take, drop, true, IfSome};
 ghost use Rattle.std.specs.List.{list_all};
-ghost use Rattle.trace_reader.specs.Plain.{first_set, is_plain, IsField, IsPlainRow};
+ghost use Rattle.trace_reader.specs.Plain.{fields_in, first_set, is_plain, IsField, IsPlainRow};
+ghost use Rattle.trace_reader.specs.Rows.{event_of};
 
+use crate::event::Event;
+use crate::fault::Kind;
+use crate::row::read_fields;
 use std::simd::prelude::*;
 
 // How many bytes go through one step of lanes.
@@ -48,8 +52,8 @@ fn is_plain(byte: u8) -> bool
     byte != b'"' && byte != b',' && byte != b'\r' && byte != b'\n'
 }
 
-// Behind some bytes the plain ones that come first: where they end.
-fn plain_end(bytes: &[u8], from: usize) -> usize
+/// Behind some bytes the plain ones that come first: where they end.
+pub fn plain_end(bytes: &[u8], from: usize) -> usize
     requires { from ≤ length bytes.now }
     ensures from { from ≤ result }
     ensures within { result ≤ length bytes.now }
@@ -97,4 +101,26 @@ pub fn plain_row(bytes: &[u8], from: usize) -> Option<PlainRow>
         line,
         payload,
     })
+}
+
+/// What a plain row says as a row of a trace.
+pub fn read_plain_row<const B: usize>(
+    bytes: &[u8],
+    from: usize,
+    row: PlainRow,
+    lines: u32,
+    before: u64,
+) -> Result<Event<B>, Kind>
+    requires lines { 1 ≤ lines }
+    requires plain { IsPlainRow bytes.now from row }
+    ensures { result ≡ event_of B lines before (fields_in bytes.now from row) }
+{
+    read_fields(
+        &bytes[from..row.tick],
+        &bytes[row.tick + 1..row.op],
+        &bytes[row.op + 1..row.line],
+        &bytes[row.line + 1..row.payload],
+        lines,
+        before,
+    )
 }

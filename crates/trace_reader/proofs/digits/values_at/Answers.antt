@@ -1,4 +1,4 @@
-use Rattle.std.proofs.Common.{arith, refl}
+use Rattle.std.proofs.Common.{refl}
 use Rattle.std.proofs.lemmas.Simd.{length-chunk, splat_is_map}
 use lib.Lanes.{chunk}
 use Rattle.trace_reader.proofs.{Lanes.joined, HexLanes.{chosen, itself, told}}

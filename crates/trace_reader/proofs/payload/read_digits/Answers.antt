@@ -1,7 +1,6 @@
-use Rattle.std.proofs.Common.{◌≡◌, ◌*◌, ◌+◌, ◌∙◌, length, sym, ap, arith}
+use Rattle.std.proofs.Common.{◌≡◌, ◌*◌, ◌+◌, ◌∙◌, length, arith}
 use Rattle.std.proofs.lemmas.Simd.{length-put_chunk}
-use Rattle.trace_reader.specs.Payload.{value_of}
-use Rattle.trace_reader.proofs.{HexLanes.{no_digit, sixteen_more}, Table.{bytes_of-bad, bytes_of-read, reads_digits-more}}
+use Rattle.trace_reader.proofs.{HexLanes.{no_digit, sixteen_more}, Table.{bytes_of-bad, bytes_of-read}}
 use Rattle.trace_reader.proofs.payload.read_digits.Goals.{then-high-gt15-via-then-high-gt15, then-high-gt15-via-else-high-gt15+then-low-gt15}
 use Rattle.trace_reader.proofs.payload.read_digits.Goals as goal
 
