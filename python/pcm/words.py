@@ -115,6 +115,7 @@ _STREAM = [
     _choice("print", "P", "what is printed", "rows", "summary", "wear", "image", "lines", "snapshots"),
     _number("every", "N", 100000, 1, 4294967295, "rows between snapshots"),
     _choice("end", "E", "what becomes of the module behind the last row", "drain", "off"),
+    _choice("until", "U", "up to where the rows are served", "end", "refused"),
     _number("rows", "N", 1000, 1, 4000000000, "rows of the drawn trace"),
     _number("cuts", "N", 0, 0, 4000000000, "power cuts among the drawn rows"),
     _number("hot", "N", 0, 0, 2**26, "lines that nine of ten drawn rows go to"),

@@ -1,6 +1,7 @@
 -- What an array of cells is, and what a pulse, a tear and a sense may do to it.
 use Rattle.std.specs.Prelude.{ℕ, ◌≡◌, ◌≢◌, ◌+◌, ◌-◌, ◌^◌, ◌<◌, ◌≤◌, ◌⊎◌, min, Bool, true, false, List, [], ◌∷◌, ◌++◌, Option, Some}
-use Rattle.cell_rows.specs.{Rows.cell, declared.array.Sense.Sense, declared.array.Wear.Wear, declared.row.Cells.Cells}
+use Rattle.cell_rows.specs.{Energy.{no_energy, with_sense}, Rows.cell, declared.array.LineEnergy.LineEnergy, declared.array.Sense.Sense}
+use Rattle.cell_rows.specs.{declared.array.Wear.Wear, declared.row.Cells.Cells}
 pub use Rattle.cell_rows.specs.Shape.{IsShape}
 pub use Rattle.cell_rows.specs.Pulse.{IsPulse}
 
@@ -23,7 +24,7 @@ pub record CellBounds : Type 0 where
   pub misses : ℕ
 
 -- a whole array: its lines, how many there are, how often it was torn, the log of its senses, where it is told, the wear that it was
--- last powered up with, of which there is none before, and what its cells keep to
+-- last powered up with, of which there is none before, what its cells keep to, and the counts of each line's energy, where they are told
 pub record ArrayState (B M : ℕ) : Type 0 where
   pub line : ℕ → LineState B M
   pub lines : ℕ
@@ -31,6 +32,7 @@ pub record ArrayState (B M : ℕ) : Type 0 where
   pub log : Option (List (Sense B M))
   pub wear : Option Wear
   pub bounds : CellBounds
+  pub energy : ℕ → Option LineEnergy
 
 -- what a sense of a line shows, as a log keeps it
 abbrev pub sense_of : {B M : ℕ} → ℕ → ℕ → LineState B M → Sense B M
@@ -89,7 +91,12 @@ pub record ChangesOnly {B M : ℕ} (number : ℕ) (old new : ArrayState B M) : T
   pub wear : new.wear ≡ old.wear
   pub bounds : new.bounds ≡ old.bounds
 
--- a sense changes no line, and a log that is told was told before and has gained this sense
+-- of the line with this number these counts are told now, and of every other line what was told before
+pub record EnergyChanges {B M : ℕ} (number : ℕ) (told : Option LineEnergy) (old new : ArrayState B M) : Type 0 where
+  pub here : new.energy number ≡ told
+  pub others : (n : ℕ) → n ≢ number → new.energy n ≡ old.energy n
+
+-- a sense changes no line, a log that is told was told before and has gained this sense, and the sense is counted
 pub record Senses {B M : ℕ} (sensed : Sense B M) (old new : ArrayState B M) : Type 0 where
   pub line : (n : ℕ) → new.line n ≡ old.line n
   pub lines : new.lines ≡ old.lines
@@ -97,6 +104,7 @@ pub record Senses {B M : ℕ} (sensed : Sense B M) (old new : ArrayState B M) : 
   pub log : (after : List (Sense B M)) → new.log ≡ Some after → (before : List (Sense B M)) × (old.log ≡ Some before) × (after ≡ before ++ sensed ∷ [])
   pub wear : new.wear ≡ old.wear
   pub bounds : new.bounds ≡ old.bounds
+  pub energy : EnergyChanges sensed.line (with_sense (old.energy sensed.line)) old new
 
 -- a line with every cell 0, none stuck, and no miss, no change and no pulse
 pub record IsBlank {B M : ℕ} (line : LineState B M) : Type 0 where
@@ -114,3 +122,4 @@ pub record IsFresh {B M : ℕ} (lines : ℕ) (given : Wear) (array : ArrayState 
   pub log : (senses : List (Sense B M)) → array.log ≡ Some senses → senses ≡ []
   pub wear : array.wear ≡ Some given
   pub few : array.bounds.misses ≤ 7
+  pub energy : (l : ℕ) (told : LineEnergy) → l < lines → array.energy l ≡ Some told → told ≡ no_energy

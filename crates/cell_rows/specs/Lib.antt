@@ -1,4 +1,5 @@
 pub mod Rows
 pub mod Shape
 pub mod Pulse
+pub mod Energy
 pub mod Device

@@ -29,10 +29,22 @@ pub struct Sense<const B: usize, const M: usize> {
     pub pulses: u64,
 }
 
+/// What the energy of a line is reckoned from, since its array was powered up. Each count stays at the greatest u64.
+#[derive(Clone, Copy, Debug, Drop, PartialEq, Eq)]
+pub struct LineEnergy {
+    /// How often a pulse or a tear drove one of its cells to 1.
+    pub set: u64,
+    /// How often a pulse or a tear drove one of its cells to 0.
+    pub reset: u64,
+    /// How often the line was sensed.
+    pub senses: u64,
+}
+
 /// Lines of cells that are sensed, pulsed, and torn by a power cut in a pulse.
-/// `state` is all that a contract knows of an array; a sense may add to its log, and changes nothing else.
+/// `state` is all that a contract knows of an array; a sense is counted, may be logged, and changes nothing else.
 pub trait CellArray<const B: usize, const M: usize> {
-    ghost use Rattle.cell_rows.specs.Device.{ArrayState, DeviceStep, TornStep, ChangesOnly, Senses, IsFresh, IsWear, counted, sense_of};
+    ghost use Rattle.cell_rows.specs.Device.{ArrayState, DeviceStep, TornStep, ChangesOnly, EnergyChanges, Senses, IsFresh, IsWear, counted, sense_of};
+    ghost use Rattle.cell_rows.specs.Energy.{with_pulse};
     ghost use Rattle.cell_rows.specs.Shape.{IsShape};
     ghost use Rattle.cell_rows.specs.Pulse.{IsPulse};
 
@@ -67,7 +79,10 @@ pub trait CellArray<const B: usize, const M: usize> {
             ((state self.old).line line)
             ((state self.new).line line) }
         ensures others { ChangesOnly line (state self.old) (state self.new) }
-        ensures tears { (state self.new).tears ≡ (state self.old).tears };
+        ensures tears { (state self.new).tears ≡ (state self.old).tears }
+        ensures energy { EnergyChanges line
+            (with_pulse mask.now want.now ((state self.old).energy line))
+            (state self.old) (state self.new) };
 
     /// A pulse that a power cut breaks off: no masked live cell is sure of its value.
     fn tear(&mut self, line: u32, mask: &Cells<B, M>, want: &Cells<B, M>, tick: u64)
@@ -77,7 +92,10 @@ pub trait CellArray<const B: usize, const M: usize> {
         ensures step { TornStep (state self.old).bounds mask.now ((state self.old).line line)
             ((state self.new).line line) }
         ensures others { ChangesOnly line (state self.old) (state self.new) }
-        ensures tears { (state self.new).tears ≡ counted (state self.old).tears };
+        ensures tears { (state self.new).tears ≡ counted (state self.old).tears }
+        ensures energy { EnergyChanges line
+            (with_pulse mask.now want.now ((state self.old).energy line))
+            (state self.old) (state self.new) };
 
     /// How often the line was pulsed or torn since `power_up`, up to the greatest u64.
     fn pulses(&self, line: u32) -> u64

@@ -7,5 +7,5 @@ mod blocks;
 mod bytes;
 mod row;
 
-pub use array::{CellArray, Sense, Wear};
+pub use array::{CellArray, LineEnergy, Sense, Wear};
 pub use row::Cells;

@@ -1,7 +1,7 @@
 // Arrays that tell what became of their cells.
 ghost use Rattle.std.specs.Prelude.{◌≡◌, ◌<◌, ℕ, Option};
 
-use cell_rows::{CellArray, Cells};
+use cell_rows::{CellArray, Cells, LineEnergy};
 
 /// What an array tells of the cells of one line.
 #[derive(Clone, Copy, Debug, Drop, PartialEq, Eq)]
@@ -31,4 +31,9 @@ pub trait TellsCells<const B: usize, const M: usize>: CellArray<B, M> {
         requires exists { line < (Self.state self.now).lines }
         requires shape { IsShape B M }
         ensures { result ≡ wear_told ((Self.state self.now).line line) (changes self.now line) };
+
+    /// How many cells of the line were driven to 1 and to 0, and how often it was sensed; an array that doesn't count them tells nothing.
+    fn energy(&self, line: u32) -> Option<LineEnergy>
+        requires { line < (Self.state self.now).lines }
+        ensures { result ≡ (Self.state self.now).energy line };
 }

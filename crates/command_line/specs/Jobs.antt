@@ -4,7 +4,7 @@ use Rattle.clap.specs.Words.{App, Kinds, Row, Text, fault_of, first_of, subcomma
 use Rattle.cell_rows.specs.Device.{IsWear}
 use Rattle.trace_gen.specs.Generated.{IsMix}
 use Rattle.module_shape.specs.Limits.{IsShape, IsSmall}
-use Rattle.command_line.specs.{Options.{with_some, number_option, line_of, shape_of, seed_of, wear_of, mix_of, print_of, input_of, from_of, most_moves}, Table.pcm_app}
+use Rattle.command_line.specs.{Options.{with_some, number_option, line_of, shape_of, seed_of, wear_of, mix_of, print_of, input_of, from_of, full_turn}, Table.pcm_app}
 use Rattle.command_line.specs.{declared.job.CheckJob.CheckJob, declared.job.GenJob.GenJob, declared.job.Input.Input, declared.job.Input.TheVariants.{Source, Drawn}}
 use Rattle.command_line.specs.{declared.job.Job.Job, declared.job.Job.TheVariants.{Run, Gen, Map, Moves, Show, Check}, declared.job.MapJob.MapJob, declared.job.MovesJob.MovesJob}
 use Rattle.command_line.specs.{declared.job.Refusal.Refusal, declared.job.Refusal.TheVariants.Usage, declared.job.RunJob.RunJob}
@@ -99,7 +99,7 @@ pub record IsMoves (job : MovesJob) : Type 0 where
   pub some_lines : 4 ≤ job.lines
   pub few_lines : job.lines ≤ 256
   pub power_of_two : is_power_of_two job.lines ≡ true
-  pub few_moves : job.from ≤ most_moves
+  pub few_moves : job.from ≤ full_turn
 
 -- the numbers of each job are in range
 pub record IsRun (job : RunJob) : Type 0 where
@@ -117,7 +117,7 @@ pub record IsGen (job : GenJob) : Type 0 where
 pub record IsMap (job : MapJob) : Type 0 where
   pub shape : IsShape job.shape
   pub small : IsSmall job.shape
-  pub few_moves : job.from ≤ most_moves
+  pub few_moves : job.from ≤ full_turn
 
 abbrev pub IsCheck : CheckJob → Type 0
 IsCheck job = IsShape job.shape

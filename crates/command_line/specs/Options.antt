@@ -148,9 +148,9 @@ HasMix mix Source = Unit {0}
 HasMix mix (Drawn own) = own ≡ mix
 
 -- the most gap moves that a report may begin at: a full turn of 4,096 lines, which brings each line to where it was
-abbrev pub most_moves : ℕ
-most_moves = 16781312
+abbrev pub full_turn : ℕ
+full_turn = 16781312
 
 -- how many gap moves were made
 abbrev pub from_of : List Row → Option ℕ
-from_of rows = number_option (codes "from") 0 0 most_moves rows
+from_of rows = number_option (codes "from") 0 0 full_turn rows

@@ -4,7 +4,7 @@ ghost use Rattle.clap.specs.Words.{found_of, first_of, rows_of};
 ghost use Rattle.module_shape.specs.Limits.{IsShape, IsSmall};
 ghost use Rattle.cell_rows.specs.Device.{IsWear};
 ghost use Rattle.trace_gen.specs.Generated.{IsMix};
-ghost use Rattle.command_line.specs.Options.{number_or, number_option, size_option, policy_of, home_of, line_of, print_of, input_of, large_shape_of, raw_of, shape_of, seed_of, wear_of, mix_of, mix_within, from_of, most_moves, HasMix, IsMixWithin};
+ghost use Rattle.command_line.specs.Options.{number_or, number_option, size_option, policy_of, home_of, line_of, print_of, input_of, large_shape_of, raw_of, shape_of, seed_of, wear_of, mix_of, mix_within, from_of, full_turn, HasMix, IsMixWithin};
 
 use crate::job::{Input, LineSize, Print};
 use cell_rows::Wear;
@@ -244,7 +244,7 @@ pub(crate) fn mix(matches: &ArgMatches<'_>) -> Option<Mix>
 // How many gap moves were made.
 pub(crate) fn from(matches: &ArgMatches<'_>) -> Option<u64>
     ensures exact { result ≡ from_of (rows_of (found_of matches.now)) }
-    ensures within { IfSome result (λ moves. moves ≤ most_moves) }
+    ensures within { IfSome result (λ moves. moves ≤ full_turn) }
 {
     number_of(matches, "from", 0, 0, 16_781_312)
 }

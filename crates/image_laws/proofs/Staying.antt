@@ -16,16 +16,16 @@ use Rattle.pcm_image.specs.Saved.{Saved}
 use Rattle.image_laws.specs.SavedRuns.{IsLeftTo, StaysRightToLaw}
 use Rattle.right_images.specs.SensedSince.{SensedSince, first_senses}
 
--- but for its log the array is as it was
+-- but for its log and what is told of energy the array is as it was
 but-log : {n m : ℕ} (count : ℕ) (before after : ArrayState n m) → SensedSince count before after
-    → after ≡ record { line = before.line; lines = before.lines; tears = before.tears; log = after.log; wear = before.wear; bounds = before.bounds }
+    → after ≡ record { line = before.line; lines = before.lines; tears = before.tears; log = after.log; wear = before.wear; bounds = before.bounds; energy = after.energy }
 but-log count before after since =
     let line : after.line ≡ before.line = fun_ext since.line in
-    ap (λ l. record { line = l; lines = after.lines; tears = after.tears; log = after.log; wear = after.wear; bounds = after.bounds }) line
-    ∙ ap (λ k. record { line = before.line; lines = k; tears = after.tears; log = after.log; wear = after.wear; bounds = after.bounds }) since.lines
-    ∙ ap (λ k. record { line = before.line; lines = before.lines; tears = k; log = after.log; wear = after.wear; bounds = after.bounds }) since.tears
-    ∙ ap (λ k. record { line = before.line; lines = before.lines; tears = before.tears; log = after.log; wear = k; bounds = after.bounds }) since.wear
-    ∙ ap (λ k. record { line = before.line; lines = before.lines; tears = before.tears; log = after.log; wear = before.wear; bounds = k }) since.bounds
+    ap (λ l. record { line = l; lines = after.lines; tears = after.tears; log = after.log; wear = after.wear; bounds = after.bounds; energy = after.energy }) line
+    ∙ ap (λ k. record { line = before.line; lines = k; tears = after.tears; log = after.log; wear = after.wear; bounds = after.bounds; energy = after.energy }) since.lines
+    ∙ ap (λ k. record { line = before.line; lines = before.lines; tears = k; log = after.log; wear = after.wear; bounds = after.bounds; energy = after.energy }) since.tears
+    ∙ ap (λ k. record { line = before.line; lines = before.lines; tears = before.tears; log = after.log; wear = k; bounds = after.bounds; energy = after.energy }) since.wear
+    ∙ ap (λ k. record { line = before.line; lines = before.lines; tears = before.tears; log = after.log; wear = before.wear; bounds = k; energy = after.energy }) since.bounds
 
 -- the senses that were added to the log show the pulses
 pulses-shown : {n m : ℕ} (before : ArrayState n m) (count : ℕ) → All (λ s. s.pulses ≡ (before.line s.line).pulses) (first_senses before count)
@@ -36,9 +36,9 @@ pulses-shown {n} {m} before count =
 
 module _ (logs : WholeLogLaw) (leaving : LeavingLaw) (by_bank : BankTableLaw) (off : Bool) {n m : ℕ} (e : ℕ) (raw : RawShape) (seed : ℕ) (rows : List (Row n)) (array : ArrayState n m) (ends : ℕ → BankEnd)
     (s : Saved n m) (left : IsLeftTo off e raw seed rows array s) (is : IsShape raw) (was : RunsRightTo e raw seed off rows left.before ends) where
-  -- the array as it was, with the log as it is now
+  -- the array as it was, with the log and what is told of energy as they are now
   abbrev now : ArrayState n m
-  now = record { line = left.before.line; lines = left.before.lines; tears = left.before.tears; log = array.log; wear = left.before.wear; bounds = left.before.bounds }
+  now = record { line = left.before.line; lines = left.before.lines; tears = left.before.tears; log = array.log; wear = left.before.wear; bounds = left.before.bounds; energy = array.energy }
 
   module _ (bank : ℕ) (exists : bank < raw.banks) where
     abbrev shape : BankShape

@@ -1,11 +1,15 @@
 -- An array that is sensed line by line.
-use Rattle.std.proofs.Common.{◌≡◌, ℕ, ◌+◌, ◌≤◌, inl, inr, arith, List, Option, take, ◌∷◌, [], ◌++◌, refl, sym, ap, subst, ◌∙◌, append_assoc}
-use Rattle.std.{specs.List.flat_map, proofs.lemmas.Bool.cases_eq, proofs.lemmas.List.append-nil, proofs.lemmas.List.FromFn.{map-range_with_len_more, take-map-range_with_len}}
+use Rattle.std.proofs.Common.{◌≡◌, ◌≢◌, ℕ, ◌+◌, ◌≤◌, inl, inr, arith, Bool, cond, List, Option, take, ◌∷◌, [], ◌++◌, refl, sym, ap, subst, ◌∙◌, append_assoc}
+use Rattle.std.{specs.List.flat_map, specs.Prelude.nat_lt, proofs.lemmas.Bool.{cases_eq, cases_lt, le-ltb, lt-ltb}, proofs.lemmas.List.append-nil, proofs.lemmas.List.FromFn.{map-range_with_len_more, take-map-range_with_len}}
 use Rattle.pcm_io.specs.Reserved.{Reserved}
-use Rattle.cell_rows.specs.{Device.{ArrayState, Senses, sense_of}, declared.array.Sense.Sense, declared.row.Cells.Cells}
+use Rattle.cell_rows.specs.{Device.{ArrayState, Senses, sense_of}, Energy.with_sense, declared.array.LineEnergy.LineEnergy, declared.array.Sense.Sense, declared.row.Cells.Cells}
 use Rattle.pcm_image.specs.{Saved.IsSavedRow, Spelling.cells_bytes}
 use Rattle.right_images.specs.{SavesRun.AreRowsTo, Saving.saved_cells, SensedSince.{SensedSince, first_senses}}
 use Rattle.image_text.{specs.Printing.PrintsPart, specs.Sensing.{PrintsRows, SensesRows, SensesSome}, proofs.Prints.{part-all, part-same}}
+
+-- what is told of a line's energy where it was sensed, or was not
+counted : Bool → Option LineEnergy → Option LineEnergy
+counted sensed energy = cond sensed (with_sense energy) energy
 
 pub sensed-none : {n m : ℕ} (array : ArrayState n m) → SensedSince 0 array array
 sensed-none array = record {
@@ -15,7 +19,16 @@ sensed-none array = record {
   wear = refl;
   bounds = refl;
   log = λ log told. (log, told, sym (append-nil log));
+  energy = λ number. sym (ap (λ b. counted b (array.energy number)) (le-ltb number 0 (omega arith)));
 }
+
+-- another line than the one behind was sensed with it if it was before
+also : (number count : ℕ) → number ≢ count → nat_lt number count ≡ nat_lt number (count + 1)
+also number count other =
+    elim (cases_lt number count) as (λ _. nat_lt number count ≡ nat_lt number (count + 1)) [
+      | inl low ↦ lt-ltb number count low ∙ sym (lt-ltb number (count + 1) (omega (arith, low)))
+      | inr high ↦ le-ltb number count high ∙ sym (le-ltb number (count + 1) (omega (arith, high, other)))
+    ]
 
 -- the line behind those that were sensed is sensed
 sensed-more : {n m : ℕ} (first old new : ArrayState n m) (count : ℕ) → SensedSince count first old → Senses (sense_of count 0 (old.line count)) old new → SensedSince (count + 1) first new
@@ -36,6 +49,14 @@ sensed-more {n} {m} first old new count since senses = record {
             ∙ ap (λ l. had.0 ++ l)
             (ap (λ s. first_senses first count ++ s ∷ []) shows ∙ sym (map-range_with_len_more (λ line. sense_of line 0 (first.line line)) 0 count count (omega arith))),
       );
+  energy = λ number.
+      elim (cases_eq number count) as (λ _. new.energy number ≡ counted (nat_lt number (count + 1)) (first.energy number)) [
+        | inl same ↦
+            let before : old.energy count ≡ first.energy count = since.energy count ∙ ap (λ b. counted b (first.energy count)) (le-ltb count count (omega arith)) in
+            rw same
+            (senses.energy.here ∙ ap with_sense before ∙ sym (ap (λ b. counted b (first.energy count)) (lt-ltb count (count + 1) (omega arith))))
+        | inr other ↦ senses.energy.others number other ∙ since.energy number ∙ ap (λ b. counted b (first.energy number)) (also number count other)
+      ];
 }
 
 pub senses-none : {n m : ℕ} (array : ArrayState n m) → SensesRows 0 array array

@@ -3,6 +3,7 @@ ghost use Rattle.std.specs.Prelude.{◌≡◌, ◌≤◌, ◌<◌, ◌++◌, if�
 ghost use Rattle.std.specs.List.{flat_map};
 ghost use Rattle.pcm_io.specs.Faults.{Rose};
 ghost use Rattle.power_recovery.specs.Kept.{IsKept};
+ghost use Rattle.module_shape.specs.Limits.{small_limits};
 ghost use Rattle.pcm_image.specs.Spelling.{u32, bank_bytes, entry_bytes, region_bytes};
 ghost use Rattle.right_images.specs.Saving.{saved_bank, saved_entry, saved_region};
 ghost use Rattle.image_text.specs.Printing.{PrintsMore, PrintsPart};
@@ -18,7 +19,7 @@ use spare_pool::Remap;
 
 // The registers of a region as an image has them.
 fn region_image(region: &Region) -> RegionImage
-    requires { region.now.rotation.lines ≤ 4096 }
+    requires { region.now.rotation.lines ≤ small_limits.lines }
     ensures { result ≡ saved_region region.now }
 {
     let registers = region.registers();
@@ -71,7 +72,7 @@ fn print_regions<const B: usize, K: Sink>(
     out: &mut K,
 ) -> Result<(), WriteFault>
     requires limit { ROW_ROOM ≤ text.old.limit }
-    requires lines { kept.now.shape.lines ≤ 4096 }
+    requires lines { kept.now.shape.lines ≤ small_limits.lines }
     ensures printed { OnOk result (PrintsMore text.old text.new (K.written out.old)
         (K.written out.new) (flat_map region_bytes (map saved_region kept.now.regions))) }
     ensures part { OnErr result (PrintsPart text.old (K.written out.old) (K.written out.new)
@@ -120,7 +121,7 @@ pub fn print_bank<const B: usize, K: Sink>(
     requires limit { ROW_ROOM ≤ text.old.limit }
     requires small { B ≤ 128 }
     requires in_range { IsKept kept.now }
-    requires lines { kept.now.shape.lines ≤ 4096 }
+    requires lines { kept.now.shape.lines ≤ small_limits.lines }
     ensures printed { OnOk result (PrintsMore text.old text.new (K.written out.old)
         (K.written out.new) (bank_bytes (saved_bank kept.now))) }
     ensures part { OnErr result (PrintsPart text.old (K.written out.old) (K.written out.new)

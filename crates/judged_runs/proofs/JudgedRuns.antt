@@ -10,7 +10,7 @@ use Rattle.check_reader.specs.{ReadOnce.{AreAsks, IsReadOnce, ReadOnceLaw}, Resu
 use Rattle.check_reader.specs.declared.fault.ResultFault.TheVariants as reading
 use Rattle.run_text.specs.ResultText.{asked, named_line, results_text, rows_text}
 use Rattle.right_runs.specs.{Banks.{rules_in, banks_of}, Ends.BankEnd}
-use Rattle.module_shape.specs.{Limits.{IsShape, IsSmall, total_of}, declared.raw.RawShape.RawShape}
+use Rattle.module_shape.specs.{Limits.{IsShape, IsSmall, small_limits, total_of}, declared.raw.RawShape.RawShape}
 use Rattle.row_rules.specs.declared.Row.{Row}
 use Rattle.run_laws.specs.RowsOfRuns.{FewArrayLinesLaw, OwnOutcomesLaw, PlacesExistLaw}
 use Rattle.check_verdict.specs.{Verdicts.{RowsOk, verdict_of}, declared.Verdict.Verdict, declared.Verdict.TheVariants.Yes}
@@ -57,7 +57,7 @@ asks-below lines before (event ∷ events) (suc i) ask some for at = asks-below 
 length-asks : {n : ℕ} (events : List (Event n)) → length (asks_in events) ≡ length events
 length-asks events = length-map events (λ event. ask_of event.op)
 
-are-asks : {n : ℕ} (lines : ℕ) (events : List (Event n)) → 1 ≤ lines → lines ≤ 65536 → AreEventsFor lines 0 events → length events ≤ most_rows → AreAsks (asks_in events)
+are-asks : {n : ℕ} (lines : ℕ) (events : List (Event n)) → 1 ≤ lines → lines ≤ small_limits.total → AreEventsFor lines 0 events → length events ≤ most_rows → AreAsks (asks_in events)
 are-asks lines events some few for rows = record {
   few = omega (arith, length-asks events, rows);
   lines = λ i ask at. omega (arith, asks-below lines 0 events i ask some for at, few);
@@ -181,7 +181,7 @@ may_stand_law owned places few soon kept n m e raw seed trace events outcomes ar
     (gives-bytes n (total_of raw) trace events run.reads) run.one_each run.right (rules-kept kept e raw seed trace events outcomes array ends run)
 
 -- the rows of results, from a number on
-rows-short : {n : ℕ} (lines before row : ℕ) (events : List (Event n)) (outcomes : List (Outcome n)) → 1 ≤ lines → lines ≤ 65536 → AreEventsFor lines before events
+rows-short : {n : ℕ} (lines before row : ℕ) (events : List (Event n)) (outcomes : List (Outcome n)) → 1 ≤ lines → lines ≤ small_limits.total → AreEventsFor lines before events
     → row + length events ≤ 400001 → EachMayStand (asks_in events) outcomes → length (rows_text row events outcomes) ≤ length events * (64 + 2 * n)
 unfolding AreEventsFor EachMayStand rows_text
 rows-short lines before row [] outcomes some few for within may = omega arith

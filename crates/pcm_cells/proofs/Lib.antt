@@ -18,3 +18,4 @@ pub mod PagingLemmas
 pub mod AgeLemmas
 pub mod EnduranceLemmas
 pub mod LoggingLemmas
+pub mod EnergyLemmas

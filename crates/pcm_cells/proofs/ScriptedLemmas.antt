@@ -1,7 +1,7 @@
 -- A scripted array keeps what every array keeps.
 use Rattle.std.proofs.Common.{◌≡◌, ℕ, ◌+◌, ◌<◌, ◌≤◌, Bool, true, false, cond, List, length, get_or, set, length-set, get_or-set_same, get_or-set_other, slice_index, refl, ◌∙◌, ap, inl, inr, arith, Option, Some, None}
 use Rattle.std.{specs.Prelude.nat_lt, proofs.lemmas.List.get_or_default}
-use Rattle.cell_rows.specs.{Device.{DeviceStep, TornStep, counted}, Rows.cell, declared.row.Cells.Cells}
+use Rattle.cell_rows.specs.{Device.{DeviceStep, TornStep, counted}, Rows.cell, declared.array.LineEnergy.LineEnergy, declared.row.Cells.Cells}
 use Rattle.pcm_cells.specs.{Cell.{line_state, cell_state}, Follows.Follows}
 use Rattle.pcm_cells.specs.Scripted.{scripted_bounds, act_at, acted, next_turn, ScriptedCell, ScriptedLine, ScriptedArray, Turns, blank_scripted, scripted, scripted_cell}
 use Rattle.pcm_cells.specs.{Scripted.scripted_line, declared.line.CellState.CellState, declared.script.Act.Act, declared.script.Act.TheVariants.{Miss, Stick}}
@@ -70,11 +70,11 @@ scripted_torn_step mask want script line old new follows few pulses =
 
 -- an array one of whose lines took its turn
 pub line_turned : {B M : ℕ} (line : ℕ) (tearing : Bool) (mask want : Cells B M) (old : ScriptedArray B M) (was row : ScriptedLine B M)
-    → line < length old.lines → was ≡ get_or old.lines line was
+    (energies : List (Option LineEnergy)) → line < length old.lines → was ≡ get_or old.lines line was
     → Follows (cell mask) (scripted old.script line tearing (cell want)) (scripted_cell was) (scripted_cell row)
     → row.line.pulses ≡ counted was.line.pulses
-    → Turns line tearing mask want old (record old { lines = set old.lines line row })
-line_turned {B} {M} line tearing mask want old was row within is follows pulses =
+    → Turns line tearing mask want old (record old { lines = set old.lines line row; energies = energies })
+line_turned {B} {M} line tearing mask want old was row energies within is follows pulses =
     let before : was ≡ scripted_line old line = is ∙ get_or_default old.lines line was (blank_scripted B M) within in
     let after : get_or (set old.lines line row) line (blank_scripted B M) ≡ row = get_or-set_same old.lines line row (blank_scripted B M) within in
     record {

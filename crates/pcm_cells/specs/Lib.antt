@@ -5,11 +5,13 @@ pub mod Logging
 pub mod Logged
 pub mod Planes
 pub mod Counts
+pub mod Energies
 pub mod Seeded
 pub mod Pages
 pub mod Young
 pub mod Table
 pub mod PageTable
+pub mod Counting
 pub mod Paged
 pub mod Paging
 pub mod Endurance

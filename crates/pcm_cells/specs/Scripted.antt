@@ -1,8 +1,8 @@
 -- The array whose cells miss and stick as a script says.
 use Rattle.std.specs.Prelude.{ℕ, ◌≡◌, ◌≢◌, ◌+◌, ◌-◌, ◌*◌, ◌^◌, min, Bool, true, false, ◌&&◌, nat_eq, nat_lt, if◌then◌else◌, List, [], ◌∷◌, length, replicate, slice_index}
 use Rattle.std.specs.{Prelude.{slice_index_or, Option, Some, None, Vec}, declared.alloc.Global.Global}
-use Rattle.cell_rows.specs.{Device.{ArrayState, CellBounds, counted}, Rows.cell, declared.array.Wear.Wear, declared.row.Cells.Cells}
-use Rattle.pcm_cells.specs.{Cell.{CellLine, line_state, cell_state, blank_line}, Follows.Follows, declared.line.CellState.CellState, declared.script.Act.Act}
+use Rattle.cell_rows.specs.{Device.{ArrayState, CellBounds, counted}, Rows.cell, declared.array.LineEnergy.LineEnergy, declared.array.Wear.Wear, declared.row.Cells.Cells}
+use Rattle.pcm_cells.specs.{Cell.{CellLine, line_state, cell_state, blank_line}, Energies.energy_at, Follows.Follows, declared.line.CellState.CellState, declared.script.Act.Act}
 use Rattle.pcm_cells.specs.{declared.script.Act.TheVariants.{Miss, Stick}, declared.script.Script.Script}
 
 -- what the script says of a cell at a turn: the first item that names them
@@ -52,12 +52,13 @@ abbrev pub scripted_lines : {B M : ℕ} → Option (Vec (ScriptedLine B M) Globa
 scripted_lines None = []
 scripted_lines (Some lines) = lines.items
 
--- the array: its lines, its script, how often it was torn, and the wear that it was last powered up with
+-- the array: its lines, its script, how often it was torn, the wear that it was last powered up with, and the counts of its energy
 pub record ScriptedArray (B M : ℕ) : Type 0 where
   pub lines : List (ScriptedLine B M)
   pub script : List Script
   pub tears : ℕ
   pub wear : Option Wear
+  pub energies : List (Option LineEnergy)
 
 -- the line with this number
 abbrev pub scripted_line : {B M : ℕ} → ScriptedArray B M → ℕ → ScriptedLine B M
@@ -76,6 +77,7 @@ scripted_state array = record {
   log = None;
   wear = array.wear;
   bounds = scripted_bounds;
+  energy = λ number. Some (energy_at array.energies number);
 }
 
 -- a pulse or a tear of the line: each masked cell takes its next turn, the pulse is counted, and all else stays

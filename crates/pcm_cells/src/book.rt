@@ -1,14 +1,17 @@
 // Pages that are kept, one behind the other, in chunks: the room of all is taken at once, and no chunk asks for so much that a machine
 // refuses it alone.
-ghost use Rattle.std.specs.Prelude.{◌≡◌, ℕ, ◌+◌, ◌*◌, ◌≤◌, ◌<◌, false, length, slice_index_or, IfOk, [], ◌∷◌, ◌++◌};
+ghost use Rattle.std.specs.Prelude.{◌≡◌, ℕ, ◌+◌, ◌*◌, ◌≤◌, ◌<◌, false, length, slice_index_or, slice_set, IfOk, [], ◌∷◌, ◌++◌};
 ghost use Rattle.cell_rows.specs.Rows.{cell};
 ghost use Rattle.cell_rows.specs.Shape.{IsShape, IsWhole};
+ghost use Rattle.cell_rows.specs.Energy.{no_energy};
 ghost use Rattle.pcm_cells.specs.Book.{AgesAt, WearsAt};
+ghost use Rattle.pcm_cells.specs.Counting.{worked};
 ghost use Rattle.pcm_cells.specs.Young.{MayAge};
 
+use crate::energies::{Work, worked};
 use crate::seeded::SeededLine;
 use crate::young::Young;
-use cell_rows::Cells;
+use cell_rows::{Cells, LineEnergy};
 use std::alloc::{AllocError, Global};
 use std::marker::Model;
 
@@ -120,5 +123,19 @@ impl<const B: usize, const M: usize> Book<Young<B, M>> {
         let chunk = &mut self.chunks[index / CHUNK];
         let page = &mut chunk[index % CHUNK];
         page.wear(tearing, mask, want);
+    }
+}
+
+impl Book<LineEnergy> {
+    /// Counts what is done to the line on a page.
+    pub(crate) fn work(&mut self, index: usize, work: Work)
+        requires { index < length self.old.pages }
+        ensures pages { self.new.pages ≡ slice_set self.old.pages index
+            (worked work (slice_index_or self.old.pages index no_energy)) }
+        ensures room { self.new.room ≡ self.old.room }
+    {
+        let chunk = &mut self.chunks[index / CHUNK];
+        let page = &mut chunk[index % CHUNK];
+        *page = worked(work, *page);
     }
 }

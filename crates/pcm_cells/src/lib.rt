@@ -7,6 +7,7 @@ mod book;
 mod calm;
 mod counts;
 mod digits;
+mod energies;
 mod levels;
 mod line;
 mod logged;

@@ -71,7 +71,8 @@ impl<A: CellArray<B, M> + Drop, const B: usize, const M: usize> LoggedArray<A, B
 impl<A: CellArray<B, M> + Drop, const B: usize, const M: usize> CellArray<B, M>
     for LoggedArray<A, B, M> {
     ghost use Rattle.std.specs.Prelude.{◌+◌, OnOk, OnErr, [], Some};
-    ghost use Rattle.cell_rows.specs.Device.{DeviceStep, TornStep, ChangesOnly, Senses, IsFresh, IsWear, counted, sense_of};
+    ghost use Rattle.cell_rows.specs.Device.{DeviceStep, TornStep, ChangesOnly, EnergyChanges, Senses, IsFresh, IsWear, counted, sense_of};
+    ghost use Rattle.cell_rows.specs.Energy.{with_pulse};
     ghost use Rattle.cell_rows.specs.Shape.{IsShape};
     ghost use Rattle.cell_rows.specs.Pulse.{IsPulse};
     ghost use Rattle.pcm_cells.specs.Logging.{logged};
@@ -135,6 +136,10 @@ impl<A: CellArray<B, M> + Drop, const B: usize, const M: usize> CellArray<B, M>
         ensures others { ChangesOnly line (logged_state (A.state self.old.inner) self.old)
             (logged_state (A.state self.new.inner) self.new) }
         ensures tears { (A.state self.new.inner).tears ≡ (A.state self.old.inner).tears }
+        ensures energy { EnergyChanges line
+            (with_pulse mask.now want.now ((A.state self.old.inner).energy line))
+            (logged_state (A.state self.old.inner) self.old)
+            (logged_state (A.state self.new.inner) self.new) }
         ensures passed { ChangesOnly line (A.state self.old.inner) (A.state self.new.inner) }
         ensures cap { self.new.cap ≡ self.old.cap }
     {
@@ -151,6 +156,10 @@ impl<A: CellArray<B, M> + Drop, const B: usize, const M: usize> CellArray<B, M>
         ensures others { ChangesOnly line (logged_state (A.state self.old.inner) self.old)
             (logged_state (A.state self.new.inner) self.new) }
         ensures tears { (A.state self.new.inner).tears ≡ counted (A.state self.old.inner).tears }
+        ensures energy { EnergyChanges line
+            (with_pulse mask.now want.now ((A.state self.old.inner).energy line))
+            (logged_state (A.state self.old.inner) self.old)
+            (logged_state (A.state self.new.inner) self.new) }
         ensures passed { ChangesOnly line (A.state self.old.inner) (A.state self.new.inner) }
         ensures cap { self.new.cap ≡ self.old.cap }
     {

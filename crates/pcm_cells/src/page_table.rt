@@ -1,14 +1,17 @@
 // The pages of lines, of which none has one at first.
 ghost use Rattle.std.specs.Prelude.{◌≡◌, ◌<◌, ℕ, length, slice_set, Some, None, IfOk, IsSome, is_some, option_copied, replicate};
 ghost use Rattle.cell_rows.specs.Shape.{IsShape, IsWhole};
+ghost use Rattle.pcm_cells.specs.Counting.{worked};
+ghost use Rattle.pcm_cells.specs.Energies.{energy_at};
 ghost use Rattle.pcm_cells.specs.PageTable.{AgesPage, WearsPage, page_at};
 ghost use Rattle.pcm_cells.specs.Young.{MayAge};
 
 use crate::book::Book;
+use crate::energies::{Work, worked};
 use crate::seeded::SeededLine;
 use crate::table::Table;
 use crate::young::Young;
-use cell_rows::Cells;
+use cell_rows::{Cells, LineEnergy};
 use std::alloc::{AllocError, Global};
 use std::marker::Model;
 
@@ -108,5 +111,25 @@ impl<const B: usize, const M: usize> PageTable<Young<B, M>> {
     {
         let index = self.table.get(line) as usize - 1;
         self.pages.age(index, tearing, mask, want);
+    }
+}
+
+impl PageTable<LineEnergy> {
+    /// Counts what is done to a line. One without a page gets one.
+    pub(crate) fn work(&mut self, line: u32, work: Work)
+        requires { line < length self.old }
+        ensures { self.new ≡ slice_set self.old line (Some (worked work (energy_at self.old line))) }
+    {
+        match self.table.get(line) {
+            0 => {
+                let none = LineEnergy {
+                    set: 0,
+                    reset: 0,
+                    senses: 0,
+                };
+                self.insert(line, worked(work, none));
+            }
+            page => self.pages.work(page as usize - 1, work),
+        }
     }
 }

@@ -2,8 +2,9 @@
 ghost use Rattle.std.specs.Prelude.{◌≡◌, ◌≢◌, ℕ, ◌+◌, ◌*◌, ◌<◌, ◌≤◌, true, false, [], length, replicate, IfOk, OnOk, OnErr, slice_index};
 
 use crate::CellState;
+use crate::energies::Energies;
 use crate::line::{Line, has_end};
-use cell_rows::{CellArray, Cells, Wear};
+use cell_rows::{CellArray, Cells, LineEnergy, Wear};
 use cell_wear::{CellWear, TellsCells};
 use std::alloc::{AllocError, Global};
 use std::marker::Model;
@@ -90,7 +91,7 @@ impl<const B: usize, const M: usize> Model for ScriptLine<B, M> {
 ghost use Rattle.pcm_cells.specs.Cell.{cell_state, line_state, SetsCell};
 ghost use Rattle.cell_rows.specs.Rows.{cell};
 ghost use Rattle.cell_rows.specs.Shape.{IsShape};
-ghost use Rattle.cell_rows.specs.Device.{counted};
+ghost use Rattle.cell_rows.specs.Device.{EnergyChanges, counted};
 ghost use Rattle.pcm_cells.specs.Follows.{Follows, FollowsIn};
 ghost use Rattle.pcm_cells.specs.Scripted.{scripted, scripted_cell, blank_scripted};
 
@@ -202,12 +203,13 @@ fn blank_lines<const B: usize, const M: usize>(
 pub struct ScriptArray<const B: usize, const M: usize> {
     lines: Option<Vec<ScriptLine<B, M>>>,
     script: Vec<Script>,
+    energies: Energies,
     tears: u64,
     wear: Option<Wear>,
 }
 
 impl<const B: usize, const M: usize> Model for ScriptArray<B, M> {
-    ghost use Rattle.std.specs.Prelude.{◌^◌, ◌<◌, length};
+    ghost use Rattle.std.specs.Prelude.{◌≡◌, ◌^◌, ◌<◌, length};
     ghost use Rattle.pcm_cells.specs.Scripted.{ScriptedArray, scripted_lines};
     ghost use Rattle.cell_rows.specs.Shape.{IsShape};
 
@@ -218,22 +220,34 @@ impl<const B: usize, const M: usize> Model for ScriptArray<B, M> {
       script = a.script.items;
       tears = a.tears;
       wear = a.wear;
+      energies = a.energies;
     } };
 
-    ghost invariant = { λ a. (length (scripted_lines a.lines) < 2 ^ 32) × IsShape B M };
+    ghost invariant = { λ a. (length (scripted_lines a.lines) < 2 ^ 32) × IsShape B M
+        × (length a.energies ≡ length (scripted_lines a.lines)) };
 }
 
+ghost use Rattle.std.specs.Prelude.{slice_set, Some, None};
+ghost use Rattle.cell_rows.specs.Energy.{with_pulse, with_sense};
+ghost use Rattle.pcm_cells.specs.Energies.{energy_at};
 ghost use Rattle.pcm_cells.specs.Scripted.{scripted_line, scripted_state, Turns};
 
 impl<const B: usize, const M: usize> ScriptArray<B, M> {
     /// An array without lines.
     pub fn new(script: Vec<Script>) -> ScriptArray<B, M>
         requires { IsShape B M }
-        ensures { result ≡ record { lines = []; script = script.items; tears = 0; wear = None } }
+        ensures { result ≡ record {
+          lines = [];
+          script = script.items;
+          tears = 0;
+          wear = None;
+          energies = [];
+        } }
     {
         ScriptArray {
             lines: None,
             script,
+            energies: Energies::none(),
             tears: 0,
             wear: None,
         }
@@ -245,17 +259,22 @@ impl<const B: usize, const M: usize> ScriptArray<B, M> {
           lines = replicate lines (blank_scripted B M);
           tears = 0;
           wear = Some wear;
+          energies = replicate lines None;
         }) }
         ensures err { OnErr result (self.new ≡ record self.old {
           lines = [];
           tears = 0;
           wear = Some wear;
+          energies = [];
         }) }
     {
         self.lines = None;
+        self.energies = Energies::none();
         self.tears = 0;
         self.wear = Some(wear);
+        let energies = Energies::blank(alloc, lines)?;
         self.lines = Some(blank_lines(alloc, lines)?);
+        self.energies = energies;
         Ok(())
     }
 
@@ -267,7 +286,11 @@ impl<const B: usize, const M: usize> ScriptArray<B, M> {
         ensures few { (n : ℕ) → slice_index (scripted_line self.new line).line.misses n ≤ 7 }
         ensures tears { self.new.tears ≡ self.old.tears }
         ensures wear { self.new.wear ≡ self.old.wear }
+        ensures energy { EnergyChanges line
+            (with_pulse mask.now want.now ((scripted_state self.old).energy line))
+            (scripted_state self.old) (scripted_state self.new) }
     {
+        self.energies.drive(line, mask, want);
         let Some(lines) = &mut self.lines else {
             unreachable!()
         };
@@ -305,8 +328,12 @@ impl<const B: usize, const M: usize> CellArray<B, M> for ScriptArray<B, M> {
         ensures cells { result ≡ (scripted_line self.old line).line.held }
         ensures step { Senses (sense_of line tick ((scripted_state self.old).line line))
             (scripted_state self.old) (scripted_state self.new) }
-        ensures kept { self.new ≡ self.old }
+        ensures counted { self.new ≡ record self.old {
+          energies = slice_set self.old.energies line
+              (with_sense (Some (energy_at self.old.energies line)));
+        } }
     {
+        self.energies.sense(line);
         let Some(lines) = &self.lines else {
             unreachable!()
         };
@@ -321,6 +348,9 @@ impl<const B: usize, const M: usize> CellArray<B, M> for ScriptArray<B, M> {
             ((scripted_state self.old).line line) ((scripted_state self.new).line line) }
         ensures others { ChangesOnly line (scripted_state self.old) (scripted_state self.new) }
         ensures tears { self.new.tears ≡ self.old.tears }
+        ensures energy { EnergyChanges line
+            (with_pulse mask.now want.now ((scripted_state self.old).energy line))
+            (scripted_state self.old) (scripted_state self.new) }
         ensures turn { Turns line false mask.now want.now self.old self.new }
     {
         self.turn(line, false, mask, want);
@@ -334,6 +364,9 @@ impl<const B: usize, const M: usize> CellArray<B, M> for ScriptArray<B, M> {
             ((scripted_state self.old).line line) ((scripted_state self.new).line line) }
         ensures others { ChangesOnly line (scripted_state self.old) (scripted_state self.new) }
         ensures tears { self.new.tears ≡ counted self.old.tears }
+        ensures energy { EnergyChanges line
+            (with_pulse mask.now want.now ((scripted_state self.old).energy line))
+            (scripted_state self.old) (scripted_state self.new) }
         ensures turn { Turns line true mask.now want.now self.old self.new }
     {
         self.turn(line, true, mask, want);
@@ -362,5 +395,9 @@ impl<const B: usize, const M: usize> TellsCells<B, M> for ScriptArray<B, M> {
 
     fn cell_wear(&self, line: u32) -> Option<CellWear> {
         None
+    }
+
+    fn energy(&self, line: u32) -> Option<LineEnergy> {
+        Some(self.energies.at(line))
     }
 }

@@ -6,10 +6,11 @@ use crate::blocks::{are_many, byte_at, chosen, life, reached, spend, with_life, 
 use crate::calm::{Moving, Settled, has_room, is_calm, wear_calm};
 use crate::counts::Counts;
 use crate::digits::Digits;
+use crate::energies::Energies;
 use crate::line::has_end;
 use crate::pages::Pages;
 use crate::young::Young;
-use cell_rows::{CellArray, Cells, Wear};
+use cell_rows::{CellArray, Cells, LineEnergy, Wear};
 use cell_wear::{CellWear, TellsCells};
 use rand_core::{Rng, SeedableRng};
 use rand_xoshiro::Xoshiro256PlusPlus;
@@ -84,7 +85,7 @@ impl<const B: usize, const M: usize> Model for SeededLine<B, M> {
 ghost use Rattle.cell_rows.specs.Rows.{cell, members};
 ghost use Rattle.cell_wear.specs.Told.{most};
 ghost use Rattle.cell_rows.specs.Shape.{IsShape, IsWhole};
-ghost use Rattle.cell_rows.specs.Device.{counted};
+ghost use Rattle.cell_rows.specs.Device.{EnergyChanges, counted};
 ghost use Rattle.pcm_cells.specs.Follows.{Follows, FollowsIn};
 ghost use Rattle.pcm_cells.specs.Seeded.{seeded_cell, left_of, IsDrawn};
 ghost use Rattle.pcm_cells.specs.Counts.{count};
@@ -363,7 +364,9 @@ impl<const B: usize, const M: usize> SeededLine<B, M> {
     }
 }
 
-ghost use Rattle.std.specs.Prelude.{[]};
+ghost use Rattle.std.specs.Prelude.{[], slice_set};
+ghost use Rattle.cell_rows.specs.Energy.{with_pulse, with_sense};
+ghost use Rattle.pcm_cells.specs.Energies.{energy_at};
 ghost use Rattle.pcm_cells.specs.Seeded.{bounds_of, seeded_line, seeded_state, Wears};
 
 /// An array whose cells miss and wear out as the words of the generator xoshiro256++ say, which `Wear::seed`
@@ -375,6 +378,7 @@ ghost use Rattle.pcm_cells.specs.Seeded.{bounds_of, seeded_line, seeded_state, W
 #[derive(Drop)]
 pub struct MemArray<const B: usize, const M: usize> {
     lines: Option<Pages<B, M>>,
+    energies: Energies,
     tears: u64,
 }
 
@@ -382,6 +386,7 @@ impl<const B: usize, const M: usize> Model for MemArray<B, M> {
     ghost use Rattle.pcm_cells.specs.Endurance.{AreBounded, IsInRange};
     ghost use Rattle.pcm_cells.specs.Paging.{seeded_lines, seeded_wear};
     ghost use Rattle.pcm_cells.specs.Seeded.{SeededArray, bounds_of};
+    ghost use Rattle.std.specs.Prelude.{◌≡◌, length};
     ghost use Rattle.cell_rows.specs.Shape.{IsShape, IsWhole};
 
     ghost Value = { SeededArray B M };
@@ -390,10 +395,12 @@ impl<const B: usize, const M: usize> Model for MemArray<B, M> {
       lines = seeded_lines a.lines;
       tears = a.tears;
       wear = seeded_wear a.lines;
+      energies = a.energies;
     } };
 
     ghost invariant = { λ a. IsShape B M × IsWhole B M × IsInRange (bounds_of (seeded_wear a.lines))
-        × AreBounded (bounds_of (seeded_wear a.lines)) (seeded_lines a.lines) };
+        × AreBounded (bounds_of (seeded_wear a.lines)) (seeded_lines a.lines)
+        × (length a.energies ≡ length (seeded_lines a.lines)) };
 }
 
 impl<const B: usize, const M: usize> MemArray<B, M> {
@@ -403,10 +410,11 @@ impl<const B: usize, const M: usize> MemArray<B, M> {
     pub fn new() -> MemArray<B, M>
         requires shape { IsShape B M }
         requires whole { IsWhole B M }
-        ensures { result ≡ record { lines = []; tears = 0; wear = None } }
+        ensures { result ≡ record { lines = []; tears = 0; wear = None; energies = [] } }
     {
         MemArray {
             lines: None,
+            energies: Energies::none(),
             tears: 0,
         }
     }
@@ -416,6 +424,9 @@ impl<const B: usize, const M: usize> MemArray<B, M> {
         requires exists { line < length self.old.lines }
         requires shape { IsShape B M }
         ensures wears { Wears line tearing mask.now want.now self.old self.new }
+        ensures energy { EnergyChanges line
+            (with_pulse mask.now want.now ((seeded_state self.old).energy line))
+            (seeded_state self.old) (seeded_state self.new) }
         ensures tears { self.new.tears ≡ self.old.tears }
         ensures wear { self.new.wear ≡ self.old.wear }
         ensures range { IsInRange (bounds_of self.old.wear) }
@@ -423,6 +434,7 @@ impl<const B: usize, const M: usize> MemArray<B, M> {
         ensures end { (n : ℕ) → 8 * (B + M) ≤ n → cell mask.now n ≡ false }
     {
         has_end(mask);
+        self.energies.drive(line, mask, want);
         let Some(lines) = &mut self.lines else {
             unreachable!()
         };
@@ -445,8 +457,11 @@ impl<const B: usize, const M: usize> CellArray<B, M> for MemArray<B, M> {
             → IsDrawn wear l (seeded_line self.new l)) }
     {
         self.lines = None;
+        self.energies = Energies::none();
         self.tears = 0;
+        let energies = Energies::blank(alloc, lines)?;
         self.lines = Some(Pages::blank(alloc, lines, wear)?);
+        self.energies = energies;
         Ok(())
     }
 
@@ -463,8 +478,12 @@ impl<const B: usize, const M: usize> CellArray<B, M> for MemArray<B, M> {
         ensures cells { result ≡ (seeded_line self.old line).line.held }
         ensures step { Senses (sense_of line tick ((seeded_state self.old).line line))
             (seeded_state self.old) (seeded_state self.new) }
-        ensures kept { self.new ≡ self.old }
+        ensures counted { self.new ≡ record self.old {
+          energies = slice_set self.old.energies line
+              (with_sense (Some (energy_at self.old.energies line)));
+        } }
     {
+        self.energies.sense(line);
         let Some(lines) = &self.lines else {
             unreachable!()
         };
@@ -479,6 +498,9 @@ impl<const B: usize, const M: usize> CellArray<B, M> for MemArray<B, M> {
             ((seeded_state self.old).line line) ((seeded_state self.new).line line) }
         ensures others { ChangesOnly line (seeded_state self.old) (seeded_state self.new) }
         ensures tears { self.new.tears ≡ self.old.tears }
+        ensures energy { EnergyChanges line
+            (with_pulse mask.now want.now ((seeded_state self.old).energy line))
+            (seeded_state self.old) (seeded_state self.new) }
         ensures wears { Wears line false mask.now want.now self.old self.new }
     {
         self.wear(line, false, mask, want);
@@ -493,6 +515,9 @@ impl<const B: usize, const M: usize> CellArray<B, M> for MemArray<B, M> {
             ((seeded_state self.new).line line) }
         ensures others { ChangesOnly line (seeded_state self.old) (seeded_state self.new) }
         ensures tears { self.new.tears ≡ counted self.old.tears }
+        ensures energy { EnergyChanges line
+            (with_pulse mask.now want.now ((seeded_state self.old).energy line))
+            (seeded_state self.old) (seeded_state self.new) }
         ensures wears { Wears line true mask.now want.now self.old self.new }
     {
         self.wear(line, true, mask, want);
@@ -525,5 +550,9 @@ impl<const B: usize, const M: usize> TellsCells<B, M> for MemArray<B, M> {
             unreachable!()
         };
         Some(lines.cell_wear(line))
+    }
+
+    fn energy(&self, line: u32) -> Option<LineEnergy> {
+        Some(self.energies.at(line))
     }
 }

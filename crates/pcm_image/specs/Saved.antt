@@ -2,7 +2,7 @@
 use Rattle.std.specs.Prelude.{◌≡◌, ℕ, ◌+◌, ◌*◌, ◌^◌, ◌%◌, ◌<◌, ◌≤◌, ◌==◌, ◌&&◌, nat_le, Bool, if◌then◌else◌, List, length, All, IsTrue}
 use Rattle.masked_bytes.specs.Masked.{IsMasked}
 use Rattle.cell_rows.specs.declared.row.Cells.{Cells}
-use Rattle.module_shape.specs.Limits.{is_power_between}
+use Rattle.module_shape.specs.Limits.{is_power_between, small_limits}
 use Rattle.pcm_image.specs.{declared.EntryImage.EntryImage, declared.RegionImage.RegionImage}
 
 -- what is saved of a bank: whether it is exhausted, the slots that were given its spares, in order, the registers of its regions, and
@@ -51,7 +51,7 @@ array_lines_in h = slots_in h + h.spares + controls_in h
 
 -- whether a region may have so many lines, in a module of so many banks of so many regions: it has at most 65,536 lines in all
 abbrev pub is_lines : ℕ → ℕ → ℕ → Bool
-is_lines banks regions n = is_power_between 4 4096 n && nat_le (banks * regions * n) 65536
+is_lines banks regions n = is_power_between 4 small_limits.lines n && nat_le (banks * regions * n) small_limits.total
 
 -- the numbers are those of a module
 pub record IsHead (h : Head) : Type 0 where

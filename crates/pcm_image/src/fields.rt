@@ -3,7 +3,7 @@ ghost use Rattle.std.specs.Prelude.{◌≡◌, ◌+◌, ◌-◌, ◌*◌, ◌^�
 ghost use Rattle.std.specs.Int.{w16, w32, w64};
 ghost use Rattle.pcm_image.specs.declared.fields.ReadImage.TheVariants.{NoMemory};
 ghost use Rattle.pcm_image.specs.declared.ImageKind.TheVariants as kind;
-ghost use Rattle.module_shape.specs.Limits.{is_power_between};
+ghost use Rattle.module_shape.specs.Limits.{is_power_between, small_limits};
 ghost use Rattle.pcm_image.specs.Saved.{is_lines};
 ghost use Rattle.pcm_image.specs.Reading.{any, field, byte_at, number_at, is_size_of, size_at, head_at};
 ghost use Rattle.pcm_image.specs.Giving.{Gives, IsSmall, cursor, head_view};
@@ -175,7 +175,7 @@ pub fn u64_at<'a>(fields: Fields<'a>) -> Result<(u64, Fields<'a>), ReadImage>
 fn is_lines_of(banks: u8, regions: u8, lines: u16) -> bool
     requires { (banks ≤ 16) × (regions ≤ 16) }
     ensures is { result ≡ is_lines banks regions lines }
-    ensures few { IsTrue result → banks * regions * lines ≤ 65536 }
+    ensures few { IsTrue result → banks * regions * lines ≤ small_limits.total }
 {
     is_power_in(lines as u32, 4, 4096) && banks as u32 * regions as u32 * lines as u32 <= 65_536
 }
@@ -187,7 +187,7 @@ fn lines_at<'a>(fields: Fields<'a>, banks: u8, regions: u8) -> Result<(u16, Fiel
     ensures gives { Gives (λ x. (x.0, cursor x.1)) result
         (number_at w16 kind.Shape (is_lines banks regions) (cursor fields.entry)) }
     ensures at { IfOk result (λ x. x.1.at ≡ fields.entry.at + 2) }
-    ensures few { IfOk result (λ x. banks * regions * x.0 ≤ 65536) }
+    ensures few { IfOk result (λ x. banks * regions * x.0 ≤ small_limits.total) }
 {
     let (number, rest) = u16_at(fields)?;
     if !is_lines_of(banks, regions, number) {

@@ -3,6 +3,7 @@ ghost use Rattle.std.specs.Prelude.{◌≡◌, ℕ, ◌+◌, ◌*◌, ◌/◌, �
 ghost use Rattle.masked_bytes.specs.Masked.{laid};
 ghost use Rattle.masked_bytes.specs.Entries.{layer_of, AllMasked};
 ghost use Rattle.spare_pool.specs.Table.{line_by, line_from};
+ghost use Rattle.module_shape.specs.Limits.{small_limits};
 ghost use Rattle.feistel_map.specs.Log2.{log2};
 ghost use Rattle.cell_rows.specs.Rows.{zero_row};
 ghost use Rattle.ecp_line.specs.Layout.{IsLayout};
@@ -152,7 +153,7 @@ impl<const B: usize, const M: usize> Image<B, M> {
         requires { IsSaved self.now }
         ensures is { result ≡ total_in self.now.head }
         ensures some { 4 ≤ result }
-        ensures few { result ≤ 65536 }
+        ensures few { result ≤ small_limits.total }
     {
         self.banks as u32 * self.regions as u32 * self.lines as u32
     }

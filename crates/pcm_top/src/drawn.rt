@@ -3,7 +3,7 @@ ghost use Rattle.std.specs.Prelude.{◌≡◌, ◌≤◌};
 ghost use Rattle.pcm_io.specs.Reserved.{reserved};
 ghost use Rattle.module_shape.specs.Limits.{IsSmall};
 ghost use Rattle.trace_gen.specs.EventText.{trace_text};
-ghost use Rattle.trace_gen.specs.Generated.{IsMix, generated};
+ghost use Rattle.trace_gen.specs.Generated.{IsMix, generated, whole_lines};
 ghost use Rattle.pcm_top.specs.Jobs.{gen_text};
 ghost use Rattle.program_calls.specs.Calls.{Writes, lent_sink, sink_change};
 ghost use Rattle.pcm_top.specs.Ends.{EndsText};
@@ -26,7 +26,7 @@ fn print_drawn<const B: usize, K: Sink>(
     requires room { text.old ≡ reserved TEXT_ROOM }
     requires small { B ≤ 128 }
     requires some_lines { 1 ≤ lines }
-    requires few_lines { lines ≤ 65536 }
+    requires few_lines { lines ≤ whole_lines }
     requires mix { IsMix mix }
     ensures { Writes (trace_text (generated B seed lines mix))
         (sink_change K.written K.faults out.old out.new) result }

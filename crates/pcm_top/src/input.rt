@@ -1,6 +1,6 @@
 // The events of a run: those of the trace that the source gives, or those that a seed draws.
 ghost use Rattle.std.specs.Prelude.{◌≡◌, ◌≤◌, false, vec_len, IfOk, IfErr};
-ghost use Rattle.trace_gen.specs.Generated.{IsMix, generated};
+ghost use Rattle.trace_gen.specs.Generated.{IsMix, generated, whole_lines};
 ghost use Rattle.trace_reader.specs.Events.{AreEventsFor};
 ghost use Rattle.module_shape.specs.Limits.{IsShape, total_of};
 ghost use Rattle.command_line.specs.Jobs.{IsRun};
@@ -48,7 +48,7 @@ fn draw_trace<const B: usize>(
 ) -> Result<Vec<Event<B>>, Fault>
     requires small { B ≤ 128 }
     requires some_lines { 1 ≤ lines }
-    requires few_lines { lines ≤ 65536 }
+    requires few_lines { lines ≤ whole_lines }
     requires mix { IsMix mix }
     ensures drawn { IfOk result (λ events. events.items ≡ generated B seed lines mix) }
     ensures events { IfOk result (λ events. AreEventsFor lines 0 events.items) }

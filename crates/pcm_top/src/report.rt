@@ -5,6 +5,7 @@ ghost use Rattle.module_shape.specs.Limits.{IsSmall};
 ghost use Rattle.rotation_reports.specs.MapText.{IsMapOptions, map_text};
 ghost use Rattle.rotation_reports.specs.MovesText.{moves_text};
 ghost use Rattle.command_line.specs.Jobs.{IsMoves};
+ghost use Rattle.command_line.specs.Options.{full_turn};
 ghost use Rattle.pcm_top.specs.Jobs.{map_options};
 ghost use Rattle.program_calls.specs.Calls.{Writes, lent_sink, sink_change};
 ghost use Rattle.pcm_top.specs.Ends.{EndsText};
@@ -59,7 +60,7 @@ fn print_moves<K: Sink>(
 ) -> Result<(), WriteFault>
     requires room { text.old ≡ reserved TEXT_ROOM }
     requires lines { (4 ≤ lines) × (lines ≤ 256) }
-    requires first { first ≤ 16781312 }
+    requires first { first ≤ full_turn }
     ensures { Writes (moves_text lines first)
         (sink_change K.written K.faults out.old out.new) result }
 {

@@ -3,6 +3,7 @@ ghost use Rattle.std.specs.Prelude.{◌≡◌, ◌≢◌, ◌<◌, ◌≤◌, �
 ghost use Rattle.hex.specs.Hex.{encode_lower};
 ghost use Rattle.pcm_io.specs.Reserved.{appended, reserved, room_in};
 ghost use Rattle.ecp_line.specs.Layout.{IsLayout};
+ghost use Rattle.module_shape.specs.Limits.{small_limits};
 ghost use Rattle.rotation_reports.specs.Rows.{row_of};
 ghost use Rattle.pcm_image.specs.Saved.{IsSaved, IsSize};
 ghost use Rattle.pcm_image.specs.Reading.{image_of};
@@ -22,7 +23,7 @@ use std::alloc::Global;
 #[tactic(auto, using(pcm_io::proofs::DigitLemmas::five_digits))]
 fn print_row<const B: usize>(line: u32, bytes: &[u8; B], text: &mut Text)
     requires size { B ≤ 128 }
-    requires line { line < 65536 }
+    requires line { line < small_limits.total }
     requires room { 320 ≤ room_in text.old }
     ensures { text.new ≡ appended text.old (row_of (decimal line ∷ encode_lower bytes.now ∷ [])) }
 {

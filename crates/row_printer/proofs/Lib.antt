@@ -1,7 +1,8 @@
--- What telling one line more makes of a printer, that each row is told once and counted, and how a line is put together.
+-- What telling one line more makes of a printer, that each row is told once and counted, how a line is put together, and refused rows.
 pub mod Telling
 pub mod Once
 pub mod Counted
 pub mod Growing
 mod Rows
 mod Pieces
+mod Refused

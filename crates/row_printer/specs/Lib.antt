@@ -1,5 +1,6 @@
 -- What the contracts of a printer of rows cite.
 pub mod Telling
 pub mod Snapshots
+pub mod Refusing
 pub mod Printing
 pub mod GoingOn

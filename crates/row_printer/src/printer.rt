@@ -14,6 +14,7 @@ ghost use Rattle.row_printer.specs.declared.told.Told.TheVariants.{Settled};
 ghost use Rattle.row_printer.specs.Telling.{outcomes_in, TellsOnce};
 ghost use Rattle.row_printer.specs.declared.snapshot.Snapshot.{Snapshot as Taken};
 ghost use Rattle.row_printer.specs.Snapshots.{IsShown, is_due, takes_snapshots};
+ghost use Rattle.row_printer.specs.Refusing.{any_refused};
 ghost use Rattle.row_printer.specs.Printing.{IsPrinting, Prints, PrintsOn, stream_text, table_told, text_told};
 
 use crate::snapshot::{Snapshot, print_snapshot, snapshots_header};
@@ -221,6 +222,13 @@ impl<const B: usize, S: Sink + Drop> RowPrinter<B, S> {
         ensures { result ≡ counts_of (table_told self.now) }
     {
         self.counts
+    }
+
+    /// Whether some row was refused so far.
+    pub fn refused(&self) -> bool
+        ensures { result ≡ any_refused (table_told self.now) }
+    {
+        self.counts.full > 0 || self.counts.worn > 0
     }
 
     /// Whether some row fell short of what it asked for: then a run ends with status 1.

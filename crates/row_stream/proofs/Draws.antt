@@ -1,15 +1,16 @@
 -- How drawn rows are served.
-use Rattle.std.proofs.Common.{◌≡◌, ℕ, ◌+◌, ◌<◌, ◌≤◌, List, [], ◌∷◌, ◌++◌, length, reverse, refl, sym, ap, ◌∙◌, subst, arith}
+use Rattle.std.proofs.Common.{◌≡◌, ℕ, ◌+◌, ◌<◌, ◌≤◌, Bool, true, false, List, [], ◌∷◌, ◌++◌, length, reverse, refl, sym, ap, ◌∙◌, subst, arith}
 use Rattle.std.proofs.{Math.Nat.one-le-mul, lemmas.List.append-nil}
 use Rattle.masked_bytes.proofs.Lists.{turned}
 use Rattle.cell_rows.specs.Device.{ArrayState}
 use Rattle.module_shape.specs.{Limits.{IsShape, total_of}, declared.raw.RawShape.RawShape}
 use Rattle.pcm_module.specs.State.{ModuleState}
-use Rattle.row_printer.specs.{declared.snapshot.Snapshot.Snapshot, declared.told.Shown.Shown, declared.told.Told.Told}
+use Rattle.row_printer.specs.{Printing.table_of, Refusing.any_refused, declared.snapshot.Snapshot.Snapshot, declared.told.Shown.Shown, declared.told.Told.Told}
 use Rattle.trace_reader.{specs.Events.{AreEventsFor, IsEventFor}, specs.declared.event.Event.Event, proofs.Lawful.lawful-first}
 use Rattle.trace_gen.specs.{Generated.{IsLongMix, generated}, Laws.IsGenerated, declared.mix.Mix.Mix}
 use Rattle.trace_stream.specs.{Asked.events_in, Laws.all_events, declared.asked.Asked.Asked, declared.asked.Asked.TheVariants.Happens}
-use Rattle.row_stream.specs.{Asking.{behind_of, behind_op}, Serving.IsServing, declared.stop.Behind.Behind, declared.stop.Behind.TheVariants.Nothing}
+use Rattle.row_stream.specs.{Asking.{behind_of, behind_op}, Refusing.WentOn, Serving.{IsServing, told_before, told_so_far}, declared.stop.Behind.Behind, declared.stop.Behind.TheVariants.Nothing}
+use Rattle.row_stream.proofs.Refusals.{went-first, went-on}
 
 -- a module has a line
 pub total-some : (raw : RawShape) → IsShape raw → 1 ≤ total_of raw
@@ -18,29 +19,31 @@ total-some raw is =
     one-le-mul (one-le-mul is.some_banks is.some_regions) some
 
 -- of all drawn events the first were served, and these are left
-pub record HasDrawn {n m e : ℕ} (raw : RawShape) (seed : ℕ) (module_ : ModuleState n m e) (array : ArrayState n m) (places : ℕ) (told : List (Told n)) (shown : Shown) (snaps : List Snapshot)
+pub record HasDrawn {n m e : ℕ} (stops : Bool) (raw : RawShape) (seed : ℕ) (module_ : ModuleState n m e) (array : ArrayState n m) (places : ℕ) (told : List (Told n)) (shown : Shown) (snaps : List Snapshot)
     (all left : List (Event n)) (behind : Behind) : Type 0 where
   pub asked : List (Asked n)
   pub serving : IsServing raw seed asked module_ array places told shown snaps
+  pub went : WentOn stops asked (told_so_far serving)
   pub stands : behind ≡ behind_of asked
   pub drawn : reverse asked ++ all_events left ≡ all_events all
   pub lawful : AreEventsFor (total_of raw) module_.tick left
   pub few : length (events_in asked) + length left ≤ 4000000000
 
-module _ {n m e : ℕ} (raw : RawShape) (seed : ℕ) where
+module _ {n m e : ℕ} {stops : Bool} (raw : RawShape) (seed : ℕ) where
   pub drawn-first : (module_ : ModuleState n m e) (array : ArrayState n m) (places : ℕ) (told : List (Told n)) (shown : Shown) (snaps : List Snapshot) (left : List (Event n)) (lines own : ℕ) (mix : Mix)
       → IsServing raw seed [] module_ array places told shown snaps → lines ≡ total_of raw → IsLongMix mix → IsGenerated lines mix (generated n own lines mix) → left ≡ generated n own lines mix
-      → HasDrawn raw seed module_ array places told shown snaps (generated n own (total_of raw) mix) left Nothing
+      → HasDrawn stops raw seed module_ array places told shown snaps (generated n own (total_of raw) mix) left Nothing
   drawn-first module_ array places told shown snaps left lines own mix serving is long drawn same =
       let all : List (Event n) = generated n own (total_of raw) mix in
       let P : ℕ → Type 0 = λ k. IsGenerated k mix (generated n own k mix) in
       let Q : ℕ → Type 0 = λ tick. AreEventsFor (total_of raw) tick all in
-      let R : List (Event n) → Type 0 = λ events. HasDrawn raw seed module_ array places told shown snaps all events Nothing in
+      let R : List (Event n) → Type 0 = λ events. HasDrawn stops raw seed module_ array places told shown snaps all events Nothing in
       let right : IsGenerated (total_of raw) mix all = subst P is drawn in
       let left_is : left ≡ all = same ∙ ap (λ (k : ℕ). generated n own k mix) is in
       subst R (sym left_is) (record {
         asked = [];
         serving = serving;
+        went = went-first stops (told_so_far serving);
         stands = refl;
         drawn = refl;
         lawful = subst Q (sym serving.tick) right.lawful;
@@ -48,7 +51,7 @@ module _ {n m e : ℕ} (raw : RawShape) (seed : ℕ) where
       })
 
   module _ (module_ : ModuleState n m e) (array : ArrayState n m) (places : ℕ) (told : List (Told n)) (shown : Shown) (snaps : List Snapshot) (all left : List (Event n)) (behind : Behind)
-      (had : HasDrawn raw seed module_ array places told shown snaps all left behind) where
+      (had : HasDrawn stops raw seed module_ array places told shown snaps all left behind) where
     pub drawn-few : places < 4294967295
     drawn-few = omega (arith, had.serving.counted, had.few)
 
@@ -64,18 +67,21 @@ module _ {n m e : ℕ} (raw : RawShape) (seed : ℕ) where
 
     pub drawn-more : (event : Event n) (rest : List (Event n)) → left ≡ event ∷ rest
         → (new : ModuleState n m e) (after : ArrayState n m) (places2 : ℕ) (told2 : List (Told n)) (shown2 : Shown) (snaps2 : List Snapshot) (stands : Behind)
-        → (IsServing raw seed had.asked module_ array places told shown snaps → IsServing raw seed (Happens event ∷ had.asked) new after places2 told2 shown2 snaps2) → stands ≡ behind_op event.op
-        → HasDrawn raw seed new after places2 told2 shown2 snaps2 all rest stands
-    drawn-more event rest is new after places2 told2 shown2 snaps2 stands serves behinds =
+        → ((old : IsServing raw seed had.asked module_ array places told shown snaps)
+        → (now : IsServing raw seed (Happens event ∷ had.asked) new after places2 told2 shown2 snaps2) × (told_before (Happens event) had.asked (told_so_far now) ≡ told_so_far old))
+        → (stops ≡ true → any_refused (table_of places told) ≡ false) → stands ≡ behind_op event.op
+        → HasDrawn stops raw seed new after places2 told2 shown2 snaps2 all rest stands
+    drawn-more event rest is new after places2 told2 shown2 snaps2 stands serves none behinds =
         let served = serves had.serving in
         let P : ℕ → Type 0 = λ tick. AreEventsFor (total_of raw) tick rest in
         let size : length left ≡ length rest + 1 = ap length is ∙ omega arith in
         record {
           asked = Happens event ∷ had.asked;
-          serving = served;
+          serving = served.0;
+          went = went-on had.serving served.0 served.1 stops none;
           stands = behinds;
           drawn = turned (Happens event) had.asked (all_events rest) ∙ ap (λ (events : List (Event n)). reverse had.asked ++ all_events events) (sym is) ∙ had.drawn;
-          lawful = subst P (sym served.tick) (next-drawn event rest is).1;
+          lawful = subst P (sym served.0.tick) (next-drawn event rest is).1;
           few = omega (arith, size, had.few);
         }
 

@@ -14,7 +14,7 @@ use Rattle.run_laws.specs.Finishing.{IsFinishedTo}
 use Rattle.pcm_module.specs.{Asking.asked_for, Draining.IsLastCut, State.{AreEndsOf, ModuleState, bank_at}}
 use Rattle.row_printer.specs.{Printing.table_of, Telling.became, declared.snapshot.Snapshot.Snapshot, declared.told.Shown.Shown, declared.told.Told.Told}
 use Rattle.trace_stream.specs.{Asked.events_in, declared.asked.Asked.Asked, declared.asked.Asked.TheVariants.{Happens, Settle}}
-use Rattle.row_stream.specs.{Asking.{behind_of, behind_op, cut_if, tick_reached, with_cut}, Ending.IsLeft, Serving.{ComeByBanks, IsServing, SnapsAlong}}
+use Rattle.row_stream.specs.{Asking.{behind_of, behind_op, cut_if, tick_reached, with_cut}, Ending.{IsLeft, told_along}, Serving.{ComeByBanks, IsServing, SnapsAlong, told_so_far}}
 use Rattle.row_stream.{specs.declared.stop.Behind.Behind, specs.declared.stop.Behind.TheVariants.{Nothing, Going, Off}, proofs.Tables.rows-are}
 
 -- an operation behind which the power is off is a cut
@@ -54,7 +54,7 @@ module _ {n m e : ℕ} (raw : RawShape) (seed : ℕ) (asked : List (Asked n)) (m
       × IsFinishedTo new.shape new.seed off (λ bank. added bank ++ had.history bank) (asked_for (events_in asked)) (bank_at new) after (outcome_in (table_of places2 told2)))
       → ((ends : ℕ → BankEnd) × AreEndsOf new ends
       × RunsRightTo e new.shape new.seed off (map (row_with (outcome_in (table_of places2 told2))) (asked_for (events_in asked))) after ends)
-      → IsLeft raw seed off asked new after places2 told2 shown2 snaps2
+      → (left : IsLeft raw seed off asked new after places2 told2 shown2 snaps2) × (told_along left.0 ≡ told_so_far had)
   has-ended off new after places2 told2 shown2 snaps2 shows snapped same outcomes tells order shape seeded size finished right =
       let whole : length (table_of places2 told2) ≡ length (events_in asked) = size ∙ had.served.size in
       let Right : List (Row n) → Type 0 = λ rows. RunsRightTo e raw seed off rows after right.0 in
@@ -64,21 +64,24 @@ module _ {n m e : ℕ} (raw : RawShape) (seed : ℕ) (asked : List (Asked n)) (m
       × IsFinishedTo r k off (λ bank. added bank ++ had.history bank) (asked_for (events_in asked)) (bank_at new) after (outcome_in (table_of places2 told2)) in
       let Was : RawShape → ℕ → Type 0 = λ r k. RunsRightTo e r k off (map (row_with (outcome_in (table_of places2 told2))) (asked_for (events_in asked))) after right.0 in
       let S : Shown → List Snapshot → Type 0 = λ s t. SnapsAlong e raw seed s asked had.history told had.along t in (
-        record {
-          shape = shape ∙ had.served.shape;
-          seeded = seeded ∙ had.served.seeded;
-          counted = same ∙ had.counted;
-          size = whole;
-          history = had.history;
-          said = told;
-          along = had.along;
-          rest = outcomes;
-          all = tells;
-          order = order;
-          finished = subst (λ k. Done raw k) same_seed (subst (λ r. Done r new.seed) same_shape finished);
-          ends = right.0;
-          are = right.1;
-          right = subst Right (rows-are (events_in asked) (table_of places2 told2) whole) (subst (λ k. Was raw k) same_seed (subst (λ r. Was r new.seed) same_shape right.2));
-        },
-        subst (λ s. S s snaps2) (sym shows) (subst (S shown) (sym snapped) had.snaps),
+        (
+          record {
+            shape = shape ∙ had.served.shape;
+            seeded = seeded ∙ had.served.seeded;
+            counted = same ∙ had.counted;
+            size = whole;
+            history = had.history;
+            said = told;
+            along = had.along;
+            rest = outcomes;
+            all = tells;
+            order = order;
+            finished = subst (λ k. Done raw k) same_seed (subst (λ r. Done r new.seed) same_shape finished);
+            ends = right.0;
+            are = right.1;
+            right = subst Right (rows-are (events_in asked) (table_of places2 told2) whole) (subst (λ k. Was raw k) same_seed (subst (λ r. Was r new.seed) same_shape right.2));
+          },
+          subst (λ s. S s snaps2) (sym shows) (subst (S shown) (sym snapped) had.snaps),
+        ),
+        refl {a = told_so_far had},
       )

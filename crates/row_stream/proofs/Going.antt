@@ -15,7 +15,7 @@ use Rattle.trace_rows.specs.Rows.{asks_of}
 use Rattle.row_printer.specs.{Printing.{Printing, PrintsOn, table_of, table_told}, Snapshots.{AddsDue, is_due}, Telling.{became, outcomes_in, recorded, TellsOnce}}
 use Rattle.row_printer.specs.{declared.snapshot.Snapshot.Snapshot, declared.told.Shown.Shown, declared.told.Told.Told, declared.told.Told.TheVariants.{Became, Settled}}
 use Rattle.trace_stream.specs.{Asked.events_in, declared.asked.Asked.Asked, declared.asked.Asked.TheVariants.{Happens, Settle}}
-use Rattle.row_stream.specs.{Looking.IsSnapshot, Serving.{ComeBehind, ComeByBanks, ComeInOrder, HasServed, IsServing, SnapsAlong}}
+use Rattle.row_stream.specs.{Looking.IsSnapshot, Serving.{ComeBehind, ComeByBanks, ComeInOrder, HasServed, IsServing, SnapsAlong, told_before, told_so_far}}
 use Rattle.row_stream.proofs.{Growing.{none, longer, open-last, replays-longer}, Order.{ToldSo, come-by-banks, come-in-order}, Standing.ends-now}
 
 -- a line that answers a settle tells no outcome
@@ -86,7 +86,7 @@ module _ {n m e : ℕ} (raw : RawShape) (seed : ℕ) (asked : List (Asked n)) (m
       → (added : ℕ → List (TimedEvent n m)) × Replays (λ bank. added bank ++ h bank) (asked_by row event ∷ rows) new after (table_of places2 told2))
       → shown2 ≡ shown → snaps1 ≡ snaps
       → ((ends : ℕ → BankEnd) → AreEndsOf new ends → AddsDue (is_due shown2 places2) (IsSnapshot places2 new.tick told2 new after) snaps1 snaps2)
-      → IsServing raw seed (Happens event ∷ asked) new after places2 told2 shown2 snaps2
+      → (has : IsServing raw seed (Happens event ∷ asked) new after places2 told2 shown2 snaps2) × (told_before (Happens event) asked (told_so_far has) ≡ told_so_far had)
   unfolding next-replayed
   serving-event event new after places2 told2 shown2 snaps1 snaps2 row results grown is counts outcomes tells order shape seeded going tick in_time bound size leads shows snapped adds =
       let next = next-replayed results grown in
@@ -109,16 +109,18 @@ module _ {n m e : ℕ} (raw : RawShape) (seed : ℕ) (asked : List (Asked n)) (m
       let A : Shown → Type 0 = λ s. SnapsAlong e raw seed s asked had.history told had.along snaps in
       let B : ℕ → ℕ → List Snapshot → Type 0 = λ k at was. AddsDue (is_due shown2 k) (IsSnapshot k at told2 new after) was snaps2 in
       let added : B (length (event ∷ events_in asked)) event.tick snaps =
-      subst (B (length (event ∷ events_in asked)) event.tick) snapped (subst (λ at. B (length (event ∷ events_in asked)) at snaps1) tick (subst (λ k. B k new.tick snaps1) counted (adds ends.0 ends.1))) in
-      record {
-        history = h;
-        along = (had.history, told, had.along, led.0, refl, outcomes, tells ∙ sym (append-nil (told ++ became outcomes)), order, record { module_ = new; array = after; served = subst Q counted served; tick = tick; settled = tt });
-        snaps = (snaps, subst A (sym shows) had.snaps, added);
-        served = served;
-        counted = counted;
-        tick = tick;
-        in_time = omega (arith, tick, in_time);
-      }
+      subst (B (length (event ∷ events_in asked)) event.tick) snapped (subst (λ at. B (length (event ∷ events_in asked)) at snaps1) tick (subst (λ k. B k new.tick snaps1) counted (adds ends.0 ends.1))) in (
+        record {
+          history = h;
+          along = (had.history, told, had.along, led.0, refl, outcomes, tells ∙ sym (append-nil (told ++ became outcomes)), order, record { module_ = new; array = after; served = subst Q counted served; tick = tick; settled = tt });
+          snaps = (snaps, subst A (sym shows) had.snaps, added);
+          served = served;
+          counted = counted;
+          tick = tick;
+          in_time = omega (arith, tick, in_time);
+        },
+        refl {a = told_so_far had},
+      )
 
   -- so is a settle
   pub serving-settle : (at : ℕ) (new : ModuleState n m e) (after : ArrayState n m) (places2 : ℕ) (told1 told2 : List (Told n)) (shown2 : Shown) (snaps2 : List Snapshot)
@@ -129,7 +131,7 @@ module _ {n m e : ℕ} (raw : RawShape) (seed : ℕ) (asked : List (Asked n)) (m
       → ((h : ℕ → List (TimedEvent n m)) (rows : List (AskedRow n)) → Replays h rows module_ array (table_of places told)
       → (added : ℕ → List (TimedEvent n m)) × Replays (λ bank. added bank ++ h bank) rows new after (table_of places2 told1))
       → shown2 ≡ shown → snaps2 ≡ snaps
-      → IsServing raw seed (Settle at ∷ asked) new after places2 told2 shown2 snaps2
+      → (has : IsServing raw seed (Settle at ∷ asked) new after places2 told2 shown2 snaps2) × (told_before (Settle at) asked (told_so_far has) ≡ told_so_far had)
   serving-settle at new after places2 told1 told2 shown2 snaps2 counts outcomes tells order tells2 shape seeded going tick settled in_time bound size leads shows snapped =
       let led = leads had.history (asked_for (events_in asked)) had.served.replays in
       let h : ℕ → List (TimedEvent n m) = λ bank. led.0 bank ++ had.history bank in
@@ -147,23 +149,25 @@ module _ {n m e : ℕ} (raw : RawShape) (seed : ℕ) (asked : List (Asked n)) (m
         replays = led.1;
       } in
       let now : HasServed raw seed (events_in asked) h new after (table_of places2 told2) = subst R same served in
-      let Q : ℕ → Type 0 = λ k. HasServed raw seed (events_in asked) h new after (table_of k told2) in
-      record {
-        history = h;
-        along = (
-          had.history,
-          told,
-          had.along,
-          led.0,
-          refl,
-          outcomes,
-          tells2 ∙ ap (λ t. t ++ Settled at ∷ []) tells,
-          order,
-          record { module_ = new; array = after; served = subst Q counted now; tick = tick; settled = settled },
-        );
-        snaps = (snaps, subst (λ s. SnapsAlong e raw seed s asked had.history told had.along snaps) (sym shows) had.snaps, snapped);
-        served = now;
-        counted = counted;
-        tick = tick;
-        in_time = omega (arith, tick, in_time);
-      }
+      let Q : ℕ → Type 0 = λ k. HasServed raw seed (events_in asked) h new after (table_of k told2) in (
+        record {
+          history = h;
+          along = (
+            had.history,
+            told,
+            had.along,
+            led.0,
+            refl,
+            outcomes,
+            tells2 ∙ ap (λ t. t ++ Settled at ∷ []) tells,
+            order,
+            record { module_ = new; array = after; served = subst Q counted now; tick = tick; settled = settled },
+          );
+          snaps = (snaps, subst (λ s. SnapsAlong e raw seed s asked had.history told had.along snaps) (sym shows) had.snaps, snapped);
+          served = now;
+          counted = counted;
+          tick = tick;
+          in_time = omega (arith, tick, in_time);
+        },
+        refl {a = told_so_far had},
+      )

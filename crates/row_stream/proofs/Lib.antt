@@ -1,4 +1,4 @@
--- A table with one place more, that each row was told, in which order, how a row is served, the table of a run, and how a stream ends.
+-- A table with one place more, that each row was told, in which order, how a row is served, the table of a run, how a stream ends, where it stops at a refusal, and printers that were told the same.
 mod Growing
 mod Standing
 pub mod Each
@@ -9,3 +9,5 @@ mod Ends
 mod Rows
 mod Draws
 mod Decided
+pub mod Refusals
+pub mod Alike

@@ -7,14 +7,14 @@ use Rattle.cell_rows.specs.Device.{ArrayState}
 use Rattle.pcm_io.{specs.Faults.Rose, specs.Taking.Takes, proofs.ByteLemmas.{Takes-Takes, Takes-nothing}}
 use Rattle.module_shape.specs.{Limits.total_of, declared.raw.RawShape.RawShape}
 use Rattle.pcm_module.specs.State.{ModuleState}
-use Rattle.row_printer.specs.{declared.snapshot.Snapshot.Snapshot, declared.told.Shown.Shown, declared.told.Told.Told}
+use Rattle.row_printer.specs.{Printing.table_of, Refusing.any_refused, declared.snapshot.Snapshot.Snapshot, declared.told.Shown.Shown, declared.told.Told.Told}
 use Rattle.trace_stream.specs.{Arrived.StaysEnded, Asked.{IsAskedFor, rows_after, tick_asked, events_in}, Kept.{LacksHeader, decides}}
 use Rattle.trace_stream.specs.{Stream.{AsksNext, HasFault, HasFront, IsOfText, Opens, Standing, asked_from, front_from, front_of, front_rows, records_left, stream_of}, declared.asked.Asked.Asked}
 use Rattle.trace_stream.specs.{declared.asked.Asked.TheVariants.{Happens, Settle}, declared.fault.StreamFault.StreamFault}
 use Rattle.trace_stream.proofs.Runs.{HasAsked, asked-all, asked-faulty, asked-first, asked-front, asked-more}
 use Rattle.trace_stream.specs.declared.fault.StreamFault.TheVariants as fault
-use Rattle.row_stream.specs.{Asking.{behind_of, tick_reached}, Serving.IsServing, Sourcing.{Fronts, HasAllCome, HasCome, HasStopped, IsFaulty, IsRead}, declared.stop.Behind.Behind}
-use Rattle.row_stream.specs.{declared.stop.Behind.TheVariants.Nothing, declared.stop.Stop.TheVariants.Input}
+use Rattle.row_stream.specs.{Asking.{behind_of, tick_reached}, Refusing.WentOn, Serving.{IsServing, told_before, told_so_far}, Sourcing.{Fronts, HasAllCome, HasCome, HasStopped, IsFaulty, IsRead, IsReadTo}, declared.stop.Behind.Behind}
+use Rattle.row_stream.{specs.declared.stop.Behind.TheVariants.Nothing, specs.declared.stop.Stop.TheVariants.Input, proofs.Refusals.{went-first, went-on}}
 
 -- what follows where a call went well, or didn't
 pub ok-so : {T E : Type 0} (r : Result T E) (P Q : Type 0) → (P → Q) → OnOk r P → OnOk r Q
@@ -26,10 +26,11 @@ err-so (Ok x) P Q so had = tt
 err-so (Err e) P Q so had = so had
 
 -- of what a source gave, so many rows and settles were served, and the rest is still to read from here on
-pub record HasFed {n m e : ℕ} (raw : RawShape) (seed : ℕ) (module_ : ModuleState n m e) (array : ArrayState n m) (places : ℕ) (told : List (Told n)) (shown : Shown) (snaps : List Snapshot)
+pub record HasFed {n m e : ℕ} (stops : Bool) (raw : RawShape) (seed : ℕ) (module_ : ModuleState n m e) (array : ArrayState n m) (places : ℕ) (told : List (Told n)) (shown : Shown) (snaps : List Snapshot)
     {S : Type 0} (left : S → Option (List ℕ)) (taken faults : S → ℕ) (old new : S) (stream : Standing) (behind : Behind) (count : ℕ) : Type 0 where
   pub asked : List (Asked n)
   pub serving : IsServing raw seed asked module_ array places told shown snaps
+  pub went : WentOn stops asked (told_so_far serving)
   pub stands : behind ≡ behind_of asked
   pub bytes : List ℕ
   pub takes : Takes (left old) (left new) (taken old) (taken new) bytes
@@ -96,16 +97,17 @@ module _ (n lines : ℕ) {S : Type 0} (left : S → Option (List ℕ)) (taken fa
   open-stopped new fault.Endless text fails lacks past calm = (come-none new, calm (λ is. cc is), past refl)
   open-stopped new fault.NoMemory text fails lacks past calm = (come-none new, calm (λ is. cc is), refl)
 
-module _ {n m e : ℕ} (raw : RawShape) (seed : ℕ) {S : Type 0} (left : S → Option (List ℕ)) (taken faults : S → ℕ) (old : S) where
+module _ {n m e : ℕ} {stops : Bool} (raw : RawShape) (seed : ℕ) {S : Type 0} (left : S → Option (List ℕ)) (taken faults : S → ℕ) (old : S) where
   -- the header was read
   pub fed-first : (module_ : ModuleState n m e) (array : ArrayState n m) (places : ℕ) (told : List (Told n)) (shown : Shown) (snaps : List Snapshot) (new : S) (stream : Standing)
       → IsServing raw seed [] module_ array places told shown snaps
       → (bytes : List ℕ) → Takes (left old) (left new) (taken old) (taken new) bytes → Opens (total_of raw) bytes stream
       → stream.rows ≡ 0 → stream.tick ≡ 0 → stream.lines ≡ total_of raw → faults new ≡ faults old
-      → HasFed raw seed module_ array places told shown snaps left taken faults old new stream Nothing 0
+      → HasFed stops raw seed module_ array places told shown snaps left taken faults old new stream Nothing 0
   fed-first module_ array places told shown snaps new stream serving bytes takes opens rows tick lines calm = record {
     asked = [];
     serving = serving;
+    went = went-first stops (told_so_far serving);
     stands = refl;
     bytes = bytes;
     takes = takes;
@@ -119,7 +121,7 @@ module _ {n m e : ℕ} (raw : RawShape) (seed : ℕ) {S : Type 0} (left : S → 
   }
 
   module _ (module_ : ModuleState n m e) (array : ArrayState n m) (places : ℕ) (told : List (Told n)) (shown : Shown) (snaps : List Snapshot) (mid : S) (stream : Standing) (behind : Behind) (count : ℕ)
-      (had : HasFed raw seed module_ array places told shown snaps left taken faults old mid stream behind count) where
+      (had : HasFed stops raw seed module_ array places told shown snaps left taken faults old mid stream behind count) where
     -- a row more may be served
     pub next-few : places < 4294967295
     next-few = omega (arith, had.serving.counted, had.few, had.most)
@@ -137,17 +139,21 @@ module _ {n m e : ℕ} (raw : RawShape) (seed : ℕ) {S : Type 0} (left : S → 
 
     -- a row more was served
     pub fed-more : (new_module : ModuleState n m e) (after : ArrayState n m) (places2 : ℕ) (told2 : List (Told n)) (shown2 : Shown) (snaps2 : List Snapshot) (new : S) (now : Standing) (asked : Asked n) (stands : Behind)
-        → (IsServing raw seed had.asked module_ array places told shown snaps → IsServing raw seed (asked ∷ had.asked) new_module after places2 told2 shown2 snaps2)
+        → ((old : IsServing raw seed had.asked module_ array places told shown snaps)
+        → (now : IsServing raw seed (asked ∷ had.asked) new_module after places2 told2 shown2 snaps2) × (told_before asked had.asked (told_so_far now) ≡ told_so_far old))
+        → (stops ≡ true → any_refused (table_of places told) ≡ false)
         → ((before : List (Asked n)) → stands ≡ behind_of (asked ∷ before))
         → (bytes : List ℕ) → Takes (left mid) (left new) (taken mid) (taken new) bytes → StaysEnded stream.arrived.ended bytes now.arrived.ended → AsksNext stream bytes (Some asked) now
         → now.lines ≡ stream.lines → now.rows ≡ rows_after stream.rows asked → now.rows ≤ 4294967294 → now.tick ≡ tick_asked asked → faults new ≡ faults mid
-        → HasFed raw seed new_module after places2 told2 shown2 snaps2 left taken faults old new now stands (count + 1)
-    fed-more new_module after places2 told2 shown2 snaps2 new now asked stands serves behinds bytes takes stays asks lines rows most tick calm =
+        → HasFed stops raw seed new_module after places2 told2 shown2 snaps2 left taken faults old new now stands (count + 1)
+    fed-more new_module after places2 told2 shown2 snaps2 new now asked stands serves none behinds bytes takes stays asks lines rows most tick calm =
         let turned : reverse (asked ∷ had.asked) ≡ reverse had.asked ++ asked ∷ [] = reverse-append (asked ∷ []) had.asked in
         let P : List (Asked n) → Type 0 = λ all. HasAsked n (total_of raw) (had.bytes ++ bytes) all now in
+        let served = serves had.serving in
         record {
           asked = asked ∷ had.asked;
-          serving = serves had.serving;
+          serving = served.0;
+          went = went-on had.serving served.0 served.1 stops none;
           stands = behinds had.asked;
           bytes = had.bytes ++ bytes;
           takes = Takes-Takes _ _ _ _ _ _ _ _ had.takes takes;
@@ -174,6 +180,17 @@ module _ {n m e : ℕ} (raw : RawShape) (seed : ℕ) {S : Type 0} (left : S → 
       ended = ends asks.1;
       stream = asked-all n (total_of raw) had.bytes bytes (reverse had.asked) stream now had.has stays asks;
       calm = calm ∙ had.calm;
+    }
+
+    -- what came so far, where no more is asked for
+    pub fed-so-far : (stream.arrived.ended ≡ true → IsAtEnd (left mid)) → IsReadTo (total_of raw) left taken faults old mid had.asked
+    fed-so-far ends = record {
+      bytes = had.bytes;
+      takes = had.takes;
+      ended = stream.arrived.ended;
+      at_end = ends;
+      front = fronts (total_of raw) had.bytes had.asked stream had.has;
+      calm = had.calm;
     }
 
     -- what came so far

@@ -1,5 +1,5 @@
 -- What the rows of a stream ask. Here it stands with the newest first.
-use Rattle.std.specs.Prelude.{ℕ, Bool, true, false, List, [], ◌∷◌}
+use Rattle.std.specs.Prelude.{◌≡◌, ℕ, Bool, true, false, List, [], ◌∷◌, ◌++◌, reverse}
 use Rattle.trace_reader.specs.{declared.event.EventOp.EventOp, declared.event.EventOp.TheVariants.{Read, Write, Mask, Cut}}
 use Rattle.trace_stream.specs.{declared.asked.Asked.Asked, declared.asked.Asked.TheVariants.{Happens, Settle}}
 use Rattle.row_stream.specs.{declared.stop.Behind.Behind, declared.stop.Behind.TheVariants.{Nothing, Going, Off}}
@@ -23,9 +23,16 @@ module _ {n : ℕ} where
   behind_of (Happens event ∷ before) = behind_op event.op
   behind_of (Settle tick ∷ before) = Going
 
+  -- these rows are the first of all, which stand in their order
+  abbrev pub BeginsWith : List (Asked n) → List (Asked n) → Type 0
+  BeginsWith asked all = (rest : List (Asked n)) × (reverse asked ++ rest ≡ all)
+
   -- a power cut at the tick that was reached, behind what was asked
+  abbrev pub cut_at_end : List (Asked n) → Asked n
+  cut_at_end asked = Happens (record { tick = tick_reached asked; op = Cut })
+
   abbrev pub cut_behind : List (Asked n) → List (Asked n)
-  cut_behind asked = Happens (record { tick = tick_reached asked; op = Cut }) ∷ asked
+  cut_behind asked = cut_at_end asked ∷ asked
 
   -- where the power is to stay off in the end, it is cut behind what was asked, unless that was its cut, or nothing
   abbrev pub cut_if : Behind → List (Asked n) → List (Asked n)

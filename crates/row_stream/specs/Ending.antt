@@ -1,5 +1,5 @@
 -- What a stream leaves that was served to its end.
-use Rattle.std.specs.Prelude.{◌≡◌, ℕ, Bool, List, ◌++◌, length, reverse}
+use Rattle.std.specs.Prelude.{◌≡◌, ℕ, Bool, true, false, List, ◌++◌, length, reverse}
 use Rattle.cell_rows.specs.Device.{ArrayState}
 use Rattle.trace_reader.specs.declared.event.Event.{Event}
 use Rattle.result_rows.specs.declared.Outcome.{Outcome}
@@ -14,7 +14,7 @@ use Rattle.pcm_module.specs.{Asking.asked_for, State.{AreEndsOf, ModuleState, ba
 use Rattle.row_printer.specs.{Printing.table_of, Snapshots.{AddsDue, takes_snapshots}, Telling.became, declared.snapshot.Snapshot.Snapshot, declared.told.Shown.Shown}
 use Rattle.row_printer.specs.declared.told.Told.{Told}
 use Rattle.trace_stream.specs.{Asked.events_in, declared.asked.Asked.Asked}
-use Rattle.row_stream.specs.{Asking.tick_reached, Looking.IsSnapshot, Serving.{ComeByBanks, SnapsAlong, TellsAlong}}
+use Rattle.row_stream.specs.{declared.stop.Behind.Behind, declared.stop.Behind.TheVariants.{Nothing, Going, Off}, Asking.{behind_of, cut_at_end, cut_if, tick_reached, with_cut}, Looking.IsSnapshot, Serving.{ComeByBanks, SnapsAlong, Telling, TellsAlong, told_before}}
 
 -- the table of events, the newest first, with the outcomes of the rows from the first on: the newest row first
 abbrev pub rows_of : {n : ℕ} → List (Event n) → List (Outcome n) → List (Row n)
@@ -39,6 +39,22 @@ pub record HasEnded {n m e : ℕ} (raw : RawShape) (seed : ℕ) (off : Bool) (as
   pub ends : ℕ → BankEnd
   pub are : AreEndsOf module_ ends
   pub right : RunsRightTo e raw seed off (rows_of (events_in asked) (table_of places told)) array ends
+
+module _ {n m e : ℕ} {raw : RawShape} {seed : ℕ} where
+  -- what was told as its rows were served
+  abbrev pub told_along : {off : Bool} {asked : List (Asked n)} {module_ : ModuleState n m e} {array : ArrayState n m} {places : ℕ} {told : List (Told n)}
+      → HasEnded raw seed off asked module_ array places told → Telling n m e raw seed asked
+  told_along ended = record { history = ended.history; told = ended.said; along = ended.along }
+
+  -- as rows were served without the cut that may have been added behind them
+  abbrev pub without_cut_if : (behind : Behind) (asked : List (Asked n)) → Telling n m e raw seed (cut_if behind asked) → Telling n m e raw seed asked
+  without_cut_if Nothing asked telling = telling
+  without_cut_if Off asked telling = telling
+  without_cut_if Going asked telling = told_before (cut_at_end asked) asked telling
+
+  abbrev pub without_cut : (off : Bool) (asked : List (Asked n)) → Telling n m e raw seed (with_cut off asked) → Telling n m e raw seed asked
+  without_cut false asked telling = telling
+  without_cut true asked telling = without_cut_if (behind_of asked) asked telling
 
 module _ {n m e : ℕ} {raw : RawShape} {seed : ℕ} {off : Bool} {asked : List (Asked n)} {module_ : ModuleState n m e} {array : ArrayState n m} {places : ℕ} {told : List (Told n)}
     (shown : Shown) (ended : HasEnded raw seed off asked module_ array places told) where

@@ -1,6 +1,7 @@
 pub mod Asking
 pub mod Looking
 pub mod Serving
+pub mod Refusing
 pub mod Sourcing
 pub mod Ending
 pub mod Laws

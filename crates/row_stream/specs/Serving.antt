@@ -104,10 +104,28 @@ pub record MayServe {n m e : ℕ} {S : Type 0} (module_ : ModuleState n m e) (ar
   pub before : List (Asked n)
   pub serving : IsServing raw seed before module_ array out.rows out.told out.prints out.snapshots
 
--- whatever was served before, it goes on like this; what is shown of it stays, and the cells' wear is drawn as before
-pub record ServesOn {n m e : ℕ} {S : Type 0} (on : List (Asked n) → List (Asked n)) (old new : ModuleState n m e)
+-- what was told of rows that asked this, as they were served, by the histories that they brought about
+pub record Telling (n m e : ℕ) (raw : RawShape) (seed : ℕ) (asked : List (Asked n)) : Type 0 where
+  pub history : ℕ → List (TimedEvent n m)
+  pub told : List (Told n)
+  pub along : TellsAlong e raw seed asked history told
+
+module _ {n m e : ℕ} {raw : RawShape} {seed : ℕ} where
+  -- and before the last of them was
+  abbrev pub told_before : (row : Asked n) (before : List (Asked n)) → Telling n m e raw seed (row ∷ before) → Telling n m e raw seed before
+  told_before row before now = record { history = now.along.0; told = now.along.1; along = now.along.2 }
+
+  module _ {asked : List (Asked n)} {module_ : ModuleState n m e} {array : ArrayState n m} {places : ℕ} {told : List (Told n)} {shown : Shown} {snapshots : List Snapshot} where
+    -- so far
+    abbrev pub told_so_far : IsServing raw seed asked module_ array places told shown snapshots → Telling n m e raw seed asked
+    told_so_far serving = record { history = serving.history; told = told; along = serving.along }
+
+-- whatever was served before, it goes on with this row; what is shown of it stays, and the cells' wear is drawn as before
+pub record ServesOn {n m e : ℕ} {S : Type 0} (row : List (Asked n) → Asked n) (old new : ModuleState n m e)
     (before after : ArrayState n m) (out now : Printing n S) : Type 0 where
-  pub serving : (raw : RawShape) (seed : ℕ) (asked : List (Asked n)) → IsServing raw seed asked old before out.rows out.told out.prints out.snapshots
-      → IsServing raw seed (on asked) new after now.rows now.told now.prints now.snapshots
+  pub serving : (raw : RawShape) (seed : ℕ) (asked : List (Asked n))
+      → (had : IsServing raw seed asked old before out.rows out.told out.prints out.snapshots)
+      → (has : IsServing raw seed (row asked ∷ asked) new after now.rows now.told now.prints now.snapshots)
+      × (told_before (row asked) asked (told_so_far has) ≡ told_so_far had)
   pub prints : now.prints ≡ out.prints
   pub wear : after.wear ≡ before.wear

@@ -20,6 +20,15 @@ module _ {n : ℕ} (lines : ℕ) {S : Type 0} (left : S → Option (List ℕ)) (
     pub stream : stream_of n lines bytes ≡ Ok (reverse asked)
     pub calm : faults new ≡ faults old
 
+  -- it gave these bytes and no call failed: their first rows ask this, and stand in front of the first fault, if there is one
+  pub record IsReadTo : Type 0 where
+    pub bytes : List ℕ
+    pub takes : Takes (left old) (left new) (taken old) (taken new) bytes
+    pub ended : Bool
+    pub at_end : ended ≡ true → IsAtEnd (left new)
+    pub front : Fronts lines bytes ended asked
+    pub calm : faults new ≡ faults old
+
   -- it gave bytes whose first rows ask this: they stand in front of the first fault, if there is one
   pub record HasCome : Type 0 where
     pub bytes : List ℕ

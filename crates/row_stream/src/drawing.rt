@@ -1,5 +1,5 @@
 // The rows that a seed draws.
-ghost use Rattle.std.specs.Prelude.{◌≡◌, ◌<◌, ℕ, List, [], ◌∷◌, ◌++◌, reverse, Option, IfOk, IfErr, OnOk, OnErr};
+ghost use Rattle.std.specs.Prelude.{◌≡◌, ◌<◌, ℕ, List, [], ◌∷◌, reverse, Option, IfOk, IfErr, OnOk, OnErr};
 ghost use Rattle.std.specs.Io.KnownBytes.{Appends};
 ghost use Rattle.pcm_io.specs.Faults.{Rose};
 ghost use Rattle.pcm_io.specs.Giving.{AppendsPrefix};
@@ -10,11 +10,12 @@ ghost use Rattle.trace_gen.specs.Generated.{IsLongMix, generated};
 ghost use Rattle.trace_stream.specs.Laws.{all_events};
 ghost use Rattle.trace_stream.specs.declared.asked.Asked.{Asked as StreamAsked};
 ghost use Rattle.row_printer.specs.Printing.{IsPrinting, text_told};
-ghost use Rattle.row_stream.specs.Asking.{behind_of};
-ghost use Rattle.row_stream.specs.Serving.{IsServing};
+ghost use Rattle.row_stream.specs.Asking.{BeginsWith, behind_of};
+ghost use Rattle.row_stream.specs.Refusing.{EndsBehind, WentOn};
+ghost use Rattle.row_stream.specs.Serving.{IsServing, told_so_far};
 
 use crate::serving::serve_event;
-use crate::stop::{Behind, behind_event};
+use crate::stop::{Behind, behind_event, stops_behind};
 use cell_wear::TellsCells;
 use pcm_io::{Sink, WriteFault};
 use pcm_module::Module;
@@ -22,8 +23,9 @@ use row_printer::RowPrinter;
 use trace_gen::laws::long_events_are_lawful;
 use trace_gen::{Generator, Mix};
 
-/// Serves the rows that a seed draws, one after the other, and then writes what became known by them. Nothing is read meanwhile, so lines
-/// are gathered and written where they are many. Answers how the module stands behind the last row.
+/// Serves the rows that a seed draws, one after the other, or, where it is to stop at a refusal, up to the first row that is refused, and then
+/// writes what became known by them. Nothing is read meanwhile, so lines are gathered and written where they are many. Answers how the module
+/// stands behind the last row.
 pub fn serve_drawn<
     const B: usize,
     const M: usize,
@@ -35,6 +37,7 @@ pub fn serve_drawn<
     array: &mut A,
     seed: u64,
     mix: Mix,
+    stops: bool,
     out: &mut RowPrinter<B, K>,
 ) -> Result<Behind, WriteFault>
     requires layout { IsLayout B M E }
@@ -45,18 +48,19 @@ pub fn serve_drawn<
     ensures served { IfOk result (λ behind. (raw : RawShape) (own : ℕ)
         → IsServing raw own [] pcm.old (A.state array.old) out.old.rows out.old.told out.old.prints
         out.old.snapshots
-        → (asked : List (StreamAsked B)) × IsServing raw own asked pcm.new (A.state array.new)
-        out.new.rows out.new.told out.new.prints out.new.snapshots
-        × (behind ≡ behind_of asked) × (reverse asked
-        ≡ all_events (generated B seed (total_of raw) mix))) }
+        → (asked : List (StreamAsked B)) × (had : IsServing raw own asked pcm.new
+        (A.state array.new) out.new.rows out.new.told out.new.prints out.new.snapshots)
+        × (behind ≡ behind_of asked) × EndsBehind stops asked (told_so_far had)
+        (reverse asked ≡ all_events (generated B seed (total_of raw) mix))
+        (BeginsWith asked (all_events (generated B seed (total_of raw) mix)))) }
     ensures few { out.new.rows < 4294967295 }
     ensures stopped { OnErr result ((raw : RawShape) (own : ℕ)
         → IsServing raw own [] pcm.old (A.state array.old) out.old.rows out.old.told out.old.prints
         out.old.snapshots
-        → (asked : List (StreamAsked B)) × IsServing raw own asked pcm.new (A.state array.new)
-        out.new.rows out.new.told out.new.prints out.new.snapshots
-        × (rest : List (StreamAsked B)) × (reverse asked ++ rest
-        ≡ all_events (generated B seed (total_of raw) mix))) }
+        → (asked : List (StreamAsked B)) × (had : IsServing raw own asked pcm.new
+        (A.state array.new) out.new.rows out.new.told out.new.prints out.new.snapshots)
+        × BeginsWith asked (all_events (generated B seed (total_of raw) mix))
+        × WentOn stops asked (told_so_far had)) }
     ensures prints { out.new.prints ≡ out.old.prints }
     ensures printing { (before : Option (List ℕ)) (first : ℕ)
         → IsPrinting K.written K.faults before first out.old
@@ -78,6 +82,12 @@ pub fn serve_drawn<
         behind = behind_event(&event.op);
         if out.broken() {
             return Err(WriteFault);
+        }
+        if stops_behind(stops, out) {
+            return match out.flush() {
+                Ok(()) => Ok(behind),
+                Err(fault) => Err(fault),
+            };
         }
     }
     match out.flush() {

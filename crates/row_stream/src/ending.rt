@@ -5,9 +5,9 @@ ghost use Rattle.module_shape.specs.declared.raw.RawShape.{RawShape};
 ghost use Rattle.row_stream.specs.declared.stop.Behind.TheVariants.{Off};
 ghost use Rattle.trace_stream.specs.declared.asked.Asked.{Asked as StreamAsked};
 ghost use Rattle.row_printer.specs.Printing.{IsPrinting};
-ghost use Rattle.row_stream.specs.Asking.{behind_of, cut_behind, cut_if, off_behind, stays_off, with_cut};
-ghost use Rattle.row_stream.specs.Serving.{IsServing, MayServe, ServesOn};
-ghost use Rattle.row_stream.specs.Ending.{EndsShowing, IsLeft};
+ghost use Rattle.row_stream.specs.Asking.{behind_of, cut_at_end, cut_if, off_behind, stays_off, with_cut};
+ghost use Rattle.row_stream.specs.Serving.{IsServing, MayServe, ServesOn, told_so_far};
+ghost use Rattle.row_stream.specs.Ending.{EndsShowing, IsLeft, told_along, without_cut, without_cut_if};
 
 use crate::looking::show_last;
 use crate::serving::serve_event;
@@ -34,10 +34,11 @@ pub fn end<const B: usize, const M: usize, const E: usize, A: TellsCells<B, M>, 
         × IsServing raw seed asked pcm.old (A.state array.old) out.old.rows out.old.told
         out.old.prints out.old.snapshots × (behind ≡ behind_of asked) }
     ensures ended { (raw : RawShape) (seed : ℕ) (asked : List (StreamAsked B))
-        → IsServing raw seed asked pcm.old (A.state array.old) out.old.rows out.old.told
-        out.old.prints out.old.snapshots → behind ≡ behind_of asked
-        → EndsShowing raw seed (stays_off off asked) (with_cut off asked) pcm.new
-        (A.state array.new) out.new.rows out.new.told out.new.prints out.new.snapshots }
+        (had : IsServing raw seed asked pcm.old (A.state array.old) out.old.rows out.old.told
+        out.old.prints out.old.snapshots) → behind ≡ behind_of asked
+        → (all : EndsShowing raw seed (stays_off off asked) (with_cut off asked) pcm.new
+        (A.state array.new) out.new.rows out.new.told out.new.prints out.new.snapshots)
+        × (without_cut off asked (told_along all.0) ≡ told_so_far had) }
     ensures prints { out.new.prints ≡ out.old.prints }
     ensures printing { (before : Option (List ℕ)) (first : ℕ)
         → IsPrinting K.written K.faults before first out.old
@@ -63,10 +64,11 @@ fn leave<const B: usize, const M: usize, const E: usize, A: TellsCells<B, M>, K:
         × IsServing raw seed asked pcm.old (A.state array.old) out.old.rows out.old.told
         out.old.prints out.old.snapshots × (behind ≡ behind_of asked) }
     ensures ended { (raw : RawShape) (seed : ℕ) (asked : List (StreamAsked B))
-        → IsServing raw seed asked pcm.old (A.state array.old) out.old.rows out.old.told
-        out.old.prints out.old.snapshots → behind ≡ behind_of asked
-        → IsLeft raw seed (stays_off off asked) (with_cut off asked) pcm.new (A.state array.new)
-        out.new.rows out.new.told out.new.prints out.new.snapshots }
+        (had : IsServing raw seed asked pcm.old (A.state array.old) out.old.rows out.old.told
+        out.old.prints out.old.snapshots) → behind ≡ behind_of asked
+        → (left : IsLeft raw seed (stays_off off asked) (with_cut off asked) pcm.new
+        (A.state array.new) out.new.rows out.new.told out.new.prints out.new.snapshots)
+        × (without_cut off asked (told_along left.0) ≡ told_so_far had) }
     ensures prints { out.new.prints ≡ out.old.prints }
     ensures printing { (before : Option (List ℕ)) (first : ℕ)
         → IsPrinting K.written K.faults before first out.old
@@ -93,10 +95,11 @@ fn stay_off<const B: usize, const M: usize, const E: usize, A: TellsCells<B, M>,
         × IsServing raw seed asked pcm.old (A.state array.old) out.old.rows out.old.told
         out.old.prints out.old.snapshots × (behind ≡ behind_of asked) }
     ensures ended { (raw : RawShape) (seed : ℕ) (asked : List (StreamAsked B))
-        → IsServing raw seed asked pcm.old (A.state array.old) out.old.rows out.old.told
-        out.old.prints out.old.snapshots → behind ≡ behind_of asked
-        → IsLeft raw seed (off_behind (behind_of asked)) (cut_if (behind_of asked) asked)
-        pcm.new (A.state array.new) out.new.rows out.new.told out.new.prints out.new.snapshots }
+        (had : IsServing raw seed asked pcm.old (A.state array.old) out.old.rows out.old.told
+        out.old.prints out.old.snapshots) → behind ≡ behind_of asked
+        → (left : IsLeft raw seed (off_behind (behind_of asked)) (cut_if (behind_of asked) asked)
+        pcm.new (A.state array.new) out.new.rows out.new.told out.new.prints out.new.snapshots)
+        × (without_cut_if (behind_of asked) asked (told_along left.0) ≡ told_so_far had) }
     ensures prints { out.new.prints ≡ out.old.prints }
     ensures printing { (before : Option (List ℕ)) (first : ℕ)
         → IsPrinting K.written K.faults before first out.old
@@ -122,7 +125,7 @@ fn serve_cut<const B: usize, const M: usize, const E: usize, A: TellsCells<B, M>
     requires layout { IsLayout B M E }
     requires few { out.old.rows < 4294967295 }
     requires serving { MayServe pcm.old (A.state array.old) out.old }
-    ensures serves { ServesOn cut_behind pcm.old pcm.new (A.state array.old)
+    ensures serves { ServesOn cut_at_end pcm.old pcm.new (A.state array.old)
         (A.state array.new) out.old out.new }
     ensures printing { (before : Option (List ℕ)) (first : ℕ)
         → IsPrinting K.written K.faults before first out.old
@@ -146,10 +149,10 @@ fn drain<const B: usize, const M: usize, const E: usize, A: TellsCells<B, M>, K:
         × IsServing raw seed asked pcm.old (A.state array.old) out.old.rows out.old.told
         out.old.prints out.old.snapshots }
     ensures ended { (raw : RawShape) (seed : ℕ) (asked : List (StreamAsked B))
-        → IsServing raw seed asked pcm.old (A.state array.old) out.old.rows out.old.told
-        out.old.prints out.old.snapshots
-        → IsLeft raw seed false asked pcm.new (A.state array.new) out.new.rows out.new.told
-        out.new.prints out.new.snapshots }
+        (had : IsServing raw seed asked pcm.old (A.state array.old) out.old.rows out.old.told
+        out.old.prints out.old.snapshots)
+        → (left : IsLeft raw seed false asked pcm.new (A.state array.new) out.new.rows out.new.told
+        out.new.prints out.new.snapshots) × (told_along left.0 ≡ told_so_far had) }
     ensures prints { out.new.prints ≡ out.old.prints }
     ensures printing { (before : Option (List ℕ)) (first : ℕ)
         → IsPrinting K.written K.faults before first out.old
@@ -171,10 +174,10 @@ fn stop<const B: usize, const M: usize, const E: usize, A: TellsCells<B, M>, K: 
         × IsServing raw seed asked pcm.old (A.state array.now) out.old.rows out.old.told
         out.old.prints out.old.snapshots × (behind_of asked ≡ Off) }
     ensures ended { (raw : RawShape) (seed : ℕ) (asked : List (StreamAsked B))
-        → IsServing raw seed asked pcm.old (A.state array.now) out.old.rows out.old.told
-        out.old.prints out.old.snapshots → behind_of asked ≡ Off
-        → IsLeft raw seed true asked pcm.new (A.state array.now) out.new.rows out.new.told
-        out.new.prints out.new.snapshots }
+        (had : IsServing raw seed asked pcm.old (A.state array.now) out.old.rows out.old.told
+        out.old.prints out.old.snapshots) → behind_of asked ≡ Off
+        → (left : IsLeft raw seed true asked pcm.new (A.state array.now) out.new.rows out.new.told
+        out.new.prints out.new.snapshots) × (told_along left.0 ≡ told_so_far had) }
     ensures prints { out.new.prints ≡ out.old.prints }
     ensures printing { (before : Option (List ℕ)) (first : ℕ)
         → IsPrinting K.written K.faults before first out.old

@@ -10,11 +10,12 @@ ghost use Rattle.trace_stream.specs.Asked.{IsAskedFor};
 ghost use Rattle.trace_stream.specs.declared.asked.Asked.{Asked as StreamAsked};
 ghost use Rattle.row_printer.specs.Printing.{IsPrinting, text_told};
 ghost use Rattle.row_stream.specs.Asking.{behind_of};
-ghost use Rattle.row_stream.specs.Serving.{IsServing, MayServe, ServesOn};
-ghost use Rattle.row_stream.specs.Sourcing.{HasStopped, IsRead};
+ghost use Rattle.row_stream.specs.Refusing.{EndsBehind, GoesAsFar};
+ghost use Rattle.row_stream.specs.Serving.{IsServing, MayServe, ServesOn, told_so_far};
+ghost use Rattle.row_stream.specs.Sourcing.{HasStopped, IsRead, IsReadTo};
 
 use crate::serving::serve;
-use crate::stop::{Behind, Stop, behind_asked};
+use crate::stop::{Behind, Stop, behind_asked, stops_behind};
 use cell_wear::TellsCells;
 use pcm_io::{Sink, Source, WriteFault};
 use pcm_module::Module;
@@ -34,7 +35,7 @@ pub fn feed<const B: usize, const M: usize, const E: usize, A: TellsCells<B, M>,
     requires asked { IsAskedFor (total_of pcm.old.shape) pcm.old.tick asked.now }
     requires few { out.old.rows < 4294967295 }
     requires serving { MayServe pcm.old (A.state array.old) out.old }
-    ensures serves { ServesOn (λ before. asked.now ∷ before) pcm.old pcm.new (A.state array.old)
+    ensures serves { ServesOn (λ before. asked.now) pcm.old pcm.new (A.state array.old)
         (A.state array.new) out.old out.new }
     ensures printing { (before : Option (List ℕ)) (first : ℕ)
         → IsPrinting K.written K.faults before first out.old
@@ -51,8 +52,9 @@ pub fn feed<const B: usize, const M: usize, const E: usize, A: TellsCells<B, M>,
     out.flush()
 }
 
-/// Serves the rows that a source gives, one after the other, to its end. The source is asked only once all that is known is written: at first
-/// the header, and behind each row what became known by it. Answers how the module stands behind the last row.
+/// Serves the rows that a source gives, one after the other, to its end; or, where it is to stop at a refusal, behind the first row that is
+/// refused, and asks for nothing more. The source is asked only once all that is known is written: at first the header, and behind each row
+/// what became known by it. Answers how the module stands behind the last row.
 pub fn serve_source<
     const B: usize,
     const M: usize,
@@ -65,6 +67,7 @@ pub fn serve_source<
     pcm: &mut Module<B, M, E>,
     array: &mut A,
     source: &mut S,
+    stops: bool,
     out: &mut RowPrinter<B, K>,
 ) -> Result<Behind, Stop>
     requires layout { IsLayout B M E }
@@ -74,17 +77,19 @@ pub fn serve_source<
     ensures served { IfOk result (λ behind. (raw : RawShape) (seed : ℕ)
         → IsServing raw seed [] pcm.old (A.state array.old) out.old.rows out.old.told out.old.prints
         out.old.snapshots
-        → (asked : List (StreamAsked B)) × IsServing raw seed asked pcm.new (A.state array.new)
-        out.new.rows out.new.told out.new.prints out.new.snapshots
-        × (behind ≡ behind_of asked) × IsRead (total_of raw) S.left S.taken S.faults source.old
-        source.new asked) }
+        → (asked : List (StreamAsked B)) × (had : IsServing raw seed asked pcm.new
+        (A.state array.new) out.new.rows out.new.told out.new.prints out.new.snapshots)
+        × (behind ≡ behind_of asked) × EndsBehind stops asked (told_so_far had)
+        (IsRead (total_of raw) S.left S.taken S.faults source.old source.new asked)
+        (IsReadTo (total_of raw) S.left S.taken S.faults source.old source.new asked)) }
     ensures few { out.new.rows < 4294967295 }
     ensures stopped { IfErr result (λ stop. (raw : RawShape) (seed : ℕ)
         → IsServing raw seed [] pcm.old (A.state array.old) out.old.rows out.old.told out.old.prints
         out.old.snapshots
-        → (asked : List (StreamAsked B)) × IsServing raw seed asked pcm.new (A.state array.new)
-        out.new.rows out.new.told out.new.prints out.new.snapshots
-        × HasStopped (total_of raw) S.left S.taken S.faults source.old source.new asked stop) }
+        → (asked : List (StreamAsked B)) × (had : IsServing raw seed asked pcm.new
+        (A.state array.new) out.new.rows out.new.told out.new.prints out.new.snapshots)
+        × HasStopped (total_of raw) S.left S.taken S.faults source.old source.new asked stop
+        × GoesAsFar stop stops asked (told_so_far had)) }
     ensures prints { out.new.prints ≡ out.old.prints }
     ensures printing { (before : Option (List ℕ)) (first : ℕ)
         → IsPrinting K.written K.faults before first out.old
@@ -114,6 +119,9 @@ pub fn serve_source<
                     return Err(Stop::Output);
                 };
                 behind = behind_asked(&asked);
+                if stops_behind(stops, out) {
+                    return Ok(behind);
+                }
             }
             Ok(None) => return Ok(behind),
             Err(fault) => return Err(Stop::Input(fault)),

@@ -1,5 +1,5 @@
 // One row of a stream.
-ghost use Rattle.std.specs.Prelude.{◌≡◌, ℕ, ◌<◌, ◌≤◌, List, ◌∷◌, Option};
+ghost use Rattle.std.specs.Prelude.{◌≡◌, ℕ, ◌<◌, ◌≤◌, List, Option};
 ghost use Rattle.ecp_line.specs.Layout.{IsLayout};
 ghost use Rattle.module_shape.specs.declared.raw.RawShape.{RawShape};
 ghost use Rattle.module_shape.specs.Limits.{total_of};
@@ -31,7 +31,7 @@ pub fn serve<const B: usize, const M: usize, const E: usize, A: TellsCells<B, M>
     requires asked { IsAskedFor (total_of pcm.old.shape) pcm.old.tick asked.now }
     requires few { out.old.rows < 4294967295 }
     requires serving { MayServe pcm.old (A.state array.old) out.old }
-    ensures serves { ServesOn (λ before. asked.now ∷ before) pcm.old pcm.new (A.state array.old)
+    ensures serves { ServesOn (λ before. asked.now) pcm.old pcm.new (A.state array.old)
         (A.state array.new) out.old out.new }
     ensures printing { (before : Option (List ℕ)) (first : ℕ)
         → IsPrinting K.written K.faults before first out.old
@@ -55,7 +55,7 @@ pub fn serve_event<
     requires event { IsEventFor (total_of pcm.old.shape) pcm.old.tick event.now }
     requires few { out.old.rows < 4294967295 }
     requires serving { MayServe pcm.old (A.state array.old) out.old }
-    ensures serves { ServesOn (λ before. Happens event.now ∷ before) pcm.old pcm.new
+    ensures serves { ServesOn (λ before. Happens event.now) pcm.old pcm.new
         (A.state array.old) (A.state array.new) out.old out.new }
     ensures printing { (before : Option (List ℕ)) (first : ℕ)
         → IsPrinting K.written K.faults before first out.old
@@ -80,7 +80,7 @@ fn serve_settle<
     requires rises { pcm.old.tick ≤ tick }
     requires in_time { tick ≤ latest_tick }
     requires serving { MayServe pcm.old (A.state array.old) out.old }
-    ensures serves { ServesOn (λ before. Settle tick ∷ before) pcm.old pcm.new (A.state array.old)
+    ensures serves { ServesOn (λ before. Settle tick) pcm.old pcm.new (A.state array.old)
         (A.state array.new) out.old out.new }
     ensures printing { (before : Option (List ℕ)) (first : ℕ)
         → IsPrinting K.written K.faults before first out.old

@@ -1,8 +1,12 @@
 // Why and where a stream stops.
-ghost use Rattle.std.specs.Prelude.{◌≡◌, List, ◌∷◌};
+ghost use Rattle.std.specs.Prelude.{◌≡◌, ◌&&◌, List, ◌∷◌};
+ghost use Rattle.row_printer.specs.Printing.{table_told};
+ghost use Rattle.row_printer.specs.Refusing.{any_refused};
 ghost use Rattle.trace_stream.specs.declared.asked.Asked.{Asked as StreamAsked};
 ghost use Rattle.row_stream.specs.Asking.{behind_of, behind_op};
 
+use pcm_io::Sink;
+use row_printer::RowPrinter;
 use trace_reader::EventOp;
 use trace_stream::{Asked, StreamFault};
 
@@ -46,4 +50,14 @@ pub(crate) fn behind_event<const B: usize>(op: &EventOp<B>) -> Behind
         EventOp::Cut => Behind::Off,
         _ => Behind::Going,
     }
+}
+
+/// Whether a stream stops behind the row that was served: where it is to stop at a refusal, and one was told.
+pub(crate) fn stops_behind<const B: usize, K: Sink + Drop>(
+    stops: bool,
+    out: &RowPrinter<B, K>,
+) -> bool
+    ensures { result ≡ (stops && any_refused (table_told out.now)) }
+{
+    stops && out.refused()
 }

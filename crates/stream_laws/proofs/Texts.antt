@@ -4,12 +4,12 @@ use Rattle.std.{specs.Prelude.Ok, proofs.lemmas.Bool.Decides.nat_tests}
 use Rattle.csv.specs.Records.{field_at}
 use Rattle.csv.specs.declared.parser.State.TheVariants as st
 use Rattle.trace_reader.specs.{Events.AreEventsFor, Trace.is_header, declared.event.Event.Event}
-use Rattle.trace_gen.{specs.EventText.event_fields, specs.Generated.generated, specs.Laws.{AllHaveBytes, most_lines}, proofs.Lawful.long_generated_law}
+use Rattle.trace_gen.{specs.EventText.event_fields, specs.Generated.generated, specs.Laws.{AllHaveBytes, numbered_lines}, proofs.Lawful.long_generated_law}
 use Rattle.trace_gen.proofs.Read.{event-read, header_fields, no-mark, text-records}
 use Rattle.trace_stream.{specs.Laws.all_events, specs.Stream.{most_streamed, records_left, stream_of, stream_records, stream_rows}, proofs.Traces.asked-ok}
 use Rattle.stream_laws.specs.Laws.{DrawnLaw, TextLaw}
 
-rows-asked : (n lines rows before : ℕ) (events : List (Event n)) → lines ≤ most_lines → AreEventsFor lines before events → AllHaveBytes events → rows + length events ≤ most_streamed
+rows-asked : (n lines rows before : ℕ) (events : List (Event n)) → lines ≤ numbered_lines → AreEventsFor lines before events → AllHaveBytes events → rows + length events ≤ most_streamed
     → stream_rows n lines rows before (map event_fields events) ≡ Ok (all_events events)
 unfolding AreEventsFor AllHaveBytes stream_rows
 rows-asked n lines rows before [] few for has fits = refl

@@ -16,13 +16,13 @@ use Rattle.module_prints.{specs.Images.{WritesRows, kept_in}, specs.WearReports.
 use Rattle.program_calls.specs.Calls.{GetsPart, IsUntouched, Lent, SinkChange, SinkFails}
 use Rattle.row_printer.specs.{Printing.{stream_text, table_of}, Telling.{outcomes_in, TellsOnce}, declared.snapshot.Snapshot.Snapshot, declared.told.Shown.Shown}
 use Rattle.row_printer.specs.declared.told.Told.{Told}
-use Rattle.row_stream.specs.{Asking.{stays_off, with_cut}, Ending.SnapsAll, Laws.EachToldLaw, Serving.{HasServed, IsServing, SnapsAlong}}
+use Rattle.row_stream.specs.{Asking.{stays_off, with_cut}, Ending.SnapsAll, Laws.EachToldLaw, Serving.{HasServed, IsServing, SnapsAlong, told_so_far}}
 use Rattle.stream_words.specs.{declared.job.StreamJob.StreamJob, declared.job.StreamPrint.StreamPrint}
 use Rattle.stream_words.specs.declared.job.StreamPrint.TheVariants.{Rows, Summary, Wear, Lines, Image, Snapshots}
 use Rattle.trace_stream.specs.{Asked.events_in, declared.asked.Asked.Asked}
 use Rattle.stream_top.specs.{Calls.LentSource, FaultLines.{fault_line, status_of}, Leaving.{IsClosing, Leaves, LeavesLaw, senses_for}}
 use Rattle.stream_top.specs.Promises.{Breaks, Call, EndsCall, IsAsleep, IsRefused, IsStatusOf, IsUnread, KeepsPromises, OthersOn, OthersUntouched, Stops}
-use Rattle.stream_top.specs.Streams.{BreaksOff, Closes, HasPlayed, IsServed, IsServedInPart, StopsBy, Streams, StreamsUpTo, done_by, is_off, rows_told, shown_by, status_done}
+use Rattle.stream_top.specs.Streams.{BreaksOff, Closes, GoesAsFarAs, HasPlayed, IsServed, IsServedInPart, StopsBy, Streams, StreamsUpTo, done_by, has_stopped, is_off, rows_told, shown_by, status_done, told_of_rows}
 use Rattle.stream_top.specs.{declared.done.Done.Done, declared.done.Done.TheVariants.{Whole, Short}, declared.fault.Fault.Fault}
 use Rattle.stream_top.{specs.declared.fault.Fault.TheVariants.{Usage, Trace, Read, Write, TooLong, NoMemory}, proofs.EndText.PrintsOf}
 use Rattle.command_line.specs.{declared.job.LineSize.LineSize, declared.job.LineSize.TheVariants.{Bytes64, Bytes128}, declared.job.Refusal.Refusal}
@@ -85,35 +85,36 @@ module _ {S : Type 0} (n m e : ℕ) (job : StreamJob) (source : LentSource S) (m
   }
 
   -- a stream that stopped at a fault
-  pub stream-stops : before.wear ≡ Some job.wear → (out : SinkChange) (fault : Fault) (asked : List (Asked n)) → IsServing job.shape job.seed asked module_ before places told prints snaps → StopsBy n m e job source job.input fault asked
-      → Appends out.written_before out.written_now (stream_text prints told snaps) → StreamsUpTo n m e job source out before fault
+  pub stream-stops : before.wear ≡ Some job.wear → (out : SinkChange) (fault : Fault) (asked : List (Asked n)) (had : IsServing job.shape job.seed asked module_ before places told prints snaps) → StopsBy n m e job source job.input fault asked
+      → GoesAsFarAs n m e job source fault asked (told_so_far had) → Appends out.written_before out.written_now (stream_text prints told snaps) → StreamsUpTo n m e job source out before fault
   unfolding part-of
-  stream-stops wear out fault asked serving stops gets = record {
+  stream-stops wear out fault asked serving stops far gets = record {
     asked = asked;
     told = told;
     served = part-of wear asked serving;
     cause = stops;
+    far = far;
     written = subst (λ (p : Shown). Appends out.written_before out.written_now (stream_text p told snaps)) alike gets;
   }
 
   module _ (array : ArrayState n m) (changes changes_now : ℕ → Option (ℕ → ℕ)) (stand : job.print ≢ Image → changes_now ≡ changes) (each : EachToldLaw) (law : LeavesLaw) (shape : IsShape job.shape) (low : job.seed < 2 ^ 64) (wear : array.wear ≡ Some job.wear)
       (still : job.print ≢ Image → array ≡ before) (sensed : ℕ) (since : SensesRows sensed before array) (asked : List (Asked n)) (played : HasPlayed n m e job source asked module_ before places told prints snaps) where
-    abbrev kept : Leaves (stays_off (is_off job.end) asked) e job.shape job.seed (rows_told n m e job source asked places told) played.1.0.ends sensed before array (saved_of job.shape job.seed (kept_in module_) before)
-        × HaveRoles job.shape job.seed played.1.0.ends
-    kept = law n m e job.shape job.seed (stays_off (is_off job.end) asked) (with_cut (is_off job.end) asked) module_ before array places told sensed shape low since played.1.0
+    abbrev kept : Leaves (stays_off (is_off job.end) asked) e job.shape job.seed (rows_told n m e job source asked places told) played.0.0.ends sensed before array (saved_of job.shape job.seed (kept_in module_) before)
+        × HaveRoles job.shape job.seed played.0.0.ends
+    kept = law n m e job.shape job.seed (stays_off (is_off job.end) asked) (with_cut (is_off job.end) asked) module_ before array places told sensed shape low since played.0.0
 
     served-of : IsServed n m e job source array told
     served-of = record {
       asked = asked;
-      come = played.0;
       places = places;
       module_ = module_;
       before = before;
-      ended = played.1.0;
+      ended = played.0.0;
+      come = played.1;
       snapshots = snaps;
-      snaps = subst (λ (p : Shown). SnapsAll p played.1.0 snaps) alike played.1.1;
+      snaps = subst (λ (p : Shown). SnapsAll p played.0.0 snaps) alike played.0.1;
       once = once;
-      each = each n m e job.shape job.seed (stays_off (is_off job.end) asked) (with_cut (is_off job.end) asked) module_ before places told once played.1.0;
+      each = each n m e job.shape job.seed (stays_off (is_off job.end) asked) (with_cut (is_off job.end) asked) module_ before places told once played.0.0;
       sensed = sensed;
       saved = saved_of job.shape job.seed (kept_in module_) before;
       leaves = kept.0;
@@ -126,11 +127,11 @@ module _ {S : Type 0} (n m e : ℕ) (job : StreamJob) (source : LentSource S) (m
         → (whole : List ℕ) × Closes n m e job source array changes_now told served-of whole × P whole
     unfolding served-of
     closes-of rows counts same counted P prints =
-        let ends = played.1.0.ends in
+        let ends = played.0.0.ends in
         let For : RawShape → ℕ → Type 0 = λ raw seed. HaveRoles raw seed ends
         → (whole : List ℕ) × IsClosing raw seed rows counts ends before (cells_at e before changes) (saved_of raw seed (kept_in module_) before) job.print whole × P whole in
-        let shaped : For job.shape module_.seed = subst (λ (raw : RawShape). For raw module_.seed) played.1.0.shape (prints ends played.1.0.are) in
-        let own : For job.shape job.seed = subst (λ (seed : ℕ). For job.shape seed) played.1.0.seeded shaped in
+        let shaped : For job.shape module_.seed = subst (λ (raw : RawShape). For raw module_.seed) played.0.0.shape (prints ends played.0.0.are) in
+        let own : For job.shape job.seed = subst (λ (seed : ℕ). For job.shape seed) played.0.0.seeded shaped in
         let got = own kept.1 in
         let alike : job.print ≢ Image → cells_at e array changes_now ≡ cells_at e before changes = λ other. ap (λ (a : ArrayState n m). cells_at e a changes_now) (still other) ∙ ap (cells_at e before) (stand other) in
         (got.0, closing-now job.shape job.seed rows places counts (counts_of (table_of places told)) ends before array (cells_at e before changes) (cells_at e array changes_now) (saved_of job.shape job.seed (kept_in module_) before) job.print got.0 same counted still alike got.1, got.2)
@@ -138,7 +139,7 @@ module _ {S : Type 0} (n m e : ℕ) (job : StreamJob) (source : LentSource S) (m
     -- it was served to its end, and its whole text was written
     pub stream-whole : (out : SinkChange) (mid : Option (List ℕ)) → Appends out.written_before mid (stream_text prints told snaps)
         → (rows : ℕ) (counts : Counts) → rows ≡ places → counts ≡ counts_of (table_of places told) → PrintsOf module_ before (cells_at e before changes) rows counts job.print (λ whole. Appends mid out.written_now whole)
-        → sensed ≡ senses_for job.print before.lines → (done : Done) → done ≡ done_by (table_of places told) → Streams n m e job source out array changes_now done
+        → sensed ≡ senses_for job.print before.lines → (done : Done) → done ≡ done_by (has_stopped n m e job source asked (told_of_rows n m e job source asked played.0.0)) (table_of places told) → Streams n m e job source out array changes_now done
     unfolding served-of
     stream-whole out mid gets rows counts same counted writes all done is =
         let text = closes-of rows counts same counted (λ whole. Appends mid out.written_now whole) writes in
@@ -181,7 +182,7 @@ module _ {S : Type 0} (n m e : ℕ) (job : StreamJob) (source : LentSource S) (m
                   rows = had.rows;
                   part = Appends-AppendsPrefix out.written_before mid out.written_now [] (image_bytes (first_rows had.count (saved_of module_.shape module_.seed (kept_in module_) before))) none had.part;
                 } in
-                subst (λ (seed : ℕ). Of job.shape seed) played.1.0.seeded (subst (λ (raw : RawShape). Of raw module_.seed) played.1.0.shape own);
+                subst (λ (seed : ℕ). Of job.shape seed) played.0.0.seeded (subst (λ (raw : RawShape). Of raw module_.seed) played.0.0.shape own);
           });
           fails = fails;
         }
@@ -191,7 +192,7 @@ module _ {S : Type 0} (n m e : ℕ) (job : StreamJob) (source : LentSource S) (m
         → sensed ≡ 0 → SinkFails out → BreaksOff n m e job source out array changes_now
     unfolding served-of
     stream-unclosed out gets none fails =
-        let text = some-closing job.shape job.seed places (counts_of (table_of places told)) played.1.0.ends array (cells_at e array changes_now) (saved_of job.shape job.seed (kept_in module_) before) job.print shape kept.1 kept.0.right.size in
+        let text = some-closing job.shape job.seed places (counts_of (table_of places told)) played.0.0.ends array (cells_at e array changes_now) (saved_of job.shape job.seed (kept_in module_) before) job.print shape kept.1 kept.0.right.size in
         let first : AppendsPrefix out.written_before out.written_now (stream_text (shown_by job.print) told snaps) = subst (λ (p : Shown). AppendsPrefix out.written_before out.written_now (stream_text p told snaps)) alike gets in
         let saved = saved_of job.shape job.seed (kept_in module_) before in
         record {
@@ -215,7 +216,7 @@ module _ {S : Type 0} (n m e : ℕ) (job : StreamJob) (source : LentSource S) (m
   pub stream-breaks : (changes : ℕ → Option (ℕ → ℕ)) → EachToldLaw → LeavesLaw → IsShape job.shape → job.seed < 2 ^ 64 → before.wear ≡ Some job.wear → (out : SinkChange)
       → (asked : List (Asked n))
       × (HasPlayed n m e job source asked module_ before places told prints snaps
-      ⊎ (IsServing job.shape job.seed asked module_ before places told prints snaps × StopsBy n m e job source job.input Write asked))
+      ⊎ ((had : IsServing job.shape job.seed asked module_ before places told prints snaps) × StopsBy n m e job source job.input Write asked × GoesAsFarAs n m e job source Write asked (told_so_far had)))
       → AppendsPrefix out.written_before out.written_now (stream_text prints told snaps) × SinkFails out → BreaksOff n m e job source out before changes
   unfolding part-of
   stream-breaks changes each law shape low wear out (asked, inl played) part =
@@ -226,6 +227,7 @@ module _ {S : Type 0} (n m e : ℕ) (job : StreamJob) (source : LentSource S) (m
       told = told;
       served = part-of wear asked some.0;
       cause = some.1;
+      far = some.2;
       part = subst (λ (p : Shown). AppendsPrefix out.written_before out.written_now (stream_text p told snaps)) alike part.0;
     });
     fails = part.1;

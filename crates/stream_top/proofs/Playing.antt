@@ -1,18 +1,19 @@
 -- How a stream is served by a module that is new.
-use Rattle.std.proofs.Common.{◌≡◌, inl, inr, ℕ, ◌<◌, Bool, true, false, List, [], refl, sym, ap, subst, arith}
-use Rattle.std.specs.Prelude.{if◌then◌else◌}
+use Rattle.std.proofs.Common.{◌≡◌, ◌&&◌, ◌∙◌, inl, inr, ℕ, ◌<◌, Bool, false, List, [], refl, sym, ap, subst, arith}
 use Rattle.cell_rows.specs.Device.{ArrayState}
 use Rattle.result_rows.specs.declared.Outcome.{Outcome}
 use Rattle.bank_shape.specs.declared.BankShape.{BankShape}
 use Rattle.module_shape.specs.{Limits.{IsSmall, total_of}, declared.raw.RawShape.RawShape}
 use Rattle.module_prints.specs.Images.{HasImage}
 use Rattle.pcm_module.specs.{Replaying.Replays, State.ModuleState}
-use Rattle.row_printer.specs.{declared.snapshot.Snapshot.Snapshot, declared.told.Shown.Shown, declared.told.Told.Told}
-use Rattle.row_stream.specs.{Ending.HasEnded, Serving.IsServing, Sourcing.HasStopped, declared.stop.Stop.Stop, declared.stop.Stop.TheVariants.{Input, Endless, Output}}
+use Rattle.row_printer.specs.{Printing.table_of, Refusing.any_refused, declared.snapshot.Snapshot.Snapshot, declared.told.Shown.Shown, declared.told.Told.Told}
+use Rattle.row_stream.specs.{Asking.{stays_off, with_cut}, Ending.{EndsShowing, HasEnded, told_along, without_cut}, Refusing.{EndsBehind, GoesAsFar, WentOn, tells_refusal}}
+use Rattle.row_stream.proofs.Refusals.{told-refusal}
+use Rattle.row_stream.specs.{Serving.{IsServing, Telling, told_so_far}, Sourcing.HasStopped, declared.stop.Stop.Stop, declared.stop.Stop.TheVariants.{Input, Endless, Output}}
 use Rattle.stream_words.specs.{Jobs.IsStreamJob, declared.job.StreamJob.StreamJob, declared.job.StreamPrint.TheVariants.Image}
 use Rattle.trace_stream.specs.declared.asked.Asked.{Asked}
 use Rattle.trace_stream.specs.declared.fault.StreamFault.TheVariants as from
-use Rattle.stream_top.specs.{Calls.LentSource, Streams.{HasCause, stop_fault}, declared.done.Done.TheVariants.{Whole, Short}, declared.fault.Fault.TheVariants.Write}
+use Rattle.stream_top.specs.{Calls.LentSource, Streams.{ComeFrom, GoesAsFarAs, HasCause, HasPlayed, has_stopped, is_off, stop_fault, stops_at_refusal, told_of_rows}, declared.fault.Fault.TheVariants.Write}
 
 -- a module to which nothing was handed yet has served nothing
 pub serves-none : {n m e : ℕ} (raw : RawShape) (seed : ℕ) (module_ : ModuleState n m e) (array : ArrayState n m) (shown : Shown) → module_.shape ≡ raw → module_.seed ≡ seed → module_.tick ≡ 0
@@ -27,12 +28,6 @@ serves-none raw seed module_ array shown shape seeded tick below going begins = 
   tick = tick;
   in_time = omega (arith, tick);
 }
-
--- what holds of what a printer was told holds of one that was told the same
-pub told-same : {n : ℕ} (P : ℕ → List (Told n) → Shown → List Snapshot → Type 0) (rows rows2 : ℕ) (told told2 : List (Told n)) (prints prints2 : Shown) (snaps snaps2 : List Snapshot)
-    → rows2 ≡ rows → told2 ≡ told → prints2 ≡ prints → snaps2 ≡ snaps → P rows told prints snaps → P rows2 told2 prints2 snaps2
-told-same P rows rows2 told told2 prints prints2 snaps snaps2 r t p s had =
-    subst (λ k. P k told2 prints2 snaps2) (sym r) (subst (λ k. P rows k prints2 snaps2) (sym t) (subst (λ k. P rows told k snaps2) (sym p) (subst (λ k. P rows told prints k) (sym s) had)))
 
 -- a stream that was served to its end leaves a module with an image, where it asks for one
 pub has-image : {n m e : ℕ} (job : StreamJob) (off : Bool) (asked : List (Asked n)) (module_ : ModuleState n m e) (array : ArrayState n m) (places : ℕ) (told : List (Told n)) → IsStreamJob job
@@ -67,11 +62,44 @@ only-output (Input from.NoMemory) is = absurd (cc is)
 only-output Endless is = absurd (cc is)
 only-output Output is = refl
 
--- how a stream was done
-pub done-short : (short : Bool) → short ≡ true → Short ≡ (if short then Short else Whole)
-done-short true is = refl
-done-short false is = absurd (cc is)
+-- where the rows end, and how far a stream came that stopped, by whether the job is to stop at a refusal
+pub ends-by : {n m e : ℕ} {raw : RawShape} {seed : ℕ} (stops stops2 : Bool) → stops ≡ stops2 → (asked : List (Asked n)) (telling : Telling n m e raw seed asked) (All Some : Type 0)
+    → EndsBehind stops asked telling All Some → EndsBehind stops2 asked telling All Some
+ends-by stops stops2 same asked telling All Some had = subst (λ (b : Bool). EndsBehind b asked telling All Some) same had
 
-pub done-whole : (short : Bool) → short ≡ false → Whole ≡ (if short then Short else Whole)
-done-whole true is = absurd (cc is)
-done-whole false is = refl
+pub went-by : {n m e : ℕ} {raw : RawShape} {seed : ℕ} (stops stops2 : Bool) → stops ≡ stops2 → (asked : List (Asked n)) (telling : Telling n m e raw seed asked) → WentOn stops asked telling → WentOn stops2 asked telling
+went-by stops stops2 same asked telling had = subst (λ (b : Bool). WentOn b asked telling) same had
+
+module _ {S : Type 0} (n m e : ℕ) (job : StreamJob) (source : LentSource S) (asked : List (Asked n)) (telling : Telling n m e job.shape job.seed asked) where
+  far-by : (stop : Stop) → GoesAsFar stop (stops_at_refusal job.until) asked telling → GoesAsFarAs n m e job source (stop_fault stop) asked telling
+  far-by (Input (from.Trace f)) far = far
+  far-by (Input from.TooMany) far = far
+  far-by (Input from.Read) far = far
+  far-by (Input from.Endless) far = far
+  far-by (Input from.NoMemory) far = far
+  far-by Endless far = far
+  far-by Output far = far
+
+  pub goes-as-far : (stops : Bool) → stops ≡ stops_at_refusal job.until → (stop : Stop) → GoesAsFar stop stops asked telling → GoesAsFarAs n m e job source (stop_fault stop) asked telling
+  goes-as-far stops same stop far = far-by stop (subst (λ (b : Bool). GoesAsFar stop b asked telling) same far)
+
+module _ {S : Type 0} (n m e : ℕ) (job : StreamJob) (source : LentSource S) (asked : List (Asked n)) {module_ : ModuleState n m e} {array : ArrayState n m} {places : ℕ} {told : List (Told n)} {shown : Shown} {snaps : List Snapshot}
+    (had : IsServing job.shape job.seed asked module_ array places told shown snaps) (module2 : ModuleState n m e) (array2 : ArrayState n m) (places2 : ℕ) (told2 : List (Told n)) (shown2 : Shown) (snaps2 : List Snapshot) where
+  -- what was served has ended, with the power on or off
+  abbrev EndsSo : Bool → Type 0
+  EndsSo off = (shows : EndsShowing job.shape job.seed (stays_off off asked) (with_cut off asked) module2 array2 places2 told2 shown2 snaps2) × (without_cut off asked (told_along shows.0) ≡ told_so_far had)
+
+  -- it stopped where the last row was refused
+  abbrev HasStoppedBy : Bool → Type 0
+  HasStoppedBy stopped =
+      (played : HasPlayed n m e job source asked module2 array2 places2 told2 shown2 snaps2) × (stopped ≡ has_stopped n m e job source asked (told_of_rows n m e job source asked played.0.0))
+
+  stopped-so : EndsSo (is_off job.end) → ComeFrom n m e job source job.input asked (told_so_far had) → (stopped : Bool) → stopped ≡ (stops_at_refusal job.until && any_refused (table_of places told)) → HasStoppedBy stopped
+  stopped-so all come stopped is =
+      let refusal : any_refused (table_of places told) ≡ tells_refusal asked (without_cut (is_off job.end) asked (told_along all.0.0)) =
+      sym (told-refusal had) ∙ ap (λ (t : Telling n m e job.shape job.seed asked). tells_refusal asked t) (sym all.1) in
+      ((all.0, subst (λ (t : Telling n m e job.shape job.seed asked). ComeFrom n m e job source job.input asked t) (sym all.1) come), is ∙ ap (λ (b : Bool). stops_at_refusal job.until && b) refusal)
+
+  pub stopped-of : (off : Bool) → off ≡ is_off job.end → EndsSo off → ComeFrom n m e job source job.input asked (told_so_far had)
+      → (stopped : Bool) → stopped ≡ (stops_at_refusal job.until && any_refused (table_of places told)) → HasStoppedBy stopped
+  stopped-of off same all come stopped is = stopped-so (subst EndsSo same all) come stopped is

@@ -1,5 +1,5 @@
 -- What a stream does. What was asked stands with the newest row first.
-use Rattle.std.specs.Prelude.{◌≡◌, ◌≢◌, ◌⊎◌, ℕ, ◌≤◌, Bool, true, false, if◌then◌else◌, List, ◌++◌, length, reverse, Option, Some, Result, Err, IfOk, IfErr}
+use Rattle.std.specs.Prelude.{◌≡◌, ◌≢◌, ◌⊎◌, ◌&&◌, ℕ, ◌≤◌, Bool, true, false, if◌then◌else◌, List, ◌++◌, length, reverse, Option, Some, Result, Err, IfOk, IfErr}
 use Rattle.cell_rows.specs.Device.{ArrayState}
 use Rattle.result_rows.specs.declared.Outcome.{Outcome}
 use Rattle.row_rules.specs.declared.Row.{Row}
@@ -14,13 +14,15 @@ use Rattle.run_text.specs.{Counting.counts_of, Shortfall.any_short}
 use Rattle.row_printer.specs.{Printing.{stream_text, table_of}, Telling.{outcomes_in, TellsOnce}, declared.snapshot.Snapshot.Snapshot, declared.told.Shown.Shown}
 use Rattle.row_printer.specs.declared.told.Told.{Told}
 use Rattle.row_printer.specs.declared.told.Shown.TheVariants as shown
-use Rattle.stream_words.specs.{declared.job.End.End, declared.job.End.TheVariants.{Drain, Off}, declared.job.StreamJob.StreamJob, declared.job.StreamPrint.StreamPrint}
+use Rattle.stream_words.specs.{declared.job.End.End, declared.job.End.TheVariants.{Drain, Off}, declared.job.StreamJob.StreamJob, declared.job.StreamPrint.StreamPrint, declared.job.Until.Until}
+use Rattle.stream_words.specs.declared.job.Until.TheVariants as up_to
 use Rattle.stream_words.specs.declared.job.StreamPrint.TheVariants.{Rows, Summary, Wear, Lines, Image, Snapshots}
 use Rattle.trace_gen.specs.Generated.{generated}
 use Rattle.trace_stream.specs.{Asked.events_in, Laws.all_events, declared.asked.Asked.Asked}
 use Rattle.trace_stream.specs.declared.fault.StreamFault.TheVariants as from
-use Rattle.row_stream.specs.{Asking.{stays_off, with_cut}, Ending.{EndsShowing, HasEnded, SnapsAll, rows_of}, Laws.TellsEach, Serving.{HasServed, SnapsAlong, TellsAlong}}
-use Rattle.row_stream.specs.{Sourcing.{HasStopped, IsRead}, declared.stop.Stop.Stop, declared.stop.Stop.TheVariants.{Input as No, Endless, Output}}
+use Rattle.row_stream.specs.{Asking.{BeginsWith, stays_off, with_cut}, Ending.{EndsShowing, HasEnded, SnapsAll, rows_of, told_along, without_cut}, Laws.TellsEach}
+use Rattle.row_stream.specs.{Refusing.{EndsBehind, MayGoOn, WentOn, tells_refusal}, Serving.{HasServed, SnapsAlong, Telling, TellsAlong}}
+use Rattle.row_stream.specs.{Sourcing.{HasStopped, IsRead, IsReadTo}, declared.stop.Stop.Stop, declared.stop.Stop.TheVariants.{Input as No, Endless, Output}}
 use Rattle.stream_top.specs.{Calls.LentSource, Leaving.{IsClosing, Leaves, senses_for}, declared.done.Done.Done, declared.done.Done.TheVariants.{Whole, Short}}
 use Rattle.stream_top.specs.{declared.fault.Fault.Fault, declared.fault.Fault.TheVariants.{Usage, Trace, Read, Write, TooLong, NoMemory}}
 
@@ -33,6 +35,11 @@ is_off Off = true
 abbrev pub is_source : Input → Bool
 is_source Source = true
 is_source (Drawn mix) = false
+
+-- whether a stream is to stop at a refusal
+abbrev pub stops_at_refusal : Until → Bool
+stops_at_refusal up_to.End = false
+stops_at_refusal up_to.Refused = true
 
 -- what is printed as rows are served
 abbrev pub shown_by : StreamPrint → Shown
@@ -53,9 +60,9 @@ stop_fault (No from.NoMemory) = NoMemory
 stop_fault Endless = TooLong
 stop_fault Output = Write
 
--- how a stream was done, by the outcomes of its rows, and the status for that
-abbrev pub done_by : {n : ℕ} → List (Outcome n) → Done
-done_by outcomes = if any_short outcomes then Short else Whole
+-- how a stream was done: wholly where it stopped at a refusal, as it was to; else by the outcomes of its rows; and the status for that
+abbrev pub done_by : {n : ℕ} → Bool → List (Outcome n) → Done
+done_by stopped outcomes = if stopped then Whole else (if any_short outcomes then Short else Whole)
 
 abbrev pub status_done : Done → ℕ
 status_done Whole = 0
@@ -63,11 +70,30 @@ status_done Short = 1
 
 -- lines of n bytes with m check bytes and e error-correcting pointers
 module _ {S : Type 0} (n m e : ℕ) (job : StreamJob) (source : LentSource S) where
-  -- all rows asked this: the source was read to its end and its bytes are such a stream; or the seed draws them, and nothing is read
-  abbrev pub ComeFrom : Input → List (Asked n) → Type 0
-  ComeFrom Source asked = IsRead (total_of job.shape) source.left source.taken source.faults source.before source.now asked
-  ComeFrom (Drawn mix) asked =
-      (source.now ≡ source.before) × (reverse asked ≡ all_events (generated n job.seed (total_of job.shape) mix))
+  -- the rows asked this, and this was told as they were served: the source was read to its end and its bytes are such a stream; or the seed draws
+  -- them, and nothing is read. Where the stream is to stop at a refusal, they are those up to the first row that was refused, if there is one
+  abbrev pub ComeFrom : Input → (asked : List (Asked n)) → Telling n m e job.shape job.seed asked → Type 0
+  ComeFrom Source asked telling =
+      EndsBehind (stops_at_refusal job.until) asked telling
+      (IsRead (total_of job.shape) source.left source.taken source.faults source.before source.now asked)
+      (IsReadTo (total_of job.shape) source.left source.taken source.faults source.before source.now asked)
+  ComeFrom (Drawn mix) asked telling =
+      (source.now ≡ source.before)
+      × EndsBehind (stops_at_refusal job.until) asked telling (reverse asked ≡ all_events (generated n job.seed (total_of job.shape) mix))
+      (BeginsWith asked (all_events (generated n job.seed (total_of job.shape) mix)))
+
+  -- whether it stopped there
+  abbrev pub has_stopped : (asked : List (Asked n)) → Telling n m e job.shape job.seed asked → Bool
+  has_stopped asked telling = stops_at_refusal job.until && tells_refusal asked telling
+
+  -- and where a fault ends it, it didn't: nothing was refused; but the last row may have been where the output failed
+  abbrev pub GoesAsFarAs : Fault → (asked : List (Asked n)) → Telling n m e job.shape job.seed asked → Type 0
+  GoesAsFarAs Usage asked telling = MayGoOn (stops_at_refusal job.until) asked telling
+  GoesAsFarAs (Trace f) asked telling = MayGoOn (stops_at_refusal job.until) asked telling
+  GoesAsFarAs Read asked telling = MayGoOn (stops_at_refusal job.until) asked telling
+  GoesAsFarAs Write asked telling = WentOn (stops_at_refusal job.until) asked telling
+  GoesAsFarAs TooLong asked telling = MayGoOn (stops_at_refusal job.until) asked telling
+  GoesAsFarAs NoMemory asked telling = MayGoOn (stops_at_refusal job.until) asked telling
 
   -- the first rows asked this, and no more were served, for this cause
   abbrev pub Stops : Stop → List (Asked n) → Type 0
@@ -86,29 +112,34 @@ module _ {S : Type 0} (n m e : ℕ) (job : StreamJob) (source : LentSource S) wh
   abbrev pub StopsBy : Input → Fault → List (Asked n) → Type 0
   StopsBy Source fault asked = HasCause fault asked
   StopsBy (Drawn mix) fault asked =
-      (fault ≡ Write) × (source.now ≡ source.before)
-      × (rest : List (Asked n)) × (reverse asked ++ rest ≡ all_events (generated n job.seed (total_of job.shape) mix))
+      (fault ≡ Write) × (source.now ≡ source.before) × BeginsWith asked (all_events (generated n job.seed (total_of job.shape) mix))
 
-  -- all rows were served, and the stream ended behind them
+  -- what was told as the rows were served, without the cut behind which the power stays off
+  abbrev pub told_of_rows : (asked : List (Asked n)) {module_ : ModuleState n m e} {array : ArrayState n m} {places : ℕ} {told : List (Told n)}
+      → HasEnded job.shape job.seed (stays_off (is_off job.end) asked) (with_cut (is_off job.end) asked) module_ array places told
+      → Telling n m e job.shape job.seed asked
+  told_of_rows asked ended = without_cut (is_off job.end) asked (told_along ended)
+
+  -- all rows were served, or those up to the first refusal, and the stream ended behind them
   abbrev pub HasPlayed : List (Asked n) → ModuleState n m e → ArrayState n m → ℕ → List (Told n) → Shown → List Snapshot → Type 0
   HasPlayed asked module_ array places told shows snapshots =
-      ComeFrom job.input asked
-      × EndsShowing job.shape job.seed (stays_off (is_off job.end) asked) (with_cut (is_off job.end) asked) module_ array places told shows snapshots
+      (all : EndsShowing job.shape job.seed (stays_off (is_off job.end) asked) (with_cut (is_off job.end) asked) module_ array places told shows snapshots)
+      × ComeFrom job.input asked (told_of_rows asked all.0)
 
   -- the table of rows that asked this and were told this, with the cut behind which the power stays off: the newest row first
   abbrev pub rows_told : List (Asked n) → ℕ → List (Told n) → List (Row n)
   rows_told asked places told = rows_of (events_in (with_cut (is_off job.end) asked)) (table_of places told)
 
-  -- a stream was served to its end, and this was told: row by row what became known, in the end the rest, once of each row; and snapshots
+  -- a stream was served to its end, or up to the first refusal where it is to stop there, and this was told: row by row what became known, in the end the rest, once of each row; and snapshots
   -- were taken, each of what its row left, and one of what stands in the end. By what was told the rows are right
   -- over the array as it was left, and as it is now; the array was powered up with the job's wear, and only lines sensed for an image since
   pub record IsServed (array : ArrayState n m) (told : List (Told n)) : Type 0 where
     pub asked : List (Asked n)
-    pub come : ComeFrom job.input asked
     pub places : ℕ
     pub module_ : ModuleState n m e
     pub before : ArrayState n m
     pub ended : HasEnded job.shape job.seed (stays_off (is_off job.end) asked) (with_cut (is_off job.end) asked) module_ before places told
+    pub come : ComeFrom job.input asked (told_of_rows asked ended)
     pub snapshots : List Snapshot
     pub snaps : SnapsAll (shown_by job.print) ended snapshots
     pub once : TellsOnce places (outcomes_in told)
@@ -136,6 +167,11 @@ module _ {S : Type 0} (n m e : ℕ) (job : StreamJob) (source : LentSource S) wh
     pub snaps : SnapsAlong e job.shape job.seed (shown_by job.print) asked history told along snapshots
     pub once : TellsOnce (length (events_in asked)) (outcomes_in told)
 
+  -- what was told of them, with its histories
+  abbrev pub told_in_part : {array : ArrayState n m} {asked : List (Asked n)} {told : List (Told n)} → IsServedInPart array asked told
+      → Telling n m e job.shape job.seed asked
+  told_in_part {told = told} served = record { history = served.history; told = told; along = served.along }
+
   module _ (out : SinkChange) where
     -- it was served to its end, and exactly what was told was written, and then the text of the end, for which each line was sensed where it is an
     -- image, and else none; whether a row fell short says how it was done
@@ -146,7 +182,7 @@ module _ {S : Type 0} (n m e : ℕ) (job : StreamJob) (source : LentSource S) wh
       pub closes : Closes array changes told served text
       pub written : Gets out (stream_text (shown_by job.print) told served.snapshots ++ text)
       pub sensed : served.sensed ≡ senses_for job.print array.lines
-      pub ending : done ≡ done_by (table_of served.places told)
+      pub ending : done ≡ done_by (has_stopped served.asked (told_of_rows served.asked served.ended)) (table_of served.places told)
 
     -- it stopped at this fault; exactly what was known by then was written
     pub record StreamsUpTo (array : ArrayState n m) (fault : Fault) : Type 0 where
@@ -154,6 +190,7 @@ module _ {S : Type 0} (n m e : ℕ) (job : StreamJob) (source : LentSource S) wh
       pub told : List (Told n)
       pub served : IsServedInPart array asked told
       pub cause : StopsBy job.input fault asked
+      pub far : GoesAsFarAs fault asked (told_in_part served)
       pub written : Gets out (stream_text (shown_by job.print) told served.snapshots)
 
     -- it was served to its end, and first bytes of all that were written, for which no more lines were sensed; of an image they are of rows that have the
@@ -173,6 +210,7 @@ module _ {S : Type 0} (n m e : ℕ) (job : StreamJob) (source : LentSource S) wh
       pub told : List (Told n)
       pub served : IsServedInPart array asked told
       pub cause : StopsBy job.input Write asked
+      pub far : GoesAsFarAs Write asked (told_in_part served)
       pub part : GetsPart out (stream_text (shown_by job.print) told served.snapshots)
 
     -- the output failed, behind the last row or before

@@ -1,5 +1,5 @@
 // A stream, served to its end or up to a fault.
-ghost use Rattle.std.specs.Prelude.{◌≡◌, ◌≢◌, ◌⊎◌, ◌≤◌, ◌<◌, ℕ, List, [], Option, true, false, Err, IfOk, IfErr, OnOk};
+ghost use Rattle.std.specs.Prelude.{◌≡◌, ◌≢◌, ◌⊎◌, ◌&&◌, ◌≤◌, ◌<◌, ℕ, List, [], Option, true, false, Err, IfOk, IfErr, OnOk};
 ghost use Rattle.std.specs.Io.KnownBytes.{Appends};
 ghost use Rattle.pcm_io.specs.Faults.{Rose};
 ghost use Rattle.pcm_io.specs.Giving.{AppendsPrefix};
@@ -9,12 +9,13 @@ ghost use Rattle.ecp_line.specs.Layout.{IsLayout};
 ghost use Rattle.trace_stream.specs.declared.asked.Asked.{Asked as StreamAsked};
 ghost use Rattle.row_printer.specs.Printing.{IsPrinting, table_told, text_told};
 ghost use Rattle.row_stream.specs.Asking.{behind_of};
-ghost use Rattle.row_stream.specs.Serving.{IsServing};
+ghost use Rattle.row_stream.specs.Serving.{IsServing, told_so_far};
+ghost use Rattle.row_printer.specs.Refusing.{any_refused};
 ghost use Rattle.row_printer.specs.Snapshots.{IsShown};
 ghost use Rattle.stream_words.specs.Jobs.{IsStreamJob};
 ghost use Rattle.stream_words.specs.Options.{IsPrint};
 ghost use Rattle.stream_top.specs.Calls.{source_between};
-ghost use Rattle.stream_top.specs.Streams.{ComeFrom, Ends, HasPlayed, StopsBy, done_by, is_source, is_off, shown_by, stop_fault};
+ghost use Rattle.stream_top.specs.Streams.{ComeFrom, Ends, GoesAsFarAs, HasPlayed, StopsBy, done_by, has_stopped, is_source, is_off, shown_by, stop_fault, stops_at_refusal, told_of_rows};
 
 use crate::closing::print_closing;
 use crate::done::Done;
@@ -29,7 +30,7 @@ use row_printer::{RowPrinter, Shown};
 use row_stream::{Behind, Stop, each_row_is_told, end, serve_drawn, serve_source};
 use run_text::TEXT_ROOM;
 use std::alloc::Global;
-use stream_words::{End, StreamJob, StreamPrint};
+use stream_words::{End, StreamJob, StreamPrint, Until};
 use trace_stream::StreamFault;
 
 // The fault of the program that a stop of a stream is.
@@ -54,6 +55,39 @@ fn stays_off(end: End) -> bool
     match end {
         End::Drain => false,
         End::Off => true,
+    }
+}
+
+// Whether a stream is to stop at a refusal.
+fn stops_at(until: Until) -> bool
+    ensures { result ≡ stops_at_refusal until }
+{
+    match until {
+        Until::End => false,
+        Until::Refused => true,
+    }
+}
+
+// Whether one that is to stop there has come to a refusal.
+fn has_stopped<const B: usize, K: Sink + Drop>(until: Until, out: &RowPrinter<B, K>) -> bool
+    ensures { result ≡ (stops_at_refusal until && any_refused (table_told out.now)) }
+{
+    match until {
+        Until::End => false,
+        Until::Refused => out.refused(),
+    }
+}
+
+// How a stream was done.
+fn done<const B: usize, K: Sink + Drop>(stopped: bool, out: &RowPrinter<B, K>) -> Done
+    ensures { result ≡ done_by stopped (table_told out.now) }
+{
+    if stopped {
+        Done::Whole
+    } else if out.short() {
+        Done::Short
+    } else {
+        Done::Whole
     }
 }
 
@@ -93,17 +127,19 @@ fn serve_rows<
     requires begins { IsServing job.now.shape job.now.seed [] pcm.old (A.state array.old)
         out.old.rows out.old.told out.old.prints out.old.snapshots }
     ensures served { IfOk result (λ behind. (asked : List (StreamAsked B))
-        × IsServing job.now.shape job.now.seed asked pcm.new (A.state array.new) out.new.rows
-        out.new.told out.new.prints out.new.snapshots
+        × (had : IsServing job.now.shape job.now.seed asked pcm.new (A.state array.new) out.new.rows
+        out.new.told out.new.prints out.new.snapshots)
         × (behind ≡ behind_of asked)
         × ComeFrom B M E job.now (source_between S.left S.taken S.faults source.old source.new)
-        job.now.input asked) }
+        job.now.input asked (told_so_far had)) }
     ensures few { out.new.rows < 4294967295 }
     ensures stopped { IfErr result (λ fault. (asked : List (StreamAsked B))
-        × IsServing job.now.shape job.now.seed asked pcm.new (A.state array.new) out.new.rows
-        out.new.told out.new.prints out.new.snapshots
+        × (had : IsServing job.now.shape job.now.seed asked pcm.new (A.state array.new) out.new.rows
+        out.new.told out.new.prints out.new.snapshots)
         × StopsBy B M E job.now (source_between S.left S.taken S.faults source.old source.new)
-        job.now.input fault asked) }
+        job.now.input fault asked
+        × GoesAsFarAs B M E job.now (source_between S.left S.taken S.faults source.old source.new)
+        fault asked (told_so_far had)) }
     ensures prints { out.new.prints ≡ out.old.prints }
     ensures printing { (before : Option (List ℕ)) (first : ℕ)
         → IsPrinting K.written K.faults before first out.old
@@ -118,12 +154,13 @@ fn serve_rows<
     ensures wear { (A.state array.new).wear ≡ (A.state array.old).wear }
     ensures unread { is_source job.now.input ≡ false → source.new ≡ source.old }
 {
+    let stops = stops_at(job.until);
     match job.input {
-        Input::Source => match serve_source(alloc, pcm, array, source, out) {
+        Input::Source => match serve_source(alloc, pcm, array, source, stops, out) {
             Ok(behind) => Ok(behind),
             Err(stop) => Err(fault_of(stop)),
         },
-        Input::Drawn(mix) => match serve_drawn(pcm, array, job.seed, mix, out) {
+        Input::Drawn(mix) => match serve_drawn(pcm, array, job.seed, mix, stops, out) {
             Ok(behind) => Ok(behind),
             Err(_) => Err(Fault::Write),
         },
@@ -151,23 +188,30 @@ fn play<
     requires begins { IsServing job.now.shape job.now.seed [] pcm.old (A.state array.old)
         out.old.rows out.old.told out.old.prints out.old.snapshots }
     ensures done { IfOk result (λ done. (asked : List (StreamAsked B))
-        × HasPlayed B M E job.now (source_between S.left S.taken S.faults source.old source.new)
-        asked pcm.new (A.state array.new)
-        out.new.rows out.new.told out.new.prints out.new.snapshots
-        × (done ≡ done_by (table_told out.new))) }
+        × (played : HasPlayed B M E job.now
+        (source_between S.left S.taken S.faults source.old source.new) asked pcm.new
+        (A.state array.new) out.new.rows out.new.told out.new.prints out.new.snapshots)
+        × (done ≡ done_by (has_stopped B M E job.now
+        (source_between S.left S.taken S.faults source.old source.new) asked
+        (told_of_rows B M E job.now (source_between S.left S.taken S.faults source.old source.new)
+        asked played.0.0)) (table_told out.new))) }
     ensures stopped { IfErr result (λ fault. fault ≢ Fault.Write → (asked : List (StreamAsked B))
-        × IsServing job.now.shape job.now.seed asked pcm.new (A.state array.new) out.new.rows
-        out.new.told out.new.prints out.new.snapshots
+        × (had : IsServing job.now.shape job.now.seed asked pcm.new (A.state array.new) out.new.rows
+        out.new.told out.new.prints out.new.snapshots)
         × StopsBy B M E job.now (source_between S.left S.taken S.faults source.old source.new)
-        job.now.input fault asked) }
+        job.now.input fault asked
+        × GoesAsFarAs B M E job.now (source_between S.left S.taken S.faults source.old source.new)
+        fault asked (told_so_far had)) }
     ensures broken { result ≡ Err Fault.Write → (asked : List (StreamAsked B))
         × (HasPlayed B M E job.now (source_between S.left S.taken S.faults source.old source.new)
         asked pcm.new (A.state array.new)
         out.new.rows out.new.told out.new.prints out.new.snapshots
-        ⊎ (IsServing job.now.shape job.now.seed asked pcm.new (A.state array.new) out.new.rows
-        out.new.told out.new.prints out.new.snapshots
+        ⊎ ((had : IsServing job.now.shape job.now.seed asked pcm.new (A.state array.new)
+        out.new.rows out.new.told out.new.prints out.new.snapshots)
         × StopsBy B M E job.now (source_between S.left S.taken S.faults source.old source.new)
-        job.now.input Fault.Write asked)) }
+        job.now.input Fault.Write asked
+        × GoesAsFarAs B M E job.now (source_between S.left S.taken S.faults source.old source.new)
+        Fault.Write asked (told_so_far had))) }
     ensures prints { out.new.prints ≡ out.old.prints }
     ensures written { result ≢ Err Fault.Write → (before : Option (List ℕ)) (first : ℕ)
         → IsPrinting K.written K.faults before first out.old
@@ -186,15 +230,12 @@ fn play<
         Ok(behind) => behind,
         Err(fault) => return Err(fault),
     };
+    let stopped = has_stopped(job.until, out);
     end(pcm, array, stays_off(job.end), behind, out);
     let Ok(()) = out.flush() else {
         return Err(Fault::Write);
     };
-    if out.short() {
-        Ok(Done::Short)
-    } else {
-        Ok(Done::Whole)
-    }
+    Ok(done(stopped, out))
 }
 
 /// Serves a stream on the array, which is powered up first: what became of each row is written as soon as it is known. The output is given

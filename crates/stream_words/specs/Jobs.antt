@@ -6,7 +6,7 @@ use Rattle.trace_gen.specs.Generated.{IsLongMix}
 use Rattle.module_shape.specs.Limits.{IsShape, IsSmall}
 use Rattle.command_line.specs.{Jobs.{answer_of, faults_at}, Options.{with_some, line_of, large_shape_of, seed_of, wear_of, input_of}, declared.job.Input.Input}
 use Rattle.command_line.specs.{declared.job.Input.TheVariants.{Source, Drawn}, declared.job.Refusal.Refusal}
-use Rattle.stream_words.specs.{Options.{IsPrint, can_be_printed, end_of, long_mix_of, print_of}, Table.stream_app, declared.job.StreamJob.StreamJob, declared.job.StreamPrint.TheVariants.Image}
+use Rattle.stream_words.specs.{Options.{IsPrint, can_be_printed, end_of, long_mix_of, print_of, until_of}, Table.stream_app, declared.job.StreamJob.StreamJob, declared.job.StreamPrint.TheVariants.Image}
 
 -- a job that writes what can be written of its module
 abbrev pub fitting : StreamJob → Option StreamJob
@@ -23,7 +23,8 @@ stream_of rows =
     with_some (long_mix_of rows) (λ mix.
     with_some (input_of mix (first_of (codes "input") rows)) (λ input.
     with_some (end_of (first_of (codes "end") rows)) (λ end.
-    fitting (record { line = line; shape = shape; seed = seed; wear = wear; print = print; input = input; end = end })))))))))
+    with_some (until_of (first_of (codes "until") rows)) (λ until.
+    fitting (record { line = line; shape = shape; seed = seed; wear = wear; print = print; input = input; end = end; until = until }))))))))))
 
 -- the options that `clap` finds in words
 unfoldable pub options_at : App → List Text → List Row

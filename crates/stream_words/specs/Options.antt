@@ -6,6 +6,8 @@ use Rattle.trace_gen.specs.{Generated.stream_lines, declared.mix.Mix.Mix}
 use Rattle.module_shape.specs.{Limits.is_small, declared.raw.RawShape.RawShape}
 use Rattle.command_line.specs.Options.{mix_within, one_of_two, with_some}
 use Rattle.stream_words.specs.{declared.job.End.End, declared.job.End.TheVariants.{Drain, Off}, declared.job.StreamPrint.StreamPrint}
+use Rattle.stream_words.specs.declared.job.Until.{Until}
+use Rattle.stream_words.specs.declared.job.Until.TheVariants as up_to
 use Rattle.stream_words.specs.declared.job.StreamPrint.TheVariants.{Rows, Summary, Wear, Lines, Image, Snapshots}
 
 -- what a stream writes but snapshots
@@ -52,6 +54,10 @@ IsPrint (Snapshots every) = 1 ≤ every
 -- what becomes of the module behind the last row
 abbrev pub end_of : Option Text → Option End
 end_of text = one_of_two (codes "drain") Drain (codes "off") Off text
+
+-- up to where the rows are served
+abbrev pub until_of : Option Text → Option Until
+until_of text = one_of_two (codes "end") up_to.End (codes "refused") up_to.Refused text
 
 -- a mix whose ticks can't go beyond the latest one
 abbrev pub in_time : Mix → Option Mix

@@ -3,9 +3,11 @@ use Rattle.std.specs.Prelude.{codes, true}
 use Rattle.clap.specs.Words.{App, with_rule}
 use Rattle.command_line.specs.Table.{leaf_app, option_rule, run_options}
 
--- the options of `run`, one for the end, and one for snapshots
+-- the options of `run`, one for the end, one for snapshots, and one for where the rows end
 abbrev pub with_end : App
-with_end = with_rule (with_rule (leaf_app (codes "pcm_stream") run_options) (option_rule (codes "end"))) (option_rule (codes "every"))
+with_end =
+    with_rule (with_rule (with_rule (leaf_app (codes "pcm_stream") run_options) (option_rule (codes "end"))) (option_rule (codes "every")))
+    (option_rule (codes "until"))
 
 -- the program: it has no help, and its words come without the program's name
 unfoldable pub stream_app : App

@@ -20,6 +20,8 @@ pub struct StreamJob {
     pub input: Input,
     /// What becomes of the module behind the last row.
     pub end: End,
+    /// Up to where the rows are served.
+    pub until: Until,
 }
 
 /// What a stream writes.
@@ -46,4 +48,13 @@ pub enum End {
     Drain,
     /// The power goes, and stays off.
     Off,
+}
+
+/// Up to where the rows of a stream are served.
+#[derive(Clone, Copy, Debug, Drop, PartialEq, Eq)]
+pub enum Until {
+    /// To their end.
+    End,
+    /// Up to the first row that is refused, which is then the last; to their end where none is.
+    Refused,
 }

@@ -4,9 +4,9 @@ ghost use Rattle.module_shape.specs.Limits.{IsSmall};
 ghost use Rattle.stream_words.specs.declared.job.StreamPrint.TheVariants.{Image};
 ghost use Rattle.clap.specs.Words.{first_of, found_of, rows_of};
 ghost use Rattle.trace_gen.specs.Generated.{IsLongMix};
-ghost use Rattle.stream_words.specs.Options.{IsPrint, can_be_printed, end_of, every_of, long_mix_of, plain_of, print_of};
+ghost use Rattle.stream_words.specs.Options.{IsPrint, can_be_printed, end_of, every_of, long_mix_of, plain_of, print_of, until_of};
 
-use crate::job::{End, StreamPrint};
+use crate::job::{End, StreamPrint, Until};
 use clap::ArgMatches;
 use command_line::options::{mix_within, value};
 use module_shape::Shape;
@@ -67,6 +67,18 @@ pub(crate) fn end(matches: &ArgMatches<'_>) -> Option<End>
         None => Some(End::Drain),
         Some("drain") => Some(End::Drain),
         Some("off") => Some(End::Off),
+        Some(_) => None,
+    }
+}
+
+// Up to where the rows are served.
+pub(crate) fn until(matches: &ArgMatches<'_>) -> Option<Until>
+    ensures { result ≡ until_of (first_of (codes "until") (rows_of (found_of matches.now))) }
+{
+    match value(matches, "until") {
+        None => Some(Until::End),
+        Some("end") => Some(Until::End),
+        Some("refused") => Some(Until::Refused),
         Some(_) => None,
     }
 }

@@ -7,7 +7,7 @@ ghost use Rattle.stream_words.specs.declared.job.StreamPrint.TheVariants.{Image}
 ghost use Rattle.stream_words.specs.Jobs.{IsStreamJob, fitting, stream_job_of, stream_of};
 
 use crate::job::StreamJob;
-use crate::options::{can_print, end, long_mix, print};
+use crate::options::{can_print, end, long_mix, print, until};
 use crate::table::stream_command;
 use clap::ArgMatches;
 use command_line::Refusal;
@@ -28,6 +28,7 @@ fn stream(matches: &ArgMatches<'_>) -> Option<StreamJob>
     let mix = long_mix(matches)?;
     let input = input(matches, mix)?;
     let end = end(matches)?;
+    let until = until(matches)?;
     fitting(StreamJob {
         line,
         shape,
@@ -36,6 +37,7 @@ fn stream(matches: &ArgMatches<'_>) -> Option<StreamJob>
         print,
         input,
         end,
+        until,
     })
 }
 

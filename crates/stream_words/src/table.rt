@@ -13,6 +13,7 @@ pub(crate) fn stream_command<'a>(alloc: Global) -> Result<Command<'a>, AllocErro
     ensures { IfOk result (λ c. app_of c ≡ stream_app) }
 {
     let run = run_command(alloc, "pcm_stream")?;
-    let command = add_option(alloc, add_option(alloc, run, "end")?, "every")?;
+    let ends = add_option(alloc, add_option(alloc, run, "end")?, "every")?;
+    let command = add_option(alloc, ends, "until")?;
     Ok(command.disable_help_flag(true).no_binary_name(true))
 }

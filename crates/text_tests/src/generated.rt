@@ -1,5 +1,5 @@
 ghost use Rattle.std.specs.Prelude.{◌≤◌};
-ghost use Rattle.trace_gen.specs.Generated.{IsMix};
+ghost use Rattle.trace_gen.specs.Generated.{IsMix, whole_lines};
 
 use crate::expected::{assert_events, assert_text};
 use pcm_io::Text;
@@ -31,7 +31,7 @@ fn generated<const B: usize>(
 ) -> Result<Text, AllocError>
     requires size { B ≤ 128 }
     requires some_lines { 1 ≤ lines }
-    requires few_lines { lines ≤ 65536 }
+    requires few_lines { lines ≤ whole_lines }
     requires mix { IsMix mix }
 {
     let events = generate::<B>(alloc, seed, lines, mix)?;

@@ -12,7 +12,7 @@ use Rattle.trace_reader.specs.Rows.{cut_of, event_of, latest_tick, line_digits, 
 use Rattle.trace_reader.specs.{Trace.{events_of, is_header, most_rows, rows_from, trace_of}, declared.event.Event.Event, declared.event.EventOp.EventOp}
 use Rattle.trace_reader.{specs.declared.event.EventOp.TheVariants.{Read, Write, Mask, Cut}, proofs.Numbers.number_of-some}
 use Rattle.trace_gen.specs.EventText.{data_text, event_fields, event_row, event_rows, line_text, masked_text, op_letter, pair_text, trace_header, trace_text}
-use Rattle.trace_gen.{specs.Laws.{AllHaveBytes, HasBytes, RowLaw, TextLaw, most_lines}, proofs.Masks.masked-read}
+use Rattle.trace_gen.{specs.Laws.{AllHaveBytes, HasBytes, RowLaw, TextLaw, numbered_lines}, proofs.Masks.masked-read}
 
 -- digits are digits
 digits-all : (text : List ℕ) → AllDigits 10 text → list_all is_ascii_digit text ≡ true
@@ -33,7 +33,7 @@ number-read width most n wide short fits small =
 tick-read : (tick : ℕ) → tick ≤ latest_tick → tick_of (decimal tick) ≡ Some tick
 tick-read tick small = number-read 13 latest_tick tick (lit< tt) (omega arith) (omega arith) small
 
-line-read : (lines line : ℕ) → lines ≤ most_lines → line < lines → line_of lines (decimal line) ≡ Some line
+line-read : (lines line : ℕ) → lines ≤ numbered_lines → line < lines → line_of lines (decimal line) ≡ Some line
 line-read lines line few below =
     number-read (line_digits lines) (lines - 1) line (some-digits (nat_le lines 100000)) (short (nat_le lines 100000) refl) (omega arith) (omega arith)
   where
@@ -53,7 +53,7 @@ bytes-read n bytes size small =
     ap result_ok (decode_sized-twice (encode_lower bytes) n (omega arith) ∙ decode_of-encode_lower bytes small)
 
 -- the fields of an operation are read as the operation
-op-read : (n lines : ℕ) (op : EventOp n) → lines ≤ most_lines → IsOpFor lines op → HasBytes op
+op-read : (n lines : ℕ) (op : EventOp n) → lines ≤ numbered_lines → IsOpFor lines op → HasBytes op
     → op_of n lines (op_letter op) (line_text op) (data_text op) ≡ Ok op
 unfolding op_of read_of write_of mask_of cut_of
 op-read n lines (Read line) few for has = rw (line-read lines line few for) refl
@@ -62,7 +62,7 @@ op-read n lines (Mask line bytes given) few for has = rw (line-read lines line f
 op-read n lines Cut few for has = refl
 
 -- the fields of a row are read as its event
-pub event-read : (n lines before : ℕ) (event : Event n) → lines ≤ most_lines → IsEventFor lines before event → HasBytes event.op
+pub event-read : (n lines before : ℕ) (event : Event n) → lines ≤ numbered_lines → IsEventFor lines before event → HasBytes event.op
     → event_of n lines before (event_fields event) ≡ Ok event
 unfolding event_of field_at
 event-read n lines before event few for has =
@@ -128,7 +128,7 @@ letter-high n (Write line bytes) = (omega arith, tt)
 letter-high n (Mask line bytes given) = (omega arith, tt)
 letter-high n Cut = (omega arith, tt)
 
-line-high : (n lines : ℕ) (op : EventOp n) → lines ≤ most_lines → IsOpFor lines op → High (line_text op)
+line-high : (n lines : ℕ) (op : EventOp n) → lines ≤ numbered_lines → IsOpFor lines op → High (line_text op)
 line-high n lines (Read line) few for = decimal-high line (omega arith)
 line-high n lines (Write line bytes) few for =
     let below : line < lines = for.0 in
@@ -155,7 +155,7 @@ pub row-fields : (a b c d behind : List ℕ) → High a → High b → High c �
     → next_record default_config st.StartRecord [] [] ((join_with_byte 44 (a ∷ b ∷ c ∷ d ∷ []) ++ codes "\n") ++ behind) ≡ Some (a ∷ b ∷ c ∷ d ∷ [], st.StartRecord, behind)
 row-fields a b c d behind ha hb hc hd = rw (plain-row a b c d ha hb hc hd) at (read-write-many a b (c ∷ d ∷ []) behind)
 
-pub event-row : (n lines before : ℕ) (event : Event n) (behind : List ℕ) → lines ≤ most_lines → IsEventFor lines before event → HasBytes event.op
+pub event-row : (n lines before : ℕ) (event : Event n) (behind : List ℕ) → lines ≤ numbered_lines → IsEventFor lines before event → HasBytes event.op
     → next_record default_config st.StartRecord [] [] (event_row event ++ behind) ≡ Some (event_fields event, st.StartRecord, behind)
 event-row n lines before event behind few for has =
     let in_time : event.tick ≤ latest_tick = for.in_time in
@@ -169,7 +169,7 @@ row_law n lines before event behind few for has = record {
 }
 
 -- the records of rows
-rows-records : (n lines before most : ℕ) (events : List (Event n)) → lines ≤ most_lines → AreEventsFor lines before events → AllHaveBytes events → length events ≤ most
+rows-records : (n lines before most : ℕ) (events : List (Event n)) → lines ≤ numbered_lines → AreEventsFor lines before events → AllHaveBytes events → length events ≤ most
     → records_from default_config most st.StartRecord (event_rows events) ≡ map event_fields events
 unfolding AreEventsFor AllHaveBytes records_from event_rows next_record
 rows-records n lines before zero [] few for has fits = refl
@@ -180,7 +180,7 @@ rows-records n lines before (suc most) (event ∷ rest) few for has fits =
     (ap (λ (rows : List (List (List ℕ))). event_fields event ∷ rows) (rows-records n lines event.tick most rest few for.1 has.1 (omega arith)))
 
 -- the events of these records
-records-events : (n lines row before : ℕ) (events : List (Event n)) → lines ≤ most_lines → AreEventsFor lines before events → AllHaveBytes events → row + length events ≤ most_rows + 1
+records-events : (n lines row before : ℕ) (events : List (Event n)) → lines ≤ numbered_lines → AreEventsFor lines before events → AllHaveBytes events → row + length events ≤ most_rows + 1
     → rows_from n lines row before (map event_fields events) ≡ Ok events
 unfolding AreEventsFor AllHaveBytes rows_from
 records-events n lines row before [] few for has fits = refl
@@ -207,7 +207,7 @@ header-record behind = row-fields (codes "tick") (codes "op") (codes "arg") (cod
 abbrev pub header_fields : List (List ℕ)
 header_fields = codes "tick" ∷ codes "op" ∷ codes "arg" ∷ codes "data" ∷ []
 
-pub text-records : (n lines : ℕ) (events : List (Event n)) → lines ≤ most_lines → AreEventsFor lines 0 events → AllHaveBytes events
+pub text-records : (n lines : ℕ) (events : List (Event n)) → lines ≤ numbered_lines → AreEventsFor lines 0 events → AllHaveBytes events
     → records default_config (trace_text events) ≡ header_fields ∷ map event_fields events
 unfolding records_from
 text-records n lines events few for has =

@@ -9,8 +9,8 @@ use Rattle.trace_reader.specs.declared.event.EventOp.TheVariants.{Read, Write, M
 use Rattle.trace_gen.specs.{EventText.{event_fields, event_row, trace_text}, Generated.{IsLongMix, IsMix, bytes_of_words, generated, stream_lines, whole_lines, words_left}, declared.mix.Mix.Mix}
 
 -- the line numbers of a trace have at most eight digits
-abbrev pub most_lines : ℕ
-most_lines = 100000000
+abbrev pub numbered_lines : ℕ
+numbered_lines = 100000000
 
 module _ {n : ℕ} where
   -- what an operation gives are bytes
@@ -48,11 +48,11 @@ module _ {n : ℕ} where
 
 -- every event for the lines of a module, whatever stands behind its row
 abbrev pub RowLaw : Type 0
-RowLaw = (n lines before : ℕ) (event : Event n) (behind : List ℕ) → lines ≤ most_lines → IsEventFor lines before event → HasBytes event.op → RowReadsBack lines before event behind
+RowLaw = (n lines before : ℕ) (event : Event n) (behind : List ℕ) → lines ≤ numbered_lines → IsEventFor lines before event → HasBytes event.op → RowReadsBack lines before event behind
 
 -- the text of any trace's events is read as these events
 abbrev pub TextLaw : Type 0
-TextLaw = (n lines : ℕ) (events : List (Event n)) → lines ≤ most_lines → AreEventsFor lines 0 events → AllHaveBytes events → length events ≤ most_rows
+TextLaw = (n lines : ℕ) (events : List (Event n)) → lines ≤ numbered_lines → AreEventsFor lines 0 events → AllHaveBytes events → length events ≤ most_rows
     → trace_of n lines (trace_text events) ≡ Ok events
 
 -- the text of a generated trace is read as the events that were drawn

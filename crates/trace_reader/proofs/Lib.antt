@@ -6,4 +6,5 @@ pub mod Traces
 pub mod Lawful
 pub mod Sizes
 pub mod Lanes
+pub mod HexLanes
 pub mod PlainRows

@@ -1,6 +1,6 @@
 -- Rows of plain bytes as `csv` reads them.
-use Rattle.std.proofs.Common.{◌≡◌, ℕ, zero, suc, ◌+◌, ◌-◌, ◌<◌, ◌≤◌, ◌==◌, ◌&&◌, List, [], ◌∷◌, ◌++◌, length, take, drop, get_or, Bool, true, false, Option, Some, None, refl, sym, ap, subst, ◌∙◌, arith, append_assoc, slice_index}
-use Rattle.std.{specs.List.list_all, specs.Prelude.{if◌then◌else◌, Result, Ok, Err, codes}, specs.Str.bytes_eq, proofs.lemmas.Bool.Decides.nat_tests}
+use Rattle.std.proofs.Common.{◌≡◌, ℕ, zero, suc, ◌+◌, ◌-◌, ◌≤◌, ◌==◌, ◌&&◌, List, [], ◌∷◌, ◌++◌, length, drop, get_or, Bool, true, false, Option, Some, None, refl, sym, ap, subst, ◌∙◌, arith, append_assoc}
+use Rattle.std.{specs.List.list_all, specs.Prelude.{if◌then◌else◌, codes}, specs.Str.bytes_eq, proofs.lemmas.Bool.Decides.nat_tests}
 use Rattle.std.proofs.{Math.Seq.drop-cons, lemmas.List.{append-nil, drop-drop, get_or-drop, get_or-take, length-drop, length-take-le, take-append-drop}}
 use Rattle.std.proofs.lemmas.List.{Sums.list_all-from_AllPass, Elements.All-from_get_or}
 use Rattle.csv.specs.{Machine.{Read, field_after, fields_after, is_end, next_record, step}, Reading.{default_config, records, records_from, records_next, strip_bom}, declared.parser.Action.Action, declared.parser.State.State}
@@ -96,7 +96,7 @@ row-is f0 f1 f2 f3 rest p0 p1 p2 p3 =
     ∙ field-ends st.StartField (f0 ∷ f1 ∷ []) [] f2 (f3 ++ 10 ∷ rest) refl p2
     ∙ last-ends st.StartField (f0 ∷ f1 ∷ f2 ∷ []) [] f3 rest refl refl p3
 
-piece-plain : (bytes : List ℕ) (from at end : ℕ) → IsField bytes from at end → list_all is_plain (piece bytes from at) ≡ true
+pub piece-plain : (bytes : List ℕ) (from at end : ℕ) → IsField bytes from at end → list_all is_plain (piece bytes from at) ≡ true
 piece-plain bytes from at end field =
     let left : length (drop from bytes) ≡ length bytes - from = length-drop from bytes in
     let size : length (piece bytes from at) ≡ at - from = length-take-le (at - from) (drop from bytes) (omega (arith, left, field.within)) in
@@ -106,7 +106,7 @@ piece-plain bytes from at end field =
     let is : get_or (piece bytes from at) k 0 ≡ get_or bytes (from + k) 0 = get_or-take (at - from) (drop from bytes) k 0 (omega (arith, low, size)) ∙ get_or-drop from bytes k 0 in
     subst (λ x. is_plain x ≡ true) (sym is) (field.plain (from + k) (omega arith) (omega (arith, low, size, field.order)))))
 
-piece-ends : (bytes : List ℕ) (from at end : ℕ) → IsField bytes from at end → drop from bytes ≡ piece bytes from at ++ end ∷ drop (at + 1) bytes
+pub piece-ends : (bytes : List ℕ) (from at end : ℕ) → IsField bytes from at end → drop from bytes ≡ piece bytes from at ++ end ∷ drop (at + 1) bytes
 piece-ends bytes from at end field =
     let whole : from + (at - from) ≡ at = omega (arith, field.order) in
     let next : suc at ≡ at + 1 = omega arith in
@@ -115,7 +115,7 @@ piece-ends bytes from at end field =
     (drop-drop (at - from) from bytes ∙ ap (λ k. drop k bytes) whole ∙ drop-cons bytes at 0 field.within
     ∙ ap (λ x. x ∷ drop (suc at) bytes) field.ends ∙ ap (λ k. end ∷ drop k bytes) next)
 
-plain-next : (bytes : List ℕ) (from : ℕ) (row : PlainRow) → IsPlainRow bytes from row
+pub plain-next : (bytes : List ℕ) (from : ℕ) (row : PlainRow) → IsPlainRow bytes from row
     → next_record default_config st.StartRecord [] [] (drop from bytes) ≡ Some (fields_in bytes from row, st.StartRecord, drop (row.payload + 1) bytes)
 plain-next bytes from row plain =
     let text = piece-ends bytes from row.tick 44 plain.tick

@@ -1,8 +1,7 @@
 -- How the digits of a payload are read by what `hex` says of each character.
-use Rattle.std.proofs.Common.{◌≡◌, ℕ, suc, ◌+◌, ◌*◌, ◌/◌, ◌%◌, ◌<◌, ◌≤◌, ◌==◌, List, [], ◌∷◌, ◌++◌, length, get_or, take, drop, Bool, true, false, Option, Some, None, refl, sym, ap, ◌∙◌, arith, unwrap_or, max, inl, inr, ◌≢◌}
-use Rattle.std.{specs.Int.Bits.bit_or, specs.Prelude.{option_map, if◌then◌else◌, Result, Ok, Err}, specs.Result.result_ok, proofs.Math.ListN.set}
-use Rattle.std.proofs.{Math.Seq.{take-suc-set, drop-cons}, lemmas.Bool.cases_lt, lemmas.Bool.Decides.nat_tests, lemmas.List.{append_assoc, append-nil, take_all, drop_all}}
-use Rattle.std.proofs.lemmas.Nat.{or_lt, le_or_l, le_or_r}
+use Rattle.std.proofs.Common.{◌≡◌, ℕ, zero, suc, ◌+◌, ◌*◌, ◌/◌, ◌%◌, ◌<◌, ◌≤◌, ◌==◌, List, [], ◌∷◌, length, get_or, Bool, true, false, Option, Some, None, refl, sym, ap, ◌∙◌, arith, unwrap_or, max, inl, inr, ◌≢◌}
+use Rattle.std.{specs.Prelude.{option_map, if◌then◌else◌, Result, Ok, Err}, specs.Result.result_ok, proofs.Math.ListN.set}
+use Rattle.std.proofs.{lemmas.Bool.cases_lt, lemmas.Bool.Decides.nat_tests, lemmas.List.{get_or-set_same, get_or-set_other}}
 use Rattle.hex.specs.{Hex.{decode_pairs, hex_digit_value, digit_or_error, ◌>>=◌}, declared.error.FromHexError.FromHexError}
 use Rattle.hex.specs.declared.error.FromHexError.TheVariants.{InvalidStringLength, OddLength}
 use Rattle.trace_reader.specs.Payload.{bytes_of, value_of}
@@ -12,7 +11,7 @@ pub digit-small : (c v : ℕ) → hex_digit_value c ≡ Some v → v < 16
 digit-small c v h = grind (arith, nat_tests)
 
 -- a digit's value, or 255
-abbrev or_none : Option ℕ → ℕ
+abbrev pub or_none : Option ℕ → ℕ
 or_none found = unwrap_or found 255
 
 pub value_of_digit : (c : ℕ) → value_of c ≡ or_none (hex_digit_value c)
@@ -66,89 +65,72 @@ next-bad i high low rest p =
     let l = value_of_digit low in
     pair-bad high low i (hex_digit_value high) (hex_digit_value low) (decode_pairs (i + 2) rest) (digit-small high) (digit-small low) (rw (h, l) at p)
 
--- bytes in front of bytes
-abbrev bytes_before : List ℕ → Option (List ℕ) → Option (List ℕ)
-bytes_before bytes rest = option_map (λ more. bytes ++ more) rest
+-- the first i pairs are digits, and these the bytes that they write
+pub record ReadsDigits (text : List ℕ) (i : ℕ) (bytes : List ℕ) : Type 0 where
+  pub digits : (k : ℕ) → k < 2 * i → value_of (get_or text k 0) < 16
+  pub are : (k : ℕ) → k < i → get_or bytes k 0 ≡ value_of (get_or text (2 * k) 0) * 16 + value_of (get_or text (2 * k + 1) 0)
 
-bytes_before-nil : (o : Option (List ℕ)) → o ≡ bytes_before [] o
-bytes_before-nil None = refl
-bytes_before-nil (Some x) = refl
+-- one pair more
+pub reads_digits-more : (text : List ℕ) (i : ℕ) (bytes : List ℕ) (high low : ℕ) → high ≡ value_of (get_or text (2 * i) 0) → low ≡ value_of (get_or text (2 * i + 1) 0)
+    → high < 16 → low < 16 → i < length bytes → ReadsDigits text i bytes → ReadsDigits text (i + 1) (set bytes i (high * 16 + low))
+reads_digits-more text i bytes high low e f p q within h = record {
+  digits = λ k less.
+      elim (cases_lt k (2 * i)) [
+        | inl before ↦ h.digits k before
+        | inr behind ↦
+            elim (cases_lt k (2 * i + 1)) [
+              | inl first ↦
+                  let is : k ≡ 2 * i = omega arith in
+                  omega (arith, ap (λ j. value_of (get_or text j 0)) is)
+              | inr second ↦
+                  let is : k ≡ 2 * i + 1 = omega arith in
+                  omega (arith, ap (λ j. value_of (get_or text j 0)) is)
+            ]
+      ];
+  are = λ k less.
+      elim (cases_lt k i) [
+        | inl before ↦ get_or-set_other bytes i k (high * 16 + low) 0 (λ e. absurd (omega arith)) ∙ h.are k before
+        | inr here ↦
+            let is : k ≡ i = omega arith in
+            rw (is, ← e, ← f) (get_or-set_same bytes i (high * 16 + low) 0 within)
+      ];
+}
 
-bytes_before-more : (bytes : List ℕ) (byte : ℕ) (o : Option (List ℕ)) → bytes_before bytes (byte_before byte o) ≡ bytes_before (bytes ++ (byte ∷ [])) o
-bytes_before-more bytes byte None = refl
-bytes_before-more bytes byte (Some x) = ap Some (sym (append_assoc bytes (byte ∷ []) x))
-
--- bits that reach beyond four are those of a number that does
-some_large : (a b c : ℕ) → 16 ≤ bit_or a (bit_or b c) → 16 ≤ max a (max b c)
-some_large a b c h =
-    elim (cases_lt (max a (max b c)) 16) as (λ _. 16 ≤ max a (max b c)) [
-      | inl small ↦
-          let less = or_lt 4 a (bit_or b c) (omega arith) (or_lt 4 b c (omega arith) (omega arith)) in
-          absurd (omega arith)
-      | inr large ↦ omega arith
+-- a character that is no digit
+bad_from : (i : ℕ) (text : List ℕ) (k : ℕ) → k < length text → 16 ≤ value_of (get_or text k 0) → read_from i text ≡ None
+unfolding decode_pairs
+bad_from i [] k low bad = absurd (omega arith)
+bad_from i (c ∷ []) k low bad = refl
+bad_from i (high ∷ digit ∷ rest) zero low bad = next-bad i high digit rest (omega arith)
+bad_from i (high ∷ digit ∷ rest) (suc zero) low bad = next-bad i high digit rest (omega arith)
+bad_from i (high ∷ digit ∷ rest) (suc (suc k)) low bad =
+    elim (cases_lt (max (value_of high) (value_of digit)) 16) [
+      | inl good ↦
+          next-read i high digit rest (omega arith) (omega arith)
+          ∙ ap (byte_before (value_of high * 16 + value_of digit)) (bad_from (i + 2) rest k (omega arith) bad)
+      | inr other ↦ next-bad i high digit rest other
     ]
 
--- the first i pairs were read into the bytes, and these are the bits of the values of their characters, laid together
-pub record ReadsDigits (text : List ℕ) (i : ℕ) (bytes : List ℕ) (most : ℕ) : Type 0 where
-  pub read : most < 16 → read_from 0 text ≡ bytes_before (take i bytes) (read_from (2 * i) (drop (2 * i) text))
-  pub bad : 16 ≤ most → read_from 0 text ≡ None
-
--- the next two characters of a text
-two-next : (text : List ℕ) (j : ℕ) → j + 1 < length text → drop j text ≡ get_or text j 0 ∷ get_or text (j + 1) 0 ∷ drop (j + 2) text
-two-next text j within =
-    let here : j < length text = omega arith in
-    let there : suc j < length text = omega arith in
-    let a = drop-cons text j 0 here in
-    let b = drop-cons text (suc j) 0 there in
-    let s : j + 1 ≡ suc j = omega arith in
-    let t : j + 2 ≡ suc (suc j) = omega arith in
-    rw (s, t, a, b) refl
-
-module _ (text : List ℕ) (i : ℕ) (bytes : List ℕ) (most : ℕ) where
-  abbrev high : ℕ
-  high = value_of (get_or text (2 * i) 0)
-
-  abbrev low : ℕ
-  low = value_of (get_or text (2 * i + 1) 0)
-
-  abbrev byte : ℕ
-  byte = high % 16 * 16 + low % 16
-
-  more-read : 2 * i + 1 < length text → i < length bytes → ReadsDigits text i bytes most → most < 16 → high < 16 → low < 16
-      → read_from 0 text ≡ bytes_before (take (suc i) (set bytes i byte)) (read_from (2 * suc i) (drop (2 * suc i) text))
-  more-read within in_bytes h p q r =
-      let two : 2 * suc i ≡ 2 * i + 2 = omega arith in
-      let is : value_of (get_or text (2 * i) 0) * 16 + value_of (get_or text (2 * i + 1) 0) ≡ byte = omega arith in
-      rw (two, take-suc-set bytes i byte in_bytes)
-      (h.read p ∙ ap (bytes_before (take i bytes))
-      (ap (read_from (2 * i)) (two-next text (2 * i) within)
-      ∙ next-read (2 * i) (get_or text (2 * i) 0) (get_or text (2 * i + 1) 0) (drop (2 * i + 2) text) q r
-      ∙ ap (λ b. byte_before b (read_from (2 * i + 2) (drop (2 * i + 2) text))) is)
-      ∙ bytes_before-more (take i bytes) byte (read_from (2 * i + 2) (drop (2 * i + 2) text)))
-
-  more-bad : 2 * i + 1 < length text → ReadsDigits text i bytes most → 16 ≤ max most (max high low) → read_from 0 text ≡ None
-  more-bad within h p =
-      elim (cases_lt most 16) as (λ _. read_from 0 text ≡ None) [
-        | inl few ↦
-            h.read few ∙ ap (bytes_before (take i bytes))
-            (ap (read_from (2 * i)) (two-next text (2 * i) within)
-            ∙ next-bad (2 * i) (get_or text (2 * i) 0) (get_or text (2 * i + 1) 0) (drop (2 * i + 2) text) (omega arith))
-        | inr many ↦ h.bad many
-      ]
-
-  -- one pair more
-  pub reads_digits-more : (h l new : ℕ) → h ≡ high → l ≡ low → new ≡ bit_or most (bit_or h l) → 2 * i + 1 < length text → i < length bytes
-      → ReadsDigits text i bytes most → ReadsDigits text (i + 1) (set bytes i (h % 16 * 16 + l % 16)) new
-  reads_digits-more h l new e f k within in_bytes reads =
-      let one : i + 1 ≡ suc i = omega arith in
-      let before = le_or_l most (bit_or high low) in
-      let pair = le_or_r most (bit_or high low) in
-      let first = le_or_l high low in
-      let second = le_or_r high low in
-      rw (one, k, e, f) record {
-        read = λ p. more-read within in_bytes reads (omega arith) (omega arith) (omega arith);
-        bad = λ p. more-bad within reads (some_large most high low p);
-      }
+-- digits from first to last
+all_from : (i : ℕ) (text bytes : List ℕ) → length text ≡ 2 * length bytes → ((k : ℕ) → k < length text → value_of (get_or text k 0) < 16)
+    → ((k : ℕ) → k < length bytes → get_or bytes k 0 ≡ value_of (get_or text (2 * k) 0) * 16 + value_of (get_or text (2 * k + 1) 0))
+    → read_from i text ≡ Some bytes
+unfolding decode_pairs
+all_from i [] [] e digits are = refl
+all_from i [] (byte ∷ bytes) e digits are = absurd (omega arith)
+all_from i (c ∷ []) bytes e digits are = absurd (omega arith)
+all_from i (high ∷ digit ∷ rest) [] e digits are = absurd (omega arith)
+all_from i (high ∷ digit ∷ rest) (byte ∷ bytes) e digits are =
+    let is : byte ≡ value_of high * 16 + value_of digit = are 0 (omega arith) in
+    let more = all_from (i + 2) rest bytes (omega arith) (λ k low. digits (suc (suc k)) (omega arith))
+    (λ k low.
+    let two : 2 * suc k ≡ suc (suc (2 * k)) = omega arith in
+    let three : 2 * suc k + 1 ≡ suc (suc (2 * k + 1)) = omega arith in
+    are (suc k) (omega arith)
+    ∙ ap (λ j. value_of (get_or (high ∷ digit ∷ rest) j 0) * 16 + value_of (get_or (high ∷ digit ∷ rest) (2 * suc k + 1) 0)) two
+    ∙ ap (λ j. value_of (get_or rest (2 * k) 0) * 16 + value_of (get_or (high ∷ digit ∷ rest) j 0)) three) in
+    next-read i high digit rest (digits 0 (omega arith)) (digits 1 (omega arith))
+    ∙ ap (byte_before (value_of high * 16 + value_of digit)) more ∙ ap (λ b. Some (b ∷ bytes)) (sym is)
 
 -- a text of another length
 pub bytes_of-odd : (n : ℕ) (text : List ℕ) → length text % 2 ≢ 0 → bytes_of n text ≡ None
@@ -177,13 +159,10 @@ sized_text n text e =
     let same : (length text / 2 == n) ≡ true = grind (arith, nat_tests) in
     rw (even, same) refl
 
-pub bytes_of-read : (n : ℕ) (text bytes : List ℕ) (most : ℕ) → length text ≡ 2 * n → length bytes ≡ n → ReadsDigits text n bytes most → most < 16
-    → bytes_of n text ≡ Some bytes
-unfolding decode_pairs
-bytes_of-read n text bytes most e sized h p =
-    let none : drop (2 * n) text ≡ [] = drop_all (2 * n) text (omega arith) in
-    let all : take n bytes ≡ bytes = take_all n bytes (omega arith) in
-    sized_text n text e ∙ h.read p ∙ rw (none, all) (ap Some (append-nil bytes))
+pub bytes_of-read : (n : ℕ) (text bytes : List ℕ) → length text ≡ 2 * n → length bytes ≡ n → ReadsDigits text n bytes → bytes_of n text ≡ Some bytes
+bytes_of-read n text bytes e sized h =
+    sized_text n text e ∙ all_from 0 text bytes (omega arith) (λ k low. h.digits k (omega arith)) (λ k low. h.are k (omega arith))
 
-pub bytes_of-bad : (n : ℕ) (text bytes : List ℕ) (most : ℕ) → length text ≡ 2 * n → ReadsDigits text n bytes most → 16 ≤ most → bytes_of n text ≡ None
-bytes_of-bad n text bytes most e h p = sized_text n text e ∙ h.bad p
+-- not all characters are digits
+pub bytes_of-bad : (n : ℕ) (text : List ℕ) (k : ℕ) → length text ≡ 2 * n → k < length text → 16 ≤ value_of (get_or text k 0) → bytes_of n text ≡ None
+bytes_of-bad n text k e low bad = sized_text n text e ∙ bad_from 0 text k low bad

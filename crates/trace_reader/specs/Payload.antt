@@ -1,6 +1,6 @@
 -- What the fourth field of a write gives.
 use Rattle.std.specs.{List.list_any, Option.option_and_then}
-use Rattle.std.specs.{Prelude.{ℕ, ◌==◌, ◌&&◌, Bool, if◌then◌else◌, List, [], ◌∷◌, length, map, Option, Some, None, option_map, unwrap_or, is_some}, Result.result_ok}
+use Rattle.std.specs.{Prelude.{◌≡◌, ℕ, min, ◌==◌, ◌&&◌, Bool, if◌then◌else◌, List, [], ◌∷◌, length, map, Option, Some, None, option_map, unwrap_or, is_some}, Result.result_ok}
 use Rattle.hex.specs.Hex.{decode_sized, pair_value}
 
 -- the n bytes that 2n hexadecimal digits of either case write
@@ -10,6 +10,10 @@ bytes_of n text = result_ok (decode_sized text n)
 -- what `hex` says of a character behind a zero: the value of a digit, 255 of any other
 unfoldable pub value_of : ℕ → ℕ
 value_of c = unwrap_or (result_ok (pair_value 48 c 0)) 255
+
+-- this number tells what a character is as a digit: its value, or 16 and more where it is none
+abbrev pub Tells : ℕ → ℕ → Type 0
+Tells c value = min value 16 ≡ min (value_of c) 16
 
 -- what two characters say of a byte: `..` that it isn't given, two hexadecimal digits what it is
 unfoldable pub pair_of : ℕ → ℕ → Option (Option ℕ)

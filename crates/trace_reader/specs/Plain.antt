@@ -1,5 +1,5 @@
 -- Rows of plain bytes.
-use Rattle.std.specs.{Int.{w64, trailing_zeros}, Prelude.{◌≡◌, ℕ, ◌+◌, ◌==◌, ◌&&◌, ◌<◌, ◌≤◌, not, Bool, true, false, if◌then◌else◌, ◌-◌, List, [], ◌∷◌, length, take, drop, slice_index}}
+use Rattle.std.specs.{Int.{w64, trailing_zeros}, Prelude.{◌≡◌, ℕ, ◌+◌, ◌==◌, ◌&&◌, ◌<◌, ◌≤◌, not, Bool, true, if◌then◌else◌, ◌-◌, List, [], ◌∷◌, length, take, drop, slice_index}}
 use Rattle.trace_reader.specs.declared.plain.PlainRow.{PlainRow}
 
 -- whether a byte is none that `csv` looks for: no quote, no comma, no end of a line

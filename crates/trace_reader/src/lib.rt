@@ -3,6 +3,7 @@
 #![tactic(auto)]
 
 mod decimal;
+mod digits;
 mod event;
 mod fault;
 mod payload;
@@ -14,5 +15,6 @@ mod trace;
 pub use decimal::number;
 pub use event::{Event, EventOp};
 pub use fault::{Kind, ParseFault, TraceFault};
+pub use plain::{PlainRow, plain_end, plain_row, read_plain_row};
 pub use row::{LATEST_TICK, read_fields};
 pub use trace::{MOST_ROWS, parse};

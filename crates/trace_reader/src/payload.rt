@@ -1,9 +1,10 @@
 //! The bytes that a write gives, as hexadecimal digits.
-ghost use Rattle.std.specs.Prelude.{◌≡◌, option_map};
+ghost use Rattle.std.specs.Prelude.{◌≡◌, ◌*◌, length, true, false, Some, None, option_map};
 ghost use Rattle.std.specs.List.{list_any};
 ghost use Rattle.std.specs.Result.{result_ok};
 ghost use Rattle.trace_reader.specs.Payload.{bytes_of, value_of, pair_of, masked_of, Masked};
 
+use crate::digits::{BYTES, are_digits, bytes_of_values, values_at};
 use hex::FromHexError;
 
 /// Bytes of which some are given; the others are 0.
@@ -13,7 +14,7 @@ pub struct MaskedBytes<const B: usize> {
     pub given: [bool; B],
 }
 
-// The value of a digit, 255 of any other character. Nothing is looked up, so that LLVM reads many digits at once.
+// The value of a digit, 255 of any other character.
 #[tactic(auto, using(crate::proofs::Table::value_of_digit))]
 fn value(character: u8) -> u8
     ensures { result ≡ value_of character }
@@ -26,6 +27,34 @@ fn value(character: u8) -> u8
     }
 }
 
+// Reads two digits for each byte, by lanes as long as enough are left, and says whether all were digits.
+#[inline(always)]
+fn read_digits(text: &[u8], bytes: &mut [u8]) -> bool
+    requires { length text.now ≡ 2 * length bytes.old }
+    ensures length { length bytes.new ≡ length bytes.old }
+    ensures read { result ≡ true → bytes_of (length bytes.old) text.now ≡ Some bytes.new }
+    ensures bad { result ≡ false → bytes_of (length bytes.old) text.now ≡ None }
+{
+    let mut done = 0;
+    'by_lanes: while bytes.len() - done >= BYTES {
+        let values = values_at(text, 2 * done);
+        if !are_digits(values) {
+            return false;
+        }
+        bytes_of_values(values).copy_to_slice(&mut bytes[done..]);
+        done += BYTES;
+    }
+    'by_pairs: for i in done..bytes.len() {
+        let high = value(text[2 * i]);
+        let low = value(text[2 * i + 1]);
+        if high > 15 || low > 15 {
+            return false;
+        }
+        bytes[i] = high * 16 + low;
+    }
+    true
+}
+
 /// The `B` bytes that a text of `2 * B` hexadecimal digits of either case writes.
 pub fn bytes_from_digits<const B: usize>(text: &[u8]) -> Option<[u8; B]>
     ensures { result ≡ bytes_of B text.now }
@@ -34,15 +63,11 @@ pub fn bytes_from_digits<const B: usize>(text: &[u8]) -> Option<[u8; B]>
         return None;
     }
     let mut bytes = [0; B];
-    // A digit's value is below 16, and so are the bits of many; of any other character it is not.
-    let mut seen = 0;
-    'pairs: for i in 0..B {
-        let high = value(text[2 * i]);
-        let low = value(text[2 * i + 1]);
-        seen |= high | low;
-        bytes[i] = high % 16 * 16 + low % 16;
+    if read_digits(text, &mut bytes) {
+        Some(bytes)
+    } else {
+        None
     }
-    if seen < 16 { Some(bytes) } else { None }
 }
 
 // What two characters say of a byte: `..` that it isn't given, two hexadecimal digits what it is.

@@ -1,8 +1,12 @@
 //! Rows of plain bytes, which are read without a machine.
 ghost use Rattle.std.specs.Prelude.{◌≡◌, ℕ, ◌+◌, ◌-◌, ◌<◌, ◌≤◌, length, slice_index, take, drop, true, IfSome};
 ghost use Rattle.std.specs.List.{list_all};
-ghost use Rattle.trace_reader.specs.Plain.{first_set, is_plain, IsField, IsPlainRow};
+ghost use Rattle.trace_reader.specs.Plain.{fields_in, first_set, is_plain, IsField, IsPlainRow};
+ghost use Rattle.trace_reader.specs.Rows.{event_of};
 
+use crate::event::Event;
+use crate::fault::Kind;
+use crate::row::read_fields;
 use std::simd::prelude::*;
 
 // How many bytes go through one step of lanes.
@@ -29,7 +33,8 @@ fn first_set(mask: u64, lanes: usize) -> usize
     }
 }
 
-// How many of the bytes in one step of lanes are plain and come first.
+// How many of the bytes in one step of lanes are plain and come first. All four that aren't are commas or less, and no plain byte of a row
+// without faults is.
 #[inline(always)]
 fn plain_lanes(bytes: &[u8], at: usize) -> usize
     requires { at + LANES ≤ length bytes.now }
@@ -38,11 +43,7 @@ fn plain_lanes(bytes: &[u8], at: usize) -> usize
         → is_plain (slice_index bytes.now k) ≡ true }
 {
     let lanes = u8x16::from_slice(&bytes[at..]);
-    let stops = lanes.simd_eq(u8x16::splat(b'"'))
-        | lanes.simd_eq(u8x16::splat(b','))
-        | lanes.simd_eq(u8x16::splat(b'\r'))
-        | lanes.simd_eq(u8x16::splat(b'\n'));
-    first_set(stops.to_bitmask(), LANES)
+    first_set(lanes.simd_le(u8x16::splat(b',')).to_bitmask(), LANES)
 }
 
 fn is_plain(byte: u8) -> bool
@@ -51,8 +52,8 @@ fn is_plain(byte: u8) -> bool
     byte != b'"' && byte != b',' && byte != b'\r' && byte != b'\n'
 }
 
-// Behind some bytes the plain ones that come first: where they end.
-fn plain_end(bytes: &[u8], from: usize) -> usize
+/// Behind some bytes the plain ones that come first: where they end.
+pub fn plain_end(bytes: &[u8], from: usize) -> usize
     requires { from ≤ length bytes.now }
     ensures from { from ≤ result }
     ensures within { result ≤ length bytes.now }
@@ -100,4 +101,26 @@ pub fn plain_row(bytes: &[u8], from: usize) -> Option<PlainRow>
         line,
         payload,
     })
+}
+
+/// What a plain row says as a row of a trace.
+pub fn read_plain_row<const B: usize>(
+    bytes: &[u8],
+    from: usize,
+    row: PlainRow,
+    lines: u32,
+    before: u64,
+) -> Result<Event<B>, Kind>
+    requires lines { 1 ≤ lines }
+    requires plain { IsPlainRow bytes.now from row }
+    ensures { result ≡ event_of B lines before (fields_in bytes.now from row) }
+{
+    read_fields(
+        &bytes[from..row.tick],
+        &bytes[row.tick + 1..row.op],
+        &bytes[row.op + 1..row.line],
+        &bytes[row.line + 1..row.payload],
+        lines,
+        before,
+    )
 }

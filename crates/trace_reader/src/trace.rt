@@ -5,14 +5,13 @@ ghost use Rattle.csv.specs.Records.{fields_of};
 ghost use Rattle.trace_reader.specs.Events.{AreEventsFor};
 ghost use Rattle.trace_reader.specs.Records.{HasLeft, IsOpen};
 ghost use Rattle.trace_reader.specs.Plain.{IsPlainRow, fields_in};
-ghost use Rattle.trace_reader.specs.Rows.{event_of};
 ghost use Rattle.trace_reader.specs.Trace.{after_events, is_header, rows_from, trace_of};
 
 use crate::event::Event;
 use crate::fault::{Kind, ParseFault, TraceFault};
-use crate::plain::{PlainRow, plain_row};
+use crate::plain::{PlainRow, plain_row, read_plain_row};
 use crate::records::{next_row, open};
-use crate::row::{field, read_event, read_fields};
+use crate::row::{field, read_event};
 use csv::{ByteRecord, Reader};
 use std::alloc::Global;
 
@@ -101,28 +100,6 @@ fn read_rest<const B: usize>(
     let mut reader = open(alloc, text);
     let mut row = ByteRecord::new(alloc);
     read_rows(&mut reader, &mut row, lines, events, first, tick)
-}
-
-// What a plain row says.
-fn read_plain_row<const B: usize>(
-    bytes: &[u8],
-    from: usize,
-    row: PlainRow,
-    lines: u32,
-    before: u64,
-) -> Result<Event<B>, Kind>
-    requires lines { 1 ≤ lines }
-    requires plain { IsPlainRow bytes.now from row }
-    ensures { result ≡ event_of B lines before (fields_in bytes.now from row) }
-{
-    read_fields(
-        &bytes[from..row.tick],
-        &bytes[row.tick + 1..row.op],
-        &bytes[row.op + 1..row.line],
-        &bytes[row.line + 1..row.payload],
-        lines,
-        before,
-    )
 }
 
 // Reads the events of the rows from one place on, up to their end or the first fault: plain rows by themselves, and all from the first one

@@ -54,7 +54,7 @@ never_missing = record { endures = 0; misses = 0 }
 
 -- the array in the end
 abbrev pub ended : ArrayState 2 1
-ended = record { line = λ line. if line == 17 then holding 0x11 1 else holding 0 0; lines = 22; tears = 0; log = Some senses; wear = None; bounds = never_missing }
+ended = record { line = λ line. if line == 17 then holding 0x11 1 else holding 0 0; lines = 22; tears = 0; log = Some senses; wear = None; bounds = never_missing; energy = λ line. None }
 
 -- the same, but that the second last check cell of line 3, an unused one, holds 1
 abbrev pub touched_line : LineState 2 1
@@ -65,11 +65,11 @@ touched = record ended { line = λ line. if line == 3 then touched_line else end
 
 -- the same, but that what was written is gone
 abbrev pub forgotten : ArrayState 2 1
-forgotten = record { line = λ line. if line == 17 then holding 0 1 else holding 0 0; lines = 22; tears = 0; log = Some senses; wear = None; bounds = never_missing }
+forgotten = record { line = λ line. if line == 17 then holding 0 1 else holding 0 0; lines = 22; tears = 0; log = Some senses; wear = None; bounds = never_missing; energy = λ line. None }
 
 -- the same rows over an array that tells no log, one of whose lines was pulsed 100 times
 abbrev pub hammered : ArrayState 2 1
-hammered = record { line = λ line. if line == 17 then holding 0x11 100 else holding 0 0; lines = 22; tears = 0; log = None; wear = None; bounds = never_missing }
+hammered = record { line = λ line. if line == 17 then holding 0x11 100 else holding 0 0; lines = 22; tears = 0; log = None; wear = None; bounds = never_missing; energy = λ line. None }
 
 -- and 10 times, each a change of every cell, as a line may be with cells that stick, but not with none of them stuck
 abbrev pub strained : ArrayState 2 1
@@ -89,7 +89,7 @@ cut_short = C 207 ∷ M 200 8 0xee (out.Queued 200) ∷ W 0 8 0x11 (out.Stored 1
 
 -- an array whose line 17, which was pulsed twice, is read as zeros
 abbrev pub emptied : ArrayState 2 1
-emptied = record { line = λ line. if line == 17 then holding 0 2 else holding 0 0; lines = 22; tears = 1; log = None; wear = None; bounds = never_missing }
+emptied = record { line = λ line. if line == 17 then holding 0 2 else holding 0 0; lines = 22; tears = 1; log = None; wear = None; bounds = never_missing; energy = λ line. None }
 
 -- the same ends, but that the second bank's queue gives this
 abbrev pub queueing : List QueueEntry → ℕ → BankEnd

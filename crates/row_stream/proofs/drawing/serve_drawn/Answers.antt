@@ -1,9 +1,11 @@
-use Rattle.std.proofs.Common.{◌≡◌, ◌∙◌, ap, refl, sym, arith}
+use Rattle.std.proofs.Common.{◌≡◌, ◌∙◌, ◌&&◌, ℕ, Bool, List, ap, refl, sym, arith}
+use Rattle.row_printer.specs.{Printing.table_told, Refusing.any_refused, declared.snapshot.Snapshot.Snapshot, declared.told.Shown.Shown, declared.told.Told.Told}
+use Rattle.row_stream.proofs.Alike.{told-same}
 use Rattle.module_shape.specs.Limits.{total_of}
 use Rattle.trace_gen.specs.Generated.{generated}
 use Rattle.trace_stream.specs.Laws.{all_events}
 use Rattle.trace_reader.proofs.Sizes.{event_fits}
-use Rattle.row_stream.proofs.Draws.{drawn-all, drawn-few, drawn-first, drawn-more, drawn-next, total-some}
+use Rattle.row_stream.{specs.Refusing.WentOn, specs.Serving.{IsServing, told_so_far}, proofs.Draws.{drawn-all, drawn-few, drawn-first, drawn-more, drawn-next, total-some}, proofs.Refusals.{ends-all, ends-there, none-first, still-none}}
 use Rattle.row_stream.proofs.drawing.serve_drawn.Goals as goal
 
 pub rows-init : goal.rows-init
@@ -15,6 +17,7 @@ rows-init g c = record {
       c.requires.mix (c.long_events_are_lawful.ensures g.row.B c.args.seed c.total.result c.args.mix (rw c.total.ensures.number (total-some c.shape.result.now c.total.ensures.in_range)) (rw c.total.ensures.number c.total.ensures.in_range.few_in_all) c.requires.mix) c.long-generator.ensures;
   prints = refl;
   printing = λ before first h. h;
+  none = λ is. none-first c.requires.begins.2;
   wear = refl;
 }
 
@@ -49,9 +52,10 @@ rows-preserved g c = record {
       drawn-more raw own c.rows.pcm (g.A.CellArray.state c.rows.array) c.rows.out.rows c.rows.out.told c.rows.out.prints c.rows.out.snapshots (generated g.row.B c.args.seed (total_of raw) c.args.mix) c.rows.generator c.rows.behind
       (c.rows.invariant.drawn raw own had) c.in-Some.event c.next_event.new.self c.in-Some.ensures
       c.serve_event.new.pcm (g.A.CellArray.state c.serve_event.new.array) c.serve_event.new.out.rows c.serve_event.new.out.told c.serve_event.new.out.prints c.serve_event.new.out.snapshots c.behind_event-behind.result
-      (λ served. c.serve_event.ensures.serves.serving raw own (c.rows.invariant.drawn raw own had).asked served) c.behind_event-behind.ensures;
+      (λ served. c.serve_event.ensures.serves.serving raw own (c.rows.invariant.drawn raw own had).asked served) c.rows.invariant.none c.behind_event-behind.ensures;
   prints = c.serve_event.ensures.serves.prints ∙ c.rows.invariant.prints;
   printing = λ before first h. c.serve_event.ensures.printing before first (c.rows.invariant.printing before first h);
+  none = still-none c.args.stops _ (sym c.stops_behind.ensures ∙ c.if-stops_behind.false);
   wear = c.serve_event.ensures.serves.wear ∙ c.rows.invariant.wear;
 }
 
@@ -62,7 +66,7 @@ returns-then-broken-clause-few g c =
     let more = drawn-more s.0 s.1 c.rows.pcm (g.A.CellArray.state c.rows.array) c.rows.out.rows c.rows.out.told c.rows.out.prints c.rows.out.snapshots all c.rows.generator c.rows.behind
     (c.rows.invariant.drawn s.0 s.1 s.2) c.in-Some.event c.next_event.new.self c.in-Some.ensures
     c.serve_event.new.pcm (g.A.CellArray.state c.serve_event.new.array) c.serve_event.new.out.rows c.serve_event.new.out.told c.serve_event.new.out.prints c.serve_event.new.out.snapshots c.behind_event-behind.result
-    (λ served. c.serve_event.ensures.serves.serving s.0 s.1 (c.rows.invariant.drawn s.0 s.1 s.2).asked served) c.behind_event-behind.ensures in
+    (λ served. c.serve_event.ensures.serves.serving s.0 s.1 (c.rows.invariant.drawn s.0 s.1 s.2).asked served) c.rows.invariant.none c.behind_event-behind.ensures in
     drawn-few s.0 s.1 c.serve_event.new.pcm (g.A.CellArray.state c.serve_event.new.array) c.serve_event.new.out.rows c.serve_event.new.out.told c.serve_event.new.out.prints c.serve_event.new.out.snapshots all c.next_event.new.self c.behind_event-behind.result more
 
 pub returns-then-broken-clause-stopped : goal.returns-then-broken-clause-stopped
@@ -70,8 +74,8 @@ returns-then-broken-clause-stopped g c = λ raw own had.
     let more = drawn-more raw own c.rows.pcm (g.A.CellArray.state c.rows.array) c.rows.out.rows c.rows.out.told c.rows.out.prints c.rows.out.snapshots (generated g.row.B c.args.seed (total_of raw) c.args.mix) c.rows.generator c.rows.behind
     (c.rows.invariant.drawn raw own had) c.in-Some.event c.next_event.new.self c.in-Some.ensures
     c.serve_event.new.pcm (g.A.CellArray.state c.serve_event.new.array) c.serve_event.new.out.rows c.serve_event.new.out.told c.serve_event.new.out.prints c.serve_event.new.out.snapshots c.behind_event-behind.result
-    (λ served. c.serve_event.ensures.serves.serving raw own (c.rows.invariant.drawn raw own had).asked served) c.behind_event-behind.ensures in
-    (more.asked, more.serving, all_events c.next_event.new.self, more.drawn)
+    (λ served. c.serve_event.ensures.serves.serving raw own (c.rows.invariant.drawn raw own had).asked served) c.rows.invariant.none c.behind_event-behind.ensures in
+    (more.asked, more.serving, (all_events c.next_event.new.self, more.drawn), more.went)
 
 pub returns-then-broken-clause-printing : goal.returns-then-broken-clause-printing
 returns-then-broken-clause-printing g c = λ before first h. c.serve_event.ensures.printing before first (c.rows.invariant.printing before first h)
@@ -82,38 +86,107 @@ returns-then-broken-clause-part g c = λ before first h.
     let is = sym c.broken.ensures ∙ c.if-broken.true in
     (p.part is, p.fault is)
 
+-- a row was refused, and the stream is to stop there
 pub returns-in-Ok-clause-served : goal.returns-in-Ok-clause-served
 returns-in-Ok-clause-served g c = λ raw own had.
-    let d = c.rows.invariant.drawn raw own had in (
-      d.asked,
-      rw (c.flush.ensures.rows, c.flush.ensures.told, c.flush.ensures.prints, c.flush.ensures.snapshots) d.serving,
-      d.stands,
-      drawn-all raw own c.rows.pcm (g.A.CellArray.state c.rows.array) c.rows.out.rows c.rows.out.told c.rows.out.prints c.rows.out.snapshots _ c.rows.generator c.rows.behind d c.in_default.ensures.0,
-    )
+    let more = drawn-more raw own c.rows.pcm (g.A.CellArray.state c.rows.array) c.rows.out.rows c.rows.out.told c.rows.out.prints c.rows.out.snapshots (generated g.row.B c.args.seed (total_of raw) c.args.mix) c.rows.generator c.rows.behind
+    (c.rows.invariant.drawn raw own had) c.in-Some.event c.next_event.new.self c.in-Some.ensures
+    c.serve_event.new.pcm (g.A.CellArray.state c.serve_event.new.array) c.serve_event.new.out.rows c.serve_event.new.out.told c.serve_event.new.out.prints c.serve_event.new.out.snapshots c.behind_event-behind.result
+    (λ served. c.serve_event.ensures.serves.serving raw own (c.rows.invariant.drawn raw own had).asked served) c.rows.invariant.none c.behind_event-behind.ensures in
+    let out = c.serve_event.new.out in
+    let Went : ℕ → List (Told g.row.B) → Shown → List Snapshot → Type 0 = λ rows told prints snaps.
+    (serving : IsServing raw own more.asked c.serve_event.new.pcm (g.A.CellArray.state c.serve_event.new.array) rows told prints snaps) × WentOn c.args.stops more.asked (told_so_far serving) in
+    let both = told-same Went out.rows c.flush.new.self.rows out.told c.flush.new.self.told out.prints c.flush.new.self.prints out.snapshots c.flush.new.self.snapshots
+    c.flush.ensures.rows c.flush.ensures.told c.flush.ensures.prints c.flush.ensures.snapshots (more.serving, more.went) in
+    let none : any_refused (table_told c.flush.new.self) ≡ any_refused (table_told out) = rw (c.flush.ensures.rows, c.flush.ensures.told) refl in
+    (more.asked, both.0, more.stands, ends-there both.0 c.args.stops both.1 (ap (λ (b : Bool). c.args.stops && b) none ∙ sym c.stops_behind.ensures ∙ c.if-stops_behind.true) _ _ (all_events c.next_event.new.self, more.drawn))
 
 pub returns-in-Ok-clause-few : goal.returns-in-Ok-clause-few
 returns-in-Ok-clause-few g c =
     let s = c.requires.begins in
-    rw c.flush.ensures.rows (drawn-few s.0 s.1 c.rows.pcm (g.A.CellArray.state c.rows.array) c.rows.out.rows c.rows.out.told c.rows.out.prints c.rows.out.snapshots _ c.rows.generator c.rows.behind (c.rows.invariant.drawn s.0 s.1 s.2))
+    let more = drawn-more s.0 s.1 c.rows.pcm (g.A.CellArray.state c.rows.array) c.rows.out.rows c.rows.out.told c.rows.out.prints c.rows.out.snapshots (generated g.row.B c.args.seed (total_of s.0) c.args.mix) c.rows.generator c.rows.behind
+    (c.rows.invariant.drawn s.0 s.1 s.2) c.in-Some.event c.next_event.new.self c.in-Some.ensures
+    c.serve_event.new.pcm (g.A.CellArray.state c.serve_event.new.array) c.serve_event.new.out.rows c.serve_event.new.out.told c.serve_event.new.out.prints c.serve_event.new.out.snapshots c.behind_event-behind.result
+    (λ served. c.serve_event.ensures.serves.serving s.0 s.1 (c.rows.invariant.drawn s.0 s.1 s.2).asked served) c.rows.invariant.none c.behind_event-behind.ensures in
+    rw c.flush.ensures.rows (drawn-few s.0 s.1 c.serve_event.new.pcm (g.A.CellArray.state c.serve_event.new.array) c.serve_event.new.out.rows c.serve_event.new.out.told c.serve_event.new.out.prints c.serve_event.new.out.snapshots _ c.next_event.new.self c.behind_event-behind.result more)
 
 pub returns-in-Ok-clause-printing : goal.returns-in-Ok-clause-printing
-returns-in-Ok-clause-printing g c = λ before first h. c.flush.ensures.printing before first (c.rows.invariant.printing before first h)
+returns-in-Ok-clause-printing g c = λ before first h. c.flush.ensures.printing before first (c.serve_event.ensures.printing before first (c.rows.invariant.printing before first h))
 
 pub returns-in-Ok-clause-written : goal.returns-in-Ok-clause-written
-returns-in-Ok-clause-written g c = λ before first h. c.in-Ok.ensures.ok before first (c.rows.invariant.printing before first h)
+returns-in-Ok-clause-written g c = λ before first h. c.in-Ok.ensures.ok before first (c.serve_event.ensures.printing before first (c.rows.invariant.printing before first h))
 
 pub returns-in-Err-clause-few : goal.returns-in-Err-clause-few
 returns-in-Err-clause-few g c =
     let s = c.requires.begins in
-    rw c.flush.ensures.rows (drawn-few s.0 s.1 c.rows.pcm (g.A.CellArray.state c.rows.array) c.rows.out.rows c.rows.out.told c.rows.out.prints c.rows.out.snapshots _ c.rows.generator c.rows.behind (c.rows.invariant.drawn s.0 s.1 s.2))
+    let more = drawn-more s.0 s.1 c.rows.pcm (g.A.CellArray.state c.rows.array) c.rows.out.rows c.rows.out.told c.rows.out.prints c.rows.out.snapshots (generated g.row.B c.args.seed (total_of s.0) c.args.mix) c.rows.generator c.rows.behind
+    (c.rows.invariant.drawn s.0 s.1 s.2) c.in-Some.event c.next_event.new.self c.in-Some.ensures
+    c.serve_event.new.pcm (g.A.CellArray.state c.serve_event.new.array) c.serve_event.new.out.rows c.serve_event.new.out.told c.serve_event.new.out.prints c.serve_event.new.out.snapshots c.behind_event-behind.result
+    (λ served. c.serve_event.ensures.serves.serving s.0 s.1 (c.rows.invariant.drawn s.0 s.1 s.2).asked served) c.rows.invariant.none c.behind_event-behind.ensures in
+    rw c.flush.ensures.rows (drawn-few s.0 s.1 c.serve_event.new.pcm (g.A.CellArray.state c.serve_event.new.array) c.serve_event.new.out.rows c.serve_event.new.out.told c.serve_event.new.out.prints c.serve_event.new.out.snapshots _ c.next_event.new.self c.behind_event-behind.result more)
 
 pub returns-in-Err-clause-stopped : goal.returns-in-Err-clause-stopped
 returns-in-Err-clause-stopped g c = λ raw own had.
-    let d = c.rows.invariant.drawn raw own had in
-    (d.asked, rw (c.flush.ensures.rows, c.flush.ensures.told, c.flush.ensures.prints, c.flush.ensures.snapshots) d.serving, all_events c.rows.generator, d.drawn)
+    let more = drawn-more raw own c.rows.pcm (g.A.CellArray.state c.rows.array) c.rows.out.rows c.rows.out.told c.rows.out.prints c.rows.out.snapshots (generated g.row.B c.args.seed (total_of raw) c.args.mix) c.rows.generator c.rows.behind
+    (c.rows.invariant.drawn raw own had) c.in-Some.event c.next_event.new.self c.in-Some.ensures
+    c.serve_event.new.pcm (g.A.CellArray.state c.serve_event.new.array) c.serve_event.new.out.rows c.serve_event.new.out.told c.serve_event.new.out.prints c.serve_event.new.out.snapshots c.behind_event-behind.result
+    (λ served. c.serve_event.ensures.serves.serving raw own (c.rows.invariant.drawn raw own had).asked served) c.rows.invariant.none c.behind_event-behind.ensures in
+    let out = c.serve_event.new.out in
+    let Went : ℕ → List (Told g.row.B) → Shown → List Snapshot → Type 0 = λ rows told prints snaps.
+    (serving : IsServing raw own more.asked c.serve_event.new.pcm (g.A.CellArray.state c.serve_event.new.array) rows told prints snaps) × WentOn c.args.stops more.asked (told_so_far serving) in
+    let both = told-same Went out.rows c.flush.new.self.rows out.told c.flush.new.self.told out.prints c.flush.new.self.prints out.snapshots c.flush.new.self.snapshots
+    c.flush.ensures.rows c.flush.ensures.told c.flush.ensures.prints c.flush.ensures.snapshots (more.serving, more.went) in
+    (more.asked, both.0, (all_events c.next_event.new.self, more.drawn), both.1)
 
 pub returns-in-Err-clause-printing : goal.returns-in-Err-clause-printing
-returns-in-Err-clause-printing g c = λ before first h. c.flush.ensures.printing before first (c.rows.invariant.printing before first h)
+returns-in-Err-clause-printing g c = λ before first h. c.flush.ensures.printing before first (c.serve_event.ensures.printing before first (c.rows.invariant.printing before first h))
 
 pub returns-in-Err-clause-part : goal.returns-in-Err-clause-part
-returns-in-Err-clause-part g c = λ before first h. c.in-Err.ensures.err before first (c.rows.invariant.printing before first h)
+returns-in-Err-clause-part g c = λ before first h. c.in-Err.ensures.err before first (c.serve_event.ensures.printing before first (c.rows.invariant.printing before first h))
+
+-- no row is left
+pub returns-in-Ok-flush-clause-served : goal.returns-in-Ok-flush-clause-served
+returns-in-Ok-flush-clause-served g c = λ raw own had.
+    let d = c.rows.invariant.drawn raw own had in
+    let out = c.rows.out in
+    let Went : ℕ → List (Told g.row.B) → Shown → List Snapshot → Type 0 = λ rows told prints snaps. IsServing raw own d.asked c.rows.pcm (g.A.CellArray.state c.rows.array) rows told prints snaps in
+    let serving : IsServing raw own d.asked c.rows.pcm (g.A.CellArray.state c.rows.array) c.flush-2.new.self.rows c.flush-2.new.self.told c.flush-2.new.self.prints c.flush-2.new.self.snapshots =
+    told-same Went out.rows c.flush-2.new.self.rows out.told c.flush-2.new.self.told out.prints c.flush-2.new.self.prints out.snapshots c.flush-2.new.self.snapshots
+    c.flush-2.ensures.rows c.flush-2.ensures.told c.flush-2.ensures.prints c.flush-2.ensures.snapshots d.serving in (
+      d.asked,
+      serving,
+      d.stands,
+      ends-all serving c.args.stops (λ is. rw (c.flush-2.ensures.rows, c.flush-2.ensures.told) (c.rows.invariant.none is)) _ _ (drawn-all raw own c.rows.pcm (g.A.CellArray.state c.rows.array) c.rows.out.rows c.rows.out.told c.rows.out.prints c.rows.out.snapshots _ c.rows.generator c.rows.behind d c.in_default.ensures.0),
+    )
+
+pub returns-in-Ok-flush-clause-few : goal.returns-in-Ok-flush-clause-few
+returns-in-Ok-flush-clause-few g c =
+    let s = c.requires.begins in
+    rw c.flush-2.ensures.rows (drawn-few s.0 s.1 c.rows.pcm (g.A.CellArray.state c.rows.array) c.rows.out.rows c.rows.out.told c.rows.out.prints c.rows.out.snapshots _ c.rows.generator c.rows.behind (c.rows.invariant.drawn s.0 s.1 s.2))
+
+pub returns-in-Ok-flush-clause-printing : goal.returns-in-Ok-flush-clause-printing
+returns-in-Ok-flush-clause-printing g c = λ before first h. c.flush-2.ensures.printing before first (c.rows.invariant.printing before first h)
+
+pub returns-in-Ok-flush-clause-written : goal.returns-in-Ok-flush-clause-written
+returns-in-Ok-flush-clause-written g c = λ before first h. c.in-Ok-flush.ensures.ok before first (c.rows.invariant.printing before first h)
+
+pub returns-in-Err-flush-clause-few : goal.returns-in-Err-flush-clause-few
+returns-in-Err-flush-clause-few g c =
+    let s = c.requires.begins in
+    rw c.flush-2.ensures.rows (drawn-few s.0 s.1 c.rows.pcm (g.A.CellArray.state c.rows.array) c.rows.out.rows c.rows.out.told c.rows.out.prints c.rows.out.snapshots _ c.rows.generator c.rows.behind (c.rows.invariant.drawn s.0 s.1 s.2))
+
+pub returns-in-Err-flush-clause-stopped : goal.returns-in-Err-flush-clause-stopped
+returns-in-Err-flush-clause-stopped g c = λ raw own had.
+    let d = c.rows.invariant.drawn raw own had in
+    let out = c.rows.out in
+    let Went : ℕ → List (Told g.row.B) → Shown → List Snapshot → Type 0 = λ rows told prints snaps.
+    (serving : IsServing raw own d.asked c.rows.pcm (g.A.CellArray.state c.rows.array) rows told prints snaps) × WentOn c.args.stops d.asked (told_so_far serving) in
+    let both = told-same Went out.rows c.flush-2.new.self.rows out.told c.flush-2.new.self.told out.prints c.flush-2.new.self.prints out.snapshots c.flush-2.new.self.snapshots
+    c.flush-2.ensures.rows c.flush-2.ensures.told c.flush-2.ensures.prints c.flush-2.ensures.snapshots (d.serving, d.went) in
+    (d.asked, both.0, (all_events c.rows.generator, d.drawn), both.1)
+
+pub returns-in-Err-flush-clause-printing : goal.returns-in-Err-flush-clause-printing
+returns-in-Err-flush-clause-printing g c = λ before first h. c.flush-2.ensures.printing before first (c.rows.invariant.printing before first h)
+
+pub returns-in-Err-flush-clause-part : goal.returns-in-Err-flush-clause-part
+returns-in-Err-flush-clause-part g c = λ before first h. c.in-Err-flush.ensures.err before first (c.rows.invariant.printing before first h)

@@ -1,5 +1,7 @@
-use Rattle.std.proofs.Common.{◌≡◌, ◌∙◌, ◌+◌, ◌++◌, ap, arith}
-use Rattle.row_printer.specs.{Printing.table_told, Telling.became}
+use Rattle.std.proofs.Common.{◌≡◌, ◌∙◌, ◌+◌, ◌++◌, ℕ, List, ◌∷◌, ap, refl, arith}
+use Rattle.row_printer.specs.{Printing.table_told, Telling.became, declared.snapshot.Snapshot.Snapshot, declared.told.Shown.Shown, declared.told.Told.Told}
+use Rattle.trace_stream.specs.declared.asked.Asked.TheVariants.{Happens}
+use Rattle.row_stream.{specs.Serving.{IsServing, told_before, told_so_far}, proofs.Alike.told-same}
 use Rattle.trace_reader.proofs.Sizes.{event_fits}
 use Rattle.row_stream.proofs.Going.{event-order, next-bound, next-open, next-replayed, serving-event}
 use Rattle.row_stream.proofs.serving.serve_event.Goals as goal
@@ -31,7 +33,11 @@ returns-clause-serves g c = record {
       let e = c.event.ensures.takes in
       let order = event-order raw seed before c.args.pcm.now (g.A.CellArray.state c.args.array.now) c.args.out.now.rows c.args.out.now.told c.args.out.now.prints c.args.out.now.snapshots had g.K.Sink.written g.K.Sink.faults c.args.event.now c.rows-row.result (table_told c.add_row.new.self)
       c.add_row.new.self c.event.new.results c.add_row.ensures.table row c.tells_once.ensures c.event.ensures.order in
-      rw (c.show_due.ensures.looks.rows, c.show_due.ensures.looks.told, c.show_due.ensures.looks.prints)
+      let Goes : ℕ → List (Told g.row.B) → Shown → List Snapshot → Type 0 = λ rows told prints snaps.
+      (has : IsServing raw seed (Happens c.args.event.now ∷ before) c.event.new.self (g.A.CellArray.state c.event.new.array) rows told prints snaps)
+      × (told_before (Happens c.args.event.now) before (told_so_far has) ≡ told_so_far had) in
+      told-same Goes c.event.new.results.rows c.show_due.new.out.rows c.event.new.results.told c.show_due.new.out.told c.event.new.results.prints c.show_due.new.out.prints c.show_due.new.out.snapshots c.show_due.new.out.snapshots
+      c.show_due.ensures.looks.rows c.show_due.ensures.looks.told c.show_due.ensures.looks.prints refl
       (serving-event raw seed before c.args.pcm.now (g.A.CellArray.state c.args.array.now) c.args.out.now.rows c.args.out.now.told c.args.out.now.prints c.args.out.now.snapshots had c.args.event.now
       c.event.new.self (g.A.CellArray.state c.event.new.array) c.event.new.results.rows c.event.new.results.told c.event.new.results.prints c.event.new.results.snapshots c.show_due.new.out.snapshots c.rows-row.result (table_told c.add_row.new.self)
       c.add_row.ensures.table row (on.rows ∙ c.add_row.ensures.rows) order.outcomes (order.told ∙ ap (λ t. t ++ became order.outcomes) c.add_row.ensures.told) order.are

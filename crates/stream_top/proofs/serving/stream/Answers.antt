@@ -44,7 +44,7 @@ print_closing-requires g c =
           (
             search rules,
             (
-              has-image c.args.job.now (stays_off (is_off c.args.job.now.end) p.0) (with_cut (is_off c.args.job.now.end) p.0) new.pcm (g.A.CellArray.state new.array) new.out.rows new.out.told c.requires.job p.1.1.0,
+              has-image c.args.job.now (stays_off (is_off c.args.job.now.end) p.0) (with_cut (is_off c.args.job.now.end) p.0) new.pcm (g.A.CellArray.state new.array) new.out.rows new.out.told c.requires.job p.1.0.0,
               search rules,
             ),
           ),
@@ -71,7 +71,7 @@ returns-in-Err-play g c =
           let calm = calm-fault (Err c.in-Err-play.fault) c.in-Err-play.fault refl other in
           let s = p.stopped other in
           inl (stream-stops g.row.B g.row.M g.row.E c.args.job.now source new.pcm state new.out.rows new.out.told new.out.prints new.out.snapshots prints c.end.ensures.once
-          (p.wear ∙ c.in-Ok.ensures.taken.wear) out c.in-Err-play.fault s.0 s.1 s.2 (rw c.end.ensures.sink (p.written calm _ _ c.new-printer.ensures.printing)));
+          (p.wear ∙ c.in-Ok.ensures.taken.wear) out c.in-Err-play.fault s.0 s.1 s.2 s.3 (rw c.end.ensures.sink (p.written calm _ _ c.new-printer.ensures.printing)));
       unread = p.unread;
     }
 

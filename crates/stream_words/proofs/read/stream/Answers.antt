@@ -63,6 +63,18 @@ returns-in_err-end-clause-exact c = c.from_residual-in_err-end.ensures ∙ sym (
     (some_step _ _ _ _ (sym c.in_ok-input.ensures.exact)
     (none_step _ _ (sym c.in_err-end.ensures)))))))))
 
+pub returns-in_err-until-clause-exact : goal.returns-in_err-until-clause-exact
+unfolding stream_of
+returns-in_err-until-clause-exact c = c.from_residual-in_err-until.ensures ∙ sym (some_step _ _ _ _ (sym c.in_ok-line.ensures)
+    (some_step _ _ _ _ (sym c.in_ok-shape.ensures.exact)
+    (some_step _ _ _ _ (sym c.in_ok-seed.ensures)
+    (some_step _ _ _ _ (sym c.in_ok-wear.ensures.exact)
+    (some_step _ _ _ _ (sym c.in_ok-print.ensures.exact)
+    (some_step _ _ _ _ (sym c.in_ok-mix.ensures.exact)
+    (some_step _ _ _ _ (sym c.in_ok-input.ensures.exact)
+    (some_step _ _ _ _ (sym c.in_ok-end.ensures)
+    (none_step _ _ (sym c.in_err-until.ensures))))))))))
+
 pub returns-clause-exact : goal.returns-clause-exact
 unfolding stream_of
 returns-clause-exact c = c.fitting.ensures.exact ∙ sym (some_step _ _ _ _ (sym c.in_ok-line.ensures)
@@ -73,4 +85,5 @@ returns-clause-exact c = c.fitting.ensures.exact ∙ sym (some_step _ _ _ _ (sym
     (some_step _ _ _ _ (sym c.in_ok-mix.ensures.exact)
     (some_step _ _ _ _ (sym c.in_ok-input.ensures.exact)
     (some_step _ _ _ _ (sym c.in_ok-end.ensures)
-    refl))))))))
+    (some_step _ _ _ _ (sym c.in_ok-until.ensures)
+    refl)))))))))

@@ -2,7 +2,7 @@ use Rattle.std.proofs.Common.{arith, refl}
 use Rattle.std.proofs.lemmas.Simd.{length-chunk, zip2_splat}
 use lib.Lanes.{chunk}
 use Rattle.trace_reader.specs.Plain.{is_plain}
-use Rattle.trace_reader.proofs.Lanes.{few_in, joined, passes_in}
+use Rattle.trace_reader.proofs.Lanes.{few_in, passes_in}
 use Rattle.trace_reader.proofs.plain.plain_lanes.Goals as goal
 
 pub returns-clause-few : goal.returns-clause-few
@@ -10,11 +10,11 @@ returns-clause-few c =
     let v = chunk c.args.at 16 c.args.bytes.now in
     let long = length-chunk c.args.at 16 c.args.bytes.now c.requires in
     few_in c.args.bytes.now c.args.at 16 _ _ c.requires (omega arith) c.first_set.ensures _
-    (joined _ _ _ v (joined _ _ _ v (joined _ _ _ v (zip2_splat _ v 16 34 long) (zip2_splat _ v 16 44 long)) (zip2_splat _ v 16 13 long)) (zip2_splat _ v 16 10 long))
+    (zip2_splat _ v 16 44 long)
 
 pub returns-clause-plain : goal.returns-clause-plain
 returns-clause-plain c =
     let v = chunk c.args.at 16 c.args.bytes.now in
     let long = length-chunk c.args.at 16 c.args.bytes.now c.requires in
     passes_in is_plain c.args.bytes.now c.args.at 16 _ _ c.requires (omega arith) c.type_inv.bytes c.first_set.ensures _
-    (joined _ _ _ v (joined _ _ _ v (joined _ _ _ v (zip2_splat _ v 16 34 long) (zip2_splat _ v 16 44 long)) (zip2_splat _ v 16 13 long)) (zip2_splat _ v 16 10 long)) refl
+    (zip2_splat _ v 16 44 long) refl

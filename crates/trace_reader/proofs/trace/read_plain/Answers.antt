@@ -1,4 +1,4 @@
-use Rattle.std.proofs.Common.{◌≡◌, ℕ, List, [], ◌∷◌, ◌++◌, ◌+◌, ◌-◌, ◌<◌, ◌∙◌, drop, sym, ap, arith, rules, slice_index, vec_len}
+use Rattle.std.proofs.Common.{◌≡◌, [], ◌∷◌, ◌++◌, ◌+◌, ◌-◌, ◌<◌, ◌∙◌, drop, sym, ap, arith, rules, slice_index, vec_len}
 use Rattle.csv.specs.Reading.{default_config, records}
 use Rattle.trace_reader.specs.{Plain.{IsPlainRow, fields_in}, Trace.{after_events, rows_from}}
 use Rattle.trace_reader.proofs.{PlainRows.records-plain, Traces.{after_none, text-faulty, text-read}}

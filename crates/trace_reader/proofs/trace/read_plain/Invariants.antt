@@ -1,4 +1,4 @@
-use Rattle.std.proofs.Common.{◌≡◌, ℕ, List, ◌<◌, ◌≤◌, ◌-◌, drop, length, slice_index, vec_len}
+use Rattle.std.proofs.Common.{◌≡◌, ◌<◌, ◌≤◌, ◌-◌, drop, length, slice_index, vec_len}
 use Rattle.csv.specs.Reading.{default_config, records}
 use Rattle.trace_reader.specs.Trace.{after_events, rows_from}
 use Rattle.trace_reader.proofs.trace.read_plain.Given as goal

@@ -1,7 +1,7 @@
-use Rattle.std.proofs.Common.{◌≡◌, ℕ, List, ◌∷◌, ◌∙◌, ap, subst, sym, arith}
+use Rattle.std.proofs.Common.{◌∙◌, ap, subst}
 use Rattle.std.proofs.lemmas.Result.{IfOk-weaker, MatchResult-weaker}
 use Rattle.csv.specs.Reading.{default_config, records, strip_bom}
-use Rattle.trace_reader.specs.{Records.HasLeft, Trace.{after_events, rows_from}}
+use Rattle.trace_reader.specs.{Records.HasLeft}
 use Rattle.trace_reader.proofs.PlainRows.{records-feed, strip-feed}
 use Rattle.trace_reader.proofs.trace.read_rest.Goals as goal
 

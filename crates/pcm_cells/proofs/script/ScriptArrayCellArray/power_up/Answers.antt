@@ -1,6 +1,7 @@
-use Rattle.std.proofs.Common.{refl, arith}
-use Rattle.std.proofs.{lemmas.List.length-replicate, lemmas.Result.on_ok_weaker}
-use Rattle.pcm_cells.{specs.Cell.line_state, specs.Scripted.blank_scripted, proofs.LineLemmas.blank_lines}
+use Rattle.std.proofs.Common.{◌∙◌, sym, ap, refl, arith, Some}
+use Rattle.std.proofs.{lemmas.List.length-replicate, lemmas.Option.same_Some, lemmas.Result.on_ok_weaker}
+use Rattle.cell_rows.specs.Energy.{no_energy}
+use Rattle.pcm_cells.{specs.Cell.line_state, specs.Scripted.blank_scripted, proofs.EnergyLemmas.energy-none, proofs.LineLemmas.blank_lines}
 use Rattle.pcm_cells.proofs.script.ScriptArrayCellArray.power_up.Goals as goal
 
 pub returns-clause-ok : goal.returns-clause-ok
@@ -14,5 +15,6 @@ returns-clause-ok g c =
       log = λ senses told. cc;
       wear = refl;
       few = omega arith;
+      energy = λ l told low is. same_Some told no_energy (sym is ∙ ap Some (energy-none c.args.lines l _ refl low));
     }))
     c.renew.ensures.ok

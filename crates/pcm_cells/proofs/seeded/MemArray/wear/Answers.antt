@@ -1,7 +1,7 @@
-use Rattle.std.proofs.Common.{◌≡◌, ◌≤◌, ◌∙◌, rules, sym, subst, ap, arith, length, refl, Option, Some}
-use Rattle.cell_rows.specs.declared.array.Wear.{Wear}
-use Rattle.pcm_cells.specs.{Endurance.{AreBounded, IsInRange}, Paging.{seeded_lines, seeded_wear, lines_seen}, Seeded.{SeededArray, bounds_of}}
-use Rattle.pcm_cells.proofs.{EnduranceLemmas.bounded_kept, PagingLemmas.{lines_size, wears_lines}}
+use Rattle.std.proofs.Common.{◌≡◌, ◌≤◌, ◌∙◌, rules, sym, subst, ap, arith, length, length-set, set, refl, List, Option, Some}
+use Rattle.cell_rows.specs.{Energy.with_pulse, declared.array.LineEnergy.LineEnergy, declared.array.Wear.Wear}
+use Rattle.pcm_cells.specs.{Endurance.{AreBounded, IsInRange}, Energies.energy_at, Paging.{seeded_lines, seeded_wear, lines_seen}, Seeded.{SeededArray, bounds_of, seeded_state}}
+use Rattle.pcm_cells.proofs.{EnduranceLemmas.bounded_kept, EnergyLemmas.energy-told, PagingLemmas.{lines_size, wears_lines}}
 use Rattle.pcm_cells.proofs.seeded.MemArray.wear.Goals as goal
 
 pub unreachable-requires : goal.unreachable-requires
@@ -36,7 +36,7 @@ returns-clause-bounded g c =
     let range : IsInRange bounds = subst (λ (a : SeededArray g.row.B g.row.M). IsInRange (bounds_of a.wear)) c.self.view_is c.self.invariant.2 in
     let here : AreBounded bounds c.args.self.now.lines = subst (λ (a : SeededArray g.row.B g.row.M). AreBounded (bounds_of a.wear) a.lines) c.self.view_is c.self.invariant.3 in
     let before : c.args.self.now.lines ≡ lines_seen old = ap (λ a. a.lines) (sym c.self.view_is) ∙ ap seeded_lines c.in-Some.is in
-    let new : SeededArray g.row.B g.row.M = record { lines = lines_seen c.wear.new.self; tears = c.self.inside.tears; wear = Some old.wear } in
+    let new : SeededArray g.row.B g.row.M = record { lines = lines_seen c.wear.new.self; tears = c.self.inside.tears; wear = Some old.wear; energies = c.drive.new.self } in
     bounded_kept bounds c.args.line c.args.tearing c.args.mask.now c.args.want.now c.args.self.now new range.endures
     (wears_lines c.args.line c.args.tearing c.args.mask.now c.args.want.now old c.wear.new.self c.args.self.now new before refl
     (omega (arith, c.requires.exists, ap length before, lines_size old))
@@ -50,7 +50,7 @@ invariant_of-self g c =
     let wear : seeded_wear c.self.inside.lines ≡ Some c.wear.new.self.wear = ap seeded_wear c.in-Some.is ∙ ap Some (sym c.wear.ensures.wear) in
     let lines : seeded_lines c.self.inside.lines ≡ c.args.self.now.lines = ap (λ a. a.lines) c.self.view_is in
     let before : c.args.self.now.lines ≡ lines_seen old = sym lines ∙ ap seeded_lines c.in-Some.is in
-    let new : SeededArray g.row.B g.row.M = record { lines = lines_seen c.wear.new.self; tears = c.self.inside.tears; wear = Some old.wear } in (
+    let new : SeededArray g.row.B g.row.M = record { lines = lines_seen c.wear.new.self; tears = c.self.inside.tears; wear = Some old.wear; energies = c.drive.new.self } in (
       c.self.invariant.0,
       c.self.invariant.1,
       subst (λ (w : Option Wear). IsInRange (bounds_of w)) wear c.self.invariant.2,
@@ -60,8 +60,25 @@ invariant_of-self g c =
           (omega (arith, c.requires.exists, ap length before, lines_size old))
           c.wear.ensures.cells c.wear.ensures.pulses c.wear.ensures.others c.wear.ensures.lines)
           (subst (AreBounded bounds) lines c.self.invariant.3)),
+      ap length c.drive.ensures ∙ length-set c.self.inside.energies c.args.line _ ∙ c.self.invariant.4 ∙ ap (λ o. length (seeded_lines o)) c.in-Some.is ∙ lines_size old ∙ sym c.wear.ensures.lines ∙ sym (lines_size c.wear.new.self),
     )
 
 pub returns-clause-wear : goal.returns-clause-wear
 returns-clause-wear g c =
     ap Some c.wear.ensures.wear ∙ sym (ap seeded_wear c.in-Some.is) ∙ ap (λ (a : SeededArray g.row.B g.row.M). a.wear) c.self.view_is
+
+pub drive-requires : goal.drive-requires
+drive-requires g c =
+    let is : length c.args.self.now.lines ≡ length c.self.inside.energies = ap (λ (a : SeededArray g.row.B g.row.M). length a.lines) (sym c.self.view_is) ∙ sym c.self.invariant.4 in
+    let few_bytes : g.row.B ≤ 128 = c.requires.shape.1 in
+    let few_check : g.row.M ≤ 16 = c.requires.shape.3 in
+    (search rules, (omega (arith, c.requires.exists, is), c.requires.shape))
+
+pub returns-clause-energy : goal.returns-clause-energy
+returns-clause-energy g c =
+    let now = c.args.self.now in
+    let lines : length now.lines ≡ length c.self.inside.energies = ap (λ (a : SeededArray g.row.B g.row.M). length a.lines) (sym c.self.view_is) ∙ sym c.self.invariant.4 in
+    let energies : c.self.inside.energies ≡ now.energies = ap (λ (a : SeededArray g.row.B g.row.M). a.energies) c.self.view_is in
+    energy-told (seeded_state now) _ now.energies c.drive.new.self c.args.line _ (omega (arith, c.requires.exists, lines, ap length energies))
+    (c.drive.ensures ∙ ap (λ (xs : List (Option LineEnergy)). set xs c.args.line (with_pulse c.args.mask.now c.args.want.now (Some (energy_at xs c.args.line)))) energies)
+    (λ n. refl) (λ n. refl)

@@ -1,8 +1,8 @@
 use Rattle.std.proofs.Common.{◌≤◌, arith, ◌∙◌, refl, sym, ap, subst, length, Option, Some, None}
-use Rattle.std.proofs.lemmas.List.{length-replicate}
-use Rattle.cell_rows.specs.declared.array.Wear.{Wear}
+use Rattle.std.proofs.lemmas.{List.length-replicate, Option.same_Some}
+use Rattle.cell_rows.specs.{Energy.no_energy, declared.array.LineEnergy.LineEnergy, declared.array.Wear.Wear}
 use Rattle.pcm_cells.{specs.Endurance.IsInRange, specs.Paging.lines_seen, specs.Seeded.{LifeLine, bounds_of}, proofs.EnduranceLemmas.{bounded_none, bounded_new}}
-use Rattle.pcm_cells.proofs.{PagingLemmas.{lines_size, blank_drawn}, SeededLemmas.drawn_is_blank}
+use Rattle.pcm_cells.proofs.{EnergyLemmas.energy-none, PagingLemmas.{lines_size, blank_drawn}, SeededLemmas.drawn_is_blank}
 use Rattle.pcm_cells.proofs.seeded.MemArrayCellArray.power_up.Goals as goal
 
 pub returns-clause-ok : goal.returns-clause-ok
@@ -15,6 +15,7 @@ returns-clause-ok g c =
       log = λ senses told. cc;
       wear = ap Some c.in_ok-blank.ensures.wear;
       few = subst (λ (w : Wear). w.misses ≤ 7) (sym c.in_ok-blank.ensures.wear) c.requires.wear.3;
+      energy = λ l told low is. same_Some told no_energy (sym is ∙ ap Some (energy-none c.args.lines l _ c.in_ok-energies.ensures low));
     }
 
 pub returns-clause-drawn : goal.returns-clause-drawn
@@ -26,6 +27,7 @@ invariant_of-self g c = (
   c.self.invariant.1,
   record { endures = omega arith; misses = omega arith },
   bounded_none g.row.B g.row.M (bounds_of None),
+  ap length c.none.ensures,
 )
 
 pub invariant_of-self-2 : goal.invariant_of-self-2
@@ -38,4 +40,15 @@ invariant_of-self-2 g c =
           (λ l h.
           blank_drawn new c.args.lines new.wear refl c.in_ok-blank.ensures.young c.in_ok-blank.ensures.grown l
           (omega (arith, h, lines_size new, ap length c.in_ok-blank.ensures.grown, length-replicate {A = Option (LifeLine g.row.B g.row.M)} c.args.lines None))),
+      ap length c.in_ok-energies.ensures ∙ length-replicate {A = Option LineEnergy} c.args.lines None
+          ∙ sym (lines_size new ∙ ap length c.in_ok-blank.ensures.grown ∙ length-replicate {A = Option (LifeLine g.row.B g.row.M)} c.args.lines None),
     )
+
+pub invariant_of-self-in_err-blank : goal.invariant_of-self-in_err-blank
+invariant_of-self-in_err-blank g c = (
+  c.self.invariant.0,
+  c.self.invariant.1,
+  record { endures = omega arith; misses = omega arith },
+  bounded_none g.row.B g.row.M (bounds_of None),
+  ap length c.none.ensures,
+)

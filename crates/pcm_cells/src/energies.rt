@@ -1,0 +1,137 @@
+// How many cells of each line were driven to 1 and to 0, and how often it was sensed.
+ghost use Rattle.std.specs.Prelude.{◌≡◌, ◌<◌, ℕ, length, slice_set, replicate, Some, None, [], IfOk};
+ghost use Rattle.cell_rows.specs.Energy.{reset_cells, set_cells, with_pulse, with_sense};
+ghost use Rattle.cell_rows.specs.Shape.{IsShape};
+ghost use Rattle.pcm_cells.specs.declared.energies.Work.TheVariants.{Drives};
+ghost use Rattle.pcm_cells.specs.Counting.{worked};
+ghost use Rattle.pcm_cells.specs.Energies.{energy_at};
+
+use crate::page_table::PageTable;
+use cell_rows::{Cells, LineEnergy};
+use std::alloc::{AllocError, Global};
+use std::marker::Model;
+
+/// What is done to a line.
+#[derive(Clone, Copy, Drop)]
+pub(crate) enum Work {
+    /// A pulse or a tear drives so many cells to 1 and so many to 0.
+    Drives { set: u32, reset: u32 },
+    Sense,
+}
+
+/// The counts of a line, after this was done to it.
+#[inline(always)]
+pub(crate) fn worked(work: Work, energy: LineEnergy) -> LineEnergy
+    ensures { result ≡ worked work energy }
+{
+    match work {
+        Work::Drives { set, reset } => LineEnergy {
+            set: energy.set.saturating_add(set as u64),
+            reset: energy.reset.saturating_add(reset as u64),
+            senses: energy.senses,
+        },
+        Work::Sense => LineEnergy {
+            set: energy.set,
+            reset: energy.reset,
+            senses: energy.senses.saturating_add(1),
+        },
+    }
+}
+
+// What a pulse of these cells does to its line, or a tear.
+fn drives<const B: usize, const M: usize>(mask: &Cells<B, M>, want: &Cells<B, M>) -> Work
+    requires { IsShape B M }
+    ensures { result ≡ Drives (set_cells mask.now want.now) (reset_cells mask.now want.now) }
+{
+    let set = mask.meet(want).count();
+    Work::Drives {
+        set,
+        reset: mask.count() - set,
+    }
+}
+
+/// The counts of the lines of an array; those of a line take memory from the first time on that it is pulsed, torn or sensed.
+/// Contracts see them as the list of those that there are.
+#[derive(Drop)]
+pub(crate) struct Energies {
+    pages: Option<PageTable<LineEnergy>>,
+}
+
+impl Model for Energies {
+    ghost use Rattle.std.specs.Prelude.{List, Option};
+    ghost use Rattle.cell_rows.specs.declared.array.LineEnergy.{LineEnergy};
+    ghost use Rattle.pcm_cells.specs.Counting.{energies_of};
+
+    ghost Value = { List (Option LineEnergy) };
+
+    ghost view = { λ e. energies_of e.pages };
+}
+
+impl Energies {
+    /// Those of an array without lines.
+    pub(crate) fn none() -> Energies
+        ensures { result ≡ [] }
+    {
+        Energies { pages: None }
+    }
+
+    /// Those of so many lines.
+    pub(crate) fn blank(alloc: Global, lines: u32) -> Result<Energies, AllocError>
+        ensures { IfOk result (λ e. e ≡ replicate lines None) }
+    {
+        Ok(Energies {
+            pages: Some(PageTable::blank(alloc, lines)?),
+        })
+    }
+
+    /// The counts of a line.
+    pub(crate) fn at(&self, line: u32) -> LineEnergy
+        requires { line < length self.now }
+        ensures { result ≡ energy_at self.now line }
+    {
+        let Some(pages) = &self.pages else {
+            unreachable!()
+        };
+        match pages.get(line) {
+            Some(energy) => *energy,
+            None => LineEnergy {
+                set: 0,
+                reset: 0,
+                senses: 0,
+            },
+        }
+    }
+
+    fn work(&mut self, line: u32, work: Work)
+        requires { line < length self.old }
+        ensures { self.new ≡ slice_set self.old line (Some (worked work (energy_at self.old line))) }
+    {
+        let Some(pages) = &mut self.pages else {
+            unreachable!()
+        };
+        pages.work(line, work);
+    }
+
+    /// A pulse or a tear of a line.
+    pub(crate) fn drive<const B: usize, const M: usize>(
+        &mut self,
+        line: u32,
+        mask: &Cells<B, M>,
+        want: &Cells<B, M>,
+    )
+        requires exists { line < length self.old }
+        requires shape { IsShape B M }
+        ensures { self.new ≡ slice_set self.old line
+            (with_pulse mask.now want.now (Some (energy_at self.old line))) }
+    {
+        self.work(line, drives(mask, want));
+    }
+
+    /// A sense of a line.
+    pub(crate) fn sense(&mut self, line: u32)
+        requires { line < length self.old }
+        ensures { self.new ≡ slice_set self.old line (with_sense (Some (energy_at self.old line))) }
+    {
+        self.work(line, Work::Sense);
+    }
+}
