@@ -17,7 +17,10 @@ from .runs import (
 # The options that `gen` takes, too.
 _GENERATED = ("banks", "regions", "lines", "line", "seed", *DRAWN)
 # The values of each option that takes no number.
-_WORDS = {"policy": ("pause", "plain", "cancel"), "registers": ("guarded", "array"), "input": ("source", "drawn"), "end": ("drain", "off")}
+_WORDS = {
+    "policy": ("pause", "plain", "cancel"), "registers": ("guarded", "array"), "input": ("source", "drawn"), "end": ("drain", "off"),
+    "until": ("end", "refused"),
+}
 
 
 class Asked(NamedTuple):
@@ -76,8 +79,9 @@ def _read(asked: Asked, progress: Progress) -> List[Source]:
 
 def _made(asked: Asked, program: Program, progress: Progress) -> List[Source]:
     """What the program makes of a trace, or of one that is drawn."""
-    if "end" in asked.options:
-        raise UsageError(2, "--end is an option of streams: hand in what the stream printed")
+    for name in STREAMS:
+        if name in asked.options:
+            raise UsageError(2, f"--{name} is an option of streams: hand in what the stream printed")
     if asked.options.get("input") == "drawn":
         generated = {name: value for name, value in asked.options.items() if name in _GENERATED}
         told = " ".join(f"--{name} {value}" for name, value in generated.items())
@@ -121,10 +125,13 @@ def _ran(name: str, program: Program, options: Dict[str, str], given: bytes, tra
 
 
 def _add_trace(run: Run, source: Source, progress: Progress) -> None:
-    """The trace's rows must be those of the results; one cut may have been added behind them, where the power went."""
+    """The trace's rows must be those of the results, up to the first refused one where the stream stopped there; one cut may have been
+    added behind them, where the power went."""
     if not run.has_rows:
         raise FileFault(f"{source.name}: a trace, where snapshots don't tell what became of each row")
     arrivals = arrivals_of(source, progress)
+    if run.options.get("until") == "refused":
+        arrivals = arrivals[:next((at for at, row in enumerate(run.rows, 1) if row.word in ("full", "worn")), len(arrivals))]
     if len(run.rows) == len(arrivals) + 1 and run.rows[-1].word == "cut":
         arrivals.append(Arrival(run.rows[-1].tick, "C", None))
     results = run.files[[file.kind for file in run.files].index("results")].name

@@ -25,9 +25,9 @@ DEFAULTS: Dict[str, str] = {
     "psi": "100", "policy": "pause", "registers": "guarded", "read-ticks": "5", "iter-ticks": "10", "lo": "100000000", "hi": "100000000",
     "misses": "0", "input": "source",
 }
-# The options of a drawn trace, and that of a stream's end.
+# The options of a drawn trace, and those of a stream's end.
 DRAWN: Dict[str, str] = {"rows": "1000", "write-percent": "50", "cuts": "0", "step": "10", "hot": "0"}
-STREAMS: Dict[str, str] = {"end": "drain"}
+STREAMS: Dict[str, str] = {"end": "drain", "until": "end"}
 _ROLE = re.compile(r"line \d+|gap|free|retired|control")
 
 

@@ -192,6 +192,16 @@ class Numbers(Room):
         counts = {row[0]: row[2] for row in tables["counts"][0][1:]}
         self.assertEqual((1, 1, 2), (counts["queued"], counts["cut"], counts["all"]))
 
+    def test_a_stream_that_stopped_at_a_refusal(self):
+        words = "--banks 1 --regions 1 --lines 4 --write-queue 1"
+        trace = b"tick,op,arg,data\n" + b"".join(b"%d,W,%d,%s\n" % (at, at, b"ff" * 64) for at in range(4))
+        for end, counts in (("drain", (1, 0, 1, 0, 2)), ("off", (0, 1, 1, 1, 3))):
+            rows = printed("stream", *words.split(), "--until", "refused", "--end", end, given=trace)
+            told = ("--trace", self.file(trace), "--until", "refused", "--end", end, "--options", words)
+            found = {row[0]: row[2] for row in Tables(self.page(self.file(rows), *told)).found["counts"][0][1:]}
+            self.assertEqual(counts, tuple(found.get(word, 0) for word in ("stored", "queued", "full", "cut", "all")))
+        self.refused(3, "3 rows, where .* has 4", self.file(rows), "--trace", self.file(trace), "--options", words)
+
     def test_no_more_writes_wait_than_the_queue_holds_and_as_many_where_some_are_full(self):
         words = "--banks 1 --regions 1 --lines 64 --write-queue 5"
         files = self.files_of(words, step=4)
