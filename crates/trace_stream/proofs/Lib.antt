@@ -1,6 +1,6 @@
 -- How streamed traces are read.
 pub mod Keeping
-pub mod Lanes
+pub mod PlainNext
 pub mod Gathering
 pub mod Marks
 pub mod Steps

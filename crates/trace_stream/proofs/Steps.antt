@@ -8,7 +8,8 @@ use Rattle.csv.specs.declared.parser.Terminator.TheVariants as term
 use Rattle.csv.specs.declared.parser.Action.TheVariants as act
 use Rattle.trace_stream.specs.Arrived.{Arrived, Comes, StaysEnded}
 use Rattle.trace_stream.specs.Kept.{Decided, FindsKept, GoesOn, IsKeptOf, decides, fields_then, field_then, most_bytes, most_fields, next_kept, whole_then, with_bytes, with_field}
-use Rattle.trace_stream.specs.Machine.{is_plain, takes_plain}
+use Rattle.trace_stream.specs.Machine.{takes_plain}
+use Rattle.trace_reader.specs.Plain.{is_plain}
 
 -- steps one behind the other
 pub goes-goes : (s0 s1 s2 : State) (fs0 fs1 fs2 : List (List ℕ)) (f0 f1 f2 t0 t1 t2 : List ℕ) → length fs1 < most_fields

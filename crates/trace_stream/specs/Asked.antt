@@ -1,5 +1,5 @@
 -- What a row of a streamed trace asks for, or its first fault.
-use Rattle.std.specs.{Prelude.{ℕ, ◌+◌, ◌==◌, ◌&&◌, ◌≤◌, nat_lt, not, Bool, if◌then◌else◌, List, [], ◌∷◌, length, codes, Result, Ok, Err}, Str.bytes_eq}
+use Rattle.std.specs.{Prelude.{ℕ, ◌+◌, ◌==◌, ◌&&◌, ◌||◌, ◌≤◌, nat_lt, not, Bool, if◌then◌else◌, List, [], ◌∷◌, length, codes, Result, Ok, Err}, Str.bytes_eq}
 use Rattle.trace_reader.specs.{Events.IsEventFor, Rows.{event_of, latest_tick, or_fault, text_at, tick_of}, declared.event.Event.Event, declared.fault.Kind.Kind}
 use Rattle.trace_reader.specs.declared.fault.Kind.TheVariants as kind
 use Rattle.trace_stream.specs.{declared.asked.Asked.Asked, declared.asked.Asked.TheVariants.{Happens, Settle}}
@@ -7,6 +7,10 @@ use Rattle.trace_stream.specs.{declared.asked.Asked.Asked, declared.asked.Asked.
 -- whether a record's operation is to settle
 abbrev pub is_settle : List (List ℕ) → Bool
 is_settle fields = (length fields == 4) && bytes_eq (text_at fields 1) (codes "S")
+
+-- whether an operation is a read, a write or a cut, which every trace has
+abbrev pub is_event_word : List ℕ → Bool
+is_event_word op = bytes_eq op (codes "R") || bytes_eq op (codes "W") || bytes_eq op (codes "C")
 
 -- the tick of a row that settles: it has neither line nor payload. The tests come in the order of those of a cut
 unfoldable pub settle_of : ℕ → List (List ℕ) → Result ℕ Kind

@@ -1,5 +1,5 @@
 -- `csv`'s machine with its default settings, by the states and the actions of this crate.
-use Rattle.std.specs.{Int.{w64, trailing_zeros}, Prelude.{ℕ, ◌==◌, ◌&&◌, not, Bool, true, false, if◌then◌else◌}}
+use Rattle.std.specs.Prelude.{Bool, true, false}
 use Rattle.csv.specs.declared.parser.State.{State}
 use Rattle.csv.specs.declared.parser.State.TheVariants as st
 use Rattle.csv.specs.declared.parser.Action as csv
@@ -28,10 +28,6 @@ action_of move.EndRecord = act.EndRecord
 abbrev pub moved : Place × Move → State × csv.Action
 moved m = (state_of m.0, action_of m.1)
 
--- whether a byte is none that the machine looks for: no quote, no comma, no end of a line
-abbrev pub is_plain : ℕ → Bool
-is_plain byte = not (byte == 34) && not (byte == 44) && not (byte == 13) && not (byte == 10)
-
 -- whether a plain byte only joins the field at hand
 abbrev pub takes_plain : State → Bool
 takes_plain st.StartRecord = true
@@ -42,7 +38,3 @@ takes_plain st.InQuoted = false
 takes_plain st.AfterQuote = false
 takes_plain st.InEscape = false
 takes_plain st.InComment = false
-
--- the place of the lowest bit that is 1, or else this number
-abbrev pub first_set : ℕ → ℕ → ℕ
-first_set mask lanes = if mask == 0 then lanes else trailing_zeros w64 mask

@@ -1,10 +1,10 @@
 -- What a text means as a streamed trace: what its rows ask for, or its first fault.
-use Rattle.std.specs.Prelude.{◌≡◌, ◌≢◌, ℕ, ◌+◌, ◌==◌, ◌&&◌, not, Bool, true, if◌then◌else◌, List, [], ◌∷◌, ◌++◌, length, Option, Some, None, Result, Ok, Err}
+use Rattle.std.specs.Prelude.{◌≡◌, ◌≢◌, ◌<◌, ℕ, ◌+◌, ◌==◌, ◌&&◌, not, Bool, true, if◌then◌else◌, List, [], ◌∷◌, ◌++◌, length, Option, Some, None, Result, Ok, Err}
 use Rattle.csv.specs.{Reading.{default_config, records_from, strip_bom}, declared.parser.State.State}
 use Rattle.csv.specs.declared.parser.State.TheVariants as st
-use Rattle.trace_reader.specs.{Trace.is_header, declared.fault.Kind.Kind}
+use Rattle.trace_reader.specs.{Plain.{IsPlainRow, piece}, Trace.is_header, declared.fault.Kind.Kind, declared.plain.PlainRow.PlainRow}
 use Rattle.trace_reader.specs.declared.fault.Kind.TheVariants as kind
-use Rattle.trace_stream.specs.{Arrived.{Arrived, Comes}, Asked.{asked_of, is_settle, rows_after, tick_asked}, declared.asked.Asked.Asked, declared.fault.StreamFault.StreamFault}
+use Rattle.trace_stream.specs.{Arrived.{Arrived, Comes}, Asked.{asked_of, is_event_word, is_settle, rows_after, tick_asked}, declared.asked.Asked.Asked, declared.fault.StreamFault.StreamFault}
 use Rattle.trace_stream.specs.declared.fault.StreamFault.TheVariants as fault
 
 -- a streamed trace has at most so many rows with a number, 2 to the power 32 less two
@@ -81,6 +81,13 @@ pub record Standing : Type 0 where
   pub rows : ℕ
   pub tick : ℕ
   pub lines : ℕ
+
+-- the next row has come whole, of plain bytes, and is an event that has a number
+pub record IsPlainNext (at : Standing) (row : PlainRow) : Type 0 where
+  pub starts : at.state ≡ st.StartRecord
+  pub plain : IsPlainRow at.arrived.bytes 0 row
+  pub few : at.rows < most_streamed
+  pub event : is_event_word (piece at.arrived.bytes (row.tick + 1) row.op) ≡ true
 
 -- what the rows ask that a reader has still to read, if these bytes come behind those that arrived
 unfoldable pub asked_from : (n : ℕ) → Standing → List ℕ → Result (List (Asked n)) StreamFault

@@ -2,7 +2,7 @@
 ghost use Rattle.std.specs.Prelude.{◌≡◌, ◌<◌, ◌≤◌};
 ghost use Rattle.trace_reader.specs.Rows.{event_of};
 ghost use Rattle.trace_reader.specs.Trace.{is_header};
-ghost use Rattle.trace_stream.specs.Asked.{asked_of, is_settle, rows_after, settle_of, tick_asked};
+ghost use Rattle.trace_stream.specs.Asked.{asked_of, is_event_word, is_settle, rows_after, settle_of, tick_asked};
 
 use crate::kept::Gathered;
 use trace_reader::{Event, Kind, LATEST_TICK, number, read_fields};
@@ -56,6 +56,16 @@ pub fn is_settle_row(row: &Gathered) -> bool
     ensures { result ≡ is_settle row.now.fields }
 {
     row.count() == 4 && row.field(1) == b"S".as_slice()
+}
+
+/// Whether an operation is a read, a write or a cut, which every trace has.
+pub fn is_event_word(op: &[u8]) -> bool
+    ensures { result ≡ is_event_word op.now }
+{
+    match op {
+        b"R" | b"W" | b"C" => true,
+        _ => false,
+    }
 }
 
 // The tick of a row that settles.

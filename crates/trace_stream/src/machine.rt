@@ -1,14 +1,8 @@
 //! `csv`'s machine with its default settings: what a byte does, by where it stands in a record.
-ghost use Rattle.std.specs.Prelude.{◌≡◌, ℕ, ◌+◌, ◌<◌, ◌≤◌, length, slice_index, take, true};
-ghost use Rattle.std.specs.List.{list_all};
+ghost use Rattle.std.specs.Prelude.{◌≡◌};
 ghost use Rattle.csv.specs.Machine as Spec;
 ghost use Rattle.csv.specs.Reading.{default_config};
-ghost use Rattle.trace_stream.specs.Machine.{first_set, is_plain, moved, state_of, takes_plain};
-
-use std::simd::prelude::*;
-
-// How many bytes go through one step of lanes.
-const LANES: usize = 16;
+ghost use Rattle.trace_stream.specs.Machine.{moved, state_of, takes_plain};
 
 /// Where in a record a byte stands.
 #[derive(Clone, Copy, PartialEq, Eq)]
@@ -126,56 +120,4 @@ pub fn ends_at_end(place: Place) -> bool
         Place::StartRecord | Place::AfterCr => false,
         Place::StartField | Place::InField | Place::InQuoted | Place::AfterQuote => true,
     }
-}
-
-fn is_plain(byte: u8) -> bool
-    ensures { result ≡ is_plain byte }
-{
-    byte != b'"' && byte != b',' && byte != b'\r' && byte != b'\n'
-}
-
-// The place of the lowest bit that is 1, or else the number of lanes.
-#[inline(always)]
-fn first_set(mask: u64, lanes: usize) -> usize
-    ensures { result ≡ first_set mask lanes }
-{
-    if mask == 0 {
-        lanes
-    } else {
-        mask.trailing_zeros() as usize
-    }
-}
-
-// How many of the bytes in one step of lanes are plain and come first.
-#[inline(always)]
-fn plain_lanes(bytes: &[u8], at: usize) -> usize
-    requires { at + LANES ≤ length bytes.now }
-    ensures few { result ≤ LANES }
-    ensures plain { (k : ℕ) → at ≤ k → k < at + result → is_plain (slice_index bytes.now k) ≡ true }
-{
-    let lanes = u8x16::from_slice(&bytes[at..]);
-    let stops = lanes.simd_eq(u8x16::splat(b'"'))
-        | lanes.simd_eq(u8x16::splat(b','))
-        | lanes.simd_eq(u8x16::splat(b'\r'))
-        | lanes.simd_eq(u8x16::splat(b'\n'));
-    first_set(stops.to_bitmask(), LANES)
-}
-
-/// How many plain bytes come first.
-pub fn plain_run(bytes: &[u8]) -> usize
-    ensures within { result ≤ length bytes.now }
-    ensures plain { list_all is_plain (take result bytes.now) ≡ true }
-{
-    let mut at = 0;
-    'by_lanes: while bytes.len() - at >= LANES {
-        let run = plain_lanes(bytes, at);
-        if run < LANES {
-            return at + run;
-        }
-        at += LANES;
-    }
-    while at < bytes.len() && is_plain(bytes[at]) {
-        at += 1;
-    }
-    at
 }

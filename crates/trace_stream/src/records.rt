@@ -1,9 +1,10 @@
 //! The records of a text, one after the other, as far as they are kept.
-ghost use Rattle.std.specs.Prelude.{◌≡◌, ◌≢◌, ◌⊎◌, ◌-◌, ◌^◌, ◌<◌, ◌≤◌, ◌++◌, ℕ, List, [], length, true, false, Some, None, Err, IfOk, IfErr, OnOk};
+ghost use Rattle.std.specs.Prelude.{◌≡◌, ◌≢◌, ◌⊎◌, ◌-◌, ◌^◌, ◌<◌, ◌≤◌, ◌++◌, ℕ, List, [], length, true, false, Some, None, Err, IfOk, IfErr, IfSome, OnOk};
 ghost use Rattle.std.specs.Io.KnownBytes.{IsAtEnd};
-ghost use Rattle.csv.specs.declared.parser.State.TheVariants.{StartField};
+ghost use Rattle.csv.specs.declared.parser.State.TheVariants.{StartField, StartRecord};
 ghost use Rattle.pcm_io.specs.Faults.{Rose};
 ghost use Rattle.pcm_io.specs.Taking.{Takes};
+ghost use Rattle.trace_reader.specs.Plain.{IsPlainRow};
 ghost use Rattle.trace_stream.specs.Arrived.{StaysEnded};
 ghost use Rattle.trace_stream.specs.Machine.{state_of};
 ghost use Rattle.trace_stream.specs.Kept.{Decided, FindsKept, GoesOn, decides, next_kept};
@@ -11,8 +12,9 @@ ghost use Rattle.trace_stream.specs.Kept.{Decided, FindsKept, GoesOn, decides, n
 use crate::fault::StreamFault;
 use crate::incoming::Incoming;
 use crate::kept::Gathered;
-use crate::machine::{Move, Place, ends_at_end, plain_run, step, takes_plain};
+use crate::machine::{Move, Place, ends_at_end, step, takes_plain};
 use pcm_io::Source;
+use trace_reader::{PlainRow, plain_end, plain_row};
 
 /// A reader of records: the bytes that arrived, what is kept of the record at hand, and where in it the next byte stands.
 #[derive(Drop)]
@@ -36,7 +38,7 @@ impl Records {
     {
         if takes_plain(self.place) {
             let bytes = self.incoming.bytes();
-            let run = plain_run(bytes);
+            let run = plain_end(bytes, 0);
             if run > 0 {
                 self.kept.keep(&bytes[..run]);
                 self.incoming.pass(run);
@@ -134,6 +136,17 @@ impl Records {
         self.place = Place::StartRecord;
         self.kept.end_field();
         true
+    }
+
+    /// The next record, where all of it has come as a plain row.
+    pub fn plain_row(&self) -> Option<PlainRow>
+        ensures { IfSome result (λ row. (state_of self.now.place ≡ StartRecord)
+            × IsPlainRow self.now.incoming.bytes 0 row) }
+    {
+        match self.place {
+            Place::StartRecord => plain_row(self.incoming.bytes(), 0),
+            _ => None,
+        }
     }
 
     /// Reads the next record, as far as it decides, and says whether there was one. The source is read only where the bytes that

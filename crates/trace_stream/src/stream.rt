@@ -6,9 +6,9 @@ ghost use Rattle.pcm_io.specs.Taking.{Takes};
 ghost use Rattle.trace_stream.specs.Arrived.{StaysEnded};
 ghost use Rattle.trace_stream.specs.Asked.{IsAskedFor, rows_after, tick_asked};
 ghost use Rattle.trace_stream.specs.Kept.{LacksHeader, decides};
-ghost use Rattle.trace_stream.specs.Stream.{AsksNext, HasFault, HasFront, IsOfText, Opens, asked_from, front_from, front_of, is_past, stream_of};
+ghost use Rattle.trace_stream.specs.Stream.{AsksNext, HasFault, HasFront, IsOfText, IsPlainNext, Opens, asked_from, front_from, front_of, is_past, stream_of};
 
-use crate::asked::{Asked, is_header_row, is_settle_row, read_asked};
+use crate::asked::{Asked, is_event_word, is_header_row, is_settle_row, read_asked};
 use crate::fault::StreamFault;
 use crate::incoming::Incoming;
 use crate::kept::Gathered;
@@ -17,7 +17,7 @@ use crate::records::Records;
 use pcm_io::Source;
 use std::alloc::Global;
 use std::marker::Model;
-use trace_reader::{Kind, TraceFault};
+use trace_reader::{Kind, PlainRow, TraceFault, read_plain_row};
 
 /// The greatest number of rows that have a number: all behind the header but those that settle.
 pub const MOST_STREAMED: u32 = 4_294_967_294;
@@ -152,6 +152,9 @@ impl TraceStream {
             → S.faults source.new ≡ S.faults source.old }
         ensures never_falls { S.faults source.old ≤ S.faults source.new }
     {
+        if let Some(row) = self.plain_next() {
+            return self.take_plain(row);
+        }
         if !self.records.next(source)? {
             return Ok(None);
         }
@@ -168,6 +171,54 @@ impl TraceStream {
             Err(kind) => Err(StreamFault::Trace(TraceFault {
                 row: self.rows + 1,
                 kind,
+            })),
+        }
+    }
+}
+
+impl TraceStream {
+    // The next row, where all of it has come as a plain row of an event that has a number.
+    fn plain_next(&self) -> Option<PlainRow>
+        ensures { IfSome result (λ row. IsPlainNext self.now row) }
+    {
+        if self.rows == MOST_STREAMED {
+            return None;
+        }
+        let row = self.records.plain_row()?;
+        if is_event_word(&self.records.incoming.bytes()[row.tick + 1..row.op]) {
+            Some(row)
+        } else {
+            None
+        }
+    }
+
+    // Reads this row, without what is kept of others.
+    fn take_plain<const B: usize>(&mut self, row: PlainRow) -> Result<Option<Asked<B>>, StreamFault>
+        requires small { B ≤ 128 }
+        requires next { IsPlainNext self.old row }
+        ensures ok { IfOk result (λ next. AsksNext self.old [] next self.new) }
+        ensures lawful { IfOk result (λ next. IfSome next
+            (λ asked. IsAskedFor self.old.lines self.old.tick asked)) }
+        ensures row { IfOk result (λ next. IfSome next (λ asked. (self.new.rows
+            ≡ rows_after self.old.rows asked)
+            × (self.new.rows ≤ MOST_STREAMED) × (self.new.tick ≡ tick_asked asked))) }
+        ensures lines { self.new.lines ≡ self.old.lines }
+        ensures ended { self.new.arrived.ended ≡ self.old.arrived.ended }
+        ensures fault { IfErr result (λ e. IsOfText e
+            × HasFault (asked_from B self.old) [] e self.new.arrived.ended
+            × HasFront (front_from B self.old) [] [] self.new.arrived.ended) }
+    {
+        let read = read_plain_row(self.records.incoming.bytes(), 0, row, self.lines, self.tick);
+        self.records.incoming.pass(row.payload + 1);
+        match read {
+            Ok(event) => {
+                self.rows += 1;
+                self.tick = event.tick;
+                Ok(Some(Asked::Happens(event)))
+            }
+            Err(kind) => Err(StreamFault::Trace(TraceFault {
+                kind,
+                row: self.rows + 1,
             })),
         }
     }

@@ -1,7 +1,15 @@
-use Rattle.std.proofs.Common.{refl, sym, ◌∙◌}
+use Rattle.std.proofs.Common.{[], refl, sym, ◌∙◌}
+use Rattle.std.proofs.lemmas.Result.{MatchResult-weaker}
+use Rattle.pcm_io.proofs.ByteLemmas.{Takes-nothing}
 use Rattle.trace_stream.{specs.Machine.state_of, specs.Stream.Standing, proofs.Lawful.asked-lawful}
 use Rattle.trace_stream.proofs.Rows.{asks-faulty, asks-none, asks-some, asks-too_many, happens-counted, no-front, no-front-past}
 use Rattle.trace_stream.proofs.stream.TraceStream.next.Goals as goal
+
+pub returns-in-Some-clause-fault : goal.returns-in-Some-clause-fault
+returns-in-Some-clause-fault g c =
+    let ended = c.take_plain.ensures.ended in
+    MatchResult-weaker c.take_plain.result c.take_plain.ensures.fault (λ v p. p)
+    (λ e p text. ([], Takes-nothing _ _, λ before. (refl, ended ∙ before), λ end now. end (sym ended ∙ now), p.1, p.2))
 
 pub returns-then-not-branch-clause-ok : goal.returns-then-not-branch-clause-ok
 returns-then-not-branch-clause-ok g c =
