@@ -6,11 +6,12 @@ use Rattle.bank_shape.specs.declared.Role.{Role}
 use Rattle.run_text.{specs.Gathering.Printed, proofs.Gathered.printed-more}
 use Rattle.lines_report.specs.{LinesText.{lines_header_text, lines_row_text, lines_rows_text, lines_text}, declared.row.LineCells.LineCells}
 
--- seven fields of which the last two were pushed as one, with commas between and LF at the end
-pub pieces-lines : (t : Reserved) (a b c d p s k : List ℕ) →
-    appended (appended (appended (appended (appended (appended (appended (appended t (a ++ codes ",")) (b ++ codes ",")) (c ++ codes ",")) d) (codes ",")) (p ++ codes ",")) (s ++ codes "," ++ k)) (codes "\n")
-    ≡ appended t (join_with_byte 44 (a ∷ b ∷ c ∷ d ∷ p ∷ s ∷ k ∷ []) ++ codes "\n")
-pieces-lines t a b c d p s k = simp append_assoc
+-- eight fields of which the sixth and the seventh were pushed as one, with commas between and LF at the end
+pub pieces-lines : (t : Reserved) (a b c d p s k e : List ℕ) →
+    appended (appended (appended (appended (appended (appended (appended (appended (appended (appended t (a ++ codes ",")) (b ++ codes ",")) (c ++ codes ",")) d) (codes ","))
+    (p ++ codes ",")) (s ++ codes "," ++ k)) (codes ",")) e) (codes "\n")
+    ≡ appended t (join_with_byte 44 (a ∷ b ∷ c ∷ d ∷ p ∷ s ∷ k ∷ e ∷ []) ++ codes "\n")
+pieces-lines t a b c d p s k e = simp append_assoc
 
 module _ (cells : ℕ → LineCells) where
   -- the rows of two lists

@@ -3,11 +3,12 @@ use Rattle.std.specs.{List.join_with_byte, Prelude.{ℕ, ◌+◌, List, [], ◌�
 use Rattle.cell_wear.specs.declared.tells.CellWear.{CellWear}
 use Rattle.wear_report.specs.WearText.{role_text}
 use Rattle.bank_shape.specs.declared.Role.{Role}
+use Rattle.energy_report.specs.EnergyText.{energy_text}
 use Rattle.lines_report.specs.declared.row.LineCells.{LineCells}
 
 -- the first line of the report
 abbrev pub lines_header_text : List ℕ
-lines_header_text = codes "array,bank,pulses,role,pointers,stuck,changes\n"
+lines_header_text = codes "array,bank,pulses,role,pointers,stuck,changes,senses,set,reset\n"
 
 -- how many cells are stuck, where that is told
 abbrev pub stuck_text : Option CellWear → List ℕ
@@ -19,12 +20,13 @@ abbrev pub changes_text : Option CellWear → List ℕ
 changes_text None = []
 changes_text (Some wear) = decimal wear.changes
 
--- one row: an array line, its bank, its pulses, its role, its active pointers, its stuck cells and the most changes that one of its cells
--- has spent, with commas between, and LF at the end
+-- one row: an array line, its bank, its pulses, its role, its active pointers, its stuck cells, the most changes that one of its cells
+-- has spent, and the counts of its energy, with commas between, and LF at the end
 abbrev pub lines_row_text : ℕ → ℕ → ℕ → Role → LineCells → List ℕ
 lines_row_text array_line bank pulses role cells =
     join_with_byte 44
-    (decimal array_line ∷ decimal bank ∷ decimal pulses ∷ role_text role ∷ decimal cells.pointers ∷ stuck_text cells.wear ∷ changes_text cells.wear ∷ [])
+    (decimal array_line ∷ decimal bank ∷ decimal pulses ∷ role_text role ∷ decimal cells.pointers
+    ∷ stuck_text cells.wear ∷ changes_text cells.wear ∷ energy_text cells.energy ∷ [])
     ++ codes "\n"
 
 -- the rows of these banks, pulses and roles, from an array line on, each with what the cells of its line say

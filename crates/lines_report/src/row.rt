@@ -9,7 +9,9 @@ ghost use Rattle.lines_report.specs.declared.row.LineCells.{LineCells as CellsOf
 ghost use Rattle.lines_report.specs.LinesText.{changes_text, lines_header_text, lines_row_text, lines_text, stuck_text};
 
 use bank_shape::Role;
+use cell_rows::LineEnergy;
 use cell_wear::CellWear;
+use energy_report::push_energy;
 use pcm_io::{Sink, Text, WriteFault};
 use run_text::{ROW_ROOM, TEXT_ROOM, make_room};
 use wear_report::push_role;
@@ -21,6 +23,8 @@ pub struct LineCells {
     pub pointers: u8,
     /// How the cells are worn, where the array tells it.
     pub wear: Option<CellWear>,
+    /// How often they were driven and the line was sensed, where the array tells it.
+    pub energy: Option<LineEnergy>,
 }
 
 /// Begins the report in an empty text.
@@ -30,10 +34,10 @@ pub fn print_lines_header(text: &mut Text)
     ensures printed { (before : Option (List ℕ)) (cells : ℕ → CellsOf)
         → Printed before before text.new (lines_text cells []) }
 {
-    text.push(b"array,bank,pulses,role,pointers,stuck,changes\n");
+    text.push(b"array,bank,pulses,role,pointers,stuck,changes,senses,set,reset\n");
 }
 
-// The last two fields: both are empty where the array doesn't tell them.
+// Two fields, which are both empty where the array doesn't tell them.
 #[tactic(auto, using(pcm_io::proofs::DigitLemmas::ten_digits))]
 fn push_wear(wear: Option<CellWear>, text: &mut Text)
     requires { 21 ≤ room_in text.old }
@@ -52,7 +56,7 @@ fn push_wear(wear: Option<CellWear>, text: &mut Text)
 
 #[tactic(auto, using(pcm_io::proofs::DigitLemmas::ten_digits, pcm_io::proofs::DigitLemmas::twenty_digits))]
 fn push_row(array_line: u32, bank: u32, pulses: u64, role: Role, cells: LineCells, text: &mut Text)
-    requires { 96 ≤ room_in text.old }
+    requires { 160 ≤ room_in text.old }
     ensures { text.new ≡ appended text.old (lines_row_text array_line bank pulses role cells) }
 {
     text.push_number_then(array_line as u64, b",");
@@ -62,6 +66,8 @@ fn push_row(array_line: u32, bank: u32, pulses: u64, role: Role, cells: LineCell
     text.push(b",");
     text.push_number_then(cells.pointers as u64, b",");
     push_wear(cells.wear, text);
+    text.push(b",");
+    push_energy(cells.energy, text);
     text.push(b"\n");
 }
 

@@ -37,9 +37,10 @@ module _ {n m : ℕ} (raw : RawShape) (seed : ℕ) where
     pub each : (line : ℕ) → line < array.lines → IsSomeAnd (slice_get rows line) (IsWearRow ends array line)
 
 -- what the cells of an array line say, which has e error-correcting pointers: those that are active by its check cells, and what the
--- array tells, which counts these changes of cells
+-- array tells, which counts these changes of cells, and what it was driven and sensed
 abbrev pub cells_at : {n m : ℕ} → ℕ → ArrayState n m → (ℕ → Option (ℕ → ℕ)) → ℕ → LineCells
 cells_at {n} e array changes line = record {
   pointers = active n e (cell (array.line line).held);
   wear = wear_told (array.line line) (changes line);
+  energy = array.energy line;
 }

@@ -32,6 +32,7 @@ fn line_cells<const B: usize, const M: usize, const E: usize, A: TellsCells<B, M
     LineCells {
         pointers: Ecp::<B, M, E>::active(&held),
         wear: array.cell_wear(line),
+        energy: array.energy(line),
     }
 }
 

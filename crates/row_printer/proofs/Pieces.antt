@@ -16,7 +16,8 @@ pub pieces-counts : (t : Reserved) (a b d e f g h i j k : List ℕ) →
 pieces-counts t a b d e f g h i j k = simp append_assoc
 
 -- the numbers of a snapshot, with its counts in one piece
-pub pieces-snapshot : (t : Reserved) (a b counts d e f g h : List ℕ) →
-    appended (appended (appended (appended (appended (appended (appended (appended t (a ++ codes ",")) (b ++ codes ",")) counts) (d ++ codes ",")) (e ++ codes ",")) (f ++ codes ",")) (g ++ codes ",")) (h ++ codes "\n")
-    ≡ appended t (a ++ codes "," ++ b ++ codes "," ++ counts ++ join_with_byte 44 (d ∷ e ∷ f ∷ g ∷ h ∷ []) ++ codes "\n")
-pieces-snapshot t a b counts d e f g h = simp append_assoc
+pub pieces-snapshot : (t : Reserved) (a b counts d e f g h k : List ℕ) →
+    appended (appended (appended (appended (appended (appended (appended (appended (appended (appended t (a ++ codes ",")) (b ++ codes ",")) counts) (d ++ codes ",")) (e ++ codes ",")) (f ++ codes ","))
+    (g ++ codes ",")) (h ++ codes ",")) k) (codes "\n")
+    ≡ appended t (a ++ codes "," ++ b ++ codes "," ++ counts ++ join_with_byte 44 (d ∷ e ∷ f ∷ g ∷ h ∷ k ∷ []) ++ codes "\n")
+pieces-snapshot t a b counts d e f g h k = simp append_assoc

@@ -1,11 +1,12 @@
 -- The lines of snapshots of a stream, and behind which rows one stands.
 use Rattle.std.specs.{List.join_with_byte, Prelude.{◌≡◌, ℕ, ◌%◌, ◌≤◌, ◌==◌, Bool, true, false, List, [], ◌∷◌, ◌++◌, codes, decimal}}
 use Rattle.run_text.specs.declared.counts.Counts.{Counts}
+use Rattle.energy_report.specs.EnergyText.{energy_text}
 use Rattle.row_printer.specs.{declared.snapshot.Snapshot.Snapshot, declared.told.Shown.Shown, declared.told.Shown.TheVariants.{Nothing, Rows, Snapshots}}
 
 -- the first line of snapshots
 abbrev pub snapshots_header : List ℕ
-snapshots_header = codes "rows,tick,stored,merged,queued,full,worn,read,forwarded,busy,lost,cut,retired,pulses,most,mean,pointers\n"
+snapshots_header = codes "rows,tick,stored,merged,queued,full,worn,read,forwarded,busy,lost,cut,retired,pulses,most,mean,pointers,senses,set,reset\n"
 
 -- the counts in the order of the summary, a comma behind each
 abbrev pub counts_text : Counts → List ℕ
@@ -15,11 +16,11 @@ counts_text counts =
     ∷ decimal counts.read ∷ decimal counts.forwarded ∷ decimal counts.busy ∷ decimal counts.lost ∷ decimal counts.cut ∷ [])
     ++ codes ","
 
--- the line of a snapshot: its numbers in decimal, with commas between, and LF at the end
+-- the line of a snapshot: its numbers in decimal, with commas between, those of energy empty where they aren't told, and LF at the end
 abbrev pub snapshot_line : Snapshot → List ℕ
 snapshot_line s =
     decimal s.rows ++ codes "," ++ decimal s.tick ++ codes "," ++ counts_text s.counts
-    ++ join_with_byte 44 (decimal s.retired ∷ decimal s.pulses ∷ decimal s.most ∷ decimal s.mean ∷ decimal s.pointers ∷ [])
+    ++ join_with_byte 44 (decimal s.retired ∷ decimal s.pulses ∷ decimal s.most ∷ decimal s.mean ∷ decimal s.pointers ∷ energy_text s.energy ∷ [])
     ++ codes "\n"
 
 -- the lines, in the order in which the snapshots were taken

@@ -3,6 +3,8 @@ ghost use Rattle.std.specs.Prelude.{◌≡◌, ◌+◌, ◌≤◌};
 ghost use Rattle.pcm_io.specs.Reserved.{room_in, appended};
 ghost use Rattle.row_printer.specs.Snapshots.{counts_text, snapshot_line, snapshots_header as header_text};
 
+use cell_rows::LineEnergy;
+use energy_report::push_energy;
 use pcm_io::Text;
 use run_text::Counts;
 
@@ -25,13 +27,15 @@ pub struct Snapshot {
     pub mean: u64,
     /// The pointers that are active by the check cells of their lines.
     pub pointers: u64,
+    /// How often all array lines were sensed and their cells driven, where the array tells it.
+    pub energy: Option<LineEnergy>,
 }
 
 /// The first line of snapshots, with its LF.
 pub fn snapshots_header() -> &'static [u8]
     ensures { result.now ≡ header_text }
 {
-    b"rows,tick,stored,merged,queued,full,worn,read,forwarded,busy,lost,cut,retired,pulses,most,mean,pointers\n"
+    b"rows,tick,stored,merged,queued,full,worn,read,forwarded,busy,lost,cut,retired,pulses,most,mean,pointers,senses,set,reset\n"
 }
 
 /// Appends the line of a snapshot: numbers in decimal, LF at the end.
@@ -47,7 +51,9 @@ pub fn print_snapshot(snapshot: &Snapshot, text: &mut Text)
     text.push_number_then(snapshot.pulses, b",");
     text.push_number_then(snapshot.most, b",");
     text.push_number_then(snapshot.mean, b",");
-    text.push_number_then(snapshot.pointers, b"\n");
+    text.push_number_then(snapshot.pointers, b",");
+    push_energy(snapshot.energy, text);
+    text.push(b"\n");
 }
 
 // The counts in the order of the summary, a comma behind each.

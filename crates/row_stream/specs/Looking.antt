@@ -3,6 +3,7 @@ use Rattle.std.specs.Prelude.{◌≡◌, ℕ, zero, suc, ◌+◌, ◌/◌, ◌==
 use Rattle.cell_rows.specs.{Device.ArrayState, Rows.cell}
 use Rattle.cell_wear.specs.Told.{most}
 use Rattle.ecp_line.specs.Layout.{active}
+use Rattle.energy_report.specs.Sums.{energy_of}
 use Rattle.right_runs.specs.Ends.{BankEnd}
 use Rattle.run_text.specs.{Counting.counts_of, Pulses.pulses_in_all}
 use Rattle.pcm_module.specs.{Roles.spares_used, State.{AreEndsOf, ModuleState}}
@@ -32,6 +33,7 @@ pub record IsSnapshot {n m e : ℕ} (places at : ℕ) (told : List (Told n)) (mo
   pub most : snapshot.most ≡ most_pulses array
   pub mean : snapshot.mean ≡ mean_of (pulses_in_all array) array.lines
   pub pointers : snapshot.pointers ≡ pointers_of_first e array array.lines
+  pub energy : snapshot.energy ≡ energy_of array.energy 0 array.lines
 
 -- a look at what stands at a tick: where a snapshot is due, one of it comes behind those before, and nothing else that was told changes
 pub record Looks {n m e : ℕ} {S : Type 0} (due : Bool) (at : ℕ) (module_ : ModuleState n m e) (array : ArrayState n m) (old new : Printing n S) : Type 0 where

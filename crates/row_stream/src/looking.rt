@@ -8,6 +8,7 @@ ghost use Rattle.row_stream.specs.Looking.{Looks, mean_of, most_pulses, pointers
 use cell_rows::CellArray;
 use cell_wear::TellsCells;
 use ecp_line::Ecp;
+use energy_report::sum_energy;
 use pcm_io::Sink;
 use pcm_module::Module;
 use row_printer::{RowPrinter, Snapshot};
@@ -67,6 +68,7 @@ fn show<const B: usize, const M: usize, const E: usize, A: TellsCells<B, M>, K: 
         most: most(array),
         mean: mean(pulses, array.lines()),
         pointers: pointers::<B, M, E, A>(array),
+        energy: sum_energy(array, 0, array.lines()),
     };
     out.snapshot(&snapshot);
 }

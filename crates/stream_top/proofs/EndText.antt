@@ -5,7 +5,9 @@ use Rattle.pcm_io.specs.Reserved.{Reserved, appended, reserved}
 use Rattle.cell_rows.specs.Device.{ArrayState}
 use Rattle.wear_report.specs.WearText.{wear_text}
 use Rattle.bank_shape.specs.declared.Role.{Role}
+use Rattle.energy_report.specs.EnergyText.{energy_report}
 use Rattle.lines_report.specs.{LinesText.lines_text, declared.row.LineCells.LineCells}
+use Rattle.module_shape.specs.Addresses.{array_lines_of, module_of}
 use Rattle.right_runs.specs.Ends.{BankEnd}
 use Rattle.pcm_image.specs.{Saved.Saved, Spelling.image_bytes}
 use Rattle.right_images.specs.Saving.{saved_of}
@@ -13,7 +15,7 @@ use Rattle.image_text.{specs.Sensing.SensesRows, proofs.Sensing.senses-none}
 use Rattle.run_text.specs.{Pulses.pulses_in_all, SummaryText.summary_text, declared.counts.Counts.Counts}
 use Rattle.pcm_module.specs.{Roles.spares_used, State.{AreEndsOf, ModuleState}}
 use Rattle.module_prints.specs.{Images.kept_in, WearReports.{HaveRoles, IsWearReport}}
-use Rattle.stream_words.specs.{declared.job.StreamPrint.StreamPrint, declared.job.StreamPrint.TheVariants.{Rows, Summary, Wear, Lines, Image, Snapshots}}
+use Rattle.stream_words.specs.{declared.job.StreamPrint.StreamPrint, declared.job.StreamPrint.TheVariants.{Rows, Summary, Wear, Lines, Energy, Image, Snapshots}}
 use Rattle.stream_top.specs.Leaving.{IsClosing, senses_for}
 
 module _ {n m e : ℕ} (module_ : ModuleState n m e) (array : ArrayState n m) (cells : ℕ → LineCells) (rows : ℕ) (counts : Counts) (print : StreamPrint) (P : List ℕ → Type 0) where
@@ -52,6 +54,11 @@ module _ {n m e : ℕ} (module_ : ModuleState n m e) (array : ArrayState n m) (c
   lines-closes is writes = λ ends are roles.
       let report = writes ends are roles in
       (lines_text cells report.0, subst (Closes ends (lines_text cells report.0)) (sym is) ((report.0, report.1, refl)), report.2)
+
+  pub energy-closes : print ≡ Energy → P (energy_report array.energy module_.shape.banks (array_lines_of (module_of module_.shape))) → PrintsOf
+  energy-closes is written = λ ends are roles.
+      let text : List ℕ = energy_report array.energy module_.shape.banks (array_lines_of (module_of module_.shape)) in
+      (text, subst (Closes ends text) (sym is) refl, written)
 
   pub image-closes : print ≡ Image → (seed : ℕ) → seed ≡ module_.seed → P (image_bytes (saved_of module_.shape seed (kept_in module_) array)) → PrintsOf
   image-closes is seed same written = λ ends are roles.

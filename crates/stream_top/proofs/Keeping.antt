@@ -3,6 +3,7 @@ use Rattle.std.proofs.Common.{◌≡◌, ◌≢◌, ◌⊎◌, inl, inr, ℕ, �
 use Rattle.std.specs.{Io.KnownBytes.Appends, Prelude.{Result, Ok, Err}}
 use Rattle.pcm_io.{specs.Giving.AppendsPrefix, proofs.ByteLemmas.{Appends-Appends, Appends-AppendsPrefix, AppendsPrefix-longer}}
 use Rattle.wear_report.specs.WearText.{wear_text}
+use Rattle.energy_report.specs.EnergyText.{energy_report}
 use Rattle.lines_report.specs.{LinesText.lines_text, declared.row.LineCells.LineCells}
 use Rattle.module_shape.specs.{Addresses.{array_lines_of, module_of}, Limits.IsShape, declared.raw.RawShape.RawShape}
 use Rattle.right_runs.specs.Ends.{BankEnd}
@@ -18,7 +19,7 @@ use Rattle.row_printer.specs.{Printing.{stream_text, table_of}, Telling.{outcome
 use Rattle.row_printer.specs.declared.told.Told.{Told}
 use Rattle.row_stream.specs.{Asking.{stays_off, with_cut}, Ending.SnapsAll, Laws.EachToldLaw, Serving.{HasServed, IsServing, SnapsAlong, told_so_far}}
 use Rattle.stream_words.specs.{declared.job.StreamJob.StreamJob, declared.job.StreamPrint.StreamPrint}
-use Rattle.stream_words.specs.declared.job.StreamPrint.TheVariants.{Rows, Summary, Wear, Lines, Image, Snapshots}
+use Rattle.stream_words.specs.declared.job.StreamPrint.TheVariants.{Rows, Summary, Wear, Lines, Energy, Image, Snapshots}
 use Rattle.trace_stream.specs.{Asked.events_in, declared.asked.Asked.Asked}
 use Rattle.stream_top.specs.{Calls.LentSource, FaultLines.{fault_line, status_of}, Leaving.{IsClosing, Leaves, LeavesLaw, senses_for}}
 use Rattle.stream_top.specs.Promises.{Breaks, Call, EndsCall, IsAsleep, IsRefused, IsStatusOf, IsUnread, KeepsPromises, OthersOn, OthersUntouched, Stops}
@@ -44,6 +45,9 @@ module _ {n m : ℕ} (raw : RawShape) (seed rows places : ℕ) (counts all : Cou
       let stood : array ≡ before = still (λ p. cc p) in
       let alike : cells_now ≡ cells = told (λ p. cc p) in
       (is.0, subst (λ (a : ArrayState n m). IsWearReport raw seed ends a is.0) (sym stood) is.1, is.2 ∙ ap (λ (w : ℕ → LineCells). lines_text w is.0) (sym alike))
+  closing-now Energy text same counted still told is =
+      let stood : array ≡ before = still (λ p. cc p) in
+      is ∙ ap (λ (a : ArrayState n m). energy_report a.energy raw.banks (array_lines_of (module_of raw))) (sym stood)
   closing-now Image text same counted still told is = is
   closing-now (Snapshots every) text same counted still told is = is
 
@@ -58,6 +62,7 @@ some-closing raw seed rows counts ends array cells saved Wear is roles size =
 some-closing raw seed rows counts ends array cells saved Lines is roles size =
     let report = worn-goes_on raw seed ends array is roles 0 [] size (omega arith) (worn-none raw seed ends array) in
     (lines_text cells ([] ++ report.0), ([] ++ report.0, report.1, refl))
+some-closing raw seed rows counts ends array cells saved Energy is roles size = (energy_report array.energy raw.banks (array_lines_of (module_of raw)), refl)
 some-closing raw seed rows counts ends array cells saved Image is roles size = (image_bytes saved, refl)
 some-closing raw seed rows counts ends array cells saved (Snapshots every) is roles size = ([], refl)
 
@@ -67,6 +72,7 @@ nothing-before Rows told snaps is = absurd (cc is)
 nothing-before Summary told snaps is = absurd (cc is)
 nothing-before Wear told snaps is = absurd (cc is)
 nothing-before Lines told snaps is = absurd (cc is)
+nothing-before Energy told snaps is = absurd (cc is)
 nothing-before Image told snaps is = refl
 nothing-before (Snapshots every) told snaps is = absurd (cc is)
 

@@ -4,8 +4,9 @@ use Rattle.cell_rows.specs.Device.{ArrayState}
 use Rattle.row_rules.specs.declared.Row.{Row}
 use Rattle.wear_report.specs.WearText.{wear_text}
 use Rattle.bank_shape.specs.declared.Role.{Role}
+use Rattle.energy_report.specs.EnergyText.{energy_report}
 use Rattle.lines_report.specs.{LinesText.lines_text, declared.row.LineCells.LineCells}
-use Rattle.module_shape.specs.{Limits.IsShape, declared.raw.RawShape.RawShape}
+use Rattle.module_shape.specs.{Addresses.{array_lines_of, module_of}, Limits.IsShape, declared.raw.RawShape.RawShape}
 use Rattle.right_runs.specs.{Ends.BankEnd, Runs.RunsRightTo}
 use Rattle.pcm_image.specs.{Saved.Saved, Spelling.image_bytes}
 use Rattle.image_laws.specs.SavedRuns.{IsLeftTo}
@@ -17,7 +18,7 @@ use Rattle.module_prints.specs.{Images.kept_in, WearReports.{HaveRoles, IsWearRe
 use Rattle.row_printer.specs.{Printing.table_of, declared.told.Told.Told}
 use Rattle.trace_stream.specs.{Asked.events_in, declared.asked.Asked.Asked}
 use Rattle.row_stream.specs.Ending.{HasEnded, rows_of}
-use Rattle.stream_words.specs.{declared.job.StreamPrint.StreamPrint, declared.job.StreamPrint.TheVariants.{Rows, Summary, Wear, Lines, Image, Snapshots}}
+use Rattle.stream_words.specs.{declared.job.StreamPrint.StreamPrint, declared.job.StreamPrint.TheVariants.{Rows, Summary, Wear, Lines, Energy, Image, Snapshots}}
 
 -- rows left a module over an array, of whose lines the first, so many, were sensed since, each once and in their order, at tick 0: by the ends of its
 -- banks they are right over the array as it is now, and the module is saved as what these rows left, with each line's newest bytes
@@ -33,6 +34,7 @@ senses_for Rows lines = 0
 senses_for Summary lines = 0
 senses_for Wear lines = 0
 senses_for Lines lines = 0
+senses_for Energy lines = 0
 senses_for Image lines = lines
 senses_for (Snapshots every) lines = 0
 
@@ -45,6 +47,8 @@ IsClosing raw seed rows counts ends array cells saved Wear text =
     (report : List (ℕ × ℕ × Role)) × IsWearReport raw seed ends array report × (text ≡ wear_text report)
 IsClosing raw seed rows counts ends array cells saved Lines text =
     (report : List (ℕ × ℕ × Role)) × IsWearReport raw seed ends array report × (text ≡ lines_text cells report)
+IsClosing raw seed rows counts ends array cells saved Energy text =
+    text ≡ energy_report array.energy raw.banks (array_lines_of (module_of raw))
 IsClosing raw seed rows counts ends array cells saved Image text = text ≡ image_bytes saved
 IsClosing raw seed rows counts ends array cells saved (Snapshots every) text = text ≡ []
 

@@ -101,6 +101,7 @@ fn shown_of(print: StreamPrint) -> Shown
         StreamPrint::Summary => Shown::Nothing,
         StreamPrint::Wear => Shown::Nothing,
         StreamPrint::Lines => Shown::Nothing,
+        StreamPrint::Energy => Shown::Nothing,
         StreamPrint::Image => Shown::Nothing,
         StreamPrint::Snapshots(every) => Shown::Snapshots(every),
     }

@@ -8,7 +8,7 @@ use Rattle.command_line.specs.Options.{mix_within, one_of_two, with_some}
 use Rattle.stream_words.specs.{declared.job.End.End, declared.job.End.TheVariants.{Drain, Off}, declared.job.StreamPrint.StreamPrint}
 use Rattle.stream_words.specs.declared.job.Until.{Until}
 use Rattle.stream_words.specs.declared.job.Until.TheVariants as up_to
-use Rattle.stream_words.specs.declared.job.StreamPrint.TheVariants.{Rows, Summary, Wear, Lines, Image, Snapshots}
+use Rattle.stream_words.specs.declared.job.StreamPrint.TheVariants.{Rows, Summary, Wear, Lines, Energy, Image, Snapshots}
 
 -- what a stream writes but snapshots
 abbrev pub plain_of : Option Text → Option StreamPrint
@@ -18,7 +18,8 @@ plain_of (Some text) =
     else (if bytes_eq text (codes "summary") then Some Summary
     else (if bytes_eq text (codes "wear") then Some Wear
     else (if bytes_eq text (codes "lines") then Some Lines
-    else (if bytes_eq text (codes "image") then Some Image else None))))
+    else (if bytes_eq text (codes "energy") then Some Energy
+    else (if bytes_eq text (codes "image") then Some Image else None)))))
 
 -- of how many rows more each snapshot stands
 abbrev pub every_of : Option Text → Option ℕ
@@ -48,6 +49,7 @@ IsPrint Rows = Unit {0}
 IsPrint Summary = Unit {0}
 IsPrint Wear = Unit {0}
 IsPrint Lines = Unit {0}
+IsPrint Energy = Unit {0}
 IsPrint Image = Unit {0}
 IsPrint (Snapshots every) = 1 ≤ every
 
@@ -73,5 +75,6 @@ can_be_printed raw Rows = true
 can_be_printed raw Summary = true
 can_be_printed raw Wear = true
 can_be_printed raw Lines = true
+can_be_printed raw Energy = true
 can_be_printed raw Image = is_small raw
 can_be_printed raw (Snapshots every) = true

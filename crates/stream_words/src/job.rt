@@ -35,6 +35,8 @@ pub enum StreamPrint {
     Wear,
     /// The same, and what the cells of the line say.
     Lines,
+    /// A row for each bank, and one for the module: how often lines were sensed and cells driven.
+    Energy,
     /// The module as it stands in the end, as bytes.
     Image,
     /// What stands behind each row whose number is a multiple of this, and in the end.

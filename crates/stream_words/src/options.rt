@@ -54,6 +54,7 @@ fn plain(matches: &ArgMatches<'_>) -> Option<StreamPrint>
         Some("summary") => Some(StreamPrint::Summary),
         Some("wear") => Some(StreamPrint::Wear),
         Some("lines") => Some(StreamPrint::Lines),
+        Some("energy") => Some(StreamPrint::Energy),
         Some("image") => Some(StreamPrint::Image),
         Some(_) => None,
     }

@@ -6,7 +6,7 @@ use Rattle.right_images.specs.Saving.{saved_of}
 use Rattle.image_text.{specs.Sensing.{SensesRows, SensesSome}, proofs.Sensing.senses-none}
 use Rattle.module_prints.specs.{Images.{WritesRows, kept_in}, WearReports.cells_at}
 use Rattle.stream_top.specs.Leaving.{senses_for}
-use Rattle.stream_top.proofs.EndText.{image-closes, lines-closes, no-image, nothing-closes, senses-nothing, snapshots-close, summary-bytes, summary-closes, wear-closes}
+use Rattle.stream_top.proofs.EndText.{energy-closes, image-closes, lines-closes, no-image, nothing-closes, senses-nothing, snapshots-close, summary-bytes, summary-closes, wear-closes}
 use Rattle.stream_top.proofs.closing.print_closing.Goals as goal
 
 pub returns-in-Rows-clause-ok : goal.returns-in-Rows-clause-ok
@@ -120,6 +120,32 @@ returns-in-Lines-clause-all g c =
 
 pub returns-in-Lines-clause-untouched : goal.returns-in-Lines-clause-untouched
 returns-in-Lines-clause-untouched g c = λ other. refl
+
+pub returns-in-Energy-clause-ok : goal.returns-in-Energy-clause-ok
+returns-in-Energy-clause-ok g c =
+    on_ok c.print_energy.result _ _ c.print_energy.ensures.ok
+    (energy-closes c.args.pcm.now (g.A.CellArray.state c.args.array.now) (cells_at g.row.E (g.A.CellArray.state c.args.array.now) (g.A.TellsCells.changes c.args.array.now)) c.args.rows c.args.counts.now c.args.job.now.print
+    (λ whole. Appends (g.K.Sink.written c.args.out.now) (g.K.Sink.written c.print_energy.new.out) whole) c.in-Energy.is)
+
+pub returns-in-Energy-clause-prefix : goal.returns-in-Energy-clause-prefix
+returns-in-Energy-clause-prefix g c =
+    on_err c.print_energy.result _ _ c.print_energy.ensures.prefix
+    (energy-closes c.args.pcm.now (g.A.CellArray.state c.args.array.now) (cells_at g.row.E (g.A.CellArray.state c.args.array.now) (g.A.TellsCells.changes c.args.array.now)) c.args.rows c.args.counts.now c.args.job.now.print
+    (λ whole. AppendsPrefix (g.K.Sink.written c.args.out.now) (g.K.Sink.written c.print_energy.new.out) whole) c.in-Energy.is)
+
+pub returns-in-Energy-clause-part : goal.returns-in-Energy-clause-part
+returns-in-Energy-clause-part g c = no-image c.print_energy.result c.args.job.now.print _ (λ is. absurd (cc (sym is ∙ c.in-Energy.is)))
+
+pub returns-in-Energy-clause-sensed : goal.returns-in-Energy-clause-sensed
+returns-in-Energy-clause-sensed g c = (0, omega arith, senses-none (g.A.CellArray.state c.args.array.now))
+
+pub returns-in-Energy-clause-all : goal.returns-in-Energy-clause-all
+returns-in-Energy-clause-all g c =
+    let array = g.A.CellArray.state c.args.array.now in
+    senses-nothing c.print_energy.result c.args.job.now.print array (ap (λ p. senses_for p array.lines) c.in-Energy.is)
+
+pub returns-in-Energy-clause-untouched : goal.returns-in-Energy-clause-untouched
+returns-in-Energy-clause-untouched g c = λ other. refl
 
 pub returns-in-Image-clause-ok : goal.returns-in-Image-clause-ok
 returns-in-Image-clause-ok g c =

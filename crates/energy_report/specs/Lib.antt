@@ -1,0 +1,3 @@
+-- What is told of the energy of lines together, and its report.
+pub mod Sums
+pub mod EnergyText

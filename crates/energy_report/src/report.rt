@@ -1,0 +1,68 @@
+// The report of energy.
+ghost use Rattle.std.specs.Prelude.{◌≡◌, ◌+◌, ◌*◌, ◌≤◌, length, OnOk, OnErr};
+ghost use Rattle.std.specs.Io.KnownBytes.{Appends};
+ghost use Rattle.pcm_io.specs.Faults.{Rose};
+ghost use Rattle.pcm_io.specs.Giving.{AppendsPrefix};
+ghost use Rattle.pcm_io.specs.Reserved.{appended, reserved, room_in};
+ghost use Rattle.std.specs.Prelude.{decimal};
+ghost use Rattle.energy_report.specs.EnergyText.{all_row, energy_report, energy_row};
+
+use crate::fields::push_energy;
+use crate::sums::sum_energy;
+use cell_rows::LineEnergy;
+use cell_wear::TellsCells;
+use pcm_io::{Sink, Text, WriteFault};
+use run_text::{TEXT_ROOM, make_room, print_rest};
+
+#[tactic(auto, using(pcm_io::proofs::DigitLemmas::ten_digits))]
+fn push_bank(bank: u32, energy: Option<LineEnergy>, text: &mut Text)
+    requires { 74 ≤ room_in text.old }
+    ensures { text.new ≡ appended text.old (energy_row (decimal bank) energy) }
+{
+    text.push_number_then(bank as u64, b",");
+    push_energy(energy, text);
+    text.push(b"\n");
+}
+
+fn push_all(energy: Option<LineEnergy>, text: &mut Text)
+    requires { 74 ≤ room_in text.old }
+    ensures { text.new ≡ appended text.old (all_row energy) }
+{
+    text.push(b"all,");
+    push_energy(energy, text);
+    text.push(b"\n");
+}
+
+/// Writes a row for each of an array's banks, which have so many lines each, and one for all lines.
+pub fn print_energy_report<
+    A: TellsCells<B, M>,
+    const B: usize,
+    const M: usize,
+    K: Sink,
+>(
+    array: &A,
+    banks: u32,
+    lines: u32,
+    text: &mut Text,
+    out: &mut K,
+) -> Result<(), WriteFault>
+    requires room { text.old ≡ reserved TEXT_ROOM }
+    requires size { (A.state array.now).lines ≡ banks * lines }
+    ensures ok { OnOk result (Appends (K.written out.old) (K.written out.new)
+        (energy_report (A.state array.now).energy banks lines)) }
+    ensures prefix { OnErr result (AppendsPrefix (K.written out.old) (K.written out.new)
+        (energy_report (A.state array.now).energy banks lines)) }
+    ensures fault { OnErr result (Rose (K.faults out.old) (K.faults out.new)) }
+    ensures never_falls { K.faults out.old ≤ K.faults out.new }
+{
+    let all = array.lines();
+    text.push(b"bank,senses,set,reset\n");
+    for bank in 0..banks {
+        let energy = sum_energy(array, bank * lines, lines);
+        make_room(text, out)?;
+        push_bank(bank, energy, text);
+    }
+    make_room(text, out)?;
+    push_all(sum_energy(array, 0, all), text);
+    print_rest(text, out)
+}
