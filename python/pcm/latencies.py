@@ -35,7 +35,9 @@ from .tables import Parser, names_of, parsed_options, table
 # Numbers of ticks, and how many rows of an outcome took so many.
 Histogram = Dict[int, int]
 QUANTILES = (50.0, 90.0, 99.0, 99.9)
-KINDS: "Dict[str, Tuple[str, ...]]" = {"reads": ("read", "forwarded"), "read": ("read",), "writes": ("stored", "merged"), "stored": ("stored",)}
+KINDS: "Dict[str, Tuple[str, ...]]" = {
+    "reads": ("read", "forwarded"), "read": ("read",), "writes": ("stored", "merged"), "stored": ("stored",),
+}
 _HERE = os.path.dirname(os.path.abspath(__file__))
 _HEADER = "row,outcome,tick,place,data"
 _MASK = 2**64 - 1
@@ -249,8 +251,9 @@ def _counted(done: "subprocess.CompletedProcess[bytes]") -> Dict[str, Histogram]
 
 def of_run(
     trace: Optional[str], options: Dict[str, str], program: Program = None, built: Optional[str] = None, progress: Optional[Progress] = None,
+    running: "Optional[set[subprocess.Popen[bytes]]]" = None,
 ) -> Passed:
-    """Those of a run by the program of streams, over a file or a drawn trace."""
+    """Those of a run by the program of streams, over a file or a drawn trace. Its process stands in `running` while it runs."""
     drawn = numbers_of(options)
     more = [word for name, value in options.items() for word in (f"--{name}", value)]
     words = [*command("stream", program), *more]
@@ -262,14 +265,19 @@ def of_run(
             raise ReadFault(4, f"{trace}: {wrong.strerror}") from None
         process = held.enter_context(subprocess.Popen(words, stdin=given, stdout=subprocess.PIPE, stderr=said))
         held.callback(process.kill)
+        if running is not None:
+            running.add(process)
+            held.callback(running.discard, process)
         fault: Optional[PcmError] = None
         try:
             if built is not None and _is_plain(trace):
-                counting = subprocess.Popen([built, *_source(trace, drawn), "-"], stdin=process.stdout, stdout=subprocess.PIPE, stderr=subprocess.PIPE)
+                words = [built, *_source(trace, drawn), "-"]
+                counting = subprocess.Popen(words, stdin=process.stdout, stdout=subprocess.PIPE, stderr=subprocess.PIPE)
                 held.callback(counting.kill)
                 process.stdout.close()
                 out, err = _waited(counting, given, trace, progress)
-                found = _counted(subprocess.CompletedProcess([], counting.returncode, out, err)) if counting.returncode != 3 else None
+                done = subprocess.CompletedProcess([], counting.returncode, out, err)
+                found = _counted(done) if done.returncode != 3 else None
             else:
                 found = in_python(_arrivals(trace, drawn), process.stdout)
         except PcmError as wrong:
@@ -360,7 +368,8 @@ def told(given: argparse.Namespace) -> str:
             passes = list(_ran(given, made, built, watched))
         else:
             if len(given.files) != 1 or len(made) > 1 or (given.trace is None) == (numbers_of(made[0]) is None):
-                raise UsageError(2, "one file of rows is wanted with --trace TRACE (or --options '--input drawn ..'), or --run; --help tells more")
+                more = "with --trace TRACE (or --options '--input drawn ..'), or --run; --help tells more"
+                raise UsageError(2, f"one file of rows is wanted {more}")
             passes = [(given.files[0], of_files(given.files[0], given.trace, numbers_of(made[0]), built))]
     watched.clear()
     unit = "ticks" if tick_ns is None else "ns"
