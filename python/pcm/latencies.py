@@ -14,7 +14,8 @@ usage: python3 -m pcm latencies ROWS --trace TRACE [options]       of what `./pc
 A row for each run and kind: reads that were answered (`reads`: by the array or the queue), those that the array answered (`read`), writes
 that were `stored`, and `writes`, stored or merged: how many, the mean of their ticks from arrival to outcome, the least number that 50,
 90, 99 and 99.9 of 100 don't exceed, and the most. No row is sampled or rounded. The text is passed over once, in memory that grows with
-the rows that wait, by a program in C that cc builds (some 0.1 microseconds a row) or, where there is none, in Python (some 2)."""
+the rows that wait, by a program in C that cc builds, which takes less time than the stream, or, where there is no cc, in Python, which takes
+more; the last line says which."""
 import argparse
 import contextlib
 import os

@@ -174,7 +174,7 @@ class Pages(Room):
     def test_files_that_are_none(self):
         good = text_of(drawn(5))
         lines = good.splitlines()
-        self.refused(3, "file1 row 2: most", self.file(good.replace(lines[2], ",".join([*lines[2].split(",")[:14], "x", "8", "6"]))))
+        self.refused(3, "file1 row 2: most", self.file(good.replace(lines[2], ",".join([*lines[2].split(",")[:14], "x", *lines[2].split(",")[15:]]))))
         self.refused(3, "row 3: fields", self.file(good.replace(lines[3], "1,2")))
         self.refused(3, "row 3: order of rows", self.file(good.replace(lines[3], lines[1])))
         self.refused(3, "no snapshot", self.file(HEADER))
