@@ -7,7 +7,8 @@ usage: python3 -m pcm energy FILE.. [options]               of what `./pcm strea
   --tick-ns NS --set-pj PJ --reset-pj PJ --sense-pj PJ
                     nanoseconds of a tick; picojoules of a cell driven to 1, of one driven to 0, and of a bit that is sensed
   --device NAME     those of a published device, but for what is given: lee2009, the default
-  --rate MB         megabytes a second (10^6 bytes) that are to be written: the years of the life that was seen
+  --rate MB         megabytes a second (10^6 bytes) that are to be written: the years that the accepted writes last, which are the life of
+                    a stream with --until refused
   --csv             commas in the place of columns
   --progress        standard error tells how far it is, also where that isn't a terminal
 
@@ -47,9 +48,9 @@ def picojoules(senses: int, set_: int, reset: int, line_bytes: int, units: Units
     return set_ * units.set_pj + reset * units.reset_pj + senses * CELLS[line_bytes] * units.sense_pj
 
 
-def years(stores: int, line_bytes: int, rate: float) -> float:
-    """How long so many stores last at so many megabytes a second."""
-    return stores * line_bytes / (rate * 1e6) / SECONDS_A_YEAR
+def years(writes: int, line_bytes: int, rate: float) -> float:
+    """How long so many writes last at so many megabytes a second."""
+    return writes * line_bytes / (rate * 1e6) / SECONDS_A_YEAR
 
 
 def figures(last: Snapshot, line_bytes: int, units: Units, rate: Optional[float] = None) -> List[Figure]:
@@ -82,10 +83,8 @@ def figures(last: Snapshot, line_bytes: int, units: Units, rate: Optional[float]
         Figure("read", "MB/s", of(1000 * answered * line_bytes, ns), f"(read + forwarded) x {line_bytes} bytes / time"),
     ]
     if rate is not None:
-        ended = last.worn > 0 or last.full > 0
-        named = "life until the first refused row" if ended else "life, at least: no row was refused"
-        formula = f"stored x {line_bytes} bytes / ({rate:g} x 10^6 bytes/s) / {SECONDS_A_YEAR:.0f} s"
-        found.append(Figure(named, "years", years(last.stored, line_bytes, rate), formula))
+        formula = f"(stored + merged + queued) x {line_bytes} bytes / ({rate:g} x 10^6 bytes/s) / {SECONDS_A_YEAR:.0f} s"
+        found.append(Figure("accepted writes last", "years", years(accepted, line_bytes, rate), formula))
     return found
 
 

@@ -14,8 +14,8 @@ usage: python3 -m pcm latencies ROWS --trace TRACE [options]       of what `./pc
 A row for each run and kind: reads that were answered (`reads`: by the array or the queue), those that the array answered (`read`), writes
 that were `stored`, and `writes`, stored or merged: how many, the mean of their ticks from arrival to outcome, the least number that 50,
 90, 99 and 99.9 of 100 don't exceed, and the most. No row is sampled or rounded. The text is passed over once, in memory that grows with
-the rows that wait, by a program in C that cc builds, which takes less time than the stream, or, where there is no cc, in Python, which takes
-more; the last line says which."""
+the rows that wait, by a program in C that cc builds, which takes less time than the stream, or, where there is no cc, in Python, which
+takes more; the last line says which."""
 import argparse
 import contextlib
 import os
@@ -251,8 +251,8 @@ def _counted(done: "subprocess.CompletedProcess[bytes]") -> Dict[str, Histogram]
 
 
 def of_run(
-    trace: Optional[str], options: Dict[str, str], program: Program = None, built: Optional[str] = None, progress: Optional[Progress] = None,
-    running: "Optional[set[subprocess.Popen[bytes]]]" = None,
+    trace: Optional[str], options: Dict[str, str], program: Program = None, built: Optional[str] = None,
+    progress: Optional[Progress] = None, running: "Optional[set[subprocess.Popen[bytes]]]" = None,
 ) -> Passed:
     """Those of a run by the program of streams, over a file or a drawn trace. Its process stands in `running` while it runs."""
     drawn = numbers_of(options)

@@ -19,7 +19,7 @@ For all runs:
   --set-pj PJ --reset-pj PJ --sense-pj PJ
                     picojoules of a cell driven to 1, of one driven to 0, and of a sensed bit: of snapshots energy is told
   --device NAME     those of a published device, but for what is given: lee2009
-  --rate MB         megabytes a second that are to be written: of snapshots the years of the life is told that was seen
+  --rate MB         megabytes a second that are to be written: of snapshots it is told how many years the accepted writes last
   --title WORDS     the page's title
   --output FILE     where the page is written, instead of standard output
   --progress        standard error tells how far it is, also where that isn't a terminal

@@ -48,8 +48,8 @@ def table(head: Sequence[str], rows: Sequence[Sequence[object]], csv: bool) -> s
         return "".join(",".join(row) + "\n" for row in cells)
     wide = [max(len(row[at]) for row in cells) for at in range(len(head))]
     are_words = [any(isinstance(row[at], str) for row in rows) for at in range(len(head))]
-    padded = ["  ".join(cell.ljust(width) if left else cell.rjust(width) for cell, width, left in zip(row, wide, are_words)) for row in cells]
-    return "".join(line.rstrip() + "\n" for line in padded)
+    padded = [[cell.ljust(width) if left else cell.rjust(width) for cell, width, left in zip(row, wide, are_words)] for row in cells]
+    return "".join("  ".join(row).rstrip() + "\n" for row in padded)
 
 
 def _cell(cell: object, csv: bool) -> str:

@@ -8,6 +8,7 @@ import subprocess
 import sys
 import tempfile
 import unittest
+import zipfile
 from unittest import mock
 
 HERE = pathlib.Path(__file__).resolve().parent
@@ -58,15 +59,17 @@ class Energy(Room):
             "energy": 4147.98, "energy of a read": 1.42272, "energy of a stored write": (4147.98 - 500 * 1.42272) / 480,
             "energy of an accepted write": (4147.98 - 500 * 1.42272) / 490, "cells driven a stored write": 256.25, "time": 50.0,
             "mean power": 4147.98 / 50, "written": 490 * 64 / 50, "read": 505 * 64 / 50,
-            "life until the first refused row": 480 * 64 / 2e6 / (365.25 * 24 * 3600),
+            "accepted writes last": 490 * 64 / 2e6 / (365.25 * 24 * 3600),
         }
         for name, number in wanted.items():
             self.assertAlmostEqual(1, float(found[name]) / number, 3, name)
 
     def test_units_that_are_given(self):
         snapshots = self.file("snapshots", f"{HEADER}\n{LAST}\n")
-        found = self.figures(snapshots, "--set-pj", "1", "--reset-pj", "2", "--sense-pj", "0.5", "--tick-ns", "10", "--options", "--line 128")
-        self.assertEqual(("61.00", "124.0", "864.0", "100.0"), tuple(found[name] for name in ("energy of sets", "energy of resets", "energy of senses", "time")))
+        units = ("--set-pj", "1", "--reset-pj", "2", "--sense-pj", "0.5", "--tick-ns", "10")
+        found = self.figures(snapshots, *units, "--options", "--line 128")
+        names = ("energy of sets", "energy of resets", "energy of senses", "time")
+        self.assertEqual(["61.00", "124.0", "864.0", "100.0"], [found[name] for name in names])
 
     def test_nothing_is_divided_by_nothing(self):
         found = self.figures(self.file("snapshots", HEADER + "\n" + ",".join("0" * len(pcm.Snapshot._fields)) + "\n"))
@@ -79,13 +82,17 @@ class Energy(Room):
         rows = [line.split(",") for line in out.splitlines()]
         self.assertEqual((0, ["bank", "senses", "set", "reset"], ["all", "15", "26", "37"]), (status, rows[0][:4], rows[3][:4]))
         self.assertAlmostEqual(10 * 576 * 2.47e-3 + 20 * 13.5e-3 + 30 * 19.2e-3, float(rows[1][7]), 2)
-        self.refused(3, f"energy: {file}: the row of all isn't the sum of those before it", energy, self.file("banks", "bank,senses,set,reset\n0,1,2,3\nall,1,2,4\n"))
-        self.refused(3, f"energy: {file} row 2: bank", energy, self.file("banks", "bank,senses,set,reset\n0,1,2,3\n2,1,2,3\nall,2,4,6\n"))
-        self.refused(3, f"energy: {file} row 1: count", energy, self.file("banks", "bank,senses,set,reset\n0,x,2,3\nall,2,4,6\n"))
+        for line, wrong in (
+            (": the row of all isn't the sum of those before it", "0,1,2,3\nall,1,2,4\n"),
+            (" row 2: bank", "0,1,2,3\n2,1,2,3\nall,2,4,6\n"),
+            (" row 1: count", "0,x,2,3\nall,2,4,6\n"), (" row 2: fields", "0,1,2,3\nall,1,2\n"),
+        ):
+            self.refused(3, f"energy: {file}{line}", energy, self.file("banks", f"bank,senses,set,reset\n{wrong}"))
 
     def test_a_run_has_the_counts_of_its_banks(self):
         found = self.figures("--run", "--options", DRAWN)
-        printed = subprocess.run([*pcm.program(), "stream", *DRAWN.split(), "--print", "energy"], stdout=subprocess.PIPE, check=False).stdout.decode()
+        words = [*pcm.program(), "stream", *DRAWN.split(), "--print", "energy"]
+        printed = subprocess.run(words, stdout=subprocess.PIPE, check=False).stdout.decode()
         file = self.file("banks", printed)
         self.assertEqual(0, self.told(energy, file)[0])
         self.assertEqual(printed.splitlines()[-1].split(",")[1:], [found[name] for name in ("senses", "cells set", "cells reset")])
@@ -107,6 +114,15 @@ class Energy(Room):
         self.refused(3, f"energy: {other} row 0: header: neither of --print snapshots nor of --print energy", energy, other)
         self.refused(4, "energy: /none: No such file or directory", energy, "/none")
 
+    def test_the_wheel_has_the_pass_in_c(self):
+        package = HERE.parent
+        code = f"import sys; sys.path.insert(0, {str(package)!r}); import wheel_of; print(wheel_of.build_wheel({str(self.folder)!r}))"
+        name = subprocess.run([sys.executable, "-B", "-c", code], stdout=subprocess.PIPE, text=True, check=True).stdout.strip()
+        with zipfile.ZipFile(self.folder / name) as wheel:
+            there = {f"pcm/{file.name}" for file in (package / "pcm").iterdir() if file.suffix in (".py", ".c")}
+            self.assertLessEqual(there, set(wheel.namelist()))
+            self.assertIn("pcm/latencies.c", there)
+
     def test_units_of_a_device(self):
         self.assertEqual(Units(5.0, 13.5, 19.2, 2.47), units_of(None))
         self.assertEqual(Units(2.5, 13.5, 19.2, 2.47), units_of("lee2009", tick_ns="2.5"))
@@ -117,7 +133,7 @@ class Energy(Room):
             stdout=subprocess.PIPE, env={**os.environ, "PYTHONPATH": str(HERE.parent)}, check=True,
         ).stdout.decode()
         self.assertIn('<th scope="row">energy of sets</th><td>61.00</td>', text)
-        self.assertIn("life until the first refused row", text)
+        self.assertIn("accepted writes last", text)
 
 
 class Latencies(Room):
@@ -134,7 +150,8 @@ class Latencies(Room):
 
     def both(self, options, end=()):
         """A drawn trace and its rows as files."""
-        kept = [word for pair in zip(options.split()[::2], options.split()[1::2]) if pair[0] not in ("--input", "--misses") for word in pair]
+        pairs = list(zip(options.split()[::2], options.split()[1::2]))
+        kept = [word for pair in pairs if pair[0] not in ("--input", "--misses") for word in pair]
         trace = self.printed("gen", *kept)
         shape = [word for pair in zip(kept[::2], kept[1::2]) if pair[0] in ("--banks", "--regions", "--lines", "--seed") for word in pair]
         rows = self.printed("stream", *shape, "--misses", "3", *end, given=trace)
@@ -167,7 +184,8 @@ class Latencies(Room):
             self.assertEqual(wanted, latencies.of_run(None, options).found)
 
     def test_a_table_of_policies(self):
-        status, out, err = self.told(latencies, "--run", "--csv", "--options", DRAWN, "--options", DRAWN + " --policy cancel", "--device", "lee2009")
+        words = ("--run", "--csv", "--options", DRAWN, "--options", DRAWN + " --policy cancel", "--device", "lee2009")
+        status, out, err = self.told(latencies, *words)
         rows = [line.split(",") for line in out.splitlines()]
         self.assertEqual((0, ""), (status, err))
         self.assertEqual(["run", "kind", "rows", "mean ns", "50%", "90%", "99%", "99.9%", "most"], rows[0])
@@ -191,8 +209,10 @@ class Latencies(Room):
         self.assertEqual((3, ""), (status, out))
         self.assertRegex(err, r"^latencies: row \d+: not an outcome of a row of this trace\n$")
         self.refused(3, "latencies: row 0: not the header of a stream's rows", latencies, trace, "--trace", trace)
-        self.refused(3, "latencies: row 2: not a row of a stream", latencies, self.file("odd", told.replace(b"\n", b"\n,settled,0,,\nx,y\n", 1)), "--trace", trace)
-        self.refused(2, "latencies: one file of rows is wanted with --trace TRACE (or --options '--input drawn ..'), or --run; --help tells more", latencies, rows)
+        odd = self.file("odd", told.replace(b"\n", b"\n,settled,0,,\nx,y\n", 1))
+        self.refused(3, "latencies: row 2: not a row of a stream", latencies, odd, "--trace", trace)
+        more = "with --trace TRACE (or --options '--input drawn ..'), or --run; --help tells more"
+        self.refused(2, f"latencies: one file of rows is wanted {more}", latencies, rows)
         self.refused(4, "latencies: /none: No such file or directory", latencies, "--run", "/none")
         status, _, err = self.told(latencies, "--run", trace, "--options", "--polcy pause")
         self.assertEqual(2, status)
