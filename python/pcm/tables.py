@@ -1,5 +1,6 @@
 """What commands of the package share: words, names of runs, and tables as text."""
 import argparse
+import math
 import shlex
 from typing import Dict, List, Sequence
 
@@ -65,7 +66,7 @@ def rounded(number: float, csv: bool = False) -> str:
     """Four digits of a number, or all before its point."""
     if number == 0 or not 1e-3 <= abs(number) < 1e15:
         return f"{number:.4g}"
-    digits = max(0, 3 - len(str(int(abs(number)))) + 1) if abs(number) >= 1 else 4
+    digits = max(0, 3 - math.floor(math.log10(abs(number))))
     return f"{number:.{digits}f}" if csv else f"{number:,.{digits}f}"
 
 
