@@ -23,7 +23,7 @@ import shutil
 import subprocess
 import sys
 import tempfile
-from typing import Dict, Iterable, Iterator, List, NamedTuple, Optional, Sequence, Tuple
+from typing import BinaryIO, Dict, Iterable, Iterator, List, NamedTuple, Optional, Sequence, Tuple
 
 from .devices import units_of
 from .errors import PcmError, ReadFault, UsageError, error_of
@@ -32,6 +32,7 @@ from .progress import Progress
 from .rows import Settle, read_trace
 from .runs import DRAWN, OUTCOMES
 from .tables import Parser, names_of, parsed_options, table
+from .words import wrong_word
 
 # Numbers of ticks, and how many rows of an outcome took so many.
 Histogram = Dict[int, int]
@@ -199,6 +200,10 @@ def numbers_of(options: Dict[str, str]) -> Optional[List[int]]:
         return None
     value = {"seed": "0", "line": "64", **DRAWN, **options}
     names = ("seed", "rows", "write-percent", "cuts", "step", "hot")
+    for name in (*names, "line"):
+        if not (value[name].isascii() and value[name].isdigit()):
+            words = [word for name, text in options.items() for word in (f"--{name}", text)]
+            raise UsageError(2, wrong_word(["stream", *words]) or f"--{name} {value[name]}: it may be a number")
     return [*(int(value[name]) for name in names), 0, int(value["line"])]
 
 
@@ -269,18 +274,13 @@ def of_run(
         if running is not None:
             running.add(process)
             held.callback(running.discard, process)
-        fault: Optional[PcmError] = None
+        fault, found = None, None
+        built = built if _is_plain(trace) else None
         try:
-            if built is not None and _is_plain(trace):
-                words = [built, *_source(trace, drawn), "-"]
-                counting = subprocess.Popen(words, stdin=process.stdout, stdout=subprocess.PIPE, stderr=subprocess.PIPE)
-                held.callback(counting.kill)
-                process.stdout.close()
-                out, err = _waited(counting, given, trace, progress)
-                done = subprocess.CompletedProcess([], counting.returncode, out, err)
-                found = _counted(done) if done.returncode != 3 else None
-            else:
+            if built is None:
                 found = in_python(_arrivals(trace, drawn), process.stdout)
+            else:
+                found = _found(process, built, [*_source(trace, drawn), "-"], given, trace, progress)
         except PcmError as wrong:
             fault, found = wrong, None
         # (a program whose rows nobody reads any more ends with a fault of writing)
@@ -291,11 +291,26 @@ def of_run(
         if fault is not None:
             raise fault
     if found is None:
-        return of_run(trace, options, program, None, progress)
-    return Passed(found, "Python" if built is None or not _is_plain(trace) else "C")
+        # (what the pass in C leaves to Python is run once more)
+        return of_run(trace, options, program, None, progress, running)
+    return Passed(found, "Python" if built is None else "C")
 
 
-def _waited(counting: "subprocess.Popen[bytes]", given, trace: Optional[str], progress: Optional[Progress]) -> Tuple[bytes, bytes]:
+def _found(
+    process: "subprocess.Popen[bytes]", built: str, words: List[str], given: BinaryIO, trace: Optional[str], progress: Optional[Progress],
+) -> Optional[Dict[str, Histogram]]:
+    """The histograms of a process's rows by the pass in C; None where it leaves them to Python."""
+    with subprocess.Popen([built, *words], stdin=process.stdout, stdout=subprocess.PIPE, stderr=subprocess.PIPE) as counting:
+        try:
+            process.stdout.close()
+            out, err = _waited(counting, given, trace, progress)
+        finally:
+            counting.kill()
+    done = subprocess.CompletedProcess([], counting.returncode, out, err)
+    return None if done.returncode == 3 else _counted(done)
+
+
+def _waited(counting: "subprocess.Popen[bytes]", given: BinaryIO, trace: Optional[str], progress: Optional[Progress]) -> Tuple[bytes, bytes]:
     """What the pass in C prints; meanwhile it is told which part of the trace has been read."""
     size = os.path.getsize(trace) if trace else 0
     while True:

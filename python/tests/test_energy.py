@@ -217,6 +217,8 @@ class Latencies(Room):
         status, _, err = self.told(latencies, "--run", trace, "--options", "--polcy pause")
         self.assertEqual(2, status)
         self.assertIn("(did you mean --policy?)", err)
+        status, _, err = self.told(latencies, "--run", "--options", "--input drawn --rows x")
+        self.assertEqual((2, "latencies: --rows x: it may be a number of decimal digits alone, 1 to 4000000000\n"), (status, err))
         faulty = self.file("faulty", given.replace(b",R,", b",X,", 1))
         status, _, err = self.told(latencies, "--run", faulty)
         self.assertEqual(3, status)
