@@ -27,7 +27,7 @@ def files():
         yield f"libexec/pcm/{name}", built(name), True
     yield "share/pcm/USING.md", pages.USING, False
     yield "share/pcm/VERSION", TOP / "VERSION", False
-    for it in sorted((TOP / "python" / "pcm").glob("*.py")):
+    for it in sorted(it for it in (TOP / "python" / "pcm").iterdir() if it.suffix in (".py", ".c")):
         yield f"share/pcm/python/pcm/{it.name}", it, False
     for name in ("pcm.1", "pcm-stream.1"):
         yield f"share/man/man1/{name}", pages.PAGES[name]().encode(), False

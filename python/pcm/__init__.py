@@ -20,7 +20,8 @@ How a module ages, as a stream goes on::
     for snapshot in pcm.snapshots("trace.csv", every=10_000, lines=256):
         print(snapshot.rows, snapshot.most, snapshot.mean, snapshot.retired)
 
-`python3 -m pcm report --help` tells how to make a page of pictures and numbers of runs.
+`python3 -m pcm report --help` tells how to make a page of pictures and numbers of runs, `energy --help` what their writes cost, and
+`latencies --help` how long rows took.
 
 Ticks are the simulation's own unit of time, from 0 to 2**40, and never fall. A line is a line of the module, from 0. Options are those of
 the command line, with `_` for `-`: `docs/USING.md` of the repository has them all. A wrong option, a fault of the trace and an end of the

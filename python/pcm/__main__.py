@@ -1,16 +1,17 @@
 """`python3 -m pcm report ..`: what the package does by itself."""
 import sys
 
-from . import report
+from . import energy, latencies, report
 
-USAGE = "usage: python3 -m pcm report RESULTS.. [options]  (python3 -m pcm report --help tells more)"
+COMMANDS = {"report": report.main, "energy": energy.main, "latencies": latencies.main}
+USAGE = "usage: python3 -m pcm report|energy|latencies FILES.. [options]  (--help behind one of them tells more)"
 
 
 def main() -> int:
     """Goes by the first word."""
     words = sys.argv[1:]
-    if words[:1] == ["report"]:
-        return report.main(words[1:])
+    if words and words[0] in COMMANDS:
+        return COMMANDS[words[0]](words[1:])
     if words[:1] in (["-h"], ["--help"]):
         print(USAGE)
         return 0

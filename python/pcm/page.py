@@ -5,8 +5,10 @@ from . import charts, tallies
 from .aging import aging
 from .drawing import BLUE, GREEN, ORANGE, PURPLE, RED, escaped
 from .elements import Cell, Section, beside, folded, looked, placed, tabled, unbroken
+from .energy import figures, line_bytes_of
 from .runs import OPERATIONS, OUTCOMES, Run
 from .style import LANDSCAPE, STYLE
+from .tables import rounded
 
 # The parts of the time in pictures, and how many of them make one row of a table.
 PARTS, TOGETHER = 120, 6
@@ -18,7 +20,7 @@ def page(runs: Sequence[Run], title: str, version: str) -> str:
     span = 1 + max([row.tick for run in runs for row in run.rows] + [0])
     sections = [part for part in (
         _ran(runs, version), _came(runs), aging(runs), _wear(runs), _pointers(runs), _reads(runs), _writes(runs), _queues(runs, span),
-        _growth(runs, span), _pulses(runs),
+        _growth(runs, span), _pulses(runs), _energy(runs),
     ) if part is not None]
     links = " ".join(f'<a href="#{name}">{escaped(words)}</a>' for name, words, _ in sections)
     body = "".join(f'<section id="{name}"><h2>{escaped(words)}</h2>{text}</section>\n' for name, words, text in sections)
@@ -114,6 +116,26 @@ def _glance(runs: Sequence[Run]) -> str:
     row("most pulses of a control line", lambda run: _most(run, True))
     row("mean pulses of an array line", _mean)
     return tabled("Main numbers", ["", *(run.name for run in runs)], rows, "glance")
+
+
+def _energy(runs: Sequence[Run]) -> Section:
+    """What the runs with snapshots cost, figure by figure."""
+    told = [run for run in runs if run.snapshots]
+    if not told:
+        return None
+    found = [figures(run.snapshots[-1], line_bytes_of(run.options), run.units, run.rate) for run in told]
+    rows = [(" / ".join(dict.fromkeys(one.name for one in each)), *(_rounded(one.value) for one in each), each[0].unit, each[0].formula) for each in zip(*found)]
+    look = (
+        f"Counts of the array, turned into energy and time by {told[0].units.words()}. Look at the energy of a stored write beside the cells that "
+        "it drives: misses, cuts and gap moves drive cells again. The energy of queues, buses and idle time isn't counted."
+    )
+    table = tabled("Figures", ["", *(run.name for run in told), "unit", "formula"], rows, "energy")
+    return "energy", "Energy, power and rates", looked(look) + table
+
+
+def _rounded(number: "Optional[float | int]") -> Cell:
+    """A figure with four digits."""
+    return rounded(number) if isinstance(number, float) else number
 
 
 def _ns(run: Run, ticks: Cell) -> Cell:

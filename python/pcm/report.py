@@ -16,6 +16,10 @@ For all runs:
   --banks N ..      any option of a run by itself
   --every N         with --run: snapshots each N rows, by the program of streams
   --tick-ns NS      how many nanoseconds a tick stands for, as 2.5: latencies are told in these, too
+  --set-pj PJ --reset-pj PJ --sense-pj PJ
+                    picojoules of a cell driven to 1, of one driven to 0, and of a sensed bit: of snapshots energy is told
+  --device NAME     those of a published device, but for what is given: lee2009
+  --rate MB         megabytes a second that are to be written: of snapshots it is told how many years the accepted writes last
   --title WORDS     the page's title
   --output FILE     where the page is written, instead of standard output
   --progress        standard error tells how far it is, also where that isn't a terminal
@@ -24,11 +28,11 @@ RESULTS may be -, standard input. Options that aren't given are those that a fil
 aren't of one run are refused. Status 0; 2 for words that ask for nothing that can be done, 3 for a file that isn't what it should be,
 4 and 5 where reading or writing failed, 130 where it is broken off, and with --run that of the program."""
 import os
-import re
 import shlex
 import sys
 from typing import Dict, List, Optional, Sequence
 
+from .devices import Units, positive, units_of
 from .errors import PcmError, UsageError, WriteFault
 from .gathered import Asked, gather, known_options
 from .page import page
@@ -38,22 +42,23 @@ from .runs import DEFAULTS, DRAWN, STREAMS
 from .words import near
 
 _OF_RUNS = ("trace", "wear", "image", "summary", "snapshots", "options", "name")
-_OF_ALL = ("every", "tick-ns", "title", "output")
+_OF_ALL = ("every", "tick-ns", "set-pj", "reset-pj", "sense-pj", "device", "rate", "title", "output")
 _ALONE = ("run", "progress")
 
 
 def report(
     asked: Sequence[Asked], title: str = "Report of pcm", program: Program = None, tick_ns: Optional[float] = None,
-    progress: Optional[bool] = False,
+    progress: Optional[bool] = False, units: Units = Units(), rate: Optional[float] = None,
 ) -> str:
-    """The page of some runs; `tick_ns` are the nanoseconds of a tick, and `progress` as with `snapshots`."""
+    """The page of some runs; `tick_ns` are the nanoseconds of a tick, `units` those of energy, `rate` the megabytes a second for which a life
+    is told, and `progress` as with `snapshots`."""
     from . import __version__
 
     watched = Progress(progress)
     try:
         runs = [gather(one, program, watched) for one in asked]
         for run in runs:
-            run.tick_ns = tick_ns
+            run.tick_ns, run.units, run.rate = tick_ns, units, rate
         watched.tell(lambda: "making the page")
         return page(runs, title, __version__)
     finally:
@@ -67,8 +72,11 @@ def main(words: Sequence[str]) -> int:
         return 0
     try:
         given = _parsed(words)
-        title, tick_ns = (given["title"] or ["Report of pcm"])[-1], _nanoseconds(given["tick-ns"])
-        text = report(_asked(given), title, tick_ns=tick_ns, progress=True if given["progress"] else None)
+        title, last = (given["title"] or ["Report of pcm"])[-1], {name: (given[name] or [None])[-1] for name in _OF_ALL}
+        units = units_of(last["device"], **{name.replace("-", "_"): last[name] for name in ("tick-ns", "set-pj", "reset-pj", "sense-pj")})
+        tick_ns = None if last["tick-ns"] is None and last["device"] is None else units.tick_ns
+        rate = None if last["rate"] is None else positive("--rate", last["rate"])
+        text = report(_asked(given), title, tick_ns=tick_ns, progress=True if given["progress"] else None, units=units, rate=rate)
         _write(text, (given["output"] or [None])[-1])
     except PcmError as wrong:
         return _told(str(wrong), wrong.status or 1)
@@ -100,15 +108,6 @@ def _write(text: str, name: Optional[str]) -> None:
             # (nothing more is written there in the end)
             os.dup2(os.open(os.devnull, os.O_WRONLY), sys.stdout.fileno())
         raise WriteFault(5, f"{name or 'standard output'}: {wrong.strerror}") from None
-
-
-def _nanoseconds(words: Sequence[str]) -> Optional[float]:
-    """The nanoseconds of a tick."""
-    if not words:
-        return None
-    if not re.fullmatch(r"\d{1,12}(\.\d{1,12})?", words[-1], re.ASCII) or float(words[-1]) == 0:
-        raise UsageError(2, f"--tick-ns takes a number above 0, as 10 or 2.5, not {words[-1]!r}")
-    return float(words[-1])
 
 
 def _parsed(words: Sequence[str]) -> Dict[str, List[str]]:

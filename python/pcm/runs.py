@@ -11,6 +11,7 @@ import sys
 from dataclasses import dataclass, field
 from typing import BinaryIO, Dict, Iterator, List, NamedTuple, Optional, Tuple
 
+from .devices import Units
 from .errors import PcmError, ReadFault
 from .image import Image, ImageError, _feistel
 from .progress import Progress
@@ -116,7 +117,8 @@ class Source(NamedTuple):
 @dataclass
 class Run:
     """A run: its name, its options and where each is known from, its files, what became of each row of its trace (none of them, where
-    snapshots alone are known), what else is known of it, and how many nanoseconds a tick stands for, where that was told."""
+    snapshots alone are known), what else is known of it, how many nanoseconds a tick stands for, where that was told, the units of its energy, and
+    the rate, in megabytes a second, for which its life is told."""
 
     name: str
     options: Dict[str, str]
@@ -129,6 +131,8 @@ class Run:
     summary: Optional[Dict[str, int]] = None
     snapshots: List[Snapshot] = field(default_factory=list)
     tick_ns: Optional[float] = None
+    units: Units = Units()
+    rate: Optional[float] = None
     _banks: Dict[int, int] = field(default_factory=dict)
 
     @property

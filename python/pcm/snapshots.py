@@ -18,8 +18,8 @@ _DIGITS = 20
 
 class Snapshot(NamedTuple):
     """What a stream had done when so many `rows` were served: the tick that it had reached, how many rows had each outcome by then, the
-    spares in use (`retired`), the pulses of all array lines, the most of any line and the mean rounded down, and the active pointers of
-    all array lines."""
+    spares in use (`retired`), the pulses of all array lines, the most of any line and the mean rounded down, the active pointers of
+    all array lines, their senses, and how many cells were driven to 1 (`set`) and to 0 (`reset`)."""
 
     rows: int
     tick: int
@@ -38,6 +38,9 @@ class Snapshot(NamedTuple):
     most: int
     mean: int
     pointers: int
+    senses: int
+    set: int
+    reset: int
 
     @property
     def known(self) -> int:
@@ -46,7 +49,7 @@ class Snapshot(NamedTuple):
 
 
 # What never falls from one snapshot to the next; the last may have as many rows as the one before it.
-_GROWING = ("rows", "tick", *Snapshot._fields[2:12], "retired", "pulses", "most", "mean")
+_GROWING = ("rows", "tick", *Snapshot._fields[2:12], "retired", "pulses", "most", "mean", "senses", "set", "reset")
 BEGIN = Snapshot(*[0] * len(Snapshot._fields))
 
 

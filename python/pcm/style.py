@@ -37,6 +37,7 @@ th,td .soft{{font-weight:normal}}
 code,.path{{overflow-wrap:anywhere}}
 .several th,.several td{{padding-right:.4rem}}
 td.differs{{font-weight:bold}}
+.energy th:nth-last-child(-n+2),.energy td:nth-last-child(-n+2){{text-align:left}}
 .option,.options tbody th{{white-space:nowrap}}
 details{{margin:.5rem 0}}
 summary{{cursor:pointer}}

@@ -46,10 +46,10 @@ for _ in range(20):
 print(opened, len(os.listdir("/proc/self/fd")), {str(fault) for fault in faults if isinstance(fault, pcm.TraceError)})
 """
 SLOW = """#!/bin/sh
-echo rows,tick,stored,merged,queued,full,worn,read,forwarded,busy,lost,cut,retired,pulses,most,mean,pointers
-echo 100,9,0,0,0,0,0,0,0,0,0,0,0,0,0,0,0
+echo rows,tick,stored,merged,queued,full,worn,read,forwarded,busy,lost,cut,retired,pulses,most,mean,pointers,senses,set,reset
+echo 100,9,0,0,0,0,0,0,0,0,0,0,0,0,0,0,0,0,0,0
 sleep 1.2
-echo 200,9,0,0,0,0,0,0,0,0,0,0,0,0,0,0,0
+echo 200,9,0,0,0,0,0,0,0,0,0,0,0,0,0,0,0,0,0,0
 """
 
 

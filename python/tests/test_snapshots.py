@@ -15,7 +15,7 @@ from pcm import charts, plots, runs, tallies  # noqa: E402
 from pcm.drawing import VARIABLES, Picture  # noqa: E402
 from test_report import AGED, RUNS, Room, Tables, came_of, printed  # noqa: E402
 
-HEADER = "rows,tick,stored,merged,queued,full,worn,read,forwarded,busy,lost,cut,retired,pulses,most,mean,pointers\n"
+HEADER = "rows,tick,stored,merged,queued,full,worn,read,forwarded,busy,lost,cut,retired,pulses,most,mean,pointers,senses,set,reset\n"
 
 
 def drawn(count, every=100, **last):
@@ -24,7 +24,7 @@ def drawn(count, every=100, **last):
     for at in range(1, count + 1):
         rows = every * at
         outcomes = (rows // 2, rows // 8, 0, rows // 40, 0, rows // 4, 0, 0, 0, 0)
-        made.append(pcm.Snapshot(rows, 10 * rows, *outcomes, at * 8 // count, 2 * rows, 40 * at, 4 * at, 3 * at))
+        made.append(pcm.Snapshot(rows, 10 * rows, *outcomes, at * 8 // count, 2 * rows, 40 * at, 4 * at, 3 * at, 3 * rows, 120 * rows, 130 * rows))
     left = made[-1].rows - made[-1].known
     made.append(made[-1]._replace(tick=made[-1].tick + 500, stored=made[-1].stored + left, **last))
     return made
@@ -70,7 +70,7 @@ class Reading(unittest.TestCase):
 
     def test_numbers_that_fall_or_do_not_agree_are_named(self):
         made = drawn(5)
-        for name in ("rows", "tick", "stored", "merged", "full", "read", "retired", "pulses", "most", "mean"):
+        for name in ("rows", "tick", "stored", "merged", "full", "read", "retired", "pulses", "most", "mean", "senses", "set", "reset"):
             fallen = made[:3] + [made[3]._replace(**{name: getattr(made[2], name) - 1})] + made[4:]
             self.refused(f"row 4: order of {name}", text_of(fallen))
         self.refused("row 7: order of rows", text_of(made + made[-1:]))
@@ -161,7 +161,7 @@ class Pages(Room):
         self.assertIn(f"{missing} of 300 rows had no outcome yet", text)
 
     def test_no_row_at_all(self):
-        self.page(self.file(text_of([pcm.Snapshot(*[0] * 17)])))
+        self.page(self.file(text_of([pcm.Snapshot(*[0] * len(pcm.Snapshot._fields))])))
 
     def test_a_thousand_snapshots_take_a_page_less_than_a_second(self):
         file = self.file(text_of(drawn(1000)))
@@ -174,7 +174,7 @@ class Pages(Room):
     def test_files_that_are_none(self):
         good = text_of(drawn(5))
         lines = good.splitlines()
-        self.refused(3, "file1 row 2: most", self.file(good.replace(lines[2], ",".join([*lines[2].split(",")[:14], "x", "8", "6"]))))
+        self.refused(3, "file1 row 2: most", self.file(good.replace(lines[2], ",".join([*lines[2].split(",")[:14], "x", *lines[2].split(",")[15:]]))))
         self.refused(3, "row 3: fields", self.file(good.replace(lines[3], "1,2")))
         self.refused(3, "row 3: order of rows", self.file(good.replace(lines[3], lines[1])))
         self.refused(3, "no snapshot", self.file(HEADER))

@@ -2,7 +2,7 @@ use command_line::{Input, LineSize, Refusal};
 use module_shape::{Home, Policy, RawShape};
 use std::alloc::{AllocError, Global};
 use std::test::Fail;
-use stream_words::{End, StreamJob, StreamPrint, read_stream_job};
+use stream_words::{End, StreamJob, StreamPrint, Until, read_stream_job};
 use trace_gen::Mix;
 
 // The job of a line of words; a want of memory is an error of the test.
@@ -89,10 +89,10 @@ fn the_cells_of_a_stream_are_those_of_a_run(rt: HostRuntime) -> Result<(), Fail>
     Ok(())
 }
 
-// What a line of words prints, where its rows come from, and how it ends.
-fn ends(alloc: Global, line: &str) -> Result<(StreamPrint, Input, End), Fail> {
+// What a line of words prints, where its rows come from, how it ends, and where.
+fn ends(alloc: Global, line: &str) -> Result<(StreamPrint, Input, End, Until), Fail> {
     let job = stream(alloc, line)?;
-    Ok((job.print, job.input, job.end))
+    Ok((job.print, job.input, job.end, job.until))
 }
 
 #[test]
@@ -128,22 +128,41 @@ fn a_stream_may_be_long_and_end_without_power(rt: HostRuntime) -> Result<(), Fai
         ends(rt.alloc(), "--print lines")?,
         ends(rt.alloc(), "--print snapshots")?,
         ends(rt.alloc(), "--every 4294967295 --print=snapshots")?,
+        ends(rt.alloc(), "--until refused --end=off")?,
+        ends(rt.alloc(), "--until=end")?,
     ];
     let wanted = [
-        (StreamPrint::Rows, Input::Source, End::Drain),
-        (StreamPrint::Image, Input::Drawn(most), End::Off),
-        (StreamPrint::Summary, Input::Drawn(latest), End::Drain),
-        (StreamPrint::Wear, Input::Source, End::Off),
-        (StreamPrint::Rows, Input::Source, End::Drain),
-        (StreamPrint::Lines, Input::Source, End::Drain),
-        (StreamPrint::Snapshots(100_000), Input::Source, End::Drain),
-        (StreamPrint::Snapshots(u32::MAX), Input::Source, End::Drain),
+        (StreamPrint::Rows, Input::Source, End::Drain, Until::End),
+        (StreamPrint::Image, Input::Drawn(most), End::Off, Until::End),
+        (
+            StreamPrint::Summary,
+            Input::Drawn(latest),
+            End::Drain,
+            Until::End,
+        ),
+        (StreamPrint::Wear, Input::Source, End::Off, Until::End),
+        (StreamPrint::Rows, Input::Source, End::Drain, Until::End),
+        (StreamPrint::Lines, Input::Source, End::Drain, Until::End),
+        (
+            StreamPrint::Snapshots(100_000),
+            Input::Source,
+            End::Drain,
+            Until::End,
+        ),
+        (
+            StreamPrint::Snapshots(u32::MAX),
+            Input::Source,
+            End::Drain,
+            Until::End,
+        ),
+        (StreamPrint::Rows, Input::Source, End::Off, Until::Refused),
+        (StreamPrint::Rows, Input::Source, End::Drain, Until::End),
     ];
     assert_eq!(rt; told, wanted);
     Ok(())
 }
 
-static REFUSED: [&str; 29] = [
+static REFUSED: [&str; 33] = [
     "run",
     "3",
     "--help",
@@ -173,6 +192,10 @@ static REFUSED: [&str; 29] = [
     "--every 7 --print rows",
     "--print snapshots --every 0",
     "--print snapshots --every 4294967296",
+    "--until",
+    "--until worn",
+    "--until=",
+    "--until refused --until refused",
 ];
 
 #[test]

@@ -1,0 +1,302 @@
+/* Counts how many ticks the rows of a trace took, by what a stream printed of them: the pass of `python3 -m pcm latencies` in C.
+
+   usage: latencies TRACE ROWS                                        ROWS is a file, or - for standard input
+          latencies --drawn SEED,ROWS,PERCENT,CUTS,STEP,HOT,LINES,BYTES ROWS
+
+   It prints `OUTCOME TICKS COUNT` for each outcome and number of ticks that came, in any order. Status 3: a row isn't of the plain form
+   that it reads fast (quotes, CR, blank lines, a mark): the pass in Python reads those, and says what is wrong where something is. */
+#include <fcntl.h>
+#include <inttypes.h>
+#include <stdio.h>
+#include <stdlib.h>
+#include <string.h>
+#include <unistd.h>
+
+static void leave(int status, const char *why)
+{
+    if (why)
+        fprintf(stderr, "%s\n", why);
+    exit(status);
+}
+
+/* Numbers by numbers: linear probing in a table that is at most half full. Keys are kept one higher, so that 0 is none. */
+struct map {
+    uint64_t *keys, *values;
+    size_t mask, used;
+};
+
+static void map_make(struct map *map, size_t size)
+{
+    map->keys = calloc(size, sizeof *map->keys);
+    map->values = calloc(size, sizeof *map->values);
+    if (!map->keys || !map->values)
+        leave(7, "out of memory");
+    map->mask = size - 1;
+    map->used = 0;
+}
+
+static size_t map_home(const struct map *map, uint64_t key)
+{
+    return (size_t)((key * UINT64_C(0x9E3779B97F4A7C15)) >> 20) & map->mask;
+}
+
+static size_t map_find(const struct map *map, uint64_t key)
+{
+    size_t at = map_home(map, key);
+    while (map->keys[at] && map->keys[at] != key + 1)
+        at = (at + 1) & map->mask;
+    return at;
+}
+
+/* The value of a key, which is 0 where it is new. */
+static uint64_t *map_at(struct map *map, uint64_t key)
+{
+    size_t at = map_find(map, key);
+    if (!map->keys[at]) {
+        if (2 * ++map->used > map->mask) {
+            struct map larger;
+            map_make(&larger, 2 * (map->mask + 1));
+            for (size_t i = 0; i <= map->mask; i++)
+                if (map->keys[i])
+                    *map_at(&larger, map->keys[i] - 1) = map->values[i];
+            free(map->keys);
+            free(map->values);
+            *map = larger;
+            map->used++;
+            at = map_find(map, key);
+        }
+        map->keys[at] = key + 1;
+        map->values[at] = 0;
+    }
+    return &map->values[at];
+}
+
+/* Takes a key out; whether it was there. */
+static int map_take(struct map *map, uint64_t key, uint64_t *value)
+{
+    size_t at = map_find(map, key), hole = at;
+    if (!map->keys[at])
+        return 0;
+    *value = map->values[at];
+    map->used--;
+    for (;;) {
+        at = (at + 1) & map->mask;
+        if (!map->keys[at])
+            break;
+        size_t home = map_home(map, map->keys[at] - 1);
+        if (((at - home) & map->mask) >= ((at - hole) & map->mask)) {
+            map->keys[hole] = map->keys[at];
+            map->values[hole] = map->values[at];
+            hole = at;
+        }
+    }
+    map->keys[hole] = 0;
+    return 1;
+}
+
+/* The lines of a file. */
+struct lines {
+    int fd, ended;
+    char *text;
+    size_t from, until, room;
+};
+
+static void lines_open(struct lines *lines, const char *name)
+{
+    lines->fd = strcmp(name, "-") ? open(name, O_RDONLY) : 0;
+    if (lines->fd < 0) {
+        perror(name);
+        exit(4);
+    }
+    lines->room = 1 << 18;
+    lines->text = malloc(lines->room);
+    if (!lines->text)
+        leave(7, "out of memory");
+    lines->ended = 0;
+    lines->from = lines->until = 0;
+}
+
+/* The next line, which LF ends; NULL where there is none. */
+static char *lines_next(struct lines *lines)
+{
+    size_t seen = lines->from;
+    for (;;) {
+        char *end = memchr(lines->text + seen, '\n', lines->until - seen);
+        if (end) {
+            char *line = lines->text + lines->from;
+            lines->from = (size_t)(end - lines->text) + 1;
+            return line;
+        }
+        if (lines->ended)
+            return NULL;
+        memmove(lines->text, lines->text + lines->from, lines->until - lines->from);
+        lines->until -= lines->from;
+        lines->from = 0;
+        seen = lines->until;
+        if (lines->until + 2 >= lines->room)
+            leave(3, NULL);
+        ssize_t got = read(lines->fd, lines->text + lines->until, lines->room - lines->until - 2);
+        if (got < 0)
+            leave(4, "reading failed");
+        lines->ended = got == 0;
+        /* (a trace's last line may lack its end; a row of a stream that isn't whole wasn't told) */
+        if (got == 0 && lines->until > 0 && lines->fd != 0)
+            lines->text[lines->until++] = '\n';
+        lines->until += (size_t)got;
+        lines->text[lines->until] = 0;
+    }
+}
+
+/* The number at a place, which a comma must end; it goes behind that. */
+static uint64_t number(char **at)
+{
+    uint64_t value = 0;
+    char *from = *at;
+    for (; **at >= '0' && **at <= '9'; ++*at)
+        value = 10 * value + (uint64_t)(**at - '0');
+    if (*at == from || *at - from > 13 || **at != ',')
+        leave(3, NULL);
+    ++*at;
+    return value;
+}
+
+/* The generator of drawn traces: xoshiro256++ from SplitMix64 of the seed. */
+static uint64_t state[4];
+
+static uint64_t rotated(uint64_t word, int by)
+{
+    return word << by | word >> (64 - by);
+}
+
+static uint64_t word(void)
+{
+    uint64_t found = rotated(state[0] + state[3], 23) + state[0], kept = state[1] << 17;
+    state[2] ^= state[0];
+    state[3] ^= state[1];
+    state[1] ^= state[2];
+    state[0] ^= state[3];
+    state[2] ^= kept;
+    state[3] = rotated(state[3], 45);
+    return found;
+}
+
+static void seeded(uint64_t seed)
+{
+    for (int i = 0; i < 4; i++) {
+        uint64_t z = seed += UINT64_C(0x9E3779B97F4A7C15);
+        z = (z ^ z >> 30) * UINT64_C(0xBF58476D1CE4E5B9);
+        z = (z ^ z >> 27) * UINT64_C(0x94D049BB133111EB);
+        state[i] = z ^ z >> 31;
+    }
+}
+
+/* Where arrivals come from. */
+static struct lines trace;
+static uint64_t drawn[8]; /* seed, rows, percent, cuts, step, hot, lines, bytes */
+static int is_drawn;
+static uint64_t arrived, now;
+static struct map waiting;
+
+/* The next row arrives; whether there was one. */
+static int arrive(void)
+{
+    if (is_drawn) {
+        if (arrived == drawn[1])
+            return 0;
+        uint64_t part = drawn[1] / (drawn[3] + 1);
+        if (part == 0)
+            part = 1;
+        arrived++;
+        now += word() % (drawn[4] + 1);
+        if (arrived % part != 0 || arrived / part > drawn[3]) {
+            uint64_t which = word();
+            if ((which >> 32) % 100 < drawn[2])
+                for (uint64_t i = 0; i < drawn[7] / 8; i++)
+                    word();
+        }
+    } else {
+        char *line;
+        do {
+            line = lines_next(&trace);
+            if (!line)
+                return 0;
+            now = number(&line);
+            if (!strchr("RWMCS", *line) || line[1] != ',')
+                leave(3, NULL);
+        } while (*line == 'S');
+        arrived++;
+    }
+    *map_at(&waiting, arrived) = now;
+    return 1;
+}
+
+static const char *const OUTCOMES[] = {"stored", "merged", "queued", "full", "worn", "read", "forwarded", "busy", "lost", "cut"};
+enum { KINDS = 10, NEAR = 1 << 14 };
+static uint64_t near[KINDS][NEAR];
+static struct map far;
+
+/* An outcome of a row of the stream. */
+static void told(char *line)
+{
+    if (*line == ',')
+        return;
+    uint64_t row = number(&line), came;
+    char *end = strchr(line, ',');
+    int kind = 0;
+    if (!end)
+        leave(3, NULL);
+    while (kind < KINDS && (strncmp(OUTCOMES[kind], line, (size_t)(end - line)) || OUTCOMES[kind][end - line]))
+        kind++;
+    if (kind == KINDS)
+        leave(3, NULL);
+    line = end + 1;
+    uint64_t tick = number(&line);
+    while (arrived < row)
+        if (!arrive()) {
+            /* (the cut that is added where the power stays off) */
+            if (kind == 9 && row == arrived + 1)
+                return;
+            leave(3, NULL);
+        }
+    if (!map_take(&waiting, row, &came) || tick < came)
+        leave(3, NULL);
+    if (tick - came < NEAR)
+        near[kind][tick - came]++;
+    else
+        ++*map_at(&far, (tick - came) * 16 + (uint64_t)kind);
+}
+
+int main(int count, char **words)
+{
+    struct lines rows;
+    is_drawn = count == 4 && !strcmp(words[1], "--drawn");
+    if (!is_drawn && count != 3)
+        leave(2, "usage: latencies TRACE|--drawn NUMBERS ROWS");
+    map_make(&waiting, 1 << 12);
+    map_make(&far, 1 << 12);
+    if (is_drawn) {
+        char *at = words[2];
+        for (int i = 0; i < 8; i++, at += *at == ',')
+            drawn[i] = strtoull(at, &at, 10);
+        seeded(drawn[0]);
+    } else {
+        lines_open(&trace, words[1]);
+        char *head = lines_next(&trace);
+        if (!head || strncmp(head, "tick,op,arg,data\n", 17))
+            leave(3, NULL);
+    }
+    lines_open(&rows, words[count - 1]);
+    char *line = lines_next(&rows);
+    if (line && strncmp(line, "row,outcome,tick,place,data\n", 28))
+        leave(3, NULL);
+    while ((line = lines_next(&rows)))
+        told(line);
+    for (int kind = 0; kind < KINDS; kind++)
+        for (uint64_t ticks = 0; ticks < NEAR; ticks++)
+            if (near[kind][ticks])
+                printf("%s %" PRIu64 " %" PRIu64 "\n", OUTCOMES[kind], ticks, near[kind][ticks]);
+    for (size_t at = 0; at <= far.mask; at++)
+        if (far.keys[at])
+            printf("%s %" PRIu64 " %" PRIu64 "\n", OUTCOMES[(far.keys[at] - 1) % 16], (far.keys[at] - 1) / 16, far.values[at]);
+    return fflush(stdout) || ferror(stdout) ? 5 : 0;
+}

@@ -1,0 +1,419 @@
+"""How long rows took, exactly, of a stream of any length: a histogram of ticks for each outcome.
+
+usage: python3 -m pcm latencies ROWS --trace TRACE [options]       of what `./pcm stream` printed, beside the trace that it read
+       python3 -m pcm latencies --run [TRACE] [options]            the program of streams runs, once for each --options
+
+  --trace FILE      the trace of ROWS, a file, since it is read beside them; ROWS may be -, standard input
+  --options WORDS   the options of a stream, as one word: --options '--policy cancel'; with --input drawn among them TRACE is left out,
+                    and with ROWS --trace is
+  --tick-ns NS      how many nanoseconds a tick stands for; or --device NAME, a published device (lee2009)
+  --csv             commas in the place of columns
+  --python          the pass in Python, also where there is a C compiler
+  --progress        standard error tells how far it is, also where that isn't a terminal
+
+A row for each run and kind: reads that were answered (`reads`: by the array or the queue), those that the array answered (`read`), writes
+that were `stored`, and `writes`, stored or merged: how many, the mean of their ticks from arrival to outcome, the least number that 50,
+90, 99 and 99.9 of 100 don't exceed, and the most. No row is sampled or rounded. The text is passed over once, in memory that grows with
+the rows that wait, by a program in C that cc builds, which takes less time than the stream, or, where there is no cc, in Python, which
+takes more; the last line says which."""
+import argparse
+import contextlib
+import os
+import shutil
+import subprocess
+import sys
+import tempfile
+from typing import BinaryIO, Dict, Iterable, Iterator, List, NamedTuple, Optional, Sequence, Tuple
+
+from .devices import units_of
+from .errors import PcmError, ReadFault, UsageError, error_of
+from .program import Program, command
+from .progress import Progress
+from .rows import Settle, read_trace
+from .runs import DRAWN, OUTCOMES
+from .tables import Parser, names_of, parsed_options, table
+from .words import wrong_word
+
+# Numbers of ticks, and how many rows of an outcome took so many.
+Histogram = Dict[int, int]
+QUANTILES = (50.0, 90.0, 99.0, 99.9)
+KINDS: "Dict[str, Tuple[str, ...]]" = {
+    "reads": ("read", "forwarded"), "read": ("read",), "writes": ("stored", "merged"), "stored": ("stored",),
+}
+_HERE = os.path.dirname(os.path.abspath(__file__))
+_HEADER = "row,outcome,tick,place,data"
+_MASK = 2**64 - 1
+
+
+class RowsFault(PcmError):
+    """What should be rows of a stream isn't, or isn't of this trace (status 3)."""
+
+    def __init__(self, line: str) -> None:
+        super().__init__(3, line)
+
+
+class Spread(NamedTuple):
+    """How many rows, the mean of their ticks, the quantiles of `QUANTILES`, and the most ticks; the last three None of no rows."""
+
+    rows: int
+    mean: Optional[float]
+    quantiles: Tuple[Optional[int], ...]
+    most: Optional[int]
+
+
+def spread(histograms: Iterable[Histogram]) -> Spread:
+    """The spread of some histograms together."""
+    whole: Histogram = {}
+    for histogram in histograms:
+        for ticks, count in histogram.items():
+            whole[ticks] = whole.get(ticks, 0) + count
+    rows = sum(whole.values())
+    if not rows:
+        return Spread(0, None, (None,) * len(QUANTILES), None)
+    ranks = [-(-rows * round(percent * 10) // 1000) for percent in QUANTILES]
+    found, below = [], 0
+    for ticks in sorted(whole):
+        below += whole[ticks]
+        while len(found) < len(ranks) and ranks[len(found)] <= below:
+            found.append(ticks)
+    return Spread(rows, sum(ticks * count for ticks, count in whole.items()) / rows, tuple(found), max(whole))
+
+
+# Arrivals.
+
+
+def _rotated(word: int, by: int) -> int:
+    return (word << by | word >> (64 - by)) & _MASK
+
+
+def _words(seed: int) -> Iterator[int]:
+    """The words of xoshiro256++, seeded by SplitMix64."""
+    state = []
+    for _ in range(4):
+        seed = (seed + 0x9E3779B97F4A7C15) & _MASK
+        word = (seed ^ seed >> 30) * 0xBF58476D1CE4E5B9 & _MASK
+        word = (word ^ word >> 27) * 0x94D049BB133111EB & _MASK
+        state.append(word ^ word >> 31)
+    one, two, three, four = state
+    while True:
+        yield (_rotated((one + four) & _MASK, 23) + one) & _MASK
+        kept = two << 17 & _MASK
+        three ^= one
+        four ^= two
+        two ^= three
+        one ^= four
+        three ^= kept
+        four = _rotated(four, 45)
+
+
+def _drawn(numbers: Sequence[int]) -> Iterator[int]:
+    """The ticks of a drawn trace's rows."""
+    seed, rows, percent, cuts, step, _, _, size = numbers
+    words, part, tick = _words(seed), max(1, rows // (cuts + 1)), 0
+    for row in range(1, rows + 1):
+        tick += next(words) % (step + 1)
+        if row % part or row // part > cuts:
+            if (next(words) >> 32) % 100 < percent:
+                for _ in range(size // 8):
+                    next(words)
+        yield tick
+
+
+def _of_file(path: str) -> Iterator[int]:
+    """The ticks of a trace's numbered rows."""
+    with open(path, encoding="latin-1", newline="") as file:
+        try:
+            # (a byte order mark, in this encoding)
+            mark = file.read(3)
+            if mark != "\xef\xbb\xbf":
+                file.seek(0)
+            for row in read_trace(file):
+                if not isinstance(row, Settle):
+                    yield row.tick
+        except ValueError as wrong:
+            raise RowsFault(f"{path} {wrong}") from None
+
+
+def in_python(arrivals: Iterator[int], rows: Iterable[bytes]) -> Dict[str, Histogram]:
+    """The histograms of outcomes, by the ticks at which rows arrive and the lines that a stream prints."""
+    found: Dict[str, Histogram] = {word: {} for word in OUTCOMES}
+    waiting: Dict[int, int] = {}
+    arrived = 0
+    lines = iter(rows)
+    if next(lines, b"").rstrip(b"\n") != _HEADER.encode():
+        raise RowsFault("row 0: not the header of a stream's rows")
+    for at, line in enumerate(lines, 1):
+        fields = line.split(b",", 4)
+        if not line.endswith(b"\n"):
+            break
+        if fields[0] == b"":
+            continue
+        try:
+            row, word, tick = int(fields[0]), fields[1].decode(), int(fields[2])
+            histogram = found[word]
+        except (ValueError, IndexError, KeyError):
+            raise RowsFault(f"row {at}: not a row of a stream") from None
+        while arrived < row:
+            came = next(arrivals, None)
+            if came is None:
+                break
+            arrived += 1
+            waiting[arrived] = came
+        ticks = tick - waiting.pop(row, tick if word == "cut" else tick + 1)
+        if ticks < 0:
+            raise RowsFault(f"row {at}: not an outcome of a row of this trace")
+        histogram[ticks] = histogram.get(ticks, 0) + 1
+    return found
+
+
+# The pass.
+
+
+@contextlib.contextmanager
+def compiled(wanted: bool = True) -> "Iterator[Optional[str]]":
+    """The pass in C, built by `cc` into a folder that goes behind it; None where that can't be."""
+    compiler = shutil.which("cc") or shutil.which("gcc") or shutil.which("clang")
+    if not wanted or compiler is None:
+        yield None
+        return
+    with tempfile.TemporaryDirectory() as folder:
+        built = os.path.join(folder, "latencies")
+        words = [compiler, "-O2", "-o", built, os.path.join(_HERE, "latencies.c")]
+        done = subprocess.run(words, stdin=subprocess.DEVNULL, stdout=subprocess.DEVNULL, stderr=subprocess.DEVNULL, check=False)
+        yield built if done.returncode == 0 else None
+
+
+class Passed(NamedTuple):
+    """The histograms of a run's outcomes, and what counted them: `C` or `Python`."""
+
+    found: Dict[str, Histogram]
+    by: str
+
+    def spreads(self) -> Dict[str, Spread]:
+        """The spread of each kind."""
+        return {kind: spread(self.found[word] for word in words) for kind, words in KINDS.items()}
+
+
+def numbers_of(options: Dict[str, str]) -> Optional[List[int]]:
+    """The numbers of a drawn trace, by the options of a stream; None where the trace isn't drawn."""
+    if options.get("input") != "drawn":
+        return None
+    value = {"seed": "0", "line": "64", **DRAWN, **options}
+    names = ("seed", "rows", "write-percent", "cuts", "step", "hot")
+    for name in (*names, "line"):
+        if not (value[name].isascii() and value[name].isdigit()):
+            words = [word for name, text in options.items() for word in (f"--{name}", text)]
+            raise UsageError(2, wrong_word(["stream", *words]) or f"--{name} {value[name]}: it may be a number")
+    return [*(int(value[name]) for name in names), 0, int(value["line"])]
+
+
+def of_files(rows: str, trace: Optional[str], drawn: Optional[List[int]] = None, built: Optional[str] = None) -> Passed:
+    """Those of rows that a stream printed, a file or `-`, and of its trace."""
+    try:
+        with contextlib.nullcontext(sys.stdin.buffer) if rows == "-" else open(rows, "rb") as file:
+            if built is not None and rows != "-":
+                found = _by_program([built, *_source(trace, drawn), rows])
+                if found is not None:
+                    return Passed(found, "C")
+            elif built is not None:
+                return _of_pipe(file, trace, drawn, built)
+            return Passed(in_python(_arrivals(trace, drawn), file), "Python")
+    except OSError as wrong:
+        raise ReadFault(4, f"{wrong.filename}: {wrong.strerror}") from None
+
+
+def _of_pipe(file, trace: Optional[str], drawn: Optional[List[int]], built: str) -> Passed:
+    """Those of a pipe, which can't be read twice: a pass in C that gives up ends it."""
+    done = subprocess.run([built, *_source(trace, drawn), "-"], stdin=file, stdout=subprocess.PIPE, stderr=subprocess.PIPE, check=False)
+    if done.returncode == 3:
+        raise RowsFault("the rows, or the trace, aren't of the plain form that is read fast (or not of each other); --python reads any")
+    return Passed(_counted(done), "C")
+
+
+def _arrivals(trace: Optional[str], drawn: Optional[List[int]]) -> Iterator[int]:
+    return _of_file(trace or os.devnull) if drawn is None else _drawn(drawn)
+
+
+def _source(trace: Optional[str], drawn: Optional[List[int]]) -> List[str]:
+    """The words of the pass in C for a trace."""
+    return [trace or os.devnull] if drawn is None else ["--drawn", ",".join(map(str, drawn))]
+
+
+def _by_program(words: List[str]) -> Optional[Dict[str, Histogram]]:
+    """The histograms by the pass in C; None where it leaves that to Python."""
+    done = subprocess.run(words, stdin=subprocess.DEVNULL, stdout=subprocess.PIPE, stderr=subprocess.PIPE, check=False)
+    return None if done.returncode == 3 else _counted(done)
+
+
+def _counted(done: "subprocess.CompletedProcess[bytes]") -> Dict[str, Histogram]:
+    if done.returncode != 0:
+        raise ReadFault(4, done.stderr.decode(errors="replace").strip() or f"the pass in C ended with status {done.returncode}")
+    found: Dict[str, Histogram] = {word: {} for word in OUTCOMES}
+    for line in done.stdout.decode().splitlines():
+        word, ticks, count = line.split(" ")
+        found[word][int(ticks)] = int(count)
+    return found
+
+
+def of_run(
+    trace: Optional[str], options: Dict[str, str], program: Program = None, built: Optional[str] = None,
+    progress: Optional[Progress] = None, running: "Optional[set[subprocess.Popen[bytes]]]" = None,
+) -> Passed:
+    """Those of a run by the program of streams, over a file or a drawn trace. Its process stands in `running` while it runs."""
+    drawn = numbers_of(options)
+    more = [word for name, value in options.items() for word in (f"--{name}", value)]
+    words = [*command("stream", program), *more]
+    with contextlib.ExitStack() as held:
+        said = held.enter_context(tempfile.TemporaryFile())
+        try:
+            given = held.enter_context(open(trace or os.devnull, "rb"))
+        except OSError as wrong:
+            raise ReadFault(4, f"{trace}: {wrong.strerror}") from None
+        process = held.enter_context(subprocess.Popen(words, stdin=given, stdout=subprocess.PIPE, stderr=said))
+        held.callback(process.kill)
+        if running is not None:
+            running.add(process)
+            held.callback(running.discard, process)
+        fault, found = None, None
+        built = built if _is_plain(trace) else None
+        try:
+            if built is None:
+                found = in_python(_arrivals(trace, drawn), process.stdout)
+            else:
+                found = _found(process, built, [*_source(trace, drawn), "-"], given, trace, progress)
+        except PcmError as wrong:
+            fault, found = wrong, None
+        # (a program whose rows nobody reads any more ends with a fault of writing)
+        process.stdout.close()
+        if process.wait() not in (0, 1) and (found is not None or process.returncode in (2, 3, 4, 6, 7)):
+            said.seek(0)
+            raise error_of(process.returncode, said.read(), ["stream", *more], trace)
+        if fault is not None:
+            raise fault
+    if found is None:
+        # (what the pass in C leaves to Python is run once more)
+        return of_run(trace, options, program, None, progress, running)
+    return Passed(found, "Python" if built is None else "C")
+
+
+def _found(
+    process: "subprocess.Popen[bytes]", built: str, words: List[str], given: BinaryIO, trace: Optional[str], progress: Optional[Progress],
+) -> Optional[Dict[str, Histogram]]:
+    """The histograms of a process's rows by the pass in C; None where it leaves them to Python."""
+    with subprocess.Popen([built, *words], stdin=process.stdout, stdout=subprocess.PIPE, stderr=subprocess.PIPE) as counting:
+        try:
+            process.stdout.close()
+            out, err = _waited(counting, given, trace, progress)
+        finally:
+            counting.kill()
+    done = subprocess.CompletedProcess([], counting.returncode, out, err)
+    return None if done.returncode == 3 else _counted(done)
+
+
+def _waited(counting: "subprocess.Popen[bytes]", given: BinaryIO, trace: Optional[str], progress: Optional[Progress]) -> Tuple[bytes, bytes]:
+    """What the pass in C prints; meanwhile it is told which part of the trace has been read."""
+    size = os.path.getsize(trace) if trace else 0
+    while True:
+        try:
+            return counting.communicate(timeout=0.5)
+        except subprocess.TimeoutExpired:
+            if progress is not None and size:
+                share = os.lseek(given.fileno(), 0, os.SEEK_CUR) / size
+                progress.tell(lambda: f"{100 * min(share, 1.0):.0f}% of {trace}")
+            elif progress is not None:
+                progress.tell(lambda: "counting")
+
+
+def _is_plain(trace: Optional[str]) -> bool:
+    """Whether a trace begins in the form that is read fast."""
+    if trace is None:
+        return True
+    with open(trace, "rb") as file:
+        return os.path.isfile(trace) and file.read(17) == b"tick,op,arg,data\n"
+
+
+# Words.
+
+
+def parser() -> Parser:
+    """The words of the command."""
+    words = Parser(prog="python3 -m pcm latencies", add_help=False, allow_abbrev=False)
+    words.add_argument("files", nargs="*")
+    words.add_argument("--run", action="store_true")
+    words.add_argument("--trace")
+    words.add_argument("--options", action="append", default=[])
+    words.add_argument("--tick-ns")
+    words.add_argument("--device")
+    words.add_argument("--csv", action="store_true")
+    words.add_argument("--python", action="store_true")
+    words.add_argument("--progress", action="store_true", default=None)
+    return words
+
+
+def main(words: Sequence[str]) -> int:
+    """`python3 -m pcm latencies`; answers the status."""
+    if "--help" in words or "-h" in words:
+        print(__doc__)
+        return 0
+    try:
+        given = parser().parse_args(list(words))
+        sys.stdout.write(told(given))
+        sys.stdout.flush()
+    except PcmError as wrong:
+        print(f"latencies: {wrong}", file=sys.stderr)
+        return wrong.status or 1
+    except KeyboardInterrupt:
+        print("latencies: broken off", file=sys.stderr)
+        return 130
+    except OSError as wrong:
+        os.dup2(os.open(os.devnull, os.O_WRONLY), sys.stdout.fileno())
+        print(f"latencies: {wrong.filename or 'standard output'}: {wrong.strerror}", file=sys.stderr)
+        return 5
+    return 0
+
+
+def told(given: argparse.Namespace) -> str:
+    """The table that is asked for."""
+    made = [parsed_options(one) for one in given.options] or [{}]
+    tick_ns = None
+    if given.tick_ns is not None or given.device is not None:
+        tick_ns = units_of(given.device, tick_ns=given.tick_ns).tick_ns
+    watched = Progress(given.progress)
+    with compiled(not given.python) as built:
+        if given.run:
+            passes = list(_ran(given, made, built, watched))
+        else:
+            if len(given.files) != 1 or len(made) > 1 or (given.trace is None) == (numbers_of(made[0]) is None):
+                more = "with --trace TRACE (or --options '--input drawn ..'), or --run; --help tells more"
+                raise UsageError(2, f"one file of rows is wanted {more}")
+            passes = [(given.files[0], of_files(given.files[0], given.trace, numbers_of(made[0]), built))]
+    watched.clear()
+    unit = "ticks" if tick_ns is None else "ns"
+    head = ["run", "kind", "rows", f"mean {unit}", *(f"{percent:g}%" for percent in QUANTILES), "most"]
+    rows: List[List[object]] = []
+    for name, passed in passes:
+        for kind, one in passed.spreads().items():
+            numbers = [one.mean, *one.quantiles, one.most]
+            rows.append([name, kind, one.rows, *(_scaled(number, tick_ns) for number in numbers)])
+    by = " and ".join(sorted({passed.by for _, passed in passes}))
+    by += "" if tick_ns is None else f", a tick being {tick_ns:g} ns"
+    return table(head, rows, given.csv) + ("" if given.csv else f"counted in {by}\n")
+
+
+def _scaled(number: "int | float | None", tick_ns: Optional[float]) -> "int | float | None":
+    """A number of ticks in nanoseconds, where it is told how many a tick is."""
+    if number is None or tick_ns is None:
+        return number
+    ns = number * tick_ns
+    return int(ns) if isinstance(number, int) and ns == int(ns) else float(ns)
+
+
+def _ran(given: argparse.Namespace, made: List[Dict[str, str]], built: Optional[str], watched: Progress) -> Iterator[Tuple[str, Passed]]:
+    """The passes over runs of the program."""
+    if given.trace is not None or len(given.files) > 1:
+        raise UsageError(2, "--run takes one trace, without --trace")
+    for words, options in zip(names_of(given.options, made), made):
+        trace = given.files[0] if given.files else None
+        if (trace is None) == (numbers_of(options) is None):
+            raise UsageError(2, "a trace is wanted, or --options '--input drawn ..' without one")
+        yield words, of_run(trace, options, None, built, watched)
