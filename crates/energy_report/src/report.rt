@@ -34,12 +34,7 @@ fn push_all(energy: Option<LineEnergy>, text: &mut Text)
 }
 
 /// Writes a row for each of an array's banks, which have so many lines each, and one for all lines.
-pub fn print_energy_report<
-    A: TellsCells<B, M>,
-    const B: usize,
-    const M: usize,
-    K: Sink,
->(
+pub fn print_energy_report<A: TellsCells<B, M>, const B: usize, const M: usize, K: Sink>(
     array: &A,
     banks: u32,
     lines: u32,
