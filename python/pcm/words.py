@@ -112,7 +112,7 @@ _STREAM = [
     _few("banks", "A", 4, 64, "banks of the module"),
     _few("regions", "B", 2, 64, "regions of a bank"),
     _power("lines", "N", 64, 4, 2**26, "lines of a region"),
-    _choice("print", "P", "what is printed", "rows", "summary", "wear", "image", "lines", "snapshots"),
+    _choice("print", "P", "what is printed", "rows", "summary", "wear", "image", "lines", "energy", "snapshots"),
     _number("every", "N", 100000, 1, 4294967295, "rows between snapshots"),
     _choice("end", "E", "what becomes of the module behind the last row", "drain", "off"),
     _choice("until", "U", "up to where the rows are served", "end", "refused"),

@@ -8,7 +8,7 @@ use Rattle.right_images.specs.{SavesRun.AreRowsTo, Saving.saved_cells, SensedSin
 use Rattle.image_text.{specs.Printing.PrintsPart, specs.Sensing.{PrintsRows, SensesRows, SensesSome}, proofs.Prints.{part-all, part-same}}
 
 -- what is told of a line's energy where it was sensed, or was not
-counted : Bool → Option LineEnergy → Option LineEnergy
+abbrev counted : Bool → Option LineEnergy → Option LineEnergy
 counted sensed energy = cond sensed (with_sense energy) energy
 
 pub sensed-none : {n m : ℕ} (array : ArrayState n m) → SensedSince 0 array array

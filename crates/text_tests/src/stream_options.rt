@@ -130,6 +130,7 @@ fn a_stream_may_be_long_and_end_without_power(rt: HostRuntime) -> Result<(), Fai
         ends(rt.alloc(), "--every 4294967295 --print=snapshots")?,
         ends(rt.alloc(), "--until refused --end=off")?,
         ends(rt.alloc(), "--until=end")?,
+        ends(rt.alloc(), "--print energy")?,
     ];
     let wanted = [
         (StreamPrint::Rows, Input::Source, End::Drain, Until::End),
@@ -157,6 +158,7 @@ fn a_stream_may_be_long_and_end_without_power(rt: HostRuntime) -> Result<(), Fai
         ),
         (StreamPrint::Rows, Input::Source, End::Off, Until::Refused),
         (StreamPrint::Rows, Input::Source, End::Drain, Until::End),
+        (StreamPrint::Energy, Input::Source, End::Drain, Until::End),
     ];
     assert_eq!(rt; told, wanted);
     Ok(())

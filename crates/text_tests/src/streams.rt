@@ -1,6 +1,7 @@
 ghost use Rattle.row_printer.specs.Snapshots.{IsShown};
 
 use crate::expected::assert_text;
+use cell_rows::LineEnergy;
 use pcm_io::{MemSink, MemSource, NeverFailSource, Text};
 use result_rows::Outcome;
 use row_printer::{RowPrinter, Shown, Snapshot};
@@ -196,7 +197,12 @@ fn a_stream_may_only_count(rt: HostRuntime) -> Result<(), Fail> {
 }
 
 // Tells a row, and takes a snapshot behind it.
-fn told_snapshot(out: &mut RowPrinter<64, MemSink>, row: u32, tick: u64) {
+fn told_snapshot(
+    out: &mut RowPrinter<64, MemSink>,
+    row: u32,
+    tick: u64,
+    energy: Option<LineEnergy>,
+) {
     out.settled(tick);
     let snapshot = Snapshot {
         rows: row,
@@ -207,6 +213,7 @@ fn told_snapshot(out: &mut RowPrinter<64, MemSink>, row: u32, tick: u64) {
         most: 9,
         mean: 0,
         pointers: 2,
+        energy,
     };
     out.snapshot(&snapshot);
 }
@@ -222,8 +229,13 @@ fn taken(alloc: Global) -> Result<(Box<MemSink>, [bool; 2]), Fail> {
     out.add_row();
     out.set(2, Outcome::Busy { tick: 5 });
     let second = out.is_due();
-    told_snapshot(&mut out, 2, 5);
-    told_snapshot(&mut out, 2, u64::MAX);
+    let energy = LineEnergy {
+        set: 70,
+        reset: 0,
+        senses: u64::MAX,
+    };
+    told_snapshot(&mut out, 2, 5, Some(energy));
+    told_snapshot(&mut out, 2, u64::MAX, None);
     let _done = out.flush();
     let (sink, _text) = out.end();
     Ok((sink, [first, second]))
@@ -235,7 +247,7 @@ fn snapshots_stand_behind_multiples(rt: HostRuntime) -> Result<(), Fail> {
     assert_text(
         &rt,
         sink.written(),
-        b"rows,tick,stored,merged,queued,full,worn,read,forwarded,busy,lost,cut,retired,pulses,most,mean,pointers\n2,5,0,0,0,0,0,0,0,1,0,0,4294967295,17,9,0,2\n2,18446744073709551615,0,0,0,0,0,0,0,1,0,0,4294967295,17,9,0,2\n",
+        b"rows,tick,stored,merged,queued,full,worn,read,forwarded,busy,lost,cut,retired,pulses,most,mean,pointers,senses,set,reset\n2,5,0,0,0,0,0,0,0,1,0,0,4294967295,17,9,0,2,18446744073709551615,70,0\n2,18446744073709551615,0,0,0,0,0,0,0,1,0,0,4294967295,17,9,0,2,,,\n",
     );
     assert_eq!(rt; due, [false, true]);
     Ok(())
