@@ -1,5 +1,5 @@
 -- What a stream leaves that was served to its end.
-use Rattle.std.proofs.Common.{ℕ, ◌+◌, ◌^◌, ◌<◌, Bool, true, false, List, ◌++◌, Option, Some, None, refl, sym}
+use Rattle.std.proofs.Common.{ℕ, ◌^◌, ◌<◌, Bool, true, false, List, ◌++◌, Option, Some, None, refl, sym}
 use Rattle.std.specs.Prelude.{IsSomeAnd, slice_get, unwrap_or}
 use Rattle.cell_rows.specs.Device.{ArrayState}
 use Rattle.ecp_line.specs.ArrayLines.{is_worn_at}

@@ -87,7 +87,8 @@ module _ {A V S K : Type 0} (call : Call A V S K) where
   module _ {F : Type 0} (err : Lent F SinkChange) (status : ℕ) where
     -- what holds of every call
     pub record KeepsPromises : Type 0 where
-      -- The status is 0 or 1: the stream was served to its end, and exactly what was told was written; the status is 1 exactly where some row fell short.
+      -- The status is 0 or 1: the stream was served to its end, and exactly what was told was written; the status is 1 exactly where some row
+      -- fell short, but not where it stopped at a refused row, as it was to.
       pub done : status ≤ status_done Short → (done : Done) × Does call.asked done × (status ≡ status_done done)
       pub silent : status ≤ status_done Short → IsUntouched err
       -- It is another, but for 5: the stream stopped at a fault that has its cause, exactly what was known by then was written, and the fault is told.

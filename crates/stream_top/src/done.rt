@@ -5,7 +5,7 @@ ghost use Rattle.stream_top.specs.Streams.{status_done};
 /// How a stream was done.
 #[derive(Clone, Copy, Debug, PartialEq, Eq)]
 pub enum Done {
-    /// Wholly: no row fell short of what it asked for.
+    /// Wholly: no row fell short of what it asked for, or it stopped at a refused row, as it was to.
     Whole,
     /// Some row was refused, lost or left in a queue.
     Short,

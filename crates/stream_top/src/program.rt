@@ -95,8 +95,8 @@ fn work<A: TellsCells<64, 8>, V: TellsCells<128, 16>, S: Source, K: Sink + Drop>
     }
 }
 
-/// Runs the program of streams on the words behind its name, and answers its status and the output: 0 the stream was served to its end, 1 so it
-/// was and some row was refused, lost or left in a queue, 2 the words ask for nothing, 3 a row has a fault, 4 reading failed, 5 writing failed,
+/// Runs the program of streams on the words behind its name, and answers its status and the output: 0 the stream was served to its end, or up
+/// to a refused row where it was to stop there, 1 to its end and some row was refused, lost or left in a queue, 2 the words ask for nothing, 3 a row has a fault, 4 reading failed, 5 writing failed,
 /// 6 there are too many rows, 7 memory ran out. It is served on the array of its lines, which is powered up first: `array` for lines of 64
 /// bytes, `wide` for lines of 128.
 pub fn stream_run<A: TellsCells<64, 8>, V: TellsCells<128, 16>, S: Source, K: Sink + Drop, F: Sink>(
