@@ -1,16 +1,17 @@
-"""`python3 -m pcm report ..`: what the package does by itself."""
+"""`python3 -m pcm COMMAND ..`: what the package does by itself."""
 import sys
 
-from . import report
+from . import differing, report
 
-USAGE = "usage: python3 -m pcm report RESULTS.. [options]  (python3 -m pcm report --help tells more)"
+USAGE = "usage: python3 -m pcm report|differ .. [options]  (python3 -m pcm COMMAND --help tells more)"
+_COMMANDS = {"report": report.main, "differ": differing.main}
 
 
 def main() -> int:
     """Goes by the first word."""
     words = sys.argv[1:]
-    if words[:1] == ["report"]:
-        return report.main(words[1:])
+    if words[:1] and words[0] in _COMMANDS:
+        return _COMMANDS[words[0]](words[1:])
     if words[:1] in (["-h"], ["--help"]):
         print(USAGE)
         return 0
