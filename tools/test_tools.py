@@ -497,7 +497,8 @@ class Words(unittest.TestCase):
              "line 2: the first field must be a tick, 0 to 1099511627776 in digits, and is '-1'"),
             (f"{head}0,R,0,\nrow,op,line,outcome,tick,place,data\n1,R,0,read,5,5,\r\n", "check", "results row 1",
              "line 4: it ends with CRLF, and must end with LF"),
-            *((f"{head}0,R,0,\n7,W,2,{line}\n8,C,,\nrow,op,line,outcome,tick,place,data\n1,R,0,busy,0,,\n{row}\n", "check", f"results row {at}", f"line {6 + at - 1}: {said}")
+            *((f"{head}0,R,0,\n7,W,2,{line}\n8,C,,\nrow,op,line,outcome,tick,place,data\n1,R,0,busy,0,,\n{row}\n", "check",
+               f"results row {at}", f"line {5 + at}: {said}")
               for row, at, said in (
                   ("3,W,2,queued,7,,", 2, "the first field must be 2, the row's number, and is '3'"),
                   ("2,R,2,queued,7,,", 2, "the second field must be W, as in the trace, and is 'R'"),

@@ -374,11 +374,12 @@ def _wrong_result(fields: Sequence[str], row: int, asked: Sequence[str], size: i
         return f"the first field must be {row}, the row's number, and is {_shown(number)}"
     if op != wanted:
         return f"the second field must be {wanted}, as in the trace, and is {_shown(op)}"
-    if line != (str(int(asked[2])) if asked[2] else ""):
-        return f"the third field must be {int(asked[2])}, as in the trace, and is {_shown(line)}" if asked[2] else "the third field of C must be empty"
+    named = str(int(asked[2])) if asked[2] else ""
+    if line != named:
+        return f"the third field must be {named or 'empty'}, as in the trace, and is {_shown(line)}"
     if word not in OUTCOMES[wanted]:
-        others = [it for it in OUTCOMES if word in OUTCOMES[it]]
-        return f"the fourth field of {wanted} may be {either(OUTCOMES[wanted])}" + (f" ({word} is of {others[0]})" if others else near(word, OUTCOMES[wanted]))
+        others = [f" ({word} is of {it})" for it in OUTCOMES if word in OUTCOMES[it]]
+        return f"the fourth field of {wanted} may be {either(OUTCOMES[wanted])}{others[0] if others else near(word, OUTCOMES[wanted])}"
     if not re.fullmatch(r"0|[1-9][0-9]{0,14}", tick):
         return f"the fifth field must be a tick of at most 15 digits, without a zero in front, and is {_shown(tick)}"
     if word not in PLACED and place:
@@ -388,7 +389,8 @@ def _wrong_result(fields: Sequence[str], row: int, asked: Sequence[str], size: i
     if word not in ANSWERED and data:
         return f"the seventh field of {word} must be empty, and is {_shown(data)}"
     if word in ANSWERED and not re.fullmatch(f"[0-9a-f]{{{2 * size}}}", data):
-        return f"the seventh field of {word} must be {2 * size} lower-case hexadecimal digits, and is {_shown(data)} with {len(data)} characters"
+        told = f"{_shown(data)} with {len(data)} characters"
+        return f"the seventh field of {word} must be {2 * size} lower-case hexadecimal digits, and is {told}"
     return None
 
 
