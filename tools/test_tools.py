@@ -497,6 +497,23 @@ class Words(unittest.TestCase):
              "line 2: the first field must be a tick, 0 to 1099511627776 in digits, and is '-1'"),
             (f"{head}0,R,0,\nrow,op,line,outcome,tick,place,data\n1,R,0,read,5,5,\r\n", "check", "results row 1",
              "line 4: it ends with CRLF, and must end with LF"),
+            *((f"{head}0,R,0,\n7,W,2,{line}\n8,C,,\nrow,op,line,outcome,tick,place,data\n1,R,0,busy,0,,\n{row}\n", "check",
+               f"results row {at}", f"line {5 + at}: {said}")
+              for row, at, said in (
+                  ("3,W,2,queued,7,,", 2, "the first field must be 2, the row's number, and is '3'"),
+                  ("2,R,2,queued,7,,", 2, "the second field must be W, as in the trace, and is 'R'"),
+                  ("2,W,1,queued,7,,", 2, "the third field must be 2, as in the trace, and is '1'"),
+                  ("2,W,2,busy,7,,", 2, "the fourth field of W may be stored, merged, queued, full or worn (busy is of R)"),
+                  ("2,W,2,queud,7,,", 2, "the fourth field of W may be stored, merged, queued, full or worn (did you mean queued?)"),
+                  ("2,W,2,queued,07,,", 2, "the fifth field must be a tick of at most 15 digits, without a zero in front, and is '07'"),
+                  ("2,W,2,queued,7,1,", 2, "the sixth field of queued must be empty, and is '1'"),
+                  ("2,W,2,stored,7,,", 2, "the sixth field of stored must be an array line, 0 to 98831, and is ''"),
+                  ("2,W,2,queued,7,,ab", 2, "the seventh field of queued must be empty, and is 'ab'"),
+              )),
+            (f"{head}0,R,0,\nrow,op,line,outcome,tick,place,data\n1,R,0,read,5,5,AB\n", "check", "results row 1",
+             "line 4: the seventh field of read must be 128 lower-case hexadecimal digits, and is 'AB' with 2 characters"),
+            (f"{head}0,R,0,\nrow,op,line,outcome,tick,place,data\n1,R,0,busy,0,,\n2,R,0,busy,0,,\n", "check", "results row 2",
+             "line 5: it follows the results of the trace's last row"),
             (f"{head}0,R,0,\n", "run", "trace row 1: op", None),
         ]
         with tempfile.TemporaryDirectory() as room:

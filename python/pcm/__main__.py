@@ -1,17 +1,17 @@
-"""`python3 -m pcm report ..`: what the package does by itself."""
+"""`python3 -m pcm COMMAND ..`: what the package does by itself."""
 import sys
 
-from . import energy, latencies, report
+from . import differing, energy, latencies, report
 
-COMMANDS = {"report": report.main, "energy": energy.main, "latencies": latencies.main}
-USAGE = "usage: python3 -m pcm report|energy|latencies FILES.. [options]  (--help behind one of them tells more)"
+USAGE = "usage: python3 -m pcm report|energy|latencies|differ .. [options]  (python3 -m pcm COMMAND --help tells more)"
+_COMMANDS = {"report": report.main, "energy": energy.main, "latencies": latencies.main, "differ": differing.main}
 
 
 def main() -> int:
     """Goes by the first word."""
     words = sys.argv[1:]
-    if words and words[0] in COMMANDS:
-        return COMMANDS[words[0]](words[1:])
+    if words[:1] and words[0] in _COMMANDS:
+        return _COMMANDS[words[0]](words[1:])
     if words[:1] in (["-h"], ["--help"]):
         print(USAGE)
         return 0

@@ -361,8 +361,52 @@ def _faulty_row(path: str, row: int, kind: str, words: Sequence[str]) -> Optiona
     return "the file is empty: a trace begins with " + ",".join(HEADER) if row == 0 else None
 
 
-def _faulty_result(path: str, row: int) -> Optional[str]:
-    """Where a row stands that isn't one of results."""
+# The outcomes of each operation, and which of them have a place and bytes.
+OUTCOMES = {"R": ("read", "forwarded", "busy", "lost"), "W": ("stored", "merged", "queued", "full", "worn"), "C": ("cut",)}
+PLACED, ANSWERED = ("stored", "read"), ("read", "forwarded")
+LAST_PLACE = 98831
+
+
+def _wrong_result(fields: Sequence[str], row: int, asked: Sequence[str], size: int) -> Optional[str]:
+    """The first field of a row of results that can't stand there, and what could, where its trace's row is known."""
+    number, op, line, word, tick, place, data = fields
+    wanted = {"M": "W"}.get(asked[1], asked[1])
+    if number != str(row):
+        return f"the first field must be {row}, the row's number, and is {_shown(number)}"
+    if op != wanted:
+        return f"the second field must be {wanted}, as in the trace, and is {_shown(op)}"
+    named = str(int(asked[2])) if asked[2] else ""
+    if line != named:
+        return f"the third field must be {named or 'empty'}, as in the trace, and is {_shown(line)}"
+    if word not in OUTCOMES[wanted]:
+        others = [f" ({word} is of {it})" for it in OUTCOMES if word in OUTCOMES[it]]
+        return f"the fourth field of {wanted} may be {either(OUTCOMES[wanted])}{others[0] if others else near(word, OUTCOMES[wanted])}"
+    if not re.fullmatch(r"0|[1-9][0-9]{0,14}", tick):
+        return f"the fifth field must be a tick of at most 15 digits, without a zero in front, and is {_shown(tick)}"
+    if word not in PLACED and place:
+        return f"the sixth field of {word} must be empty, and is {_shown(place)}"
+    if word in PLACED and not (re.fullmatch(r"0|[1-9][0-9]{0,4}", place) and int(place) <= LAST_PLACE):
+        return f"the sixth field of {word} must be an array line, 0 to {LAST_PLACE}, and is {_shown(place)}"
+    if word not in ANSWERED and data:
+        return f"the seventh field of {word} must be empty, and is {_shown(data)}"
+    if word in ANSWERED and not re.fullmatch(f"[0-9a-f]{{{2 * size}}}", data):
+        told = f"{_shown(data)} with {len(data)} characters"
+        return f"the seventh field of {word} must be {2 * size} lower-case hexadecimal digits, and is {told}"
+    return None
+
+
+def _asked_at(path: str, row: int) -> Optional[List[str]]:
+    """The fields of a row of the trace before results, or the header of these where the trace has no such row."""
+    for number, (_, record) in enumerate(_records(path)):
+        if number == row:
+            known = len(record) == 4 and record[1] in ("R", "W", "M", "C") and re.fullmatch("[0-9]*", record[2])
+            return record if known or ",".join(record) == RESULTS else None
+    return None
+
+
+def _faulty_result(path: str, row: int, words: Sequence[str]) -> Optional[str]:
+    """Where a row stands that isn't one of results, and which of its fields can't stand there."""
+    wanted = row
     with open(path, encoding="latin-1", newline="\n") as text:
         begins, line = 0, ""
         for begins, line in enumerate(text, 1):
@@ -379,9 +423,15 @@ def _faulty_result(path: str, row: int) -> Optional[str]:
     line, ended = line.rstrip("\n"), line.endswith("\n")
     if line.endswith("\r"):
         return f"line {begins}: it ends with CRLF, and must end with LF"
-    fields = line.count(",") + 1
-    if fields != 7:
-        return f"line {begins}: it has {fields} field{'s' * (fields != 1)}, and must have seven: {RESULTS}"
+    fields = line.split(",")
+    if len(fields) != 7:
+        return f"line {begins}: it has {len(fields)} field{'s' * (len(fields) != 1)}, and must have seven: {RESULTS}"
+    asked = _asked_at(path, wanted)
+    if asked is not None and asked[0] == "row":
+        return f"line {begins}: it follows the results of the trace's last row"
+    found = None if asked is None else _wrong_result(fields, wanted, asked, _shape_of(words)[1])
+    if found:
+        return f"line {begins}: {found}"
     return f"line {begins}: {_shown(line)} isn't a row that run prints" + ("" if ended else ": its line isn't ended")
 
 
@@ -406,7 +456,7 @@ def wrong_text(words: Sequence[str], line: str, path: Optional[str]) -> Optional
         if found := re.fullmatch(r"trace row (\d+): (\w+)", line):
             return _faulty_row(path, int(found[1]), found[2], words)
         if found := re.fullmatch(r"results row (\d+)", line):
-            return _faulty_result(path, int(found[1]))
+            return _faulty_result(path, int(found[1]), words)
     except (OSError, ValueError):
         return None
     return None

@@ -1,0 +1,85 @@
+"""Tests of two tables of results beside each other, over the program that PCM names (or ./pcm of the checkout)."""
+import contextlib
+import io
+import pathlib
+import sys
+import tempfile
+import unittest
+
+HERE = pathlib.Path(__file__).resolve().parent
+sys.path[:0] = [str(HERE.parent), str(HERE)]
+from leaks import setUpModule, tearDownModule  # noqa: E402, F401
+from pcm import differing  # noqa: E402
+
+SMALL = {"banks": 1, "regions": 1, "lines": 4, "spares": 2}
+WORDS = [word for name, value in SMALL.items() for word in (f"--{name}", str(value))]
+ONES, ZEROS = "ff" * 64, "00" * 64
+TRACE = f"tick,op,arg,data\n0,W,0,{ONES}\n0,R,0,\n100,R,0,\n"
+HEADER = "row,op,line,outcome,tick,place,data\n"
+RIGHT = f"{HEADER}1,W,0,stored,15,3,\n2,R,0,forwarded,0,,{ONES}\n3,R,0,read,105,3,{ONES}\n"
+STALE = f"{HEADER}1,W,0,stored,15,3,\n2,R,0,read,5,3,{ZEROS}\n3,R,0,read,106,3,{ONES}\n"
+
+
+def told(main, *words, given=b""):
+    """The status of a command of the package, and what it printed on standard output and standard error."""
+    out, err = io.TextIOWrapper(io.BytesIO(), encoding="utf-8"), io.StringIO()
+    with contextlib.redirect_stdout(out), contextlib.redirect_stderr(err):
+        status = main(list(words))
+    out.flush()
+    return status, out.buffer.getvalue().decode(), err.getvalue()
+
+
+class Room(unittest.TestCase):
+    def setUp(self):
+        self.room = tempfile.TemporaryDirectory()
+        self.addCleanup(self.room.cleanup)
+
+    def file(self, name, text):
+        path = pathlib.Path(self.room.name, name)
+        path.write_text(text, encoding="ascii")
+        return str(path)
+
+
+class Partings(Room):
+    def differ(self, one, other, *words):
+        files = (self.file("trace.csv", TRACE), self.file("one.csv", one), self.file("other.csv", other))
+        return (*told(differing.main, *files, *(words or WORDS)), files)
+
+    def test_tables_that_part(self):
+        status, out, err, files = self.differ(RIGHT, STALE)
+        self.assertEqual((1, ""), (status, err))
+        self.assertEqual([
+            f"{files[1]}: keeps the rules", f"{files[2]}: breaks a rule: row 2: serves", "2 rows differ",
+            f"lowest   row 2: read of line 0 at tick 0; forwarded 0, data {'f' * 28}.. beside read 5, data {'0' * 28}..",
+            f"soonest  row 2: read of line 0 at tick 0; forwarded 0, data {'f' * 28}.. beside read 5, data {'0' * 28}..",
+        ], out.splitlines())
+
+    def test_the_soonest_may_stand_behind_the_lowest(self):
+        trace = f"tick,op,arg,data\n0,W,0,{ONES}\n10,R,1,\n"
+        one, other = (f"{HEADER}1,W,0,stored,{write},0,\n2,R,1,read,{read},0,{ZEROS}\n" for write, read in ((50, 20), (45, 50)))
+        kinds = [source_of(kind, text) for kind, text in (("trace", trace), ("results", one), ("results", other))]
+        found = differing.partings(*kinds)
+        self.assertEqual([1, 2], [it.row for it in found])
+        self.assertEqual(2, min(found, key=lambda it: it.shows()).row)
+
+    def test_places_tell_nothing(self):
+        self.assertEqual("no row differs", self.differ(RIGHT, RIGHT.replace(",3,", ",2,"))[1].splitlines()[-1])
+
+    def test_the_first_other_byte_is_told(self):
+        other = RIGHT.replace(f"105,3,{ONES}", f"105,3,ff00{ONES[4:]}")
+        self.assertIn("read 105, from byte 1 on ff beside 00", self.differ(RIGHT, other)[1])
+
+    def test_what_is_no_table_is_told(self):
+        self.assertEqual(3, self.differ(RIGHT, HEADER)[0])
+        self.assertEqual(3, self.differ(RIGHT, "row\n")[0])
+        self.assertEqual(2, self.differ(RIGHT, RIGHT, "--banks", "5")[0])
+        self.assertEqual(2, told(differing.main, "one.csv")[0])
+        self.assertEqual(4, told(differing.main, "/nowhere/1", "/nowhere/2", "/nowhere/3")[0])
+
+
+def source_of(kind, text):
+    return differing.Source(kind, kind, text.encode())
+
+
+if __name__ == "__main__":
+    unittest.main()
