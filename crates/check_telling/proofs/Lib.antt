@@ -1,0 +1,11 @@
+mod Clauses
+mod Right
+mod RightWrites
+mod Folds
+mod Givers
+mod Stands
+mod Banks
+mod Ends
+mod Finds
+mod FindsWrites
+pub mod Sizes
