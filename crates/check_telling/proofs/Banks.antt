@@ -5,7 +5,7 @@ use Rattle.std.proofs.lemmas.List.{map-append}
 use Rattle.std.proofs.lemmas.List.Elements.{All-nil, All-push, All-same}
 use Rattle.row_rules.specs.{Table.{is_of, of_bank}, declared.Row.Row}
 use Rattle.check_telling.proofs.Folds.{none_left}
-use Rattle.check_telling.specs.{Standing.{row_of, rows_of, numbered, IsNumbered, AreNumbered, with_mate}, declared.mates.Numbered.Numbered}
+use Rattle.check_telling.specs.{Standing.{row_of, rows_of, numbered, IsNumbered, AreNumbered, mates_of, with_mate}, declared.mates.Numbered.Numbered}
 
 module _ {n : ℕ} (bank_of : ℕ → ℕ) (bank above : ℕ) where
   -- these rows, from an index on, come one after another
@@ -54,6 +54,25 @@ module _ {n : ℕ} (bank_of : ℕ → ℕ) (bank above : ℕ) where
 
   left : (i : ℕ) (told : List (Numbered n)) (rows : List (Row n)) → length rows ≤ i → mates_on i told (drop i rows) ≡ mates_on 0 [] rows → told ≡ mates_on 0 [] rows
   left i told rows le is = ap (mates_on i told) (sym (none_left i rows le)) ∙ is
+
+  -- one after another they are those of the bank, by their numbers
+  mates_exact : (i : ℕ) (told : List (Numbered n)) (rows : List (Row n)) → mates_on i told rows ≡ told ++ mates_of bank_of bank (above + i) rows
+  mates_exact i told [] = sym (append-nil told)
+  mates_exact i told (row ∷ rows) =
+      let next : above + (i + 1) ≡ above + i + 1 = omega arith in
+      mates_exact (i + 1) (with_mate bank_of bank (numbered (above + i + 1) row) told) rows
+      ∙ ap (λ k. with_mate bank_of bank (numbered (above + i + 1) row) told ++ mates_of bank_of bank k rows) next
+      ∙ joined (is_of bank_of bank row.asks) (numbered (above + i + 1) row) told (mates_of bank_of bank (above + i + 1) rows)
+    where
+      joined : (b : Bool) (new : Numbered n) (told rest : List (Numbered n)) → cond b (told ++ new ∷ []) told ++ rest ≡ told ++ cond b (new ∷ rest) rest
+      joined true new told rest = append_assoc told (new ∷ []) rest
+      joined false new told rest = refl
+
+  pub mates_made : (i : ℕ) (told : List (Numbered n)) (rows : List (Row n)) → length rows ≤ i → mates_on i told (drop i rows) ≡ mates_on 0 [] rows
+      → told ≡ mates_of bank_of bank above rows
+  mates_made i told rows le is =
+      let none : above + 0 ≡ above = omega arith in
+      left i told rows le is ∙ mates_exact 0 [] rows ∙ ap (λ k. mates_of bank_of bank k rows) none
 
   pub mates_found : (i : ℕ) (told : List (Numbered n)) (rows : List (Row n)) → length rows ≤ i → mates_on i told (drop i rows) ≡ mates_on 0 [] rows
       → rows_of told ≡ of_bank bank_of bank rows

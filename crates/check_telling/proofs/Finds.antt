@@ -1,18 +1,18 @@
 -- What a read finds in its bank.
-use Rattle.std.proofs.Common.{◌≡◌, ℕ, suc, ◌<◌, ◌≤◌, ◌^◌, ◌&&◌, ◌||◌, ◌==◌, ◌++◌, Bool, true, false, List, [], ◌∷◌, Option, Some, None, length, refl, sym, ap, ◌∙◌, cond, subst, arith}
+use Rattle.std.proofs.Common.{◌≡◌, ℕ, suc, ◌+◌, ◌<◌, ◌≤◌, ◌^◌, ◌&&◌, ◌||◌, ◌==◌, ◌++◌, Bool, true, false, List, [], ◌∷◌, Option, Some, None, length, refl, sym, ap, ◌∙◌, cond, subst, arith}
 use Rattle.std.specs.{List.{list_all, list_any}, Prelude.{filter, nat_le, reverse, IfSome}}
 use Rattle.std.proofs.{lemmas.Bool.ltb-true, lemmas.List.{length-reverse, length-map}}
 use Rattle.masked_bytes.{specs.Masked.gives_all, proofs.Truth.{and_first, and_second}}
 use Rattle.result_rows.specs.declared.Outcome.{Outcome}
 use Rattle.result_rows.specs.declared.Outcome.TheVariants as out
-use Rattle.row_rules.specs.{Queueing.{pending, waiting, awaits, cover, is_first, is_at_head, next_store}, Rows.write_of, Ticking.bound, declared.Row.Row, declared.Rules.Rules}
+use Rattle.row_rules.specs.{Queueing.{pending, waiting, awaits, cover, is_first, is_at_head, next_store}, Rows.{is_cut, write_of}, Ticking.{bound, delay}, declared.Row.Row, declared.Rules.Rules}
 use Rattle.check_judging.specs.{Cutting.cut_ticks, Distances.{last_read, ends_above, later_of}, Keys.reach}
 use Rattle.check_verdict.{specs.Fitting.{all_brief, is_brief}, specs.Timely.first_of_ticks, proofs.Apart.all-reverse, proofs.Fits.any-reverse}
 use Rattle.row_rules.specs.Table.{is_of, of_bank}
 use Rattle.row_rules.specs.Rows as spec
 use Rattle.check_verdict.{specs.Judged.beside, specs.Verdicts.bank_in, proofs.Settles.filter-reverse}
 use Rattle.check_telling.specs.{Givers.givers, Grounds.{IsOfBank, TellsRead}, declared.grounds.Grounds.Grounds, declared.newest.Newest.Newest}
-use Rattle.check_telling.specs.{Right.{ReadGrounds, earliest, grounds_on}, Standing.{row_of, rows_of, AreNumbered}, Steps.leaves_later, declared.mates.Numbered.Numbered}
+use Rattle.check_telling.specs.{Right.{ReadGrounds, earliest, grounds_on}, Standing.{first_at, mates_of, row_at, row_of, rows_of, tick_at, AreNumbered}, Steps.{is_ahead, leaves_later}, declared.mates.Numbered.Numbered}
 
 later_small : (u : ℕ) (found : Option ℕ) → u < reach → IfSome found (λ v. v < reach) → IfSome (later_of u found) (λ v. v < reach)
 later_small u None lt h = lt
@@ -55,6 +55,16 @@ module _ {n : ℕ} where
   pub last_below : (rows : List (Row n)) (found : Option ℕ) → all_brief rows ≡ true → found ≡ last_read (reverse rows) → IfSome found (λ v. v < 2 ^ 60)
   last_below rows found h is =
       widen found (subst (λ o. IfSome o (λ v. v < reach)) (sym is) (last_small (reverse rows) (all-reverse (λ (q : Row n). is_brief q.outcome) rows ∙ h)))
+
+  -- the first cut's tick
+  pub cut_at : (later : List (Numbered n)) → tick_at (first_at is_cut later) ≡ first_of_ticks (cut_ticks (rows_of later))
+  cut_at [] = refl
+  cut_at (one ∷ later) = by (is_cut one.row) (cut_at later)
+    where
+      by : (b : Bool) → tick_at (first_at is_cut later) ≡ first_of_ticks (cut_ticks (rows_of later))
+          → tick_at (cond b (Some (row_at one)) (first_at is_cut later)) ≡ first_of_ticks (cond b (one.row.tick ∷ cut_ticks (rows_of later)) (cut_ticks (rows_of later)))
+      by true h = refl
+      by false h = h
 
   first_is : (line : ℕ) (next : Option ℕ) (rows : List (Row n)) → list_all (λ q. write_of line q || leaves_later next q.outcome) rows ≡ is_first line next rows
   first_is line None rows = refl
@@ -128,9 +138,10 @@ module _ {n : ℕ} where
   -- what is told of a bank's rows, told of a whole table
   pub told_of_all : (rules : Rules) (banks : List ℕ) (tick line bank : ℕ) (before after : List (Row n)) (newest : Newest n) (past later : List (Numbered n)) (g : Grounds n)
       → bank ≡ bank_in banks line → rows_of past ≡ of_bank (bank_in banks) bank before → rows_of later ≡ of_bank (bank_in banks) bank after
+      → later ≡ mates_of (bank_in banks) bank (length before + 1) after
       → AreNumbered 0 before past → newest.bytes ≡ spec.newest (reverse before) line → newest.givers ≡ givers (reverse before) line
       → IsOfBank rules tick line newest past later g → TellsRead rules banks tick line before after g
-  told_of_all rules banks tick line bank before after newest past later g at p l numbered bytes numbers is =
+  told_of_all rules banks tick line bank before after newest past later g at p l exact numbered bytes numbers is =
       let earlier : reverse (rows_of past) ≡ beside banks line (reverse before)
       = ap reverse (p ∙ ap (λ b. of_bank (bank_in banks) b before) at) ∙ sym (filter-reverse (λ (r : Row n). is_of (bank_in banks) (bank_in banks line) r.asks) before) in
       let behind : rows_of later ≡ beside banks line after = l ∙ ap (λ b. of_bank (bank_in banks) b after) at in
@@ -144,4 +155,12 @@ module _ {n : ℕ} where
         wait = is.wait ∙ ap (λ xs. reverse (waiting tick [] xs)) earlier;
         stand_numbers = is.stand_numbers 0 before numbered;
         wait_numbers = is.wait_numbers 0 before numbered;
+        ahead_is =
+            is.ahead_is
+            ∙ ap (λ xs. first_at (is_ahead line (next_store tick line (xs ++ rows_of later))) g.standing.items) earlier
+            ∙ ap (λ xs. first_at (is_ahead line (next_store tick line (beside banks line (reverse before) ++ xs))) g.standing.items) behind;
+        delay_is =
+            is.delay_is ∙ ap (λ xs. delay rules rules.policy tick xs (rows_of later)) earlier
+            ∙ ap (λ xs. delay rules rules.policy tick (beside banks line (reverse before)) xs) behind;
+        cut_is = is.cut_is ∙ ap (first_at is_cut) (exact ∙ ap (λ b. mates_of (bank_in banks) b (length before + 1) after) at);
       }

@@ -6,6 +6,7 @@ mod Givers
 mod Stands
 mod Banks
 mod Ends
+mod Bounds
 mod Finds
 mod FindsWrites
 pub mod Sizes

@@ -51,13 +51,13 @@ step_8 a c m h = omega arith
 step_1 : (a c m : ℕ) → a ≤ m → up 1 (a + c) ≤ m + c
 step_1 a c m h = omega arith
 
-last_below : (a : ℕ) → a ≤ 903 → up 8 (a + 24) < 9223372036854775808
+last_below : (a : ℕ) → a ≤ 957 → up 8 (a + 24) < 9223372036854775808
 last_below a h = omega arith
 
 pub grounds_fits : (b : ℕ) → b ≤ 128
-    → up 8 (up 8 (up 8 (up 8 (up 8 (up 1 (up 8 (up 1 (up 8 (up 1 (up 1 (0 + up 4 (up 4 (0 + b * 1) + b * 4)) + b * 1) + 1) + 24) + 1) + 24) + 1) + 8) + 8) + 16) + 24) < 9223372036854775808
+    → up 8 (up 8 (up 8 (up 8 (up 8 (up 8 (up 1 (up 8 (up 8 (up 1 (up 8 (up 1 (up 1 (0 + up 4 (up 4 (0 + b * 1) + b * 4)) + b * 1) + 1) + 24) + 1) + 24) + 24) + 1) + 8) + 8) + 8) + 24) + 24) < 9223372036854775808
 grounds_fits b h =
-    last_below _ (step_8 _ 16 880 (step_8 _ 8 865 (step_8 _ 8 850 (step_8 _ 1 842 (step_1 _ 24 818 (step_8 _ 1 810 (step_1 _ 24 786 (step_8 _ 1 778 (given_le _ b (first_le _ (newest_le b h)) h)))))))))
+    last_below _ (step_8 _ 24 926 (step_8 _ 8 911 (step_8 _ 8 896 (step_8 _ 8 881 (step_8 _ 1 873 (step_1 _ 24 849 (step_8 _ 24 818 (step_8 _ 1 810 (step_1 _ 24 786 (step_8 _ 1 778 (given_le _ b (first_le _ (newest_le b h)) h)))))))))))
 
 -- how many items a vector has
 pub vec_long : {X Z : Type 0} (v : Vec X Z) → vec_len v ≡ length v.items

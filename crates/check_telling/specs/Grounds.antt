@@ -1,8 +1,8 @@
 -- What the code finds for a read, as the laws know it.
-use Rattle.std.specs.Prelude.{◌≡◌, ℕ, List, [], reverse}
-use Rattle.row_rules.specs.{Queueing.{pending, waiting}, declared.Row.Row, declared.Rules.Rules}
-use Rattle.check_verdict.specs.Judged.{beside}
-use Rattle.check_telling.specs.{Givers.givers, Right.{ReadGrounds, grounds_on, read_grounds}, Standing.{rows_of, AreNumbered}}
+use Rattle.std.specs.Prelude.{◌≡◌, ℕ, ◌+◌, ◌++◌, List, [], length, reverse}
+use Rattle.row_rules.specs.{Queueing.{pending, waiting, next_store}, Rows.is_cut, Ticking.delay, declared.Row.Row, declared.Rules.Rules}
+use Rattle.check_verdict.specs.{Judged.beside, Verdicts.bank_in}
+use Rattle.check_telling.specs.{Givers.givers, Right.{ReadGrounds, grounds_on, read_grounds}, Standing.{first_at, mates_of, rows_of, tick_at, AreNumbered}, Steps.is_ahead}
 use Rattle.check_telling.specs.{declared.grounds.Grounds.Grounds, declared.mates.Numbered.Numbered, declared.newest.Newest.Newest}
 
 abbrev pub grounds_of : {n : ℕ} → Grounds n → ReadGrounds
@@ -13,7 +13,7 @@ grounds_of g = record {
   full = g.full;
   from = g.from;
   by = g.by;
-  cut = g.cut;
+  cut = tick_at g.cut;
   taken = g.taken.items;
 }
 
@@ -25,6 +25,9 @@ pub record IsOfBank {n : ℕ} (rules : Rules) (tick line : ℕ) (newest : Newest
   pub wait : rows_of g.waiting.items ≡ reverse (waiting tick [] (reverse (rows_of past)))
   pub stand_numbers : (above : ℕ) (table : List (Row n)) → AreNumbered above table past → AreNumbered above table g.standing.items
   pub wait_numbers : (above : ℕ) (table : List (Row n)) → AreNumbered above table past → AreNumbered above table g.waiting.items
+  pub ahead_is : g.ahead ≡ first_at (is_ahead line (next_store tick line (reverse (rows_of past) ++ rows_of later))) g.standing.items
+  pub delay_is : g.delay ≡ delay rules rules.policy tick (reverse (rows_of past)) (rows_of later)
+  pub cut_is : g.cut ≡ first_at is_cut later
 
 -- the same of a whole table around the read, the oldest row first: each row that is told is one of the table, by its number
 pub record TellsRead {n : ℕ} (rules : Rules) (banks : List ℕ) (tick line : ℕ) (before after : List (Row n)) (g : Grounds n) : Type 0 where
@@ -34,3 +37,6 @@ pub record TellsRead {n : ℕ} (rules : Rules) (banks : List ℕ) (tick line : �
   pub wait : rows_of g.waiting.items ≡ reverse (waiting tick [] (beside banks line (reverse before)))
   pub stand_numbers : AreNumbered 0 before g.standing.items
   pub wait_numbers : AreNumbered 0 before g.waiting.items
+  pub ahead_is : g.ahead ≡ first_at (is_ahead line (next_store tick line (beside banks line (reverse before) ++ beside banks line after))) g.standing.items
+  pub delay_is : g.delay ≡ delay rules rules.policy tick (beside banks line (reverse before)) (beside banks line after)
+  pub cut_is : g.cut ≡ first_at is_cut (mates_of (bank_in banks) (bank_in banks line) (length before + 1) after)

@@ -1,8 +1,8 @@
 -- Rows of a bank with their numbers: the writes that stand in its queue, and the reads that wait.
-use Rattle.std.specs.Prelude.{◌≡◌, ℕ, ◌-◌, ◌<◌, if◌then◌else◌, List, [], ◌∷◌, ◌++◌, filter, map, All, Some, slice_get}
+use Rattle.std.specs.Prelude.{◌≡◌, ℕ, ◌+◌, ◌-◌, ◌<◌, Bool, if◌then◌else◌, List, [], ◌∷◌, ◌++◌, filter, map, All, Option, Some, None, slice_get}
 use Rattle.row_rules.specs.{Queueing.{stands, awaits}, Table.is_of, declared.Row.Row}
 use Rattle.check_judging.specs.Steps.{stays_behind, waits_behind}
-use Rattle.check_telling.specs.declared.mates.Numbered.{Numbered}
+use Rattle.check_telling.specs.{declared.facts.RowAt.RowAt, declared.mates.Numbered.Numbered}
 
 module _ {n : ℕ} where
   abbrev pub row_of : Numbered n → Row n
@@ -14,6 +14,24 @@ module _ {n : ℕ} where
   -- the rows behind these
   abbrev pub rows_of : List (Numbered n) → List (Row n)
   rows_of told = map row_of told
+
+  -- a row by its number and its tick
+  abbrev pub row_at : Numbered n → RowAt
+  row_at one = record { row = one.number; tick = one.row.tick }
+
+  -- the first of these rows that passes a test
+  abbrev pub first_at : (Row n → Bool) → List (Numbered n) → Option RowAt
+  first_at test [] = None
+  first_at test (one ∷ told) = if test one.row then Some (row_at one) else first_at test told
+
+  -- rows with their numbers, the first of which has the number behind this one
+  abbrev pub with_numbers : ℕ → List (Row n) → List (Numbered n)
+  with_numbers above [] = []
+  with_numbers above (r ∷ rows) = numbered (above + 1) r ∷ with_numbers (above + 1) rows
+
+  -- those of a bank among them
+  abbrev pub mates_of : (ℕ → ℕ) → ℕ → ℕ → List (Row n) → List (Numbered n)
+  mates_of bank_of bank above rows = filter (λ one. is_of bank_of bank one.row.asks) (with_numbers above rows)
 
   -- a row of these, the first of which has the number behind this one
   pub record IsNumbered (above : ℕ) (rows : List (Row n)) (one : Numbered n) : Type 0 where
@@ -37,3 +55,8 @@ module _ {n : ℕ} where
   abbrev pub with_read : ℕ → Numbered n → List (Numbered n) → List (Numbered n)
   with_read tick new old =
       if awaits tick [] new.row then filter (λ one. waits_behind new.row one.row) old ++ new ∷ [] else filter (λ one. waits_behind new.row one.row) old
+
+-- the tick of a row that is told, if one is
+abbrev pub tick_at : Option RowAt → Option ℕ
+tick_at None = None
+tick_at (Some one) = Some one.tick

@@ -1,10 +1,25 @@
 //! Rows and bounds that are told of a row.
 
+ghost use Rattle.std.specs.Prelude.{◌≡◌};
+ghost use Rattle.check_telling.specs.Standing.{row_at};
+
+use crate::mates::Numbered;
+
 /// A row of a table, by its number from 1, and the tick at which it came.
 #[derive(Clone, Copy, Debug, PartialEq)]
 pub struct RowAt {
     pub row: u32,
     pub tick: u64,
+}
+
+/// Where a row stands, and when it came.
+pub fn at<const B: usize>(one: &Numbered<B>) -> RowAt
+    ensures { result ≡ row_at one.now }
+{
+    RowAt {
+        row: one.number,
+        tick: one.row.tick,
+    }
 }
 
 /// By when a write is stored: so many ticks behind its own where nothing else is stored or read by then and no cut comes, and so

@@ -13,11 +13,12 @@ ghost use Rattle.check_telling.specs.Right as right;
 ghost use Rattle.check_telling.specs.Standing.{rows_of};
 ghost use Rattle.check_telling.specs.Steps.{leaves_later, with_store};
 
+use crate::facts::RowAt;
 use crate::mates::{Numbered, mates};
 use crate::newest::{Newest, find_newest};
-use crate::reads::{cover, first_cut, has_line, last_read, next_store, stays_later};
+use crate::reads::{ahead, cover, first_cut, has_line, last_read, next_store, stays_later};
 use crate::standing::{standing, waiting};
-use crate::times::bound;
+use crate::times::{bound, delay};
 use masked_bytes::layers::has_all;
 use result_rows::Outcome;
 use row_rules::{Row, Rules};
@@ -35,7 +36,7 @@ pub struct Grounds<const B: usize> {
     pub standing: Vec<Numbered<B>>,
     pub at_head: bool,
     /// Where it is not: the first write that leaves before the next store of the line, if there is one.
-    pub ahead: Option<u32>,
+    pub ahead: Option<RowAt>,
     /// The reads that wait, and whether they are as many as may.
     pub waiting: Vec<Numbered<B>>,
     pub full: bool,
@@ -80,7 +81,7 @@ fn add_store<const B: usize>(
 }
 
 /// The ticks above another at which these rows, the oldest first, are stored.
-fn stores_above<const B: usize>(
+pub fn stores_above<const B: usize>(
     alloc: Global,
     past: &[Numbered<B>],
     tick: u64,
@@ -139,10 +140,12 @@ fn bank_grounds<const B: usize>(
     let stand = standing(alloc, past, tick)?;
     let next = next_store(past, later, line, tick);
     let at_head = is_at_head(&stand, line, next);
+    let before_it = ahead(&stand, line, next);
     let wait = waiting(alloc, past, tick)?;
     let waits = wait.len();
     let last = last_read(past);
     let from = earliest(rules.read_ticks, tick, last);
+    let busy = delay(rules, tick, past, later);
     let by = bound(rules, tick, waits as u64, past, later);
     let cut = first_cut(later);
     let taken = stores_above(alloc, past, tick)?;
@@ -152,10 +155,12 @@ fn bank_grounds<const B: usize>(
         covered,
         standing: stand,
         at_head,
+        ahead: before_it,
         waiting: wait,
         full: waits == rules.reads as usize,
         from,
         by,
+        delay: busy,
         cut,
         taken,
     })

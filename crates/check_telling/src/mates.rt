@@ -4,7 +4,7 @@ ghost use Rattle.std.specs.Prelude.{◌≡◌, ◌≤◌, ◌<◌, ◌+◌, leng
 ghost use Rattle.row_rules.specs.Lines.{IsOfLines};
 ghost use Rattle.row_rules.specs.Table as table;
 ghost use Rattle.check_verdict.specs.Verdicts.{bank_in};
-ghost use Rattle.check_telling.specs.Standing.{AreNumbered, numbered, rows_of, with_mate};
+ghost use Rattle.check_telling.specs.Standing.{AreNumbered, mates_of, numbered, rows_of, with_mate};
 
 use row_rules::{Asks, Row};
 use std::alloc::{AllocError, Global};
@@ -58,6 +58,8 @@ pub fn mates<const B: usize>(
     requires small { B ≤ 128 }
     requires few { above + length rows.now ≤ 400_000 }
     requires lines { All (λ r. IsOfLines (length banks.now) r.asks) rows.now }
+    ensures exact { IfOk result (λ told. told.items
+        ≡ mates_of (bank_in banks.now) bank above rows.now) }
     ensures rows { IfOk result (λ told. rows_of told.items ≡ table.of_bank (bank_in banks.now) bank rows.now) }
     ensures numbers { IfOk result (λ told. AreNumbered above rows.now told.items) }
 {

@@ -1,30 +1,30 @@
 //! What a read finds in its bank as it comes.
 
-ghost use Rattle.std.specs.Prelude.{◌≡◌, ◌≤◌, ◌&&◌, ◌||◌, ◌++◌, true, false, length, reverse, IfSome, IfNone};
-ghost use Rattle.std.specs.List.{list_all, list_any, Contains};
+ghost use Rattle.std.specs.Prelude.{◌≡◌, ◌&&◌, ◌||◌, ◌++◌, reverse};
+ghost use Rattle.std.specs.List.{list_any};
 ghost use Rattle.masked_bytes.specs.Masked.{none_given};
 ghost use Rattle.row_rules.specs.Answers as answers;
 ghost use Rattle.row_rules.specs.Queueing as queueing;
 ghost use Rattle.row_rules.specs.Rows as row_rules;
-ghost use Rattle.check_judging.specs.Cutting.{cut_ticks};
 ghost use Rattle.check_judging.specs.Distances.{last_read, read_to};
-ghost use Rattle.check_verdict.specs.Timely.{first_of_ticks};
-ghost use Rattle.check_telling.specs.Standing.{rows_of};
-ghost use Rattle.check_telling.specs.Steps.{with_given, leaves_later};
+ghost use Rattle.check_telling.specs.Standing.{first_at, rows_of};
+ghost use Rattle.check_telling.specs.Steps.{with_given, is_ahead, leaves_later};
 
+use crate::facts::{RowAt, at};
 use crate::mates::Numbered;
 use crate::newest::accepts;
+use crate::standing::is_cut;
 use masked_bytes::layers::join_given;
 use result_rows::Outcome;
 use row_rules::{Asks, Row};
 
-/// The tick of the first cut among these rows, the oldest first.
-pub fn first_cut<const B: usize>(later: &[Numbered<B>]) -> Option<u64>
-    ensures { result ≡ first_of_ticks (cut_ticks (rows_of later.now)) }
+/// The first cut among these rows, the oldest first.
+pub fn first_cut<const B: usize>(later: &[Numbered<B>]) -> Option<RowAt>
+    ensures { result ≡ first_at row_rules.is_cut later.now }
 {
     for one in later {
-        if let Asks::Cuts = one.row.asks {
-            return Some(one.row.tick);
+        if is_cut(&one.row) {
+            return Some(at(one));
         }
     }
     None
@@ -172,7 +172,7 @@ pub fn next_store<const B: usize>(
 }
 
 /// Whether a row is a write of a line.
-fn is_write_of<const B: usize>(row: &Row<B>, line: u32) -> bool
+pub fn is_write_of<const B: usize>(row: &Row<B>, line: u32) -> bool
     ensures { result ≡ row_rules.write_of line row.now }
 {
     match &row.asks {
@@ -182,7 +182,7 @@ fn is_write_of<const B: usize>(row: &Row<B>, line: u32) -> bool
 }
 
 /// Whether a write is not stored before a tick, or not at all where there is none.
-fn leaves_later<const B: usize>(next: Option<u64>, outcome: &Outcome<B>) -> bool
+pub fn leaves_later<const B: usize>(next: Option<u64>, outcome: &Outcome<B>) -> bool
     ensures { result ≡ leaves_later next outcome.now }
 {
     match (outcome, next) {
@@ -216,16 +216,12 @@ pub fn ahead<const B: usize>(
     standing: &[Numbered<B>],
     line: u32,
     next: Option<u64>,
-) -> Option<&Numbered<B>>
-    ensures none { IfNone result (list_all (λ q. row_rules.write_of line q
-        || leaves_later next q.outcome) (rows_of standing.now) ≡ true) }
-    ensures some { IfSome result (λ one. (row_rules.write_of line one.now.row
-        || leaves_later next one.now.row.outcome) ≡ false) }
-    ensures told { IfSome result (λ one. Contains standing.now one.now) }
+) -> Option<RowAt>
+    ensures { result ≡ first_at (is_ahead line next) standing.now }
 {
     for one in standing {
         if !stays_later(&one.row, line, next) {
-            return Some(one);
+            return Some(at(one));
         }
     }
     None

@@ -60,7 +60,7 @@ fn is_lost<const B: usize>(outcome: &Outcome<B>) -> bool
     matches!(outcome, Outcome::Lost { .. })
 }
 
-fn is_cut<const B: usize>(row: &Row<B>) -> bool
+pub fn is_cut<const B: usize>(row: &Row<B>) -> bool
     ensures { result ≡ row_rules.is_cut row.now }
 {
     matches!(row.asks, Asks::Cuts)

@@ -1,4 +1,4 @@
-//! When a read may end.
+//! When a read may end, and a write.
 
 ghost use Rattle.std.specs.Prelude.{◌≡◌, ◌<◌, ◌≤◌, ◌^◌, ◌+◌, ◌*◌, ◌++◌, if◌then◌else◌, nat_lt, max, length, reverse, count_by, []};
 ghost use Rattle.row_rules.specs.Queueing as queueing;
@@ -7,7 +7,9 @@ ghost use Rattle.row_rules.specs.Ticking as ticking;
 ghost use Rattle.check_verdict.specs.Within.{AreWithin};
 ghost use Rattle.check_telling.specs.Standing.{rows_of};
 ghost use Rattle.check_telling.specs.Steps.{came_from};
+ghost use Rattle.check_telling.specs.WriteGrounds.{IsBound};
 
+use crate::facts::StoreBound;
 use crate::mates::Numbered;
 use bank_shape::Policy;
 use result_rows::Outcome;
@@ -115,7 +117,7 @@ fn cancel_delay<const B: usize>(
 }
 
 /// How long a read may find its bank busy with something else than reads.
-fn delay<const B: usize>(
+pub fn delay<const B: usize>(
     rules: &Rules,
     tick: u64,
     past: &[Numbered<B>],
@@ -150,4 +152,48 @@ pub fn bound<const B: usize>(
     ensures bound { result < 2 ^ 51 }
 {
     tick + delay(rules, tick, past, later) + (waiting + 1) * rules.read_ticks as u64
+}
+
+/// How long all tries to write a line may take.
+fn all_tries(rules: &Rules) -> u64
+    requires { AreWithin rules.now }
+    ensures value { result ≡ ticking.tries rules.now.policy * ticking.attempt rules.now }
+    ensures bound { result ≤ 266_475 }
+{
+    match rules.policy {
+        Policy::Cancel => 5 * attempt(rules),
+        _ => attempt(rules),
+    }
+}
+
+/// How many line writes an event brings.
+fn writings(rules: &Rules) -> u64
+    ensures value { result ≡ ticking.writings rules.now.twice }
+    ensures bound { result ≤ 2 }
+{
+    if rules.twice { 2 } else { 1 }
+}
+
+/// The product of two numbers.
+fn times(number: u64, other: u64) -> u64
+    requires left { number < 2 ^ 31 }
+    requires right { other < 2 ^ 31 }
+    ensures { result ≡ number * other }
+{
+    number * other
+}
+
+/// By when a write is stored.
+pub fn store_bound(rules: &Rules) -> StoreBound
+    requires { AreWithin rules.now }
+    ensures { IsBound rules.now result }
+{
+    let once = all_tries(rules);
+    let each = writings(rules);
+    StoreBound {
+        alone: times(once, each * (2 + rules.spares as u64)),
+        a_store: times(once, each * 2),
+        a_read: 2 * rules.read_ticks as u64,
+        a_cut: once + rules.read_ticks as u64,
+    }
 }

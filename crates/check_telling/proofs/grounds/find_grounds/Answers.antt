@@ -22,6 +22,7 @@ returns g c =
     c.bank_of-bank.ensures
     (ap (λ (ms : List (Numbered g.row.B)). rows_of ms) c.deref.ensures.value ∙ c.in_ok-past.ensures.rows)
     (ap (λ (ms : List (Numbered g.row.B)). rows_of ms) c.deref-2.ensures.value ∙ c.in_ok-later.ensures.rows)
+    (c.deref-2.ensures.value ∙ c.in_ok-later.ensures.exact)
     (All-same (λ one. IsNumbered 0 c.args.before.now one) c.deref.result.now _ c.deref.ensures.value c.in_ok-past.ensures.numbers)
     c.find_newest-newest.ensures.bytes c.find_newest-newest.ensures.givers is)
     c.bank_grounds.ensures
