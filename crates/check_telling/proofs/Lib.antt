@@ -1,7 +1,7 @@
-mod Clauses
+pub mod Clauses
 mod Right
 mod RightWrites
-mod Folds
+pub mod Folds
 mod Givers
 mod Stands
 mod Banks

@@ -1,0 +1,3 @@
+-- The clauses that rows break.
+pub mod Broken
+pub mod ByFinds
