@@ -131,7 +131,7 @@ module _ {n : ℕ} where
       turned false h = refl
 
   -- in either order
-  none_turned : (o : Outcome n) (rows : List (Row n)) → none_before o (reverse rows) ≡ none_before o rows
+  pub none_turned : (o : Outcome n) (rows : List (Row n)) → none_before o (reverse rows) ≡ none_before o rows
   none_turned (out.Stored u place) rows = all-reverse _ rows
   none_turned (out.Merged u) rows = all-reverse _ rows
   none_turned out.Unset rows = all-reverse _ rows

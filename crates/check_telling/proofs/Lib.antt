@@ -8,5 +8,5 @@ mod Banks
 mod Ends
 mod Bounds
 mod Finds
-mod FindsWrites
+pub mod FindsWrites
 pub mod Sizes

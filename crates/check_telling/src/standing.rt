@@ -16,7 +16,7 @@ use row_rules::{Asks, Row};
 use std::alloc::{AllocError, Global};
 
 /// The line of a read or a write.
-fn line_of<const B: usize>(asks: &Asks<B>) -> u32
+pub fn line_of<const B: usize>(asks: &Asks<B>) -> u32
     ensures { result ≡ row_rules.line_of asks.now }
 {
     match asks {
@@ -48,7 +48,8 @@ fn awaits<const B: usize>(tick: u64, row: &Row<B>) -> bool
     }
 }
 
-fn is_merged<const B: usize>(outcome: &Outcome<B>) -> bool
+/// Whether a write is told to be merged.
+pub fn is_merged<const B: usize>(outcome: &Outcome<B>) -> bool
     ensures { result ≡ answers.is_merged outcome.now }
 {
     matches!(outcome, Outcome::Merged { .. })
@@ -60,6 +61,7 @@ fn is_lost<const B: usize>(outcome: &Outcome<B>) -> bool
     matches!(outcome, Outcome::Lost { .. })
 }
 
+/// Whether a row is a cut.
 pub fn is_cut<const B: usize>(row: &Row<B>) -> bool
     ensures { result ≡ row_rules.is_cut row.now }
 {

@@ -1,3 +1,4 @@
 mod Bools
 mod ReadClauses
 mod WriteClauses
+mod Rooms

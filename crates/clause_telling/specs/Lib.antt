@@ -1,3 +1,4 @@
 -- The clauses that rows break.
 pub mod Broken
 pub mod ByFinds
+pub mod Rooms

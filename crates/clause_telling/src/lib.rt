@@ -2,6 +2,7 @@
 #![tactic(auto)]
 
 ghost use Rattle.clause_telling.specs.ByFinds.{ReadClauseLaw, WriteClauseLaw, CutClauseLaw};
+ghost use Rattle.clause_telling.specs.Rooms.{RoomLaw};
 
 pub mod clause;
 pub mod room;
@@ -11,4 +12,9 @@ pub fn first_clauses_are_told()
     ensures read { ReadClauseLaw }
     ensures write { WriteClauseLaw }
     ensures cut { CutClauseLaw }
+{}
+
+/// Where each row before a row found room, the bank of the last of them tells whether it finds room in all.
+pub fn room_is_told()
+    ensures { RoomLaw }
 {}
