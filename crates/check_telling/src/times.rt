@@ -178,9 +178,24 @@ fn writings(rules: &Rules) -> u64
 fn times(number: u64, other: u64) -> u64
     requires left { number < 2 ^ 31 }
     requires right { other < 2 ^ 31 }
-    ensures { result ≡ number * other }
+    ensures value { result ≡ number * other }
+    ensures bound { result < 2 ^ 62 }
 {
     number * other
+}
+
+/// The longest time until a write is stored, in which some writes are stored, some reads are read and some cuts come.
+pub fn longest(rules: &Rules, stores: u64, reads: u64, cuts: u64) -> u64
+    requires within { AreWithin rules.now }
+    requires stores { stores ≤ 400_000 }
+    requires reads { reads ≤ 400_000 }
+    requires cuts { cuts ≤ 400_000 }
+    ensures value { result ≡ ticking.longest rules.now stores reads cuts }
+    ensures bound { result < 2 ^ 63 }
+{
+    let once = all_tries(rules);
+    let each = writings(rules) * (2 * stores + rules.spares as u64) + cuts;
+    times(once, each) + times(rules.read_ticks as u64, 2 * reads + cuts)
 }
 
 /// By when a write is stored.

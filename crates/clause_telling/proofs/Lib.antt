@@ -1,4 +1,6 @@
 mod Bools
-mod ReadClauses
-mod WriteClauses
-mod Rooms
+mod Far
+mod Counted
+pub mod ReadClauses
+pub mod WriteClauses
+pub mod Rooms

@@ -2,3 +2,5 @@
 pub mod Broken
 pub mod ByFinds
 pub mod Rooms
+pub mod Counts
+pub mod Others

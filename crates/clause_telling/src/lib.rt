@@ -5,6 +5,8 @@ ghost use Rattle.clause_telling.specs.ByFinds.{ReadClauseLaw, WriteClauseLaw, Cu
 ghost use Rattle.clause_telling.specs.Rooms.{RoomLaw};
 
 pub mod clause;
+pub mod counts;
+pub mod others;
 pub mod room;
 
 /// Where a read, a write or a cut breaks a rule, what it finds tells the first clause of the rule that it breaks.

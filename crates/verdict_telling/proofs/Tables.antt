@@ -10,9 +10,6 @@ use Rattle.check_verdict.specs.{Fitting.{is_brief, all_brief}, Verdicts.verdict_
 use Rattle.check_verdict.proofs.Lowest.{verdict_law}
 use Rattle.result_check.specs.Checkable.{IsTimed}
 use Rattle.row_rules.specs.{declared.Asks.Asks, declared.Asks.TheVariants.{Reads, Writes, Cuts}, declared.Row.Row, declared.Rules.Rules}
-use Rattle.check_telling.specs.{Grounds.TellsRead, WriteGrounds.TellsWrite, declared.grounds.Grounds.Grounds, declared.writes.WriteGrounds.WriteGrounds}
-use Rattle.verdict_telling.specs.{Explained.TellsAsked, declared.Finds.Finds}
-use Rattle.verdict_telling.specs.declared.Finds.TheVariants as finds
 use Rattle.trace_rows.{specs.Rows.{rows_with, row_of}, proofs.Lines.row-at}
 
 pub next_of : {A : Type 0} (xs : List A) (i : ℕ) (x : A) → slice_get xs i ≡ Some x → drop i xs ≡ x ∷ drop (suc i) xs
@@ -120,29 +117,6 @@ brief_front zero [] h = refl
 brief_front zero (q ∷ rows) h = refl
 brief_front (suc i) [] h = refl
 brief_front (suc i) (q ∷ rows) h = ap (λ b. b && all_brief (take i rows)) (and_first _ _ h) ∙ brief_front i rows (and_second _ _ h)
-
-module _ {n : ℕ} (rules : Rules) (banks : List ℕ) (rows : List (Row n)) (row : ℕ) where
-  -- what is told of a row is told of the one at its number
-  pub tells_one : (q one : Row n) (found : Finds n) → q ≡ one → TellsAsked rules banks rows row one.tick one.asks found → TellsAsked rules banks rows row q.tick q.asks found
-  tells_one q one found same h = subst (λ (p : Row n). TellsAsked rules banks rows row p.tick p.asks found) (sym same) h
-
-  -- of a read, and of a write
-  pub tells_read : (one : Row n) (line : ℕ) (front after : List (Row n)) (g : Grounds n) → one.asks ≡ Reads line → front ≡ take (row - 1) rows → drop row rows ≡ after
-      → TellsRead rules banks one.tick line front after g → TellsAsked rules banks rows row one.tick one.asks (finds.Read g)
-  tells_read one line front after g is f a h =
-      let whole : TellsRead rules banks one.tick line (take (row - 1) rows) (drop row rows) g
-      = subst (λ xs. TellsRead rules banks one.tick line xs (drop row rows) g) f (subst (λ xs. TellsRead rules banks one.tick line front xs g) (sym a) h) in
-      subst (λ (asks : Asks n). TellsAsked rules banks rows row one.tick asks (finds.Read g)) (sym is) whole
-
-  pub tells_write : (one : Row n) (line : ℕ) (bytes : List ℕ) (given : List Bool) (front after : List (Row n)) (g : WriteGrounds n) → one.asks ≡ Writes line bytes given
-      → front ≡ take (row - 1) rows → drop row rows ≡ after → TellsWrite banks one.tick line front after g → TellsAsked rules banks rows row one.tick one.asks (finds.Write g)
-  tells_write one line bytes given front after g is f a h =
-      let whole : TellsWrite banks one.tick line (take (row - 1) rows) (drop row rows) g
-      = subst (λ xs. TellsWrite banks one.tick line xs (drop row rows) g) f (subst (λ xs. TellsWrite banks one.tick line front xs g) (sym a) h) in
-      subst (λ (asks : Asks n). TellsAsked rules banks rows row one.tick asks (finds.Write g)) (sym is) whole
-
-  pub tells_cut : (one : Row n) → one.asks ≡ Cuts → TellsAsked rules banks rows row one.tick one.asks finds.Cut
-  tells_cut one is = subst (λ (asks : Asks n). TellsAsked rules banks rows row one.tick asks finds.Cut) (sym is) tt
 
 pub same_one : {A : Type 0} (x y : A) → Some x ≡ Some y → y ≡ x
 same_one x y is = cc
