@@ -1,11 +1,11 @@
 -- What a write finds in its bank, told of a whole table.
-use Rattle.std.proofs.Common.{◌≡◌, ℕ, suc, ◌+◌, ◌*◌, ◌&&◌, ◌||◌, ◌==◌, not, Bool, true, false, List, [], ◌∷◌, Option, Some, None, length, refl, sym, ap, ◌∙◌, cond, subst, arith}
+use Rattle.std.proofs.Common.{◌≡◌, ℕ, suc, ◌+◌, ◌&&◌, ◌||◌, not, Bool, true, false, List, [], ◌∷◌, Option, Some, None, length, refl, sym, ap, ◌∙◌, cond, subst, arith}
 use Rattle.std.specs.{List.{list_all, list_any}, Prelude.{filter, nat_lt, reverse}}
 use Rattle.std.proofs.lemmas.List.{length-reverse}
-use Rattle.masked_bytes.proofs.Truth.{and_true, and_false}
+use Rattle.masked_bytes.proofs.Truth.{and_true}
 use Rattle.result_rows.specs.declared.Outcome.{Outcome}
 use Rattle.result_rows.specs.declared.Outcome.TheVariants as out
-use Rattle.row_rules.specs.{Queueing.{pending, is_refused, none_before}, Rows.{accepted_of, write_of}, Table.{is_of, of_bank}, Wearing.worn_row, declared.Row.Row, declared.Rules.Rules}
+use Rattle.row_rules.specs.{Queueing.{is_refused, none_before}, Rows.{accepted_of, write_of}, Table.{is_of, of_bank}, Wearing.worn_row, declared.Row.Row, declared.Rules.Rules}
 use Rattle.check_verdict.{specs.Judged.beside, specs.Verdicts.bank_in, proofs.Apart.all-reverse, proofs.Settles.filter-reverse}
 use Rattle.check_telling.specs.{Standing.{first_at, mates_of, row_at, rows_of, AreNumbered}, Steps.{leave_of, leaves_later, is_stored_first, is_other_or_first, has_one}, WriteGrounds.{FindsWrite, IsWriteOfBank, TellsWrite}}
 use Rattle.check_telling.specs.{declared.facts.RowAt.RowAt, declared.mates.Numbered.Numbered, declared.writes.WriteGrounds.WriteGrounds}

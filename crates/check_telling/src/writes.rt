@@ -69,10 +69,7 @@ fn leave_of<const B: usize>(outcome: &Outcome<B>) -> Option<u64>
 }
 
 /// The first of these writes that is stored before another one leaves the queue, or at all where that never does.
-pub fn stored_first<const B: usize>(
-    standing: &[Numbered<B>],
-    outcome: &Outcome<B>,
-) -> Option<RowAt>
+pub fn stored_first<const B: usize>(standing: &[Numbered<B>], outcome: &Outcome<B>) -> Option<RowAt>
     ensures { result ≡ first_at (steps.is_stored_first outcome.now) standing.now }
 {
     let leaves = leave_of(outcome);

@@ -1,5 +1,5 @@
 -- Of some tests of which one fails the first that does.
-use Rattle.std.proofs.Common.{◌≡◌, ◌&&◌, Bool, true, false, Option, Some, None, refl, cond}
+use Rattle.std.proofs.Common.{◌≡◌, ◌&&◌, Bool, true, false, Some, None, refl, cond}
 
 module _ {A : Type 0} where
   pub one : (p : Bool) (a : A) → (p && true) ≡ false → cond p None (Some a) ≡ Some a

@@ -1,6 +1,6 @@
 -- What a bank did by a tick, counted.
 use Rattle.std.proofs.Common.{◌≡◌, ℕ, suc, ◌+◌, ◌&&◌, ◌<◌, ◌≤◌, ◌++◌, ◌∷◌, Bool, true, false, List, [], length, refl, sym, ap, ◌∙◌, cond, subst, arith}
-use Rattle.std.specs.Prelude.{count_by, nat_le, nat_lt, reverse}
+use Rattle.std.specs.Prelude.{count_by, nat_le, reverse}
 use Rattle.std.proofs.lemmas.Bool.{le-leb, lt-ltb}
 use Rattle.masked_bytes.proofs.Counting.{count-append, count-cons}
 use Rattle.result_rows.specs.declared.Outcome.{Outcome}
@@ -8,7 +8,7 @@ use Rattle.result_rows.specs.declared.Outcome.TheVariants as out
 use Rattle.row_rules.specs.{Table.{is_of, of_bank}, declared.Row.Row, declared.Rules.Rules}
 use Rattle.row_rules.specs.Ticking as ticking
 use Rattle.check_verdict.{specs.Judged.{a_write, beside}, specs.Verdicts.bank_in, proofs.Settles.filter-reverse}
-use Rattle.check_telling.specs.{Clauses.latest, Standing.{mates_of, numbered, rows_of}, declared.facts.StoreCounts.StoreCounts, declared.mates.Numbered.Numbered}
+use Rattle.check_telling.specs.{Standing.{mates_of, numbered, rows_of}, declared.facts.StoreCounts.StoreCounts, declared.mates.Numbered.Numbered}
 use Rattle.check_telling.proofs.Folds.{count_told}
 use Rattle.clause_telling.specs.Counts.{Counts, is_stored_in, is_read_in, is_cut_to}
 

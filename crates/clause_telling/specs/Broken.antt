@@ -1,5 +1,5 @@
 -- The first clause of a rule that a row breaks.
-use Rattle.std.specs.Prelude.{◌≡◌, ℕ, ◌&&◌, Bool, false, if◌then◌else◌, IsTrue, List, [], ◌∷◌, Option, Some, None}
+use Rattle.std.specs.Prelude.{ℕ, Bool, if◌then◌else◌, List, [], ◌∷◌, Option, Some, None}
 use Rattle.row_rules.specs.{declared.Row.Row, declared.Rules.Rules}
 use Rattle.check_verdict.specs.declared.Rule.{Rule}
 use Rattle.check_telling.specs.{Clauses.{clauses_of, holds}, declared.Clause.Clause}

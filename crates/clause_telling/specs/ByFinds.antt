@@ -1,5 +1,5 @@
 -- The first clause of a rule that a row breaks, where it breaks the rule, by what it finds.
-use Rattle.std.specs.{List.list_any, Prelude.{◌≡◌, ℕ, ◌+◌, ◌==◌, ◌&&◌, ◌||◌, not, Bool, true, false, if◌then◌else◌, IsTrue, List, [], Option, Some, None, nat_le, nat_lt, length, filter}}
+use Rattle.std.specs.{List.list_any, Prelude.{◌≡◌, ℕ, ◌+◌, ◌==◌, ◌||◌, not, Bool, false, if◌then◌else◌, IsTrue, List, [], Option, Some, nat_le, nat_lt, length, filter}}
 use Rattle.result_rows.specs.declared.Outcome.{Outcome}
 use Rattle.result_rows.specs.declared.Outcome.TheVariants as out
 use Rattle.row_rules.specs.{Answers.{is_full, is_worn}, Queueing.{pending, is_refused}, Rows.write_of, Wearing.worn_row, declared.Row.Row, declared.Rules.Rules}

@@ -1,5 +1,5 @@
 -- What a bank did by the tick at which a write is told to be stored.
-use Rattle.std.specs.Prelude.{◌≡◌, ℕ, ◌&&◌, ◌++◌, ◌∷◌, Bool, true, IsTrue, List, Option, Some, None, nat_le, nat_lt}
+use Rattle.std.specs.Prelude.{◌≡◌, ℕ, ◌&&◌, ◌++◌, ◌∷◌, Bool, IsTrue, List, Option, Some, None, nat_le, nat_lt}
 use Rattle.result_rows.specs.declared.Outcome.{Outcome}
 use Rattle.result_rows.specs.declared.Outcome.TheVariants as out
 use Rattle.row_rules.specs.{Answers.{stored_after, stored_by, read_after, read_by}, Rows.{asks_read, asks_write, is_cut}, declared.Row.Row, declared.Rules.Rules}

@@ -1,5 +1,5 @@
 -- Rows by which others are judged: the first from which one doesn't lie apart, and the last before which other bytes were the newest.
-use Rattle.std.specs.Prelude.{◌≡◌, ℕ, ◌+◌, not, Bool, if◌then◌else◌, List, [], ◌∷◌, Option, Some, None, length}
+use Rattle.std.specs.Prelude.{ℕ, ◌+◌, not, Bool, if◌then◌else◌, List, [], ◌∷◌, Option, Some, None, length}
 use Rattle.result_rows.specs.declared.Outcome.{Outcome}
 use Rattle.row_rules.specs.{Rows.newest, Serving.same_bytes, Ticking.apart, declared.Row.Row}
 use Rattle.check_telling.specs.declared.facts.RowAt.{RowAt}

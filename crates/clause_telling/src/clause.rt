@@ -21,7 +21,10 @@ fn is_of_read<const B: usize>(outcome: &Outcome<B>) -> bool
     ensures { result ≡ finds.is_of_read outcome.now }
 {
     match outcome {
-        Outcome::Read { .. } | Outcome::Forwarded { .. } | Outcome::Busy { .. } | Outcome::Lost { .. } => true,
+        Outcome::Read { .. }
+        | Outcome::Forwarded { .. }
+        | Outcome::Busy { .. }
+        | Outcome::Lost { .. } => true,
         _ => false,
     }
 }
@@ -49,7 +52,8 @@ fn has_own_tick<const B: usize>(tick: u64, outcome: &Outcome<B>) -> bool
     ensures { result ≡ clauses.has_own_tick tick outcome.now }
 {
     match outcome {
-        Outcome::Queued { tick: at } | Outcome::Full { tick: at } | Outcome::Worn { tick: at } => *at == tick,
+        Outcome::Queued { tick: at } | Outcome::Full { tick: at } | Outcome::Worn { tick: at } =>
+            *at == tick,
         Outcome::Busy { tick: at } | Outcome::Cut { tick: at } => *at == tick,
         Outcome::Forwarded { tick: at, .. } => *at == tick,
         _ => true,
@@ -222,11 +226,22 @@ pub fn read_clause<const B: usize>(
     match rule {
         Rule::Serves => serves_clause(is_of_read(outcome), tick, outcome),
         Rule::Queue => {
-            read_queue_clause(room, grounds.covered, grounds.at_head, grounds.full, outcome)
+            read_queue_clause(
+                room,
+                grounds.covered,
+                grounds.at_head,
+                grounds.full,
+                outcome,
+            )
         }
         Rule::Worn => Clause::StoredBeforeWorn,
         Rule::Tick => {
-            read_tick_clause(tick + rules.read_ticks as u64, grounds.by, &grounds.cut, outcome)
+            read_tick_clause(
+                tick + rules.read_ticks as u64,
+                grounds.by,
+                &grounds.cut,
+                outcome,
+            )
         }
     }
 }

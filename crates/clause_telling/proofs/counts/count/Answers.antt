@@ -1,4 +1,4 @@
-use Rattle.std.proofs.Common.{refl, ap, ◌+◌}
+use Rattle.std.proofs.Common.{ap, ◌+◌}
 use Rattle.clause_telling.proofs.Counted.{counted, sums}
 use Rattle.clause_telling.proofs.counts.count.Goals as goal
 

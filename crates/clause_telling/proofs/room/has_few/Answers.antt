@@ -1,4 +1,4 @@
-use Rattle.std.proofs.Common.{◌∙◌, sym, ap}
+use Rattle.std.proofs.Common.{◌∙◌, sym}
 use Rattle.check_telling.specs.Standing.{rows_of}
 use Rattle.clause_telling.proofs.Rooms.{few_then, few_else}
 use Rattle.clause_telling.proofs.room.has_few.Goals as goal

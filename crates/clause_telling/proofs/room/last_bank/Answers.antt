@@ -1,4 +1,4 @@
-use Rattle.std.proofs.Common.{None, refl, arith}
+use Rattle.std.proofs.Common.{arith}
 use Rattle.clause_telling.proofs.Rooms.{last_done}
 use Rattle.clause_telling.proofs.room.last_bank.Goals as goal
 
