@@ -1,4 +1,0 @@
-mod Tables
-mod Named
-mod Telling
-mod Sizes

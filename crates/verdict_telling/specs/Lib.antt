@@ -1,2 +1,0 @@
--- What is told of a verdict.
-pub mod Explained
