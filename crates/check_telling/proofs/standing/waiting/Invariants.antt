@@ -1,0 +1,7 @@
+use Rattle.std.proofs.Common.{◌≡◌, []}
+use Rattle.std.specs.Prelude.{drop}
+use Rattle.check_telling.proofs.Stands.{waiting_on}
+use Rattle.check_telling.proofs.standing.waiting.Given as goal
+
+abbrev pub invariant-loop-one : goal.invariant-loop-one
+invariant-loop-one g l = waiting_on l.tick l.told.items (drop l.one-index l.past) ≡ waiting_on l.tick [] l.past

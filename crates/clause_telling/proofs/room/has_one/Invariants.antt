@@ -1,0 +1,8 @@
+use Rattle.std.proofs.Common.{◌≡◌}
+use Rattle.std.specs.Prelude.{drop}
+use Rattle.check_telling.specs.Standing.{rows_of}
+use Rattle.clause_telling.specs.Rooms.{has_one}
+use Rattle.clause_telling.proofs.room.has_one.Given as goal
+
+abbrev pub invariant-loop-i : goal.invariant-loop-i
+invariant-loop-i g l = has_one l.line (rows_of (drop l.i l.rows)) ≡ has_one l.line (rows_of l.rows)
