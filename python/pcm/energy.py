@@ -209,7 +209,10 @@ def told(given: argparse.Namespace) -> str:
             if source.text.split("\n", 1)[0].rstrip("\r") == ENERGY_HEADER:
                 text += by_bank(source, line_bytes_of(options), units, given.csv)
             elif are_snapshots(source):
-                named.append((source.name, figures(snapshots_of(source)[-1], line_bytes_of(options), units, rate)))
+                last = snapshots_of(source)[-1]
+                if last.senses is None:
+                    raise FileFault(f"{source.name}: its snapshots tell no energy")
+                named.append((source.name, figures(last, line_bytes_of(options), units, rate)))
             else:
                 raise FileFault(f"{source.name} row 0: header: neither of --print snapshots nor of --print energy")
     text += in_columns(named, given.csv) if named else ""

@@ -119,8 +119,8 @@ def _glance(runs: Sequence[Run]) -> str:
 
 
 def _energy(runs: Sequence[Run]) -> Section:
-    """What the runs with snapshots cost, figure by figure."""
-    told = [run for run in runs if run.snapshots]
+    """What the runs whose snapshots tell energy cost, figure by figure."""
+    told = [run for run in runs if run.snapshots and run.snapshots[-1].senses is not None]
     if not told:
         return None
     found = [figures(run.snapshots[-1], line_bytes_of(run.options), run.units, run.rate) for run in told]

@@ -15,7 +15,7 @@ from .devices import Units
 from .errors import PcmError, ReadFault
 from .image import Image, ImageError, _feistel
 from .progress import Progress
-from .snapshots import Snapshot, SnapshotError, read_snapshots
+from .snapshots import HEADERS, Snapshot, SnapshotError, read_snapshots
 
 OUTCOMES = ("stored", "merged", "queued", "full", "worn", "read", "forwarded", "busy", "lost", "cut")
 # The operation of each outcome's row.
@@ -58,7 +58,7 @@ class Arrival(NamedTuple):
 
 
 class Worn(NamedTuple):
-    """A row of a wear report; the last three, of `--print lines`, are None where they aren't told."""
+    """A row of a wear report; what `--print lines` adds is None where it isn't told."""
 
     array: int
     bank: int
@@ -67,6 +67,9 @@ class Worn(NamedTuple):
     pointers: Optional[int]
     stuck: Optional[int]
     changes: Optional[int]
+    senses: Optional[int] = None
+    set: Optional[int] = None
+    reset: Optional[int] = None
 
 
 @dataclass(frozen=True)
@@ -234,7 +237,7 @@ def results_of(source: Source, progress: Optional[Progress] = None) -> List[Know
 
 def are_snapshots(source: Source) -> bool:
     """Whether a file is one of snapshots, by its header."""
-    return source.text.split("\n", 1)[0].rstrip("\r") == ",".join(Snapshot._fields)
+    return tuple(source.text.split("\n", 1)[0].rstrip("\r").split(",")) in HEADERS
 
 
 def snapshots_of(source: Source) -> List[Snapshot]:
@@ -276,7 +279,7 @@ def wear_of(source: Source) -> List[Worn]:
     for at, record in records:
         fields = dict(zip(header, _fields(source, at, record, len(header))))
         array, bank, pulses = (_natural(source, at, name, fields[name]) for name in ("array", "bank", "pulses"))
-        more = [_natural(source, at, name, fields[name]) if fields.get(name) else None for name in ("pointers", "stuck", "changes")]
+        more = [_natural(source, at, name, fields[name]) if fields.get(name) else None for name in Worn._fields[4:]]
         if array != at - 1 or not _ROLE.fullmatch(fields["role"]):
             raise FileFault(f"{source.name} row {at}: {'array' if array != at - 1 else 'role'}")
         found.append(Worn(array, bank, pulses, fields["role"], *more))

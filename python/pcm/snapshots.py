@@ -19,7 +19,8 @@ _DIGITS = 20
 class Snapshot(NamedTuple):
     """What a stream had done when so many `rows` were served: the tick that it had reached, how many rows had each outcome by then, the
     spares in use (`retired`), the pulses of all array lines, the most of any line and the mean rounded down, the active pointers of
-    all array lines, their senses, and how many cells were driven to 1 (`set`) and to 0 (`reset`)."""
+    all array lines, and how often their lines were sensed and their cells driven to 1 (`set`) and to 0 (`reset`): None where that isn't
+    told, as by a program older than 1.4."""
 
     rows: int
     tick: int
@@ -38,9 +39,9 @@ class Snapshot(NamedTuple):
     most: int
     mean: int
     pointers: int
-    senses: int
-    set: int
-    reset: int
+    senses: Optional[int] = None
+    set: Optional[int] = None
+    reset: Optional[int] = None
 
     @property
     def known(self) -> int:
@@ -48,8 +49,12 @@ class Snapshot(NamedTuple):
         return sum(self[2:12])
 
 
+# What may be empty or missing.
+_ENERGY = ("senses", "set", "reset")
 # What never falls from one snapshot to the next; the last may have as many rows as the one before it.
-_GROWING = ("rows", "tick", *Snapshot._fields[2:12], "retired", "pulses", "most", "mean", "senses", "set", "reset")
+_GROWING = ("rows", "tick", *Snapshot._fields[2:12], "retired", "pulses", "most", "mean", *_ENERGY)
+# The headers of snapshots, with energy and without.
+HEADERS = (Snapshot._fields, Snapshot._fields[: -len(_ENERGY)])
 BEGIN = Snapshot(*[0] * len(Snapshot._fields))
 
 
@@ -65,15 +70,16 @@ class SnapshotError(ValueError):
 
 def read_snapshots(file: Iterable[str]) -> Iterator[Snapshot]:
     """The snapshots of a file, or of other lines, in their order. `SnapshotError` names a line that isn't so."""
-    at, before, ended = -1, BEGIN, False
+    at, before, ended, names = -1, BEGIN, False, Snapshot._fields
     for at, line in enumerate(file):
         fields = line.rstrip("\r\n").split(",")
         if at == 0:
-            if fields != list(Snapshot._fields):
+            names = tuple(fields)
+            if names not in HEADERS:
                 raise SnapshotError(0, "header")
             continue
-        now = _parsed(at, fields)
-        fallen = next((name for name in _GROWING if getattr(now, name) < getattr(before, name)), "rows" if ended else None)
+        now = _parsed(at, fields, names)
+        fallen = next((name for name in _GROWING if _falls(getattr(before, name), getattr(now, name))), "rows" if ended else None)
         if fallen is not None:
             raise SnapshotError(at, f"order of {fallen}")
         if now.known > now.rows or not now.mean <= now.most <= now.pulses:
@@ -85,14 +91,19 @@ def read_snapshots(file: Iterable[str]) -> Iterator[Snapshot]:
         raise SnapshotError(0, "header")
 
 
-def _parsed(at: int, fields: "list[str]") -> Snapshot:
-    """A line's numbers."""
-    if len(fields) != len(Snapshot._fields):
+def _falls(before: Optional[int], now: Optional[int]) -> bool:
+    """Whether a number fell; one that isn't told doesn't."""
+    return before is not None and now is not None and now < before
+
+
+def _parsed(at: int, fields: "list[str]", names: "tuple[str, ...]") -> Snapshot:
+    """A line's numbers, by their names."""
+    if len(fields) != len(names):
         raise SnapshotError(at, "fields")
-    for name, text in zip(Snapshot._fields, fields):
-        if not (text.isascii() and text.isdigit() and len(text) <= _DIGITS):
+    for name, text in zip(names, fields):
+        if not (text.isascii() and text.isdigit() and len(text) <= _DIGITS) and (text or name not in _ENERGY):
             raise SnapshotError(at, name)
-    return Snapshot(*map(int, fields))
+    return Snapshot(*(int(text) if text else None for text in fields))  # type: ignore[arg-type]
 
 
 def snapshots(

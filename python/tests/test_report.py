@@ -360,7 +360,7 @@ class Pages(Room):
     def test_a_wear_report_with_more_columns(self):
         files = self.files_of(RUNS[8])
         lines = pathlib.Path(files["wear"]).read_text().splitlines()
-        more = self.file("\n".join([lines[0] + ",pointers,stuck,changes", *(line + ",4,,9" for line in lines[1:])]) + "\n")
+        more = self.file("\n".join([lines[0] + ",pointers,stuck,changes,senses,set,reset", *(line + ",4,,9,7,,8" for line in lines[1:])]) + "\n")
         tables = Tables(self.page(files["results"], "--wear", more, "--options", RUNS[8])).found
         self.assertEqual(4 * len(lines[1:]), sum(row[3] for row in tables["pointers"][0][1:]))
 

@@ -31,7 +31,7 @@ def drawn(count, every=100, **last):
 
 
 def text_of(snapshots):
-    return HEADER + "".join(",".join(map(str, one)) + "\n" for one in snapshots)
+    return HEADER + "".join(",".join("" if it is None else str(it) for it in one) + "\n" for one in snapshots)
 
 
 def told_of(text, title):
@@ -53,6 +53,13 @@ class Reading(unittest.TestCase):
         self.assertEqual(made[-1].rows, made[-1].known)
         self.assertEqual([], list(pcm.read_snapshots([HEADER])))
 
+    def test_energy_may_be_left_out(self):
+        plain = [one._replace(senses=None, set=None, reset=None) for one in drawn(5)]
+        self.assertEqual(plain, list(pcm.read_snapshots(text_of(plain).splitlines())))
+        before = [",".join(line.split(",")[:17]) for line in text_of(plain).splitlines()]
+        self.assertEqual(plain, list(pcm.read_snapshots(before)))
+        self.refused("row 1: fields", "\n".join([before[0], text_of(plain).splitlines()[1]]))
+
     def test_a_line_that_is_none_is_named_with_what_is_wrong(self):
         good = text_of(drawn(5))
         lines = good.splitlines()
@@ -61,9 +68,9 @@ class Reading(unittest.TestCase):
         self.refused("row 0: header", good.partition("\n")[2])
         self.refused("row 3: fields", good.replace(lines[3], lines[3] + ","))
         self.refused("row 3: fields", good.replace(lines[3], ""))
-        self.refused("row 6: fields", good[:-20])
+        self.refused("row 6: fields", good[:-30])
         for at, name in enumerate(pcm.Snapshot._fields):
-            for wrong in ("", "-1", "x", " 1", "1.5", "\u0663", "9" * 21):
+            for wrong in (*[""][: at < 17], "-1", "x", " 1", "1.5", "\u0663", "9" * 21):
                 fields = lines[2].split(",")
                 fields[at] = wrong
                 self.refused(f"row 2: {name}", good.replace(lines[2], ",".join(fields)))
