@@ -53,6 +53,13 @@ def years(writes: int, line_bytes: int, rate: float) -> float:
     return writes * line_bytes / (rate * 1e6) / SECONDS_A_YEAR
 
 
+def with_energy(name: str, last: Snapshot) -> Snapshot:
+    """A snapshot that tells energy, as those of a program before 1.4 don't."""
+    if last.senses is None:
+        raise FileFault(f"{name}: no energy is told")
+    return last
+
+
 def figures(last: Snapshot, line_bytes: int, units: Units, rate: Optional[float] = None) -> List[Figure]:
     """What a run cost, by its last snapshot."""
     cells = CELLS[line_bytes]
@@ -147,7 +154,7 @@ def ran(trace: Optional[str], options: Dict[str, str], program: Program = None, 
         pass
     if last is None:
         raise FileFault("the stream told no snapshot")
-    return last
+    return with_energy("the stream", last)
 
 
 def parser() -> Parser:
@@ -209,9 +216,7 @@ def told(given: argparse.Namespace) -> str:
             if source.text.split("\n", 1)[0].rstrip("\r") == ENERGY_HEADER:
                 text += by_bank(source, line_bytes_of(options), units, given.csv)
             elif are_snapshots(source):
-                last = snapshots_of(source)[-1]
-                if last.senses is None:
-                    raise FileFault(f"{source.name}: its snapshots tell no energy")
+                last = with_energy(source.name, snapshots_of(source)[-1])
                 named.append((source.name, figures(last, line_bytes_of(options), units, rate)))
             else:
                 raise FileFault(f"{source.name} row 0: header: neither of --print snapshots nor of --print energy")
