@@ -47,8 +47,7 @@ def list_of_crates():
             shelf = crate.shelf
             title = re.sub(r" \(.*", "", shelf)
             lines += ["", f"### {title[:3]}{title[3:].capitalize()}", ""]
-        below = ", ".join(crates.directly_below(crate.name))
-        lines.append(f"- [{crate.name}]({crate.name}): {crate.in_short()}" + f" ({below})" * bool(below))
+        lines.append(f"- [{crate.name}]({crate.name}): {crate.in_short()}")
     return "\n".join(lines).strip()
 
 

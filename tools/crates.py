@@ -76,9 +76,3 @@ def below(name):
 def needed(name):
     """A crate and all crates that it stands on, through others too."""
     return frozenset({name}.union(*map(needed, below(name))))
-
-
-def directly_below(name):
-    """The crates that a crate stands on and reaches through no other of them."""
-    through = frozenset().union(*(needed(it) - {it} for it in below(name)))
-    return tuple(it for it in below(name) if it not in through)
