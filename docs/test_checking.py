@@ -197,6 +197,10 @@ class Crates(unittest.TestCase):
         rows = [line for line in checking.list_of_crates().splitlines() if line.startswith("- [")]
         self.assertEqual(len(rows), len(checking.crates.listed()))
 
+    def test_words_end_before_a_clause_of_its_own_but_where_a_list_stands(self):
+        self.assertEqual(checking.crates.named("trace_stream").in_short(), "Reads a trace row by row from any source")
+        self.assertTrue(checking.crates.named("bank_shape").in_short().endswith("and what its array lines are used for"))
+
     def test_a_stale_list_is_named(self):
         with tempfile.TemporaryDirectory() as room:
             pathlib.Path(room, "crates").mkdir()
