@@ -409,13 +409,14 @@ def is_test(crate, name):
 
 
 def faults_of_row(cells):
-    """What isn't there of a row of the table: its clauses, wrong bodies and tests, each as `crate NAME: CLAUSE`."""
+    """What isn't there of a row of the table: its clauses, wrong bodies and tests, each as `crate NAME: CLAUSE`. A wrong body without a crate
+    is of that of the row's first clause."""
     clauses, bodies, tests = ([span.partition(" ")[::2] for span in re.findall(r"`([^`]+)`", cell)] for cell in cells)
     for crate, rest in clauses:
         name, _, clause = rest.partition(": ")
         if crate not in crates.listed() or not (has_clause(crate, name, clause) if clause else defines(crate, name)):
             yield f"clause {crate} {rest}"
-    for crate, name in bodies:
+    for crate, name in ((crate, name) if name else (clauses[0][0], crate) for crate, name in bodies):
         if not (TOP / "crates" / crate / "must-fail" / f"{name}.edit").is_file():
             yield f"wrong body {crate} {name}"
     for crate, name in tests:

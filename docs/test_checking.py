@@ -99,6 +99,7 @@ class Requirements(unittest.TestCase):
     def test_clauses_wrong_bodies_and_tests_that_are_there(self):
         row = ("`start_gap Registers::place: apart`", "`start_gap place_one_off_behind_the_gap`", "`part_tests four_lines_turn_round_five_places`")
         self.assertEqual(list(checking.faults_of_row(row)), [])
+        self.assertEqual(list(checking.faults_of_row((row[0], row[1].replace("start_gap ", ""), row[2]))), [])
 
     def test_what_is_gone_is_named(self):
         found = list(checking.faults_of_row(("`start_gap Registers::place: nothing`", "`start_gap no_edit`", "`part_tests no_test`")))
