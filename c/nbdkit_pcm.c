@@ -5,7 +5,7 @@
 
    The export "" is the disk. The export "control" is 4096 bytes of text: read, it tells the disk's clock and what became of its rows; written
    at its first byte, `cut` cuts the power there, `cut N` in N ticks whatever the disk does then, and `wait N` lets N ticks pass.
-   docs/USING.md ('Use a module as a disk') has the parameters and what is promised. */
+   docs/USING.md ('Use a module as a disk') has what is promised, examples/device/README.md the parameters. */
 #define _POSIX_C_SOURCE 200809L
 #define NBDKIT_API_VERSION 2
 #include <nbdkit-plugin.h>

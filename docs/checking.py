@@ -47,8 +47,7 @@ def list_of_crates():
             shelf = crate.shelf
             title = re.sub(r" \(.*", "", shelf)
             lines += ["", f"### {title[:3]}{title[3:].capitalize()}", ""]
-        below = ", ".join(crates.directly_below(crate.name))
-        lines.append(f"- [{crate.name}]({crate.name}): {crate.in_short()}" + f" ({below})" * bool(below))
+        lines.append(f"- [{crate.name}]({crate.name}): {crate.in_short()}")
     return "\n".join(lines).strip()
 
 
@@ -410,18 +409,20 @@ def is_test(crate, name):
 
 
 def faults_of_row(cells):
-    """What isn't there of a row of the table: its clauses, wrong bodies and tests, each as `crate NAME: CLAUSE`."""
+    """What isn't there of a row of the table: its clauses, `crate NAME: CLAUSE`; wrong bodies, with their crate where it isn't that of the
+    first clause; and tests, which stand in a crate of tests."""
     clauses, bodies, tests = ([span.partition(" ")[::2] for span in re.findall(r"`([^`]+)`", cell)] for cell in cells)
     for crate, rest in clauses:
         name, _, clause = rest.partition(": ")
         if crate not in crates.listed() or not (has_clause(crate, name, clause) if clause else defines(crate, name)):
             yield f"clause {crate} {rest}"
-    for crate, name in bodies:
+    home = clauses[0][0] if clauses else ""
+    for crate, name in ((crate, name) if name else (home, crate) for crate, name in bodies):
         if not (TOP / "crates" / crate / "must-fail" / f"{name}.edit").is_file():
             yield f"wrong body {crate} {name}"
-    for crate, name in tests:
-        if crate not in crates.listed() or not is_test(crate, name):
-            yield f"test {crate} {name}"
+    for name in (name or crate for crate, name in tests):
+        if not any(is_test(crate, name) for crate in crates.listed() if crate.endswith("_tests")):
+            yield f"test {name}"
 
 
 def check_requirements():

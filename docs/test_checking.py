@@ -97,12 +97,13 @@ class Names(unittest.TestCase):
 
 class Requirements(unittest.TestCase):
     def test_clauses_wrong_bodies_and_tests_that_are_there(self):
-        row = ("`start_gap Registers::place: apart`", "`start_gap place_one_off_behind_the_gap`", "`part_tests four_lines_turn_round_five_places`")
+        row = ("`start_gap Registers::place: apart`", "`start_gap place_one_off_behind_the_gap`", "`four_lines_turn_round_five_places`")
         self.assertEqual(list(checking.faults_of_row(row)), [])
+        self.assertEqual(list(checking.faults_of_row((row[0], row[1].replace("start_gap ", ""), row[2]))), [])
 
     def test_what_is_gone_is_named(self):
-        found = list(checking.faults_of_row(("`start_gap Registers::place: nothing`", "`start_gap no_edit`", "`part_tests no_test`")))
-        self.assertEqual(found, ["clause start_gap Registers::place: nothing", "wrong body start_gap no_edit", "test part_tests no_test"])
+        found = list(checking.faults_of_row(("`start_gap Registers::place: nothing`", "`start_gap no_edit`", "`no_test`")))
+        self.assertEqual(found, ["clause start_gap Registers::place: nothing", "wrong body start_gap no_edit", "test no_test"])
 
     def test_a_case_of_stored_input_is_a_test(self):
         self.assertTrue(checking.is_test("played_tests", "a_header_alone_gives_a_header_alone"))
@@ -196,6 +197,10 @@ class Crates(unittest.TestCase):
     def test_each_crate_has_one_row(self):
         rows = [line for line in checking.list_of_crates().splitlines() if line.startswith("- [")]
         self.assertEqual(len(rows), len(checking.crates.listed()))
+
+    def test_words_end_before_a_clause_of_its_own_but_where_a_list_stands(self):
+        self.assertEqual(checking.crates.named("trace_stream").in_short(), "Reads a trace row by row from any source")
+        self.assertTrue(checking.crates.named("bank_shape").in_short().endswith("and what its array lines are used for"))
 
     def test_a_stale_list_is_named(self):
         with tempfile.TemporaryDirectory() as room:

@@ -12,6 +12,8 @@ import typing
 TOP = pathlib.Path(__file__).resolve().parent.parent
 # What a crate's text is in.
 PARTS = ("src", "specs", "proofs")
+# What a clause of its own begins with, in a sentence.
+CLAUSE = "(?:and|or|as|by|in|of|over|told|whatever|which|whose|with) "
 
 
 class Crate(typing.NamedTuple):
@@ -42,10 +44,13 @@ class Crate(typing.NamedTuple):
         return re.split(r"(?<=\.)\s+(?=[A-Z`])", words)[0].removesuffix(".")
 
     def in_short(self):
-        """What stands there before a colon, where that says enough: some words, and not those of another crate."""
+        """What stands there before a colon, where that says enough: some words, and not those of another crate; and then before a comma
+        behind which a clause of its own begins, where there is none before it."""
         head = self.about().partition(":")[0]
         alone = sum(it.about().partition(":")[0] == head for it in listed().values()) == 1
-        return head if alone and head.count(" ") >= 3 else self.about()
+        words = head if alone and head.count(" ") >= 3 else self.about()
+        first = re.split(f", (?={CLAUSE})", words)[0]
+        return first if alone and first.count(" ") >= 5 and "," not in first else words
 
 
 @functools.cache
@@ -76,9 +81,3 @@ def below(name):
 def needed(name):
     """A crate and all crates that it stands on, through others too."""
     return frozenset({name}.union(*map(needed, below(name))))
-
-
-def directly_below(name):
-    """The crates that a crate stands on and reaches through no other of them."""
-    through = frozenset().union(*(needed(it) - {it} for it in below(name)))
-    return tuple(it for it in below(name) if it not in through)
