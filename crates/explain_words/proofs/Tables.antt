@@ -1,0 +1,15 @@
+-- A command's options, added one after the other.
+use Rattle.std.proofs.Common.{◌≡◌, ℕ, ◌+◌, suc, ◌<◌, List, length, get_or, drop, map, Bor, ap, arith, drop-cons}
+use Rattle.clap.specs.Words.{App, Text, new_app, with_rule}
+use Rattle.command_line.specs.Table.{leaf_app, option_rule, with_options}
+
+pub options-none : (a : App) (name : Text) (options : List Text) → a ≡ new_app name → with_options a options ≡ leaf_app name options
+unfolding leaf_app
+options-none a name options e = ap (λ b. with_options b options) e
+
+pub options-next : (a b : App) (options : List (Bor Text)) (i : ℕ) (d : Bor Text) → i < length options
+    → b ≡ with_rule a (option_rule (get_or options i d).now)
+    → with_options b (map (λ s. s.now) (drop (i + 1) options)) ≡ with_options a (map (λ s. s.now) (drop i options))
+options-next a b options i d within e =
+    let one : i + 1 ≡ suc i = omega arith in
+    rw (one, drop-cons options i d within) (ap (λ c. with_options c (map (λ (s : Bor Text). s.now) (drop (suc i) options))) e)

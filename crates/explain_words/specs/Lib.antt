@@ -1,0 +1,3 @@
+-- What the contracts of the words of an explanation cite.
+pub mod Table
+pub mod Jobs

@@ -1,0 +1,2 @@
+-- lemmas over sizes
+mod Sizes
