@@ -1,0 +1,4 @@
+mod Tables
+mod Named
+mod Telling
+mod Sizes

@@ -1,0 +1,2 @@
+-- What is told of a verdict.
+pub mod Explained
