@@ -1,0 +1,2 @@
+-- What the counts of energy say of changes.
+pub mod Changes
