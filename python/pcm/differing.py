@@ -8,13 +8,13 @@ them, and the soonest, by the tick at which the difference shows: the lowest may
 Statuses: 0 where no row differs, 1 where one does, and those of `./pcm check` from 2 on."""
 import subprocess
 import sys
-from typing import List, NamedTuple, Optional, Sequence, Tuple
+from typing import List, NamedTuple, Sequence, Tuple
 
-from .errors import PcmError, TraceError, UsageError, error_of
+from .errors import TraceError, UsageError, error_of
 from .program import Program, command
 from .runs import Source, arrivals_of, opened
-
-HEADER = "row,op,line,outcome,tick,place,data"
+from .tables import answered
+from .words import RESULTS
 
 
 class Told(NamedTuple):
@@ -75,8 +75,8 @@ def partings(trace: Source, one: Source, other: Source) -> List[Parting]:
 def _told(source: Source) -> List[Told]:
     """What a table says of each row."""
     head, *lines = source.text.splitlines() or [""]
-    if head != HEADER:
-        raise TraceError(3, f"{source.name}: its first line must be {HEADER}")
+    if head != RESULTS:
+        raise TraceError(3, f"{source.name}: its first line must be {RESULTS}")
     found = []
     for number, line in enumerate(lines, 1):
         fields = line.split(",")
@@ -115,18 +115,15 @@ def _rules(said: str) -> str:
 
 def main(words: Sequence[str]) -> int:
     """`python3 -m pcm differ`; answers the status."""
-    if "--help" in words or "-h" in words:
-        print(__doc__)
-        return 0
-    try:
-        names, options = _parsed(words)
-        trace, one, other = (opened(kind, name) for kind, name in zip(("trace", "results", "results"), names))
-        parts, text = differ(trace, one, other, options)
-        sys.stdout.write(text)
-        return int(parts)
-    except PcmError as wrong:
-        print(f"differ: {wrong}", file=sys.stderr)
-        return wrong.status or 1
+    return answered("differ", __doc__, words, _print)
+
+
+def _print(words: Sequence[str]) -> int:
+    names, options = _parsed(words)
+    trace, one, other = (opened(kind, name) for kind, name in zip(("trace", "results", "results"), names))
+    parts, text = differ(trace, one, other, options)
+    sys.stdout.write(text)
+    return int(parts)
 
 
 def _parsed(words: Sequence[str]) -> Tuple[List[str], List[str]]:

@@ -17,16 +17,15 @@ and every sense, those of a recovery and of gap moves too. A sense is one of all
 energy of queues, buses and idle time isn't counted. The last snapshot counts what was done behind the last row, and its tick is that
 row's."""
 import argparse
-import os
 import sys
 from typing import Dict, Iterator, List, NamedTuple, Optional, Sequence, Tuple
 
 from .devices import DEVICES, Units, positive, units_of
-from .errors import PcmError, UsageError
+from .errors import UsageError
 from .program import Program
 from .runs import FileFault, Source, are_snapshots, opened, snapshots_of
 from .snapshots import Snapshot, snapshots
-from .tables import Parser, names_of, parsed_options, table
+from .tables import Parser, answered, names_of, parsed_options, table
 
 ENERGY_HEADER = "bank,senses,set,reset"
 # The cells of an array line, its check cells too, by the bytes of a line.
@@ -172,25 +171,11 @@ def parser() -> Parser:
 
 def main(words: Sequence[str]) -> int:
     """`python3 -m pcm energy`; answers the status."""
-    if "--help" in words or "-h" in words:
-        print(__doc__)
-        return 0
-    try:
-        sys.stdout.write(told(parser().parse_args(list(words))))
-        sys.stdout.flush()
-    except PcmError as wrong:
-        print(f"energy: {wrong}", file=sys.stderr)
-        return wrong.status or 1
-    except FileNotFoundError as wrong:
-        print(f"energy: {wrong}", file=sys.stderr)
-        return 4
-    except KeyboardInterrupt:
-        print("energy: broken off", file=sys.stderr)
-        return 130
-    except OSError as wrong:
-        os.dup2(os.open(os.devnull, os.O_WRONLY), sys.stdout.fileno())
-        print(f"energy: {wrong.filename or 'standard output'}: {wrong.strerror}", file=sys.stderr)
-        return 5
+    return answered("energy", __doc__, words, _print)
+
+
+def _print(words: Sequence[str]) -> int:
+    sys.stdout.write(told(parser().parse_args(list(words))))
     return 0
 
 

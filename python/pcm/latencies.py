@@ -30,9 +30,9 @@ from .errors import PcmError, ReadFault, UsageError, error_of
 from .program import Program, command
 from .progress import Progress
 from .rows import Settle, read_trace
-from .runs import DRAWN, OUTCOMES
-from .tables import Parser, names_of, parsed_options, table
-from .words import wrong_word
+from .runs import DRAWN, OUTCOMES, FileFault
+from .tables import Parser, answered, names_of, parsed_options, table
+from .words import TOLD, wrong_word
 
 # Numbers of ticks, and how many rows of an outcome took so many.
 Histogram = Dict[int, int]
@@ -41,15 +41,11 @@ KINDS: "Dict[str, Tuple[str, ...]]" = {
     "reads": ("read", "forwarded"), "read": ("read",), "writes": ("stored", "merged"), "stored": ("stored",),
 }
 _HERE = os.path.dirname(os.path.abspath(__file__))
-_HEADER = "row,outcome,tick,place,data"
 _MASK = 2**64 - 1
 
 
-class RowsFault(PcmError):
+class RowsFault(FileFault):
     """What should be rows of a stream isn't, or isn't of this trace (status 3)."""
-
-    def __init__(self, line: str) -> None:
-        super().__init__(3, line)
 
 
 class Spread(NamedTuple):
@@ -140,7 +136,7 @@ def in_python(arrivals: Iterator[int], rows: Iterable[bytes]) -> Dict[str, Histo
     waiting: Dict[int, int] = {}
     arrived = 0
     lines = iter(rows)
-    if next(lines, b"").rstrip(b"\n") != _HEADER.encode():
+    if next(lines, b"").rstrip(b"\n") != TOLD.encode():
         raise RowsFault("row 0: not the header of a stream's rows")
     for at, line in enumerate(lines, 1):
         fields = line.split(b",", 4)
@@ -352,23 +348,11 @@ def parser() -> Parser:
 
 def main(words: Sequence[str]) -> int:
     """`python3 -m pcm latencies`; answers the status."""
-    if "--help" in words or "-h" in words:
-        print(__doc__)
-        return 0
-    try:
-        given = parser().parse_args(list(words))
-        sys.stdout.write(told(given))
-        sys.stdout.flush()
-    except PcmError as wrong:
-        print(f"latencies: {wrong}", file=sys.stderr)
-        return wrong.status or 1
-    except KeyboardInterrupt:
-        print("latencies: broken off", file=sys.stderr)
-        return 130
-    except OSError as wrong:
-        os.dup2(os.open(os.devnull, os.O_WRONLY), sys.stdout.fileno())
-        print(f"latencies: {wrong.filename or 'standard output'}: {wrong.strerror}", file=sys.stderr)
-        return 5
+    return answered("latencies", __doc__, words, _print)
+
+
+def _print(words: Sequence[str]) -> int:
+    sys.stdout.write(told(parser().parse_args(list(words))))
     return 0
 
 

@@ -27,18 +27,18 @@ For all runs:
 RESULTS may be -, standard input. Options that aren't given are those that a file tells, and else the program's defaults. Files that
 aren't of one run are refused. Status 0; 2 for words that ask for nothing that can be done, 3 for a file that isn't what it should be,
 4 and 5 where reading or writing failed, 130 where it is broken off, and with --run that of the program."""
-import os
 import shlex
 import sys
 from typing import Dict, List, Optional, Sequence
 
 from .devices import Units, positive, units_of
-from .errors import PcmError, UsageError, WriteFault
+from .errors import UsageError, WriteFault
 from .gathered import Asked, gather, known_options
 from .page import page
 from .program import Program
 from .progress import Progress
 from .runs import DEFAULTS, DRAWN, STREAMS
+from .tables import answered
 from .words import near
 
 _OF_RUNS = ("trace", "wear", "image", "summary", "snapshots", "options", "name")
@@ -67,47 +67,31 @@ def report(
 
 def main(words: Sequence[str]) -> int:
     """`python3 -m pcm report`; answers the status."""
-    if "--help" in words or "-h" in words:
-        print(__doc__)
-        return 0
-    try:
-        given = _parsed(words)
-        title, last = (given["title"] or ["Report of pcm"])[-1], {name: (given[name] or [None])[-1] for name in _OF_ALL}
-        units = units_of(last["device"], **{name.replace("-", "_"): last[name] for name in ("tick-ns", "set-pj", "reset-pj", "sense-pj")})
-        tick_ns = None if last["tick-ns"] is None and last["device"] is None else units.tick_ns
-        rate = None if last["rate"] is None else positive("--rate", last["rate"])
-        text = report(_asked(given), title, tick_ns=tick_ns, progress=True if given["progress"] else None, units=units, rate=rate)
-        _write(text, (given["output"] or [None])[-1])
-    except PcmError as wrong:
-        return _told(str(wrong), wrong.status or 1)
-    except FileNotFoundError as wrong:
-        return _told(str(wrong), 4)
-    except KeyboardInterrupt:
-        return _told("broken off", 130)
+    return answered("report", __doc__, words, _make)
+
+
+def _make(words: Sequence[str]) -> int:
+    given = _parsed(words)
+    title, last = (given["title"] or ["Report of pcm"])[-1], {name: (given[name] or [None])[-1] for name in _OF_ALL}
+    units = units_of(last["device"], **{name.replace("-", "_"): last[name] for name in ("tick-ns", "set-pj", "reset-pj", "sense-pj")})
+    tick_ns = None if last["tick-ns"] is None and last["device"] is None else units.tick_ns
+    rate = None if last["rate"] is None else positive("--rate", last["rate"])
+    text = report(_asked(given), title, tick_ns=tick_ns, progress=True if given["progress"] else None, units=units, rate=rate)
+    _write(text, (given["output"] or [None])[-1])
     return 0
-
-
-def _told(words: str, status: int) -> int:
-    """Says what went wrong, in whatever bytes names have; answers the status."""
-    print(f"report: {words.encode('utf-8', 'surrogateescape').decode('utf-8', 'replace')}", file=sys.stderr)
-    return status
 
 
 def _write(text: str, name: Optional[str]) -> None:
     # (a name on the page may have been of any bytes)
     data = text.encode("utf-8", "surrogateescape").decode("utf-8", "replace").encode()
+    if name is None:
+        sys.stdout.buffer.write(data)
+        return
     try:
-        if name is None:
-            sys.stdout.buffer.write(data)
-            sys.stdout.flush()
-        else:
-            with open(name, "wb") as file:
-                file.write(data)
+        with open(name, "wb") as file:
+            file.write(data)
     except OSError as wrong:
-        if name is None:
-            # (nothing more is written there in the end)
-            os.dup2(os.open(os.devnull, os.O_WRONLY), sys.stdout.fileno())
-        raise WriteFault(5, f"{name or 'standard output'}: {wrong.strerror}") from None
+        raise WriteFault(5, f"{name}: {wrong.strerror}") from None
 
 
 def _parsed(words: Sequence[str]) -> Dict[str, List[str]]:

@@ -16,6 +16,7 @@ from .errors import PcmError, ReadFault
 from .image import Image, ImageError, _feistel
 from .progress import Progress
 from .snapshots import HEADERS, Snapshot, SnapshotError, read_snapshots
+from .words import RESULTS, TOLD
 
 OUTCOMES = ("stored", "merged", "queued", "full", "worn", "read", "forwarded", "busy", "lost", "cut")
 # The operation of each outcome's row.
@@ -228,9 +229,9 @@ def results_of(source: Source, progress: Optional[Progress] = None) -> List[Know
     """The rows of results, or those of a stream in the order of their numbers."""
     records = _records(source, progress)
     header = next(records, (0, []))[1]
-    if header == ["row", "op", "line", "outcome", "tick", "place", "data"]:
+    if header == RESULTS.split(","):
         return [_result(source, at, record) for at, record in records]
-    if header == ["row", "outcome", "tick", "place", "data"]:
+    if header == TOLD.split(","):
         return _streamed(source, records)
     raise FileFault(f"{source.name} row 0: header")
 

@@ -1,10 +1,37 @@
-"""What commands of the package share: words, names of runs, and tables as text."""
+"""What commands of the package share: how they end, words, names of runs, and tables as text."""
 import argparse
 import math
+import os
 import shlex
-from typing import Dict, List, Sequence
+import sys
+from typing import Callable, Dict, List, Optional, Sequence
 
-from .errors import UsageError
+from .errors import PcmError, UsageError
+
+
+def answered(name: str, about: Optional[str], words: Sequence[str], work: Callable[[Sequence[str]], int]) -> int:
+    """The status of a command: its help is printed, or its work is done, which answers one. Whatever goes wrong is told in one line, with the
+    program's status for it; a file that isn't there has 4, an output that can't be written 5, and what is broken off 130."""
+    if "--help" in words or "-h" in words:
+        print(about)
+        return 0
+    try:
+        status = work(words)
+        sys.stdout.flush()
+        return status
+    except PcmError as wrong:
+        said, status = str(wrong), wrong.status or 1
+    except FileNotFoundError as wrong:
+        said, status = str(wrong) if wrong.errno is None else f"{wrong.filename}: {wrong.strerror}", 4
+    except KeyboardInterrupt:
+        said, status = "broken off", 130
+    except OSError as wrong:
+        # (nothing more is written there in the end)
+        os.dup2(os.open(os.devnull, os.O_WRONLY), sys.stdout.fileno())
+        said, status = f"{wrong.filename or 'standard output'}: {wrong.strerror}", 5
+    # (a name may be of any bytes)
+    print(f"{name}: {said.encode('utf-8', 'surrogateescape').decode('utf-8', 'replace')}", file=sys.stderr)
+    return status
 
 
 def parsed_options(words: str) -> Dict[str, str]:

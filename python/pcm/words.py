@@ -262,7 +262,10 @@ def wrong_word(words: Sequence[str]) -> Optional[str]:
 # Traces.
 
 HEADER = ["tick", "op", "arg", "data"]
+# The first line of results.
 RESULTS = "row,op,line,outcome,tick,place,data"
+# The same of a stream.
+TOLD = "row,outcome,tick,place,data"
 # An explanation reads no more rows than this: nobody waits for it.
 MOST_ROWS = 5_000_000
 

@@ -9,7 +9,7 @@ import unittest
 HERE = pathlib.Path(__file__).resolve().parent
 sys.path[:0] = [str(HERE.parent), str(HERE)]
 from leaks import setUpModule, tearDownModule  # noqa: E402, F401
-from pcm import differing  # noqa: E402
+from pcm import PcmError, differing, tables  # noqa: E402
 
 SMALL = {"banks": 1, "regions": 1, "lines": 4, "spares": 2}
 WORDS = [word for name, value in SMALL.items() for word in (f"--{name}", str(value))]
@@ -75,6 +75,22 @@ class Partings(Room):
         self.assertEqual(2, self.differ(RIGHT, RIGHT, "--banks", "5")[0])
         self.assertEqual(2, told(differing.main, "one.csv")[0])
         self.assertEqual(4, told(differing.main, "/nowhere/1", "/nowhere/2", "/nowhere/3")[0])
+
+
+class Ends(unittest.TestCase):
+    def ended(self, fault):
+        """The status of a command whose work ends so, and what it says."""
+        def work(_words):
+            raise fault
+
+        with contextlib.redirect_stderr(io.StringIO()) as err:
+            return tables.answered("differ", None, [], work), err.getvalue()
+
+    def test_what_goes_wrong_is_one_line(self):
+        self.assertEqual((4, "differ: /none: No such file or directory\n"), self.ended(FileNotFoundError(2, "No such file or directory", "/none")))
+        self.assertEqual((4, "differ: there is no pcm\n"), self.ended(FileNotFoundError("there is no pcm")))
+        self.assertEqual((130, "differ: broken off\n"), self.ended(KeyboardInterrupt()))
+        self.assertEqual((3, "differ: file\ufffd\n"), self.ended(PcmError(3, "file\udcff")))
 
 
 def source_of(kind, text):
