@@ -40,15 +40,30 @@ def documents():
 
 
 def list_of_crates():
-    """The list of crates/README.md, by shelves."""
-    lines, shelf = [], None
+    """The list of crates/README.md, by layers."""
+    lines, layer = [], None
     for crate in crates.listed().values():
-        if crate.shelf != shelf:
-            shelf = crate.shelf
-            title = re.sub(r" \(.*", "", shelf)
-            lines += ["", f"### {title[:3]}{title[3:].capitalize()}", ""]
+        if crate.layer != layer:
+            layer = crate.layer
+            number, name = re.match(r"(\d+\.) ([^(]*[^( ])", layer).groups()
+            lines += ["", f"### {number} {name.capitalize()}", ""]
         lines.append(f"- [{crate.name}]({crate.name}): {crate.in_short()}")
     return "\n".join(lines).strip()
+
+
+def edges_upwards():
+    """The crates that stand on one of a higher layer, each with that one."""
+    order = list(dict.fromkeys(crate.layer for crate in crates.listed().values()))
+    for crate in crates.listed().values():
+        for name in crate.libraries:
+            below = crates.listed().get(name)
+            if below and order.index(below.layer) > order.index(crate.layer):
+                yield crate.name, name
+
+
+def check_layers():
+    yield from (f"crates.txt: {crate} stands on {name}, which is of a higher layer" for crate, name in edges_upwards())
+    yield None
 
 
 def check_crates(writes):

@@ -202,6 +202,12 @@ class Crates(unittest.TestCase):
         self.assertEqual(checking.crates.named("trace_stream").in_short(), "Reads a trace row by row from any source")
         self.assertTrue(checking.crates.named("bank_shape").in_short().endswith("and what its array lines are used for"))
 
+    def test_an_edge_upwards_is_named(self):
+        self.assertEqual([it for it in checking.check_layers() if it], [])
+        low, high = (checking.crates.Crate(name, layer, (library,)) for name, layer, library in (("low", "1. a", "high"), ("high", "2. b", "low")))
+        with mock.patch.object(checking.crates, "listed", lambda: {"low": low, "high": high}):
+            self.assertEqual(len([it for it in checking.check_layers() if it]), 1)
+
     def test_a_stale_list_is_named(self):
         with tempfile.TemporaryDirectory() as room:
             pathlib.Path(room, "crates").mkdir()

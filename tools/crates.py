@@ -1,6 +1,6 @@
-"""The crates of crates.txt: the shelf of each, what it stands on, and what its first lines say of it.
+"""The crates of crates.txt: the layer of each, what it stands on, and what its first lines say of it.
 
-A shelf begins with a comment '# NUMBER. NAME'; behind it each line names a crate and the libraries that it stands on, its own
+A layer begins with a comment '# NUMBER. NAME'; behind it each line names a crate and the libraries that it stands on, its own
 repository's and the kit's."""
 import functools
 import itertools
@@ -20,7 +20,7 @@ class Crate(typing.NamedTuple):
     """A line of crates.txt."""
 
     name: str
-    shelf: str
+    layer: str
     libraries: tuple[str, ...]
 
     @property
@@ -56,13 +56,13 @@ class Crate(typing.NamedTuple):
 @functools.cache
 def listed():
     """All crates by their names, in the order of crates.txt."""
-    crates, shelf = {}, ""
+    crates, layer = {}, ""
     for line in (TOP / "crates.txt").read_text(encoding="utf-8").splitlines():
         if heading := re.match(r"# (\d+\. .*)", line):
-            shelf = heading[1]
+            layer = heading[1]
         name, colon, libraries = line.partition("#")[0].partition(":")
         if colon:
-            crates[name.strip()] = Crate(name.strip(), shelf, tuple(libraries.split()))
+            crates[name.strip()] = Crate(name.strip(), layer, tuple(libraries.split()))
     return crates
 
 
