@@ -1,6 +1,6 @@
 -- Bytes that several calls moved.
-use Rattle.std.proofs.Common.{ℕ, ◌+◌, ◌≡◌, ◌≤◌, List, [], ◌++◌, length, take, drop, Option, None, Some, refl, sym, ap, ◌∙◌, append_assoc, length-append, arith}
-use Rattle.std.{specs.Io.KnownBytes.{Appends, Consumes, IsAtEnd}, proofs.Math.Seq.{take-add, take-append-add}, proofs.lemmas.Grind.common_steps}
+use Rattle.std.proofs.Common.{ℕ, ◌+◌, ◌≡◌, ◌≤◌, List, [], ◌++◌, length, take, drop, Option, None, Some, refl, sym, append_assoc, length-append, arith}
+use Rattle.std.{specs.Io.KnownBytes.{Appends, Consumes}, proofs.Math.Seq.{take-add, take-append-add}, proofs.lemmas.Grind.common_steps}
 use Rattle.std.proofs.lemmas.List.{take_at, drop-drop, take-append-drop, take-append-le, append-nil}
 use Rattle.pcm_io.{specs.Faults.raised_by, specs.Giving.AppendsPrefix, specs.Taking.Takes, proofs.FaultLemmas.{raised_by-raised_by, raised_by-zero}}
 

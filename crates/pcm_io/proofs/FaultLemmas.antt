@@ -1,7 +1,7 @@
 -- Counts over several calls.
 use Rattle.std.proofs.Common.{ℕ, ◌+◌, ◌-◌, ◌^◌, ◌<◌, ◌≤◌, ◌≡◌, max, inl, inr, sym, ap, ◌∙◌, arith}
 use Rattle.std.proofs.{Math.Nat.add_assoc, lemmas.Bool.cases_lt}
-use Rattle.pcm_io.specs.Faults.{Rose, raised_by}
+use Rattle.pcm_io.specs.Faults.{raised_by}
 
 -- a count that is raised by nothing
 pub raised_by-zero : (count : ℕ) → raised_by count 0 ≡ count

@@ -3,3 +3,5 @@ pub mod FaultLemmas
 pub mod ByteLemmas
 pub mod DigitLemmas
 pub mod PrintLemmas
+mod HexLanes
+mod HexPushes

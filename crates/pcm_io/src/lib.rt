@@ -5,6 +5,7 @@
 
 mod calls;
 mod fault;
+mod hexadecimal;
 mod sink;
 mod source;
 mod text;

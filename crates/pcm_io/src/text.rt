@@ -3,6 +3,7 @@ ghost use Rattle.std.specs.Prelude.{◌≡◌, ◌+◌, ◌*◌, ◌≤◌, ◌+
 ghost use Rattle.hex.specs.Hex.{encode_lower};
 ghost use Rattle.pcm_io.specs.Reserved.{reserved, room_in, appended};
 
+use crate::hexadecimal::{BYTES, digits_of, digits_of_byte};
 use itoa::Buffer;
 use std::alloc::{AllocError, Global};
 use std::marker::Model;
@@ -93,11 +94,13 @@ impl Text {
         ensures after { self.new ≡ appended self.old (encode_lower bytes.now) }
         ensures room { room_in self.new + 2 * B ≡ room_in self.old }
     {
-        let mut digits = [0; 256];
-        let Ok(()) = hex::encode_to_slice(bytes.as_slice(), &mut digits[..2 * B]) else {
-            unreachable!()
-        };
-        self.push(&digits[..2 * B]);
+        let (blocks, rest) = bytes.as_chunks::<BYTES>();
+        for block in blocks {
+            self.push(&digits_of(block));
+        }
+        for byte in rest {
+            self.push(&digits_of_byte(*byte));
+        }
     }
 
     /// The bytes so far, in order.
