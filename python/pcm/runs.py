@@ -134,6 +134,7 @@ class Run:
     image: Optional[Image] = None
     summary: Optional[Dict[str, int]] = None
     snapshots: List[Snapshot] = field(default_factory=list)
+    explained: Optional[str] = None
     tick_ns: Optional[float] = None
     units: Units = Units()
     rate: Optional[float] = None

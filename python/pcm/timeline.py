@@ -259,12 +259,11 @@ class Drawing:
             self.picture.line([(x, self.top), (x, self.low)], GRID, width=1)
 
     def _marked(self) -> List[int]:
-        """Ticks in the order in which they are to have their numbers: those of the row itself first."""
+        """The ticks at which something is drawn, in the order in which they are to have their numbers: those of the row itself first."""
         own = [lane for lane in self.lanes if lane.is_own or lane.shape == "bracket"]
-        others = [lane for lane in self.lanes if lane not in own]
-        ticks = [tick for lane in (*own, *others) for tick in (lane.begin, lane.end) if tick is not None]
         holes = [tick for lane in own for hole in lane.gaps for tick in hole if lane.begin < tick and (lane.end is None or tick < lane.end)]
-        return list(dict.fromkeys([*ticks, *(row.came for row in self.cuts), *holes]))
+        others = [lane for lane in self.lanes if lane not in own]
+        return list(dict.fromkeys([*_ends(own), *(row.came for row in self.cuts), *holes, *_ends(others)]))
 
     def _lane(self, lane: Lane, top: float) -> None:
         """A lane: its words on both sides, and what stands between."""
@@ -365,6 +364,11 @@ class Drawing:
             x += 33 + width_of(words, 11.5)
         left = f"; {self.left_out:,} more rows of the bank aren't drawn" * bool(self.left_out)
         self.picture.text(x, y, "an open end stays in the queue; long waits are drawn shorter" + left, 11.5, "start", SOFT)
+
+
+def _ends(lanes: Sequence[Lane]) -> List[int]:
+    """The ticks at which lanes begin and end."""
+    return [tick for lane in lanes for tick in (lane.begin, lane.end) if tick is not None]
 
 
 def _width(words: str, bold: bool) -> float:
