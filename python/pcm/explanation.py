@@ -154,8 +154,8 @@ class Explanation:
     sentence: str
     facts: Tuple[Fact, ...]
     right: Tuple[Right, ...]
-    no_room: Optional[int] = None
-    text: str = field(default="", repr=False, compare=False)
+    no_room: Optional[int]
+    text: str = field(repr=False, compare=False)
 
     def of(self, key: str) -> Tuple[Fact, ...]:
         """The facts of this key."""
@@ -301,8 +301,9 @@ def read_explanation(text: str) -> Optional[Explanation]:
     breaks = lines.take(_BREAKS, "the clause, `  breaks NAME: SENTENCE`")
     facts = _facts(lines)
     right, no_room = _rights(lines, int(head[1]))
+    op = {"read": "R", "write": "W"}.get(asked[1], "C")
     return Explanation(
-        row=int(head[1]), rule=head[2], asks=Asks({"read": "R", "write": "W"}.get(asked[1], "C"), _natural(asked[2]), int(asked[3]), _natural(asked[4])),
+        row=int(head[1]), rule=head[2], asks=Asks(op, _natural(asked[2]), int(asked[3]), _natural(asked[4])),
         told=Answer(answer[1], int(answer[2]), None if answer[3] is None else bytes.fromhex(answer[3])), clause=breaks[1], sentence=breaks[2],
         facts=facts, right=right, no_room=no_room, text=text,
     )

@@ -143,7 +143,8 @@ def _asked(given: Dict[str, List[str]]) -> List[Asked]:
     names = [name or other for name, other in zip(column["name"], others)]
     if runs:
         every = (given["every"] or [None])[-1]
-        return [Asked(name, options, True, None, trace, every=every, explains=explains) for name, options, trace in zip(names, made, column["files"])]
+        each = zip(names, made, column["files"])
+        return [Asked(name, options, True, None, trace, every=every, explains=explains) for name, options, trace in each]
     rests = zip(*(column[name] for name in ("files", "trace", "wear", "image", "summary", "snapshots")))
     return [Asked(name, options, False, *rest, explains=explains) for name, options, rest in zip(names, made, rests)]
 

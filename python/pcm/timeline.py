@@ -46,8 +46,8 @@ def table_of(arrivals: Sequence[Arrival], results: Sequence[Known]) -> List[Tabl
 
 class Lane(NamedTuple):
     """A line of the picture: what stands left of it (the key of a fact, a row) and right of it, its title, the ticks from which and to which
-    it is drawn (to the picture's end, where it has none), and how: `bar` of a write, `rod` of a read, `dot` in its end, `bracket`, or nothing. It has
-    holes in `gaps`, between two ticks each, and a `tail` where it may end later."""
+    it is drawn (to the picture's end, where it has none), and how: `bar` of a write, `rod` of a read, `dot` in its end, `bracket`, or `none`.
+    It has holes, the `gaps` between two ticks each, and a `tail` where it may end later."""
 
     key: str
     name: str
@@ -126,38 +126,26 @@ def _told_lane(row: TableRow, told: Explanation) -> Lane:
     return lane._replace(title=title, colour=ORANGE)
 
 
-def _right_lane(row: TableRow, answer: Right) -> Lane:
-    """The lane of an answer that would be right."""
+def _right_lane(row: TableRow, answer: Right, title: str) -> Lane:
+    """The lane of an answer that would be right; its title are the words of the explanation."""
     if isinstance(answer, ReadBetween):
         but = "".join(f", but {tick}" for tick in answer.but)
         words, gaps = f"read {answer.first} to {answer.last}{but}", tuple((tick - 1, tick + 1) for tick in answer.but)
-        title = f"right: {words}, data {answer.data.hex()}"
         return Lane("right", "", words, title, answer.first, answer.last, "rod", BLUE, gaps=gaps)
     if isinstance(answer, StoredBy):
-        return _stored_lane(answer)
+        return _stored_lane(answer, title)
     words = f"{answer.word} {answer.tick}"
-    return Lane("right", "", words, f"right: {words}", row.came, None if answer.word == "queued" else answer.tick, "dot", BLUE)
+    return Lane("right", "", words, title, row.came, None if answer.word == "queued" else answer.tick, "dot", BLUE)
 
 
-def _stored_lane(answer: StoredBy) -> Lane:
+def _stored_lane(answer: StoredBy, title: str) -> Lane:
     """The lane of a store: to its bound where the bank does nothing else by then, or below the first worn row."""
     first, last, below = answer.behind + 1, answer.latest(), answer.below
     more = below is None or below > last + 1
     last = last if below is None else min(last, below - 1)
     gaps = [(tick - answer.apart, tick + answer.apart) for tick in answer.stores] + [(tick - 1, tick + 1) for tick in answer.reads]
     words = f"stored {first} to {last}" + " or later" * more if first <= last else "stored at no tick"
-    title = (
-        f"right: stored behind {answer.behind} by {answer.behind} + {answer.alone} + {answer.a_store} for each further store, "
-        f"{answer.a_read} for each read and {answer.a_cut} for each cut behind it"
-    )
-    for known, text in ((below is not None, f"below {below}"), (answer.stores, f"{answer.apart} apart from {_listed(answer.stores)}"),
-                        (answer.reads, f"not at {_listed(answer.reads)}")):
-        title += f", {text}" * bool(known)
     return Lane("right", "", words, title, first, max(first, last), "bar" if first <= last else "none", BLUE, gaps=tuple(gaps), tail=more)
-
-
-def _listed(ticks: Sequence[int]) -> str:
-    return " ".join(str(tick) for tick in ticks)
 
 
 def _fact_lanes(row: TableRow, facts: Sequence[Fact]) -> Iterator[Lane]:
@@ -189,10 +177,10 @@ def lanes_of(told: Explanation, rows: Sequence[TableRow]) -> List[Lane]:
             continue
         lanes.append(_told_lane(row, told))
         lanes += _fact_lanes(row, told.facts)
-        lanes += [_right_lane(row, answer) for answer in told.right]
+        titles = [f"right: {line[9:]}" for line in told.text.splitlines() if line.startswith("  right  ")]
+        lanes += [_right_lane(row, answer, title) for answer, title in zip(told.right, titles)]
         if not told.right:
-            room = "" if told.no_room is None else f": bank {told.no_room} has no room as it comes"
-            lanes.append(Lane("right", "", "none", f"right: none{room}", row.came, row.came, "none", BLUE))
+            lanes.append(Lane("right", "", "none", titles[0], row.came, row.came, "none", BLUE))
     return lanes
 
 
@@ -283,7 +271,7 @@ class Drawing:
 
     def _bar(self, lane: Lane, top: float) -> None:
         """A bar from arrival to outcome, filled for a write, hollow for a read; where a write stays in the queue it is open at its end."""
-        begin, end = self.times.place(lane.begin), self.right if lane.end is None else self.times.place(lane.end)
+        begin, end = sorted((self.times.place(lane.begin), self.right if lane.end is None else self.times.place(lane.end)))
         wide = max(end - begin, 3.0)
         fill = lane.colour if lane.is_own else RULE
         edge = f"M{begin:.1f},{top:.1f}h{wide:.1f}v{_BAR:.1f}h{-wide:.1f}z"
@@ -347,10 +335,12 @@ class Drawing:
                     self.picture.rectangle(self.left + each * byte, y, each - 1, 12, colour if one != other else GRID)
                 self.picture.text(self.right + _GAP, y + 11, f"{data[:2].hex()}..{data[-2:].hex()}", _SIZE, "start", colour)
         self.picture.text(self.names, top + 11, f"bytes 0 to {len(newest) - 1}", _SIZE, "start")
+        taken = 0.0
         for byte, row in givers.items():
-            if byte is not None:
-                words = "no write" if row is None else f"row {row}"
-                self.picture.text(self.left + each * byte, top + 42, words, 11, "start", SOFT)
+            x, words = self.left + each * (byte or 0), "no write" if row is None else f"row {row}"
+            if x >= taken:
+                self.picture.text(x, top + 42, words, 11, "start", SOFT)
+                taken = x + width_of(words, 11)
 
     def _foot(self) -> None:
         """What the colours and shapes say."""
@@ -360,10 +350,10 @@ class Drawing:
                 self.picture.dot(x + 8, y - 4, 5, colour)
             else:
                 self.picture.path(f"M{x:.1f},{y - 9:.1f}h16v10h-16z", colour if shape == "bar" else PAPER, colour, 1.6)
-            self.picture.text(x + 21, y, words, 11.5, "start", SOFT)
-            x += 33 + width_of(words, 11.5)
+            self.picture.text(x + 21, y, words, 11, "start", SOFT)
+            x += 31 + width_of(words, 11)
         left = f"; {self.left_out:,} more rows of the bank aren't drawn" * bool(self.left_out)
-        self.picture.text(x, y, "an open end stays in the queue; long waits are drawn shorter" + left, 11.5, "start", SOFT)
+        self.picture.text(x, y, "open end: stays in the queue; long waits are drawn shorter" + left, 11, "start", SOFT)
 
 
 def _ends(lanes: Sequence[Lane]) -> List[int]:

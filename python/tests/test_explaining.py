@@ -21,6 +21,7 @@ sys.path[:0] = [str(HERE.parent), str(HERE)]
 import pcm  # noqa: E402
 from leaks import setUpModule, tearDownModule  # noqa: E402, F401
 from pcm import explaining, outcomes, report, timeline  # noqa: E402
+from pcm.drawing import width_of  # noqa: E402
 from pcm.explanation import RULES  # noqa: E402
 from pcm.runs import Source  # noqa: E402
 
@@ -77,7 +78,7 @@ def options_of(one):
 
 def said(fact="         own    tick 0", right="  right  busy 0", told="  told   busy 3"):
     """The text of an explanation with these lines."""
-    lines = ["row 2: serves", "  asks   read of line 1 at tick 0, bank 0", told, "  breaks AtItsTick: words", *fact.split("\n"), *right.split("\n")]
+    lines = ["row 2: serves", "  asks   read of line 1 at tick 0, bank 0", told, "  breaks AtItsTick: words", fact, right]
     return "\n".join(line for line in lines if line) + "\n"
 
 
@@ -183,8 +184,8 @@ class Refused(unittest.TestCase):
 
     def test_facts(self):
         for words in (
-            "own    tack 7", "own   tick 7", "unknown 3", "stand  2 of 4 writes: rows 1", "waits  1 of 4 reads: rows none", "cut    row", "bank   x",
-            "newest 0", "bound  120: 100 + 10", "from   row 1", "first  row 2, tick 3: cut, cuts 3", "queue  gives", "stale  row 1",
+            "own    tack 7", "own   tick 7", "unknown 3", "stand  2 of 4 writes: rows 1", "waits  1 of 4 reads: rows none", "cut    row",
+            "bank   x", "newest 0", "bound  120: 100 + 10", "from   row 1", "first  row 2, tick 3: cut, cuts 3", "queue  gives", "stale  row 1",
         ):
             with self.subTest(words):
                 self.refused(said(fact=f"         {words}"), 5, "fact")
@@ -227,6 +228,8 @@ class Pictures(unittest.TestCase):
             for shape in tree.iter():
                 for name, most in (("x", wide), ("y", high), ("cx", wide), ("cy", high)):
                     self.assertTrue(0 <= float(shape.get(name, 0)) <= most, (one.name, shape.attrib))
+                if shape.tag.endswith("text") and shape.get("text-anchor") == "start":
+                    self.assertLessEqual(float(shape.get("x")) + width_of(shape.text or "", float(shape.get("font-size"))), wide + 1, shape.text)
             self.assertEqual(900, wide)
 
     def test_right_answers_say_their_words_in_full(self):
@@ -243,6 +246,12 @@ class Pictures(unittest.TestCase):
         self.assertEqual(30 - timeline.OTHERS, left_out)
         picture = timeline.timeline(told, rows, lambda line: 1 - line)
         self.assertIn(f"{left_out} more rows of the bank", picture.drawn())
+
+    def test_an_end_before_its_begin_is_drawn(self):
+        told = pcm.read_explanation(said(told=f"  told   read 3, data {'00' * 64}", fact="         least  100 + 5", right="  right  none"))
+        text = timeline.timeline(told, [timeline.TableRow(at, 100, "R", 0, "read", 3) for at in (1, 2)], lambda line: 0).drawn()
+        self.assertNotRegex(text, r"[hv]-?nan|M[\d.]+,[\d.]+h-")
+        self.assertIn("right: none", text)
 
     def test_long_waits_are_drawn_shorter_and_in_order(self):
         times = timeline.Times({0, 1, 11, 1000}, 0, 100)
@@ -296,7 +305,8 @@ class Explained(Room):
         told = []
         for row in results.splitlines():
             number, op, line, word, tick, place, data = row.split(",")
-            told.append(pcm.ResultRow(int(number), op, int(line) if line else None, outcomes.outcome_of(word, int(number), int(tick), place, data)))
+            outcome = outcomes.outcome_of(word, int(number), int(tick), place, data)
+            told.append(pcm.ResultRow(int(number), op, int(line) if line else None, outcome))
         self.assertEqual(3, pcm.explain(rows, told, program=self.words).row)
         self.assertIsNone(pcm.explain(rows, told[:-1], program=self.words))
 
