@@ -26,8 +26,8 @@ Why results of a trace break a rule, and what would be right there::
     if told is not None:
         print(told.row, told.clause, told.sentence, told.right)
 
-`python3 -m pcm report --help` tells how to make a page of pictures and numbers of runs, `energy --help` what their writes cost, and
-`latencies --help` how long rows took.
+`python3 -m pcm report --help` tells how to make a page of pictures and numbers of runs, `energy --help` what their writes cost,
+`latencies --help` how long rows took, and `explain --help` how to draw a row that breaks a rule.
 
 Ticks are the simulation's own unit of time, from 0 to 2**40, and never fall. A line is a line of the module, from 0. Options are those of
 the command line, with `_` for `-`: `docs/USING.md` of the repository has them all. A wrong option, a fault of the trace and an end of the

@@ -18,6 +18,9 @@ _ASKED = {"R": "read of line", "W": "write of line", "C": "cut"}
 # What is told as a row comes, or never: it has no time of its own.
 _AT_ONCE = ("queued", "full", "worn", "forwarded", "busy", "cut")
 
+# What the foot of a picture says of colours and shapes.
+_KEYS = (("told", "dot", ORANGE), ("right: where it may end", "dot", BLUE), ("a write", "bar", RULE), ("a read", "rod", RULE))
+
 
 class TableRow(NamedTuple):
     """A row of a trace with its result: its number, the tick at which it came, its operation and line, its outcome and the tick of that."""
@@ -345,15 +348,15 @@ class Drawing:
     def _foot(self) -> None:
         """What the colours and shapes say."""
         y, x = self.picture.height - 9, _LEFT
-        for words, shape, colour in (("told", "dot", ORANGE), ("right", "dot", BLUE), ("a write", "bar", RULE), ("a read", "rod", RULE)):
+        for words, shape, colour in _KEYS:
             if shape == "dot":
                 self.picture.dot(x + 8, y - 4, 5, colour)
             else:
                 self.picture.path(f"M{x:.1f},{y - 9:.1f}h16v10h-16z", colour if shape == "bar" else PAPER, colour, 1.6)
             self.picture.text(x + 21, y, words, 11, "start", SOFT)
             x += 31 + width_of(words, 11)
-        left = f"; {self.left_out:,} more rows of the bank aren't drawn" * bool(self.left_out)
-        self.picture.text(x, y, "open end: stays in the queue; long waits are drawn shorter" + left, 11, "start", SOFT)
+        left = f"; {self.left_out:,} more rows of the bank" * bool(self.left_out)
+        self.picture.text(x, y, "open end: stays in the queue; long waits drawn shorter" + left, 11, "start", SOFT)
 
 
 def _ends(lanes: Sequence[Lane]) -> List[int]:

@@ -21,7 +21,7 @@ sys.path[:0] = [str(HERE.parent), str(HERE)]
 import pcm  # noqa: E402
 from leaks import setUpModule, tearDownModule  # noqa: E402, F401
 from pcm import explaining, outcomes, report, timeline  # noqa: E402
-from pcm.drawing import width_of  # noqa: E402
+from pcm.drawing import LIGHT, width_of  # noqa: E402
 from pcm.explanation import RULES  # noqa: E402
 from pcm.runs import Source  # noqa: E402
 
@@ -221,16 +221,21 @@ class Pictures(unittest.TestCase):
                 rights = [title for title in titles if title.startswith("right: ")]
                 self.assertEqual(max(1, len(told.right)), len(rights))
 
+    def within(self, text):
+        """Nothing of a picture stands outside it."""
+        tree = xml.etree.ElementTree.fromstring(text)
+        wide, high = (float(it) for it in tree.get("viewBox").split()[2:])
+        for shape in tree.iter():
+            for name, most in (("x", wide), ("y", high), ("cx", wide), ("cy", high)):
+                self.assertTrue(0 <= float(shape.get(name, 0)) <= most, shape.attrib)
+            if shape.get("text-anchor") == "start":
+                self.assertLessEqual(float(shape.get("x")) + width_of(shape.text or "", float(shape.get("font-size"))), wide + 1, shape.text)
+        self.assertEqual(900, wide)
+
     def test_nothing_stands_outside(self):
         for one in ALL.values():
-            tree = xml.etree.ElementTree.fromstring(self.drawn(one)[1])
-            wide, high = (float(it) for it in tree.get("viewBox").split()[2:])
-            for shape in tree.iter():
-                for name, most in (("x", wide), ("y", high), ("cx", wide), ("cy", high)):
-                    self.assertTrue(0 <= float(shape.get(name, 0)) <= most, (one.name, shape.attrib))
-                if shape.tag.endswith("text") and shape.get("text-anchor") == "start":
-                    self.assertLessEqual(float(shape.get("x")) + width_of(shape.text or "", float(shape.get("font-size"))), wide + 1, shape.text)
-            self.assertEqual(900, wide)
+            with self.subTest(one.name):
+                self.within(self.drawn(one)[1])
 
     def test_right_answers_say_their_words_in_full(self):
         text = self.drawn(ALL["apart"])[1]
@@ -246,6 +251,7 @@ class Pictures(unittest.TestCase):
         self.assertEqual(30 - timeline.OTHERS, left_out)
         picture = timeline.timeline(told, rows, lambda line: 1 - line)
         self.assertIn(f"{left_out} more rows of the bank", picture.drawn())
+        self.within(timeline.Drawing(told, rows, 399_988, LIGHT).draw().drawn())
 
     def test_an_end_before_its_begin_is_drawn(self):
         told = pcm.read_explanation(said(told=f"  told   read 3, data {'00' * 64}", fact="         least  100 + 5", right="  right  none"))
@@ -385,11 +391,17 @@ class Reports(Room):
         right = one._replace(table=one.table.replace(f"read,5,3,{'00' * 64}", "lost,3,,"))
         self.assertIn("The results keep all rules.", self.page(right, "--explain"))
 
-    def test_without_a_trace_nothing_is_checked(self):
-        _, results = self.parts(ALL["cut before"])
+    def refused(self, *words):
         with contextlib.redirect_stderr(io.StringIO()) as err:
-            self.assertEqual(2, report.main([results, "--explain"]))
-        self.assertIn("--explain wants a trace and its results", err.getvalue())
+            self.assertEqual(2, report.main([*words, "--explain"]))
+        return err.getvalue()
+
+    def test_a_trace_and_whole_results_are_wanted(self):
+        trace, results = self.parts(ALL["cut before"])
+        self.assertIn("--explain wants a trace and its results", self.refused(results))
+        rows = self.room / "rows"
+        rows.write_text(f"row,outcome,tick,place,data\n1,read,5,3,{'00' * 64}\n2,cut,3,,\n", encoding="ascii")
+        self.assertIn("has those of a stream", self.refused(str(rows), "--trace", trace, *ALL["cut before"].options.split()))
 
 
 class OverTheProgram(unittest.TestCase):
