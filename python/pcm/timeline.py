@@ -14,6 +14,8 @@ WIDTH = 900.0
 OTHERS = 12
 _LANE, _BAR, _SIZE = 21.0, 11.0, 12.0
 _LEFT, _GAP = 10.0, 14.0
+# How much wider bold words are.
+_BOLD = 1.12
 _ASKED = {"R": "read of line", "W": "write of line", "C": "cut"}
 # What is told as a row comes, or never: it has no time of its own.
 _AT_ONCE = ("queued", "full", "worn", "forwarded", "busy", "cut")
@@ -241,12 +243,11 @@ class Drawing:
             self.picture.text(_LEFT, 42 + 18 * at, line, _SIZE, "start", SOFT)
 
     def _ground(self) -> None:
-        """The band of the row itself, and thin lines at the ticks of what it was told and of what is right."""
+        """The band of the row itself, and thin lines at the ticks that have their numbers below."""
         own = [at for at, lane in enumerate(self.lanes) if lane.is_own]
         first, last = min(own), max(own)
         self.picture.rectangle(_LEFT - 4, self.top + _LANE * first, WIDTH - 2 * _LEFT + 8, _LANE * (last - first + 1), PALE)
-        for tick in self._marked():
-            x = self.times.place(tick)
+        for _, x in self._numbered():
             self.picture.line([(x, self.top), (x, self.low)], GRID, width=1)
 
     def _marked(self) -> List[int]:
@@ -256,14 +257,27 @@ class Drawing:
         others = [lane for lane in self.lanes if lane not in own]
         return list(dict.fromkeys([*_ends(own), *(row.came for row in self.cuts), *holes, *_ends(others)]))
 
+    def _numbered(self) -> List[Tuple[int, float]]:
+        """As many ticks as have room for their numbers, and where they stand."""
+        found: List[Tuple[int, float]] = []
+        taken: List[Tuple[float, float]] = []
+        for tick in self._marked():
+            x, half = self.times.place(tick), width_of(str(tick), 11) / 2 + 1
+            if all(x + half <= low or high <= x - half for low, high in taken):
+                taken.append((x - half, x + half))
+                found.append((tick, x))
+        return found
+
     def _lane(self, lane: Lane, top: float) -> None:
         """A lane: its words on both sides, and what stands between."""
         base = top + _LANE / 2 + 4
         colour = lane.colour if lane.is_own else INK
         with self.picture.titled(lane.title):
-            self.picture.text(_LEFT, base, lane.key, _SIZE, "start", colour, italic=True)
-            self.picture.text(self.names, base, lane.name, _SIZE, "start", bold=lane.bold)
-            words = shortened(lane.words, (WIDTH - self.right - _GAP) / _width("n", lane.is_own) * width_of("n", _SIZE))
+            if lane.key:
+                self.picture.text(_LEFT, base, lane.key, _SIZE, "start", colour, italic=True)
+            if lane.name:
+                self.picture.text(self.names, base, lane.name, _SIZE, "start", bold=lane.bold)
+            words = shortened(lane.words, (WIDTH - self.right - _GAP) / (_BOLD if lane.is_own else 1))
             self.picture.text(self.right + _GAP, base, words, _SIZE, "start", colour, bold=lane.is_own)
             if lane.shape == "bracket":
                 self._bracket(lane, top + _LANE / 2)
@@ -315,15 +329,11 @@ class Drawing:
                 self.picture.text(x, self.top - 5 - 16 * level, self._cut_words(row), 11.5, bold=row.number in keys_of(self.told))
 
     def _axis(self) -> None:
-        """The ticks below, as many as have room, those of the row itself first."""
+        """The numbers of ticks below."""
         self.picture.line([(self.left, self.low), (self.right, self.low)], SOFT, width=1)
-        taken: List[Tuple[float, float]] = []
-        for tick in self._marked():
-            x, half = self.times.place(tick), width_of(str(tick), 11) / 2 + 1
-            if all(x + half <= low or high <= x - half for low, high in taken):
-                taken.append((x - half, x + half))
-                self.picture.line([(x, self.low), (x, self.low + 4)], SOFT, width=1)
-                self.picture.text(x, self.low + 17, str(tick), 11, colour=SOFT)
+        for tick, x in self._numbered():
+            self.picture.line([(x, self.low), (x, self.low + 4)], SOFT, width=1)
+            self.picture.text(x, self.low + 17, str(tick), 11, colour=SOFT)
         self.picture.text(self.right + _GAP, self.low + 17, "ticks", _SIZE, "start", SOFT, italic=True)
 
     def _strips(self, newest: bytes, told: bytes) -> None:
@@ -366,7 +376,7 @@ def _ends(lanes: Sequence[Lane]) -> List[int]:
 
 def _width(words: str, bold: bool) -> float:
     """About how wide words of a lane are."""
-    return width_of(words, _SIZE) * (1.12 if bold else 1)
+    return width_of(words, _SIZE) * (_BOLD if bold else 1)
 
 
 def _wrapped(words: str, width: float, size: float) -> List[str]:
