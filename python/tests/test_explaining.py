@@ -404,7 +404,38 @@ class Reports(Room):
         self.assertIn("has those of a stream", self.refused(str(rows), "--trace", trace, *ALL["cut before"].options.split()))
 
 
+def tried(answer):
+    """Answers at and beside the ends of one that would be right, each with whether it is: its word, tick and bytes."""
+    if isinstance(answer, pcm.ReadBetween):
+        ticks = {answer.first - 1, answer.first, answer.last, answer.last + 1, *answer.but}
+        return [("read", tick, answer.data, answer.takes(tick)) for tick in sorted(ticks)]
+    if isinstance(answer, pcm.StoredBy):
+        ends = {tick + away for tick in answer.stores for away in (-answer.apart, 1 - answer.apart, answer.apart - 1, answer.apart)}
+        ends |= {answer.behind, answer.behind + 1, answer.latest(), *answer.reads, *([answer.below - 1, answer.below] if answer.below else [])}
+        # (later ones are right by what the bank does by then)
+        return [("stored", tick, b"", answer.takes(tick)) for tick in sorted(ends) if 0 <= tick <= answer.latest()]
+    return [(answer.word, answer.tick, getattr(answer, "data", b""), True)]
+
+
 class OverTheProgram(unittest.TestCase):
+    def is_kept(self, one, row, word, tick, data):
+        """Whether a row that is told so isn't the first that breaks a rule; `worn` may break one of a row before it."""
+        trace, header, results = one.table.partition(RESULTS)
+        lines = results.splitlines()
+        _, op, line = lines[row - 1].split(",")[:3]
+        lines[row - 1] = f"{row},{op},{line},{word},{tick},{'3' * (word in ('read', 'stored'))},{data.hex()}"
+        given = (trace + header + "\n".join(lines) + "\n").encode()
+        done = subprocess.run([*pcm.command("check"), *one.options.split()], input=given, stdout=subprocess.PIPE, check=False)
+        self.assertIn(done.returncode, (0, 1))
+        return not done.stdout.startswith(b"row %d:" % row)
+
+    def test_check_takes_what_is_right_and_nothing_beside_it(self):
+        for one in ALL.values():
+            told = pcm.read_explanation(one.text)
+            for *answer, right in (it for answer in told.right for it in tried(answer)):
+                with self.subTest(one.name, answer=answer[:2]):
+                    self.assertEqual(right, self.is_kept(one, told.row, *answer))
+
     def test_the_stored_texts_are_the_program_s(self):
         for one in ALL.values():
             try:
