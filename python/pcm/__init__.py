@@ -20,8 +20,14 @@ How a module ages, as a stream goes on::
     for snapshot in pcm.snapshots("trace.csv", every=10_000, lines=256):
         print(snapshot.rows, snapshot.most, snapshot.mean, snapshot.retired)
 
-`python3 -m pcm report --help` tells how to make a page of pictures and numbers of runs, `energy --help` what their writes cost, and
-`latencies --help` how long rows took.
+Why results of a trace break a rule, and what would be right there::
+
+    told = pcm.explain("trace.csv", "results.csv", policy="cancel")
+    if told is not None:
+        print(told.row, told.clause, told.sentence, told.right)
+
+`python3 -m pcm report --help` tells how to make a page of pictures and numbers of runs, `energy --help` what their writes cost,
+`latencies --help` how long rows took, and `explain --help` how to draw a row that breaks a rule.
 
 Ticks are the simulation's own unit of time, from 0 to 2**40, and never fall. A line is a line of the module, from 0. Options are those of
 the command line, with `_` for `-`: `docs/USING.md` of the repository has them all. A wrong option, a fault of the trace and an end of the
@@ -29,6 +35,10 @@ program that isn't one of a whole run are exceptions (`PcmError`), which carry t
 built yet is built first, which tells on standard error how far it is.
 """
 from .errors import OutOfMemory, PcmError, ReadFault, TooLong, TraceError, UsageError, WriteFault
+from .explaining import explain
+from .explanation import (
+    Answer, Asks, BankFact, BytesFact, Explanation, ExplanationError, Fact, ReadBetween, RowFact, RowsFact, StoredBy, TickFact, read_explanation,
+)
 from .frames import to_frame
 from .image import Bank, Entry, Image, ImageError, Region
 from .module import Module
@@ -40,8 +50,9 @@ from .whole import Result, ResultRow, WearLine, run
 
 __version__ = "1.4.0"
 __all__ = [
-    "Bank", "Busy", "Cut", "Entry", "Forwarded", "Full", "Image", "ImageError", "Lost", "MaskedWrite", "Merged", "Module", "OutOfMemory",
-    "Outcome", "PcmError", "PowerCut", "Queued", "Read", "ReadFault", "ReadOutcome", "Region", "Result", "ResultRow", "Settle", "Settled",
-    "Snapshot", "SnapshotError", "Stored", "TooLong", "TraceError", "UsageError", "WearLine", "Worn", "Write", "WriteFault", "command", "program",
-    "read_snapshots", "read_trace", "run", "snapshots", "to_frame", "write_trace",
+    "Answer", "Asks", "Bank", "BankFact", "Busy", "BytesFact", "Cut", "Entry", "Explanation", "ExplanationError", "Fact", "Forwarded", "Full",
+    "Image", "ImageError", "Lost", "MaskedWrite", "Merged", "Module", "OutOfMemory", "Outcome", "PcmError", "PowerCut", "Queued", "Read",
+    "ReadBetween", "ReadFault", "ReadOutcome", "Region", "Result", "ResultRow", "RowFact", "RowsFact", "Settle", "Settled", "Snapshot",
+    "SnapshotError", "Stored", "StoredBy", "TickFact", "TooLong", "TraceError", "UsageError", "WearLine", "Worn", "Write", "WriteFault",
+    "command", "explain", "program", "read_explanation", "read_snapshots", "read_trace", "run", "snapshots", "to_frame", "write_trace",
 ]

@@ -1,10 +1,12 @@
 """`python3 -m pcm COMMAND ..`: what the package does by itself."""
 import sys
 
-from . import differing, energy, latencies, report
+from . import differing, energy, explaining, latencies, report
 
-USAGE = "usage: python3 -m pcm report|energy|latencies|differ .. [options]  (python3 -m pcm COMMAND --help tells more)"
-_COMMANDS = {"report": report.main, "energy": energy.main, "latencies": latencies.main, "differ": differing.main}
+USAGE = "usage: python3 -m pcm report|energy|latencies|differ|explain .. [options]  (python3 -m pcm COMMAND --help tells more)"
+_COMMANDS = {
+    "report": report.main, "energy": energy.main, "latencies": latencies.main, "differ": differing.main, "explain": explaining.main,
+}
 
 
 def main() -> int:

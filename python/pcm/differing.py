@@ -12,7 +12,7 @@ from typing import List, NamedTuple, Sequence, Tuple
 
 from .errors import TraceError, UsageError, error_of
 from .program import Program, command
-from .runs import Source, arrivals_of, opened
+from .runs import Source, arrivals_of, joined, opened
 from .tables import answered
 from .words import RESULTS
 
@@ -88,9 +88,8 @@ def _told(source: Source) -> List[Told]:
 
 def verdict(trace: Source, table: Source, options: Sequence[str], program: Program = None) -> str:
     """What `pcm check` says of a table: `ok`, or the first row that breaks a rule."""
-    given = trace.data if trace.data.endswith(b"\n") else trace.data + b"\n"
     words = [*command("check", program), *options]
-    done = subprocess.run(words, input=given + table.data, stdout=subprocess.PIPE, stderr=subprocess.PIPE, check=False)
+    done = subprocess.run(words, input=joined(trace, table), stdout=subprocess.PIPE, stderr=subprocess.PIPE, check=False)
     if done.returncode not in (0, 1):
         raise error_of(done.returncode, done.stderr, ["check", *options])
     return done.stdout.decode().strip()

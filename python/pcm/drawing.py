@@ -2,7 +2,8 @@
 
 A colour is a name of the palette. A picture that is a file of its own has the light palette's values in it; one within a page has the
 page's variables (`VARIABLES`), so that it follows the page into dark and light."""
-from typing import Dict, Iterable, List, Mapping, Optional, Tuple
+import contextlib
+from typing import Dict, Iterable, Iterator, List, Mapping, Optional, Tuple
 
 FONT = "'DejaVu Sans', Verdana, Arial, sans-serif"
 
@@ -99,6 +100,13 @@ class Picture:
     def arrow(self, *points: Point, colour: str = SOFT, dashed: bool = False) -> None:
         """An arrow through points."""
         self.line(points, colour, dashed, head=True)
+
+    @contextlib.contextmanager
+    def titled(self, words: str) -> Iterator[None]:
+        """What is drawn within has these words as its title, which are shown where it is pointed at."""
+        self.parts.append(f"<g><title>{escaped(words)}</title>")
+        yield
+        self.parts.append("</g>")
 
     def dot(self, x: float, y: float, radius: float, fill: str) -> None:
         """A filled circle."""

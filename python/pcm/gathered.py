@@ -6,13 +6,15 @@ from typing import Dict, List, NamedTuple, Optional
 
 from . import tallies
 from .errors import UsageError, error_of
+from .explaining import said_of
 from .pipes import cut, exchanged
 from .program import Program, command
 from .progress import Progress
 from .runs import (
-    DEFAULTS, DRAWN, STREAMS, Arrival, FileFault, Run, Source, are_snapshots, arrivals_of, image_of, opened, results_of, shape_of_wear,
-    snapshots_of, summary_of, wear_of,
+    DEFAULTS, DRAWN, STREAMS, Arrival, FileFault, Run, Source, are_snapshots, arrivals_of, image_of, joined, opened, results_of,
+    shape_of_wear, snapshots_of, summary_of, wear_of,
 )
+from .words import COMMANDS, RESULTS
 
 # The options that `gen` takes, too.
 _GENERATED = ("banks", "regions", "lines", "line", "seed", *DRAWN)
@@ -25,7 +27,7 @@ _WORDS = {
 
 class Asked(NamedTuple):
     """What a report is to be made of for one run: its options, and the names of its files; with `runs` the program makes all but the
-    trace, and snapshots where `every` tells each how many rows."""
+    trace, and snapshots where `every` tells each how many rows; with `explains` the results are checked."""
 
     name: Optional[str]
     options: Dict[str, str]
@@ -37,6 +39,7 @@ class Asked(NamedTuple):
     summary: Optional[str] = None
     snapshots: Optional[str] = None
     every: Optional[str] = None
+    explains: bool = False
 
 
 def gather(asked: Asked, program: Program = None, progress: Optional[Progress] = None) -> Run:
@@ -61,7 +64,20 @@ def gather(asked: Asked, program: Program = None, progress: Optional[Progress] =
             read(run, by_kind[kind])
     if run.has_rows:
         _hold_places(run, by_kind["results"])
+    if asked.explains:
+        run.explained = _explained(run, by_kind, program)
     return run
+
+
+def _explained(run: Run, by_kind: Dict[str, Source], program: Program) -> str:
+    """What the program says of the results behind their trace."""
+    if not {"trace", "results"} <= by_kind.keys():
+        raise UsageError(2, f"--explain wants a trace and its results, which {run.name} lacks")
+    results = by_kind["results"]
+    if not results.data.startswith(RESULTS.encode()):
+        raise UsageError(2, f"--explain wants results as run prints them, whose first line is {RESULTS}: {results.name} has those of a stream")
+    words = [word for name in COMMANDS["check"].options for word in (f"--{name}", run.options[name])]
+    return said_of(joined(by_kind["trace"], results), words, program)
 
 
 def _read(asked: Asked, progress: Progress) -> List[Source]:

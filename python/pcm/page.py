@@ -3,9 +3,11 @@ from typing import Callable, Iterable, List, Optional, Sequence, Tuple
 
 from . import charts, tallies
 from .aging import aging
-from .drawing import BLUE, GREEN, ORANGE, PURPLE, RED, escaped
+from .drawing import BLUE, GREEN, ORANGE, PURPLE, RED, VARIABLES, escaped
 from .elements import Cell, Section, beside, folded, looked, placed, tabled, unbroken
 from .energy import figures, line_bytes_of
+from .explaining import picture_of
+from .explanation import read_explanation
 from .runs import OPERATIONS, OUTCOMES, Run
 from .style import LANDSCAPE, STYLE
 from .tables import rounded
@@ -19,7 +21,7 @@ def page(runs: Sequence[Run], title: str, version: str) -> str:
     """The whole page."""
     span = 1 + max([row.tick for run in runs for row in run.rows] + [0])
     sections = [part for part in (
-        _ran(runs, version), _came(runs), aging(runs), _wear(runs), _pointers(runs), _reads(runs), _writes(runs), _queues(runs, span),
+        _ran(runs, version), _came(runs), _rules(runs), aging(runs), _wear(runs), _pointers(runs), _reads(runs), _writes(runs), _queues(runs, span),
         _growth(runs, span), _pulses(runs), _energy(runs),
     ) if part is not None]
     links = " ".join(f'<a href="#{name}">{escaped(words)}</a>' for name, words, _ in sections)
@@ -85,6 +87,25 @@ def _came(runs: Sequence[Run]) -> Section:
         "accepted, and not stored in the end; busy: too many reads waited; lost: the power went before the read was served."
     )
     return "came", "What came of it", looked(look) + _glance(runs) * (len(runs) > 1) + beside(runs, part)
+
+
+def _rules(runs: Sequence[Run]) -> Section:
+    """What the rules say of the results that were checked."""
+    if all(run.explained is None for run in runs):
+        return None
+
+    def part(run: Run) -> str:
+        told = read_explanation(run.explained or "ok\n")
+        if told is None:
+            return looked("The results keep all rules.")
+        picture = picture_of(told, run, VARIABLES)
+        return f'<div class="timeline"><figure>{picture.placed()}</figure></div><pre>{escaped(told.text)}</pre>'
+
+    look = (
+        "The first row that breaks a rule, among the nearest rows of its bank, from arrival to outcome: orange is what it was told, blue all "
+        "answers that would be right. The text below has the same with the numbers, as pcm explain prints it."
+    )
+    return "rules", "Rules", looked(look) + beside(runs, part)
 
 
 def _glance(runs: Sequence[Run]) -> str:

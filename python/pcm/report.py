@@ -15,6 +15,7 @@ Each of these once for each run, in their order, or once for all:
 For all runs:
   --banks N ..      any option of a run by itself
   --every N         with --run: snapshots each N rows, by the program of streams
+  --explain         the results are checked behind their trace: where a row breaks a rule it is told why, and drawn in time
   --tick-ns NS      how many nanoseconds a tick stands for, as 2.5: latencies are told in these, too
   --set-pj PJ --reset-pj PJ --sense-pj PJ
                     picojoules of a cell driven to 1, of one driven to 0, and of a sensed bit: of snapshots energy is told
@@ -43,7 +44,7 @@ from .words import near
 
 _OF_RUNS = ("trace", "wear", "image", "summary", "snapshots", "options", "name")
 _OF_ALL = ("every", "tick-ns", "set-pj", "reset-pj", "sense-pj", "device", "rate", "title", "output")
-_ALONE = ("run", "progress")
+_ALONE = ("run", "explain", "progress")
 
 
 def report(
@@ -121,7 +122,7 @@ def _parsed(words: Sequence[str]) -> Dict[str, List[str]]:
 
 def _asked(given: Dict[str, List[str]]) -> List[Asked]:
     """What each run is to be made of."""
-    runs, files = bool(given["run"]), given[""]
+    runs, explains, files = bool(given["run"]), bool(given["explain"]), given[""]
     if runs and given["trace"]:
         raise UsageError(2, "--run takes traces without --trace")
     if runs and any(given[name] for name in ("wear", "image", "summary", "snapshots")):
@@ -142,9 +143,10 @@ def _asked(given: Dict[str, List[str]]) -> List[Asked]:
     names = [name or other for name, other in zip(column["name"], others)]
     if runs:
         every = (given["every"] or [None])[-1]
-        return [Asked(name, options, True, None, trace, every=every) for name, options, trace in zip(names, made, column["files"])]
+        each = zip(names, made, column["files"])
+        return [Asked(name, options, True, None, trace, every=every, explains=explains) for name, options, trace in each]
     rests = zip(*(column[name] for name in ("files", "trace", "wear", "image", "summary", "snapshots")))
-    return [Asked(name, options, False, *rest) for name, options, rest in zip(names, made, rests)]
+    return [Asked(name, options, False, *rest, explains=explains) for name, options, rest in zip(names, made, rests)]
 
 
 def _by_options(made: Sequence[Dict[str, str]]) -> List[Optional[str]]:

@@ -134,6 +134,7 @@ class Run:
     image: Optional[Image] = None
     summary: Optional[Dict[str, int]] = None
     snapshots: List[Snapshot] = field(default_factory=list)
+    explained: Optional[str] = None
     tick_ns: Optional[float] = None
     units: Units = Units()
     rate: Optional[float] = None
@@ -234,6 +235,19 @@ def results_of(source: Source, progress: Optional[Progress] = None) -> List[Know
     if header == TOLD.split(","):
         return _streamed(source, records)
     raise FileFault(f"{source.name} row 0: header")
+
+
+def parted(table: Source) -> Tuple[Source, Source]:
+    """A trace and the results behind it, of a text that has both."""
+    head, found, rest = table.data.partition(f"\n{RESULTS}\n".encode())
+    if not found:
+        raise FileFault(f"{table.name}: no results behind the trace: their first line must be {RESULTS}")
+    return Source("trace", table.name, head + found[:1]), Source("results", table.name, found[1:] + rest)
+
+
+def joined(trace: Source, results: Source) -> bytes:
+    """A trace with results behind it, as `pcm check` reads them."""
+    return (trace.data if trace.data.endswith(b"\n") else trace.data + b"\n") + results.data
 
 
 def are_snapshots(source: Source) -> bool:

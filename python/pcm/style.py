@@ -28,13 +28,15 @@ footer{{padding-bottom:2rem;font-size:.85rem}}
 .several .pictures.shared{{grid-template-columns:repeat(auto-fit,minmax(min(100%,24rem),1fr))}}
 figure{{margin:0;min-width:0}}
 svg{{display:block;width:100%;max-width:35rem;height:auto}}
+.timeline svg{{max-width:56rem}}
 .wide{{overflow-x:auto}}
 table{{border-collapse:collapse;font-size:.85rem;margin:.4rem 0;font-variant-numeric:tabular-nums}}
 caption{{text-align:left;padding-bottom:.2rem}}
 th,td{{padding:.15rem .7rem .15rem 0;text-align:right;border-bottom:1px solid var(--grid);vertical-align:top}}
 th:first-child,td:first-child,.words{{text-align:left}}
 th,td .soft{{font-weight:normal}}
-code,.path{{overflow-wrap:anywhere}}
+code,.path,pre{{overflow-wrap:anywhere}}
+pre{{font-size:.8rem;white-space:pre-wrap;margin:.4rem 0}}
 .several th,.several td{{padding-right:.4rem}}
 td.differs{{font-weight:bold}}
 .energy th:nth-last-child(-n+2),.energy td:nth-last-child(-n+2){{text-align:left}}

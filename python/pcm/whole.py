@@ -21,6 +21,12 @@ class ResultRow:
     line: Optional[int]
     outcome: Outcome
 
+    def text(self) -> str:
+        """The row as the program prints it."""
+        told, line = self.outcome, "" if self.line is None else self.line
+        place, data = getattr(told, "place", ""), getattr(told, "data", b"")
+        return f"{self.number},{self.op},{line},{told.word},{told.tick},{place},{data.hex()}\n"
+
 
 @dataclass(frozen=True)
 class WearLine:

@@ -1,0 +1,123 @@
+"""Why results of a trace break a rule: what the program says of them, and the row in time as a picture.
+
+usage: python3 -m pcm explain FILE [RESULTS] [options] [-o PICTURE]
+
+FILE has a trace with its results behind it, as `./pcm check` reads them, or the trace alone where RESULTS has its results; `-` is standard
+input. Options are those of `./pcm explain`, whose text is printed. Where a row breaks a rule, -o (--output) names a file of SVG that shows
+it among the rows of its bank: what it was told, and all answers that would be right. Statuses are those of `./pcm explain`: 0 where the
+results keep the rules, 1 where a row breaks one."""
+import io
+import os
+import subprocess
+import sys
+from typing import Dict, Iterable, List, Optional, Sequence, Tuple, Union
+
+from .drawing import LIGHT, Picture
+from .errors import UsageError, WriteFault, error_of
+from .explanation import Explanation, read_explanation
+from .program import Program, command, words_of
+from .rows import Row, write_trace
+from .runs import DEFAULTS, Run, Source, arrivals_of, joined, opened, parted, results_of
+from .tables import answered
+from .timeline import table_of, timeline
+from .whole import ResultRow
+from .words import RESULTS
+
+Path = Union[str, "os.PathLike[str]"]
+
+
+def explain(
+    trace: Union[Iterable[Row], Path], results: Union[Iterable[ResultRow], Path, None] = None, /, *, program: Program = None, **options: object
+) -> Optional[Explanation]:
+    """Why results of a trace break a rule, by the first row that does; None where they keep all rules. The trace is rows, or the path of
+    one; the results are rows, as `run` gives them, or the path of a file. A trace's file may have its results behind it, where none are
+    given. Options are those of `pcm explain`, with `_` for `-`."""
+    given = _trace_of(trace)
+    table = given.data if results is None else joined(given, _results_of(results))
+    return read_explanation(said_of(table, words_of(options), program, None if given.kind == "rows" else given.name))
+
+
+def said_of(table: bytes, words: Sequence[str], program: Program = None, path: Optional[str] = None) -> str:
+    """What the program says of a trace with its results behind it, which may be a file's by its path."""
+    started = [*command("explain", program), *words]
+    done = subprocess.run(started, input=table, stdout=subprocess.PIPE, stderr=subprocess.PIPE, check=False)
+    if done.returncode not in (0, 1):
+        raise error_of(done.returncode, done.stderr, ["explain", *words], path)
+    return done.stdout.decode()
+
+
+def drawn(told: Explanation, table: Source, options: Dict[str, str]) -> Picture:
+    """The picture of an explanation of a trace with its results behind it."""
+    trace, results = parted(table)
+    run = Run(table.name, {**DEFAULTS, **options}, {}, [], results_of(results), arrivals_of(trace))
+    return picture_of(told, run)
+
+
+def picture_of(told: Explanation, run: Run, colours: Dict[str, str] = LIGHT) -> Picture:
+    """The picture of an explanation of a run's results."""
+    return timeline(told, table_of(run.arrivals or [], run.rows), run.bank_of_line, colours)
+
+
+def _trace_of(trace: Union[Iterable[Row], Path]) -> Source:
+    if isinstance(trace, (str, os.PathLike)):
+        return opened("trace", os.fspath(trace))
+    text = io.StringIO()
+    write_trace(trace, text)
+    return Source("rows", "rows", text.getvalue().encode())
+
+
+def _results_of(results: Union[Iterable[ResultRow], Path]) -> Source:
+    if isinstance(results, (str, os.PathLike)):
+        return opened("results", os.fspath(results))
+    return Source("results", "rows", "".join([f"{RESULTS}\n", *(row.text() for row in results)]).encode())
+
+
+def main(words: Sequence[str]) -> int:
+    """`python3 -m pcm explain`; answers the status."""
+    return answered("explain", __doc__, words, _explain)
+
+
+def _explain(words: Sequence[str]) -> int:
+    names, options, output = _parsed(words)
+    trace = opened("trace", names[0])
+    table = trace if len(names) == 1 else trace._replace(data=joined(trace, opened("results", names[1])))
+    more = [word for name, value in options.items() for word in (f"--{name}", value)]
+    text = said_of(table.data, more, path=None if names[0] == "-" else names[0])
+    sys.stdout.write(text)
+    told = read_explanation(text)
+    if told is not None and output is not None:
+        _write(output, drawn(told, table, options).drawn())
+    return 0 if told is None else 1
+
+
+def _write(name: str, text: str) -> None:
+    try:
+        with open(name, "w", encoding="utf-8") as file:
+            file.write(text)
+    except OSError as wrong:
+        raise WriteFault(5, f"{name}: {wrong.strerror}") from None
+
+
+def _parsed(words: Sequence[str]) -> Tuple[List[str], Dict[str, str], Optional[str]]:
+    """The names of the one or two files, the options, and the picture's name."""
+    names: List[str] = []
+    options: Dict[str, str] = {}
+    rest, output = list(words), None
+    while rest:
+        word = rest.pop(0)
+        name, equals, value = word.lstrip("-").partition("=")
+        if word == "-" or not word.startswith("-"):
+            names.append(word)
+            continue
+        if not equals and not rest:
+            raise UsageError(2, f"{word} wants a value")
+        value = value if equals else rest.pop(0)
+        if word.partition("=")[0] in ("-o", "--output"):
+            output = value
+        elif name in options:
+            raise UsageError(2, f"--{name} stands twice")
+        else:
+            options[name] = value
+    if len(names) not in (1, 2):
+        raise UsageError(2, "usage: python3 -m pcm explain FILE [RESULTS] [options] [-o PICTURE]  (--help tells more)")
+    return names, options, output
