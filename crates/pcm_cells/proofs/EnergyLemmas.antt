@@ -1,8 +1,9 @@
 -- What a pulse drives, and what becomes of the counts.
-use Rattle.std.proofs.Common.{◌≡◌, ℕ, zero, suc, ◌+◌, ◌<◌, ◌&&◌, Bool, true, false, not, cond, List, length, set, replicate, refl, sym, ◌∙◌, ap, arith, Option, Some, None, get_or-set_same, get_or-set_other}
-use Rattle.std.proofs.lemmas.List.{get_or-replicate}
+use Rattle.std.proofs.Common.{◌≡◌, ℕ, zero, suc, ◌+◌, ◌<◌, ◌&&◌, Bool, true, false, not, cond, List, [], length, length-set, set, replicate, refl, sym, ◌∙◌, ap, arith, Option, Some, None, get_or-set_same, get_or-set_other}
+use Rattle.std.proofs.lemmas.{List.{get_or-replicate, length-replicate}, Option.{none-some, same_Some}}
+use Rattle.std.specs.{Option.option_map, Prelude.{IfSome, is_some}}
 use Rattle.cell_rows.specs.{Device.{ArrayState, EnergyChanges}, Energy.no_energy, Rows.members, declared.array.LineEnergy.LineEnergy}
-use Rattle.pcm_cells.specs.Energies.{energy_at, energy_or_none}
+use Rattle.pcm_cells.specs.Energies.{energy_at, energy_or_none, energy_told}
 
 abbrev as_one : Bool → ℕ
 as_one b = cond b 1 0
@@ -43,3 +44,63 @@ energy-told old new xs ys line told low is before after = record {
   others = λ n apart.
       after n ∙ ap (λ zs. Some (energy_at zs n)) is ∙ ap (λ o. Some (energy_or_none o)) (get_or-set_other xs line n (Some told) None apart) ∙ sym (before n);
 }
+
+-- the same of an array that may keep no counts, of which it then tells nothing
+pub energy-changed : {B M : ℕ} (old new : ArrayState B M) (xs ys : Option (List (Option LineEnergy))) (line : ℕ)
+    (told : Option LineEnergy → Option LineEnergy)
+    → told None ≡ None → ((energy : LineEnergy) → Some (energy_or_none (told (Some energy))) ≡ told (Some energy))
+    → IfSome xs (λ energies. line < length energies)
+    → ys ≡ option_map (λ energies. set energies line (told (Some (energy_at energies line)))) xs
+    → ((n : ℕ) → old.energy n ≡ energy_told xs n) → ((n : ℕ) → new.energy n ≡ energy_told ys n) → EnergyChanges line (told (energy_told xs line)) old new
+energy-changed old new None ys line told none some low is before after = record {
+  here = after line ∙ ap (λ zs. energy_told zs line) is ∙ sym none;
+  others = λ n apart. after n ∙ ap (λ zs. energy_told zs n) is ∙ sym (before n);
+}
+energy-changed old new (Some xs) ys line told none some low is before after =
+    let energy = energy_at xs line in
+    let now = told (Some energy) in record {
+      here =
+          after line ∙ ap (λ zs. energy_told zs line) is ∙ ap (λ o. Some (energy_or_none o)) (get_or-set_same xs line now None low)
+          ∙ some energy;
+      others = λ n apart.
+          after n ∙ ap (λ zs. energy_told zs n) is ∙ ap (λ o. Some (energy_or_none o)) (get_or-set_other xs line n now None apart) ∙ sym (before n);
+    }
+
+-- ---- counts of as many lines as the array has, where it keeps any
+
+-- those of a line are among them
+pub counts-line : (kept : Option (List (Option LineEnergy))) (line lines : ℕ) → IfSome kept (λ energies. length energies ≡ lines) → line < lines
+    → IfSome kept (λ energies. line < length energies)
+counts-line None line lines size low = size
+counts-line (Some energies) line lines size low = omega (arith, size, low)
+
+-- the counts of one line are written
+pub counts-written : (kept now : Option (List (Option LineEnergy))) (line before after : ℕ) (told : Option LineEnergy → Option LineEnergy)
+    → now ≡ option_map (λ energies. set energies line (told (Some (energy_at energies line)))) kept
+    → IfSome kept (λ energies. length energies ≡ before) → after ≡ before → IfSome now (λ energies. length energies ≡ after)
+counts-written None now line before after told is size same = rw is size
+counts-written (Some energies) now line before after told is size same =
+    rw is (length-set energies line (told (Some (energy_at energies line))) ∙ size ∙ sym same)
+
+-- the counts of all lines are let go
+pub counts-cleared : (kept now : Option (List (Option LineEnergy))) → now ≡ option_map (λ energies. []) kept → IfSome now (λ energies. length energies ≡ 0)
+counts-cleared None now is = rw is tt
+counts-cleared (Some energies) now is = rw is refl
+
+-- there are new lines
+pub counts-renewed : (kept now : Option (List (Option LineEnergy))) (lines : ℕ) → now ≡ option_map (λ energies. replicate lines None) kept
+    → IfSome now (λ energies. length energies ≡ lines)
+counts-renewed None now lines is = rw is tt
+counts-renewed (Some energies) now lines is = rw is (length-replicate {A = Option LineEnergy} lines None)
+
+-- what is told of a new line is that it has no counts
+pub renewed-none : (kept now : Option (List (Option LineEnergy))) (lines line : ℕ) (told : LineEnergy) → now ≡ option_map (λ energies. replicate lines None) kept → line < lines
+    → energy_told now line ≡ Some told → told ≡ no_energy
+renewed-none None now lines line told is low tells = absurd (none-some told (sym (ap (λ o. energy_told o line) is) ∙ tells))
+renewed-none (Some energies) now lines line told is low tells =
+    same_Some told no_energy (sym tells ∙ ap (λ o. energy_told o line) is ∙ ap Some (energy-none lines line (replicate lines None) refl low))
+
+-- an array that counts goes on counting, and another doesn't
+pub counts-as : {X Y : Type 0} (kept : Option X) (now : Option Y) (f : X → Y) → now ≡ option_map f kept → is_some now ≡ is_some kept
+counts-as None now f is = rw is refl
+counts-as (Some x) now f is = rw is refl

@@ -3,7 +3,7 @@ use Rattle.std.specs.{Int.bit_at, List.range_with_len}
 use Rattle.std.specs.Prelude.{ℕ, ◌≡◌, ◌≢◌, ◌+◌, ◌≤◌, ◌-◌, ◌*◌, ◌/◌, ◌%◌, ◌^◌, ◌<◌, min, Bool, true, false, ◌&&◌, nat_eq, nat_lt, nat_le, bit_xor, if◌then◌else◌, List, [], length}
 use Rattle.std.specs.Prelude.{map, slice_index, slice_index_or, Option, None, Some}
 use Rattle.cell_rows.specs.{Device.{ArrayState, LineState, CellBounds, counted}, Rows.{cell, zero_row}, declared.array.LineEnergy.LineEnergy, declared.array.Wear.Wear, declared.row.Cells.Cells}
-use Rattle.pcm_cells.specs.{Counts.count, Energies.energy_at, Follows.Follows, Planes.{PlaneLine, plane_cell, blank_planes, digit, zero_digits}, declared.calm.Moving.Moving}
+use Rattle.pcm_cells.specs.{Counts.count, Energies.energy_told, Follows.Follows, Planes.{PlaneLine, plane_cell, blank_planes, digit, zero_digits}, declared.calm.Moving.Moving}
 use Rattle.pcm_cells.specs.{declared.calm.Settled.Settled, declared.counts.Counts.Counts, declared.digits.Digits.Digits, declared.seeded.SeededCell.SeededCell}
 use Rattle.seeded_words.specs.Words.{xoshiro_of, word_at}
 
@@ -87,12 +87,12 @@ pub record IsDrawn {B M : ℕ} (wear : Wear) (number : ℕ) (row : LifeLine B M)
   pub line : row.line ≡ blank_planes B M
   pub cells : (n : ℕ) → n < 8 * (B + M) → seeded_cell row n ≡ fresh_cell wear (word_at n (xoshiro_of (bit_xor wear.seed number)))
 
--- the array: its lines, how often it was torn, the wear that it was last powered up with, and the counts of its energy
+-- the array: its lines, how often it was torn, the wear that it was last powered up with, and the counts of its energy, where it keeps any
 pub record SeededArray (B M : ℕ) : Type 0 where
   pub lines : List (LifeLine B M)
   pub tears : ℕ
   pub wear : Option Wear
-  pub energies : List (Option LineEnergy)
+  pub energies : Option (List (Option LineEnergy))
 
 -- the line with this number
 abbrev pub seeded_line : {B M : ℕ} → SeededArray B M → ℕ → LifeLine B M
@@ -123,7 +123,7 @@ seeded_state array = record {
   log = None;
   wear = array.wear;
   bounds = bounds_of array.wear;
-  energy = λ number. Some (energy_at array.energies number);
+  energy = energy_told array.energies;
 }
 
 -- a pulse or a tear of the line: each masked cell wears as its life says, the pulse is counted, and all else stays

@@ -16,6 +16,7 @@ mod pages;
 mod script;
 mod seeded;
 mod table;
+mod tally;
 mod young;
 
 pub use cell_rows::{CellArray, Cells, Sense, Wear};

@@ -6,9 +6,9 @@ use crate::blocks::{are_many, byte_at, chosen, life, reached, spend, with_life, 
 use crate::calm::{Moving, Settled, has_room, is_calm, wear_calm};
 use crate::counts::Counts;
 use crate::digits::Digits;
-use crate::energies::Energies;
 use crate::line::has_end;
 use crate::pages::Pages;
+use crate::tally::Tally;
 use crate::young::Young;
 use cell_rows::{CellArray, Cells, LineEnergy, Wear};
 use cell_wear::{CellWear, TellsCells};
@@ -364,7 +364,8 @@ impl<const B: usize, const M: usize> SeededLine<B, M> {
     }
 }
 
-ghost use Rattle.std.specs.Prelude.{[], slice_set};
+ghost use Rattle.std.specs.Prelude.{[], Some, None, is_some, slice_set};
+ghost use Rattle.std.specs.Option.{option_map};
 ghost use Rattle.cell_rows.specs.Energy.{with_pulse, with_sense};
 ghost use Rattle.pcm_cells.specs.Energies.{energy_at};
 ghost use Rattle.pcm_cells.specs.Seeded.{bounds_of, seeded_line, seeded_state, Wears};
@@ -378,7 +379,7 @@ ghost use Rattle.pcm_cells.specs.Seeded.{bounds_of, seeded_line, seeded_state, W
 #[derive(Drop)]
 pub struct MemArray<const B: usize, const M: usize> {
     lines: Option<Pages<B, M>>,
-    energies: Energies,
+    energies: Tally,
     tears: u64,
 }
 
@@ -386,7 +387,7 @@ impl<const B: usize, const M: usize> Model for MemArray<B, M> {
     ghost use Rattle.pcm_cells.specs.Endurance.{AreBounded, IsInRange};
     ghost use Rattle.pcm_cells.specs.Paging.{seeded_lines, seeded_wear};
     ghost use Rattle.pcm_cells.specs.Seeded.{SeededArray, bounds_of};
-    ghost use Rattle.std.specs.Prelude.{◌≡◌, length};
+    ghost use Rattle.std.specs.Prelude.{◌≡◌, length, IfSome};
     ghost use Rattle.cell_rows.specs.Shape.{IsShape, IsWhole};
 
     ghost Value = { SeededArray B M };
@@ -400,7 +401,7 @@ impl<const B: usize, const M: usize> Model for MemArray<B, M> {
 
     ghost invariant = { λ a. IsShape B M × IsWhole B M × IsInRange (bounds_of (seeded_wear a.lines))
         × AreBounded (bounds_of (seeded_wear a.lines)) (seeded_lines a.lines)
-        × (length a.energies ≡ length (seeded_lines a.lines)) };
+        × IfSome a.energies (λ energies. length energies ≡ length (seeded_lines a.lines)) };
 }
 
 impl<const B: usize, const M: usize> MemArray<B, M> {
@@ -410,11 +411,24 @@ impl<const B: usize, const M: usize> MemArray<B, M> {
     pub fn new() -> MemArray<B, M>
         requires shape { IsShape B M }
         requires whole { IsWhole B M }
-        ensures { result ≡ record { lines = []; tears = 0; wear = None; energies = [] } }
+        ensures { result ≡ record { lines = []; tears = 0; wear = None; energies = Some [] } }
     {
         MemArray {
             lines: None,
-            energies: Energies::none(),
+            energies: Tally::counting(),
+            tears: 0,
+        }
+    }
+
+    /// Such an array that counts neither senses nor the cells that pulses drive, and tells nothing of energy. It is quicker.
+    pub fn without_energy() -> MemArray<B, M>
+        requires shape { IsShape B M }
+        requires whole { IsWhole B M }
+        ensures { result ≡ record { lines = []; tears = 0; wear = None; energies = None } }
+    {
+        MemArray {
+            lines: None,
+            energies: Tally::nothing(),
             tears: 0,
         }
     }
@@ -455,11 +469,12 @@ impl<const B: usize, const M: usize> CellArray<B, M> for MemArray<B, M> {
         ensures err { OnErr result (length self.new.lines ≡ 0) }
         ensures drawn { OnOk result ((l : ℕ) → l < lines
             → IsDrawn wear l (seeded_line self.new l)) }
+        ensures counts { is_some self.new.energies ≡ is_some self.old.energies }
     {
         self.lines = None;
-        self.energies = Energies::none();
+        self.energies.clear();
         self.tears = 0;
-        let energies = Energies::blank(alloc, lines)?;
+        let energies = self.energies.renewed(alloc, lines)?;
         self.lines = Some(Pages::blank(alloc, lines, wear)?);
         self.energies = energies;
         Ok(())
@@ -479,8 +494,8 @@ impl<const B: usize, const M: usize> CellArray<B, M> for MemArray<B, M> {
         ensures step { Senses (sense_of line tick ((seeded_state self.old).line line))
             (seeded_state self.old) (seeded_state self.new) }
         ensures counted { self.new ≡ record self.old {
-          energies = slice_set self.old.energies line
-              (with_sense (Some (energy_at self.old.energies line)));
+          energies = option_map (λ energies. slice_set energies line
+              (with_sense (Some (energy_at energies line)))) self.old.energies;
         } }
     {
         self.energies.sense(line);
@@ -553,6 +568,6 @@ impl<const B: usize, const M: usize> TellsCells<B, M> for MemArray<B, M> {
     }
 
     fn energy(&self, line: u32) -> Option<LineEnergy> {
-        Some(self.energies.at(line))
+        self.energies.at(line)
     }
 }

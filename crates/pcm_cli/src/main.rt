@@ -31,8 +31,8 @@ fn main(rt: HostRuntime) -> ExitCode {
         Ok(words) => pcm_run(
             rt.alloc(),
             words.as_slice(),
-            &mut MemArray::<64, 8>::new(),
-            &mut MemArray::<128, 16>::new(),
+            &mut MemArray::<64, 8>::without_energy(),
+            &mut MemArray::<128, 16>::without_energy(),
             &mut StdSource::new(rt.stdin()),
             &mut StdSink::new(rt.stdout()),
             &mut err,

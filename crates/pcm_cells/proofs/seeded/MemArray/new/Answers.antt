@@ -1,4 +1,5 @@
-use Rattle.std.proofs.Common.{ap, arith, length}
+use Rattle.std.proofs.Common.{◌≡◌, arith, length, refl, subst, sym}
+use Rattle.std.specs.Prelude.{IfSome}
 use Rattle.pcm_cells.proofs.EnduranceLemmas.{bounded_none}
 use Rattle.pcm_cells.proofs.seeded.MemArray.new.Goals as goal
 
@@ -8,5 +9,5 @@ invariant_of-result g c = (
   c.requires.whole,
   record { endures = omega arith; misses = omega arith },
   bounded_none g.row.B g.row.M (record { endures = 0; misses = 7 }),
-  ap length c.none.ensures,
+  subst (λ kept. IfSome kept (λ energies. length energies ≡ 0)) (sym c.counting.ensures) refl,
 )

@@ -1,7 +1,8 @@
-use Rattle.std.proofs.Common.{◌≡◌, ◌≤◌, ◌∙◌, rules, sym, subst, ap, arith, length, length-set, set, refl, List, Option, Some}
+use Rattle.std.proofs.Common.{◌≡◌, ◌<◌, ◌≤◌, ◌∙◌, rules, sym, subst, ap, arith, length, set, refl, List, Option, Some}
+use Rattle.std.specs.{Option.option_map, Prelude.IfSome}
 use Rattle.cell_rows.specs.{Energy.with_pulse, declared.array.LineEnergy.LineEnergy, declared.array.Wear.Wear}
 use Rattle.pcm_cells.specs.{Endurance.{AreBounded, IsInRange}, Energies.energy_at, Paging.{seeded_lines, seeded_wear, lines_seen}, Seeded.{SeededArray, bounds_of, seeded_state}}
-use Rattle.pcm_cells.proofs.{EnduranceLemmas.bounded_kept, EnergyLemmas.energy-told, PagingLemmas.{lines_size, wears_lines}}
+use Rattle.pcm_cells.proofs.{EnduranceLemmas.bounded_kept, EnergyLemmas.{counts-line, counts-written, energy-changed}, PagingLemmas.{lines_size, wears_lines}}
 use Rattle.pcm_cells.proofs.seeded.MemArray.wear.Goals as goal
 
 pub unreachable-requires : goal.unreachable-requires
@@ -60,7 +61,8 @@ invariant_of-self g c =
           (omega (arith, c.requires.exists, ap length before, lines_size old))
           c.wear.ensures.cells c.wear.ensures.pulses c.wear.ensures.others c.wear.ensures.lines)
           (subst (AreBounded bounds) lines c.self.invariant.3)),
-      ap length c.drive.ensures ∙ length-set c.self.inside.energies c.args.line _ ∙ c.self.invariant.4 ∙ ap (λ o. length (seeded_lines o)) c.in-Some.is ∙ lines_size old ∙ sym c.wear.ensures.lines ∙ sym (lines_size c.wear.new.self),
+      counts-written c.self.inside.energies c.drive.new.self c.args.line (length (seeded_lines c.self.inside.lines)) (length new.lines) (with_pulse c.args.mask.now c.args.want.now) c.drive.ensures
+          c.self.invariant.4 (lines_size c.wear.new.self ∙ c.wear.ensures.lines ∙ sym (lines_size old) ∙ sym (ap (λ o. length (seeded_lines o)) c.in-Some.is)),
     )
 
 pub returns-clause-wear : goal.returns-clause-wear
@@ -69,16 +71,18 @@ returns-clause-wear g c =
 
 pub drive-requires : goal.drive-requires
 drive-requires g c =
-    let is : length c.args.self.now.lines ≡ length c.self.inside.energies = ap (λ (a : SeededArray g.row.B g.row.M). length a.lines) (sym c.self.view_is) ∙ sym c.self.invariant.4 in
+    let is : length c.args.self.now.lines ≡ length (seeded_lines c.self.inside.lines) = ap (λ (a : SeededArray g.row.B g.row.M). length a.lines) (sym c.self.view_is) in
     let few_bytes : g.row.B ≤ 128 = c.requires.shape.1 in
     let few_check : g.row.M ≤ 16 = c.requires.shape.3 in
-    (search rules, (omega (arith, c.requires.exists, is), c.requires.shape))
+    (search rules, (counts-line c.self.inside.energies c.args.line _ c.self.invariant.4 (omega (arith, c.requires.exists, is)), c.requires.shape))
 
 pub returns-clause-energy : goal.returns-clause-energy
 returns-clause-energy g c =
     let now = c.args.self.now in
-    let lines : length now.lines ≡ length c.self.inside.energies = ap (λ (a : SeededArray g.row.B g.row.M). length a.lines) (sym c.self.view_is) ∙ sym c.self.invariant.4 in
+    let is : length now.lines ≡ length (seeded_lines c.self.inside.lines) = ap (λ (a : SeededArray g.row.B g.row.M). length a.lines) (sym c.self.view_is) in
     let energies : c.self.inside.energies ≡ now.energies = ap (λ (a : SeededArray g.row.B g.row.M). a.energies) c.self.view_is in
-    energy-told (seeded_state now) _ now.energies c.drive.new.self c.args.line _ (omega (arith, c.requires.exists, lines, ap length energies))
-    (c.drive.ensures ∙ ap (λ (xs : List (Option LineEnergy)). set xs c.args.line (with_pulse c.args.mask.now c.args.want.now (Some (energy_at xs c.args.line)))) energies)
+    energy-changed (seeded_state now) _ now.energies c.drive.new.self c.args.line (with_pulse c.args.mask.now c.args.want.now) refl (λ energy. refl)
+    (subst (λ kept. IfSome kept (λ energies. c.args.line < length energies)) energies
+    (counts-line c.self.inside.energies c.args.line _ c.self.invariant.4 (omega (arith, c.requires.exists, is))))
+    (c.drive.ensures ∙ ap (option_map (λ (xs : List (Option LineEnergy)). set xs c.args.line (with_pulse c.args.mask.now c.args.want.now (Some (energy_at xs c.args.line))))) energies)
     (λ n. refl) (λ n. refl)

@@ -1,8 +1,9 @@
-use Rattle.std.proofs.Common.{◌≤◌, arith, ◌∙◌, refl, sym, ap, subst, length, Option, Some, None}
-use Rattle.std.proofs.lemmas.{List.length-replicate, Option.same_Some}
-use Rattle.cell_rows.specs.{Energy.no_energy, declared.array.LineEnergy.LineEnergy, declared.array.Wear.Wear}
-use Rattle.pcm_cells.{specs.Endurance.IsInRange, specs.Paging.lines_seen, specs.Seeded.{LifeLine, bounds_of}, proofs.EnduranceLemmas.{bounded_none, bounded_new}}
-use Rattle.pcm_cells.proofs.{EnergyLemmas.energy-none, PagingLemmas.{lines_size, blank_drawn}, SeededLemmas.drawn_is_blank}
+use Rattle.std.proofs.Common.{◌≡◌, ◌≤◌, arith, ◌∙◌, refl, sym, ap, subst, length, Option, Some, None}
+use Rattle.std.specs.Prelude.{IfSome, is_some}
+use Rattle.std.proofs.lemmas.List.{length-replicate}
+use Rattle.cell_rows.specs.declared.array.Wear.{Wear}
+use Rattle.pcm_cells.{specs.Endurance.IsInRange, specs.Paging.lines_seen, specs.Seeded.{LifeLine, SeededArray, bounds_of}, proofs.EnduranceLemmas.{bounded_none, bounded_new}}
+use Rattle.pcm_cells.proofs.{EnergyLemmas.{counts-as, counts-cleared, counts-renewed, renewed-none}, PagingLemmas.{lines_size, blank_drawn}, SeededLemmas.drawn_is_blank}
 use Rattle.pcm_cells.proofs.seeded.MemArrayCellArray.power_up.Goals as goal
 
 pub returns-clause-ok : goal.returns-clause-ok
@@ -15,7 +16,7 @@ returns-clause-ok g c =
       log = λ senses told. cc;
       wear = ap Some c.in_ok-blank.ensures.wear;
       few = subst (λ (w : Wear). w.misses ≤ 7) (sym c.in_ok-blank.ensures.wear) c.requires.wear.3;
-      energy = λ l told low is. same_Some told no_energy (sym is ∙ ap Some (energy-none c.args.lines l _ c.in_ok-energies.ensures low));
+      energy = λ l told low is. renewed-none _ c.in_ok-energies.energies c.args.lines l told c.in_ok-energies.ensures low is;
     }
 
 pub returns-clause-drawn : goal.returns-clause-drawn
@@ -27,7 +28,7 @@ invariant_of-self g c = (
   c.self.invariant.1,
   record { endures = omega arith; misses = omega arith },
   bounded_none g.row.B g.row.M (bounds_of None),
-  ap length c.none.ensures,
+  counts-cleared c.self.inside.energies c.clear.new.self c.clear.ensures,
 )
 
 pub invariant_of-self-2 : goal.invariant_of-self-2
@@ -40,8 +41,9 @@ invariant_of-self-2 g c =
           (λ l h.
           blank_drawn new c.args.lines new.wear refl c.in_ok-blank.ensures.young c.in_ok-blank.ensures.grown l
           (omega (arith, h, lines_size new, ap length c.in_ok-blank.ensures.grown, length-replicate {A = Option (LifeLine g.row.B g.row.M)} c.args.lines None))),
-      ap length c.in_ok-energies.ensures ∙ length-replicate {A = Option LineEnergy} c.args.lines None
-          ∙ sym (lines_size new ∙ ap length c.in_ok-blank.ensures.grown ∙ length-replicate {A = Option (LifeLine g.row.B g.row.M)} c.args.lines None),
+      subst (λ lines. IfSome c.in_ok-energies.energies (λ energies. length energies ≡ lines))
+          (sym (lines_size new ∙ ap length c.in_ok-blank.ensures.grown ∙ length-replicate {A = Option (LifeLine g.row.B g.row.M)} c.args.lines None))
+          (counts-renewed _ c.in_ok-energies.energies c.args.lines c.in_ok-energies.ensures),
     )
 
 pub invariant_of-self-in_err-blank : goal.invariant_of-self-in_err-blank
@@ -50,5 +52,11 @@ invariant_of-self-in_err-blank g c = (
   c.self.invariant.1,
   record { endures = omega arith; misses = omega arith },
   bounded_none g.row.B g.row.M (bounds_of None),
-  ap length c.none.ensures,
+  counts-cleared c.self.inside.energies c.clear.new.self c.clear.ensures,
 )
+
+-- whether the array counts
+pub returns-clause-counts : goal.returns-clause-counts
+returns-clause-counts g c =
+    counts-as _ c.in_ok-energies.energies _ c.in_ok-energies.ensures ∙ counts-as _ c.clear.new.self _ c.clear.ensures
+    ∙ ap (λ (a : SeededArray g.row.B g.row.M). is_some a.energies) c.self.view_is
