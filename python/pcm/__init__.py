@@ -38,7 +38,7 @@ from .rows import MaskedWrite, PowerCut, Read, Settle, Write, read_trace, write_
 from .snapshots import Snapshot, SnapshotError, read_snapshots, snapshots
 from .whole import Result, ResultRow, WearLine, run
 
-__version__ = "1.4.0"
+__version__ = "1.5.0"
 __all__ = [
     "Bank", "Busy", "Cut", "Entry", "Forwarded", "Full", "Image", "ImageError", "Lost", "MaskedWrite", "Merged", "Module", "OutOfMemory",
     "Outcome", "PcmError", "PowerCut", "Queued", "Read", "ReadFault", "ReadOutcome", "Region", "Result", "ResultRow", "Settle", "Settled",
