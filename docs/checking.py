@@ -17,11 +17,11 @@ import pages
 COMMANDS = ("README.md", "docs/USING.md", "docs/VERIFYING.md")
 HEADER = b"tick,op,arg,data\n"
 RESULTS = b"row,op,line,outcome,tick,place,data\n"
-EXAMPLE = re.compile(r"Example: `((?:run|gen|map|moves|show|check|stream)\b[^`]*)`")
-# The program of streams, as the gate builds it; a program that is given may have its command.
-STREAMS = TOP / "crates" / "pcm_stream" / "out" / "pcm_stream"
+EXAMPLE = re.compile(r"Example: `((?:run|gen|map|moves|show|check|stream|explain)\b[^`]*)`")
+# The programs of commands that have one alone, as the gate builds them; a program that is given may have the command.
+ALONE = {it: TOP / "crates" / f"pcm_{it}" / "out" / f"pcm_{it}" for it in pages.table().ALONE}
 WHOLE_LINE = re.compile(r"\b(?:[0-9a-f]{256}|[0-9a-f]{128})\b")
-HELP_PAGES = ((), ("run",), ("gen",), ("map",), ("moves",), ("show",), ("check",), ("stream",))
+HELP_PAGES = ((), *((it,) for it in pages.table().COMMANDS))
 # Words of documents that name nothing of this repository: units, commands and calls of the system, a type of std, and one that
 # DECISIONS.md says isn't there; and words that stand for names.
 FOREIGN = {"MiB", "GiB", "renice", "parallel", "sbatch", "valgrind", "RulePolicy", "AllocError", "posix_spawnp"}
@@ -117,8 +117,8 @@ def installed(tree, program):
         folder.mkdir(parents=True)
     shutil.copy(TOP / "pcm", room)
     links = {f"bin/{it}": TOP / it for it in ("examples", "python", "c")}
-    links |= {"libexec/pcm/pcm_cli": program, "libexec/pcm/pcm_stream": STREAMS, "share/pcm/python": TOP / "python"}
-    links |= {"share/pcm/USING.md": TOP / "docs" / "USING.md", "share/pcm/VERSION": TOP / "VERSION"}
+    links |= {"libexec/pcm/pcm_cli": program, **{f"libexec/pcm/{it.name}": it for it in ALONE.values()}}
+    links |= {"share/pcm/python": TOP / "python", "share/pcm/USING.md": TOP / "docs" / "USING.md", "share/pcm/VERSION": TOP / "VERSION"}
     for name, target in links.items():
         pathlib.Path(tree, name).symlink_to(target)
     return str(room)
@@ -138,7 +138,7 @@ def check_commands(program, writes):
                 well = matches(wanted, got) or writes
                 yield None if well else f"{document}:{begin}: {command}\n  wanted {wanted}\n  got    {got[:40]}"
             for words in EXAMPLE.findall("\n".join(lines)):
-                source = HEADER + RESULTS if words.startswith("check") else HEADER
+                source = HEADER + RESULTS if words.startswith(("check", "explain")) else HEADER
                 ran = subprocess.run(["bash", "-c", f"./pcm {words}"], cwd=room, input=source, capture_output=True)
                 yield None if ran.returncode in (0, 1) else f"{document}: {words}: status {ran.returncode}"
         if writes and changes:
@@ -154,7 +154,7 @@ def check_words(program):
     with tempfile.TemporaryDirectory() as tree:
         pcm = f"{installed(tree, program)}/pcm"
         for name, command in pages.table().COMMANDS.items():
-            if name == "stream" and not STREAMS.exists():
+            if name in ALONE and not ALONE[name].exists():
                 continue
             for option in command.options.values():
                 for text in {*option.choices, *(str(it) for it in ends(option)), "nothing"}:

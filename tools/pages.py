@@ -1,6 +1,7 @@
 """The manual and the completions, made of docs/USING.md and of the table of options in python/pcm/words.py.
 
 Used by tools/install, tools/dist and tools/pages."""
+import functools
 import importlib.util
 import re
 import sys
@@ -76,15 +77,18 @@ def manual():
     """pcm(1)."""
     commands, statuses = "\n".join(section("The commands")).split(STATUSES)
     parts = [("DESCRIPTION", commands.split("\n")), ("COMMANDS", [])]
-    parts += [(f"pcm {it}", section(f"pcm {it}")) for it in table().COMMANDS if it != "stream"]
-    parts += [("EXIT STATUS", statuses.split("\n")), ("ENVIRONMENT", ENVIRONMENT), ("SEE ALSO", ["`pcm-stream`(1)"])]
+    parts += [(f"pcm {it}", section(f"pcm {it}")) for it in table().COMMANDS if it not in table().ALONE]
+    also = ", ".join(f"`pcm-{it}`(1)" for it in table().ALONE)
+    parts += [("EXIT STATUS", statuses.split("\n")), ("ENVIRONMENT", ENVIRONMENT), ("SEE ALSO", [also])]
     return page("pcm", ABOUT, ["**pcm** *COMMAND* [`--option` *value* ..]".replace("*", "")], parts)
 
 
-def manual_of_streams():
-    """pcm-stream(1)."""
-    parts = [("DESCRIPTION", section("pcm stream")), ("ENVIRONMENT", ENVIRONMENT), ("SEE ALSO", ["`pcm`(1)"])]
-    return page("pcm-stream", "replays a trace as it comes", ["pcm stream [`--option` value ..] < trace.csv"], parts)
+def manual_of(name):
+    """pcm-stream(1) and pcm-explain(1), of the commands that are programs of their own."""
+    command = table().COMMANDS[name]
+    about = ENVIRONMENT if name == "stream" else ENVIRONMENT[:1]
+    parts = [("DESCRIPTION", section(f"pcm {name}")), ("ENVIRONMENT", about), ("SEE ALSO", ["`pcm`(1)"])]
+    return page(f"pcm-{name}", command.about, [f"pcm {name} [`--option` value ..] {command.usage}"], parts)
 
 
 def read_of(text):
@@ -113,10 +117,10 @@ def wrong_range(name, told):
 
 def faults():
     """What isn't so of the pages: each section's words stand there in their order, and each option of the table has its bullet."""
-    pages = {"pcm": " ".join(read_of(manual())), "pcm-stream": " ".join(read_of(manual_of_streams()))}
+    pages = {name: " ".join(read_of(made())) for name, made in MANUAL.items()}
     for name in table().COMMANDS:
         text = re.sub(r"\[([^]]*)\]\([^)]*\)", r"\1", " ".join(section(f"pcm {name}")))
-        here = pages["pcm-stream" if name == "stream" else "pcm"]
+        here = pages[f"pcm-{name}.1" if name in table().ALONE else "pcm.1"]
         for line in section(f"pcm {name}"):
             plain = " ".join(re.sub(r"^- |\*\*|`", "", re.sub(r"\[([^]]*)\]\([^)]*\)", r"\1", line)).split())
             if plain not in here:
@@ -168,7 +172,7 @@ _pcm() {{
     case $command$before in
 {chr(10).join(picks)}
         helphelp) known="{' '.join(words.COMMANDS)}" ;;
-        pathpath) known=stream ;;
+        pathpath) known="{' '.join(words.ALONE)}" ;;
         *--*) if [[ $before == --* && $before != --help ]]; then return; fi ;;
     esac
     if [ -n "$known" ]; then
@@ -220,11 +224,13 @@ _pcm() {{
     case $command in
 {chr(10).join(cases)}
         help) _values command {' '.join(words.COMMANDS)} ;;
-        path) _values program stream ;;
+        path) _values program {' '.join(words.ALONE)} ;;
     esac
 }}
 _pcm "$@"
 """
 
 
-PAGES = {"pcm.1": manual, "pcm-stream.1": manual_of_streams, "bash": bash, "zsh": zsh}
+# The pages of the manual, and all that is made.
+MANUAL = {"pcm.1": manual, **{f"pcm-{it}.1": functools.partial(manual_of, it) for it in table().ALONE}}
+PAGES = {**MANUAL, "bash": bash, "zsh": zsh}

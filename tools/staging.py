@@ -1,9 +1,9 @@
 """What an installed tree has, and where: used by tools/install and tools/dist.
 
     bin/pcm                     the wrapper, as ./pcm is
-    libexec/pcm/                the two programs
+    libexec/pcm/                the programs
     share/pcm/                  docs/USING.md and VERSION, from which the wrapper prints; python/pcm, and a link to the wrapper for it
-    share/man/man1/             pcm.1 and pcm-stream.1
+    share/man/man1/             pcm.1, pcm-stream.1 and pcm-explain.1
     share/bash-completion/completions/pcm, share/zsh/site-functions/_pcm
     include/pcm_stream.h        for drivers in C and C++"""
 import pathlib
@@ -13,7 +13,7 @@ import crates
 import pages
 
 TOP = crates.TOP
-PROGRAMS = ("pcm_cli", "pcm_stream")
+PROGRAMS = ("pcm_cli", *(f"pcm_{it}" for it in pages.table().ALONE))
 
 
 def built(name):
@@ -29,7 +29,7 @@ def files():
     yield "share/pcm/VERSION", TOP / "VERSION", False
     for it in sorted(it for it in (TOP / "python" / "pcm").iterdir() if it.suffix in (".py", ".c")):
         yield f"share/pcm/python/pcm/{it.name}", it, False
-    for name in ("pcm.1", "pcm-stream.1"):
+    for name in pages.MANUAL:
         yield f"share/man/man1/{name}", pages.PAGES[name]().encode(), False
     yield "share/bash-completion/completions/pcm", pages.bash().encode(), False
     yield "share/zsh/site-functions/_pcm", pages.zsh().encode(), False

@@ -41,15 +41,18 @@ LINKER = """#!/bin/sh
 while [ $# -gt 0 ]; do if [ "$1" = -o ]; then out=$2; fi; shift; done
 cat >"$out" <<'END'
 #!/bin/sh
-case "$*" in
+case "$(basename "$0") $*" in
     *-psi*0*) echo "usage: pcm run|gen|map|moves|show|check [options]" >&2; exit 2 ;;
+    pcm_explain*none*) echo "usage: pcm explain [options]" >&2; exit 2 ;;
+    pcm_explain*-spares*4*) echo "results row 1" >&2; exit 3 ;;
     *faulty*) echo "trace row 2: order" >&2; exit 3 ;;
 esac
 echo "$(basename "$0")" "$@"
 END
 chmod +x "$out"
 """
-CRATES = "# 1. PARTS\nfirst:\nsecond: first\n# 2. PROGRAMS\npcm_cli: second\npcm_stream: first\n"
+CRATES = "# 1. PARTS\nfirst:\nsecond: first\n# 2. PROGRAMS\npcm_cli: second\npcm_stream: first\npcm_explain: second\n"
+PROGRAMS = ("pcm_cli", "pcm_stream", "pcm_explain")
 
 
 class Room:
@@ -81,7 +84,7 @@ class Room:
             (top / file).parent.mkdir(exist_ok=True)
             shutil.copy(TOP / file, top / file)
         (top / "crates.txt").write_text(CRATES)
-        for crate, root in (("first", "lib"), ("second", "lib"), ("pcm_cli", "main"), ("pcm_stream", "main")):
+        for crate, root in (("first", "lib"), ("second", "lib"), *((it, "main") for it in PROGRAMS)):
             for part, file in (("src", f"{root}.rt"), ("specs", "Lib.antt"), ("proofs", "Lib.antt")):
                 (top / "crates" / crate / part).mkdir(parents=True)
                 (top / "crates" / crate / part / file).write_text(f"-- {crate}\n")
@@ -252,7 +255,7 @@ class Builds(unittest.TestCase):
         self.assertIn("tools/build [PROGRAM ..]", self.build("--help").stdout)
         done = self.room.run("tools/build", "first")
         self.assertEqual(done.returncode, 1)
-        self.assertEqual(done.stderr, "pcm: first is no program: tools/build takes pcm_cli, pcm_stream, --clean or --help\n")
+        self.assertEqual(done.stderr, f"pcm: first is no program: tools/build takes {', '.join(PROGRAMS)}, --clean or --help\n")
         self.build("pcm_stream")
         self.build("--clean")
         self.assertEqual(list((self.room.cache / "leqallqu").iterdir()), [])
@@ -288,7 +291,7 @@ class Wrapper(unittest.TestCase):
     @classmethod
     def setUpClass(cls):
         cls.room = Room()
-        cls.room.run("tools/build", "pcm_cli", "pcm_stream")
+        cls.room.run("tools/build", *PROGRAMS)
 
     @classmethod
     def tearDownClass(cls):
@@ -297,6 +300,7 @@ class Wrapper(unittest.TestCase):
     def test_it_hands_words_on(self):
         self.assertEqual(self.room.run("pcm", "run", "--psi", "5 5", "").stdout, "pcm_cli run --psi 5 5 \n")
         self.assertEqual(self.room.run("pcm", "stream", "--psi", "5").stdout, "pcm_stream --psi 5\n")
+        self.assertEqual(self.room.run("pcm", "explain", "--spares", "5").stdout, "pcm_explain --spares 5\n")
 
     def test_it_runs_through_a_link_and_by_the_search_path(self):
         os.symlink(self.room.top / "pcm", self.room.folder / "a link")
@@ -309,7 +313,8 @@ class Wrapper(unittest.TestCase):
 
     def test_it_tells_where_the_programs_are(self):
         self.assertEqual(self.room.run("pcm", "path").stdout, f"{self.room.top}/crates/pcm_cli/out/pcm_cli\n")
-        self.assertEqual(self.room.run("pcm", "path", "stream").stdout, f"{self.room.top}/crates/pcm_stream/out/pcm_stream\n")
+        for word in ("stream", "explain"):
+            self.assertEqual(self.room.run("pcm", "path", word).stdout, f"{self.room.top}/crates/pcm_{word}/out/pcm_{word}\n")
         done = self.room.run("pcm", "path", "gen")
         self.assertEqual((done.returncode, done.stdout, len(done.stderr.splitlines())), (2, "", 1))
 
@@ -343,6 +348,34 @@ class Wrapper(unittest.TestCase):
         self.assertEqual((done.returncode, done.stderr), (2, line))
         done = self.room.run("pcm", "run", "--psi", "0", PCM_EXPLAIN="1")
         self.assertEqual((done.returncode, done.stderr), (2, f"{line}pcm: --psi 0: it may be 1 to 65535\n"))
+
+    def test_what_is_wrong_of_an_explanation_is_said_as_of_a_check(self):
+        line = "usage: pcm explain [options]\n"
+        for words, said in {
+            ("--spares", "none"): "pcm: --spares none: it may be a number of decimal digits alone, 0 to 1024\n",
+            ("--spare", "none"): "pcm: --spare is no option of explain (did you mean --spares?)\n",
+        }.items():
+            done = self.room.run("pcm", "explain", *words)
+            self.assertEqual((done.returncode, done.stderr), (2, line))
+            done = self.room.run("pcm", "explain", *words, PCM_EXPLAIN="1")
+            self.assertEqual((done.returncode, done.stderr), (2, f"{line}{said}"))
+        table = self.room.folder / "a table"
+        table.write_text("tick,op,arg,data\n5,R,0,\nrow,op,line,outcome,tick,place,data\n1,R,0,queued,5,,\n")
+        with open(table) as source:
+            how = {"stdin": source, "capture_output": True, "text": True, "env": {**self.room.around, "PCM_EXPLAIN": "1"}}
+            done = subprocess.run([self.room.top / "pcm", "explain", "--spares", "4"], **how)
+        self.assertEqual(done.returncode, 3)
+        said = "line 4: the fourth field of R may be read, forwarded, busy or lost (queued is of W)"
+        self.assertEqual(done.stderr, f"results row 1\npcm: {said}\n")
+
+    def test_a_build_of_one_program_makes_no_other(self):
+        other = self.room.repository("another clone")
+        self.room.called()
+        self.room.run("tools/build", top=other)
+        self.assertEqual([it.name for it in sorted(other.glob("crates/*/out/pcm_*")) if "." not in it.name], ["pcm_cli"])
+        self.assertEqual(self.room.run("pcm", "explain", top=other).stdout, "pcm_explain\n")
+        made = [it.name for it in sorted(other.glob("crates/*/out/pcm_*")) if "." not in it.name]
+        self.assertEqual(made, ["pcm_cli", "pcm_explain"])
 
     def test_the_line_of_a_faulty_row_is_said(self):
         trace = self.room.folder / "a trace"
@@ -381,6 +414,7 @@ class Installed(unittest.TestCase):
         self.assertEqual([it.returncode for it in self.said], [0, 0], self.said)
         self.assertEqual(self.pcm("map").stdout, "pcm_cli map\n")
         self.assertEqual(self.pcm("stream", "--psi", "5").stdout, "pcm_stream --psi 5\n")
+        self.assertEqual(self.pcm("explain", "--spares", "5").stdout, "pcm_explain --spares 5\n")
         self.assertEqual(self.pcm("--version").stdout, (TOP / "VERSION").read_text())
         self.assertIn("pcm show <", self.pcm("help", "show").stdout)
         self.assertNotIn("./pcm", self.pcm("help", "show").stdout)
@@ -428,7 +462,7 @@ class Installed(unittest.TestCase):
         subprocess.run(["sha256sum", "--quiet", "-c", "SHA256SUMS"], cwd=tree, check=True)
         self.assertEqual(subprocess.run([tree / "bin" / "pcm", "map"], capture_output=True, text=True).stdout, "pcm_cli map\n")
         proved = (tree / "PROVED").read_text()
-        for crate in ("first", "second", "pcm_cli", "pcm_stream"):
+        for crate in ("first", "second", *PROGRAMS):
             self.assertIn(f"\n{crate}: logic=proved functions=1\n", proved)
 
 
@@ -441,7 +475,7 @@ class Pages(unittest.TestCase):
     def test_the_manual_is_read_without_a_warning(self):
         if not shutil.which("man"):
             self.skipTest("there is no man")
-        for name in ("pcm.1", "pcm-stream.1"):
+        for name in pages.MANUAL:
             around = {**os.environ, "LC_ALL": "C.UTF-8", "MANWIDTH": "80"}
             done = subprocess.run(["man", "--warnings", "-l", "-"], input=pages.PAGES[name](), capture_output=True, text=True, env=around)
             self.assertEqual((done.returncode, done.stderr), (0, ""))
@@ -455,8 +489,9 @@ class Pages(unittest.TestCase):
     def test_bash_completes_commands_options_and_values(self):
         wanted = {
             "pcm st": ["stream"], "pcm run --pol": ["--policy"], "pcm run --policy c": ["cancel"], "pcm run --policy = c": ["cancel"],
-            "pcm run --psi 5 --ps": [], "pcm help mo": ["moves"], "pcm path ": ["stream"], "pcm stream --print s": ["summary", "snapshots"],
+            "pcm run --psi 5 --ps": [], "pcm help mo": ["moves"], "pcm path ": ["stream", "explain"], "pcm stream --print s": ["summary", "snapshots"],
             "pcm run --print s": ["summary"], "pcm run --psi ": [], "pcm show ": ["--help"], "pcm run --banks 1": ["1", "16"],
+            "pcm e": ["explain"], "pcm explain --p": ["--policy"], "pcm explain --policy c": ["cancel"],
         }
         for line, found in wanted.items():
             words = line.split(" ")
@@ -479,6 +514,9 @@ class Words(unittest.TestCase):
             "run --print rows": "--print rows: it may be results, summary, wear or image (rows is for stream)",
             "stream --every 5": "--every belongs to --print snapshots alone",
             "rum": "there is no command rum (did you mean run?)",
+            "explian": "there is no command explian (did you mean explain?)",
+            "explain --psi 5": "--psi is no option of explain, but of run or stream",
+            "explain --lines 100": "--lines 100: it may be a power of two, 4 to 4096; nearest are 64 and 128",
             "run": None,
             "stream --print snapshots --every 5 --rows=4000000000 --step 0 --input drawn": None,
         }

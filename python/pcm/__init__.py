@@ -48,7 +48,7 @@ from .rows import MaskedWrite, PowerCut, Read, Settle, Write, read_trace, write_
 from .snapshots import Snapshot, SnapshotError, read_snapshots, snapshots
 from .whole import Result, ResultRow, WearLine, run
 
-__version__ = "1.4.0"
+__version__ = "1.5.0"
 __all__ = [
     "Answer", "Asks", "Bank", "BankFact", "Busy", "BytesFact", "Cut", "Entry", "Explanation", "ExplanationError", "Fact", "Forwarded", "Full",
     "Image", "ImageError", "Lost", "MaskedWrite", "Merged", "Module", "OutOfMemory", "Outcome", "PcmError", "PowerCut", "Queued", "Read",

@@ -7,6 +7,7 @@ import subprocess
 from typing import List, Optional, Sequence, Union
 
 from .errors import PcmError
+from .words import ALONE
 
 Program = Union[str, "os.PathLike[str]", Sequence[str], None]
 # The checkout, or share/pcm of an installed tree, where `pcm` is a link to the installed one.
@@ -31,26 +32,26 @@ def program(given: Program = None) -> List[str]:
 
 
 def command(name: str, given: Program = None) -> List[str]:
-    """The words that start a command of `pcm` (`run`, `gen`, .. or `stream`). Where `pcm` is that of a checkout or an installed one, these
+    """The words that start a command of `pcm` (`run`, `gen`, .., `stream` or `explain`). Where `pcm` is that of a checkout or an installed one, these
     name the built program behind it, which is asked for once in a process: it is built first where it isn't yet, which tells on standard
     error how far it is, and no later call pays for the question. `PcmError` where it can't be built. Another program, as a script around
     `pcm`, is started as it is."""
     words = program(given)
     if len(words) != 1:
         return [*words, name]
-    built = _built(shutil.which(words[0]) or words[0], name == "stream")
+    built = _built(shutil.which(words[0]) or words[0], name if name in ALONE else None)
     if built is None:
         return [*words, name]
-    return [built] if name == "stream" else [built, name]
+    return [built] if name in ALONE else [built, name]
 
 
 @functools.lru_cache(maxsize=None)
-def _built(wrapper: str, streams: bool) -> Optional[str]:
-    """The built program behind `pcm`; none where this isn't the `pcm` that builds, or that was installed."""
+def _built(wrapper: str, alone: Optional[str]) -> Optional[str]:
+    """The built program behind `pcm`, or that of a command which has one alone; none where this isn't the `pcm` that builds, or that was installed."""
     real = pathlib.Path(os.path.realpath(wrapper))
     if real.name != "pcm" or not ((real.parent / "crates.txt").is_file() or (real.parent.parent / "libexec" / "pcm").is_dir()):
         return None
-    words = [wrapper, "path", *["stream"] * streams]
+    words = [wrapper, "path", *([alone] if alone else [])]
     done = subprocess.run(words, stdin=subprocess.DEVNULL, stdout=subprocess.PIPE, check=False)
     if done.returncode != 0:
         raise PcmError(done.returncode, f"the program isn't built: `{' '.join(words)}` ended with status {done.returncode}")

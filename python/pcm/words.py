@@ -133,6 +133,7 @@ def _those(*names: str) -> Dict[str, Option]:
 
 _SIZES = ("banks", "regions", "lines")
 _CHECKED = ("write-queue", "read-queue", "read-ticks", "iter-ticks", "policy", "registers")
+_CHECK = _those(*_SIZES, "line", "spares", "seed", *_CHECKED)
 COMMANDS = {
     it.name: it
     for it in (
@@ -141,10 +142,13 @@ COMMANDS = {
         Command("map", "prints where each line stands", "", {**_those(*_SIZES, "spares", "registers", "seed"), "from": _FROM}),
         Command("moves", "prints the gap moves of a region", "", _named([_power("lines", "N", 64, 4, 256, "lines of the region"), _FROM])),
         Command("show", "prints the newest bytes of a saved module", "< IMAGE", {}),
-        Command("check", "checks results behind their trace", "< TRACE-AND-RESULTS", _those(*_SIZES, "line", "spares", "seed", *_CHECKED)),
+        Command("check", "checks results behind their trace", "< TRACE-AND-RESULTS", _CHECK),
         Command("stream", "replays a trace as it comes", "< TRACE", {**_named([*_RUN, *_DRAWN]), **_named(_STREAM)}),
+        Command("explain", "checks results, and explains what breaks a rule", "< TRACE-AND-RESULTS", _CHECK),
     )
 }
+# Those that are programs of their own, beside the one that has the others.
+ALONE = ("stream", "explain")
 # What the wrapper answers by itself.
 WRAPPERS = {"help": "prints this help", "version": "prints the version", "path": "prints where the built program is"}
 # The greatest number of lines of a module, by whether it serves a stream.
@@ -356,7 +360,7 @@ def _faulty_row(path: str, row: int, kind: str, words: Sequence[str]) -> Optiona
             if not found or number != row or found[0] != kind:
                 return None
             told = found[1]
-            if kind == "fields" and len(record) == 7 and words[:1] == ["check"]:
+            if kind == "fields" and len(record) == 7 and words[:1] in (["check"], ["explain"]):
                 told += f"; results begin behind a line that is exactly {RESULTS}, ended by LF, not CRLF"
             return f"line {begins}: {told}"
         number += not (shape[2] and record[1] == "S")

@@ -21,7 +21,7 @@ ONES = b"\xff" * 64
 WRAPPER = """#!/bin/sh
 echo "$*" >> {room}/calls
 case $1 in
-path) echo "building {room}" >&2; if [ "$2" = stream ]; then echo {room}/streams; else echo {room}/runs; fi ;;
+path) echo "building {room}" >&2; case $2 in stream) echo {room}/streams ;; explain) echo {room}/explains ;; *) echo {room}/runs ;; esac ;;
 *) echo "not asked for" >&2; exit 70 ;;
 esac
 """
@@ -75,7 +75,8 @@ class Rooms(unittest.TestCase):
         (self.room / "crates.txt").touch()
         first, rest = pcm.program()[0], " ".join(pcm.program()[1:])
         self.script("runs", f'#!/bin/sh\nexec "{first}" {rest} "$@"\n')
-        self.script("streams", f'#!/bin/sh\nexec "{first}" {rest} stream "$@"\n')
+        for name in ("stream", "explain"):
+            self.script(f"{name}s", f'#!/bin/sh\nexec "{first}" {rest} {name} "$@"\n')
         return self.script("pcm", text.format(room=self.room))
 
 
@@ -87,12 +88,13 @@ class Programs(Rooms):
             "for _ in range(3): pcm.run([pcm.PowerCut(1)])\n"
             "for _ in range(3):\n"
             "    with pcm.Module() as module: module.cut(1)\n"
-            "print(pcm.command('gen'), pcm.command('stream'))\n"
+            "for _ in range(3): told = pcm.command('explain')\n"
+            "print(pcm.command('gen'), pcm.command('stream'), told)\n"
         )
         done = subprocess.run([sys.executable, "-c", code], env=around(PCM=wrapper), capture_output=True, text=True, check=True)
-        self.assertEqual(f"['{self.room}/runs', 'gen'] ['{self.room}/streams']\n", done.stdout)
-        self.assertEqual(["path", "path stream"], (self.room / "calls").read_text().splitlines())
-        self.assertEqual(2 * f"building {self.room}\n", done.stderr)
+        self.assertEqual(f"['{self.room}/runs', 'gen'] ['{self.room}/streams'] ['{self.room}/explains']\n", done.stdout)
+        self.assertEqual(["path", "path stream", "path explain"], (self.room / "calls").read_text().splitlines())
+        self.assertEqual(3 * f"building {self.room}\n", done.stderr)
 
     def test_a_program_that_cannot_be_built_is_told(self):
         wrapper = self.wrapper("#!/bin/sh\nexit 70\n")
