@@ -32,16 +32,16 @@ from .errors import OutOfMemory, PcmError, ReadFault, TooLong, TraceError, Usage
 from .frames import to_frame
 from .image import Bank, Entry, Image, ImageError, Region
 from .module import Module
-from .outcomes import Busy, Cut, Forwarded, Full, Lost, Merged, Outcome, Queued, Read as ReadOutcome, Settled, Stored, Worn
+from .outcomes import Backlog, Busy, Cut, Forwarded, Full, Lost, Merged, Outcome, Queued, Read as ReadOutcome, Settled, Stored, Worn
 from .program import command, program
-from .rows import MaskedWrite, PowerCut, Read, Settle, Write, read_trace, write_trace
+from .rows import MaskedWrite, PowerCut, Query, Read, Settle, Write, read_trace, write_trace
 from .snapshots import Snapshot, SnapshotError, read_snapshots, snapshots
 from .whole import Result, ResultRow, WearLine, run
 
 __version__ = "1.4.0"
 __all__ = [
-    "Bank", "Busy", "Cut", "Entry", "Forwarded", "Full", "Image", "ImageError", "Lost", "MaskedWrite", "Merged", "Module", "OutOfMemory",
-    "Outcome", "PcmError", "PowerCut", "Queued", "Read", "ReadFault", "ReadOutcome", "Region", "Result", "ResultRow", "Settle", "Settled",
+    "Backlog", "Bank", "Busy", "Cut", "Entry", "Forwarded", "Full", "Image", "ImageError", "Lost", "MaskedWrite", "Merged", "Module", "OutOfMemory",
+    "Outcome", "PcmError", "PowerCut", "Query", "Queued", "Read", "ReadFault", "ReadOutcome", "Region", "Result", "ResultRow", "Settle", "Settled",
     "Snapshot", "SnapshotError", "Stored", "TooLong", "TraceError", "UsageError", "WearLine", "Worn", "Write", "WriteFault", "command", "program",
     "read_snapshots", "read_trace", "run", "snapshots", "to_frame", "write_trace",
 ]
