@@ -24,7 +24,7 @@ banks-no-outcome : {n m e : ℕ} (module_ : ModuleState n m e) (tick banks : ℕ
 banks-no-outcome module_ tick zero = refl
 banks-no-outcome module_ tick (suc bank) = outcomes-same (banks_told module_ tick bank) (Bank tick (backlog_of bank (bank_at module_ bank)) ∷ []) refl ∙ banks-no-outcome module_ tick bank
 
-query-no-outcome : {n m e : ℕ} (module_ : ModuleState n m e) (tick : ℕ) → outcomes_in (lines_of (Query {n = n} tick) module_) ≡ []
+query-no-outcome : {n m e : ℕ} (module_ : ModuleState n m e) (tick : ℕ) → outcomes_in (lines_of (Query tick) module_) ≡ []
 query-no-outcome module_ tick = outcomes-same (banks_told module_ tick module_.shape.banks) (Settled tick ∷ []) refl ∙ banks-no-outcome module_ tick module_.shape.banks
 
 module _ {n m e : ℕ} (raw : RawShape) (seed : ℕ) (asked : List (Asked n)) (module_ : ModuleState n m e) (array : ArrayState n m) (places : ℕ) (told : List (Told n)) (shown : Shown) (snaps : List Snapshot)
@@ -151,7 +151,7 @@ module _ {n m e : ℕ} (raw : RawShape) (seed : ℕ) (asked : List (Asked n)) (m
 
   -- so is a settle
   pub serving-settle : (at : ℕ) (new : ModuleState n m e) (after : ArrayState n m) (places2 : ℕ) (told1 told2 : List (Told n)) (shown2 : Shown) (snaps2 : List Snapshot)
-      → places2 ≡ places → (outcomes : List (ℕ × Outcome n)) → told1 ≡ told ++ became outcomes → ComeByBanks raw seed (events_in asked) raw.banks outcomes → told2 ≡ told1 ++ lines_of (Settle {n = n} at) new
+      → places2 ≡ places → (outcomes : List (ℕ × Outcome n)) → told1 ≡ told ++ became outcomes → ComeByBanks raw seed (events_in asked) raw.banks outcomes → told2 ≡ told1 ++ lines_of (Settle at) new
       → new.shape ≡ module_.shape → new.seed ≡ module_.seed → new.finished ≡ false → new.tick ≡ at → ((bank : ℕ) → bank < new.shape.banks → IsSomeAnd (slice_get new.banks bank) (IsAtTick at))
       → at ≤ latest_tick → new.rows_below ≡ module_.rows_below
       → length (table_of places2 told1) ≡ length (table_of places told)
@@ -160,7 +160,7 @@ module _ {n m e : ℕ} (raw : RawShape) (seed : ℕ) (asked : List (Asked n)) (m
       → shown2 ≡ shown → snaps2 ≡ snaps
       → (has : IsServing raw seed (Settle at ∷ asked) new after places2 told2 shown2 snaps2) × (told_before (Settle at) asked (told_so_far has) ≡ told_so_far had)
   serving-settle at new after places2 told1 told2 shown2 snaps2 counts outcomes tells order tells2 shape seeded going tick settled in_time bound size leads shows snapped =
-      let lines : List (Told n) = lines_of (Settle {n = n} at) new in
+      let lines : List (Told n) = lines_of (Settle at) new in
       let now = settled-served new after places2 told1 told2 lines (refl) counts tells2 shape seeded going bound size leads in
       let h : ℕ → List (TimedEvent n m) = λ bank. now.0 bank ++ had.history bank in
       let counted : places2 ≡ length (events_in asked) = counts ∙ had.counted in
@@ -189,7 +189,7 @@ module _ {n m e : ℕ} (raw : RawShape) (seed : ℕ) (asked : List (Asked n)) (m
 
   -- so is a query
   pub serving-query : (at : ℕ) (new : ModuleState n m e) (after : ArrayState n m) (places2 : ℕ) (told1 told2 : List (Told n)) (shown2 : Shown) (snaps2 : List Snapshot)
-      → places2 ≡ places → (outcomes : List (ℕ × Outcome n)) → told1 ≡ told ++ became outcomes → ComeByBanks raw seed (events_in asked) raw.banks outcomes → told2 ≡ told1 ++ lines_of (Query {n = n} at) new
+      → places2 ≡ places → (outcomes : List (ℕ × Outcome n)) → told1 ≡ told ++ became outcomes → ComeByBanks raw seed (events_in asked) raw.banks outcomes → told2 ≡ told1 ++ lines_of (Query at) new
       → new.shape ≡ module_.shape → new.seed ≡ module_.seed → new.finished ≡ false → new.tick ≡ at → ((bank : ℕ) → bank < new.shape.banks → IsSomeAnd (slice_get new.banks bank) (IsAtTick at))
       → at ≤ latest_tick → new.rows_below ≡ module_.rows_below
       → length (table_of places2 told1) ≡ length (table_of places told)
@@ -198,7 +198,7 @@ module _ {n m e : ℕ} (raw : RawShape) (seed : ℕ) (asked : List (Asked n)) (m
       → shown2 ≡ shown → snaps2 ≡ snaps
       → (has : IsServing raw seed (Query at ∷ asked) new after places2 told2 shown2 snaps2) × (told_before (Query at) asked (told_so_far has) ≡ told_so_far had)
   serving-query at new after places2 told1 told2 shown2 snaps2 counts outcomes tells order tells2 shape seeded going tick settled in_time bound size leads shows snapped =
-      let lines : List (Told n) = lines_of (Query {n = n} at) new in
+      let lines : List (Told n) = lines_of (Query at) new in
       let now = settled-served new after places2 told1 told2 lines (query-no-outcome new at) counts tells2 shape seeded going bound size leads in
       let h : ℕ → List (TimedEvent n m) = λ bank. now.0 bank ++ had.history bank in
       let counted : places2 ≡ length (events_in asked) = counts ∙ had.counted in

@@ -3,7 +3,7 @@ mod Growing
 mod Standing
 pub mod Each
 mod Order
-mod Answering
+mod Backlogs
 mod Going
 pub mod Tables
 mod Ends

@@ -1,6 +1,6 @@
 use Rattle.std.proofs.Common.{[], ◌∷◌, ◌∙◌}
 use Rattle.row_printer.specs.declared.told.Told.TheVariants.{Settled}
-use Rattle.row_stream.{specs.Answering.banks_told, proofs.Answering.lines-both, proofs.Going.{banks-order, serving-query}}
+use Rattle.row_stream.{specs.Answering.banks_told, proofs.Backlogs.lines-both, proofs.Going.{banks-order, serving-query}}
 use Rattle.row_stream.proofs.answering.serve_query.Goals as goal
 
 pub returns-clause-serves : goal.returns-clause-serves

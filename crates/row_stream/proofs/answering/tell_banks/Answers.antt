@@ -1,7 +1,7 @@
-use Rattle.std.proofs.Common.{◌∙◌, refl, sym, ap, subst, arith}
+use Rattle.std.proofs.Common.{◌∙◌, refl, ap, arith}
 use Rattle.module_shape.specs.declared.raw.RawShape.{RawShape}
 use Rattle.bank_timing.proofs.Sizes.{timed_fits}
-use Rattle.row_stream.proofs.Answering.{told-more, told-none}
+use Rattle.row_stream.proofs.Backlogs.{told-more, told-none}
 use Rattle.row_stream.proofs.answering.tell_banks.Goals as goal
 
 pub loop-bank-init : goal.loop-bank-init
@@ -29,3 +29,6 @@ loop-bank-preserved g c =
       printing = λ behind first h. c.bank.ensures.printing behind first (before.printing behind first h);
       within = omega (arith, c.banks-bank-end.ensures.number, ap (λ (r : RawShape). r.banks) c.shape.ensures.shape);
     }
+
+pub look_at-requires : goal.look_at-requires
+look_at-requires g c = (timed_fits g.row.B g.row.M g.row.E c.requires.layout, c.requires.layout)
