@@ -75,6 +75,20 @@ enum pcm_kind {
     PCM_STORED, PCM_MERGED, PCM_QUEUED, PCM_FULL_QUEUE, PCM_WORN, PCM_READ, PCM_FORWARDED, PCM_BUSY, PCM_LOST, PCM_CUT, PCM_SETTLED
 };
 
+/* Whether a bank goes on. */
+enum pcm_mark {
+    PCM_GOING,     /* it does */
+    PCM_EXHAUSTED, /* a worn line of it found no spare: each write is refused as worn from then on */
+    PCM_HALTED     /* one of its control lines is worn: no line write is begun any more */
+};
+
+/* What waits in a bank. */
+struct pcm_bank {
+    uint32_t waiting_writes; /* the entries of its write queue, one that is in flight among them */
+    uint32_t waiting_reads;  /* one that is served among them */
+    enum pcm_mark mark;
+};
+
 struct pcm_outcome {
     enum pcm_kind kind;
     uint32_t row;       /* the row's number, from 1; 0 of PCM_SETTLED */
@@ -84,8 +98,8 @@ struct pcm_outcome {
     uint8_t bytes[PCM_MOST_BYTES];
 };
 
-/* The caller's own: what takes a row's text, its end among its `size` bytes, as it is sent: `op` is R, W, M, C or S. The rows but for S, behind
-   the header `tick,op,arg,data`, are a trace that plays the same again. The text is only lent. */
+/* The caller's own: what takes a row's text, its end among its `size` bytes, as it is sent: `op` is R, W, M, C, S or Q. The rows but for S and
+   Q, behind the header `tick,op,arg,data`, are a trace that plays the same again. The text is only lent. */
 typedef void (*pcm_logger)(void *context, char op, const char *row, size_t size);
 /* The caller's own: what takes an outcome, which is only lent. It calls nothing of this header. */
 typedef void (*pcm_taker)(void *context, const struct pcm_outcome *outcome);
@@ -96,7 +110,7 @@ struct pcm {
     uint32_t rows;         /* how many rows were sent: the number of the last one */
     uint32_t line_size;    /* the bytes of a line, by the words of pcm_open. Where the program was told so otherwise, the caller sets it; 0: any */
     uint64_t tick;         /* of the last row or settle */
-    uint32_t settles;      /* how many were sent whose PCM_SETTLED wasn't taken yet */
+    uint32_t settles;      /* how many were sent, pcm_ask's among them, whose PCM_SETTLED wasn't taken yet */
     pcm_logger log;        /* the caller's, from pcm_open on, which sets it to NULL: each row is handed to it, with `context` */
     void *context;
     size_t held, begin, end;
@@ -126,6 +140,8 @@ static inline enum pcm_result pcm_settle(struct pcm *pcm, uint64_t tick);
 /* The same in one call: it settles, and takes all that is known then. Each outcome but its own PCM_SETTLED is handed to `take` (NULL: it is
    dropped). It never answers PCM_FULL. */
 static inline enum pcm_result pcm_settle_all(struct pcm *pcm, uint64_t tick, pcm_taker take, void *context);
+/* The same, and what waits then in the first `count` banks is put into `banks`; where the module has fewer, the others stay as they are. */
+static inline enum pcm_result pcm_ask(struct pcm *pcm, uint64_t tick, struct pcm_bank *banks, size_t count, pcm_taker take, void *context);
 /* A write arrives (of a whole line where `given` is NULL), and is answered at once, by a settle at its tick: PCM_OK where it is accepted, so
    that it outlives every power cut; PCM_DECLINED where its bank's queue is full or the bank is worn. Every outcome that became known,
    a refusal of this write too, is handed to `take`, as by pcm_settle_all. It never answers PCM_FULL. */
@@ -311,7 +327,8 @@ static inline enum pcm_result pcm__row(struct pcm *pcm, uint64_t tick, char op, 
                                        size_t size)
 {
     static const char digits[] = "0123456789abcdef";
-    if (pcm->to < 0 || tick < pcm->tick || tick > PCM_LAST_TICK || (op != 'S' && pcm->rows >= PCM_LAST_ROW))
+    int settles = op == 'S' || op == 'Q';
+    if (pcm->to < 0 || tick < pcm->tick || tick > PCM_LAST_TICK || (!settles && pcm->rows >= PCM_LAST_ROW))
         return PCM_REFUSED;
     if (sizeof pcm->out - pcm->held < PCM_MOST_ROW) {
         enum pcm_result result = pcm_flush(pcm);
@@ -322,7 +339,7 @@ static inline enum pcm_result pcm__row(struct pcm *pcm, uint64_t tick, char op, 
     *at++ = ',';
     *at++ = op;
     *at++ = ',';
-    if (op != 'C' && op != 'S')
+    if (op != 'C' && !settles)
         at = pcm__put_number(at, line);
     *at++ = ',';
     for (size_t i = 0; i < size; i++) {
@@ -333,7 +350,7 @@ static inline enum pcm_result pcm__row(struct pcm *pcm, uint64_t tick, char op, 
     *at++ = '\n';
     pcm->held += (size_t)(at - row);
     pcm->tick = tick;
-    if (op == 'S')
+    if (settles)
         pcm->settles++;
     else
         pcm->rows++;
@@ -374,9 +391,10 @@ static inline enum pcm_result pcm_cut(struct pcm *pcm, uint64_t tick)
     return pcm__row(pcm, tick, 'C', 0, NULL, NULL, 0);
 }
 
-static inline enum pcm_result pcm_settle(struct pcm *pcm, uint64_t tick)
+/* Settles, or asks where `op` is Q. */
+static inline enum pcm_result pcm__settle(struct pcm *pcm, uint64_t tick, char op)
 {
-    enum pcm_result result = pcm__row(pcm, tick, 'S', 0, NULL, NULL, 0);
+    enum pcm_result result = pcm__row(pcm, tick, op, 0, NULL, NULL, 0);
     if (result != PCM_OK)
         return result;
     /* (the row is taken now: what the stream doesn't hold yet pcm_next hands over) */
@@ -384,20 +402,39 @@ static inline enum pcm_result pcm_settle(struct pcm *pcm, uint64_t tick)
     return result == PCM_FULL ? PCM_OK : result;
 }
 
-static inline enum pcm_result pcm_settle_all(struct pcm *pcm, uint64_t tick, pcm_taker take, void *context)
+static inline enum pcm_result pcm_settle(struct pcm *pcm, uint64_t tick)
+{
+    return pcm__settle(pcm, tick, 'S');
+}
+
+static inline enum pcm_result pcm__next(struct pcm *pcm, struct pcm_outcome *outcome, struct pcm_bank *banks, size_t count);
+
+/* Settles, or asks where `op` is Q, and takes all that is known then: what waits in a bank goes into `banks`. */
+static inline enum pcm_result pcm__settle_all(struct pcm *pcm, uint64_t tick, char op, struct pcm_bank *banks, size_t count, pcm_taker take,
+                                              void *context)
 {
     struct pcm_outcome outcome;
     enum pcm_result result;
-    while ((result = pcm_settle(pcm, tick)) == PCM_FULL && (result = pcm_next(pcm, &outcome)) == PCM_OK)
+    while ((result = pcm__settle(pcm, tick, op)) == PCM_FULL && (result = pcm_next(pcm, &outcome)) == PCM_OK)
         if (take != NULL)
             take(context, &outcome);
-    while (result == PCM_OK && (result = pcm_next(pcm, &outcome)) == PCM_OK) {
+    while (result == PCM_OK && (result = pcm__next(pcm, &outcome, banks, count)) == PCM_OK) {
         if (outcome.kind == PCM_SETTLED && pcm->settles == 0)
             break;
         if (take != NULL)
             take(context, &outcome);
     }
     return result;
+}
+
+static inline enum pcm_result pcm_settle_all(struct pcm *pcm, uint64_t tick, pcm_taker take, void *context)
+{
+    return pcm__settle_all(pcm, tick, 'S', NULL, 0, take, context);
+}
+
+static inline enum pcm_result pcm_ask(struct pcm *pcm, uint64_t tick, struct pcm_bank *banks, size_t count, pcm_taker take, void *context)
+{
+    return pcm__settle_all(pcm, tick, 'Q', banks, count, take, context);
 }
 
 /* What pcm_write_sure hands outcomes through: it looks for a refusal of its row. */
@@ -459,12 +496,33 @@ static inline int pcm__digit(char c)
     return c >= '0' && c <= '9' ? c - '0' : c >= 'a' && c <= 'f' ? c - 'a' + 10 : -1;
 }
 
-/* Reads the digits of a field, which may be empty, and its comma; NULL where it is none. */
-static inline const char *pcm__number(const char *at, uint64_t *number)
+/* Reads the digits of a field, which may be empty, and what ends it (a comma, or a space within a field); NULL where it is none. */
+static inline const char *pcm__number(const char *at, char end, uint64_t *number)
 {
     for (*number = 0; *at >= '0' && *at <= '9'; at++)
         *number = 10 * *number + (uint64_t)(*at - '0');
-    return *at == ',' ? at + 1 : NULL;
+    return *at == end ? at + 1 : NULL;
+}
+
+/* Reads what waits in a bank, behind the word of its line, and puts it where it is wanted. */
+static inline enum pcm_result pcm__bank(const char *at, struct pcm_bank *banks, size_t count)
+{
+    static const char *const words[] = {"going", "exhausted", "halted"};
+    uint64_t tick, bank, writes, reads;
+    int mark = 0;
+    if ((at = pcm__number(at, ',', &tick)) == NULL || (at = pcm__number(at, ',', &bank)) == NULL || (at = pcm__number(at, ' ', &writes)) == NULL
+        || (at = pcm__number(at, ' ', &reads)) == NULL)
+        return PCM_GARBLED;
+    while (mark <= PCM_HALTED && strcmp(at, words[mark]) != 0)
+        mark++;
+    if (mark > PCM_HALTED)
+        return PCM_GARBLED;
+    if (bank < count) {
+        banks[bank].waiting_writes = (uint32_t)writes;
+        banks[bank].waiting_reads = (uint32_t)reads;
+        banks[bank].mark = (enum pcm_mark)mark;
+    }
+    return PCM_OK;
 }
 
 /* Reads a line of the stream. */
@@ -473,11 +531,12 @@ static inline enum pcm_result pcm__outcome(const char *at, struct pcm_outcome *o
     static const char *const words[] = {"stored,", "merged,", "queued,", "full,", "worn,", "read,", "forwarded,", "busy,", "lost,", "cut,", "settled,"};
     uint64_t row, place;
     int kind = 0;
-    if ((at = pcm__number(at, &row)) == NULL)
+    if ((at = pcm__number(at, ',', &row)) == NULL)
         return PCM_GARBLED;
     while (kind <= PCM_SETTLED && strncmp(at, words[kind], strlen(words[kind])) != 0)
         kind++;
-    if (kind > PCM_SETTLED || (at = pcm__number(at + strlen(words[kind]), &outcome->tick)) == NULL || (at = pcm__number(at, &place)) == NULL)
+    if (kind > PCM_SETTLED || (at = pcm__number(at + strlen(words[kind]), ',', &outcome->tick)) == NULL
+        || (at = pcm__number(at, ',', &place)) == NULL)
         return PCM_GARBLED;
     outcome->kind = (enum pcm_kind)kind;
     outcome->row = (uint32_t)row;
@@ -491,21 +550,31 @@ static inline enum pcm_result pcm__outcome(const char *at, struct pcm_outcome *o
     return PCM_OK;
 }
 
-static inline enum pcm_result pcm_next(struct pcm *pcm, struct pcm_outcome *outcome)
+/* The next outcome; what waits in the first `count` banks, where that comes before it, goes into `banks`. */
+static inline enum pcm_result pcm__next(struct pcm *pcm, struct pcm_outcome *outcome, struct pcm_bank *banks, size_t count)
 {
     enum pcm_result result = pcm_flush(pcm);
-    const char *line;
     if (result == PCM_FAILED)
         return result;
-    do {
-        line = pcm__line(pcm, &result);
+    for (;;) {
+        const char *line = pcm__line(pcm, &result);
         if (line == NULL)
             return result;
-    } while (strncmp(line, "row,", 4) == 0);
-    result = pcm__outcome(line, outcome);
-    if (result == PCM_OK && outcome->kind == PCM_SETTLED && pcm->settles > 0)
-        pcm->settles--;
-    return result;
+        int is_bank = strncmp(line, ",bank,", 6) == 0;
+        if (strncmp(line, "row,", 4) == 0)
+            continue;
+        result = is_bank ? pcm__bank(line + 6, banks, count) : pcm__outcome(line, outcome);
+        if (result == PCM_OK && is_bank)
+            continue;
+        if (result == PCM_OK && outcome->kind == PCM_SETTLED && pcm->settles > 0)
+            pcm->settles--;
+        return result;
+    }
+}
+
+static inline enum pcm_result pcm_next(struct pcm *pcm, struct pcm_outcome *outcome)
+{
+    return pcm__next(pcm, outcome, NULL, 0);
 }
 
 static inline enum pcm_result pcm_finish(struct pcm *pcm)

@@ -168,7 +168,7 @@ static char logged[4096];
 static void keep(void *context, char op, const char *row, size_t size)
 {
     size_t at = strlen((char *)context);
-    if (op != 'S') {
+    if (op != 'S' && op != 'Q') {
         memcpy((char *)context + at, row, size);
         ((char *)context)[at + size] = 0;
     }
@@ -207,6 +207,48 @@ static void writes_are_answered_at_once(const char *const words[], int count)
     check(strstr(logged, "\n100,R,2,\n") != NULL && strchr(logged, 'S') == NULL, "all of them, in order");
     check(pcm_open(&pcm, narrow) == PCM_OK && pcm_read(&pcm, 0, 99999) == PCM_OK, "a fault");
     check(pcm_write_sure(&pcm, 0, 0, bytes, NULL, 64, take, &taken) == PCM_ENDED && pcm_close(&pcm) == 3, "is told by the next answer");
+}
+
+static void what_waits_in_each_bank_is_told(const char *const words[], int count)
+{
+    static struct pcm pcm;
+    struct pcm_bank banks[3] = {{9, 9, PCM_HALTED}, {9, 9, PCM_HALTED}, {9, 9, PCM_HALTED}};
+    const char *two[20] = {0};
+    uint8_t bytes[64] = {1};
+    for (int i = 0; i < count; i++)
+        two[i] = words[i];
+    two[count] = "--banks=2";
+    memset(&taken, 0, sizeof taken);
+    check(pcm_open(&pcm, two) == PCM_OK, "two banks");
+    check(pcm_write(&pcm, 0, 0, bytes, 64) == PCM_OK && pcm_read(&pcm, 3, 4) == PCM_OK && pcm_read(&pcm, 3, 0) == PCM_OK, "a write and two reads");
+    check(pcm_ask(&pcm, 4, banks, 3, take, &taken) == PCM_OK && pcm.rows == 3, "a question has no number");
+    check(taken.count == 1 && taken.kinds[0] == PCM_FORWARDED && taken.settled == 0, "what is known by then is told");
+    check(banks[0].waiting_writes == 1 && banks[0].waiting_reads == 0 && banks[0].mark == PCM_GOING, "a write waits in the first bank");
+    check(banks[1].waiting_writes == 0 && banks[1].waiting_reads == 1 && banks[1].mark == PCM_GOING, "and a read in the second");
+    check(banks[2].waiting_writes == 9 && banks[2].mark == PCM_HALTED, "there is no third one");
+    check(pcm_ask(&pcm, 1000, banks, 1, NULL, NULL) == PCM_OK && banks[0].waiting_writes == 0 && banks[1].waiting_reads == 1, "of one bank alone");
+    check(pcm_ask(&pcm, 999, banks, 2, NULL, NULL) == PCM_REFUSED, "a tick that falls is refused");
+    check(pcm_finish(&pcm) == PCM_OK && pcm_close(&pcm) == 0, "status 0");
+}
+
+static void a_bank_without_a_spare_is_exhausted(const char *const words[], int count)
+{
+    static struct pcm pcm;
+    struct pcm_bank bank = {0, 0, PCM_GOING};
+    const char *worn[20] = {0};
+    const char *more[] = {"--spares", "0", "--lo", "1", "--hi", "1"};
+    uint8_t bytes[64];
+    for (int i = 0; i < count; i++)
+        worn[i] = words[i];
+    for (int i = 0; i < 6; i++)
+        worn[count + i] = more[i];
+    check(pcm_open(&pcm, worn) == PCM_OK, "cells of one change");
+    for (int i = 0; i < 8; i++) {
+        memset(bytes, i % 2 ? 0xff : 0, 64);
+        check(pcm_write(&pcm, 1000 * (uint64_t)i, 0, bytes, 64) == PCM_OK, "a write");
+    }
+    check(pcm_ask(&pcm, 9000, &bank, 1, NULL, NULL) == PCM_OK && bank.mark == PCM_EXHAUSTED && bank.waiting_writes > 0, "the bank is exhausted");
+    check(pcm_finish(&pcm) == PCM_OK && pcm_close(&pcm) == 1, "status 1");
 }
 
 /* PCM_FULL comes where so many bytes wait as the header says, and never by the calls that take answers themselves. */
@@ -274,6 +316,8 @@ int main(int count, char **words)
     faults_are_told(all);
     arguments_are_looked_at(all, n);
     writes_are_answered_at_once(all, n);
+    what_waits_in_each_bank_is_told(all, n);
+    a_bank_without_a_spare_is_exhausted(all, n);
     full_has_its_bound(all);
     a_group_of_its_own();
     standard_descriptors_may_be_closed(all);

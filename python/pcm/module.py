@@ -8,7 +8,7 @@ from types import TracebackType
 from typing import Deque, Iterator, List, Optional, Sequence, Type
 
 from .errors import PcmError, UsageError, error_of
-from .outcomes import Outcome, Settled, told_of
+from .outcomes import Backlog, Outcome, Settled, told_of
 from .program import Program, command, words_of
 from .progress import Progress
 from .rows import HEADER
@@ -39,6 +39,7 @@ class Module:
         self._out = bytearray(HEADER.encode())
         self._known: Deque[Outcome] = collections.deque()
         self._settled: Optional[int] = None
+        self._backlogs: List[Backlog] = []
         self.status: Optional[int] = None
         self._options = words_of(options)
         words = [*command("stream", program), *self._options]
@@ -74,14 +75,15 @@ class Module:
 
     def settle(self, tick: int) -> List[Outcome]:
         """Every bank goes on to a tick. Answers all outcomes known by then that weren't answered before."""
-        self._gather(f"{tick},S,,\n")
-        self._settled = None
-        while self._settled is None:
-            if self._ended:
-                raise self._fail()
-            self._pump(wait=True)
-        self._progress.clear()
+        self._settle(f"{tick},S,,\n")
         return self._take()
+
+    def banks(self, tick: int) -> List[Backlog]:
+        """Every bank goes on to a tick. Answers what waits in each then, in order, and whether it goes on; outcomes known by then come from the
+        next `settle`, `outcomes` or `finish`."""
+        self._backlogs = []
+        self._settle(f"{tick},Q,,\n")
+        return self._backlogs
 
     def outcomes(self) -> Iterator[Outcome]:
         """The outcomes that have come by now and weren't answered before. It doesn't wait."""
@@ -126,6 +128,16 @@ class Module:
                 self.finish()
         finally:
             self.close()
+
+    def _settle(self, text: str) -> None:
+        """Hands a row that settles in, and waits for its answer."""
+        self._gather(text)
+        self._settled = None
+        while self._settled is None:
+            if self._ended:
+                raise self._fail()
+            self._pump(wait=True)
+        self._progress.clear()
 
     def _gather(self, text: str) -> None:
         if not self._takes_rows:
@@ -193,6 +205,8 @@ class Module:
                 raise PcmError(None, f"not a line of a stream: {line[:80]!r}") from None
             if isinstance(told, Settled):
                 self._settled = told.tick
+            elif isinstance(told, Backlog):
+                self._backlogs.append(told)
             elif told is not None:
                 self._known.append(told)
                 self._answered += 1

@@ -99,6 +99,20 @@ class Settled:
     tick: int
 
 
+@dataclass(frozen=True)
+class Backlog:
+    """What waits in a bank (`bank`, from 0), which has gone on to `tick`: the `writes` of its queue, one that is in flight among them, and the
+    `reads`, one that is served among them. `mark` is `going`, or `exhausted` (a worn line found no spare: each write is refused as worn from
+    then on), or `halted` (a control line is worn: no line write is begun any more)."""
+
+    tick: int
+    bank: int
+    writes: int
+    reads: int
+    mark: str
+
+
+_MARKS = ("going", "exhausted", "halted")
 _BY_WORD: Dict[str, Type[Outcome]] = {it.word: it for it in (Stored, Merged, Queued, Full, Worn, Read, Forwarded, Busy, Lost, Cut)}
 
 
@@ -114,11 +128,20 @@ def outcome_of(word: str, row: int, tick: int, place: str, data: str) -> Outcome
     return kind(row, tick)
 
 
-def told_of(line: str) -> Optional["Outcome | Settled"]:
-    """What a line of a stream tells: an outcome, or that the module has settled; nothing for the header."""
+def _backlog_of(tick: int, bank: int, data: str) -> Backlog:
+    writes, reads, mark = data.split(" ")
+    if mark not in _MARKS:
+        raise ValueError(mark)
+    return Backlog(tick, bank, int(writes), int(reads), mark)
+
+
+def told_of(line: str) -> Optional["Outcome | Backlog | Settled"]:
+    """What a line of a stream tells: an outcome, what waits in a bank, or that the module has settled; nothing for the header."""
     row, word, tick, place, data = line.rstrip("\n").split(",")
     if word == "settled":
         return Settled(int(tick))
+    if word == "bank":
+        return _backlog_of(int(tick), int(place), data)
     if row == "row":
         return None
     return outcome_of(word, int(row), int(tick), place, data)

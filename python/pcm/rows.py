@@ -62,7 +62,17 @@ class Settle:
         return f"{self.tick},S,,\n"
 
 
-Row = Union[Read, Write, MaskedWrite, PowerCut, Settle]
+@dataclass(frozen=True)
+class Query:
+    """Every bank goes on to a tick, and what waits in each then is told. A row of streams alone, without a number."""
+
+    tick: int
+
+    def text(self) -> str:
+        return f"{self.tick},Q,,\n"
+
+
+Row = Union[Read, Write, MaskedWrite, PowerCut, Settle, Query]
 
 
 def write_trace(rows: Iterable[Row], file: IO[str]) -> int:
@@ -105,13 +115,13 @@ def _row_of(fields: Sequence[str]) -> Row:
     if len(fields) != 4:
         raise ValueError("fields")
     op, data = fields[1], fields[3]
-    if op not in ("R", "W", "M", "C", "S"):
+    if op not in ("R", "W", "M", "C", "S", "Q"):
         raise ValueError("op")
     tick = _natural("tick", fields[0])
-    if op in ("C", "S"):
+    if op in ("C", "S", "Q"):
         if fields[2] or data:
             raise ValueError("line" if fields[2] else "payload")
-        return PowerCut(tick) if op == "C" else Settle(tick)
+        return PowerCut(tick) if op == "C" else Settle(tick) if op == "S" else Query(tick)
     line = _natural("line", fields[2])
     form = {"R": "", "W": "(?:[0-9a-fA-F]{2})+", "M": r"(?:[0-9a-fA-F]{2}|\.\.)+"}[op]
     if not re.fullmatch(form, data):

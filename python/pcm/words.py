@@ -331,11 +331,11 @@ def _wrong_field(record: List[str], last: Tuple[int, int], shape: Tuple[int, int
         return "tick", f"the first field must be a tick, 0 to {LATEST_TICK} in digits, and is {_shown(tick)}"
     if int(tick) < last[0]:
         return "order", f"its tick {int(tick)} is below {last[0]}, the tick of the row before (line {last[1]})"
-    ops = ["R", "W", "M", "C", *["S"] * streams]
+    ops = ["R", "W", "M", "C", *["S", "Q"] * streams]
     if op not in ops:
-        why = " (S, a settle, is a stream's alone)" if op == "S" else ""
+        why = {"S": " (S, a settle, is a stream's alone)", "Q": " (Q, a query, is a stream's alone)"}.get(op, "")
         return "op", f"the second field must be {either(ops)}, and is {_shown(op)}{why}"
-    if op in ("C", "S"):
+    if op in ("C", "S", "Q"):
         if arg:
             return "line", f"the third field of {op} must be empty, and is {_shown(arg)}"
         return ("payload", _wrong_payload(op, data, size)) if data else None
@@ -363,7 +363,7 @@ def _faulty_row(path: str, row: int, kind: str, words: Sequence[str]) -> Optiona
             if kind == "fields" and len(record) == 7 and words[:1] in (["check"], ["explain"]):
                 told += f"; results begin behind a line that is exactly {RESULTS}, ended by LF, not CRLF"
             return f"line {begins}: {told}"
-        number += not (shape[2] and record[1] == "S")
+        number += not (shape[2] and record[1] in ("S", "Q"))
         last = int(record[0]), begins
     return "the file is empty: a trace begins with " + ",".join(HEADER) if row == 0 else None
 

@@ -222,7 +222,7 @@ class Latencies(Room):
         faulty = self.file("faulty", given.replace(b",R,", b",X,", 1))
         status, _, err = self.told(latencies, "--run", faulty)
         self.assertEqual(3, status)
-        self.assertIn("the second field must be R, W, M, C or S", err)
+        self.assertIn("the second field must be R, W, M, C, S or Q", err)
 
     def test_no_compiler_is_no_hindrance(self):
         with mock.patch("shutil.which", lambda name: None), latencies.compiled() as built:

@@ -118,6 +118,21 @@ class Streams(unittest.TestCase):
             self.assertEqual([pcm.ReadOutcome(3, 25, 3, ONES)], module.finish())
             self.assertEqual(0, module.status)
 
+    def test_what_waits_in_each_bank_is_told(self):
+        with pcm.Module(**{**SMALL, "banks": 2}) as module:
+            module.write(0, 0, ONES)
+            module.read(3, 4)
+            self.assertEqual([(0, 1, 0), (1, 0, 1)], [(bank.bank, bank.writes, bank.reads) for bank in module.banks(4)])
+            self.assertEqual([pcm.Backlog(15, 0, 0, 0, "going"), pcm.Backlog(15, 1, 0, 0, "going")], module.banks(15))
+            self.assertEqual([2, 1], [outcome.row for outcome in module.outcomes()])
+
+    def test_a_bank_without_a_spare_is_exhausted(self):
+        with pcm.Module(**{**SMALL, "spares": 0, "lo": 1, "hi": 1}) as module:
+            for row in range(8):
+                module.write(1000 * row, 0, bytes([255 * (row % 2)]) * 64)
+            self.assertEqual(["exhausted"], [bank.mark for bank in module.banks(9000)])
+            self.assertIn(pcm.Worn, [type(outcome) for outcome in module.finish()])
+
     def test_a_power_cut_loses_reads_and_no_write(self):
         with pcm.Module(**SMALL) as module:
             module.write_masked(0, 0, [7] + [None] * 63)

@@ -6,7 +6,7 @@ use Rattle.module_shape.specs.{Limits.IsShape, declared.raw.RawShape.RawShape}
 use Rattle.run_laws.specs.FinishedLaws.{LinesLaw}
 use Rattle.row_printer.specs.{Printing.table_of, Telling.became, declared.told.Told.Told}
 use Rattle.trace_stream.specs.{Asked.events_in, declared.asked.Asked.Asked}
-use Rattle.row_stream.specs.Serving.{AreKnown, TellsAlong, line_of}
+use Rattle.row_stream.specs.Serving.{AreKnown, TellsAlong, lines_of}
 use Rattle.moment_laws.{specs.Moments.{AlongLaw, MomentLaw, WasMoment}, specs.Streams.{BegunStreamLaw, WholeStreamLaw}, proofs.Moment.{by-history, by-rows, all-queued}}
 
 pub moment_law : LinesLaw → MomentLaw
@@ -57,10 +57,10 @@ module _ {n m : ℕ} (e : ℕ) (raw : RawShape) (seed : ℕ) where
 
     pub each_moment : (row : Asked n) (later before : List (Asked n)) (h : ℕ → List (TimedEvent n m)) (told : List (Told n))
         → TellsAlong e raw seed (later ++ row ∷ before) h told → WasMoment e raw seed (events_in (row ∷ before)) h told
-    each_moment row [] before h told along = known row before h told along.8
+    each_moment row [] before h told along = known row before h told along.7
     each_moment row (last ∷ later) before h told along =
-        went_on (events_in (row ∷ before)) along.0 h along.3 along.1 told (became along.5 ++ line_of last)
-        (λ bank. ap (λ (h : ℕ → List (TimedEvent n m)). h bank) along.4) (along.6 ∙ append_assoc along.1 (became along.5) (line_of last))
+        went_on (events_in (row ∷ before)) along.0 h along.3 along.1 told (became along.5 ++ lines_of last along.7.module_)
+        (λ bank. ap (λ (h : ℕ → List (TimedEvent n m)). h bank) along.4) (along.8 ∙ append_assoc along.1 (became along.5) (lines_of last along.7.module_))
         (each_moment row later before along.0 along.1 along.2)
 
 pub along_law : MomentLaw → AlongLaw

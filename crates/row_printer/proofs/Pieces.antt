@@ -1,7 +1,11 @@
 -- How a row is put together.
-use Rattle.std.proofs.Common.{◌≡◌, ℕ, List, [], ◌∷◌, ◌++◌, append_assoc}
-use Rattle.std.specs.{List.join_with_byte, Prelude.codes}
-use Rattle.pcm_io.specs.Reserved.{Reserved, appended}
+use Rattle.std.proofs.Common.{◌≡◌, ℕ, ◌^◌, ◌<◌, ◌≤◌, List, [], ◌∷◌, ◌++◌, length, append_assoc, arith}
+use Rattle.std.specs.{List.join_with_byte, Prelude.{codes, decimal}}
+use Rattle.pcm_io.{specs.Reserved.{Reserved, appended}, proofs.DigitLemmas.five_digits}
+
+-- how many digits a number of 16 bits has
+pub few_digits : (n : ℕ) → n < 2 ^ 16 → length (decimal n) ≤ 5
+few_digits n bound = five_digits n (omega (arith, bound))
 
 -- a row's number and a comma, and then four fields and LF
 pub pieces-told : (t : Reserved) (a d e f g : List ℕ) →
@@ -21,3 +25,9 @@ pub pieces-snapshot : (t : Reserved) (a b counts d e f g h k : List ℕ) →
     (g ++ codes ",")) (h ++ codes ",")) k) (codes "\n")
     ≡ appended t (a ++ codes "," ++ b ++ codes "," ++ counts ++ join_with_byte 44 (d ∷ e ∷ f ∷ g ∷ h ∷ k ∷ []) ++ codes "\n")
 pieces-snapshot t a b counts d e f g h k = simp append_assoc
+
+-- the line of a bank, whose mark has a word of its own
+pub pieces-bank : (t : Reserved) (a b d e word : List ℕ) →
+    appended (appended (appended (appended (appended (appended (appended t (codes ",bank,")) (a ++ codes ",")) (b ++ codes ",")) (d ++ codes " ")) (e ++ codes " ")) word) (codes "\n")
+    ≡ appended t (codes ",bank," ++ a ++ codes "," ++ b ++ codes "," ++ d ++ codes " " ++ e ++ codes " " ++ word ++ codes "\n")
+pieces-bank t a b d e word = simp append_assoc

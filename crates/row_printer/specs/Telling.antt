@@ -1,7 +1,9 @@
--- The lines of a stream, which tells what became of each row of a trace as soon as that is known, and each tick to which the banks came.
+-- The lines of a stream, which tells what became of each row of a trace as soon as that is known, each tick to which the banks came, and what
+-- waited in each then, where that was asked.
 use Rattle.std.specs.{List.join_with_byte, Prelude.{◌≡◌, ℕ, ◌≤◌, ◌==◌, ◌||◌, Bool, false, IsTrue, is_some, List, [], ◌∷◌, ◌++◌, codes, decimal}}
 use Rattle.result_rows.specs.{Outcomes.op_of, RowText.outcome_fields, Table.with_outcome, declared.Outcome.Outcome}
-use Rattle.row_printer.specs.{declared.told.Told.Told, declared.told.Told.TheVariants.{Became, Settled}}
+use Rattle.row_printer.specs.{declared.told.Backlog.Backlog, declared.told.Mark.Mark, declared.told.Mark.TheVariants.{Going, Exhausted, Halted}}
+use Rattle.row_printer.specs.{declared.told.Told.Told, declared.told.Told.TheVariants.{Became, Bank, Settled}}
 
 -- the first line of a stream
 abbrev pub told_header : List ℕ
@@ -11,6 +13,18 @@ told_header = codes "row,outcome,tick,place,data\n"
 abbrev pub settled_row : ℕ → List ℕ
 settled_row tick = codes ",settled," ++ decimal tick ++ codes ",,\n"
 
+-- the word of a mark
+abbrev pub mark_word : Mark → List ℕ
+mark_word Going = codes "going"
+mark_word Exhausted = codes "exhausted"
+mark_word Halted = codes "halted"
+
+-- the line of a bank at a tick: its number, the writes and the reads that wait there, and its mark
+abbrev pub bank_row : ℕ → Backlog → List ℕ
+bank_row tick backlog =
+    codes ",bank," ++ decimal tick ++ codes "," ++ decimal backlog.bank ++ codes "," ++ decimal backlog.writes ++ codes " " ++ decimal backlog.reads
+    ++ codes " " ++ mark_word backlog.mark ++ codes "\n"
+
 module _ {n : ℕ} where
   -- the line of one outcome: the row's number, and what became of it
   abbrev pub told_row : ℕ → Outcome n → List ℕ
@@ -19,6 +33,7 @@ module _ {n : ℕ} where
   -- a line
   abbrev pub told_line : Told n → List ℕ
   told_line (Became row outcome) = told_row row outcome
+  told_line (Bank tick backlog) = bank_row tick backlog
   told_line (Settled tick) = settled_row tick
 
   -- the lines, in the order in which they were told
@@ -30,6 +45,7 @@ module _ {n : ℕ} where
   abbrev pub outcomes_in : List (Told n) → List (ℕ × Outcome n)
   outcomes_in [] = []
   outcomes_in (Became row outcome ∷ told) = (row, outcome) ∷ outcomes_in told
+  outcomes_in (Bank tick backlog ∷ told) = outcomes_in told
   outcomes_in (Settled tick ∷ told) = outcomes_in told
 
   -- outcomes as lines

@@ -9,4 +9,4 @@ mod told;
 pub use printer::RowPrinter;
 pub use snapshot::{Snapshot, print_snapshot, snapshots_header};
 pub use text::{print_told, stream_header};
-pub use told::{Shown, Told};
+pub use told::{Backlog, Mark, Shown, Told};

@@ -10,7 +10,7 @@ ghost use Rattle.result_rows.specs.Table.{HasRow, outcome_at, with_outcome};
 ghost use Rattle.run_text.specs.Counting.{counts_of};
 ghost use Rattle.run_text.specs.Shortfall.{any_short};
 ghost use Rattle.row_printer.specs.declared.told.Told.{Told as Line};
-ghost use Rattle.row_printer.specs.declared.told.Told.TheVariants.{Settled};
+ghost use Rattle.row_printer.specs.declared.told.Told.TheVariants.{Bank, Settled};
 ghost use Rattle.row_printer.specs.Telling.{outcomes_in, TellsOnce};
 ghost use Rattle.row_printer.specs.declared.snapshot.Snapshot.{Snapshot as Taken};
 ghost use Rattle.row_printer.specs.Snapshots.{IsShown, is_due, takes_snapshots};
@@ -19,7 +19,7 @@ ghost use Rattle.row_printer.specs.Printing.{IsPrinting, Prints, PrintsOn, strea
 
 use crate::snapshot::{Snapshot, print_snapshot, snapshots_header};
 use crate::text::{print_told, stream_header};
-use crate::told::{Shown, Told};
+use crate::told::{Backlog, Shown, Told};
 use ghost_list::GhostList;
 use pcm_io::{Sink, Text, WriteFault};
 use result_rows::Outcome;
@@ -119,6 +119,27 @@ impl<const B: usize, S: Sink + Drop> RowPrinter<B, S> {
             → IsPrinting S.written S.faults before first self.new }
     {
         let line = Told::Settled(tick);
+        self.broken = print_line(
+            &line,
+            self.prints,
+            self.broken,
+            &mut self.text,
+            &mut *self.sink,
+        );
+        self.told = self.told.and(&line);
+    }
+
+    /// Tells what waits in a bank, which has come to a tick.
+    pub fn bank(&mut self, tick: u64, backlog: Backlog)
+        ensures rows { self.new.rows ≡ self.old.rows }
+        ensures told { self.new.told ≡ self.old.told ++ Bank tick backlog ∷ [] }
+        ensures snapshots { self.new.snapshots ≡ self.old.snapshots }
+        ensures prints { self.new.prints ≡ self.old.prints }
+        ensures printing { (before : Option (List ℕ)) (first : ℕ)
+            → IsPrinting S.written S.faults before first self.old
+            → IsPrinting S.written S.faults before first self.new }
+    {
+        let line = Told::Bank(tick, backlog);
         self.broken = print_line(
             &line,
             self.prints,

@@ -1,5 +1,5 @@
 -- How a row of a stream is served.
-use Rattle.std.proofs.Common.{◌≡◌, ℕ, ◌+◌, ◌<◌, ◌≤◌, false, List, [], ◌∷◌, ◌++◌, length, refl, sym, ap, ◌∙◌, subst, arith, replicate, true, Option}
+use Rattle.std.proofs.Common.{◌≡◌, ℕ, zero, suc, ◌+◌, ◌<◌, ◌≤◌, false, List, [], ◌∷◌, ◌++◌, length, refl, sym, ap, ◌∙◌, subst, arith, replicate, true, Option}
 use Rattle.std.{proofs.lemmas.List.{append-nil, length_push}, specs.Prelude.{IsSomeAnd, slice_get}}
 use Rattle.cell_rows.specs.Device.{ArrayState}
 use Rattle.trace_reader.specs.{Rows.latest_tick, declared.event.Event.Event}
@@ -8,21 +8,24 @@ use Rattle.bank_model.specs.Timing.{TimedEvent}
 use Rattle.module_shape.specs.declared.raw.RawShape.{RawShape}
 use Rattle.module_laws.specs.Asking.{Asked as AskedRow}
 use Rattle.bank_timing.specs.Extending.{IsOpen}
-use Rattle.pcm_module.specs.{Asking.{asked_by, asked_for}, Replaying.Replays, Settling.IsAtTick, State.{ModuleState, AreEndsOf}}
+use Rattle.pcm_module.specs.{Asking.{asked_by, asked_for}, Replaying.Replays, Settling.IsAtTick, State.{ModuleState, AreEndsOf, bank_at}}
 use Rattle.pcm_module.{specs.Telling.{TellsByBanks, TellsInOrder, is_asked_of, rows_at, rows_taking}, proofs.Asked.{standing_asked, taking_asked}}
 use Rattle.right_runs.specs.{Banks.bank_of_line, Ends.BankEnd}
 use Rattle.trace_rows.specs.Rows.{asks_of}
 use Rattle.row_printer.specs.{Printing.{Printing, PrintsOn, table_of, table_told}, Snapshots.{AddsDue, is_due}, Telling.{became, outcomes_in, recorded, TellsOnce}}
-use Rattle.row_printer.specs.{declared.snapshot.Snapshot.Snapshot, declared.told.Shown.Shown, declared.told.Told.Told, declared.told.Told.TheVariants.{Became, Settled}}
-use Rattle.trace_stream.specs.{Asked.events_in, declared.asked.Asked.Asked, declared.asked.Asked.TheVariants.{Happens, Settle}}
-use Rattle.row_stream.specs.{Looking.IsSnapshot, Serving.{ComeBehind, ComeByBanks, ComeInOrder, HasServed, IsServing, SnapsAlong, told_before, told_so_far}}
+use Rattle.row_printer.specs.{declared.snapshot.Snapshot.Snapshot, declared.told.Shown.Shown, declared.told.Told.Told, declared.told.Told.TheVariants.{Bank, Settled}}
+use Rattle.trace_stream.specs.{Asked.events_in, declared.asked.Asked.Asked, declared.asked.Asked.TheVariants.{Happens, Settle, Query}}
+use Rattle.row_printer.proofs.Telling.{outcomes-same}
+use Rattle.row_stream.specs.{Answering.{backlog_of, banks_told}, Looking.IsSnapshot, Serving.{ComeBehind, ComeByBanks, ComeInOrder, HasServed, IsServing, SnapsAlong, lines_of, told_before, told_so_far}}
 use Rattle.row_stream.proofs.{Growing.{none, longer, open-last, replays-longer}, Order.{ToldSo, come-by-banks, come-in-order}, Standing.ends-now}
 
--- a line that answers a settle tells no outcome
-outcomes-settled : {n : ℕ} (told : List (Told n)) (tick : ℕ) → outcomes_in (told ++ Settled tick ∷ []) ≡ outcomes_in told
-outcomes-settled [] tick = refl
-outcomes-settled (Became row outcome ∷ told) tick = ap (λ rest. (row, outcome) ∷ rest) (outcomes-settled told tick)
-outcomes-settled (Settled at ∷ told) tick = outcomes-settled told tick
+-- the lines that answer a query tell no outcome
+banks-no-outcome : {n m e : ℕ} (module_ : ModuleState n m e) (tick banks : ℕ) → outcomes_in (banks_told module_ tick banks) ≡ []
+banks-no-outcome module_ tick zero = refl
+banks-no-outcome module_ tick (suc bank) = outcomes-same (banks_told module_ tick bank) (Bank tick (backlog_of bank (bank_at module_ bank)) ∷ []) refl ∙ banks-no-outcome module_ tick bank
+
+query-no-outcome : {n m e : ℕ} (module_ : ModuleState n m e) (tick : ℕ) → outcomes_in (lines_of (Query tick) module_) ≡ []
+query-no-outcome module_ tick = outcomes-same (banks_told module_ tick module_.shape.banks) (Settled tick ∷ []) refl ∙ banks-no-outcome module_ tick module_.shape.banks
 
 module _ {n m e : ℕ} (raw : RawShape) (seed : ℕ) (asked : List (Asked n)) (module_ : ModuleState n m e) (array : ArrayState n m) (places : ℕ) (told : List (Told n)) (shown : Shown) (snaps : List Snapshot)
     (had : IsServing raw seed asked module_ array places told shown snaps) where
@@ -112,7 +115,7 @@ module _ {n m e : ℕ} (raw : RawShape) (seed : ℕ) (asked : List (Asked n)) (m
       subst (B (length (event ∷ events_in asked)) event.tick) snapped (subst (λ at. B (length (event ∷ events_in asked)) at snaps1) tick (subst (λ k. B k new.tick snaps1) counted (adds ends.0 ends.1))) in (
         record {
           history = h;
-          along = (had.history, told, had.along, led.0, refl, outcomes, tells ∙ sym (append-nil (told ++ became outcomes)), order, record { module_ = new; array = after; served = subst Q counted served; tick = tick; settled = tt });
+          along = (had.history, told, had.along, led.0, refl, outcomes, order, record { module_ = new; array = after; served = subst Q counted served; tick = tick; settled = tt }, tells ∙ sym (append-nil (told ++ became outcomes)));
           snaps = (snaps, subst A (sym shows) had.snaps, added);
           served = served;
           counted = counted;
@@ -122,23 +125,19 @@ module _ {n m e : ℕ} (raw : RawShape) (seed : ℕ) (asked : List (Asked n)) (m
         refl {a = told_so_far had},
       )
 
-  -- so is a settle
-  pub serving-settle : (at : ℕ) (new : ModuleState n m e) (after : ArrayState n m) (places2 : ℕ) (told1 told2 : List (Told n)) (shown2 : Shown) (snaps2 : List Snapshot)
-      → places2 ≡ places → (outcomes : List (ℕ × Outcome n)) → told1 ≡ told ++ became outcomes → ComeByBanks raw seed (events_in asked) raw.banks outcomes → told2 ≡ told1 ++ Settled at ∷ []
-      → new.shape ≡ module_.shape → new.seed ≡ module_.seed → new.finished ≡ false → new.tick ≡ at → ((bank : ℕ) → bank < new.shape.banks → IsSomeAnd (slice_get new.banks bank) (IsAtTick at))
-      → at ≤ latest_tick → new.rows_below ≡ module_.rows_below
+  -- behind a settle, whatever lines answer it that tell no outcome, no event more was handed in
+  settled-served : (new : ModuleState n m e) (after : ArrayState n m) (places2 : ℕ) (told1 told2 lines : List (Told n))
+      → outcomes_in lines ≡ [] → places2 ≡ places → told2 ≡ told1 ++ lines → new.shape ≡ module_.shape → new.seed ≡ module_.seed → new.finished ≡ false → new.rows_below ≡ module_.rows_below
       → length (table_of places2 told1) ≡ length (table_of places told)
       → ((h : ℕ → List (TimedEvent n m)) (rows : List (AskedRow n)) → Replays h rows module_ array (table_of places told)
       → (added : ℕ → List (TimedEvent n m)) × Replays (λ bank. added bank ++ h bank) rows new after (table_of places2 told1))
-      → shown2 ≡ shown → snaps2 ≡ snaps
-      → (has : IsServing raw seed (Settle at ∷ asked) new after places2 told2 shown2 snaps2) × (told_before (Settle at) asked (told_so_far has) ≡ told_so_far had)
-  serving-settle at new after places2 told1 told2 shown2 snaps2 counts outcomes tells order tells2 shape seeded going tick settled in_time bound size leads shows snapped =
+      → (added : ℕ → List (TimedEvent n m)) × HasServed raw seed (events_in asked) (λ bank. added bank ++ had.history bank) new after (table_of places2 told2)
+  settled-served new after places2 told1 told2 lines silent counts tells2 shape seeded going bound size leads =
       let led = leads had.history (asked_for (events_in asked)) had.served.replays in
       let h : ℕ → List (TimedEvent n m) = λ bank. led.0 bank ++ had.history bank in
-      let counted : places2 ≡ length (events_in asked) = counts ∙ had.counted in
       let same : table_of places2 told1 ≡ table_of places2 told2 =
       let P : List (Told n) → Type 0 = λ t. table_of places2 told1 ≡ table_of places2 t in
-      subst P (sym tells2) (ap (λ (o : List (ℕ × Outcome n)). recorded o (replicate places2 (none {n = n}))) (sym (outcomes-settled told1 at))) in
+      subst P (sym tells2) (ap (λ (o : List (ℕ × Outcome n)). recorded o (replicate places2 (none {n = n}))) (sym (outcomes-same told1 lines silent))) in
       let R : List (Outcome n) → Type 0 = λ results. HasServed raw seed (events_in asked) h new after results in
       let served : HasServed raw seed (events_in asked) h new after (table_of places2 told1) = record {
         shape = shape ∙ had.served.shape;
@@ -148,7 +147,23 @@ module _ {n m e : ℕ} (raw : RawShape) (seed : ℕ) (asked : List (Asked n)) (m
         size = size ∙ had.served.size;
         replays = led.1;
       } in
-      let now : HasServed raw seed (events_in asked) h new after (table_of places2 told2) = subst R same served in
+      (led.0, subst R same served)
+
+  -- so is a settle
+  pub serving-settle : (at : ℕ) (new : ModuleState n m e) (after : ArrayState n m) (places2 : ℕ) (told1 told2 : List (Told n)) (shown2 : Shown) (snaps2 : List Snapshot)
+      → places2 ≡ places → (outcomes : List (ℕ × Outcome n)) → told1 ≡ told ++ became outcomes → ComeByBanks raw seed (events_in asked) raw.banks outcomes → told2 ≡ told1 ++ lines_of (Settle at) new
+      → new.shape ≡ module_.shape → new.seed ≡ module_.seed → new.finished ≡ false → new.tick ≡ at → ((bank : ℕ) → bank < new.shape.banks → IsSomeAnd (slice_get new.banks bank) (IsAtTick at))
+      → at ≤ latest_tick → new.rows_below ≡ module_.rows_below
+      → length (table_of places2 told1) ≡ length (table_of places told)
+      → ((h : ℕ → List (TimedEvent n m)) (rows : List (AskedRow n)) → Replays h rows module_ array (table_of places told)
+      → (added : ℕ → List (TimedEvent n m)) × Replays (λ bank. added bank ++ h bank) rows new after (table_of places2 told1))
+      → shown2 ≡ shown → snaps2 ≡ snaps
+      → (has : IsServing raw seed (Settle at ∷ asked) new after places2 told2 shown2 snaps2) × (told_before (Settle at) asked (told_so_far has) ≡ told_so_far had)
+  serving-settle at new after places2 told1 told2 shown2 snaps2 counts outcomes tells order tells2 shape seeded going tick settled in_time bound size leads shows snapped =
+      let lines : List (Told n) = lines_of (Settle at) new in
+      let now = settled-served new after places2 told1 told2 lines (refl) counts tells2 shape seeded going bound size leads in
+      let h : ℕ → List (TimedEvent n m) = λ bank. now.0 bank ++ had.history bank in
+      let counted : places2 ≡ length (events_in asked) = counts ∙ had.counted in
       let Q : ℕ → Type 0 = λ k. HasServed raw seed (events_in asked) h new after (table_of k told2) in (
         record {
           history = h;
@@ -156,15 +171,53 @@ module _ {n m e : ℕ} (raw : RawShape) (seed : ℕ) (asked : List (Asked n)) (m
             had.history,
             told,
             had.along,
-            led.0,
+            now.0,
             refl,
             outcomes,
-            tells2 ∙ ap (λ t. t ++ Settled at ∷ []) tells,
             order,
-            record { module_ = new; array = after; served = subst Q counted now; tick = tick; settled = settled },
+            record { module_ = new; array = after; served = subst Q counted now.1; tick = tick; settled = settled },
+            tells2 ∙ ap (λ t. t ++ lines) tells,
           );
           snaps = (snaps, subst (λ s. SnapsAlong e raw seed s asked had.history told had.along snaps) (sym shows) had.snaps, snapped);
-          served = now;
+          served = now.1;
+          counted = counted;
+          tick = tick;
+          in_time = omega (arith, tick, in_time);
+        },
+        refl {a = told_so_far had},
+      )
+
+  -- so is a query
+  pub serving-query : (at : ℕ) (new : ModuleState n m e) (after : ArrayState n m) (places2 : ℕ) (told1 told2 : List (Told n)) (shown2 : Shown) (snaps2 : List Snapshot)
+      → places2 ≡ places → (outcomes : List (ℕ × Outcome n)) → told1 ≡ told ++ became outcomes → ComeByBanks raw seed (events_in asked) raw.banks outcomes → told2 ≡ told1 ++ lines_of (Query at) new
+      → new.shape ≡ module_.shape → new.seed ≡ module_.seed → new.finished ≡ false → new.tick ≡ at → ((bank : ℕ) → bank < new.shape.banks → IsSomeAnd (slice_get new.banks bank) (IsAtTick at))
+      → at ≤ latest_tick → new.rows_below ≡ module_.rows_below
+      → length (table_of places2 told1) ≡ length (table_of places told)
+      → ((h : ℕ → List (TimedEvent n m)) (rows : List (AskedRow n)) → Replays h rows module_ array (table_of places told)
+      → (added : ℕ → List (TimedEvent n m)) × Replays (λ bank. added bank ++ h bank) rows new after (table_of places2 told1))
+      → shown2 ≡ shown → snaps2 ≡ snaps
+      → (has : IsServing raw seed (Query at ∷ asked) new after places2 told2 shown2 snaps2) × (told_before (Query at) asked (told_so_far has) ≡ told_so_far had)
+  serving-query at new after places2 told1 told2 shown2 snaps2 counts outcomes tells order tells2 shape seeded going tick settled in_time bound size leads shows snapped =
+      let lines : List (Told n) = lines_of (Query at) new in
+      let now = settled-served new after places2 told1 told2 lines (query-no-outcome new at) counts tells2 shape seeded going bound size leads in
+      let h : ℕ → List (TimedEvent n m) = λ bank. now.0 bank ++ had.history bank in
+      let counted : places2 ≡ length (events_in asked) = counts ∙ had.counted in
+      let Q : ℕ → Type 0 = λ k. HasServed raw seed (events_in asked) h new after (table_of k told2) in (
+        record {
+          history = h;
+          along = (
+            had.history,
+            told,
+            had.along,
+            now.0,
+            refl,
+            outcomes,
+            order,
+            record { module_ = new; array = after; served = subst Q counted now.1; tick = tick; settled = settled },
+            tells2 ∙ ap (λ t. t ++ lines) tells,
+          );
+          snaps = (snaps, subst (λ s. SnapsAlong e raw seed s asked had.history told had.along snaps) (sym shows) had.snaps, snapped);
+          served = now.1;
           counted = counted;
           tick = tick;
           in_time = omega (arith, tick, in_time);

@@ -1,8 +1,9 @@
--- A table with one place more, that each row was told, in which order, how a row is served, the table of a run, how a stream ends, where it stops at a refusal, and printers that were told the same.
+-- A table with one place more, that each row was told, in which order, how a row is served, how what waits in the banks is told, the table of a run, how a stream ends, where it stops at a refusal, and printers that were told the same.
 mod Growing
 mod Standing
 pub mod Each
 mod Order
+mod Backlogs
 mod Going
 pub mod Tables
 mod Ends

@@ -10,7 +10,7 @@ use Rattle.module_shape.specs.declared.raw.RawShape.{RawShape}
 use Rattle.right_runs.specs.Banks.{bank_of_line}
 use Rattle.pcm_module.specs.{Asking.asked_for, Telling.{TellsOf, TellsByBanks, TellsInOrder, is_asked_of}}
 use Rattle.row_printer.specs.{Printing.{Printing, PrintsOn, table_told}, Telling.{became, outcomes_in, recorded, tells, TellsOnce}, declared.told.Told.Told}
-use Rattle.row_printer.{specs.declared.told.Told.TheVariants.{Became, Settled}, proofs.Once.{open-untold, stays-told}, proofs.Telling.length-recorded}
+use Rattle.row_printer.{specs.declared.told.Told.TheVariants.{Became, Bank, Settled}, proofs.Once.{open-untold, stays-told}, proofs.Telling.length-recorded}
 use Rattle.row_stream.{specs.Serving.{ComeByBanks, ComeBehind}, proofs.Each.some-at, proofs.Growing.none}
 
 in_rest : (a b : Bool) → b ≡ true → (a || b) ≡ true
@@ -22,6 +22,7 @@ module _ {n : ℕ} where
   outcomes-became [] [] = refl
   outcomes-became [] (one ∷ outcomes) = ap (λ (rest : List (ℕ × Outcome n)). one ∷ rest) (outcomes-became [] outcomes)
   outcomes-became (Became row outcome ∷ told) outcomes = ap (λ (rest : List (ℕ × Outcome n)). (row, outcome) ∷ rest) (outcomes-became told outcomes)
+  outcomes-became (Bank tick backlog ∷ told) outcomes = outcomes-became told outcomes
   outcomes-became (Settled tick ∷ told) outcomes = outcomes-became told outcomes
 
   became-both : (xs ys : List (ℕ × Outcome n)) → became (xs ++ ys) ≡ became xs ++ became ys

@@ -10,7 +10,7 @@ use Rattle.pcm_module.specs.State.{ModuleState}
 use Rattle.row_printer.specs.{Printing.table_of, Refusing.any_refused, declared.snapshot.Snapshot.Snapshot, declared.told.Shown.Shown, declared.told.Told.Told}
 use Rattle.trace_stream.specs.{Arrived.StaysEnded, Asked.{IsAskedFor, rows_after, tick_asked, events_in}, Kept.{LacksHeader, decides}}
 use Rattle.trace_stream.specs.{Stream.{AsksNext, HasFault, HasFront, IsOfText, Opens, Standing, asked_from, front_from, front_of, front_rows, records_left, stream_of}, declared.asked.Asked.Asked}
-use Rattle.trace_stream.specs.{declared.asked.Asked.TheVariants.{Happens, Settle}, declared.fault.StreamFault.StreamFault}
+use Rattle.trace_stream.specs.{declared.asked.Asked.TheVariants.{Happens, Settle, Query}, declared.fault.StreamFault.StreamFault}
 use Rattle.trace_stream.proofs.Runs.{HasAsked, asked-all, asked-faulty, asked-first, asked-front, asked-more}
 use Rattle.trace_stream.specs.declared.fault.StreamFault.TheVariants as fault
 use Rattle.row_stream.specs.{Asking.{behind_of, tick_reached}, Refusing.WentOn, Serving.{IsServing, told_before, told_so_far}, Sourcing.{Fronts, HasAllCome, HasCome, HasStopped, IsFaulty, IsRead, IsReadTo}, declared.stop.Behind.Behind}
@@ -63,6 +63,7 @@ asked_fits b h = row_below _ (row_le _ b (first_le b h) h)
 pub behind-any : {n : ℕ} (asked : Asked n) (before : List (Asked n)) → behind_of (asked ∷ []) ≡ behind_of (asked ∷ before)
 behind-any (Happens event) before = refl
 behind-any (Settle at) before = refl
+behind-any (Query at) before = refl
 
 module _ (n lines : ℕ) {S : Type 0} (left : S → Option (List ℕ)) (taken faults : S → ℕ) (old : S) where
   -- nothing came
@@ -136,6 +137,7 @@ module _ {n m e : ℕ} {stops : Bool} (raw : RawShape) (seed : ℕ) {S : Type 0}
     rows-next : (asked : Asked n) (rows : ℕ) → rows ≡ rows_after stream.rows asked → length (events_in (asked ∷ had.asked)) ≤ rows
     rows-next (Happens event) rows is = omega (arith, is, had.few)
     rows-next (Settle tick) rows is = omega (arith, is, had.few)
+    rows-next (Query tick) rows is = omega (arith, is, had.few)
 
     -- a row more was served
     pub fed-more : (new_module : ModuleState n m e) (after : ArrayState n m) (places2 : ℕ) (told2 : List (Told n)) (shown2 : Shown) (snaps2 : List Snapshot) (new : S) (now : Standing) (asked : Asked n) (stands : Behind)
@@ -169,6 +171,7 @@ module _ {n m e : ℕ} {stops : Bool} (raw : RawShape) (seed : ℕ) {S : Type 0}
         reached : (asked : Asked n) (before : List (Asked n)) → tick_asked asked ≡ tick_reached (asked ∷ before)
         reached (Happens event) before = refl
         reached (Settle at) before = refl
+        reached (Query at) before = refl
 
     -- there is none
     pub fed-all : (new : S) (now : Standing) (bytes : List ℕ) → Takes (left mid) (left new) (taken mid) (taken new) bytes → StaysEnded stream.arrived.ended bytes now.arrived.ended

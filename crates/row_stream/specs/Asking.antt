@@ -1,7 +1,7 @@
 -- What the rows of a stream ask. Here it stands with the newest first.
 use Rattle.std.specs.Prelude.{◌≡◌, ℕ, Bool, true, false, List, [], ◌∷◌, ◌++◌, reverse}
 use Rattle.trace_reader.specs.{declared.event.EventOp.EventOp, declared.event.EventOp.TheVariants.{Read, Write, Mask, Cut}}
-use Rattle.trace_stream.specs.{declared.asked.Asked.Asked, declared.asked.Asked.TheVariants.{Happens, Settle}}
+use Rattle.trace_stream.specs.{declared.asked.Asked.Asked, declared.asked.Asked.TheVariants.{Happens, Settle, Query}}
 use Rattle.row_stream.specs.{declared.stop.Behind.Behind, declared.stop.Behind.TheVariants.{Nothing, Going, Off}}
 
 module _ {n : ℕ} where
@@ -10,6 +10,7 @@ module _ {n : ℕ} where
   tick_reached [] = 0
   tick_reached (Happens event ∷ before) = event.tick
   tick_reached (Settle tick ∷ before) = tick
+  tick_reached (Query tick ∷ before) = tick
 
   -- how a module stands behind an operation, and behind what was asked
   abbrev pub behind_op : EventOp n → Behind
@@ -22,6 +23,7 @@ module _ {n : ℕ} where
   behind_of [] = Nothing
   behind_of (Happens event ∷ before) = behind_op event.op
   behind_of (Settle tick ∷ before) = Going
+  behind_of (Query tick ∷ before) = Going
 
   -- these rows are the first of all, which stand in their order
   abbrev pub BeginsWith : List (Asked n) → List (Asked n) → Type 0

@@ -1,5 +1,6 @@
 pub mod Asking
 pub mod Looking
+pub mod Answering
 pub mod Serving
 pub mod Refusing
 pub mod Sourcing

@@ -9,8 +9,8 @@ use Rattle.right_runs.specs.Banks.{bank_of_line}
 use Rattle.pcm_module.specs.{Asking.asked_for, Replaying.Replays, Settling.IsAtTick, State.ModuleState, Telling.is_asked_of}
 use Rattle.row_printer.specs.{Printing.{Printing, table_of}, Snapshots.{AddsDue, is_due}, Telling.became, declared.snapshot.Snapshot.Snapshot, declared.told.Shown.Shown}
 use Rattle.row_printer.specs.{declared.told.Told.Told, declared.told.Told.TheVariants.Settled}
-use Rattle.trace_stream.specs.{Asked.events_in, declared.asked.Asked.Asked, declared.asked.Asked.TheVariants.{Happens, Settle}}
-use Rattle.row_stream.specs.{Asking.tick_reached, Looking.IsSnapshot}
+use Rattle.trace_stream.specs.{Asked.events_in, declared.asked.Asked.Asked, declared.asked.Asked.TheVariants.{Happens, Settle, Query}}
+use Rattle.row_stream.specs.{Answering.banks_told, Asking.tick_reached, Looking.IsSnapshot}
 
 module _ {n m e : ℕ} (raw : RawShape) (seed : ℕ) where
   -- a module of these sizes and this seed was handed these events, and histories of its banks, which asked for exactly these, led to it over the
@@ -42,25 +42,29 @@ module _ {n : ℕ} (raw : RawShape) (seed : ℕ) where
   abbrev pub ComeInOrder : Asked n → List (Event n) → List (ℕ × Outcome n) → Type 0
   ComeInOrder (Happens event) before outcomes = ComeBehind (event ∷ before) (length before + 1) outcomes
   ComeInOrder (Settle tick) before outcomes = ComeByBanks before raw.banks outcomes
+  ComeInOrder (Query tick) before outcomes = ComeByBanks before raw.banks outcomes
 
--- the line that answers a row besides outcomes: only a settle has one
-abbrev pub line_of : {n : ℕ} → Asked n → List (Told n)
-line_of (Happens event) = []
-line_of (Settle tick) = Settled tick ∷ []
+-- the lines that answer a row besides outcomes, at the module behind it: of a settle its tick, and of a query what waits in each bank before it
+abbrev pub lines_of : {n m e : ℕ} → Asked n → ModuleState n m e → List (Told n)
+lines_of (Happens event) module_ = []
+lines_of (Settle tick) module_ = Settled tick ∷ []
+lines_of (Query tick) module_ = banks_told module_ tick module_.shape.banks ++ Settled tick ∷ []
 
--- whether a snapshot is due behind a row, of so many with a number: a settle has none
+-- whether a snapshot is due behind a row, of so many with a number: a settle and a query have none
 abbrev pub is_due_behind : {n : ℕ} → Shown → Asked n → ℕ → Bool
 is_due_behind shown (Happens event) rows = is_due shown rows
 is_due_behind shown (Settle tick) rows = false
+is_due_behind shown (Query tick) rows = false
 
 module _ {n m : ℕ} (e : ℕ) (raw : RawShape) (seed : ℕ) where
-  -- behind a settle each bank has come to its tick
+  -- behind a settle or a query each bank has come to its tick
   abbrev pub HasSettled : Asked n → ModuleState n m e → Type 0
   HasSettled (Happens event) module_ = Unit {0}
   HasSettled (Settle tick) module_ = (bank : ℕ) → bank < module_.shape.banks → IsSomeAnd (slice_get module_.banks bank) (IsAtTick tick)
+  HasSettled (Query tick) module_ = (bank : ℕ) → bank < module_.shape.banks → IsSomeAnd (slice_get module_.banks bank) (IsAtTick tick)
 
   -- of these rows exactly those outcomes were told which these histories gave so far, at the module and the array to which they led, which is
-  -- at the tick of the last row, and each of its banks where that is a settle
+  -- at the tick of the last row, and each of its banks where that settles
   pub record AreKnown (asked : Asked n) (before : List (Asked n)) (h : ℕ → List (TimedEvent n m)) (told : List (Told n)) : Type 0 where
     pub module_ : ModuleState n m e
     pub array : ArrayState n m
@@ -69,15 +73,14 @@ module _ {n m : ℕ} (e : ℕ) (raw : RawShape) (seed : ℕ) where
     pub settled : HasSettled asked module_
 
   -- row by row: rows that asked this brought these histories about, and this was told of them. As each row was served, the outcomes were told that
-  -- the histories gave then and hadn't given before, no others, bank by bank, and behind them the line of the row
+  -- the histories gave then and hadn't given before, no others, bank by bank, and behind them the lines of the row, by the module as it then was
   abbrev pub TellsAlong : List (Asked n) → (ℕ → List (TimedEvent n m)) → List (Told n) → Type 0
   TellsAlong [] h told = (h ≡ (λ bank. [])) × (told ≡ [])
   TellsAlong (asked ∷ before) h told =
       (earlier : ℕ → List (TimedEvent n m)) × (said : List (Told n)) × TellsAlong before earlier said
       × (added : ℕ → List (TimedEvent n m)) × (h ≡ (λ bank. added bank ++ earlier bank))
-      × (outcomes : List (ℕ × Outcome n)) × (told ≡ (said ++ became outcomes) ++ line_of asked)
-      × ComeInOrder raw seed asked (events_in before) outcomes
-      × AreKnown asked before h told
+      × (outcomes : List (ℕ × Outcome n)) × ComeInOrder raw seed asked (events_in before) outcomes
+      × (known : AreKnown asked before h told) × (told ≡ (said ++ became outcomes) ++ lines_of asked known.module_)
 
   -- the snapshots that were taken of them: each stands behind a row with a number where one is due, and says what that row left
   abbrev pub SnapsAlong : Shown → (asked : List (Asked n)) (h : ℕ → List (TimedEvent n m)) (told : List (Told n)) → TellsAlong asked h told → List Snapshot → Type 0
@@ -85,7 +88,7 @@ module _ {n m : ℕ} (e : ℕ) (raw : RawShape) (seed : ℕ) where
   SnapsAlong shown (asked ∷ before) h told along snapshots =
       (earlier : List Snapshot) × SnapsAlong shown before along.0 along.1 along.2 earlier
       × AddsDue (is_due_behind shown asked (length (events_in (asked ∷ before))))
-      (IsSnapshot (length (events_in (asked ∷ before))) (tick_reached (asked ∷ before)) told along.8.module_ along.8.array) earlier snapshots
+      (IsSnapshot (length (events_in (asked ∷ before))) (tick_reached (asked ∷ before)) told along.7.module_ along.7.array) earlier snapshots
 
 -- rows that asked this were served by a module over an array, and told by a printer that knows of so many rows and took these snapshots
 pub record IsServing {n m e : ℕ} (raw : RawShape) (seed : ℕ) (asked : List (Asked n)) (module_ : ModuleState n m e) (array : ArrayState n m) (places : ℕ) (told : List (Told n)) (shown : Shown) (snapshots : List Snapshot) : Type 0 where

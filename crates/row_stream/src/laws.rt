@@ -18,7 +18,7 @@ pub fn a_text_has_one_first_fault<S: Source>()
     ensures { FaultyLaw S.left S.taken S.faults }
 {}
 
-/// What a stream leaves is a right run of its rows without those that settle.
+/// What a stream leaves is a right run of its rows without those that settle or ask.
 pub fn settles_are_no_rows()
     ensures { SettleLaw }
 {}

@@ -1,6 +1,7 @@
 //! The rows of a stream, served one after the other: what became of each is told as soon as it is known, and no table is kept.
 #![tactic(auto)]
 
+mod answering;
 mod drawing;
 mod ending;
 mod laws;

@@ -11,6 +11,7 @@ ghost use Rattle.trace_stream.specs.declared.asked.Asked.TheVariants.{Happens, S
 ghost use Rattle.row_printer.specs.Printing.{IsPrinting};
 ghost use Rattle.row_stream.specs.Serving.{MayServe, ServesOn};
 
+use crate::answering::serve_query;
 use crate::looking::show_due;
 use cell_wear::TellsCells;
 use pcm_io::Sink;
@@ -20,7 +21,8 @@ use trace_reader::Event;
 use trace_stream::Asked;
 
 /// Serves one row of a stream, and tells what became known by it: of an event what its bank did before it and what the event itself
-/// decides, at a power cut what all banks did, and at a settle too, behind which its tick is told. An event has the next number.
+/// decides, at a power cut what all banks did, and at a settle too, behind which its tick is told, and at a query, behind which what waits in
+/// each bank is told, and its tick. An event has the next number.
 pub fn serve<const B: usize, const M: usize, const E: usize, A: TellsCells<B, M>, K: Sink + Drop>(
     pcm: &mut Module<B, M, E>,
     array: &mut A,
@@ -40,6 +42,7 @@ pub fn serve<const B: usize, const M: usize, const E: usize, A: TellsCells<B, M>
     match asked {
         Asked::Happens(event) => serve_event(pcm, array, event, out),
         Asked::Settle(tick) => serve_settle(pcm, array, *tick, out),
+        Asked::Query(tick) => serve_query(pcm, array, *tick, out),
     }
 }
 

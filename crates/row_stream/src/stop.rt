@@ -15,7 +15,7 @@ use trace_stream::{Asked, StreamFault};
 pub enum Stop {
     /// No further row could be had.
     Input(StreamFault),
-    /// Rows and settles came that can't be counted: 2 to the power 64 less one of them.
+    /// Rows, settles and queries came that can't be counted: 2 to the power 64 less one of them.
     Endless,
     /// The output couldn't be written.
     Output,
@@ -38,7 +38,7 @@ pub fn behind_asked<const B: usize>(asked: &Asked<B>) -> Behind
 {
     match asked {
         Asked::Happens(event) => behind_event(&event.op),
-        Asked::Settle(_) => Behind::Going,
+        Asked::Settle(_) | Asked::Query(_) => Behind::Going,
     }
 }
 

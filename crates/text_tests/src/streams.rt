@@ -4,7 +4,7 @@ use crate::expected::assert_text;
 use cell_rows::LineEnergy;
 use pcm_io::{MemSink, MemSource, NeverFailSource, Text};
 use result_rows::Outcome;
-use row_printer::{RowPrinter, Shown, Snapshot};
+use row_printer::{Backlog, Mark, RowPrinter, Shown, Snapshot};
 use row_telling::Outcomes;
 use run_text::TEXT_ROOM;
 use std::alloc::Global;
@@ -22,7 +22,7 @@ fn read(alloc: Global, text: &[u8], fails: u32) -> Result<Vec<Asked<64>>, Stream
 
 #[test]
 fn rows_come_in_order(rt: HostRuntime) -> Result<(), Fail> {
-    let text = b"tick,op,arg,data\n\n3,R,1,\r\n\"3\",S,,\n9,C,,";
+    let text = b"tick,op,arg,data\n\n3,R,1,\r\n\"3\",S,,\n4,Q,,\n9,C,,";
     let asked = match read(rt.alloc(), text, 9) {
         Ok(asked) => asked,
         Err(_) => Vec::new(rt.alloc()),
@@ -33,6 +33,7 @@ fn rows_come_in_order(rt: HostRuntime) -> Result<(), Fail> {
             op: EventOp::Read(1),
         }),
         Asked::Settle(3),
+        Asked::Query(4),
         Asked::Happens(Event {
             tick: 9,
             op: EventOp::Cut,
@@ -46,6 +47,7 @@ fn rows_come_in_order(rt: HostRuntime) -> Result<(), Fail> {
 fn faults_are_told(rt: HostRuntime) -> Result<(), Fail> {
     let text = b"tick,op,arg,data\n3,R,1,\n";
     let faults = [
+        read(rt.alloc(), b"tick,op,arg,data\n3,Q,,\n3,Q,0,\n", 9).err(),
         read(rt.alloc(), text, 1).err(),
         read(rt.alloc(), text, 2).err(),
         read(rt.alloc(), text, 3).err(),
@@ -67,6 +69,7 @@ fn faults_are_told(rt: HostRuntime) -> Result<(), Fail> {
     assert_eq!(rt;
         faults,
         [
+            row(1, Kind::Line),
             Some(StreamFault::Read),
             Some(StreamFault::Read),
             Some(StreamFault::Read),
@@ -156,7 +159,15 @@ fn long_records_are_judged_as_they_are(rt: HostRuntime) -> Result<(), Fail> {
     Ok(())
 }
 
-// Two rows and a tick, told to a printer that prints or only counts: what is written, how many rows were stored and how many refused, and
+// A bank that refuses writes.
+const EXHAUSTED: Backlog = Backlog {
+    bank: 7,
+    writes: 256,
+    reads: 0,
+    mark: Mark::Exhausted,
+};
+
+// Two rows, a bank and a tick, told to a printer that prints or only counts: what is written, how many rows were stored and how many refused, and
 // whether one fell short.
 fn told(alloc: Global, prints: Shown) -> Result<(Box<MemSink>, (u32, u32, bool)), Fail>
     requires { IsShown prints }
@@ -168,6 +179,7 @@ fn told(alloc: Global, prints: Shown) -> Result<(Box<MemSink>, (u32, u32, bool))
     out.add_row();
     out.set(2, Outcome::Busy { tick: 5 });
     out.set(1, Outcome::Stored { tick: 9, place: 3 });
+    out.bank(12, EXHAUSTED);
     out.settled(12);
     let _done = out.flush();
     let counts = out.counts();
@@ -182,7 +194,7 @@ fn a_stream_tells_each_row_once_as_it_comes(rt: HostRuntime) -> Result<(), Fail>
     assert_text(
         &rt,
         sink.written(),
-        b"row,outcome,tick,place,data\n2,busy,5,,\n1,stored,9,3,\n,settled,12,,\n",
+        b"row,outcome,tick,place,data\n2,busy,5,,\n1,stored,9,3,\n,bank,12,7,256 0 exhausted\n,settled,12,,\n",
     );
     assert_eq!(rt; counted, (1, 1, true));
     Ok(())

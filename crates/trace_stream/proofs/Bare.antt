@@ -6,10 +6,10 @@ use Rattle.trace_reader.specs.{Rows.{event_at, event_of, op_of, text_at, tick_of
 use Rattle.trace_reader.specs.{declared.event.Event.Event, declared.event.EventOp.EventOp, declared.fault.Kind.Kind, declared.fault.TraceFault.TraceFault}
 use Rattle.trace_reader.specs.declared.fault.Kind.TheVariants as kind
 use Rattle.trace_reader.specs.declared.fault.ParseFault.TheVariants as whole
-use Rattle.trace_stream.specs.Asked.{asked_event, asked_of, asked_settle, events_in, is_settle, rows_after, settle_of, tick_asked}
+use Rattle.trace_stream.specs.Asked.{asked_event, asked_of, asked_settle, events_in, is_query, is_settle, rows_after, settle_of, tick_asked}
 use Rattle.trace_stream.specs.Laws.{BareLaw, FaultBackLaw, all_events, records_of}
 use Rattle.trace_stream.specs.{Stream.{and_then_asked, asked_before, is_past, stream_fault_at, stream_of, stream_records, stream_rows}, declared.asked.Asked.Asked}
-use Rattle.trace_stream.{specs.declared.asked.Asked.TheVariants.{Happens, Settle}, specs.declared.fault.StreamFault.StreamFault, proofs.Lawful.settle-lawful}
+use Rattle.trace_stream.{specs.declared.asked.Asked.TheVariants.{Happens, Settle, Query}, specs.declared.fault.StreamFault.StreamFault, proofs.Lawful.settle-lawful}
 use Rattle.trace_stream.proofs.Traces.{asked-ok, event-four, row_by}
 use Rattle.trace_stream.specs.declared.fault.StreamFault.TheVariants as fault
 
@@ -38,7 +38,7 @@ earlier n lines before early fields event less h =
     event-four n lines early fields four ∙ earlier-at before early (tick_of (text_at fields 0)) _ event less (sym (event-four n lines before fields four) ∙ h)
 
 -- what a row asks, by whether it settles
-asked-settles : (n lines before : ℕ) (fields : List (List ℕ)) → is_settle fields ≡ true → asked_of n lines before fields ≡ asked_settle (settle_of before fields)
+asked-settles : (n lines before : ℕ) (fields : List (List ℕ)) → is_settle fields ≡ true → asked_of n lines before fields ≡ asked_settle (is_query fields) (settle_of before fields)
 unfolding asked_of
 asked-settles n lines before fields is = rw is refl
 
@@ -69,14 +69,19 @@ bare-rows n lines rows before early (fields ∷ rest) asked less h =
     Rest : Type 0
     Rest = (rows before early : ℕ) (others : List (Asked n)) → early ≤ before → stream_rows n lines rows before rest ≡ Ok others → stream_rows n lines rows early (bare rest) ≡ Ok (all_events (events_in others))
 
-    settles : (r : Result ℕ Kind) → settle_of before fields ≡ r → and_then_asked (rows + 1) (asked_settle {n = n} r) (λ asked. stream_rows n lines (rows_after rows asked) (tick_asked asked) rest) ≡ Ok asked → Rest
-        → stream_rows n lines rows early (bare rest) ≡ Ok (all_events (events_in asked))
-    settles (Err kind) e q more = cc q
-    settles (Ok tick) e q more =
-        let first : Asked n = Settle tick in
+    settled : (first : Asked n) (tick : ℕ) → settle_of before fields ≡ Ok tick → ((others : List (Asked n)) → events_in (first ∷ others) ≡ events_in others)
+        → asked_before first (stream_rows n lines rows tick rest) ≡ Ok asked → Rest → stream_rows n lines rows early (bare rest) ≡ Ok (all_events (events_in asked))
+    settled first tick e none q more =
         let b = behind first (stream_rows n lines rows tick rest) asked q in
         let lawful = settle-lawful before tick fields e in
-        more rows tick early b.0 (omega (arith, less, lawful.0)) b.1 ∙ ap (λ (all : List (Asked n)). Ok (all_events (events_in all))) b.2
+        more rows tick early b.0 (omega (arith, less, lawful.0)) b.1
+        ∙ ap (λ (events : List (Event n)). Ok (all_events events)) (sym (none b.0) ∙ ap events_in b.2)
+
+    settles : (query : Bool) (r : Result ℕ Kind) → settle_of before fields ≡ r → and_then_asked (rows + 1) (asked_settle {n = n} query r) (λ asked. stream_rows n lines (rows_after rows asked) (tick_asked asked) rest) ≡ Ok asked → Rest
+        → stream_rows n lines rows early (bare rest) ≡ Ok (all_events (events_in asked))
+    settles query (Err kind) e q more = cc q
+    settles true (Ok tick) e q more = settled (Query tick) tick e (λ others. refl) q more
+    settles false (Ok tick) e q more = settled (Settle tick) tick e (λ others. refl) q more
 
     happens : (r : Result (Event n) Kind) → event_of n lines before fields ≡ r → and_then_asked (rows + 1) (asked_event r) (λ asked. stream_rows n lines (rows_after rows asked) (tick_asked asked) rest) ≡ Ok asked → Rest
         → and_then_asked (rows + 1) (asked_of n lines early fields) (λ asked. stream_rows n lines (rows_after rows asked) (tick_asked asked) (bare rest)) ≡ Ok (all_events (events_in asked))
@@ -90,7 +95,7 @@ bare-rows n lines rows before early (fields ∷ rest) asked less h =
         → (if past then Err fault.TooMany else and_then_asked (rows + 1) (asked_of n lines before fields) (λ asked. stream_rows n lines (rows_after rows asked) (tick_asked asked) rest)) ≡ Ok asked → Rest
         → stream_rows n lines rows early (cond (not settle) (fields ∷ bare rest) (bare rest)) ≡ Ok (all_events (events_in asked))
     by settle is true e q more = cc q
-    by true is false e q more = settles (settle_of before fields) refl (rw (asked-settles n lines before fields is) at q) more
+    by true is false e q more = settles (is_query fields) (settle_of before fields) refl (rw (asked-settles n lines before fields is) at q) more
     by false is false e q more = rw e (happens (event_of n lines before fields) refl (rw (asked-happens n lines before fields is) at q) more)
 
 -- the header doesn't settle
@@ -100,7 +105,7 @@ header-op fields is = by (length fields == 4) (bytes_eq (text_at fields 0) (code
   where
     by : (four tick op : Bool) → bytes_eq (text_at fields 1) (codes "op") ≡ op
         → (four && tick && op && bytes_eq (text_at fields 2) (codes "arg") && bytes_eq (text_at fields 3) (codes "data")) ≡ true
-        → (four && bytes_eq (text_at fields 1) (codes "S")) ≡ false
+        → (four && (bytes_eq (text_at fields 1) (codes "S") || bytes_eq (text_at fields 1) (codes "Q"))) ≡ false
     by false tick op e q = refl
     by true false op e q = cc q
     by true true false e q = cc q
@@ -132,6 +137,7 @@ behind-fault first (Ok rest) e h = cc h
 no-fewer : {n : ℕ} (rows : ℕ) (asked : Asked n) → rows ≤ rows_after rows asked
 no-fewer rows (Happens event) = omega arith
 no-fewer rows (Settle tick) = omega arith
+no-fewer rows (Query tick) = omega arith
 
 fault-row : (n lines rows before : ℕ) (records : List (List (List ℕ))) (found : TraceFault) → stream_rows n lines rows before records ≡ Err (fault.Trace found) → rows + 1 ≤ found.row
 unfolding stream_rows

@@ -1,5 +1,5 @@
 -- What is kept of a record is enough to judge it.
-use Rattle.std.proofs.Common.{◌≡◌, ◌≢◌, ℕ, suc, zero, ◌<◌, ◌≤◌, ◌==◌, ◌&&◌, nat_lt, nat_le, List, [], ◌∷◌, length, take, map, min, not, Bool, true, false, Option, Some, None, inl, inr, unwrap_or, refl, sym, ap, ◌∙◌, arith}
+use Rattle.std.proofs.Common.{◌≡◌, ◌≢◌, ℕ, suc, zero, ◌<◌, ◌≤◌, ◌==◌, ◌&&◌, ◌||◌, nat_lt, nat_le, List, [], ◌∷◌, length, take, map, min, not, Bool, true, false, Option, Some, None, inl, inr, unwrap_or, refl, sym, ap, ◌∙◌, arith}
 use Rattle.std.{specs.Prelude.{option_map, codes, if◌then◌else◌, Result, Ok, Err}, specs.Str.bytes_eq, proofs.lemmas.Bool.cases_lt, proofs.lemmas.Bool.Decides.nat_tests}
 use Rattle.std.proofs.{lemmas.List.{length-map, length-take, length-take-le, take_all}, lemmas.Slice.Eq.bytes_eq-Decides}
 use Rattle.csv.specs.Records.{field_at}
@@ -8,7 +8,7 @@ use Rattle.trace_reader.specs.{Rows.{cut_of, event_at, event_of, latest_tick, li
 use Rattle.trace_reader.specs.{declared.event.Event.Event, declared.event.EventOp.EventOp, declared.event.EventOp.TheVariants.{Read, Write, Mask}, declared.fault.Kind.Kind}
 use Rattle.trace_reader.proofs.{Numbers.{line_digits-few, number_of-length}, Pairs.masked_of-length, Table.{bytes_of-odd, bytes_of-other}}
 use Rattle.trace_reader.specs.declared.fault.Kind.TheVariants as kind
-use Rattle.trace_stream.specs.{Asked.{asked_of, is_settle, settle_of}, Kept.{kept_field, kept_fields}}
+use Rattle.trace_stream.specs.{Asked.{asked_of, is_query, is_settle, settle_of}, Kept.{kept_field, kept_fields}}
 
 -- a field is kept whole, or it is too long
 short-kept : (field : List ℕ) → length field ≤ 257 → kept_field field ≡ field
@@ -210,15 +210,19 @@ settle-kept before fields =
     ∙ ap (λ (b : Bool). settle_by before (tick_of (text_at fields 0)) b (length (text_at (kept_fields fields) 3) == 0)) (empty_at-kept fields 2 (omega arith))
     ∙ ap (settle_by before (tick_of (text_at fields 0)) (length (text_at fields 2) == 0)) (empty_at-kept fields 3 (omega arith))
 
+is_query-kept : (fields : List (List ℕ)) → is_query (kept_fields fields) ≡ is_query fields
+is_query-kept fields = word_at-kept fields 1 (codes "Q") (omega arith) (omega arith)
+
 pub is_settle-kept : (fields : List (List ℕ)) → is_settle (kept_fields fields) ≡ is_settle fields
 is_settle-kept fields =
-    ap (λ (b : Bool). b && bytes_eq (text_at (kept_fields fields) 1) (codes "S")) (four-kept fields)
-    ∙ ap (λ (b : Bool). (length fields == 4) && b) (word_at-kept fields 1 (codes "S") (omega arith) (omega arith))
+    ap (λ (b : Bool). b && (bytes_eq (text_at (kept_fields fields) 1) (codes "S") || bytes_eq (text_at (kept_fields fields) 1) (codes "Q"))) (four-kept fields)
+    ∙ ap (λ (b : Bool). (length fields == 4) && (b || bytes_eq (text_at (kept_fields fields) 1) (codes "Q"))) (word_at-kept fields 1 (codes "S") (omega arith) (omega arith))
+    ∙ ap (λ (b : Bool). (length fields == 4) && (bytes_eq (text_at fields 1) (codes "S") || b)) (is_query-kept fields)
 
 -- a row and the header are judged by what is kept of them
 pub asked-kept : (n lines before : ℕ) (fields : List (List ℕ)) → n ≤ 128 → asked_of n lines before (kept_fields fields) ≡ asked_of n lines before fields
 unfolding asked_of
-asked-kept n lines before fields small = rw (is_settle-kept fields, settle-kept before fields, event-kept n lines small before fields) refl
+asked-kept n lines before fields small = rw (is_settle-kept fields, is_query-kept fields, settle-kept before fields, event-kept n lines small before fields) refl
 
 abbrev header_by : Bool → Bool → Bool → Bool → Bool → Bool
 header_by four tick op arg payload = four && tick && op && arg && payload

@@ -4,8 +4,8 @@ use Rattle.std.{specs.Prelude.{if◌then◌else◌, Result, Ok, Err}, proofs.lem
 use Rattle.trace_reader.specs.{Rows.{event_of, latest_tick, text_at, tick_of}, declared.event.Event.Event, declared.fault.Kind.Kind}
 use Rattle.trace_reader.proofs.{Lawful.{event_of-lawful, or_fault-ok}, Numbers.number_within}
 use Rattle.trace_reader.specs.declared.fault.Kind.TheVariants as kind
-use Rattle.trace_stream.specs.{Asked.{IsAskedFor, asked_event, asked_of, asked_settle, is_settle, settle_of}, declared.asked.Asked.Asked}
-use Rattle.trace_stream.specs.declared.asked.Asked.TheVariants.{Happens, Settle}
+use Rattle.trace_stream.specs.{Asked.{IsAskedFor, asked_event, asked_of, asked_settle, is_query, is_settle, settle_of}, declared.asked.Asked.Asked}
+use Rattle.trace_stream.specs.declared.asked.Asked.TheVariants.{Happens, Settle, Query}
 
 pub settle-lawful : (before tick : ℕ) (fields : List (List ℕ)) → settle_of before fields ≡ Ok tick → (before ≤ tick) × (tick ≤ latest_tick)
 unfolding settle_of
@@ -28,11 +28,14 @@ pub asked-lawful : (n lines before : ℕ) (fields : List (List ℕ)) (asked : As
 unfolding asked_of
 asked-lawful n lines before fields asked some h = by (is_settle fields) h
   where
-    settles : (r : Result ℕ Kind) → settle_of before fields ≡ r → asked_settle r ≡ Ok asked → IsAskedFor lines before asked
-    settles (Ok tick) e q =
+    settles : (query : Bool) (r : Result ℕ Kind) → settle_of before fields ≡ r → asked_settle query r ≡ Ok asked → IsAskedFor lines before asked
+    settles false (Ok tick) e q =
         let same : Settle tick ≡ asked = cc in
         rw (← same) (settle-lawful before tick fields e)
-    settles (Err kind) e q = cc q
+    settles true (Ok tick) e q =
+        let same : Query tick ≡ asked = cc in
+        rw (← same) (settle-lawful before tick fields e)
+    settles query (Err kind) e q = cc q
 
     happens : (r : Result (Event n) Kind) → event_of n lines before fields ≡ r → asked_event r ≡ Ok asked → IsAskedFor lines before asked
     happens (Ok event) e q =
@@ -40,6 +43,6 @@ asked-lawful n lines before fields asked some h = by (is_settle fields) h
         rw (← same) (event_of-lawful n lines before fields event some e)
     happens (Err kind) e q = cc q
 
-    by : (b : Bool) → (if b then asked_settle (settle_of before fields) else asked_event (event_of n lines before fields)) ≡ Ok asked → IsAskedFor lines before asked
-    by true q = settles (settle_of before fields) refl q
+    by : (b : Bool) → (if b then asked_settle (is_query fields) (settle_of before fields) else asked_event (event_of n lines before fields)) ≡ Ok asked → IsAskedFor lines before asked
+    by true q = settles (is_query fields) (settle_of before fields) refl q
     by false q = happens (event_of n lines before fields) refl q

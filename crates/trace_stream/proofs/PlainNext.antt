@@ -1,5 +1,5 @@
 -- A row that has come whole, of plain bytes.
-use Rattle.std.proofs.Common.{◌≡◌, ℕ, zero, suc, ◌+◌, ◌-◌, ◌<◌, ◌≤◌, ◌==◌, List, [], ◌∷◌, ◌++◌, length, take, drop, get_or, Bool, true, false, Some, inl, refl, sym, ap, subst, ◌∙◌, arith}
+use Rattle.std.proofs.Common.{◌≡◌, ℕ, zero, suc, ◌+◌, ◌-◌, ◌<◌, ◌≤◌, ◌==◌, ◌||◌, List, [], ◌∷◌, ◌++◌, length, take, drop, get_or, Bool, true, false, Some, inl, refl, sym, ap, subst, ◌∙◌, arith}
 use Rattle.std.{specs.List.list_all, specs.Prelude.{option_map, codes, Ok, Err}, specs.Str.bytes_eq, proofs.lemmas.Bool.Decides.nat_tests}
 use Rattle.std.proofs.lemmas.List.{Sums.list_all-from_AllPass, Elements.All-from_get_or}
 use Rattle.std.proofs.lemmas.List.{append-nil, get_or-take, get_or_append_left, length-append, length-drop, length-take-le}
@@ -79,15 +79,18 @@ plain-found bytes row new plain left = λ more comes.
     ∙ ap (λ (rest : List ℕ). Some (fields_in bytes 0 row, st.StartRecord, rest)) (drop-before (row.payload + 1) bytes more (omega arith) ∙ ap (λ (rest : List ℕ). rest ++ more) (sym left)) in
     inl (rw (append-nil bytes) (next_kept-is st.StartRecord (bytes ++ more) ∙ ap (option_map kept_read) next))
 
--- a read, a write or a cut doesn't settle
-word-settles : (op : List ℕ) → is_event_word op ≡ true → bytes_eq op (codes "S") ≡ false
-word-settles op event = by (bytes_eq op (codes "S")) refl
+-- a read, a write or a cut is none of the other words, and so doesn't settle
+other-word : (op word : List ℕ) → is_event_word op ≡ true → is_event_word word ≡ false → bytes_eq op word ≡ false
+other-word op word event other = by (bytes_eq op word) refl
   where
-    by : (b : Bool) → bytes_eq op (codes "S") ≡ b → b ≡ false
+    by : (b : Bool) → bytes_eq op word ≡ b → b ≡ false
     by true e =
-        let clash : false ≡ true = subst (λ (o : List ℕ). is_event_word o ≡ true) ((bytes_eq-Decides op (codes "S")).0 e) event in
+        let clash : false ≡ true = sym other ∙ subst (λ (o : List ℕ). is_event_word o ≡ true) ((bytes_eq-Decides op word).0 e) event in
         cc clash
     by false e = refl
+
+word-settles : (op : List ℕ) → is_event_word op ≡ true → (bytes_eq op (codes "S") || bytes_eq op (codes "Q")) ≡ false
+word-settles op event = rw (other-word op (codes "S") event refl, other-word op (codes "Q") event refl) refl
 
 event-settles : (a op b c : List ℕ) → is_event_word op ≡ true → is_settle (a ∷ op ∷ b ∷ c ∷ []) ≡ false
 unfolding field_at

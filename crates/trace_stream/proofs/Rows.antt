@@ -6,11 +6,11 @@ use Rattle.csv.specs.declared.parser.State.TheVariants as st
 use Rattle.trace_reader.specs.{Records.unended, Rows.event_of, Trace.is_header, declared.fault.Kind.Kind}
 use Rattle.trace_reader.proofs.Reading.{records_from-none, records_from-some, shorter, unended-le}
 use Rattle.trace_reader.specs.declared.fault.Kind.TheVariants as kind
-use Rattle.trace_stream.specs.{Arrived.{Arrived, Comes, StaysEnded}, Asked.{asked_event, asked_of, asked_settle, is_settle, rows_after, settle_of, tick_asked}}
+use Rattle.trace_stream.specs.{Arrived.{Arrived, Comes, StaysEnded}, Asked.{asked_event, asked_of, asked_settle, is_query, is_settle, rows_after, settle_of, tick_asked}}
 use Rattle.trace_stream.specs.Kept.{FindsKept, IsKeptOf, kept_fields, most_fields}
 use Rattle.trace_stream.specs.Stream.{AsksNext, HasFault, HasFront, Opens, Standing, asked_before, asked_from, front_from, front_of, front_records, front_rows, is_past}
 use Rattle.trace_stream.specs.{Stream.{most_streamed, records_left, stream_fault_at, stream_of, stream_records, stream_rows}, declared.asked.Asked.Asked}
-use Rattle.trace_stream.{specs.declared.asked.Asked.TheVariants.{Happens, Settle}, proofs.Judging.{asked-kept, header-kept, is_settle-kept}}
+use Rattle.trace_stream.{specs.declared.asked.Asked.TheVariants.{Happens, Settle, Query}, proofs.Judging.{asked-kept, header-kept, is_settle-kept}}
 use Rattle.trace_stream.proofs.{KeptRecords.{kept_read, next_kept-is, none-kept, some-is, some-kept}, Steps.comes-back}
 use Rattle.trace_stream.specs.declared.fault.StreamFault.TheVariants as fault
 
@@ -224,6 +224,7 @@ pub happens-counted : (n lines before : ℕ) (fields : List (List ℕ)) (asked :
     → rows_after rows asked ≤ most_streamed
 unfolding asked_of
 happens-counted n lines before fields (Settle tick) rows e within past = within
+happens-counted n lines before fields (Query tick) rows e within past = within
 happens-counted n lines before fields (Happens event) rows e within past = by (is_settle fields) refl e
   where
     few : (b : Bool) → is_settle fields ≡ b → b ≡ false → rows + 1 ≤ most_streamed
@@ -238,12 +239,13 @@ happens-counted n lines before fields (Happens event) rows e within past = by (i
         less : (rows == most_streamed) ≡ false → rows + 1 ≤ most_streamed
         less other = grind (arith, nat_tests)
 
-    settles : (r : Result ℕ Kind) → asked_settle {n = n} r ≡ Ok (Happens event) → ⊥
-    settles (Ok tick) q = cc q
-    settles (Err kind) q = cc q
+    settles : (query : Bool) (r : Result ℕ Kind) → asked_settle {n = n} query r ≡ Ok (Happens event) → ⊥
+    settles true (Ok tick) q = cc q
+    settles false (Ok tick) q = cc q
+    settles query (Err kind) q = cc q
 
-    by : (b : Bool) → is_settle fields ≡ b → (if b then asked_settle (settle_of before fields) else asked_event (event_of n lines before fields)) ≡ Ok (Happens event) → rows + 1 ≤ most_streamed
-    by true is q = absurd (settles (settle_of before fields) q)
+    by : (b : Bool) → is_settle fields ≡ b → (if b then asked_settle (is_query fields) (settle_of before fields) else asked_event (event_of n lines before fields)) ≡ Ok (Happens event) → rows + 1 ≤ most_streamed
+    by true is q = absurd (settles (is_query fields) (settle_of before fields) q)
     by false is q = few (is_settle fields) refl is
 
 -- the header

@@ -1,5 +1,5 @@
 -- What a streamed trace has to do with a whole one.
-use Rattle.std.proofs.Common.{◌≡◌, ◌≢◌, ℕ, ◌+◌, ◌≤◌, ◌==◌, ◌&&◌, List, [], ◌∷◌, length, true, false, Bool, Option, Some, None, refl, sym, ap, ◌∙◌, arith, nat_lt}
+use Rattle.std.proofs.Common.{◌≡◌, ◌≢◌, ℕ, ◌+◌, ◌≤◌, ◌==◌, ◌&&◌, ◌||◌, List, [], ◌∷◌, length, true, false, Bool, Option, Some, None, refl, sym, ap, ◌∙◌, arith, nat_lt}
 use Rattle.std.{specs.Prelude.{codes, if◌then◌else◌, Result, Ok, Err}, specs.Str.bytes_eq, proofs.lemmas.Bool.Decides.nat_tests, proofs.lemmas.Slice.Eq.bytes_eq-Decides}
 use Rattle.csv.specs.Reading.{default_config, records, strip_bom}
 use Rattle.trace_reader.specs.Rows.{event_at, event_of, op_of, or_fault, text_at, tick_of}
@@ -7,17 +7,23 @@ use Rattle.trace_reader.specs.{Trace.{and_then_rows, event_before, events_of, fa
 use Rattle.trace_reader.specs.{declared.event.EventOp.EventOp, declared.fault.Kind.Kind, declared.fault.ParseFault.ParseFault, declared.fault.TraceFault.TraceFault}
 use Rattle.trace_reader.specs.declared.fault.Kind.TheVariants as kind
 use Rattle.trace_reader.specs.declared.fault.ParseFault.TheVariants as whole
-use Rattle.trace_stream.specs.{Asked.{asked_event, asked_of, asked_settle, is_settle, rows_after, settle_of, tick_asked}, Laws.{FaultLaw, StreamLaw, TraceLaw, all_events}}
+use Rattle.trace_stream.specs.{Asked.{asked_event, asked_of, asked_settle, is_query, is_settle, rows_after, settle_of, tick_asked}, Laws.{FaultLaw, StreamLaw, TraceLaw, all_events}}
 use Rattle.trace_stream.specs.{Stream.{and_then_asked, asked_before, is_past, most_streamed, stream_fault_at, stream_of, stream_records, stream_rows}, declared.asked.Asked.Asked}
 use Rattle.trace_stream.specs.{declared.asked.Asked.TheVariants.Happens, declared.fault.StreamFault.StreamFault}
 use Rattle.trace_stream.specs.declared.fault.StreamFault.TheVariants as fault
 
 -- an operation to settle is none of a trace
-settle-op : (n lines : ℕ) (op line payload : List ℕ) → bytes_eq op (codes "S") ≡ true → op_of n lines op line payload ≡ Err kind.Op
+settle-op : (n lines : ℕ) (op line payload : List ℕ) → (bytes_eq op (codes "S") || bytes_eq op (codes "Q")) ≡ true → op_of n lines op line payload ≡ Err kind.Op
 unfolding op_of
-settle-op n lines op line payload is =
-    let word : op ≡ codes "S" = (bytes_eq-Decides op (codes "S")).0 is in
-    rw word refl
+settle-op n lines op line payload is = by (bytes_eq op (codes "S")) refl is
+  where
+    by : (b : Bool) → bytes_eq op (codes "S") ≡ b → (b || bytes_eq op (codes "Q")) ≡ true → op_of n lines op line payload ≡ Err kind.Op
+    by true e q =
+        let word : op ≡ codes "S" = (bytes_eq-Decides op (codes "S")).0 e in
+        rw word refl
+    by false e q =
+        let word : op ≡ codes "Q" = (bytes_eq-Decides op (codes "Q")).0 q in
+        rw word refl
 
 and-first : (p q : Bool) → (p && q) ≡ true → p ≡ true
 and-first true q h = refl
@@ -72,7 +78,7 @@ pub asked-ok : (n lines before : ℕ) (fields : List (List ℕ)) (event : Event 
 unfolding asked_of
 asked-ok n lines before fields event e = by (is_settle fields) refl
   where
-    by : (b : Bool) → is_settle fields ≡ b → (if b then asked_settle (settle_of before fields) else asked_event (event_of n lines before fields)) ≡ Ok (Happens event)
+    by : (b : Bool) → is_settle fields ≡ b → (if b then asked_settle (is_query fields) (settle_of before fields) else asked_event (event_of n lines before fields)) ≡ Ok (Happens event)
     by true is = absurd (no-event before (tick_of (text_at fields 0)) event (sym (settle-event n lines before fields is) ∙ e))
     by false is = rw e refl
 
@@ -80,7 +86,7 @@ asked-err : (n lines before : ℕ) (fields : List (List ℕ)) (bad : Kind) → b
 unfolding asked_of
 asked-err n lines before fields bad other e = by (is_settle fields) refl
   where
-    by : (b : Bool) → is_settle fields ≡ b → (if b then asked_settle {n = n} (settle_of before fields) else asked_event (event_of n lines before fields)) ≡ Err bad
+    by : (b : Bool) → is_settle fields ≡ b → (if b then asked_settle {n = n} (is_query fields) (settle_of before fields) else asked_event (event_of n lines before fields)) ≡ Err bad
     by true is = rw (settle-fault n before fields bad (tick_of (text_at fields 0)) refl other (sym (settle-event n lines before fields is) ∙ e)) refl
     by false is = rw e refl
 
@@ -89,9 +95,10 @@ pub event-asked : (n lines before : ℕ) (fields : List (List ℕ)) (event : Eve
 unfolding asked_of
 event-asked n lines before fields event h = by (is_settle fields) h
   where
-    settles : (r : Result ℕ Kind) → asked_settle {n = n} r ≡ Ok (Happens event) → event_of n lines before fields ≡ Ok event
-    settles (Ok tick) q = cc q
-    settles (Err kind) q = cc q
+    settles : (query : Bool) (r : Result ℕ Kind) → asked_settle {n = n} query r ≡ Ok (Happens event) → event_of n lines before fields ≡ Ok event
+    settles true (Ok tick) q = cc q
+    settles false (Ok tick) q = cc q
+    settles query (Err kind) q = cc q
 
     happens : (r : Result (Event n) Kind) → asked_event r ≡ Ok (Happens event) → r ≡ Ok event
     happens (Ok found) q =
@@ -99,8 +106,8 @@ event-asked n lines before fields event h = by (is_settle fields) h
         ap Ok same
     happens (Err kind) q = cc q
 
-    by : (b : Bool) → (if b then asked_settle (settle_of before fields) else asked_event (event_of n lines before fields)) ≡ Ok (Happens event) → event_of n lines before fields ≡ Ok event
-    by true q = settles (settle_of before fields) q
+    by : (b : Bool) → (if b then asked_settle (is_query fields) (settle_of before fields) else asked_event (event_of n lines before fields)) ≡ Ok (Happens event) → event_of n lines before fields ≡ Ok event
+    by true q = settles (is_query fields) (settle_of before fields) q
     by false q = happens (event_of n lines before fields) q
 
 -- one row in front of others

@@ -2,7 +2,7 @@
 ghost use Rattle.std.specs.Prelude.{◌≡◌, ◌<◌, ◌≤◌};
 ghost use Rattle.trace_reader.specs.Rows.{event_of};
 ghost use Rattle.trace_reader.specs.Trace.{is_header};
-ghost use Rattle.trace_stream.specs.Asked.{asked_of, is_event_word, is_settle, rows_after, settle_of, tick_asked};
+ghost use Rattle.trace_stream.specs.Asked.{asked_of, is_event_word, is_query, is_settle, rows_after, settle_of, tick_asked};
 
 use crate::kept::Gathered;
 use trace_reader::{Event, Kind, LATEST_TICK, number, read_fields};
@@ -14,6 +14,8 @@ pub enum Asked<const B: usize> {
     Happens(Event<B>),
     /// Every bank comes to this tick. The row has no number.
     Settle(u64),
+    /// Every bank comes to this tick, and what waits in each then is asked. The row has no number.
+    Query(u64),
 }
 
 impl<const B: usize> Asked<B> {
@@ -23,7 +25,7 @@ impl<const B: usize> Asked<B> {
     {
         match self {
             Asked::Happens(event) => event.tick,
-            Asked::Settle(tick) => *tick,
+            Asked::Settle(tick) | Asked::Query(tick) => *tick,
         }
     }
 
@@ -34,7 +36,7 @@ impl<const B: usize> Asked<B> {
     {
         match self {
             Asked::Happens(_) => rows + 1,
-            Asked::Settle(_) => rows,
+            Asked::Settle(_) | Asked::Query(_) => rows,
         }
     }
 }
@@ -51,11 +53,18 @@ pub fn is_header_row(row: &Gathered) -> bool
         && row.field(3) == b"data".as_slice()
 }
 
-/// Whether it is a row that settles, right or wrong.
+/// Whether it is a row that settles, right or wrong, as a query does.
 pub fn is_settle_row(row: &Gathered) -> bool
     ensures { result ≡ is_settle row.now.fields }
 {
-    row.count() == 4 && row.field(1) == b"S".as_slice()
+    row.count() == 4 && (row.field(1) == b"S".as_slice() || is_query_row(row))
+}
+
+// Whether a row that settles is a query.
+fn is_query_row(row: &Gathered) -> bool
+    ensures { result ≡ is_query row.now.fields }
+{
+    row.field(1) == b"Q".as_slice()
 }
 
 /// Whether an operation is a read, a write or a cut, which every trace has.
@@ -110,9 +119,13 @@ pub fn read_asked<const B: usize>(row: &Gathered, lines: u32, before: u64) -> Re
     requires { 1 ≤ lines }
     ensures { result ≡ asked_of B lines before row.now.fields }
 {
-    if is_settle_row(row) {
-        Ok(Asked::Settle(read_settle(row, before)?))
+    if !is_settle_row(row) {
+        return Ok(Asked::Happens(read_event(row, lines, before)?));
+    }
+    let tick = read_settle(row, before)?;
+    if is_query_row(row) {
+        Ok(Asked::Query(tick))
     } else {
-        Ok(Asked::Happens(read_event(row, lines, before)?))
+        Ok(Asked::Settle(tick))
     }
 }

@@ -12,3 +12,8 @@ pub returns-in-Settle-clause-serves : goal.returns-in-Settle-clause-serves
 returns-in-Settle-clause-serves g c =
     let P : Asked g.row.B → Type 0 = λ row. ServesOn (λ before. row) c.args.pcm.now c.serve_settle.new.pcm (g.A.CellArray.state c.args.array.now) (g.A.CellArray.state c.serve_settle.new.array) c.args.out.now c.serve_settle.new.out in
     subst P (sym c.in-Settle.is) c.serve_settle.ensures.serves
+
+pub returns-in-Query-clause-serves : goal.returns-in-Query-clause-serves
+returns-in-Query-clause-serves g c =
+    let P : Asked g.row.B → Type 0 = λ row. ServesOn (λ before. row) c.args.pcm.now c.serve_query.new.pcm (g.A.CellArray.state c.args.array.now) (g.A.CellArray.state c.serve_query.new.array) c.args.out.now c.serve_query.new.out in
+    subst P (sym c.in-Query.is) c.serve_query.ensures.serves

@@ -1,4 +1,6 @@
+use Rattle.std.proofs.Common.{[], ◌∷◌, refl}
 use Rattle.ghost_list.specs.Items.{items}
+use Rattle.row_printer.specs.declared.told.Told.TheVariants.{Settled}
 use Rattle.row_printer.proofs.Telling.{outcomes-same}
 use Rattle.row_printer.proofs.printer.RowPrinter.settled.Goals as goal
 
@@ -8,8 +10,8 @@ invariant_of-self g c =
       few = c.self.invariant.few;
       shown = c.self.invariant.shown;
       limit = c.print_line-self-inside.ensures.limit;
-      once = rw (outcomes-same (items c.self.inside.told) c.args.tick) c.self.invariant.once;
-      counted = rw (outcomes-same (items c.self.inside.told) c.args.tick) c.self.invariant.counted;
+      once = rw (outcomes-same (items c.self.inside.told) (Settled c.args.tick ∷ []) refl) c.self.invariant.once;
+      counted = rw (outcomes-same (items c.self.inside.told) (Settled c.args.tick ∷ []) refl) c.self.invariant.counted;
     })
 
 pub returns-clause-printing : goal.returns-clause-printing

@@ -1,0 +1,90 @@
+// What a query is answered.
+ghost use Rattle.std.specs.Prelude.{◌≡◌, ℕ, ◌≤◌, List, ◌++◌, Option};
+ghost use Rattle.ecp_line.specs.Layout.{IsLayout};
+ghost use Rattle.trace_reader.specs.Rows.{latest_tick};
+ghost use Rattle.trace_stream.specs.declared.asked.Asked.TheVariants.{Query};
+ghost use Rattle.row_printer.specs.Printing.{IsPrinting};
+ghost use Rattle.row_stream.specs.Answering.{backlog_of, banks_told, mark_of};
+ghost use Rattle.row_stream.specs.Serving.{MayServe, ServesOn};
+
+use bank_timing::clocked::Timed;
+use cell_wear::TellsCells;
+use pcm_io::Sink;
+use pcm_module::Module;
+use row_printer::{Backlog, Mark, RowPrinter};
+
+/// Brings every bank to a tick, and tells, behind what became known by it, what waits in each bank then, and the tick.
+pub fn serve_query<
+    const B: usize,
+    const M: usize,
+    const E: usize,
+    A: TellsCells<B, M>,
+    K: Sink + Drop,
+>(pcm: &mut Module<B, M, E>, array: &mut A, tick: u64, out: &mut RowPrinter<B, K>)
+    requires layout { IsLayout B M E }
+    requires rises { pcm.old.tick ≤ tick }
+    requires in_time { tick ≤ latest_tick }
+    requires serving { MayServe pcm.old (A.state array.old) out.old }
+    ensures serves { ServesOn (λ before. Query tick) pcm.old pcm.new (A.state array.old)
+        (A.state array.new) out.old out.new }
+    ensures printing { (before : Option (List ℕ)) (first : ℕ)
+        → IsPrinting K.written K.faults before first out.old
+        → IsPrinting K.written K.faults before first out.new }
+{
+    pcm.settle(array, tick, out);
+    out.tells_once();
+    tell_banks(tick, pcm, out);
+    out.settled(tick);
+}
+
+// Tells what waits in each bank, in order.
+fn tell_banks<const B: usize, const M: usize, const E: usize, K: Sink + Drop>(
+    tick: u64,
+    pcm: &Module<B, M, E>,
+    out: &mut RowPrinter<B, K>,
+)
+    requires layout { IsLayout B M E }
+    ensures rows { out.new.rows ≡ out.old.rows }
+    ensures told { out.new.told
+        ≡ out.old.told ++ banks_told pcm.now tick pcm.now.shape.banks }
+    ensures snapshots { out.new.snapshots ≡ out.old.snapshots }
+    ensures prints { out.new.prints ≡ out.old.prints }
+    ensures printing { (before : Option (List ℕ)) (first : ℕ)
+        → IsPrinting K.written K.faults before first out.old
+        → IsPrinting K.written K.faults before first out.new }
+{
+    for bank in 0..pcm.shape().banks() {
+        out.bank(tick, look_at(bank, pcm.timed(bank)));
+    }
+}
+
+// What waits in a bank of this number.
+fn look_at<const B: usize, const M: usize, const E: usize>(
+    bank: u32,
+    timed: &Timed<B, M, E>,
+) -> Backlog
+    requires layout { IsLayout B M E }
+    ensures { result ≡ backlog_of bank timed.now }
+{
+    let inside = timed.bank();
+    let kept = inside.kept();
+    Backlog {
+        bank,
+        writes: kept.len() as u16,
+        reads: inside.waiting() as u16,
+        mark: marked(kept.exhausted(), timed.regs().halted()),
+    }
+}
+
+// The mark of a bank.
+fn marked(exhausted: bool, halted: bool) -> Mark
+    ensures { result ≡ mark_of exhausted halted }
+{
+    if exhausted {
+        Mark::Exhausted
+    } else if halted {
+        Mark::Halted
+    } else {
+        Mark::Going
+    }
+}
