@@ -1,5 +1,5 @@
 mod Faults
-mod Judged
+pub mod Judged
 mod Printed
 pub mod Plain
 mod Breaking

@@ -5,11 +5,11 @@
 ghost use Rattle.check_text.specs.PrintedLaw.{PrintedLaw};
 ghost use Rattle.check_text.specs.SplitLaw.{SplitLaw};
 
-mod asks;
-mod banks;
+pub mod asks;
+pub mod banks;
 mod fault;
-mod rules;
-mod text;
+pub mod rules;
+pub mod text;
 mod verdict;
 
 pub use fault::TextFault;

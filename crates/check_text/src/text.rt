@@ -17,8 +17,8 @@ use result_rows::Results;
 use std::alloc::Global;
 use trace_reader::{Event, MOST_ROWS, parse};
 
-// The trace of a text, up to its results.
-fn trace<const B: usize>(
+/// The trace of a text, up to its results.
+pub fn trace<const B: usize>(
     alloc: Global,
     bytes: &[u8],
     lines: u32,
@@ -33,8 +33,8 @@ fn trace<const B: usize>(
     Ok(parse(alloc, bytes, lines)?)
 }
 
-// The results of these events.
-fn results<const B: usize>(
+/// The results of these events.
+pub fn results<const B: usize>(
     alloc: Global,
     bytes: &[u8],
     events: &[Event<B>],

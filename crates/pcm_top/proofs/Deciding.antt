@@ -94,7 +94,7 @@ input-fault-status job Source fault s bytes told calm cause = fault-status (byte
 input-fault-status job (Drawn mix) fault s bytes told calm cause = inr (ap status_of cause)
 
 -- the status of a check, by its bytes
-by-text : (n e : ℕ) (job : CheckJob) (bytes found : List ℕ) (status : ℕ) → found ≡ bytes → length found ≤ trace_room room_line → IsTextStatus n e job found status → IsCheckStatus n e job bytes status
+pub by-text : (n e : ℕ) (job : CheckJob) (bytes found : List ℕ) (status : ℕ) → found ≡ bytes → length found ≤ trace_room room_line → IsTextStatus n e job found status → IsCheckStatus n e job bytes status
 by-text n e job bytes found status same within has =
     let With : List ℕ → Type 0 = λ bs. IsCheckStatus n e job bs status in
     subst With same (inr (within, has))

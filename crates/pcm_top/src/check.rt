@@ -33,8 +33,8 @@ fn read_verdict<const B: usize, const E: usize, S: Source>(
     Ok(verdict)
 }
 
-// How a check was done, by its verdict.
-fn ending(verdict: Verdict) -> Done
+/// How a check was done, by its verdict.
+pub fn done_on(verdict: Verdict) -> Done
     ensures { result ≡ done_on verdict }
 {
     match verdict {
@@ -69,7 +69,7 @@ fn check<const B: usize, const E: usize, S: Source, K: Sink>(
 {
     let verdict = read_verdict::<B, E, S>(alloc, job, source)?;
     write_verdict(alloc, verdict, out)?;
-    Ok(ending(verdict))
+    Ok(done_on(verdict))
 }
 
 /// Reads a trace and its results, and writes the verdict on them.

@@ -17,7 +17,8 @@ mod report;
 mod run;
 mod show;
 
-pub use check::CHECK_ROOM;
-pub use fault::Fault;
+pub use check::{CHECK_ROOM, done_on};
+pub use fault::{Fault, tell};
 pub use input::TRACE_ROOM;
 pub use program::pcm_run;
+pub use run::Done;
