@@ -16,7 +16,8 @@ use pcm_io::{Sink, Source};
 use pcm_top::{Done, Fault};
 use std::alloc::Global;
 
-// The status of a fault, after its line was written; that of a fault of writing where the line couldn't be.
+// The status of a fault, after its line was written; that of a fault of writing where the line
+// couldn't be.
 fn give_up<F: Sink>(fault: Fault, err: &mut F) -> u8
     ensures { IsToldOf fault (sink_change F.written F.faults err.old err.new) result }
 {
@@ -56,9 +57,10 @@ fn work<S: Source, K: Sink>(
     report_explanation(alloc, &job, source, out)
 }
 
-/// Runs the program on the words behind its name, and answers its status: 0 the verdict is ok, 1 a row breaks a rule, and that is explained,
-/// 2 the words ask for nothing, 3 the trace or its results have a fault, 4 reading failed, 5 writing failed, 6 there are too many bytes or
-/// rows, 7 memory ran out. The source is read to its end before the first byte is written.
+/// Runs the program on the words behind its name, and answers its status: 0 the verdict is ok, 1 a
+/// row breaks a rule, and that is explained, 2 the words ask for nothing, 3 the trace or its
+/// results have a fault, 4 reading failed, 5 writing failed, 6 there are too many bytes or rows, 7
+/// memory ran out. The source is read to its end before the first byte is written.
 pub fn explain_run<S: Source, K: Sink, F: Sink>(
     alloc: Global,
     words: &[String],
@@ -66,7 +68,8 @@ pub fn explain_run<S: Source, K: Sink, F: Sink>(
     out: &mut K,
     err: &mut F,
 ) -> u8
-    // What was asked for, what was lent, and what became of it: each promise is a field of `KeepsPromises`.
+    // What was asked for, what was lent, and what became of it: each promise is a field of
+    // `KeepsPromises`.
     ensures { KeepsPromises (record {
       asked = explain_job_of (map string_bytes words.now);
       source = lent_source S.left S.taken S.faults source.old source.new;

@@ -111,8 +111,8 @@ fn explain_rows<const B: usize, const E: usize>(
     }
 }
 
-/// What is told of the results that stand behind a trace, for a module of this shape whose randomiser has this seed. A line has `B` bytes
-/// and `E` error-correcting pointers.
+/// What is told of the results that stand behind a trace, for a module of this shape whose
+/// randomiser has this seed. A line has `B` bytes and `E` error-correcting pointers.
 pub fn explain_text<const B: usize, const E: usize>(
     alloc: Global,
     bytes: &[u8],

@@ -1,5 +1,5 @@
-//! The program that explains a verdict: it hands its words, standard input, standard output and standard error to `explain_run`, and
-//! ends with the status that this answers.
+//! The program that explains a verdict: it hands its words, standard input, standard output and
+//! standard error to `explain_run`, and ends with the status that this answers.
 #![tactic(auto)]
 
 use explain_top::explain_run;
