@@ -7,6 +7,7 @@ use crate::sink::CaseSink;
 use crate::source::CaseSource;
 use crate::stream::{are_same, without_op};
 use crate::tally::Tally;
+use explain_top::explain_run;
 use pcm_cells::{CellArray, Cells, MemArray, ScriptArray, TellsCells};
 use pcm_top::pcm_run;
 use std::alloc::{AllocError, Global};
@@ -127,7 +128,8 @@ fn answer_over<A: TellsCells<64, 8>, V: TellsCells<128, 16>>(
     ends.answer(alloc, case, status, arrays)
 }
 
-// Plays the words on the program of streams where the first one says so, or else on the other.
+// Plays the words on the program of streams, or the one that explains, where the first one says
+// so, or else on the other.
 fn run<A: TellsCells<64, 8>, V: TellsCells<128, 16>>(
     alloc: Global,
     case: &Case,
@@ -143,6 +145,10 @@ fn run<A: TellsCells<64, 8>, V: TellsCells<128, 16>>(
     let (status, out) = match case.words.as_slice() {
         [first, words @ ..] if first.as_str() == "stream" => {
             stream_run(alloc, words, array, wide, &mut source, out, &mut err)
+        }
+        [first, words @ ..] if first.as_str() == "explain" => {
+            let status = explain_run(alloc, words, &mut source, &mut *out, &mut err);
+            (status, out)
         }
         words => {
             let status = pcm_run(alloc, words, array, wide, &mut source, &mut *out, &mut err);

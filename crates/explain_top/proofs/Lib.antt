@@ -1,0 +1,6 @@
+-- Lemmas of the program that explains.
+mod Deciding
+mod Rows
+mod Sizes
+mod Telling
+mod Told
