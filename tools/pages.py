@@ -132,7 +132,9 @@ def faults():
             if not re.search(rf"`--{option}\b[ `]", stated):
                 yield f"docs/USING.md: pcm {name} doesn't name --{option}"
         yield from wrong_range(name, "\n".join(section(f"pcm {name}")))
-        for option in set(re.findall(r"`--([a-z-]+)", text)) - set(table().COMMANDS[name].options) - {"option", "print"}:
+        flags = table().FLAGS.get(name, {})
+        yield from (f"docs/USING.md doesn't name --{it}" for it in flags if f"--{it}" not in USING.read_text(encoding="utf-8"))
+        for option in set(re.findall(r"`--([a-z-]+)", text)) - {*table().COMMANDS[name].options, *flags, "option", "print"}:
             yield f"docs/USING.md: pcm {name} names --{option}, which python/pcm/words.py doesn't have"
 
 
@@ -148,12 +150,14 @@ def bash():
     words = table()
     cases = []
     for command in words.COMMANDS.values():
-        cases.append(f"        {command.name}) options=\"{' '.join(f'--{it}' for it in command.options)}\" ;;")
+        options = (*command.options, *words.FLAGS.get(command.name, {}))
+        cases.append(f"        {command.name}) options=\"{' '.join(f'--{it}' for it in options)}\" ;;")
     chosen = {}
     for command in words.COMMANDS.values():
         for option in command.options.values():
             if option.choices:
                 chosen.setdefault((option.name, values(option)), []).append(command.name)
+    flags = " ".join(sorted({f"--{it}" for named in words.FLAGS.values() for it in named}))
     picks = [f'        {pattern} known="{known}" ;;' for (name, known), commands in chosen.items()
              for pattern in ["|".join(f"{it}--{name}" for it in commands) + ")"]]
     return f"""# bash completion for pcm(1), made from its table of options.
@@ -173,7 +177,7 @@ _pcm() {{
 {chr(10).join(picks)}
         helphelp) known="{' '.join(words.COMMANDS)}" ;;
         pathpath) known="{' '.join(words.ALONE)}" ;;
-        *--*) if [[ $before == --* && $before != --help ]]; then return; fi ;;
+        *--*) if [[ $before == --* && " --help {flags} " != *" $before "* ]]; then return; fi ;;
     esac
     if [ -n "$known" ]; then
         mapfile -t COMPREPLY < <(compgen -W "$known" -- "$word")
@@ -206,6 +210,7 @@ def zsh():
         for it in command.options.values():
             action = f":{it.value}:({values(it)})" if it.choices else f":{it.value} ({it.range()}; {it.default}): "
             cases.append(f"                '--{it.name}=[{quoted(it.about)}]{action}' \\")
+        cases += [f"                '--{name}[{quoted(about)}]' \\" for name, about in words.FLAGS.get(command.name, {}).items()]
         cases.append("                '--help[print the page of this command]' ;;")
     return f"""#compdef pcm
 # zsh completion for pcm(1), made from its table of options.

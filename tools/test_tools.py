@@ -368,6 +368,24 @@ class Wrapper(unittest.TestCase):
         said = "line 4: the fourth field of R may be read, forwarded, busy or lost (queued is of W)"
         self.assertEqual(done.stderr, f"results row 1\npcm: {said}\n")
 
+    def test_all_banks_are_explained_by_python(self):
+        done = self.room.run("pcm", "explain", "--all", "--spares", "5")
+        said = "explain: line 1 of an explanation should be `row NUMBER: RULE`, or `ok`, and is 'pcm_explain --spares 5'\n"
+        self.assertEqual((done.returncode, done.stdout, done.stderr), (3, "", said))
+        self.assertEqual(self.room.run("pcm", "explain", "--spares", "5", "--all", PCM="nowhere").stderr, said)
+        done = self.room.run("pcm", "explain", "--spares", "none", "--all")
+        self.assertEqual((done.returncode, done.stdout), (2, ""))
+        self.assertIn("--spares none: it may be a number of decimal digits alone, 0 to 1024", done.stderr)
+        self.assertEqual(self.room.run("pcm", "check", "--all").stdout, "pcm_cli check --all\n")
+
+    def test_without_python_it_says_what_all_banks_need(self):
+        room = self.room.folder / "few tools"
+        room.mkdir()
+        for name in ("sh", "dirname", "readlink"):
+            os.symlink(shutil.which(name), room / name)
+        done = self.room.run("pcm", "explain", "--all", PATH=str(room))
+        self.assertEqual((done.returncode, done.stdout, done.stderr), (2, "", "pcm: --all needs python3\n"))
+
     def test_a_build_of_one_program_makes_no_other(self):
         other = self.room.repository("another clone")
         self.room.called()
@@ -415,6 +433,7 @@ class Installed(unittest.TestCase):
         self.assertEqual(self.pcm("map").stdout, "pcm_cli map\n")
         self.assertEqual(self.pcm("stream", "--psi", "5").stdout, "pcm_stream --psi 5\n")
         self.assertEqual(self.pcm("explain", "--spares", "5").stdout, "pcm_explain --spares 5\n")
+        self.assertIn("and is 'pcm_explain --spares 5'", self.pcm("explain", "--all", "--spares", "5").stderr)
         self.assertEqual(self.pcm("--version").stdout, (TOP / "VERSION").read_text())
         self.assertIn("pcm show <", self.pcm("help", "show").stdout)
         self.assertNotIn("./pcm", self.pcm("help", "show").stdout)
@@ -491,7 +510,8 @@ class Pages(unittest.TestCase):
             "pcm st": ["stream"], "pcm run --pol": ["--policy"], "pcm run --policy c": ["cancel"], "pcm run --policy = c": ["cancel"],
             "pcm run --psi 5 --ps": [], "pcm help mo": ["moves"], "pcm path ": ["stream", "explain"], "pcm stream --print s": ["summary", "snapshots"],
             "pcm run --print s": ["summary"], "pcm run --psi ": [], "pcm show ": ["--help"], "pcm run --banks 1": ["1", "16"],
-            "pcm e": ["explain"], "pcm explain --p": ["--policy"], "pcm explain --policy c": ["cancel"],
+            "pcm e": ["explain"], "pcm explain --p": ["--policy"], "pcm explain --policy c": ["cancel"], "pcm explain --a": ["--all"],
+            "pcm explain --all --a": [], "pcm explain --all --li": ["--lines", "--line"], "pcm stream --pro": ["--progress"],
         }
         for line, found in wanted.items():
             words = line.split(" ")
@@ -506,7 +526,7 @@ class Words(unittest.TestCase):
         wanted = {
             "run --polcy pause": "--polcy is no option of run (did you mean --policy?)",
             "run --hi 5": "--hi 5 is below --lo 100000000 (its default): give both, --lo not above --hi",
-            "run -p 3": "-p: options are whole words with two dashes, as --psi, --policy or --print",
+            "run -p 3": "-p: options are whole words with two dashes, as --psi, --policy, --print or --progress",
             "run --lines 100": "--lines 100: it may be a power of two, 4 to 4096; nearest are 64 and 128",
             "run --psi 1 --psi=2": "--psi stands twice",
             "run --psi": "--psi lacks its value: it may be 1 to 65535",
@@ -516,6 +536,9 @@ class Words(unittest.TestCase):
             "rum": "there is no command rum (did you mean run?)",
             "explian": "there is no command explian (did you mean explain?)",
             "explain --psi 5": "--psi is no option of explain, but of run or stream",
+            "explain --al": "--al is no option of explain (did you mean --all?)",
+            "explain --all=3": "--all=3: --all has no value",
+            "check --all": "--all is no option of check, but of explain",
             "explain --lines 100": "--lines 100: it may be a power of two, 4 to 4096; nearest are 64 and 128",
             "run": None,
             "stream --print snapshots --every 5 --rows=4000000000 --step 0 --input drawn": None,
@@ -527,7 +550,7 @@ class Words(unittest.TestCase):
         head, line = "tick,op,arg,data\n", "ab" * 64
         wanted = [
             (f"{head}0,R,0,\n\n5,R,0,,\n", "run", "trace row 2: fields", "line 4: it has 5 fields, and must have four: tick,op,arg,data"),
-            (f"{head}0,R,0,\n5,S,,\n6,X,0,\n", "stream", "trace row 2: op", "line 4: the second field must be R, W, M, C or S, and is 'X'"),
+            (f"{head}0,R,0,\n5,S,,\n6,X,0,\n", "stream", "trace row 2: op", "line 4: the second field must be R, W, M, C, S or Q, and is 'X'"),
             (f"{head}0,W,5,{line[:-1]}g\n", "run", "trace row 1: payload",
              "line 2: the fourth field has 'g' behind 127 characters, where it must be hexadecimal digits"),
             ("", "run", "trace row 0: header", "the file is empty: a trace begins with tick,op,arg,data"),

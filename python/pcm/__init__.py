@@ -26,6 +26,8 @@ Why results of a trace break a rule, and what would be right there::
     if told is not None:
         print(told.row, told.clause, told.sentence, told.right)
 
+`pcm.explain_all` tells the same of the first such row of each bank.
+
 `python3 -m pcm report --help` tells how to make a page of pictures and numbers of runs, `energy --help` what their writes cost,
 `latencies --help` how long rows took, and `explain --help` how to draw a row that breaks a rule.
 
@@ -35,9 +37,10 @@ program that isn't one of a whole run are exceptions (`PcmError`), which carry t
 built yet is built first, which tells on standard error how far it is.
 """
 from .errors import OutOfMemory, PcmError, ReadFault, TooLong, TraceError, UsageError, WriteFault
-from .explaining import explain
+from .explaining import explain, explain_all
 from .explanation import (
-    Answer, Asks, BankFact, BytesFact, Explanation, ExplanationError, Fact, ReadBetween, RowFact, RowsFact, StoredBy, TickFact, read_explanation,
+    Answer, Asks, BankFact, BytesFact, Explanation, ExplanationError, Fact, ReadBetween, RowFact, RowsFact, StoredBy, TickFact,
+    read_explanation,
 )
 from .frames import to_frame
 from .image import Bank, Entry, Image, ImageError, Region
@@ -54,6 +57,6 @@ __all__ = [
     "Forwarded", "Full", "Image", "ImageError", "Lost", "MaskedWrite", "Merged", "Module", "OutOfMemory", "Outcome", "PcmError", "PowerCut",
     "Query", "Queued", "Read", "ReadBetween", "ReadFault", "ReadOutcome", "Region", "Result", "ResultRow", "RowFact", "RowsFact", "Settle",
     "Settled", "Snapshot", "SnapshotError", "Stored", "StoredBy", "TickFact", "TooLong", "TraceError", "UsageError", "WearLine", "Worn",
-    "Write", "WriteFault", "command", "explain", "program", "read_explanation", "read_snapshots", "read_trace", "run", "snapshots",
-    "to_frame", "write_trace",
+    "Write", "WriteFault", "command", "explain", "explain_all", "program", "read_explanation", "read_snapshots", "read_trace", "run",
+    "snapshots", "to_frame", "write_trace",
 ]

@@ -1,7 +1,11 @@
-"""`python3 -m pcm COMMAND ..`: what the package does by itself."""
+"""`python3 -m pcm COMMAND ..`, or `python3 PATH COMMAND ..` with the folder's path: what the package does by itself."""
+import os
 import sys
 
-from . import differing, energy, explaining, latencies, report
+if not __package__:
+    sys.path[0] = os.path.dirname(os.path.dirname(os.path.abspath(__file__)))
+
+from pcm import differing, energy, explaining, latencies, report
 
 USAGE = "usage: python3 -m pcm report|energy|latencies|differ|explain .. [options]  (python3 -m pcm COMMAND --help tells more)"
 _COMMANDS = {

@@ -1,17 +1,19 @@
 """Why results of a trace break a rule: what the program says of them, and the row in time as a picture.
 
-usage: python3 -m pcm explain FILE [RESULTS] [options] [-o PICTURE]
+usage: python3 -m pcm explain FILE [RESULTS] [options] [--all | -o PICTURE]
 
 FILE has a trace with its results behind it, as `./pcm check` reads them, or the trace alone where RESULTS has its results; `-` is standard
 input. Options are those of `./pcm explain`, whose text is printed. Where a row breaks a rule, -o (--output) names a file of SVG that shows
-it among the rows of its bank: what it was told, and all answers that would be right. Statuses are those of `./pcm explain`: 0 where the
-results keep the rules, 1 where a row breaks one."""
+it among the rows of its bank: what it was told, and all answers that would be right. With --all stand behind check's line the explanations
+of the first row of each bank that breaks a rule, and how many banks have one. Statuses are those of `./pcm explain`: 0 where the results
+keep the rules, 1 where a row breaks one."""
 import io
 import os
 import subprocess
 import sys
-from typing import Dict, Iterable, List, Optional, Sequence, Tuple, Union
+from typing import Dict, Iterable, List, NamedTuple, Optional, Sequence, Tuple, Union
 
+from .bankwise import counted, firsts
 from .drawing import LIGHT, Picture
 from .errors import UsageError, WriteFault, error_of
 from .explanation import Explanation, read_explanation
@@ -35,6 +37,27 @@ def explain(
     given = _trace_of(trace)
     table = given.data if results is None else joined(given, _results_of(results))
     return read_explanation(said_of(table, words_of(options), program, None if given.kind == "rows" else given.name))
+
+
+def explain_all(
+    trace: Union[Iterable[Row], Path], results: Union[Iterable[ResultRow], Path, None] = None, /, *, program: Program = None, **options: object
+) -> List[Explanation]:
+    """Why the first row of each bank that breaks a rule does, in the order of banks, and behind them that of the first cut with another tick
+    than its own; nothing where all rows keep all rules. These don't follow from one another; most further rows of a bank follow from its
+    first. It takes what `explain` takes."""
+    given = _trace_of(trace)
+    table = given.data if results is None else joined(given, _results_of(results))
+    words = words_of(options)
+    return _all_of(table, words, program, None if given.kind == "rows" else given.name)[1]
+
+
+def _all_of(table: bytes, words: Sequence[str], program: Program, path: Optional[str]) -> Tuple[str, List[Explanation]]:
+    """What the program says of a whole table, and of each bank that breaks a rule."""
+    text = said_of(table, words, program, path)
+    if read_explanation(text) is None:
+        return text, []
+    options = {name[2:]: value for name, value in zip(words[::2], words[1::2])}
+    return text, firsts(table, options, lambda part: said_of(part, words, program), program)
 
 
 def said_of(table: bytes, words: Sequence[str], program: Program = None, path: Optional[str] = None) -> str:
@@ -77,16 +100,30 @@ def main(words: Sequence[str]) -> int:
     return answered("explain", __doc__, words, _explain)
 
 
+class Asked(NamedTuple):
+    """What the command is asked for: the names of the one or two files, the options, the picture's name, and whether all banks are told."""
+
+    names: List[str]
+    options: Dict[str, str]
+    output: Optional[str]
+    all_banks: bool
+
+
 def _explain(words: Sequence[str]) -> int:
-    names, options, output = _parsed(words)
-    trace = opened("trace", names[0])
-    table = trace if len(names) == 1 else trace._replace(data=joined(trace, opened("results", names[1])))
-    more = [word for name, value in options.items() for word in (f"--{name}", value)]
-    text = said_of(table.data, more, path=None if names[0] == "-" else names[0])
+    asked = _parsed(words)
+    trace = opened("trace", asked.names[0])
+    table = trace if len(asked.names) == 1 else trace._replace(data=joined(trace, opened("results", asked.names[1])))
+    more = [word for name, value in asked.options.items() for word in (f"--{name}", value)]
+    path = None if asked.names[0] == "-" else asked.names[0]
+    if asked.all_banks:
+        text, found = _all_of(table.data, more, None, path)
+        sys.stdout.write("".join([text.partition("\n")[0], "\n", *(it.text for it in found), counted(found, asked.options) if found else ""]))
+        return 1 if found else 0
+    text = said_of(table.data, more, path=path)
     sys.stdout.write(text)
     told = read_explanation(text)
-    if told is not None and output is not None:
-        _write(output, drawn(told, table, options).drawn())
+    if told is not None and asked.output is not None:
+        _write(asked.output, drawn(told, table, asked.options).drawn())
     return 0 if told is None else 1
 
 
@@ -98,26 +135,27 @@ def _write(name: str, text: str) -> None:
         raise WriteFault(5, f"{name}: {wrong.strerror}") from None
 
 
-def _parsed(words: Sequence[str]) -> Tuple[List[str], Dict[str, str], Optional[str]]:
-    """The names of the one or two files, the options, and the picture's name."""
-    names: List[str] = []
-    options: Dict[str, str] = {}
-    rest, output = list(words), None
+def _parsed(words: Sequence[str]) -> Asked:
+    """What words ask for."""
+    asked = Asked([], {}, None, "--all" in words)
+    rest = [word for word in words if word != "--all"]
     while rest:
         word = rest.pop(0)
         name, equals, value = word.lstrip("-").partition("=")
         if word == "-" or not word.startswith("-"):
-            names.append(word)
+            asked.names.append(word)
             continue
         if not equals and not rest:
             raise UsageError(2, f"{word} wants a value")
         value = value if equals else rest.pop(0)
         if word.partition("=")[0] in ("-o", "--output"):
-            output = value
-        elif name in options:
+            asked = asked._replace(output=value)
+        elif name in asked.options:
             raise UsageError(2, f"--{name} stands twice")
         else:
-            options[name] = value
-    if len(names) not in (1, 2):
-        raise UsageError(2, "usage: python3 -m pcm explain FILE [RESULTS] [options] [-o PICTURE]  (--help tells more)")
-    return names, options, output
+            asked.options[name] = value
+    if len(asked.names) not in (1, 2):
+        raise UsageError(2, "usage: python3 -m pcm explain FILE [RESULTS] [options] [--all | -o PICTURE]  (--help tells more)")
+    if asked.all_banks and asked.output is not None:
+        raise UsageError(2, "-o draws one row: --all can't stand beside it")
+    return asked

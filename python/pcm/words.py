@@ -149,6 +149,11 @@ COMMANDS = {
 }
 # Those that are programs of their own, beside the one that has the others.
 ALONE = ("stream", "explain")
+# What the wrapper takes behind a command besides its options, without a value.
+FLAGS = {
+    **dict.fromkeys(("run", "stream"), {"progress": "tells how far it is"}),
+    "explain": {"all": "explains the first row of each bank that breaks a rule"},
+}
 # What the wrapper answers by itself.
 WRAPPERS = {"help": "prints this help", "version": "prints the version", "path": "prints where the built program is"}
 # The greatest number of lines of a module, by whether it serves a stream.
@@ -181,16 +186,19 @@ def no_command(word: str) -> str:
 def _no_option(command: Command, word: str) -> str:
     """What to say of a word that stands where an option should."""
     name = word.partition("=")[0].lstrip("-")
-    marked = [f"--{it}" for it in command.options]
+    flags = FLAGS.get(command.name, {})
+    marked = [f"--{it}" for it in (*command.options, *flags)]
     if not word.startswith("-"):
         if os.path.exists(word):
             return f"{word} is a file: what {command.name} reads comes on standard input, as in pcm {command.name} < {word}"
         return f"{word} belongs to no option: each word is --OPTION or the value behind one" + near(f"--{word}", marked)
     if not marked:
         return f"{word}: {command.name} has no options"
-    if name in command.options:
+    if word.startswith("--") and name in flags:
+        return f"{word}: --{name} has no value"
+    if name in command.options or name in flags:
         return f"{word}: an option is written with two dashes, --{name}"
-    others = [it.name for it in COMMANDS.values() if name in it.options]
+    others = [it.name for it in COMMANDS.values() if name in it.options or name in FLAGS.get(it.name, {})]
     if word.startswith("--") and others:
         return f"--{name} is no option of {command.name}, but of {either(others)}"
     if not word.startswith("--") and len(name) == 1:
