@@ -124,7 +124,7 @@ class Streams(unittest.TestCase):
             module.read(3, 4)
             self.assertEqual([(0, 1, 0), (1, 0, 1)], [(bank.bank, bank.writes, bank.reads) for bank in module.banks(4)])
             self.assertEqual([pcm.Backlog(15, 0, 0, 0, "going"), pcm.Backlog(15, 1, 0, 0, "going")], module.banks(15))
-            self.assertEqual([2, 1], [outcome.row for outcome in module.outcomes()])
+            self.assertEqual([1, 2], [outcome.row for outcome in module.outcomes()])
 
     def test_a_bank_without_a_spare_is_exhausted(self):
         with pcm.Module(**{**SMALL, "spares": 0, "lo": 1, "hi": 1}) as module:
