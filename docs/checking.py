@@ -66,6 +66,24 @@ def check_layers():
     yield None
 
 
+def misfits(crate):
+    """The wrong bodies of a crate whose old text doesn't stand once in the file that they change."""
+    for edit in sorted(crate.glob("must-fail/*.edit")):
+        file = None
+        for key, text in re.findall(r"^(file|old): ?(.*)$", edit.read_text(encoding="utf-8"), re.M):
+            if key == "file":
+                file = crate / text
+            elif not file or not file.is_file() or file.read_text(encoding="utf-8").count(text) != 1:
+                yield edit.name
+
+
+def check_edits():
+    """(`rt ci` passes over a wrong body that can't be made)"""
+    for crate in crates.listed().values():
+        yield from (f"crates/{crate.name}/must-fail/{name}: what it changes doesn't stand once in its file" for name in misfits(crate.folder))
+    yield None
+
+
 def check_crates(writes):
     path = TOP / "crates" / "README.md"
     text = path.read_text(encoding="utf-8")

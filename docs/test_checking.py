@@ -208,6 +208,17 @@ class Crates(unittest.TestCase):
         with mock.patch.object(checking.crates, "listed", lambda: {"low": low, "high": high}):
             self.assertEqual(len([it for it in checking.check_layers() if it]), 1)
 
+    def test_a_wrong_body_that_does_not_fit_is_named(self):
+        self.assertEqual([it for it in checking.check_edits() if it], [])
+        with tempfile.TemporaryDirectory() as room:
+            crate = pathlib.Path(room)
+            for name in ("src", "must-fail"):
+                (crate / name).mkdir()
+            (crate / "src" / "lib.rt").write_text("a = 1;\nb = 1;\n")
+            for name, file, old in (("one", "src/lib.rt", "a = 1"), ("two", "src/lib.rt", "= 1"), ("none", "src/lib.rt", "c"), ("gone", "src/it.rt", "a")):
+                (crate / "must-fail" / f"{name}.edit").write_text(f"file: {file}\nold: {old}\nnew: x\n")
+            self.assertEqual(list(checking.misfits(crate)), ["gone.edit", "none.edit", "two.edit"])
+
     def test_a_stale_list_is_named(self):
         with tempfile.TemporaryDirectory() as room:
             pathlib.Path(room, "crates").mkdir()
