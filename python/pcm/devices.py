@@ -1,6 +1,6 @@
 """Units of a device: what a tick, a driven cell and a sensed bit stand for."""
 import re
-from typing import Dict, NamedTuple, Optional
+from typing import Dict, Iterable, NamedTuple, Optional
 
 from .errors import UsageError
 
@@ -51,6 +51,15 @@ def units_of(device: Optional[str], **given: Optional[str]) -> Units:
         if text is not None:
             numbers[name] = positive(f"--{name.replace('_', '-')}", text)
     return Units(**numbers)
+
+
+def other_times(device: Optional[str], runs: Iterable[Dict[str, str]]) -> str:
+    """A line for a table's foot where runs by these options haven't the times of a device that was named."""
+    times = dict(re.findall(r"--(\w+-ticks) (\d+)", DEVICES[device].options)) if device is not None else {}
+    if all(options.get(name) == ticks for options in runs for name, ticks in times.items()):
+        return ""
+    words = " ".join(f"--{name} {ticks}" for name, ticks in times.items())
+    return f"(a module with the times of {device} has {words}: not every run here)\n"
 
 
 def positive(option: str, text: str) -> float:

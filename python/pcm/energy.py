@@ -20,7 +20,7 @@ import argparse
 import sys
 from typing import Dict, Iterator, List, NamedTuple, Optional, Sequence, Tuple
 
-from .devices import DEVICES, Units, positive, units_of
+from .devices import DEVICES, Units, other_times, positive, units_of
 from .errors import UsageError
 from .program import Program
 from .runs import FileFault, Source, are_snapshots, opened, snapshots_of
@@ -207,4 +207,4 @@ def told(given: argparse.Namespace) -> str:
                 raise FileFault(f"{source.name} row 0: header: neither of --print snapshots nor of --print energy")
     text += in_columns(named, given.csv) if named else ""
     source = DEVICES[given.device or "lee2009"].source
-    return text + ("" if given.csv else f"by {units.words()}\n(defaults: {source})\n")
+    return text + ("" if given.csv else f"by {units.words()}\n(defaults: {source})\n" + other_times(given.device, made if given.run else []))

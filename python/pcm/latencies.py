@@ -25,7 +25,7 @@ import sys
 import tempfile
 from typing import BinaryIO, Dict, Iterable, Iterator, List, NamedTuple, Optional, Sequence, Tuple
 
-from .devices import units_of
+from .devices import other_times, units_of
 from .errors import PcmError, ReadFault, UsageError, error_of
 from .program import Program, command
 from .progress import Progress
@@ -381,7 +381,7 @@ def told(given: argparse.Namespace) -> str:
             rows.append([name, kind, one.rows, *(_scaled(number, tick_ns) for number in numbers)])
     by = " and ".join(sorted({passed.by for _, passed in passes}))
     by += "" if tick_ns is None else f", a tick being {tick_ns:g} ns"
-    return table(head, rows, given.csv) + ("" if given.csv else f"counted in {by}\n")
+    return table(head, rows, given.csv) + ("" if given.csv else f"counted in {by}\n" + other_times(given.device, made if given.run else []))
 
 
 def _scaled(number: "int | float | None", tick_ns: Optional[float]) -> "int | float | None":

@@ -16,7 +16,7 @@ sys.path[:0] = [str(HERE.parent), str(HERE)]
 import pcm  # noqa: E402
 from leaks import setUpModule, tearDownModule  # noqa: E402, F401
 from pcm import energy, latencies, tallies  # noqa: E402
-from pcm.devices import Units, units_of  # noqa: E402
+from pcm.devices import Units, other_times, units_of  # noqa: E402
 
 HEADER = ",".join(pcm.Snapshot._fields)
 # 480 stored, 10 merged, 500 read and 5 forwarded of 1,000 rows in 10,000 ticks; 1,500 senses, 61,000 cells set, 62,000 reset
@@ -126,6 +126,12 @@ class Energy(Room):
     def test_units_of_a_device(self):
         self.assertEqual(Units(5.0, 13.5, 19.2, 2.47), units_of(None))
         self.assertEqual(Units(2.5, 13.5, 19.2, 2.47), units_of("lee2009", tick_ns="2.5"))
+
+    def test_runs_with_other_times_than_a_device_are_told(self):
+        of_device = {"read-ticks": "11", "iter-ticks": "41", "psi": "3"}
+        self.assertEqual(other_times("lee2009", [of_device]), "")
+        self.assertEqual(other_times(None, [{}]), "")
+        self.assertIn("--read-ticks 11 --iter-ticks 41", other_times("lee2009", [of_device, {"read-ticks": "11"}]))
 
     def test_a_report_tells_energy(self):
         text = subprocess.run(
