@@ -82,6 +82,12 @@ public:
                 newest[line] = bytes;
                 return tick;
             }
+            // (a full queue is tried again; a bank without a spare, or one that has halted, takes nothing any more)
+            std::array<pcm_bank, 4> banks;
+            must(pcm_ask(&pcm, tick, banks.data(), banks.size(), nullptr, nullptr));
+            for (const auto &bank : banks)
+                if (bank.mark != PCM_GOING)
+                    throw std::runtime_error("a bank takes no more writes");
         }
     }
     void cut(std::uint64_t tick) { must(pcm_cut(&pcm, tick)); }

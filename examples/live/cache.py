@@ -56,14 +56,18 @@ class Memory:
         return outcome.data, outcome.tick
 
     def write(self, tick, line, data):
-        """Hands a line over, and answers when it was taken: a full queue has to be tried again."""
+        """Hands a line over, and answers when it was taken: a full queue has to be tried again, where its bank goes on."""
         while True:
             row = self.module.write(tick, line, data)
             self.settle(tick)
-            if not isinstance(self.known.pop(row, None), pcm.Full):
+            answer = self.known.pop(row, None)
+            if isinstance(answer, pcm.Full) and all(bank.mark == "going" for bank in self.module.banks(tick)):
+                tick += READ_TICKS
+            elif isinstance(answer, (pcm.Full, pcm.Worn)):
+                raise RuntimeError(f"tick {tick}: a bank takes no more writes")
+            else:
                 self.newest[line] = data
                 return tick
-            tick += READ_TICKS
 
 
 class Cache:
