@@ -4,7 +4,6 @@ A stand-in has lines of odd numbers in bank 1 and one rule, that no write is `fu
 would. Where the program that PCM names explains, its own explanations are tried, too; examples/explain/bankwise tries more of them."""
 import contextlib
 import io
-import os
 import pathlib
 import subprocess
 import sys
@@ -16,6 +15,7 @@ sys.path[:0] = [str(HERE.parent), str(HERE)]
 import pcm  # noqa: E402
 from leaks import setUpModule, tearDownModule  # noqa: E402, F401
 from pcm import bankwise, explaining  # noqa: E402
+from stand_in import stand_in  # noqa: E402
 from test_explaining import ALL, HEADER, RESULTS, options_of  # noqa: E402
 
 DATA = "5a" * 64
@@ -155,14 +155,7 @@ class OverAStandIn(unittest.TestCase):
         room = tempfile.TemporaryDirectory()
         self.addCleanup(room.cleanup)
         self.room = pathlib.Path(room.name)
-        (self.room / "standin.py").write_text(STANDIN, encoding="ascii")
-        self.program = [sys.executable, "-IS", str(self.room / "standin.py")]
-        script = self.room / "standin"
-        script.write_text(f"#!/bin/sh\nexec {' '.join(self.program)} \"$@\"\n", encoding="utf-8")
-        script.chmod(0o755)
-        given = os.environ.get("PCM")
-        self.addCleanup(lambda: os.environ.pop("PCM") if given is None else os.environ.update(PCM=given))
-        os.environ["PCM"] = str(script)
+        self.program = stand_in(self, self.room, STANDIN)
         full = [("1,W,3,", "full,1,,"), ("2,W,2,", "full,2,,"), ("2,W,2,", "full,2,,")]
         self.table = self.path("table", table_of(full))
         self.right = self.path("right", table_of(ROWS[:3]))

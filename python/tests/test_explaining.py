@@ -5,10 +5,8 @@ explanations.txt has tables that break a clause, each with its options, its rows
 stand-in answers with these texts; where the program that PCM names explains, its own are compared with them."""
 import contextlib
 import io
-import os
 import pathlib
 import re
-import shlex
 import subprocess
 import sys
 import tempfile
@@ -24,6 +22,7 @@ from pcm import explaining, outcomes, report, timeline  # noqa: E402
 from pcm.drawing import LIGHT, width_of  # noqa: E402
 from pcm.explanation import RULES  # noqa: E402
 from pcm.runs import Source  # noqa: E402
+from stand_in import stand_in  # noqa: E402
 
 HEADER, RESULTS = "tick,op,arg,data\n", "row,op,line,outcome,tick,place,data\n"
 # Says of each table what is stored for it in the folder that it is handed, and of others that they are right.
@@ -277,14 +276,7 @@ class Room(unittest.TestCase):
         for one in ALL.values():
             for kind, text in (("csv", one.table), ("txt", one.text)):
                 (self.room / f"{one.name}.{kind}").write_text(text, encoding="ascii")
-        (self.room / "standin.py").write_text(STANDIN, encoding="ascii")
-        self.words = [sys.executable, "-IS", str(self.room / "standin.py"), str(self.room)]
-        script = self.room / "standin"
-        script.write_text(f"#!/bin/sh\nexec {shlex.join(self.words)} \"$@\"\n", encoding="utf-8")
-        script.chmod(0o755)
-        given = os.environ.get("PCM")
-        self.addCleanup(lambda: os.environ.pop("PCM") if given is None else os.environ.update(PCM=given))
-        os.environ["PCM"] = str(script)
+        self.words = stand_in(self, self.room, STANDIN, str(self.room))
 
     def path(self, one):
         return str(self.room / f"{one.name}.csv")
