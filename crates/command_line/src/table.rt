@@ -2,7 +2,7 @@
 ghost use Rattle.std.specs.Prelude.{◌≡◌, IfOk, false, map};
 ghost use Rattle.clap.specs.Words.{app_of, with_rule, with_subcommand};
 ghost use Rattle.clap.specs.declared.builder.command.Command.TheViews.{out-Command};
-ghost use Rattle.command_line.specs.Table.{leaf_app, option_rule, pcm_app, run_options, top_app};
+ghost use Rattle.command_line.specs.Table.{check_options, leaf_app, option_rule, pcm_app, run_options, top_app};
 
 use clap::{Arg, ArgAction, Command};
 use std::alloc::{AllocError, Global};
@@ -108,6 +108,14 @@ pub fn run_command<'a>(alloc: Global, name: &'a str) -> Result<Command<'a>, Allo
     ensures globals { IfOk result (λ c. (out-Command c).has_globals ≡ false) }
 {
     leaf(alloc, name, &RUN_OPTIONS)
+}
+
+/// A command with the options of `check`.
+pub fn check_command<'a>(alloc: Global, name: &'a str) -> Result<Command<'a>, AllocError>
+    ensures app { IfOk result (λ c. app_of c ≡ leaf_app name.entry.now check_options) }
+    ensures globals { IfOk result (λ c. (out-Command c).has_globals ≡ false) }
+{
+    leaf(alloc, name, &CHECK_OPTIONS)
 }
 
 // Adds a subcommand with these options.
