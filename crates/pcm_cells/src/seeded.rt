@@ -165,6 +165,7 @@ impl<const B: usize, const M: usize> SeededLine<B, M> {
         let mut line = SeededLine::drawn(wear, number);
         young.take_from(&mut line.settled.left);
         line.moving.held = young.held;
+        line.moving.misses = young.misses;
         line.pulses = young.pulses;
         let calm = [false; B];
         line.calm = calm;
