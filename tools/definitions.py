@@ -46,7 +46,8 @@ def pieces(items):
         if letter == "," and depth == 0:
             yield items[start:at].strip()
             start = at + 1
-    yield items[start:].strip()
+    if items[start:].strip():
+        yield items[start:].strip()
 
 
 def imported(path):

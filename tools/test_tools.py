@@ -1,6 +1,7 @@
 #!/usr/bin/env python3
 """Tests of tools/build and of ./pcm, over a small repository and a kit that proves nothing: what is built and when, what is kept and where,
-what is said, and that nothing is left where the gate refuses it. They need no kit and take seconds."""
+what is said, and that nothing is left where the gate refuses it; and of what the examples' checks count. They need no kit and take
+seconds."""
 import os
 import pathlib
 import shutil
@@ -533,6 +534,8 @@ class Words(unittest.TestCase):
             "gen --psi 3": "--psi is no option of gen, but of run or stream",
             "run --print rows": "--print rows: it may be results, summary, wear or image (rows is for stream)",
             "stream --every 5": "--every belongs to --print snapshots alone",
+            "stream --lines 8192 --print image":
+                "--print image: an image has at most 16 banks of 16 regions of 4096 lines, and 65536 lines in all",
             "rum": "there is no command rum (did you mean run?)",
             "explian": "there is no command explian (did you mean explain?)",
             "explain --psi 5": "--psi is no option of explain, but of run or stream",
@@ -553,6 +556,8 @@ class Words(unittest.TestCase):
             (f"{head}0,R,0,\n5,S,,\n6,X,0,\n", "stream", "trace row 2: op", "line 4: the second field must be R, W, M, C, S or Q, and is 'X'"),
             (f"{head}0,W,5,{line[:-1]}g\n", "run", "trace row 1: payload",
              "line 2: the fourth field has 'g' behind 127 characters, where it must be hexadecimal digits"),
+            (f"{head}0,R,000005,\n", "stream", "trace row 1: line",
+             "line 2: the third field must be a line, 0 to 511 (banks x regions x lines are 512) in at most 5 digits, and is '000005'"),
             ("", "run", "trace row 0: header", "the file is empty: a trace begins with tick,op,arg,data"),
             (f"\ufeff{head}-1,R,0,\n", "run", "trace row 1: tick",
              "line 2: the first field must be a tick, 0 to 1099511627776 in digits, and is '-1'"),
@@ -614,6 +619,80 @@ class Watching(unittest.TestCase):
         self.assertRegex(done.stderr, r"^5,000 rows, [0-9,]+ a second\n")
         done = self.watch("echo header; echo 5000,1; sleep 1.4", "--input=drawn", "--rows=4")
         self.assertRegex(done.stderr, "^1 rows, .* a second, 25%, about")
+
+
+class Counting(unittest.TestCase):
+    """What the checks of examples/ count, in each shell that is here."""
+
+    SHELLS = [it for it in (["sh"], ["bash"], ["busybox", "sh"]) if shutil.which(it[0])]
+    CHECKS = [it for it in sorted((TOP / "examples").rglob("*")) if it.is_file() and b"counting.sh\"\n" in it.read_bytes()]
+
+    def setUp(self):
+        self.room = pathlib.Path(tempfile.mkdtemp(prefix="pcm tools "))
+        self.addCleanup(shutil.rmtree, self.room)
+        (self.room / "rooms").mkdir()
+
+    def start(self, *words):
+        """In a session of its own, where a signal goes to all that was started."""
+        how = {"stdin": subprocess.DEVNULL, "stdout": subprocess.PIPE, "stderr": subprocess.STDOUT, "text": True, "start_new_session": True}
+        default = lambda: signal.signal(signal.SIGINT, signal.default_int_handler)  # (a shell can't trap what was ignored before it)
+        return subprocess.Popen(words, env={**os.environ, "TMPDIR": str(self.room / "rooms")}, cwd="/", preexec_fn=default, **how)
+
+    def check(self, shell, text):
+        script = self.room / "a check"
+        script.write_text(f". '{TOP}/examples/counting.sh'\nbegins examples/some\n{text}\nended\n")
+        return self.start(*shell, script)
+
+    def says(self, text, *lines, status):
+        for shell in self.SHELLS:
+            with self.subTest(shell):
+                done = self.check(shell, text)
+                self.assertEqual(done.communicate()[0].splitlines(), list(lines))
+                self.assertEqual((done.returncode, list((self.room / "rooms").iterdir())), (status, []))
+
+    def test_what_passes_is_counted(self):
+        self.says("holds one true\nsame two 'a  b' 'a  b'\npassed", "3 passed, 0 failed", status=0)
+
+    def test_what_fails_is_told_with_its_reason(self):
+        self.says("holds one true\nholds 'a command' sh -c 'echo why; echo more >&2; exit 3'\nsame texts one two\nfailed other 'no reason'",
+                  "why", "more", "examples/some: a command: failed", "examples/some: texts: wanted 'one', got 'two'",
+                  "examples/some: other: no reason", "1 passed, 3 failed", status=1)
+
+    def test_what_is_skipped_is_named(self):
+        self.says("passed\nskipped 'a part' 'there is no tool here'", "examples/some: a part: skipped: there is no tool here",
+                  "1 passed, 0 failed, 1 skipped", status=0)
+
+    def test_a_check_of_its_own_is_counted_here(self):
+        self.says("passed\ncounted one printf 'why\\n2 passed, 1 failed, 3 skipped\\n'\ncounted two echo '5 passed, 0 failed'", "why",
+                  "8 passed, 1 failed, 3 skipped", status=1)
+
+    def test_a_check_that_breaks_off_fails(self):
+        self.says("counted one sh -c 'echo 1 passed, 0 failed; exit 3'\ncounted two echo 5 passed\ncounted three false",
+                  "examples/some: one: status 3, though nothing failed", "5 passed", "examples/some: two: broken off, status 0",
+                  "examples/some: three: broken off, status 1", "1 passed, 3 failed", status=1)
+
+    def test_a_signal_ends_a_check_and_takes_its_folder_away(self):
+        for shell in self.SHELLS:
+            for number in (signal.SIGINT, signal.SIGTERM, signal.SIGHUP):
+                with self.subTest((shell, number)):
+                    done = self.check(shell, """holds one sh -c ': >"$1/begun" && exec sleep 60' sh "$room"; holds two sleep 60""")
+                    while not list(self.room.glob("rooms/*/begun")) and done.poll() is None:
+                        time.sleep(0.01)
+                    os.killpg(done.pid, number)
+                    self.assertNotIn("passed", done.communicate(timeout=30)[0])
+                    self.assertEqual((done.returncode, list((self.room / "rooms").iterdir())), (128 + number, []))
+
+    def test_each_check_tells_its_words(self):
+        self.assertGreater(len(self.CHECKS), 15)
+        for check in self.CHECKS:
+            with self.subTest(check):
+                done = self.start(check)
+                self.assertRegex(done.communicate()[0], fr"\A.*: usage: {check.relative_to(TOP)} \S.*\n\Z")
+                self.assertNotEqual(done.returncode, 0)
+
+    def test_no_other_script_counts(self):
+        scripts = [it for it in (TOP / "examples").rglob("*") if it.is_file() and it.read_bytes()[:20].partition(b"\n")[0].endswith(b"sh")]
+        self.assertEqual([it for it in scripts if " passed, " in it.read_text()], [])
 
 
 if __name__ == "__main__":
