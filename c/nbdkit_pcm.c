@@ -6,7 +6,7 @@
    The export "" is the disk. The export "control" is 4096 bytes of text: read, it tells the disk's clock and what became of its rows; written
    at its first byte, `cut` cuts the power there, `cut N` in N ticks whatever the disk does then, and `wait N` lets N ticks pass.
    docs/USING.md ('Use a module as a disk') has what is promised, examples/device/README.md the parameters. */
-#define _POSIX_C_SOURCE 200809L
+#define _GNU_SOURCE /* (so answers come through a pipe: pcm_stream.h) */
 #define NBDKIT_API_VERSION 2
 #include <nbdkit-plugin.h>
 
@@ -47,8 +47,8 @@ static struct parameter {
     int is_given;
 } parameters[] = {
     /* the module's, in the order of their words in FILE.args */
-    {"banks", IS_POWER, 1, 64, NULL, 16, NULL, 0},
-    {"regions", IS_POWER, 1, 64, NULL, 16, NULL, 0},
+    {"banks", IS_POWER, 1, PCM_DISK_BANKS, NULL, 16, NULL, 0},
+    {"regions", IS_POWER, 1, PCM_DISK_REGIONS, NULL, 16, NULL, 0},
     {"lines", IS_POWER, 4, PCM_DISK_LINES, NULL, 256, NULL, 0},
     {"line", IS_POWER, 64, 128, NULL, 128, NULL, 0},
     {"spares", IS_NUMBER, 0, 1024, NULL, 8, NULL, 0},
@@ -510,7 +510,7 @@ static int plugin_block_size(void *handle, uint32_t *minimum, uint32_t *preferre
 {
     (void)handle;
     *minimum = 1;
-    *preferred = 4096;
+    *preferred = PCM_DISK_SECTOR;
     *maximum = 0xffffffff;
     return 0;
 }

@@ -53,8 +53,9 @@ static const struct pcm_disk_shape pcm_disk_default = {16, 16, 256, 128, 8, 32, 
 
 /* No cut is due. */
 #define PCM_DISK_NEVER UINT64_MAX
-/* The most banks and lines of a module, and rows from a write's to the last one before it is known to be stored. */
+/* The most banks of a module, regions of a bank and lines of a module, and rows from a write's to the last one before it is known to be stored. */
 #define PCM_DISK_BANKS 64
+#define PCM_DISK_REGIONS 64
 #define PCM_DISK_LINES (UINT32_C(1) << 26)
 #define PCM_DISK_SPAN 65536
 /* The largest sector, and how many entries of the map are looked up at once. */
@@ -72,7 +73,8 @@ struct pcm_disk {
     uint32_t waiting;        /* writes that are accepted and neither stored nor merged, as far as is known */
     int worn;                /* not 0: a bank takes no writes any more, and the disk only reads */
     /* From here on the disk's own. */
-    uint32_t key[3], low, high;     /* of the randomiser: its keys, and the sizes of its halves */
+    uint32_t key[3], low_bits, high_bits;           /* of the randomiser: its keys, and the bits of its halves */
+    uint32_t bank_bits, region_bits, line_bits;     /* those of a bank's number, a region's in its bank, and a line's in its region */
     uint32_t sectors, free_block;   /* with `atomic`: how many there are, and which of the sectors + 1 blocks of lines holds none of them */
     uint32_t writes[PCM_DISK_BANKS], reads[PCM_DISK_BANKS]; /* how many of each wait in a bank, as far as is known */
     uint8_t bank_of[PCM_DISK_SPAN]; /* of a write that waits, by its row's number: its bank, from 1 */
@@ -138,33 +140,32 @@ static inline uint64_t pcm_disk__try(const struct pcm_disk *disk)
     return disk->shape.read_ticks + (uint64_t)(disk->shape.line == 64 ? 160 : 208) * disk->shape.iter_ticks;
 }
 
-/* A round of the randomiser: what a half, by a key, is xored into the other half with. (Halves have at most 13 bits, keys 16.) */
-static inline uint32_t pcm_disk__round(uint32_t half, uint32_t key, uint32_t size)
+/* A round of the randomiser: what a half of so many bits is xored with, by the other half and a key. (Halves have at most 13 bits, keys 16.) */
+static inline uint32_t pcm_disk__round(uint32_t half, uint32_t key, uint32_t bits)
 {
-    return (half ^ key) * (half ^ key) % size;
+    return (half ^ key) * (half ^ key) & ((UINT32_C(1) << bits) - 1);
 }
 
 static inline uint32_t pcm_disk_bank(const struct pcm_disk *disk, uint32_t line)
 {
-    uint32_t right = line % disk->low, left = line / disk->low;
-    left ^= pcm_disk__round(right, disk->key[0], disk->high);
-    right ^= pcm_disk__round(left, disk->key[1], disk->low);
-    left ^= pcm_disk__round(right, disk->key[2], disk->high);
-    return (left * disk->low + right) / (disk->shape.regions * disk->shape.lines);
+    uint32_t left = line >> disk->low_bits, right = line ^ left << disk->low_bits;
+    left ^= pcm_disk__round(right, disk->key[0], disk->high_bits);
+    right ^= pcm_disk__round(left, disk->key[1], disk->low_bits);
+    left ^= pcm_disk__round(right, disk->key[2], disk->high_bits);
+    return (left << disk->low_bits | right) >> (disk->region_bits + disk->line_bits);
 }
 
 static inline uint32_t pcm_disk_line(const struct pcm_disk *disk, uint32_t line)
 {
-    const struct pcm_disk_shape *shape = &disk->shape;
-    if (shape->straight)
+    if (disk->shape.straight)
         return line;
-    uint32_t round = line / shape->banks;
-    uint32_t spread = (line % shape->banks * shape->regions + round % shape->regions) * shape->lines + round / shape->regions;
-    uint32_t right = spread % disk->low, left = spread / disk->low;
-    left ^= pcm_disk__round(right, disk->key[2], disk->high);
-    right ^= pcm_disk__round(left, disk->key[1], disk->low);
-    left ^= pcm_disk__round(right, disk->key[0], disk->high);
-    return left * disk->low + right;
+    uint32_t round = line >> disk->bank_bits, bank = line & (disk->shape.banks - 1), region = round & (disk->shape.regions - 1);
+    uint32_t spread = (bank << disk->region_bits | region) << disk->line_bits | round >> disk->region_bits;
+    uint32_t left = spread >> disk->low_bits, right = spread ^ left << disk->low_bits;
+    left ^= pcm_disk__round(right, disk->key[2], disk->high_bits);
+    right ^= pcm_disk__round(left, disk->key[1], disk->low_bits);
+    left ^= pcm_disk__round(right, disk->key[0], disk->high_bits);
+    return left << disk->low_bits | right;
 }
 
 /* The part of a read's line that was asked for goes to its caller. */
@@ -579,12 +580,21 @@ static inline int pcm_disk__is_power(uint32_t number, uint32_t least, uint32_t m
     return number >= least && number <= most && (number & (number - 1)) == 0;
 }
 
+/* The binary logarithm of a power of two. */
+static inline uint32_t pcm_disk__bits(uint32_t power)
+{
+    uint32_t bits = 0;
+    while (power >> bits > 1)
+        bits++;
+    return bits;
+}
+
 /* The shape, its randomiser and its sectors. EINVAL where there is no such one. */
 static inline int pcm_disk__shape(struct pcm_disk *disk, const struct pcm_disk_shape *shape)
 {
     uint64_t all = (uint64_t)shape->banks * shape->regions * shape->lines, bytes = all * shape->line;
     disk->shape = *shape;
-    if (!pcm_disk__is_power(shape->banks, 1, PCM_DISK_BANKS) || !pcm_disk__is_power(shape->regions, 1, 64)
+    if (!pcm_disk__is_power(shape->banks, 1, PCM_DISK_BANKS) || !pcm_disk__is_power(shape->regions, 1, PCM_DISK_REGIONS)
         || !pcm_disk__is_power(shape->lines, 4, PCM_DISK_LINES) || all > PCM_DISK_LINES || !pcm_disk__is_power(shape->line, 64, PCM_MOST_BYTES))
         return EINVAL;
     for (uint64_t i = 0; i < 3; i++) {
@@ -593,9 +603,11 @@ static inline int pcm_disk__shape(struct pcm_disk *disk, const struct pcm_disk_s
         word = (word ^ word >> 27) * UINT64_C(0x94d049bb133111eb);
         disk->key[i] = (uint32_t)(word ^ word >> 31) & 0xffff;
     }
-    for (disk->low = 1; (uint64_t)disk->low * disk->low * 4 <= all;)
-        disk->low *= 2;
-    disk->high = (uint32_t)(all / disk->low);
+    disk->bank_bits = pcm_disk__bits(shape->banks);
+    disk->region_bits = pcm_disk__bits(shape->regions);
+    disk->line_bits = pcm_disk__bits(shape->lines);
+    disk->low_bits = (disk->bank_bits + disk->region_bits + disk->line_bits) / 2;
+    disk->high_bits = disk->bank_bits + disk->region_bits + disk->line_bits - disk->low_bits;
     if (shape->atomic == 0)
         return 0;
     if ((shape->atomic != 512 && shape->atomic != PCM_DISK_SECTOR) || bytes < 2 * (uint64_t)shape->atomic + 4)

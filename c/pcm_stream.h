@@ -115,7 +115,7 @@ struct pcm {
     void *context;
     size_t held, begin, end;
     char out[16384];       /* rows that are still to be handed to the program */
-    char in[65536];        /* answers that were taken from it */
+    char in[PCM_MOST_WAITING + 2 * PCM_MOST_ROW]; /* answers that were taken from it */
 };
 
 /* Starts the program: words[0] is its path or a name on the search path, and the last of them is NULL; they are only lent. What it says of
@@ -165,14 +165,21 @@ extern char **environ;
 #else
 #define PCM__CLOEXEC 0
 #endif
+/* (pipe2 is declared with _GNU_SOURCE alone, which C++ has by itself) */
+#if defined(__linux__) && (defined(__USE_GNU) || (!defined(__GLIBC__) && defined(_GNU_SOURCE)))
+#define PCM__PIPE(ends) pipe2(ends, O_CLOEXEC)
+#else
+#define PCM__PIPE(ends) socketpair(AF_UNIX, SOCK_STREAM | PCM__CLOEXEC, 0, ends)
+#endif
 
-/* Two ends of a stream that no other program gets. Neither is 0, 1 or 2, which the caller may have closed: the program has its own there.
-   (Sockets, not a pipe: they are sent to without a signal where the program has ended.) */
-static inline int pcm__pair(int ends[2])
+/* Two ends of a stream, to send by or to take by, that no other program gets. Neither is 0, 1 or 2, which the caller may have closed: the program
+   has its own there. (To send by, sockets: they are sent to without a signal where the program has ended. To take by, a pipe, where one can be
+   made that no other thread's child gets: the program may write answers one by one, and that costs less there.) */
+static inline int pcm__pair(int ends[2], int is_to_take)
 {
     int made[2];
     ends[0] = ends[1] = -1;
-    if (socketpair(AF_UNIX, SOCK_STREAM | PCM__CLOEXEC, 0, made) != 0)
+    if ((is_to_take ? PCM__PIPE(made) : socketpair(AF_UNIX, SOCK_STREAM | PCM__CLOEXEC, 0, made)) != 0)
         return -1;
     for (int i = 0; i < 2; i++) {
         ends[i] = made[i] > 2 ? made[i] : fcntl(made[i], F_DUPFD, 3);
@@ -230,9 +237,9 @@ static inline enum pcm_result pcm__open(struct pcm *pcm, const char *const words
     pcm->to = pcm->from = -1;
     pcm->process = -1;
     pcm->line_size = pcm__line_size(words);
-    if (pcm__pair(to) != 0)
+    if (pcm__pair(to, 0) != 0)
         return PCM_FAILED;
-    if (pcm__pair(from) != 0) {
+    if (pcm__pair(from, 1) != 0) {
         close(to[0]);
         close(to[1]);
         return PCM_FAILED;
@@ -323,10 +330,22 @@ static inline char *pcm__put_number(char *at, uint64_t number)
     return at;
 }
 
+/* Puts the digits of bytes, and answers where they end; two dots for one that isn't given. */
+static inline char *pcm__put_bytes(char *at, const uint8_t *bytes, const uint8_t *given, size_t size)
+{
+    static const char pairs[] =
+        "000102030405060708090a0b0c0d0e0f101112131415161718191a1b1c1d1e1f202122232425262728292a2b2c2d2e2f303132333435363738393a3b3c3d3e3f"
+        "404142434445464748494a4b4c4d4e4f505152535455565758595a5b5c5d5e5f606162636465666768696a6b6c6d6e6f707172737475767778797a7b7c7d7e7f"
+        "808182838485868788898a8b8c8d8e8f909192939495969798999a9b9c9d9e9fa0a1a2a3a4a5a6a7a8a9aaabacadaeafb0b1b2b3b4b5b6b7b8b9babbbcbdbebf"
+        "c0c1c2c3c4c5c6c7c8c9cacbcccdcecfd0d1d2d3d4d5d6d7d8d9dadbdcdddedfe0e1e2e3e4e5e6e7e8e9eaebecedeeeff0f1f2f3f4f5f6f7f8f9fafbfcfdfeff";
+    for (size_t i = 0; i < size; i++, at += 2)
+        memcpy(at, given == NULL || given[i] != 0 ? pairs + 2 * bytes[i] : "..", 2);
+    return at;
+}
+
 static inline enum pcm_result pcm__row(struct pcm *pcm, uint64_t tick, char op, uint32_t line, const uint8_t *bytes, const uint8_t *given,
                                        size_t size)
 {
-    static const char digits[] = "0123456789abcdef";
     int settles = op == 'S' || op == 'Q';
     if (pcm->to < 0 || tick < pcm->tick || tick > PCM_LAST_TICK || (!settles && pcm->rows >= PCM_LAST_ROW))
         return PCM_REFUSED;
@@ -342,11 +361,7 @@ static inline enum pcm_result pcm__row(struct pcm *pcm, uint64_t tick, char op, 
     if (op != 'C' && !settles)
         at = pcm__put_number(at, line);
     *at++ = ',';
-    for (size_t i = 0; i < size; i++) {
-        int is = given == NULL || given[i] != 0;
-        *at++ = is ? digits[bytes[i] >> 4] : '.';
-        *at++ = is ? digits[bytes[i] & 15] : '.';
-    }
+    at = pcm__put_bytes(at, bytes, given, size);
     *at++ = '\n';
     pcm->held += (size_t)(at - row);
     pcm->tick = tick;
@@ -491,9 +506,13 @@ static inline const char *pcm__line(struct pcm *pcm, enum pcm_result *result)
     }
 }
 
+/* The value of a digit; -1 where it is none. (By a table: bytes are often as good as drawn, and a guess which digit comes would often be wrong.) */
 static inline int pcm__digit(char c)
 {
-    return c >= '0' && c <= '9' ? c - '0' : c >= 'a' && c <= 'f' ? c - 'a' + 10 : -1;
+    static const signed char values['f' - '0' + 1] = {0, 1, 2, 3, 4, 5, 6, 7, 8, 9, -1, -1, -1, -1, -1, -1, -1, -1, -1, -1,
+                                                      -1, -1, -1, -1, -1, -1, -1, -1, -1, -1, -1, -1, -1, -1, -1, -1, -1, -1, -1, -1, -1, -1, -1, -1, -1, -1, -1, -1, -1, 10, 11, 12, 13, 14, 15};
+    unsigned at = (unsigned)(unsigned char)c - '0';
+    return at < sizeof values ? values[at] : -1;
 }
 
 /* Reads the digits of a field, which may be empty, and what ends it (a comma, or a space within a field); NULL where it is none. */
@@ -533,7 +552,7 @@ static inline enum pcm_result pcm__outcome(const char *at, struct pcm_outcome *o
     int kind = 0;
     if ((at = pcm__number(at, ',', &row)) == NULL)
         return PCM_GARBLED;
-    while (kind <= PCM_SETTLED && strncmp(at, words[kind], strlen(words[kind])) != 0)
+    while (kind <= PCM_SETTLED && (*at != *words[kind] || strncmp(at, words[kind], strlen(words[kind])) != 0))
         kind++;
     if (kind > PCM_SETTLED || (at = pcm__number(at + strlen(words[kind]), ',', &outcome->tick)) == NULL
         || (at = pcm__number(at, ',', &place)) == NULL)
@@ -541,12 +560,14 @@ static inline enum pcm_result pcm__outcome(const char *at, struct pcm_outcome *o
     outcome->kind = (enum pcm_kind)kind;
     outcome->row = (uint32_t)row;
     outcome->place = (uint32_t)place;
-    for (outcome->size = 0; *at != 0; at += 2) {
+    uint32_t size = 0;
+    for (; *at != 0; at += 2) {
         int high = pcm__digit(at[0]), low = high < 0 ? -1 : pcm__digit(at[1]);
-        if (low < 0 || outcome->size >= PCM_MOST_BYTES)
+        if (low < 0 || size >= PCM_MOST_BYTES)
             return PCM_GARBLED;
-        outcome->bytes[outcome->size++] = (uint8_t)(high << 4 | low);
+        outcome->bytes[size++] = (uint8_t)(high << 4 | low);
     }
+    outcome->size = size;
     return PCM_OK;
 }
 

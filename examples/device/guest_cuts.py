@@ -7,7 +7,6 @@ checked.
 It needs no root; of Debian what servers.py names, libnbd-bin, e2fsprogs, qemu-system-x86, linux-image-amd64 (or -cloud-amd64), busybox-static,
 sqlite3, cpio and kmod. In each boot the data base must be whole, with all transactions that were committed before the cut and at most one more.
 Reports the rows that each boot found, and the module's counts."""
-import argparse
 import atexit
 import glob
 import gzip
@@ -20,7 +19,7 @@ import subprocess
 import sys
 import time
 
-from servers import Server, need, run
+from servers import Server, asking_of_cuts, need, run
 
 INIT = """#!/bin/busybox sh
 /bin/busybox --install -s /bin
@@ -111,16 +110,8 @@ def follow(qemu, last, when_ready):
 
 
 def main():
-    ask = argparse.ArgumentParser(description=__doc__, formatter_class=argparse.RawDescriptionHelpFormatter)
-    ask.add_argument("pcm")
-    ask.add_argument("parameters", nargs="*", metavar="KEY=VALUE")
-    ask.add_argument("--cycles", type=int, default=5)
-    ask.add_argument("--seed", type=int, default=1)
-    ask.add_argument("--mode", choices=("delete", "wal"), default="delete")
-    ask.add_argument("--sync", choices=("full", "extra"), default="extra")
+    ask = asking_of_cuts(__doc__, cycles=5)
     ask.add_argument("--accel", default="tcg")
-    ask.add_argument("--most-ticks", type=int, default=400000)
-    ask.add_argument("--plugin")
     words = ask.parse_intermixed_args()
     need({"qemu-system-x86_64": "qemu-system-x86", "busybox": "busybox-static", "sqlite3": "sqlite3", "cpio": "cpio", "modprobe": "kmod"})
     if not glob.glob("/boot/vmlinuz-*"):

@@ -5,12 +5,11 @@
 
 Prints, for each, the rows, ticks, settles and pulses of a write; and the most pulses of an array line, beside the mean of all that were pulsed:
 how hot the map is. It needs what servers.py names."""
-import argparse
 import random
 import subprocess
 import sys
 
-from servers import Server
+from servers import Server, asking
 
 
 def pulses_of(pcm, log):
@@ -39,11 +38,8 @@ def measure(words, atomic, size):
 
 
 def main():
-    ask = argparse.ArgumentParser(description=__doc__, formatter_class=argparse.RawDescriptionHelpFormatter)
-    ask.add_argument("pcm")
-    ask.add_argument("parameters", nargs="*", metavar="KEY=VALUE")
+    ask = asking(__doc__)
     ask.add_argument("--writes", type=int, default=2000)
-    ask.add_argument("--plugin")
     words = ask.parse_intermixed_args()
     print("atomic,size,writes,rows_a_write,ticks_a_write,settles_a_write,pulses_a_write,most_pulses,mean_pulses")
     for size in (512, 4096):

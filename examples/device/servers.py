@@ -1,5 +1,6 @@
 """A server of a disk on a module, for the scripts of this folder. It needs, of Debian, nbdkit, nbdkit-plugin-dev, python3-libnbd, make and gcc, and
 the system's python3."""
+import argparse
 import atexit
 import os
 import pathlib
@@ -30,6 +31,26 @@ def need(tools):
     if missing:
         print(f"{pathlib.Path(sys.argv[0]).name}: it lacks (Debian: apt-get install) {', '.join(sorted(missing))}", file=sys.stderr)
         sys.exit(77)
+
+
+def asking(about):
+    """The words that each script takes: the program, the module's and the disk's parameters, and a plugin that was built before."""
+    ask = argparse.ArgumentParser(description=about, formatter_class=argparse.RawDescriptionHelpFormatter)
+    ask.add_argument("pcm")
+    ask.add_argument("parameters", nargs="*", metavar="KEY=VALUE")
+    ask.add_argument("--plugin")
+    return ask
+
+
+def asking_of_cuts(about, cycles):
+    """Also those of scripts that cut the power under a database, again and again."""
+    ask = asking(about)
+    ask.add_argument("--cycles", type=int, default=cycles)
+    ask.add_argument("--seed", type=int, default=1)
+    ask.add_argument("--mode", choices=("delete", "wal"), default="delete")
+    ask.add_argument("--sync", choices=("full", "extra"), default="extra")
+    ask.add_argument("--most-ticks", type=int, default=400000, help="until a cut, at most")
+    return ask
 
 
 def numbers(text):

@@ -9,14 +9,13 @@ taken down and attached again. The kernel replays ext4's journal, `e2fsck -fn` m
 all transactions that were committed and at most the one under way besides. (With a rollback journal and --sync full SQLite promises less:
 the last transaction may be undone.) The numbers that it reports: cuts, committed transactions, how often the one under way came through
 or didn't, and what the module's counts are."""
-import argparse
 import os
 import random
 import sqlite3
 import sys
 
 from disks import Disk
-from servers import run
+from servers import asking_of_cuts, run
 
 
 class Base:
@@ -112,18 +111,10 @@ class Base:
 
 
 def main():
-    ask = argparse.ArgumentParser(description=__doc__, formatter_class=argparse.RawDescriptionHelpFormatter)
-    ask.add_argument("pcm")
-    ask.add_argument("parameters", nargs="*", metavar="KEY=VALUE")
-    ask.add_argument("--cycles", type=int, default=10)
-    ask.add_argument("--seed", type=int, default=1)
-    ask.add_argument("--mode", choices=("delete", "wal"), default="delete")
-    ask.add_argument("--sync", choices=("full", "extra"), default="extra")
+    ask = asking_of_cuts(__doc__, cycles=10)
     ask.add_argument("--log", help="keep the disk's log in this file")
-    ask.add_argument("--most-ticks", type=int, default=400000, help="until a cut, at most")
     ask.add_argument("--recovery-ticks", type=int, default=0, help="cut the power also while it recovers, in so many ticks at most")
     ask.add_argument("--block", default="1024", help="of ext4")
-    ask.add_argument("--plugin")
     words = ask.parse_intermixed_args()
     disk = Disk(words.pcm, words.parameters, words.plugin, words.log)
     run("mkfs.ext4", "-q", "-b", words.block, disk.attach())

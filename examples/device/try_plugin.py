@@ -147,6 +147,23 @@ def cuts_are_drawn_or_named():
     check(clients_ride_through("cut-ticks=10,500,501,900") == 4, "cuts are named")
 
 
+def a_module_that_forgets_is_found_out():
+    os.environ["PCM"] = PCM
+    forgetful = f"pcm={servers.TOP / 'examples/device/forgetful'}"
+    lines = {}
+    for parameters, is_right in (([forgetful], True), ([forgetful, "cuts=100"], False)):
+        with server(*SMALL, "on-cut=ride", "misses=3", *parameters) as it:
+            disk, draw, right = it.connect(), random.Random(6), True
+            for _ in range(300):
+                at, data = 64 * draw.randrange(512), draw.randbytes(64)
+                disk.pwrite(data, at)
+                lines[at] = data
+                at = draw.choice(list(lines))
+                right &= disk.pread(64, at) == lines[at]
+            check(right == is_right, f"a module that forgets its queue at cuts is {'right without any' if is_right else 'found out'}")
+        lines.clear()
+
+
 def log_of(log):
     """The log, its words, and its operations."""
     rows = log.read_text().splitlines()
@@ -305,6 +322,7 @@ def main():
         a_cut_ends_connections()
         sectors_are_whole()
         cuts_are_drawn_or_named()
+        a_module_that_forgets_is_found_out()
         other_logs_are_refused(a_disk_goes_on_from_its_log())
         the_control_export()
         wrong_parameters()
