@@ -30,6 +30,8 @@ MOST_ROWS = 400_000
 MOST_TICK = 2**40
 ADDRESSES = 2**64
 MOST_BYTES = 4096
+# Lines of the largest module, which streams take; `pcm run` takes at most 65,536.
+MOST_LINES = 2**26
 HEADER = b"tick,op,arg,data\n"
 
 
@@ -273,7 +275,8 @@ def parser_of(importer: Importer) -> argparse.ArgumentParser:
     parser = argparse.ArgumentParser(description=importer.head, formatter_class=argparse.RawDescriptionHelpFormatter, allow_abbrev=False)
     rules = ["zero", "address", "seed"] + ["trace"] * importer.has_data
     parser.add_argument("--size", type=int, choices=[64, 128], default=64, help="bytes of a line, as run's --line (64)")
-    parser.add_argument("--lines", type=ranged(1, 65_536), default=512, metavar="N", help="lines of the module: banks*regions*lines (512)")
+    parser.add_argument("--lines", type=ranged(1, MOST_LINES), default=512, metavar="N", help="lines of the module: banks*regions*lines (512); those of "
+                        "run have at most 65536, of streams 67108864")
     parser.add_argument("--fold", action="store_true", help="take lines modulo --lines; else one beyond them is refused")
     parser.add_argument("--per-tick", type=ranged(1, 10**12), default=1, metavar="CYCLES", help="cycles of the trace in a tick (1)")
     parser.add_argument("--data", choices=rules, default=rules[-1], help="the bytes of writes: all 0; in each eight bytes their own "

@@ -111,6 +111,8 @@ def answers_of_options():
     yield same("tick 2^40", run(gem5, f"r,0,64,0,{2**40}\n"), (0, HEADER + f"{2**40},R,0,\n", ""))
     late = (1, "", f"line 1: cycle {2**40 + 1} is beyond tick 2^40; see --per-tick\n")
     yield same("beyond tick 2^40", run(gem5, f"r,0,64,0,{2**40 + 1}\n"), late)
+    last = (0, HEADER + "70,R,67108863,\n", "")
+    yield same("the last line of the largest module", run(gem5, f"r,{64 * 67108863},64,0,70\n", "--lines", "67108864"), last)
     yield same("no bytes", run(gem5, "r,0,0,0,70\n"), (1, "", "line 1: a size of 0 bytes; sizes are 1 to 4096\n"))
     yield same("many bytes", run(gem5, "r,0,4097,0,70\n"), (1, "", "line 1: a size of 4097 bytes; sizes are 1 to 4096\n"))
 

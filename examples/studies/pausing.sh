@@ -11,7 +11,7 @@
 pcm=${1:-./pcm}
 rows=4000
 [ "$2" = --full ] && rows=100000
-came=$(mktemp) && trap 'rm -f "$came"' EXIT
+came=$(mktemp) && trap 'rm -f "$came"' EXIT && trap 'exit 1' INT TERM HUP
 printf 'load,policy,reads,mean,most,stored,write_mean,pulses\n'
 for step in 200 100 50 40 25 20 16 12 10; do
     drawn="--seed 3 --rows $rows --write-percent 30 --step $step"

@@ -9,7 +9,7 @@
 pcm=${1:-./pcm}
 rows=10000
 [ "$2" = --full ] && rows=200000
-room=$(mktemp -d) && trap 'rm -rf "$room"' EXIT
+room=$(mktemp -d) && trap 'rm -rf "$room"' EXIT && trap 'exit 1' INT TERM HUP
 shape="--regions 8"
 # shellcheck disable=SC2086  # the words of the shape
 "$pcm" gen --seed 5 --rows $rows --write-percent 50 --step 40 $shape >"$room/whole"

@@ -1,7 +1,8 @@
 #!/bin/sh
 # What the theorem of a module's life promises some regions, by examples/studies/promise: the numbers that the check computes from the
 # theorem's definitions (crates/worked_tables, `promises_are_computed` and `hot_lines_count_in_their_own_region`); then what is promised over
-# psi, with the one of most; and what is told where nothing is promised, or where an option is missing, unknown or out of range.
+# psi, with the one of most, also in regions of large modules; and what is told where nothing is promised, or where an option is missing,
+# unknown or out of range.
 # usage: promises.sh
 promise=$(dirname "$0")/promise
 
@@ -29,6 +30,11 @@ for psi in 1 4 16 64 256 1024 4096 16384 65535 best; do
     asked --lines 64 --psi $psi --lo 1000000
 done
 asked --lines 64 --psi 64 --lo 1000000 --spares 8
+echo
+for psi in 1 95 96 100 best; do
+    asked --lines 1048576 --psi $psi --lo 100000000
+done
+asked --lines 67108864 --psi best --lo 100000000
 echo
 asked --lines 64 --psi 1 --lo 2
 asked --lines 64 --psi 1 --lo 1

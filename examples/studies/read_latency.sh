@@ -3,7 +3,7 @@
 # the end of its sense, over one generated trace.
 pcm=${1:-./pcm}
 options="--banks 1 --regions 1 --lines 64 --seed 3 --rows 20000 --write-percent 40 --step 40"
-trace=$(mktemp) && trap 'rm -f "$trace"' EXIT
+trace=$(mktemp) && trap 'rm -f "$trace"' EXIT && trap 'exit 1' INT TERM HUP
 # shellcheck disable=SC2086  # the words of the options
 "$pcm" gen $options >"$trace"
 printf 'policy,misses,reads,mean,most\n'

@@ -9,7 +9,7 @@
 pcm=${1:-./pcm}
 rows=10000
 [ "$2" = --full ] && rows=200000
-came=$(mktemp) && trap 'rm -f "$came"' EXIT
+came=$(mktemp) && trap 'rm -f "$came"' EXIT && trap 'exit 1' INT TERM HUP
 drawn="--seed 3 --rows $rows --write-percent 50 --step 40"
 # shellcheck disable=SC2086  # the words of the options
 "$pcm" gen $drawn | cut -d, -f1 >"$came"

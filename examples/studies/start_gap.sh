@@ -13,7 +13,7 @@ lines=16
 rows=16384
 [ "$2" = --full ] && lines=64 rows=400000
 here=$(dirname "$0")
-trace=$(mktemp) && trap 'rm -f "$trace"' EXIT
+trace=$(mktemp) && trap 'rm -f "$trace"' EXIT && trap 'exit 1' INT TERM HUP
 
 # wears PATTERN REGIONS LINES PSI: runs the trace, and prints a row
 wears() {

@@ -15,7 +15,7 @@ writes=330
 step=2
 [ "$2" = --full ] && mean=1000 writes=1650 step=10
 here=$(dirname "$0")
-trace=$(mktemp) && trap 'rm -f "$trace"' EXIT
+trace=$(mktemp) && trap 'rm -f "$trace"' EXIT && trap 'exit 1' INT TERM HUP
 awk -v rows=$((lines * writes)) -v lines=$lines -v step=4000 -f "$here/writes.awk" >"$trace"
 printf 'spread,writes,intact,alive,spares\n'
 for spread in 10 25 50 75; do

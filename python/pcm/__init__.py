@@ -47,16 +47,16 @@ from .image import Bank, Entry, Image, ImageError, Region
 from .module import Module
 from .outcomes import Backlog, Busy, Cut, Forwarded, Full, Lost, Merged, Outcome, Queued, Read as ReadOutcome, Settled, Stored, Worn
 from .program import command, program
-from .rows import MaskedWrite, PowerCut, Query, Read, Settle, Write, read_trace, write_trace
+from .rows import MaskedWrite, PowerCut, Query, Read, Settle, Write, numbered, read_trace, write_trace
 from .snapshots import Snapshot, SnapshotError, read_snapshots, snapshots
 from .whole import Result, ResultRow, WearLine, run
 
-__version__ = "1.5.0"
+__version__ = "1.6.0"
 __all__ = [
     "Answer", "Asks", "Backlog", "Bank", "BankFact", "Busy", "BytesFact", "Cut", "Entry", "Explanation", "ExplanationError", "Fact",
     "Forwarded", "Full", "Image", "ImageError", "Lost", "MaskedWrite", "Merged", "Module", "OutOfMemory", "Outcome", "PcmError", "PowerCut",
     "Query", "Queued", "Read", "ReadBetween", "ReadFault", "ReadOutcome", "Region", "Result", "ResultRow", "RowFact", "RowsFact", "Settle",
-    "Settled", "Snapshot", "SnapshotError", "Stored", "StoredBy", "TickFact", "TooLong", "TraceError", "UsageError", "WearLine", "Worn",
-    "Write", "WriteFault", "command", "explain", "explain_all", "program", "read_explanation", "read_snapshots", "read_trace", "run",
-    "snapshots", "to_frame", "write_trace",
+    "Settled", "Snapshot", "SnapshotError", "Stored", "StoredBy", "TickFact", "TooLong", "TraceError", "UsageError", "WearLine",
+    "Worn", "Write", "WriteFault", "command", "explain", "explain_all", "numbered", "program", "read_explanation", "read_snapshots",
+    "read_trace", "run", "snapshots", "to_frame", "write_trace",
 ]

@@ -8,15 +8,17 @@ from .plots import (
     Axis, Panel, Room, Series, at_the_ends, fitting, key_rows, keys, level, of_names, plot, round_step, short, upright,
 )
 from .runs import OUTCOMES
-from .tallies import Group, Level, Pulses
+from .tallies import Group, Level, Pulses, Square
 
 WIDTH = 460
 COLOURS = {
     "stored": BLUE, "merged": BLUE, "queued": ORANGE, "full": ORANGE, "worn": ORANGE, "read": GREEN, "forwarded": GREEN, "busy": ORANGE,
     "lost": RED, "cut": SOFT,
 }
-# The most cells of a row of the map, and the widest cell.
+# The most squares of a row of the map, and the widest one.
 _COLUMNS, _CELL = 66, 16.0
+# The most squares of all maps of a module, and those of a group of lines that stand beside one another.
+_SQUARES, _OF_A_GROUP = 20_000, 5_000
 _EDGES = {"gap": BLUE, "retired": RED, "control": GREEN, "free": RULE}
 
 
@@ -56,25 +58,33 @@ def bounds(step: int, most: int) -> Tuple[int, int]:
     return -(-(step - 1) * most // 8) + 1, -(-step * most // 8)
 
 
-def of_cells(groups: Sequence[Group], values: Sequence[int], most: int, title: str, told: str) -> Picture:
-    """A map of array lines: a row, or several, for each group, coloured by a value of each line."""
-    places = max((len(group.lines) for group in groups if group.words.startswith("region")), default=1)
+def grain(groups: Sequence[Group]) -> int:
+    """How many array lines a square of a module's maps stands for: as few as leave maps of a size that can be looked at."""
+    lines = 1
+    while sum(group.parts(lines) for group in groups) > _SQUARES or max(group.parts(lines) for group in groups) > _OF_A_GROUP:
+        lines *= 2
+    return lines
+
+
+def of_cells(groups: Sequence[Group], squares: Sequence[Sequence[Square]], most: int, title: str, told: str) -> Picture:
+    """A map of array lines: a row, or several, of coloured squares for each group."""
+    places = max((len(here) for group, here in zip(groups, squares) if group.words.startswith("region")), default=1)
     columns = -(-places // -(-places // _COLUMNS))
     wide = min(_CELL, (WIDTH - 64) / columns)
-    high = 14.0 if max(len(group.lines) for group in groups) <= columns else max(wide, 7.0)
-    heights = [max(14.0, -(-len(group.lines) // columns) * high) + 3 for group in groups]
+    high = 14.0 if max(len(here) for here in squares) <= columns else max(wide, 7.0)
+    heights = [max(14.0, -(-len(here) // columns) * high) + 3 for here in squares]
     picture = Picture(WIDTH, 30 + sum(heights), title, told, VARIABLES)
     picture.text(0, 15, title, 14, "start", bold=True)
     steps: List[List[str]] = [[] for _ in HEAT]
     edges: Dict[str, List[str]] = {role: [] for role in _EDGES}
     top = 28.0
-    for group, height in zip(groups, heights):
+    for group, here, height in zip(groups, squares, heights):
         picture.text(56, top + max(high, 12) / 2 + 4, group.words, 12, "end", SOFT)
-        for at, line in enumerate(group.lines):
+        for at, square in enumerate(here):
             x, y = 62 + at % columns * wide, top + at // columns * high
-            steps[heat(values[line.array], most)].append(_square(x, y, wide - 1, high - 1))
-            if line.role in edges:
-                edges[line.role].append(_edge(line.role, x, y, wide - 1, high - 1))
+            steps[heat(square.value, most)].append(_square(x, y, wide - 1, high - 1))
+            if square.role is not None:
+                edges[square.role].append(_edge(square.role, x, y, wide - 1, high - 1))
         top += height
     _paint(picture, steps, edges)
     return picture

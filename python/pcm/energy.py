@@ -158,14 +158,9 @@ def ran(trace: Optional[str], options: Dict[str, str], program: Program = None, 
 
 def parser() -> Parser:
     """The words of the command."""
-    words = Parser(prog="python3 -m pcm energy", add_help=False, allow_abbrev=False)
-    words.add_argument("files", nargs="*")
-    words.add_argument("--run", action="store_true")
-    words.add_argument("--options", action="append", default=[])
+    words = Parser.of_runs("energy")
     for name in ("tick-ns", "set-pj", "reset-pj", "sense-pj", "device", "rate"):
         words.add_argument(f"--{name}")
-    words.add_argument("--csv", action="store_true")
-    words.add_argument("--progress", action="store_true", default=None)
     return words
 
 

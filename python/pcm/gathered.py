@@ -1,23 +1,31 @@
 """Gathers a run from its files, or by running the program, and holds the files to one another."""
 import functools
+import math
 import subprocess
 import tempfile
 from typing import Dict, List, NamedTuple, Optional
 
 from . import tallies
+from .drawn import draw_of, drawn
 from .errors import UsageError, error_of
 from .explaining import said_of
 from .pipes import cut, exchanged
 from .program import Program, command
 from .progress import Progress
+from .rows import HEADER
 from .runs import (
     DEFAULTS, DRAWN, STREAMS, Arrival, FileFault, Run, Source, are_snapshots, arrivals_of, image_of, joined, opened, results_of,
     shape_of_wear, snapshots_of, summary_of, wear_of,
 )
-from .words import COMMANDS, RESULTS
+from .words import COMMANDS, RESULTS, are_small, wrong_word
 
 # The options that `gen` takes, too.
 _GENERATED = ("banks", "regions", "lines", "line", "seed", *DRAWN)
+# What is printed of a run, by what it is to a report; and of a stream over a module that `run` doesn't take, of which the last only up to
+# so many lines, since it has a row for each.
+_PRINTS = (("results", "results"), ("wear report", "wear"), ("image", "image"), ("summary", "summary"))
+_STREAMED = (("results", "rows"), ("summary", "summary"), ("wear report", "lines"))
+_MOST_MAPPED = 1 << 22
 # The values of each option that takes no number.
 _WORDS = {
     "policy": ("pause", "plain", "cancel"), "registers": ("guarded", "array"), "input": ("source", "drawn"), "end": ("drain", "off"),
@@ -57,7 +65,8 @@ def gather(asked: Asked, program: Program = None, progress: Optional[Progress] =
     rows = results_of(by_kind["results"], progress) if "results" in by_kind else []
     run = Run(asked.name or asked.results or asked.trace or "drawn", options, origins, files, rows)
     for kind, read in (
-        ("trace", functools.partial(_add_trace, progress=progress)), ("wear report", _add_wear), ("image", _add_image),
+        ("trace", functools.partial(_add_trace, progress=progress)), ("wear report", functools.partial(_add_wear, progress=progress)),
+        ("image", _add_image),
         ("snapshots", _add_snapshots), ("summary", _add_summary),
     ):
         if kind in by_kind:
@@ -94,27 +103,42 @@ def _read(asked: Asked, progress: Progress) -> List[Source]:
 
 
 def _made(asked: Asked, program: Program, progress: Progress) -> List[Source]:
-    """What the program makes of a trace, or of one that is drawn."""
+    """What the program makes of a trace, or of one that is drawn: all by `run`, or by streams where the module is larger than it takes."""
     for name in STREAMS:
         if name in asked.options:
             raise UsageError(2, f"--{name} is an option of streams: hand in what the stream printed")
+    whole = {**DEFAULTS, **DRAWN, **asked.options}
+    lines = [int(whole[name]) for name in ("banks", "regions", "lines")]
+    small = are_small(*lines)
     if asked.options.get("input") == "drawn":
-        generated = {name: value for name, value in asked.options.items() if name in _GENERATED}
-        told = " ".join(f"--{name} {value}" for name, value in generated.items())
-        trace = Source("trace", f"pcm gen {told}".strip(), _ran("gen", program, generated, b"", None, progress))
+        trace = _drawn(asked.options, whole, small, program, progress)
     elif asked.trace is None:
         raise UsageError(2, "a trace is wanted, or --input drawn")
     else:
         trace = opened("trace", asked.trace, progress)
-    sources = [trace]
-    for kind, what in (("results", "results"), ("wear report", "wear"), ("image", "image"), ("summary", "summary")):
-        printed = _ran("run", program, {**asked.options, "print": what}, trace.data, asked.trace, progress)
-        sources.append(Source(kind, f"pcm run --print {what}", printed))
+    sources, name = [trace], "run" if small else "stream"
+    for kind, what in _PRINTS if small else _STREAMED[:2 + (math.prod(lines) <= _MOST_MAPPED)]:
+        printed = _ran(name, program, {**asked.options, "print": what}, trace.data, asked.trace, progress)
+        sources.append(Source(kind, f"pcm {name} --print {what}", printed))
     if asked.every is not None:
         more = {**asked.options, "print": "snapshots", "every": asked.every}
         printed = _ran("stream", program, more, trace.data, asked.trace, progress)
         sources.append(Source("snapshots", f"pcm stream --print snapshots --every {asked.every}", printed))
     return sources
+
+
+def _drawn(given: Dict[str, str], whole: Dict[str, str], small: bool, program: Program, progress: Progress) -> Source:
+    """The trace that is drawn by the given options, all of which are told."""
+    generated = {name: value for name, value in given.items() if name in _GENERATED}
+    told = " ".join(f"--{name} {value}" for name, value in generated.items())
+    if small:
+        return Source("trace", f"pcm gen {told}".strip(), _ran("gen", program, generated, b"", None, progress))
+    words = [word for name, value in given.items() for word in (f"--{name}", value)]
+    wrong = wrong_word(["stream", *words])
+    if wrong is not None:
+        raise UsageError(2, wrong)
+    text = "".join([HEADER, *(row.text() for row in drawn(draw_of(whole)))])
+    return Source("trace", f"drawn by {told}", text.encode())
 
 
 def _ran(name: str, program: Program, options: Dict[str, str], given: bytes, trace: Optional[str], progress: Progress) -> bytes:
@@ -162,8 +186,8 @@ def _add_trace(run: Run, source: Source, progress: Progress) -> None:
     run.arrivals = arrivals
 
 
-def _add_wear(run: Run, source: Source) -> None:
-    run.wear = wear_of(source)
+def _add_wear(run: Run, source: Source, progress: Progress) -> None:
+    run.wear = wear_of(source, progress)
     _take_options(run, source, shape_of_wear(source, run.wear).options())
 
 
@@ -209,9 +233,8 @@ def _in_the_end(run: Run) -> Dict[str, int]:
     if run.snapshots:
         known.update(run.snapshots[-1]._asdict())
     if run.wear:
-        pulses = [line.pulses for line in run.wear]
-        known.update(retired=sum(line.role == "retired" for line in run.wear), pulses=sum(pulses), most=max(pulses))
-        known.update(mean=sum(pulses) // len(pulses))
+        known.update(retired=tallies.retired(run), pulses=tallies.all_pulses(run), most=max(run.wear.pulses))
+        known.update(mean=known["pulses"] // len(run.wear))
     if run.has_rows:
         known.update(rows=len(run.rows), **run.counts)
     return known

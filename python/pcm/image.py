@@ -3,6 +3,9 @@ import struct
 from dataclasses import dataclass, field
 from typing import Iterator, List, Optional, Tuple
 
+from .randomiser import Randomiser
+from .words import SMALL
+
 _MAGIC = b"PCMIMG01"
 
 
@@ -106,8 +109,8 @@ class Image:
 
     def place(self, line: int) -> Tuple[int, int]:
         """The bank of a line of the module, and its line there, by the randomiser."""
-        total = len(self.banks) * self.regions * self.lines
-        return divmod(_feistel(line, total.bit_length() - 1, self.seed), self.regions * self.lines)
+        lines = self.regions * self.lines
+        return divmod(Randomiser(len(self.banks) * lines, self.seed).place(line), lines)
 
     def slot(self, bank: int, line: int) -> int:
         """The slot of a bank's line, where the registers of its region put it."""
@@ -160,29 +163,6 @@ def _layout(line_bytes: int) -> Tuple[int, int, int]:
     return bits, entries * bits.bit_length(), entries
 
 
-def _splitmix(seed: int) -> Iterator[int]:
-    """The words of SplitMix64."""
-    mask = (1 << 64) - 1
-    while True:
-        seed = (seed + 0x9E3779B97F4A7C15) & mask
-        word = seed
-        word = (word ^ word >> 30) * 0xBF58476D1CE4E5B9 & mask
-        word = (word ^ word >> 27) * 0x94D049BB133111EB & mask
-        yield word ^ word >> 31
-
-
-def _feistel(number: int, bits: int, seed: int) -> int:
-    """Where the randomiser sends a line of a module of 2**bits lines."""
-    words = _splitmix(seed)
-    keys = [next(words) % 65536 for _ in range(3)]
-    width = bits // 2
-    left, right = divmod(number, 1 << width)
-    left ^= (right ^ keys[0]) ** 2 % (1 << (bits - width))
-    right ^= (left ^ keys[1]) ** 2 % (1 << width)
-    left ^= (right ^ keys[2]) ** 2 % (1 << (bits - width))
-    return left << width | right
-
-
 class _Reader:
     def __init__(self, data: bytes) -> None:
         self.data = data
@@ -215,10 +195,10 @@ class _Reader:
         size = self.number(1, "size")
         if size not in (64, 128):
             raise ImageError(begun, "size")
-        banks, regions = self.power(1, 1, 16), self.power(1, 1, 16)
+        banks, regions = self.power(1, 1, SMALL.banks), self.power(1, 1, SMALL.regions)
         begun = self.at
-        lines = self.power(2, 4, 4096)
-        if banks * regions * lines > 65536:
+        lines = self.power(2, 4, SMALL.lines)
+        if banks * regions * lines > SMALL.all_lines:
             raise ImageError(begun, "shape")
         spares, seed = self.number(2, "shape", most=1024), self.number(8, "seed")
         home = self.number(1, "shape", most=1)

@@ -26,13 +26,14 @@ import tempfile
 from typing import BinaryIO, Dict, Iterable, Iterator, List, NamedTuple, Optional, Sequence, Tuple
 
 from .devices import other_times, units_of
+from .drawn import Draw, draw_of, drawn
 from .errors import PcmError, ReadFault, UsageError, error_of
 from .program import Program, command
 from .progress import Progress
-from .rows import Settle, read_trace
+from .rows import numbered, read_trace
 from .runs import DRAWN, OUTCOMES, FileFault
 from .tables import Parser, answered, names_of, parsed_options, table
-from .words import TOLD, wrong_word
+from .words import COMMANDS, TOLD, wrong_word
 
 # Numbers of ticks, and how many rows of an outcome took so many.
 Histogram = Dict[int, int]
@@ -41,7 +42,6 @@ KINDS: "Dict[str, Tuple[str, ...]]" = {
     "reads": ("read", "forwarded"), "read": ("read",), "writes": ("stored", "merged"), "stored": ("stored",),
 }
 _HERE = os.path.dirname(os.path.abspath(__file__))
-_MASK = 2**64 - 1
 
 
 class RowsFault(FileFault):
@@ -78,43 +78,6 @@ def spread(histograms: Iterable[Histogram]) -> Spread:
 # Arrivals.
 
 
-def _rotated(word: int, by: int) -> int:
-    return (word << by | word >> (64 - by)) & _MASK
-
-
-def _words(seed: int) -> Iterator[int]:
-    """The words of xoshiro256++, seeded by SplitMix64."""
-    state = []
-    for _ in range(4):
-        seed = (seed + 0x9E3779B97F4A7C15) & _MASK
-        word = (seed ^ seed >> 30) * 0xBF58476D1CE4E5B9 & _MASK
-        word = (word ^ word >> 27) * 0x94D049BB133111EB & _MASK
-        state.append(word ^ word >> 31)
-    one, two, three, four = state
-    while True:
-        yield (_rotated((one + four) & _MASK, 23) + one) & _MASK
-        kept = two << 17 & _MASK
-        three ^= one
-        four ^= two
-        two ^= three
-        one ^= four
-        three ^= kept
-        four = _rotated(four, 45)
-
-
-def _drawn(numbers: Sequence[int]) -> Iterator[int]:
-    """The ticks of a drawn trace's rows."""
-    seed, rows, percent, cuts, step, _, _, size = numbers
-    words, part, tick = _words(seed), max(1, rows // (cuts + 1)), 0
-    for row in range(1, rows + 1):
-        tick += next(words) % (step + 1)
-        if row % part or row // part > cuts:
-            if (next(words) >> 32) % 100 < percent:
-                for _ in range(size // 8):
-                    next(words)
-        yield tick
-
-
 def _of_file(path: str) -> Iterator[int]:
     """The ticks of a trace's numbered rows."""
     with open(path, encoding="latin-1", newline="") as file:
@@ -123,9 +86,7 @@ def _of_file(path: str) -> Iterator[int]:
             mark = file.read(3)
             if mark != "\xef\xbb\xbf":
                 file.seek(0)
-            for row in read_trace(file):
-                if not isinstance(row, Settle):
-                    yield row.tick
+            yield from (row.tick for row in numbered(read_trace(file)))
         except ValueError as wrong:
             raise RowsFault(f"{path} {wrong}") from None
 
@@ -190,49 +151,49 @@ class Passed(NamedTuple):
         return {kind: spread(self.found[word] for word in words) for kind, words in KINDS.items()}
 
 
-def numbers_of(options: Dict[str, str]) -> Optional[List[int]]:
-    """The numbers of a drawn trace, by the options of a stream; None where the trace isn't drawn."""
+def draw_asked(options: Dict[str, str]) -> Optional[Draw]:
+    """How a drawn trace is drawn, by the options of a stream; None where the trace isn't drawn."""
     if options.get("input") != "drawn":
         return None
-    value = {"seed": "0", "line": "64", **DRAWN, **options}
-    names = ("seed", "rows", "write-percent", "cuts", "step", "hot")
-    for name in (*names, "line"):
-        if not (value[name].isascii() and value[name].isdigit()):
+    taken = COMMANDS["stream"].options
+    value = {**{name: it.default for name, it in taken.items()}, **options}
+    for name in ("seed", *DRAWN, "line", "banks", "regions", "lines"):
+        if not taken[name].takes(value[name]):
             words = [word for name, text in options.items() for word in (f"--{name}", text)]
-            raise UsageError(2, wrong_word(["stream", *words]) or f"--{name} {value[name]}: it may be a number")
-    return [*(int(value[name]) for name in names), 0, int(value["line"])]
+            raise UsageError(2, wrong_word(["stream", *words]) or f"--{name} {value[name]}: it may be {taken[name].range()}")
+    return draw_of(value)
 
 
-def of_files(rows: str, trace: Optional[str], drawn: Optional[List[int]] = None, built: Optional[str] = None) -> Passed:
+def of_files(rows: str, trace: Optional[str], draw: Optional[Draw] = None, built: Optional[str] = None) -> Passed:
     """Those of rows that a stream printed, a file or `-`, and of its trace."""
     try:
         with contextlib.nullcontext(sys.stdin.buffer) if rows == "-" else open(rows, "rb") as file:
             if built is not None and rows != "-":
-                found = _by_program([built, *_source(trace, drawn), rows])
+                found = _by_program([built, *_source(trace, draw), rows])
                 if found is not None:
                     return Passed(found, "C")
             elif built is not None:
-                return _of_pipe(file, trace, drawn, built)
-            return Passed(in_python(_arrivals(trace, drawn), file), "Python")
+                return _of_pipe(file, trace, draw, built)
+            return Passed(in_python(_arrivals(trace, draw), file), "Python")
     except OSError as wrong:
         raise ReadFault(4, f"{wrong.filename}: {wrong.strerror}") from None
 
 
-def _of_pipe(file, trace: Optional[str], drawn: Optional[List[int]], built: str) -> Passed:
+def _of_pipe(file, trace: Optional[str], draw: Optional[Draw], built: str) -> Passed:
     """Those of a pipe, which can't be read twice: a pass in C that gives up ends it."""
-    done = subprocess.run([built, *_source(trace, drawn), "-"], stdin=file, stdout=subprocess.PIPE, stderr=subprocess.PIPE, check=False)
+    done = subprocess.run([built, *_source(trace, draw), "-"], stdin=file, stdout=subprocess.PIPE, stderr=subprocess.PIPE, check=False)
     if done.returncode == 3:
         raise RowsFault("the rows, or the trace, aren't of the plain form that is read fast (or not of each other); --python reads any")
     return Passed(_counted(done), "C")
 
 
-def _arrivals(trace: Optional[str], drawn: Optional[List[int]]) -> Iterator[int]:
-    return _of_file(trace or os.devnull) if drawn is None else _drawn(drawn)
+def _arrivals(trace: Optional[str], draw: Optional[Draw]) -> Iterator[int]:
+    return _of_file(trace or os.devnull) if draw is None else (row.tick for row in drawn(draw))
 
 
-def _source(trace: Optional[str], drawn: Optional[List[int]]) -> List[str]:
+def _source(trace: Optional[str], draw: Optional[Draw]) -> List[str]:
     """The words of the pass in C for a trace."""
-    return [trace or os.devnull] if drawn is None else ["--drawn", ",".join(map(str, drawn))]
+    return [trace or os.devnull] if draw is None else ["--drawn", ",".join(map(str, draw))]
 
 
 def _by_program(words: List[str]) -> Optional[Dict[str, Histogram]]:
@@ -256,7 +217,7 @@ def of_run(
     progress: Optional[Progress] = None, running: "Optional[set[subprocess.Popen[bytes]]]" = None,
 ) -> Passed:
     """Those of a run by the program of streams, over a file or a drawn trace. Its process stands in `running` while it runs."""
-    drawn = numbers_of(options)
+    draw = draw_asked(options)
     more = [word for name, value in options.items() for word in (f"--{name}", value)]
     words = [*command("stream", program), *more]
     with contextlib.ExitStack() as held:
@@ -274,9 +235,9 @@ def of_run(
         built = built if _is_plain(trace) else None
         try:
             if built is None:
-                found = in_python(_arrivals(trace, drawn), process.stdout)
+                found = in_python(_arrivals(trace, draw), process.stdout)
             else:
-                found = _found(process, built, [*_source(trace, drawn), "-"], given, trace, progress)
+                found = _found(process, built, [*_source(trace, draw), "-"], given, trace, progress)
         except PcmError as wrong:
             fault, found = wrong, None
         # (a program whose rows nobody reads any more ends with a fault of writing)
@@ -333,16 +294,10 @@ def _is_plain(trace: Optional[str]) -> bool:
 
 def parser() -> Parser:
     """The words of the command."""
-    words = Parser(prog="python3 -m pcm latencies", add_help=False, allow_abbrev=False)
-    words.add_argument("files", nargs="*")
-    words.add_argument("--run", action="store_true")
-    words.add_argument("--trace")
-    words.add_argument("--options", action="append", default=[])
-    words.add_argument("--tick-ns")
-    words.add_argument("--device")
-    words.add_argument("--csv", action="store_true")
+    words = Parser.of_runs("latencies")
+    for name in ("trace", "tick-ns", "device"):
+        words.add_argument(f"--{name}")
     words.add_argument("--python", action="store_true")
-    words.add_argument("--progress", action="store_true", default=None)
     return words
 
 
@@ -367,10 +322,10 @@ def told(given: argparse.Namespace) -> str:
         if given.run:
             passes = list(_ran(given, made, built, watched))
         else:
-            if len(given.files) != 1 or len(made) > 1 or (given.trace is None) == (numbers_of(made[0]) is None):
+            if len(given.files) != 1 or len(made) > 1 or (given.trace is None) == (draw_asked(made[0]) is None):
                 more = "with --trace TRACE (or --options '--input drawn ..'), or --run; --help tells more"
                 raise UsageError(2, f"one file of rows is wanted {more}")
-            passes = [(given.files[0], of_files(given.files[0], given.trace, numbers_of(made[0]), built))]
+            passes = [(given.files[0], of_files(given.files[0], given.trace, draw_asked(made[0]), built))]
     watched.clear()
     unit = "ticks" if tick_ns is None else "ns"
     head = ["run", "kind", "rows", f"mean {unit}", *(f"{percent:g}%" for percent in QUANTILES), "most"]
@@ -398,6 +353,6 @@ def _ran(given: argparse.Namespace, made: List[Dict[str, str]], built: Optional[
         raise UsageError(2, "--run takes one trace, without --trace")
     for words, options in zip(names_of(given.options, made), made):
         trace = given.files[0] if given.files else None
-        if (trace is None) == (numbers_of(options) is None):
+        if (trace is None) == (draw_asked(options) is None):
             raise UsageError(2, "a trace is wanted, or --options '--input drawn ..' without one")
         yield words, of_run(trace, options, None, built, watched)

@@ -1,4 +1,5 @@
 """The page of a report: one file of HTML, without a script and without a link to elsewhere."""
+import heapq
 from typing import Callable, Iterable, List, Optional, Sequence, Tuple
 
 from . import charts, tallies
@@ -11,9 +12,12 @@ from .explanation import read_explanation
 from .runs import OPERATIONS, OUTCOMES, Run
 from .style import LANDSCAPE, STYLE
 from .tables import rounded
+from .worn import Wear
 
 # The parts of the time in pictures, and how many of them make one row of a table.
 PARTS, TOGETHER = 120, 6
+# Of so many groups of array lines a map says the numbers, and so many lines are told of all.
+_SAID, _WORST = 20, 20
 _FALLS_SHORT = ("queued", "full", "worn", "busy", "lost")
 
 
@@ -176,51 +180,56 @@ def _mean(run: Run) -> Cell:
 
 def _most(run: Run, control: bool) -> Optional[int]:
     """The most pulses of an array line that is a control line, or that is none."""
-    return max((line.pulses for line in run.wear or [] if (line.role == "control") == control), default=None)
+    return max(run.wear.where(run.wear.pulses, tallies.CONTROL, control), default=None) if run.wear else None
 
 
 def _ratio(number: Optional[int], count: int) -> Optional[float]:
     return number / count if number is not None and count else None
 
 
-def _maps(runs: Sequence[Run], values: Callable[[Run], Optional[List[int]]], unit: str, kind: str) -> Tuple[str, List[int]]:
-    """A map of each bank of each run that has values, and all values."""
-    pairs = [(value, line.role) for run in runs if run.wear for value, line in zip(values(run) or [], run.wear)]
-    every = [value for value, _ in pairs]
+def _maps(runs: Sequence[Run], values: Callable[[Run], Optional[Sequence[int]]], unit: str, kind: str) -> str:
+    """A map of each bank of each run that has values."""
     # (control lines may have many times as many, and would leave all others pale)
-    most = max([value for value, role in pairs if role != "control"] + [1])
+    tops = [max(run.wear.where(values(run) or (), tallies.CONTROL, False), default=1) for run in runs if run.wear]
+    most = max([*tops, 1])
 
     def part(run: Run) -> str:
         here = values(run)
         if here is None or run.wear is None:
             return looked("No wear report of this run.")
         banks = [tallies.groups(run, bank) for bank in range(run.shape.banks)]
-        pictures = [charts.of_cells(groups, here, most, f"bank {bank}", _told(groups, here, unit)) for bank, groups in enumerate(banks)]
-        rows = [_row_of(group, here) for groups in banks for group in groups]
-        by_group = tabled(
-            f"{unit.capitalize()} by region", ("array lines", "bank", "number", unit, "mean", "most", "at", "retired"), rows, kind
-        )
-        worst = sorted(run.wear, key=lambda line: -here[line.array])[:20]
-        rows = [(line.array, line.bank, here[line.array], line.role) for line in worst]
-        return placed(pictures) + folded(
-            "The numbers", by_group, tabled(f"The array lines with the most {unit}", ("array line", "bank", unit, "role"), rows)
-        )
+        grain = charts.grain([group for groups in banks for group in groups])
+        rows = [[_row_of(group, run.wear, here) for group in groups] for groups in banks]
+        pictures = []
+        for bank, groups in enumerate(banks):
+            squares = [tallies.squares(group, run.wear, here, grain) for group in groups]
+            pictures.append(charts.of_cells(groups, squares, most, f"bank {bank}", _told(rows[bank], unit)))
+        several = looked(f"Each square stands for {grain:,} array lines beside one another, and tells the most {unit} of one.") if grain > 1 else ""
+        head = ("array lines", "bank", "number", unit, "mean", "most", "at", "retired")
+        by_group = tabled(f"{unit.capitalize()} by region", head, (row for of_bank in rows for row in of_bank), kind)
+        worst = heapq.nlargest(_WORST, range(len(here)), here.__getitem__)
+        lines = [(at, run.wear.banks[at], here[at], run.wear.role(at)) for at in worst]
+        by_line = tabled(f"The array lines with the most {unit}", ("array line", "bank", unit, "role"), lines)
+        return several + placed(pictures) + folded("The numbers", by_group, by_line)
 
     key = charts.of_heat(most, unit, any(run.shape.in_array for run in runs if run.wear))
-    return beside(runs, part) + f"<figure>{key.placed()}</figure>", every
+    return beside(runs, part) + f"<figure>{key.placed()}</figure>"
 
 
-def _row_of(group: tallies.Group, values: List[int]) -> Sequence[Cell]:
-    here = [values[line.array] for line in group.lines]
-    at = max(range(len(here)), key=lambda it: here[it])
-    return group.words, group.bank, len(here), sum(here), sum(here) / len(here), here[at], group.lines[at].array, group.retired
+def _row_of(group: tallies.Group, wear: Wear, values: Sequence[int]) -> Sequence[Cell]:
+    here = group.of(values)
+    most, whole = max(here), sum(here)
+    at = group.lines[here.index(most)]
+    return group.words, group.bank, len(here), whole, whole / len(here), most, at, wear.count("retired", group.lines)
 
 
-def _told(groups: Sequence[tallies.Group], values: List[int], unit: str) -> str:
-    rows = [_row_of(group, values) for group in groups]
+def _told(rows: Sequence[Sequence[Cell]], unit: str) -> str:
+    """The main numbers of groups; of many of those with the most."""
+    shown = rows if len(rows) <= _SAID else heapq.nlargest(_SAID, rows, lambda row: row[5])
+    left = f"; and {len(rows) - _SAID} with less" if len(rows) > _SAID else ""
     return "; ".join(
-        f"{row[0]}: {row[3]:,} {unit}, {row[4]:.1f} in the mean, most {row[5]:,} at array line {row[6]}, {row[7]} retired" for row in rows
-    )
+        f"{row[0]}: {row[3]:,} {unit}, {row[4]:.1f} in the mean, most {row[5]:,} at array line {row[6]}, {row[7]} retired" for row in shown
+    ) + left
 
 
 def _wear(runs: Sequence[Run]) -> Section:
@@ -231,8 +240,7 @@ def _wear(runs: Sequence[Run]) -> Section:
         "hot line that its gap moves too seldom (a smaller psi spreads it). An evenly coloured row says that the gap has carried its lines over "
         "all places. Red, struck through: retired lines; their slots stand in spares."
     )
-    maps, _ = _maps(runs, lambda run: [line.pulses for line in run.wear] if run.wear else None, "pulses", "wear")
-    return "wear", "Wear", looked(look) + maps
+    return "wear", "Wear", looked(look) + _maps(runs, lambda run: run.wear.pulses if run.wear else None, "pulses", "wear")
 
 
 def _pointers(runs: Sequence[Run]) -> Section:
@@ -243,10 +251,9 @@ def _pointers(runs: Sequence[Run]) -> Section:
         "How many error-correcting pointers each line has in use, by its own check cells. Look for rows that darken together: their cells stick "
         "at about the same age, and spares will be taken one after the other."
     )
-    maps, every = _maps(runs, lambda run: told[id(run)], "pointers", "pointers")
-    if not any(every):
-        maps = looked("No pointer is in use.")
-    return "pointers", "Pointers", looked(look) + maps
+    if not any(any(told[id(run)] or ()) for run in runs if run.wear):
+        return "pointers", "Pointers", looked(look) + looked("No pointer is in use.")
+    return "pointers", "Pointers", looked(look) + _maps(runs, lambda run: told[id(run)], "pointers", "pointers")
 
 
 def _waits(runs: Sequence[Run], words: Sequence[Tuple[str, str]], title: str, kind: str) -> str:

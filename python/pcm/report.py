@@ -25,6 +25,7 @@ For all runs:
   --output FILE     where the page is written, instead of standard output
   --progress        standard error tells how far it is, also where that isn't a terminal
 
+With --run streams replay what is too large a module for `run`, of more than 4194304 lines without wear, for it has a row for each of them.
 RESULTS may be -, standard input. Options that aren't given are those that a file tells, and else the program's defaults. Files that
 aren't of one run are refused. Status 0; 2 for words that ask for nothing that can be done, 3 for a file that isn't what it should be,
 4 and 5 where reading or writing failed, 130 where it is broken off, and with --run that of the program."""

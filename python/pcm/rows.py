@@ -73,6 +73,13 @@ class Query:
 
 
 Row = Union[Read, Write, MaskedWrite, PowerCut, Settle, Query]
+# Those that settle, by their letters: a stream's alone, and without a number.
+SETTLING = {"S": Settle, "Q": Query}
+
+
+def numbered(rows: Iterable[Row]) -> Iterator[Row]:
+    """The rows that have a number, which are a trace by themselves: without those that settle."""
+    return (row for row in rows if not isinstance(row, tuple(SETTLING.values())))
 
 
 def write_trace(rows: Iterable[Row], file: IO[str]) -> int:
@@ -115,13 +122,13 @@ def _row_of(fields: Sequence[str]) -> Row:
     if len(fields) != 4:
         raise ValueError("fields")
     op, data = fields[1], fields[3]
-    if op not in ("R", "W", "M", "C", "S", "Q"):
+    if op not in ("R", "W", "M", "C", *SETTLING):
         raise ValueError("op")
     tick = _natural("tick", fields[0])
-    if op in ("C", "S", "Q"):
+    if op == "C" or op in SETTLING:
         if fields[2] or data:
             raise ValueError("line" if fields[2] else "payload")
-        return PowerCut(tick) if op == "C" else Settle(tick) if op == "S" else Query(tick)
+        return PowerCut(tick) if op == "C" else SETTLING[op](tick)
     line = _natural("line", fields[2])
     form = {"R": "", "W": "(?:[0-9a-fA-F]{2})+", "M": r"(?:[0-9a-fA-F]{2}|\.\.)+"}[op]
     if not re.fullmatch(form, data):

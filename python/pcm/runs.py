@@ -5,6 +5,7 @@ import csv
 import functools
 import hashlib
 import io
+import itertools
 import os
 import re
 import sys
@@ -13,10 +14,13 @@ from typing import BinaryIO, Dict, Iterator, List, NamedTuple, Optional, Tuple
 
 from .devices import Units
 from .errors import PcmError, ReadFault
-from .image import Image, ImageError, _feistel
+from .image import Image, ImageError
 from .progress import Progress
+from .randomiser import Randomiser
+from .rows import SETTLING
 from .snapshots import HEADERS, Snapshot, SnapshotError, read_snapshots
 from .words import RESULTS, TOLD
+from .worn import HEADER as WEAR, MOST, MOST_PULSES, ROLES, Wear, Worn
 
 OUTCOMES = ("stored", "merged", "queued", "full", "worn", "read", "forwarded", "busy", "lost", "cut")
 # The operation of each outcome's row.
@@ -30,7 +34,11 @@ DEFAULTS: Dict[str, str] = {
 # The options of a drawn trace, and those of a stream's end.
 DRAWN: Dict[str, str] = {"rows": "1000", "write-percent": "50", "cuts": "0", "step": "10", "hot": "0"}
 STREAMS: Dict[str, str] = {"end": "drain", "until": "end"}
-_ROLE = re.compile(r"line \d+|gap|free|retired|control")
+# So many rows of a file are read between two looks at the clock.
+_TOLD_EACH = 1 << 12
+# The digits of the greatest number.
+_MOST_DIGITS = 20
+_ROLE = re.compile(rf"{ROLES[0]} [0-9]{{1,10}}|{'|'.join(ROLES[1:])}")
 
 
 class FileFault(PcmError):
@@ -56,21 +64,6 @@ class Arrival(NamedTuple):
     tick: int
     op: str
     line: Optional[int]
-
-
-class Worn(NamedTuple):
-    """A row of a wear report; what `--print lines` adds is None where it isn't told."""
-
-    array: int
-    bank: int
-    pulses: int
-    role: str
-    pointers: Optional[int]
-    stuck: Optional[int]
-    changes: Optional[int]
-    senses: Optional[int] = None
-    set: Optional[int] = None
-    reset: Optional[int] = None
 
 
 @dataclass(frozen=True)
@@ -130,7 +123,7 @@ class Run:
     files: List[Source]
     rows: List[Known]
     arrivals: Optional[List[Arrival]] = None
-    wear: Optional[List[Worn]] = None
+    wear: Optional[Wear] = None
     image: Optional[Image] = None
     summary: Optional[Dict[str, int]] = None
     snapshots: List[Snapshot] = field(default_factory=list)
@@ -138,7 +131,6 @@ class Run:
     tick_ns: Optional[float] = None
     units: Units = Units()
     rate: Optional[float] = None
-    _banks: Dict[int, int] = field(default_factory=dict)
 
     @property
     def has_rows(self) -> bool:
@@ -189,14 +181,13 @@ class Run:
         found = collections.Counter(row.word for row in self.rows)
         return {word: found[word] for word in OUTCOMES}
 
+    @functools.cached_property
+    def _randomiser(self) -> Randomiser:
+        return Randomiser(self.shape.banks * self.shape.regions * self.shape.lines, int(self.options["seed"]))
+
     def bank_of_line(self, line: int) -> int:
         """The bank of a line of the module, by the randomiser."""
-        if line not in self._banks:
-            shape = self.shape
-            lines = shape.regions * shape.lines
-            bits = (shape.banks * lines).bit_length() - 1
-            self._banks[line] = _feistel(line, bits, int(self.options["seed"])) // lines
-        return self._banks[line]
+        return self._randomiser.place(line) // (self.shape.regions * self.shape.lines)
 
 
 def opened(kind: str, name: str, progress: Optional[Progress] = None) -> Source:
@@ -274,9 +265,9 @@ def arrivals_of(source: Source, progress: Optional[Progress] = None) -> List[Arr
     found: List[Arrival] = []
     for at, record in records:
         tick, op, line = _fields(source, at, record, 4)[:3]
-        if op not in ("R", "W", "M", "C", "S", "Q"):
+        if op not in ("R", "W", "M", "C", *SETTLING):
             raise FileFault(f"{source.name} row {at}: op")
-        if op not in ("S", "Q"):
+        if op not in SETTLING:
             known = None if op == "C" else _natural(source, at, "line", line)
             found.append(Arrival(_natural(source, at, "tick", tick), "W" if op == "M" else op, known))
         if len(found) > 1 and found[-1].tick < found[-2].tick:
@@ -284,21 +275,66 @@ def arrivals_of(source: Source, progress: Optional[Progress] = None) -> List[Arr
     return found
 
 
-def wear_of(source: Source) -> List[Worn]:
-    """The rows of a wear report, with or without what `--print lines` adds."""
-    records = _records(source)
+def wear_of(source: Source, progress: Optional[Progress] = None) -> Wear:
+    """A wear report, with or without what `--print lines` adds."""
+    plain = _plain_wear(source, progress or Progress(False))
+    if plain is not None:
+        return plain
+    records = _records(source, progress)
     header = next(records, (0, []))[1]
-    if header[:4] != ["array", "bank", "pulses", "role"]:
+    if header[:4] != WEAR:
         raise FileFault(f"{source.name} row 0: header")
-    found: List[Worn] = []
+    wear = Wear("pointers" in header)
     for at, record in records:
-        fields = dict(zip(header, _fields(source, at, record, len(header))))
-        array, bank, pulses = (_natural(source, at, name, fields[name]) for name in ("array", "bank", "pulses"))
-        more = [_natural(source, at, name, fields[name]) if fields.get(name) else None for name in Worn._fields[4:]]
-        if array != at - 1 or not _ROLE.fullmatch(fields["role"]):
-            raise FileFault(f"{source.name} row {at}: {'array' if array != at - 1 else 'role'}")
-        found.append(Worn(array, bank, pulses, fields["role"], *more))
-    return found
+        row = _worn(source, at, header, record)
+        wear.extend([row.bank], [row.pulses], [row.role], None if row.pointers is None else [row.pointers])
+    return wear
+
+
+def _plain_wear(source: Source, progress: Progress) -> Optional[Wear]:
+    """A wear report in the form in which it is printed, read fast; None where it is anything else, which is for `_records` to tell."""
+    file = io.BytesIO(source.data)
+    header = file.readline().decode("latin-1").rstrip("\n").split(",")
+    wear = Wear("pointers" in header)
+    if header[:4] != WEAR:
+        return None
+    progress.restart()
+    while True:
+        rows = [line.rstrip(b"\n").split(b",") for line in itertools.islice(file, _TOLD_EACH)]
+        if not rows:
+            return wear
+        if any(len(row) != len(header) for row in rows):
+            return None
+        try:
+            _extend(wear, dict(zip(header, zip(*rows))))
+        except (OverflowError, ValueError):
+            return None
+        progress.rows(len(wear), file.tell() / len(source.data), f"rows of {source.name}")
+
+
+def _extend(wear: Wear, columns: Dict[str, Tuple[bytes, ...]]) -> None:
+    """Adds plain rows by their columns. `ValueError` where one isn't so."""
+    roles = [role.decode("ascii") for role in columns.pop("role")]
+    found = {name: list(map(int, column)) for name, column in columns.items() if name in MOST}
+    are_plain = all(b"".join(column).isdigit() or not any(column) and name not in MOST for name, column in columns.items())
+    are_short = all(len(text) < _MOST_DIGITS for column in columns.values() for text in column)
+    if not (are_plain and are_short and all(map(_ROLE.fullmatch, roles)) and found["array"] == list(range(len(wear), len(wear) + len(roles)))):
+        raise ValueError("not of the plain form")
+    wear.extend(found["bank"], found["pulses"], roles, found.get("pointers"))
+
+
+def _worn(source: Source, at: int, header: List[str], record: List[str]) -> Worn:
+    """A row of a wear report. What an array can't tell is empty behind the role."""
+    fields = dict(zip(header, _fields(source, at, record, len(header))))
+    role = fields.pop("role")
+    told = {
+        name: _natural(source, at, name, text, MOST.get(name, MOST_PULSES)) for name, text in fields.items() if text or name in MOST
+    }
+    if told["array"] != at - 1:
+        raise FileFault(f"{source.name} row {at}: array")
+    if not _ROLE.fullmatch(role) or int(role.partition(" ")[2] or 0) > MOST["array"]:
+        raise FileFault(f"{source.name} row {at}: role")
+    return Worn(told["array"], told["bank"], told["pulses"], role, told.get("pointers"))
 
 
 def summary_of(source: Source) -> Dict[str, int]:
@@ -318,24 +354,23 @@ def image_of(source: Source) -> Image:
         raise FileFault(f"{source.name}: {wrong}") from None
 
 
-def shape_of_wear(source: Source, wear: List[Worn]) -> Shape:
+def shape_of_wear(source: Source, wear: Wear) -> Shape:
     """How the module of a wear report is built: it has a line of a slot for each line of the module, and a gap for each region."""
-    roles = [line.role.split(" ")[0] for line in wear]
-    banks = wear[-1].bank + 1 if wear else 0
-    regions, rest = divmod(roles.count("gap"), max(1, banks))
-    lines, over = divmod(roles.count("line"), max(1, banks * regions))
-    control = roles.count("control") > 0
+    every = range(len(wear))
+    banks = wear.banks[-1] + 1 if wear else 0
+    regions, rest = divmod(wear.count("gap", every), max(1, banks))
+    lines, over = divmod(wear.count("line", every), max(1, banks * regions))
+    control = wear.count("control", every) > 0
     spares = (len(wear) // max(1, banks) - regions * (lines + 1) - (regions + 1) * control) // (1 + control)
     shape = Shape(banks, regions, lines, spares, control)
-    wanted = [at // max(1, shape.array_lines) for at in range(banks * shape.array_lines)]
-    if rest or over or not lines or spares < 0 or wanted != [line.bank for line in wear]:
+    if rest or over or not lines or spares < 0 or wear.banks.tobytes() != b"".join(bytes([at]) * shape.array_lines for at in range(banks)):
         raise FileFault(f"{source.name}: not the wear report of a whole module")
     return shape
 
 
 def _records(source: Source, progress: Optional[Progress] = None) -> Iterator[Tuple[int, List[str]]]:
     """The records of a file with commas, numbered from 0."""
-    reader = csv.reader(io.StringIO(source.text, newline=""))
+    reader = csv.reader(io.TextIOWrapper(io.BytesIO(source.data), "utf-8-sig", "replace", newline=""))
     at, lines = 0, max(1, source.data.count(b"\n"))
     if progress is not None:
         progress.restart()
@@ -344,7 +379,7 @@ def _records(source: Source, progress: Optional[Progress] = None) -> Iterator[Tu
             if record:
                 yield at, record
                 at += 1
-            if progress is not None and at % 4096 == 0:
+            if progress is not None and at % _TOLD_EACH == 0:
                 progress.rows(at, at / lines, f"rows of {source.name}")
     except csv.Error:
         raise FileFault(f"{source.name} row {at}: fields") from None
@@ -356,8 +391,8 @@ def _fields(source: Source, at: int, record: List[str], count: int) -> List[str]
     return record
 
 
-def _natural(source: Source, at: int, name: str, text: str) -> int:
-    if not (text.isascii() and text.isdigit() and len(text) <= 20):
+def _natural(source: Source, at: int, name: str, text: str, most: Optional[int] = None) -> int:
+    if not (text.isascii() and text.isdigit() and len(text) <= _MOST_DIGITS and (most is None or int(text) <= most)):
         raise FileFault(f"{source.name} row {at}: {name}")
     return int(text)
 

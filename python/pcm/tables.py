@@ -56,6 +56,17 @@ def parsed_options(words: str) -> Dict[str, str]:
 class Parser(argparse.ArgumentParser):
     """A reader of words whose faults are exceptions, and whose options take values that begin with a dash."""
 
+    @classmethod
+    def of_runs(cls, name: str) -> "Parser":
+        """With the words that commands over runs share: files, or runs to be made, with their options; and how the command tells."""
+        words = cls(prog=f"python3 -m pcm {name}", add_help=False, allow_abbrev=False)
+        words.add_argument("files", nargs="*")
+        words.add_argument("--run", action="store_true")
+        words.add_argument("--options", action="append", default=[])
+        words.add_argument("--csv", action="store_true")
+        words.add_argument("--progress", action="store_true", default=None)
+        return words
+
     def parse_args(self, args=None, namespace=None):
         joined: List[str] = []
         for word in args or ():

@@ -1,8 +1,9 @@
 """The numbers of a run that a report shows."""
 from typing import Dict, Iterable, List, NamedTuple, Optional, Sequence, Tuple
 
-from .runs import Run, Worn
+from .runs import Run
 from .snapshots import BEGIN, Snapshot
+from .worn import Wear
 
 QUANTILES = (50.0, 90.0, 99.0, 99.9)
 
@@ -90,7 +91,7 @@ def spare_ticks(run: Run) -> List[int]:
 def retired(run: Run) -> Optional[int]:
     """The spares in use in the end, where the summary or the wear report is there."""
     if run.wear is not None:
-        return sum(line.role == "retired" for line in run.wear)
+        return run.wear.count("retired", range(len(run.wear)))
     if run.summary is not None:
         return run.summary["retired"]
     return run.snapshots[-1].retired if run.snapshots else None
@@ -99,7 +100,7 @@ def retired(run: Run) -> Optional[int]:
 def all_pulses(run: Run) -> Optional[int]:
     """The pulses of all array lines in the end, where a file tells them."""
     if run.wear is not None:
-        return sum(line.pulses for line in run.wear)
+        return sum(run.wear.pulses)
     if run.summary is not None:
         return run.summary["pulses"]
     return run.snapshots[-1].pulses if run.snapshots else None
@@ -126,44 +127,55 @@ def pulses(run: Run) -> List[Pulses]:
         if row.word == "stored" and row.place is not None:
             stores[row.place // run.shape.array_lines] += 1
     for bank, number in enumerate(stores):
-        here = [line for line in run.wear or [] if line.bank == bank]
-        control = sum(line.pulses for line in here if line.role == "control")
-        found.append(Pulses(number, sum(line.pulses for line in here) - control, control))
+        here = groups(run, bank) if run.wear else []
+        control = sum(sum(group.of(run.wear.pulses)) for group in here if group.words == CONTROL)
+        found.append(Pulses(number, sum(sum(group.of(run.wear.pulses)) for group in here) - control, control))
     return found
 
 
+# What stands behind a bank's slots and spares.
+CONTROL = "control"
+
+
 class Group(NamedTuple):
-    """Array lines of a bank that stand together: a region's, the spares or the control lines."""
+    """Array lines of a bank that stand beside one another: a region's, the spares or the control lines."""
 
     bank: int
     words: str
-    lines: List[Worn]
+    lines: range
 
-    @property
-    def pulses(self) -> int:
-        """Their pulses together."""
-        return sum(line.pulses for line in self.lines)
+    def of(self, values: Sequence[int]) -> Sequence[int]:
+        """The values of its lines, of those of all array lines."""
+        return values[self.lines.start: self.lines.stop]
 
-    @property
-    def most(self) -> Worn:
-        """The one with the most pulses, the first of them."""
-        return max(self.lines, key=lambda line: line.pulses)
-
-    @property
-    def retired(self) -> int:
-        """How many of them are retired."""
-        return sum(line.role == "retired" for line in self.lines)
+    def parts(self, lines: int) -> int:
+        """Of how many parts of so many lines it is."""
+        return -(-len(self.lines) // lines)
 
 
 def groups(run: Run, bank: int) -> List[Group]:
     """A bank's regions, spares and control lines, but for those that are empty."""
-    shape, wear = run.shape, run.wear or []
-    here = wear[bank * shape.array_lines: (bank + 1) * shape.array_lines]
-    width = shape.lines + 1
-    found = [Group(bank, f"region {at}", here[at * width: (at + 1) * width]) for at in range(shape.regions)]
-    found.append(Group(bank, "spares", here[shape.slots: shape.slots + shape.spares]))
-    found.append(Group(bank, "control", here[shape.slots + shape.spares:]))
-    return [group for group in found if group.lines]
+    shape = run.shape
+    first, width = bank * shape.array_lines, shape.lines + 1
+    parts = [(f"region {at}", at * width, (at + 1) * width) for at in range(shape.regions)]
+    parts += [("spares", shape.slots, shape.slots + shape.spares), (CONTROL, shape.slots + shape.spares, shape.array_lines)]
+    return [Group(bank, words, range(first + begin, first + end)) for words, begin, end in parts if begin < end]
+
+
+class Square(NamedTuple):
+    """Array lines beside one another: the greatest of their values, and a role that one of them has, where that is to be seen."""
+
+    value: int
+    role: Optional[str]
+
+
+def squares(group: Group, wear: Wear, values: Sequence[int], lines: int) -> List[Square]:
+    """A group in parts of so many lines."""
+    here, roles = group.of(values), {}
+    # (of lines with several roles the last of these is to be seen)
+    for role in ("free", "control", "gap", "retired"):
+        roles.update(((at - group.lines.start) // lines, role) for at in wear.find(role, group.lines))
+    return [Square(max(here[at * lines: (at + 1) * lines]), roles.get(at)) for at in range(group.parts(lines))]
 
 
 def lost_at_cuts(run: Run) -> Dict[int, int]:
@@ -175,10 +187,10 @@ def lost_at_cuts(run: Run) -> Dict[int, int]:
     return found
 
 
-def pointers(run: Run) -> Optional[List[int]]:
+def pointers(run: Run) -> Optional[Sequence[int]]:
     """The active pointers of each array line, by the wear report of `--print lines` or by the image."""
-    if run.wear and all(line.pointers is not None for line in run.wear):
-        return [line.pointers or 0 for line in run.wear]
+    if run.wear and run.wear.pointers is not None:
+        return run.wear.pointers
     if run.image is None:
         return None
     return [len(run.image.pointers(at)) for at in range(len(run.image.cells))]

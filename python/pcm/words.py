@@ -59,6 +59,25 @@ class Command(NamedTuple):
     options: Dict[str, Option]
 
 
+class Sizes(NamedTuple):
+    """The most banks of a module, regions of a bank, lines of a region, and lines of all."""
+
+    banks: int
+    regions: int
+    lines: int
+    all_lines: int
+
+
+# Those of a module that every command takes, and whose image has a format; and those of one that streams take.
+SMALL = Sizes(16, 16, 4096, 1 << 16)
+LARGE = Sizes(64, 64, 1 << 26, 1 << 26)
+
+
+def are_small(banks: int, regions: int, lines: int) -> bool:
+    """Whether sizes are those of a module that every command takes."""
+    return banks <= SMALL.banks and regions <= SMALL.regions and lines <= SMALL.lines and banks * regions * lines <= SMALL.all_lines
+
+
 def either(words: Sequence[str]) -> str:
     """Words as a list in a sentence: `a, b or c`."""
     return " or ".join([", ".join(words[:-1]), words[-1]]) if len(words) > 1 else "".join(words)
@@ -82,9 +101,9 @@ def _few(name: str, value: str, default: int, most: int, about: str) -> Option:
 
 
 _RUN = [
-    _few("banks", "A", 4, 16, "banks of the module"),
-    _few("regions", "B", 2, 16, "regions of a bank"),
-    _power("lines", "N", 64, 4, 4096, "lines of a region"),
+    _few("banks", "A", 4, SMALL.banks, "banks of the module"),
+    _few("regions", "B", 2, SMALL.regions, "regions of a bank"),
+    _power("lines", "N", 64, 4, SMALL.lines, "lines of a region"),
     _choice("line", "BYTES", "bytes of a line", "64", "128"),
     _number("spares", "S", 8, 0, 1024, "spare array lines of a bank"),
     _number("seed", "X", 0, 0, 2**64 - 1, "draws keys, cells and drawn traces"),
@@ -106,19 +125,19 @@ _DRAWN = [
     _number("write-percent", "N", 50, 0, 100, "writes among 100 drawn rows"),
     _number("cuts", "N", 0, 0, 400000, "power cuts among the drawn rows"),
     _number("step", "N", 10, 0, 65535, "most ticks between drawn rows"),
-    _number("hot", "N", 0, 0, 65536, "lines that nine of ten drawn rows go to"),
+    _number("hot", "N", 0, 0, SMALL.all_lines, "lines that nine of ten drawn rows go to"),
 ]
 _STREAM = [
-    _few("banks", "A", 4, 64, "banks of the module"),
-    _few("regions", "B", 2, 64, "regions of a bank"),
-    _power("lines", "N", 64, 4, 2**26, "lines of a region"),
+    _few("banks", "A", 4, LARGE.banks, "banks of the module"),
+    _few("regions", "B", 2, LARGE.regions, "regions of a bank"),
+    _power("lines", "N", 64, 4, LARGE.lines, "lines of a region"),
     _choice("print", "P", "what is printed", "rows", "summary", "wear", "image", "lines", "energy", "snapshots"),
     _number("every", "N", 100000, 1, 4294967295, "rows between snapshots"),
     _choice("end", "E", "what becomes of the module behind the last row", "drain", "off"),
     _choice("until", "U", "up to where the rows are served", "end", "refused"),
     _number("rows", "N", 1000, 1, 4000000000, "rows of the drawn trace"),
     _number("cuts", "N", 0, 0, 4000000000, "power cuts among the drawn rows"),
-    _number("hot", "N", 0, 0, 2**26, "lines that nine of ten drawn rows go to"),
+    _number("hot", "N", 0, 0, LARGE.all_lines, "lines that nine of ten drawn rows go to"),
 ]
 _FROM = _number("from", "T", 0, 0, 16781312, "gap moves that were made before")
 
@@ -156,8 +175,6 @@ FLAGS = {
 }
 # What the wrapper answers by itself.
 WRAPPERS = {"help": "prints this help", "version": "prints the version", "path": "prints where the built program is"}
-# The greatest number of lines of a module, by whether it serves a stream.
-MOST_LINES = {False: 65536, True: 2**26}
 
 
 # Words.
@@ -231,11 +248,13 @@ def _together(command: Command, given: Dict[str, str]) -> Optional[str]:
         default = [f"--{name} {value[name]} (its default)" if name not in given else f"--{name} {value[name]}" for name in ("hi", "lo")]
         return f"{default[0]} is below {default[1]}: give both, --lo not above --hi"
     if "banks" in value:
-        lines = int(value["banks"]) * int(value["regions"]) * int(value["lines"])
-        if lines > MOST_LINES[streams]:
-            return f"banks x regions x lines are {lines}: a module of {command.name} has at most {MOST_LINES[streams]} lines"
-        if streams and value["print"] == "image" and (lines > MOST_LINES[False] or int(value["banks"]) > 16 or int(value["regions"]) > 16):
-            return "--print image: an image has at most 16 banks of 16 regions, and 65536 lines"
+        banks, regions, lines = (int(value[name]) for name in _SIZES)
+        most = (LARGE if streams else SMALL).all_lines
+        if banks * regions * lines > most:
+            return f"banks x regions x lines are {banks * regions * lines}: a module of {command.name} has at most {most} lines"
+        if streams and value["print"] == "image" and not are_small(banks, regions, lines):
+            shape = f"{SMALL.banks} banks of {SMALL.regions} regions of {SMALL.lines} lines, and {SMALL.all_lines} lines in all"
+            return f"--print image: an image has at most {shape}"
     if "cuts" in value and int(value["cuts"]) > int(value["rows"]):
         return f"--cuts {value['cuts']} are more than --rows {value['rows']}"
     if streams and int(value["rows"]) * int(value["step"]) > LATEST_TICK:
@@ -278,6 +297,8 @@ HEADER = ["tick", "op", "arg", "data"]
 RESULTS = "row,op,line,outcome,tick,place,data"
 # The same of a stream.
 TOLD = "row,outcome,tick,place,data"
+# A module of so many lines has numbers of at most five digits, a larger one of at most eight.
+FIVE_DIGITS = 100_000
 # An explanation reads no more rows than this: nobody waits for it.
 MOST_ROWS = 5_000_000
 
@@ -347,8 +368,10 @@ def _wrong_field(record: List[str], last: Tuple[int, int], shape: Tuple[int, int
         if arg:
             return "line", f"the third field of {op} must be empty, and is {_shown(arg)}"
         return ("payload", _wrong_payload(op, data, size)) if data else None
-    if not re.fullmatch(r"[0-9]{1,8}", arg) or int(arg) >= lines or (len(arg) > 5 and not streams):
-        return "line", f"the third field must be a line, 0 to {lines - 1} (banks x regions x lines are {lines}), and is {_shown(arg)}"
+    digits = 8 if lines > FIVE_DIGITS else 5
+    if not re.fullmatch(rf"[0-9]{{1,{digits}}}", arg) or int(arg) >= lines:
+        named = f"0 to {lines - 1} (banks x regions x lines are {lines}) in at most {digits} digits"
+        return "line", f"the third field must be a line, {named}, and is {_shown(arg)}"
     pattern = {"R": "", "W": f"[0-9a-fA-F]{{{2 * size}}}", "M": rf"(?!\.*$)(?:[0-9a-fA-F]{{2}}|\.\.){{{size}}}"}[op]
     return None if re.fullmatch(pattern, data) else ("payload", _wrong_payload(op, data, size))
 

@@ -184,7 +184,7 @@ class Latencies(Room):
         trace, rows, _, _ = self.both(DRAWN)
         options = latencies.parsed_options(DRAWN)
         wanted = latencies.of_files(rows, trace).found
-        self.assertEqual(wanted, latencies.of_files(rows, None, latencies.numbers_of(options)).found)
+        self.assertEqual(wanted, latencies.of_files(rows, None, latencies.draw_asked(options)).found)
         with latencies.compiled() as built:
             self.assertEqual(wanted, latencies.of_run(None, options, None, built).found)
             self.assertEqual(wanted, latencies.of_run(None, options).found)
@@ -205,8 +205,8 @@ class Latencies(Room):
         with latencies.compiled() as built:
             found = latencies.of_files(rows, other, None, built)
             self.assertEqual((wanted, "Python"), (found.found, found.by))
-            settled = self.file("settled", given.replace(b"\n", b"\n0,S,,\n", 1))
-            self.assertEqual(wanted, latencies.of_files(rows, settled, None, built).found)
+            settled = self.file("settled", given.replace(b"\n", b"\n0,S,,\n0,Q,,\n", 1))
+            self.assertEqual([(wanted, "C" if built else "Python"), (wanted, "Python")], [latencies.of_files(rows, settled, None, by)[:2] for by in (built, None)])
 
     def test_what_is_wrong_is_told(self):
         trace, rows, given, told = self.both(DRAWN)

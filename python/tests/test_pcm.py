@@ -78,6 +78,11 @@ class WholeTraces(unittest.TestCase):
             with self.assertRaisesRegex(ValueError, f"^row 2: {kind}$"):
                 list(pcm.read_trace(["tick,op,arg,data\n", "0,W,0,aB\n", line + "\n"]))
 
+    def test_rows_with_a_number_are_a_trace(self):
+        rows = list(pcm.read_trace(["tick,op,arg,data\n", "0,R,0,\n", "1,S,,\n", "2,Q,,\n", "3,C,,\n"]))
+        self.assertEqual([pcm.Read(0, 0), pcm.Settle(1), pcm.Query(2), pcm.PowerCut(3)], rows)
+        self.assertEqual([pcm.Read(0, 0), pcm.PowerCut(3)], list(pcm.numbered(rows)))
+
     def test_no_program_is_told(self):
         with self.assertRaises(FileNotFoundError):
             pcm.run([], program="/nowhere/pcm")
@@ -246,7 +251,10 @@ class Packages(unittest.TestCase):
 
 
 class Frames(unittest.TestCase):
-    ROWS = [pcm.Write(0, 0, ONES), pcm.PowerCut(7), pcm.MaskedWrite(50, 1, [1] + [None] * 63), pcm.Settle(60), pcm.Read(100, 0)]
+    ROWS = [
+        pcm.Write(0, 0, ONES), pcm.PowerCut(7), pcm.MaskedWrite(50, 1, [1] + [None] * 63),
+        pcm.Settle(60), pcm.Query(60), pcm.Read(100, 0),
+    ]
 
     def setUp(self):
         try:
@@ -262,7 +270,7 @@ class Frames(unittest.TestCase):
         return [list(frame.columns)] + plain.where(plain.notna(), None).values.tolist()
 
     def test_outcomes_alone(self):
-        done = pcm.run([row for row in self.ROWS if not isinstance(row, pcm.Settle)], **SMALL)
+        done = pcm.run(pcm.numbered(self.ROWS), **SMALL)
         frame = pcm.to_frame(done.rows)
         self.assertEqual(["row", "op", "line", "outcome", "tick", "place", "data"], list(frame.columns))
         self.assertEqual(["Int64"] * 4, [str(frame[name].dtype) for name in ("row", "line", "tick", "place")])
