@@ -185,7 +185,7 @@ def check_words(program):
 
 def ends(option):
     """The ends of an option's range and the numbers beyond; not the greatest size of a stream's module, which takes gigabytes."""
-    return {option.least - 1, option.least, option.most, option.most + 1} - {2**26}
+    return {option.least - 1, option.least, option.most, option.most + 1} - {pages.table().LARGE.all_lines}
 
 
 def beside(command, option, text):
