@@ -115,7 +115,7 @@ module _ {n m e : ℕ} (raw : RawShape) (seed : ℕ) (asked : List (Asked n)) (m
       subst (B (length (event ∷ events_in asked)) event.tick) snapped (subst (λ at. B (length (event ∷ events_in asked)) at snaps1) tick (subst (λ k. B k new.tick snaps1) counted (adds ends.0 ends.1))) in (
         record {
           history = h;
-          along = (had.history, told, had.along, led.0, refl, outcomes, order, record { module_ = new; array = after; served = subst Q counted served; tick = tick; settled = tt }, tells ∙ sym (append-nil (told ++ became outcomes)));
+          along = (had.history, told, had.along, led.0, refl, outcomes, order, record { module_ = new; array = after; served = subst Q counted served; tick = tick; settled = tt; reached = tt }, tells ∙ sym (append-nil (told ++ became outcomes)));
           snaps = (snaps, subst A (sym shows) had.snaps, added);
           served = served;
           counted = counted;
@@ -175,7 +175,7 @@ module _ {n m e : ℕ} (raw : RawShape) (seed : ℕ) (asked : List (Asked n)) (m
             refl,
             outcomes,
             order,
-            record { module_ = new; array = after; served = subst Q counted now.1; tick = tick; settled = settled },
+            record { module_ = new; array = after; served = subst Q counted now.1; tick = tick; settled = settled; reached = tt },
             tells2 ∙ ap (λ t. t ++ lines) tells,
           );
           snaps = (snaps, subst (λ s. SnapsAlong e raw seed s asked had.history told had.along snaps) (sym shows) had.snaps, snapped);
@@ -213,7 +213,7 @@ module _ {n m e : ℕ} (raw : RawShape) (seed : ℕ) (asked : List (Asked n)) (m
             refl,
             outcomes,
             order,
-            record { module_ = new; array = after; served = subst Q counted now.1; tick = tick; settled = settled },
+            record { module_ = new; array = after; served = subst Q counted now.1; tick = tick; settled = settled; reached = tt },
             tells2 ∙ ap (λ t. t ++ lines) tells,
           );
           snaps = (snaps, subst (λ s. SnapsAlong e raw seed s asked had.history told had.along snaps) (sym shows) had.snaps, snapped);

@@ -110,7 +110,7 @@ pub record ToldSo {n : ℕ} (Are : List (ℕ × Outcome n) → Type 0) (old new 
   pub told : new ≡ old ++ became outcomes
   pub are : Are outcomes
 
-told-both : {n : ℕ} (old between new : List (Told n)) (xs ys : List (ℕ × Outcome n)) → between ≡ old ++ became xs → new ≡ between ++ became ys → new ≡ old ++ became (xs ++ ys)
+pub told-both : {n : ℕ} (old between new : List (Told n)) (xs ys : List (ℕ × Outcome n)) → between ≡ old ++ became xs → new ≡ between ++ became ys → new ≡ old ++ became (xs ++ ys)
 told-both {n = n} old between new xs ys first second =
     second ∙ ap (λ (t : List (Told n)). t ++ became ys) first ∙ append_assoc old (became xs) (became ys) ∙ ap (λ (t : List (Told n)). old ++ t) (sym (became-both xs ys))
 

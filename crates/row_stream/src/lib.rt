@@ -9,6 +9,7 @@ mod looking;
 mod reading;
 mod serving;
 mod stop;
+mod waiting;
 
 pub use drawing::serve_drawn;
 pub use ending::end;

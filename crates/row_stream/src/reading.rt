@@ -6,7 +6,7 @@ ghost use Rattle.pcm_io.specs.Giving.{AppendsPrefix};
 ghost use Rattle.ecp_line.specs.Layout.{IsLayout};
 ghost use Rattle.module_shape.specs.declared.raw.RawShape.{RawShape};
 ghost use Rattle.module_shape.specs.Limits.{total_of};
-ghost use Rattle.trace_stream.specs.Asked.{IsAskedFor};
+ghost use Rattle.trace_stream.specs.Asked.{IsAskedFor, NamesRow, reached_at};
 ghost use Rattle.trace_stream.specs.declared.asked.Asked.{Asked as StreamAsked};
 ghost use Rattle.row_printer.specs.Printing.{IsPrinting, text_told};
 ghost use Rattle.row_stream.specs.Asking.{behind_of};
@@ -21,6 +21,7 @@ use pcm_io::{Sink, Source, WriteFault};
 use pcm_module::Module;
 use row_printer::RowPrinter;
 use std::alloc::Global;
+use trace_reader::{Kind, TraceFault};
 use trace_stream::{Asked, TraceStream};
 
 /// Serves one row of a stream, and writes what became known by it: unless a write fails, exactly the outcomes that the histories of the banks
@@ -33,10 +34,11 @@ pub fn feed<const B: usize, const M: usize, const E: usize, A: TellsCells<B, M>,
 ) -> Result<(), WriteFault>
     requires layout { IsLayout B M E }
     requires asked { IsAskedFor (total_of pcm.old.shape) pcm.old.tick asked.now }
+    requires named { NamesRow out.old.rows asked.now }
     requires few { out.old.rows < 4294967295 }
     requires serving { MayServe pcm.old (A.state array.old) out.old }
-    ensures serves { ServesOn (λ before. asked.now) pcm.old pcm.new (A.state array.old)
-        (A.state array.new) out.old out.new }
+    ensures serves { ServesOn (λ before. reached_at pcm.new.tick asked.now) pcm.old pcm.new
+        (A.state array.old) (A.state array.new) out.old out.new }
     ensures printing { (before : Option (List ℕ)) (first : ℕ)
         → IsPrinting K.written K.faults before first out.old
         → IsPrinting K.written K.faults before first out.new }
@@ -115,6 +117,9 @@ pub fn serve_source<
     'rows: for _ in 0..u64::MAX {
         match stream.next::<B, S>(source) {
             Ok(Some(asked)) => {
+                if asked.named() < pcm.tick() {
+                    return Err(Stop::Late(late_row(out.rows())));
+                }
                 let Ok(()) = feed(pcm, array, &asked, out) else {
                     return Err(Stop::Output);
                 };
@@ -128,4 +133,16 @@ pub fn serve_source<
         }
     }
     Err(Stop::Endless)
+}
+
+// The fault of a row that comes too late, behind so many rows with a number.
+fn late_row(rows: u32) -> TraceFault
+    requires { rows < 4294967295 }
+    ensures row { result.row ≡ rows + 1 }
+    ensures kind { result.kind ≡ Kind.Order }
+{
+    TraceFault {
+        row: rows + 1,
+        kind: Kind::Order,
+    }
 }

@@ -22,7 +22,7 @@ use Rattle.trace_stream.specs.{Asked.events_in, Laws.all_events, declared.asked.
 use Rattle.trace_stream.specs.declared.fault.StreamFault.TheVariants as from
 use Rattle.row_stream.specs.{Asking.{BeginsWith, stays_off, with_cut}, Ending.{EndsShowing, HasEnded, SnapsAll, rows_of, told_along, without_cut}, Laws.TellsEach}
 use Rattle.row_stream.specs.{Refusing.{EndsBehind, MayGoOn, WentOn, tells_refusal}, Serving.{HasServed, SnapsAlong, Telling, TellsAlong}}
-use Rattle.row_stream.specs.{Sourcing.{HasStopped, IsRead, IsReadTo}, declared.stop.Stop.Stop, declared.stop.Stop.TheVariants.{Input as No, Endless, Output}}
+use Rattle.row_stream.specs.{Sourcing.{HasStopped, IsRead, IsReadTo}, declared.stop.Stop.Stop, declared.stop.Stop.TheVariants.{Input as No, Late, Endless, Output}}
 use Rattle.stream_top.specs.{Calls.LentSource, Leaving.{IsClosing, Leaves, senses_for}, declared.done.Done.Done, declared.done.Done.TheVariants.{Whole, Short}}
 use Rattle.stream_top.specs.{declared.fault.Fault.Fault, declared.fault.Fault.TheVariants.{Usage, Trace, Read, Write, TooLong, NoMemory}}
 
@@ -58,6 +58,7 @@ stop_fault (No from.TooMany) = TooLong
 stop_fault (No from.Read) = Read
 stop_fault (No from.Endless) = TooLong
 stop_fault (No from.NoMemory) = NoMemory
+stop_fault (Late f) = Trace f
 stop_fault Endless = TooLong
 stop_fault Output = Write
 
@@ -103,7 +104,7 @@ module _ {S : Type 0} (n m e : ℕ) (job : StreamJob) (source : LentSource S) wh
   -- why a stream that is read isn't served to its end
   abbrev pub HasCause : Fault → List (Asked n) → Type 0
   HasCause Usage asked = ⊥
-  HasCause (Trace f) asked = Stops (No (from.Trace f)) asked
+  HasCause (Trace f) asked = Stops (No (from.Trace f)) asked ⊎ Stops (Late f) asked
   HasCause Read asked = Stops (No from.Read) asked
   HasCause Write asked = Stops Output asked
   HasCause TooLong asked = Stops (No from.TooMany) asked ⊎ Stops (No from.Endless) asked ⊎ Stops Endless asked

@@ -43,6 +43,7 @@ fn fault_of(stop: Stop) -> Fault
         Stop::Input(StreamFault::Read) => Fault::Read,
         Stop::Input(StreamFault::Endless) => Fault::TooLong,
         Stop::Input(StreamFault::NoMemory) => Fault::NoMemory,
+        Stop::Late(fault) => Fault::Trace(fault),
         Stop::Endless => Fault::TooLong,
         Stop::Output => Fault::Write,
     }

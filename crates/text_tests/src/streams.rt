@@ -10,7 +10,7 @@ use run_text::TEXT_ROOM;
 use std::alloc::Global;
 use std::test::Fail;
 use trace_reader::{Event, EventOp, Kind, TraceFault};
-use trace_stream::{Asked, StreamFault, TraceStream, read_stream};
+use trace_stream::{Asked, StreamFault, TraceStream, Until, read_stream};
 
 // What a text asks, read from a source whose call with this number fails. The first call gives one byte, and the others
 // all that are left.
@@ -22,7 +22,7 @@ fn read(alloc: Global, text: &[u8], fails: u32) -> Result<Vec<Asked<64>>, Stream
 
 #[test]
 fn rows_come_in_order(rt: HostRuntime) -> Result<(), Fail> {
-    let text = b"tick,op,arg,data\n\n3,R,1,\r\n\"3\",S,,\n4,Q,,\n9,C,,";
+    let text = b"tick,op,arg,data\n\n3,R,1,\r\n\"3\",S,,\n4,Q,,\n8,U,01,\n5,C,,";
     let asked = match read(rt.alloc(), text, 9) {
         Ok(asked) => asked,
         Err(_) => Vec::new(rt.alloc()),
@@ -34,8 +34,13 @@ fn rows_come_in_order(rt: HostRuntime) -> Result<(), Fail> {
         }),
         Asked::Settle(3),
         Asked::Query(4),
+        Asked::Until(Until {
+            row: 1,
+            limit: 8,
+            reached: 4,
+        }),
         Asked::Happens(Event {
-            tick: 9,
+            tick: 5,
             op: EventOp::Cut,
         }),
     ];
@@ -64,6 +69,8 @@ fn faults_are_told(rt: HostRuntime) -> Result<(), Fail> {
         )
         .err(),
         read(rt.alloc(), b"tick,op,arg,data\n3,S,,\n3,C,,,,", 3).err(),
+        read(rt.alloc(), b"tick,op,arg,data\n3,C,,\n3,U,2,\n", 9).err(),
+        read(rt.alloc(), b"tick,op,arg,data\n3,C,,\n3,U,1,0\n", 9).err(),
     ];
     let row = |row, kind| Some(StreamFault::Trace(TraceFault { row, kind }));
     assert_eq!(rt;
@@ -81,6 +88,8 @@ fn faults_are_told(rt: HostRuntime) -> Result<(), Fail> {
             row(1, Kind::Fields),
             row(2, Kind::Line),
             row(1, Kind::Fields),
+            row(2, Kind::Line),
+            row(2, Kind::Payload),
         ]
     );
     Ok(())

@@ -1,9 +1,9 @@
-use Rattle.std.proofs.Common.{◌≡◌, ◌∙◌, ◌∷◌, [], ℕ, Err, ap, refl, sym, subst, arith}
+use Rattle.std.proofs.Common.{◌≡◌, ◌+◌, ◌∙◌, ◌∷◌, [], ℕ, Err, ap, refl, sym, subst, arith}
 use Rattle.module_shape.specs.Limits.{total_of}
 use Rattle.trace_stream.specs.Stream.{Opens}
 use Rattle.trace_stream.specs.declared.fault.StreamFault.TheVariants as fault
 use Rattle.row_stream.{specs.Asking.behind_of, specs.Serving.{IsServing, told_so_far}, proofs.Refusals.{ends-all, ends-there, may-go-on, none-first, still-none, went-first}}
-use Rattle.row_stream.proofs.Rows.{asked_fits, behind-any, come-none, fed-all, fed-come, fed-first, fed-more, fed-so-far, fed-stopped, next-asked, next-few, open-stopped}
+use Rattle.row_stream.proofs.Rows.{asked_fits, behind-any, come-none, fed-all, fed-come, fed-first, fed-more, fed-so-far, fed-stopped, fed-late, next-asked, next-few, next-named, open-stopped}
 use Rattle.row_stream.proofs.reading.serve_source.Goals as goal
 
 pub returns-in_default-clause-stopped : goal.returns-in_default-clause-stopped
@@ -55,13 +55,32 @@ feed-requires g c =
           (
             c.requires.layout,
             (
-              next-asked s.0 s.1 g.S.Source.left g.S.Source.taken g.S.Source.faults c.args.source.now c.rows.pcm (g.A.CellArray.state c.rows.array) c.rows.out.rows c.rows.out.told c.rows.out.prints c.rows.out.snapshots c.rows.source c.rows.stream c.rows.behind c.rows.counter had c.in-Ok-Some.asked lawful,
+              next-asked s.0 s.1 g.S.Source.left g.S.Source.taken g.S.Source.faults c.args.source.now c.rows.pcm (g.A.CellArray.state c.rows.array) c.rows.out.rows c.rows.out.told c.rows.out.prints c.rows.out.snapshots c.rows.source c.rows.stream c.rows.behind c.rows.counter had c.in-Ok-Some.asked lawful (omega (arith, c.named.ensures, c.tick.ensures, c.if-named-tick.false)),
+              (
+                next-named s.0 s.1 g.S.Source.left g.S.Source.taken g.S.Source.faults c.args.source.now c.rows.pcm (g.A.CellArray.state c.rows.array) c.rows.out.rows c.rows.out.told c.rows.out.prints c.rows.out.snapshots c.rows.source c.rows.stream c.rows.behind c.rows.counter had c.in-Ok-Some.asked (rw c.in-Ok-Some.field-0-is at c.in-Ok-Some.ensures.waits).0,
               (next-few s.0 s.1 g.S.Source.left g.S.Source.taken g.S.Source.faults c.args.source.now c.rows.pcm (g.A.CellArray.state c.rows.array) c.rows.out.rows c.rows.out.told c.rows.out.prints c.rows.out.snapshots c.rows.source c.rows.stream c.rows.behind c.rows.counter had, record { raw = s.0; seed = s.1; before = had.asked; serving = had.serving }),
+              ),
             ),
           ),
         ),
       ),
     )
+
+pub returns-then-named-tick-clause-stopped : goal.returns-then-named-tick-clause-stopped
+returns-then-named-tick-clause-stopped g c = λ raw seed start.
+    let had = c.rows.invariant.came raw seed start in
+    let next = c.in-Ok-Some.ensures.ok in (
+      had.asked,
+      had.serving,
+      fed-late raw seed g.S.Source.left g.S.Source.taken g.S.Source.faults c.args.source.now c.rows.pcm (g.A.CellArray.state c.rows.array) c.rows.out.rows c.rows.out.told c.rows.out.prints c.rows.out.snapshots c.rows.source c.rows.stream c.rows.behind c.rows.counter had c.next.new.source c.next.new.self c.in-Ok-Some.asked next.0 next.1 next.2 (rw c.in-Ok-Some.field-0-is at next.3) (c.in-Ok-Some.ensures.end c.rows.invariant.end)
+          (c.in-Ok-Some.ensures.no_fault (λ is. cc is)) (omega (arith, c.named.ensures, c.tick.ensures, c.if-named-tick.true)) c.late_row.result (c.late_row.ensures.row ∙ ap (λ (k : ℕ). k + 1) c.rows-late_row.ensures) c.late_row.ensures.kind,
+      may-go-on had.serving c.args.stops c.rows.invariant.none,
+    )
+
+pub returns-then-named-tick-clause-few : goal.returns-then-named-tick-clause-few
+returns-then-named-tick-clause-few g c =
+    let s = c.requires.begins in
+    next-few s.0 s.1 g.S.Source.left g.S.Source.taken g.S.Source.faults c.args.source.now c.rows.pcm (g.A.CellArray.state c.rows.array) c.rows.out.rows c.rows.out.told c.rows.out.prints c.rows.out.snapshots c.rows.source c.rows.stream c.rows.behind c.rows.counter (c.rows.invariant.came s.0 s.1 s.2)
 
 pub returns-in_default-feed-clause-few : goal.returns-in_default-feed-clause-few
 returns-in_default-feed-clause-few g c =
@@ -72,7 +91,7 @@ returns-in_default-feed-clause-few g c =
     let next = c.in-Ok-Some.ensures.ok in
     let row = rw c.in-Ok-Some.field-0-is at c.in-Ok-Some.ensures.row in
     let more = fed-more raw seed g.S.Source.left g.S.Source.taken g.S.Source.faults c.args.source.now c.rows.pcm (g.A.CellArray.state c.rows.array) c.rows.out.rows c.rows.out.told c.rows.out.prints c.rows.out.snapshots c.rows.source c.rows.stream c.rows.behind c.rows.counter had c.feed.new.pcm (g.A.CellArray.state c.feed.new.array) c.feed.new.out.rows c.feed.new.out.told c.feed.new.out.prints c.feed.new.out.snapshots c.next.new.source c.next.new.self c.in-Ok-Some.asked (behind_of (c.in-Ok-Some.asked ∷ []))
-    (λ served. c.feed.ensures.serves.serving raw seed had.asked served) c.rows.invariant.none (λ before. behind-any c.in-Ok-Some.asked before) next.0 next.1 next.2 (rw c.in-Ok-Some.field-0-is at next.3) c.in-Ok-Some.ensures.lines row.0 row.1 row.2 (c.in-Ok-Some.ensures.no_fault (λ is. cc is)) in
+    c.feed.new.pcm.tick (λ served. c.feed.ensures.serves.serving raw seed had.asked served) c.rows.invariant.none (λ before. behind-any c.in-Ok-Some.asked before) next.0 next.1 next.2 (rw c.in-Ok-Some.field-0-is at next.3) c.in-Ok-Some.ensures.lines row.0 row.1 row.2 (rw c.in-Ok-Some.field-0-is at c.in-Ok-Some.ensures.waits).1 (c.in-Ok-Some.ensures.no_fault (λ is. cc is)) in
     next-few raw seed g.S.Source.left g.S.Source.taken g.S.Source.faults c.args.source.now c.feed.new.pcm (g.A.CellArray.state c.feed.new.array) c.feed.new.out.rows c.feed.new.out.told c.feed.new.out.prints c.feed.new.out.snapshots c.next.new.source c.next.new.self (behind_of (c.in-Ok-Some.asked ∷ [])) _ more
 
 pub returns-in_default-feed-clause-stopped : goal.returns-in_default-feed-clause-stopped
@@ -81,7 +100,7 @@ returns-in_default-feed-clause-stopped g c = λ raw seed start.
     let next = c.in-Ok-Some.ensures.ok in
     let row = rw c.in-Ok-Some.field-0-is at c.in-Ok-Some.ensures.row in
     let more = fed-more raw seed g.S.Source.left g.S.Source.taken g.S.Source.faults c.args.source.now c.rows.pcm (g.A.CellArray.state c.rows.array) c.rows.out.rows c.rows.out.told c.rows.out.prints c.rows.out.snapshots c.rows.source c.rows.stream c.rows.behind c.rows.counter had c.feed.new.pcm (g.A.CellArray.state c.feed.new.array) c.feed.new.out.rows c.feed.new.out.told c.feed.new.out.prints c.feed.new.out.snapshots c.next.new.source c.next.new.self c.in-Ok-Some.asked (behind_of (c.in-Ok-Some.asked ∷ []))
-    (λ served. c.feed.ensures.serves.serving raw seed had.asked served) c.rows.invariant.none (λ before. behind-any c.in-Ok-Some.asked before) next.0 next.1 next.2 (rw c.in-Ok-Some.field-0-is at next.3) c.in-Ok-Some.ensures.lines row.0 row.1 row.2 (c.in-Ok-Some.ensures.no_fault (λ is. cc is)) in (
+    c.feed.new.pcm.tick (λ served. c.feed.ensures.serves.serving raw seed had.asked served) c.rows.invariant.none (λ before. behind-any c.in-Ok-Some.asked before) next.0 next.1 next.2 (rw c.in-Ok-Some.field-0-is at next.3) c.in-Ok-Some.ensures.lines row.0 row.1 row.2 (rw c.in-Ok-Some.field-0-is at c.in-Ok-Some.ensures.waits).1 (c.in-Ok-Some.ensures.no_fault (λ is. cc is)) in (
       more.asked,
       more.serving,
       (
@@ -138,7 +157,7 @@ rows-preserved g c = record {
       let next = c.in-Ok-Some.ensures.ok in
       let row = rw c.in-Ok-Some.field-0-is at c.in-Ok-Some.ensures.row in
       fed-more raw seed g.S.Source.left g.S.Source.taken g.S.Source.faults c.args.source.now c.rows.pcm (g.A.CellArray.state c.rows.array) c.rows.out.rows c.rows.out.told c.rows.out.prints c.rows.out.snapshots c.rows.source c.rows.stream c.rows.behind c.rows.counter had c.feed.new.pcm (g.A.CellArray.state c.feed.new.array) c.feed.new.out.rows c.feed.new.out.told c.feed.new.out.prints c.feed.new.out.snapshots c.next.new.source c.next.new.self c.in-Ok-Some.asked c.behind_asked-behind.result
-      (λ served. c.feed.ensures.serves.serving raw seed had.asked served) c.rows.invariant.none c.behind_asked-behind.ensures next.0 next.1 next.2 (rw c.in-Ok-Some.field-0-is at next.3) c.in-Ok-Some.ensures.lines row.0 row.1 row.2 (c.in-Ok-Some.ensures.no_fault (λ is. cc is));
+      c.feed.new.pcm.tick (λ served. c.feed.ensures.serves.serving raw seed had.asked served) c.rows.invariant.none c.behind_asked-behind.ensures next.0 next.1 next.2 (rw c.in-Ok-Some.field-0-is at next.3) c.in-Ok-Some.ensures.lines row.0 row.1 row.2 (rw c.in-Ok-Some.field-0-is at c.in-Ok-Some.ensures.waits).1 (c.in-Ok-Some.ensures.no_fault (λ is. cc is));
   «end» = c.in-Ok-Some.ensures.end c.rows.invariant.end;
   prints = c.feed.ensures.serves.prints ∙ c.rows.invariant.prints;
   printing = λ before first h. c.feed.ensures.printing before first (c.rows.invariant.printing before first h);
@@ -164,7 +183,7 @@ returns-then-stops_behind-clause-served g c = λ raw seed start.
     let next = c.in-Ok-Some.ensures.ok in
     let row = rw c.in-Ok-Some.field-0-is at c.in-Ok-Some.ensures.row in
     let more = fed-more raw seed g.S.Source.left g.S.Source.taken g.S.Source.faults c.args.source.now c.rows.pcm (g.A.CellArray.state c.rows.array) c.rows.out.rows c.rows.out.told c.rows.out.prints c.rows.out.snapshots c.rows.source c.rows.stream c.rows.behind c.rows.counter had c.feed.new.pcm (g.A.CellArray.state c.feed.new.array) c.feed.new.out.rows c.feed.new.out.told c.feed.new.out.prints c.feed.new.out.snapshots c.next.new.source c.next.new.self c.in-Ok-Some.asked c.behind_asked-behind.result
-    (λ served. c.feed.ensures.serves.serving raw seed had.asked served) c.rows.invariant.none c.behind_asked-behind.ensures next.0 next.1 next.2 (rw c.in-Ok-Some.field-0-is at next.3) c.in-Ok-Some.ensures.lines row.0 row.1 row.2 (c.in-Ok-Some.ensures.no_fault (λ is. cc is)) in (
+    c.feed.new.pcm.tick (λ served. c.feed.ensures.serves.serving raw seed had.asked served) c.rows.invariant.none c.behind_asked-behind.ensures next.0 next.1 next.2 (rw c.in-Ok-Some.field-0-is at next.3) c.in-Ok-Some.ensures.lines row.0 row.1 row.2 (rw c.in-Ok-Some.field-0-is at c.in-Ok-Some.ensures.waits).1 (c.in-Ok-Some.ensures.no_fault (λ is. cc is)) in (
       more.asked,
       more.serving,
       more.stands,
@@ -181,7 +200,7 @@ returns-then-stops_behind-clause-few g c =
     let next = c.in-Ok-Some.ensures.ok in
     let row = rw c.in-Ok-Some.field-0-is at c.in-Ok-Some.ensures.row in
     let more = fed-more raw seed g.S.Source.left g.S.Source.taken g.S.Source.faults c.args.source.now c.rows.pcm (g.A.CellArray.state c.rows.array) c.rows.out.rows c.rows.out.told c.rows.out.prints c.rows.out.snapshots c.rows.source c.rows.stream c.rows.behind c.rows.counter had c.feed.new.pcm (g.A.CellArray.state c.feed.new.array) c.feed.new.out.rows c.feed.new.out.told c.feed.new.out.prints c.feed.new.out.snapshots c.next.new.source c.next.new.self c.in-Ok-Some.asked c.behind_asked-behind.result
-    (λ served. c.feed.ensures.serves.serving raw seed had.asked served) c.rows.invariant.none c.behind_asked-behind.ensures next.0 next.1 next.2 (rw c.in-Ok-Some.field-0-is at next.3) c.in-Ok-Some.ensures.lines row.0 row.1 row.2 (c.in-Ok-Some.ensures.no_fault (λ is. cc is)) in
+    c.feed.new.pcm.tick (λ served. c.feed.ensures.serves.serving raw seed had.asked served) c.rows.invariant.none c.behind_asked-behind.ensures next.0 next.1 next.2 (rw c.in-Ok-Some.field-0-is at next.3) c.in-Ok-Some.ensures.lines row.0 row.1 row.2 (rw c.in-Ok-Some.field-0-is at c.in-Ok-Some.ensures.waits).1 (c.in-Ok-Some.ensures.no_fault (λ is. cc is)) in
     next-few raw seed g.S.Source.left g.S.Source.taken g.S.Source.faults c.args.source.now c.feed.new.pcm (g.A.CellArray.state c.feed.new.array) c.feed.new.out.rows c.feed.new.out.told c.feed.new.out.prints c.feed.new.out.snapshots c.next.new.source c.next.new.self c.behind_asked-behind.result _ more
 
 pub returns-then-stops_behind-clause-printing : goal.returns-then-stops_behind-clause-printing
@@ -189,3 +208,8 @@ returns-then-stops_behind-clause-printing g c = λ before first h. c.feed.ensure
 
 pub returns-then-stops_behind-clause-written : goal.returns-then-stops_behind-clause-written
 returns-then-stops_behind-clause-written g c = λ is before first h. c.in-Ok-feed.ensures.written before first (c.rows.invariant.printing before first h)
+
+pub late_row-requires : goal.late_row-requires
+late_row-requires g c =
+    let s = c.requires.begins in
+    omega (arith, c.rows-late_row.ensures, next-few s.0 s.1 g.S.Source.left g.S.Source.taken g.S.Source.faults c.args.source.now c.rows.pcm (g.A.CellArray.state c.rows.array) c.rows.out.rows c.rows.out.told c.rows.out.prints c.rows.out.snapshots c.rows.source c.rows.stream c.rows.behind c.rows.counter (c.rows.invariant.came s.0 s.1 s.2))
