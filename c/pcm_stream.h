@@ -13,6 +13,7 @@
        struct pcm_outcome outcome;
        while (pcm_next(&pcm, &outcome) == PCM_OK && outcome.kind != PCM_SETTLED) ..
        if (pcm_write_sure(&pcm, 1000, 8, bytes, NULL, 64, NULL, NULL) == PCM_OK) ..   // it is accepted, so durable
+       pcm_settle_until(&pcm, pcm.rows, 9000, NULL, NULL);   // the array has it; pcm.tick is the tick at which it came there
        pcm_finish(&pcm);                           // no more rows; pcm_next then gives the rest, and PCM_ENDED behind the last
        int status = pcm_close(&pcm);
 
@@ -60,14 +61,14 @@ extern "C" {
 
 /* What a call answers. */
 enum pcm_result {
-    PCM_OK,      /* it is done */
-    PCM_ENDED,   /* the program has ended, and there is no outcome left; pcm_close tells its status */
-    PCM_FULL,    /* answers have to be taken first (pcm_next), before another row can be sent */
-    PCM_FAILED,  /* a call of the system failed; errno tells why */
-    PCM_REFUSED, /* an argument is out of range: a tick, the rows, a mask that gives nothing, a closed module; nothing was sent */
-    PCM_GARBLED, /* the program sent a line that isn't one of a stream */
-    PCM_SIZE,    /* the bytes aren't as many as a line has; nothing was sent */
-    PCM_DECLINED /* the module refused the write: it isn't accepted */
+    PCM_OK,       /* it is done */
+    PCM_ENDED,    /* the program has ended, and there is no outcome left; pcm_close tells its status */
+    PCM_FULL,     /* answers have to be taken first (pcm_next), before another row can be sent */
+    PCM_FAILED,   /* a call of the system failed; errno tells why */
+    PCM_REFUSED,  /* an argument is out of range: a tick, a row, the rows, a mask that gives nothing, a closed module; nothing was sent */
+    PCM_GARBLED,  /* the program sent a line that isn't one of a stream */
+    PCM_SIZE,     /* the bytes aren't as many as a line has; nothing was sent */
+    PCM_DECLINED  /* the module refused the write: it isn't accepted */
 };
 
 /* What became of a row, or that the module has settled. */
@@ -98,8 +99,8 @@ struct pcm_outcome {
     uint8_t bytes[PCM_MOST_BYTES];
 };
 
-/* The caller's own: what takes a row's text, its end among its `size` bytes, as it is sent: `op` is R, W, M, C, S or Q. The rows but for S and
-   Q, behind the header `tick,op,arg,data`, are a trace that plays the same again. The text is only lent. */
+/* The caller's own: what takes a row's text, its end among its `size` bytes, as it is sent: `op` is R, W, M or C, or S, Q or U of a row that
+   settles. The first four, behind the header `tick,op,arg,data`, are a trace that plays the same again. The text is only lent. */
 typedef void (*pcm_logger)(void *context, char op, const char *row, size_t size);
 /* The caller's own: what takes an outcome, which is only lent. It calls nothing of this header. */
 typedef void (*pcm_taker)(void *context, const struct pcm_outcome *outcome);
@@ -109,8 +110,8 @@ struct pcm {
     int to, from;          /* -1 where closed */
     uint32_t rows;         /* how many rows were sent: the number of the last one */
     uint32_t line_size;    /* the bytes of a line, by the words of pcm_open. Where the program was told so otherwise, the caller sets it; 0: any */
-    uint64_t tick;         /* of the last row or settle */
-    uint32_t settles;      /* how many were sent, pcm_ask's among them, whose PCM_SETTLED wasn't taken yet */
+    uint64_t tick;         /* of the last row or settle; behind pcm_settle_until the one that was reached */
+    uint32_t settles;      /* how many were sent, those of calls that take all among them, whose PCM_SETTLED wasn't taken yet */
     pcm_logger log;        /* the caller's, from pcm_open on, which sets it to NULL: each row is handed to it, with `context` */
     void *context;
     size_t held, begin, end;
@@ -142,6 +143,10 @@ static inline enum pcm_result pcm_settle(struct pcm *pcm, uint64_t tick);
 static inline enum pcm_result pcm_settle_all(struct pcm *pcm, uint64_t tick, pcm_taker take, void *context);
 /* The same, and what waits then in the first `count` banks is put into `banks`; where the module has fewer, the others stay as they are. */
 static inline enum pcm_result pcm_ask(struct pcm *pcm, uint64_t tick, struct pcm_bank *banks, size_t count, pcm_taker take, void *context);
+/* The same, but the module goes on only until a row that was sent has its outcome: to the first tick, from the one at which it stands, behind
+   which that is known, and to `tick` where it isn't by then (a write that stays queued has none before the end). pcm.tick is then the tick
+   that was reached, and the next row may have any tick from there on. A row whose outcome is known leaves the module where it stands. */
+static inline enum pcm_result pcm_settle_until(struct pcm *pcm, uint32_t row, uint64_t tick, pcm_taker take, void *context);
 /* A write arrives (of a whole line where `given` is NULL), and is answered at once, by a settle at its tick: PCM_OK where it is accepted, so
    that it outlives every power cut; PCM_DECLINED where its bank's queue is full or the bank is worn. Every outcome that became known,
    a refusal of this write too, is handed to `take`, as by pcm_settle_all. It never answers PCM_FULL. */
@@ -323,12 +328,14 @@ static inline char *pcm__put_number(char *at, uint64_t number)
     return at;
 }
 
-static inline enum pcm_result pcm__row(struct pcm *pcm, uint64_t tick, char op, uint32_t line, const uint8_t *bytes, const uint8_t *given,
+/* Sends a row. `number` is its line, or the row of a settle until; where it has none, it is 0. */
+static inline enum pcm_result pcm__row(struct pcm *pcm, uint64_t tick, char op, uint32_t number, const uint8_t *bytes, const uint8_t *given,
                                        size_t size)
 {
     static const char digits[] = "0123456789abcdef";
-    int settles = op == 'S' || op == 'Q';
-    if (pcm->to < 0 || tick < pcm->tick || tick > PCM_LAST_TICK || (!settles && pcm->rows >= PCM_LAST_ROW))
+    int settles = strchr("SQU", op) != NULL, is_bare = op != 'U' && (settles || op == 'C');
+    if (pcm->to < 0 || tick < pcm->tick || tick > PCM_LAST_TICK || (!settles && pcm->rows >= PCM_LAST_ROW)
+        || (op == 'U' && (number == 0 || number > pcm->rows)))
         return PCM_REFUSED;
     if (sizeof pcm->out - pcm->held < PCM_MOST_ROW) {
         enum pcm_result result = pcm_flush(pcm);
@@ -339,8 +346,8 @@ static inline enum pcm_result pcm__row(struct pcm *pcm, uint64_t tick, char op, 
     *at++ = ',';
     *at++ = op;
     *at++ = ',';
-    if (op != 'C' && !settles)
-        at = pcm__put_number(at, line);
+    if (!is_bare)
+        at = pcm__put_number(at, number);
     *at++ = ',';
     for (size_t i = 0; i < size; i++) {
         int is = given == NULL || given[i] != 0;
@@ -349,7 +356,8 @@ static inline enum pcm_result pcm__row(struct pcm *pcm, uint64_t tick, char op, 
     }
     *at++ = '\n';
     pcm->held += (size_t)(at - row);
-    pcm->tick = tick;
+    if (op != 'U')
+        pcm->tick = tick;
     if (settles)
         pcm->settles++;
     else
@@ -391,10 +399,18 @@ static inline enum pcm_result pcm_cut(struct pcm *pcm, uint64_t tick)
     return pcm__row(pcm, tick, 'C', 0, NULL, NULL, 0);
 }
 
-/* Settles, or asks where `op` is Q. */
-static inline enum pcm_result pcm__settle(struct pcm *pcm, uint64_t tick, char op)
+/* What a row that settles asks for besides, and where that is put. */
+struct pcm__asks {
+    char op;                /* S, Q or U */
+    uint32_t row;           /* of U; else 0 */
+    struct pcm_bank *banks; /* of Q: the first `count` */
+    size_t count;
+};
+
+/* Settles. */
+static inline enum pcm_result pcm__settle(struct pcm *pcm, uint64_t tick, const struct pcm__asks *asks)
 {
-    enum pcm_result result = pcm__row(pcm, tick, op, 0, NULL, NULL, 0);
+    enum pcm_result result = pcm__row(pcm, tick, asks->op, asks->row, NULL, NULL, 0);
     if (result != PCM_OK)
         return result;
     /* (the row is taken now: what the stream doesn't hold yet pcm_next hands over) */
@@ -404,23 +420,25 @@ static inline enum pcm_result pcm__settle(struct pcm *pcm, uint64_t tick, char o
 
 static inline enum pcm_result pcm_settle(struct pcm *pcm, uint64_t tick)
 {
-    return pcm__settle(pcm, tick, 'S');
+    const struct pcm__asks asks = {'S', 0, NULL, 0};
+    return pcm__settle(pcm, tick, &asks);
 }
 
-static inline enum pcm_result pcm__next(struct pcm *pcm, struct pcm_outcome *outcome, struct pcm_bank *banks, size_t count);
+static inline enum pcm_result pcm__next(struct pcm *pcm, struct pcm_outcome *outcome, const struct pcm__asks *asks);
 
-/* Settles, or asks where `op` is Q, and takes all that is known then: what waits in a bank goes into `banks`. */
-static inline enum pcm_result pcm__settle_all(struct pcm *pcm, uint64_t tick, char op, struct pcm_bank *banks, size_t count, pcm_taker take,
-                                              void *context)
+/* Settles, and takes all that is known then. The module stands then at the tick of the row, or at the one that was reached. */
+static inline enum pcm_result pcm__settle_all(struct pcm *pcm, uint64_t tick, const struct pcm__asks *asks, pcm_taker take, void *context)
 {
     struct pcm_outcome outcome;
     enum pcm_result result;
-    while ((result = pcm__settle(pcm, tick, op)) == PCM_FULL && (result = pcm_next(pcm, &outcome)) == PCM_OK)
+    while ((result = pcm__settle(pcm, tick, asks)) == PCM_FULL && (result = pcm_next(pcm, &outcome)) == PCM_OK)
         if (take != NULL)
             take(context, &outcome);
-    while (result == PCM_OK && (result = pcm__next(pcm, &outcome, banks, count)) == PCM_OK) {
-        if (outcome.kind == PCM_SETTLED && pcm->settles == 0)
+    while (result == PCM_OK && (result = pcm__next(pcm, &outcome, asks)) == PCM_OK) {
+        if (outcome.kind == PCM_SETTLED && pcm->settles == 0) {
+            pcm->tick = outcome.tick;
             break;
+        }
         if (take != NULL)
             take(context, &outcome);
     }
@@ -429,12 +447,20 @@ static inline enum pcm_result pcm__settle_all(struct pcm *pcm, uint64_t tick, ch
 
 static inline enum pcm_result pcm_settle_all(struct pcm *pcm, uint64_t tick, pcm_taker take, void *context)
 {
-    return pcm__settle_all(pcm, tick, 'S', NULL, 0, take, context);
+    const struct pcm__asks asks = {'S', 0, NULL, 0};
+    return pcm__settle_all(pcm, tick, &asks, take, context);
 }
 
 static inline enum pcm_result pcm_ask(struct pcm *pcm, uint64_t tick, struct pcm_bank *banks, size_t count, pcm_taker take, void *context)
 {
-    return pcm__settle_all(pcm, tick, 'Q', banks, count, take, context);
+    const struct pcm__asks asks = {'Q', 0, banks, count};
+    return pcm__settle_all(pcm, tick, &asks, take, context);
+}
+
+static inline enum pcm_result pcm_settle_until(struct pcm *pcm, uint32_t row, uint64_t tick, pcm_taker take, void *context)
+{
+    const struct pcm__asks asks = {'U', row, NULL, 0};
+    return pcm__settle_all(pcm, tick, &asks, take, context);
 }
 
 /* What pcm_write_sure hands outcomes through: it looks for a refusal of its row. */
@@ -550,8 +576,8 @@ static inline enum pcm_result pcm__outcome(const char *at, struct pcm_outcome *o
     return PCM_OK;
 }
 
-/* The next outcome; what waits in the first `count` banks, where that comes before it, goes into `banks`. */
-static inline enum pcm_result pcm__next(struct pcm *pcm, struct pcm_outcome *outcome, struct pcm_bank *banks, size_t count)
+/* The next outcome; what waits in a bank, where that comes before it, is put where it is asked for. */
+static inline enum pcm_result pcm__next(struct pcm *pcm, struct pcm_outcome *outcome, const struct pcm__asks *asks)
 {
     enum pcm_result result = pcm_flush(pcm);
     if (result == PCM_FAILED)
@@ -563,7 +589,7 @@ static inline enum pcm_result pcm__next(struct pcm *pcm, struct pcm_outcome *out
         int is_bank = strncmp(line, ",bank,", 6) == 0;
         if (strncmp(line, "row,", 4) == 0)
             continue;
-        result = is_bank ? pcm__bank(line + 6, banks, count) : pcm__outcome(line, outcome);
+        result = is_bank ? pcm__bank(line + 6, asks == NULL ? NULL : asks->banks, asks == NULL ? 0 : asks->count) : pcm__outcome(line, outcome);
         if (result == PCM_OK && is_bank)
             continue;
         if (result == PCM_OK && outcome->kind == PCM_SETTLED && pcm->settles > 0)
@@ -574,7 +600,7 @@ static inline enum pcm_result pcm__next(struct pcm *pcm, struct pcm_outcome *out
 
 static inline enum pcm_result pcm_next(struct pcm *pcm, struct pcm_outcome *outcome)
 {
-    return pcm__next(pcm, outcome, NULL, 0);
+    return pcm__next(pcm, outcome, NULL);
 }
 
 static inline enum pcm_result pcm_finish(struct pcm *pcm)

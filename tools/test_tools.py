@@ -550,7 +550,22 @@ class Words(unittest.TestCase):
         head, line = "tick,op,arg,data\n", "ab" * 64
         wanted = [
             (f"{head}0,R,0,\n\n5,R,0,,\n", "run", "trace row 2: fields", "line 4: it has 5 fields, and must have four: tick,op,arg,data"),
-            (f"{head}0,R,0,\n5,S,,\n6,X,0,\n", "stream", "trace row 2: op", "line 4: the second field must be R, W, M, C, S or Q, and is 'X'"),
+            (f"{head}0,R,0,\n5,S,,\n6,X,0,\n", "stream", "trace row 2: op", "line 4: the second field must be R, W, M, C, S, Q or U, and is 'X'"),
+            (f"{head}0,R,0,\n5,U,1,\n", "run", "trace row 2: op",
+             "line 3: the second field must be R, W, M or C, and is 'U' (U, a settle until, is a stream's alone)"),
+            *((f"{head}0,R,0,\n7,R,0,\n9,U,2,\n7,R,0,\n{rows}", "stream", f"trace row {at}: {kind}", said) for rows, at, kind, said in (
+                ("8,U,4,\n", 4, "line", "line 6: the third field of U must be the number of a row that came before, 1 to 3, and is '4'"),
+                ("8,U,,\n", 4, "line", "line 6: the third field of U must be the number of a row that came before, 1 to 3, and is ''"),
+                ("8,U,03,0\n", 4, "payload", "line 6: the fourth field of U must be empty, and is '0'"),
+                ("8,U,0000000003,\n6,C,,\n", 4, "order", "line 7: its tick 6 is below 7, the tick of the row before (line 5)"),
+                ("", 3, "order", "line 5: its tick 7 is below the one that the settle until of line 4 reached"),
+                ("20,U,1,\n8,U,1,\n9,C,,\n", 4, "order", "line 7: its tick 8 is below the one that the settle until of line 6 reached"),
+                ("20,U,1,\n15,U,1,\n9,C,,\n", 4, "order", None),
+                ("20,U,1,\n8,C,,\n9,C,,\n", 4, "order", "line 7: its tick 8 is below the one that the settle until of line 6 reached"),
+                ("20,U,1,\n8,C,,\n9,C,,\n", 5, "order", None),
+            )),
+            (f"{head}9,U,1,\n", "stream", "trace row 1: line",
+             "line 2: the third field of U must be the number of a row that came before, and none did, and is '1'"),
             (f"{head}0,W,5,{line[:-1]}g\n", "run", "trace row 1: payload",
              "line 2: the fourth field has 'g' behind 127 characters, where it must be hexadecimal digits"),
             ("", "run", "trace row 0: header", "the file is empty: a trace begins with tick,op,arg,data"),

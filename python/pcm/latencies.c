@@ -221,9 +221,9 @@ static int arrive(void)
             if (!line)
                 return 0;
             now = number(&line);
-            if (!strchr("RWMCSQ", *line) || line[1] != ',')
+            if (!strchr("RWMCSQU", *line) || line[1] != ',')
                 leave(3, NULL);
-        } while (*line == 'S' || *line == 'Q');
+        } while (strchr("SQU", *line));
         arrived++;
     }
     *map_at(&waiting, arrived) = now;
