@@ -3,7 +3,7 @@ import os
 from typing import Any, Dict, Iterable, List, Optional, Union
 
 from .outcomes import Outcome
-from .rows import PowerCut, Read, Row, Settle, read_trace
+from .rows import PowerCut, Read, Row, numbered, read_trace
 from .whole import ResultRow
 
 # Whole numbers, of which some may be missing.
@@ -42,7 +42,7 @@ def _numbered(trace: "Union[Iterable[Row], str, os.PathLike[str]]") -> List[Row]
     if isinstance(trace, (str, os.PathLike)):
         with open(trace, newline="", encoding="utf-8", errors="surrogateescape") as file:
             return _numbered(read_trace(file))
-    return [row for row in trace if not isinstance(row, Settle)]
+    return list(numbered(trace))
 
 
 def _columns(one: "Union[Outcome, ResultRow, None]", rows: Optional[List[Row]]) -> "Dict[str, object]":

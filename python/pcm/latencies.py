@@ -29,7 +29,7 @@ from .devices import other_times, units_of
 from .errors import PcmError, ReadFault, UsageError, error_of
 from .program import Program, command
 from .progress import Progress
-from .rows import Settle, read_trace
+from .rows import numbered, read_trace
 from .runs import DRAWN, OUTCOMES, FileFault
 from .tables import Parser, answered, names_of, parsed_options, table
 from .words import TOLD, wrong_word
@@ -123,9 +123,7 @@ def _of_file(path: str) -> Iterator[int]:
             mark = file.read(3)
             if mark != "\xef\xbb\xbf":
                 file.seek(0)
-            for row in read_trace(file):
-                if not isinstance(row, Settle):
-                    yield row.tick
+            yield from (row.tick for row in numbered(read_trace(file)))
         except ValueError as wrong:
             raise RowsFault(f"{path} {wrong}") from None
 

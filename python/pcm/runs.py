@@ -15,6 +15,7 @@ from .devices import Units
 from .errors import PcmError, ReadFault
 from .image import Image, ImageError, _feistel
 from .progress import Progress
+from .rows import SETTLING
 from .snapshots import HEADERS, Snapshot, SnapshotError, read_snapshots
 from .words import RESULTS, TOLD
 
@@ -274,9 +275,9 @@ def arrivals_of(source: Source, progress: Optional[Progress] = None) -> List[Arr
     found: List[Arrival] = []
     for at, record in records:
         tick, op, line = _fields(source, at, record, 4)[:3]
-        if op not in ("R", "W", "M", "C", "S", "Q"):
+        if op not in ("R", "W", "M", "C", *SETTLING):
             raise FileFault(f"{source.name} row {at}: op")
-        if op not in ("S", "Q"):
+        if op not in SETTLING:
             known = None if op == "C" else _natural(source, at, "line", line)
             found.append(Arrival(_natural(source, at, "tick", tick), "W" if op == "M" else op, known))
         if len(found) > 1 and found[-1].tick < found[-2].tick:
@@ -387,7 +388,7 @@ def _streamed(source: Source, records: Iterator[Tuple[int, List[str]]]) -> List[
     found: Dict[int, Known] = {}
     for at, record in records:
         number, word, tick, place, _ = _fields(source, at, record, 5)
-        if word in ("bank", "settled") and number == "":
+        if word in ("bank", "wear", "shape", "settled") and number == "":
             continue
         row = _natural(source, at, "row", number)
         if row in found:

@@ -155,7 +155,7 @@ class Streams(unittest.TestCase):
             told = []
             with pcm.Module(policy=policy, **WORN) as module:
                 for row in rows:
-                    module._hand(row.text())
+                    module._hand(row.tick, row.text())
                     told += module.outcomes()
                 told += module.finish()
             self.assertEqual((3000, wanted), (len(told), set(told)))
@@ -246,7 +246,10 @@ class Packages(unittest.TestCase):
 
 
 class Frames(unittest.TestCase):
-    ROWS = [pcm.Write(0, 0, ONES), pcm.PowerCut(7), pcm.MaskedWrite(50, 1, [1] + [None] * 63), pcm.Settle(60), pcm.Read(100, 0)]
+    ROWS = [
+        pcm.Write(0, 0, ONES), pcm.PowerCut(7), pcm.MaskedWrite(50, 1, [1] + [None] * 63),
+        pcm.Settle(60), pcm.Query(60), pcm.Look(60), pcm.SettleUntil(60, 3), pcm.Read(100, 0),
+    ]
 
     def setUp(self):
         try:
@@ -262,7 +265,7 @@ class Frames(unittest.TestCase):
         return [list(frame.columns)] + plain.where(plain.notna(), None).values.tolist()
 
     def test_outcomes_alone(self):
-        done = pcm.run([row for row in self.ROWS if not isinstance(row, pcm.Settle)], **SMALL)
+        done = pcm.run(pcm.numbered(self.ROWS), **SMALL)
         frame = pcm.to_frame(done.rows)
         self.assertEqual(["row", "op", "line", "outcome", "tick", "place", "data"], list(frame.columns))
         self.assertEqual(["Int64"] * 4, [str(frame[name].dtype) for name in ("row", "line", "tick", "place")])
