@@ -14,6 +14,8 @@ pub mod BookLemmas
 pub mod PageLemmas
 pub mod YoungLemmas
 pub mod TableLemmas
+pub mod TierLemmas
+pub mod BegunLemmas
 pub mod PagingLemmas
 pub mod AgeLemmas
 pub mod EnduranceLemmas

@@ -1,11 +1,11 @@
 -- Lines and their pages.
-use Rattle.std.proofs.Common.{◌≡◌, ◌≢◌, ℕ, ◌<◌, Bool, cond, List, length, replicate, get_or, set, refl, sym, ◌∙◌, ap, subst, inl, inr, arith, get_or-set_same, get_or-set_other, Option, Some, None}
-use Rattle.std.proofs.lemmas.{Bool.{cases_eq, cases_lt}, List.{get_or_past, get_or-replicate, length-replicate}, Option.{none-some, same_Some}}
+use Rattle.std.proofs.Common.{◌≡◌, ◌≢◌, ℕ, ◌<◌, Bool, cond, List, length, replicate, get_or, refl, sym, ◌∙◌, ap, subst, inl, inr, arith, Option, Some, None}
+use Rattle.std.{specs.Option.option_map, proofs.lemmas.{Bool.cases_lt, List.{get_or_past, get_or-replicate, length-replicate}, Option.{none-some, same_Some}}}
 use Rattle.std.proofs.lemmas.List.FromFn.{get_or-map-range_with_len, length-map-range_with_len}
 use Rattle.cell_rows.specs.{Device.counted, Rows.cell, declared.array.Wear.Wear, declared.row.Cells.Cells}
-use Rattle.pcm_cells.specs.{Follows.Follows, PageTable.page_at, Paged.{AreYoung, line_seen}, Pages.drawn_line, Paging.{seen, lines_seen}, Young.{IsYoung, grown_line}}
+use Rattle.pcm_cells.specs.{Follows.Follows, PageTable.page_at, Paged.{AreYoung, line_seen}, Pages.drawn_line, Paging.{seen, lines_seen}, Young.grown_line, Youths.young_at}
 use Rattle.pcm_cells.specs.{Seeded.{LifeLine, SeededArray, IsDrawn, Wears, lifeless, seeded, seeded_cell, seeded_line}, declared.pages.Pages.Pages, declared.young.Young.Young}
-use Rattle.pcm_cells.proofs.{PageLemmas.drawn_is}
+use Rattle.pcm_cells.proofs.{PageLemmas.drawn_is, TierLemmas.page-none}
 
 -- ---- what pages say
 
@@ -26,28 +26,18 @@ seen-drawn wear line youths pages none no_young = rw (none, no_young) refl
 
 -- ---- young pages
 
-pub none_young : (B M limit lines : ℕ) (youths : List (Option (Young B M))) → youths ≡ replicate lines None → AreYoung limit youths
-none_young B M limit lines youths none = record {
-  each = λ line young is.
-      elim (cases_lt line lines) as (λ _. IsYoung limit young) [
-        | inl low ↦ absurd (none-some young (sym (ap (λ xs. page_at xs line) none ∙ get_or-replicate lines line None None low) ∙ is))
-        | inr high ↦
-            absurd (none-some young (sym (get_or_past youths line None (omega (arith, high, ap length none, length-replicate {A = Option (Young B M)} lines None))) ∙ is))
-      ];
-}
+-- at first no line is young
+pub none_young : {B M : ℕ} (wear : Wear) (limit : ℕ) (youths : ℕ → Option (Young B M)) → ((line : ℕ) → youths line ≡ None) → AreYoung wear limit youths
+none_young wear limit youths none = record { each = λ line young is. absurd (none-some young (sym (none line) ∙ is)) }
 
--- a page that is young is written
-pub written_young : {B M : ℕ} (limit line : ℕ) (youths : List (Option (Young B M))) (young : Young B M) → line < length youths → AreYoung limit youths → IsYoung limit young
-    → AreYoung limit (set youths line (Some young))
-written_young {B} {M} limit line youths young within all is = record {
-  each = λ n page at.
-      elim (cases_eq n line) as (λ _. IsYoung limit page) [
-        | inl here ↦
-            let own : Some young ≡ Some page = sym (get_or-set_same youths line (Some young) None within) ∙ sym (ap (page_at (set youths line (Some young))) here) ∙ at in
-            subst (IsYoung limit) (same_Some young page own) is
-        | inr apart ↦ all.each n page (sym (get_or-set_other youths line n (Some young) None apart) ∙ at)
-      ];
-}
+-- what is told of a young line is told of the line
+pub told-some : {X Y : Type 0} (f : X → Y) (o : Option X) (y : Y) → Some y ≡ option_map f o → (x : X) × (o ≡ Some x) × (y ≡ f x)
+told-some f None y is = absurd (none-some y (sym is))
+told-some f (Some x) y is = (x, refl, same_Some y (f x) is)
+
+pub told-none : {X Y : Type 0} (f : X → Y) (o : Option X) → None ≡ option_map f o → o ≡ None
+told-none f None is = refl
+told-none f (Some x) is = absurd (none-some (f x) is)
 
 -- ---- the lines of an array
 
@@ -92,13 +82,12 @@ wears_lines {B} {M} line tearing mask want old new a b a_is b_is within cells pu
     }
 
 -- new lines are drawn
-pub blank_drawn : {B M : ℕ} (p : Pages B M) (lines : ℕ) (wear : Wear) → p.wear ≡ wear → p.young ≡ replicate lines None → p.grown ≡ replicate lines None
+pub blank_drawn : {B M : ℕ} (p : Pages B M) (lines : ℕ) (wear : Wear) → p.wear ≡ wear → ((line : ℕ) → young_at p.young line ≡ None) → p.grown ≡ replicate lines None
     → (l : ℕ) → l < lines → IsDrawn wear l (get_or (lines_seen p) l (lifeless B M))
 blank_drawn {B} {M} p lines wear same young grown l h =
     let within : l < length p.grown = omega (arith, h, ap length grown, length-replicate {A = Option (LifeLine B M)} lines None) in
     let is : get_or (lines_seen p) l (lifeless B M) ≡ drawn_line B M wear l =
     lines_at p l (lifeless B M) within
-    ∙ seen-drawn p.wear l (page_at p.young l) (page_at p.grown l)
-    (ap (λ xs. page_at xs l) grown ∙ get_or-replicate lines l None None h) (ap (λ xs. page_at xs l) young ∙ get_or-replicate lines l None None h)
+    ∙ seen-drawn p.wear l (young_at p.young l) (page_at p.grown l) (page-none p.grown lines l grown) (young l)
     ∙ ap (λ w. drawn_line B M w l) same in
     subst (IsDrawn wear l) (sym is) (drawn_is B M wear l)

@@ -3,7 +3,7 @@ use Rattle.std.proofs.Common.{◌≡◌, ℕ, ◌+◌, ◌*◌, ◌/◌, ◌<◌
 use prog.Memory.{up}
 use Rattle.cell_rows.specs.Shape.{IsShape, IsWhole}
 
--- the sizes of a row, of digits, of counts, and of a line's two parts
+-- the sizes of a row, of digits, of counts, of a line's two parts, and of young pages
 abbrev row_size : ℕ → ℕ → ℕ
 row_size b m = up 1 (up 1 (0 + b * 1) + m * 1)
 
@@ -22,8 +22,14 @@ settled_size row digits counts = up 4 (up 1 (up 1 (up 4 (0 + row) + counts) + di
 abbrev line_size : ℕ → ℕ → ℕ → ℕ
 line_size b moving settled = up 8 (up 1 (up 8 (up 4 (0 + moving) + settled) + 8) + b * 1)
 
+abbrev first_size : ℕ → ℕ → ℕ
+first_size row digits = up 8 (up 8 (up 1 (0 + row) + digits) + 8)
+
+abbrev later_size : ℕ → ℕ → ℕ
+later_size row digits = up 8 (up 8 (up 1 (up 1 (up 1 (0 + row) + digits) + digits) + digits) + 8)
+
 abbrev young_size : ℕ → ℕ → ℕ
-young_size row digits = up 8 (up 8 (up 1 (up 1 (up 1 (0 + row) + digits) + digits) + digits) + 8)
+young_size row digits = up 8 (up 8 (up 1 (up 1 (up 1 (up 1 (up 1 (0 + row) + digits) + digits) + digits) + digits) + digits) + 8)
 
 row_few : (b m : ℕ) → b ≤ 128 → m ≤ 16 → row_size b m ≤ 200
 row_few b m few_b few_m = omega arith
@@ -40,7 +46,13 @@ moving_few row digits few_r few_d = omega arith
 settled_few : (row digits counts : ℕ) → row ≤ 200 → digits ≤ 700 → counts ≤ 5000 → settled_size row digits counts ≤ 7000
 settled_few row digits counts few_r few_d few_c = omega arith
 
-young_few : (row digits : ℕ) → row ≤ 200 → digits ≤ 700 → young_size row digits ≤ 3000
+first_few : (row digits : ℕ) → row ≤ 200 → digits ≤ 700 → first_size row digits ≤ 1000
+first_few row digits few_r few_d = omega arith
+
+later_few : (row digits : ℕ) → row ≤ 200 → digits ≤ 700 → later_size row digits ≤ 3000
+later_few row digits few_r few_d = omega arith
+
+young_few : (row digits : ℕ) → row ≤ 200 → digits ≤ 700 → young_size row digits ≤ 4000
 young_few row digits few_r few_d = omega arith
 
 line_few : (b moving settled : ℕ) → b ≤ 128 → moving ≤ 2000 → settled ≤ 7000 → line_size b moving settled ≤ 10000
@@ -84,7 +96,13 @@ module _ {b m : ℕ} (shape : IsShape b m) where
   settled_fits = less _ 7000 settled_at_most (omega arith)
 
   pub young_fits : young_size (row_size b m) (digits_size (row_size b m)) < 9223372036854775808
-  young_fits = less _ 3000 (young_few _ _ row_at_most digits_at_most) (omega arith)
+  young_fits = less _ 4000 (young_few _ _ row_at_most digits_at_most) (omega arith)
+
+  pub first_fits : first_size (row_size b m) (digits_size (row_size b m)) < 9223372036854775808
+  first_fits = less _ 1000 (first_few _ _ row_at_most digits_at_most) (omega arith)
+
+  pub later_fits : later_size (row_size b m) (digits_size (row_size b m)) < 9223372036854775808
+  later_fits = less _ 3000 (later_few _ _ row_at_most digits_at_most) (omega arith)
 
   pub line_fits : line_size b (moving_size (row_size b m) (digits_size (row_size b m))) (settled_size (row_size b m) (digits_size (row_size b m)) (counts_size b m)) < 9223372036854775808
   line_fits = below _ (line_few b _ _ shape.1 moving_at_most settled_at_most)

@@ -1,10 +1,10 @@
 -- Numbers of lines by blocks, and pages by such numbers.
 use Rattle.std.proofs.Common.{◌≡◌, ◌≢◌, ℕ, zero, suc, ◌+◌, ◌*◌, ◌/◌, ◌%◌, ◌^◌, ◌<◌, ◌≤◌, List, [], ◌∷◌, ◌++◌, length, map, replicate, get_or, set, refl, sym, ◌∙◌, ap, subst, inl, inr, arith, slice_index, length-set, get_or-set_same, get_or-set_other, length-append, Option, Some, None, not, eqb, true}
-use Rattle.std.{specs.List.{sum_by}, specs.Prelude.{IsSome, is_some, slice_get}, proofs.Math.ListN.get_or-append, proofs.lemmas.Bool.{cases_eq, cases_lt, Decides.eqb_tells}}
-use Rattle.std.proofs.{Math.ListN.{get_or-map as read}, lemmas.List.{ext_get_or, get_or_push, length-map, length-replicate, map-set}}
-use Rattle.std.proofs.{lemmas.List.Folds.sum_by-replicate, lemmas.List.FromFn.{get_or-map-range_with_len, length-map-range_with_len}, lemmas.List.Sums.sum_by-set}
+use Rattle.std.{specs.List.{sum_by}, specs.Prelude.{All, IsSome, MatchOption, is_some, option_to_list, slice_get}, proofs.Math.ListN.get_or-append, proofs.lemmas.Bool.{cases_eq, cases_lt, Decides.eqb_tells}}
+use Rattle.std.proofs.{Math.ListN.{get_or-map as read}, lemmas.List.{append-nil, ext_get_or, get_or_past, get_or_push, length-map, length-replicate, map-set, nil_from_length, set-get_or}}
+use Rattle.std.proofs.{lemmas.List.Folds.sum_by-replicate, lemmas.List.FromFn.{get_or-map-range_with_len, length-map-range_with_len}, lemmas.List.Sums.{sum_by-le, sum_by-set}}
 use Rattle.std.proofs.lemmas.{Grind.get_or_default_zero, Option.{none-some, slice_get-get_or}}
-use Rattle.pcm_cells.specs.{PageTable.{page_at, page_of, pages_of}, Table.{AreBlocks, IsPaging, IsTable, block_lines, free, number_at, number_in, numbers_of}}
+use Rattle.pcm_cells.specs.{PageTable.{page_at, page_of, pages_of}, Table.{AreBlocks, AreIdle, IsPaging, IsShelf, IsTable, block_lines, free, number_at, number_in, numbers_of}}
 
 zero_at : (k n : ℕ) → slice_index (replicate k 0) n ≡ 0
 zero_at zero zero = refl
@@ -16,7 +16,7 @@ zero_at (suc k) (suc n) = zero_at k n
 
 -- at first no entry names a page
 pub paging_blank : {X : Type 0} (table : List ℕ) (pages : List X) (capacity lines : ℕ) → table ≡ replicate lines 0
-    → pages ≡ [] → lines < 2 ^ 32 → lines ≤ capacity → IsPaging table pages capacity
+    → pages ≡ [] → lines < 2 ^ 32 → lines ≤ capacity → IsPaging table pages 0 capacity
 paging_blank table pages capacity lines zeros none few room =
     let size : length table ≡ lines = ap length zeros ∙ length-replicate {A = ℕ} lines 0 in
     let empty : length pages ≡ 0 = ap length none in
@@ -27,19 +27,23 @@ paging_blank table pages capacity lines zeros none few room =
       made = λ l. omega (arith, blank l);
       apart = λ k l e some. absurd (some (blank k));
       all = omega (arith, size, empty, all_free);
+      most = omega (arith, empty);
       room = omega (arith, size, room);
     }
 
 -- where one names none, there are fewer pages than entries
-pub paging_room : {X : Type 0} (table : List ℕ) (pages : List X) (capacity line : ℕ) → IsPaging table pages capacity → line < length table
+pub paging_room : {X : Type 0} (table : List ℕ) (pages : List X) (capacity line : ℕ) → IsPaging table pages 0 capacity → line < length table
     → slice_index table line ≡ 0 → length pages < length table
 paging_room table pages capacity line paging within none =
     let one : free (slice_index table line) ≡ 1 = ap free none in
     omega (arith, sum_by-set free table line 1 0 within, one, paging.all)
 
+free-more : (n : ℕ) → free (n + 1) ≡ 0
+free-more n = let e : n + 1 ≡ suc n = omega arith in ap free e
+
 -- and one more may be made for it
-pub paging_more : {X : Type 0} (table : List ℕ) (pages : List X) (page : X) (capacity line : ℕ) → IsPaging table pages capacity
-    → line < length table → slice_index table line ≡ 0 → IsPaging (set table line (length pages + 1)) (pages ++ page ∷ []) capacity
+pub paging_more : {X : Type 0} (table : List ℕ) (pages : List X) (page : X) (capacity line : ℕ) → IsPaging table pages 0 capacity
+    → line < length table → slice_index table line ≡ 0 → IsPaging (set table line (length pages + 1)) (pages ++ page ∷ []) 0 capacity
 paging_more table pages page capacity line paging within none =
     let more : length (pages ++ page ∷ []) ≡ length pages + 1 = length-append pages (page ∷ []) in
     let same : length (set table line (length pages + 1)) ≡ length table = length-set table line (length pages + 1) in
@@ -68,22 +72,262 @@ paging_more table pages page capacity line paging within none =
                 ]
           ];
       all = omega (arith, sum_by-set free table line (length pages + 1) 0 within, one, gone, paging.all, more, same);
+      most = omega (arith, paging_room table pages capacity line paging within none, more, same);
       room = omega (arith, paging.room, same);
     }
-  where
-    free-more : (n : ℕ) → free (n + 1) ≡ 0
-    free-more n = let e : n + 1 ≡ suc n = omega arith in ap free e
 
 -- a page may be written
-pub paging_kept : {X : Type 0} (table : List ℕ) (old new : List X) (capacity : ℕ) → IsPaging table old capacity → length new ≡ length old
-    → IsPaging table new capacity
+pub paging_kept : {X : Type 0} {idle : ℕ} (table : List ℕ) (old new : List X) (capacity : ℕ) → IsPaging table old idle capacity → length new ≡ length old
+    → IsPaging table new idle capacity
 paging_kept table old new capacity paging same = record {
   few = paging.few;
   made = λ l. omega (arith, paging.made l, same);
   apart = paging.apart;
   all = omega (arith, paging.all, same);
+  most = omega (arith, paging.most, same);
   room = paging.room;
 }
+
+-- ---- idle pages
+
+all-few : (xs : List ℕ) → All (λ n. free n ≤ 1) xs
+all-few xs k d low = one (get_or xs k d)
+  where
+    one : (n : ℕ) → free n ≤ 1
+    one zero = omega arith
+    one (suc n) = omega arith
+
+-- a page may become idle
+pub paging_freed : {X : Type 0} (table : List ℕ) (pages : List X) (idle capacity line index : ℕ) → IsPaging table pages idle capacity
+    → line < length table → slice_index table line ≡ index + 1 → IsPaging (set table line 0) pages (idle + 1) capacity
+paging_freed table pages idle capacity line index paging within at =
+    let same : length (set table line 0) ≡ length table = length-set table line 0 in
+    let here : slice_index (set table line 0) line ≡ 0 = get_or-set_same table line 0 0 within in
+    let others : (n : ℕ) → n ≢ line → slice_index (set table line 0) n ≡ slice_index table n = λ n apart. get_or-set_other table line n 0 0 apart in
+    let gone : free (slice_index table line) ≡ 0 = ap free at ∙ free-more index in
+    record {
+      few = omega (arith, same, paging.few);
+      made = λ l.
+          elim (cases_eq l line) as (λ _. slice_index (set table line 0) l ≤ length pages) [
+            | inl is ↦ rw is (omega (arith, here))
+            | inr apart ↦ omega (arith, others l apart, paging.made l)
+          ];
+      apart = λ k l e some.
+          elim (cases_eq k line) as (λ _. k ≡ l) [
+            | inl is ↦ absurd (some (ap (slice_index (set table line 0)) is ∙ here))
+            | inr k_apart ↦
+                elim (cases_eq l line) as (λ _. k ≡ l) [
+                  | inl is ↦ absurd (some (e ∙ ap (slice_index (set table line 0)) is ∙ here))
+                  | inr apart ↦ paging.apart k l (sym (others k k_apart) ∙ e ∙ others l apart) (λ no. some (others k k_apart ∙ no))
+                ]
+          ];
+      all = omega (arith, sum_by-set free table line 0 0 within, gone, paging.all, same);
+      most = omega (arith, same, paging.most);
+      room = omega (arith, paging.room, same);
+    }
+
+-- and there is room for it
+pub idle_room : {X : Type 0} (table : List ℕ) (pages : List X) (idle capacity line index : ℕ) → IsPaging table pages idle capacity
+    → line < length table → slice_index table line ≡ index + 1 → idle < length table
+idle_room table pages idle capacity line index paging within at =
+    let freed = paging_freed table pages idle capacity line index paging within at in
+    let same : length (set table line 0) ≡ length table = length-set table line 0 in
+    let few = sum_by-le free 1 (set table line 0) (all-few (set table line 0)) in
+    omega (arith, few, freed.all, freed.most, same)
+
+-- an idle page may be given to a line
+pub paging_reused : {X : Type 0} (table rest : List ℕ) (pages : List X) (page : X) (capacity line index : ℕ)
+    → IsPaging table pages (length (rest ++ index ∷ [])) capacity → AreIdle table (rest ++ index ∷ []) (length pages) → line < length table
+    → slice_index table line ≡ 0 → IsPaging (set table line (index + 1)) (set pages index page) (length rest) capacity
+paging_reused table rest pages page capacity line index paging idle within none =
+    let more : length (rest ++ index ∷ []) ≡ length rest + 1 = length-append rest (index ∷ []) in
+    let last : slice_index (rest ++ index ∷ []) (length rest) ≡ index = get_or_push rest index 0 (length rest) refl in
+    let place : length rest < length (rest ++ index ∷ []) = omega (arith, more) in
+    let same : length (set table line (index + 1)) ≡ length table = length-set table line (index + 1) in
+    let kept : length (set pages index page) ≡ length pages = length-set pages index page in
+    let here : slice_index (set table line (index + 1)) line ≡ index + 1 = get_or-set_same table line (index + 1) 0 within in
+    let others : (n : ℕ) → n ≢ line → slice_index (set table line (index + 1)) n ≡ slice_index table n = λ n apart. get_or-set_other table line n (index + 1) 0 apart in
+    let one : free (slice_index table line) ≡ 1 = ap free none in
+    let unnamed : (n : ℕ) → slice_index table n ≢ index + 1 = λ n e. idle.unnamed n (length rest) place (e ∙ omega (arith, last)) in
+    record {
+      few = omega (arith, same, paging.few);
+      made = λ l.
+          elim (cases_eq l line) as (λ _. slice_index (set table line (index + 1)) l ≤ length (set pages index page)) [
+            | inl is ↦ rw is (omega (arith, here, kept, idle.made (length rest) place, last))
+            | inr apart ↦ omega (arith, others l apart, paging.made l, kept)
+          ];
+      apart = λ k l e some.
+          elim (cases_eq k line) as (λ _. k ≡ l) [
+            | inl k_is ↦
+                elim (cases_eq l line) as (λ _. k ≡ l) [
+                  | inl l_is ↦ k_is ∙ sym l_is
+                  | inr apart ↦ absurd (unnamed l (sym (others l apart) ∙ sym e ∙ ap (slice_index (set table line (index + 1))) k_is ∙ here))
+                ]
+            | inr k_apart ↦
+                elim (cases_eq l line) as (λ _. k ≡ l) [
+                  | inl l_is ↦ absurd (unnamed k (sym (others k k_apart) ∙ e ∙ ap (slice_index (set table line (index + 1))) l_is ∙ here))
+                  | inr apart ↦ paging.apart k l (sym (others k k_apart) ∙ e ∙ others l apart) (λ no. some (others k k_apart ∙ no))
+                ]
+          ];
+      all = omega (arith, sum_by-set free table line (index + 1) 0 within, one, free-more index, paging.all, more, same, kept);
+      most = omega (arith, paging.most, same, kept);
+      room = omega (arith, paging.room, same);
+    }
+
+pub idle_none : (table : List ℕ) (pages : ℕ) → AreIdle table [] pages
+idle_none table pages = record { made = λ k low. absurd (omega (arith, low)); apart = λ k l low. absurd (omega (arith, low)); unnamed = λ line k low. absurd (omega (arith, low)) }
+
+pub idle_reused : (table rest : List ℕ) (pages line index : ℕ) → AreIdle table (rest ++ index ∷ []) pages → AreIdle (set table line (index + 1)) rest pages
+idle_reused table rest pages line index idle = record {
+  made = λ k low. let was = idle.made k (behind k low) in omega (arith, was, same k low);
+  apart = λ k l low low_l e. idle.apart k l (behind k low) (behind l low_l) (same k low ∙ e ∙ sym (same l low_l));
+  unnamed = λ n k low e.
+      elim (cases_eq n line) as (λ _. ⊥) [
+        | inl here ↦ own k low (sym (ap (slice_index (set table line (index + 1))) here) ∙ e)
+        | inr apart ↦ idle.unnamed n k (behind k low) (sym (get_or-set_other table line n (index + 1) 0 apart) ∙ e ∙ omega (arith, same k low))
+      ];
+}
+  where
+    more : length (rest ++ index ∷ []) ≡ length rest + 1
+    more = length-append rest (index ∷ [])
+
+    behind : (k : ℕ) → k < length rest → k < length (rest ++ index ∷ [])
+    behind k low = omega (arith, low, more)
+
+    same : (k : ℕ) → k < length rest → slice_index (rest ++ index ∷ []) k ≡ slice_index rest k
+    same k low = get_or-append rest (index ∷ []) 0 k low
+
+    last : slice_index (rest ++ index ∷ []) (length rest) ≡ index
+    last = get_or_push rest index 0 (length rest) refl
+
+    -- the line's new page is idle no more
+    own : (k : ℕ) → k < length rest → slice_index (set table line (index + 1)) line ≡ slice_index rest k + 1 → ⊥
+    own k low e =
+        elim (cases_lt line (length table)) as (λ _. ⊥) [
+          | inl within ↦
+              let is : index ≡ slice_index rest k = omega (arith, e, get_or-set_same table line (index + 1) 0 within) in
+              let twice : k ≡ length rest = idle.apart k (length rest) (behind k low) (omega (arith, more)) (same k low ∙ sym is ∙ sym last) in
+              omega (arith, twice, low)
+          | inr past ↦
+              let none : slice_index (set table line (index + 1)) line ≡ 0 = get_or_past (set table line (index + 1)) line 0 (omega (arith, past, length-set table line (index + 1))) in
+              omega (arith, none, e)
+        ]
+
+pub idle_freed : {X : Type 0} (table idle : List ℕ) (pages : List X) (capacity line index : ℕ) → IsPaging table pages (length idle) capacity
+    → AreIdle table idle (length pages) → line < length table → slice_index table line ≡ index + 1 → AreIdle (set table line 0) (idle ++ index ∷ []) (length pages)
+idle_freed table idle pages capacity line index paging are within at = record {
+  made = λ k low.
+      elim (cases_eq k (length idle)) as (λ _. slice_index (idle ++ index ∷ []) k < length pages) [
+        | inl is ↦ rw is (omega (arith, last, at, paging.made line))
+        | inr apart ↦ let was = are.made k (before k low apart) in omega (arith, was, same k (before k low apart))
+      ];
+  apart = λ k l low low_l e.
+      elim (cases_eq k (length idle)) as (λ _. k ≡ l) [
+        | inl k_is ↦
+            elim (cases_eq l (length idle)) as (λ _. k ≡ l) [
+              | inl l_is ↦ k_is ∙ sym l_is
+              | inr apart ↦
+                  absurd (are.unnamed line l (before l low_l apart) (at ∙ omega (arith, last, sym (ap (slice_index (idle ++ index ∷ [])) k_is), e, same l (before l low_l apart))))
+            ]
+        | inr k_apart ↦
+            elim (cases_eq l (length idle)) as (λ _. k ≡ l) [
+              | inl l_is ↦
+                  absurd (are.unnamed line k (before k low k_apart) (at ∙ omega (arith, last, sym (ap (slice_index (idle ++ index ∷ [])) l_is), e, same k (before k low k_apart))))
+              | inr apart ↦ are.apart k l (before k low k_apart) (before l low_l apart) (sym (same k (before k low k_apart)) ∙ e ∙ same l (before l low_l apart))
+            ]
+      ];
+  unnamed = λ n k low e.
+      elim (cases_eq n line) as (λ _. ⊥) [
+        | inl here ↦ absurd (omega (arith, sym (ap (slice_index (set table line 0)) here), get_or-set_same table line 0 0 within, e))
+        | inr apart ↦
+            let kept : slice_index (set table line 0) n ≡ slice_index table n = get_or-set_other table line n 0 0 apart in
+            elim (cases_eq k (length idle)) as (λ _. ⊥) [
+              | inl is ↦
+                  let own : slice_index table n ≡ index + 1 = sym kept ∙ e ∙ omega (arith, ap (slice_index (idle ++ index ∷ [])) is, last) in
+                  apart (paging.apart n line (own ∙ sym at) (λ none. absurd (omega (arith, none, own))))
+              | inr k_apart ↦ are.unnamed n k (before k low k_apart) (sym kept ∙ e ∙ omega (arith, same k (before k low k_apart)))
+            ]
+      ];
+}
+  where
+    more : length (idle ++ index ∷ []) ≡ length idle + 1
+    more = length-append idle (index ∷ [])
+
+    before : (k : ℕ) → k < length (idle ++ index ∷ []) → k ≢ length idle → k < length idle
+    before k low apart = elim (cases_lt k (length idle)) as (λ _. k < length idle) [ inl less ↦ less | inr high ↦ absurd (apart (omega (arith, low, more, high))) ]
+
+    same : (k : ℕ) → k < length idle → slice_index (idle ++ index ∷ []) k ≡ slice_index idle k
+    same k low = get_or-append idle (index ∷ []) 0 k low
+
+    last : slice_index (idle ++ index ∷ []) (length idle) ≡ index
+    last = get_or_push idle index 0 (length idle) refl
+
+-- the one that is idle last, if any is
+pub idle_last : (table rest : List ℕ) (pages index : ℕ) → AreIdle table (rest ++ index ∷ []) pages → (index < pages) × ((n : ℕ) → slice_index table n ≢ index + 1)
+idle_last table rest pages index idle =
+    let last : slice_index (rest ++ index ∷ []) (length rest) ≡ index = get_or_push rest index 0 (length rest) refl in
+    let place : length rest < length (rest ++ index ∷ []) = omega (arith, length-append rest (index ∷ [])) in
+    (omega (arith, idle.made (length rest) place, last), λ n e. idle.unnamed n (length rest) place (e ∙ omega (arith, last)))
+
+pub popped-none : (result : Option ℕ) (old new : List ℕ) (size left : ℕ) → MatchOption result ((size ≡ 0) × (left ≡ 0)) (λ x. left + 1 ≡ size) → old ≡ new ++ option_to_list result
+    → size ≡ length old → result ≡ None → (old ≡ []) × (new ≡ [])
+popped-none None old new size left cases is len none =
+    let empty : old ≡ [] = nil_from_length old (sym len ∙ cases.0) in
+    (empty, sym (append-nil new) ∙ sym is ∙ empty)
+popped-none (Some index) old new size left cases is len none = absurd (none-some index (sym none))
+
+pub popped-some : (result : Option ℕ) (old new : List ℕ) (index : ℕ) → old ≡ new ++ option_to_list result → result ≡ Some index → old ≡ new ++ index ∷ []
+popped-some result old new index is some = is ∙ ap (λ (o : Option ℕ). new ++ option_to_list o) some
+
+-- ---- pages that lines have, and idle ones
+
+pub shelf_blank : {X : Type 0} (table idle : List ℕ) (pages : List X) (capacity free_capacity lines : ℕ) → table ≡ replicate lines 0 → idle ≡ []
+    → pages ≡ [] → lines < 2 ^ 32 → lines ≤ capacity → lines ≤ free_capacity → IsShelf table idle pages capacity free_capacity
+shelf_blank table idle pages capacity free_capacity lines zeros no_idle none few room idle_fits =
+    rw no_idle (record {
+      paging = paging_blank table pages capacity lines zeros none few room;
+      unused = idle_none table (length pages);
+      room = omega (arith, ap length zeros, length-replicate {A = ℕ} lines 0, idle_fits);
+    })
+
+pub shelf_kept : {X : Type 0} (table idle : List ℕ) (old new : List X) (capacity free_capacity : ℕ) → IsShelf table idle old capacity free_capacity
+    → length new ≡ length old → IsShelf table idle new capacity free_capacity
+shelf_kept table idle old new capacity free_capacity shelf same = record {
+  paging = paging_kept table old new capacity shelf.paging same;
+  unused = subst (AreIdle table idle) (sym same) shelf.unused;
+  room = shelf.room;
+}
+
+pub shelf_more : {X : Type 0} (table old new : List ℕ) (pages : List X) (page : X) (capacity free_capacity line : ℕ) → IsShelf table old pages capacity free_capacity
+    → old ≡ [] → new ≡ [] → line < length table → slice_index table line ≡ 0 → IsShelf (set table line (length pages + 1)) new (pages ++ page ∷ []) capacity free_capacity
+shelf_more table old new pages page capacity free_capacity line shelf no_old no_new within none =
+    let whole = subst (λ (xs : List ℕ). IsShelf table xs pages capacity free_capacity) no_old shelf in
+    rw no_new (record {
+      paging = paging_more table pages page capacity line whole.paging within none;
+      unused = idle_none (set table line (length pages + 1)) (length (pages ++ page ∷ []));
+      room = omega (arith, length-set table line (length pages + 1), shelf.room);
+    })
+
+pub shelf_reused : {X : Type 0} (table old rest : List ℕ) (pages : List X) (page : X) (capacity free_capacity line index : ℕ) → IsShelf table old pages capacity free_capacity
+    → old ≡ rest ++ index ∷ [] → line < length table → slice_index table line ≡ 0 → IsShelf (set table line (index + 1)) rest (set pages index page) capacity free_capacity
+shelf_reused table old rest pages page capacity free_capacity line index shelf is within none =
+    let whole = subst (λ (xs : List ℕ). IsShelf table xs pages capacity free_capacity) is shelf in
+    record {
+      paging = paging_reused table rest pages page capacity line index whole.paging whole.unused within none;
+      unused = subst (AreIdle (set table line (index + 1)) rest) (sym (length-set pages index page)) (idle_reused table rest (length pages) line index whole.unused);
+      room = omega (arith, length-set table line (index + 1), shelf.room);
+    }
+
+pub shelf_freed : {X : Type 0} (table idle : List ℕ) (pages : List X) (capacity free_capacity line index : ℕ) → IsShelf table idle pages capacity free_capacity
+    → line < length table → slice_index table line ≡ index + 1 → IsShelf (set table line 0) (idle ++ index ∷ []) pages capacity free_capacity
+shelf_freed table idle pages capacity free_capacity line index shelf within at =
+    let more : length (idle ++ index ∷ []) ≡ length idle + 1 = length-append idle (index ∷ []) in
+    record {
+      paging =
+          subst (λ (k : ℕ). IsPaging (set table line 0) pages k capacity) (sym more) (paging_freed table pages (length idle) capacity line index shelf.paging within at);
+      unused = idle_freed table idle pages capacity line index shelf.paging shelf.unused within at;
+      room = omega (arith, length-set table line 0, shelf.room);
+    }
 
 -- what a list of entries says
 pub told : (table : List ℕ) (line entry : ℕ) → line < length table → entry ≡ get_or table line entry → slice_index table line ≡ entry
@@ -265,7 +509,7 @@ module _ {X : Type 0} where
   pub pages-none : (pages : List X) (table : List ℕ) (line : ℕ) → slice_index table line ≡ 0 → page_at (pages_of pages table) line ≡ None
   pages-none pages table line none = pages-at pages table line ∙ page_of-none pages (slice_index table line) none
 
-  pub pages-some : (pages : List X) (table : List ℕ) (capacity line index : ℕ) (page : X) → IsPaging table pages capacity → slice_index table line ≡ index + 1
+  pub pages-some : {idle : ℕ} (pages : List X) (table : List ℕ) (capacity line index : ℕ) (page : X) → IsPaging table pages idle capacity → slice_index table line ≡ index + 1
       → page ≡ get_or pages index page → page_at (pages_of pages table) line ≡ Some page
   pages-some pages table capacity line index page paging at is =
       pages-at pages table line ∙ page_of-some pages (slice_index table line) index at
@@ -277,7 +521,7 @@ module _ {X : Type 0} where
   gets (page ∷ pages) zero low none = none-some page (sym none)
   gets (page ∷ pages) (suc index) low none = gets pages index (omega (arith, low)) none
 
-  pub none-zero : (pages : List X) (table : List ℕ) (capacity line : ℕ) → IsPaging table pages capacity → page_at (pages_of pages table) line ≡ None → slice_index table line ≡ 0
+  pub none-zero : {idle : ℕ} (pages : List X) (table : List ℕ) (capacity line : ℕ) → IsPaging table pages idle capacity → page_at (pages_of pages table) line ≡ None → slice_index table line ≡ 0
   unfolding page_of
   none-zero pages table capacity line paging none = by (slice_index table line) (paging.made line) (sym (pages-at pages table line) ∙ none)
     where
@@ -294,7 +538,7 @@ module _ {X : Type 0} where
       by zero is = absurd (cc is)
       by (suc index) is = omega arith
 
-  pub has-is : (pages : List X) (table : List ℕ) (capacity line : ℕ) → IsPaging table pages capacity
+  pub has-is : {idle : ℕ} (pages : List X) (table : List ℕ) (capacity line : ℕ) → IsPaging table pages idle capacity
       → not (eqb (slice_index table line) 0) ≡ is_some (page_at (pages_of pages table) line)
   unfolding page_of
   has-is pages table capacity line paging = by (slice_index table line) (paging.made line) ∙ ap is_some (sym (pages-at pages table line))
@@ -323,7 +567,7 @@ module _ {X : Type 0} where
       by (suc n) = ap (◌∷◌ None) (by n)
 
   -- a line gets a page
-  pub pages-more : (pages : List X) (table : List ℕ) (page : X) (capacity line : ℕ) → IsPaging table pages capacity
+  pub pages-more : {idle : ℕ} (pages : List X) (table : List ℕ) (page : X) (capacity line : ℕ) → IsPaging table pages idle capacity
       → pages_of (pages ++ page ∷ []) (set table line (length pages + 1)) ≡ set (pages_of pages table) line (Some page)
   unfolding pages_of page_of
   pages-more pages table page capacity line paging =
@@ -353,7 +597,7 @@ module _ {X : Type 0} where
           (λ n low. pages-at (pages ++ page ∷ []) table n ∙ longer (slice_index table n) (paging.made n) ∙ sym (pages-at pages table n))
 
   -- a page is written
-  pub pages-written : (pages : List X) (table : List ℕ) (page : X) (capacity line index : ℕ) → IsPaging table pages capacity → slice_index table line ≡ index + 1
+  pub pages-written : {idle : ℕ} (pages : List X) (table : List ℕ) (page : X) (capacity line index : ℕ) → IsPaging table pages idle capacity → slice_index table line ≡ index + 1
       → line < length table → pages_of (set pages index page) table ≡ set (pages_of pages table) line (Some page)
   unfolding page_of
   pages-written pages table page capacity line index paging at within =
@@ -385,3 +629,45 @@ module _ {X : Type 0} where
                 other n (slice_index table n) apart refl
                 ∙ sym (get_or-set_other (pages_of pages table) line n (Some page) None apart ∙ pages-at pages table n)
           ]
+
+  -- an idle page is given to a line
+  pub pages-reused : {idle : ℕ} (pages : List X) (table : List ℕ) (page : X) (capacity line index : ℕ) → IsPaging table pages idle capacity → index < length pages
+      → ((n : ℕ) → slice_index table n ≢ index + 1) → line < length table
+      → pages_of (set pages index page) (set table line (index + 1)) ≡ set (pages_of pages table) line (Some page)
+  unfolding page_of
+  pages-reused pages table page capacity line index paging made unnamed within =
+      ext_get_or None (pages_of (set pages index page) (set table line (index + 1))) (set (pages_of pages table) line (Some page))
+      (pages-count (set pages index page) (set table line (index + 1)) ∙ length-set table line (index + 1) ∙ sym (length-set (pages_of pages table) line (Some page) ∙ pages-count pages table))
+      (λ n low. pages-at (set pages index page) (set table line (index + 1)) n ∙ by n)
+    where
+      other : (entry : ℕ) → entry ≢ index + 1 → entry ≤ length pages → page_of (set pages index page) entry ≡ page_of pages entry
+      other zero apart few = refl
+      other (suc k) apart few =
+          let k_apart : k ≢ index = λ same. apart (omega (arith, same)) in
+          let low : k < length pages = omega (arith, few) in
+          slice_get-get_or (set pages index page) k page (omega (arith, low, length-set pages index page))
+          ∙ ap Some (get_or-set_other pages index k page page k_apart)
+          ∙ sym (slice_get-get_or pages k page low)
+
+      by : (n : ℕ) → page_of (set pages index page) (slice_index (set table line (index + 1)) n) ≡ page_at (set (pages_of pages table) line (Some page)) n
+      by n =
+          elim (cases_eq n line) as (λ _. page_of (set pages index page) (slice_index (set table line (index + 1)) n) ≡ page_at (set (pages_of pages table) line (Some page)) n) [
+            | inl here ↦
+                rw here (page_of-some (set pages index page) (slice_index (set table line (index + 1)) line) index (get_or-set_same table line (index + 1) 0 within)
+                ∙ slice_get-get_or (set pages index page) index page (omega (arith, made, length-set pages index page))
+                ∙ ap Some (get_or-set_same pages index page page made)
+                ∙ sym (get_or-set_same (pages_of pages table) line (Some page) None (omega (arith, within, pages-count pages table))))
+            | inr apart ↦
+                ap (page_of (set pages index page)) (get_or-set_other table line n (index + 1) 0 apart)
+                ∙ other (slice_index table n) (unnamed n) (paging.made n)
+                ∙ sym (get_or-set_other (pages_of pages table) line n (Some page) None apart ∙ pages-at pages table n)
+          ]
+
+  -- the page of a line goes
+  pub pages-freed : (pages : List X) (table : List ℕ) (line : ℕ) → pages_of pages (set table line 0) ≡ set (pages_of pages table) line None
+  unfolding pages_of page_of
+  pages-freed pages table line = map-set (page_of pages) table line 0
+
+  -- and where there is none all stays
+  pub none-kept : (pages : List (Option X)) (line : ℕ) → page_at pages line ≡ None → pages ≡ set pages line None
+  none-kept pages line none = sym (ap (λ (o : Option X). set pages line o) (sym none) ∙ set-get_or pages line None)

@@ -32,11 +32,11 @@ pub record WearsAt {B M : ℕ} (index : ℕ) (tearing : Bool) (mask want : Cells
   pub cells : Follows (cell mask) (seeded tearing (cell want)) (seeded_cell before) (seeded_cell after)
   pub pulses : after.line.pulses ≡ counted before.line.pulses
 
--- the same of a young line
-pub record AgesAt {B M : ℕ} (index : ℕ) (tearing : Bool) (mask want : Cells B M) (old new : List (Young B M)) : Type 0 where
-  pub before : Young B M
-  pub after : Young B M
+-- the same of a young line, of which its page says so much
+pub record AgesAt {X : Type 0} {B M : ℕ} (young : X → Young B M) (index : ℕ) (tearing : Bool) (mask want : Cells B M) (old new : List X) : Type 0 where
+  pub before : X
+  pub after : X
   pub was : before ≡ slice_index_or old index before
   pub is : new ≡ slice_set old index after
-  pub cells : Follows (cell mask) (aging tearing (cell want)) (young_cell before) (young_cell after)
-  pub pulses : after.pulses ≡ before.pulses + 1
+  pub cells : Follows (cell mask) (aging tearing (cell want)) (young_cell (young before)) (young_cell (young after))
+  pub pulses : (young after).pulses ≡ (young before).pulses + 1

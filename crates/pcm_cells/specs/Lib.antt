@@ -9,9 +9,13 @@ pub mod Energies
 pub mod Seeded
 pub mod Pages
 pub mod Young
+pub mod Tiers
 pub mod Table
 pub mod PageTable
 pub mod Counting
+pub mod Begun
+pub mod Tiered
+pub mod Youths
 pub mod Paged
 pub mod Paging
 pub mod Endurance

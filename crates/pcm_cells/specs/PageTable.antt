@@ -25,11 +25,11 @@ pub record WearsPage {B M : ℕ} (line : ℕ) (tearing : Bool) (mask want : Cell
   pub cells : Follows (cell mask) (seeded tearing (cell want)) (seeded_cell before) (seeded_cell after)
   pub pulses : after.line.pulses ≡ counted before.line.pulses
 
--- the same of a young line
-pub record AgesPage {B M : ℕ} (line : ℕ) (tearing : Bool) (mask want : Cells B M) (old new : List (Option (Young B M))) : Type 0 where
-  pub before : Young B M
-  pub after : Young B M
+-- the same of a young line, of which its page says so much
+pub record AgesPage {X : Type 0} {B M : ℕ} (young : X → Young B M) (line : ℕ) (tearing : Bool) (mask want : Cells B M) (old new : List (Option X)) : Type 0 where
+  pub before : X
+  pub after : X
   pub was : page_at old line ≡ Some before
   pub is : new ≡ slice_set old line (Some after)
-  pub cells : Follows (cell mask) (aging tearing (cell want)) (young_cell before) (young_cell after)
-  pub pulses : after.pulses ≡ before.pulses + 1
+  pub cells : Follows (cell mask) (aging tearing (cell want)) (young_cell (young before)) (young_cell (young after))
+  pub pulses : (young after).pulses ≡ (young before).pulses + 1

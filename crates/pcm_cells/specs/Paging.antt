@@ -1,11 +1,11 @@
 -- The lines of an array, whether or not they have a page.
 use Rattle.std.specs.{List.range_with_len, Prelude.{ℕ, ◌≡◌, ◌≢◌, Bool, List, [], length, map, Option, None, Some}}
 use Rattle.cell_rows.specs.{Device.counted, Rows.cell, declared.array.Wear.Wear, declared.row.Cells.Cells}
-use Rattle.pcm_cells.specs.{Follows.Follows, PageTable.page_at, Paged.line_seen, Seeded.{LifeLine, seeded, seeded_cell}, declared.pages.Pages.Pages}
+use Rattle.pcm_cells.specs.{Follows.Follows, PageTable.page_at, Paged.line_seen, Seeded.{LifeLine, seeded, seeded_cell}, Youths.young_at, declared.pages.Pages.Pages}
 
 -- the line with this number
 abbrev pub seen : {B M : ℕ} → Pages B M → ℕ → LifeLine B M
-seen p line = line_seen p.wear line (page_at p.young line) (page_at p.grown line)
+seen p line = line_seen p.wear line (young_at p.young line) (page_at p.grown line)
 
 -- the lines, each as it is seen
 unfoldable pub lines_seen : {B M : ℕ} → Pages B M → List (LifeLine B M)

@@ -8,9 +8,9 @@ ghost use Rattle.pcm_cells.specs.Book.{AgesAt, WearsAt};
 ghost use Rattle.pcm_cells.specs.Counting.{worked};
 ghost use Rattle.pcm_cells.specs.Young.{MayAge};
 
+use crate::aging::YoungPage;
 use crate::energies::{Work, worked};
 use crate::seeded::SeededLine;
-use crate::young::Young;
 use cell_rows::{Cells, LineEnergy};
 use std::alloc::{AllocError, Global};
 use std::marker::Model;
@@ -70,6 +70,16 @@ impl<T: Drop> Book<T> {
         &self.chunks[index / CHUNK][index % CHUNK]
     }
 
+    /// Keeps another page in the place of one.
+    pub(crate) fn put(&mut self, index: usize, page: T)
+        requires { index < length self.old.pages }
+        ensures pages { self.new.pages ≡ slice_set self.old.pages index page }
+        ensures room { self.new.room ≡ self.old.room }
+    {
+        let chunk = &mut self.chunks[index / CHUNK];
+        chunk[index % CHUNK] = page;
+    }
+
     /// Keeps one more.
     pub(crate) fn push(&mut self, page: T)
         requires { length self.old.pages < self.old.room }
@@ -79,6 +89,30 @@ impl<T: Drop> Book<T> {
         let chunk = &mut self.chunks[self.len / CHUNK];
         chunk.push_reserved(page);
         self.len += 1;
+    }
+
+    /// A pulse or a tear of the young line on a page.
+    pub(crate) fn age<const B: usize, const M: usize>(
+        &mut self,
+        index: usize,
+        tearing: bool,
+        mask: &Cells<B, M>,
+        want: &Cells<B, M>,
+    )
+    where
+        T: YoungPage<B, M>,
+        requires exists { index < length self.old.pages }
+        requires young { (page : T) → page ≡ slice_index_or self.old.pages index page
+            → MayAge T.room (T.young page) }
+        requires shape { IsShape B M }
+        requires whole { IsWhole B M }
+        ensures ages { AgesAt T.young index tearing mask.now want.now self.old.pages
+            self.new.pages }
+        ensures room { self.new.room ≡ self.old.room }
+    {
+        let chunk = &mut self.chunks[index / CHUNK];
+        let page = &mut chunk[index % CHUNK];
+        page.wear(tearing, mask, want);
     }
 }
 
@@ -95,29 +129,6 @@ impl<const B: usize, const M: usize> Book<SeededLine<B, M>> {
         requires shape { IsShape B M }
         requires whole { IsWhole B M }
         ensures wears { WearsAt index tearing mask.now want.now self.old.pages self.new.pages }
-        ensures room { self.new.room ≡ self.old.room }
-    {
-        let chunk = &mut self.chunks[index / CHUNK];
-        let page = &mut chunk[index % CHUNK];
-        page.wear(tearing, mask, want);
-    }
-}
-
-impl<const B: usize, const M: usize> Book<Young<B, M>> {
-    /// A pulse or a tear of the young line on a page.
-    pub(crate) fn age(
-        &mut self,
-        index: usize,
-        tearing: bool,
-        mask: &Cells<B, M>,
-        want: &Cells<B, M>,
-    )
-        requires exists { index < length self.old.pages }
-        requires young { (page : Young B M) → page ≡ slice_index_or self.old.pages index page
-            → MayAge page }
-        requires shape { IsShape B M }
-        requires whole { IsWhole B M }
-        ensures ages { AgesAt index tearing mask.now want.now self.old.pages self.new.pages }
         ensures room { self.new.room ≡ self.old.room }
     {
         let chunk = &mut self.chunks[index / CHUNK];

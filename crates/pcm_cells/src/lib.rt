@@ -2,12 +2,15 @@
 //! does what a script says, and one that logs its senses. What an array is stands in cell_rows, whose names are handed on.
 #![tactic(auto)]
 
+mod aging;
 mod blocks;
 mod book;
 mod calm;
 mod counts;
 mod digits;
 mod energies;
+mod first;
+mod later;
 mod levels;
 mod line;
 mod logged;
@@ -17,7 +20,9 @@ mod script;
 mod seeded;
 mod table;
 mod tally;
+mod tiers;
 mod young;
+mod youths;
 
 pub use cell_rows::{CellArray, Cells, Sense, Wear};
 pub use cell_wear::{CellWear, TellsCells};

@@ -6,11 +6,11 @@ ghost use Rattle.pcm_cells.specs.Energies.{energy_at};
 ghost use Rattle.pcm_cells.specs.PageTable.{AgesPage, WearsPage, page_at};
 ghost use Rattle.pcm_cells.specs.Young.{MayAge};
 
+use crate::aging::YoungPage;
 use crate::book::Book;
 use crate::energies::{Work, worked};
 use crate::seeded::SeededLine;
 use crate::table::Table;
-use crate::young::Young;
 use cell_rows::{Cells, LineEnergy};
 use std::alloc::{AllocError, Global};
 use std::marker::Model;
@@ -22,18 +22,20 @@ pub(crate) struct PageTable<T> {
     table: Table,
     // With room for as many as lines.
     pages: Book<T>,
+    // The indices of the pages that lines gave back, with room for as many as lines.
+    idle: Vec<u32>,
 }
 
 impl<T> Model for PageTable<T> {
-    ghost use Rattle.std.specs.Prelude.{List, Option};
+    ghost use Rattle.std.specs.Prelude.{List, Option, vec_capacity};
     ghost use Rattle.pcm_cells.specs.PageTable.{pages_of};
-    ghost use Rattle.pcm_cells.specs.Table.{IsPaging};
+    ghost use Rattle.pcm_cells.specs.Table.{IsShelf};
 
     ghost Value = { List (Option T) };
 
     ghost view = { λ p. pages_of p.pages.pages p.table };
 
-    ghost invariant = { λ p. IsPaging p.table p.pages.pages p.pages.room };
+    ghost invariant = { λ p. IsShelf p.table p.idle.items p.pages.pages p.pages.room (vec_capacity p.idle) };
 }
 
 impl<T: Drop> PageTable<T> {
@@ -44,6 +46,7 @@ impl<T: Drop> PageTable<T> {
         Ok(PageTable {
             table: Table::blank(alloc, lines)?,
             pages: Book::blank(alloc, lines)?,
+            idle: Vec::with_capacity(alloc, lines as usize)?,
         })
     }
 
@@ -73,15 +76,57 @@ impl<T: Drop> PageTable<T> {
         }
     }
 
-    /// Gives a page to a line that has none.
+    /// Gives a page to a line that has none. It stands where an idle one stood, if there is any.
     pub(crate) fn insert(&mut self, line: u32, page: T)
         requires exists { line < length self.old }
         requires none { page_at self.old line ≡ None }
         ensures { self.new ≡ slice_set self.old line (Some page) }
     {
-        let index = self.pages.len();
-        self.pages.push(page);
-        self.table.set(line, index as u32 + 1);
+        match self.idle.pop() {
+            Some(index) => {
+                self.pages.put(index as usize, page);
+                self.table.set(line, index + 1);
+            }
+            None => {
+                let index = self.pages.len();
+                self.pages.push(page);
+                self.table.set(line, index as u32 + 1);
+            }
+        }
+    }
+
+    /// Takes the page of a line, if it has one. It is idle from then on.
+    pub(crate) fn remove(&mut self, line: u32)
+        requires { line < length self.old }
+        ensures { self.new ≡ slice_set self.old line None }
+    {
+        let page = self.table.get(line);
+        if page != 0 {
+            self.table.set(line, 0);
+            self.idle.push_reserved(page - 1);
+        }
+    }
+
+    /// A pulse or a tear of a line that has a young page.
+    pub(crate) fn age<const B: usize, const M: usize>(
+        &mut self,
+        line: u32,
+        tearing: bool,
+        mask: &Cells<B, M>,
+        want: &Cells<B, M>,
+    )
+    where
+        T: YoungPage<B, M>,
+        requires exists { line < length self.old }
+        requires has { IsSome (page_at self.old line) }
+        requires young { (page : T) → page_at self.old line ≡ Some page
+            → MayAge T.room (T.young page) }
+        requires shape { IsShape B M }
+        requires whole { IsWhole B M }
+        ensures { AgesPage T.young line tearing mask.now want.now self.old self.new }
+    {
+        let index = self.table.get(line) as usize - 1;
+        self.pages.age(index, tearing, mask, want);
     }
 }
 
@@ -96,21 +141,6 @@ impl<const B: usize, const M: usize> PageTable<SeededLine<B, M>> {
     {
         let index = self.table.get(line) as usize - 1;
         self.pages.wear(index, tearing, mask, want);
-    }
-}
-
-impl<const B: usize, const M: usize> PageTable<Young<B, M>> {
-    /// A pulse or a tear of a line that has a young page.
-    pub(crate) fn age(&mut self, line: u32, tearing: bool, mask: &Cells<B, M>, want: &Cells<B, M>)
-        requires exists { line < length self.old }
-        requires has { IsSome (page_at self.old line) }
-        requires young { (page : Young B M) → page_at self.old line ≡ Some page → MayAge page }
-        requires shape { IsShape B M }
-        requires whole { IsWhole B M }
-        ensures { AgesPage line tearing mask.now want.now self.old self.new }
-    {
-        let index = self.table.get(line) as usize - 1;
-        self.pages.age(index, tearing, mask, want);
     }
 }
 

@@ -7,13 +7,15 @@ ghost use Rattle.cell_rows.specs.Device.{IsWear, counted};
 ghost use Rattle.pcm_cells.specs.Follows.{Follows};
 ghost use Rattle.pcm_cells.specs.Seeded.{seeded, seeded_cell};
 ghost use Rattle.pcm_cells.specs.PageTable.{page_at};
-ghost use Rattle.pcm_cells.specs.Paged.{AreYoung, line_seen, young_or_blank};
+ghost use Rattle.pcm_cells.specs.Paged.{AreYoung, line_seen};
+ghost use Rattle.pcm_cells.specs.Begun.{pulses_before};
 ghost use Rattle.pcm_cells.specs.Young.{IsYouth};
+ghost use Rattle.pcm_cells.specs.Youths.{Suits, young_at, young_lines};
 
 use crate::line::has_end;
 use crate::page_table::PageTable;
 use crate::seeded::SeededLine;
-use crate::young::Young;
+use crate::youths::Youths;
 use cell_rows::{Cells, Wear};
 use cell_wear::CellWear;
 use std::alloc::{AllocError, Global};
@@ -25,13 +27,13 @@ pub(crate) struct Pages<const B: usize, const M: usize> {
     wear: Wear,
     // So many pulses a line may have while it is young.
     limit: u64,
-    // That of a grown line is read no more.
-    young: PageTable<Young<B, M>>,
+    young: Youths<B, M>,
     grown: PageTable<SeededLine<B, M>>,
     ghost wears: { IsWear wear },
     ghost youth: { IsYouth wear limit },
-    ghost young_pages: { AreYoung limit young },
-    ghost same_lines: { length young ≡ length grown },
+    ghost suits: { Suits wear young },
+    ghost young_pages: { AreYoung wear limit (young_at young) },
+    ghost same_lines: { young_lines young ≡ length grown },
 }
 
 // So many pulses a line may have while it is young.
@@ -39,11 +41,7 @@ fn young_limit(wear: Wear) -> u64
     requires { IsWear wear }
     ensures { IsYouth wear result }
 {
-    if wear.misses == 0 {
-        (wear.lo as u64 - 1).min(511)
-    } else {
-        0
-    }
+    (wear.lo as u64 - 1).min(511)
 }
 
 impl<const B: usize, const M: usize> Pages<B, M> {
@@ -54,13 +52,13 @@ impl<const B: usize, const M: usize> Pages<B, M> {
     pub(crate) fn blank(alloc: Global, lines: u32, wear: Wear) -> Result<Pages<B, M>, AllocError>
         requires { IsWear wear }
         ensures wear { IfOk result (λ p. p.wear ≡ wear) }
-        ensures young { IfOk result (λ p. p.young ≡ replicate lines None) }
+        ensures young { IfOk result (λ p. (line : ℕ) → young_at p.young line ≡ None) }
         ensures grown { IfOk result (λ p. p.grown ≡ replicate lines None) }
     {
         Ok(Pages {
             wear,
             limit: young_limit(wear),
-            young: PageTable::blank(alloc, lines)?,
+            young: Youths::blank(alloc, lines, wear)?,
             grown: PageTable::blank(alloc, lines)?,
         })
     }
@@ -80,8 +78,8 @@ impl<const B: usize, const M: usize> Pages<B, M> {
     {
         match self.grown.get(line) {
             Some(grown) => grown.held(),
-            None => match self.young.get(line) {
-                Some(young) => young.held,
+            None => match self.young.held(line) {
+                Some(held) => held,
                 None => Cells::zero(),
             },
         }
@@ -95,8 +93,8 @@ impl<const B: usize, const M: usize> Pages<B, M> {
     {
         match self.grown.get(line) {
             Some(grown) => grown.pulses(),
-            None => match self.young.get(line) {
-                Some(young) => young.pulses,
+            None => match self.young.pulses(line) {
+                Some(pulses) => pulses,
                 None => 0,
             },
         }
@@ -142,31 +140,14 @@ impl<const B: usize, const M: usize> Pages<B, M> {
         requires exists { line < length self.now.grown }
         ensures young { IsTrue result → page_at self.now.grown line ≡ None }
         ensures few { IsTrue result
-            → (young_or_blank (page_at self.now.young line)).pulses < self.now.limit }
+            → pulses_before (young_at self.now.young line) < self.now.limit }
     {
         match self.grown.get(line) {
             Some(_) => false,
-            None => match self.young.get(line) {
-                Some(young) => young.pulses < self.limit,
+            None => match self.young.pulses(line) {
+                Some(pulses) => pulses < self.limit,
                 None => 0 < self.limit,
             },
-        }
-    }
-
-    // Gives a line a young page that has none.
-    fn start(&mut self, line: u32)
-        requires exists { line < length self.old.grown }
-        requires shape { IsShape B M }
-        ensures page { page_at self.new.young line
-            ≡ Some (young_or_blank (page_at self.old.young line)) }
-        ensures others { (n : ℕ) → n ≢ line → page_at self.new.young n ≡ page_at self.old.young n }
-        ensures lines { length self.new.young ≡ length self.old.young }
-        ensures grown { self.new.grown ≡ self.old.grown }
-        ensures limit { self.new.limit ≡ self.old.limit }
-        ensures wear { self.new.wear ≡ self.old.wear }
-    {
-        if !self.young.has(line) {
-            self.young.insert(line, Young::blank());
         }
     }
 
@@ -174,14 +155,13 @@ impl<const B: usize, const M: usize> Pages<B, M> {
     fn age(&mut self, line: u32, tearing: bool, mask: &Cells<B, M>, want: &Cells<B, M>)
         requires exists { line < length self.old.grown }
         requires young { page_at self.old.grown line ≡ None }
-        requires few { (young_or_blank (page_at self.old.young line)).pulses < self.old.limit }
+        requires few { pulses_before (young_at self.old.young line) < self.old.limit }
         requires shape { IsShape B M }
         requires whole { IsWhole B M }
         ensures { WearsLine line tearing mask.now want.now self.old self.new }
     {
         has_end(mask);
-        self.start(line);
-        self.young.age(line, tearing, mask, want);
+        self.young.age(self.wear, line, tearing, mask, want);
     }
 
     // The page of a line that has no grown one yet, whose words are drawn now.
@@ -189,16 +169,16 @@ impl<const B: usize, const M: usize> Pages<B, M> {
         requires exists { line < length self.now.grown }
         requires shape { IsShape B M }
         requires whole { IsWhole B M }
-        ensures { HaveSameLife (line_seen self.now.wear line (page_at self.now.young line) None)
+        ensures { HaveSameLife (line_seen self.now.wear line (young_at self.now.young line) None)
             result }
     {
         match self.young.get(line) {
-            Some(young) => SeededLine::aged(self.wear, line, young),
+            Some(young) => SeededLine::aged(self.wear, line, &young),
             None => SeededLine::drawn(self.wear, line),
         }
     }
 
-    // Gives a line a grown page that has none.
+    // Gives a line a grown page that has none. Its young page goes.
     fn grow(&mut self, line: u32)
         requires exists { line < length self.old.grown }
         requires shape { IsShape B M }
@@ -212,6 +192,7 @@ impl<const B: usize, const M: usize> Pages<B, M> {
         if !self.grown.has(line) {
             let page = self.drawn(line);
             self.grown.insert(line, page);
+            self.young.remove(line);
         }
     }
 

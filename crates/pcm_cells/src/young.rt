@@ -1,25 +1,26 @@
 // Lines of which no cell can be near its end.
-ghost use Rattle.std.specs.Prelude.{◌≡◌, ◌≢◌, ℕ, ◌+◌, ◌-◌, ◌*◌, ◌/◌, ◌%◌, ◌<◌, ◌≤◌, ◌&&◌, false, not, nat_eq};
-ghost use Rattle.cell_rows.specs.Rows.{cell};
-ghost use Rattle.cell_rows.specs.Shape.{IsShape, IsWhole};
+ghost use Rattle.std.specs.Prelude.{◌≡◌, ℕ, ◌+◌, ◌-◌, ◌*◌, ◌<◌};
+ghost use Rattle.cell_rows.specs.Shape.{IsShape};
+ghost use Rattle.cell_rows.specs.Device.{IsWear};
 ghost use Rattle.cell_wear.specs.Told.{most};
 ghost use Rattle.pcm_cells.specs.Counts.{count};
-ghost use Rattle.pcm_cells.specs.Follows.{Follows, FollowsIn};
-ghost use Rattle.pcm_cells.specs.Planes.{bit_in};
-ghost use Rattle.pcm_cells.specs.Young.{aging, blank_young, changes_in, young_cell, MayAge};
+ghost use Rattle.pcm_cells.specs.Young.{changes_in};
 
-use crate::blocks::chosen;
-use crate::calm::reach;
+use crate::aging::YoungPage;
+use crate::blocks::{chosen, without};
 use crate::counts::Counts;
 use crate::digits::Digits;
-use crate::line::has_end;
-use cell_rows::Cells;
+use crate::seeded::SeededLine;
+use cell_rows::{Cells, Wear};
 
-/// What is kept of a line whose cells don't miss, while it had so few pulses that none can be near its end: what its cells hold, how often
-/// each has changed, and the pulses. The changes are a number of three digits in base eight, `low` the lowest.
-#[derive(Drop)]
+/// A line of so few pulses that none of its cells can be near its end: what these hold, how often each missed since its last change, how
+/// often it misses before each, how often it has changed, and the pulses. The changes are a number of three digits in base eight, `low`
+/// the lowest.
+#[derive(Clone, Copy, Drop)]
 pub(crate) struct Young<const B: usize, const M: usize> {
     pub(crate) held: Cells<B, M>,
+    pub(crate) misses: Digits<B, M>,
+    pub(crate) limits: Digits<B, M>,
     pub(crate) low: Digits<B, M>,
     pub(crate) middle: Digits<B, M>,
     pub(crate) high: Digits<B, M>,
@@ -27,13 +28,19 @@ pub(crate) struct Young<const B: usize, const M: usize> {
 }
 
 impl<const B: usize, const M: usize> Young<B, M> {
-    // A line that was never pulsed.
-    pub(crate) fn blank() -> Young<B, M>
-        requires { IsShape B M }
-        ensures { result ≡ blank_young B M }
+    ghost use Rattle.pcm_cells.specs.Begun.{IsBegun};
+
+    // A line that was never pulsed. Its words are drawn, which say how often each cell misses.
+    pub(crate) fn begun(wear: Wear, line: u32) -> Young<B, M>
+        requires wear { IsWear wear }
+        requires shape { IsShape B M }
+        ensures { IsBegun wear line result }
     {
+        let drawn = SeededLine::drawn(wear, line);
         Young {
             held: Cells::zero(),
+            misses: Digits::zero(),
+            limits: drawn.limits(),
             low: Digits::zero(),
             middle: Digits::zero(),
             high: Digits::zero(),
@@ -48,77 +55,6 @@ impl<const B: usize, const M: usize> Young<B, M> {
         ensures { result ≡ changes_in self.now number }
     {
         self.low.get(number) + 8 * self.middle.get(number) + 64 * self.high.get(number)
-    }
-
-    // The masked cells of one block.
-    #[inline(always)]
-    fn wear_block(
-        &mut self,
-        tearing: bool,
-        reach: u64,
-        block: usize,
-        mask: &Cells<B, M>,
-        want: &Cells<B, M>,
-    )
-        requires exists { 8 * block < B + M }
-        requires shape { IsShape B M }
-        requires whole { IsWhole B M }
-        requires reach { (i : ℕ) → i < 64 → bit_in reach i
-            ≡ not (tearing && nat_eq (i % 2) 1) }
-        requires few { (n : ℕ) → n / 64 ≡ block → changes_in self.old n < 511 }
-        ensures cells { FollowsIn (64 * block) (64 * block + 64) (cell mask.now)
-            (aging tearing (cell want.now)) (young_cell self.old) (young_cell self.new) }
-        ensures pulses { self.new.pulses ≡ self.old.pulses }
-    {
-        let changing = mask.block(block) & reach;
-        let carry = self.low.add(block, changing);
-        let over = self.middle.add(block, carry);
-        let _none = self.high.add(block, over);
-        let held = chosen(self.held.block(block), changing, want.block(block));
-        self.held.set_block(block, held);
-    }
-
-    // The masked cells of some blocks.
-    #[inline(always)]
-    fn wear_in(
-        &mut self,
-        tearing: bool,
-        from: usize,
-        to: usize,
-        mask: &Cells<B, M>,
-        want: &Cells<B, M>,
-    )
-        requires order { from ≤ to }
-        requires exists { 8 * to ≤ B + M }
-        requires shape { IsShape B M }
-        requires whole { IsWhole B M }
-        requires few { (n : ℕ) → 64 * from ≤ n → changes_in self.old n < 511 }
-        ensures cells { FollowsIn (64 * from) (64 * to) (cell mask.now)
-            (aging tearing (cell want.now)) (young_cell self.old) (young_cell self.new) }
-        ensures pulses { self.new.pulses ≡ self.old.pulses }
-    {
-        let reach = reach(tearing);
-        for block in from..to {
-            self.wear_block(tearing, reach, block, mask, want);
-        }
-    }
-
-    // A pulse or a tear. The data blocks and the check blocks have a loop each, so that neither asks which a block is.
-    pub(crate) fn wear(&mut self, tearing: bool, mask: &Cells<B, M>, want: &Cells<B, M>)
-        requires shape { IsShape B M }
-        requires whole { IsWhole B M }
-        requires young { MayAge self.old }
-        ensures cells { Follows (cell mask.now) (aging tearing (cell want.now))
-            (young_cell self.old) (young_cell self.new) }
-        ensures pulses { self.new.pulses ≡ self.old.pulses + 1 }
-        ensures end { (n : ℕ) → 8 * (B + M) ≤ n → cell mask.now n ≡ false }
-    {
-        has_end(mask);
-        // Copies, so that LLVM sees that no write to the line changes them.
-        let (mask, want) = (*mask, *want);
-        self.wear_in(tearing, 0, B / 8, &mask, &want);
-        self.wear_in(tearing, B / 8, (B + M) / 8, &mask, &want);
-        self.pulses += 1;
     }
 
     // The most changes of a cell.
@@ -147,5 +83,35 @@ impl<const B: usize, const M: usize> Young<B, M> {
             }
             left.set_group(group, &row);
         }
+    }
+}
+
+impl<const B: usize, const M: usize> YoungPage<B, M> for Young<B, M> {
+    ghost young = { λ y. y };
+
+    ghost room = { 511 };
+
+    #[inline(always)]
+    fn wear_block(
+        &mut self,
+        tearing: bool,
+        reach: u64,
+        block: usize,
+        mask: &Cells<B, M>,
+        want: &Cells<B, M>,
+    ) {
+        let reached = mask.block(block) & reach;
+        let missing = reached & self.misses.below(&self.limits, block);
+        let changing = without(reached, missing);
+        let carry = self.low.add(block, changing);
+        let over = self.middle.add(block, carry);
+        let _none = self.high.add(block, over);
+        let held = chosen(self.held.block(block), changing, want.block(block));
+        self.held.set_block(block, held);
+        self.misses.advance(block, missing, changing);
+    }
+
+    fn count_pulse(&mut self) {
+        self.pulses += 1;
     }
 }

@@ -1,6 +1,6 @@
 use Rattle.std.proofs.Common.{◌≡◌, ◌+◌, ◌-◌, ◌<◌, ◌∙◌, sym, ap, subst, arith, length, length-set, slice_index, set, Some, List, Option}
 use Rattle.std.specs.Prelude.{IsSome}
-use Rattle.pcm_cells.{specs.PageTable.page_at, specs.Seeded.LifeLine, proofs.TableLemmas.{pages-count, pages-some, pages-written, paging_kept, some-entry}, proofs.SizeLemmas.{line_fits, row_fits}}
+use Rattle.pcm_cells.{specs.PageTable.page_at, specs.Seeded.LifeLine, proofs.TableLemmas.{pages-count, pages-some, pages-written, shelf_kept, some-entry}, proofs.SizeLemmas.{line_fits, row_fits}}
 use Rattle.pcm_cells.proofs.page_table.PageTable+SeededLine+B+M.wear.Goals as goal
 
 pub get-requires : goal.get-requires
@@ -16,7 +16,7 @@ pub wear-requires : goal.wear-requires
 wear-requires g c =
     let some = some-entry c.self.inside.pages.pages c.self.inside.table c.args.line
     (subst (λ (xs : List (Option (LifeLine g.row.B g.row.M))). IsSome (page_at xs c.args.line)) (sym c.self.view_is) c.requires.has) in
-    (line_fits c.requires.shape, (row_fits c.requires.shape, (omega (arith, c.get.ensures, some, c.self.invariant.made c.args.line), (c.requires.shape, c.requires.whole))))
+    (line_fits c.requires.shape, (row_fits c.requires.shape, (omega (arith, c.get.ensures, some, c.self.invariant.paging.made c.args.line), (c.requires.shape, c.requires.whole))))
 
 pub returns : goal.returns
 returns g c =
@@ -32,10 +32,10 @@ returns g c =
       after = wears.after;
       was =
           sym (ap (λ (xs : List (Option (LifeLine g.row.B g.row.M))). page_at xs line) c.self.view_is)
-          ∙ pages-some p.pages.pages p.table _ line (c.get.result - 1) wears.before c.self.invariant at wears.was;
+          ∙ pages-some p.pages.pages p.table _ line (c.get.result - 1) wears.before c.self.invariant.paging at wears.was;
       is =
           rw wears.is
-          (pages-written p.pages.pages p.table wears.after _ line (c.get.result - 1) c.self.invariant at within
+          (pages-written p.pages.pages p.table wears.after _ line (c.get.result - 1) c.self.invariant.paging at within
           ∙ ap (λ (xs : List (Option (LifeLine g.row.B g.row.M))). set xs line (Some wears.after)) c.self.view_is);
       cells = wears.cells;
       pulses = wears.pulses;
@@ -45,5 +45,5 @@ pub invariant_of-self : goal.invariant_of-self
 invariant_of-self g c =
     let p = c.self.inside in
     rw c.wear.ensures.room
-    (paging_kept p.table p.pages.pages c.wear.new.self.pages _ c.self.invariant
+    (shelf_kept p.table p.idle.items p.pages.pages c.wear.new.self.pages _ _ c.self.invariant
     (ap length c.wear.ensures.wears.is ∙ length-set p.pages.pages (c.get.result - 1) c.wear.ensures.wears.after))

@@ -1,5 +1,5 @@
 use Rattle.std.proofs.Common.{ap, arith}
-use Rattle.pcm_cells.{specs.Book.Kept, proofs.TableLemmas.{pages-blank, paging_blank}}
+use Rattle.pcm_cells.{specs.Book.Kept, proofs.TableLemmas.{pages-blank, shelf_blank}}
 use Rattle.pcm_cells.proofs.page_table.PageTable.blank.Goals as goal
 
 pub returns : goal.returns
@@ -8,5 +8,6 @@ returns g c = pages-blank c.in_ok-blank-2.field-0.pages c.in_ok-blank.field-0 c.
 pub invariant_of-result : goal.invariant_of-result
 invariant_of-result g c =
     let pages = c.in_ok-blank-2.field-0 in
-    paging_blank c.in_ok-blank.field-0 pages.pages pages.room c.args.lines c.in_ok-blank.ensures (ap (λ (k : Kept g.row.T.Denot). k.pages) c.in_ok-blank-2.ensures)
-    (omega (arith, c.ranges.lines)) (omega (arith, ap (λ (k : Kept g.row.T.Denot). k.room) c.in_ok-blank-2.ensures))
+    shelf_blank c.in_ok-blank.field-0 c.in_ok-with_capacity.field-0.items pages.pages pages.room _ c.args.lines c.in_ok-blank.ensures c.in_ok-with_capacity.ensures.items
+    (ap (λ (k : Kept g.row.T.Denot). k.pages) c.in_ok-blank-2.ensures)
+    (omega (arith, c.ranges.lines)) (omega (arith, ap (λ (k : Kept g.row.T.Denot). k.room) c.in_ok-blank-2.ensures)) (omega (arith, c.in_ok-with_capacity.ensures.capacity))

@@ -8,5 +8,5 @@ get-requires g c = omega (arith, c.requires, ap length c.self.view_is, pages-cou
 
 pub returns : goal.returns
 returns g c =
-    ap (λ n. not (eqb n 0)) c.get.ensures ∙ has-is c.self.inside.pages.pages c.self.inside.table _ c.args.line c.self.invariant
+    ap (λ n. not (eqb n 0)) c.get.ensures ∙ has-is c.self.inside.pages.pages c.self.inside.table _ c.args.line c.self.invariant.paging
     ∙ ap (λ xs. is_some (page_at xs c.args.line)) c.self.view_is

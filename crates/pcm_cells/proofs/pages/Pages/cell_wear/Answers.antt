@@ -2,7 +2,7 @@ use Rattle.std.proofs.Common.{◌≡◌, ◌+◌, ◌*◌, ◌∙◌, sym, ap, a
 use Rattle.std.specs.Prelude.{option_copied}
 use Rattle.cell_rows.specs.Rows.{cell, members}
 use Rattle.cell_wear.specs.Told.{most}
-use Rattle.pcm_cells.{specs.PageTable.page_at, specs.Pages.changes_of, specs.Seeded.LifeLine, proofs.PagingLemmas.seen-grown, proofs.SizeLemmas.line_fits, proofs.WearLemmas.changes_since}
+use Rattle.pcm_cells.{specs.PageTable.page_at, specs.Pages.changes_of, specs.Seeded.LifeLine, specs.Youths.young_at, proofs.PagingLemmas.seen-grown, proofs.SizeLemmas.line_fits, proofs.WearLemmas.changes_since}
 use Rattle.pcm_cells.proofs.pages.Pages.cell_wear.Goals as goal
 
 pub returns-in-Some-clause-stuck : goal.returns-in-Some-clause-stuck
@@ -12,7 +12,7 @@ returns-in-Some-clause-stuck g c =
     let at : page_at p.grown line ≡ Some c.in-Some.grown.now = sym c.get.ensures ∙ ap option_copied c.in-Some.is in
     c.cell_wear.ensures.stuck
     ∙ sym (ap (λ (l : LifeLine g.row.B g.row.M). members (cell l.line.stuck) (8 * (g.row.B + g.row.M)))
-    (seen-grown p.wear line (page_at p.young line) (page_at p.grown line) c.in-Some.grown.now at))
+    (seen-grown p.wear line (young_at p.young line) (page_at p.grown line) c.in-Some.grown.now at))
 
 pub returns-in-Some-clause-changes : goal.returns-in-Some-clause-changes
 returns-in-Some-clause-changes g c =
@@ -21,7 +21,7 @@ returns-in-Some-clause-changes g c =
     let at : page_at p.grown line ≡ Some c.in-Some.grown.now = sym c.get.ensures ∙ ap option_copied c.in-Some.is in
     c.cell_wear.ensures.changes ∙ changes_since p.wear line _ c.in-Some.grown.now c.drawn-drawn.ensures
     ∙ sym (ap (λ (l : LifeLine g.row.B g.row.M). most (changes_of p.wear line l) (8 * (g.row.B + g.row.M)))
-    (seen-grown p.wear line (page_at p.young line) (page_at p.grown line) c.in-Some.grown.now at))
+    (seen-grown p.wear line (young_at p.young line) (page_at p.grown line) c.in-Some.grown.now at))
 
 pub young_wear-requires : goal.young_wear-requires
 young_wear-requires g c = (omega arith, (c.requires.exists, (sym c.get.ensures ∙ ap option_copied c.in-None.is, c.requires.shape)))

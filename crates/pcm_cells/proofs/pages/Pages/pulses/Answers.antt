@@ -1,6 +1,7 @@
-use Rattle.std.proofs.Common.{◌≡◌, ◌∙◌, sym, ap, Some, None}
+use Rattle.std.proofs.Common.{◌≡◌, ◌∙◌, refl, sym, ap, Some, None}
 use Rattle.std.specs.Prelude.{option_copied}
-use Rattle.pcm_cells.{specs.PageTable.page_at, specs.Seeded.LifeLine, proofs.PageLemmas.drawn_is, proofs.PagingLemmas.{seen-drawn, seen-grown, seen-young}, proofs.YoungLemmas.grown_pulses}
+use Rattle.pcm_cells.specs.{PageTable.page_at, Seeded.LifeLine, Youths.young_at, declared.young.Young.Young}
+use Rattle.pcm_cells.proofs.{PageLemmas.drawn_is, PagingLemmas.{seen-drawn, seen-grown, seen-young, told-none, told-some}, YoungLemmas.grown_pulses}
 use Rattle.pcm_cells.proofs.pages.Pages.pulses.Goals as goal
 
 pub returns-in-Some : goal.returns-in-Some
@@ -8,22 +9,23 @@ returns-in-Some g c =
     let p = c.args.self.now in
     let line = c.args.line in
     let at : page_at p.grown line ≡ Some c.in-Some.grown.now = sym c.get.ensures ∙ ap option_copied c.in-Some.is in
-    c.pulses.ensures ∙ sym (ap (λ (l : LifeLine g.row.B g.row.M). l.line.pulses) (seen-grown p.wear line (page_at p.young line) (page_at p.grown line) c.in-Some.grown.now at))
+    c.pulses.ensures ∙ sym (ap (λ (l : LifeLine g.row.B g.row.M). l.line.pulses) (seen-grown p.wear line (young_at p.young line) (page_at p.grown line) c.in-Some.grown.now at))
 
-pub returns-in-Some-get : goal.returns-in-Some-get
-returns-in-Some-get g c =
+pub returns-in-Some-pulses : goal.returns-in-Some-pulses
+returns-in-Some-pulses g c =
     let p = c.args.self.now in
     let line = c.args.line in
     let none : page_at p.grown line ≡ None = sym c.get.ensures ∙ ap option_copied c.in-None.is in
-    let at : page_at p.young line ≡ Some c.in-Some-get.young.now = sym c.get-in-None.ensures ∙ ap option_copied c.in-Some-get.is in
-    sym (ap (λ (l : LifeLine g.row.B g.row.M). l.line.pulses) (seen-young p.wear line (page_at p.young line) (page_at p.grown line) c.in-Some-get.young.now none at)
-    ∙ grown_pulses p.wear line c.in-Some-get.young.now)
+    let told = told-some (λ (young : Young g.row.B g.row.M). young.pulses) (young_at p.young line) c.in-Some-pulses.pulses (sym c.in-Some-pulses.is ∙ c.pulses-in-None.ensures) in
+    told.2
+    ∙ sym (ap (λ (l : LifeLine g.row.B g.row.M). l.line.pulses) (seen-young p.wear line (young_at p.young line) (page_at p.grown line) told.0 none told.1)
+    ∙ grown_pulses p.wear line told.0)
 
-pub returns-in-None-get : goal.returns-in-None-get
-returns-in-None-get g c =
+pub returns-in-None-pulses : goal.returns-in-None-pulses
+returns-in-None-pulses g c =
     let p = c.args.self.now in
     let line = c.args.line in
     let none : page_at p.grown line ≡ None = sym c.get.ensures ∙ ap option_copied c.in-None.is in
-    let no_young : page_at p.young line ≡ None = sym c.get-in-None.ensures ∙ ap option_copied c.in-None-get.is in
-    sym (ap (λ (l : LifeLine g.row.B g.row.M). l.line.pulses) (seen-drawn p.wear line (page_at p.young line) (page_at p.grown line) none no_young)
+    let no_young = told-none (λ (young : Young g.row.B g.row.M). young.pulses) (young_at p.young line) (sym c.in-None-pulses.is ∙ c.pulses-in-None.ensures) in
+    sym (ap (λ (l : LifeLine g.row.B g.row.M). l.line.pulses) (seen-drawn p.wear line (young_at p.young line) (page_at p.grown line) none no_young)
     ∙ ap (λ l. l.pulses) (drawn_is g.row.B g.row.M p.wear line).line)

@@ -1,5 +1,5 @@
 use Rattle.std.proofs.Common.{◌∙◌, ◌<◌, sym, arith, length}
-use Rattle.pcm_cells.{specs.Paging.seen, proofs.AgeLemmas.line_wears, proofs.SizeLemmas.{line_fits, row_fits}}
+use Rattle.pcm_cells.{specs.Paging.seen, specs.Youths.young_at, proofs.AgeLemmas.line_wears, proofs.SizeLemmas.{line_fits, row_fits}}
 use Rattle.pcm_cells.proofs.pages.Pages.wear_grown.Goals as goal
 
 pub wear-requires : goal.wear-requires
@@ -12,7 +12,7 @@ returns g c =
     let p = c.grow.new.self in
     let line = c.args.line in
     let within : line < length p.grown = omega (arith, c.requires.exists, c.grow.ensures.lines) in
-    let worn = line_wears p.wear line c.args.tearing c.args.mask.now c.args.want.now (seen c.args.self.now line) p.young p.grown c.wear.new.self within c.grow.ensures.page c.wear.ensures in
+    let worn = line_wears p.wear line c.args.tearing c.args.mask.now c.args.want.now (seen c.args.self.now line) (young_at p.young) p.grown c.wear.new.self within c.grow.ensures.page c.wear.ensures in
     record {
       cells = worn.cells;
       pulses = worn.pulses;
@@ -26,5 +26,5 @@ invariant_of-self g c =
     let p = c.grow.new.self in
     let line = c.args.line in
     let within : line < length p.grown = omega (arith, c.requires.exists, c.grow.ensures.lines) in
-    let worn = line_wears p.wear line c.args.tearing c.args.mask.now c.args.want.now (seen c.args.self.now line) p.young p.grown c.wear.new.self within c.grow.ensures.page c.wear.ensures in
-    record { wears = p.wears; youth = p.youth; young_pages = p.young_pages; same_lines = p.same_lines ∙ sym worn.lines }
+    let worn = line_wears p.wear line c.args.tearing c.args.mask.now c.args.want.now (seen c.args.self.now line) (young_at p.young) p.grown c.wear.new.self within c.grow.ensures.page c.wear.ensures in
+    record { wears = p.wears; youth = p.youth; suits = p.suits; young_pages = p.young_pages; same_lines = p.same_lines ∙ sym worn.lines }

@@ -1,35 +1,34 @@
 use Rattle.std.proofs.Common.{◌≡◌, ◌∙◌, sym, ap, Some, None}
-use Rattle.std.specs.Prelude.{option_copied}
-use Rattle.pcm_cells.{specs.PageTable.page_at, proofs.PagingLemmas.{seen-drawn, seen-young}, proofs.WearLemmas.{drawn_changes, drawn_stuck}, proofs.YoungLemmas.{grown_changes, grown_stuck}}
+use Rattle.pcm_cells.{specs.PageTable.page_at, specs.Youths.young_at, proofs.PagingLemmas.{seen-drawn, seen-young}, proofs.WearLemmas.{drawn_changes, drawn_stuck}, proofs.YoungLemmas.{grown_changes, grown_stuck}}
 use Rattle.pcm_cells.proofs.pages.Pages.young_wear.Goals as goal
 
 pub returns-in-Some-clause-stuck : goal.returns-in-Some-clause-stuck
 returns-in-Some-clause-stuck g c =
     let p = c.args.self.now in
     let line = c.args.line in
-    let young = c.in-Some.young.now in
-    let at : page_at p.young line ≡ Some young = sym c.get.ensures ∙ ap option_copied c.in-Some.is in
-    sym (grown_stuck p.wear line young _ (seen-young p.wear line (page_at p.young line) (page_at p.grown line) young c.requires.young at))
+    let young = c.in-Some.young in
+    let at : young_at p.young line ≡ Some young = sym c.get.ensures ∙ c.in-Some.is in
+    sym (grown_stuck p.wear line young _ (seen-young p.wear line (young_at p.young line) (page_at p.grown line) young c.requires.young at))
 
 pub returns-in-Some-clause-changes : goal.returns-in-Some-clause-changes
 returns-in-Some-clause-changes g c =
     let p = c.args.self.now in
     let line = c.args.line in
-    let young = c.in-Some.young.now in
-    let at : page_at p.young line ≡ Some young = sym c.get.ensures ∙ ap option_copied c.in-Some.is in
+    let young = c.in-Some.young in
+    let at : young_at p.young line ≡ Some young = sym c.get.ensures ∙ c.in-Some.is in
     c.most_changes-changes.ensures
-    ∙ grown_changes p.wear p.limit line young _ p.youth (p.young_pages.each line young at) (seen-young p.wear line (page_at p.young line) (page_at p.grown line) young c.requires.young at)
+    ∙ grown_changes p.wear p.limit line young _ p.youth (p.young_pages.each line young at) (seen-young p.wear line (young_at p.young line) (page_at p.grown line) young c.requires.young at)
 
 pub returns-in-None-clause-stuck : goal.returns-in-None-clause-stuck
 returns-in-None-clause-stuck g c =
     let p = c.args.self.now in
     let line = c.args.line in
-    let none : page_at p.young line ≡ None = sym c.get.ensures ∙ ap option_copied c.in-None.is in
-    sym (drawn_stuck p.wear line _ (seen-drawn p.wear line (page_at p.young line) (page_at p.grown line) c.requires.young none))
+    let none : young_at p.young line ≡ None = sym c.get.ensures ∙ c.in-None.is in
+    sym (drawn_stuck p.wear line _ (seen-drawn p.wear line (young_at p.young line) (page_at p.grown line) c.requires.young none))
 
 pub returns-in-None-clause-changes : goal.returns-in-None-clause-changes
 returns-in-None-clause-changes g c =
     let p = c.args.self.now in
     let line = c.args.line in
-    let none : page_at p.young line ≡ None = sym c.get.ensures ∙ ap option_copied c.in-None.is in
-    sym (drawn_changes p.wear line _ (seen-drawn p.wear line (page_at p.young line) (page_at p.grown line) c.requires.young none))
+    let none : young_at p.young line ≡ None = sym c.get.ensures ∙ c.in-None.is in
+    sym (drawn_changes p.wear line _ (seen-drawn p.wear line (young_at p.young line) (page_at p.grown line) c.requires.young none))

@@ -1,0 +1,91 @@
+// Pages of young lines, each of which keeps no more than its line needs.
+ghost use Rattle.std.specs.Prelude.{◌≡◌, ℕ, ◌+◌, ◌*◌, ◌/◌, ◌%◌, ◌<◌, ◌≤◌, ◌&&◌, false, not, nat_eq};
+ghost use Rattle.cell_rows.specs.Rows.{cell};
+ghost use Rattle.cell_rows.specs.Shape.{IsShape, IsWhole};
+ghost use Rattle.pcm_cells.specs.Follows.{Follows, FollowsIn};
+ghost use Rattle.pcm_cells.specs.Planes.{bit_in};
+
+use crate::calm::reach;
+use crate::line::has_end;
+use cell_rows::Cells;
+
+/// A page of a young line. `young` is the line that it stands for, of which a cell may have changed less than `room` times before a
+/// pulse.
+pub(crate) trait YoungPage<const B: usize, const M: usize> {
+    ghost use Rattle.pcm_cells.specs.declared.young.Young.{Young};
+    ghost use Rattle.pcm_cells.specs.Young.{aging, changes_in, young_cell, MayAge};
+
+    ghost young: { Self → Young B M };
+
+    ghost room: { ℕ };
+
+    /// The masked cells of one block.
+    fn wear_block(
+        &mut self,
+        tearing: bool,
+        reach: u64,
+        block: usize,
+        mask: &Cells<B, M>,
+        want: &Cells<B, M>,
+    )
+        requires exists { 8 * block < B + M }
+        requires shape { IsShape B M }
+        requires whole { IsWhole B M }
+        requires reach { (i : ℕ) → i < 64 → bit_in reach i
+            ≡ not (tearing && nat_eq (i % 2) 1) }
+        requires few { (n : ℕ) → n / 64 ≡ block → changes_in (young self.old) n < room }
+        ensures cells { FollowsIn (64 * block) (64 * block + 64) (cell mask.now)
+            (aging tearing (cell want.now)) (young_cell (young self.old))
+            (young_cell (young self.new)) }
+        ensures pulses { (young self.new).pulses ≡ (young self.old).pulses };
+
+    /// Counts a pulse.
+    fn count_pulse(&mut self)
+        requires { (young self.old).pulses < room }
+        ensures cells { (n : ℕ) → young_cell (young self.new) n ≡ young_cell (young self.old) n }
+        ensures pulses { (young self.new).pulses ≡ (young self.old).pulses + 1 };
+
+    /// The masked cells of some blocks.
+    #[inline(always)]
+    fn wear_in(
+        &mut self,
+        tearing: bool,
+        from: usize,
+        to: usize,
+        mask: &Cells<B, M>,
+        want: &Cells<B, M>,
+    )
+        requires order { from ≤ to }
+        requires exists { 8 * to ≤ B + M }
+        requires shape { IsShape B M }
+        requires whole { IsWhole B M }
+        requires few { (n : ℕ) → 64 * from ≤ n → changes_in (young self.old) n < room }
+        ensures cells { FollowsIn (64 * from) (64 * to) (cell mask.now)
+            (aging tearing (cell want.now)) (young_cell (young self.old))
+            (young_cell (young self.new)) }
+        ensures pulses { (young self.new).pulses ≡ (young self.old).pulses }
+    {
+        let reach = reach(tearing);
+        for block in from..to {
+            self.wear_block(tearing, reach, block, mask, want);
+        }
+    }
+
+    /// A pulse or a tear. The data blocks and the check blocks have a loop each, so that neither asks which a block is.
+    fn wear(&mut self, tearing: bool, mask: &Cells<B, M>, want: &Cells<B, M>)
+        requires shape { IsShape B M }
+        requires whole { IsWhole B M }
+        requires young { MayAge room (young self.old) }
+        ensures cells { Follows (cell mask.now) (aging tearing (cell want.now))
+            (young_cell (young self.old)) (young_cell (young self.new)) }
+        ensures pulses { (young self.new).pulses ≡ (young self.old).pulses + 1 }
+        ensures end { (n : ℕ) → 8 * (B + M) ≤ n → cell mask.now n ≡ false }
+    {
+        has_end(mask);
+        // Copies, so that LLVM sees that no write to the line changes them.
+        let (mask, want) = (*mask, *want);
+        self.wear_in(tearing, 0, B / 8, &mask, &want);
+        self.wear_in(tearing, B / 8, (B + M) / 8, &mask, &want);
+        self.count_pulse();
+    }
+}
