@@ -5,6 +5,7 @@
 
 mod calls;
 mod fault;
+mod front;
 mod hexadecimal;
 mod sink;
 mod source;
@@ -13,6 +14,7 @@ mod unread;
 mod whole;
 
 pub use fault::{Failed, ReadAllFault, WriteFault};
+pub use front::{FRONT_ROOM, Front};
 pub use sink::{MemSink, NeverFailSink, Sink, StdSink};
 pub use source::{MemSource, NeverFailSource, Source, StdSource};
 pub use text::Text;

@@ -2,11 +2,13 @@
 //! ends with the status that this answers.
 #![tactic(auto)]
 
+ghost use Rattle.std.specs.Prelude.{◌≡◌, is_some};
+
 use pcm_cells::MemArray;
 use pcm_io::{Sink, StdSink, StdSource, write_all};
 use std::process::ExitCode;
 use std::{env, io};
-use stream_top::stream_run;
+use stream_top::{asks_energy, stream_run};
 
 /// The words couldn't be had, for another cause than memory.
 const WORDS_FAULT: u8 = 8;
@@ -25,15 +27,28 @@ fn words(rt: &HostRuntime) -> io::Result<Vec<String>> {
     Ok(words)
 }
 
+// The arrays of a stream, which count energy only where it is told: to count it takes time.
+fn arrays(counts_energy: bool) -> (MemArray<64, 8>, MemArray<128, 16>)
+    ensures narrow { is_some result.0.energies ≡ counts_energy }
+    ensures wide { is_some result.1.energies ≡ counts_energy }
+{
+    if counts_energy {
+        (MemArray::new(), MemArray::new())
+    } else {
+        (MemArray::without_energy(), MemArray::without_energy())
+    }
+}
+
 // The status of a stream, if its words and the memory for its output can be had.
 fn stream<F: Sink>(rt: &HostRuntime, err: &mut F) -> io::Result<u8> {
     let words = words(rt)?;
     let out = Box::new(rt.alloc(), StdSink::new(rt.stdout()))?;
+    let (mut array, mut wide) = arrays(asks_energy(rt.alloc(), words.as_slice()));
     let (status, _out) = stream_run(
         rt.alloc(),
         words.as_slice(),
-        &mut MemArray::<64, 8>::new(),
-        &mut MemArray::<128, 16>::new(),
+        &mut array,
+        &mut wide,
         &mut StdSource::new(rt.stdin()),
         out,
         err,

@@ -1,5 +1,5 @@
 -- How long the parts of a row and a whole row are.
-use Rattle.std.proofs.Common.{ℕ, ◌+◌, ◌*◌, ◌^◌, ◌<◌, ◌≤◌, ◌≡◌, List, [], ◌∷◌, ◌++◌, length, Option, None, Some, length-append, append_assoc, add-zero, sym, suc, refl, arith, lit≤}
+use Rattle.std.proofs.Common.{ℕ, ◌+◌, ◌*◌, ◌^◌, ◌<◌, ◌≤◌, ◌≡◌, List, [], ◌∷◌, ◌++◌, length, Option, None, Some, length-append, append_assoc, add-zero, ap, sym, suc, ◌∙◌, refl, arith, lit≤}
 use Rattle.std.specs.{Fmt.decimal, List.join_with_byte, Option.ForSome, Prelude.codes}
 use Rattle.pcm_io.{specs.Reserved.{Reserved, appended}, proofs.DigitLemmas.{five_digits, six_digits, twenty_digits}}
 use Rattle.hex.{specs.Hex.{encode_lower, lower_digits}, proofs.HexLemmas.length-encode_with}
@@ -8,17 +8,27 @@ use Rattle.result_rows.specs.{declared.Op.Op, declared.Outcome.Outcome}
 use Rattle.result_rows.specs.declared.Op.TheVariants as op
 use Rattle.result_rows.specs.declared.Outcome.TheVariants as out
 
--- three fields that were pushed one by one, with a comma behind each, and then four more and LF
+-- a field more in front, with a comma behind it
+pub length-field : (new field old : List ℕ) → new ≡ field ++ codes "," ++ old → length new ≡ length field + 1 + length old
+length-field new field old is = ap length is ∙ length-append (field ++ codes ",") old ∙ ap (λ (k : ℕ). k + length old) (length-append field (codes ","))
+
+-- the fields of a row but the last, with a comma behind each, and then the last one and LF
 pub pieces-row : (t : Reserved) (a b c d e f g : List ℕ) →
-    appended (appended (appended (appended t (a ++ codes ",")) (b ++ codes ",")) (c ++ codes ",")) (join_with_byte 44 (d ∷ e ∷ f ∷ g ∷ []) ++ codes "\n")
+    appended t (((a ++ codes ",") ++ ((b ++ codes ",") ++ ((c ++ codes ",") ++ (d ++ codes "," ++ e ++ codes "," ++ f ++ codes ",")))) ++ g ++ codes "\n")
     ≡ appended t (join_with_byte 44 (a ∷ b ∷ c ∷ d ∷ e ∷ f ∷ g ∷ []) ++ codes "\n")
 pieces-row t a b c d e f g = simp append_assoc
 
--- four fields that were pushed one by one, with a comma behind each but the last, and LF at the end
+-- the same of the four that tell an outcome
 pub pieces-outcome : (t : Reserved) (d e f g : List ℕ) →
-    appended (appended (appended (appended (appended t (d ++ codes ",")) (e ++ codes ",")) (f ++ codes ",")) g) (codes "\n")
+    appended t ((d ++ codes "," ++ e ++ codes "," ++ f ++ codes ",") ++ g ++ codes "\n")
     ≡ appended t (join_with_byte 44 (d ∷ e ∷ f ∷ g ∷ []) ++ codes "\n")
 pieces-outcome t d e f g = simp append_assoc
+
+-- the same of a number and these
+pub pieces-numbered : (t : Reserved) (a d e f g : List ℕ) →
+    appended t (((a ++ codes ",") ++ (d ++ codes "," ++ e ++ codes "," ++ f ++ codes ",")) ++ g ++ codes "\n")
+    ≡ appended t ((a ++ codes ",") ++ (join_with_byte 44 (d ∷ e ∷ f ∷ g ∷ []) ++ codes "\n"))
+pieces-numbered t a d e f g = simp append_assoc
 
 -- the letter of an operation is one byte
 pub length-op_letter : (asked : Op) → length (op_letter asked) ≡ 1

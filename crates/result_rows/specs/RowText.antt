@@ -36,6 +36,11 @@ module _ {n : ℕ} where
   outcome_fields outcome =
       outcome_word outcome ∷ decimal_or_empty (tick_of outcome) ∷ decimal_or_empty (place_of outcome) ∷ hex_or_empty (bytes_of outcome) ∷ []
 
+  -- the first three of them, with a comma behind each
+  abbrev pub outcome_front : Outcome n → List ℕ
+  outcome_front outcome =
+      outcome_word outcome ++ codes "," ++ decimal_or_empty (tick_of outcome) ++ codes "," ++ decimal_or_empty (place_of outcome) ++ codes ","
+
   -- what stands of an outcome in a row: its fields with commas between, and LF at the end
   abbrev pub outcome_text : Outcome n → List ℕ
   outcome_text outcome = join_with_byte 44 (outcome_fields outcome) ++ codes "\n"

@@ -5,7 +5,7 @@
 mod print;
 mod results;
 
-pub use print::{header, print_outcome, print_row};
+pub use print::{header, print_numbered, print_outcome, print_row};
 pub use results::Results;
 
 /// What a row of a trace asks for.

@@ -3,10 +3,10 @@ ghost use Rattle.std.specs.Prelude.{◌≡◌, ◌+◌, ◌*◌, ◌≤◌, ◌+
 ghost use Rattle.pcm_io.specs.Reserved.{room_in, appended};
 ghost use Rattle.hex.specs.Hex.{encode_lower};
 ghost use Rattle.result_rows.specs.Outcomes.{op_of, outcome_word, tick_of, place_of, bytes_of};
-ghost use Rattle.result_rows.specs.RowText.{header_text, op_letter, line_of, decimal_or_empty, hex_or_empty, outcome_text, row_text};
+ghost use Rattle.result_rows.specs.RowText.{header_text, op_letter, line_of, decimal_or_empty, hex_or_empty, outcome_front, outcome_text, row_text};
 
 use crate::{Op, Outcome};
-use pcm_io::Text;
+use pcm_io::{FRONT_ROOM, Front, Text};
 
 /// The first line of the results, with its LF.
 pub fn header() -> &'static [u8]
@@ -25,10 +25,24 @@ pub fn print_row<const B: usize>(row: u32, op: Op, line: u32, outcome: &Outcome<
     ensures after { text.new ≡ appended text.old (row_text row op line outcome.now) }
     ensures room { room_in text.old ≤ room_in text.new + (64 + 2 * B) }
 {
-    text.push_number_then(row as u64, b",");
-    text.push_field(letter(op));
-    push_number_field(line_if_any(op, line), text);
-    print_outcome(outcome, text);
+    let mut front = front_of(outcome);
+    put_optional(line_if_any(op, line), &mut front);
+    front.put_field(letter(op));
+    front.put_number(row as u64);
+    print_behind(&front, outcome, text);
+}
+
+/// Appends the number of a row and what it tells of its outcome, with a comma between, and LF.
+#[tactic(auto, using(pcm_io::proofs::DigitLemmas::ten_digits))]
+pub fn print_numbered<const B: usize>(row: u32, outcome: &Outcome<B>, text: &mut Text)
+    requires size { B ≤ 128 }
+    requires room { 54 + 2 * B ≤ room_in text.old }
+    ensures after { text.new ≡ appended text.old (decimal row ++ codes "," ++ outcome_text outcome.now) }
+    ensures room { room_in text.old ≤ room_in text.new + (54 + 2 * B) }
+{
+    let mut front = front_of(outcome);
+    front.put_number(row as u64);
+    print_behind(&front, outcome, text);
 }
 
 /// Appends what a row tells of its outcome, the same fields as the last four of a row, and LF.
@@ -38,9 +52,41 @@ pub fn print_outcome<const B: usize>(outcome: &Outcome<B>, text: &mut Text)
     ensures after { text.new ≡ appended text.old (outcome_text outcome.now) }
     ensures room { room_in text.old ≤ room_in text.new + (43 + 2 * B) }
 {
-    text.push_field(word(outcome));
-    push_number_field(tick(outcome), text);
-    push_number_field(place(outcome), text);
+    let front = front_of(outcome);
+    print_behind(&front, outcome, text);
+}
+
+// The fields of an outcome but its bytes.
+fn front_of<const B: usize>(outcome: &Outcome<B>) -> Front
+    ensures is { result ≡ outcome_front outcome.now }
+    ensures short { length result ≤ 42 }
+{
+    let mut front = Front::new();
+    put_optional(place(outcome), &mut front);
+    put_optional(tick(outcome), &mut front);
+    front.put_field(word(outcome));
+    front
+}
+
+// One field more, a number or nothing.
+fn put_optional(number: Option<u64>, front: &mut Front)
+    requires { length (decimal_or_empty number) + 1 + length front.old ≤ FRONT_ROOM }
+    ensures { front.new ≡ decimal_or_empty number ++ codes "," ++ front.old }
+{
+    match number {
+        Some(number) => front.put_number(number),
+        None => front.put_field(b""),
+    }
+}
+
+// Appends the front of a row, the bytes of the outcome as its last field, and LF.
+fn print_behind<const B: usize>(front: &Front, outcome: &Outcome<B>, text: &mut Text)
+    requires size { B ≤ 128 }
+    requires room { length front.now + 2 * B + 1 ≤ room_in text.old }
+    ensures after { text.new ≡ appended text.old (front.now ++ hex_or_empty (bytes_of outcome.now) ++ codes "\n") }
+    ensures room { room_in text.old ≤ room_in text.new + (length front.now + 2 * B + 1) }
+{
+    text.push(front.bytes());
     push_bytes(outcome, text);
     text.push(b"\n");
 }
@@ -117,26 +163,6 @@ fn place<const B: usize>(outcome: &Outcome<B>) -> Option<u64>
         Outcome::Read { place, .. } => Some(*place as u64),
         _ => None,
     }
-}
-
-fn push_optional(number: Option<u64>, text: &mut Text)
-    requires { length (decimal_or_empty number) ≤ room_in text.old }
-    ensures after { text.new ≡ appended text.old (decimal_or_empty number) }
-    ensures room { room_in text.new + length (decimal_or_empty number) ≡ room_in text.old }
-{
-    if let Some(number) = number {
-        text.push_number(number);
-    }
-}
-
-// Appends a number or nothing, and the comma behind it.
-fn push_number_field(number: Option<u64>, text: &mut Text)
-    requires { length (decimal_or_empty number) + 1 ≤ room_in text.old }
-    ensures after { text.new ≡ appended text.old (decimal_or_empty number ++ codes ",") }
-    ensures room { room_in text.new + length (decimal_or_empty number) + 1 ≡ room_in text.old }
-{
-    push_optional(number, text);
-    text.push(b",");
 }
 
 fn push_bytes<const B: usize>(outcome: &Outcome<B>, text: &mut Text)

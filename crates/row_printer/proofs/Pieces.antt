@@ -9,7 +9,7 @@ few_digits n bound = five_digits n (omega (arith, bound))
 
 -- a row's number and a comma, and then four fields and LF
 pub pieces-told : (t : Reserved) (a d e f g : List ℕ) →
-    appended (appended t (a ++ codes ",")) (join_with_byte 44 (d ∷ e ∷ f ∷ g ∷ []) ++ codes "\n")
+    appended t (a ++ codes "," ++ (join_with_byte 44 (d ∷ e ∷ f ∷ g ∷ []) ++ codes "\n"))
     ≡ appended t (join_with_byte 44 (a ∷ d ∷ e ∷ f ∷ g ∷ []) ++ codes "\n")
 pieces-told t a d e f g = simp append_assoc
 

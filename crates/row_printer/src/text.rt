@@ -5,7 +5,7 @@ ghost use Rattle.row_printer.specs.Telling.{bank_row, mark_word, settled_row, to
 
 use crate::told::{Backlog, Mark, Told};
 use pcm_io::Text;
-use result_rows::{Outcome, print_outcome};
+use result_rows::{Outcome, print_numbered};
 
 /// The first line of a stream, with its LF.
 pub fn stream_header() -> &'static [u8]
@@ -28,14 +28,12 @@ pub fn print_told<const B: usize>(told: &Told<B>, text: &mut Text)
 }
 
 // What became of a row.
-#[tactic(auto, using(pcm_io::proofs::DigitLemmas::ten_digits))]
 fn print_became<const B: usize>(row: u32, outcome: &Outcome<B>, text: &mut Text)
     requires size { B ≤ 128 }
     requires room { 64 + 2 * B ≤ room_in text.old }
     ensures { text.new ≡ appended text.old (told_row row outcome.now) }
 {
-    text.push_number_then(row as u64, b",");
-    print_outcome(outcome, text);
+    print_numbered(row, outcome, text);
 }
 
 // What waits in a bank at a tick.

@@ -13,8 +13,8 @@ use Rattle.trace_stream.specs.{Stream.{AsksNext, HasFault, HasFront, IsOfText, O
 use Rattle.trace_stream.specs.{declared.asked.Asked.TheVariants.{Happens, Settle, Query}, declared.fault.StreamFault.StreamFault}
 use Rattle.trace_stream.proofs.Runs.{HasAsked, asked-all, asked-faulty, asked-first, asked-front, asked-more}
 use Rattle.trace_stream.specs.declared.fault.StreamFault.TheVariants as fault
-use Rattle.row_stream.specs.{Asking.{behind_of, tick_reached}, Refusing.WentOn, Serving.{IsServing, told_before, told_so_far}, Sourcing.{Fronts, HasAllCome, HasCome, HasStopped, IsFaulty, IsRead, IsReadTo}, declared.stop.Behind.Behind}
-use Rattle.row_stream.{specs.declared.stop.Behind.TheVariants.Nothing, specs.declared.stop.Stop.TheVariants.Input, proofs.Refusals.{went-first, went-on}}
+use Rattle.row_stream.specs.{Asking.{behind_of, tick_reached}, Refusing.{GoesAsFar, WentOn}, Serving.{IsServing, told_before, told_so_far}, Sourcing.{Fronts, GivesNext, HasAllCome, HasCome, HasNoNext, HasStopped, IsFaulty, IsRead, IsReadTo}, declared.stop.Behind.Behind}
+use Rattle.row_stream.{specs.declared.stop.Behind.TheVariants.Nothing, specs.declared.stop.Stop.Stop, specs.declared.stop.Stop.TheVariants.{Input, Endless, Output}, proofs.Alike.told-same, proofs.Refusals.{may-go-on, went-first, went-on}}
 
 -- what follows where a call went well, or didn't
 pub ok-so : {T E : Type 0} (r : Result T E) (P Q : Type 0) → (P → Q) → OnOk r P → OnOk r Q
@@ -173,6 +173,23 @@ module _ {n m e : ℕ} {stops : Bool} (raw : RawShape) (seed : ℕ) {S : Type 0}
         reached (Settle at) before = refl
         reached (Query at) before = refl
 
+    -- a printer that was told the same
+    pub fed-same : (places2 : ℕ) (told2 : List (Told n)) (shown2 : Shown) (snaps2 : List Snapshot) → places2 ≡ places → told2 ≡ told → shown2 ≡ shown → snaps2 ≡ snaps
+        → HasFed stops raw seed module_ array places2 told2 shown2 snaps2 left taken faults old mid stream behind count
+    fed-same places2 told2 shown2 snaps2 r t p s =
+        told-same (λ k t p s. HasFed stops raw seed module_ array k t p s left taken faults old mid stream behind count) places places2 told told2 shown shown2 snaps snaps2 r t p s had
+
+    -- the row that a reader gave
+    pub fed-given : (new_module : ModuleState n m e) (after : ArrayState n m) (places2 : ℕ) (told2 : List (Told n)) (shown2 : Shown) (snaps2 : List Snapshot) (new : S) (now : Standing) (asked : Asked n) (stands : Behind)
+        → ((old : IsServing raw seed had.asked module_ array places told shown snaps)
+        → (now : IsServing raw seed (asked ∷ had.asked) new_module after places2 told2 shown2 snaps2) × (told_before asked had.asked (told_so_far now) ≡ told_so_far old))
+        → (stops ≡ true → any_refused (table_of places told) ≡ false)
+        → ((before : List (Asked n)) → stands ≡ behind_of (asked ∷ before))
+        → GivesNext left taken faults mid new stream now (Some asked)
+        → HasFed stops raw seed new_module after places2 told2 shown2 snaps2 left taken faults old new now stands (count + 1)
+    fed-given new_module after places2 told2 shown2 snaps2 new now asked stands serves none behinds given =
+        fed-more new_module after places2 told2 shown2 snaps2 new now asked stands serves none behinds given.bytes given.takes given.stays given.asks given.lines given.row.0 given.row.1 given.row.2 given.calm
+
     -- there is none
     pub fed-all : (new : S) (now : Standing) (bytes : List ℕ) → Takes (left mid) (left new) (taken mid) (taken new) bytes → StaysEnded stream.arrived.ended bytes now.arrived.ended
         → AsksNext {n = n} stream bytes None now → (now.arrived.ended ≡ true → IsAtEnd (left new)) → faults new ≡ faults mid
@@ -265,3 +282,22 @@ module _ {n m e : ℕ} {stops : Bool} (raw : RawShape) (seed : ℕ) {S : Type 0}
         let long : 2 ^ 64 - 1 ≤ length of.0 = of.2 in
         (fed-come new ends, calm (λ is. cc is) ∙ had.calm, (had.bytes ++ of.0, Takes-Takes _ _ _ _ _ _ _ _ had.takes of.1, omega (arith, more, long)))
     fed-stopped new now fault.NoMemory text ends fails whole past calm memory = absurd (memory refl)
+
+    pub fed-ended : (new : S) (now : Standing) → (stream.arrived.ended ≡ true → IsAtEnd (left mid)) → GivesNext {n = n} left taken faults mid new stream now None
+        → IsRead (total_of raw) left taken faults old new had.asked
+    fed-ended new now ends given = fed-all new now given.bytes given.takes given.stays given.asks (given.at_end ends) given.calm
+
+    -- why there is no next row, and that no output was lost for it
+    pub fed-no-next : (stop : Stop) (new : S) (now : Standing) → (stream.arrived.ended ≡ true → IsAtEnd (left mid)) → HasNoNext n left taken faults mid new stream now stop
+        → HasStopped (total_of raw) left taken faults old new had.asked stop
+    fed-no-next (Input found) new now ends none =
+        fed-stopped new now found none.text ends none.fails none.sparing none.endless none.calm none.memory
+    fed-no-next Output new now ends none = (fed-come new ends, ap faults none ∙ had.calm)
+    fed-no-next Endless new now ends none = absurd none
+
+    -- and how far it went
+    pub far-no-next : (stop : Stop) (new : S) (now : Standing) → HasNoNext n left taken faults mid new stream now stop → (stops ≡ true → any_refused (table_of places told) ≡ false)
+        → GoesAsFar stop stops had.asked (told_so_far had.serving)
+    far-no-next (Input found) new now none calm = may-go-on had.serving stops calm
+    far-no-next Output new now none calm = had.went
+    far-no-next Endless new now none calm = absurd none

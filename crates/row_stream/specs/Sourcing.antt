@@ -1,7 +1,8 @@
 -- What the rows that a source gave have to do with its bytes. What was asked stands with the newest first.
-use Rattle.std.specs.{Io.KnownBytes.{Consumes, IsAtEnd}, Prelude.{◌≡◌, ◌⊎◌, ℕ, ◌≤◌, ◌^◌, ◌-◌, Bool, true, false, List, [], ◌++◌, length, reverse, Option, Ok}}
+use Rattle.std.specs.{Io.KnownBytes.{Consumes, IsAtEnd}, Prelude.{◌≡◌, ◌≢◌, ◌⊎◌, ℕ, ◌≤◌, ◌^◌, ◌-◌, Bool, true, false, List, [], ◌++◌, length, reverse, Option, IfSome, Ok}}
 use Rattle.pcm_io.specs.{Faults.Rose, Taking.Takes}
-use Rattle.trace_stream.specs.{Arrived.Comes, Kept.{LacksHeader, decides}, Stream.{HasFault, HasFront, Standing, front_from, front_of, stream_of}, declared.asked.Asked.Asked, declared.fault.StreamFault.StreamFault}
+use Rattle.trace_stream.specs.{Arrived.{Comes, StaysEnded}, Asked.{IsAskedFor, rows_after, tick_asked}, Kept.{LacksHeader, decides}}
+use Rattle.trace_stream.specs.{Stream.{AsksNext, HasFault, HasFront, IsOfText, Standing, asked_from, front_from, front_of, most_streamed, stream_of}, declared.asked.Asked.Asked, declared.fault.StreamFault.StreamFault}
 use Rattle.trace_stream.specs.declared.fault.StreamFault.TheVariants as fault
 use Rattle.row_stream.specs.{declared.stop.Stop.Stop, declared.stop.Stop.TheVariants.{Input, Endless, Output}}
 
@@ -77,3 +78,40 @@ module _ {n : ℕ} (lines : ℕ) {S : Type 0} (left : S → Option (List ℕ)) (
   HasStopped (Input fault.NoMemory) = HasCome × (faults new ≡ faults old) × (asked ≡ [])
   HasStopped Endless = HasCome × (faults new ≡ faults old) × (length asked ≡ 2 ^ 64 - 1)
   HasStopped Output = HasCome × (faults new ≡ faults old)
+
+-- of a reader of rows over a source, as both stood before and stand now
+module _ {n : ℕ} {S : Type 0} (left : S → Option (List ℕ)) (taken faults : S → ℕ) (old new : S) (from now : Standing) where
+  -- the next row asks this, or there is none, by the bytes that came before and those that the source gave meanwhile
+  pub record GivesNext (next : Option (Asked n)) : Type 0 where
+    pub bytes : List ℕ
+    pub takes : Takes (left old) (left new) (taken old) (taken new) bytes
+    pub stays : StaysEnded from.arrived.ended bytes now.arrived.ended
+    pub asks : AsksNext from bytes next now
+    pub lawful : IfSome next (λ asked. IsAskedFor from.lines from.tick asked)
+    pub row : IfSome next (λ asked. (now.rows ≡ rows_after from.rows asked) × (now.rows ≤ most_streamed) × (now.tick ≡ tick_asked asked))
+    pub lines : now.lines ≡ from.lines
+    pub at_end : (from.arrived.ended ≡ true → IsAtEnd (left old)) → now.arrived.ended ≡ true → IsAtEnd (left new)
+    pub calm : faults new ≡ faults old
+
+module _ (n : ℕ) {S : Type 0} (left : S → Option (List ℕ)) (taken faults : S → ℕ) (old new : S) (from now : Standing) where
+  -- no next row could be had: the text has a fault; or a call failed, where no row had come whole; or no row came with all bytes that can be counted
+  pub record FindsNone (found : StreamFault) : Type 0 where
+    pub text :
+        IsOfText found
+        → (bytes : List ℕ) × Takes (left old) (left new) (taken old) (taken new) bytes × StaysEnded from.arrived.ended bytes now.arrived.ended
+        × ((from.arrived.ended ≡ true → IsAtEnd (left old)) → now.arrived.ended ≡ true → IsAtEnd (left new)) × HasFault (asked_from n from) bytes found now.arrived.ended
+        × HasFront (front_from n from) bytes [] now.arrived.ended
+    pub fails : found ≡ fault.Read → Rose (faults old) (faults new)
+    pub sparing :
+        found ≡ fault.Read
+        → (bytes : List ℕ) × Takes (left old) (left new) (taken old) (taken new) bytes × (from.arrived.ended ≡ false)
+        × (decides from.state 0 (from.arrived.bytes ++ bytes) ≡ false)
+    pub endless : found ≡ fault.Endless → (bytes : List ℕ) × Takes (left old) (left new) (taken old) (taken new) bytes × (2 ^ 64 - 1 ≤ length bytes)
+    pub memory : found ≢ fault.NoMemory
+    pub calm : found ≢ fault.Read → faults new ≡ faults old
+
+  -- why there is no next row: none could be had, or the output failed, and the source wasn't asked
+  abbrev pub HasNoNext : Stop → Type 0
+  HasNoNext (Input found) = FindsNone found
+  HasNoNext Output = new ≡ old
+  HasNoNext Endless = ⊥

@@ -1,5 +1,5 @@
 // The rows that a source gives.
-ghost use Rattle.std.specs.Prelude.{◌≡◌, ◌≢◌, ◌<◌, ◌≤◌, ◌+◌, ℕ, List, [], ◌∷◌, Option, true, Ok, Err, IfOk, IfErr, OnOk, OnErr};
+ghost use Rattle.std.specs.Prelude.{◌≡◌, ◌≢◌, ◌⊎◌, ◌<◌, ◌≤◌, ◌+◌, ℕ, List, [], ◌∷◌, Option, true, Ok, Err, IfOk, IfErr, IfNone, OnOk, OnErr};
 ghost use Rattle.std.specs.Io.KnownBytes.{Appends};
 ghost use Rattle.pcm_io.specs.Faults.{Rose};
 ghost use Rattle.pcm_io.specs.Giving.{AppendsPrefix};
@@ -12,7 +12,7 @@ ghost use Rattle.row_printer.specs.Printing.{IsPrinting, text_told};
 ghost use Rattle.row_stream.specs.Asking.{behind_of};
 ghost use Rattle.row_stream.specs.Refusing.{EndsBehind, GoesAsFar};
 ghost use Rattle.row_stream.specs.Serving.{IsServing, MayServe, ServesOn, told_so_far};
-ghost use Rattle.row_stream.specs.Sourcing.{HasStopped, IsRead, IsReadTo};
+ghost use Rattle.row_stream.specs.Sourcing.{GivesNext, HasNoNext, HasStopped, IsRead, IsReadTo};
 
 use crate::serving::serve;
 use crate::stop::{Behind, Stop, behind_asked, stops_behind};
@@ -52,9 +52,55 @@ pub fn feed<const B: usize, const M: usize, const E: usize, A: TellsCells<B, M>,
     out.flush()
 }
 
+// The next row: the source is asked for it only where it hasn't come whole, and once all that is known is written.
+fn next_row<const B: usize, S: Source, K: Sink + Drop>(
+    stream: &mut TraceStream,
+    source: &mut S,
+    out: &mut RowPrinter<B, K>,
+) -> Result<Option<Asked<B>>, Stop>
+    requires { B ≤ 128 }
+    ensures ok { IfOk result (λ next. GivesNext S.left S.taken S.faults source.old source.new
+        stream.old stream.new next) }
+    ensures err { IfErr result (λ stop. HasNoNext B S.left S.taken S.faults source.old
+        source.new stream.old stream.new stop) }
+    ensures waits { (source.new ≡ source.old) ⊎ ((before : Option (List ℕ)) (first : ℕ)
+        → IsPrinting K.written K.faults before first out.old
+        → Appends before (K.written out.new.sink) (text_told out.new)) }
+    ensures none { IfOk result (λ next. IfNone next ((before : Option (List ℕ)) (first : ℕ)
+        → IsPrinting K.written K.faults before first out.old
+        → Appends before (K.written out.new.sink) (text_told out.new))) }
+    ensures written { IfErr result (λ stop. stop ≢ Stop.Output
+        → (before : Option (List ℕ)) (first : ℕ)
+        → IsPrinting K.written K.faults before first out.old
+        → Appends before (K.written out.new.sink) (text_told out.new)) }
+    ensures part { result ≡ Err Stop.Output → (before : Option (List ℕ)) (first : ℕ)
+        → IsPrinting K.written K.faults before first out.old
+        → AppendsPrefix before (K.written out.new.sink) (text_told out.new)
+        × Rose first (K.faults out.new.sink) }
+    ensures rows { out.new.rows ≡ out.old.rows }
+    ensures told { out.new.told ≡ out.old.told }
+    ensures snapshots { out.new.snapshots ≡ out.old.snapshots }
+    ensures prints { out.new.prints ≡ out.old.prints }
+    ensures printing { (before : Option (List ℕ)) (first : ℕ)
+        → IsPrinting K.written K.faults before first out.old
+        → IsPrinting K.written K.faults before first out.new }
+    ensures never_falls { S.faults source.old ≤ S.faults source.new }
+{
+    if let Some(asked) = stream.arrived() {
+        return Ok(Some(asked));
+    }
+    let Ok(()) = out.flush() else {
+        return Err(Stop::Output);
+    };
+    match stream.next(source) {
+        Ok(next) => Ok(next),
+        Err(fault) => Err(Stop::Input(fault)),
+    }
+}
+
 /// Serves the rows that a source gives, one after the other, to its end; or, where it is to stop at a refusal, behind the first row that is
-/// refused, and asks for nothing more. The source is asked only once all that is known is written: at first the header, and behind each row
-/// what became known by it. Answers how the module stands behind the last row.
+/// refused, and asks for nothing more. The source is asked only once all that is known is written: at first the header, and then what became
+/// known by the rows that had come whole. Answers how the module stands behind the last row.
 pub fn serve_source<
     const B: usize,
     const M: usize,
@@ -113,19 +159,23 @@ pub fn serve_source<
     };
     let mut behind = Behind::Nothing;
     'rows: for _ in 0..u64::MAX {
-        match stream.next::<B, S>(source) {
+        match next_row(&mut stream, source, out) {
             Ok(Some(asked)) => {
-                let Ok(()) = feed(pcm, array, &asked, out) else {
-                    return Err(Stop::Output);
-                };
+                serve(pcm, array, &asked, out);
                 behind = behind_asked(&asked);
                 if stops_behind(stops, out) {
+                    let Ok(()) = out.flush() else {
+                        return Err(Stop::Output);
+                    };
                     return Ok(behind);
                 }
             }
             Ok(None) => return Ok(behind),
-            Err(fault) => return Err(Stop::Input(fault)),
+            Err(stop) => return Err(stop),
         }
     }
+    let Ok(()) = out.flush() else {
+        return Err(Stop::Output);
+    };
     Err(Stop::Endless)
 }

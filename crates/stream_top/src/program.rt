@@ -1,6 +1,8 @@
 // The program's one call.
-ghost use Rattle.std.specs.Prelude.{◌≡◌, map, string_bytes, Ok, IfOk, IfErr};
+ghost use Rattle.std.specs.Prelude.{◌≡◌, false, map, string_bytes, Ok, IfOk, IfErr};
 ghost use Rattle.stream_words.specs.Jobs.{IsStreamJob, stream_job_of};
+ghost use Rattle.stream_words.specs.Options.{tells_energy};
+ghost use Rattle.stream_words.specs.declared.job.StreamJob.{StreamJob as Asked};
 ghost use Rattle.program_calls.specs.Calls.{lent_sink, sink_change};
 ghost use Rattle.stream_top.specs.Calls.{lent_telling, source_between};
 ghost use Rattle.stream_top.specs.Promises.{EndsCall, IsRefused, IsStatusOf, IsToldOf, KeepsPromises};
@@ -69,6 +71,17 @@ fn read_words(alloc: Global, words: &[String]) -> Result<StreamJob, Fault>
         Ok(job) => Ok(job),
         Err(Refusal::Usage) => Err(Fault::Usage),
         Err(Refusal::NoMemory) => Err(Fault::NoMemory),
+    }
+}
+
+/// Whether a stream of these words may tell of energy, so that its array is to count it: `stream_run` itself needs no count.
+pub fn asks_energy(alloc: Global, words: &[String]) -> bool
+    ensures { result ≡ false → (job : Asked) × (stream_job_of (map string_bytes words.now) ≡ Ok job)
+        × (tells_energy job.print ≡ false) }
+{
+    match read_stream_job(alloc, words) {
+        Ok(job) => job.print.tells_energy(),
+        Err(_) => true,
     }
 }
 

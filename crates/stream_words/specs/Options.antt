@@ -53,6 +53,16 @@ IsPrint Energy = Unit {0}
 IsPrint Image = Unit {0}
 IsPrint (Snapshots every) = 1 ≤ every
 
+-- whether what a stream writes has how often lines were sensed and cells driven
+abbrev pub tells_energy : StreamPrint → Bool
+tells_energy Rows = false
+tells_energy Summary = false
+tells_energy Wear = false
+tells_energy Lines = true
+tells_energy Energy = true
+tells_energy Image = false
+tells_energy (Snapshots every) = true
+
 -- what becomes of the module behind the last row
 abbrev pub end_of : Option Text → Option End
 end_of text = one_of_two (codes "drain") Drain (codes "off") Off text

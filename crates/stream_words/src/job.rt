@@ -1,4 +1,7 @@
 // What the words ask for.
+ghost use Rattle.std.specs.Prelude.{◌≡◌};
+ghost use Rattle.stream_words.specs.Options.{tells_energy};
+
 use cell_rows::Wear;
 use command_line::{Input, LineSize};
 use module_shape::Shape;
@@ -41,6 +44,19 @@ pub enum StreamPrint {
     Image,
     /// What stands behind each row whose number is a multiple of this, and in the end.
     Snapshots(u32),
+}
+
+impl StreamPrint {
+    /// Whether it has how often lines were sensed and cells driven: where it doesn't, an array needn't count that.
+    pub fn tells_energy(&self) -> bool
+        ensures { result ≡ tells_energy self.now }
+    {
+        match self {
+            StreamPrint::Lines | StreamPrint::Energy | StreamPrint::Snapshots(_) => true,
+            StreamPrint::Rows | StreamPrint::Summary | StreamPrint::Wear | StreamPrint::Image =>
+                false,
+        }
+    }
 }
 
 /// What becomes of the module behind the last row.

@@ -1,5 +1,5 @@
 //! A streamed trace, row by row.
-ghost use Rattle.std.specs.Prelude.{◌≡◌, ◌≢◌, ◌-◌, ◌^◌, ◌≤◌, ◌++◌, ℕ, List, [], Bool, true, false, length, Ok, Err, IfOk, IfErr, IfSome, OnOk};
+ghost use Rattle.std.specs.Prelude.{◌≡◌, ◌≢◌, ◌-◌, ◌^◌, ◌≤◌, ◌++◌, ℕ, List, [], Bool, true, false, length, Some, Ok, Err, IfOk, IfErr, IfSome, IfNone, OnOk};
 ghost use Rattle.std.specs.Io.KnownBytes.{IsAtEnd};
 ghost use Rattle.pcm_io.specs.Faults.{Rose};
 ghost use Rattle.pcm_io.specs.Taking.{Takes};
@@ -105,6 +105,31 @@ impl TraceStream {
             rows: 0,
             tick: 0,
         })
+    }
+
+    /// Reads the next row, where all of it has come as a plain row of a read, a write or a cut without a fault; else it reads nothing. No
+    /// source is asked.
+    pub fn arrived<const B: usize>(&mut self) -> Option<Asked<B>>
+        requires { B ≤ 128 }
+        ensures next { IfSome result (λ asked. AsksNext self.old [] (Some asked) self.new) }
+        ensures lawful { IfSome result (λ asked. IsAskedFor self.old.lines self.old.tick asked) }
+        ensures row { IfSome result (λ asked. (self.new.rows ≡ rows_after self.old.rows asked)
+            × (self.new.rows ≤ MOST_STREAMED) × (self.new.tick ≡ tick_asked asked)) }
+        ensures lines { self.new.lines ≡ self.old.lines }
+        ensures ended { self.new.arrived.ended ≡ self.old.arrived.ended }
+        ensures none { IfNone result (self.new ≡ self.old) }
+    {
+        let Some(row) = self.plain_next() else {
+            return None;
+        };
+        let bytes = self.records.incoming.bytes();
+        let Ok(event) = read_plain_row(bytes, 0, row, self.lines, self.tick) else {
+            return None;
+        };
+        self.records.incoming.pass(row.payload + 1);
+        self.rows += 1;
+        self.tick = event.tick;
+        Some(Asked::Happens(event))
     }
 
     /// Reads the next row, as soon as its line has come, or finds that there is none. A row of more than four fields is found to be faulty

@@ -1,11 +1,11 @@
 use Rattle.std.proofs.Common.{◌≡◌, ℕ, List, [], Option, true, false}
-use Rattle.std.specs.Io.KnownBytes.{Appends, IsAtEnd}
+use Rattle.std.specs.Io.KnownBytes.{IsAtEnd}
 use Rattle.module_shape.specs.declared.raw.RawShape.{RawShape}
-use Rattle.row_printer.specs.{Printing.{IsPrinting, table_told, text_told}, Refusing.any_refused}
+use Rattle.row_printer.specs.{Printing.{IsPrinting, table_told}, Refusing.any_refused}
 use Rattle.row_stream.{specs.Serving.IsServing, proofs.Rows.HasFed}
 use Rattle.row_stream.proofs.reading.serve_source.Given as goal
 
--- the rows so far were served, and all that is known is written
+-- the rows so far were served
 abbrev pub invariant-rows : goal.invariant-rows
 invariant-rows g l = record {
   came : (raw : RawShape) (seed : ℕ) → IsServing {n = g.row.B} {m = g.row.M} {e = g.row.E} raw seed [] l.fn.pcm (g.A.CellArray.state l.fn.array) l.fn.out.rows l.fn.out.told l.fn.out.prints l.fn.out.snapshots
@@ -13,8 +13,6 @@ invariant-rows g l = record {
   «end» : l.stream.arrived.ended ≡ true → IsAtEnd (g.S.Source.left l.source);
   prints : l.out.prints ≡ l.fn.out.prints;
   printing : (before : Option (List ℕ)) (first : ℕ) → IsPrinting g.K.Sink.written g.K.Sink.faults before first l.fn.out → IsPrinting g.K.Sink.written g.K.Sink.faults before first l.out;
-  written : (before : Option (List ℕ)) (first : ℕ) → IsPrinting g.K.Sink.written g.K.Sink.faults before first l.fn.out
-      → Appends before (g.K.Sink.written l.out.sink) (text_told l.out);
   none : l.fn.stops ≡ true → any_refused (table_told l.out) ≡ false;
   wear : (g.A.CellArray.state l.array).wear ≡ (g.A.CellArray.state l.fn.array).wear;
   calm : g.S.Source.faults l.source ≡ g.S.Source.faults l.fn.source;
