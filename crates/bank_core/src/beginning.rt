@@ -206,7 +206,9 @@ impl<const B: usize, const M: usize, const E: usize> Bank<B, M, E> {
         })
     }
 
-    // Goes on with a line write that was just begun, or ends it where it is done.
+    // Goes on with a line write that was just begun, or ends it where it is done. It is put in its place where it is made: a call
+    // would copy it three times.
+    #[inline(always)]
     fn start(&mut self, running: Running<B, M, E>) -> Step
         requires idle { self.old.running ≡ None }
         requires some { IsTrue (is_some_work running.work) }

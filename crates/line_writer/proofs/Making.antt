@@ -1,26 +1,15 @@
 -- Each phase begins with what its programming wants.
-use Rattle.std.proofs.Common.{◌≡◌, ℕ, ◌+◌, ◌-◌, ◌*◌, ◌<◌, Bool, true, false, cond, List, refl, sym, ap, ◌∙◌, subst, inl, inr, arith, eqb}
+use Rattle.std.proofs.Common.{◌≡◌, ℕ, ◌+◌, ◌-◌, ◌*◌, ◌<◌, Bool, true, false, cond, List, refl, sym, ap, ◌∙◌, inl, inr, arith, eqb}
 use Rattle.std.proofs.lemmas.Bool.{cases_eq, and_from, eq-eqb, ne_eqb, cond-true, cond-false}
 use Rattle.cell_rows.specs.{Rows.{bit_of, cell, xor}, declared.row.Cells.Cells}
 use Rattle.program_verify.specs.{Programming.IsGoing, declared.prog.Prog.Prog}
-use Rattle.ecp_line.specs.Layout.{active, source_below, pointer, is_pointer_cell, is_later, switch_cell, Prefix, IsWanted, IsLayout, WantsZeros}
+use Rattle.ecp_line.specs.Layout.{source_below, pointer, is_pointer_cell, switch_cell, Prefix, IsLayout}
 use Rattle.ecp_line.proofs.Places.{full-lt, entry-order, activity-lt}
-use Rattle.line_writer.{specs.Phases.{IsCleared, IsReady, IsClearing, IsFilling, IsPointing, IsSwitching}, proofs.Keeping.{switch-zero, switch-early, switch-last, early_or_last}}
+use Rattle.line_writer.{specs.Phases.{IsReady, IsPointing, IsSwitching}, proofs.Keeping.{switch-zero, switch-early, switch-last, early_or_last}}
 
 -- a programming that was made of these parts
 made : {B M : ℕ} → Cells B M → Cells B M → Cells B M → Prog B M
 made seen want which = record { seen = seen; want = want; which = which; rounds = 0 }
-
-pub filling-made : {B M : ℕ} (E w : ℕ) (bytes : List ℕ) (held seen want which : Cells B M) → held ≡ seen
-    → active B E (cell held) ≡ w → IsCleared B E (cell held) w → IsWanted B (active B E (cell seen)) (cell seen) bytes (cell want) (cell which)
-    → IsFilling B E w bytes (cell want) (cell which) (cell held)
-filling-made {B} {M} E w bytes held seen want which e count cleared wanted =
-    record {
-      entries = count;
-      cleared = cleared;
-      wanted = subst (λ (h : Cells B M). IsWanted B w (cell h) bytes (cell want) (cell which)) (sym e)
-          (subst (λ (k : ℕ). IsWanted B k (cell seen) bytes (cell want) (cell which)) (ap (λ (h : Cells B M). active B E (cell h)) (sym e) ∙ count) wanted);
-    }
 
 pub pointing-made : (B E w bit : ℕ) (bytes : List ℕ) (want which f stuck : ℕ → Bool) → IsReady B E w f
     → pointer B want w ≡ bit → ((n : ℕ) → which n ≡ is_pointer_cell B w n) → xor (f (source_below B f bit w)) (bit_of bytes bit) ≡ true

@@ -37,6 +37,12 @@ IsProgress {B} {M} {E} writer line (Worn TooMany) =
 IsProgress {B} {M} {E} writer line (Worn (Activity c)) =
     IsSettled writer.prog × IsStuckActivity B E (cell line.held) line.stuck c × IsLowest (is_wrong writer.prog) c
 
+-- how far a programming of a line that wants it to be read as the bytes has come before its first round
+abbrev pub IsFirst : {B M : ℕ} → ℕ → Prog B M → List ℕ → Progress → Type 0
+IsFirst E prog bytes More = IsGoing prog
+IsFirst {B} E prog bytes Stored = IsSettled prog × IsReadAs B E (cell prog.seen) bytes × (decode E prog.seen ≡ bytes)
+IsFirst E prog bytes (Worn cause) = ⊥
+
 -- what a writer and its line are to each other in a phase
 pub record IsWriting {B M E : ℕ} (writer : LineWriter B M E) (line : LineState B M) : Type 0 where
   pub prog : Programs writer.prog line

@@ -3,9 +3,9 @@ ghost use Rattle.std.specs.Prelude.{◌≡◌, ℕ, ◌+◌, ◌-◌, ◌*◌, �
 ghost use Rattle.cell_rows.specs.Device.{LineState};
 ghost use Rattle.cell_rows.specs.Rows.{cell};
 ghost use Rattle.program_verify.specs.Programming.{is_wrong, IsRound, IsTear, IsStatus, IsStuckWhereWrong};
-ghost use Rattle.ecp_line.specs.Layout.{IsLayout, Sound};
+ghost use Rattle.ecp_line.specs.Layout.{active, IsLayout, IsWanted, Sound};
 ghost use Rattle.ecp_line.specs.Reading.{is_worn_line};
-ghost use Rattle.line_writer.specs.Writing.{IsWriting, HasRound, IsDone, Writes, IsFillable, IsInOrder, IsPointable, IsSwitchable, IsProgress, HasBegun, IsWorn, steps_left, most_steps, most_entries};
+ghost use Rattle.line_writer.specs.Writing.{IsWriting, HasRound, IsDone, Writes, IsFillable, IsInOrder, IsPointable, IsSwitchable, IsProgress, HasBegun, IsFirst, IsWorn, steps_left, most_steps, most_entries};
 ghost use Rattle.line_writer.specs.Untouched.{LeavesUnused};
 
 use cell_rows::{CellArray, Cells};
@@ -182,8 +182,8 @@ impl<const B: usize, const M: usize, const E: usize> LineWriter<B, M, E> {
         }
     }
 
-    // A write of a line whose activity cells are in order: the sources of all bits are to be filled. It is made where
-    // it is to stand: a call would copy it five times.
+    // A write of a line whose activity cells are in order: the sources of all bits are to be filled. Its parts are put together last,
+    // and no call is lent the whole: else it would be copied five times.
     #[inline(always)]
     fn filling(seen: Cells<B, M>, bytes: [u8; B], entries: u8) -> LineWriter<B, M, E>
         requires layout { IsLayout B M E }
@@ -194,19 +194,34 @@ impl<const B: usize, const M: usize, const E: usize> LineWriter<B, M, E> {
         ensures steps { steps_left result ≤ 8 + 24 * (E - entries) }
     {
         let (want, which) = Ecp::<B, M, E>::wanted(&seen, &bytes);
-        let mut writer = LineWriter {
-            prog: Prog::new(seen, want, which),
+        let prog = Prog::new(seen, want, which);
+        let progress = LineWriter::<B, M, E>::first(&prog, &seen, &bytes);
+        LineWriter {
+            prog,
             bytes,
             phase: Phase::Fill,
             entries,
-            progress: Progress::More,
-        };
-        match writer.prog.status() {
-            Turn::Going => writer,
-            Turn::Settled { .. } => {
-                writer.progress = writer.filled();
-                writer
-            }
+            progress,
+        }
+    }
+
+    // How far a write of a line that is to be filled has come before its first round: a cell is left to pulse, or the line is read as
+    // the bytes.
+    #[inline(always)]
+    fn first(prog: &Prog<B, M>, seen: &Cells<B, M>, bytes: &[u8; B]) -> Progress
+        requires layout { IsLayout B M E }
+        requires seen { prog.now.seen ≡ seen.now }
+        requires fresh { prog.now.rounds ≡ 0 }
+        requires wanted { IsWanted B (active B E (cell seen.now)) (cell seen.now) bytes.now
+            (cell prog.now.want) (cell prog.now.which) }
+        ensures { IsFirst E prog.now bytes.now result }
+    {
+        match prog.status() {
+            Turn::Going => Progress::More,
+            Turn::Settled { .. } => match Ecp::<B, M, E>::wrong(seen, bytes) {
+                None => Progress::Stored,
+                Some(_) => unreachable!(),
+            },
         }
     }
 
@@ -230,8 +245,6 @@ impl<const B: usize, const M: usize, const E: usize> LineWriter<B, M, E> {
         requires entries { self.old.entries ≤ E }
         ensures line { (line : LineState B M) → IsDone self.old line
             → IsWriting self.new line × IsProgress self.new line result }
-        ensures stored { (line : LineState B M) → IsDone self.old line
-            → ((n : ℕ) → is_wrong self.old.prog n ≡ false) → result ≡ Progress.Stored }
         ensures bytes { self.new.bytes ≡ self.old.bytes }
         ensures steps { steps_left self.new ≤ 24 * (E - self.old.entries)
             + (8 - self.old.prog.rounds) }

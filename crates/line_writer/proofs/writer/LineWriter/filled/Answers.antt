@@ -51,26 +51,17 @@ point-requires g c = grind arith
 pub returns-in-None-clause-line : goal.returns-in-None-clause-line
 returns-in-None-clause-line g c = grind arith
 
-pub returns-in-None-clause-stored : goal.returns-in-None-clause-stored
-returns-in-None-clause-stored g c = grind arith
-
 pub returns-in-None-clause-bytes : goal.returns-in-None-clause-bytes
 returns-in-None-clause-bytes g c = grind arith
 
 pub returns-in-None-clause-steps : goal.returns-in-None-clause-steps
 returns-in-None-clause-steps g c = grind arith
 
-pub returns-in-Some-clause-stored : goal.returns-in-Some-clause-stored
-returns-in-Some-clause-stored g c = grind arith
-
 pub returns-in-Some-clause-bytes : goal.returns-in-Some-clause-bytes
 returns-in-Some-clause-bytes g c = grind arith
 
 pub returns-in-Some-clause-steps : goal.returns-in-Some-clause-steps
 returns-in-Some-clause-steps g c = grind arith
-
-pub returns-in-Some-2-clause-stored : goal.returns-in-Some-2-clause-stored
-returns-in-Some-2-clause-stored g c = grind arith
 
 pub returns-in-Some-2-clause-bytes : goal.returns-in-Some-2-clause-bytes
 returns-in-Some-2-clause-bytes g c = grind arith
