@@ -6,6 +6,7 @@ pub mod Cuts
 pub mod Losing
 pub mod Touched
 pub mod Waits
+mod Stood
 pub mod Begun
 mod Restored
 mod Within

@@ -9,4 +9,5 @@ mod cutting;
 mod restoring;
 mod sensing;
 mod serving;
+mod standing;
 mod stepping;

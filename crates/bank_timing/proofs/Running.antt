@@ -22,6 +22,9 @@ ends-by new end to lasts is same by = omega (arith, is, same, by)
 pub first-fits : (first tick to : ℕ) → first ≤ tick → tick < to → to ≤ 2 ^ 40 → first + 4294967296 < 18446744073709551616
 first-fits first tick to begun before within = omega (arith, begun, before, within)
 
+pub small-first : (first tick : ℕ) → first ≤ tick → tick ≤ 2 ^ 40 → first + 4294967296 < 18446744073709551616
+small-first first tick begun within = omega (arith, begun, within)
+
 module _ {n : ℕ} where
   -- no row arrives with the end of an action
   pub end-brings_none : (h : Happens n) (row : ℕ) → IsTrue (ends_action h) → is_arrival_of h row ≡ false

@@ -1,14 +1,14 @@
 -- What a call makes of a bank with its clock, of its array and of the results, by the events that it adds to the history.
-use Rattle.std.specs.Prelude.{◌≡◌, ◌≢◌, ℕ, ◌+◌, ◌^◌, true, false, IsTrue, List, [], ◌∷◌, ◌++◌, length, None, Some, All, unwrap_or}
+use Rattle.std.specs.Prelude.{◌≡◌, ◌≢◌, ℕ, ◌+◌, ◌^◌, true, false, IsTrue, List, [], ◌∷◌, ◌++◌, length, min, Option, None, Some, All, unwrap_or}
 use Rattle.cell_rows.specs.Device.{ArrayState}
 use Rattle.result_rows.specs.{Table.{HasRow, outcome_at}, declared.Outcome.Outcome, declared.Outcome.TheVariants.Unset}
 use Rattle.masked_bytes.specs.{Entries.has_row, declared.entry.Entry.Entry}
-use Rattle.bank_shape.specs.{Shape.{controls_of, controls_from}, declared.BankShape.BankShape, declared.pace.Pace.Pace, declared.waiting.Waiting.Waiting}
-use Rattle.bank_model.specs.{Adding.Adds, Events.BankEvent, Timing.TimedEvent}
+use Rattle.bank_shape.specs.{Shape.{controls_of, controls_from}, declared.BankShape.BankShape, declared.clock.Action.Action, declared.pace.Pace.Pace, declared.waiting.Waiting.Waiting}
+use Rattle.bank_model.specs.{Adding.Adds, Events.BankEvent, Timing.{TimedEvent, ends}}
 use Rattle.reg_lines.specs.Regs.{RegsState}
 use Rattle.bank_laws.specs.Ticks.{ends_action}
 use Rattle.bank_invariant.specs.State.{BankState, first_bank}
-use Rattle.clock_laws.specs.{Arriving.arrival, Leads.Leads, Recording.outcome_on, Standing.has_waiting, State.ClockState}
+use Rattle.clock_laws.specs.{Arriving.arrival, Leads.Leads, Recording.outcome_on, Standing.has_waiting, State.{ClockState, next_action}}
 
 -- the control lines of a bank that was just made, with no change
 abbrev pub first_regs : {n m e : ℕ} → BankShape → RegsState n m e
@@ -24,6 +24,15 @@ last_tick = 2 ^ 40
 
 abbrev pub last_tick_with_drain : ℕ
 last_tick_with_drain = 2 ^ 41
+
+-- the tick at which an action ends, but at most this one; this one where there is none
+abbrev pub end_by : ℕ → Pace → Option Action → ℕ
+end_by to pace None = to
+end_by to pace (Some action) = min (ends pace action) to
+
+-- so it is of the action that runs from now on
+abbrev pub next_end : {n m e : ℕ} → ℕ → ClockState n m e → ℕ
+next_end to clock = end_by to clock.pace (next_action clock)
 
 -- the outcome of a row in a table
 abbrev pub outcome_in : {n : ℕ} → List (Outcome n) → ℕ → Outcome n

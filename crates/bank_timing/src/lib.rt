@@ -7,6 +7,7 @@ pub mod clocked;
 mod completing;
 mod cutting;
 mod draining;
+mod ending;
 mod recovery;
 
 pub use recovery::recover;

@@ -1,7 +1,7 @@
 mod Standing
 mod Views
-mod Naming
-mod Moving
+pub mod Naming
+pub mod Moving
 mod Logging
 mod Steps
 mod Arriving

@@ -1,6 +1,6 @@
 -- The banks of a module are brought to a tick one after the other.
 use Rattle.std.proofs.Common.{◌≡◌, ℕ, ◌+◌, ◌<◌, ◌≤◌, false, List, [], ◌++◌, Option, Some, None, refl, sym, ap, subst, ◌∙◌, inl, inr, append_assoc, arith}
-use Rattle.std.{specs.Prelude.{All, IsSomeAnd, slice_get, slice_set}, proofs.Math.ListN.length-set, proofs.lemmas.Bool.cases_eq, proofs.lemmas.List.Elements.All-weaker}
+use Rattle.std.{specs.Prelude.{All, IsSomeAnd, slice_get, slice_set}, proofs.Math.ListN.length-set, proofs.lemmas.Bool.cases_eq, proofs.lemmas.List.Elements.{All-append, All-nil, All-weaker}}
 use Rattle.circular_buffer.proofs.Places.{slice_get-set_same, slice_get-set_other}
 use Rattle.cell_rows.specs.Device.{ArrayState}
 use Rattle.masked_bytes.specs.Entries.{has_row}
@@ -11,7 +11,7 @@ use Rattle.feistel_map.specs.Network.{Network}
 use Rattle.module_shape.specs.Addresses.{module_of, bank_shape}
 use Rattle.clock_laws.specs.{Leads.Leads, Standing.has_waiting, State.ClockState}
 use Rattle.module_laws.specs.Asking.{Asked}
-use Rattle.bank_timing.specs.Extending.{Extends, IsOpen, IsQuiet, LeavesOthers, last_tick}
+use Rattle.bank_timing.specs.Extending.{EndsAction, Extends, IsOpen, IsQuiet, LeavesOthers, last_tick}
 use Rattle.right_runs.specs.Banks.{pacing_in, bank_of_line, line_in_bank}
 use Rattle.pcm_module.specs.{Replaying.{BankReplays, Replays, ReplaysIn, IsReplayed, asked_in_bank}, Settling.{IsAtTick, MaySettle, AreSettled}, Shaped.{IsModule, IsBankOf}}
 use Rattle.pcm_module.{specs.State.ModuleState, specs.Stepping.IsAt, proofs.Arriving.own_asked}
@@ -40,6 +40,7 @@ module _ {n m e : ℕ} (tick : ℕ) (module_ : ModuleState n m e) (before : Arra
       λ k there.
           later_replays (shape_of k) (pacing_in module_.shape) module_.tick tick module_.rows_below module_.rows_below (h k) (asked_in_bank module_ k asked) before results (slice_get banks k) may.forward (omega arith)
           (subst (λ (cs : List (ClockState n m e)). IsSomeAnd (slice_get cs k) (ReplaysIn module_ k (h k) asked before results)) may.same (f.banks k there)),
+      λ k. All-nil EndsAction,
     );
     open_rows = λ row above is. is;
     others = λ row has nowhere. refl;
@@ -60,6 +61,7 @@ module _ {n m e : ℕ} (tick : ℕ) (module_ : ModuleState n m e) (before : Arra
       replays_on : (h : ℕ → List (TimedEvent n m)) (asked : List (Asked n)) → Replays h asked module_ before results
           → (added : ℕ → List (TimedEvent n m))
           × AllReplay (module_of module_.shape) (pacing_in module_.shape) tick module_.rows_below (λ k. added k ++ h k) (λ k. asked_in_bank module_ k asked) after ended (slice_set banks reached next)
+          × ((k : ℕ) → IsQuiet (added k))
       replays_on h asked f =
           let went = so_far.replays h asked f in
           let first = settle_replays h asked f in
@@ -79,6 +81,12 @@ module _ {n m e : ℕ} (tick : ℕ) (module_ : ModuleState n m e) (before : Arra
                 (λ other off. has other)
                 (λ other off. apart_rows home number reached other (λ e. off (sym e)) asked f.rows)
                 (omega arith) (omega arith),
+            (λ k. elim (cases_eq k reached) [
+              | inl same ↦
+                  subst (λ (xs : List (TimedEvent n m)). IsQuiet xs) (sym (changed_at reached (s.0 ++ went.0 reached) went.0 k same))
+                  (All-append EndsAction s.0 (went.0 reached) s.2 (went.2 reached))
+              | inr off ↦ subst (λ (xs : List (TimedEvent n m)). IsQuiet xs) (sym (changed_off reached (s.0 ++ went.0 reached) went.0 k off)) (went.2 k)
+            ]),
           )
 
       -- the next bank has come to the tick
@@ -137,7 +145,7 @@ module _ {n m e : ℕ} {tick : ℕ} {module_ : ModuleState n m e} {banks : List 
 
   -- all banks have come to the tick
   pub settle_every : (h : ℕ → List (TimedEvent n m)) (asked : List (Asked n)) → Replays h asked module_ before results
-      → (added : ℕ → List (TimedEvent n m)) × Replays (λ k. added k ++ h k) asked settled_module after recorded
+      → (added : ℕ → List (TimedEvent n m)) × Replays (λ k. added k ++ h k) asked settled_module after recorded × ((k : ℕ) → IsQuiet (added k))
   settle_every h asked f =
       let went = d.replays h asked f in (
         went.0,
@@ -151,6 +159,7 @@ module _ {n m e : ℕ} {tick : ℕ} {module_ : ModuleState n m e} {banks : List 
           below = f.below;
           in_table = All-weaker (λ (c : Asked n). HasRow results c.row) (λ (c : Asked n). HasRow recorded c.row) (λ c has. row_kept results recorded c.row d.rows has) asked f.in_table;
         },
+        went.2,
       )
 
   -- a module whose banks have come to a tick is still one

@@ -5,7 +5,7 @@ ghost use Rattle.result_rows.specs.Table.{HasRow};
 ghost use Rattle.bank_model.specs.Timing.{TimedEvent};
 ghost use Rattle.module_shape.specs.Addresses.{module_of, array_lines_of};
 ghost use Rattle.module_laws.specs.Asking.{Asked};
-ghost use Rattle.bank_timing.specs.Extending.{IsOpen, outcome_in, last_tick};
+ghost use Rattle.bank_timing.specs.Extending.{IsOpen, IsQuiet, outcome_in, last_tick};
 ghost use Rattle.pcm_module.specs.State.{ModuleState, StandsNowhere};
 ghost use Rattle.pcm_module.specs.Replaying.{Replays};
 ghost use Rattle.pcm_module.specs.Taking.{StaysBeyond};
@@ -46,6 +46,12 @@ impl<const B: usize, const M: usize, const E: usize> Module<B, M, E> {
             → (added : ℕ → List (TimedEvent B M))
             × Replays (λ bank. added bank ++ h bank) asked self.new (A.state array.new)
             (R.table results.new) }
+        // by ends of actions alone
+        ensures quiet { (h : ℕ → List (TimedEvent B M)) (asked : List (Asked B))
+            → Replays h asked self.old (A.state array.old) (R.table results.old)
+            → (added : ℕ → List (TimedEvent B M))
+            × Replays (λ bank. added bank ++ h bank) asked self.new (A.state array.new)
+            (R.table results.new) × ((bank : ℕ) → IsQuiet (added bank)) }
         ensures open { (row : ℕ) → self.old.rows_below ≤ row → IsOpen (R.table results.old) row
             → IsOpen (R.table results.new) row }
         ensures others { (row : ℕ) → HasRow (R.table results.old) row → StandsNowhere self.old row

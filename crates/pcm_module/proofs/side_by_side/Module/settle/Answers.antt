@@ -35,6 +35,13 @@ returns-clause-table g c = (settled g (goal.at.returns-clause-table g c).After-s
 pub returns-clause-replays : goal.returns-clause-replays
 returns-clause-replays g c =
     let a = (goal.at.returns-clause-replays g c).After-settle_all in
+    rw (← c.self.view_is) (λ h asked f.
+    let on = settle_every (settled g a) (forward g a) h asked f in
+    (on.0, on.1))
+
+pub returns-clause-quiet : goal.returns-clause-quiet
+returns-clause-quiet g c =
+    let a = (goal.at.returns-clause-quiet g c).After-settle_all in
     rw (← c.self.view_is) (settle_every (settled g a) (forward g a))
 
 pub returns-clause-open : goal.returns-clause-open
