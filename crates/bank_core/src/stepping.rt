@@ -105,6 +105,7 @@ impl<const B: usize, const M: usize, const E: usize> Bank<B, M, E> {
     }
 
     // Ends a work that is done, whose array line was this.
+    #[inline(always)]
     pub(crate) fn done(&mut self, work: Work, place: u32) -> Step
         requires some { IsTrue (is_some_work work) }
         requires next { work ≡ next_work self.old.kept }

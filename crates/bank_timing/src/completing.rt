@@ -204,6 +204,7 @@ impl<const B: usize, const M: usize, const E: usize> Timed<B, M, E> {
     }
 
     // The change that a step of the bank's line write for this work brings is put, with the values that the bank keeps now.
+    #[inline(always)]
     fn put(&mut self, work: Work, step: Step)
         requires free { IfSome (item_from self.old.bank.kept.shape work step)
             (λ item. self.old.regs.change ≡ None) }

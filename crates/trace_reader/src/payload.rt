@@ -56,6 +56,7 @@ fn read_digits(text: &[u8], bytes: &mut [u8]) -> bool
 }
 
 /// The `B` bytes that a text of `2 * B` hexadecimal digits of either case writes.
+#[inline(always)]
 pub fn bytes_from_digits<const B: usize>(text: &[u8]) -> Option<[u8; B]>
     ensures { result ≡ bytes_of B text.now }
 {

@@ -104,6 +104,7 @@ pub fn plain_row(bytes: &[u8], from: usize) -> Option<PlainRow>
 }
 
 /// What a plain row says as a row of a trace.
+#[inline(always)]
 pub fn read_plain_row<const B: usize>(
     bytes: &[u8],
     from: usize,

@@ -37,6 +37,7 @@ fn read_line(text: &[u8], lines: u32) -> Result<u32, Kind>
 }
 
 // A read has a line and no payload.
+#[inline(always)]
 #[tactic(auto, unfolding(crate::specs::Rows::read_of))]
 fn plain_read<const B: usize>(line: &[u8], payload: &[u8], lines: u32) -> Result<EventOp<B>, Kind>
     requires { 1 ≤ lines }
@@ -51,6 +52,7 @@ fn plain_read<const B: usize>(line: &[u8], payload: &[u8], lines: u32) -> Result
 }
 
 // A write has a line and all its bytes.
+#[inline(always)]
 #[tactic(auto, unfolding(crate::specs::Rows::write_of))]
 fn whole_write<const B: usize>(line: &[u8], payload: &[u8], lines: u32) -> Result<EventOp<B>, Kind>
     requires { 1 ≤ lines }
@@ -72,6 +74,7 @@ fn masked_write<const B: usize>(line: &[u8], payload: &[u8], lines: u32) -> Resu
     Ok(EventOp::Mask(line, masked.bytes, masked.given))
 }
 
+#[inline(always)]
 #[tactic(auto, unfolding(crate::specs::Rows::op_of, crate::specs::Rows::cut_of))]
 fn read_op<const B: usize>(
     op: &[u8],
@@ -99,7 +102,9 @@ fn read_op<const B: usize>(
     }
 }
 
-/// What four fields say as a row of a trace, where the row before has the tick `before`.
+/// What four fields say as a row of a trace, where the row before has the tick `before`. It is read where its event is to stand: a call
+/// would copy that three times.
+#[inline(always)]
 pub fn read_fields<const B: usize>(
     tick: &[u8],
     op: &[u8],
