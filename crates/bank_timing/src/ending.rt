@@ -10,9 +10,10 @@ impl<const B: usize, const M: usize, const E: usize> Timed<B, M, E> {
         requires within { self.now.tick ≤ last_tick }
         ensures { result ≡ next_end to self.now }
     {
+        let pace = self.pace;
         match self.next_action() {
             None => to,
-            Some(action) => action.ends(self.pace.read, self.pace.iter).min(to),
+            Some(action) => action.ends(pace.read, pace.iter).min(to),
         }
     }
 }
