@@ -177,7 +177,8 @@ class Build:
         self.sorter.done(crate)
 
     def may_begin(self, crate):
-        return crate in self.order.wide or len(self.running) < PROCESSORS
+        # (what is kept takes no processor, so it waits for none)
+        return keeping.is_kept(crate, stamp(crate)) or crate in self.order.wide or len(self.running) < PROCESSORS
 
     def prove(self):
         while self.sorter.is_active():
