@@ -2,15 +2,15 @@
 use Rattle.std.proofs.Common.{◌≡◌, ◌≢◌, ℕ, ◌+◌, ◌*◌, ◌<◌, ◌≤◌, Bool, false, cond, List, length, set, refl, sym, ◌∙◌, ap, subst, inl, inr, arith, length-set, get_or-set_same, get_or-set_other, Option, Some, None}
 use Rattle.std.{specs.Prelude.is_some, proofs.lemmas.Bool.cases_eq, proofs.lemmas.Option.{none-some, same_Some}}
 use Rattle.cell_rows.specs.{Device.counted, Rows.cell, declared.array.Wear.Wear, declared.row.Cells.Cells}
-use Rattle.pcm_cells.specs.{Follows.Follows, PageTable.{WearsPage, page_at}, Paged.{AreYoung, line_seen}, Pages.HaveSameLife, Tiers.{AgesYoung, young_or_blank}}
-use Rattle.pcm_cells.specs.{Seeded.{LifeLine, seeded, seeded_cell}, Young.{IsYoung, IsYouth, MayAge, blank_young, grown_line}, declared.young.Young.Young}
-use Rattle.pcm_cells.proofs.{PagingLemmas.{seen-grown, seen-young}, YoungLemmas.{blank_alike, blank_is_young, grown_pulses, may_age, young_ages, young_follows}}
+use Rattle.pcm_cells.specs.{Begun.{AgesLine, Starts, pulses_before}, Follows.Follows, PageTable.{WearsPage, page_at}, Paged.{AreYoung, line_seen}, Pages.HaveSameLife}
+use Rattle.pcm_cells.specs.{Seeded.{LifeLine, seeded, seeded_cell}, Young.{IsYoung, IsYouth, MayAge, grown_line}, declared.young.Young.Young}
+use Rattle.pcm_cells.proofs.{PagingLemmas.{seen-grown, seen-young}, YoungLemmas.{begun_alike, begun_is_young, grown_pulses, may_age, young_ages, young_follows}}
 
--- a line without a page is as one with a young page that was never pulsed
-young_alike : {B M : ℕ} (wear : Wear) (line : ℕ) (page : Option (Young B M)) → HaveSameLife (line_seen wear line page None) (grown_line wear line (young_or_blank page))
+-- a line is as the young one that its next pulse finds
+young_alike : {B M : ℕ} (wear : Wear) (line : ℕ) (page : Option (Young B M)) (before : Young B M) → Starts wear line page before → HaveSameLife (line_seen wear line page None) (grown_line wear line before)
 unfolding line_seen
-young_alike {B} {M} wear line None = blank_alike wear line (blank_young B M) refl
-young_alike wear line (Some young) = record { line = refl; cells = λ n. refl }
+young_alike wear line None before starts = begun_alike wear line before starts
+young_alike wear line (Some young) before starts = rw starts (record { line = refl; cells = λ n. refl })
 
 -- what becomes of the lines where one is pulsed that stays young
 pub record Ages {B M : ℕ} (wear : Wear) (limit line : ℕ) (tearing : Bool) (mask want : Cells B M) (old new : ℕ → Option (Young B M))
@@ -22,42 +22,44 @@ pub record Ages {B M : ℕ} (wear : Wear) (limit line : ℕ) (tearing : Bool) (m
   pub young : AreYoung wear limit new
 
 -- a line is young whether or not it has a page
-young_there : {B M : ℕ} (wear : Wear) (limit line : ℕ) (page : Option (Young B M)) → IsYouth wear limit → ((young : Young B M) → page ≡ Some young → IsYoung wear limit line young)
-    → (young_or_blank page).pulses < limit → IsYoung wear limit line (young_or_blank page)
-young_there {B} {M} wear limit line None youth each few = blank_is_young B M wear limit line (youth.sure (omega (arith, few)))
-young_there wear limit line (Some young) youth each few = each young refl
+young_there : {B M : ℕ} (wear : Wear) (limit line : ℕ) (page : Option (Young B M)) (before : Young B M) → Starts wear line page before
+    → ((young : Young B M) → page ≡ Some young → IsYoung wear limit line young) → pulses_before page < limit → IsYoung wear limit line before × (before.pulses < limit)
+young_there wear limit line None before starts each few = (begun_is_young wear limit line before starts, (let none = starts.pulses in omega (arith, none, few)))
+young_there {B} {M} wear limit line (Some young) before starts each few = rw starts (each young refl, few)
 
 -- and it may be pulsed
 pub may_age_there : {B M : ℕ} (wear : Wear) (limit line : ℕ) (old : ℕ → Option (Young B M)) → IsYouth wear limit → AreYoung wear limit old
-    → (young_or_blank (old line)).pulses < limit → MayAge 511 (young_or_blank (old line))
-may_age_there wear limit line old youth all few =
-    may_age wear limit line (young_or_blank (old line)) youth (young_there wear limit line (old line) youth (all.each line) few) few
+    → pulses_before (old line) < limit → (young : Young B M) → old line ≡ Some young → MayAge 511 young
+may_age_there wear limit line old youth all few young is =
+    may_age wear limit line young youth (all.each line young is) (subst (λ (k : ℕ). k < limit) (ap pulses_before is) few)
 
 pub line_ages : {B M : ℕ} (wear : Wear) (limit line : ℕ) (tearing : Bool) (mask want : Cells B M) (old new : ℕ → Option (Young B M)) (grown : List (Option (LifeLine B M)))
-    → IsYouth wear limit → AreYoung wear limit old → page_at grown line ≡ None → (young_or_blank (old line)).pulses < limit
-    → ((n : ℕ) → 8 * (B + M) ≤ n → cell mask n ≡ false) → AgesYoung line tearing mask want old new → Ages wear limit line tearing mask want old new grown
+    → IsYouth wear limit → AreYoung wear limit old → page_at grown line ≡ None → pulses_before (old line) < limit
+    → ((n : ℕ) → 8 * (B + M) ≤ n → cell mask n ≡ false) → AgesLine wear line tearing mask want old new → Ages wear limit line tearing mask want old new grown
 line_ages {B} {M} wear limit line tearing mask want old new grown youth all none few past ages =
-    let before : Young B M = young_or_blank (old line) in
-    let is_young : IsYoung wear limit line before = young_there wear limit line (old line) youth (all.each line) few in
-    let alike : HaveSameLife (line_seen wear line (old line) (page_at grown line)) (grown_line wear line before) = rw none (young_alike wear line (old line)) in
+    let before : Young B M = ages.before in
+    let there = young_there wear limit line (old line) before ages.was (all.each line) few in
+    let is_young : IsYoung wear limit line before = there.0 in
+    let few_before : before.pulses < limit = there.1 in
+    let alike : HaveSameLife (line_seen wear line (old line) (page_at grown line)) (grown_line wear line before) = rw none (young_alike wear line (old line) before ages.was) in
     let after : line_seen wear line (new line) (page_at grown line) ≡ grown_line wear line ages.after =
     seen-young wear line (new line) (page_at grown line) ages.after none ages.is in
     record {
       cells = λ n.
           ap (λ (l : LifeLine B M). seeded_cell l n) after
-          ∙ young_follows wear limit line tearing mask want before ages.after youth is_young few past ages.cells n
+          ∙ young_follows wear limit line tearing mask want before ages.after youth is_young few_before past ages.cells n
           ∙ ap (λ x. cond (cell mask n) (seeded tearing (cell want) n x) x) (sym (alike.cells n));
       pulses =
           let new_is = ap (λ (l : LifeLine B M). l.line.pulses) after ∙ grown_pulses wear line ages.after ∙ ages.pulses in
           let old_is = ap (λ l. l.pulses) alike.line ∙ grown_pulses wear line before in
-          new_is ∙ omega (arith, old_is, few, youth.few);
+          new_is ∙ omega (arith, old_is, few_before, youth.few);
       others = λ n apart. ap (λ o. line_seen wear n o (page_at grown n)) (ages.others n apart);
       young = record {
         each = λ n young at.
             elim (cases_eq n line) as (λ _. IsYoung wear limit n young) [
               | inl here ↦
                   let own : ages.after ≡ young = same_Some ages.after young (sym ages.is ∙ sym (ap new here) ∙ at) in
-                  rw here (subst (IsYoung wear limit line) own (young_ages wear limit line tearing mask want before ages.after is_young few ages.cells ages.pulses))
+                  rw here (subst (IsYoung wear limit line) own (young_ages wear limit line tearing mask want before ages.after is_young few_before ages.cells ages.pulses))
               | inr apart ↦ all.each n young (sym (ages.others n apart) ∙ at)
             ];
       };

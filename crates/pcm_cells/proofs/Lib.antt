@@ -15,6 +15,7 @@ pub mod PageLemmas
 pub mod YoungLemmas
 pub mod TableLemmas
 pub mod TierLemmas
+pub mod BegunLemmas
 pub mod PagingLemmas
 pub mod AgeLemmas
 pub mod EnduranceLemmas

@@ -1,6 +1,6 @@
 -- Lines and their pages.
-use Rattle.std.proofs.Common.{◌≡◌, ◌≢◌, ℕ, ◌<◌, Bool, cond, List, length, replicate, get_or, refl, sym, ◌∙◌, ap, subst, inl, inr, arith, Option, Some, None}
-use Rattle.std.{specs.Option.option_map, proofs.lemmas.{Bool.cases_lt, List.{get_or_past, get_or-replicate, length-replicate}, Option.{none-some, same_Some}}}
+use Rattle.std.proofs.Common.{◌≡◌, ◌≢◌, ℕ, ◌<◌, Bool, cond, length, replicate, get_or, refl, sym, ◌∙◌, ap, subst, inl, inr, arith, Option, Some, None}
+use Rattle.std.{specs.Option.option_map, proofs.lemmas.{Bool.cases_lt, List.{get_or_past, length-replicate}, Option.{none-some, same_Some}}}
 use Rattle.std.proofs.lemmas.List.FromFn.{get_or-map-range_with_len, length-map-range_with_len}
 use Rattle.cell_rows.specs.{Device.counted, Rows.cell, declared.array.Wear.Wear, declared.row.Cells.Cells}
 use Rattle.pcm_cells.specs.{Follows.Follows, PageTable.page_at, Paged.{AreYoung, line_seen}, Pages.drawn_line, Paging.{seen, lines_seen}, Young.grown_line, Youths.young_at}

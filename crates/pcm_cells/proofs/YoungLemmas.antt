@@ -1,10 +1,10 @@
 -- Lines of which no cell can be near its end.
 use Rattle.std.proofs.Common.{◌≡◌, ℕ, ◌+◌, ◌-◌, ◌*◌, ◌%◌, ◌<◌, ◌≤◌, ◌&&◌, Bool, true, false, not, cond, eqb, length, get_or, refl, sym, ◌∙◌, ap, inl, inr, arith, slice_index}
-use Rattle.std.{specs.Prelude.{nat_le, nat_lt}, proofs.lemmas.Bool.{cases_lt, lt-leb}}
+use Rattle.std.{specs.Prelude.{nat_le, nat_lt}, proofs.lemmas.Bool.{cases_lt, lt-leb, ltb-true}}
 use Rattle.std.proofs.{lemmas.List.{get_or_past}, lemmas.List.FromFn.{get_or-map-range_with_len, length-map-range_with_len}}
-use Rattle.cell_rows.{specs.Rows.{cell, members}, specs.declared.array.Wear.Wear, specs.declared.row.Cells.Cells, proofs.RowLemmas.cell-zeros}
+use Rattle.cell_rows.{specs.Rows.{cell, members, zero_row}, specs.declared.array.Wear.Wear, specs.declared.row.Cells.Cells, proofs.RowLemmas.cell-zeros}
 use Rattle.cell_wear.{specs.Told.most, proofs.Most.most-same}
-use Rattle.pcm_cells.specs.{Counts.count, Follows.Follows, Pages.{word_of, drawn_line, HaveSameLife, changes_of}, Planes.{PlaneLine, digit}}
+use Rattle.pcm_cells.specs.{Begun.IsBegun, Counts.count, Follows.Follows, Pages.{word_of, drawn_line, HaveSameLife, changes_of}, Planes.{PlaneLine, digit, zero_digits}}
 use Rattle.pcm_cells.specs.Seeded.{LifeLine, changed, left_of, endurance, miss_limit, stuck_value, pulsed, seeded, seeded_cell}
 use Rattle.pcm_cells.specs.Young.{YoungCell, IsYouth, IsYoung, MayAge, aging, blank_young, changes_in, grown_line, tried, young_cell}
 use Rattle.pcm_cells.specs.{declared.counts.Counts.Counts, declared.digits.Digits.Digits, declared.seeded.SeededCell.SeededCell, declared.young.Young.Young}
@@ -79,6 +79,11 @@ tries_here {B} {M} tearing masked missing changing want old new n missing_is cha
     by false true false = refl
     by false false true = refl
     by false false false = refl
+
+-- a cell that misses has missed less than its limit, which is at most seven
+pub missing_few : (reached : Bool) (misses limit : ℕ) → (reached && nat_lt misses limit) ≡ true → limit ≤ 7 → misses < 7
+missing_few true misses limit less few = omega (arith, ltb-true misses limit less, few)
+missing_few false misses limit less few = absurd (cc less)
 
 -- the same of cells that don't miss
 pub ages_here : {B M : ℕ} (tearing masked : Bool) (want : ℕ → Bool) (old new : Young B M) (n : ℕ) (changing : Bool)
@@ -232,40 +237,66 @@ may_age wear limit line young youth is few = record {
 }
 
 -- a new line of cells that don't miss
-pub blank_is_young : (B M : ℕ) (wear : Wear) (limit line : ℕ) → wear.misses ≡ 0 → IsYoung wear limit line (blank_young B M)
-blank_is_young B M wear limit line sure = record {
-  pulses = omega arith;
-  changes = λ n. omega (arith, changes-none B M n);
+pub blank_begins : (B M : ℕ) (wear : Wear) (line : ℕ) → wear.misses ≡ 0 → IsBegun wear line (blank_young B M)
+blank_begins B M wear line sure = record {
+  held = refl;
+  misses = refl;
+  changes = changes-none B M;
   limits = λ n low.
       let none : miss_limit wear (word_of wear line n) ≡ 0 = omega (arith, sure) in
       digit-zeros B M n ∙ sym none;
+  pulses = refl;
+}
+
+-- and one whose limits were drawn
+pub begun_of : {B M : ℕ} (wear : Wear) (line : ℕ) (young : Young B M) → young.held ≡ zero_row B M → young.misses ≡ zero_digits B M → young.low ≡ zero_digits B M
+    → young.middle ≡ zero_digits B M → young.high ≡ zero_digits B M → young.pulses ≡ 0
+    → ((n : ℕ) → n < 8 * (B + M) → digit young.limits n ≡ miss_limit wear (word_of wear line n)) → IsBegun wear line young
+unfolding changes_in
+begun_of {B} {M} wear line young held misses low middle high pulses limits = record {
+  held = held;
+  misses = misses;
+  changes = λ n. rw (low, middle, high, digit-zeros B M n) refl;
+  limits = limits;
+  pulses = pulses;
+}
+
+-- a new line is young
+pub begun_is_young : {B M : ℕ} (wear : Wear) (limit line : ℕ) (young : Young B M) → IsBegun wear line young → IsYoung wear limit line young
+begun_is_young wear limit line young begun = record {
+  pulses = omega (arith, begun.pulses);
+  changes = λ n. omega (arith, begun.changes n);
+  limits = begun.limits;
 }
 
 -- a line that was never pulsed, as it is drawn and as a young one
-pub blank_alike : {B M : ℕ} (wear : Wear) (line : ℕ) (young : Young B M) → young ≡ blank_young B M → HaveSameLife (drawn_line B M wear line) (grown_line wear line young)
+pub begun_alike : {B M : ℕ} (wear : Wear) (line : ℕ) (young : Young B M) → IsBegun wear line young → HaveSameLife (drawn_line B M wear line) (grown_line wear line young)
 unfolding drawn_line grown_line
-blank_alike {B} {M} wear line young is = record {
-  line = rw is refl;
+begun_alike {B} {M} wear line young begun = record {
+  line = rw (begun.held, begun.misses, begun.pulses) refl;
   cells = λ n.
-      let blank : Young B M = blank_young B M in
       let size : length (drawn_line B M wear line).left ≡ 8 * (B + M) = length-map-range_with_len (λ k. endurance wear (word_of wear line k)) 0 (8 * (B + M)) in
-      let size_new : length (grown_line wear line blank).left ≡ 8 * (B + M) = length-map-range_with_len (λ k. endurance wear (word_of wear line k) - changes_in blank k) 0 (8 * (B + M)) in
-      rw is (elim (cases_lt n (8 * (B + M))) as (λ _. seeded_cell (drawn_line B M wear line) n ≡ seeded_cell (grown_line wear line blank) n) [
+      let size_new : length (grown_line wear line young).left ≡ 8 * (B + M) = length-map-range_with_len (λ k. endurance wear (word_of wear line k) - changes_in young k) 0 (8 * (B + M)) in
+      elim (cases_lt n (8 * (B + M))) as (λ _. seeded_cell (drawn_line B M wear line) n ≡ seeded_cell (grown_line wear line young) n) [
         | inl low ↦
-            let whole : endurance wear (word_of wear line n) - changes_in blank n ≡ endurance wear (word_of wear line n) = omega (arith, changes-none B M n) in
+            let whole : endurance wear (word_of wear line n) - changes_in young n ≡ endurance wear (word_of wear line n) = omega (arith, begun.changes n) in
             rw (
               get_or-map-range_with_len (λ k. endurance wear (word_of wear line k)) 0 (8 * (B + M)) n n 0 low (omega arith),
-              get_or-map-range_with_len (λ k. endurance wear (word_of wear line k) - changes_in blank k) 0 (8 * (B + M)) n n 0 low (omega arith),
+              get_or-map-range_with_len (λ k. endurance wear (word_of wear line k) - changes_in young k) 0 (8 * (B + M)) n n 0 low (omega arith),
               whole,
+              begun.held,
+              begun.misses,
             )
             refl
         | inr high ↦
             rw (
               get_or_past (drawn_line B M wear line).left n 0 (omega (arith, high, size)),
-              get_or_past (grown_line wear line blank).left n 0 (omega (arith, high, size_new)),
+              get_or_past (grown_line wear line young).left n 0 (omega (arith, high, size_new)),
+              begun.held,
+              begun.misses,
             )
             refl
-      ]);
+      ];
 }
 
 -- a line whose words were drawn later

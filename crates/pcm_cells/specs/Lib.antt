@@ -13,6 +13,8 @@ pub mod Tiers
 pub mod Table
 pub mod PageTable
 pub mod Counting
+pub mod Begun
+pub mod Tiered
 pub mod Youths
 pub mod Paged
 pub mod Paging

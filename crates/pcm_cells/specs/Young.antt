@@ -47,10 +47,9 @@ grown_line {B} {M} wear line young = record {
   ends = row_of B M (λ n. stuck_value (word_of wear line n));
 }
 
--- so many pulses a line may have while it is young: cells don't miss, and none sticks before it changed more often
+-- so many pulses a line may have while it is young: no cell sticks before it changed more often
 pub record IsYouth (wear : Wear) (limit : ℕ) : Type 0 where
   pub few : limit ≤ 511
-  pub sure : 1 ≤ limit → wear.misses ≡ 0
   pub early : limit < wear.lo
 
 -- a line is young: no cell changed more often than it was pulsed, and each misses as often as its word says

@@ -1,11 +1,25 @@
 -- The lines of an array that are young.
-use Rattle.std.specs.Prelude.{ℕ, length, Option}
-use Rattle.pcm_cells.specs.{PageTable.page_at, Tiers.tier_of, declared.young.Young.Young, declared.youths.Youths.Youths}
+use Rattle.std.specs.Prelude.{ℕ, ◌≡◌, Bool, true, false, length, Option, IsTrue}
+use Rattle.cell_rows.specs.declared.array.Wear.{Wear}
+use Rattle.pcm_cells.specs.{PageTable.page_at, Tiered.tier_at, declared.young.Young.Young}
+use Rattle.pcm_cells.specs.declared.youths.Youths.{Youths}
+use Rattle.pcm_cells.specs.declared.youths.Youths.TheVariants.{Missing, Sure}
 
 -- the young page of the line with this number
 abbrev pub young_at : {B M : ℕ} → Youths B M → ℕ → Option (Young B M)
-young_at youths line = tier_of (page_at youths.later line) (page_at youths.first line)
+young_at (Sure tiers) line = tier_at tiers line
+young_at (Missing pages) line = page_at pages line
 
 -- of how many lines there may be pages
 abbrev pub young_lines : {B M : ℕ} → Youths B M → ℕ
-young_lines youths = length youths.first
+young_lines (Sure tiers) = length tiers.first
+young_lines (Missing pages) = length pages
+
+-- whether these are the pages of cells that don't miss
+abbrev pub are_sure : {B M : ℕ} → Youths B M → Bool
+are_sure (Sure tiers) = true
+are_sure (Missing pages) = false
+
+-- such pages are kept only where no cell misses
+abbrev pub Suits : {B M : ℕ} → Wear → Youths B M → Type 0
+Suits wear youths = IsTrue (are_sure youths) → wear.misses ≡ 0

@@ -20,6 +20,7 @@ mod script;
 mod seeded;
 mod table;
 mod tally;
+mod tiers;
 mod young;
 mod youths;
 

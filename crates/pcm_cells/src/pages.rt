@@ -8,9 +8,9 @@ ghost use Rattle.pcm_cells.specs.Follows.{Follows};
 ghost use Rattle.pcm_cells.specs.Seeded.{seeded, seeded_cell};
 ghost use Rattle.pcm_cells.specs.PageTable.{page_at};
 ghost use Rattle.pcm_cells.specs.Paged.{AreYoung, line_seen};
-ghost use Rattle.pcm_cells.specs.Tiers.{young_or_blank};
+ghost use Rattle.pcm_cells.specs.Begun.{pulses_before};
 ghost use Rattle.pcm_cells.specs.Young.{IsYouth};
-ghost use Rattle.pcm_cells.specs.Youths.{young_at, young_lines};
+ghost use Rattle.pcm_cells.specs.Youths.{Suits, young_at, young_lines};
 
 use crate::line::has_end;
 use crate::page_table::PageTable;
@@ -31,6 +31,7 @@ pub(crate) struct Pages<const B: usize, const M: usize> {
     grown: PageTable<SeededLine<B, M>>,
     ghost wears: { IsWear wear },
     ghost youth: { IsYouth wear limit },
+    ghost suits: { Suits wear young },
     ghost young_pages: { AreYoung wear limit (young_at young) },
     ghost same_lines: { young_lines young ≡ length grown },
 }
@@ -40,11 +41,7 @@ fn young_limit(wear: Wear) -> u64
     requires { IsWear wear }
     ensures { IsYouth wear result }
 {
-    if wear.misses == 0 {
-        (wear.lo as u64 - 1).min(511)
-    } else {
-        0
-    }
+    (wear.lo as u64 - 1).min(511)
 }
 
 impl<const B: usize, const M: usize> Pages<B, M> {
@@ -61,7 +58,7 @@ impl<const B: usize, const M: usize> Pages<B, M> {
         Ok(Pages {
             wear,
             limit: young_limit(wear),
-            young: Youths::blank(alloc, lines)?,
+            young: Youths::blank(alloc, lines, wear)?,
             grown: PageTable::blank(alloc, lines)?,
         })
     }
@@ -143,7 +140,7 @@ impl<const B: usize, const M: usize> Pages<B, M> {
         requires exists { line < length self.now.grown }
         ensures young { IsTrue result → page_at self.now.grown line ≡ None }
         ensures few { IsTrue result
-            → (young_or_blank (young_at self.now.young line)).pulses < self.now.limit }
+            → pulses_before (young_at self.now.young line) < self.now.limit }
     {
         match self.grown.get(line) {
             Some(_) => false,
@@ -158,13 +155,13 @@ impl<const B: usize, const M: usize> Pages<B, M> {
     fn age(&mut self, line: u32, tearing: bool, mask: &Cells<B, M>, want: &Cells<B, M>)
         requires exists { line < length self.old.grown }
         requires young { page_at self.old.grown line ≡ None }
-        requires few { (young_or_blank (young_at self.old.young line)).pulses < self.old.limit }
+        requires few { pulses_before (young_at self.old.young line) < self.old.limit }
         requires shape { IsShape B M }
         requires whole { IsWhole B M }
         ensures { WearsLine line tearing mask.now want.now self.old self.new }
     {
         has_end(mask);
-        self.young.age(line, tearing, mask, want);
+        self.young.age(self.wear, line, tearing, mask, want);
     }
 
     // The page of a line that has no grown one yet, whose words are drawn now.

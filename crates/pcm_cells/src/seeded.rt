@@ -323,6 +323,13 @@ impl<const B: usize, const M: usize> SeededLine<B, M> {
         self.pulses = self.pulses.saturating_add(1);
     }
 
+    // How often each cell misses before a change.
+    pub(crate) fn limits(&self) -> Digits<B, M>
+        ensures { result ≡ self.now.limits }
+    {
+        self.settled.limits
+    }
+
     pub(crate) fn held(&self) -> Cells<B, M>
         ensures { result ≡ self.now.line.held }
     {
@@ -376,7 +383,7 @@ ghost use Rattle.pcm_cells.specs.Seeded.{bounds_of, seeded_line, seeded_state, W
 /// Contracts see it as a `SeededArray`.
 ///
 /// `power_up` takes room for all lines and draws no word: those of a line are drawn at the first pulse or tear
-/// at which one of its cells may be near its end, or may miss.
+/// at which one of its cells may be near its end, or at its first one, where cells miss.
 #[derive(Drop)]
 pub struct MemArray<const B: usize, const M: usize> {
     lines: Option<Pages<B, M>>,

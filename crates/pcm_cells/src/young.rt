@@ -1,18 +1,22 @@
 // Lines of which no cell can be near its end.
 ghost use Rattle.std.specs.Prelude.{◌≡◌, ℕ, ◌+◌, ◌-◌, ◌*◌, ◌<◌};
 ghost use Rattle.cell_rows.specs.Shape.{IsShape};
+ghost use Rattle.cell_rows.specs.Device.{IsWear};
 ghost use Rattle.cell_wear.specs.Told.{most};
 ghost use Rattle.pcm_cells.specs.Counts.{count};
 ghost use Rattle.pcm_cells.specs.Young.{changes_in};
 
+use crate::aging::YoungPage;
+use crate::blocks::{chosen, without};
 use crate::counts::Counts;
 use crate::digits::Digits;
-use cell_rows::Cells;
+use crate::seeded::SeededLine;
+use cell_rows::{Cells, Wear};
 
 /// A line of so few pulses that none of its cells can be near its end: what these hold, how often each missed since its last change, how
 /// often it misses before each, how often it has changed, and the pulses. The changes are a number of three digits in base eight, `low`
 /// the lowest.
-#[derive(Drop)]
+#[derive(Clone, Copy, Drop)]
 pub(crate) struct Young<const B: usize, const M: usize> {
     pub(crate) held: Cells<B, M>,
     pub(crate) misses: Digits<B, M>,
@@ -24,6 +28,26 @@ pub(crate) struct Young<const B: usize, const M: usize> {
 }
 
 impl<const B: usize, const M: usize> Young<B, M> {
+    ghost use Rattle.pcm_cells.specs.Begun.{IsBegun};
+
+    // A line that was never pulsed. Its words are drawn, which say how often each cell misses.
+    pub(crate) fn begun(wear: Wear, line: u32) -> Young<B, M>
+        requires wear { IsWear wear }
+        requires shape { IsShape B M }
+        ensures { IsBegun wear line result }
+    {
+        let drawn = SeededLine::drawn(wear, line);
+        Young {
+            held: Cells::zero(),
+            misses: Digits::zero(),
+            limits: drawn.limits(),
+            low: Digits::zero(),
+            middle: Digits::zero(),
+            high: Digits::zero(),
+            pulses: 0,
+        }
+    }
+
     // How often a cell has changed.
     pub(crate) fn changes(&self, number: u16) -> u32
         requires exists { number < 8 * (B + M) }
@@ -59,5 +83,35 @@ impl<const B: usize, const M: usize> Young<B, M> {
             }
             left.set_group(group, &row);
         }
+    }
+}
+
+impl<const B: usize, const M: usize> YoungPage<B, M> for Young<B, M> {
+    ghost young = { λ y. y };
+
+    ghost room = { 511 };
+
+    #[inline(always)]
+    fn wear_block(
+        &mut self,
+        tearing: bool,
+        reach: u64,
+        block: usize,
+        mask: &Cells<B, M>,
+        want: &Cells<B, M>,
+    ) {
+        let reached = mask.block(block) & reach;
+        let missing = reached & self.misses.below(&self.limits, block);
+        let changing = without(reached, missing);
+        let carry = self.low.add(block, changing);
+        let over = self.middle.add(block, carry);
+        let _none = self.high.add(block, over);
+        let held = chosen(self.held.block(block), changing, want.block(block));
+        self.held.set_block(block, held);
+        self.misses.advance(block, missing, changing);
+    }
+
+    fn count_pulse(&mut self) {
+        self.pulses += 1;
     }
 }

@@ -1,38 +1,80 @@
 // The young lines of an array.
-ghost use Rattle.std.specs.Prelude.{◌≡◌, ◌≢◌, ℕ, ◌<◌, length, IfOk, IsTrue, IsSome, Some, None};
+ghost use Rattle.std.specs.Prelude.{◌≡◌, ◌≢◌, ℕ, ◌<◌, length, IfOk, IsSome, Some, None};
 ghost use Rattle.std.specs.Option.{option_map};
+ghost use Rattle.cell_rows.specs.Device.{IsWear};
 ghost use Rattle.cell_rows.specs.Shape.{IsShape, IsWhole};
+ghost use Rattle.pcm_cells.specs.Begun.{AgesLine, Starts};
 ghost use Rattle.pcm_cells.specs.PageTable.{page_at};
-ghost use Rattle.pcm_cells.specs.Tiers.{by_later, first_or_blank, young_or_blank, AgesYoung};
 ghost use Rattle.pcm_cells.specs.Young.{MayAge};
 
-use crate::first::First;
-use crate::later::Later;
 use crate::page_table::PageTable;
+use crate::tiers::Tiers;
 use crate::young::Young;
-use cell_rows::Cells;
+use cell_rows::{Cells, Wear};
 use std::alloc::{AllocError, Global};
 
-/// The pages of the lines that are young. Up to seven pulses a line has a first page, and then a later one.
+/// The pages of the lines that are young.
 #[derive(Drop)]
-pub(crate) struct Youths<const B: usize, const M: usize> {
-    first: PageTable<First<B, M>>,
-    later: PageTable<Later<B, M>>,
-    ghost same_lines: { length first ≡ length later },
+pub(crate) enum Youths<const B: usize, const M: usize> {
+    /// Of an array whose cells don't miss.
+    Sure(Tiers<B, M>),
+    /// Of one whose cells miss.
+    Missing(PageTable<Young<B, M>>),
+}
+
+// Gives a line a page that has none.
+fn begin<const B: usize, const M: usize>(pages: &mut PageTable<Young<B, M>>, wear: Wear, line: u32)
+    requires exists { line < length pages.old }
+    requires wear { IsWear wear }
+    requires shape { IsShape B M }
+    ensures page { (young : Young B M) → page_at pages.new line ≡ Some young
+        → Starts wear line (page_at pages.old line) young }
+    ensures has { IsSome (page_at pages.new line) }
+    ensures others { (n : ℕ) → n ≢ line → page_at pages.new n ≡ page_at pages.old n }
+    ensures lines { length pages.new ≡ length pages.old }
+{
+    if !pages.has(line) {
+        pages.insert(line, Young::begun(wear, line));
+    }
+}
+
+// A pulse or a tear of a line whose cells miss, and that stays young.
+fn age_missing<const B: usize, const M: usize>(
+    pages: &mut PageTable<Young<B, M>>,
+    wear: Wear,
+    line: u32,
+    tearing: bool,
+    mask: &Cells<B, M>,
+    want: &Cells<B, M>,
+)
+    requires exists { line < length pages.old }
+    requires wear { IsWear wear }
+    requires young { (young : Young B M) → page_at pages.old line ≡ Some young → MayAge 511 young }
+    requires shape { IsShape B M }
+    requires whole { IsWhole B M }
+    ensures ages { AgesLine wear line tearing mask.now want.now (page_at pages.old)
+        (page_at pages.new) }
+    ensures lines { length pages.new ≡ length pages.old }
+{
+    begin(pages, wear, line);
+    pages.age(line, tearing, mask, want);
 }
 
 impl<const B: usize, const M: usize> Youths<B, M> {
-    ghost use Rattle.pcm_cells.specs.Youths.{young_at, young_lines};
+    ghost use Rattle.pcm_cells.specs.Youths.{Suits, young_at, young_lines};
+    ghost use Rattle.cell_rows.specs.declared.array.Wear.{Wear};
 
     /// No young line, and room for the pages of all.
-    pub(crate) fn blank(alloc: Global, lines: u32) -> Result<Youths<B, M>, AllocError>
+    pub(crate) fn blank(alloc: Global, lines: u32, wear: Wear) -> Result<Youths<B, M>, AllocError>
         ensures none { IfOk result (λ y. (line : ℕ) → young_at y line ≡ None) }
         ensures lines { IfOk result (λ y. young_lines y ≡ lines) }
+        ensures suits { IfOk result (λ y. Suits wear y) }
     {
-        Ok(Youths {
-            first: PageTable::blank(alloc, lines)?,
-            later: PageTable::blank(alloc, lines)?,
-        })
+        if wear.misses == 0 {
+            Ok(Youths::Sure(Tiers::blank(alloc, lines)?))
+        } else {
+            Ok(Youths::Missing(PageTable::blank(alloc, lines)?))
+        }
     }
 
     /// What the cells of a young line hold.
@@ -40,10 +82,10 @@ impl<const B: usize, const M: usize> Youths<B, M> {
         requires { line < young_lines self.now }
         ensures { result ≡ option_map (λ young. young.held) (young_at self.now line) }
     {
-        match self.later.get(line) {
-            Some(later) => Some(later.held),
-            None => match self.first.get(line) {
-                Some(first) => Some(first.held),
+        match self {
+            Youths::Sure(tiers) => tiers.held(line),
+            Youths::Missing(pages) => match pages.get(line) {
+                Some(young) => Some(young.held),
                 None => None,
             },
         }
@@ -54,10 +96,10 @@ impl<const B: usize, const M: usize> Youths<B, M> {
         requires { line < young_lines self.now }
         ensures { result ≡ option_map (λ young. young.pulses) (young_at self.now line) }
     {
-        match self.later.get(line) {
-            Some(later) => Some(later.pulses),
-            None => match self.first.get(line) {
-                Some(first) => Some(first.pulses),
+        match self {
+            Youths::Sure(tiers) => tiers.pulses(line),
+            Youths::Missing(pages) => match pages.get(line) {
+                Some(young) => Some(young.pulses),
                 None => None,
             },
         }
@@ -69,117 +111,39 @@ impl<const B: usize, const M: usize> Youths<B, M> {
         requires shape { IsShape B M }
         ensures { result ≡ young_at self.now line }
     {
-        match self.later.get(line) {
-            Some(later) => Some(later.young()),
-            None => match self.first.get(line) {
-                Some(first) => Some(first.young()),
+        match self {
+            Youths::Sure(tiers) => tiers.get(line),
+            Youths::Missing(pages) => match pages.get(line) {
+                Some(young) => Some(*young),
                 None => None,
             },
         }
     }
 
-    // Whether the line has no later page and needs none in one pulse more.
-    fn stays_first(&self, line: u32) -> bool
-        requires exists { line < young_lines self.now }
-        ensures first { IsTrue result → page_at self.now.later line ≡ None }
-        ensures few { IsTrue result → (first_or_blank (page_at self.now.first line)).pulses < 7 }
-    {
-        match self.later.get(line) {
-            Some(_) => false,
-            None => match self.first.get(line) {
-                Some(first) => first.pulses < 7,
-                None => true,
-            },
-        }
-    }
-
-    // Gives a line a first page that has none.
-    fn start(&mut self, line: u32)
-        requires exists { line < young_lines self.old }
-        requires shape { IsShape B M }
-        ensures page { page_at self.new.first line
-            ≡ Some (first_or_blank (page_at self.old.first line)) }
-        ensures others { (n : ℕ) → n ≢ line → page_at self.new.first n ≡ page_at self.old.first n }
-        ensures later { self.new.later ≡ self.old.later }
-    {
-        if !self.first.has(line) {
-            self.first.insert(line, First::blank());
-        }
-    }
-
-    // A pulse or a tear of a line that stays on its first page.
-    fn age_first(&mut self, line: u32, tearing: bool, mask: &Cells<B, M>, want: &Cells<B, M>)
-        requires exists { line < young_lines self.old }
-        requires first { page_at self.old.later line ≡ None }
-        requires few { (first_or_blank (page_at self.old.first line)).pulses < 7 }
-        requires young { MayAge 511 (young_or_blank (young_at self.old line)) }
-        requires shape { IsShape B M }
-        requires whole { IsWhole B M }
-        ensures ages { AgesYoung line tearing mask.now want.now (young_at self.old)
-            (young_at self.new) }
-        ensures lines { young_lines self.new ≡ young_lines self.old }
-    {
-        self.start(line);
-        self.first.age(line, tearing, mask, want);
-    }
-
-    // The later page that a line without one gets.
-    fn widened(&self, line: u32) -> Later<B, M>
-        requires exists { line < young_lines self.now }
-        requires first { page_at self.now.later line ≡ None }
-        requires shape { IsShape B M }
-        ensures { by_later result ≡ young_or_blank (young_at self.now line) }
-    {
-        match self.first.get(line) {
-            Some(first) => first.later(),
-            None => Later::blank(),
-        }
-    }
-
-    // Gives a line a later page that has none. Its first page goes.
-    fn widen(&mut self, line: u32)
-        requires exists { line < young_lines self.old }
-        requires shape { IsShape B M }
-        ensures page { young_at self.new line ≡ Some (young_or_blank (young_at self.old line)) }
-        ensures later { IsSome (page_at self.new.later line) }
-        ensures others { (n : ℕ) → n ≢ line → young_at self.new n ≡ young_at self.old n }
-        ensures lines { young_lines self.new ≡ young_lines self.old }
-    {
-        if !self.later.has(line) {
-            let page = self.widened(line);
-            self.later.insert(line, page);
-            self.first.remove(line);
-        }
-    }
-
-    // A pulse or a tear of a line on its later page.
-    fn age_later(&mut self, line: u32, tearing: bool, mask: &Cells<B, M>, want: &Cells<B, M>)
-        requires exists { line < young_lines self.old }
-        requires young { MayAge 511 (young_or_blank (young_at self.old line)) }
-        requires shape { IsShape B M }
-        requires whole { IsWhole B M }
-        ensures ages { AgesYoung line tearing mask.now want.now (young_at self.old)
-            (young_at self.new) }
-        ensures lines { young_lines self.new ≡ young_lines self.old }
-    {
-        self.widen(line);
-        self.later.age(line, tearing, mask, want);
-    }
-
     /// A pulse or a tear of a line that stays young.
-    pub(crate) fn age(&mut self, line: u32, tearing: bool, mask: &Cells<B, M>, want: &Cells<B, M>)
+    pub(crate) fn age(
+        &mut self,
+        wear: Wear,
+        line: u32,
+        tearing: bool,
+        mask: &Cells<B, M>,
+        want: &Cells<B, M>,
+    )
         requires exists { line < young_lines self.old }
-        requires young { MayAge 511 (young_or_blank (young_at self.old line)) }
+        requires wear { IsWear wear }
+        requires suits { Suits wear self.old }
+        requires young { (young : Young B M) → young_at self.old line ≡ Some young
+            → MayAge 511 young }
         requires shape { IsShape B M }
         requires whole { IsWhole B M }
-        ensures ages { AgesYoung line tearing mask.now want.now (young_at self.old)
+        ensures ages { AgesLine wear line tearing mask.now want.now (young_at self.old)
             (young_at self.new) }
         ensures lines { young_lines self.new ≡ young_lines self.old }
+        ensures suits { Suits wear self.new }
     {
-        if self.stays_first(line) {
-            self.age_first(line, tearing, mask, want);
-        } else {
-            self.age_later(line, tearing, mask, want);
+        match self {
+            Youths::Sure(tiers) => tiers.age(line, tearing, mask, want),
+            Youths::Missing(pages) => age_missing(pages, wear, line, tearing, mask, want),
         }
     }
 
@@ -189,8 +153,11 @@ impl<const B: usize, const M: usize> Youths<B, M> {
         ensures others { (n : ℕ) → n ≢ line → young_at self.new n ≡ young_at self.old n }
         ensures gone { young_at self.new line ≡ None }
         ensures lines { young_lines self.new ≡ young_lines self.old }
+        ensures suits { (wear : Wear) → Suits wear self.old → Suits wear self.new }
     {
-        self.first.remove(line);
-        self.later.remove(line);
+        match self {
+            Youths::Sure(tiers) => tiers.remove(line),
+            Youths::Missing(pages) => pages.remove(line),
+        }
     }
 }

@@ -1,4 +1,4 @@
-use Rattle.std.proofs.Common.{◌+◌, arith}
+use Rattle.std.proofs.Common.{◌+◌}
 use Rattle.pcm_cells.{specs.Tiers.by_first, proofs.YoungLemmas.pulsed_same}
 use Rattle.pcm_cells.proofs.first.FirstYoungPage.count_pulse.Goals as goal
 

@@ -1,4 +1,4 @@
-use Rattle.std.proofs.Common.{◌+◌, arith}
+use Rattle.std.proofs.Common.{◌+◌}
 use Rattle.pcm_cells.{specs.Tiers.by_later, proofs.YoungLemmas.pulsed_same}
 use Rattle.pcm_cells.proofs.later.LaterYoungPage.count_pulse.Goals as goal
 

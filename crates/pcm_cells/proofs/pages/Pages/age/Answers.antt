@@ -7,7 +7,7 @@ pub age-requires : goal.age-requires
 age-requires g c =
     let p = c.args.self.now in
     let may = may_age_there p.wear p.limit c.args.line (young_at p.young) p.youth p.young_pages c.requires.few in
-    (omega arith, (row_fits c.requires.shape, (omega (arith, c.requires.exists, p.same_lines), (may, (c.requires.shape, c.requires.whole)))))
+    (omega arith, (row_fits c.requires.shape, (omega (arith, c.requires.exists, p.same_lines), (p.wears, (p.suits, (may, (c.requires.shape, c.requires.whole)))))))
 
 pub returns : goal.returns
 returns g c =
@@ -26,6 +26,7 @@ invariant_of-self g c =
     record {
       wears = p.wears;
       youth = p.youth;
+      suits = c.age.ensures.suits;
       young_pages = aged.young;
       same_lines = c.age.ensures.lines ∙ p.same_lines;
     }

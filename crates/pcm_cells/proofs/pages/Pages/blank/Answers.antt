@@ -7,6 +7,7 @@ pub invariant_of-result : goal.invariant_of-result
 invariant_of-result g c = record {
   wears = c.requires;
   youth = c.young_limit.ensures;
+  suits = c.in_ok-blank.ensures.suits;
   young_pages = none_young c.args.wear c.young_limit.result (young_at c.in_ok-blank.field-0) c.in_ok-blank.ensures.none;
   same_lines = c.in_ok-blank.ensures.lines ∙ sym (ap length c.in_ok-blank-2.ensures ∙ length-replicate {A = Option (LifeLine g.row.B g.row.M)} c.args.lines None);
 }

@@ -37,6 +37,7 @@ invariant_of-self g c =
     record {
       wears = old.wears;
       youth = old.youth;
+      suits = c.remove.ensures.suits old.wear old.suits;
       young_pages = young_gone old.wear old.limit c.args.line (young_at old.young) (young_at c.remove.new.self) old.young_pages c.remove.ensures.others c.remove.ensures.gone;
       same_lines = c.remove.ensures.lines ∙ old.same_lines ∙ sym (ap length c.insert.ensures ∙ length-set old.grown c.args.line (Some c.drawn-page.result));
     }

@@ -1,4 +1,4 @@
-use Rattle.std.proofs.Common.{◌≡◌, ◌∙◌, refl, sym, ap, Some, None}
+use Rattle.std.proofs.Common.{◌≡◌, ◌∙◌, sym, ap, Some, None}
 use Rattle.std.specs.Prelude.{option_copied}
 use Rattle.pcm_cells.specs.{PageTable.page_at, Seeded.LifeLine, Youths.young_at, declared.young.Young.Young}
 use Rattle.pcm_cells.proofs.{PageLemmas.drawn_is, PagingLemmas.{seen-drawn, seen-grown, seen-young, told-none, told-some}, YoungLemmas.grown_held}

@@ -27,4 +27,4 @@ invariant_of-self g c =
     let line = c.args.line in
     let within : line < length p.grown = omega (arith, c.requires.exists, c.grow.ensures.lines) in
     let worn = line_wears p.wear line c.args.tearing c.args.mask.now c.args.want.now (seen c.args.self.now line) (young_at p.young) p.grown c.wear.new.self within c.grow.ensures.page c.wear.ensures in
-    record { wears = p.wears; youth = p.youth; young_pages = p.young_pages; same_lines = p.same_lines ∙ sym worn.lines }
+    record { wears = p.wears; youth = p.youth; suits = p.suits; young_pages = p.young_pages; same_lines = p.same_lines ∙ sym worn.lines }

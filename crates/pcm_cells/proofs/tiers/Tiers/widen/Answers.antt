@@ -1,7 +1,7 @@
 use Rattle.std.proofs.Common.{◌≡◌, ◌<◌, ◌∙◌, rules, refl, sym, ap, arith, true, length, length-set, get_or-set_same, get_or-set_other, Some, None}
 use Rattle.std.specs.Prelude.{is_some}
 use Rattle.pcm_cells.{specs.PageTable.page_at, specs.Tiers.tier_of, proofs.TierLemmas.{is-there, tier-has, tier-later}}
-use Rattle.pcm_cells.proofs.youths.Youths.widen.Goals as goal
+use Rattle.pcm_cells.proofs.tiers.Tiers.widen.Goals as goal
 
 pub returns-then-not-has-clause-page : goal.returns-then-not-has-clause-page
 returns-then-not-has-clause-page g c =

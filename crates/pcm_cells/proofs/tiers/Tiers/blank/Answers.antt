@@ -1,7 +1,7 @@
-use Rattle.std.proofs.Common.{◌∙◌, sym, ap, length, None, List, Option}
+use Rattle.std.proofs.Common.{◌∙◌, sym, ap, length, None, Option}
 use Rattle.std.proofs.lemmas.List.{length-replicate}
 use Rattle.pcm_cells.{specs.declared.first.First.First, specs.declared.later.Later.Later, proofs.TierLemmas.tiers_blank}
-use Rattle.pcm_cells.proofs.youths.Youths.blank.Goals as goal
+use Rattle.pcm_cells.proofs.tiers.Tiers.blank.Goals as goal
 
 pub returns-clause-none : goal.returns-clause-none
 returns-clause-none g c = tiers_blank c.in_ok-blank-2.field-0 c.in_ok-blank.field-0 c.args.lines c.in_ok-blank-2.ensures c.in_ok-blank.ensures

@@ -1,7 +1,7 @@
 use Rattle.std.proofs.Common.{◌≡◌, ◌∙◌, sym, ap, Some, None}
 use Rattle.std.specs.Prelude.{option_copied}
 use Rattle.pcm_cells.{specs.PageTable.page_at, specs.Tiers.young_or_blank, proofs.TierLemmas.{tier-first, tier-none}}
-use Rattle.pcm_cells.proofs.youths.Youths.widened.Goals as goal
+use Rattle.pcm_cells.proofs.tiers.Tiers.widened.Goals as goal
 
 pub returns-in-Some : goal.returns-in-Some
 returns-in-Some g c =

@@ -1,7 +1,7 @@
-use Rattle.std.proofs.Common.{◌≡◌, ◌<◌, ◌∙◌, sym, ap, arith, length, length-set, Some}
-use Rattle.pcm_cells.specs.{PageTable.page_at, Youths.young_at}
-use Rattle.pcm_cells.proofs.{SizeLemmas.{later_fits, row_fits}, TierLemmas.{ages_later, may_later}}
-use Rattle.pcm_cells.proofs.youths.Youths.age_later.Goals as goal
+use Rattle.std.proofs.Common.{◌<◌, ◌∙◌, sym, ap, arith, length, length-set, Some}
+use Rattle.pcm_cells.specs.{PageTable.page_at, Tiered.tier_at}
+use Rattle.pcm_cells.proofs.{SizeLemmas.{row_fits}, TierLemmas.{ages_later, may_later}}
+use Rattle.pcm_cells.proofs.tiers.Tiers.age_later.Goals as goal
 
 pub age-requires : goal.age-requires
 age-requires g c =
@@ -9,7 +9,7 @@ age-requires g c =
     let p = c.widen.new.self in
     let line = c.args.line in
     let within : line < length p.later = omega (arith, c.requires.exists, c.widen.ensures.lines, p.same_lines) in
-    let may = may_later (young_at old line) (page_at p.later line) (page_at p.first line) c.widen.ensures.page c.requires.young in
+    let may = may_later (tier_at old line) (page_at p.later line) (page_at p.first line) c.widen.ensures.page c.requires.young in
     (row_fits c.requires.shape, (within, (c.widen.ensures.later, (may, (c.requires.shape, c.requires.whole)))))
 
 pub returns-clause-ages : goal.returns-clause-ages
@@ -18,7 +18,7 @@ returns-clause-ages g c =
     let p = c.widen.new.self in
     let line = c.args.line in
     let within : line < length p.later = omega (arith, c.requires.exists, c.widen.ensures.lines, p.same_lines) in
-    ages_later line c.args.tearing c.args.mask.now c.args.want.now (young_at old) p.first p.later c.age.new.self within c.widen.ensures.page c.widen.ensures.others c.age.ensures
+    ages_later line c.args.tearing c.args.mask.now c.args.want.now (tier_at old) p.first p.later c.age.new.self within c.widen.ensures.page c.widen.ensures.others c.age.ensures
 
 pub invariant_of-self : goal.invariant_of-self
 invariant_of-self g c =

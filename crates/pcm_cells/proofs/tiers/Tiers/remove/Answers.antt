@@ -1,6 +1,6 @@
-use Rattle.std.proofs.Common.{◌≡◌, ◌<◌, ◌∙◌, sym, ap, arith, length, length-set, get_or-set_same, get_or-set_other, None}
+use Rattle.std.proofs.Common.{◌<◌, ◌∙◌, sym, ap, arith, length, length-set, get_or-set_same, get_or-set_other, None}
 use Rattle.pcm_cells.{specs.PageTable.page_at, specs.Tiers.tier_of, proofs.TierLemmas.tier-none}
-use Rattle.pcm_cells.proofs.youths.Youths.remove.Goals as goal
+use Rattle.pcm_cells.proofs.tiers.Tiers.remove.Goals as goal
 
 pub returns-clause-others : goal.returns-clause-others
 returns-clause-others g c n apart =

@@ -1,5 +1,5 @@
 use Rattle.std.proofs.Common.{◌∙◌, ap, length, length-set, Some}
-use Rattle.pcm_cells.proofs.youths.Youths.start.Goals as goal
+use Rattle.pcm_cells.proofs.tiers.Tiers.start.Goals as goal
 
 pub invariant_of-self : goal.invariant_of-self
 invariant_of-self g c =
