@@ -344,10 +344,11 @@ def names_by(pattern, text):
 
 @functools.cache
 def declared(crate):
-    """The names that a crate declares, in code, definitions and proofs, and those of its files and wrong bodies."""
+    """The names that a crate declares, in code, definitions and proofs, those of its files and wrong bodies, and of cases of its tests' tables."""
     found = set()
     for file in crates.named(crate).files(*crates.PARTS):
         text = re.sub(r"(?m)(?://|--).*$", "", file.read_text(encoding="utf-8"))
+        found |= set(re.findall(r'\bname: "(\w+)"', text))
         found |= names_by(IN_CODE if file.suffix == ".rt" else IN_DEFINITIONS, text) | {file.stem, file.parent.name}
     found |= {it.stem for it in crates.named(crate).files("must-fail")}
     stored = crates.named(crate).folder / "stdin"
@@ -434,11 +435,11 @@ def has_clause(crate, path, clause):
 
 
 def is_test(crate, name):
-    """Whether a crate has a test of this name, or a case of its stored input."""
+    """Whether a crate has a test of this name, a case of its stored input, or one of a test's table."""
     stored = crates.named(crate).folder / "stdin"
     if stored.is_file() and re.search(rf"(?m)^case {name}$", stored.read_text(encoding="utf-8")):
         return True
-    return bool(re.search(rf"#\[test\]\s+(?:pub )?fn {name}\b", text_of(crate, "src")))
+    return bool(re.search(rf"#\[test\]\s+(?:pub )?fn {name}\b|\bname: \"{name}\"", text_of(crate, "src")))
 
 
 def faults_of_row(cells):

@@ -1,4 +1,5 @@
 // What a bank turns to, and for how long.
+use crate::comparing::compare;
 use bank_shape::clock::{Action, Doing, choose};
 
 #[test]
@@ -10,16 +11,14 @@ fn a_read_goes_first_only_where_the_write_gives_way(rt: HostRuntime) {
         choose(true, false, false, true),
         choose(true, false, false, false),
     ];
-    assert_eq!(rt;
-        chosen,
-        [
-            Some(Doing::Serving),
-            Some(Doing::Iterating),
-            Some(Doing::Serving),
-            Some(Doing::Beginning),
-            None
-        ]
-    );
+    let expected = [
+        Some(Doing::Serving),
+        Some(Doing::Iterating),
+        Some(Doing::Serving),
+        Some(Doing::Beginning),
+        None,
+    ];
+    compare(&rt, chosen, expected);
 }
 
 // The end of what a bank does from tick 15 on.
@@ -34,5 +33,5 @@ fn a_begin_lasts_as_long_as_a_serve(rt: HostRuntime) {
         end(Doing::Serving),
         end(Doing::Iterating),
     ];
-    assert_eq!(rt; ends, [20, 20, 25]);
+    compare(&rt, ends, [20, 20, 25]);
 }

@@ -4,14 +4,13 @@
 ghost use Rattle.std.specs.Prelude.{◌≡◌, ◌<◌, IfOk, IfSome, IsTrue, None, is_some};
 ghost use Rattle.reg_lines.specs.Regs.{AreHeld};
 
-use crate::faults::{Fault, misses, script, sticks};
+use crate::comparing::compare;
+use crate::faults::{Fault, script};
 use bank_shape::answer::Keep;
 use pcm_cells::{CellArray, ScriptArray, Wear};
 use reg_lines::regs::RegLines;
 use reg_lines::{Change, encode, values_of};
 use std::alloc::{AllocError, Global};
-use std::process::Abort;
-use std::test::Fail;
 
 const WEAR: Wear = Wear {
     seed: 0,
@@ -177,37 +176,25 @@ fn differs<A: CellArray<64, 8>>(
     Ok(None)
 }
 
-// Three control lines, over cells with these faults, answer each call as the table has it.
-fn check(
-    rt: &impl Abort,
-    alloc: Global,
-    faults: &[Fault],
-    table: &[(Call, Saw)],
-) -> Result<(), AllocError> {
-    let script = script(alloc, faults)?;
+// Control lines over cells with some faults. Each call is to be answered as its table has it.
+struct Case {
+    name: &'static str,
+    faults: &'static [Fault<'static>],
+    table: &'static [(Call, Saw)],
+}
+
+// The number of the first call that was answered otherwise.
+fn other(alloc: Global, case: &Case) -> Result<Option<u32>, AllocError> {
+    let script = script(alloc, case.faults)?;
     let mut array: ScriptArray<64, 8> = ScriptArray::new(script);
-    let other = differs(alloc, &mut array, table)?;
-    assert_eq!(rt; other, None);
-    Ok(())
+    differs(alloc, &mut array, case.table)
 }
 
-#[test]
-fn a_line_has_three_numbers_with_their_lowest_bytes_first(rt: HostRuntime) {
-    let values = [1, 0x0102_0304, 0xffff_fffe];
-    let line = encode::<16>(&values);
-    let wide = encode::<128>(&[0, 0, 0]);
-    let wanted = [1, 0, 0, 0, 4, 3, 2, 1, 0xfe, 0xff, 0xff, 0xff, 0, 0, 0, 0];
-    assert_eq!(rt; (line, values_of(&line)), (wanted, values));
-    assert!(rt; wide == [0; 128]);
-}
-
-#[test]
-fn a_line_that_holds_the_values_is_not_pulsed(rt: HostRuntime) -> Result<(), Fail> {
-    check(
-        &rt,
-        rt.alloc(),
-        &[],
-        &[
+static CASES: [Case; 4] = [
+    Case {
+        name: "a_line_that_holds_the_values_is_not_pulsed",
+        faults: &[],
+        table: &[
             (Call::Begin, Saw::Refused),
             (Call::Put(1, 1), Saw::Put),
             (Call::Put(0, 1), Saw::Refused),
@@ -220,34 +207,22 @@ fn a_line_that_holds_the_values_is_not_pulsed(rt: HostRuntime) -> Result<(), Fai
             (Call::Begin, Saw::Done),
             (Call::Item(2), Saw::Value(0)),
         ],
-    )?;
-    Ok(())
-}
-
-#[test]
-fn a_cell_that_misses_takes_one_iteration_more(rt: HostRuntime) -> Result<(), Fail> {
-    check(
-        &rt,
-        rt.alloc(),
-        &[misses(3, &[64], 1)],
-        &[
+    },
+    Case {
+        name: "a_cell_that_misses_takes_one_iteration_more",
+        faults: &[Fault::Misses(3, &[64], 1)],
+        table: &[
             (Call::Put(1, 1), Saw::Put),
             (Call::Begin, Saw::More),
             (Call::Iterate(1), Saw::More),
             (Call::Iterate(1), Saw::Done),
             (Call::Item(1), Saw::Value(1)),
         ],
-    )?;
-    Ok(())
-}
-
-#[test]
-fn a_torn_line_is_written_again(rt: HostRuntime) -> Result<(), Fail> {
-    check(
-        &rt,
-        rt.alloc(),
-        &[misses(3, &[64], 1)],
-        &[
+    },
+    Case {
+        name: "a_torn_line_is_written_again",
+        faults: &[Fault::Misses(3, &[64], 1)],
+        table: &[
             (Call::Put(1, 1), Saw::Put),
             (Call::Cut(true), Saw::Refused),
             (Call::Begin, Saw::More),
@@ -261,18 +236,12 @@ fn a_torn_line_is_written_again(rt: HostRuntime) -> Result<(), Fail> {
             (Call::Begin, Saw::Done),
             (Call::Item(1), Saw::Value(1)),
         ],
-    )?;
-    Ok(())
-}
-
-// The cell of the third value and that which switches its first pointer on.
-#[test]
-fn a_change_halts_at_a_worn_line(rt: HostRuntime) -> Result<(), Fail> {
-    check(
-        &rt,
-        rt.alloc(),
-        &[sticks(3, &[64, 562])],
-        &[
+    },
+    // The cell of the third value and that which switches its first pointer on.
+    Case {
+        name: "a_change_halts_at_a_worn_line",
+        faults: &[Fault::Sticks(3, &[64, 562])],
+        table: &[
             (Call::Put(1, 1), Saw::Put),
             (Call::Begin, Saw::More),
             (Call::Iterate(17), Saw::Halted),
@@ -282,6 +251,29 @@ fn a_change_halts_at_a_worn_line(rt: HostRuntime) -> Result<(), Fail> {
             (Call::Item(1), Saw::Value(1)),
             (Call::Item(0), Saw::Value(0)),
         ],
-    )?;
-    Ok(())
+    },
+];
+
+#[test]
+fn each_call_is_answered_as_its_table_has_it(rt: HostRuntime) {
+    for case in &CASES {
+        compare(
+            &rt,
+            (case.name, other(rt.alloc(), case)),
+            (case.name, Ok(None)),
+        );
+    }
+}
+
+#[test]
+fn a_line_has_three_numbers_with_their_lowest_bytes_first(rt: HostRuntime) {
+    let values = [1, 0x0102_0304, 0xffff_fffe];
+    let line = encode::<16>(&values);
+    let wide = encode::<128>(&[0, 0, 0]);
+    let wanted = [1, 0, 0, 0, 4, 3, 2, 1, 0xfe, 0xff, 0xff, 0xff, 0, 0, 0, 0];
+    compare(
+        &rt,
+        (line, values_of(&line), wide),
+        (wanted, values, [0; 128]),
+    );
 }

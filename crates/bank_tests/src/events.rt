@@ -7,8 +7,9 @@ ghost use Rattle.cell_rows.specs.Device.{ArrayState};
 ghost use Rattle.power_recovery.specs.Slots.{bank_lines};
 ghost use Rattle.bank_invariant.specs.Tied.{IsTied};
 
+use crate::comparing::compare;
 use crate::entries::first_byte;
-use crate::faults::{Fault, misses, script, sticks};
+use crate::faults::{Fault, script};
 use bank_core::arriving::Arrived;
 use bank_core::bank::Bank;
 use bank_shape::answer::{ReadAnswer, Step};
@@ -16,8 +17,6 @@ use bank_shape::{BankShape, Home};
 use masked_bytes::entry::Entry;
 use pcm_cells::{CellArray, ScriptArray, Wear};
 use std::alloc::{AllocError, Global};
-use std::process::Abort;
-use std::test::Fail;
 
 const WEAR: Wear = Wear {
     seed: 0,
@@ -264,46 +263,42 @@ fn plays<A: CellArray<64, 8>>(
     None
 }
 
-// Plays them over a bank of its own.
+// Plays them over a bank of its own, whose region's gap moves after so many stores.
 fn differs<A: CellArray<64, 8>>(
     alloc: Global,
     array: &mut A,
     psi: u32,
     table: &[(Call, Saw)],
-) -> Result<Option<u32>, AllocError>
-    requires some { 1 ≤ psi }
-    requires few { psi ≤ 65535 }
-{
+) -> Result<Option<u32>, AllocError> {
+    if psi == 0 || psi > 65_535 {
+        return Ok(Some(0));
+    }
     let mut bank = powered(alloc, array, psi)?;
     Ok(plays(&mut bank, array, table))
 }
 
-// A bank whose region's gap moves after so many stores, over cells with these faults, answers each event as the table has it.
-fn check(
-    rt: &impl Abort,
-    alloc: Global,
+// A bank over cells with some faults. Each event is to be answered as its table has it.
+struct Case {
+    name: &'static str,
+    // After how many stores the gap moves.
     psi: u32,
-    faults: &[Fault],
-    table: &[(Call, Saw)],
-) -> Result<(), AllocError>
-    requires some { 1 ≤ psi }
-    requires few { psi ≤ 65535 }
-{
-    let script = script(alloc, faults)?;
-    let mut array: ScriptArray<64, 8> = ScriptArray::new(script);
-    let other = differs(alloc, &mut array, psi, table)?;
-    assert_eq!(rt; other, None);
-    Ok(())
+    faults: &'static [Fault<'static>],
+    table: &'static [(Call, Saw)],
 }
 
-#[test]
-fn a_store_a_move_and_a_store_of_what_is_there(rt: HostRuntime) -> Result<(), Fail> {
-    check(
-        &rt,
-        rt.alloc(),
-        1,
-        &[],
-        &[
+// The row of the first event that was answered otherwise.
+fn other(alloc: Global, case: &Case) -> Result<Option<u32>, AllocError> {
+    let script = script(alloc, case.faults)?;
+    let mut array: ScriptArray<64, 8> = ScriptArray::new(script);
+    differs(alloc, &mut array, case.psi, case.table)
+}
+
+static CASES: [Case; 9] = [
+    Case {
+        name: "a_store_a_move_and_a_store_of_what_is_there",
+        psi: 1,
+        faults: &[],
+        table: &[
             (Call::Write(3, 0xff), Saw::Accepted),
             (Call::Read(3), Saw::Forwarded(0xff, 0xff)),
             (Call::Begin, Saw::More),
@@ -315,18 +310,12 @@ fn a_store_a_move_and_a_store_of_what_is_there(rt: HostRuntime) -> Result<(), Fa
             (Call::Write(2, 0), Saw::Accepted),
             (Call::Begin, Saw::Stored(9, 2)),
         ],
-    )?;
-    Ok(())
-}
-
-#[test]
-fn a_store_is_torn_and_done_again(rt: HostRuntime) -> Result<(), Fail> {
-    check(
-        &rt,
-        rt.alloc(),
-        100,
-        &[misses(3, &[0], 1), misses(3, &[0], 2)],
-        &[
+    },
+    Case {
+        name: "a_store_is_torn_and_done_again",
+        psi: 100,
+        faults: &[Fault::Misses(3, &[0], 1), Fault::Misses(3, &[0], 2)],
+        table: &[
             (Call::Write(3, 0xff), Saw::Accepted),
             (Call::Begin, Saw::More),
             (Call::Iterate(1), Saw::More),
@@ -338,18 +327,12 @@ fn a_store_is_torn_and_done_again(rt: HostRuntime) -> Result<(), Fail> {
             (Call::Begin, Saw::More),
             (Call::Iterate(1), Saw::Stored(1, 3)),
         ],
-    )?;
-    Ok(())
-}
-
-#[test]
-fn a_move_is_torn_and_done_again(rt: HostRuntime) -> Result<(), Fail> {
-    check(
-        &rt,
-        rt.alloc(),
-        1,
-        &[misses(4, &[0], 1)],
-        &[
+    },
+    Case {
+        name: "a_move_is_torn_and_done_again",
+        psi: 1,
+        faults: &[Fault::Misses(4, &[0], 1)],
+        table: &[
             (Call::Write(3, 0xff), Saw::Accepted),
             (Call::Begin, Saw::More),
             (Call::Iterate(1), Saw::Stored(1, 3)),
@@ -364,20 +347,15 @@ fn a_move_is_torn_and_done_again(rt: HostRuntime) -> Result<(), Fail> {
             (Call::Serve, Saw::Served(10, 4, 0xff, 0xff)),
             (Call::Serve, Saw::Served(11, 2, 0, 0)),
         ],
-    )?;
-    Ok(())
-}
-
-#[test]
-fn the_last_pointer_of_a_line_is_torn_and_the_store_done_again(
-    rt: HostRuntime,
-) -> Result<(), Fail> {
-    check(
-        &rt,
-        rt.alloc(),
-        100,
-        &[sticks(3, &[0, 1, 2, 3, 4, 11]), misses(3, &[566], 2)],
-        &[
+    },
+    Case {
+        name: "the_last_pointer_of_a_line_is_torn_and_the_store_done_again",
+        psi: 100,
+        faults: &[
+            Fault::Sticks(3, &[0, 1, 2, 3, 4, 11]),
+            Fault::Misses(3, &[566], 2),
+        ],
+        table: &[
             (Call::Write(3, 0xff), Saw::Accepted),
             (Call::Begin, Saw::More),
             (Call::Iterate(57), Saw::More),
@@ -387,22 +365,16 @@ fn the_last_pointer_of_a_line_is_torn_and_the_store_done_again(
             (Call::Read(3), Saw::Waiting),
             (Call::Serve, Saw::Served(7, 3, 0xff, 0xff)),
         ],
-    )?;
-    Ok(())
-}
-
-#[test]
-fn a_worn_line_gets_the_next_spare_until_none_is_left(rt: HostRuntime) -> Result<(), Fail> {
-    check(
-        &rt,
-        rt.alloc(),
-        100,
-        &[
-            sticks(3, &[0, 1, 2, 3, 4, 5, 6]),
-            sticks(5, &[0, 1, 2, 3, 4, 5, 6]),
-            sticks(6, &[0, 1, 2, 3, 4, 5, 6]),
+    },
+    Case {
+        name: "a_worn_line_gets_the_next_spare_until_none_is_left",
+        psi: 100,
+        faults: &[
+            Fault::Sticks(3, &[0, 1, 2, 3, 4, 5, 6]),
+            Fault::Sticks(5, &[0, 1, 2, 3, 4, 5, 6]),
+            Fault::Sticks(6, &[0, 1, 2, 3, 4, 5, 6]),
         ],
-        &[
+        table: &[
             (Call::Write(3, 0xff), Saw::Accepted),
             (Call::Begin, Saw::More),
             (Call::Iterate(67), Saw::Retired(3, 5)),
@@ -416,18 +388,12 @@ fn a_worn_line_gets_the_next_spare_until_none_is_left(rt: HostRuntime) -> Result
             (Call::Read(1), Saw::Waiting),
             (Call::Serve, Saw::Served(11, 1, 0, 0)),
         ],
-    )?;
-    Ok(())
-}
-
-#[test]
-fn a_full_queue_refuses_a_write_and_a_busy_bank_a_read(rt: HostRuntime) -> Result<(), Fail> {
-    check(
-        &rt,
-        rt.alloc(),
-        100,
-        &[],
-        &[
+    },
+    Case {
+        name: "a_full_queue_refuses_a_write_and_a_busy_bank_a_read",
+        psi: 100,
+        faults: &[],
+        table: &[
             (Call::Write(0, 0x11), Saw::Accepted),
             (Call::Begin, Saw::More),
             (Call::Write(0, 0x22), Saw::Accepted),
@@ -443,18 +409,12 @@ fn a_full_queue_refuses_a_write_and_a_busy_bank_a_read(rt: HostRuntime) -> Resul
             (Call::Read(3), Saw::Busy),
             (Call::Read(0), Saw::Forwarded(0x66, 0x66)),
         ],
-    )?;
-    Ok(())
-}
-
-#[test]
-fn a_write_behind_a_torn_one_of_its_line_is_merged_into(rt: HostRuntime) -> Result<(), Fail> {
-    check(
-        &rt,
-        rt.alloc(),
-        100,
-        &[],
-        &[
+    },
+    Case {
+        name: "a_write_behind_a_torn_one_of_its_line_is_merged_into",
+        psi: 100,
+        faults: &[],
+        table: &[
             (Call::Write(3, 0x11), Saw::Accepted),
             (Call::Begin, Saw::More),
             (Call::Write(3, 0x22), Saw::Accepted),
@@ -465,18 +425,12 @@ fn a_write_behind_a_torn_one_of_its_line_is_merged_into(rt: HostRuntime) -> Resu
             (Call::Begin, Saw::More),
             (Call::Iterate(1), Saw::Stored(5, 3)),
         ],
-    )?;
-    Ok(())
-}
-
-#[test]
-fn a_masked_write_waits_for_the_reads_of_its_line(rt: HostRuntime) -> Result<(), Fail> {
-    check(
-        &rt,
-        rt.alloc(),
-        100,
-        &[],
-        &[
+    },
+    Case {
+        name: "a_masked_write_waits_for_the_reads_of_its_line",
+        psi: 100,
+        faults: &[],
+        table: &[
             (Call::Write(3, 0x11), Saw::Accepted),
             (Call::Begin, Saw::More),
             (Call::Iterate(1), Saw::Stored(1, 3)),
@@ -490,18 +444,12 @@ fn a_masked_write_waits_for_the_reads_of_its_line(rt: HostRuntime) -> Result<(),
             (Call::Read(3), Saw::Waiting),
             (Call::Serve, Saw::Served(11, 3, 0xee, 0x11)),
         ],
-    )?;
-    Ok(())
-}
-
-#[test]
-fn a_masked_write_is_completed_as_its_store_begins(rt: HostRuntime) -> Result<(), Fail> {
-    check(
-        &rt,
-        rt.alloc(),
-        100,
-        &[],
-        &[
+    },
+    Case {
+        name: "a_masked_write_is_completed_as_its_store_begins",
+        psi: 100,
+        faults: &[],
+        table: &[
             (Call::Write(3, 0x11), Saw::Accepted),
             (Call::Begin, Saw::More),
             (Call::Iterate(1), Saw::Stored(1, 3)),
@@ -511,6 +459,16 @@ fn a_masked_write_is_completed_as_its_store_begins(rt: HostRuntime) -> Result<()
             (Call::Read(3), Saw::Forwarded(0xee, 0x11)),
             (Call::Begin, Saw::Stored(4, 3)),
         ],
-    )?;
-    Ok(())
+    },
+];
+
+#[test]
+fn each_event_is_answered_as_its_table_has_it(rt: HostRuntime) {
+    for case in &CASES {
+        compare(
+            &rt,
+            (case.name, other(rt.alloc(), case)),
+            (case.name, Ok(None)),
+        );
+    }
 }

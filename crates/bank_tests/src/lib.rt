@@ -5,6 +5,8 @@
 #[cfg(test)]
 mod choosing;
 #[cfg(test)]
+mod comparing;
+#[cfg(test)]
 mod control_lines;
 #[cfg(test)]
 mod entries;

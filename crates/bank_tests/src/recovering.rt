@@ -6,6 +6,7 @@ ghost use Rattle.bank_shape.specs.Shape.{IsBankShape, lines_in};
 ghost use Rattle.bank_model.specs.Timing.{TimedEvent};
 ghost use Rattle.clock_laws.specs.Leads.{Leads};
 
+use crate::comparing::compare;
 use crate::rows::{end, powered, write};
 use bank_core::bank::Bank;
 use bank_shape::{BankShape, Home, Policy};
@@ -16,7 +17,6 @@ use pcm_cells::{CellArray, ScriptArray};
 use reg_lines::regs::RegLines;
 use result_rows::Results;
 use std::alloc::{AllocError, Global};
-use std::test::Fail;
 
 // Start, gap and counter of the first region, and the slot of the last of four lines.
 fn registers(bank: &Bank<64, 8, 6>) -> Option<[u32; 4]> {
@@ -73,20 +73,20 @@ fn reread_after_a_write<A: CellArray<64, 8>>(
     reread(alloc, &timed, array)
 }
 
+const SHAPE: BankShape = BankShape {
+    base: 0,
+    regions: 1,
+    lines: 4,
+    spares: 2,
+    writes: 4,
+    reads: 4,
+    psi: 1,
+    home: Home::Array,
+};
+
 #[test]
-fn a_new_bank_has_the_registers_that_the_control_lines_hold(rt: HostRuntime) -> Result<(), Fail> {
-    let shape = BankShape {
-        base: 0,
-        regions: 1,
-        lines: 4,
-        spares: 2,
-        writes: 4,
-        reads: 4,
-        psi: 1,
-        home: Home::Array,
-    };
+fn a_new_bank_has_the_registers_that_the_control_lines_hold(rt: HostRuntime) {
     let mut array: ScriptArray<64, 8> = ScriptArray::new(Vec::new(rt.alloc()));
-    let registers = reread_after_a_write(rt.alloc(), &mut array, shape)?;
-    assert_eq!(rt; registers, Some([0, 3, 0, 4]));
-    Ok(())
+    let registers = reread_after_a_write(rt.alloc(), &mut array, SHAPE);
+    compare(&rt, registers, Ok(Some([0, 3, 0, 4])));
 }

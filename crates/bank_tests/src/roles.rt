@@ -1,9 +1,10 @@
 // The roles of all array lines of a small bank.
+use crate::comparing::compare;
 use bank_shape::{BankShape, Home, Role};
 use masked_bytes::entry::Entry;
 use pcm_module::{role_in, used_in};
 use power_recovery::kept::Kept;
-use std::test::*;
+use std::alloc::{AllocError, Global};
 
 // Two regions of two lines, so that slots 0 to 2 and 3 to 5 are theirs, and three spares.
 const SHAPE: BankShape = BankShape {
@@ -17,54 +18,84 @@ const SHAPE: BankShape = BankShape {
     home: Home::Guarded,
 };
 
-#[test]
-fn each_array_line_has_its_role(rt: HostRuntime) -> Result<(), Fail> {
-    let mut kept = Kept::new(rt.alloc(), SHAPE)?;
-    let new = (role_in(&kept, 24), used_in(&kept));
-    let _ = kept.accept(Entry::whole(1, 2, &[7; 8]), false);
-    assert_eq!(rt; kept.stored(), 1);
-    kept.moved();
-    let spares = [kept.retire(0), kept.retire(0)];
-    let used = used_in(&kept);
-    let roles = [
-        role_in(&kept, 20),
-        role_in(&kept, 21),
-        role_in(&kept, 22),
-        role_in(&kept, 23),
-        role_in(&kept, 24),
-        role_in(&kept, 25),
-        role_in(&kept, 26),
-        role_in(&kept, 27),
-        role_in(&kept, 28),
-    ];
-    let wanted = [
-        Role::Retired,
-        Role::Line(1),
-        Role::Gap,
-        Role::Line(2),
-        Role::Gap,
-        Role::Line(3),
-        Role::Retired,
-        Role::Line(0),
-        Role::Free,
-    ];
-    assert_eq!(rt;
-        (new, spares, used),
-        ((Role::Line(3), 0), [Ok(6), Ok(7)], 2)
-    );
-    assert_eq!(rt; roles, wanted);
-    Ok(())
+// The role of an array line, where it is one of the bank's.
+fn role(kept: &Kept<8>, array_line: u32) -> Option<Role> {
+    let shape = kept.shape();
+    if array_line < shape.base || array_line - shape.base >= shape.array_lines() {
+        return None;
+    }
+    Some(role_in(kept, array_line))
 }
 
-/// Behind the six slots and three spares come the control lines of two regions, three spares and the mark.
+// The first array line whose role is another.
+fn other_role(kept: &Kept<8>, roles: &[(u32, Role)]) -> Option<u32> {
+    for (array_line, wanted) in roles {
+        if role(kept, *array_line) != Some(*wanted) {
+            return Some(*array_line);
+        }
+    }
+    None
+}
+
+// Array lines and their roles.
+static ROLES: [(u32, Role); 9] = [
+    (20, Role::Retired),
+    (21, Role::Line(1)),
+    (22, Role::Gap),
+    (23, Role::Line(2)),
+    (24, Role::Gap),
+    (25, Role::Line(3)),
+    (26, Role::Retired),
+    (27, Role::Line(0)),
+    (28, Role::Free),
+];
+
+// The role of line 24 of a new bank and what it used of its spares. Then a write of line 2 is stored, the gap of its region moves, and
+// slot 0 is retired twice: the row that was stored, the spares, what is used then, and the first array line whose role is another.
+fn used(
+    alloc: Global,
+) -> Result<
+    (
+        (Option<Role>, u32),
+        (u32, [Option<u32>; 2]),
+        (u32, Option<u32>),
+    ),
+    AllocError,
+> {
+    let mut kept = Kept::new(alloc, SHAPE)?;
+    let new = (role(&kept, 24), used_in(&kept));
+    let _accepted = kept.accept(Entry::whole(1, 2, &[7; 8]), false);
+    let row = kept.stored();
+    kept.moved();
+    let spares = [kept.retire(0).ok(), kept.retire(0).ok()];
+    Ok((
+        new,
+        (row, spares),
+        (used_in(&kept), other_role(&kept, &ROLES)),
+    ))
+}
+
 #[test]
-fn control_lines_are_behind_the_spares(rt: HostRuntime) -> Result<(), Fail> {
+fn each_array_line_has_its_role(rt: HostRuntime) {
+    let new = (Some(Role::Line(3)), 0);
+    let expected = (new, (1, [Some(6), Some(7)]), (2, None));
+    compare(&rt, used(rt.alloc()), Ok(expected));
+}
+
+// Behind the six slots and three spares come the control lines of two regions, three spares and the mark.
+static CONTROLS: [(u32, Role); 3] = [(28, Role::Free), (29, Role::Control), (34, Role::Control)];
+
+// The first array line of a bank with control lines whose role is another.
+fn other_control(alloc: Global) -> Result<Option<u32>, AllocError> {
     let shape = BankShape {
         home: Home::Array,
         ..SHAPE
     };
-    let kept: Kept<8> = Kept::new(rt.alloc(), shape)?;
-    let roles = [role_in(&kept, 28), role_in(&kept, 29), role_in(&kept, 34)];
-    assert_eq!(rt; roles, [Role::Free, Role::Control, Role::Control]);
-    Ok(())
+    let kept = Kept::new(alloc, shape)?;
+    Ok(other_role(&kept, &CONTROLS))
+}
+
+#[test]
+fn control_lines_are_behind_the_spares(rt: HostRuntime) {
+    compare(&rt, other_control(rt.alloc()), Ok(None));
 }

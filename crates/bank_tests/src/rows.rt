@@ -11,16 +11,15 @@ ghost use Rattle.clock_laws.specs.Leads.{Leads};
 ghost use Rattle.bank_timing.specs.Extending.{IsOpen};
 ghost use Rattle.bank_timing.specs.Extending.{IsGoing};
 
+use crate::comparing::compare;
 use crate::entries::first_byte;
-use crate::faults::{Fault, misses, script, sticks};
+use crate::faults::{Fault, script};
 use bank_shape::{BankShape, Home, Pace, Policy};
 use bank_timing::clocked::Timed;
 use masked_bytes::entry::Entry;
 use pcm_cells::{CellArray, ScriptArray, Wear};
 use result_rows::{Outcome, Results};
 use std::alloc::{AllocError, Global};
-use std::process::Abort;
-use std::test::Fail;
 
 const WEAR: Wear = Wear {
     seed: 0,
@@ -39,6 +38,29 @@ const SHAPE: BankShape = BankShape {
     psi: 100,
     home: Home::Guarded,
 };
+
+// How a bank differs from the usual one.
+#[derive(Clone, Copy)]
+enum Sort {
+    Usual,
+    MovesAtEach,
+    NoSpare,
+    OneRead,
+    OneWrite,
+}
+
+fn shape(sort: Sort) -> BankShape
+    ensures limits { IsBankShape result }
+    ensures room { result.base + lines_in result ≤ 11 }
+{
+    match sort {
+        Sort::Usual => SHAPE,
+        Sort::MovesAtEach => BankShape { psi: 1, ..SHAPE },
+        Sort::NoSpare => BankShape { spares: 0, ..SHAPE },
+        Sort::OneRead => BankShape { reads: 1, ..SHAPE },
+        Sort::OneWrite => BankShape { writes: 1, ..SHAPE },
+    }
+}
 
 const LAST_TICK: u64 = 1_099_511_627_776;
 
@@ -327,146 +349,117 @@ fn differs<A: CellArray<64, 8>>(
     }
 }
 
-// A bank of this shape, over cells with these faults, makes of each row what the table has.
-fn check_of(
-    rt: &impl Abort,
-    alloc: Global,
-    shape: BankShape,
+// A bank of a sort, over cells with some faults. Each row is to become what its table has.
+struct Case {
+    name: &'static str,
+    sort: Sort,
     policy: Policy,
-    faults: &[Fault],
-    table: &[(u64, Call, Saw)],
-) -> Result<(), AllocError>
-    requires limits { IsBankShape shape }
-    requires room { shape.base + lines_in shape ≤ 11 }
-{
-    let script = script(alloc, faults)?;
+    faults: &'static [Fault<'static>],
+    table: &'static [(u64, Call, Saw)],
+}
+
+// The first row that couldn't be played (0) or whose outcome is another.
+fn other(alloc: Global, case: &Case) -> Result<Option<u32>, AllocError> {
+    let script = script(alloc, case.faults)?;
     let mut array: ScriptArray<64, 8> = ScriptArray::new(script);
-    let other = differs(alloc, &mut array, shape, policy, table)?;
-    assert_eq!(rt; other, None);
-    Ok(())
+    differs(alloc, &mut array, shape(case.sort), case.policy, case.table)
 }
 
-// So does the usual bank, which pauses a line write for a read.
-fn check(
-    rt: &impl Abort,
-    alloc: Global,
-    faults: &[Fault],
-    table: &[(u64, Call, Saw)],
-) -> Result<(), AllocError> {
-    check_of(rt, alloc, SHAPE, Policy::Pause, faults, table)
-}
-
-// A store of ones to line 3, of whose cells these stick at 0, ends at this tick and place.
-fn check_store(
-    rt: &impl Abort,
-    alloc: Global,
-    stuck: &[u16],
-    tick: u64,
-    place: u32,
-) -> Result<(), AllocError> {
-    let table = [(0, Call::Write(3, 0xff), Saw::Stored(tick, place))];
-    check(rt, alloc, &[sticks(3, stuck)], &table)
-}
-
-#[test]
-fn a_read_after_a_write_is_forwarded_until_it_is_stored(rt: HostRuntime) -> Result<(), Fail> {
-    check(
-        &rt,
-        rt.alloc(),
-        &[],
-        &[
+static CASES: [Case; 23] = [
+    Case {
+        name: "a_read_after_a_write_is_forwarded_until_it_is_stored",
+        sort: Sort::Usual,
+        policy: Policy::Pause,
+        faults: &[],
+        table: &[
             (0, Call::Write(3, 0xff), Saw::Stored(15, 3)),
             (0, Call::Read(3), Saw::Forwarded(0, 0xff, 0xff)),
         ],
-    )?;
-    check(
-        &rt,
-        rt.alloc(),
-        &[],
-        &[
+    },
+    Case {
+        name: "a_read_after_a_write_is_forwarded_until_it_is_stored",
+        sort: Sort::Usual,
+        policy: Policy::Pause,
+        faults: &[],
+        table: &[
             (0, Call::Write(3, 0xff), Saw::Stored(15, 3)),
             (100, Call::Read(3), Saw::Read(105, 3, 0xff, 0xff)),
         ],
-    )?;
-    Ok(())
-}
-
-#[test]
-fn a_stuck_cell_costs_a_pointer(rt: HostRuntime) -> Result<(), Fail> {
-    check_store(&rt, rt.alloc(), &[0], 105, 3)?;
-    Ok(())
-}
-
-#[test]
-fn a_stuck_cell_of_a_pointer_costs_a_pointer_more(rt: HostRuntime) -> Result<(), Fail> {
-    check_store(&rt, rt.alloc(), &[0, 521], 195, 3)?;
-    check_store(&rt, rt.alloc(), &[1, 512], 285, 3)?;
-    Ok(())
-}
-
-#[test]
-fn six_stuck_cells_are_corrected_and_seven_cost_a_spare(rt: HostRuntime) -> Result<(), Fail> {
-    check_store(&rt, rt.alloc(), &[0, 1, 2, 3, 4, 5], 605, 3)?;
-    check_store(&rt, rt.alloc(), &[0, 1, 2, 3, 4, 5, 6], 690, 5)?;
-    Ok(())
-}
-
-#[test]
-fn a_read_that_waits_goes_before_a_write(rt: HostRuntime) -> Result<(), Fail> {
-    check(
-        &rt,
-        rt.alloc(),
-        &[],
-        &[
+    },
+    Case {
+        name: "a_stuck_cell_costs_a_pointer",
+        sort: Sort::Usual,
+        policy: Policy::Pause,
+        faults: &[Fault::Sticks(3, &[0])],
+        table: &[(0, Call::Write(3, 0xff), Saw::Stored(105, 3))],
+    },
+    Case {
+        name: "a_stuck_cell_of_a_pointer_costs_a_pointer_more",
+        sort: Sort::Usual,
+        policy: Policy::Pause,
+        faults: &[Fault::Sticks(3, &[0, 521])],
+        table: &[(0, Call::Write(3, 0xff), Saw::Stored(195, 3))],
+    },
+    Case {
+        name: "a_stuck_cell_of_a_pointer_costs_a_pointer_more",
+        sort: Sort::Usual,
+        policy: Policy::Pause,
+        faults: &[Fault::Sticks(3, &[1, 512])],
+        table: &[(0, Call::Write(3, 0xff), Saw::Stored(285, 3))],
+    },
+    Case {
+        name: "six_stuck_cells_are_corrected_and_seven_cost_a_spare",
+        sort: Sort::Usual,
+        policy: Policy::Pause,
+        faults: &[Fault::Sticks(3, &[0, 1, 2, 3, 4, 5])],
+        table: &[(0, Call::Write(3, 0xff), Saw::Stored(605, 3))],
+    },
+    Case {
+        name: "six_stuck_cells_are_corrected_and_seven_cost_a_spare",
+        sort: Sort::Usual,
+        policy: Policy::Pause,
+        faults: &[Fault::Sticks(3, &[0, 1, 2, 3, 4, 5, 6])],
+        table: &[(0, Call::Write(3, 0xff), Saw::Stored(690, 5))],
+    },
+    Case {
+        name: "a_read_that_waits_goes_before_a_write",
+        sort: Sort::Usual,
+        policy: Policy::Pause,
+        faults: &[],
+        table: &[
             (0, Call::Read(3), Saw::Read(5, 3, 0, 0)),
             (0, Call::Write(3, 0xff), Saw::Stored(20, 3)),
         ],
-    )?;
-    Ok(())
-}
-
-#[test]
-fn a_full_queue_merges_before_it_refuses(rt: HostRuntime) -> Result<(), Fail> {
-    check_of(
-        &rt,
-        rt.alloc(),
-        BankShape { writes: 1, ..SHAPE },
-        Policy::Pause,
-        &[],
-        &[
+    },
+    Case {
+        name: "a_full_queue_merges_before_it_refuses",
+        sort: Sort::OneWrite,
+        policy: Policy::Pause,
+        faults: &[],
+        table: &[
             (0, Call::Write(3, 0xaa), Saw::Merged(0)),
             (0, Call::Write(1, 0x11), Saw::Full(0)),
             (0, Call::Write(3, 0xbb), Saw::Stored(15, 3)),
             (6, Call::Write(3, 0xcc), Saw::Full(6)),
         ],
-    )?;
-    Ok(())
-}
-
-#[test]
-fn a_torn_store_is_done_again(rt: HostRuntime) -> Result<(), Fail> {
-    check(
-        &rt,
-        rt.alloc(),
-        &[misses(3, &[0], 1), misses(3, &[0], 2)],
-        &[
+    },
+    Case {
+        name: "a_torn_store_is_done_again",
+        sort: Sort::Usual,
+        policy: Policy::Pause,
+        faults: &[Fault::Misses(3, &[0], 1), Fault::Misses(3, &[0], 2)],
+        table: &[
             (0, Call::Write(3, 0xff), Saw::Stored(35, 3)),
             (20, Call::Cut, Saw::None),
             (20, Call::Read(3), Saw::Forwarded(20, 0xff, 0xff)),
         ],
-    )?;
-    Ok(())
-}
-
-#[test]
-fn a_torn_gap_move_is_done_again(rt: HostRuntime) -> Result<(), Fail> {
-    check_of(
-        &rt,
-        rt.alloc(),
-        BankShape { psi: 1, ..SHAPE },
-        Policy::Pause,
-        &[misses(4, &[0], 1)],
-        &[
+    },
+    Case {
+        name: "a_torn_gap_move_is_done_again",
+        sort: Sort::MovesAtEach,
+        policy: Policy::Pause,
+        faults: &[Fault::Misses(4, &[0], 1)],
+        table: &[
             (0, Call::Write(3, 0xff), Saw::Stored(15, 3)),
             (25, Call::Cut, Saw::None),
             (25, Call::Read(3), Saw::Read(30, 3, 0xff, 0xff)),
@@ -475,159 +468,154 @@ fn a_torn_gap_move_is_done_again(rt: HostRuntime) -> Result<(), Fail> {
             (60, Call::Read(2), Saw::Read(75, 2, 0, 0)),
             (60, Call::Read(0), Saw::Read(80, 0, 0, 0)),
         ],
-    )?;
-    Ok(())
-}
-
-#[test]
-fn a_torn_pointer_is_written_again(rt: HostRuntime) -> Result<(), Fail> {
-    check(
-        &rt,
-        rt.alloc(),
-        &[sticks(3, &[0, 1, 2, 3, 4, 11]), misses(3, &[566], 2)],
-        &[
+    },
+    Case {
+        name: "a_torn_pointer_is_written_again",
+        sort: Sort::Usual,
+        policy: Policy::Pause,
+        faults: &[
+            Fault::Sticks(3, &[0, 1, 2, 3, 4, 11]),
+            Fault::Misses(3, &[566], 2),
+        ],
+        table: &[
             (0, Call::Write(3, 0xff), Saw::Stored(975, 3)),
             (580, Call::Cut, Saw::None),
             (2000, Call::Read(3), Saw::Read(2005, 3, 0xff, 0xff)),
         ],
-    )?;
-    Ok(())
-}
-
-#[test]
-fn a_bank_without_a_spare_keeps_what_it_has(rt: HostRuntime) -> Result<(), Fail> {
-    check_of(
-        &rt,
-        rt.alloc(),
-        BankShape { spares: 0, ..SHAPE },
-        Policy::Pause,
-        &[sticks(3, &[0, 1, 2, 3, 4, 5, 6])],
-        &[
+    },
+    Case {
+        name: "a_bank_without_a_spare_keeps_what_it_has",
+        sort: Sort::NoSpare,
+        policy: Policy::Pause,
+        faults: &[Fault::Sticks(3, &[0, 1, 2, 3, 4, 5, 6])],
+        table: &[
             (0, Call::Write(3, 0xff), Saw::Queued(0)),
             (700, Call::Write(1, 0x11), Saw::Worn(700)),
             (700, Call::Read(3), Saw::Forwarded(700, 0xff, 0xff)),
             (700, Call::Read(1), Saw::Read(705, 1, 0, 0)),
         ],
-    )?;
-    Ok(())
-}
-
-#[test]
-fn a_write_gives_way_to_a_read_only_where_it_pauses(rt: HostRuntime) -> Result<(), Fail> {
-    for (policy, stored, read) in [(Policy::Pause, 30, 20), (Policy::Plain, 25, 30)] {
-        check_of(
-            &rt,
-            rt.alloc(),
-            SHAPE,
-            policy,
-            &[misses(3, &[0], 1)],
-            &[
-                (0, Call::Write(3, 0xff), Saw::Stored(stored, 3)),
-                (7, Call::Read(1), Saw::Read(read, 1, 0, 0)),
-            ],
-        )?;
-    }
-    Ok(())
-}
-
-#[test]
-fn a_cut_drops_a_serve_before_its_end_and_not_at_it(rt: HostRuntime) -> Result<(), Fail> {
-    for (cut, stored, saw) in [(19, 34, Saw::Lost(19)), (20, 35, Saw::Read(20, 1, 0, 0))] {
-        check(
-            &rt,
-            rt.alloc(),
-            &[misses(3, &[0], 1)],
-            &[
-                (0, Call::Write(3, 0xff), Saw::Stored(stored, 3)),
-                (7, Call::Read(1), saw),
-                (cut, Call::Cut, Saw::None),
-            ],
-        )?;
-    }
-    Ok(())
-}
-
-#[test]
-fn a_write_behind_a_torn_one_of_its_line_is_merged_into(rt: HostRuntime) -> Result<(), Fail> {
-    check(
-        &rt,
-        rt.alloc(),
-        &[],
-        &[
+    },
+    Case {
+        name: "a_write_gives_way_to_a_read_only_where_it_pauses",
+        sort: Sort::Usual,
+        policy: Policy::Pause,
+        faults: &[Fault::Misses(3, &[0], 1)],
+        table: &[
+            (0, Call::Write(3, 0xff), Saw::Stored(30, 3)),
+            (7, Call::Read(1), Saw::Read(20, 1, 0, 0)),
+        ],
+    },
+    Case {
+        name: "a_write_gives_way_to_a_read_only_where_it_pauses",
+        sort: Sort::Usual,
+        policy: Policy::Plain,
+        faults: &[Fault::Misses(3, &[0], 1)],
+        table: &[
+            (0, Call::Write(3, 0xff), Saw::Stored(25, 3)),
+            (7, Call::Read(1), Saw::Read(30, 1, 0, 0)),
+        ],
+    },
+    Case {
+        name: "a_cut_drops_a_serve_before_its_end_and_not_at_it",
+        sort: Sort::Usual,
+        policy: Policy::Pause,
+        faults: &[Fault::Misses(3, &[0], 1)],
+        table: &[
+            (0, Call::Write(3, 0xff), Saw::Stored(34, 3)),
+            (7, Call::Read(1), Saw::Lost(19)),
+            (19, Call::Cut, Saw::None),
+        ],
+    },
+    Case {
+        name: "a_cut_drops_a_serve_before_its_end_and_not_at_it",
+        sort: Sort::Usual,
+        policy: Policy::Pause,
+        faults: &[Fault::Misses(3, &[0], 1)],
+        table: &[
+            (0, Call::Write(3, 0xff), Saw::Stored(35, 3)),
+            (7, Call::Read(1), Saw::Read(20, 1, 0, 0)),
+            (20, Call::Cut, Saw::None),
+        ],
+    },
+    Case {
+        name: "a_write_behind_a_torn_one_of_its_line_is_merged_into",
+        sort: Sort::Usual,
+        policy: Policy::Pause,
+        faults: &[],
+        table: &[
             (0, Call::Write(3, 0x11), Saw::Stored(15, 3)),
             (6, Call::Write(3, 0x22), Saw::Merged(10)),
             (10, Call::Cut, Saw::None),
             (10, Call::Write(3, 0x33), Saw::Stored(30, 3)),
             (10, Call::Read(3), Saw::Forwarded(10, 0x33, 0x33)),
         ],
-    )?;
-    Ok(())
-}
-
-#[test]
-fn a_bank_with_enough_reads_is_busy(rt: HostRuntime) -> Result<(), Fail> {
-    check_of(
-        &rt,
-        rt.alloc(),
-        BankShape { reads: 1, ..SHAPE },
-        Policy::Pause,
-        &[],
-        &[
+    },
+    Case {
+        name: "a_bank_with_enough_reads_is_busy",
+        sort: Sort::OneRead,
+        policy: Policy::Pause,
+        faults: &[],
+        table: &[
             (0, Call::Read(3), Saw::Read(5, 3, 0, 0)),
             (0, Call::Read(1), Saw::Busy(0)),
         ],
-    )?;
-    Ok(())
-}
-
-#[test]
-fn a_masked_write_changes_the_bytes_that_it_gives(rt: HostRuntime) -> Result<(), Fail> {
-    check(
-        &rt,
-        rt.alloc(),
-        &[],
-        &[
+    },
+    Case {
+        name: "a_masked_write_changes_the_bytes_that_it_gives",
+        sort: Sort::Usual,
+        policy: Policy::Pause,
+        faults: &[],
+        table: &[
             (0, Call::Write(3, 0x11), Saw::Stored(15, 3)),
             (100, Call::Mask(3, 0xee), Saw::Stored(120, 3)),
             (100, Call::Read(3), Saw::Read(105, 3, 0xee, 0x11)),
             (200, Call::Read(3), Saw::Read(205, 3, 0xee, 0x11)),
         ],
-    )?;
-    Ok(())
-}
-
-#[test]
-fn a_masked_write_is_complete_once_its_store_began(rt: HostRuntime) -> Result<(), Fail> {
-    for (cut, stored, saw) in [
-        (110, 115, Saw::Forwarded(110, 0xee, 0x11)),
-        (102, 122, Saw::Read(107, 3, 0xee, 0x11)),
-    ] {
-        check(
-            &rt,
-            rt.alloc(),
-            &[],
-            &[
-                (0, Call::Write(3, 0x11), Saw::Stored(15, 3)),
-                (100, Call::Mask(3, 0xee), Saw::Stored(stored, 3)),
-                (cut, Call::Cut, Saw::None),
-                (cut, Call::Read(3), saw),
-            ],
-        )?;
-    }
-    Ok(())
-}
-
-#[test]
-fn a_read_drops_the_begin_of_a_masked_write(rt: HostRuntime) -> Result<(), Fail> {
-    check(
-        &rt,
-        rt.alloc(),
-        &[],
-        &[
+    },
+    Case {
+        name: "a_masked_write_is_complete_once_its_store_began",
+        sort: Sort::Usual,
+        policy: Policy::Pause,
+        faults: &[],
+        table: &[
+            (0, Call::Write(3, 0x11), Saw::Stored(15, 3)),
+            (100, Call::Mask(3, 0xee), Saw::Stored(115, 3)),
+            (110, Call::Cut, Saw::None),
+            (110, Call::Read(3), Saw::Forwarded(110, 0xee, 0x11)),
+        ],
+    },
+    Case {
+        name: "a_masked_write_is_complete_once_its_store_began",
+        sort: Sort::Usual,
+        policy: Policy::Pause,
+        faults: &[],
+        table: &[
+            (0, Call::Write(3, 0x11), Saw::Stored(15, 3)),
+            (100, Call::Mask(3, 0xee), Saw::Stored(122, 3)),
+            (102, Call::Cut, Saw::None),
+            (102, Call::Read(3), Saw::Read(107, 3, 0xee, 0x11)),
+        ],
+    },
+    Case {
+        name: "a_read_drops_the_begin_of_a_masked_write",
+        sort: Sort::Usual,
+        policy: Policy::Pause,
+        faults: &[],
+        table: &[
             (0, Call::Write(3, 0x11), Saw::Stored(15, 3)),
             (100, Call::Mask(3, 0xee), Saw::Stored(122, 3)),
             (102, Call::Read(3), Saw::Read(107, 3, 0xee, 0x11)),
         ],
-    )?;
-    Ok(())
+    },
+];
+
+#[test]
+fn each_row_becomes_what_its_table_has(rt: HostRuntime) {
+    for case in &CASES {
+        compare(
+            &rt,
+            (case.name, other(rt.alloc(), case)),
+            (case.name, Ok(None)),
+        );
+    }
 }

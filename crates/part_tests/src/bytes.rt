@@ -52,19 +52,23 @@ fn a_newer_write_wins_byte_by_byte(rt: HostRuntime) {
     entry.lay_on(&giving(2, 1, 21));
     let laid = first_three(&entry);
     entry.complete(&[7; 128]);
-    let complete = first_three(&entry);
-    compare(&rt, laid, (2, [10, 21, 0], [true, true, false]));
-    compare(&rt, complete, (2, [10, 21, 7], [true, true, true]));
-    compare(&rt, has_all(&entry.given), true);
+    compare(
+        &rt,
+        (laid, first_three(&entry), has_all(&entry.given)),
+        (
+            (2, [10, 21, 0], [true, true, false]),
+            (2, [10, 21, 7], [true, true, true]),
+            true,
+        ),
+    );
 }
 
 #[test]
 fn a_whole_write_gives_each_byte(rt: HostRuntime) {
     let entry = Entry::whole(4, 9, &[0xab; 64]);
-    compare(&rt, (entry.row, entry.line), (4, 9));
     compare(
         &rt,
-        (has_all(&entry.given), entry.bytes),
-        (true, [0xab; 64]),
+        (entry.row, entry.line, has_all(&entry.given), entry.bytes),
+        (4, 9, true, [0xab; 64]),
     );
 }

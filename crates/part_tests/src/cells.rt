@@ -8,7 +8,6 @@ use pcm_cells::{
 };
 use run_text::sum_pulses;
 use std::alloc::{AllocError, Global};
-use std::test::Fail;
 
 // Every cell sticks in its first change.
 const SHORT: Wear = Wear {
@@ -85,24 +84,23 @@ fn cells_are_bits_of_both_halves(rt: HostRuntime) {
     let mut row: Cells<64, 8> = Cells::zero();
     row.set(0, true);
     row.set(515, true);
-    let ends = [row.bits[0], row.meta[0]];
-    let held = (row.get(515), row.get(514), row.count());
-    let none = [row.differ(&row).is_none(), row.is_none()];
+    let held = ([row.bits[0], row.meta[0]], [row.get(515), row.get(514)]);
+    let (count, none) = (row.count(), [row.differ(&row).is_none(), row.is_none()]);
     row.set(0, false);
-    let left = row.meet(&row).count();
-    compare(&rt, ends, [1, 8]);
-    compare(&rt, held, (true, false, 2));
-    compare(&rt, (none, left), ([true, false], 1));
+    compare(
+        &rt,
+        (held, count, none, row.meet(&row).count()),
+        (([1, 8], [true, false]), 2, [true, false], 1),
+    );
 }
 
 #[test]
 fn wide_cells_are_bits_of_both_halves(rt: HostRuntime) {
     let mut row: Cells<128, 16> = Cells::zero();
     row.set(1151, true);
-    let held = (row.meta[15], row.get(1151), row.get(1150), row.count());
+    let held = (row.meta[15], [row.get(1151), row.get(1150)], row.count());
     let none = [row.differ(&row).is_none(), row.meet(&row).is_none()];
-    compare(&rt, held, (128, true, false, 1));
-    compare(&rt, none, [true, false]);
+    compare(&rt, (held, none), ((128, [true, false], 1), [true, false]));
 }
 
 // Ones in the data alone.
@@ -139,27 +137,28 @@ fn len(log: Option<&[Sense<64, 8>]>) -> Option<usize> {
     }
 }
 
-#[test]
-fn a_log_has_each_sense(rt: HostRuntime) -> Result<(), Fail> {
-    let script = ScriptArray::new(Vec::new(rt.alloc()));
-    let mut array: LoggedArray<ScriptArray<64, 8>, 64, 8> = LoggedArray::new(
-        rt.alloc(),
-        script,
-        3,
-    )?;
-    array.power_up(rt.alloc(), 7, LONG)?;
+// An array of three lines with a log of three senses: the senses behind three, how many the log has behind a fourth, and how many when
+// the array is powered up again.
+fn logged(
+    alloc: Global,
+) -> Result<(Option<[(u32, u64, u8, u8, u64); 3]>, [Option<usize>; 2]), AllocError> {
+    let script = ScriptArray::new(Vec::new(alloc));
+    let mut array: LoggedArray<ScriptArray<64, 8>, 64, 8> = LoggedArray::new(alloc, script, 3)?;
+    array.power_up(alloc, 7, LONG)?;
     overwrite(&mut array, 3, &DATA, 5);
     seen(&mut array, 3, 15);
     seen(&mut array, 3, 105);
     let senses = three(array.log());
     seen(&mut array, 0, 106);
     let full = len(array.log());
-    array.power_up(rt.alloc(), 7, LONG)?;
-    let new = len(array.log());
-    let expected = [(3, 5, 0, 0, 0), (3, 15, 0xff, 0, 1), (3, 105, 0xff, 0, 1)];
-    compare(&rt, senses, Some(expected));
-    compare(&rt, [full, new], [None, Some(0)]);
-    Ok(())
+    array.power_up(alloc, 7, LONG)?;
+    Ok((senses, [full, len(array.log())]))
+}
+
+#[test]
+fn a_log_has_each_sense(rt: HostRuntime) {
+    let senses = [(3, 5, 0, 0, 0), (3, 15, 0xff, 0, 1), (3, 105, 0xff, 0, 1)];
+    compare(&rt, logged(rt.alloc()), Ok((Some(senses), [None, Some(0)])));
 }
 
 // Cell 3 misses its first pulse, and cell 4 sticks at 0 in it.
@@ -183,21 +182,30 @@ const WIDE_DATA: Cells<128, 16> = Cells {
     meta: [0; 16],
 };
 
-#[test]
-fn a_script_misses_and_sticks(rt: HostRuntime) -> Result<(), Fail> {
-    let script = Vec::from_array(rt.alloc(), SCRIPT)?;
-    let mut array: ScriptArray<128, 16> = ScriptArray::new(script);
-    array.power_up(rt.alloc(), 1, LONG)?;
+// How many cells differed from ones at two writes of line 0, the pulses behind a tear, and the first byte behind the writes and behind
+// the tear.
+fn write_and_tear<A: CellArray<128, 16>>(array: &mut A) -> ([u32; 2], u64, [u8; 2])
+    requires { 0 < (A.state array.old).lines }
+{
     let differ = [
-        overwrite(&mut array, 0, &WIDE_DATA, 0),
-        overwrite(&mut array, 0, &WIDE_DATA, 1),
+        overwrite(array, 0, &WIDE_DATA, 0),
+        overwrite(array, 0, &WIDE_DATA, 1),
     ];
-    let written = seen(&mut array, 0, 2).bits[0];
-    tear(&mut array, 0, &WIDE_DATA, 3);
-    let torn = seen(&mut array, 0, 4).bits[0];
-    compare(&rt, (differ, array.pulses(0)), ([1024, 2], 3));
-    compare(&rt, [written, torn], [0xef, 0xef]);
-    Ok(())
+    let written = seen(array, 0, 2).bits[0];
+    tear(array, 0, &WIDE_DATA, 3);
+    let torn = seen(array, 0, 4).bits[0];
+    (differ, array.pulses(0), [written, torn])
+}
+
+fn scripted(alloc: Global) -> Result<([u32; 2], u64, [u8; 2]), AllocError> {
+    let mut array: ScriptArray<128, 16> = ScriptArray::new(Vec::from_array(alloc, SCRIPT)?);
+    array.power_up(alloc, 1, LONG)?;
+    Ok(write_and_tear(&mut array))
+}
+
+#[test]
+fn a_script_misses_and_sticks(rt: HostRuntime) {
+    compare(&rt, scripted(rt.alloc()), Ok(([1024, 2], 3, [0xef, 0xef])));
 }
 
 const ONES: Cells<64, 8> = Cells {
@@ -215,22 +223,33 @@ fn is_about_half(count: u32) -> bool {
     200 < count && count < 376
 }
 
-#[test]
-fn short_lives_end_in_the_first_change(rt: HostRuntime) -> Result<(), Fail> {
+// Ones are written to line 1, and then the opposite of what stuck: the lines, how many cells differed at each write, whether the second
+// changed nothing, and whether about half of the cells stuck as ones.
+fn stick<A: CellArray<64, 8>>(array: &mut A) -> (u32, [u32; 2], bool, bool)
+    requires { 1 < (A.state array.old).lines }
+{
+    let first = overwrite(array, 1, &ONES, 0);
+    let stuck = seen(array, 1, 1);
+    let second = overwrite(array, 1, &stuck.differ(&ONES), 2);
+    let same = is_same(&seen(array, 1, 3), &stuck);
+    (
+        array.lines(),
+        [first, second],
+        same,
+        is_about_half(stuck.count()),
+    )
+}
+
+// The same over an array of two lines whose cells have short lives.
+fn short(alloc: Global) -> Result<(u32, [u32; 2], bool, bool), AllocError> {
     let mut array: MemArray<64, 8> = MemArray::new();
-    array.power_up(rt.alloc(), 2, SHORT)?;
-    let first = overwrite(&mut array, 1, &ONES, 0);
-    let stuck = seen(&mut array, 1, 1);
-    let opposite = stuck.differ(&ONES);
-    let second = overwrite(&mut array, 1, &opposite, 2);
-    let same = is_same(&seen(&mut array, 1, 3), &stuck);
-    compare(
-        &rt,
-        (array.lines(), first, second, same),
-        (2, 576, 576, true),
-    );
-    compare(&rt, is_about_half(stuck.count()), true);
-    Ok(())
+    array.power_up(alloc, 2, SHORT)?;
+    Ok(stick(&mut array))
+}
+
+#[test]
+fn short_lives_end_in_the_first_change(rt: HostRuntime) {
+    compare(&rt, short(rt.alloc()), Ok((2, [576, 576], true, true)));
 }
 
 const WIDE_ONES: Cells<128, 16> = Cells {
@@ -238,20 +257,46 @@ const WIDE_ONES: Cells<128, 16> = Cells {
     meta: [0xff; 16],
 };
 
-#[test]
-fn a_tear_reaches_even_cells_alone(rt: HostRuntime) -> Result<(), Fail> {
+// The last data byte behind a torn write of ones to line 0, the last check byte behind a whole one, and the pulses.
+fn tear_and_write<A: CellArray<128, 16>>(array: &mut A) -> (u8, u8, u64)
+    requires { 0 < (A.state array.old).lines }
+{
+    tear(array, 0, &WIDE_ONES, 0);
+    let torn = seen(array, 0, 1).bits[127];
+    overwrite(array, 0, &WIDE_ONES, 2);
+    let written = seen(array, 0, 3).meta[15];
+    (torn, written, array.pulses(0))
+}
+
+fn torn(alloc: Global) -> Result<(u8, u8, u64), AllocError> {
     let mut array: MemArray<128, 16> = MemArray::new();
-    array.power_up(rt.alloc(), 1, LASTING)?;
-    tear(&mut array, 0, &WIDE_ONES, 0);
-    let torn = seen(&mut array, 0, 1).bits[127];
-    overwrite(&mut array, 0, &WIDE_ONES, 2);
-    let written = seen(&mut array, 0, 3).meta[15];
-    compare(&rt, (torn, written, array.pulses(0)), (0x55, 0xff, 2));
-    Ok(())
+    array.power_up(alloc, 1, LASTING)?;
+    Ok(tear_and_write(&mut array))
+}
+
+#[test]
+fn a_tear_reaches_even_cells_alone(rt: HostRuntime) {
+    compare(&rt, torn(rt.alloc()), Ok((0x55, 0xff, 2)));
 }
 
 // Writes ones to one of three lines and then to another: what the other held before, what the lines hold in the end, and the
 // pulses of line 1.
+fn draw<A: CellArray<64, 8>>(
+    array: &mut A,
+    first: u32,
+    second: u32,
+) -> (Cells<64, 8>, [Cells<64, 8>; 3], u64)
+    requires lines { (A.state array.old).lines ≡ 3 }
+    requires first { first < 3 }
+    requires second { second < 3 }
+{
+    overwrite(array, first, &ONES, 0);
+    let before = seen(array, second, 1);
+    overwrite(array, second, &ONES, 2);
+    let lines = [seen(array, 0, 3), seen(array, 1, 3), seen(array, 2, 3)];
+    (before, lines, array.pulses(1))
+}
+
 fn drawn(
     alloc: Global,
     first: u32,
@@ -262,52 +307,53 @@ fn drawn(
 {
     let mut array: MemArray<64, 8> = MemArray::new();
     array.power_up(alloc, 3, SHORT)?;
-    overwrite(&mut array, first, &ONES, 0);
-    let before = seen(&mut array, second, 1);
-    overwrite(&mut array, second, &ONES, 2);
-    let lines = [
-        seen(&mut array, 0, 3),
-        seen(&mut array, 1, 3),
-        seen(&mut array, 2, 3),
-    ];
-    Ok((before, lines, array.pulses(1)))
+    Ok(draw(&mut array, first, second))
 }
 
-#[test]
-fn a_line_is_drawn_by_its_number_whichever_is_pulsed_first(rt: HostRuntime) -> Result<(), Fail> {
-    let (_, lines, _) = drawn(rt.alloc(), 0, 2)?;
-    let (before, others, pulses) = drawn(rt.alloc(), 2, 0)?;
+// Whether lines 0 and 2 hold the same whichever of them is written first, and the same as each other; whether a line that isn't written is
+// empty before and after, and its pulses.
+fn drawn_twice(alloc: Global) -> Result<([bool; 3], [bool; 2], u64), AllocError> {
+    let (_, lines, _) = drawn(alloc, 0, 2)?;
+    let (before, others, pulses) = drawn(alloc, 2, 0)?;
     let same = [
         is_same(&lines[0], &others[0]),
         is_same(&lines[2], &others[2]),
         is_same(&lines[0], &lines[2]),
     ];
-    let none = [before.is_none(), others[1].is_none()];
-    compare(&rt, same, [true, true, false]);
-    compare(&rt, (none, pulses), ([true, true], 0));
-    Ok(())
+    Ok((same, [before.is_none(), others[1].is_none()], pulses))
 }
 
 #[test]
-fn pulses_of_all_lines_are_summed(rt: HostRuntime) -> Result<(), Fail> {
+fn a_line_is_drawn_by_its_number_whichever_is_pulsed_first(rt: HostRuntime) {
+    compare(
+        &rt,
+        drawn_twice(rt.alloc()),
+        Ok(([true, true, false], [true, true], 0)),
+    );
+}
+
+// The pulses of all lines before the first and behind three.
+fn sum<A: CellArray<64, 8>>(array: &mut A) -> [u64; 2]
+    requires { 2 < (A.state array.old).lines }
+{
+    let unpulsed = sum_pulses(array);
+    overwrite(array, 0, &ONES, 0);
+    overwrite(array, 2, &ONES, 1);
+    overwrite(array, 2, &Cells::zero(), 2);
+    [unpulsed, sum_pulses(array)]
+}
+
+// Those before the array has power, too.
+fn sums(alloc: Global) -> Result<(u64, [u64; 2]), AllocError> {
     let mut array: MemArray<64, 8> = MemArray::new();
     let none = sum_pulses(&array);
-    array.power_up(rt.alloc(), 3, LASTING)?;
-    let unpulsed = sum_pulses(&array);
-    overwrite(&mut array, 0, &ONES, 0);
-    overwrite(&mut array, 2, &ONES, 1);
-    overwrite(&mut array, 2, &Cells::zero(), 2);
-    assert_eq!(rt; [none, unpulsed, sum_pulses(&array)], [0, 0, 3]);
-    Ok(())
+    array.power_up(alloc, 3, LASTING)?;
+    Ok((none, sum(&mut array)))
 }
 
 #[test]
-fn pulses_of_a_wide_line_are_summed(rt: HostRuntime) -> Result<(), Fail> {
-    let mut wide: ScriptArray<128, 16> = ScriptArray::new(Vec::new(rt.alloc()));
-    wide.power_up(rt.alloc(), 1, LASTING)?;
-    overwrite(&mut wide, 0, &WIDE_ONES, 0);
-    assert_eq!(rt; sum_pulses(&wide), 1);
-    Ok(())
+fn pulses_of_all_lines_are_summed(rt: HostRuntime) {
+    compare(&rt, sums(rt.alloc()), Ok((0, [0, 3])));
 }
 
 // Cells live through two changes or through three, and none misses.
@@ -323,20 +369,29 @@ fn worn(stuck: u32, changes: u32) -> Option<CellWear> {
     Some(CellWear { stuck, changes })
 }
 
+// How line 1 is worn before a write, behind one, two and three; how line 0 is, and whether line 1 holds what is sensed.
+fn wear_out<A: TellsCells<64, 8>>(array: &mut A) -> ([Option<CellWear>; 5], bool)
+    requires { 1 < (A.state array.old).lines }
+{
+    let new = array.cell_wear(1);
+    overwrite(array, 1, &ONES, 0);
+    let once = array.cell_wear(1);
+    overwrite(array, 1, &Cells::zero(), 1);
+    let twice = array.cell_wear(1);
+    overwrite(array, 1, &ONES, 2);
+    let told = [new, once, twice, array.cell_wear(1), array.cell_wear(0)];
+    (told, is_same(&array.held(1), &seen(array, 1, 3)))
+}
+
+fn worn_by_writes(alloc: Global) -> Result<([Option<CellWear>; 5], bool), AllocError> {
+    let mut array: MemArray<64, 8> = MemArray::new();
+    array.power_up(alloc, 2, BRIEF)?;
+    Ok(wear_out(&mut array))
+}
+
 // By the generator's words 295 of the 576 cells live through two changes alone.
 #[test]
-fn an_array_tells_how_the_cells_of_a_line_are_worn(rt: HostRuntime) -> Result<(), Fail> {
-    let mut array: MemArray<64, 8> = MemArray::new();
-    array.power_up(rt.alloc(), 2, BRIEF)?;
-    let new = array.cell_wear(1);
-    overwrite(&mut array, 1, &ONES, 0);
-    let once = array.cell_wear(1);
-    overwrite(&mut array, 1, &Cells::zero(), 1);
-    let twice = array.cell_wear(1);
-    overwrite(&mut array, 1, &ONES, 2);
-    let thrice = array.cell_wear(1);
-    let told = [new, once, twice, thrice, array.cell_wear(0)];
-    let same = is_same(&array.held(1), &seen(&mut array, 1, 3));
+fn an_array_tells_how_the_cells_of_a_line_are_worn(rt: HostRuntime) {
     let expected = [
         worn(0, 0),
         worn(0, 1),
@@ -344,20 +399,23 @@ fn an_array_tells_how_the_cells_of_a_line_are_worn(rt: HostRuntime) -> Result<()
         worn(576, 3),
         worn(0, 0),
     ];
-    compare(&rt, (told, same), (expected, true));
-    Ok(())
+    compare(&rt, worn_by_writes(rt.alloc()), Ok((expected, true)));
+}
+
+// A wide line behind a write of data: how it is worn, its last data byte and its first check byte, and the pulses of all lines.
+fn uncounted(alloc: Global) -> Result<(Option<CellWear>, [u8; 2], u64), AllocError> {
+    let mut array: ScriptArray<128, 16> = ScriptArray::new(Vec::new(alloc));
+    array.power_up(alloc, 1, LONG)?;
+    overwrite(&mut array, 0, &WIDE_DATA, 0);
+    let held = array.held(0);
+    Ok((
+        array.cell_wear(0),
+        [held.bits[127], held.meta[0]],
+        sum_pulses(&array),
+    ))
 }
 
 #[test]
-fn a_script_counts_no_changes(rt: HostRuntime) -> Result<(), Fail> {
-    let mut array: ScriptArray<128, 16> = ScriptArray::new(Vec::new(rt.alloc()));
-    array.power_up(rt.alloc(), 1, LONG)?;
-    overwrite(&mut array, 0, &WIDE_DATA, 0);
-    let held = array.held(0);
-    compare(
-        &rt,
-        (array.cell_wear(0), held.bits[127], held.meta[0]),
-        (None, 0xff, 0),
-    );
-    Ok(())
+fn a_script_counts_no_changes_and_pulses_of_a_wide_line_are_summed(rt: HostRuntime) {
+    compare(&rt, uncounted(rt.alloc()), Ok((None, [0xff, 0], 1)));
 }

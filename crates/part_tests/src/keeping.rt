@@ -5,7 +5,7 @@ use power_recovery::kept::Kept;
 use protected_queue::accept::Accept;
 use spare_pool::NoSpare;
 use start_gap::Move;
-use std::test::*;
+use std::alloc::{AllocError, Global};
 
 const SMALL: BankShape = BankShape {
     base: 0,
@@ -18,61 +18,88 @@ const SMALL: BankShape = BankShape {
     home: Home::Guarded,
 };
 
-#[test]
-fn a_full_queue_refuses_or_merges(rt: HostRuntime) -> Result<(), Fail> {
-    let mut kept = Kept::new(rt.alloc(), SMALL)?;
+// What a bank answers to a write, to one while the head is in flight, and to the same one behind it.
+fn accepted(alloc: Global) -> Result<[Accept; 3], AllocError> {
+    let mut kept = Kept::new(alloc, SMALL)?;
     let first = kept.accept(Entry::whole(1, 0, &[0x11; 128]), false);
     let in_flight = kept.accept(Entry::whole(2, 0, &[0x22; 128]), true);
     let behind = kept.accept(Entry::whole(2, 0, &[0x22; 128]), false);
-    compare(
-        &rt,
-        [first, in_flight, behind],
-        [
-            Accept::Pushed,
-            Accept::Full,
-            Accept::Merged { row: 1, index: 0 },
-        ],
-    );
-    Ok(())
+    Ok([first, in_flight, behind])
 }
 
 #[test]
-fn a_store_makes_a_move_due(rt: HostRuntime) -> Result<(), Fail> {
-    let mut kept = Kept::new(rt.alloc(), SMALL)?;
+fn a_full_queue_refuses_or_merges(rt: HostRuntime) {
+    let expected = [
+        Accept::Pushed,
+        Accept::Full,
+        Accept::Merged { row: 1, index: 0 },
+    ];
+    compare(&rt, accepted(rt.alloc()), Ok(expected));
+}
+
+// A store and the move behind it, if these are the next works of a bank with two writes of a line: the works, the row that was stored, the
+// work behind them, and where line 3 stands then.
+fn moved(alloc: Global) -> Result<Option<([Work; 3], u32, u32)>, AllocError> {
+    let mut kept = Kept::new(alloc, SMALL)?;
     let _ = kept.accept(Entry::whole(1, 0, &[0x11; 128]), false);
     let _ = kept.accept(Entry::whole(2, 0, &[0x22; 128]), false);
-    // the macro, here and before the move: from it the check knows that there is such work to do
-    assert_eq!(rt; kept.next_work(), Work::Store { line: 0, slot: 0 });
+    let store = kept.next_work();
+    let Work::Store { .. } = store else {
+        return Ok(None);
+    };
     let row = kept.stored();
+    let copy = kept.next_work();
+    let Work::Copy { .. } = copy else {
+        return Ok(None);
+    };
+    kept.moved();
+    Ok(Some(([store, copy, kept.next_work()], row, kept.slot_of(3))))
+}
+
+#[test]
+fn a_store_makes_a_move_due(rt: HostRuntime) {
     let step = Move {
         line: 3,
         from: 3,
         to: 4,
     };
-    assert_eq!(rt; kept.next_work(), Work::Copy { region: 0, step });
-    kept.moved();
-    compare(
-        &rt,
-        (row, kept.next_work(), kept.slot_of(3)),
-        (2, Work::Nothing, 4),
-    );
-    Ok(())
+    let works = [
+        Work::Store { line: 0, slot: 0 },
+        Work::Copy { region: 0, step },
+        Work::Nothing,
+    ];
+    compare(&rt, moved(rt.alloc()), Ok(Some((works, 2, 4))));
 }
 
-#[test]
-fn the_third_retirement_finds_no_spare(rt: HostRuntime) -> Result<(), Fail> {
-    let mut kept: Kept<64> = Kept::new(rt.alloc(), SMALL)?;
+// Whether a new bank is of its shape and empty, what three retirements answer, whether it is exhausted behind the second and behind the
+// third, the array lines of two slots, how many spares are used, and how many stores are counted.
+fn retired(
+    alloc: Global,
+) -> Result<([bool; 2], [Result<u32, NoSpare>; 3], [bool; 2], [u32; 4]), AllocError> {
+    let mut kept: Kept<64> = Kept::new(alloc, SMALL)?;
     let new = [*kept.shape() == SMALL, kept.is_empty()];
     let (first, second) = (kept.retire(4), kept.retire(4));
     let spent = kept.exhausted();
     let third = kept.retire(0);
-    let lines = [kept.array_line(0), kept.array_line(4)];
-    let counts = [kept.remap().used(), kept.region(0).counter()];
-    compare(&rt, new, [true, true]);
-    compare(&rt, [first, second, third], [Ok(5), Ok(6), Err(NoSpare)]);
-    compare(&rt, [spent, kept.exhausted()], [false, true]);
-    compare(&rt, [lines, counts], [[0, 6], [2, 0]]);
-    Ok(())
+    let numbers = [
+        kept.array_line(0),
+        kept.array_line(4),
+        kept.remap().used(),
+        kept.region(0).counter(),
+    ];
+    Ok((
+        new,
+        [first, second, third],
+        [spent, kept.exhausted()],
+        numbers,
+    ))
+}
+
+#[test]
+fn the_third_retirement_finds_no_spare(rt: HostRuntime) {
+    let spares = [Ok(5), Ok(6), Err(NoSpare)];
+    let expected = ([true, true], spares, [false, true], [0, 6, 2, 0]);
+    compare(&rt, retired(rt.alloc()), Ok(expected));
 }
 
 const MASKS: BankShape = BankShape {
@@ -112,38 +139,49 @@ fn second_row(kept: &Kept<8>) -> Option<u32> {
     }
 }
 
+// What a bank answers to two masked writes of a line, and its head once that is complete; what it answers to two more while that is in
+// flight, how many writes wait then, the row of the second, what it has for the line, and where the line stands.
+fn masked(
+    alloc: Global,
+) -> Result<
+    (
+        [Accept; 4],
+        Option<(u32, [u8; 8])>,
+        usize,
+        Option<u32>,
+        [u8; 8],
+        u32,
+    ),
+    AllocError,
+> {
+    let mut kept = Kept::new(alloc, MASKS)?;
+    let first = kept.accept(FIRST, false);
+    let second = kept.accept(SECOND, false);
+    kept.complete(&[90, 91, 92, 93, 94, 95, 96, 97]);
+    let head = head(&kept);
+    let third = kept.accept(Entry { row: 3, ..FIRST }, true);
+    let fourth = kept.accept(Entry { row: 4, ..SECOND }, true);
+    let (bytes, _) = kept.newest(3);
+    Ok((
+        [first, second, third, fourth],
+        head,
+        kept.len(),
+        second_row(&kept),
+        bytes,
+        kept.array_line(3),
+    ))
+}
+
 const COMPLETE: [u8; 8] = [10, 21, 22, 93, 94, 95, 96, 97];
 
 #[test]
-fn masked_writes_merge(rt: HostRuntime) -> Result<(), Fail> {
-    let mut kept = Kept::new(rt.alloc(), MASKS)?;
-    let first = kept.accept(FIRST, false);
-    let second = kept.accept(SECOND, false);
-    compare(
-        &rt,
-        [first, second],
-        [Accept::Pushed, Accept::Merged { row: 1, index: 0 }],
-    );
-    kept.complete(&[90, 91, 92, 93, 94, 95, 96, 97]);
-    compare(&rt, head(&kept), Some((2, COMPLETE)));
-    Ok(())
-}
-
-#[test]
-fn masked_writes_merge_behind_a_head_in_flight(rt: HostRuntime) -> Result<(), Fail> {
-    let mut kept = Kept::new(rt.alloc(), MASKS)?;
-    let _ = kept.accept(FIRST, false);
-    let _ = kept.accept(SECOND, false);
-    kept.complete(&[90, 91, 92, 93, 94, 95, 96, 97]);
-    let third = kept.accept(Entry { row: 3, ..FIRST }, true);
-    let fourth = kept.accept(Entry { row: 4, ..SECOND }, true);
-    compare(
-        &rt,
-        [third, fourth],
-        [Accept::Pushed, Accept::Merged { row: 3, index: 1 }],
-    );
-    compare(&rt, (kept.len(), second_row(&kept)), (2, Some(4)));
-    let (bytes, _) = kept.newest(3);
-    compare(&rt, (bytes, kept.array_line(3)), (COMPLETE, 23));
-    Ok(())
+fn masked_writes_merge_and_so_do_those_behind_a_head_in_flight(rt: HostRuntime) {
+    let answers = [
+        Accept::Pushed,
+        Accept::Merged { row: 1, index: 0 },
+        Accept::Pushed,
+        Accept::Merged { row: 3, index: 1 },
+    ];
+    let expected = (answers, Some((2, COMPLETE)), 2, Some(4), COMPLETE, 23);
+    compare(&rt, masked(rt.alloc()), Ok(expected));
 }

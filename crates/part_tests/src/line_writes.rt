@@ -10,7 +10,6 @@ use ecp_line::Ecp;
 use line_writer::{Cause, LineWriter, Progress};
 use pcm_cells::{Act, CellArray, Cells, Script, ScriptArray, Wear};
 use std::alloc::{AllocError, Global};
-use std::test::Fail;
 
 const WEAR: Wear = Wear {
     seed: 0,
@@ -90,109 +89,117 @@ fn sticking(alloc: Global, cells: &[u16]) -> Result<Vec<Script>, AllocError> {
 fn written<const B: usize, const M: usize, const E: usize>(
     alloc: Global,
     stuck: &[u16],
-) -> Result<(u32, Progress, Cells<B, M>), AllocError>
+) -> Result<(u32, Progress, [u8; B], [u8; M]), AllocError>
     requires { IsLayout B M E }
 {
     let mut array: ScriptArray<B, M> = ScriptArray::new(sticking(alloc, stuck)?);
     array.power_up(alloc, 7, WEAR)?;
     let (steps, progress) = write::<_, B, M, E>(&mut array, &[0xff; B]);
-    Ok((steps, progress, array.sense(3, 0)))
+    let cells = array.sense(3, 0);
+    Ok((steps, progress, cells.bits, cells.meta))
 }
 
-// What a write of ones to a line of 64 bytes with such cells answers: its steps, how it ended, the first byte of cells, and the check bytes.
-fn told(alloc: Global, stuck: &[u16]) -> Result<(u32, Progress, u8, [u8; 8]), AllocError> {
-    let (steps, progress, cells) = written::<64, 8, 6>(alloc, stuck)?;
-    Ok((steps, progress, cells.bits[0], cells.meta))
+// Cells of a line of 64 bytes that stick at 0, after how many steps a write of ones is stored, the first byte of cells, behind which all
+// are set, and the check bytes.
+static STORED: [(&[u16], u32, u8, [u8; 8]); 5] = [
+    (&[], 1, 0xff, [0; 8]),
+    (&[0], 10, 0xfe, [0, 2, 0, 0, 0, 0, 4, 0]),
+    // the first replacement cell
+    (&[0, 521], 19, 0xfe, [0, 0, 8, 0, 0, 0, 0x0c, 0]),
+    // a cell of the first pointer
+    (&[1, 512], 28, 0xfd, [0, 6, 8, 0, 0, 0, 0x0c, 0]),
+    (
+        &[0, 1, 2, 3, 4, 5],
+        60,
+        0xc0,
+        [0, 6, 0x28, 0xe0, 0x80, 4, 0x16, 0x18],
+    ),
+];
+
+// A byte, and ones behind it.
+fn before_ones(first: u8) -> [u8; 64] {
+    let mut bytes = [0xff; 64];
+    bytes[0] = first;
+    bytes
 }
 
 #[test]
-fn a_perfect_line_takes_one_step(rt: HostRuntime) -> Result<(), Fail> {
-    let (steps, progress, cells) = written::<64, 8, 6>(rt.alloc(), &[])?;
-    compare(&rt, (steps, progress), (1, Progress::Stored));
-    compare(&rt, cells.bits, [0xff; 64]);
-    compare(&rt, cells.meta, [0; 8]);
-    Ok(())
-}
-
-#[test]
-fn a_stuck_cell_takes_an_entry_and_those_of_an_entry_take_another(
-    rt: HostRuntime,
-) -> Result<(), Fail> {
-    let cases: [(&[u16], u32, u8, [u8; 8]); 4] = [
-        (&[0], 10, 0xfe, [0, 2, 0, 0, 0, 0, 4, 0]),
-        // the first replacement cell
-        (&[0, 521], 19, 0xfe, [0, 0, 8, 0, 0, 0, 0x0c, 0]),
-        // a cell of the first pointer
-        (&[1, 512], 28, 0xfd, [0, 6, 8, 0, 0, 0, 0x0c, 0]),
-        (
-            &[0, 1, 2, 3, 4, 5],
-            60,
-            0xc0,
-            [0, 6, 0x28, 0xe0, 0x80, 4, 0x16, 0x18],
-        ),
-    ];
-    for (stuck, steps, first, check) in cases {
+fn a_stuck_cell_takes_an_entry_and_those_of_an_entry_take_another(rt: HostRuntime) {
+    for (stuck, steps, first, check) in &STORED {
+        let bits = before_ones(*first);
         compare(
             &rt,
-            told(rt.alloc(), stuck)?,
-            (steps, Progress::Stored, first, check),
+            written::<64, 8, 6>(rt.alloc(), stuck),
+            Ok((*steps, Progress::Stored, bits, *check)),
         );
     }
-    Ok(())
 }
 
-// How a write of ones to a line of 64 bytes with such cells ends.
-fn ending(alloc: Global, stuck: &[u16]) -> Result<(u32, Progress), AllocError> {
-    let (steps, progress, _) = written::<64, 8, 6>(alloc, stuck)?;
+// How a write of ones to a line with such cells ends.
+fn ending<const B: usize, const M: usize, const E: usize>(
+    alloc: Global,
+    stuck: &[u16],
+) -> Result<(u32, Progress), AllocError>
+    requires { IsLayout B M E }
+{
+    let (steps, progress, _, _) = written::<B, M, E>(alloc, stuck)?;
     Ok((steps, progress))
 }
 
 #[test]
-fn seven_stuck_cells_are_too_many(rt: HostRuntime) -> Result<(), Fail> {
-    compare(
-        &rt,
-        ending(rt.alloc(), &[0, 1, 2, 3, 4, 5, 6])?,
-        (67, Progress::Worn(Cause::TooMany)),
-    );
-    Ok(())
+fn seven_stuck_cells_are_too_many(rt: HostRuntime) {
+    let end = ending::<64, 8, 6>(rt.alloc(), &[0, 1, 2, 3, 4, 5, 6]);
+    compare(&rt, end, Ok((67, Progress::Worn(Cause::TooMany))));
+}
+
+// How it ends where a cell of the pattern that says which entries are active is stuck.
+fn activity(alloc: Global) -> Result<Progress, AllocError> {
+    let (_, progress) = ending::<64, 8, 6>(alloc, &[0, 562])?;
+    Ok(progress)
 }
 
 #[test]
-fn a_stuck_activity_cell_wears_a_line(rt: HostRuntime) -> Result<(), Fail> {
-    let (_, progress) = ending(rt.alloc(), &[0, 562])?;
-    compare(&rt, progress, Progress::Worn(Cause::Activity(562)));
-    Ok(())
+fn a_stuck_activity_cell_wears_a_line(rt: HostRuntime) {
+    compare(
+        &rt,
+        activity(rt.alloc()),
+        Ok(Progress::Worn(Cause::Activity(562))),
+    );
+}
+
+static WIDE: [(&[u16], u32, Progress); 3] = [
+    (&[0], 10, Progress::Stored),
+    (&[0, 1, 2, 3, 4, 5, 6, 7], 80, Progress::Stored),
+    (
+        &[0, 1, 2, 3, 4, 5, 6, 7, 8],
+        87,
+        Progress::Worn(Cause::TooMany),
+    ),
+];
+
+// The check bytes of a line of 128 bytes with one stuck cell.
+fn wide_check(alloc: Global) -> Result<[u8; 16], AllocError> {
+    let (_, _, _, check) = written::<128, 16, 8>(alloc, &[0])?;
+    Ok(check)
 }
 
 #[test]
-fn lines_of_128_bytes_have_eight_entries(rt: HostRuntime) -> Result<(), Fail> {
-    let (steps, progress, cells) = written::<128, 16, 8>(rt.alloc(), &[0])?;
-    compare(&rt, (steps, progress), (10, Progress::Stored));
-    compare(
-        &rt,
-        cells.meta,
-        [0, 4, 0, 0, 0, 0, 0, 0, 0, 0x20, 0, 0, 0, 0, 0, 0],
-    );
-    let cases: [(&[u16], u32, Progress); 2] = [
-        (&[0, 1, 2, 3, 4, 5, 6, 7], 80, Progress::Stored),
-        (
-            &[0, 1, 2, 3, 4, 5, 6, 7, 8],
-            87,
-            Progress::Worn(Cause::TooMany),
-        ),
-    ];
-    for (stuck, steps, end) in cases {
-        let (took, progress, _) = written::<128, 16, 8>(rt.alloc(), stuck)?;
-        compare(&rt, (took, progress), (steps, end));
+fn lines_of_128_bytes_have_eight_entries(rt: HostRuntime) {
+    for (stuck, steps, end) in &WIDE {
+        compare(
+            &rt,
+            ending::<128, 16, 8>(rt.alloc(), stuck),
+            Ok((*steps, *end)),
+        );
     }
-    Ok(())
+    let check = [0, 4, 0, 0, 0, 0, 0, 0, 0, 0x20, 0, 0, 0, 0, 0, 0];
+    compare(&rt, wide_check(rt.alloc()), Ok(check));
 }
 
-#[test]
-fn a_tear_of_the_last_pointer_leaves_a_line_that_can_be_written(
-    rt: HostRuntime,
-) -> Result<(), Fail> {
-    let mut script = sticking(rt.alloc(), &[0, 1, 2, 3, 4, 11])?;
+// A write of ones whose last pointer is torn, and one behind it: whether a step was left to tear, how many entries were active behind it,
+// the pulses, and how the second ends.
+fn torn(alloc: Global) -> Result<(bool, u8, u64, (u32, Progress)), AllocError> {
+    let mut script = sticking(alloc, &[0, 1, 2, 3, 4, 11])?;
     script.push(Script {
         line: 3,
         cell: 566,
@@ -200,13 +207,16 @@ fn a_tear_of_the_last_pointer_leaves_a_line_that_can_be_written(
         act: Act::Miss,
     })?;
     let mut array: ScriptArray<64, 8> = ScriptArray::new(script);
-    array.power_up(rt.alloc(), 7, WEAR)?;
+    array.power_up(alloc, 7, WEAR)?;
     let is_torn = tear_after::<_, 64, 8, 6>(&mut array, &[0xff; 64], 57);
-    let torn = array.sense(3, 0);
-    let active = Ecp::<64, 8, 6>::active(&torn);
+    let active = Ecp::<64, 8, 6>::active(&array.sense(3, 0));
     let pulses = array.pulses(3);
     let end = write::<_, 64, 8, 6>(&mut array, &[0xff; 64]);
-    compare(&rt, (is_torn, active, pulses), (true, 2, 58));
-    compare(&rt, end, (39, Progress::Stored));
-    Ok(())
+    Ok((is_torn, active, pulses, end))
+}
+
+#[test]
+fn a_tear_of_the_last_pointer_leaves_a_line_that_can_be_written(rt: HostRuntime) {
+    let end = (39, Progress::Stored);
+    compare(&rt, torn(rt.alloc()), Ok((true, 2, 58, end)));
 }

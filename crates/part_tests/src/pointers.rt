@@ -24,6 +24,15 @@ fn has(cells: &Cells<64, 8>, number: u16) -> bool {
     number < 576 && cells.get(number)
 }
 
+// Which of some cells of a line are set.
+fn held<const N: usize>(cells: &Cells<64, 8>, numbers: [u16; N]) -> [bool; N] {
+    let mut held = [false; N];
+    for i in 0..N {
+        held[i] = has(cells, numbers[i]);
+    }
+    held
+}
+
 // How many entries are active, and the cells that these bits are read from.
 fn read_from(cells: &Cells<64, 8>, bits: [u16; 2]) -> (u8, [u16; 2]) {
     (
@@ -48,20 +57,22 @@ fn is_all_ones(cells: &Cells<64, 8>) -> bool {
 #[test]
 fn six_entries_replace_the_first_six_bits(rt: HostRuntime) {
     let cells = line(0xc0, [0x00, 0x06, 0x28, 0xe0, 0x80, 0x04, 0x16, 0x18]);
-    compare(&rt, read_from(&cells, [3, 6]), (6, [551, 6]));
+    let wrong = [wrong(&cells, 0xff), wrong(&cells, 0xfb)];
     compare(
         &rt,
-        [wrong(&cells, 0xff), wrong(&cells, 0xfb)],
-        [None, Some(2)],
+        (read_from(&cells, [3, 6]), wrong, is_all_ones(&cells)),
+        ((6, [551, 6]), [None, Some(2)], true),
     );
-    assert!(rt; is_all_ones(&cells));
 }
 
 #[test]
 fn the_later_of_two_entries_for_one_bit_counts(rt: HostRuntime) {
     let cells = line(0xfe, [0x00, 0x00, 0x08, 0, 0, 0, 0x0c, 0]);
-    compare(&rt, read_from(&cells, [0, 1]), (2, [531, 1]));
-    assert!(rt; is_all_ones(&cells));
+    compare(
+        &rt,
+        (read_from(&cells, [0, 1]), is_all_ones(&cells)),
+        ((2, [531, 1]), true),
+    );
 }
 
 #[test]
@@ -70,42 +81,31 @@ fn zeros_are_wanted_in_the_later_of_two_entries(rt: HostRuntime) {
     let (want, mask) = Six::wanted(&cells, &[0; 64]);
     compare(
         &rt,
-        [
-            has(&mask, 0),
-            has(&mask, 1),
-            has(&mask, 531),
-            has(&mask, 521),
-        ],
-        [false, true, true, false],
-    );
-    compare(
-        &rt,
-        [has(&want, 0), has(&want, 1), has(&want, 531)],
-        [false, false, false],
+        (held(&mask, [0, 1, 531, 521]), held(&want, [0, 1, 531])),
+        ([false, true, true, false], [false, false, false]),
     );
 }
 
 #[test]
 fn a_pointer_is_written_lowest_digit_first(rt: HostRuntime) {
     let (want, mask) = Six::pointer(&Cells::zero(), 1, 3);
-    compare(
-        &rt,
-        [has(&want, 522), has(&want, 523), has(&want, 524)],
-        [true, true, false],
+    let asked = (
+        held(&want, [522, 523, 524]),
+        held(&mask, [522, 530, 531]),
+        mask.count(),
     );
-    compare(
-        &rt,
-        [has(&mask, 522), has(&mask, 530), has(&mask, 531)],
-        [true, true, false],
-    );
-    compare(&rt, mask.count(), 9);
+    compare(&rt, asked, ([true, true, false], [true, true, false], 9));
 }
 
 #[test]
 fn an_entry_has_a_switch_and_ten_cells(rt: HostRuntime) {
-    compare(&rt, [Six::switch(1), Six::switch(5)], [563, 572]);
+    let switches = [Six::switch(1), Six::switch(5)];
     let cells = Six::entry_cells(5);
-    compare(&rt, (cells.count(), lowest(&cells)), (10, Some(562)));
+    compare(
+        &rt,
+        (switches, cells.count(), lowest(&cells)),
+        ([563, 572], 10, Some(562)),
+    );
 }
 
 #[test]
@@ -115,15 +115,9 @@ fn activity_cells_behind_the_first_gap_are_cleared(rt: HostRuntime) {
     let (want, mask) = Six::later(&cells);
     compare(
         &rt,
-        [
-            has(&want, 562),
-            has(&mask, 563),
-            has(&mask, 564),
-            has(&mask, 566),
-        ],
-        [true, false, true, true],
+        (has(&want, 562), held(&mask, [563, 564, 566]), mask.count()),
+        (true, [false, true, true], 3),
     );
-    compare(&rt, mask.count(), 3);
 }
 
 #[test]
@@ -132,6 +126,9 @@ fn lines_of_128_bytes_have_eight_entries(rt: HostRuntime) {
     cells.set(1112, true);
     let switches = [Eight::switch(7), Eight::switch(0)];
     let read_from = (Eight::active(&cells), Eight::source_of(&cells, 0));
-    compare(&rt, (switches, read_from), ([1112, 1101], (8, 1111)));
-    assert!(rt; Eight::decode(&cells) == [0; 128]);
+    compare(
+        &rt,
+        (switches, read_from, Eight::decode(&cells)),
+        ([1112, 1101], (8, 1111), [0; 128]),
+    );
 }

@@ -4,7 +4,7 @@ ghost use Rattle.cell_rows.specs.Device.{IsShape};
 use crate::comparing::compare;
 use pcm_cells::{Act, CellArray, Cells, Script, ScriptArray, Wear};
 use program_verify::{Prog, Turn};
-use std::test::Fail;
+use std::alloc::{AllocError, Global};
 
 const WEAR: Wear = Wear {
     seed: 0,
@@ -32,9 +32,24 @@ fn settle<A: CellArray<B, M>, const B: usize, const M: usize>(
     (9, Cells::zero())
 }
 
-#[test]
-fn seven_misses_settle_at_the_eighth_step(rt: HostRuntime) -> Result<(), Fail> {
-    let mut script = Vec::new(rt.alloc());
+// Line 0 of such a script, programmed so that cell 3 is set: after how many steps that settled, and what was left wrong; and its pulses.
+fn settled<const B: usize, const M: usize>(
+    alloc: Global,
+    script: Vec<Script>,
+) -> Result<(u32, Cells<B, M>, u64), AllocError>
+    requires { IsShape B M }
+{
+    let mut array: ScriptArray<B, M> = ScriptArray::new(script);
+    array.power_up(alloc, 1, WEAR)?;
+    let mut want = Cells::zero();
+    want.set(3, true);
+    let (steps, wrong) = settle(&mut array, &want);
+    Ok((steps, wrong, array.pulses(0)))
+}
+
+// Cell 3 misses seven times: the steps and the pulses, and whether nothing is wrong.
+fn missed(alloc: Global) -> Result<(u32, u64, bool), AllocError> {
+    let mut script = Vec::new(alloc);
     for turn in 1..8 {
         script.push(Script {
             line: 0,
@@ -43,44 +58,48 @@ fn seven_misses_settle_at_the_eighth_step(rt: HostRuntime) -> Result<(), Fail> {
             act: Act::Miss,
         })?;
     }
-    let mut array: ScriptArray<64, 8> = ScriptArray::new(script);
-    array.power_up(rt.alloc(), 1, WEAR)?;
-    let mut want = Cells::zero();
-    want.set(3, true);
-    let (steps, wrong) = settle(&mut array, &want);
-    compare(&rt, (steps, array.pulses(0), wrong.is_none()), (8, 8, true));
-    Ok(())
+    let (steps, wrong, pulses) = settled::<64, 8>(alloc, script)?;
+    Ok((steps, pulses, wrong.is_none()))
 }
 
 #[test]
-fn a_stuck_cell_is_left_wrong(rt: HostRuntime) -> Result<(), Fail> {
-    let mut script = Vec::new(rt.alloc());
-    script.push(Script {
-        line: 0,
-        cell: 3,
-        turn: 1,
-        act: Act::Stick(false),
-    })?;
-    let mut array: ScriptArray<128, 16> = ScriptArray::new(script);
-    array.power_up(rt.alloc(), 1, WEAR)?;
-    let mut want = Cells::zero();
-    want.set(3, true);
-    let (steps, wrong) = settle(&mut array, &want);
-    compare(&rt, (steps, wrong.get(3), wrong.count()), (8, true, 1));
-    Ok(())
+fn seven_misses_settle_at_the_eighth_step(rt: HostRuntime) {
+    compare(&rt, missed(rt.alloc()), Ok((8, 8, true)));
+}
+
+const STUCK: [Script; 1] = [Script {
+    line: 0,
+    cell: 3,
+    turn: 1,
+    act: Act::Stick(false),
+}];
+
+// Cell 3 sticks at 0: the steps, whether it is wrong, and how many cells are.
+fn stuck(alloc: Global) -> Result<(u32, bool, u32), AllocError> {
+    let (steps, wrong, _) = settled::<128, 16>(alloc, Vec::from_array(alloc, STUCK)?)?;
+    Ok((steps, wrong.get(3), wrong.count()))
 }
 
 #[test]
-fn a_torn_round_counts_as_a_pulse(rt: HostRuntime) -> Result<(), Fail> {
-    let mut array: ScriptArray<64, 8> = ScriptArray::new(Vec::new(rt.alloc()));
-    array.power_up(rt.alloc(), 1, WEAR)?;
+fn a_stuck_cell_is_left_wrong(rt: HostRuntime) {
+    compare(&rt, stuck(rt.alloc()), Ok((8, true, 1)));
+}
+
+// A new line, a torn pulse of whose cell 3 is its first: whether nothing was seen before, whether the cell is set then, and the pulses.
+fn torn(alloc: Global) -> Result<(bool, bool, u64), AllocError> {
+    let mut array: ScriptArray<64, 8> = ScriptArray::new(Vec::new(alloc));
+    array.power_up(alloc, 1, WEAR)?;
     let mut want = Cells::zero();
     want.set(3, true);
     let prog = Prog::new(array.sense(0, 0), want, want);
-    compare(&rt, prog.seen().is_none(), true);
+    let is_new = prog.seen().is_none();
     if let Turn::Going = prog.status() {
         prog.tear(&mut array, 0, 1);
     }
-    compare(&rt, (array.sense(0, 2).get(3), array.pulses(0)), (true, 1));
-    Ok(())
+    Ok((is_new, array.sense(0, 2).get(3), array.pulses(0)))
+}
+
+#[test]
+fn a_torn_round_counts_as_a_pulse(rt: HostRuntime) {
+    compare(&rt, torn(rt.alloc()), Ok((true, true, 1)));
 }

@@ -30,10 +30,16 @@ fn four_lines_turn_round_five_places(rt: HostRuntime) {
     registers.advance();
     registers.advance();
     let round = seen(&registers);
-    compare(&rt, new, ([0, 1, 2, 3], 0, 4));
-    compare(&rt, once, ([0, 1, 2, 4], 0, 3));
-    compare(&rt, lines, (None, Some(3)));
-    compare(&rt, round, ([1, 2, 3, 0], 1, 4));
+    let expected = [
+        ([0, 1, 2, 3], 0, 4),
+        ([0, 1, 2, 4], 0, 3),
+        ([1, 2, 3, 0], 1, 4),
+    ];
+    compare(
+        &rt,
+        ([new, once, round], lines),
+        (expected, (None, Some(3))),
+    );
 }
 
 #[test]
@@ -78,7 +84,10 @@ fn a_move_is_due_at_the_second_of_two_writes(rt: HostRuntime) {
     let counter = region.counter();
     region.moved();
     let moved = (region.due(), region.counter(), region.registers().gap());
-    compare(&rt, (once, twice, counter), (false, true, 2));
-    compare(&rt, moved, (false, 0, 3));
-    compare(&rt, Region::at(4, 2, 1, 3, 0).registers().start(), 3);
+    let start = Region::at(4, 2, 1, 3, 0).registers().start();
+    compare(
+        &rt,
+        ((once, twice, counter), moved, start),
+        ((false, true, 2), (false, 0, 3), 3),
+    );
 }

@@ -35,24 +35,20 @@ const LARGEST: RawShape = RawShape {
     home: Home::Array,
 };
 
-// The banks of a shape, its lines, the bits of a line's number, and its array lines; nothing where it is refused.
-fn sizes(raw: RawShape) -> Option<[u32; 4]> {
-    let Ok(shape) = Shape::new(raw) else {
-        return None;
-    };
-    Some([
+// Of a shape whether it keeps what it was made of, the ticks of an iteration, its banks, its lines, the bits of a line's number, and its
+// array lines.
+fn sizes(shape: &Shape, raw: &RawShape) -> (bool, u32, [u32; 4]) {
+    let sizes = [
         shape.banks(),
         shape.total(),
         shape.address_bits(),
         shape.array_lines(),
-    ])
+    ];
+    (*shape.raw() == *raw, shape.pace().iter, sizes)
 }
 
 // The first array line of bank 1, its slots, and where its registers are.
-fn second_bank(raw: RawShape) -> Option<(u32, u32, Home)> {
-    let Ok(shape) = Shape::new(raw) else {
-        return None;
-    };
+fn second_bank(shape: &Shape) -> Option<(u32, u32, Home)> {
     if shape.banks() < 2 {
         return None;
     }
@@ -60,115 +56,114 @@ fn second_bank(raw: RawShape) -> Option<(u32, u32, Home)> {
     Some((bank.base, bank.slots(), bank.home))
 }
 
+// What a shape tells, and else the field for which it is refused.
+fn told(raw: &RawShape) -> Result<((bool, u32, [u32; 4]), Option<(u32, u32, Home)>), Field> {
+    match Shape::new(*raw) {
+        Ok(shape) => Ok((sizes(&shape, raw), second_bank(&shape))),
+        Err(BadShape { field }) => Err(field),
+    }
+}
+
+// Shapes with what each tells.
+static ACCEPTED: [(RawShape, (bool, u32, [u32; 4]), (u32, u32, Home)); 3] = [
+    (RAW, (true, 10, [2, 64, 6, 78]), (39, 36, Home::Guarded)),
+    // Each bank has a control line for each of its four regions and three spares, and one for the mark.
+    (IN_ARRAY, (true, 10, [2, 64, 6, 94]), (47, 36, Home::Array)),
+    (
+        LARGEST,
+        (true, 255, [16, 65_536, 16, 98_832]),
+        (6177, 4112, Home::Array),
+    ),
+];
+
+#[test]
+fn a_shape_has_its_sizes_and_keeps_what_it_was_made_of(rt: HostRuntime) {
+    for (raw, sizes, second) in &ACCEPTED {
+        compare(&rt, told(raw), Ok((*sizes, Some(*second))));
+    }
+}
+
+// Shapes with the first of their sizes that is out of range.
+static REFUSED: [(RawShape, Field); 3] = [
+    (
+        RawShape {
+            banks: 3,
+            iter_ticks: 0,
+            ..RAW
+        },
+        Field::Banks,
+    ),
+    (
+        RawShape {
+            banks: 16,
+            regions: 2,
+            lines: 4096,
+            psi: 0,
+            ..RAW
+        },
+        Field::Total,
+    ),
+    (
+        RawShape {
+            iter_ticks: 256,
+            ..RAW
+        },
+        Field::IterTicks,
+    ),
+];
+
+#[test]
+fn the_first_size_out_of_range_is_named(rt: HostRuntime) {
+    for (raw, field) in &REFUSED {
+        compare(&rt, told(raw), Err(*field));
+    }
+}
+
 // Where a mixed line is, if it is one.
-fn located(raw: RawShape, mixed: u32) -> Option<BankLine> {
-    let Ok(shape) = Shape::new(raw) else {
-        return None;
-    };
-    if mixed >= shape.total() {
-        return None;
+fn located(mixed: u32) -> Option<BankLine> {
+    match Shape::new(RAW) {
+        Ok(shape) if mixed < shape.total() => Some(shape.locate(mixed)),
+        _ => None,
     }
-    Some(shape.locate(mixed))
-}
-
-fn refused(raw: RawShape) -> Option<Field> {
-    match Shape::new(raw) {
-        Ok(_) => None,
-        Err(BadShape { field }) => Some(field),
-    }
-}
-
-#[test]
-fn a_shape_has_its_sizes(rt: HostRuntime) {
-    compare(&rt, sizes(RAW), Some([2, 64, 6, 78]));
-    compare(&rt, second_bank(RAW), Some((39, 36, Home::Guarded)));
-}
-
-#[test]
-fn a_shape_keeps_what_it_was_made_of(rt: HostRuntime) {
-    let Ok(shape) = Shape::new(RAW) else {
-        panic!(rt; "refused");
-    };
-    assert!(rt; *shape.raw() == RAW && shape.pace().iter == 10);
-}
-
-/// Each bank has a control line for each of its four regions and three spares, and one for the mark.
-#[test]
-fn registers_in_the_array_take_lines(rt: HostRuntime) {
-    compare(&rt, sizes(IN_ARRAY), Some([2, 64, 6, 94]));
-    compare(&rt, second_bank(IN_ARRAY), Some((47, 36, Home::Array)));
 }
 
 #[test]
 fn a_line_is_located(rt: HostRuntime) {
-    compare(
-        &rt,
-        [located(RAW, 45), located(RAW, 63), located(RAW, 64)],
-        [
-            Some(BankLine { bank: 1, line: 13 }),
-            Some(BankLine { bank: 1, line: 31 }),
-            None,
-        ],
-    );
+    let expected = [
+        Some(BankLine { bank: 1, line: 13 }),
+        Some(BankLine { bank: 1, line: 31 }),
+        None,
+    ];
+    compare(&rt, [located(45), located(63), located(64)], expected);
 }
 
-#[test]
-fn the_largest_shape_is_accepted(rt: HostRuntime) {
-    compare(&rt, sizes(LARGEST), Some([16, 65_536, 16, 98_832]));
-}
+// Two regions of four lines and one spare: ten slots, eleven array lines.
+const BANK: BankShape = BankShape {
+    base: 11,
+    regions: 2,
+    lines: 4,
+    spares: 1,
+    writes: 4,
+    reads: 4,
+    psi: 100,
+    home: Home::Guarded,
+};
 
-#[test]
-fn the_first_size_out_of_range_is_named(rt: HostRuntime) {
-    let banks = RawShape {
-        banks: 3,
-        iter_ticks: 0,
-        ..RAW
-    };
-    let total = RawShape {
-        banks: 16,
-        regions: 2,
-        lines: 4096,
-        psi: 0,
-        ..RAW
-    };
-    let ticks = RawShape {
-        iter_ticks: 256,
-        ..RAW
-    };
-    compare(
-        &rt,
-        [refused(banks), refused(total), refused(ticks), refused(RAW)],
-        [
-            Some(Field::Banks),
-            Some(Field::Total),
-            Some(Field::IterTicks),
-            None,
-        ],
-    );
-}
+const BANK_IN_ARRAY: BankShape = BankShape {
+    home: Home::Array,
+    ..BANK
+};
 
-/// Two regions of four lines and one spare: ten slots, eleven array lines.
 #[test]
 fn counts_slots_and_lines(rt: HostRuntime) {
-    let shape = BankShape {
-        base: 11,
-        regions: 2,
-        lines: 4,
-        spares: 1,
-        writes: 4,
-        reads: 4,
-        psi: 100,
-        home: Home::Guarded,
-    };
-    let array = BankShape {
-        home: Home::Array,
-        ..shape
-    };
-    compare(&rt, (shape.slots(), shape.array_lines()), (10, 11));
-    compare(&rt, (array.array_lines(), array.first_control()), (15, 22));
-    compare(
-        &rt,
-        [shape.slot(0, 4), shape.slot(1, 0), shape.slot(1, 4)],
-        [4, 5, 9],
-    );
+    let counts = [
+        BANK.slots(),
+        BANK.array_lines(),
+        BANK_IN_ARRAY.array_lines(),
+        BANK_IN_ARRAY.first_control(),
+        BANK.slot(0, 4),
+        BANK.slot(1, 0),
+        BANK.slot(1, 4),
+    ];
+    compare(&rt, counts, [10, 11, 15, 22, 4, 5, 9]);
 }

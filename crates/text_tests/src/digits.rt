@@ -1,6 +1,6 @@
 ghost use Rattle.std.specs.Prelude.{◌≤◌};
 
-use crate::expected::assert_text;
+use crate::expected::{assert_made, assert_text};
 use pcm_io::Text;
 use std::alloc::{AllocError, Global};
 use std::process::Abort;
@@ -17,12 +17,8 @@ fn all_pairs(alloc: Global) -> Result<Vec<u8>, AllocError> {
     Ok(pairs)
 }
 
-// Compares the digits of the `B` bytes from this one on.
-fn assert_digits<const B: usize>(
-    rt: &impl Abort,
-    alloc: Global,
-    first: usize,
-) -> Result<(), AllocError>
+// The digits of the `B` bytes from this one on.
+fn digits<const B: usize>(alloc: Global, first: usize) -> Result<Text, AllocError>
     requires size { B ≤ 128 }
     requires byte { first ≤ 255 }
 {
@@ -32,29 +28,43 @@ fn assert_digits<const B: usize>(
     }
     let mut text = Text::new(alloc, 2 * B)?;
     text.push_hex(&bytes);
-    let pairs = all_pairs(alloc)?;
+    Ok(text)
+}
+
+// Compares them with the pairs of these bytes.
+fn assert_digits<const B: usize>(rt: &impl Abort, alloc: Global, pairs: &[u8], first: usize)
+    requires size { B ≤ 128 }
+    requires byte { first ≤ 255 }
+{
     let wanted = pairs.get(2 * first..2 * (first + B)).unwrap_or(b"");
-    assert_text(rt, text.bytes(), wanted);
-    Ok(())
+    assert_made(rt, digits::<B>(alloc, first), wanted);
+}
+
+// Some bytes behind a text.
+fn some(alloc: Global) -> Result<Text, AllocError> {
+    let mut text = Text::new(alloc, 16)?;
+    text.push(b"3,");
+    text.push_hex(&[0, 9, 10, 15, 16, 154, 255]);
+    Ok(text)
 }
 
 #[test]
 fn bytes_have_two_digits_each(rt: HostRuntime) -> Result<(), Fail> {
-    let mut text = Text::new(rt.alloc(), 16)?;
-    text.push(b"3,");
-    text.push_hex(&[0, 9, 10, 15, 16, 154, 255]);
-    assert_text(&rt, text.bytes(), b"3,00090a0f109aff");
-    assert_digits::<1>(&rt, rt.alloc(), 159)?;
-    assert_digits::<7>(&rt, rt.alloc(), 249)?;
-    assert_digits::<8>(&rt, rt.alloc(), 7)?;
-    assert_digits::<9>(&rt, rt.alloc(), 25)?;
-    assert_digits::<64>(&rt, rt.alloc(), 96)?;
+    assert_made(&rt, some(rt.alloc()), b"3,00090a0f109aff");
+    let pairs = all_pairs(rt.alloc())?;
+    let pairs = pairs.as_slice();
+    assert_digits::<1>(&rt, rt.alloc(), pairs, 159);
+    assert_digits::<7>(&rt, rt.alloc(), pairs, 249);
+    assert_digits::<8>(&rt, rt.alloc(), pairs, 7);
+    assert_digits::<9>(&rt, rt.alloc(), pairs, 25);
+    assert_digits::<64>(&rt, rt.alloc(), pairs, 96);
     Ok(())
 }
 
 #[test]
 fn each_byte_is_written_as_its_pair(rt: HostRuntime) -> Result<(), Fail> {
-    assert_digits::<128>(&rt, rt.alloc(), 0)?;
-    assert_digits::<128>(&rt, rt.alloc(), 128)?;
+    let pairs = all_pairs(rt.alloc())?;
+    assert_digits::<128>(&rt, rt.alloc(), pairs.as_slice(), 0);
+    assert_digits::<128>(&rt, rt.alloc(), pairs.as_slice(), 128);
     Ok(())
 }

@@ -1,8 +1,8 @@
+use crate::expected::compare;
 use cell_rows::Cells;
 use pcm_image::*;
 use pcm_io::Text;
 use std::alloc::{AllocError, Global};
-use std::process::Abort;
 use std::test::*;
 
 // The numbers of a module of one bank of one region of four lines, and what its bank kept, but for its rows of cells.
@@ -81,10 +81,6 @@ fn fault_of(alloc: Global, bytes: &[u8]) -> Option<(u32, ImageKind)> {
     }
 }
 
-fn assert_fault(rt: &impl Abort, found: Option<(u32, ImageKind)>, wanted: (u32, ImageKind)) {
-    assert_eq!(rt; found, Some(wanted));
-}
-
 // The fault of the bytes with some of them changed.
 fn fault_of_changed(
     alloc: Global,
@@ -111,16 +107,23 @@ fn sizes_of(alloc: Global, bytes: &[u8]) -> Option<((u8, u16, u16), (usize, usiz
     }
 }
 
-#[test]
-fn an_image_that_was_written_is_read(rt: HostRuntime) -> Result<(), Fail> {
-    let text = empty_image(rt.alloc())?;
+// The bytes of the empty image, the size of its lines, and the sizes that it is read with.
+fn empty_sizes(
+    alloc: Global,
+) -> Result<(usize, Option<u8>, Option<((u8, u16, u16), (usize, usize))>), AllocError> {
+    let text = empty_image(alloc)?;
     let bytes = text.bytes();
-    let sizes = sizes_of(rt.alloc(), bytes);
-    assert_eq!(rt;
-        (bytes.len(), size_of_line(bytes), sizes),
-        (539, Ok(64), Some(((1, 4, 2), (1, 7))))
-    );
-    Ok(())
+    Ok((
+        bytes.len(),
+        size_of_line(bytes).ok(),
+        sizes_of(alloc, bytes),
+    ))
+}
+
+#[test]
+fn an_image_that_was_written_is_read(rt: HostRuntime) {
+    let sizes = (539, Some(64), Some(((1, 4, 2), (1, 7))));
+    compare(&rt, empty_sizes(rt.alloc()), Ok(sizes));
 }
 
 // The first byte of a field, what it becomes in the empty image, and the fault of that.
@@ -147,53 +150,59 @@ static FIELDS: [(usize, u8, (u32, ImageKind)); 16] = [
 fn the_first_field_that_fails_is_named(rt: HostRuntime) -> Result<(), Fail> {
     let text = empty_image(rt.alloc())?;
     for (at, byte, fault) in &FIELDS {
-        let found = fault_of_changed(rt.alloc(), text.bytes(), &[(*at, *byte)])?;
-        assert_fault(&rt, found, *fault);
+        let found = fault_of_changed(rt.alloc(), text.bytes(), &[(*at, *byte)]);
+        compare(&rt, found, Ok(Some(*fault)));
     }
     Ok(())
 }
 
-#[test]
-fn an_image_has_each_of_its_bytes_and_no_more(rt: HostRuntime) -> Result<(), Fail> {
-    let mut text = empty_image(rt.alloc())?;
-    let nothing = fault_of(rt.alloc(), &[]);
-    let magic = fault_of(rt.alloc(), b"PCMIMG01");
+// The faults of nothing, of the first field alone, of an image without its last byte, and of one with more.
+fn faults_of_others(alloc: Global) -> Result<[Option<(u32, ImageKind)>; 4], AllocError> {
+    let mut text = empty_image(alloc)?;
+    let nothing = fault_of(alloc, &[]);
+    let magic = fault_of(alloc, b"PCMIMG01");
     let front = match text.bytes().split_last() {
-        Some((_, front)) => fault_of(rt.alloc(), front),
+        Some((_, front)) => fault_of(alloc, front),
         None => None,
     };
     if text.room() >= 4 {
         write_slot(&mut text, 0);
     }
-    let longer = fault_of(rt.alloc(), text.bytes());
-    assert_eq!(rt;
-        [nothing, magic, front, longer],
-        [
-            Some((0, ImageKind::Short)),
-            Some((8, ImageKind::Short)),
-            Some((467, ImageKind::Short)),
-            Some((539, ImageKind::Extra))
-        ]
-    );
-    Ok(())
+    Ok([nothing, magic, front, fault_of(alloc, text.bytes())])
+}
+
+#[test]
+fn an_image_has_each_of_its_bytes_and_no_more(rt: HostRuntime) {
+    let faults = [
+        Some((0, ImageKind::Short)),
+        Some((8, ImageKind::Short)),
+        Some((467, ImageKind::Short)),
+        Some((539, ImageKind::Extra)),
+    ];
+    compare(&rt, faults_of_others(rt.alloc()), Ok(faults));
+}
+
+const LARGEST: HeadImage = HeadImage {
+    banks: 16,
+    regions: 16,
+    lines: 256,
+    spares: 1024,
+    seed: 0,
+    home: 1,
+};
+
+// The fault of the numbers of the largest module alone.
+fn fault_of_largest(alloc: Global) -> Result<Option<(u32, ImageKind)>, AllocError> {
+    let mut alone = Text::new(alloc, 24)?;
+    write_head(&mut alone, 64, &LARGEST);
+    Ok(fault_of(alloc, alone.bytes()))
 }
 
 /// The numbers of the largest module alone promise rows that don't follow.
 #[test]
-fn numbers_alone_are_no_image(rt: HostRuntime) -> Result<(), Fail> {
-    let mut alone = Text::new(rt.alloc(), 24)?;
-    let head = HeadImage {
-        banks: 16,
-        regions: 16,
-        lines: 256,
-        spares: 1024,
-        seed: 0,
-        home: 1,
-    };
-    write_head(&mut alone, 64, &head);
-    let fault = fault_of(rt.alloc(), alone.bytes());
-    assert_fault(&rt, fault, (24, ImageKind::Short));
-    Ok(())
+fn numbers_alone_are_no_image(rt: HostRuntime) {
+    let fault = (24, ImageKind::Short);
+    compare(&rt, fault_of_largest(rt.alloc()), Ok(Some(fault)));
 }
 
 // A write of a line of a bank that gives its first byte alone.
@@ -205,26 +214,23 @@ fn first_byte(line: u32, byte: u8) -> EntryImage<64> {
     EntryImage { line, bytes, given }
 }
 
+// What becomes of some bytes of an image with a write of line 1, and the fault of that.
+static CHANGES: [(&[(usize, u8)], Option<(u32, ImageKind)>); 4] = [
+    (&[], None),
+    (&[(40, 7)], Some((103, ImageKind::Entry))),
+    (&[(40, 7), (103, 3)], None),
+    (&[(38, 128)], Some((35, ImageKind::Entry))),
+];
+
 #[test]
 fn a_byte_that_is_not_given_is_zero(rt: HostRuntime) -> Result<(), Fail> {
     let text = image(rt.alloc(), 0, &[], &[first_byte(1, 7)], &[])?;
     let bytes = text.bytes();
-    let whole = fault_of(rt.alloc(), bytes);
-    let other = fault_of_changed(rt.alloc(), bytes, &[(40, 7)])?;
-    let given = fault_of_changed(rt.alloc(), bytes, &[(40, 7), (103, 3)])?;
-    let far = fault_of_changed(rt.alloc(), bytes, &[(38, 128)])?;
-    assert_eq!(rt;
-        (bytes.len(), [whole, other, given, far]),
-        (
-            471,
-            [
-                None,
-                Some((103, ImageKind::Entry)),
-                None,
-                Some((35, ImageKind::Entry))
-            ]
-        )
-    );
+    compare(&rt, bytes.len(), 471);
+    for (changes, fault) in &CHANGES {
+        let found = fault_of_changed(rt.alloc(), bytes, changes);
+        compare(&rt, found, Ok(*fault));
+    }
     Ok(())
 }
 
@@ -240,20 +246,31 @@ fn first_line(alloc: Global, bytes: &[u8]) -> Option<(u8, u8)> {
     Some((bytes[0], bytes[1]))
 }
 
-#[test]
-fn a_line_is_read_where_its_slot_was_given_a_spare(rt: HostRuntime) -> Result<(), Fail> {
-    let own = image(rt.alloc(), 2, &[], &[], &[3])?;
-    let own = first_line(rt.alloc(), own.bytes());
-    let last = image(rt.alloc(), 2, &[3, 3], &[], &[6])?;
-    let last = first_line(rt.alloc(), last.bytes());
-    assert_eq!(rt; [own, last], [Some((0xff, 0xff)), Some((0xff, 0xff))]);
-    Ok(())
+// The first line of an image.
+fn line_of(
+    alloc: Global,
+    spares: u16,
+    replaced: &[u32],
+    entries: &[EntryImage<64>],
+    ones: &[u32],
+) -> Result<Option<(u8, u8)>, AllocError> {
+    let text = image(alloc, spares, replaced, entries, ones)?;
+    Ok(first_line(alloc, text.bytes()))
 }
 
 #[test]
-fn the_newest_write_of_a_line_lies_on_top(rt: HostRuntime) -> Result<(), Fail> {
+fn a_line_is_read_where_its_slot_was_given_a_spare(rt: HostRuntime) {
+    let lines = [
+        line_of(rt.alloc(), 2, &[], &[], &[3]),
+        line_of(rt.alloc(), 2, &[3, 3], &[], &[6]),
+    ];
+    let ones = Ok(Some((0xff, 0xff)));
+    compare(&rt, lines, [ones, ones]);
+}
+
+#[test]
+fn the_newest_write_of_a_line_lies_on_top(rt: HostRuntime) {
     let entries = [first_byte(3, 1), first_byte(2, 2), first_byte(3, 3)];
-    let text = image(rt.alloc(), 0, &[], &entries, &[3])?;
-    assert_eq!(rt; first_line(rt.alloc(), text.bytes()), Some((3, 0xff)));
-    Ok(())
+    let line = line_of(rt.alloc(), 0, &[], &entries, &[3]);
+    compare(&rt, line, Ok(Some((3, 0xff))));
 }

@@ -1,13 +1,12 @@
-use crate::expected::assert_text;
+use crate::expected::assert_made;
 use bank_shape::Home;
 use pcm_io::Text;
 use rotation_reports::{Map, MapOptions, print_map_header, print_move_row, print_moves_header};
 use std::alloc::{AllocError, Global};
-use std::test::Fail;
 
-#[test]
-fn a_small_module_is_mapped_after_five_moves(rt: HostRuntime) -> Result<(), Fail> {
-    let mut text = Text::new(rt.alloc(), 320)?;
+// A module of four lines after five moves.
+fn small(alloc: Global) -> Result<Text, AllocError> {
+    let mut text = Text::new(alloc, 320)?;
     let map = Map::new(MapOptions {
         banks: 1,
         regions: 1,
@@ -22,12 +21,16 @@ fn a_small_module_is_mapped_after_five_moves(rt: HostRuntime) -> Result<(), Fail
     map.print_row(1, &mut text);
     map.print_row(2, &mut text);
     map.print_row(3, &mut text);
-    assert_text(
+    Ok(text)
+}
+
+#[test]
+fn a_small_module_is_mapped_after_five_moves(rt: HostRuntime) {
+    assert_made(
         &rt,
-        text.bytes(),
+        small(rt.alloc()),
         b"line,bank,region,offset,place,array\n0,0,0,3,0,0\n1,0,0,1,2,2\n2,0,0,2,3,3\n3,0,0,0,1,1\n",
     );
-    Ok(())
 }
 
 // The rows of some lines of a module of two banks with two regions each.
@@ -49,38 +52,38 @@ fn larger(alloc: Global, home: Home) -> Result<Text, AllocError> {
 }
 
 #[test]
-fn a_larger_module_has_two_banks_of_eleven_array_lines(rt: HostRuntime) -> Result<(), Fail> {
-    let text = larger(rt.alloc(), Home::Guarded)?;
-    assert_text(
+fn a_larger_module_has_two_banks_of_eleven_array_lines(rt: HostRuntime) {
+    assert_made(
         &rt,
-        text.bytes(),
+        larger(rt.alloc(), Home::Guarded),
         b"0,0,1,1,1,6\n8,1,1,1,1,17\n15,1,0,2,2,13\n",
     );
-    Ok(())
 }
 
 #[test]
-fn registers_in_the_array_take_four_lines_more_of_each_bank(rt: HostRuntime) -> Result<(), Fail> {
-    let text = larger(rt.alloc(), Home::Array)?;
-    assert_text(
+fn registers_in_the_array_take_four_lines_more_of_each_bank(rt: HostRuntime) {
+    assert_made(
         &rt,
-        text.bytes(),
+        larger(rt.alloc(), Home::Array),
         b"0,0,1,1,1,6\n8,1,1,1,1,21\n15,1,0,2,2,17\n",
     );
-    Ok(())
 }
 
-#[test]
-fn moves_go_round_the_end(rt: HostRuntime) -> Result<(), Fail> {
-    let mut text = Text::new(rt.alloc(), 256)?;
+// The moves 7 to 9 of four lines.
+fn moves(alloc: Global) -> Result<Text, AllocError> {
+    let mut text = Text::new(alloc, 256)?;
     print_moves_header(&mut text);
     print_move_row(4, 7, &mut text);
     print_move_row(4, 8, &mut text);
     print_move_row(4, 9, &mut text);
-    assert_text(
+    Ok(text)
+}
+
+#[test]
+fn moves_go_round_the_end(rt: HostRuntime) {
+    assert_made(
         &rt,
-        text.bytes(),
+        moves(rt.alloc()),
         b"move,line,from,to\n7,0,1,2\n8,3,0,1\n9,2,4,0\n",
     );
-    Ok(())
 }

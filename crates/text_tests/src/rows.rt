@@ -1,10 +1,10 @@
 ghost use Rattle.std.specs.Prelude.{◌≡◌, ◌≤◌, Some};
 ghost use Rattle.result_rows.specs.Outcomes.{op_of};
 
-use crate::expected::assert_text;
+use crate::expected::{assert_made, assert_text, compare};
 use pcm_io::Text;
 use result_rows::{Op, Outcome, Results, header, print_row};
-use std::test::Fail;
+use std::alloc::{AllocError, Global};
 
 // Prints a row, unless there is too little room for it.
 fn print<const B: usize>(text: &mut Text, row: u32, op: Op, line: u32, outcome: &Outcome<B>)
@@ -17,9 +17,9 @@ fn print<const B: usize>(text: &mut Text, row: u32, op: Op, line: u32, outcome: 
     }
 }
 
-#[test]
-fn a_row_of_each_outcome_of_a_write(rt: HostRuntime) -> Result<(), Fail> {
-    let mut text = Text::new(rt.alloc(), 1024)?;
+// Rows of writes.
+fn writes(alloc: Global) -> Result<Text, AllocError> {
+    let mut text = Text::new(alloc, 1024)?;
     let stored = Outcome::<64>::Stored { tick: 15, place: 3 };
     print(&mut text, 1, Op::Write, 0, &stored);
     let merged = Outcome::<64>::Merged { tick: 0 };
@@ -30,15 +30,19 @@ fn a_row_of_each_outcome_of_a_write(rt: HostRuntime) -> Result<(), Fail> {
     print(&mut text, 4, Op::Write, 0, &full);
     let worn = Outcome::<64>::Worn { tick: 700 };
     print(&mut text, 2, Op::Write, 1, &worn);
-    let wanted =
-        b"1,W,0,stored,15,3,\n1,W,0,merged,0,,\n1,W,0,queued,0,,\n4,W,0,full,6,,\n2,W,1,worn,700,,\n";
-    assert_text(&rt, text.bytes(), wanted);
-    Ok(())
+    Ok(text)
 }
 
 #[test]
-fn a_row_of_each_outcome_of_a_read_and_of_a_cut(rt: HostRuntime) -> Result<(), Fail> {
-    let mut text = Text::new(rt.alloc(), 1024)?;
+fn a_row_of_each_outcome_of_a_write(rt: HostRuntime) {
+    let wanted =
+        b"1,W,0,stored,15,3,\n1,W,0,merged,0,,\n1,W,0,queued,0,,\n4,W,0,full,6,,\n2,W,1,worn,700,,\n";
+    assert_made(&rt, writes(rt.alloc()), wanted);
+}
+
+// Rows of reads and of a cut.
+fn reads(alloc: Global) -> Result<Text, AllocError> {
+    let mut text = Text::new(alloc, 1024)?;
     let bytes = [0x01, 0x23, 0x45, 0x67, 0x89, 0xab, 0xcd, 0xef];
     let read = Outcome::Read {
         tick: 5,
@@ -54,44 +58,51 @@ fn a_row_of_each_outcome_of_a_read_and_of_a_cut(rt: HostRuntime) -> Result<(), F
     print(&mut text, 2, Op::Read, 1, &lost);
     let cut = Outcome::<64>::Cut { tick: 20 };
     print(&mut text, 2, Op::Cut, 7, &cut);
+    Ok(text)
+}
+
+#[test]
+fn a_row_of_each_outcome_of_a_read_and_of_a_cut(rt: HostRuntime) {
     let wanted =
         b"1,R,0,read,5,3,0123456789abcdef\n2,R,0,forwarded,0,,0123456789abcdef\n2,R,1,busy,0,,\n2,R,1,lost,19,,\n2,C,,cut,20,,\n";
-    assert_text(&rt, text.bytes(), wanted);
-    Ok(())
+    assert_made(&rt, reads(rt.alloc()), wanted);
+}
+
+// The length of the longest row of a read of a line of `B` bytes.
+fn longest<const B: usize>(alloc: Global, byte: u8) -> Result<usize, AllocError>
+    requires size { B ≤ 128 }
+{
+    let read = Outcome::Read {
+        tick: u64::MAX,
+        place: 98_831,
+        bytes: [byte; B],
+    };
+    let mut text = Text::new(alloc, 64 + 2 * B)?;
+    print(&mut text, 400_000, Op::Read, 65_535, &read);
+    Ok(text.bytes().len())
 }
 
 #[test]
-fn the_longest_rows_of_both_sizes(rt: HostRuntime) -> Result<(), Fail> {
-    let small = Outcome::Read {
-        tick: u64::MAX,
-        place: 98_831,
-        bytes: [0xff; 64],
-    };
-    let mut text = Text::new(rt.alloc(), 192)?;
-    print(&mut text, 400_000, Op::Read, 65_535, &small);
-    let wide = Outcome::Read {
-        tick: u64::MAX,
-        place: 98_831,
-        bytes: [0x0a; 128],
-    };
-    let mut wide_text = Text::new(rt.alloc(), 320)?;
-    print(&mut wide_text, 400_000, Op::Read, 65_535, &wide);
-    let lens = [text.bytes().len(), wide_text.bytes().len()];
-    assert_eq!(rt; lens, [48 + 128, 48 + 256]);
-    Ok(())
+fn the_longest_rows_of_both_sizes(rt: HostRuntime) {
+    let lens = [
+        longest::<64>(rt.alloc(), 0xff),
+        longest::<128>(rt.alloc(), 0x0a),
+    ];
+    compare(&rt, lens, [Ok(48 + 128), Ok(48 + 256)]);
 }
 
-#[test]
-fn a_row_is_set_once_and_the_others_stay(rt: HostRuntime) -> Result<(), Fail> {
-    let mut results = Results::<64>::new(rt.alloc(), 3)?;
-    let cut = Outcome::Cut { tick: 7 };
-    results.set(2, cut);
+// How many rows there are of three, of which the second is set, and these.
+fn set_once(alloc: Global) -> Result<(u32, [Outcome<64>; 3]), AllocError> {
+    let mut results = Results::<64>::new(alloc, 3)?;
+    results.set(2, Outcome::Cut { tick: 7 });
     let rows = [*results.get(1), *results.get(2), *results.get(3)];
-    assert_eq!(rt;
-        (results.rows(), rows),
-        (3, [Outcome::Unset, cut, Outcome::Unset])
-    );
-    Ok(())
+    Ok((results.rows(), rows))
+}
+
+#[test]
+fn a_row_is_set_once_and_the_others_stay(rt: HostRuntime) {
+    let rows = [Outcome::Unset, Outcome::Cut { tick: 7 }, Outcome::Unset];
+    compare(&rt, set_once(rt.alloc()), Ok((3, rows)));
 }
 
 #[test]

@@ -1,13 +1,12 @@
-use crate::expected::assert_text;
+use crate::expected::{assert_text, compare};
 use pcm_io::{
     MemSink, MemSource, NeverFailSink, NeverFailSource, ReadAllFault, StdSink, StdSource, Text,
     WriteFault, read_all, write_all,
 };
 use std::alloc::{AllocError, Global};
-use std::process::Abort;
 use std::test::Fail;
 
-// Reads three bytes up to a limit, from a source whose call with this number fails.
+// What is read of three bytes up to a limit, from a source whose call with this number fails.
 fn read(alloc: Global, limit: usize, fails: u32) -> Result<Vec<u8>, ReadAllFault> {
     let bytes = Vec::from_slice(alloc, b"pcm")?;
     let fails = Vec::from_slice(alloc, &[fails])?;
@@ -27,49 +26,53 @@ fn reads_up_to_the_limit_and_no_further(rt: HostRuntime) -> Result<(), Fail> {
         fault(rt.alloc(), 3, 1),
         fault(rt.alloc(), 3, 2),
     ];
-    assert_eq!(rt;
-        faults,
-        [
-            Some(ReadAllFault::TooLong),
-            Some(ReadAllFault::Read),
-            Some(ReadAllFault::Read)
-        ]
-    );
+    let expected = [
+        ReadAllFault::TooLong,
+        ReadAllFault::Read,
+        ReadAllFault::Read,
+    ];
+    compare(&rt, faults, expected.map(Some));
     Ok(())
+}
+
+// How much is read of more than one piece, and its last byte.
+fn read_more(alloc: Global) -> Result<(usize, Option<u8>), ReadAllFault> {
+    let mut source = NeverFailSource::new(vec![in alloc; 7u8; 10_000]?);
+    let read = read_all(alloc, &mut source, 10_000)?;
+    Ok((read.len(), read.last().copied()))
 }
 
 #[test]
-fn reads_more_than_one_piece(rt: HostRuntime) -> Result<(), Fail> {
-    let bytes = vec![in rt.alloc(); 7u8; 10_000]?;
-    let mut source = NeverFailSource::new(bytes);
-    let read = read_all(rt.alloc(), &mut source, 10_000)?;
-    assert_eq!(rt; (read.len(), read.last()), (10_000, Some(&7)));
-    Ok(())
+fn reads_more_than_one_piece(rt: HostRuntime) {
+    compare(&rt, read_more(rt.alloc()).ok(), Some((10_000, Some(7))));
 }
 
-// Two writes into a sink of so much room, whose call with this number fails: what they answer, and what is written.
-fn assert_writes(
-    rt: &impl Abort,
+// Two writes into a sink of so much room, whose call with this number fails: what they answer, and the sink.
+fn written(
     alloc: Global,
     room: usize,
     fails: u32,
-    answers: [Result<(), WriteFault>; 2],
-    written: &[u8],
-) -> Result<(), AllocError> {
+) -> Result<([Result<(), WriteFault>; 2], MemSink), AllocError> {
     let fails = Vec::from_slice(alloc, &[fails])?;
     let mut sink = MemSink::new(alloc, room, fails)?;
-    let first = write_all(&mut sink, b"pcm");
-    let second = write_all(&mut sink, b"row");
-    assert_eq!(rt; [first, second], answers);
-    assert_text(rt, sink.written(), written);
-    Ok(())
+    let answers = [write_all(&mut sink, b"pcm"), write_all(&mut sink, b"row")];
+    Ok((answers, sink))
 }
+
+// The room of a sink, which of its calls fails, what two writes answer, and what is written.
+static WRITES: [(usize, u32, [Result<(), WriteFault>; 2], &[u8]); 3] = [
+    (6, 9, [Ok(()), Ok(())], b"pcmrow"),
+    (5, 9, [Ok(()), Err(WriteFault)], b"pcm"),
+    (6, 1, [Err(WriteFault), Ok(())], b"row"),
+];
 
 #[test]
 fn writes_all_or_stops_at_a_fault(rt: HostRuntime) -> Result<(), Fail> {
-    assert_writes(&rt, rt.alloc(), 6, 9, [Ok(()), Ok(())], b"pcmrow")?;
-    assert_writes(&rt, rt.alloc(), 5, 9, [Ok(()), Err(WriteFault)], b"pcm")?;
-    assert_writes(&rt, rt.alloc(), 6, 1, [Err(WriteFault), Ok(())], b"row")?;
+    for (room, fails, expected, text) in &WRITES {
+        let (answers, sink) = written(rt.alloc(), *room, *fails)?;
+        compare(&rt, answers, *expected);
+        assert_text(&rt, sink.written(), text);
+    }
     Ok(())
 }
 
@@ -78,20 +81,26 @@ fn a_sink_that_never_fails_counts_bytes(rt: HostRuntime) {
     let mut sink = NeverFailSink::new();
     let first = write_all(&mut sink, b"pcm");
     let nothing = write_all(&mut sink, b"");
-    assert_eq!(rt; (first, nothing, sink.taken()), (Ok(()), Ok(()), 3));
+    compare(&rt, (first, nothing, sink.taken()), (Ok(()), Ok(()), 3));
+}
+
+// A text of eight bytes, and the room before it and behind it.
+fn pushed(alloc: Global) -> Result<(Text, [usize; 2]), AllocError> {
+    let mut text = Text::new(alloc, 8)?;
+    let new = text.room();
+    text.push(b"row,");
+    text.push_number(17);
+    let left = text.room();
+    Ok((text, [new, left]))
 }
 
 #[test]
 fn a_text_holds_what_was_pushed(rt: HostRuntime) -> Result<(), Fail> {
-    let mut text = Text::new(rt.alloc(), 8)?;
-    let new = text.room();
-    text.push(b"row,");
-    text.push_number(17);
+    let (mut text, room) = pushed(rt.alloc())?;
     assert_text(&rt, text.bytes(), b"row,17");
-    let left = text.room();
     text.clear();
     assert_text(&rt, text.bytes(), b"");
-    assert_eq!(rt; [new, left, text.room()], [8, 2, 8]);
+    compare(&rt, (room, text.room()), ([8, 2], 8));
     Ok(())
 }
 
@@ -109,5 +118,5 @@ fn a_writer_of_std_takes_what_it_has_room_for(rt: HostRuntime) {
     let mut sink = StdSink::new(room.as_mut_slice());
     let first = write_all(&mut sink, b"rows");
     let second = write_all(&mut sink, b"more");
-    assert_eq!(rt; (first, second), (Ok(()), Err(WriteFault)));
+    compare(&rt, (first, second), (Ok(()), Err(WriteFault)));
 }

@@ -1,16 +1,17 @@
 ghost use Rattle.row_printer.specs.Snapshots.{IsShown};
 
-use crate::expected::assert_text;
+use crate::expected::{assert_text, compare};
 use cell_rows::LineEnergy;
 use pcm_io::{MemSink, MemSource, NeverFailSource, Text};
 use result_rows::Outcome;
-use row_printer::{Backlog, Mark, RowPrinter, Shown, Snapshot};
+use row_printer::{ArrayWear, Backlog, Mark, RowPrinter, Shown, Snapshot, ToldShape};
 use row_telling::Outcomes;
 use run_text::TEXT_ROOM;
-use std::alloc::Global;
+use std::alloc::{AllocError, Global};
+use std::process::Abort;
 use std::test::Fail;
 use trace_reader::{Event, EventOp, Kind, TraceFault};
-use trace_stream::{Asked, StreamFault, TraceStream, read_stream};
+use trace_stream::{Asked, StreamFault, TraceStream, Until, read_stream};
 
 // What a text asks, read from a source whose call with this number fails. The first call gives one byte, and the others
 // all that are left.
@@ -20,70 +21,89 @@ fn read(alloc: Global, text: &[u8], fails: u32) -> Result<Vec<Asked<64>>, Stream
     read_stream(alloc, &mut MemSource::new(bytes, fails), 4)
 }
 
-#[test]
-fn rows_come_in_order(rt: HostRuntime) -> Result<(), Fail> {
-    let text = b"tick,op,arg,data\n\n3,R,1,\r\n\"3\",S,,\n4,Q,,\n9,C,,";
-    let asked = match read(rt.alloc(), text, 9) {
-        Ok(asked) => asked,
-        Err(_) => Vec::new(rt.alloc()),
-    };
-    let told = [
-        Asked::Happens(Event {
-            tick: 3,
-            op: EventOp::Read(1),
-        }),
-        Asked::Settle(3),
-        Asked::Query(4),
-        Asked::Happens(Event {
-            tick: 9,
-            op: EventOp::Cut,
-        }),
-    ];
-    assert_eq!(rt; asked.as_slice(), told.as_slice());
-    Ok(())
+static ASKED: [Asked<64>; 6] = [
+    Asked::Happens(Event {
+        tick: 3,
+        op: EventOp::Read(1),
+    }),
+    Asked::Settle(3),
+    Asked::Query(4),
+    Asked::Look(4),
+    Asked::Until(Until {
+        row: 1,
+        limit: 8,
+        reached: 4,
+    }),
+    Asked::Happens(Event {
+        tick: 5,
+        op: EventOp::Cut,
+    }),
+];
+
+fn compare_asked(
+    rt: &impl Abort,
+    asked: Result<Vec<Asked<64>>, StreamFault>,
+    wanted: &[Asked<64>],
+) {
+    match asked {
+        Ok(asked) => assert_eq!(rt; asked.as_slice(), wanted),
+        Err(_) => panic!(rt; "a fault"),
+    }
 }
 
 #[test]
-fn faults_are_told(rt: HostRuntime) -> Result<(), Fail> {
-    let text = b"tick,op,arg,data\n3,R,1,\n";
-    let faults = [
-        read(rt.alloc(), b"tick,op,arg,data\n3,Q,,\n3,Q,0,\n", 9).err(),
-        read(rt.alloc(), text, 1).err(),
-        read(rt.alloc(), text, 2).err(),
-        read(rt.alloc(), text, 3).err(),
-        read(rt.alloc(), text, 4).err(),
-        read(rt.alloc(), b"tick,op,arg,data\n3,S,,\n2,S,,\n", 9).err(),
-        read(rt.alloc(), b"tick,op,arg,data\n3,S,0,\n", 9).err(),
-        read(rt.alloc(), b"tick,op,arg,data\n3,S,,0\n", 9).err(),
-        read(rt.alloc(), b"tick,op,arg,data\nx,S,0,0\n", 9).err(),
-        read(rt.alloc(), b"tick,op,arg,data\n3,S,\n", 9).err(),
-        read(
-            rt.alloc(),
-            b"tick,op,arg,data\n3,S,,\n3,C,,\n3,S,,\n3,S,0,\n",
-            9,
-        )
-        .err(),
-        read(rt.alloc(), b"tick,op,arg,data\n3,S,,\n3,C,,,,", 3).err(),
-    ];
-    let row = |row, kind| Some(StreamFault::Trace(TraceFault { row, kind }));
-    assert_eq!(rt;
-        faults,
-        [
-            row(1, Kind::Line),
-            Some(StreamFault::Read),
-            Some(StreamFault::Read),
-            Some(StreamFault::Read),
-            None,
-            row(1, Kind::Order),
-            row(1, Kind::Line),
-            row(1, Kind::Payload),
-            row(1, Kind::Tick),
-            row(1, Kind::Fields),
-            row(2, Kind::Line),
-            row(1, Kind::Fields),
-        ]
-    );
-    Ok(())
+fn rows_come_in_order(rt: HostRuntime) {
+    let text = b"tick,op,arg,data\n\n3,R,1,\r\n\"3\",S,,\n4,Q,,\n4,L,,\n8,U,01,\n5,C,,";
+    compare_asked(&rt, read(rt.alloc(), text, 9), &ASKED);
+}
+
+// Texts, the call of the source that fails, and the row and the kind of the fault of each.
+static FAULTS: [(&[u8], u32, u32, Kind); 13] = [
+    (b"tick,op,arg,data\n3,Q,,\n3,Q,0,\n", 9, 1, Kind::Line),
+    (b"tick,op,arg,data\n3,S,,\n2,S,,\n", 9, 1, Kind::Order),
+    (b"tick,op,arg,data\n3,S,0,\n", 9, 1, Kind::Line),
+    (b"tick,op,arg,data\n3,S,,0\n", 9, 1, Kind::Payload),
+    (b"tick,op,arg,data\nx,S,0,0\n", 9, 1, Kind::Tick),
+    (b"tick,op,arg,data\n3,S,\n", 9, 1, Kind::Fields),
+    (
+        b"tick,op,arg,data\n3,S,,\n3,C,,\n3,S,,\n3,S,0,\n",
+        9,
+        2,
+        Kind::Line,
+    ),
+    (b"tick,op,arg,data\n3,S,,\n3,C,,,,", 3, 1, Kind::Fields),
+    (b"tick,op,arg,data\n3,C,,\n3,U,2,\n", 9, 2, Kind::Line),
+    (b"tick,op,arg,data\n3,C,,\n3,U,1,0\n", 9, 2, Kind::Payload),
+    (b"tick,op,arg,data\n3,L,,\n2,L,,\n", 9, 1, Kind::Order),
+    (b"tick,op,arg,data\n3,L,0,\n", 9, 1, Kind::Line),
+    (b"tick,op,arg,data\n3,C,,\n3,L,,0\n", 9, 2, Kind::Payload),
+];
+
+// Which call of the source of a text fails, and the fault of that.
+static FAILS: [(u32, Option<StreamFault>); 4] = [
+    (1, Some(StreamFault::Read)),
+    (2, Some(StreamFault::Read)),
+    (3, Some(StreamFault::Read)),
+    (4, None),
+];
+
+#[test]
+fn faults_are_told(rt: HostRuntime) {
+    for (text, fails, row, kind) in &FAULTS {
+        let fault = StreamFault::Trace(TraceFault {
+            row: *row,
+            kind: *kind,
+        });
+        compare(&rt, read(rt.alloc(), text, *fails).err(), Some(fault));
+    }
+}
+
+#[test]
+fn a_call_that_fails_is_told(rt: HostRuntime) {
+    for (fails, fault) in &FAILS {
+        let text = b"tick,op,arg,data\n3,R,1,\n";
+        compare(&rt, read(rt.alloc(), text, *fails).err(), *fault);
+    }
 }
 
 // How many rows come before the fault of a text, and the fault: of its ten reads, each behind a settle, one is of a line that isn't there.
@@ -109,54 +129,50 @@ fn front(alloc: Global, faulty: u32) -> Result<(u32, Option<StreamFault>), Strea
 }
 
 #[test]
-fn a_fault_hides_no_row_before_it(rt: HostRuntime) -> Result<(), Fail> {
+fn a_fault_hides_no_row_before_it(rt: HostRuntime) {
     for faulty in 1..11 {
         let fault = StreamFault::Trace(TraceFault {
             row: faulty,
             kind: Kind::Line,
         });
-        let found = front(rt.alloc(), faulty).ok();
-        assert_eq!(rt; found, Some((2 * faulty - 1, Some(fault))));
+        let found = (2 * faulty - 1, Some(fault));
+        compare(&rt, front(rt.alloc(), faulty).ok(), Some(found));
     }
-    assert_eq!(rt; front(rt.alloc(), 11).ok(), Some((20, None)));
-    Ok(())
+    compare(&rt, front(rt.alloc(), 11).ok(), Some((20, None)));
+}
+
+// The fault of a text behind which a byte stands 300,000 times, and then an end.
+fn fault_of_long(
+    alloc: Global,
+    front: &[u8],
+    byte: u8,
+    end: &[u8],
+) -> Result<Option<StreamFault>, AllocError> {
+    let mut text = Vec::from_slice(alloc, front)?;
+    for _ in 0..300_000 {
+        text.push(byte)?;
+    }
+    text.extend_from_slice(end)?;
+    let mut source = NeverFailSource::new(text);
+    Ok(read_stream::<64, NeverFailSource>(alloc, &mut source, 4).err())
 }
 
 // A record of 300,000 commas, and a field of as many digits.
+static LONG: [(&[u8], u8, &[u8], Kind); 2] = [
+    (b"tick,op,arg,data\n", b',', b"", Kind::Fields),
+    (b"tick,op,arg,data\n0,R,", b'0', b",", Kind::Line),
+];
+
 #[test]
-fn long_records_are_judged_as_they_are(rt: HostRuntime) -> Result<(), Fail> {
-    let mut commas = Vec::from_slice(rt.alloc(), b"tick,op,arg,data\n")?;
-    let mut digits = Vec::from_slice(rt.alloc(), b"tick,op,arg,data\n0,R,")?;
-    for _ in 0..300_000 {
-        commas.push(b',')?;
-        digits.push(b'0')?;
+fn long_records_are_judged_as_they_are(rt: HostRuntime) {
+    for (front, byte, end, kind) in &LONG {
+        let fault = StreamFault::Trace(TraceFault {
+            row: 1,
+            kind: *kind,
+        });
+        let found = fault_of_long(rt.alloc(), front, *byte, end);
+        compare(&rt, found, Ok(Some(fault)));
     }
-    digits.extend_from_slice(b",")?;
-    let first = read_stream::<64, NeverFailSource>(
-        rt.alloc(),
-        &mut NeverFailSource::new(commas),
-        4,
-    );
-    let second = read_stream::<64, NeverFailSource>(
-        rt.alloc(),
-        &mut NeverFailSource::new(digits),
-        4,
-    );
-    assert_eq!(rt;
-        first.err(),
-        Some(StreamFault::Trace(TraceFault {
-            row: 1,
-            kind: Kind::Fields
-        }))
-    );
-    assert_eq!(rt;
-        second.err(),
-        Some(StreamFault::Trace(TraceFault {
-            row: 1,
-            kind: Kind::Line
-        }))
-    );
-    Ok(())
 }
 
 // A bank that refuses writes.
@@ -167,8 +183,30 @@ const EXHAUSTED: Backlog = Backlog {
     mark: Mark::Exhausted,
 };
 
-// Two rows, a bank and a tick, told to a printer that prints or only counts: what is written, how many rows were stored and how many refused, and
-// whether one fell short.
+// An array whose lines were sensed more often than can be counted.
+const WORN: ArrayWear = ArrayWear {
+    pulses: 17,
+    most: 9,
+    mean: 0,
+    pointers: 2,
+    energy: Some(LineEnergy {
+        set: 70,
+        reset: 0,
+        senses: u64::MAX,
+    }),
+};
+
+const SHAPE: ToldShape = ToldShape {
+    banks: 64,
+    regions: 1,
+    lines: 1_048_576,
+    spares: 1024,
+    writes: 256,
+    reads: 3,
+};
+
+// Two rows, a bank, how worn the array is and a tick, told to a printer that prints or only counts: what is written, how many rows were
+// stored and how many refused, and whether one fell short.
 fn told(alloc: Global, prints: Shown) -> Result<(Box<MemSink>, (u32, u32, bool)), Fail>
     requires { IsShown prints }
 {
@@ -180,6 +218,7 @@ fn told(alloc: Global, prints: Shown) -> Result<(Box<MemSink>, (u32, u32, bool))
     out.set(2, Outcome::Busy { tick: 5 });
     out.set(1, Outcome::Stored { tick: 9, place: 3 });
     out.bank(12, EXHAUSTED);
+    out.looked(12, WORN);
     out.settled(12);
     let _done = out.flush();
     let counts = out.counts();
@@ -190,13 +229,25 @@ fn told(alloc: Global, prints: Shown) -> Result<(Box<MemSink>, (u32, u32, bool))
 
 #[test]
 fn a_stream_tells_each_row_once_as_it_comes(rt: HostRuntime) -> Result<(), Fail> {
-    let (sink, counted) = told(rt.alloc(), Shown::Rows)?;
+    let (sink, counted) = told(rt.alloc(), Shown::Rows(None))?;
     assert_text(
         &rt,
         sink.written(),
-        b"row,outcome,tick,place,data\n2,busy,5,,\n1,stored,9,3,\n,bank,12,7,256 0 exhausted\n,settled,12,,\n",
+        b"row,outcome,tick,place,data\n2,busy,5,,\n1,stored,9,3,\n,bank,12,7,256 0 exhausted\n,wear,12,,17 9 0 2 18446744073709551615 70 0\n,settled,12,,\n",
     );
-    assert_eq!(rt; counted, (1, 1, true));
+    compare(&rt, counted, (1, 1, true));
+    Ok(())
+}
+
+#[test]
+fn a_shape_stands_behind_the_header(rt: HostRuntime) -> Result<(), Fail> {
+    let (sink, counted) = told(rt.alloc(), Shown::Rows(Some(SHAPE)))?;
+    assert_text(
+        &rt,
+        sink.written(),
+        b"row,outcome,tick,place,data\n,shape,0,1,64 1 1048576 1024 64 256 3\n2,busy,5,,\n1,stored,9,3,\n,bank,12,7,256 0 exhausted\n,wear,12,,17 9 0 2 18446744073709551615 70 0\n,settled,12,,\n",
+    );
+    compare(&rt, counted, (1, 1, true));
     Ok(())
 }
 
@@ -204,7 +255,7 @@ fn a_stream_tells_each_row_once_as_it_comes(rt: HostRuntime) -> Result<(), Fail>
 fn a_stream_may_only_count(rt: HostRuntime) -> Result<(), Fail> {
     let (sink, counted) = told(rt.alloc(), Shown::Nothing)?;
     assert_text(&rt, sink.written(), b"");
-    assert_eq!(rt; counted, (1, 1, true));
+    compare(&rt, counted, (1, 1, true));
     Ok(())
 }
 
@@ -221,11 +272,13 @@ fn told_snapshot(
         tick,
         counts: out.counts(),
         retired: u32::MAX,
-        pulses: 17,
-        most: 9,
-        mean: 0,
-        pointers: 2,
-        energy,
+        wear: ArrayWear {
+            pulses: 17,
+            most: 9,
+            mean: 0,
+            pointers: 2,
+            energy,
+        },
     };
     out.snapshot(&snapshot);
 }
@@ -261,6 +314,6 @@ fn snapshots_stand_behind_multiples(rt: HostRuntime) -> Result<(), Fail> {
         sink.written(),
         b"rows,tick,stored,merged,queued,full,worn,read,forwarded,busy,lost,cut,retired,pulses,most,mean,pointers,senses,set,reset\n2,5,0,0,0,0,0,0,0,1,0,0,4294967295,17,9,0,2,18446744073709551615,70,0\n2,18446744073709551615,0,0,0,0,0,0,0,1,0,0,4294967295,17,9,0,2,,,\n",
     );
-    assert_eq!(rt; due, [false, true]);
+    compare(&rt, due, [false, true]);
     Ok(())
 }

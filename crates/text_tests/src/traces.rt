@@ -1,5 +1,7 @@
-use crate::expected::assert_events;
-use std::alloc::Global;
+ghost use Rattle.std.specs.Prelude.{◌≤◌};
+
+use crate::expected::{assert_events, compare};
+use std::alloc::{AllocError, Global};
 use std::test::Fail;
 use trace_reader::{Event, EventOp, Kind, MOST_ROWS, ParseFault, TraceFault, number, parse};
 
@@ -13,7 +15,11 @@ fn a_number_has_its_digits_and_its_bound(rt: HostRuntime) {
         number(b"18446744073709551615", 20, u64::MAX),
         number(b"18446744073709551616", 20, u64::MAX),
     ];
-    assert_eq!(rt; numbers, [Some(42), None, None, None, Some(u64::MAX), None]);
+    compare(
+        &rt,
+        numbers,
+        [Some(42), None, None, None, Some(u64::MAX), None],
+    );
 }
 
 // The fault of a trace over so many lines, of which there is one.
@@ -64,9 +70,32 @@ fn the_first_fault_is_told_with_its_row(rt: HostRuntime) {
             row: *row,
             kind: *kind,
         };
-        assert_eq!(rt; fault_of(rt.alloc(), text, *lines), Some(wanted));
+        compare(&rt, fault_of(rt.alloc(), text, *lines), Some(wanted));
     }
 }
+
+static EVENTS: [Event<8>; 4] = [
+    Event {
+        tick: 0,
+        op: EventOp::Write(3, [0, 0x11, 0x22, 0x33, 0x44, 0x55, 0x66, 0xff]),
+    },
+    Event {
+        tick: 7,
+        op: EventOp::Mask(
+            0,
+            [0, 0xa1, 0, 0, 0, 0, 0, 0x5b],
+            [false, true, false, false, false, false, false, true],
+        ),
+    },
+    Event {
+        tick: 7,
+        op: EventOp::Cut,
+    },
+    Event {
+        tick: 1_099_511_627_776,
+        op: EventOp::Read(2),
+    },
+];
 
 #[test]
 fn rows_become_events(rt: HostRuntime) -> Result<(), Fail> {
@@ -74,52 +103,43 @@ fn rows_become_events(rt: HostRuntime) -> Result<(), Fail> {
     let text =
         b"tick,op,arg,data\r\n0,W,3,00112233445566fF\r\n7,M,0,..a1..........5B\r\n7,C,,\r\n1099511627776,R,00002,";
     let events = parse::<8>(rt.alloc(), text, 4)?;
-    let want = [
-        Event {
-            tick: 0,
-            op: EventOp::Write(3, [0, 0x11, 0x22, 0x33, 0x44, 0x55, 0x66, 0xff]),
-        },
-        Event {
-            tick: 7,
-            op: EventOp::Mask(
-                0,
-                [0, 0xa1, 0, 0, 0, 0, 0, 0x5b],
-                [false, true, false, false, false, false, false, true],
-            ),
-        },
-        Event {
-            tick: 7,
-            op: EventOp::Cut,
-        },
-        Event {
-            tick: 1_099_511_627_776,
-            op: EventOp::Read(2),
-        },
+    assert_events(&rt, events.as_slice(), &EVENTS);
+    Ok(())
+}
+
+// How many events a text has over this many lines of `B` bytes.
+fn len<const B: usize>(alloc: Global, text: &[u8], lines: u32) -> Result<usize, ParseFault>
+    requires size { B ≤ 128 }
+    requires some_lines { 1 ≤ lines }
+{
+    Ok(parse::<B>(alloc, text, lines)?.len())
+}
+
+#[test]
+fn the_header_alone_has_no_events(rt: HostRuntime) {
+    let lens = [
+        len::<64>(rt.alloc(), b"tick,op,arg,data\n", 64).ok(),
+        len::<128>(rt.alloc(), b"tick,op,arg,data\n", 65_536).ok(),
     ];
-    assert_events(&rt, events.as_slice(), &want);
-    Ok(())
+    compare(&rt, lens, [Some(0), Some(0)]);
 }
 
-#[test]
-fn the_header_alone_has_no_events(rt: HostRuntime) -> Result<(), Fail> {
-    let narrow = parse::<64>(rt.alloc(), b"tick,op,arg,data\n", 64)?.len();
-    let wide = parse::<128>(rt.alloc(), b"tick,op,arg,data\n", 65_536)?.len();
-    assert_eq!(rt; [narrow, wide], [0, 0]);
-    Ok(())
-}
-
-#[test]
-fn one_row_more_than_allowed_is_too_many(rt: HostRuntime) -> Result<(), Fail> {
-    let mut text = String::from_str(rt.alloc(), "tick,op,arg,data\n")?;
+// How many events as many rows as are allowed have, and whether one more, which is none, is too many.
+fn many(alloc: Global) -> Result<(Option<usize>, bool), AllocError> {
+    let mut text = String::from_str(alloc, "tick,op,arg,data\n")?;
     for _ in 0..MOST_ROWS {
         text.push_str("0,C,,\n")?;
     }
-    let most = parse::<8>(rt.alloc(), text.as_bytes(), 4)?.len();
+    let most = len::<8>(alloc, text.as_bytes(), 4).ok();
     text.push_str("faulty\n")?;
     let too_many = matches!(
-        parse::<8>(rt.alloc(), text.as_bytes(), 4),
+        parse::<8>(alloc, text.as_bytes(), 4),
         Err(ParseFault::TooMany)
     );
-    assert_eq!(rt; (most, too_many), (400_000, true));
-    Ok(())
+    Ok((most, too_many))
+}
+
+#[test]
+fn one_row_more_than_allowed_is_too_many(rt: HostRuntime) {
+    compare(&rt, many(rt.alloc()), Ok((Some(400_000), true)));
 }

@@ -2,11 +2,11 @@
 ghost use Rattle.std.specs.Prelude.{◌≡◌, true};
 ghost use Rattle.text_tests.specs.Timely.{is_timed};
 
+use crate::expected::compare;
 use bank_shape::Policy;
 use result_check::{Rule, Rules, Verdict, check};
 use result_rows::{Outcome, Results};
 use std::alloc::{AllocError, Global};
-use std::test::Fail;
 use trace_reader::{Event, EventOp};
 
 // The verdict on a write of line 0 at tick 0 and a read of it at tick 100, in the small bank.
@@ -41,67 +41,59 @@ fn verdict_on(alloc: Global, written: Outcome<64>, read: Outcome<64>) -> Result<
     check(alloc, &events, &results, &banks, &rules)
 }
 
+const STORED: Outcome<64> = Outcome::Stored { tick: 15, place: 3 };
+
+const READ: Outcome<64> = Outcome::Read {
+    tick: 105,
+    place: 3,
+    bytes: [0xff; 64],
+};
+
+// Read a tick too early.
+const EARLY: Outcome<64> = Outcome::Read {
+    tick: 104,
+    place: 3,
+    bytes: [0xff; 64],
+};
+
+// Other bytes than those that were written.
+const OTHER: Outcome<64> = Outcome::Read {
+    tick: 105,
+    place: 3,
+    bytes: [0xfe; 64],
+};
+
 #[test]
-fn a_table_gets_its_verdict(rt: HostRuntime) -> Result<(), Fail> {
-    let stored = Outcome::Stored { tick: 15, place: 3 };
-    let read = Outcome::Read {
-        tick: 105,
-        place: 3,
-        bytes: [0xff; 64],
+fn a_table_gets_its_verdict(rt: HostRuntime) {
+    let verdicts = [
+        verdict_on(rt.alloc(), STORED, READ),
+        verdict_on(rt.alloc(), STORED, EARLY),
+        verdict_on(rt.alloc(), STORED, OTHER),
+    ];
+    let early = Verdict::No {
+        row: 2,
+        rule: Rule::Tick,
     };
-    let right = verdict_on(rt.alloc(), stored, read)?;
-    let early = Outcome::Read {
-        tick: 104,
-        place: 3,
-        bytes: [0xff; 64],
+    let other = Verdict::No {
+        row: 2,
+        rule: Rule::Serves,
     };
-    let early = verdict_on(rt.alloc(), stored, early)?;
-    let other = Outcome::Read {
-        tick: 105,
-        place: 3,
-        bytes: [0xfe; 64],
-    };
-    let other = verdict_on(rt.alloc(), stored, other)?;
-    assert_eq!(rt;
-        [right, early, other],
-        [
-            Verdict::Yes,
-            Verdict::No {
-                row: 2,
-                rule: Rule::Tick
-            },
-            Verdict::No {
-                row: 2,
-                rule: Rule::Serves
-            }
-        ]
-    );
-    Ok(())
+    compare(&rt, verdicts, [Ok(Verdict::Yes), Ok(early), Ok(other)]);
 }
 
 #[test]
-fn a_write_that_was_not_taken_serves_no_read(rt: HostRuntime) -> Result<(), Fail> {
-    let read = Outcome::Read {
-        tick: 105,
-        place: 3,
-        bytes: [0xff; 64],
+fn a_write_that_was_not_taken_serves_no_read(rt: HostRuntime) {
+    let verdicts = [
+        verdict_on(rt.alloc(), Outcome::Worn { tick: 0 }, READ),
+        verdict_on(rt.alloc(), Outcome::Cut { tick: 0 }, READ),
+    ];
+    let worn = Verdict::No {
+        row: 2,
+        rule: Rule::Serves,
     };
-    let worn = Outcome::Worn { tick: 0 };
-    let worn = verdict_on(rt.alloc(), worn, read)?;
-    let cut = Outcome::Cut { tick: 0 };
-    let cut = verdict_on(rt.alloc(), cut, read)?;
-    assert_eq!(rt;
-        [worn, cut],
-        [
-            Verdict::No {
-                row: 2,
-                rule: Rule::Serves
-            },
-            Verdict::No {
-                row: 1,
-                rule: Rule::Serves
-            }
-        ]
-    );
-    Ok(())
+    let cut = Verdict::No {
+        row: 1,
+        rule: Rule::Serves,
+    };
+    compare(&rt, verdicts, [Ok(worn), Ok(cut)]);
 }

@@ -1,6 +1,6 @@
 use Rattle.std.proofs.Common.{arith, lit<, ◌≤◌, length}
 use Rattle.std.{specs.Fmt.decimal, proofs.lemmas.Fmt.length-decimal-le, proofs.lemmas.Grind.common_steps}
-use Rattle.text_tests.proofs.sources.a_text_holds_what_was_pushed.Goals as goal
+use Rattle.text_tests.proofs.sources.pushed.Goals as goal
 
 pub push_number-requires : goal.push_number-requires
 push_number-requires c =
