@@ -59,8 +59,8 @@ module _ {n m : ℕ} (e : ℕ) (raw : RawShape) (seed : ℕ) where
         → TellsAlong e raw seed (later ++ row ∷ before) h told → WasMoment e raw seed (events_in (row ∷ before)) h told
     each_moment row [] before h told along = known row before h told along.7
     each_moment row (last ∷ later) before h told along =
-        went_on (events_in (row ∷ before)) along.0 h along.3 along.1 told (became along.5 ++ lines_of last along.7.module_)
-        (λ bank. ap (λ (h : ℕ → List (TimedEvent n m)). h bank) along.4) (along.8 ∙ append_assoc along.1 (became along.5) (lines_of last along.7.module_))
+        went_on (events_in (row ∷ before)) along.0 h along.3 along.1 told (became along.5 ++ lines_of last along.7.module_ along.7.array)
+        (λ bank. ap (λ (h : ℕ → List (TimedEvent n m)). h bank) along.4) (along.8 ∙ append_assoc along.1 (became along.5) (lines_of last along.7.module_ along.7.array))
         (each_moment row later before along.0 along.1 along.2)
 
 pub along_law : MomentLaw → AlongLaw

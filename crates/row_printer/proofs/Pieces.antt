@@ -26,6 +26,22 @@ pub pieces-snapshot : (t : Reserved) (a b counts d e f g h k : List ℕ) →
     ≡ appended t (a ++ codes "," ++ b ++ codes "," ++ counts ++ join_with_byte 44 (d ∷ e ∷ f ∷ g ∷ h ∷ k ∷ []) ++ codes "\n")
 pieces-snapshot t a b counts d e f g h k = simp append_assoc
 
+-- the line of a shape, number by number
+pub pieces-shape : (t : Reserved) (a b d e f g h : List ℕ) →
+    appended (appended (appended (appended (appended (appended (appended (appended t (codes ",shape,0,1,")) (a ++ codes " ")) (b ++ codes " ")) (d ++ codes " ")) (e ++ codes " ")) (f ++ codes " ")) (g ++ codes " ")) (h ++ codes "\n")
+    ≡ appended t (codes ",shape,0,1," ++ join_with_byte 32 (a ∷ b ∷ d ∷ e ∷ f ∷ g ∷ h ∷ []) ++ codes "\n")
+pieces-shape t a b d e f g h = simp append_assoc
+
+-- the header and that line
+pub pieces-head : (t : Reserved) (a b : List ℕ) → appended (appended t a) b ≡ appended t (a ++ b)
+pieces-head t a b = simp append_assoc
+
+-- the line of a look, whose counts of energy are one piece: its word, the tick and two commas, and numbers
+pub pieces-wear : (t : Reserved) (word a commas b d e f k : List ℕ) →
+    appended (appended (appended (appended (appended (appended (appended (appended t word) (a ++ commas)) (b ++ codes " ")) (d ++ codes " ")) (e ++ codes " ")) (f ++ codes " ")) k) (codes "\n")
+    ≡ appended t (word ++ a ++ commas ++ join_with_byte 32 (b ∷ d ∷ e ∷ f ∷ k ∷ []) ++ codes "\n")
+pieces-wear t word a commas b d e f k = simp append_assoc
+
 -- the line of a bank, whose mark has a word of its own
 pub pieces-bank : (t : Reserved) (a b d e word : List ℕ) →
     appended (appended (appended (appended (appended (appended (appended t (codes ",bank,")) (a ++ codes ",")) (b ++ codes ",")) (d ++ codes " ")) (e ++ codes " ")) word) (codes "\n")

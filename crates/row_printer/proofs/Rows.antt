@@ -5,8 +5,8 @@ use Rattle.pcm_io.{specs.Faults.Rose, specs.Giving.AppendsPrefix, specs.Reserved
 use Rattle.result_rows.specs.{Outcomes.op_of, Table.{HasRow, outcome_at, with_outcome}, declared.Outcome.Outcome, declared.Outcome.TheVariants.Unset}
 use Rattle.run_text.{specs.Counting.{counts_of, with_one}, specs.Gathering.Printed, specs.Laws.rows_counted, specs.declared.counts.Counts.Counts, proofs.Gathered.printed-more}
 use Rattle.row_printer.specs.{Printing.{Prints, stream_text, table_of}, Snapshots.{snapshot_line, snapshots_header, snapshots_text}}
-use Rattle.row_printer.specs.{Telling.{told_header, told_line, told_text, outcomes_in, recorded, TellsOnce}, declared.snapshot.Snapshot.Snapshot, declared.told.Shown.Shown}
-use Rattle.row_printer.specs.{declared.told.Shown.TheVariants.{Nothing, Rows, Snapshots}, declared.told.Told.Told, declared.told.Told.TheVariants.Became}
+use Rattle.row_printer.specs.{Telling.{told_head, told_line, told_text, outcomes_in, recorded, TellsOnce}, declared.snapshot.Snapshot.Snapshot, declared.told.Shown.Shown}
+use Rattle.row_printer.specs.{declared.told.Shown.TheVariants.{Nothing, Rows, Snapshots}, declared.told.Told.Told, declared.told.Told.TheVariants.Became, declared.told.ToldShape.ToldShape}
 use Rattle.row_printer.proofs.{Counted.{counts-more, counted-below}, Once.{once-more, open-untold}}
 use Rattle.row_printer.proofs.Telling.{told_text-more, snapshots_text-more, outcomes-more, recorded-more, length-recorded}
 
@@ -66,18 +66,18 @@ module _ (before : Option (List ℕ)) (first : ℕ) where
 
 module _ {n : ℕ} (told : List (Told n)) (line : Told n) (snapshots : List Snapshot) where
   -- the text of a stream that told one line more
-  pub rows-more : stream_text Rows told snapshots ++ told_line line ≡ stream_text Rows (told ++ line ∷ []) snapshots
-  rows-more =
-      append_assoc told_header (told_text told) (told_line line)
-      ∙ ap (λ (rest : List ℕ). told_header ++ rest) (sym (told_text-more told line))
+  pub rows-more : (shape : Option ToldShape) → stream_text (Rows shape) told snapshots ++ told_line line ≡ stream_text (Rows shape) (told ++ line ∷ []) snapshots
+  rows-more shape =
+      append_assoc (told_head n shape) (told_text told) (told_line line)
+      ∙ ap (λ (rest : List ℕ). told_head n shape ++ rest) (sym (told_text-more told line))
 
   -- once a write failed none is printed, and none where others are
   pub rows-broken : (before : Option (List ℕ)) (first : ℕ) (prints : Shown) (written : Option (List ℕ)) (faults : ℕ) (text : Reserved)
       → Prints before first written faults text (stream_text prints told snapshots) true
       → Prints before first written faults text (stream_text prints (told ++ line ∷ []) snapshots) true
   rows-broken before first Nothing written faults text h = h
-  rows-broken before first Rows written faults text h =
-      more-broken before first (stream_text Rows told snapshots) (stream_text Rows (told ++ line ∷ []) snapshots) (told_line line) rows-more written faults text h
+  rows-broken before first (Rows shape) written faults text h =
+      more-broken before first (stream_text (Rows shape) told snapshots) (stream_text (Rows shape) (told ++ line ∷ []) snapshots) (told_line line) (rows-more shape) written faults text h
   rows-broken before first (Snapshots every) written faults text h = h
 
 module _ {n : ℕ} (told : List (Told n)) (snapshots : List Snapshot) (one : Snapshot) where
@@ -91,7 +91,7 @@ module _ {n : ℕ} (told : List (Told n)) (snapshots : List Snapshot) (one : Sna
       → Prints before first written faults text (stream_text prints told snapshots) true
       → Prints before first written faults text (stream_text prints told (snapshots ++ one ∷ [])) true
   snapshots-broken before first Nothing written faults text h = h
-  snapshots-broken before first Rows written faults text h = h
+  snapshots-broken before first (Rows shape) written faults text h = h
   snapshots-broken before first (Snapshots every) written faults text h =
       more-broken before first (stream_text (Snapshots every) told snapshots) (stream_text (Snapshots every) told (snapshots ++ one ∷ [])) (snapshot_line one) (snapshots-more every) written faults text h
 

@@ -3,7 +3,7 @@ use Rattle.std.specs.Prelude.{◌≡◌, ℕ, ◌≤◌, Bool, true, false, List
 use Rattle.pcm_io.specs.{Faults.Rose, Giving.AppendsPrefix, Reserved.Reserved}
 use Rattle.result_rows.specs.{declared.Outcome.Outcome, declared.Outcome.TheVariants.Unset}
 use Rattle.run_text.specs.{Counting.counts_of, Gathering.Printed, declared.counts.Counts.Counts, declared.room.TheConstants.TEXT_ROOM}
-use Rattle.row_printer.specs.{Snapshots.{IsShown, snapshots_header, snapshots_text}, Telling.{told_header, told_text, outcomes_in, became, recorded, TellsOnce}}
+use Rattle.row_printer.specs.{Snapshots.{IsShown, snapshots_header, snapshots_text}, Telling.{told_head, told_text, outcomes_in, became, recorded, TellsOnce}}
 use Rattle.row_printer.specs.{declared.snapshot.Snapshot.Snapshot, declared.told.Shown.Shown, declared.told.Shown.TheVariants.{Nothing, Rows, Snapshots}, declared.told.Told.Told}
 
 -- its sink, the text that is still to be written, what it was told and the snapshots, in order, how many rows came, what is printed, and
@@ -25,10 +25,11 @@ table_of rows told = recorded (outcomes_in told) (replicate rows Unset)
 abbrev pub table_told : {n : ℕ} {S : Type 0} → Printing n S → List (Outcome n)
 table_told printer = table_of printer.rows printer.told
 
--- the whole text of a stream that told this, with these snapshots: a header and each line, or a header and each snapshot, or nothing
+-- the whole text of a stream that told this, with these snapshots: a header, the module's shape where that is told, and each line; or a header and
+-- each snapshot; or nothing
 abbrev pub stream_text : {n : ℕ} → Shown → List (Told n) → List Snapshot → List ℕ
 stream_text Nothing told snapshots = []
-stream_text Rows told snapshots = told_header ++ told_text told
+stream_text {n} (Rows shape) told snapshots = told_head n shape ++ told_text told
 stream_text (Snapshots every) told snapshots = snapshots_header ++ snapshots_text snapshots
 
 -- the whole text of what a printer was told

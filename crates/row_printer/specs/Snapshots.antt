@@ -20,7 +20,8 @@ counts_text counts =
 abbrev pub snapshot_line : Snapshot → List ℕ
 snapshot_line s =
     decimal s.rows ++ codes "," ++ decimal s.tick ++ codes "," ++ counts_text s.counts
-    ++ join_with_byte 44 (decimal s.retired ∷ decimal s.pulses ∷ decimal s.most ∷ decimal s.mean ∷ decimal s.pointers ∷ energy_text s.energy ∷ [])
+    ++ join_with_byte 44
+    (decimal s.retired ∷ decimal s.wear.pulses ∷ decimal s.wear.most ∷ decimal s.wear.mean ∷ decimal s.wear.pointers ∷ energy_text s.wear.energy ∷ [])
     ++ codes "\n"
 
 -- the lines, in the order in which the snapshots were taken
@@ -31,19 +32,19 @@ snapshots_text (one ∷ rest) = snapshot_line one ++ snapshots_text rest
 -- whether snapshots are shown
 abbrev pub takes_snapshots : Shown → Bool
 takes_snapshots Nothing = false
-takes_snapshots Rows = false
+takes_snapshots (Rows shape) = false
 takes_snapshots (Snapshots every) = true
 
 -- whether a snapshot stands behind the row of this number: where snapshots are shown, behind each that is a multiple
 abbrev pub is_due : Shown → ℕ → Bool
 is_due Nothing row = false
-is_due Rows row = false
+is_due (Rows shape) row = false
 is_due (Snapshots every) row = row % every == 0
 
 -- snapshots are shown of at least one row each
 abbrev pub IsShown : Shown → Type 0
 IsShown Nothing = Unit {0}
-IsShown Rows = Unit {0}
+IsShown (Rows shape) = Unit {0}
 IsShown (Snapshots every) = 1 ≤ every
 
 -- where one is due, a snapshot of which this holds comes behind those before, and else none

@@ -1,13 +1,28 @@
 -- The lines of a stream, which tells what became of each row of a trace as soon as that is known, each tick to which the banks came, and what
--- waited in each then, where that was asked.
-use Rattle.std.specs.{List.join_with_byte, Prelude.{◌≡◌, ℕ, ◌≤◌, ◌==◌, ◌||◌, Bool, false, IsTrue, is_some, List, [], ◌∷◌, ◌++◌, codes, decimal}}
+-- waited in each then, or how worn the array was, where that was asked.
+use Rattle.std.specs.{List.join_with_byte, Prelude.{◌≡◌, ℕ, ◌≤◌, ◌==◌, ◌||◌, Bool, false, IsTrue, is_some, List, [], ◌∷◌, ◌++◌, codes, decimal, Option, Some, None}}
+use Rattle.cell_rows.specs.declared.array.LineEnergy.{LineEnergy}
 use Rattle.result_rows.specs.{Outcomes.op_of, RowText.outcome_fields, Table.with_outcome, declared.Outcome.Outcome}
-use Rattle.row_printer.specs.{declared.told.Backlog.Backlog, declared.told.Mark.Mark, declared.told.Mark.TheVariants.{Going, Exhausted, Halted}}
-use Rattle.row_printer.specs.{declared.told.Told.Told, declared.told.Told.TheVariants.{Became, Bank, Settled}}
+use Rattle.row_printer.specs.{declared.told.ArrayWear.ArrayWear, declared.told.Backlog.Backlog, declared.told.Mark.Mark, declared.told.Mark.TheVariants.{Going, Exhausted, Halted}}
+use Rattle.row_printer.specs.{declared.told.Told.Told, declared.told.Told.TheVariants.{Became, Bank, Looked, Settled}, declared.told.ToldShape.ToldShape}
 
 -- the first line of a stream
 abbrev pub told_header : List ℕ
 told_header = codes "row,outcome,tick,place,data\n"
+
+-- the line of the shape of a module whose lines have n bytes, at tick 0: the version of the format, 1; banks, regions of a bank, lines of a region,
+-- spares of a bank, bytes of a line, the writes that the queue of a bank holds, and the reads that may wait there
+abbrev pub shape_row : ℕ → ToldShape → List ℕ
+shape_row n shape =
+    codes ",shape,0,1,"
+    ++ join_with_byte 32
+    (decimal shape.banks ∷ decimal shape.regions ∷ decimal shape.lines ∷ decimal shape.spares ∷ decimal n ∷ decimal shape.writes ∷ decimal shape.reads ∷ [])
+    ++ codes "\n"
+
+-- what stands in front of all lines: the header, and behind it the module's shape, where that is told
+abbrev pub told_head : ℕ → Option ToldShape → List ℕ
+told_head n None = told_header
+told_head n (Some shape) = told_header ++ shape_row n shape
 
 -- the line that answers a settle: a tick, and no number
 abbrev pub settled_row : ℕ → List ℕ
@@ -25,6 +40,18 @@ bank_row tick backlog =
     codes ",bank," ++ decimal tick ++ codes "," ++ decimal backlog.bank ++ codes "," ++ decimal backlog.writes ++ codes " " ++ decimal backlog.reads
     ++ codes " " ++ mark_word backlog.mark ++ codes "\n"
 
+-- how often was sensed, and how many cells were driven to 1 and to 0, with blanks between; no digit where nothing is told
+abbrev pub driven_text : Option LineEnergy → List ℕ
+driven_text None = codes "  "
+driven_text (Some energy) = join_with_byte 32 (decimal energy.senses ∷ decimal energy.set ∷ decimal energy.reset ∷ [])
+
+-- the line of a look at a tick: how worn the array is, in the numbers of a snapshot with blanks between
+abbrev pub wear_row : ℕ → ArrayWear → List ℕ
+wear_row tick wear =
+    codes ",wear," ++ decimal tick ++ codes ",,"
+    ++ join_with_byte 32 (decimal wear.pulses ∷ decimal wear.most ∷ decimal wear.mean ∷ decimal wear.pointers ∷ driven_text wear.energy ∷ [])
+    ++ codes "\n"
+
 module _ {n : ℕ} where
   -- the line of one outcome: the row's number, and what became of it
   abbrev pub told_row : ℕ → Outcome n → List ℕ
@@ -34,6 +61,7 @@ module _ {n : ℕ} where
   abbrev pub told_line : Told n → List ℕ
   told_line (Became row outcome) = told_row row outcome
   told_line (Bank tick backlog) = bank_row tick backlog
+  told_line (Looked tick wear) = wear_row tick wear
   told_line (Settled tick) = settled_row tick
 
   -- the lines, in the order in which they were told
@@ -46,6 +74,7 @@ module _ {n : ℕ} where
   outcomes_in [] = []
   outcomes_in (Became row outcome ∷ told) = (row, outcome) ∷ outcomes_in told
   outcomes_in (Bank tick backlog ∷ told) = outcomes_in told
+  outcomes_in (Looked tick wear ∷ told) = outcomes_in told
   outcomes_in (Settled tick ∷ told) = outcomes_in told
 
   -- outcomes as lines

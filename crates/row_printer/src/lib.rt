@@ -8,5 +8,5 @@ mod told;
 
 pub use printer::RowPrinter;
 pub use snapshot::{Snapshot, print_snapshot, snapshots_header};
-pub use text::{print_told, stream_header};
-pub use told::{Backlog, Mark, Shown, Told};
+pub use text::{print_head, print_told, stream_header};
+pub use told::{ArrayWear, Backlog, Mark, Shown, Told, ToldShape};

@@ -10,7 +10,7 @@ ghost use Rattle.result_rows.specs.Table.{HasRow, outcome_at, with_outcome};
 ghost use Rattle.run_text.specs.Counting.{counts_of};
 ghost use Rattle.run_text.specs.Shortfall.{any_short};
 ghost use Rattle.row_printer.specs.declared.told.Told.{Told as Line};
-ghost use Rattle.row_printer.specs.declared.told.Told.TheVariants.{Bank, Settled};
+ghost use Rattle.row_printer.specs.declared.told.Told.TheVariants.{Bank, Looked, Settled};
 ghost use Rattle.row_printer.specs.Telling.{outcomes_in, TellsOnce};
 ghost use Rattle.row_printer.specs.declared.snapshot.Snapshot.{Snapshot as Taken};
 ghost use Rattle.row_printer.specs.Snapshots.{IsShown, is_due, takes_snapshots};
@@ -18,8 +18,8 @@ ghost use Rattle.row_printer.specs.Refusing.{any_refused};
 ghost use Rattle.row_printer.specs.Printing.{IsPrinting, Prints, PrintsOn, stream_text, table_told, text_told};
 
 use crate::snapshot::{Snapshot, print_snapshot, snapshots_header};
-use crate::text::{print_told, stream_header};
-use crate::told::{Backlog, Shown, Told};
+use crate::text::{print_head, print_told};
+use crate::told::{ArrayWear, Backlog, Shown, Told};
 use ghost_list::GhostList;
 use pcm_io::{Sink, Text, WriteFault};
 use result_rows::Outcome;
@@ -83,7 +83,7 @@ impl<const B: usize, S: Sink + Drop> RowPrinter<B, S> {
     {
         RowPrinter {
             sink,
-            text: begun(prints, text),
+            text: begun::<B>(prints, text),
             told: GhostList::new(),
             snapshots: GhostList::new(),
             rows: 0,
@@ -140,6 +140,27 @@ impl<const B: usize, S: Sink + Drop> RowPrinter<B, S> {
             → IsPrinting S.written S.faults before first self.new }
     {
         let line = Told::Bank(tick, backlog);
+        self.broken = print_line(
+            &line,
+            self.prints,
+            self.broken,
+            &mut self.text,
+            &mut *self.sink,
+        );
+        self.told = self.told.and(&line);
+    }
+
+    /// Tells how worn the array is, where every bank has come to a tick.
+    pub fn looked(&mut self, tick: u64, wear: ArrayWear)
+        ensures rows { self.new.rows ≡ self.old.rows }
+        ensures told { self.new.told ≡ self.old.told ++ Looked tick wear ∷ [] }
+        ensures snapshots { self.new.snapshots ≡ self.old.snapshots }
+        ensures prints { self.new.prints ≡ self.old.prints }
+        ensures printing { (before : Option (List ℕ)) (first : ℕ)
+            → IsPrinting S.written S.faults before first self.old
+            → IsPrinting S.written S.faults before first self.new }
+    {
+        let line = Told::Looked(tick, wear);
         self.broken = print_line(
             &line,
             self.prints,
@@ -303,15 +324,16 @@ impl<const B: usize, S: Sink + Drop> Outcomes<B> for RowPrinter<B, S> {
     }
 }
 
-// A text with the header of what is printed.
-fn begun(prints: Shown, text: Text) -> Text
-    requires { text ≡ reserved TEXT_ROOM }
-    ensures { result ≡ appended text (stream_text {n = 0} prints [] []) }
+// A text with what stands in front of all that is printed.
+fn begun<const B: usize>(prints: Shown, text: Text) -> Text
+    requires few { B ≤ 128 }
+    requires text { text ≡ reserved TEXT_ROOM }
+    ensures { result ≡ appended text (stream_text {n = B} prints [] []) }
 {
     let mut text = text;
     match prints {
         Shown::Nothing => {}
-        Shown::Rows => text.push(stream_header()),
+        Shown::Rows(shape) => print_head::<B>(shape, &mut text),
         Shown::Snapshots(_) => text.push(snapshots_header()),
     }
     text
@@ -338,7 +360,7 @@ fn print_line<const B: usize, S: Sink>(
     if broken {
         return true;
     }
-    let Shown::Rows = prints else {
+    let Shown::Rows(_) = prints else {
         return false;
     };
     match make_room(text, sink) {

@@ -3,7 +3,7 @@ ghost use Rattle.std.specs.Prelude.{◌≡◌, ◌+◌, ◌≤◌};
 ghost use Rattle.pcm_io.specs.Reserved.{room_in, appended};
 ghost use Rattle.row_printer.specs.Snapshots.{counts_text, snapshot_line, snapshots_header as header_text};
 
-use cell_rows::LineEnergy;
+use crate::told::ArrayWear;
 use energy_report::push_energy;
 use pcm_io::Text;
 use run_text::Counts;
@@ -19,16 +19,8 @@ pub struct Snapshot {
     pub counts: Counts,
     /// The spares in use.
     pub retired: u32,
-    /// The pulses of all array lines.
-    pub pulses: u64,
-    /// The pulses of the array line that has most.
-    pub most: u64,
-    /// The pulses of all array lines, divided by the number of lines.
-    pub mean: u64,
-    /// The pointers that are active by the check cells of their lines.
-    pub pointers: u64,
-    /// How often all array lines were sensed and their cells driven, where the array tells it.
-    pub energy: Option<LineEnergy>,
+    /// How worn the array is.
+    pub wear: ArrayWear,
 }
 
 /// The first line of snapshots, with its LF.
@@ -48,11 +40,11 @@ pub fn print_snapshot(snapshot: &Snapshot, text: &mut Text)
     text.push_number_then(snapshot.tick, b",");
     push_counts(&snapshot.counts, text);
     text.push_number_then(snapshot.retired as u64, b",");
-    text.push_number_then(snapshot.pulses, b",");
-    text.push_number_then(snapshot.most, b",");
-    text.push_number_then(snapshot.mean, b",");
-    text.push_number_then(snapshot.pointers, b",");
-    push_energy(snapshot.energy, text);
+    text.push_number_then(snapshot.wear.pulses, b",");
+    text.push_number_then(snapshot.wear.most, b",");
+    text.push_number_then(snapshot.wear.mean, b",");
+    text.push_number_then(snapshot.wear.pointers, b",");
+    push_energy(snapshot.wear.energy, text);
     text.push(b"\n");
 }
 

@@ -1,9 +1,10 @@
 // The bytes of a stream's lines.
 ghost use Rattle.std.specs.Prelude.{◌≡◌, ◌+◌, ◌*◌, ◌≤◌, length};
 ghost use Rattle.pcm_io.specs.Reserved.{room_in, appended};
-ghost use Rattle.row_printer.specs.Telling.{bank_row, mark_word, settled_row, told_header, told_line, told_row};
+ghost use Rattle.row_printer.specs.Telling.{bank_row, driven_text, mark_word, settled_row, shape_row, told_head, told_header, told_line, told_row, wear_row};
 
-use crate::told::{Backlog, Mark, Told};
+use crate::told::{ArrayWear, Backlog, Mark, Told, ToldShape};
+use cell_rows::LineEnergy;
 use pcm_io::Text;
 use result_rows::{Outcome, print_outcome};
 
@@ -14,15 +15,46 @@ pub fn stream_header() -> &'static [u8]
     b"row,outcome,tick,place,data\n"
 }
 
+/// Appends what stands in front of all lines of a stream: its header, and behind that the module's shape, where it is given.
+pub fn print_head<const B: usize>(shape: Option<ToldShape>, text: &mut Text)
+    requires size { B ≤ 128 }
+    requires room { 128 ≤ room_in text.old }
+    ensures { text.new ≡ appended text.old (told_head B shape) }
+{
+    text.push(stream_header());
+    match shape {
+        None => {}
+        Some(told) => print_shape::<B>(&told, text),
+    }
+}
+
+// The shape of a module whose lines have B bytes.
+#[tactic(auto, using(pcm_io::proofs::DigitLemmas::ten_digits))]
+fn print_shape<const B: usize>(shape: &ToldShape, text: &mut Text)
+    requires size { B ≤ 128 }
+    requires room { 96 ≤ room_in text.old }
+    ensures { text.new ≡ appended text.old (shape_row B shape.now) }
+{
+    text.push(b",shape,0,1,");
+    text.push_number_then(shape.banks as u64, b" ");
+    text.push_number_then(shape.regions as u64, b" ");
+    text.push_number_then(shape.lines as u64, b" ");
+    text.push_number_then(shape.spares as u64, b" ");
+    text.push_number_then(B as u64, b" ");
+    text.push_number_then(shape.writes as u64, b" ");
+    text.push_number_then(shape.reads as u64, b"\n");
+}
+
 /// Appends a line of a stream: numbers in decimal, bytes in lower-case hexadecimal digits, LF at the end.
 pub fn print_told<const B: usize>(told: &Told<B>, text: &mut Text)
     requires size { B ≤ 128 }
-    requires room { 64 + 2 * B ≤ room_in text.old }
+    requires room { 320 ≤ room_in text.old }
     ensures { text.new ≡ appended text.old (told_line told.now) }
 {
     match told {
         Told::Became(row, outcome) => print_became(*row, outcome, text),
         Told::Bank(tick, backlog) => print_bank(*tick, backlog, text),
+        Told::Looked(tick, wear) => print_wear(*tick, wear, text),
         Told::Settled(tick) => print_settled(*tick, text),
     }
 }
@@ -62,6 +94,39 @@ fn word_of(mark: Mark) -> &'static [u8]
         Mark::Going => b"going",
         Mark::Exhausted => b"exhausted",
         Mark::Halted => b"halted",
+    }
+}
+
+// How worn the array is at a tick.
+#[tactic(auto, using(pcm_io::proofs::DigitLemmas::twenty_digits))]
+fn print_wear(tick: u64, wear: &ArrayWear, text: &mut Text)
+    requires { 320 ≤ room_in text.old }
+    ensures { text.new ≡ appended text.old (wear_row tick wear.now) }
+{
+    text.push(b",wear,");
+    text.push_number_then(tick, b",,");
+    text.push_number_then(wear.pulses, b" ");
+    text.push_number_then(wear.most, b" ");
+    text.push_number_then(wear.mean, b" ");
+    text.push_number_then(wear.pointers, b" ");
+    push_driven(wear.energy, text);
+    text.push(b"\n");
+}
+
+// How often was sensed, and how many cells were driven to 1 and to 0, blanks between them.
+#[tactic(auto, using(pcm_io::proofs::DigitLemmas::twenty_digits))]
+fn push_driven(energy: Option<LineEnergy>, text: &mut Text)
+    requires { 62 ≤ room_in text.old }
+    ensures after { text.new ≡ appended text.old (driven_text energy) }
+    ensures room { room_in text.old ≤ room_in text.new + 62 }
+{
+    match energy {
+        Some(energy) => {
+            text.push_number_then(energy.senses, b" ");
+            text.push_number_then(energy.set, b" ");
+            text.push_number(energy.reset);
+        }
+        None => text.push(b"  "),
     }
 }
 

@@ -1,5 +1,6 @@
 // What a stream tells.
 
+use cell_rows::LineEnergy;
 use result_rows::Outcome;
 
 /// What one line of a stream tells.
@@ -9,6 +10,8 @@ pub enum Told<const B: usize> {
     Became(u32, Outcome<B>),
     /// What waits in a bank, which has come to this tick.
     Bank(u64, Backlog),
+    /// How worn the array is, where every bank has come to this tick.
+    Looked(u64, ArrayWear),
     /// Every bank has come to this tick.
     Settled(u64),
 }
@@ -37,13 +40,46 @@ pub enum Mark {
     Halted,
 }
 
+/// How worn the array of a module is.
+#[derive(Clone, Copy, Debug, PartialEq, Eq)]
+pub struct ArrayWear {
+    /// The pulses of all array lines.
+    pub pulses: u64,
+    /// The pulses of the array line that has most.
+    pub most: u64,
+    /// The pulses of all array lines, divided by the number of lines.
+    pub mean: u64,
+    /// The pointers that are active by the check cells of their lines.
+    pub pointers: u64,
+    /// How often all array lines were sensed and their cells driven, where the array tells it.
+    pub energy: Option<LineEnergy>,
+}
+
+/// The shape of a module, as a stream may tell it.
+#[derive(Clone, Copy, Debug, Drop, PartialEq, Eq)]
+pub struct ToldShape {
+    /// How many banks the module has.
+    pub banks: u32,
+    /// How many regions each bank has.
+    pub regions: u32,
+    /// How many lines each region has.
+    pub lines: u32,
+    /// How many spare lines each bank has.
+    pub spares: u32,
+    /// How many writes the queue of a bank holds.
+    pub writes: u32,
+    /// How many reads may wait at a bank.
+    pub reads: u32,
+}
+
 /// What is printed of a stream as its rows are served.
 #[derive(Clone, Copy, Debug, Drop, PartialEq, Eq)]
 pub enum Shown {
     /// Nothing.
     Nothing,
-    /// A line for each outcome, for each settle, and for each bank where that is a query.
-    Rows,
+    /// A line for each outcome, for each settle, and for each bank where that is a query; in front of them one of the module's shape, where it
+    /// is given.
+    Rows(Option<ToldShape>),
     /// A snapshot each time that so many more rows came, at least one.
     Snapshots(u32),
 }

@@ -14,7 +14,7 @@ use Rattle.right_runs.specs.{Banks.bank_of_line, Ends.BankEnd}
 use Rattle.trace_rows.specs.Rows.{asks_of}
 use Rattle.row_printer.specs.{Printing.{Printing, PrintsOn, table_of, table_told}, Snapshots.{AddsDue, is_due}, Telling.{became, outcomes_in, recorded, TellsOnce}}
 use Rattle.row_printer.specs.{declared.snapshot.Snapshot.Snapshot, declared.told.Shown.Shown, declared.told.Told.Told, declared.told.Told.TheVariants.{Bank, Settled}}
-use Rattle.trace_stream.specs.{Asked.events_in, declared.asked.Asked.Asked, declared.asked.Asked.TheVariants.{Happens, Settle, Query}}
+use Rattle.trace_stream.specs.{Asked.events_in, declared.asked.Asked.Asked, declared.asked.Asked.TheVariants.{Happens, Settle, Query, Look}}
 use Rattle.row_printer.proofs.Telling.{outcomes-same}
 use Rattle.row_stream.specs.{Answering.{backlog_of, banks_told}, Looking.IsSnapshot, Serving.{ComeBehind, ComeByBanks, ComeInOrder, HasServed, IsServing, SnapsAlong, lines_of, told_before, told_so_far}}
 use Rattle.row_stream.proofs.{Growing.{none, longer, open-last, replays-longer}, Order.{ToldSo, come-by-banks, come-in-order}, Standing.ends-now}
@@ -24,8 +24,8 @@ banks-no-outcome : {n m e : ℕ} (module_ : ModuleState n m e) (tick banks : ℕ
 banks-no-outcome module_ tick zero = refl
 banks-no-outcome module_ tick (suc bank) = outcomes-same (banks_told module_ tick bank) (Bank tick (backlog_of bank (bank_at module_ bank)) ∷ []) refl ∙ banks-no-outcome module_ tick bank
 
-query-no-outcome : {n m e : ℕ} (module_ : ModuleState n m e) (tick : ℕ) → outcomes_in (lines_of (Query tick) module_) ≡ []
-query-no-outcome module_ tick = outcomes-same (banks_told module_ tick module_.shape.banks) (Settled tick ∷ []) refl ∙ banks-no-outcome module_ tick module_.shape.banks
+query-no-outcome : {n m e : ℕ} (module_ : ModuleState n m e) (array : ArrayState n m) (tick : ℕ) → outcomes_in (lines_of (Query tick) module_ array) ≡ []
+query-no-outcome module_ array tick = outcomes-same (banks_told module_ tick module_.shape.banks) (Settled tick ∷ []) refl ∙ banks-no-outcome module_ tick module_.shape.banks
 
 module _ {n m e : ℕ} (raw : RawShape) (seed : ℕ) (asked : List (Asked n)) (module_ : ModuleState n m e) (array : ArrayState n m) (places : ℕ) (told : List (Told n)) (shown : Shown) (snaps : List Snapshot)
     (had : IsServing raw seed asked module_ array places told shown snaps) where
@@ -115,7 +115,7 @@ module _ {n m e : ℕ} (raw : RawShape) (seed : ℕ) (asked : List (Asked n)) (m
       subst (B (length (event ∷ events_in asked)) event.tick) snapped (subst (λ at. B (length (event ∷ events_in asked)) at snaps1) tick (subst (λ k. B k new.tick snaps1) counted (adds ends.0 ends.1))) in (
         record {
           history = h;
-          along = (had.history, told, had.along, led.0, refl, outcomes, order, record { module_ = new; array = after; served = subst Q counted served; tick = tick; settled = tt }, tells ∙ sym (append-nil (told ++ became outcomes)));
+          along = (had.history, told, had.along, led.0, refl, outcomes, order, record { module_ = new; array = after; served = subst Q counted served; tick = tick; settled = tt; reached = tt }, tells ∙ sym (append-nil (told ++ became outcomes)));
           snaps = (snaps, subst A (sym shows) had.snaps, added);
           served = served;
           counted = counted;
@@ -151,7 +151,7 @@ module _ {n m e : ℕ} (raw : RawShape) (seed : ℕ) (asked : List (Asked n)) (m
 
   -- so is a settle
   pub serving-settle : (at : ℕ) (new : ModuleState n m e) (after : ArrayState n m) (places2 : ℕ) (told1 told2 : List (Told n)) (shown2 : Shown) (snaps2 : List Snapshot)
-      → places2 ≡ places → (outcomes : List (ℕ × Outcome n)) → told1 ≡ told ++ became outcomes → ComeByBanks raw seed (events_in asked) raw.banks outcomes → told2 ≡ told1 ++ lines_of (Settle at) new
+      → places2 ≡ places → (outcomes : List (ℕ × Outcome n)) → told1 ≡ told ++ became outcomes → ComeByBanks raw seed (events_in asked) raw.banks outcomes → told2 ≡ told1 ++ lines_of (Settle at) new after
       → new.shape ≡ module_.shape → new.seed ≡ module_.seed → new.finished ≡ false → new.tick ≡ at → ((bank : ℕ) → bank < new.shape.banks → IsSomeAnd (slice_get new.banks bank) (IsAtTick at))
       → at ≤ latest_tick → new.rows_below ≡ module_.rows_below
       → length (table_of places2 told1) ≡ length (table_of places told)
@@ -160,7 +160,7 @@ module _ {n m e : ℕ} (raw : RawShape) (seed : ℕ) (asked : List (Asked n)) (m
       → shown2 ≡ shown → snaps2 ≡ snaps
       → (has : IsServing raw seed (Settle at ∷ asked) new after places2 told2 shown2 snaps2) × (told_before (Settle at) asked (told_so_far has) ≡ told_so_far had)
   serving-settle at new after places2 told1 told2 shown2 snaps2 counts outcomes tells order tells2 shape seeded going tick settled in_time bound size leads shows snapped =
-      let lines : List (Told n) = lines_of (Settle at) new in
+      let lines : List (Told n) = lines_of (Settle at) new after in
       let now = settled-served new after places2 told1 told2 lines (refl) counts tells2 shape seeded going bound size leads in
       let h : ℕ → List (TimedEvent n m) = λ bank. now.0 bank ++ had.history bank in
       let counted : places2 ≡ length (events_in asked) = counts ∙ had.counted in
@@ -175,7 +175,7 @@ module _ {n m e : ℕ} (raw : RawShape) (seed : ℕ) (asked : List (Asked n)) (m
             refl,
             outcomes,
             order,
-            record { module_ = new; array = after; served = subst Q counted now.1; tick = tick; settled = settled },
+            record { module_ = new; array = after; served = subst Q counted now.1; tick = tick; settled = settled; reached = tt },
             tells2 ∙ ap (λ t. t ++ lines) tells,
           );
           snaps = (snaps, subst (λ s. SnapsAlong e raw seed s asked had.history told had.along snaps) (sym shows) had.snaps, snapped);
@@ -189,7 +189,7 @@ module _ {n m e : ℕ} (raw : RawShape) (seed : ℕ) (asked : List (Asked n)) (m
 
   -- so is a query
   pub serving-query : (at : ℕ) (new : ModuleState n m e) (after : ArrayState n m) (places2 : ℕ) (told1 told2 : List (Told n)) (shown2 : Shown) (snaps2 : List Snapshot)
-      → places2 ≡ places → (outcomes : List (ℕ × Outcome n)) → told1 ≡ told ++ became outcomes → ComeByBanks raw seed (events_in asked) raw.banks outcomes → told2 ≡ told1 ++ lines_of (Query at) new
+      → places2 ≡ places → (outcomes : List (ℕ × Outcome n)) → told1 ≡ told ++ became outcomes → ComeByBanks raw seed (events_in asked) raw.banks outcomes → told2 ≡ told1 ++ lines_of (Query at) new after
       → new.shape ≡ module_.shape → new.seed ≡ module_.seed → new.finished ≡ false → new.tick ≡ at → ((bank : ℕ) → bank < new.shape.banks → IsSomeAnd (slice_get new.banks bank) (IsAtTick at))
       → at ≤ latest_tick → new.rows_below ≡ module_.rows_below
       → length (table_of places2 told1) ≡ length (table_of places told)
@@ -198,8 +198,8 @@ module _ {n m e : ℕ} (raw : RawShape) (seed : ℕ) (asked : List (Asked n)) (m
       → shown2 ≡ shown → snaps2 ≡ snaps
       → (has : IsServing raw seed (Query at ∷ asked) new after places2 told2 shown2 snaps2) × (told_before (Query at) asked (told_so_far has) ≡ told_so_far had)
   serving-query at new after places2 told1 told2 shown2 snaps2 counts outcomes tells order tells2 shape seeded going tick settled in_time bound size leads shows snapped =
-      let lines : List (Told n) = lines_of (Query at) new in
-      let now = settled-served new after places2 told1 told2 lines (query-no-outcome new at) counts tells2 shape seeded going bound size leads in
+      let lines : List (Told n) = lines_of (Query at) new after in
+      let now = settled-served new after places2 told1 told2 lines (query-no-outcome new after at) counts tells2 shape seeded going bound size leads in
       let h : ℕ → List (TimedEvent n m) = λ bank. now.0 bank ++ had.history bank in
       let counted : places2 ≡ length (events_in asked) = counts ∙ had.counted in
       let Q : ℕ → Type 0 = λ k. HasServed raw seed (events_in asked) h new after (table_of k told2) in (
@@ -213,7 +213,45 @@ module _ {n m e : ℕ} (raw : RawShape) (seed : ℕ) (asked : List (Asked n)) (m
             refl,
             outcomes,
             order,
-            record { module_ = new; array = after; served = subst Q counted now.1; tick = tick; settled = settled },
+            record { module_ = new; array = after; served = subst Q counted now.1; tick = tick; settled = settled; reached = tt },
+            tells2 ∙ ap (λ t. t ++ lines) tells,
+          );
+          snaps = (snaps, subst (λ s. SnapsAlong e raw seed s asked had.history told had.along snaps) (sym shows) had.snaps, snapped);
+          served = now.1;
+          counted = counted;
+          tick = tick;
+          in_time = omega (arith, tick, in_time);
+        },
+        refl {a = told_so_far had},
+      )
+
+  -- so is a look
+  pub serving-look : (at : ℕ) (new : ModuleState n m e) (after : ArrayState n m) (places2 : ℕ) (told1 told2 : List (Told n)) (shown2 : Shown) (snaps2 : List Snapshot)
+      → places2 ≡ places → (outcomes : List (ℕ × Outcome n)) → told1 ≡ told ++ became outcomes → ComeByBanks raw seed (events_in asked) raw.banks outcomes → told2 ≡ told1 ++ lines_of (Look at) new after
+      → new.shape ≡ module_.shape → new.seed ≡ module_.seed → new.finished ≡ false → new.tick ≡ at → ((bank : ℕ) → bank < new.shape.banks → IsSomeAnd (slice_get new.banks bank) (IsAtTick at))
+      → at ≤ latest_tick → new.rows_below ≡ module_.rows_below
+      → length (table_of places2 told1) ≡ length (table_of places told)
+      → ((h : ℕ → List (TimedEvent n m)) (rows : List (AskedRow n)) → Replays h rows module_ array (table_of places told)
+      → (added : ℕ → List (TimedEvent n m)) × Replays (λ bank. added bank ++ h bank) rows new after (table_of places2 told1))
+      → shown2 ≡ shown → snaps2 ≡ snaps
+      → (has : IsServing raw seed (Look at ∷ asked) new after places2 told2 shown2 snaps2) × (told_before (Look at) asked (told_so_far has) ≡ told_so_far had)
+  serving-look at new after places2 told1 told2 shown2 snaps2 counts outcomes tells order tells2 shape seeded going tick settled in_time bound size leads shows snapped =
+      let lines : List (Told n) = lines_of (Look at) new after in
+      let now = settled-served new after places2 told1 told2 lines (refl) counts tells2 shape seeded going bound size leads in
+      let h : ℕ → List (TimedEvent n m) = λ bank. now.0 bank ++ had.history bank in
+      let counted : places2 ≡ length (events_in asked) = counts ∙ had.counted in
+      let Q : ℕ → Type 0 = λ k. HasServed raw seed (events_in asked) h new after (table_of k told2) in (
+        record {
+          history = h;
+          along = (
+            had.history,
+            told,
+            had.along,
+            now.0,
+            refl,
+            outcomes,
+            order,
+            record { module_ = new; array = after; served = subst Q counted now.1; tick = tick; settled = settled; reached = tt },
             tells2 ∙ ap (λ t. t ++ lines) tells,
           );
           snaps = (snaps, subst (λ s. SnapsAlong e raw seed s asked had.history told had.along snaps) (sym shows) had.snaps, snapped);

@@ -5,6 +5,9 @@ pub mod Each
 mod Order
 mod Backlogs
 mod Going
+mod Ticks
+mod Nowhere
+mod Turning
 pub mod Tables
 mod Ends
 mod Rows

@@ -10,7 +10,7 @@ use Rattle.module_shape.specs.declared.raw.RawShape.{RawShape}
 use Rattle.right_runs.specs.Banks.{bank_of_line}
 use Rattle.pcm_module.specs.{Asking.asked_for, Telling.{TellsOf, TellsByBanks, TellsInOrder, is_asked_of}}
 use Rattle.row_printer.specs.{Printing.{Printing, PrintsOn, table_told}, Telling.{became, outcomes_in, recorded, tells, TellsOnce}, declared.told.Told.Told}
-use Rattle.row_printer.{specs.declared.told.Told.TheVariants.{Became, Bank, Settled}, proofs.Once.{open-untold, stays-told}, proofs.Telling.length-recorded}
+use Rattle.row_printer.{specs.declared.told.Told.TheVariants.{Became, Bank, Looked, Settled}, proofs.Once.{open-untold, stays-told}, proofs.Telling.length-recorded}
 use Rattle.row_stream.{specs.Serving.{ComeByBanks, ComeBehind}, proofs.Each.some-at, proofs.Growing.none}
 
 in_rest : (a b : Bool) → b ≡ true → (a || b) ≡ true
@@ -23,6 +23,7 @@ module _ {n : ℕ} where
   outcomes-became [] (one ∷ outcomes) = ap (λ (rest : List (ℕ × Outcome n)). one ∷ rest) (outcomes-became [] outcomes)
   outcomes-became (Became row outcome ∷ told) outcomes = ap (λ (rest : List (ℕ × Outcome n)). (row, outcome) ∷ rest) (outcomes-became told outcomes)
   outcomes-became (Bank tick backlog ∷ told) outcomes = outcomes-became told outcomes
+  outcomes-became (Looked tick wear ∷ told) outcomes = outcomes-became told outcomes
   outcomes-became (Settled tick ∷ told) outcomes = outcomes-became told outcomes
 
   became-both : (xs ys : List (ℕ × Outcome n)) → became (xs ++ ys) ≡ became xs ++ became ys
@@ -110,7 +111,7 @@ pub record ToldSo {n : ℕ} (Are : List (ℕ × Outcome n) → Type 0) (old new 
   pub told : new ≡ old ++ became outcomes
   pub are : Are outcomes
 
-told-both : {n : ℕ} (old between new : List (Told n)) (xs ys : List (ℕ × Outcome n)) → between ≡ old ++ became xs → new ≡ between ++ became ys → new ≡ old ++ became (xs ++ ys)
+pub told-both : {n : ℕ} (old between new : List (Told n)) (xs ys : List (ℕ × Outcome n)) → between ≡ old ++ became xs → new ≡ between ++ became ys → new ≡ old ++ became (xs ++ ys)
 told-both {n = n} old between new xs ys first second =
     second ∙ ap (λ (t : List (Told n)). t ++ became ys) first ∙ append_assoc old (became xs) (became ys) ∙ ap (λ (t : List (Told n)). old ++ t) (sym (became-both xs ys))
 

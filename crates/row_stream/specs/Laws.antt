@@ -5,9 +5,9 @@ use Rattle.module_shape.specs.declared.raw.RawShape.{RawShape}
 use Rattle.right_runs.specs.{Ends.BankEnd, Runs.RunsRightTo}
 use Rattle.pcm_module.specs.State.{AreEndsOf, ModuleState}
 use Rattle.row_printer.specs.{Printing.table_of, Telling.{outcomes_in, tells, TellsOnce}, declared.told.Told.Told}
-use Rattle.trace_stream.specs.{Arrived.Comes, Asked.events_in, declared.asked.Asked.Asked, declared.asked.Asked.TheVariants.{Happens, Settle, Query}}
+use Rattle.trace_stream.specs.{Arrived.Comes, Asked.events_in, declared.asked.Asked.Asked, declared.asked.Asked.TheVariants.{Happens, Settle, Query, Look, Until}}
 use Rattle.trace_stream.specs.declared.fault.StreamFault.{StreamFault}
-use Rattle.row_stream.specs.{Ending.{HasEnded, rows_of}, Sourcing.{IsFaulty, IsRead}}
+use Rattle.row_stream.specs.{Asking.read_of, Ending.{HasEnded, rows_of}, Sourcing.{IsFaulty, IsRead}}
 
 -- an outcome of each of so many rows was told
 abbrev pub TellsEach : {n : ℕ} → ℕ → List (Told n) → Type 0
@@ -19,14 +19,16 @@ EachToldLaw =
     (n m e : ℕ) (raw : RawShape) (seed : ℕ) (off : Bool) (asked : List (Asked n)) (module_ : ModuleState n m e) (array : ArrayState n m) (places : ℕ) (told : List (Told n))
     → TellsOnce places (outcomes_in told) → HasEnded raw seed off asked module_ array places told → TellsEach places told
 
--- what rows ask that don't settle: a query does
+-- what rows ask that don't settle: a query does, a look, and a settle until
 abbrev pub without_settles : {n : ℕ} → List (Asked n) → List (Asked n)
 without_settles [] = []
 without_settles (Happens event ∷ before) = Happens event ∷ without_settles before
 without_settles (Settle tick ∷ before) = without_settles before
 without_settles (Query tick ∷ before) = without_settles before
+without_settles (Look tick ∷ before) = without_settles before
+without_settles (Until until ∷ before) = without_settles before
 
--- what a stream with settles and queries leaves is a right run of its rows without them
+-- what a stream with rows that settle leaves is a right run of its rows without them
 abbrev pub SettleLaw : Type 0
 SettleLaw =
     (n m e : ℕ) (raw : RawShape) (seed : ℕ) (off : Bool) (asked : List (Asked n)) (module_ : ModuleState n m e) (array : ArrayState n m) (places : ℕ) (told : List (Told n))
@@ -46,9 +48,9 @@ module _ {S : Type 0} (left : S → Option (List ℕ)) (taken faults : S → ℕ
       (read : IsRead lines left taken faults old new asked) (faulty : IsFaulty lines left taken faults old2 new2 asked2 e)
       → IsText read.bytes faulty.bytes faulty.ended → ⊥
 
-  -- both stop at the same fault, behind the same rows, where both stop at one
+  -- both stop at the same fault, behind the same rows as they were read, where both stop at one
   abbrev pub FaultyLaw : Type 0
   FaultyLaw =
       (n lines : ℕ) (old new old2 new2 : S) (asked asked2 : List (Asked n)) (e e2 : StreamFault)
       (one : IsFaulty lines left taken faults old new asked e) (other : IsFaulty lines left taken faults old2 new2 asked2 e2)
-      (text : List ℕ) → IsText text one.bytes one.ended → IsText text other.bytes other.ended → (e ≡ e2) × (asked ≡ asked2)
+      (text : List ℕ) → IsText text one.bytes one.ended → IsText text other.bytes other.ended → (e ≡ e2) × (read_of asked ≡ read_of asked2)

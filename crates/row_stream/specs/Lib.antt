@@ -1,6 +1,7 @@
 pub mod Asking
 pub mod Looking
 pub mod Answering
+pub mod Reaching
 pub mod Serving
 pub mod Refusing
 pub mod Sourcing

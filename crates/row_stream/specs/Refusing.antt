@@ -3,7 +3,7 @@ use Rattle.std.specs.Prelude.{◌≡◌, ◌⊎◌, ℕ, Bool, true, false, List
 use Rattle.module_shape.specs.declared.raw.RawShape.{RawShape}
 use Rattle.row_printer.specs.{Printing.table_of, Refusing.any_refused}
 use Rattle.trace_stream.specs.{Asked.events_in, declared.asked.Asked.Asked}
-use Rattle.row_stream.specs.{Serving.{Telling, told_before}, declared.stop.Stop.Stop, declared.stop.Stop.TheVariants.{Input, Endless, Output}}
+use Rattle.row_stream.specs.{Serving.{Telling, told_before}, declared.stop.Stop.Stop, declared.stop.Stop.TheVariants.{Input, Late, Endless, Output}}
 
 module _ {n m e : ℕ} {raw : RawShape} {seed : ℕ} where
   -- whether some row was refused, by what was told as rows were served that asked this
@@ -38,5 +38,6 @@ module _ {n m e : ℕ} {raw : RawShape} {seed : ℕ} where
   -- so it is where a stream isn't served to its end: as far as the next row was sought, or as the last one was written
   abbrev pub GoesAsFar : Stop → Bool → (asked : List (Asked n)) → Telling n m e raw seed asked → Type 0
   GoesAsFar (Input found) stops asked telling = MayGoOn stops asked telling
+  GoesAsFar (Late found) stops asked telling = MayGoOn stops asked telling
   GoesAsFar Endless stops asked telling = MayGoOn stops asked telling
   GoesAsFar Output stops asked telling = WentOn stops asked telling

@@ -8,9 +8,9 @@ use Rattle.module_shape.specs.declared.raw.RawShape.{RawShape}
 use Rattle.right_runs.specs.Banks.{bank_of_line}
 use Rattle.pcm_module.specs.{Asking.asked_for, Replaying.Replays, Settling.IsAtTick, State.ModuleState, Telling.is_asked_of}
 use Rattle.row_printer.specs.{Printing.{Printing, table_of}, Snapshots.{AddsDue, is_due}, Telling.became, declared.snapshot.Snapshot.Snapshot, declared.told.Shown.Shown}
-use Rattle.row_printer.specs.{declared.told.Told.Told, declared.told.Told.TheVariants.Settled}
-use Rattle.trace_stream.specs.{Asked.events_in, declared.asked.Asked.Asked, declared.asked.Asked.TheVariants.{Happens, Settle, Query}}
-use Rattle.row_stream.specs.{Answering.banks_told, Asking.tick_reached, Looking.IsSnapshot}
+use Rattle.row_printer.specs.{declared.told.Told.Told, declared.told.Told.TheVariants.{Looked, Settled}}
+use Rattle.trace_stream.specs.{Asked.events_in, declared.asked.Asked.Asked, declared.asked.Asked.TheVariants.{Happens, Settle, Query, Look, Until}}
+use Rattle.row_stream.specs.{Answering.banks_told, Asking.tick_reached, Looking.{IsSnapshot, wear_of}, Reaching.ReachesBy}
 
 module _ {n m e : ℕ} (raw : RawShape) (seed : ℕ) where
   -- a module of these sizes and this seed was handed these events, and histories of its banks, which asked for exactly these, led to it over the
@@ -37,40 +37,57 @@ module _ {n : ℕ} (raw : RawShape) (seed : ℕ) where
       (of_banks : List (ℕ × Outcome n)) × (own : List (ℕ × Outcome n)) × (outcomes ≡ of_banks ++ own) × ComeByBanks events raw.banks of_banks
       × All (λ one. one.0 ≡ row) own
 
+  -- outcomes that were told turn by turn, in each of so many turns bank by bank
+  abbrev pub ComeByTurns : List (Event n) → ℕ → List (ℕ × Outcome n) → Type 0
+  ComeByTurns events zero outcomes = outcomes ≡ []
+  ComeByTurns events (suc turns) outcomes =
+      (earlier : List (ℕ × Outcome n)) × (own : List (ℕ × Outcome n)) × (outcomes ≡ earlier ++ own) × ComeByTurns events turns earlier
+      × ComeByBanks events raw.banks own
+
   -- the outcomes that are told as a row is served, behind these events: bank by bank, and behind the banks at most that of the row itself, as
-  -- a cut's, which is asked of no bank alone
+  -- a cut's, which is asked of no bank alone; of a settle until turn by turn, one for each tick to which the banks came
   abbrev pub ComeInOrder : Asked n → List (Event n) → List (ℕ × Outcome n) → Type 0
   ComeInOrder (Happens event) before outcomes = ComeBehind (event ∷ before) (length before + 1) outcomes
   ComeInOrder (Settle tick) before outcomes = ComeByBanks before raw.banks outcomes
   ComeInOrder (Query tick) before outcomes = ComeByBanks before raw.banks outcomes
+  ComeInOrder (Look tick) before outcomes = ComeByBanks before raw.banks outcomes
+  ComeInOrder (Until until) before outcomes = (turns : ℕ) × ComeByTurns before turns outcomes
 
--- the lines that answer a row besides outcomes, at the module behind it: of a settle its tick, and of a query what waits in each bank before it
-abbrev pub lines_of : {n m e : ℕ} → Asked n → ModuleState n m e → List (Told n)
-lines_of (Happens event) module_ = []
-lines_of (Settle tick) module_ = Settled tick ∷ []
-lines_of (Query tick) module_ = banks_told module_ tick module_.shape.banks ++ Settled tick ∷ []
+-- the lines that answer a row besides outcomes, at the module and the array behind it: of a settle its tick, of a query what waits in each bank before
+-- it, of a look how worn the array is before it, and of a settle until the tick that it reached
+abbrev pub lines_of : {n m e : ℕ} → Asked n → ModuleState n m e → ArrayState n m → List (Told n)
+lines_of (Happens event) module_ array = []
+lines_of (Settle tick) module_ array = Settled tick ∷ []
+lines_of (Query tick) module_ array = banks_told module_ tick module_.shape.banks ++ Settled tick ∷ []
+lines_of {e = e} (Look tick) module_ array = Looked tick (wear_of e array) ∷ Settled tick ∷ []
+lines_of (Until until) module_ array = Settled until.reached ∷ []
 
--- whether a snapshot is due behind a row, of so many with a number: a settle and a query have none
+-- whether a snapshot is due behind a row, of so many with a number: a row that settles has none
 abbrev pub is_due_behind : {n : ℕ} → Shown → Asked n → ℕ → Bool
 is_due_behind shown (Happens event) rows = is_due shown rows
 is_due_behind shown (Settle tick) rows = false
 is_due_behind shown (Query tick) rows = false
+is_due_behind shown (Look tick) rows = false
+is_due_behind shown (Until until) rows = false
 
 module _ {n m : ℕ} (e : ℕ) (raw : RawShape) (seed : ℕ) where
-  -- behind a settle or a query each bank has come to its tick
+  -- behind a settle, a query or a look each bank has come to its tick, and behind a settle until to the one that it reached
   abbrev pub HasSettled : Asked n → ModuleState n m e → Type 0
   HasSettled (Happens event) module_ = Unit {0}
   HasSettled (Settle tick) module_ = (bank : ℕ) → bank < module_.shape.banks → IsSomeAnd (slice_get module_.banks bank) (IsAtTick tick)
   HasSettled (Query tick) module_ = (bank : ℕ) → bank < module_.shape.banks → IsSomeAnd (slice_get module_.banks bank) (IsAtTick tick)
+  HasSettled (Look tick) module_ = (bank : ℕ) → bank < module_.shape.banks → IsSomeAnd (slice_get module_.banks bank) (IsAtTick tick)
+  HasSettled (Until until) module_ = (bank : ℕ) → bank < module_.shape.banks → IsSomeAnd (slice_get module_.banks bank) (IsAtTick until.reached)
 
   -- of these rows exactly those outcomes were told which these histories gave so far, at the module and the array to which they led, which is
-  -- at the tick of the last row, and each of its banks where that settles
+  -- at the tick of the last row, and each of its banks where that settles, no sooner and no later than where that waits for a row
   pub record AreKnown (asked : Asked n) (before : List (Asked n)) (h : ℕ → List (TimedEvent n m)) (told : List (Told n)) : Type 0 where
     pub module_ : ModuleState n m e
     pub array : ArrayState n m
     pub served : HasServed raw seed (events_in (asked ∷ before)) h module_ array (table_of (length (events_in (asked ∷ before))) told)
     pub tick : module_.tick ≡ tick_reached (asked ∷ before)
     pub settled : HasSettled asked module_
+    pub reached : ReachesBy (tick_reached before) asked (table_of (length (events_in (asked ∷ before))) told)
 
   -- row by row: rows that asked this brought these histories about, and this was told of them. As each row was served, the outcomes were told that
   -- the histories gave then and hadn't given before, no others, bank by bank, and behind them the lines of the row, by the module as it then was
@@ -80,7 +97,7 @@ module _ {n m : ℕ} (e : ℕ) (raw : RawShape) (seed : ℕ) where
       (earlier : ℕ → List (TimedEvent n m)) × (said : List (Told n)) × TellsAlong before earlier said
       × (added : ℕ → List (TimedEvent n m)) × (h ≡ (λ bank. added bank ++ earlier bank))
       × (outcomes : List (ℕ × Outcome n)) × ComeInOrder raw seed asked (events_in before) outcomes
-      × (known : AreKnown asked before h told) × (told ≡ (said ++ became outcomes) ++ lines_of asked known.module_)
+      × (known : AreKnown asked before h told) × (told ≡ (said ++ became outcomes) ++ lines_of asked known.module_ known.array)
 
   -- the snapshots that were taken of them: each stands behind a row with a number where one is due, and says what that row left
   abbrev pub SnapsAlong : Shown → (asked : List (Asked n)) (h : ℕ → List (TimedEvent n m)) (told : List (Told n)) → TellsAlong asked h told → List Snapshot → Type 0

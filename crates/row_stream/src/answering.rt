@@ -1,12 +1,13 @@
-// What a query is answered.
+// What a query and a look are answered.
 ghost use Rattle.std.specs.Prelude.{◌≡◌, ℕ, ◌≤◌, List, ◌++◌, Option};
 ghost use Rattle.ecp_line.specs.Layout.{IsLayout};
 ghost use Rattle.trace_reader.specs.Rows.{latest_tick};
-ghost use Rattle.trace_stream.specs.declared.asked.Asked.TheVariants.{Query};
+ghost use Rattle.trace_stream.specs.declared.asked.Asked.TheVariants.{Look, Query};
 ghost use Rattle.row_printer.specs.Printing.{IsPrinting};
 ghost use Rattle.row_stream.specs.Answering.{backlog_of, banks_told, mark_of};
 ghost use Rattle.row_stream.specs.Serving.{MayServe, ServesOn};
 
+use crate::looking::wear_of;
 use bank_timing::clocked::Timed;
 use cell_wear::TellsCells;
 use pcm_io::Sink;
@@ -34,6 +35,31 @@ pub fn serve_query<
     pcm.settle(array, tick, out);
     out.tells_once();
     tell_banks(tick, pcm, out);
+    out.settled(tick);
+}
+
+/// Brings every bank to a tick, and tells, behind what became known by it, how worn the array is then, and the tick.
+pub fn serve_look<
+    const B: usize,
+    const M: usize,
+    const E: usize,
+    A: TellsCells<B, M>,
+    K: Sink + Drop,
+>(pcm: &mut Module<B, M, E>, array: &mut A, tick: u64, out: &mut RowPrinter<B, K>)
+    requires layout { IsLayout B M E }
+    requires rises { pcm.old.tick ≤ tick }
+    requires in_time { tick ≤ latest_tick }
+    requires serving { MayServe pcm.old (A.state array.old) out.old }
+    ensures serves { ServesOn (λ before. Look tick) pcm.old pcm.new (A.state array.old)
+        (A.state array.new) out.old out.new }
+    ensures printing { (before : Option (List ℕ)) (first : ℕ)
+        → IsPrinting K.written K.faults before first out.old
+        → IsPrinting K.written K.faults before first out.new }
+{
+    pcm.settle(array, tick, out);
+    out.tells_once();
+    let wear = wear_of::<B, M, E, A>(array);
+    out.looked(tick, wear);
     out.settled(tick);
 }
 

@@ -9,6 +9,7 @@ mod looking;
 mod reading;
 mod serving;
 mod stop;
+mod waiting;
 
 pub use drawing::serve_drawn;
 pub use ending::end;
@@ -16,6 +17,6 @@ pub use laws::{
     a_text_has_one_first_fault, a_text_that_is_read_has_no_fault, each_row_is_told,
     settles_are_no_rows,
 };
-pub use reading::{feed, serve_source};
+pub use reading::serve_source;
 pub use serving::{serve, serve_event};
 pub use stop::{Behind, Stop, behind_asked};

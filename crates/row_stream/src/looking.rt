@@ -3,7 +3,7 @@ ghost use Rattle.std.specs.Prelude.{◌≡◌, ℕ, List, Option, true};
 ghost use Rattle.ecp_line.specs.Layout.{IsLayout};
 ghost use Rattle.row_printer.specs.Printing.{IsPrinting};
 ghost use Rattle.row_printer.specs.Snapshots.{is_due, takes_snapshots};
-ghost use Rattle.row_stream.specs.Looking.{Looks, mean_of, most_pulses, pointers_of_first};
+ghost use Rattle.row_stream.specs.Looking.{Looks, mean_of, most_pulses, pointers_of_first, wear_of};
 
 use cell_rows::CellArray;
 use cell_wear::TellsCells;
@@ -11,7 +11,7 @@ use ecp_line::Ecp;
 use energy_report::sum_energy;
 use pcm_io::Sink;
 use pcm_module::Module;
-use row_printer::{RowPrinter, Snapshot};
+use row_printer::{ArrayWear, RowPrinter, Snapshot};
 use run_text::sum_pulses;
 
 // The pulses of the array line that has most.
@@ -44,6 +44,23 @@ fn mean(pulses: u64, lines: u32) -> u64
     if lines == 0 { 0 } else { pulses / lines as u64 }
 }
 
+/// How worn an array is.
+pub(crate) fn wear_of<const B: usize, const M: usize, const E: usize, A: TellsCells<B, M>>(
+    array: &A,
+) -> ArrayWear
+    requires layout { IsLayout B M E }
+    ensures { result ≡ wear_of E (A.state array.now) }
+{
+    let pulses = sum_pulses(array);
+    ArrayWear {
+        pulses,
+        most: most(array),
+        mean: mean(pulses, array.lines()),
+        pointers: pointers::<B, M, E, A>(array),
+        energy: sum_energy(array, 0, array.lines()),
+    }
+}
+
 // Takes a snapshot of what now stands, with this tick.
 fn show<const B: usize, const M: usize, const E: usize, A: TellsCells<B, M>, K: Sink + Drop>(
     tick: u64,
@@ -58,17 +75,12 @@ fn show<const B: usize, const M: usize, const E: usize, A: TellsCells<B, M>, K: 
         → IsPrinting K.written K.faults before first out.old
         → IsPrinting K.written K.faults before first out.new }
 {
-    let pulses = sum_pulses(array);
     let snapshot = Snapshot {
         rows: out.rows(),
         tick,
         counts: out.counts(),
         retired: pcm.retired(),
-        pulses,
-        most: most(array),
-        mean: mean(pulses, array.lines()),
-        pointers: pointers::<B, M, E, A>(array),
-        energy: sum_energy(array, 0, array.lines()),
+        wear: wear_of::<B, M, E, A>(array),
     };
     out.snapshot(&snapshot);
 }

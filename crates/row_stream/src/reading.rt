@@ -1,56 +1,27 @@
 // The rows that a source gives.
-ghost use Rattle.std.specs.Prelude.{◌≡◌, ◌≢◌, ◌⊎◌, ◌<◌, ◌≤◌, ◌+◌, ℕ, List, [], ◌∷◌, Option, true, Ok, Err, IfOk, IfErr, IfNone, OnOk, OnErr};
+ghost use Rattle.std.specs.Prelude.{◌≡◌, ◌≢◌, ◌⊎◌, ◌<◌, ◌≤◌, ◌+◌, ℕ, List, [], ◌∷◌, Option, true, Ok, Err, IfOk, IfErr, IfNone};
 ghost use Rattle.std.specs.Io.KnownBytes.{Appends};
 ghost use Rattle.pcm_io.specs.Faults.{Rose};
 ghost use Rattle.pcm_io.specs.Giving.{AppendsPrefix};
 ghost use Rattle.ecp_line.specs.Layout.{IsLayout};
 ghost use Rattle.module_shape.specs.declared.raw.RawShape.{RawShape};
 ghost use Rattle.module_shape.specs.Limits.{total_of};
-ghost use Rattle.trace_stream.specs.Asked.{IsAskedFor};
 ghost use Rattle.trace_stream.specs.declared.asked.Asked.{Asked as StreamAsked};
 ghost use Rattle.row_printer.specs.Printing.{IsPrinting, text_told};
 ghost use Rattle.row_stream.specs.Asking.{behind_of};
 ghost use Rattle.row_stream.specs.Refusing.{EndsBehind, GoesAsFar};
-ghost use Rattle.row_stream.specs.Serving.{IsServing, MayServe, ServesOn, told_so_far};
-ghost use Rattle.row_stream.specs.Sourcing.{GivesNext, HasNoNext, HasStopped, IsRead, IsReadTo};
+ghost use Rattle.row_stream.specs.Serving.{IsServing, told_so_far};
+ghost use Rattle.row_stream.specs.Sourcing.{GivesNext, HasNoNext, HasStopped, IsRead, IsReadTo, StopsLate};
 
 use crate::serving::serve;
 use crate::stop::{Behind, Stop, behind_asked, stops_behind};
 use cell_wear::TellsCells;
-use pcm_io::{Sink, Source, WriteFault};
+use pcm_io::{Sink, Source};
 use pcm_module::Module;
 use row_printer::RowPrinter;
 use std::alloc::Global;
+use trace_reader::{Kind, TraceFault};
 use trace_stream::{Asked, TraceStream};
-
-/// Serves one row of a stream, and writes what became known by it: unless a write fails, exactly the outcomes that the histories of the banks
-/// gave so far were told, and the output has received them, whatever it had received before.
-pub fn feed<const B: usize, const M: usize, const E: usize, A: TellsCells<B, M>, K: Sink + Drop>(
-    pcm: &mut Module<B, M, E>,
-    array: &mut A,
-    asked: &Asked<B>,
-    out: &mut RowPrinter<B, K>,
-) -> Result<(), WriteFault>
-    requires layout { IsLayout B M E }
-    requires asked { IsAskedFor (total_of pcm.old.shape) pcm.old.tick asked.now }
-    requires few { out.old.rows < 4294967295 }
-    requires serving { MayServe pcm.old (A.state array.old) out.old }
-    ensures serves { ServesOn (λ before. asked.now) pcm.old pcm.new (A.state array.old)
-        (A.state array.new) out.old out.new }
-    ensures printing { (before : Option (List ℕ)) (first : ℕ)
-        → IsPrinting K.written K.faults before first out.old
-        → IsPrinting K.written K.faults before first out.new }
-    ensures written { OnOk result ((before : Option (List ℕ)) (first : ℕ)
-        → IsPrinting K.written K.faults before first out.old
-        → Appends before (K.written out.new.sink) (text_told out.new)) }
-    ensures part { OnErr result ((before : Option (List ℕ)) (first : ℕ)
-        → IsPrinting K.written K.faults before first out.old
-        → AppendsPrefix before (K.written out.new.sink) (text_told out.new)
-        × Rose first (K.faults out.new.sink)) }
-{
-    serve(pcm, array, asked, out);
-    out.flush()
-}
 
 // The next row: the source is asked for it only where it hasn't come whole, and once all that is known is written.
 fn next_row<const B: usize, S: Source, K: Sink + Drop>(
@@ -161,6 +132,9 @@ pub fn serve_source<
     'rows: for _ in 0..u64::MAX {
         match next_row(&mut stream, source, out) {
             Ok(Some(asked)) => {
+                if asked.named() < pcm.tick() {
+                    return Err(stop_late(out));
+                }
                 serve(pcm, array, &asked, out);
                 behind = behind_asked(&asked);
                 if stops_behind(stops, out) {
@@ -178,4 +152,32 @@ pub fn serve_source<
         return Err(Stop::Output);
     };
     Err(Stop::Endless)
+}
+
+// Why a stream stops at a row that comes too late: all that is known is written before.
+fn stop_late<const B: usize, K: Sink + Drop>(out: &mut RowPrinter<B, K>) -> Stop
+    requires few { out.old.rows < 4294967295 }
+    ensures stops { StopsLate out.new.rows result }
+    ensures written { result ≢ Stop.Output → (before : Option (List ℕ)) (first : ℕ)
+        → IsPrinting K.written K.faults before first out.old
+        → Appends before (K.written out.new.sink) (text_told out.new) }
+    ensures part { result ≡ Stop.Output → (before : Option (List ℕ)) (first : ℕ)
+        → IsPrinting K.written K.faults before first out.old
+        → AppendsPrefix before (K.written out.new.sink) (text_told out.new)
+        × Rose first (K.faults out.new.sink) }
+    ensures rows { out.new.rows ≡ out.old.rows }
+    ensures told { out.new.told ≡ out.old.told }
+    ensures snapshots { out.new.snapshots ≡ out.old.snapshots }
+    ensures prints { out.new.prints ≡ out.old.prints }
+    ensures printing { (before : Option (List ℕ)) (first : ℕ)
+        → IsPrinting K.written K.faults before first out.old
+        → IsPrinting K.written K.faults before first out.new }
+{
+    let Ok(()) = out.flush() else {
+        return Stop::Output;
+    };
+    Stop::Late(TraceFault {
+        row: out.rows() + 1,
+        kind: Kind::Order,
+    })
 }

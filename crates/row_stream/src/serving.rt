@@ -5,14 +5,15 @@ ghost use Rattle.module_shape.specs.declared.raw.RawShape.{RawShape};
 ghost use Rattle.module_shape.specs.Limits.{total_of};
 ghost use Rattle.trace_reader.specs.Events.{IsEventFor};
 ghost use Rattle.trace_reader.specs.Rows.{latest_tick};
-ghost use Rattle.trace_stream.specs.Asked.{IsAskedFor};
+ghost use Rattle.trace_stream.specs.Asked.{IsAskedFor, NamesRow, reached_at};
 ghost use Rattle.trace_stream.specs.declared.asked.Asked.{Asked as StreamAsked};
 ghost use Rattle.trace_stream.specs.declared.asked.Asked.TheVariants.{Happens, Settle};
 ghost use Rattle.row_printer.specs.Printing.{IsPrinting};
 ghost use Rattle.row_stream.specs.Serving.{MayServe, ServesOn};
 
-use crate::answering::serve_query;
+use crate::answering::{serve_look, serve_query};
 use crate::looking::show_due;
+use crate::waiting::serve_until;
 use cell_wear::TellsCells;
 use pcm_io::Sink;
 use pcm_module::Module;
@@ -22,7 +23,7 @@ use trace_stream::Asked;
 
 /// Serves one row of a stream, and tells what became known by it: of an event what its bank did before it and what the event itself
 /// decides, at a power cut what all banks did, and at a settle too, behind which its tick is told, and at a query, behind which what waits in
-/// each bank is told, and its tick. An event has the next number.
+/// each bank is told, and its tick, at a look how worn the array is, and at a settle until, which says how far it went. An event has the next number.
 pub fn serve<const B: usize, const M: usize, const E: usize, A: TellsCells<B, M>, K: Sink + Drop>(
     pcm: &mut Module<B, M, E>,
     array: &mut A,
@@ -31,10 +32,11 @@ pub fn serve<const B: usize, const M: usize, const E: usize, A: TellsCells<B, M>
 )
     requires layout { IsLayout B M E }
     requires asked { IsAskedFor (total_of pcm.old.shape) pcm.old.tick asked.now }
+    requires named { NamesRow out.old.rows asked.now }
     requires few { out.old.rows < 4294967295 }
     requires serving { MayServe pcm.old (A.state array.old) out.old }
-    ensures serves { ServesOn (λ before. asked.now) pcm.old pcm.new (A.state array.old)
-        (A.state array.new) out.old out.new }
+    ensures serves { ServesOn (λ before. reached_at pcm.new.tick asked.now) pcm.old pcm.new
+        (A.state array.old) (A.state array.new) out.old out.new }
     ensures printing { (before : Option (List ℕ)) (first : ℕ)
         → IsPrinting K.written K.faults before first out.old
         → IsPrinting K.written K.faults before first out.new }
@@ -43,6 +45,8 @@ pub fn serve<const B: usize, const M: usize, const E: usize, A: TellsCells<B, M>
         Asked::Happens(event) => serve_event(pcm, array, event, out),
         Asked::Settle(tick) => serve_settle(pcm, array, *tick, out),
         Asked::Query(tick) => serve_query(pcm, array, *tick, out),
+        Asked::Look(tick) => serve_look(pcm, array, *tick, out),
+        Asked::Until(until) => serve_until(pcm, array, until, out),
     }
 }
 

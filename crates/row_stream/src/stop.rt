@@ -7,7 +7,7 @@ ghost use Rattle.row_stream.specs.Asking.{behind_of, behind_op};
 
 use pcm_io::Sink;
 use row_printer::RowPrinter;
-use trace_reader::EventOp;
+use trace_reader::{EventOp, TraceFault};
 use trace_stream::{Asked, StreamFault};
 
 /// Why a stream isn't served to its end.
@@ -15,6 +15,8 @@ use trace_stream::{Asked, StreamFault};
 pub enum Stop {
     /// No further row could be had.
     Input(StreamFault),
+    /// A row names a tick below the one that a settle until reached.
+    Late(TraceFault),
     /// Rows, settles and queries came that can't be counted: 2 to the power 64 less one of them.
     Endless,
     /// The output couldn't be written.
@@ -38,7 +40,7 @@ pub fn behind_asked<const B: usize>(asked: &Asked<B>) -> Behind
 {
     match asked {
         Asked::Happens(event) => behind_event(&event.op),
-        Asked::Settle(_) | Asked::Query(_) => Behind::Going,
+        Asked::Settle(_) | Asked::Query(_) | Asked::Look(_) | Asked::Until(_) => Behind::Going,
     }
 }
 

@@ -16,7 +16,7 @@ rows-asked n lines rows before [] few for has fits = refl
 rows-asked n lines rows before (event ∷ rest) few for has fits =
     let allowed : (rows == most_streamed) ≡ false = grind (arith, nat_tests) in
     let rest_fits : rows + 1 + length rest ≤ most_streamed = omega arith in
-    rw (allowed, asked-ok n lines before (event_fields event) event (event-read n lines before event few for.0 has.0), rows-asked n lines (rows + 1) event.tick rest few for.1 has.1 rest_fits) refl
+    rw (allowed, asked-ok n lines rows before (event_fields event) event (event-read n lines before event few for.0 has.0), rows-asked n lines (rows + 1) event.tick rest few for.1 has.1 rest_fits) refl
 
 after-header : (n lines : ℕ) (rows : List (List (List ℕ))) → stream_records n lines (header_fields ∷ rows) ≡ stream_rows n lines 0 0 rows
 unfolding stream_records is_header field_at

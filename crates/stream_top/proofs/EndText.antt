@@ -15,7 +15,7 @@ use Rattle.image_text.{specs.Sensing.SensesRows, proofs.Sensing.senses-none}
 use Rattle.run_text.specs.{Pulses.pulses_in_all, SummaryText.summary_text, declared.counts.Counts.Counts}
 use Rattle.pcm_module.specs.{Roles.spares_used, State.{AreEndsOf, ModuleState}}
 use Rattle.module_prints.specs.{Images.kept_in, WearReports.{HaveRoles, IsWearReport}}
-use Rattle.stream_words.specs.{declared.job.StreamPrint.StreamPrint, declared.job.StreamPrint.TheVariants.{Rows, Summary, Wear, Lines, Energy, Image, Snapshots}}
+use Rattle.stream_words.specs.{declared.job.StreamPrint.StreamPrint, declared.job.StreamPrint.TheVariants.{Rows, Summary, Wear, Lines, Energy, Image, Snapshots}, declared.job.Tell.Tell}
 use Rattle.stream_top.specs.Leaving.{IsClosing, senses_for}
 
 module _ {n m e : ℕ} (module_ : ModuleState n m e) (array : ArrayState n m) (cells : ℕ → LineCells) (rows : ℕ) (counts : Counts) (print : StreamPrint) (P : List ℕ → Type 0) where
@@ -28,8 +28,8 @@ module _ {n m e : ℕ} (module_ : ModuleState n m e) (array : ArrayState n m) (c
   abbrev Closes : (ℕ → BankEnd) → List ℕ → StreamPrint → Type 0
   Closes ends whole other = IsClosing module_.shape module_.seed rows counts ends array cells (saved_of module_.shape module_.seed (kept_in module_) array) other whole
 
-  pub nothing-closes : print ≡ Rows → P [] → PrintsOf
-  nothing-closes is written = λ ends are roles. ([], subst (Closes ends []) (sym is) refl, written)
+  pub nothing-closes : (tell : Tell) → print ≡ Rows tell → P [] → PrintsOf
+  nothing-closes tell is written = λ ends are roles. ([], subst (Closes ends []) (sym is) refl, written)
 
   pub snapshots-close : (every : ℕ) → print ≡ Snapshots every → P [] → PrintsOf
   snapshots-close every is written = λ ends are roles. ([], subst (Closes ends []) (sym is) refl, written)

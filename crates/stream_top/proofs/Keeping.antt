@@ -34,7 +34,7 @@ module _ {n m : ℕ} (raw : RawShape) (seed rows places : ℕ) (counts all : Cou
   -- it is what is written of the array as it is now
   closing-now : (print : StreamPrint) (text : List ℕ) → rows ≡ places → counts ≡ all → (print ≢ Image → array ≡ before) → (print ≢ Image → cells_now ≡ cells)
       → IsClosing raw seed rows counts ends before cells saved print text → IsClosing raw seed places all ends array cells_now saved print text
-  closing-now Rows text same counted still told is = is
+  closing-now (Rows tell) text same counted still told is = is
   closing-now Summary text same counted still told is =
       let stood : array ≡ before = still (λ p. cc p) in
       rw (← same, ← counted, stood) is
@@ -54,7 +54,7 @@ module _ {n m : ℕ} (raw : RawShape) (seed rows places : ℕ) (counts all : Cou
 -- there is such a text, whatever is asked for
 some-closing : {n m : ℕ} (raw : RawShape) (seed rows : ℕ) (counts : Counts) (ends : ℕ → BankEnd) (array : ArrayState n m) (cells : ℕ → LineCells) (saved : Saved n m) (print : StreamPrint)
     → IsShape raw → HaveRoles raw seed ends → array.lines ≡ raw.banks * array_lines_of (module_of raw) → (text : List ℕ) × IsClosing raw seed rows counts ends array cells saved print text
-some-closing raw seed rows counts ends array cells saved Rows is roles size = ([], refl)
+some-closing raw seed rows counts ends array cells saved (Rows tell) is roles size = ([], refl)
 some-closing raw seed rows counts ends array cells saved Summary is roles size = (summary_text rows counts (spares_used raw ends) (pulses_in_all array), refl)
 some-closing raw seed rows counts ends array cells saved Wear is roles size =
     let report = worn-goes_on raw seed ends array is roles 0 [] size (omega arith) (worn-none raw seed ends array) in
@@ -67,16 +67,16 @@ some-closing raw seed rows counts ends array cells saved Image is roles size = (
 some-closing raw seed rows counts ends array cells saved (Snapshots every) is roles size = ([], refl)
 
 -- before an image nothing is printed
-nothing-before : {n : ℕ} (print : StreamPrint) (told : List (Told n)) (snaps : List Snapshot) → print ≡ Image → stream_text (shown_by print) told snaps ≡ []
-nothing-before Rows told snaps is = absurd (cc is)
-nothing-before Summary told snaps is = absurd (cc is)
-nothing-before Wear told snaps is = absurd (cc is)
-nothing-before Lines told snaps is = absurd (cc is)
-nothing-before Energy told snaps is = absurd (cc is)
-nothing-before Image told snaps is = refl
-nothing-before (Snapshots every) told snaps is = absurd (cc is)
+nothing-before : {n : ℕ} (raw : RawShape) (print : StreamPrint) (told : List (Told n)) (snaps : List Snapshot) → print ≡ Image → stream_text (shown_by raw print) told snaps ≡ []
+nothing-before raw (Rows tell) told snaps is = absurd (cc is)
+nothing-before raw Summary told snaps is = absurd (cc is)
+nothing-before raw Wear told snaps is = absurd (cc is)
+nothing-before raw Lines told snaps is = absurd (cc is)
+nothing-before raw Energy told snaps is = absurd (cc is)
+nothing-before raw Image told snaps is = refl
+nothing-before raw (Snapshots every) told snaps is = absurd (cc is)
 
-module _ {S : Type 0} (n m e : ℕ) (job : StreamJob) (source : LentSource S) (module_ : ModuleState n m e) (before : ArrayState n m) (places : ℕ) (told : List (Told n)) (prints : Shown) (snaps : List Snapshot) (alike : prints ≡ shown_by job.print)
+module _ {S : Type 0} (n m e : ℕ) (job : StreamJob) (source : LentSource S) (module_ : ModuleState n m e) (before : ArrayState n m) (places : ℕ) (told : List (Told n)) (prints : Shown) (snaps : List Snapshot) (alike : prints ≡ shown_by job.shape job.print)
     (once : TellsOnce places (outcomes_in told)) where
   part-of : before.wear ≡ Some job.wear → (asked : List (Asked n)) → IsServing job.shape job.seed asked module_ before places told prints snaps → IsServedInPart n m e job source before asked told
   part-of wear asked serving = record {
@@ -149,13 +149,13 @@ module _ {S : Type 0} (n m e : ℕ) (job : StreamJob) (source : LentSource S) (m
     unfolding served-of
     stream-whole out mid gets rows counts same counted writes all done is =
         let text = closes-of rows counts same counted (λ whole. Appends mid out.written_now whole) writes in
-        let first : Appends out.written_before mid (stream_text (shown_by job.print) told snaps) = subst (λ (p : Shown). Appends out.written_before mid (stream_text p told snaps)) alike gets in
+        let first : Appends out.written_before mid (stream_text (shown_by job.shape job.print) told snaps) = subst (λ (p : Shown). Appends out.written_before mid (stream_text p told snaps)) alike gets in
         record {
           told = told;
           served = served-of;
           text = text.0;
           closes = text.1;
-          written = Appends-Appends out.written_before mid out.written_now (stream_text (shown_by job.print) told snaps) text.0 first text.2;
+          written = Appends-Appends out.written_before mid out.written_now (stream_text (shown_by job.shape job.print) told snaps) text.0 first text.2;
           sensed = all ∙ ap (senses_for job.print) (sym since.since.lines);
           ending = is;
         }
@@ -169,19 +169,19 @@ module _ {S : Type 0} (n m e : ℕ) (job : StreamJob) (source : LentSource S) (m
     unfolding served-of
     stream-part out mid gets rows counts same counted writes some image fails =
         let text = closes-of rows counts same counted (λ whole. AppendsPrefix mid out.written_now whole) writes in
-        let first : Appends out.written_before mid (stream_text (shown_by job.print) told snaps) = subst (λ (p : Shown). Appends out.written_before mid (stream_text p told snaps)) alike gets in
+        let first : Appends out.written_before mid (stream_text (shown_by job.shape job.print) told snaps) = subst (λ (p : Shown). Appends out.written_before mid (stream_text p told snaps)) alike gets in
         record {
           served = inl (record {
             told = told;
             served = served-of;
             text = text.0;
             closes = text.1;
-            part = Appends-AppendsPrefix out.written_before mid out.written_now (stream_text (shown_by job.print) told snaps) text.0 first text.2;
+            part = Appends-AppendsPrefix out.written_before mid out.written_now (stream_text (shown_by job.shape job.print) told snaps) text.0 first text.2;
             sensed = subst (λ (lines : ℕ). sensed ≤ senses_for job.print lines) (sym since.since.lines) some;
             rows =
                 λ is.
                 let had = image is in
-                let none : Appends out.written_before mid [] = subst (Appends out.written_before mid) (nothing-before job.print told snaps is) first in
+                let none : Appends out.written_before mid [] = subst (Appends out.written_before mid) (nothing-before job.shape job.print told snaps is) first in
                 let Of : RawShape → ℕ → Type 0 = λ raw seed. WritesRows array (saved_of raw seed (kept_in module_) before) out.written_before out.written_now in
                 let own : Of module_.shape module_.seed = record {
                   count = had.count;
@@ -199,7 +199,7 @@ module _ {S : Type 0} (n m e : ℕ) (job : StreamJob) (source : LentSource S) (m
     unfolding served-of
     stream-unclosed out gets none fails =
         let text = some-closing job.shape job.seed places (counts_of (table_of places told)) played.0.0.ends array (cells_at e array changes_now) (saved_of job.shape job.seed (kept_in module_) before) job.print shape kept.1 kept.0.right.size in
-        let first : AppendsPrefix out.written_before out.written_now (stream_text (shown_by job.print) told snaps) = subst (λ (p : Shown). AppendsPrefix out.written_before out.written_now (stream_text p told snaps)) alike gets in
+        let first : AppendsPrefix out.written_before out.written_now (stream_text (shown_by job.shape job.print) told snaps) = subst (λ (p : Shown). AppendsPrefix out.written_before out.written_now (stream_text p told snaps)) alike gets in
         let saved = saved_of job.shape job.seed (kept_in module_) before in
         record {
           served = inl (record {
@@ -207,12 +207,12 @@ module _ {S : Type 0} (n m e : ℕ) (job : StreamJob) (source : LentSource S) (m
             served = served-of;
             text = text.0;
             closes = text.1;
-            part = AppendsPrefix-longer out.written_before out.written_now (stream_text (shown_by job.print) told snaps) text.0 first;
+            part = AppendsPrefix-longer out.written_before out.written_now (stream_text (shown_by job.shape job.print) told snaps) text.0 first;
             sensed = rw none (omega arith);
             rows = λ is. record {
               count = 0;
               rows = λ line below. absurd (omega (arith, below));
-              part = AppendsPrefix-longer out.written_before out.written_now [] (image_bytes (first_rows 0 saved)) (subst (AppendsPrefix out.written_before out.written_now) (nothing-before job.print told snaps is) first);
+              part = AppendsPrefix-longer out.written_before out.written_now [] (image_bytes (first_rows 0 saved)) (subst (AppendsPrefix out.written_before out.written_now) (nothing-before job.shape job.print told snaps is) first);
             };
           });
           fails = fails;

@@ -9,7 +9,7 @@ use Rattle.pcm_module.specs.{Replaying.Replays, State.ModuleState}
 use Rattle.row_printer.specs.{Printing.table_of, Refusing.any_refused, declared.snapshot.Snapshot.Snapshot, declared.told.Shown.Shown, declared.told.Told.Told}
 use Rattle.row_stream.specs.{Asking.{stays_off, with_cut}, Ending.{EndsShowing, HasEnded, told_along, without_cut}, Refusing.{EndsBehind, GoesAsFar, WentOn, tells_refusal}}
 use Rattle.row_stream.proofs.Refusals.{told-refusal}
-use Rattle.row_stream.specs.{Serving.{IsServing, Telling, told_so_far}, Sourcing.HasStopped, declared.stop.Stop.Stop, declared.stop.Stop.TheVariants.{Input, Endless, Output}}
+use Rattle.row_stream.specs.{Serving.{IsServing, Telling, told_so_far}, Sourcing.HasStopped, declared.stop.Stop.Stop, declared.stop.Stop.TheVariants.{Input, Late, Endless, Output}}
 use Rattle.stream_words.specs.{Jobs.IsStreamJob, declared.job.StreamJob.StreamJob, declared.job.StreamPrint.TheVariants.Image}
 use Rattle.trace_stream.specs.declared.asked.Asked.{Asked}
 use Rattle.trace_stream.specs.declared.fault.StreamFault.TheVariants as from
@@ -44,11 +44,12 @@ has-image job off asked module_ array places told is ended print =
 -- why a stream stops is why the program does
 pub stop-cause : {S : Type 0} (n m e : ℕ) (job : StreamJob) (source : LentSource S) (asked : List (Asked n)) (stop : Stop)
     → HasStopped (total_of job.shape) source.left source.taken source.faults source.before source.now asked stop → HasCause n m e job source (stop_fault stop) asked
-stop-cause n m e job source asked (Input (from.Trace f)) had = had
+stop-cause n m e job source asked (Input (from.Trace f)) had = inl had
 stop-cause n m e job source asked (Input from.TooMany) had = inl had
 stop-cause n m e job source asked (Input from.Read) had = had
 stop-cause n m e job source asked (Input from.Endless) had = inr (inl had)
 stop-cause n m e job source asked (Input from.NoMemory) had = had
+stop-cause n m e job source asked (Late f) had = inr had
 stop-cause n m e job source asked Endless had = inr (inr had)
 stop-cause n m e job source asked Output had = had
 
@@ -59,6 +60,7 @@ only-output (Input from.TooMany) is = absurd (cc is)
 only-output (Input from.Read) is = absurd (cc is)
 only-output (Input from.Endless) is = absurd (cc is)
 only-output (Input from.NoMemory) is = absurd (cc is)
+only-output (Late f) is = absurd (cc is)
 only-output Endless is = absurd (cc is)
 only-output Output is = refl
 
@@ -77,6 +79,7 @@ module _ {S : Type 0} (n m e : ℕ) (job : StreamJob) (source : LentSource S) (a
   far-by (Input from.Read) far = far
   far-by (Input from.Endless) far = far
   far-by (Input from.NoMemory) far = far
+  far-by (Late f) far = far
   far-by Endless far = far
   far-by Output far = far
 

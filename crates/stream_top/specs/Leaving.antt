@@ -30,7 +30,7 @@ pub record Leaves {n m : ℕ} (off : Bool) (e : ℕ) (raw : RawShape) (seed : �
 
 -- how many lines of an array that has so many are sensed for what is written in the end: each for an image, and none for anything else
 abbrev pub senses_for : StreamPrint → ℕ → ℕ
-senses_for Rows lines = 0
+senses_for (Rows tell) lines = 0
 senses_for Summary lines = 0
 senses_for Wear lines = 0
 senses_for Lines lines = 0
@@ -41,7 +41,7 @@ senses_for (Snapshots every) lines = 0
 -- what is written in the end of so many rows, of which so many had each outcome: by the ends of the banks, the array, what the
 -- cells of its lines say, and the module that is saved
 abbrev pub IsClosing : {n m : ℕ} → RawShape → ℕ → ℕ → Counts → (ℕ → BankEnd) → ArrayState n m → (ℕ → LineCells) → Saved n m → StreamPrint → List ℕ → Type 0
-IsClosing raw seed rows counts ends array cells saved Rows text = text ≡ []
+IsClosing raw seed rows counts ends array cells saved (Rows tell) text = text ≡ []
 IsClosing raw seed rows counts ends array cells saved Summary text = text ≡ summary_text rows counts (spares_used raw ends) (pulses_in_all array)
 IsClosing raw seed rows counts ends array cells saved Wear text =
     (report : List (ℕ × ℕ × Role)) × IsWearReport raw seed ends array report × (text ≡ wear_text report)

@@ -1,20 +1,21 @@
 -- What a stream does. What was asked stands with the newest row first.
-use Rattle.std.specs.Prelude.{◌≡◌, ◌≢◌, ◌⊎◌, ◌&&◌, ℕ, ◌≤◌, Bool, true, false, if◌then◌else◌, List, ◌++◌, length, reverse, Option, Some, Result, Err, IfOk, IfErr}
+use Rattle.std.specs.Prelude.{◌≡◌, ◌≢◌, ◌⊎◌, ◌&&◌, ℕ, ◌≤◌, Bool, true, false, if◌then◌else◌, List, ◌++◌, length, reverse, Option, Some, None, Result, Err, IfOk, IfErr}
 use Rattle.cell_rows.specs.Device.{ArrayState}
 use Rattle.result_rows.specs.declared.Outcome.{Outcome}
 use Rattle.row_rules.specs.declared.Row.{Row}
 use Rattle.bank_model.specs.Timing.{TimedEvent}
 use Rattle.command_line.specs.{declared.job.Input.Input, declared.job.Input.TheVariants.{Source, Drawn}}
-use Rattle.module_shape.specs.Limits.{total_of}
+use Rattle.module_shape.specs.{Limits.total_of, declared.raw.RawShape.RawShape}
 use Rattle.pcm_image.specs.Saved.{Saved}
 use Rattle.pcm_module.specs.State.{ModuleState}
 use Rattle.module_prints.specs.{Images.WritesRows, WearReports.cells_at}
 use Rattle.program_calls.specs.Calls.{Gets, GetsPart, IsUntouched, Lent, SinkChange, SinkFails}
 use Rattle.run_text.specs.{Counting.counts_of, Shortfall.any_short}
 use Rattle.row_printer.specs.{Printing.{stream_text, table_of}, Telling.{outcomes_in, TellsOnce}, declared.snapshot.Snapshot.Snapshot, declared.told.Shown.Shown}
-use Rattle.row_printer.specs.declared.told.Told.{Told}
+use Rattle.row_printer.specs.declared.told.{Told.Told, ToldShape.ToldShape}
 use Rattle.row_printer.specs.declared.told.Shown.TheVariants as shown
 use Rattle.stream_words.specs.{declared.job.End.End, declared.job.End.TheVariants.{Drain, Off}, declared.job.StreamJob.StreamJob, declared.job.StreamPrint.StreamPrint, declared.job.Until.Until}
+use Rattle.stream_words.specs.declared.job.{Tell.Tell, Tell.TheVariants.{Nothing, Shape}}
 use Rattle.stream_words.specs.declared.job.Until.TheVariants as up_to
 use Rattle.stream_words.specs.declared.job.StreamPrint.TheVariants.{Rows, Summary, Wear, Lines, Energy, Image, Snapshots}
 use Rattle.trace_gen.specs.Generated.{generated}
@@ -22,7 +23,7 @@ use Rattle.trace_stream.specs.{Asked.events_in, Laws.all_events, declared.asked.
 use Rattle.trace_stream.specs.declared.fault.StreamFault.TheVariants as from
 use Rattle.row_stream.specs.{Asking.{BeginsWith, stays_off, with_cut}, Ending.{EndsShowing, HasEnded, SnapsAll, rows_of, told_along, without_cut}, Laws.TellsEach}
 use Rattle.row_stream.specs.{Refusing.{EndsBehind, MayGoOn, WentOn, tells_refusal}, Serving.{HasServed, SnapsAlong, Telling, TellsAlong}}
-use Rattle.row_stream.specs.{Sourcing.{HasStopped, IsRead, IsReadTo}, declared.stop.Stop.Stop, declared.stop.Stop.TheVariants.{Input as No, Endless, Output}}
+use Rattle.row_stream.specs.{Sourcing.{HasStopped, IsRead, IsReadTo}, declared.stop.Stop.Stop, declared.stop.Stop.TheVariants.{Input as No, Late, Endless, Output}}
 use Rattle.stream_top.specs.{Calls.LentSource, Leaving.{IsClosing, Leaves, senses_for}, declared.done.Done.Done, declared.done.Done.TheVariants.{Whole, Short}}
 use Rattle.stream_top.specs.{declared.fault.Fault.Fault, declared.fault.Fault.TheVariants.{Usage, Trace, Read, Write, TooLong, NoMemory}}
 
@@ -41,15 +42,21 @@ abbrev pub stops_at_refusal : Until → Bool
 stops_at_refusal up_to.End = false
 stops_at_refusal up_to.Refused = true
 
--- what is printed as rows are served
-abbrev pub shown_by : StreamPrint → Shown
-shown_by Rows = shown.Rows
-shown_by Summary = shown.Nothing
-shown_by Wear = shown.Nothing
-shown_by Lines = shown.Nothing
-shown_by Energy = shown.Nothing
-shown_by Image = shown.Nothing
-shown_by (Snapshots every) = shown.Snapshots every
+-- the shape of a module of these sizes, where it is told
+abbrev pub shape_told : RawShape → Tell → Option ToldShape
+shape_told raw Nothing = None
+shape_told raw Shape =
+    Some (record { banks = raw.banks; regions = raw.regions; lines = raw.lines; spares = raw.spares; writes = raw.writes; reads = raw.reads })
+
+-- what is printed as rows are served, on a module of these sizes
+abbrev pub shown_by : RawShape → StreamPrint → Shown
+shown_by raw (Rows tell) = shown.Rows (shape_told raw tell)
+shown_by raw Summary = shown.Nothing
+shown_by raw Wear = shown.Nothing
+shown_by raw Lines = shown.Nothing
+shown_by raw Energy = shown.Nothing
+shown_by raw Image = shown.Nothing
+shown_by raw (Snapshots every) = shown.Snapshots every
 
 -- the fault of the program that a stop of a stream is
 abbrev pub stop_fault : Stop → Fault
@@ -58,6 +65,7 @@ stop_fault (No from.TooMany) = TooLong
 stop_fault (No from.Read) = Read
 stop_fault (No from.Endless) = TooLong
 stop_fault (No from.NoMemory) = NoMemory
+stop_fault (Late f) = Trace f
 stop_fault Endless = TooLong
 stop_fault Output = Write
 
@@ -103,7 +111,7 @@ module _ {S : Type 0} (n m e : ℕ) (job : StreamJob) (source : LentSource S) wh
   -- why a stream that is read isn't served to its end
   abbrev pub HasCause : Fault → List (Asked n) → Type 0
   HasCause Usage asked = ⊥
-  HasCause (Trace f) asked = Stops (No (from.Trace f)) asked
+  HasCause (Trace f) asked = Stops (No (from.Trace f)) asked ⊎ Stops (Late f) asked
   HasCause Read asked = Stops (No from.Read) asked
   HasCause Write asked = Stops Output asked
   HasCause TooLong asked = Stops (No from.TooMany) asked ⊎ Stops (No from.Endless) asked ⊎ Stops Endless asked
@@ -142,7 +150,7 @@ module _ {S : Type 0} (n m e : ℕ) (job : StreamJob) (source : LentSource S) wh
     pub ended : HasEnded job.shape job.seed (stays_off (is_off job.end) asked) (with_cut (is_off job.end) asked) module_ before places told
     pub come : ComeFrom job.input asked (told_of_rows asked ended)
     pub snapshots : List Snapshot
-    pub snaps : SnapsAll (shown_by job.print) ended snapshots
+    pub snaps : SnapsAll (shown_by job.shape job.print) ended snapshots
     pub once : TellsOnce places (outcomes_in told)
     pub each : TellsEach places told
     pub sensed : ℕ
@@ -165,7 +173,7 @@ module _ {S : Type 0} (n m e : ℕ) (job : StreamJob) (source : LentSource S) wh
     pub left : HasServed job.shape job.seed (events_in asked) history module_ array (table_of (length (events_in asked)) told)
     pub wear : array.wear ≡ Some job.wear
     pub snapshots : List Snapshot
-    pub snaps : SnapsAlong e job.shape job.seed (shown_by job.print) asked history told along snapshots
+    pub snaps : SnapsAlong e job.shape job.seed (shown_by job.shape job.print) asked history told along snapshots
     pub once : TellsOnce (length (events_in asked)) (outcomes_in told)
 
   -- what was told of them, with its histories
@@ -181,7 +189,7 @@ module _ {S : Type 0} (n m e : ℕ) (job : StreamJob) (source : LentSource S) wh
       pub served : IsServed array told
       pub text : List ℕ
       pub closes : Closes array changes told served text
-      pub written : Gets out (stream_text (shown_by job.print) told served.snapshots ++ text)
+      pub written : Gets out (stream_text (shown_by job.shape job.print) told served.snapshots ++ text)
       pub sensed : served.sensed ≡ senses_for job.print array.lines
       pub ending : done ≡ done_by (has_stopped served.asked (told_of_rows served.asked served.ended)) (table_of served.places told)
 
@@ -192,7 +200,7 @@ module _ {S : Type 0} (n m e : ℕ) (job : StreamJob) (source : LentSource S) wh
       pub served : IsServedInPart array asked told
       pub cause : StopsBy job.input fault asked
       pub far : GoesAsFarAs fault asked (told_in_part served)
-      pub written : Gets out (stream_text (shown_by job.print) told served.snapshots)
+      pub written : Gets out (stream_text (shown_by job.shape job.print) told served.snapshots)
 
     -- it was served to its end, and first bytes of all that were written, for which no more lines were sensed; of an image they are of rows that have the
     -- bytes of a line
@@ -201,7 +209,7 @@ module _ {S : Type 0} (n m e : ℕ) (job : StreamJob) (source : LentSource S) wh
       pub served : IsServed array told
       pub text : List ℕ
       pub closes : Closes array changes told served text
-      pub part : GetsPart out (stream_text (shown_by job.print) told served.snapshots ++ text)
+      pub part : GetsPart out (stream_text (shown_by job.shape job.print) told served.snapshots ++ text)
       pub sensed : served.sensed ≤ senses_for job.print array.lines
       pub rows : job.print ≡ Image → WritesRows array served.saved out.written_before out.written_now
 
@@ -212,7 +220,7 @@ module _ {S : Type 0} (n m e : ℕ) (job : StreamJob) (source : LentSource S) wh
       pub served : IsServedInPart array asked told
       pub cause : StopsBy job.input Write asked
       pub far : GoesAsFarAs Write asked (told_in_part served)
-      pub part : GetsPart out (stream_text (shown_by job.print) told served.snapshots)
+      pub part : GetsPart out (stream_text (shown_by job.shape job.print) told served.snapshots)
 
     -- the output failed, behind the last row or before
     pub record BreaksOff (array : ArrayState n m) (changes : ℕ → Option (ℕ → ℕ)) : Type 0 where

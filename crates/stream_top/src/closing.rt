@@ -66,7 +66,7 @@ pub fn print_closing<const B: usize, const M: usize, const E: usize, A: TellsCel
     ensures never_falls { K.faults out.old ≤ K.faults out.new }
 {
     match job.print {
-        StreamPrint::Rows => Ok(()),
+        StreamPrint::Rows(_) => Ok(()),
         StreamPrint::Snapshots(_) => Ok(()),
         StreamPrint::Summary => {
             print_summary(rows, counts, pcm.retired(), sum_pulses(array), text);

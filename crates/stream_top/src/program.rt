@@ -77,10 +77,10 @@ fn read_words(alloc: Global, words: &[String]) -> Result<StreamJob, Fault>
 /// Whether a stream of these words may tell of energy, so that its array is to count it: `stream_run` itself needs no count.
 pub fn asks_energy(alloc: Global, words: &[String]) -> bool
     ensures { result ≡ false → (job : Asked) × (stream_job_of (map string_bytes words.now) ≡ Ok job)
-        × (tells_energy job.print ≡ false) }
+        × (tells_energy job.print job.input ≡ false) }
 {
     match read_stream_job(alloc, words) {
-        Ok(job) => job.print.tells_energy(),
+        Ok(job) => job.tells_energy(),
         Err(_) => true,
     }
 }

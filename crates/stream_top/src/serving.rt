@@ -15,7 +15,7 @@ ghost use Rattle.row_printer.specs.Snapshots.{IsShown};
 ghost use Rattle.stream_words.specs.Jobs.{IsStreamJob};
 ghost use Rattle.stream_words.specs.Options.{IsPrint};
 ghost use Rattle.stream_top.specs.Calls.{source_between};
-ghost use Rattle.stream_top.specs.Streams.{ComeFrom, Ends, GoesAsFarAs, HasPlayed, StopsBy, done_by, has_stopped, is_source, is_off, shown_by, stop_fault, stops_at_refusal, told_of_rows};
+ghost use Rattle.stream_top.specs.Streams.{ComeFrom, Ends, GoesAsFarAs, HasPlayed, StopsBy, done_by, has_stopped, is_source, is_off, shape_told, shown_by, stop_fault, stops_at_refusal, told_of_rows};
 
 use crate::closing::print_closing;
 use crate::done::Done;
@@ -24,13 +24,14 @@ use crate::laws::ended_streams_are_kept;
 use crate::memory::take_memory;
 use cell_wear::TellsCells;
 use command_line::Input;
+use module_shape::RawShape;
 use pcm_io::{Sink, Source};
 use pcm_module::Module;
-use row_printer::{RowPrinter, Shown};
+use row_printer::{RowPrinter, Shown, ToldShape};
 use row_stream::{Behind, Stop, each_row_is_told, end, serve_drawn, serve_source};
 use run_text::TEXT_ROOM;
 use std::alloc::Global;
-use stream_words::{End, StreamJob, StreamPrint, Until};
+use stream_words::{End, StreamJob, StreamPrint, Tell, Until};
 use trace_stream::StreamFault;
 
 // The fault of the program that a stop of a stream is.
@@ -43,6 +44,7 @@ fn fault_of(stop: Stop) -> Fault
         Stop::Input(StreamFault::Read) => Fault::Read,
         Stop::Input(StreamFault::Endless) => Fault::TooLong,
         Stop::Input(StreamFault::NoMemory) => Fault::NoMemory,
+        Stop::Late(fault) => Fault::Trace(fault),
         Stop::Endless => Fault::TooLong,
         Stop::Output => Fault::Write,
     }
@@ -91,13 +93,30 @@ fn done<const B: usize, K: Sink + Drop>(stopped: bool, out: &RowPrinter<B, K>) -
     }
 }
 
-// What is printed as rows are served.
-fn shown_of(print: StreamPrint) -> Shown
-    ensures is { result ≡ shown_by print }
+// The shape of a module of these sizes, where it is told.
+fn shape_told(raw: &RawShape, tell: Tell) -> Option<ToldShape>
+    ensures { result ≡ shape_told raw.now tell }
+{
+    match tell {
+        Tell::Nothing => None,
+        Tell::Shape => Some(ToldShape {
+            banks: raw.banks,
+            regions: raw.regions,
+            lines: raw.lines,
+            spares: raw.spares,
+            writes: raw.writes,
+            reads: raw.reads,
+        }),
+    }
+}
+
+// What is printed as rows are served, on a module of these sizes.
+fn shown_of(raw: &RawShape, print: StreamPrint) -> Shown
+    ensures is { result ≡ shown_by raw.now print }
     ensures lawful { IsPrint print → IsShown result }
 {
     match print {
-        StreamPrint::Rows => Shown::Rows,
+        StreamPrint::Rows(tell) => Shown::Rows(shape_told(raw, tell)),
         StreamPrint::Summary => Shown::Nothing,
         StreamPrint::Wear => Shown::Nothing,
         StreamPrint::Lines => Shown::Nothing,
@@ -268,7 +287,8 @@ pub fn stream<
         Ok(taken) => taken,
         Err(_) => return (Err(Fault::NoMemory), out),
     };
-    let mut printer = RowPrinter::<B, K>::new(out, text, shown_of(job.print));
+    let shown = shown_of(job.shape.raw(), job.print);
+    let mut printer = RowPrinter::<B, K>::new(out, text, shown);
     let done = match play(alloc, job, &mut pcm, array, source, &mut printer) {
         Ok(done) => done,
         Err(fault) => return (Err(fault), printer.end().0),

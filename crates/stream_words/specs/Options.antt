@@ -4,22 +4,29 @@ use Rattle.clap.specs.Words.{Row, Text, first_of}
 use Rattle.trace_reader.specs.{Number.number_of, Rows.latest_tick}
 use Rattle.trace_gen.specs.{Generated.stream_lines, declared.mix.Mix.Mix}
 use Rattle.module_shape.specs.{Limits.is_small, declared.raw.RawShape.RawShape}
-use Rattle.command_line.specs.Options.{mix_within, one_of_two, with_some}
+use Rattle.command_line.specs.{Options.{mix_within, one_of_two, with_some}, declared.job.Input.Input, declared.job.Input.TheVariants.{Source, Drawn}}
 use Rattle.stream_words.specs.{declared.job.End.End, declared.job.End.TheVariants.{Drain, Off}, declared.job.StreamPrint.StreamPrint}
-use Rattle.stream_words.specs.declared.job.Until.{Until}
+use Rattle.stream_words.specs.declared.job.{Tell.Tell, Until.Until}
+use Rattle.stream_words.specs.declared.job.Tell.TheVariants as tell
 use Rattle.stream_words.specs.declared.job.Until.TheVariants as up_to
 use Rattle.stream_words.specs.declared.job.StreamPrint.TheVariants.{Rows, Summary, Wear, Lines, Energy, Image, Snapshots}
 
--- what a stream writes but snapshots
-abbrev pub plain_of : Option Text → Option StreamPrint
-plain_of None = Some Rows
-plain_of (Some text) =
-    if bytes_eq text (codes "rows") then Some Rows
-    else (if bytes_eq text (codes "summary") then Some Summary
+-- what a stream writes in the end alone
+abbrev pub closing_of : Text → Option StreamPrint
+closing_of text =
+    if bytes_eq text (codes "summary") then Some Summary
     else (if bytes_eq text (codes "wear") then Some Wear
     else (if bytes_eq text (codes "lines") then Some Lines
     else (if bytes_eq text (codes "energy") then Some Energy
-    else (if bytes_eq text (codes "image") then Some Image else None)))))
+    else (if bytes_eq text (codes "image") then Some Image else None))))
+
+-- what is told in front of rows
+abbrev pub tell_of : Option Text → Option Tell
+tell_of text = one_of_two (codes "nothing") tell.Nothing (codes "shape") tell.Shape text
+
+-- rows, and what is told in front of them
+abbrev pub told_rows : Option Text → Option StreamPrint
+told_rows text = with_some (tell_of text) (λ told. Some (Rows told))
 
 -- of how many rows more each snapshot stands
 abbrev pub every_of : Option Text → Option ℕ
@@ -36,16 +43,24 @@ abbrev pub without : {T : Type 0} → Option Text → Option T → Option T
 without None asked = asked
 without (Some text) asked = None
 
--- what a stream writes: `--every` is for snapshots alone
+-- snapshots: nothing is told in front of them
+abbrev pub snapshots_of : List Row → Option StreamPrint
+snapshots_of rows = without (first_of (codes "tell") rows) (with_some (every_of (first_of (codes "every") rows)) (λ every. Some (Snapshots every)))
+
+-- what a stream writes but snapshots: rows, or in the end alone, and then nothing is told in front
+abbrev pub plain_of : (print tell : Option Text) → Option StreamPrint
+plain_of None tell = told_rows tell
+plain_of (Some text) tell = if bytes_eq text (codes "rows") then told_rows tell else without tell (closing_of text)
+
+-- what a stream writes: `--every` is for snapshots alone, and `--tell` for rows alone
 abbrev pub print_of : List Row → Option StreamPrint
 print_of rows =
-    if asks_snapshots (first_of (codes "print") rows)
-    then with_some (every_of (first_of (codes "every") rows)) (λ every. Some (Snapshots every))
-    else without (first_of (codes "every") rows) (plain_of (first_of (codes "print") rows))
+    if asks_snapshots (first_of (codes "print") rows) then snapshots_of rows
+    else without (first_of (codes "every") rows) (plain_of (first_of (codes "print") rows) (first_of (codes "tell") rows))
 
 -- a snapshot stands of at least one row more
 abbrev pub IsPrint : StreamPrint → Type 0
-IsPrint Rows = Unit {0}
+IsPrint (Rows told) = Unit {0}
 IsPrint Summary = Unit {0}
 IsPrint Wear = Unit {0}
 IsPrint Lines = Unit {0}
@@ -53,15 +68,20 @@ IsPrint Energy = Unit {0}
 IsPrint Image = Unit {0}
 IsPrint (Snapshots every) = 1 ≤ every
 
--- whether what a stream writes has how often lines were sensed and cells driven
-abbrev pub tells_energy : StreamPrint → Bool
-tells_energy Rows = false
-tells_energy Summary = false
-tells_energy Wear = false
-tells_energy Lines = true
-tells_energy Energy = true
-tells_energy Image = false
-tells_energy (Snapshots every) = true
+-- whether the rows are read
+abbrev pub is_read : Input → Bool
+is_read Source = true
+is_read (Drawn mix) = false
+
+-- whether what a stream writes may have how often lines were sensed and cells driven: among rows that are read there may be a look
+abbrev pub tells_energy : StreamPrint → Input → Bool
+tells_energy (Rows told) input = is_read input
+tells_energy Summary input = false
+tells_energy Wear input = false
+tells_energy Lines input = true
+tells_energy Energy input = true
+tells_energy Image input = false
+tells_energy (Snapshots every) input = true
 
 -- what becomes of the module behind the last row
 abbrev pub end_of : Option Text → Option End
@@ -81,7 +101,7 @@ long_mix_of rows = with_some (mix_within 4000000000 stream_lines rows) in_time
 
 -- whether that can be written of a module of these sizes: an image has no room for those of a larger one
 abbrev pub can_be_printed : RawShape → StreamPrint → Bool
-can_be_printed raw Rows = true
+can_be_printed raw (Rows told) = true
 can_be_printed raw Summary = true
 can_be_printed raw Wear = true
 can_be_printed raw Lines = true

@@ -1,6 +1,6 @@
 // What the words ask for.
 ghost use Rattle.std.specs.Prelude.{◌≡◌};
-ghost use Rattle.stream_words.specs.Options.{tells_energy};
+ghost use Rattle.stream_words.specs.Options.{is_read, tells_energy};
 
 use cell_rows::Wear;
 use command_line::{Input, LineSize};
@@ -30,8 +30,8 @@ pub struct StreamJob {
 /// What a stream writes.
 #[derive(Clone, Copy, Debug, Drop, PartialEq, Eq)]
 pub enum StreamPrint {
-    /// A row for each outcome.
-    Rows,
+    /// A row for each outcome, and in front of them what is told of the module.
+    Rows(Tell),
     /// How many rows had each outcome.
     Summary,
     /// A row for each array line.
@@ -46,16 +46,36 @@ pub enum StreamPrint {
     Snapshots(u32),
 }
 
-impl StreamPrint {
-    /// Whether it has how often lines were sensed and cells driven: where it doesn't, an array needn't count that.
+/// What is told of the module between the header of rows and the first of them.
+#[derive(Clone, Copy, Debug, Drop, PartialEq, Eq)]
+pub enum Tell {
+    /// Nothing.
+    Nothing,
+    /// Its shape.
+    Shape,
+}
+
+impl StreamJob {
+    /// Whether it may tell how often lines were sensed and cells driven: where it doesn't, an array needn't count that.
     pub fn tells_energy(&self) -> bool
-        ensures { result ≡ tells_energy self.now }
+        ensures { result ≡ tells_energy self.now.print self.now.input }
     {
-        match self {
+        match self.print {
             StreamPrint::Lines | StreamPrint::Energy | StreamPrint::Snapshots(_) => true,
-            StreamPrint::Rows | StreamPrint::Summary | StreamPrint::Wear | StreamPrint::Image =>
-                false,
+            // One of the rows may be a look.
+            StreamPrint::Rows(_) => is_read(&self.input),
+            StreamPrint::Summary | StreamPrint::Wear | StreamPrint::Image => false,
         }
+    }
+}
+
+// Whether the rows are read.
+fn is_read(input: &Input) -> bool
+    ensures { result ≡ is_read input.now }
+{
+    match input {
+        Input::Source => true,
+        Input::Drawn(_) => false,
     }
 }
 

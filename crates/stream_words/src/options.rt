@@ -4,9 +4,9 @@ ghost use Rattle.module_shape.specs.Limits.{IsSmall};
 ghost use Rattle.stream_words.specs.declared.job.StreamPrint.TheVariants.{Image};
 ghost use Rattle.clap.specs.Words.{first_of, found_of, rows_of};
 ghost use Rattle.trace_gen.specs.Generated.{IsLongMix};
-ghost use Rattle.stream_words.specs.Options.{IsPrint, can_be_printed, end_of, every_of, long_mix_of, plain_of, print_of, until_of};
+ghost use Rattle.stream_words.specs.Options.{IsPrint, can_be_printed, closing_of, end_of, every_of, long_mix_of, plain_of, print_of, snapshots_of, tell_of, told_rows, until_of, without};
 
-use crate::job::{End, StreamPrint, Until};
+use crate::job::{End, StreamPrint, Tell, Until};
 use clap::ArgMatches;
 use command_line::options::{mix_within, value};
 use module_shape::Shape;
@@ -34,8 +34,7 @@ pub(crate) fn print(matches: &ArgMatches<'_>) -> Option<StreamPrint>
     ensures in_range { IfSome result IsPrint }
 {
     if let Some("snapshots") = value(matches, "print") {
-        let every = every(matches)?;
-        return Some(StreamPrint::Snapshots(every));
+        return snapshots(matches);
     }
     match value(matches, "every") {
         None => plain(matches),
@@ -43,20 +42,77 @@ pub(crate) fn print(matches: &ArgMatches<'_>) -> Option<StreamPrint>
     }
 }
 
+// Snapshots: nothing is told in front of them.
+fn snapshots(matches: &ArgMatches<'_>) -> Option<StreamPrint>
+    ensures exact { result ≡ snapshots_of (rows_of (found_of matches.now)) }
+    ensures in_range { IfSome result IsPrint }
+{
+    match value(matches, "tell") {
+        None => {
+            let every = every(matches)?;
+            Some(StreamPrint::Snapshots(every))
+        }
+        Some(_) => None,
+    }
+}
+
 // What a stream writes but snapshots.
 fn plain(matches: &ArgMatches<'_>) -> Option<StreamPrint>
-    ensures exact { result ≡ plain_of (first_of (codes "print") (rows_of (found_of matches.now))) }
+    ensures exact { result ≡ plain_of (first_of (codes "print") (rows_of (found_of matches.now)))
+        (first_of (codes "tell") (rows_of (found_of matches.now))) }
     ensures in_range { IfSome result IsPrint }
 {
     match value(matches, "print") {
-        None => Some(StreamPrint::Rows),
-        Some("rows") => Some(StreamPrint::Rows),
-        Some("summary") => Some(StreamPrint::Summary),
-        Some("wear") => Some(StreamPrint::Wear),
-        Some("lines") => Some(StreamPrint::Lines),
-        Some("energy") => Some(StreamPrint::Energy),
-        Some("image") => Some(StreamPrint::Image),
+        None => rows(matches),
+        Some("rows") => rows(matches),
+        Some(print) => in_the_end(matches, print),
+    }
+}
+
+// Rows, and what is told in front of them.
+fn rows(matches: &ArgMatches<'_>) -> Option<StreamPrint>
+    ensures exact { result ≡ told_rows (first_of (codes "tell") (rows_of (found_of matches.now))) }
+    ensures in_range { IfSome result IsPrint }
+{
+    let tell = tell(matches)?;
+    Some(StreamPrint::Rows(tell))
+}
+
+// What is told in front of rows.
+fn tell(matches: &ArgMatches<'_>) -> Option<Tell>
+    ensures { result ≡ tell_of (first_of (codes "tell") (rows_of (found_of matches.now))) }
+{
+    match value(matches, "tell") {
+        None => Some(Tell::Nothing),
+        Some("nothing") => Some(Tell::Nothing),
+        Some("shape") => Some(Tell::Shape),
         Some(_) => None,
+    }
+}
+
+// What a stream writes in the end alone: nothing is told in front of it.
+fn in_the_end(matches: &ArgMatches<'_>, print: &str) -> Option<StreamPrint>
+    ensures exact { result ≡ without (first_of (codes "tell") (rows_of (found_of matches.now)))
+        (closing_of print.now) }
+    ensures in_range { IfSome result IsPrint }
+{
+    match value(matches, "tell") {
+        None => closing(print),
+        Some(_) => None,
+    }
+}
+
+fn closing(print: &str) -> Option<StreamPrint>
+    ensures exact { result ≡ closing_of print.now }
+    ensures in_range { IfSome result IsPrint }
+{
+    match print {
+        "summary" => Some(StreamPrint::Summary),
+        "wear" => Some(StreamPrint::Wear),
+        "lines" => Some(StreamPrint::Lines),
+        "energy" => Some(StreamPrint::Energy),
+        "image" => Some(StreamPrint::Image),
+        _ => None,
     }
 }
 

@@ -14,6 +14,7 @@ pub(crate) fn stream_command<'a>(alloc: Global) -> Result<Command<'a>, AllocErro
 {
     let run = run_command(alloc, "pcm_stream")?;
     let ends = add_option(alloc, add_option(alloc, run, "end")?, "every")?;
-    let command = add_option(alloc, ends, "until")?;
+    let bounded = add_option(alloc, ends, "until")?;
+    let command = add_option(alloc, bounded, "tell")?;
     Ok(command.disable_help_flag(true).no_binary_name(true))
 }

@@ -6,10 +6,11 @@ use Rattle.trace_reader.specs.{Rows.{event_at, event_of, op_of, text_at, tick_of
 use Rattle.trace_reader.specs.{declared.event.Event.Event, declared.event.EventOp.EventOp, declared.fault.Kind.Kind, declared.fault.TraceFault.TraceFault}
 use Rattle.trace_reader.specs.declared.fault.Kind.TheVariants as kind
 use Rattle.trace_reader.specs.declared.fault.ParseFault.TheVariants as whole
-use Rattle.trace_stream.specs.Asked.{asked_event, asked_of, asked_settle, events_in, is_query, is_settle, rows_after, settle_of, tick_asked}
+use Rattle.trace_stream.specs.Asked.{asked_event, asked_of, asked_settle, asked_settling, asked_until, events_in, is_look, is_query, is_settle, is_settle_word, is_until, rows_after, settle_of, tick_asked, until_of}
 use Rattle.trace_stream.specs.Laws.{BareLaw, FaultBackLaw, all_events, records_of}
 use Rattle.trace_stream.specs.{Stream.{and_then_asked, asked_before, is_past, stream_fault_at, stream_of, stream_records, stream_rows}, declared.asked.Asked.Asked}
-use Rattle.trace_stream.{specs.declared.asked.Asked.TheVariants.{Happens, Settle, Query}, specs.declared.fault.StreamFault.StreamFault, proofs.Lawful.settle-lawful}
+use Rattle.trace_stream.{specs.declared.asked.Asked.TheVariants.{Happens, Settle, Query, Look, Until}, specs.declared.asked.Until.Until as Waited, specs.declared.fault.StreamFault.StreamFault}
+use Rattle.trace_stream.proofs.Lawful.{settle-lawful, until-lawful}
 use Rattle.trace_stream.proofs.Traces.{asked-ok, event-four, row_by}
 use Rattle.trace_stream.specs.declared.fault.StreamFault.TheVariants as fault
 
@@ -38,13 +39,14 @@ earlier n lines before early fields event less h =
     event-four n lines early fields four ∙ earlier-at before early (tick_of (text_at fields 0)) _ event less (sym (event-four n lines before fields four) ∙ h)
 
 -- what a row asks, by whether it settles
-asked-settles : (n lines before : ℕ) (fields : List (List ℕ)) → is_settle fields ≡ true → asked_of n lines before fields ≡ asked_settle (is_query fields) (settle_of before fields)
+asked-settles : (n lines rows before : ℕ) (fields : List (List ℕ)) → is_settle fields ≡ true
+    → asked_of n lines rows before fields ≡ asked_settling (is_until fields) (is_query fields) (is_look fields) (until_of rows before fields) (settle_of before fields)
 unfolding asked_of
-asked-settles n lines before fields is = rw is refl
+asked-settles n lines rows before fields is = rw is refl
 
-asked-happens : (n lines before : ℕ) (fields : List (List ℕ)) → is_settle fields ≡ false → asked_of n lines before fields ≡ asked_event (event_of n lines before fields)
+asked-happens : (n lines rows before : ℕ) (fields : List (List ℕ)) → is_settle fields ≡ false → asked_of n lines rows before fields ≡ asked_event (event_of n lines before fields)
 unfolding asked_of
-asked-happens n lines before fields is = rw is refl
+asked-happens n lines rows before fields is = rw is refl
 
 -- the rows without those that settle
 abbrev bare : List (List (List ℕ)) → List (List (List ℕ))
@@ -69,34 +71,46 @@ bare-rows n lines rows before early (fields ∷ rest) asked less h =
     Rest : Type 0
     Rest = (rows before early : ℕ) (others : List (Asked n)) → early ≤ before → stream_rows n lines rows before rest ≡ Ok others → stream_rows n lines rows early (bare rest) ≡ Ok (all_events (events_in others))
 
-    settled : (first : Asked n) (tick : ℕ) → settle_of before fields ≡ Ok tick → ((others : List (Asked n)) → events_in (first ∷ others) ≡ events_in others)
+    settled : (first : Asked n) (tick : ℕ) → before ≤ tick → ((others : List (Asked n)) → events_in (first ∷ others) ≡ events_in others)
         → asked_before first (stream_rows n lines rows tick rest) ≡ Ok asked → Rest → stream_rows n lines rows early (bare rest) ≡ Ok (all_events (events_in asked))
-    settled first tick e none q more =
+    settled first tick later none q more =
         let b = behind first (stream_rows n lines rows tick rest) asked q in
-        let lawful = settle-lawful before tick fields e in
-        more rows tick early b.0 (omega (arith, less, lawful.0)) b.1
+        more rows tick early b.0 (omega (arith, less, later)) b.1
         ∙ ap (λ (events : List (Event n)). Ok (all_events events)) (sym (none b.0) ∙ ap events_in b.2)
 
-    settles : (query : Bool) (r : Result ℕ Kind) → settle_of before fields ≡ r → and_then_asked (rows + 1) (asked_settle {n = n} query r) (λ asked. stream_rows n lines (rows_after rows asked) (tick_asked asked) rest) ≡ Ok asked → Rest
+    settles : (query look : Bool) (r : Result ℕ Kind) → settle_of before fields ≡ r → and_then_asked (rows + 1) (asked_settle {n = n} query look r) (λ asked. stream_rows n lines (rows_after rows asked) (tick_asked asked) rest) ≡ Ok asked → Rest
         → stream_rows n lines rows early (bare rest) ≡ Ok (all_events (events_in asked))
-    settles query (Err kind) e q more = cc q
-    settles true (Ok tick) e q more = settled (Query tick) tick e (λ others. refl) q more
-    settles false (Ok tick) e q more = settled (Settle tick) tick e (λ others. refl) q more
+    settles query look (Err kind) e q more = cc q
+    settles true look (Ok tick) e q more = settled (Query tick) tick (settle-lawful before tick fields e).0 (λ others. refl) q more
+    settles false true (Ok tick) e q more = settled (Look tick) tick (settle-lawful before tick fields e).0 (λ others. refl) q more
+    settles false false (Ok tick) e q more = settled (Settle tick) tick (settle-lawful before tick fields e).0 (λ others. refl) q more
+
+    waits : (r : Result Waited Kind) → until_of rows before fields ≡ r → and_then_asked (rows + 1) (asked_until {n = n} r) (λ asked. stream_rows n lines (rows_after rows asked) (tick_asked asked) rest) ≡ Ok asked → Rest
+        → stream_rows n lines rows early (bare rest) ≡ Ok (all_events (events_in asked))
+    waits (Err kind) e q more = cc q
+    waits (Ok until) e q more =
+        let stands = (until-lawful rows before until fields e).2 in
+        settled (Until until) until.reached (omega (arith, stands)) (λ others. refl) q more
+
+    settling : (until : Bool) → and_then_asked (rows + 1) (asked_settling {n = n} until (is_query fields) (is_look fields) (until_of rows before fields) (settle_of before fields)) (λ asked. stream_rows n lines (rows_after rows asked) (tick_asked asked) rest) ≡ Ok asked → Rest
+        → stream_rows n lines rows early (bare rest) ≡ Ok (all_events (events_in asked))
+    settling true q more = waits (until_of rows before fields) refl q more
+    settling false q more = settles (is_query fields) (is_look fields) (settle_of before fields) refl q more
 
     happens : (r : Result (Event n) Kind) → event_of n lines before fields ≡ r → and_then_asked (rows + 1) (asked_event r) (λ asked. stream_rows n lines (rows_after rows asked) (tick_asked asked) rest) ≡ Ok asked → Rest
-        → and_then_asked (rows + 1) (asked_of n lines early fields) (λ asked. stream_rows n lines (rows_after rows asked) (tick_asked asked) (bare rest)) ≡ Ok (all_events (events_in asked))
+        → and_then_asked (rows + 1) (asked_of n lines rows early fields) (λ asked. stream_rows n lines (rows_after rows asked) (tick_asked asked) (bare rest)) ≡ Ok (all_events (events_in asked))
     happens (Err kind) e q more = cc q
     happens (Ok event) e q more =
         let b = behind (Happens event) (stream_rows n lines (rows + 1) event.tick rest) asked q in
-        rw (asked-ok n lines early fields event (earlier n lines before early fields event less e), more (rows + 1) event.tick event.tick b.0 (omega arith) b.1)
+        rw (asked-ok n lines rows early fields event (earlier n lines before early fields event less e), more (rows + 1) event.tick event.tick b.0 (omega arith) b.1)
         (ap (λ (all : List (Asked n)). Ok (all_events (events_in all))) b.2)
 
     by : (settle : Bool) → is_settle fields ≡ settle → (past : Bool) → is_past rows fields ≡ past
-        → (if past then Err fault.TooMany else and_then_asked (rows + 1) (asked_of n lines before fields) (λ asked. stream_rows n lines (rows_after rows asked) (tick_asked asked) rest)) ≡ Ok asked → Rest
+        → (if past then Err fault.TooMany else and_then_asked (rows + 1) (asked_of n lines rows before fields) (λ asked. stream_rows n lines (rows_after rows asked) (tick_asked asked) rest)) ≡ Ok asked → Rest
         → stream_rows n lines rows early (cond (not settle) (fields ∷ bare rest) (bare rest)) ≡ Ok (all_events (events_in asked))
     by settle is true e q more = cc q
-    by true is false e q more = settles (is_query fields) (settle_of before fields) refl (rw (asked-settles n lines before fields is) at q) more
-    by false is false e q more = rw e (happens (event_of n lines before fields) refl (rw (asked-happens n lines before fields is) at q) more)
+    by true is false e q more = settling (is_until fields) (rw (asked-settles n lines rows before fields is) at q) more
+    by false is false e q more = rw e (happens (event_of n lines before fields) refl (rw (asked-happens n lines rows before fields is) at q) more)
 
 -- the header doesn't settle
 header-op : (fields : List (List ℕ)) → is_header fields ≡ true → is_settle fields ≡ false
@@ -105,7 +119,7 @@ header-op fields is = by (length fields == 4) (bytes_eq (text_at fields 0) (code
   where
     by : (four tick op : Bool) → bytes_eq (text_at fields 1) (codes "op") ≡ op
         → (four && tick && op && bytes_eq (text_at fields 2) (codes "arg") && bytes_eq (text_at fields 3) (codes "data")) ≡ true
-        → (four && (bytes_eq (text_at fields 1) (codes "S") || bytes_eq (text_at fields 1) (codes "Q"))) ≡ false
+        → (four && is_settle_word (text_at fields 1)) ≡ false
     by false tick op e q = refl
     by true false op e q = cc q
     by true true false e q = cc q
@@ -138,6 +152,8 @@ no-fewer : {n : ℕ} (rows : ℕ) (asked : Asked n) → rows ≤ rows_after rows
 no-fewer rows (Happens event) = omega arith
 no-fewer rows (Settle tick) = omega arith
 no-fewer rows (Query tick) = omega arith
+no-fewer rows (Look tick) = omega arith
+no-fewer rows (Until until) = omega arith
 
 fault-row : (n lines rows before : ℕ) (records : List (List (List ℕ))) (found : TraceFault) → stream_rows n lines rows before records ≡ Err (fault.Trace found) → rows + 1 ≤ found.row
 unfolding stream_rows
@@ -157,10 +173,10 @@ fault-row n lines rows before (fields ∷ rest) found h = by (is_past rows field
         let least = no-fewer rows asked in
         omega (arith, later, least)
 
-    by : (b : Bool) → (if b then Err fault.TooMany else and_then_asked (rows + 1) (asked_of n lines before fields) (λ asked. stream_rows n lines (rows_after rows asked) (tick_asked asked) rest)) ≡ Err (fault.Trace found) → Rest
+    by : (b : Bool) → (if b then Err fault.TooMany else and_then_asked (rows + 1) (asked_of n lines rows before fields) (λ asked. stream_rows n lines (rows_after rows asked) (tick_asked asked) rest)) ≡ Err (fault.Trace found) → Rest
         → rows + 1 ≤ found.row
     by true q more = cc q
-    by false q more = then-row (asked_of n lines before fields) q more
+    by false q more = then-row (asked_of n lines rows before fields) q more
 
 or-first : (a b : Bool) → (a || b) ≡ false → a ≡ false
 or-first true b h = cc h
@@ -194,10 +210,10 @@ fault-back n lines rows before (fields ∷ rest) found none few h =
         let row = fault-row n lines (rows + 1) event.tick rest found later in
         rw (allowed (omega (arith, row)), e, more event.tick later) refl
 
-    by : (b : Bool) → (if b then Err fault.TooMany else and_then_asked (rows + 1) (asked_of n lines before fields) (λ asked. stream_rows n lines (rows_after rows asked) (tick_asked asked) rest)) ≡ Err (fault.Trace found) → Rest
+    by : (b : Bool) → (if b then Err fault.TooMany else and_then_asked (rows + 1) (asked_of n lines rows before fields) (λ asked. stream_rows n lines (rows_after rows asked) (tick_asked asked) rest)) ≡ Err (fault.Trace found) → Rest
         → (if nat_lt most_rows (rows + 1) then Err whole.TooMany else and_then_rows (rows + 1) (event_of n lines before fields) (λ event. rows_from n lines (rows + 1 + 1) event.tick rest)) ≡ Err (whole.Trace found)
     by true q more = cc q
-    by false q more = then-row (event_of n lines before fields) refl (rw (asked-happens n lines before fields (or-first (is_settle fields) _ none)) at q) more
+    by false q more = then-row (event_of n lines before fields) refl (rw (asked-happens n lines rows before fields (or-first (is_settle fields) _ none)) at q) more
 
 pub faults-back : FaultBackLaw
 unfolding trace_of events_of stream_of stream_records

@@ -4,7 +4,7 @@ use Rattle.std.{specs.Prelude.{Result, Ok, Err}, proofs.lemmas.Bool.Decides.nat_
 use Rattle.trace_reader.specs.{Trace.is_header, declared.fault.Kind.Kind}
 use Rattle.trace_stream.specs.{Asked.{asked_of, events_in, is_settle, rows_after, tick_asked}, Laws.{FrontFaultLaw, FrontLaw, StandsBehind, headless, records_of}}
 use Rattle.trace_stream.specs.Stream.{asked_before, front_of, front_records, front_rows, is_past, most_streamed, stream_of, stream_records, stream_rows}
-use Rattle.trace_stream.specs.{declared.asked.Asked.Asked, declared.asked.Asked.TheVariants.{Happens, Settle, Query}, declared.fault.StreamFault.StreamFault}
+use Rattle.trace_stream.specs.{declared.asked.Asked.Asked, declared.asked.Asked.TheVariants.{Happens, Settle, Query, Look, Until}, declared.fault.StreamFault.StreamFault}
 use Rattle.trace_stream.proofs.Rows.{front-asks, front-faulty, front-past, front-read, front-wrong, header-read, header-wrong, row-asks, row-faulty, row-none, row-past}
 use Rattle.trace_stream.specs.declared.fault.StreamFault.TheVariants as fault
 
@@ -26,6 +26,8 @@ front-before : {n : ℕ} (rows : ℕ) (asked : Asked n) (r : Result (List (Asked
 front-before rows asked (Ok all) front is = ap (λ rest. asked ∷ rest) is
 front-before rows (Settle tick) (Err e) front is = is
 front-before rows (Query tick) (Err e) front is = is
+front-before rows (Look tick) (Err e) front is = is
+front-before rows (Until until) (Err e) front is = is
 front-before rows (Happens event) (Err e) front is =
     let count : rows + 1 + length (events_in front) ≡ rows + length (events_in (Happens event ∷ front)) = omega arith in
     subst (λ (k : ℕ). StandsBehind k e) count is
@@ -46,7 +48,7 @@ module _ (n lines : ℕ) where
   IsAlone rows before all =
       Alone rows before all (stream_rows n lines rows before all) × IsFront rows (stream_rows n lines rows before all) (front_rows n lines rows before all)
 
-  breaks-before : (rows before : ℕ) (fields : List (List ℕ)) (rest : List (List (List ℕ))) (asked : Asked n) → is_past rows fields ≡ false → asked_of n lines before fields ≡ Ok asked
+  breaks-before : (rows before : ℕ) (fields : List (List ℕ)) (rest : List (List (List ℕ))) (asked : Asked n) → is_past rows fields ≡ false → asked_of n lines rows before fields ≡ Ok asked
       → (r : Result (List (Asked n)) StreamFault) → Breaks (rows_after rows asked) (tick_asked asked) rest r → Breaks rows before (fields ∷ rest) (asked_before asked r)
   breaks-before rows before fields rest asked past e (Ok all) is = tt
   breaks-before rows before fields rest asked past e (Err wrong) is = row-asks n lines rows before fields rest asked past e ∙ ap (asked_before asked) is
@@ -54,12 +56,12 @@ module _ (n lines : ℕ) where
   rows-alone : (rows before : ℕ) (all : List (List (List ℕ))) → IsAlone rows before all
   unfolding stream_rows front_rows
   rows-alone rows before [] = ((0, refl, tt), refl)
-  rows-alone rows before (fields ∷ rest) = by (is_past rows fields) refl (asked_of n lines before fields) refl (λ rows before. rows-alone rows before rest)
+  rows-alone rows before (fields ∷ rest) = by (is_past rows fields) refl (asked_of n lines rows before fields) refl (λ rows before. rows-alone rows before rest)
     where
       none : (wrong : StreamFault) → front_rows n lines rows before (fields ∷ rest) ≡ [] → stream_rows n lines rows before (fields ∷ []) ≡ Err wrong → Alone rows before (fields ∷ rest) (Err wrong)
       none wrong is breaks = (0, row-none n lines rows before ∙ ap Ok (sym is), breaks)
 
-      by : (past : Bool) → is_past rows fields ≡ past → (r : Result (Asked n) Kind) → asked_of n lines before fields ≡ r → ((rows before : ℕ) → IsAlone rows before rest)
+      by : (past : Bool) → is_past rows fields ≡ past → (r : Result (Asked n) Kind) → asked_of n lines rows before fields ≡ r → ((rows before : ℕ) → IsAlone rows before rest)
           → IsAlone rows before (fields ∷ rest)
       by true past r e more =
           let front = front-past n lines rows before fields rest past in

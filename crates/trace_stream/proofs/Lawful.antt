@@ -1,11 +1,11 @@
 -- What a row asks has a line of the module, and a tick that is none of the earlier ones.
-use Rattle.std.proofs.Common.{◌≡◌, ℕ, ◌≤◌, ◌==◌, List, length, not, Bool, true, false, Some, refl, arith, nat_lt}
+use Rattle.std.proofs.Common.{◌≡◌, ℕ, ◌≤◌, ◌==◌, List, length, not, Bool, true, false, Option, Some, None, refl, arith, nat_lt}
 use Rattle.std.{specs.Prelude.{if◌then◌else◌, Result, Ok, Err}, proofs.lemmas.Bool.Decides.nat_tests}
-use Rattle.trace_reader.specs.{Rows.{event_of, latest_tick, text_at, tick_of}, declared.event.Event.Event, declared.fault.Kind.Kind}
+use Rattle.trace_reader.specs.{Number.number_of, Rows.{event_of, latest_tick, or_fault, text_at, tick_of}, declared.event.Event.Event, declared.fault.Kind.Kind}
 use Rattle.trace_reader.proofs.{Lawful.{event_of-lawful, or_fault-ok}, Numbers.number_within}
 use Rattle.trace_reader.specs.declared.fault.Kind.TheVariants as kind
-use Rattle.trace_stream.specs.{Asked.{IsAskedFor, asked_event, asked_of, asked_settle, is_query, is_settle, settle_of}, declared.asked.Asked.Asked}
-use Rattle.trace_stream.specs.declared.asked.Asked.TheVariants.{Happens, Settle, Query}
+use Rattle.trace_stream.specs.{Asked.{IsAskedFor, IsUnreached, NamesRow, asked_event, asked_of, asked_settle, asked_settling, asked_until, from_one, is_look, is_query, is_settle, is_until, row_of, settle_of, until_of}, declared.asked.Asked.Asked, declared.asked.Until.Until as Waited}
+use Rattle.trace_stream.specs.declared.asked.Asked.TheVariants.{Happens, Settle, Query, Look, Until}
 
 pub settle-lawful : (before tick : ℕ) (fields : List (List ℕ)) → settle_of before fields ≡ Ok tick → (before ≤ tick) × (tick ≤ latest_tick)
 unfolding settle_of
@@ -24,25 +24,97 @@ settle-lawful before tick fields h =
         let rises : before ≤ found = grind (arith, nat_tests) in
         (rw same at rises, rw same at within)
 
-pub asked-lawful : (n lines before : ℕ) (fields : List (List ℕ)) (asked : Asked n) → 1 ≤ lines → asked_of n lines before fields ≡ Ok asked → IsAskedFor lines before asked
-unfolding asked_of
-asked-lawful n lines before fields asked some h = by (is_settle fields) h
+-- the number of a row is that of one of so many
+row-within : (rows : ℕ) (text : List ℕ) (row : ℕ) → row_of rows text ≡ Some row → (1 ≤ row) × (row ≤ rows)
+row-within rows text row h = by (number_of 10 rows text) refl h
   where
-    settles : (query : Bool) (r : Result ℕ Kind) → settle_of before fields ≡ r → asked_settle query r ≡ Ok asked → IsAskedFor lines before asked
-    settles false (Ok tick) e q =
-        let same : Settle tick ≡ asked = cc in
-        rw (← same) (settle-lawful before tick fields e)
-    settles true (Ok tick) e q =
-        let same : Query tick ≡ asked = cc in
-        rw (← same) (settle-lawful before tick fields e)
-    settles query (Err kind) e q = cc q
+    some : (found : ℕ) → number_of 10 rows text ≡ Some found → (none : Bool) → (found == 0) ≡ none → (if none then None else Some found) ≡ Some row → (1 ≤ row) × (row ≤ rows)
+    some found is true e q = cc q
+    some found is false e q =
+        let same : found ≡ row = cc in
+        let within = number_within 10 rows found text is in
+        let least : 1 ≤ found = grind (arith, nat_tests) in
+        (rw same at least, rw same at within)
 
-    happens : (r : Result (Event n) Kind) → event_of n lines before fields ≡ r → asked_event r ≡ Ok asked → IsAskedFor lines before asked
-    happens (Ok event) e q =
-        let same : Happens event ≡ asked = cc in
-        rw (← same) (event_of-lawful n lines before fields event some e)
-    happens (Err kind) e q = cc q
+    by : (o : Option ℕ) → number_of 10 rows text ≡ o → from_one o ≡ Some row → (1 ≤ row) × (row ≤ rows)
+    by None is q = cc q
+    by (Some found) is q = some found is (found == 0) refl q
 
-    by : (b : Bool) → (if b then asked_settle (is_query fields) (settle_of before fields) else asked_event (event_of n lines before fields)) ≡ Ok asked → IsAskedFor lines before asked
-    by true q = settles (is_query fields) (settle_of before fields) refl q
-    by false q = happens (event_of n lines before fields) refl q
+-- a settle until goes no further than its tick, which is none of the earlier ones, and hasn't gone on yet
+pub until-lawful : (rows before : ℕ) (until : Waited) (fields : List (List ℕ)) → until_of rows before fields ≡ Ok until
+    → (before ≤ until.limit) × (until.limit ≤ latest_tick) × (until.reached ≡ before) × (1 ≤ until.row) × (until.row ≤ rows)
+unfolding until_of
+until-lawful rows before until fields h =
+    let a = or_fault-ok (tick_of (text_at fields 0)) kind.Tick _ until h in
+    by a.0 a.1 (nat_lt a.0 before) refl a.2
+  where
+    Is : Type 0
+    Is = (before ≤ until.limit) × (until.limit ≤ latest_tick) × (until.reached ≡ before) × (1 ≤ until.row) × (until.row ≤ rows)
+
+    at : (found : ℕ) → tick_of (text_at fields 0) ≡ Some found → nat_lt found before ≡ false → (row : ℕ) → (1 ≤ row) × (row ≤ rows) → (payload : Bool)
+        → (if payload then Err kind.Payload else Ok (record { row = row; limit = found; reached = before })) ≡ Ok until → Is
+    at found is e row named true q = cc q
+    at found is e row named false q =
+        let same : record { row = row; limit = found; reached = before } ≡ until = cc in
+        let within = number_within 13 latest_tick found (text_at fields 0) is in
+        let rises : before ≤ found = grind (arith, nat_tests) in
+        rw (← same) (rises, within, refl, named.0, named.1)
+
+    by : (found : ℕ) → tick_of (text_at fields 0) ≡ Some found → (early : Bool) → nat_lt found before ≡ early
+        → (if early then Err kind.Order else or_fault (row_of rows (text_at fields 2)) kind.Line (λ row.
+        if not (length (text_at fields 3) == 0) then Err kind.Payload else Ok (record { row = row; limit = found; reached = before }))) ≡ Ok until → Is
+    by found is true e q = cc q
+    by found is false e q =
+        let b = or_fault-ok (row_of rows (text_at fields 2)) kind.Line _ until q in
+        at found is e b.0 (row-within rows (text_at fields 2) b.0 b.1) (not (length (text_at fields 3) == 0)) b.2
+
+-- what holds of each event, of each tick and of each settle until that a record may ask holds of what it asks
+module _ (n lines rows before : ℕ) (fields : List (List ℕ)) (P : Asked n → Type 0)
+    (events : (event : Event n) → event_of n lines before fields ≡ Ok event → P (Happens event))
+    (ticks : (tick : ℕ) → settle_of before fields ≡ Ok tick → P (Settle tick) × P (Query tick) × P (Look tick))
+    (waits : (until : Waited) → until_of rows before fields ≡ Ok until → P (Until until)) where
+  asked-so : (asked : Asked n) → asked_of n lines rows before fields ≡ Ok asked → P asked
+  unfolding asked_of
+  asked-so asked h = by (is_settle fields) h
+    where
+      settles : (query look : Bool) (r : Result ℕ Kind) → settle_of before fields ≡ r → asked_settle query look r ≡ Ok asked → P asked
+      settles true look (Ok tick) e q =
+          let same : Query tick ≡ asked = cc in
+          rw (← same) (ticks tick e).1
+      settles false true (Ok tick) e q =
+          let same : Look tick ≡ asked = cc in
+          rw (← same) (ticks tick e).2
+      settles false false (Ok tick) e q =
+          let same : Settle tick ≡ asked = cc in
+          rw (← same) (ticks tick e).0
+      settles query look (Err kind) e q = cc q
+
+      until : (r : Result Waited Kind) → until_of rows before fields ≡ r → asked_until r ≡ Ok asked → P asked
+      until (Ok found) e q =
+          let same : Until found ≡ asked = cc in
+          rw (← same) (waits found e)
+      until (Err kind) e q = cc q
+
+      happens : (r : Result (Event n) Kind) → event_of n lines before fields ≡ r → asked_event r ≡ Ok asked → P asked
+      happens (Ok event) e q =
+          let same : Happens event ≡ asked = cc in
+          rw (← same) (events event e)
+      happens (Err kind) e q = cc q
+
+      settling : (b : Bool) → asked_settling b (is_query fields) (is_look fields) (until_of rows before fields) (settle_of before fields) ≡ Ok asked → P asked
+      settling true q = until (until_of rows before fields) refl q
+      settling false q = settles (is_query fields) (is_look fields) (settle_of before fields) refl q
+
+      by : (b : Bool) → (if b then asked_settling (is_until fields) (is_query fields) (is_look fields) (until_of rows before fields) (settle_of before fields) else asked_event (event_of n lines before fields)) ≡ Ok asked → P asked
+      by true q = settling (is_until fields) q
+      by false q = happens (event_of n lines before fields) refl q
+
+pub asked-lawful : (n lines rows before : ℕ) (fields : List (List ℕ)) (asked : Asked n) → 1 ≤ lines → asked_of n lines rows before fields ≡ Ok asked → IsAskedFor lines before asked
+asked-lawful n lines rows before fields asked some h =
+    asked-so n lines rows before fields (IsAskedFor lines before) (λ event e. event_of-lawful n lines before fields event some e)
+    (λ tick e. (let is = settle-lawful before tick fields e in (is, is, is))) (λ until e. (let is = until-lawful rows before until fields e in (is.0, is.1))) asked h
+
+pub asked-waits : (n lines rows before : ℕ) (fields : List (List ℕ)) (asked : Asked n) → asked_of n lines rows before fields ≡ Ok asked → NamesRow rows asked × IsUnreached before asked
+asked-waits n lines rows before fields asked h =
+    asked-so n lines rows before fields (λ asked. NamesRow rows asked × IsUnreached before asked) (λ event e. (tt, tt)) (λ tick e. ((tt, tt), (tt, tt), (tt, tt)))
+    (λ until e. (let is = until-lawful rows before until fields e in ((is.3, is.4), is.2))) asked h

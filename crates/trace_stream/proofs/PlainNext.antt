@@ -1,5 +1,5 @@
 -- A row that has come whole, of plain bytes.
-use Rattle.std.proofs.Common.{◌≡◌, ℕ, zero, suc, ◌+◌, ◌-◌, ◌<◌, ◌≤◌, ◌==◌, ◌||◌, List, [], ◌∷◌, ◌++◌, length, take, drop, get_or, Bool, true, false, Some, inl, refl, sym, ap, subst, ◌∙◌, arith}
+use Rattle.std.proofs.Common.{◌≡◌, ℕ, zero, suc, ◌+◌, ◌-◌, ◌<◌, ◌≤◌, ◌==◌, List, [], ◌∷◌, ◌++◌, length, take, drop, get_or, Bool, true, false, Some, inl, refl, sym, ap, subst, ◌∙◌, arith}
 use Rattle.std.{specs.List.list_all, specs.Prelude.{option_map, codes, Ok, Err}, specs.Str.bytes_eq, proofs.lemmas.Bool.Decides.nat_tests}
 use Rattle.std.proofs.lemmas.List.{Sums.list_all-from_AllPass, Elements.All-from_get_or}
 use Rattle.std.proofs.lemmas.List.{append-nil, get_or-take, get_or_append_left, length-append, length-drop, length-take-le}
@@ -9,7 +9,7 @@ use Rattle.csv.specs.{Machine.next_record, Reading.default_config}
 use Rattle.csv.specs.declared.parser.State.TheVariants as st
 use Rattle.trace_reader.specs.{Plain.{IsField, IsPlainRow, fields_in, is_plain, piece}, Rows.event_of, declared.event.Event.Event, declared.fault.Kind.Kind, declared.plain.PlainRow.PlainRow}
 use Rattle.trace_reader.proofs.PlainRows.{plain-next}
-use Rattle.trace_stream.specs.{Arrived.{Arrived}, Asked.{IsAskedFor, asked_event, asked_of, is_event_word, is_settle}, Kept.{FindsKept, kept_fields}}
+use Rattle.trace_stream.specs.{Arrived.{Arrived}, Asked.{IsAskedFor, asked_event, asked_of, is_event_word, is_settle, is_settle_word}, Kept.{FindsKept, kept_fields}}
 use Rattle.trace_stream.specs.{Stream.{AsksNext, HasFault, HasFront, IsPlainNext, Standing, asked_from, front_from, is_past, most_streamed}, declared.asked.Asked.TheVariants.Happens}
 use Rattle.trace_stream.proofs.{Judging.asked-kept, KeptRecords.{kept_read, next_kept-is}, Lawful.asked-lawful, Rows.{asks-faulty, asks-some, no-front}}
 use Rattle.trace_stream.specs.declared.fault.StreamFault.TheVariants as fault
@@ -89,17 +89,17 @@ other-word op word event other = by (bytes_eq op word) refl
         cc clash
     by false e = refl
 
-word-settles : (op : List ℕ) → is_event_word op ≡ true → (bytes_eq op (codes "S") || bytes_eq op (codes "Q")) ≡ false
-word-settles op event = rw (other-word op (codes "S") event refl, other-word op (codes "Q") event refl) refl
+word-settles : (op : List ℕ) → is_event_word op ≡ true → is_settle_word op ≡ false
+word-settles op event = rw (other-word op (codes "S") event refl, other-word op (codes "Q") event refl, other-word op (codes "L") event refl, other-word op (codes "U") event refl) refl
 
 event-settles : (a op b c : List ℕ) → is_event_word op ≡ true → is_settle (a ∷ op ∷ b ∷ c ∷ []) ≡ false
 unfolding field_at
 event-settles a op b c event = word-settles op event
 
-pub event-asked : (n lines before : ℕ) (bytes : List ℕ) (row : PlainRow) → is_event_word (piece bytes (row.tick + 1) row.op) ≡ true
-    → asked_of n lines before (fields_in bytes 0 row) ≡ asked_event (event_of n lines before (fields_in bytes 0 row))
+pub event-asked : (n lines rows before : ℕ) (bytes : List ℕ) (row : PlainRow) → is_event_word (piece bytes (row.tick + 1) row.op) ≡ true
+    → asked_of n lines rows before (fields_in bytes 0 row) ≡ asked_event (event_of n lines before (fields_in bytes 0 row))
 unfolding asked_of
-event-asked n lines before bytes row event = rw (event-settles _ _ _ _ event) refl
+event-asked n lines rows before bytes row event = rw (event-settles _ _ _ _ event) refl
 
 -- and it isn't one too many
 pub few-past : (rows : ℕ) (fields : List (List ℕ)) → rows < most_streamed → is_past rows fields ≡ false
@@ -115,8 +115,8 @@ module _ (n : ℕ) (old : Standing) (row : PlainRow) (small : n ≤ 128) (next :
   abbrev pub kept : List (List ℕ)
   kept = kept_fields of_row
 
-  kept-asked : asked_of n old.lines old.tick kept ≡ asked_event (event_of n old.lines old.tick of_row)
-  kept-asked = asked-kept n old.lines old.tick of_row small ∙ event-asked n old.lines old.tick old.arrived.bytes row next.event
+  kept-asked : asked_of n old.lines old.rows old.tick kept ≡ asked_event (event_of n old.lines old.tick of_row)
+  kept-asked = asked-kept n old.lines old.rows old.tick of_row small ∙ event-asked n old.lines old.rows old.tick old.arrived.bytes row next.event
 
   kept-found : (new : Standing) → new.state ≡ st.StartRecord → new.arrived.bytes ≡ drop (row.payload + 1) old.arrived.bytes
       → FindsKept true old.state (old.arrived.bytes ++ []) kept new.state new.arrived
@@ -129,7 +129,7 @@ module _ (n : ℕ) (old : Standing) (row : PlainRow) (small : n ≤ 128) (next :
       asks-some n old new [] kept (Happens event) small (kept-found new state left) (kept-asked ∙ ap asked_event is) (few-past old.rows kept next.few) rows tick lines
 
   pub plain-lawful : (event : Event n) → 1 ≤ old.lines → event_of n old.lines old.tick of_row ≡ Ok event → IsAskedFor old.lines old.tick (Happens event)
-  plain-lawful event some is = asked-lawful n old.lines old.tick kept (Happens event) some (kept-asked ∙ ap asked_event is)
+  plain-lawful event some is = asked-lawful n old.lines old.rows old.tick kept (Happens event) some (kept-asked ∙ ap asked_event is)
 
   pub plain-faulty : (new : Standing) (kind : Kind) → event_of n old.lines old.tick of_row ≡ Err kind
       → new.state ≡ st.StartRecord → new.arrived.bytes ≡ drop (row.payload + 1) old.arrived.bytes

@@ -6,11 +6,12 @@ use Rattle.csv.specs.declared.parser.State.TheVariants as st
 use Rattle.trace_reader.specs.{Records.unended, Rows.event_of, Trace.is_header, declared.fault.Kind.Kind}
 use Rattle.trace_reader.proofs.Reading.{records_from-none, records_from-some, shorter, unended-le}
 use Rattle.trace_reader.specs.declared.fault.Kind.TheVariants as kind
-use Rattle.trace_stream.specs.{Arrived.{Arrived, Comes, StaysEnded}, Asked.{asked_event, asked_of, asked_settle, is_query, is_settle, rows_after, settle_of, tick_asked}}
+use Rattle.trace_stream.specs.{Arrived.{Arrived, Comes, StaysEnded}, Asked.{asked_event, asked_of, asked_settle, asked_settling, asked_until, is_look, is_query, is_settle, is_until, rows_after, settle_of, tick_asked, until_of}}
 use Rattle.trace_stream.specs.Kept.{FindsKept, IsKeptOf, kept_fields, most_fields}
 use Rattle.trace_stream.specs.Stream.{AsksNext, HasFault, HasFront, Opens, Standing, asked_before, asked_from, front_from, front_of, front_records, front_rows, is_past}
 use Rattle.trace_stream.specs.{Stream.{most_streamed, records_left, stream_fault_at, stream_of, stream_records, stream_rows}, declared.asked.Asked.Asked}
-use Rattle.trace_stream.{specs.declared.asked.Asked.TheVariants.{Happens, Settle, Query}, proofs.Judging.{asked-kept, header-kept, is_settle-kept}}
+use Rattle.trace_stream.specs.declared.asked.Until.{Until as Waited}
+use Rattle.trace_stream.{specs.declared.asked.Asked.TheVariants.{Happens, Settle, Query, Look, Until}, proofs.Judging.{asked-kept, header-kept, is_settle-kept}}
 use Rattle.trace_stream.proofs.{KeptRecords.{kept_read, next_kept-is, none-kept, some-is, some-kept}, Steps.comes-back}
 use Rattle.trace_stream.specs.declared.fault.StreamFault.TheVariants as fault
 
@@ -70,9 +71,9 @@ left-none s0 s text kept new h =
 five-differ : (size : ℕ) → size ≡ most_fields → (size == 4) ≡ false
 five-differ size five = rw five refl
 
-five-event : (n lines before : ℕ) (fields : List (List ℕ)) → length fields ≡ most_fields → asked_of n lines before fields ≡ Err kind.Fields
+five-event : (n lines rows before : ℕ) (fields : List (List ℕ)) → length fields ≡ most_fields → asked_of n lines rows before fields ≡ Err kind.Fields
 unfolding asked_of event_of
-five-event n lines before fields five = rw (five-differ (length fields) five) refl
+five-event n lines rows before fields five = rw (five-differ (length fields) five) refl
 
 five-settle : (fields : List (List ℕ)) → length fields ≡ most_fields → is_settle fields ≡ false
 five-settle fields five = rw (five-differ (length fields) five) refl
@@ -82,36 +83,36 @@ unfolding is_header
 five-header fields five = rw (five-differ (length fields) five) refl
 
 -- what is judged of what is kept is true of the record
-abbrev IsJudged : ℕ → ℕ → ℕ → List (List ℕ) → List (List ℕ) → Type 0
-IsJudged n lines before whole kept = (asked_of n lines before whole ≡ asked_of n lines before kept) × (is_settle whole ≡ is_settle kept)
+abbrev IsJudged : ℕ → ℕ → ℕ → ℕ → List (List ℕ) → List (List ℕ) → Type 0
+IsJudged n lines rows before whole kept = (asked_of n lines rows before whole ≡ asked_of n lines rows before kept) × (is_settle whole ≡ is_settle kept)
 
-kept-judged : (n lines before : ℕ) (whole : List (List ℕ)) → n ≤ 128 → IsJudged n lines before whole (kept_fields whole)
-kept-judged n lines before whole small = (sym (asked-kept n lines before whole small), sym (is_settle-kept whole))
+kept-judged : (n lines rows before : ℕ) (whole : List (List ℕ)) → n ≤ 128 → IsJudged n lines rows before whole (kept_fields whole)
+kept-judged n lines rows before whole small = (sym (asked-kept n lines rows before whole small), sym (is_settle-kept whole))
 
-judged : (n lines before : ℕ) (whole kept : List (List ℕ)) (R : Type 0) → n ≤ 128
-    → ((kept_fields whole ≡ kept) × R) ⊎ ((length kept ≡ most_fields) × (length (kept_fields whole) ≡ most_fields)) → IsJudged n lines before whole kept
-judged n lines before whole kept R small (inl is) = subst (λ (fields : List (List ℕ)). IsJudged n lines before whole fields) is.0 (kept-judged n lines before whole small)
-judged n lines before whole kept R small (inr five) =
-    let of = kept-judged n lines before whole small in (
-      of.0 ∙ five-event n lines before (kept_fields whole) five.1 ∙ sym (five-event n lines before kept five.0),
+judged : (n lines rows before : ℕ) (whole kept : List (List ℕ)) (R : Type 0) → n ≤ 128
+    → ((kept_fields whole ≡ kept) × R) ⊎ ((length kept ≡ most_fields) × (length (kept_fields whole) ≡ most_fields)) → IsJudged n lines rows before whole kept
+judged n lines rows before whole kept R small (inl is) = subst (λ (fields : List (List ℕ)). IsJudged n lines rows before whole fields) is.0 (kept-judged n lines rows before whole small)
+judged n lines rows before whole kept R small (inr five) =
+    let of = kept-judged n lines rows before whole small in (
+      of.0 ∙ five-event n lines rows before (kept_fields whole) five.1 ∙ sym (five-event n lines rows before kept five.0),
       of.1 ∙ five-settle (kept_fields whole) five.1 ∙ sym (five-settle kept five.0),
     )
 
 -- a row that asks for something has four fields, so its record is whole
-goes-behind : (n lines before : ℕ) (whole kept : List (List ℕ)) (rest behind : List (List (List ℕ))) (asked : Asked n) → asked_of n lines before kept ≡ Ok asked
+goes-behind : (n lines rows before : ℕ) (whole kept : List (List ℕ)) (rest behind : List (List (List ℕ))) (asked : Asked n) → asked_of n lines rows before kept ≡ Ok asked
     → ((kept_fields whole ≡ kept) × (rest ≡ behind)) ⊎ ((length kept ≡ most_fields) × (length (kept_fields whole) ≡ most_fields)) → rest ≡ behind
-goes-behind n lines before whole kept rest behind asked e (inl is) = is.1
-goes-behind n lines before whole kept rest behind asked e (inr five) =
-    let clash : Err kind.Fields ≡ Ok asked = sym (five-event n lines before kept five.0) ∙ e in
+goes-behind n lines rows before whole kept rest behind asked e (inl is) = is.1
+goes-behind n lines rows before whole kept rest behind asked e (inr five) =
+    let clash : Err kind.Fields ≡ Ok asked = sym (five-event n lines rows before kept five.0) ∙ e in
     cc clash
 
 -- a row
-pub row-asks : (n lines rows before : ℕ) (fields : List (List ℕ)) (rest : List (List (List ℕ))) (asked : Asked n) → is_past rows fields ≡ false → asked_of n lines before fields ≡ Ok asked
+pub row-asks : (n lines rows before : ℕ) (fields : List (List ℕ)) (rest : List (List (List ℕ))) (asked : Asked n) → is_past rows fields ≡ false → asked_of n lines rows before fields ≡ Ok asked
     → stream_rows n lines rows before (fields ∷ rest) ≡ asked_before asked (stream_rows n lines (rows_after rows asked) (tick_asked asked) rest)
 unfolding stream_rows
 row-asks n lines rows before fields rest asked within e = rw (within, e) refl
 
-pub row-faulty : (n lines rows before : ℕ) (fields : List (List ℕ)) (rest : List (List (List ℕ))) (kind : Kind) → is_past rows fields ≡ false → asked_of n lines before fields ≡ Err kind
+pub row-faulty : (n lines rows before : ℕ) (fields : List (List ℕ)) (rest : List (List (List ℕ))) (kind : Kind) → is_past rows fields ≡ false → asked_of n lines rows before fields ≡ Err kind
     → stream_rows n lines rows before (fields ∷ rest) ≡ stream_fault_at (rows + 1) kind
 unfolding stream_rows
 row-faulty n lines rows before fields rest kind within e = rw (within, e) refl
@@ -126,12 +127,12 @@ unfolding stream_rows
 row-none n lines rows before = refl
 
 -- and what stands in front of the first fault
-pub front-asks : (n lines rows before : ℕ) (fields : List (List ℕ)) (rest : List (List (List ℕ))) (asked : Asked n) → is_past rows fields ≡ false → asked_of n lines before fields ≡ Ok asked
+pub front-asks : (n lines rows before : ℕ) (fields : List (List ℕ)) (rest : List (List (List ℕ))) (asked : Asked n) → is_past rows fields ≡ false → asked_of n lines rows before fields ≡ Ok asked
     → front_rows n lines rows before (fields ∷ rest) ≡ asked ∷ front_rows n lines (rows_after rows asked) (tick_asked asked) rest
 unfolding front_rows
 front-asks n lines rows before fields rest asked within e = rw (within, e) refl
 
-pub front-faulty : (n lines rows before : ℕ) (fields : List (List ℕ)) (rest : List (List (List ℕ))) (kind : Kind) → is_past rows fields ≡ false → asked_of n lines before fields ≡ Err kind
+pub front-faulty : (n lines rows before : ℕ) (fields : List (List ℕ)) (rest : List (List (List ℕ))) (kind : Kind) → is_past rows fields ≡ false → asked_of n lines rows before fields ≡ Err kind
     → front_rows n lines rows before (fields ∷ rest) ≡ []
 unfolding front_rows
 front-faulty n lines rows before fields rest kind within e = rw (within, e) refl
@@ -160,14 +161,14 @@ front-rows n old bytes more rows e =
     ∙ ap (front_rows n old.lines old.rows old.tick) e
 
 pub asks-some : (n : ℕ) (old new : Standing) (bytes : List ℕ) (kept : List (List ℕ)) (asked : Asked n) → n ≤ 128
-    → FindsKept true old.state (old.arrived.bytes ++ bytes) kept new.state new.arrived → asked_of n old.lines old.tick kept ≡ Ok asked
+    → FindsKept true old.state (old.arrived.bytes ++ bytes) kept new.state new.arrived → asked_of n old.lines old.rows old.tick kept ≡ Ok asked
     → is_past old.rows kept ≡ false → new.rows ≡ rows_after old.rows asked → new.tick ≡ tick_asked asked → new.lines ≡ old.lines → AsksNext old bytes (Some asked) new
 unfolding asked_from front_from
 asks-some n old new bytes kept asked small h e within rows tick lines = λ more comes.
     let found = left-found old.state new.state (old.arrived.bytes ++ bytes) more kept new.arrived h comes in
-    let same = judged n old.lines old.tick found.0 kept (found.1 ≡ records_left new.state (new.arrived.bytes ++ more)) small found.3 in
+    let same = judged n old.lines old.rows old.tick found.0 kept (found.1 ≡ records_left new.state (new.arrived.bytes ++ more)) small found.3 in
     let not_past = past-judged old.rows found.0 kept false same.1 within in
-    let behind = goes-behind n old.lines old.tick found.0 kept found.1 _ asked e found.3 in (
+    let behind = goes-behind n old.lines old.rows old.tick found.0 kept found.1 _ asked e found.3 in (
       from-rows n old bytes more _ found.2
           ∙ row-asks n old.lines old.rows old.tick found.0 found.1 asked not_past (same.0 ∙ e)
           ∙ ap (λ (rest : List (List (List ℕ))). asked_before asked (stream_rows n old.lines (rows_after old.rows asked) (tick_asked asked) rest)) behind
@@ -185,11 +186,11 @@ asks-none n old new bytes kept h =
     (ap (stream_rows n old.lines old.rows old.tick) (left-none old.state new.state (old.arrived.bytes ++ bytes) kept new.arrived h) ∙ row-none n old.lines old.rows old.tick, h.1)
 
 pub asks-faulty : (n : ℕ) (old new : Standing) (bytes : List ℕ) (kept : List (List ℕ)) (kind : Kind) → n ≤ 128
-    → FindsKept true old.state (old.arrived.bytes ++ bytes) kept new.state new.arrived → asked_of n old.lines old.tick kept ≡ Err kind
+    → FindsKept true old.state (old.arrived.bytes ++ bytes) kept new.state new.arrived → asked_of n old.lines old.rows old.tick kept ≡ Err kind
     → is_past old.rows kept ≡ false → HasFault (asked_from n old) bytes (fault.Trace (record { row = old.rows + 1; kind = kind })) new.arrived.ended
 asks-faulty n old new bytes kept kind small h e within = λ more comes.
     let found = left-found old.state new.state (old.arrived.bytes ++ bytes) more kept new.arrived h comes in
-    let same = judged n old.lines old.tick found.0 kept (found.1 ≡ records_left new.state (new.arrived.bytes ++ more)) small found.3 in
+    let same = judged n old.lines old.rows old.tick found.0 kept (found.1 ≡ records_left new.state (new.arrived.bytes ++ more)) small found.3 in
     from-rows n old bytes more _ found.2
     ∙ row-faulty n old.lines old.rows old.tick found.0 found.1 kind (past-judged old.rows found.0 kept false same.1 within) (same.0 ∙ e)
 
@@ -197,17 +198,17 @@ pub asks-too_many : (n : ℕ) (old new : Standing) (bytes : List ℕ) (kept : Li
     → is_past old.rows kept ≡ true → HasFault (asked_from n old) bytes fault.TooMany new.arrived.ended
 asks-too_many n old new bytes kept small h past = λ more comes.
     let found = left-found old.state new.state (old.arrived.bytes ++ bytes) more kept new.arrived h comes in
-    let same = judged n old.lines old.tick found.0 kept (found.1 ≡ records_left new.state (new.arrived.bytes ++ more)) small found.3 in
+    let same = judged n old.lines old.rows old.tick found.0 kept (found.1 ≡ records_left new.state (new.arrived.bytes ++ more)) small found.3 in
     from-rows n old bytes more _ found.2
     ∙ row-past n old.lines old.rows old.tick found.0 found.1 (past-judged old.rows found.0 kept true same.1 past)
 
 -- behind the rows that were read stands the fault
 pub no-front : (n : ℕ) (old new : Standing) (bytes : List ℕ) (kept : List (List ℕ)) (kind : Kind) → n ≤ 128
-    → FindsKept true old.state (old.arrived.bytes ++ bytes) kept new.state new.arrived → asked_of n old.lines old.tick kept ≡ Err kind
+    → FindsKept true old.state (old.arrived.bytes ++ bytes) kept new.state new.arrived → asked_of n old.lines old.rows old.tick kept ≡ Err kind
     → is_past old.rows kept ≡ false → HasFront (front_from n old) bytes [] new.arrived.ended
 no-front n old new bytes kept kind small h e within = λ more comes.
     let found = left-found old.state new.state (old.arrived.bytes ++ bytes) more kept new.arrived h comes in
-    let same = judged n old.lines old.tick found.0 kept (found.1 ≡ records_left new.state (new.arrived.bytes ++ more)) small found.3 in
+    let same = judged n old.lines old.rows old.tick found.0 kept (found.1 ≡ records_left new.state (new.arrived.bytes ++ more)) small found.3 in
     front-rows n old bytes more _ found.2
     ∙ front-faulty n old.lines old.rows old.tick found.0 found.1 kind (past-judged old.rows found.0 kept false same.1 within) (same.0 ∙ e)
 
@@ -215,17 +216,19 @@ pub no-front-past : (n : ℕ) (old new : Standing) (bytes : List ℕ) (kept : Li
     → is_past old.rows kept ≡ true → HasFront (front_from n old) bytes [] new.arrived.ended
 no-front-past n old new bytes kept small h past = λ more comes.
     let found = left-found old.state new.state (old.arrived.bytes ++ bytes) more kept new.arrived h comes in
-    let same = judged n old.lines old.tick found.0 kept (found.1 ≡ records_left new.state (new.arrived.bytes ++ more)) small found.3 in
+    let same = judged n old.lines old.rows old.tick found.0 kept (found.1 ≡ records_left new.state (new.arrived.bytes ++ more)) small found.3 in
     front-rows n old bytes more _ found.2
     ∙ front-past n old.lines old.rows old.tick found.0 found.1 (past-judged old.rows found.0 kept true same.1 past)
 
 -- how many rows have a number stays within the greatest
-pub happens-counted : (n lines before : ℕ) (fields : List (List ℕ)) (asked : Asked n) (rows : ℕ) → asked_of n lines before fields ≡ Ok asked → rows ≤ most_streamed → is_past rows fields ≡ false
+pub happens-counted : (n lines rows before : ℕ) (fields : List (List ℕ)) (asked : Asked n) → asked_of n lines rows before fields ≡ Ok asked → rows ≤ most_streamed → is_past rows fields ≡ false
     → rows_after rows asked ≤ most_streamed
 unfolding asked_of
-happens-counted n lines before fields (Settle tick) rows e within past = within
-happens-counted n lines before fields (Query tick) rows e within past = within
-happens-counted n lines before fields (Happens event) rows e within past = by (is_settle fields) refl e
+happens-counted n lines rows before fields (Settle tick) e within past = within
+happens-counted n lines rows before fields (Query tick) e within past = within
+happens-counted n lines rows before fields (Look tick) e within past = within
+happens-counted n lines rows before fields (Until until) e within past = within
+happens-counted n lines rows before fields (Happens event) e within past = by (is_settle fields) refl e
   where
     few : (b : Bool) → is_settle fields ≡ b → b ≡ false → rows + 1 ≤ most_streamed
     few b is none =
@@ -239,13 +242,22 @@ happens-counted n lines before fields (Happens event) rows e within past = by (i
         less : (rows == most_streamed) ≡ false → rows + 1 ≤ most_streamed
         less other = grind (arith, nat_tests)
 
-    settles : (query : Bool) (r : Result ℕ Kind) → asked_settle {n = n} query r ≡ Ok (Happens event) → ⊥
-    settles true (Ok tick) q = cc q
-    settles false (Ok tick) q = cc q
-    settles query (Err kind) q = cc q
+    settles : (query look : Bool) (r : Result ℕ Kind) → asked_settle {n = n} query look r ≡ Ok (Happens event) → ⊥
+    settles true look (Ok tick) q = cc q
+    settles false true (Ok tick) q = cc q
+    settles false false (Ok tick) q = cc q
+    settles query look (Err kind) q = cc q
 
-    by : (b : Bool) → is_settle fields ≡ b → (if b then asked_settle (is_query fields) (settle_of before fields) else asked_event (event_of n lines before fields)) ≡ Ok (Happens event) → rows + 1 ≤ most_streamed
-    by true is q = absurd (settles (is_query fields) (settle_of before fields) q)
+    waits : (r : Result Waited Kind) → asked_until {n = n} r ≡ Ok (Happens event) → ⊥
+    waits (Ok until) q = cc q
+    waits (Err kind) q = cc q
+
+    settling : (until : Bool) → asked_settling {n = n} until (is_query fields) (is_look fields) (until_of rows before fields) (settle_of before fields) ≡ Ok (Happens event) → ⊥
+    settling true q = waits (until_of rows before fields) q
+    settling false q = settles (is_query fields) (is_look fields) (settle_of before fields) q
+
+    by : (b : Bool) → is_settle fields ≡ b → (if b then asked_settling (is_until fields) (is_query fields) (is_look fields) (until_of rows before fields) (settle_of before fields) else asked_event (event_of n lines before fields)) ≡ Ok (Happens event) → rows + 1 ≤ most_streamed
+    by true is q = absurd (settling (is_until fields) q)
     by false is q = few (is_settle fields) refl is
 
 -- the header

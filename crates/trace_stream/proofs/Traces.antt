@@ -7,22 +7,29 @@ use Rattle.trace_reader.specs.{Trace.{and_then_rows, event_before, events_of, fa
 use Rattle.trace_reader.specs.{declared.event.EventOp.EventOp, declared.fault.Kind.Kind, declared.fault.ParseFault.ParseFault, declared.fault.TraceFault.TraceFault}
 use Rattle.trace_reader.specs.declared.fault.Kind.TheVariants as kind
 use Rattle.trace_reader.specs.declared.fault.ParseFault.TheVariants as whole
-use Rattle.trace_stream.specs.{Asked.{asked_event, asked_of, asked_settle, is_query, is_settle, rows_after, settle_of, tick_asked}, Laws.{FaultLaw, StreamLaw, TraceLaw, all_events}}
+use Rattle.trace_stream.specs.{Asked.{asked_event, asked_of, asked_settle, asked_settling, asked_until, is_look, is_query, is_settle, is_settle_word, is_until, rows_after, settle_of, tick_asked, until_of}, Laws.{FaultLaw, StreamLaw, TraceLaw, all_events}}
 use Rattle.trace_stream.specs.{Stream.{and_then_asked, asked_before, is_past, most_streamed, stream_fault_at, stream_of, stream_records, stream_rows}, declared.asked.Asked.Asked}
-use Rattle.trace_stream.specs.{declared.asked.Asked.TheVariants.Happens, declared.fault.StreamFault.StreamFault}
+use Rattle.trace_stream.specs.{declared.asked.Asked.TheVariants.Happens, declared.asked.Until.Until as Waited, declared.fault.StreamFault.StreamFault}
 use Rattle.trace_stream.specs.declared.fault.StreamFault.TheVariants as fault
 
 -- an operation to settle is none of a trace
-settle-op : (n lines : ℕ) (op line payload : List ℕ) → (bytes_eq op (codes "S") || bytes_eq op (codes "Q")) ≡ true → op_of n lines op line payload ≡ Err kind.Op
+settle-op : (n lines : ℕ) (op line payload : List ℕ) → is_settle_word op ≡ true → op_of n lines op line payload ≡ Err kind.Op
 unfolding op_of
-settle-op n lines op line payload is = by (bytes_eq op (codes "S")) refl is
+settle-op n lines op line payload is = by (bytes_eq op (codes "S")) (bytes_eq op (codes "Q")) (bytes_eq op (codes "L")) refl refl refl is
   where
-    by : (b : Bool) → bytes_eq op (codes "S") ≡ b → (b || bytes_eq op (codes "Q")) ≡ true → op_of n lines op line payload ≡ Err kind.Op
-    by true e q =
+    by : (b c d : Bool) → bytes_eq op (codes "S") ≡ b → bytes_eq op (codes "Q") ≡ c → bytes_eq op (codes "L") ≡ d → (b || c || d || bytes_eq op (codes "U")) ≡ true
+        → op_of n lines op line payload ≡ Err kind.Op
+    by true c d e f g q =
         let word : op ≡ codes "S" = (bytes_eq-Decides op (codes "S")).0 e in
         rw word refl
-    by false e q =
-        let word : op ≡ codes "Q" = (bytes_eq-Decides op (codes "Q")).0 q in
+    by false true d e f g q =
+        let word : op ≡ codes "Q" = (bytes_eq-Decides op (codes "Q")).0 f in
+        rw word refl
+    by false false true e f g q =
+        let word : op ≡ codes "L" = (bytes_eq-Decides op (codes "L")).0 g in
+        rw word refl
+    by false false false e f g q =
+        let word : op ≡ codes "U" = (bytes_eq-Decides op (codes "U")).0 q in
         rw word refl
 
 and-first : (p q : Bool) → (p && q) ≡ true → p ≡ true
@@ -57,7 +64,7 @@ no-event before None event h = cc h
 no-event before (Some tick) event h = no-event-at tick event (nat_lt tick before) h
 
 -- and its fault, where it isn't the operation, is that of a row that settles
-fault-at-early : {n : ℕ} (tick : ℕ) (bad : Kind) (early : Bool) (rest : Result ℕ Kind) → bad ≢ kind.Op → (if early then Err kind.Order else event_at {n = n} tick (Err kind.Op)) ≡ Err bad
+fault-at-early : {n : ℕ} {T : Type 0} (tick : ℕ) (bad : Kind) (early : Bool) (rest : Result T Kind) → bad ≢ kind.Op → (if early then Err kind.Order else event_at {n = n} tick (Err kind.Op)) ≡ Err bad
     → (if early then Err kind.Order else rest) ≡ Err bad
 fault-at-early tick bad true rest other h =
     let same : kind.Order ≡ bad = cc in
@@ -73,32 +80,55 @@ settle-fault n before fields bad None e other h =
     rw e (ap Err same)
 settle-fault n before fields bad (Some tick) e other h = rw e (fault-at-early {n = n} tick bad (nat_lt tick before) _ other h)
 
+until-fault : (n rows before : ℕ) (fields : List (List ℕ)) (bad : Kind) (tick : Option ℕ) → tick_of (text_at fields 0) ≡ tick → bad ≢ kind.Op → row_by {n = n} before tick (Err kind.Op) ≡ Err bad → until_of rows before fields ≡ Err bad
+unfolding until_of
+until-fault n rows before fields bad None e other h =
+    let same : kind.Tick ≡ bad = cc in
+    rw e (ap Err same)
+until-fault n rows before fields bad (Some tick) e other h = rw e (fault-at-early {n = n} tick bad (nat_lt tick before) _ other h)
+
+settling-fault : (n : ℕ) (until query look : Bool) (waited : Result Waited Kind) (tick : Result ℕ Kind) (bad : Kind) → waited ≡ Err bad → tick ≡ Err bad → asked_settling {n = n} until query look waited tick ≡ Err bad
+settling-fault n true query look waited tick bad e f = ap (asked_until {n = n}) e
+settling-fault n false query look waited tick bad e f = ap (asked_settle {n = n} query look) f
+
 -- a row of a trace is asked as its event
-pub asked-ok : (n lines before : ℕ) (fields : List (List ℕ)) (event : Event n) → event_of n lines before fields ≡ Ok event → asked_of n lines before fields ≡ Ok (Happens event)
+pub asked-ok : (n lines rows before : ℕ) (fields : List (List ℕ)) (event : Event n) → event_of n lines before fields ≡ Ok event → asked_of n lines rows before fields ≡ Ok (Happens event)
 unfolding asked_of
-asked-ok n lines before fields event e = by (is_settle fields) refl
+asked-ok n lines rows before fields event e = by (is_settle fields) refl
   where
-    by : (b : Bool) → is_settle fields ≡ b → (if b then asked_settle (is_query fields) (settle_of before fields) else asked_event (event_of n lines before fields)) ≡ Ok (Happens event)
+    by : (b : Bool) → is_settle fields ≡ b → (if b then asked_settling (is_until fields) (is_query fields) (is_look fields) (until_of rows before fields) (settle_of before fields) else asked_event (event_of n lines before fields)) ≡ Ok (Happens event)
     by true is = absurd (no-event before (tick_of (text_at fields 0)) event (sym (settle-event n lines before fields is) ∙ e))
     by false is = rw e refl
 
-asked-err : (n lines before : ℕ) (fields : List (List ℕ)) (bad : Kind) → bad ≢ kind.Op → event_of n lines before fields ≡ Err bad → asked_of n lines before fields ≡ Err bad
+asked-err : (n lines rows before : ℕ) (fields : List (List ℕ)) (bad : Kind) → bad ≢ kind.Op → event_of n lines before fields ≡ Err bad → asked_of n lines rows before fields ≡ Err bad
 unfolding asked_of
-asked-err n lines before fields bad other e = by (is_settle fields) refl
+asked-err n lines rows before fields bad other e = by (is_settle fields) refl
   where
-    by : (b : Bool) → is_settle fields ≡ b → (if b then asked_settle {n = n} (is_query fields) (settle_of before fields) else asked_event (event_of n lines before fields)) ≡ Err bad
-    by true is = rw (settle-fault n before fields bad (tick_of (text_at fields 0)) refl other (sym (settle-event n lines before fields is) ∙ e)) refl
+    by : (b : Bool) → is_settle fields ≡ b → (if b then asked_settling {n = n} (is_until fields) (is_query fields) (is_look fields) (until_of rows before fields) (settle_of before fields) else asked_event (event_of n lines before fields)) ≡ Err bad
+    by true is =
+        let none = sym (settle-event n lines before fields is) ∙ e in
+        settling-fault n (is_until fields) (is_query fields) (is_look fields) (until_of rows before fields) (settle_of before fields) bad
+        (until-fault n rows before fields bad (tick_of (text_at fields 0)) refl other none) (settle-fault n before fields bad (tick_of (text_at fields 0)) refl other none)
     by false is = rw e refl
 
 -- and what is asked as an event is an event
-pub event-asked : (n lines before : ℕ) (fields : List (List ℕ)) (event : Event n) → asked_of n lines before fields ≡ Ok (Happens event) → event_of n lines before fields ≡ Ok event
+pub event-asked : (n lines rows before : ℕ) (fields : List (List ℕ)) (event : Event n) → asked_of n lines rows before fields ≡ Ok (Happens event) → event_of n lines before fields ≡ Ok event
 unfolding asked_of
-event-asked n lines before fields event h = by (is_settle fields) h
+event-asked n lines rows before fields event h = by (is_settle fields) h
   where
-    settles : (query : Bool) (r : Result ℕ Kind) → asked_settle {n = n} query r ≡ Ok (Happens event) → event_of n lines before fields ≡ Ok event
-    settles true (Ok tick) q = cc q
-    settles false (Ok tick) q = cc q
-    settles query (Err kind) q = cc q
+    settles : (query look : Bool) (r : Result ℕ Kind) → asked_settle {n = n} query look r ≡ Ok (Happens event) → event_of n lines before fields ≡ Ok event
+    settles true look (Ok tick) q = cc q
+    settles false true (Ok tick) q = cc q
+    settles false false (Ok tick) q = cc q
+    settles query look (Err kind) q = cc q
+
+    waits : (r : Result Waited Kind) → asked_until {n = n} r ≡ Ok (Happens event) → event_of n lines before fields ≡ Ok event
+    waits (Ok until) q = cc q
+    waits (Err kind) q = cc q
+
+    settling : (until : Bool) → asked_settling {n = n} until (is_query fields) (is_look fields) (until_of rows before fields) (settle_of before fields) ≡ Ok (Happens event) → event_of n lines before fields ≡ Ok event
+    settling true q = waits (until_of rows before fields) q
+    settling false q = settles (is_query fields) (is_look fields) (settle_of before fields) q
 
     happens : (r : Result (Event n) Kind) → asked_event r ≡ Ok (Happens event) → r ≡ Ok event
     happens (Ok found) q =
@@ -106,8 +136,8 @@ event-asked n lines before fields event h = by (is_settle fields) h
         ap Ok same
     happens (Err kind) q = cc q
 
-    by : (b : Bool) → (if b then asked_settle (is_query fields) (settle_of before fields) else asked_event (event_of n lines before fields)) ≡ Ok (Happens event) → event_of n lines before fields ≡ Ok event
-    by true q = settles (is_query fields) (settle_of before fields) q
+    by : (b : Bool) → (if b then asked_settling (is_until fields) (is_query fields) (is_look fields) (until_of rows before fields) (settle_of before fields) else asked_event (event_of n lines before fields)) ≡ Ok (Happens event) → event_of n lines before fields ≡ Ok event
+    by true q = settling (is_until fields) q
     by false q = happens (event_of n lines before fields) q
 
 -- one row in front of others
@@ -140,16 +170,16 @@ rows-stream n lines rows before (fields ∷ rest) events h = by (nat_lt most_row
   where
     then-row : (r : Result (Event n) Kind) → event_of n lines before fields ≡ r → and_then_rows (rows + 1) r (λ event. rows_from n lines (rows + 1 + 1) event.tick rest) ≡ Ok events
         → ((event : Event n) (behind : List (Event n)) → rows_from n lines (rows + 1 + 1) event.tick rest ≡ Ok behind → stream_rows n lines (rows + 1) event.tick rest ≡ Ok (all_events behind))
-        → and_then_asked (rows + 1) (asked_of n lines before fields) (λ asked. stream_rows n lines (rows_after rows asked) (tick_asked asked) rest) ≡ Ok (all_events events)
+        → and_then_asked (rows + 1) (asked_of n lines rows before fields) (λ asked. stream_rows n lines (rows_after rows asked) (tick_asked asked) rest) ≡ Ok (all_events events)
     then-row (Err kind) e q more = cc q
     then-row (Ok event) e q more =
         let behind = behind-ok event (rows_from n lines (rows + 1 + 1) event.tick rest) events q in
         let streamed = more event behind.0 behind.1 in
-        rw (asked-ok n lines before fields event e, streamed) (ap (λ (es : List (Event n)). Ok (all_events es)) behind.2)
+        rw (asked-ok n lines rows before fields event e, streamed) (ap (λ (es : List (Event n)). Ok (all_events es)) behind.2)
 
     by : (b : Bool) → nat_lt most_rows (rows + 1) ≡ b → (if b then Err whole.TooMany else and_then_rows (rows + 1) (event_of n lines before fields) (λ event. rows_from n lines (rows + 1 + 1) event.tick rest)) ≡ Ok events
         → ((event : Event n) (behind : List (Event n)) → rows_from n lines (rows + 1 + 1) event.tick rest ≡ Ok behind → stream_rows n lines (rows + 1) event.tick rest ≡ Ok (all_events behind))
-        → (if is_past rows fields then Err fault.TooMany else and_then_asked (rows + 1) (asked_of n lines before fields) (λ asked. stream_rows n lines (rows_after rows asked) (tick_asked asked) rest)) ≡ Ok (all_events events)
+        → (if is_past rows fields then Err fault.TooMany else and_then_asked (rows + 1) (asked_of n lines rows before fields) (λ asked. stream_rows n lines (rows_after rows asked) (tick_asked asked) rest)) ≡ Ok (all_events events)
     by true e q more = cc q
     by false e q more = rw (within rows fields e) (then-row (event_of n lines before fields) refl q more)
 
@@ -160,18 +190,18 @@ rows-fault n lines rows before (fields ∷ rest) found other h = by (nat_lt most
   where
     then-row : (r : Result (Event n) Kind) → event_of n lines before fields ≡ r → and_then_rows (rows + 1) r (λ event. rows_from n lines (rows + 1 + 1) event.tick rest) ≡ Err (whole.Trace found)
         → ((event : Event n) → rows_from n lines (rows + 1 + 1) event.tick rest ≡ Err (whole.Trace found) → stream_rows n lines (rows + 1) event.tick rest ≡ Err (fault.Trace found))
-        → and_then_asked (rows + 1) (asked_of n lines before fields) (λ asked. stream_rows n lines (rows_after rows asked) (tick_asked asked) rest) ≡ Err (fault.Trace found)
+        → and_then_asked (rows + 1) (asked_of n lines rows before fields) (λ asked. stream_rows n lines (rows_after rows asked) (tick_asked asked) rest) ≡ Err (fault.Trace found)
     then-row (Err bad) e q more =
         let same : record { row = rows + 1; kind = bad } ≡ found = cc in
         let kinds : bad ≡ found.kind = ap (λ (f : TraceFault). f.kind) same in
-        rw (asked-err n lines before fields bad (λ is. other (sym kinds ∙ is)) e) (ap (λ (f : TraceFault). Err (fault.Trace f)) same)
+        rw (asked-err n lines rows before fields bad (λ is. other (sym kinds ∙ is)) e) (ap (λ (f : TraceFault). Err (fault.Trace f)) same)
     then-row (Ok event) e q more =
         let behind = behind-err event (rows_from n lines (rows + 1 + 1) event.tick rest) (whole.Trace found) q in
-        rw (asked-ok n lines before fields event e, more event behind) refl
+        rw (asked-ok n lines rows before fields event e, more event behind) refl
 
     by : (b : Bool) → nat_lt most_rows (rows + 1) ≡ b → (if b then Err whole.TooMany else and_then_rows (rows + 1) (event_of n lines before fields) (λ event. rows_from n lines (rows + 1 + 1) event.tick rest)) ≡ Err (whole.Trace found)
         → ((event : Event n) → rows_from n lines (rows + 1 + 1) event.tick rest ≡ Err (whole.Trace found) → stream_rows n lines (rows + 1) event.tick rest ≡ Err (fault.Trace found))
-        → (if is_past rows fields then Err fault.TooMany else and_then_asked (rows + 1) (asked_of n lines before fields) (λ asked. stream_rows n lines (rows_after rows asked) (tick_asked asked) rest)) ≡ Err (fault.Trace found)
+        → (if is_past rows fields then Err fault.TooMany else and_then_asked (rows + 1) (asked_of n lines rows before fields) (λ asked. stream_rows n lines (rows_after rows asked) (tick_asked asked) rest)) ≡ Err (fault.Trace found)
     by true e q more = cc q
     by false e q more = rw (within rows fields e) (then-row (event_of n lines before fields) refl q more)
 
@@ -198,31 +228,31 @@ stream-rows-back n lines rows before (fields ∷ rest) [] few h = by (is_past ro
     then-row (Err e) q = cc q
     then-row (Ok asked) q = nothing-asked asked _ q
 
-    by : (b : Bool) → (if b then Err fault.TooMany else and_then_asked (rows + 1) (asked_of n lines before fields) (λ asked. stream_rows n lines (rows_after rows asked) (tick_asked asked) rest)) ≡ Ok []
+    by : (b : Bool) → (if b then Err fault.TooMany else and_then_asked (rows + 1) (asked_of n lines rows before fields) (λ asked. stream_rows n lines (rows_after rows asked) (tick_asked asked) rest)) ≡ Ok []
         → (if nat_lt most_rows (rows + 1) then Err whole.TooMany else and_then_rows (rows + 1) (event_of n lines before fields) (λ event. rows_from n lines (rows + 1 + 1) event.tick rest)) ≡ Ok []
     by true q = cc q
-    by false q = absurd (then-row (asked_of n lines before fields) q)
+    by false q = absurd (then-row (asked_of n lines rows before fields) q)
 stream-rows-back n lines rows before (fields ∷ rest) (event ∷ events) few h =
     by (is_past rows fields) h (stream-rows-back n lines (rows + 1) event.tick rest events (omega arith))
   where
-    then-row : (r : Result (Asked n) Kind) → asked_of n lines before fields ≡ r
+    then-row : (r : Result (Asked n) Kind) → asked_of n lines rows before fields ≡ r
         → and_then_asked (rows + 1) r (λ asked. stream_rows n lines (rows_after rows asked) (tick_asked asked) rest) ≡ Ok (Happens event ∷ all_events events)
         → (stream_rows n lines (rows + 1) event.tick rest ≡ Ok (all_events events) → rows_from n lines (rows + 1 + 1) event.tick rest ≡ Ok events)
         → and_then_rows (rows + 1) (event_of n lines before fields) (λ event. rows_from n lines (rows + 1 + 1) event.tick rest) ≡ Ok (event ∷ events)
     then-row (Err e) is q more = cc q
     then-row (Ok asked) is q more =
         let behind = behind-asked asked (stream_rows n lines (rows_after rows asked) (tick_asked asked) rest) event events q in
-        let found = event-asked n lines before fields event (is ∙ ap Ok behind.0) in
+        let found = event-asked n lines rows before fields event (is ∙ ap Ok behind.0) in
         let others = more (ap (λ (a : Asked n). stream_rows n lines (rows_after rows a) (tick_asked a) rest) (sym behind.0) ∙ behind.1) in
         rw (found, others) refl
 
-    by : (b : Bool) → (if b then Err fault.TooMany else and_then_asked (rows + 1) (asked_of n lines before fields) (λ asked. stream_rows n lines (rows_after rows asked) (tick_asked asked) rest)) ≡ Ok (Happens event ∷ all_events events)
+    by : (b : Bool) → (if b then Err fault.TooMany else and_then_asked (rows + 1) (asked_of n lines rows before fields) (λ asked. stream_rows n lines (rows_after rows asked) (tick_asked asked) rest)) ≡ Ok (Happens event ∷ all_events events)
         → (stream_rows n lines (rows + 1) event.tick rest ≡ Ok (all_events events) → rows_from n lines (rows + 1 + 1) event.tick rest ≡ Ok events)
         → (if nat_lt most_rows (rows + 1) then Err whole.TooMany else and_then_rows (rows + 1) (event_of n lines before fields) (λ event. rows_from n lines (rows + 1 + 1) event.tick rest)) ≡ Ok (event ∷ events)
     by true q more = cc q
     by false q more =
         let allowed : nat_lt most_rows (rows + 1) ≡ false = grind (arith, nat_tests) in
-        rw allowed (then-row (asked_of n lines before fields) refl q more)
+        rw allowed (then-row (asked_of n lines rows before fields) refl q more)
 
 pub stream-traces : StreamLaw
 unfolding trace_of events_of stream_of stream_records

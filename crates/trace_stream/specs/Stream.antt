@@ -47,7 +47,7 @@ module _ (n lines : ℕ) where
   stream_rows rows before [] = Ok []
   stream_rows rows before (fields ∷ rest) =
       if is_past rows fields then Err fault.TooMany
-      else and_then_asked (rows + 1) (asked_of n lines before fields) (λ asked. stream_rows (rows_after rows asked) (tick_asked asked) rest)
+      else and_then_asked (rows + 1) (asked_of n lines rows before fields) (λ asked. stream_rows (rows_after rows asked) (tick_asked asked) rest)
 
   -- what the records ask: the first is the header, row 0
   unfoldable pub stream_records : List (List (List ℕ)) → Result (List (Asked n)) StreamFault
@@ -63,7 +63,7 @@ module _ (n lines : ℕ) where
   front_rows rows before [] = []
   front_rows rows before (fields ∷ rest) =
       if is_past rows fields then []
-      else up_to_fault (asked_of n lines before fields) (λ asked. front_rows (rows_after rows asked) (tick_asked asked) rest)
+      else up_to_fault (asked_of n lines rows before fields) (λ asked. front_rows (rows_after rows asked) (tick_asked asked) rest)
 
   unfoldable pub front_records : List (List (List ℕ)) → List (Asked n)
   front_records [] = []

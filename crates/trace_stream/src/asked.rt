@@ -2,7 +2,7 @@
 ghost use Rattle.std.specs.Prelude.{◌≡◌, ◌<◌, ◌≤◌};
 ghost use Rattle.trace_reader.specs.Rows.{event_of};
 ghost use Rattle.trace_reader.specs.Trace.{is_header};
-ghost use Rattle.trace_stream.specs.Asked.{asked_of, is_event_word, is_query, is_settle, rows_after, settle_of, tick_asked};
+ghost use Rattle.trace_stream.specs.Asked.{asked_of, is_event_word, is_look, is_query, is_settle, is_settle_word, is_until, row_of, rows_after, settle_of, tick_asked, tick_named, until_of};
 
 use crate::kept::Gathered;
 use trace_reader::{Event, Kind, LATEST_TICK, number, read_fields};
@@ -16,16 +16,43 @@ pub enum Asked<const B: usize> {
     Settle(u64),
     /// Every bank comes to this tick, and what waits in each then is asked. The row has no number.
     Query(u64),
+    /// Every bank comes to this tick, and how worn the module is then is asked. The row has no number.
+    Look(u64),
+    /// Every bank goes on until a row has its outcome. The row has no number.
+    Until(Until),
+}
+
+/// A settle until a row has its outcome: the module goes on to the first tick behind which it has, not before the one at which it stands.
+#[derive(Clone, Copy, Debug, PartialEq)]
+pub struct Until {
+    /// The number of the row that is waited for, from 1.
+    pub row: u32,
+    /// The tick behind which the module doesn't go: that of the row that asks.
+    pub limit: u64,
+    /// The tick that was reached; of a row that isn't served yet, the tick of the row before it.
+    pub reached: u64,
 }
 
 impl<const B: usize> Asked<B> {
-    /// The tick of the row.
+    /// The tick that is reached by the row. A row behind it has none below.
     pub fn tick(&self) -> u64
         ensures { result ≡ tick_asked self.now }
     {
         match self {
             Asked::Happens(event) => event.tick,
-            Asked::Settle(tick) | Asked::Query(tick) => *tick,
+            Asked::Settle(tick) | Asked::Query(tick) | Asked::Look(tick) => *tick,
+            Asked::Until(until) => until.reached,
+        }
+    }
+
+    /// The tick that the row names: at most it is reached.
+    pub fn named(&self) -> u64
+        ensures { result ≡ tick_named self.now }
+    {
+        match self {
+            Asked::Happens(event) => event.tick,
+            Asked::Settle(tick) | Asked::Query(tick) | Asked::Look(tick) => *tick,
+            Asked::Until(until) => until.limit,
         }
     }
 
@@ -36,7 +63,7 @@ impl<const B: usize> Asked<B> {
     {
         match self {
             Asked::Happens(_) => rows + 1,
-            Asked::Settle(_) | Asked::Query(_) => rows,
+            Asked::Settle(_) | Asked::Query(_) | Asked::Look(_) | Asked::Until(_) => rows,
         }
     }
 }
@@ -53,11 +80,21 @@ pub fn is_header_row(row: &Gathered) -> bool
         && row.field(3) == b"data".as_slice()
 }
 
-/// Whether it is a row that settles, right or wrong, as a query does.
+/// Whether it is a row that settles, right or wrong, as a query, a look and a settle until do.
 pub fn is_settle_row(row: &Gathered) -> bool
     ensures { result ≡ is_settle row.now.fields }
 {
-    row.count() == 4 && (row.field(1) == b"S".as_slice() || is_query_row(row))
+    row.count() == 4 && is_settle_word(row.field(1))
+}
+
+// Whether a word is that of a row that settles.
+fn is_settle_word(op: &[u8]) -> bool
+    ensures { result ≡ is_settle_word op.now }
+{
+    match op {
+        b"S" | b"Q" | b"L" | b"U" => true,
+        _ => false,
+    }
 }
 
 // Whether a row that settles is a query.
@@ -65,6 +102,20 @@ fn is_query_row(row: &Gathered) -> bool
     ensures { result ≡ is_query row.now.fields }
 {
     row.field(1) == b"Q".as_slice()
+}
+
+// Whether a row that settles is a look.
+fn is_look_row(row: &Gathered) -> bool
+    ensures { result ≡ is_look row.now.fields }
+{
+    row.field(1) == b"L".as_slice()
+}
+
+// Whether it is a settle until.
+fn is_until_row(row: &Gathered) -> bool
+    ensures { result ≡ is_until row.now.fields }
+{
+    row.field(1) == b"U".as_slice()
 }
 
 /// Whether an operation is a read, a write or a cut, which every trace has.
@@ -94,6 +145,36 @@ fn read_settle(row: &Gathered, before: u64) -> Result<u64, Kind>
     }
 }
 
+// The number of one of so many rows.
+fn read_row(text: &[u8], rows: u32) -> Option<u32>
+    ensures { result ≡ row_of rows text.now }
+{
+    match number(text, 10, rows as u64)? {
+        0 => None,
+        row => Some(row as u32),
+    }
+}
+
+// A settle until, behind so many rows with a number.
+#[tactic(auto, unfolding(crate::specs::Asked::until_of))]
+fn read_until(row: &Gathered, rows: u32, before: u64) -> Result<Until, Kind>
+    ensures { result ≡ until_of rows before row.now.fields }
+{
+    let limit = number(row.field(0), 13, LATEST_TICK).ok_or(Kind::Tick)?;
+    if limit < before {
+        return Err(Kind::Order);
+    }
+    let named = read_row(row.field(2), rows).ok_or(Kind::Line)?;
+    if !row.field(3).is_empty() {
+        return Err(Kind::Payload);
+    }
+    Ok(Until {
+        row: named,
+        limit,
+        reached: before,
+    })
+}
+
 // What happens by a row that doesn't settle.
 #[tactic(auto, unfolding(trace_reader::specs::Rows::event_of))]
 fn read_event<const B: usize>(row: &Gathered, lines: u32, before: u64) -> Result<Event<B>, Kind>
@@ -113,18 +194,28 @@ fn read_event<const B: usize>(row: &Gathered, lines: u32, before: u64) -> Result
     )
 }
 
-/// What a record asks for as a row, by what is kept of it, where the row before has the tick `before`.
+/// What a record asks for as a row, by what is kept of it, where so many rows before it have a number, and the row before has the tick `before`.
 #[tactic(auto, unfolding(crate::specs::Asked::asked_of))]
-pub fn read_asked<const B: usize>(row: &Gathered, lines: u32, before: u64) -> Result<Asked<B>, Kind>
+pub fn read_asked<const B: usize>(
+    row: &Gathered,
+    lines: u32,
+    rows: u32,
+    before: u64,
+) -> Result<Asked<B>, Kind>
     requires { 1 ≤ lines }
-    ensures { result ≡ asked_of B lines before row.now.fields }
+    ensures { result ≡ asked_of B lines rows before row.now.fields }
 {
     if !is_settle_row(row) {
         return Ok(Asked::Happens(read_event(row, lines, before)?));
     }
+    if is_until_row(row) {
+        return Ok(Asked::Until(read_until(row, rows, before)?));
+    }
     let tick = read_settle(row, before)?;
     if is_query_row(row) {
         Ok(Asked::Query(tick))
+    } else if is_look_row(row) {
+        Ok(Asked::Look(tick))
     } else {
         Ok(Asked::Settle(tick))
     }

@@ -4,7 +4,7 @@ ghost use Rattle.std.specs.Io.KnownBytes.{IsAtEnd};
 ghost use Rattle.pcm_io.specs.Faults.{Rose};
 ghost use Rattle.pcm_io.specs.Taking.{Takes};
 ghost use Rattle.trace_stream.specs.Arrived.{StaysEnded};
-ghost use Rattle.trace_stream.specs.Asked.{IsAskedFor, rows_after, tick_asked};
+ghost use Rattle.trace_stream.specs.Asked.{IsAskedFor, IsUnreached, NamesRow, rows_after, tick_asked};
 ghost use Rattle.trace_stream.specs.Kept.{LacksHeader, decides};
 ghost use Rattle.trace_stream.specs.Stream.{AsksNext, HasFault, HasFront, IsOfText, IsPlainNext, Opens, asked_from, front_from, front_of, is_past, stream_of};
 
@@ -113,6 +113,8 @@ impl TraceStream {
         requires { B ≤ 128 }
         ensures next { IfSome result (λ asked. AsksNext self.old [] (Some asked) self.new) }
         ensures lawful { IfSome result (λ asked. IsAskedFor self.old.lines self.old.tick asked) }
+        ensures waits { IfSome result (λ asked. NamesRow self.old.rows asked
+            × IsUnreached self.old.tick asked) }
         ensures row { IfSome result (λ asked. (self.new.rows ≡ rows_after self.old.rows asked)
             × (self.new.rows ≤ MOST_STREAMED) × (self.new.tick ≡ tick_asked asked)) }
         ensures lines { self.new.lines ≡ self.old.lines }
@@ -153,6 +155,8 @@ impl TraceStream {
             × (decides self.old.state 0 (self.old.arrived.bytes ++ bytes) ≡ false) }
         ensures lawful { IfOk result (λ next. IfSome next
             (λ asked. IsAskedFor self.old.lines self.old.tick asked)) }
+        ensures waits { IfOk result (λ next. IfSome next
+            (λ asked. NamesRow self.old.rows asked × IsUnreached self.old.tick asked)) }
         ensures row { IfOk result (λ next. IfSome next (λ asked. (self.new.rows
             ≡ rows_after self.old.rows asked)
             × (self.new.rows ≤ MOST_STREAMED) × (self.new.tick ≡ tick_asked asked))) }
@@ -187,7 +191,7 @@ impl TraceStream {
         if is_past(self.rows, row) {
             return Err(StreamFault::TooMany);
         }
-        match read_asked(row, self.lines, self.tick) {
+        match read_asked(row, self.lines, self.rows, self.tick) {
             Ok(asked) => {
                 self.rows = asked.rows_after(self.rows);
                 self.tick = asked.tick();
@@ -224,6 +228,8 @@ impl TraceStream {
         ensures ok { IfOk result (λ next. AsksNext self.old [] next self.new) }
         ensures lawful { IfOk result (λ next. IfSome next
             (λ asked. IsAskedFor self.old.lines self.old.tick asked)) }
+        ensures waits { IfOk result (λ next. IfSome next
+            (λ asked. NamesRow self.old.rows asked × IsUnreached self.old.tick asked)) }
         ensures row { IfOk result (λ next. IfSome next (λ asked. (self.new.rows
             ≡ rows_after self.old.rows asked)
             × (self.new.rows ≤ MOST_STREAMED) × (self.new.tick ≡ tick_asked asked))) }

@@ -4,7 +4,7 @@ use Rattle.trace_stream.specs.Stream.{Opens}
 use Rattle.trace_stream.specs.declared.fault.StreamFault.TheVariants as fault
 use Rattle.row_printer.specs.{Printing.table_told, Refusing.any_refused}
 use Rattle.row_stream.{specs.Serving.{IsServing, told_so_far}, specs.declared.stop.Stop.TheVariants.Output, proofs.Refusals.{ends-all, ends-there, may-go-on, none-first, still-none, went-first}}
-use Rattle.row_stream.proofs.Rows.{asked_fits, come-none, far-no-next, fed-come, fed-ended, fed-first, fed-given, fed-no-next, fed-same, fed-so-far, next-asked, next-few, open-stopped}
+use Rattle.row_stream.proofs.Rows.{asked_fits, come-none, far-late, far-no-next, fed-come, fed-ended, fed-first, fed-given, fed-late, fed-no-next, fed-same, fed-so-far, next-asked, next-few, next-named, open-stopped}
 use Rattle.row_stream.proofs.reading.serve_source.Goals as goal
 
 pub returns-in_default-clause-stopped : goal.returns-in_default-clause-stopped
@@ -58,8 +58,11 @@ serve-requires g c =
           (
             c.requires.layout,
             (
-              next-asked s.0 s.1 g.S.Source.left g.S.Source.taken g.S.Source.faults c.args.source.now c.rows.pcm (g.A.CellArray.state c.rows.array) out.rows out.told out.prints out.snapshots c.rows.source c.rows.stream c.rows.behind c.rows.counter had c.in-Ok-Some.asked given.lawful,
-              (next-few s.0 s.1 g.S.Source.left g.S.Source.taken g.S.Source.faults c.args.source.now c.rows.pcm (g.A.CellArray.state c.rows.array) out.rows out.told out.prints out.snapshots c.rows.source c.rows.stream c.rows.behind c.rows.counter had, record { raw = s.0; seed = s.1; before = had.asked; serving = had.serving }),
+              next-asked s.0 s.1 g.S.Source.left g.S.Source.taken g.S.Source.faults c.args.source.now c.rows.pcm (g.A.CellArray.state c.rows.array) out.rows out.told out.prints out.snapshots c.rows.source c.rows.stream c.rows.behind c.rows.counter had c.in-Ok-Some.asked given.lawful (omega (arith, c.named.ensures, c.tick.ensures, c.if-named-tick.false)),
+              (
+                next-named s.0 s.1 g.S.Source.left g.S.Source.taken g.S.Source.faults c.args.source.now c.rows.pcm (g.A.CellArray.state c.rows.array) out.rows out.told out.prints out.snapshots c.rows.source c.rows.stream c.rows.behind c.rows.counter had c.in-Ok-Some.asked given.waits.0,
+                (next-few s.0 s.1 g.S.Source.left g.S.Source.taken g.S.Source.faults c.args.source.now c.rows.pcm (g.A.CellArray.state c.rows.array) out.rows out.told out.prints out.snapshots c.rows.source c.rows.stream c.rows.behind c.rows.counter had, record { raw = s.0; seed = s.1; before = had.asked; serving = had.serving }),
+              ),
             ),
           ),
         ),
@@ -76,7 +79,7 @@ rows-preserved g c = record {
       let none : c.args.stops ≡ true → any_refused (table_told out) ≡ false = λ is. rw (c.next_row.ensures.rows, c.next_row.ensures.told) (c.rows.invariant.none is) in
       let given = rw c.in-Ok-Some.field-0-is at c.in-Ok-Some.ensures.ok in
       let more = fed-given raw seed g.S.Source.left g.S.Source.taken g.S.Source.faults c.args.source.now c.rows.pcm (g.A.CellArray.state c.rows.array) out.rows out.told out.prints out.snapshots c.rows.source c.rows.stream c.rows.behind c.rows.counter had c.serve.new.pcm (g.A.CellArray.state c.serve.new.array) c.serve.new.out.rows c.serve.new.out.told c.serve.new.out.prints c.serve.new.out.snapshots c.next_row.new.source c.next_row.new.stream c.in-Ok-Some.asked c.behind_asked-behind.result
-      (λ served. c.serve.ensures.serves.serving raw seed had.asked served) none c.behind_asked-behind.ensures given in
+      c.serve.new.pcm.tick (λ served. c.serve.ensures.serves.serving raw seed had.asked served) none c.behind_asked-behind.ensures given in
       more;
   «end» = let given = rw c.in-Ok-Some.field-0-is at c.in-Ok-Some.ensures.ok in given.at_end c.rows.invariant.end;
   prints = c.serve.ensures.serves.prints ∙ c.next_row.ensures.prints ∙ c.rows.invariant.prints;
@@ -85,6 +88,54 @@ rows-preserved g c = record {
   wear = c.serve.ensures.serves.wear ∙ c.rows.invariant.wear;
   calm = let given = rw c.in-Ok-Some.field-0-is at c.in-Ok-Some.ensures.ok in given.calm ∙ c.rows.invariant.calm;
 }
+
+pub named-requires : goal.named-requires
+named-requires g c = asked_fits g.row.B c.requires.layout.shape.1
+
+pub stop_late-requires : goal.stop_late-requires
+stop_late-requires g c =
+    let s = c.requires.begins in
+    let was = c.rows.invariant.came s.0 s.1 s.2 in
+    let out = c.next_row.new.out in
+    let had = fed-same s.0 s.1 g.S.Source.left g.S.Source.taken g.S.Source.faults c.args.source.now c.rows.pcm (g.A.CellArray.state c.rows.array) c.rows.out.rows c.rows.out.told c.rows.out.prints c.rows.out.snapshots c.rows.source c.rows.stream c.rows.behind c.rows.counter was out.rows out.told out.prints out.snapshots c.next_row.ensures.rows c.next_row.ensures.told c.next_row.ensures.prints c.next_row.ensures.snapshots in
+    (omega arith, next-few s.0 s.1 g.S.Source.left g.S.Source.taken g.S.Source.faults c.args.source.now c.rows.pcm (g.A.CellArray.state c.rows.array) out.rows out.told out.prints out.snapshots c.rows.source c.rows.stream c.rows.behind c.rows.counter had)
+
+pub returns-then-named-tick-clause-few : goal.returns-then-named-tick-clause-few
+returns-then-named-tick-clause-few g c =
+    let s = c.requires.begins in
+    let was = c.rows.invariant.came s.0 s.1 s.2 in
+    let out = c.next_row.new.out in
+    let had = fed-same s.0 s.1 g.S.Source.left g.S.Source.taken g.S.Source.faults c.args.source.now c.rows.pcm (g.A.CellArray.state c.rows.array) c.rows.out.rows c.rows.out.told c.rows.out.prints c.rows.out.snapshots c.rows.source c.rows.stream c.rows.behind c.rows.counter was out.rows out.told out.prints out.snapshots c.next_row.ensures.rows c.next_row.ensures.told c.next_row.ensures.prints c.next_row.ensures.snapshots in
+    let now = c.stop_late.new.out in
+    let last = fed-same s.0 s.1 g.S.Source.left g.S.Source.taken g.S.Source.faults c.args.source.now c.rows.pcm (g.A.CellArray.state c.rows.array) out.rows out.told out.prints out.snapshots c.rows.source c.rows.stream c.rows.behind c.rows.counter had now.rows now.told now.prints now.snapshots c.stop_late.ensures.rows c.stop_late.ensures.told c.stop_late.ensures.prints c.stop_late.ensures.snapshots in
+    next-few s.0 s.1 g.S.Source.left g.S.Source.taken g.S.Source.faults c.args.source.now c.rows.pcm (g.A.CellArray.state c.rows.array) now.rows now.told now.prints now.snapshots c.rows.source c.rows.stream c.rows.behind c.rows.counter last
+
+pub returns-then-named-tick-clause-stopped : goal.returns-then-named-tick-clause-stopped
+returns-then-named-tick-clause-stopped g c = λ raw seed start.
+    let was = c.rows.invariant.came raw seed start in
+    let out = c.next_row.new.out in
+    let had = fed-same raw seed g.S.Source.left g.S.Source.taken g.S.Source.faults c.args.source.now c.rows.pcm (g.A.CellArray.state c.rows.array) c.rows.out.rows c.rows.out.told c.rows.out.prints c.rows.out.snapshots c.rows.source c.rows.stream c.rows.behind c.rows.counter was out.rows out.told out.prints out.snapshots c.next_row.ensures.rows c.next_row.ensures.told c.next_row.ensures.prints c.next_row.ensures.snapshots in
+    let now = c.stop_late.new.out in
+    let last = fed-same raw seed g.S.Source.left g.S.Source.taken g.S.Source.faults c.args.source.now c.rows.pcm (g.A.CellArray.state c.rows.array) out.rows out.told out.prints out.snapshots c.rows.source c.rows.stream c.rows.behind c.rows.counter had now.rows now.told now.prints now.snapshots c.stop_late.ensures.rows c.stop_late.ensures.told c.stop_late.ensures.prints c.stop_late.ensures.snapshots in
+    let none : c.args.stops ≡ true → any_refused (table_told now) ≡ false = λ is. rw (c.stop_late.ensures.rows, c.stop_late.ensures.told, c.next_row.ensures.rows, c.next_row.ensures.told) (c.rows.invariant.none is) in
+    let given = rw c.in-Ok-Some.field-0-is at c.in-Ok-Some.ensures.ok in (
+      last.asked,
+      last.serving,
+      fed-late raw seed g.S.Source.left g.S.Source.taken g.S.Source.faults c.args.source.now c.rows.pcm (g.A.CellArray.state c.rows.array) now.rows now.told now.prints now.snapshots c.rows.source c.rows.stream c.rows.behind c.rows.counter last c.stop_late.result c.next_row.new.source c.next_row.new.stream c.in-Ok-Some.asked c.rows.invariant.end given (omega (arith, c.named.ensures, c.tick.ensures, c.if-named-tick.true)) c.stop_late.ensures.stops,
+      far-late raw seed g.S.Source.left g.S.Source.taken g.S.Source.faults c.args.source.now c.rows.pcm (g.A.CellArray.state c.rows.array) now.rows now.told now.prints now.snapshots c.rows.source c.rows.stream c.rows.behind c.rows.counter last c.stop_late.result c.stop_late.ensures.stops none,
+    )
+
+pub returns-then-named-tick-clause-printing : goal.returns-then-named-tick-clause-printing
+returns-then-named-tick-clause-printing g c = λ before first h.
+    c.stop_late.ensures.printing before first (c.next_row.ensures.printing before first (c.rows.invariant.printing before first h))
+
+pub returns-then-named-tick-clause-written : goal.returns-then-named-tick-clause-written
+returns-then-named-tick-clause-written g c = λ other before first h.
+    c.stop_late.ensures.written (λ is. other (ap Err is)) before first (c.next_row.ensures.printing before first (c.rows.invariant.printing before first h))
+
+pub returns-then-named-tick-clause-part : goal.returns-then-named-tick-clause-part
+returns-then-named-tick-clause-part g c = λ is before first h.
+    c.stop_late.ensures.part (let same : c.stop_late.result ≡ Output = cc is in same) before first (c.next_row.ensures.printing before first (c.rows.invariant.printing before first h))
 
 pub returns-in-Ok-None-clause-served : goal.returns-in-Ok-None-clause-served
 returns-in-Ok-None-clause-served g c = λ raw seed start.
@@ -138,7 +189,7 @@ returns-then-stops_behind-clause-served g c = λ raw seed start.
     let none : c.args.stops ≡ true → any_refused (table_told out) ≡ false = λ is. rw (c.next_row.ensures.rows, c.next_row.ensures.told) (c.rows.invariant.none is) in
     let given = rw c.in-Ok-Some.field-0-is at c.in-Ok-Some.ensures.ok in
     let more = fed-given raw seed g.S.Source.left g.S.Source.taken g.S.Source.faults c.args.source.now c.rows.pcm (g.A.CellArray.state c.rows.array) out.rows out.told out.prints out.snapshots c.rows.source c.rows.stream c.rows.behind c.rows.counter had c.serve.new.pcm (g.A.CellArray.state c.serve.new.array) c.serve.new.out.rows c.serve.new.out.told c.serve.new.out.prints c.serve.new.out.snapshots c.next_row.new.source c.next_row.new.stream c.in-Ok-Some.asked c.behind_asked-behind.result
-    (λ served. c.serve.ensures.serves.serving raw seed had.asked served) none c.behind_asked-behind.ensures given in
+    c.serve.new.pcm.tick (λ served. c.serve.ensures.serves.serving raw seed had.asked served) none c.behind_asked-behind.ensures given in
     let out2 = c.serve.new.out in
     let now = c.flush-then-stops_behind.new.self in
     let last = fed-same raw seed g.S.Source.left g.S.Source.taken g.S.Source.faults c.args.source.now c.serve.new.pcm (g.A.CellArray.state c.serve.new.array) c.serve.new.out.rows c.serve.new.out.told c.serve.new.out.prints c.serve.new.out.snapshots c.next_row.new.source c.next_row.new.stream c.behind_asked-behind.result _ more now.rows now.told now.prints now.snapshots c.flush-then-stops_behind.ensures.rows c.flush-then-stops_behind.ensures.told c.flush-then-stops_behind.ensures.prints c.flush-then-stops_behind.ensures.snapshots in
@@ -161,7 +212,7 @@ returns-then-stops_behind-clause-few g c =
     let none : c.args.stops ≡ true → any_refused (table_told out) ≡ false = λ is. rw (c.next_row.ensures.rows, c.next_row.ensures.told) (c.rows.invariant.none is) in
     let given = rw c.in-Ok-Some.field-0-is at c.in-Ok-Some.ensures.ok in
     let more = fed-given raw seed g.S.Source.left g.S.Source.taken g.S.Source.faults c.args.source.now c.rows.pcm (g.A.CellArray.state c.rows.array) out.rows out.told out.prints out.snapshots c.rows.source c.rows.stream c.rows.behind c.rows.counter had c.serve.new.pcm (g.A.CellArray.state c.serve.new.array) c.serve.new.out.rows c.serve.new.out.told c.serve.new.out.prints c.serve.new.out.snapshots c.next_row.new.source c.next_row.new.stream c.in-Ok-Some.asked c.behind_asked-behind.result
-    (λ served. c.serve.ensures.serves.serving raw seed had.asked served) none c.behind_asked-behind.ensures given in
+    c.serve.new.pcm.tick (λ served. c.serve.ensures.serves.serving raw seed had.asked served) none c.behind_asked-behind.ensures given in
     let out2 = c.serve.new.out in
     let now = c.flush-then-stops_behind.new.self in
     let last = fed-same raw seed g.S.Source.left g.S.Source.taken g.S.Source.faults c.args.source.now c.serve.new.pcm (g.A.CellArray.state c.serve.new.array) c.serve.new.out.rows c.serve.new.out.told c.serve.new.out.prints c.serve.new.out.snapshots c.next_row.new.source c.next_row.new.stream c.behind_asked-behind.result _ more now.rows now.told now.prints now.snapshots c.flush-then-stops_behind.ensures.rows c.flush-then-stops_behind.ensures.told c.flush-then-stops_behind.ensures.prints c.flush-then-stops_behind.ensures.snapshots in
@@ -186,7 +237,7 @@ returns-in_default-flush-clause-few g c =
     let none : c.args.stops ≡ true → any_refused (table_told out) ≡ false = λ is. rw (c.next_row.ensures.rows, c.next_row.ensures.told) (c.rows.invariant.none is) in
     let given = rw c.in-Ok-Some.field-0-is at c.in-Ok-Some.ensures.ok in
     let more = fed-given raw seed g.S.Source.left g.S.Source.taken g.S.Source.faults c.args.source.now c.rows.pcm (g.A.CellArray.state c.rows.array) out.rows out.told out.prints out.snapshots c.rows.source c.rows.stream c.rows.behind c.rows.counter had c.serve.new.pcm (g.A.CellArray.state c.serve.new.array) c.serve.new.out.rows c.serve.new.out.told c.serve.new.out.prints c.serve.new.out.snapshots c.next_row.new.source c.next_row.new.stream c.in-Ok-Some.asked c.behind_asked-behind.result
-    (λ served. c.serve.ensures.serves.serving raw seed had.asked served) none c.behind_asked-behind.ensures given in
+    c.serve.new.pcm.tick (λ served. c.serve.ensures.serves.serving raw seed had.asked served) none c.behind_asked-behind.ensures given in
     let out2 = c.serve.new.out in
     let now = c.flush-then-stops_behind.new.self in
     let last = fed-same raw seed g.S.Source.left g.S.Source.taken g.S.Source.faults c.args.source.now c.serve.new.pcm (g.A.CellArray.state c.serve.new.array) c.serve.new.out.rows c.serve.new.out.told c.serve.new.out.prints c.serve.new.out.snapshots c.next_row.new.source c.next_row.new.stream c.behind_asked-behind.result _ more now.rows now.told now.prints now.snapshots c.flush-then-stops_behind.ensures.rows c.flush-then-stops_behind.ensures.told c.flush-then-stops_behind.ensures.prints c.flush-then-stops_behind.ensures.snapshots in
@@ -200,7 +251,7 @@ returns-in_default-flush-clause-stopped g c = λ raw seed start.
     let none : c.args.stops ≡ true → any_refused (table_told out) ≡ false = λ is. rw (c.next_row.ensures.rows, c.next_row.ensures.told) (c.rows.invariant.none is) in
     let given = rw c.in-Ok-Some.field-0-is at c.in-Ok-Some.ensures.ok in
     let more = fed-given raw seed g.S.Source.left g.S.Source.taken g.S.Source.faults c.args.source.now c.rows.pcm (g.A.CellArray.state c.rows.array) out.rows out.told out.prints out.snapshots c.rows.source c.rows.stream c.rows.behind c.rows.counter had c.serve.new.pcm (g.A.CellArray.state c.serve.new.array) c.serve.new.out.rows c.serve.new.out.told c.serve.new.out.prints c.serve.new.out.snapshots c.next_row.new.source c.next_row.new.stream c.in-Ok-Some.asked c.behind_asked-behind.result
-    (λ served. c.serve.ensures.serves.serving raw seed had.asked served) none c.behind_asked-behind.ensures given in
+    c.serve.new.pcm.tick (λ served. c.serve.ensures.serves.serving raw seed had.asked served) none c.behind_asked-behind.ensures given in
     let out2 = c.serve.new.out in
     let now = c.flush-then-stops_behind.new.self in
     let last = fed-same raw seed g.S.Source.left g.S.Source.taken g.S.Source.faults c.args.source.now c.serve.new.pcm (g.A.CellArray.state c.serve.new.array) c.serve.new.out.rows c.serve.new.out.told c.serve.new.out.prints c.serve.new.out.snapshots c.next_row.new.source c.next_row.new.stream c.behind_asked-behind.result _ more now.rows now.told now.prints now.snapshots c.flush-then-stops_behind.ensures.rows c.flush-then-stops_behind.ensures.told c.flush-then-stops_behind.ensures.prints c.flush-then-stops_behind.ensures.snapshots in

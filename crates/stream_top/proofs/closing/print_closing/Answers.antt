@@ -12,7 +12,7 @@ use Rattle.stream_top.proofs.closing.print_closing.Goals as goal
 pub returns-in-Rows-clause-ok : goal.returns-in-Rows-clause-ok
 returns-in-Rows-clause-ok g c =
     nothing-closes c.args.pcm.now (g.A.CellArray.state c.args.array.now) (cells_at g.row.E (g.A.CellArray.state c.args.array.now) (g.A.TellsCells.changes c.args.array.now)) c.args.rows c.args.counts.now c.args.job.now.print
-    (λ whole. Appends (g.K.Sink.written c.args.out.now) (g.K.Sink.written c.args.out.now) whole) c.in-Rows.is (Appends-nothing (g.K.Sink.written c.args.out.now))
+    (λ whole. Appends (g.K.Sink.written c.args.out.now) (g.K.Sink.written c.args.out.now) whole) c.in-Rows.field-0 c.in-Rows.is (Appends-nothing (g.K.Sink.written c.args.out.now))
 
 pub returns-in-Rows-clause-sensed : goal.returns-in-Rows-clause-sensed
 returns-in-Rows-clause-sensed g c = (0, omega arith, senses-none (g.A.CellArray.state c.args.array.now))

@@ -60,7 +60,8 @@ returns-in-Err-play g c =
     let source = source_between g.S.Source.left g.S.Source.taken g.S.Source.faults c.args.source.now new.source in
     let out = sink_change g.K.Sink.written g.K.Sink.faults c.args.out.value c.end.result.0.value in
     let state = g.A.CellArray.state new.array in
-    let prints : new.out.prints ≡ shown_by c.args.job.now.print = p.prints ∙ c.new-printer.ensures.prints ∙ c.shown_of.ensures.is in
+    let shown = c.shown_of-shown.ensures.is ∙ ap (λ raw. shown_by raw c.args.job.now.print) c.raw.ensures.same in
+    let prints : new.out.prints ≡ shown_by c.args.job.now.shape c.args.job.now.print = p.prints ∙ c.new-printer.ensures.prints ∙ shown in
     record {
       done = tt;
       write = λ is.
@@ -86,9 +87,10 @@ returns-in-Ok-print_closing g c =
     let array = g.A.CellArray.state c.print_closing.new.array in
     let all = c.in-Ok-print_closing.ensures.all in
     let calm = calm-done (Ok c.in-Ok-play.done) c.in-Ok-play.done refl in
+    let shown = c.shown_of-shown.ensures.is ∙ ap (λ raw. shown_by raw c.args.job.now.print) c.raw.ensures.same in
     record {
       done =
-          stream-whole g.row.B g.row.M g.row.E c.args.job.now source new.pcm before new.out.rows new.out.told new.out.prints new.out.snapshots (p.prints ∙ c.new-printer.ensures.prints ∙ c.shown_of.ensures.is) c.end-out.ensures.once
+          stream-whole g.row.B g.row.M g.row.E c.args.job.now source new.pcm before new.out.rows new.out.told new.out.prints new.out.snapshots (p.prints ∙ c.new-printer.ensures.prints ∙ shown) c.end-out.ensures.once
           array (g.A.TellsCells.changes new.array) (g.A.TellsCells.changes c.print_closing.new.array) (λ other. ap g.A.TellsCells.changes (c.print_closing.ensures.untouched other)) c.each_row_is_told.ensures c.ended_streams_are_kept.ensures c.requires.job.shape c.in-Ok.ensures.taken.small (all.since.wear ∙ p.wear ∙ c.in-Ok.ensures.taken.wear)
           (λ other. ap g.A.CellArray.state (c.print_closing.ensures.untouched other)) (senses_for c.args.job.now.print before.lines) all p.done.0 p.done.1
           out (g.K.Sink.written c.deref_mut.result.now)
@@ -110,11 +112,12 @@ returns g c =
     let array = g.A.CellArray.state c.print_closing.new.array in
     let some = c.print_closing.ensures.sensed in
     let calm = calm-done (Ok c.in-Ok-play.done) c.in-Ok-play.done refl in
+    let shown = c.shown_of-shown.ensures.is ∙ ap (λ raw. shown_by raw c.args.job.now.print) c.raw.ensures.same in
     let falls : g.K.Sink.faults c.args.out.value ≤ g.K.Sink.faults c.deref_mut.result.now = rw (c.deref_mut.ensures.value, c.end-out.ensures.sink) (p.falls _ _ c.new-printer.ensures.printing) in
     record {
       done = tt;
       write = λ is.
-          stream-part g.row.B g.row.M g.row.E c.args.job.now source new.pcm before new.out.rows new.out.told new.out.prints new.out.snapshots (p.prints ∙ c.new-printer.ensures.prints ∙ c.shown_of.ensures.is) c.end-out.ensures.once
+          stream-part g.row.B g.row.M g.row.E c.args.job.now source new.pcm before new.out.rows new.out.told new.out.prints new.out.snapshots (p.prints ∙ c.new-printer.ensures.prints ∙ shown) c.end-out.ensures.once
           array (g.A.TellsCells.changes new.array) (g.A.TellsCells.changes c.print_closing.new.array) (λ other. ap g.A.TellsCells.changes (c.print_closing.ensures.untouched other)) c.each_row_is_told.ensures c.ended_streams_are_kept.ensures c.requires.job.shape c.in-Ok.ensures.taken.small (some.2.since.wear ∙ p.wear ∙ c.in-Ok.ensures.taken.wear)
           (λ other. ap g.A.CellArray.state (c.print_closing.ensures.untouched other)) some.0 some.2 p.done.0 p.done.1
           out (g.K.Sink.written c.deref_mut.result.now)

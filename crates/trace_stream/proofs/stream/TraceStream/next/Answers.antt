@@ -1,7 +1,7 @@
 use Rattle.std.proofs.Common.{[], refl, sym, ◌∙◌}
 use Rattle.std.proofs.lemmas.Result.{MatchResult-weaker}
 use Rattle.pcm_io.proofs.ByteLemmas.{Takes-nothing}
-use Rattle.trace_stream.{specs.Machine.state_of, specs.Stream.Standing, proofs.Lawful.asked-lawful}
+use Rattle.trace_stream.{specs.Machine.state_of, specs.Stream.Standing, proofs.Lawful.{asked-lawful, asked-waits}}
 use Rattle.trace_stream.proofs.Rows.{asks-faulty, asks-none, asks-some, asks-too_many, happens-counted, no-front, no-front-past}
 use Rattle.trace_stream.proofs.stream.TraceStream.next.Goals as goal
 
@@ -38,7 +38,7 @@ returns-in-Ok-clause-ok g c =
 pub returns-in-Ok-clause-lawful : goal.returns-in-Ok-clause-lawful
 returns-in-Ok-clause-lawful g c =
     let asks = sym c.in-Ok.ensures in
-    rw (← c.self.view_is) (asked-lawful g.row.B c.self.inside.lines c.self.inside.tick c.next.new.self.kept.fields c.in-Ok.asked c.self.invariant.0 asks)
+    rw (← c.self.view_is) (asked-lawful g.row.B c.self.inside.lines c.self.inside.rows c.self.inside.tick c.next.new.self.kept.fields c.in-Ok.asked c.self.invariant.0 asks)
 
 pub returns-in-Err-clause-fault : goal.returns-in-Err-clause-fault
 returns-in-Err-clause-fault g c = λ text.
@@ -53,7 +53,7 @@ pub invariant_of-self-in-Ok : goal.invariant_of-self-in-Ok
 invariant_of-self-in-Ok g c =
     let asks = sym c.in-Ok.ensures in
     let within = sym c.is_past.ensures ∙ c.if-is_past.false in
-    (c.self.invariant.0, rw c.rows_after-self-inside.ensures (happens-counted g.row.B c.self.inside.lines c.self.inside.tick c.next.new.self.kept.fields c.in-Ok.asked c.self.inside.rows asks c.self.invariant.1 within))
+    (c.self.invariant.0, rw c.rows_after-self-inside.ensures (happens-counted g.row.B c.self.inside.lines c.self.inside.rows c.self.inside.tick c.next.new.self.kept.fields c.in-Ok.asked asks c.self.invariant.1 within))
 
 pub returns-in-Ok-clause-row : goal.returns-in-Ok-clause-row
 returns-in-Ok-clause-row g c =
@@ -61,6 +61,11 @@ returns-in-Ok-clause-row g c =
     let within = sym c.is_past.ensures ∙ c.if-is_past.false in
     rw (← c.self.view_is) (
       c.rows_after-self-inside.ensures,
-      rw c.rows_after-self-inside.ensures (happens-counted g.row.B c.self.inside.lines c.self.inside.tick c.next.new.self.kept.fields c.in-Ok.asked c.self.inside.rows asks c.self.invariant.1 within),
+      rw c.rows_after-self-inside.ensures (happens-counted g.row.B c.self.inside.lines c.self.inside.rows c.self.inside.tick c.next.new.self.kept.fields c.in-Ok.asked asks c.self.invariant.1 within),
       c.tick-self-inside.ensures,
     )
+
+pub returns-in-Ok-clause-waits : goal.returns-in-Ok-clause-waits
+returns-in-Ok-clause-waits g c =
+    let asks = sym c.in-Ok.ensures in
+    rw (← c.self.view_is) (asked-waits g.row.B c.self.inside.lines c.self.inside.rows c.self.inside.tick c.next.new.self.kept.fields c.in-Ok.asked asks)

@@ -22,3 +22,6 @@ returns-in-Err-clause-fault g c =
     let new : Standing = record { arrived = c.pass.new.self; state = state_of c.self.inside.records.place; rows = c.self.inside.rows; tick = c.self.inside.tick; lines = c.self.inside.lines } in
     let faulty = plain-faulty g.row.B old c.args.row c.requires.small next new c.in-Err.kind (rw c.bytes.ensures at (sym c.in-Err.ensures)) next.starts c.pass.ensures.bytes in
     rw (← c.self.view_is) ((λ e. cc e, λ e. cc e, λ e. cc e), faulty.0, faulty.1)
+
+pub returns-in-Ok-clause-waits : goal.returns-in-Ok-clause-waits
+returns-in-Ok-clause-waits g c = (tt, tt)

@@ -1,0 +1,167 @@
+-- Each row of a stream has its outcome, or stands in a bank; and the first tick behind which a row has one.
+use Rattle.std.proofs.Common.{◌≡◌, ◌≢◌, ◌⊎◌, ℕ, ◌+◌, ◌<◌, ◌≤◌, ◌==◌, min, Bool, true, false, cond, List, [], ◌∷◌, ◌++◌, length, map, Option, Some, None, inl, inr, refl, sym, ap, subst, ◌∙◌, eq-eqb, arith}
+use Rattle.std.{specs.Prelude.{All, IfSome, IsSomeAnd, filter, slice_get, unwrap_or}, proofs.lemmas.Bool.cases_eq, proofs.lemmas.List.Elements.{All-head, All-tail, All-nil, All-cons}}
+use Rattle.cell_rows.specs.Device.{ArrayState}
+use Rattle.trace_reader.specs.declared.event.Event.{Event}
+use Rattle.result_rows.specs.declared.Outcome.{Outcome}
+use Rattle.result_rows.specs.declared.Outcome.TheVariants as out
+use Rattle.row_rules.specs.{Lines.IsOfLines, Table.is_of, declared.Asks.Asks, declared.Asks.TheVariants.{Reads, Writes, Cuts}}
+use Rattle.bank_shape.specs.{declared.clock.Action.Action, declared.pace.Pace.Pace}
+use Rattle.bank_model.specs.Timing.{TimedEvent, ends}
+use Rattle.module_shape.specs.{Limits.{IsShape, total_of}, declared.raw.RawShape.RawShape}
+use Rattle.module_laws.specs.Asking.{Asked, asked_in, asked_of}
+use Rattle.clock_laws.{specs.State.{ClockState, next_action}, proofs.Passing.ending_later_law}
+use Rattle.bank_timing.specs.Extending.{IsQuiet, end_by, next_end, outcome_in}
+use Rattle.right_runs.specs.Banks.{bank_of_line, line_in_bank}
+use Rattle.run_laws.proofs.Mixing.{lines_law}
+use Rattle.pcm_module.specs.{Asking.{asked_by, asked_for}, Replaying.{Replays, ReplaysIn}, Settling.IsAtTick, State.{ModuleState, bank_at, first_bank}, Telling.{has_standing, rows_at}}
+use Rattle.row_stream.{specs.Reaching.IsUnsetOrAt, proofs.Ticks.{first-told, own-done}}
+
+-- the bank of a module that is there
+pub at-bank : {n m e : ℕ} (module_ : ModuleState n m e) (bank : ℕ) (clock : ClockState n m e) → slice_get module_.banks bank ≡ Some clock → bank_at module_ bank ≡ clock
+at-bank module_ bank clock is = ap (λ o. unwrap_or o (first_bank module_.shape bank)) is
+
+-- it holds of a row in one of so many banks
+abbrev Somewhere : (banks : ℕ) (P : ℕ → ℕ → Type 0) → ℕ → Type 0
+Somewhere banks P row = (bank : ℕ) × (bank < banks) × P bank row
+
+-- what holds of each row that was asked of each bank holds of each that was asked of the module, of some bank
+module _ {n : ℕ} (bank_of line_in : ℕ → ℕ) (banks lines : ℕ) (exists : (line : ℕ) → line < lines → bank_of line < banks) (some : 0 < banks) (P : ℕ → ℕ → Type 0) where
+  later-rows : (bank : ℕ) (a : Asked n) (rest : List (Asked n)) (own : Bool)
+      → All (λ a. P bank a.row) (map (asked_in bank_of line_in) (cond own (a ∷ rest) rest)) → All (λ a. P bank a.row) (map (asked_in bank_of line_in) rest)
+  later-rows bank a rest true all = All-tail (λ (a : Asked n). P bank a.row) (asked_in bank_of line_in a) (map (asked_in bank_of line_in) rest) all
+  later-rows bank a rest false all = all
+
+  in-bank : (row tick : ℕ) (asks : Asks n) (line : ℕ) (asked : List (Asked n)) → bank_of line < banks → (own : Bool) → own ≡ true
+      → All (λ a. P (bank_of line) a.row)
+      (map (asked_in bank_of line_in) (cond own (record { row = row; tick = tick; asks = asks } ∷ filter (λ b. is_of bank_of (bank_of line) b.asks) asked) (filter (λ b. is_of bank_of (bank_of line) b.asks) asked)))
+      → Somewhere banks P row
+  in-bank row tick asks line asked there true is all = (
+    bank_of line,
+    there,
+    All-head (λ (a : Asked n). P (bank_of line) a.row) (asked_in bank_of line_in (record { row = row; tick = tick; asks = asks }))
+        (map (asked_in bank_of line_in) (filter (λ b. is_of bank_of (bank_of line) b.asks) asked)) all,
+  )
+  in-bank row tick asks line asked there false is all = absurd (cc is)
+
+  own-row : (row tick : ℕ) (asks : Asks n) (asked : List (Asked n)) → IsOfLines lines asks
+      → ((bank : ℕ) → bank < banks → All (λ a. P bank a.row) (asked_of bank_of line_in bank (record { row = row; tick = tick; asks = asks } ∷ asked)))
+      → Somewhere banks P row
+  own-row row tick (Reads line) asked of all =
+      in-bank row tick (Reads line) line asked (exists line of) (bank_of line == bank_of line) (eq-eqb (bank_of line) (bank_of line) refl) (all (bank_of line) (exists line of))
+  own-row row tick (Writes line bytes given) asked of all =
+      in-bank row tick (Writes line bytes given) line asked (exists line of) (bank_of line == bank_of line) (eq-eqb (bank_of line) (bank_of line) refl) (all (bank_of line) (exists line of))
+  own-row row tick Cuts asked of all =
+      (0, some, All-head (λ (a : Asked n). P 0 a.row) (asked_in bank_of line_in (record { row = row; tick = tick; asks = Cuts })) (map (asked_in bank_of line_in) (filter (λ b. is_of bank_of 0 b.asks) asked)) (all 0 some))
+
+  each-somewhere : (asked : List (Asked n)) → All (λ a. IsOfLines lines a.asks) asked → ((bank : ℕ) → bank < banks → All (λ a. P bank a.row) (asked_of bank_of line_in bank asked)) → All (λ a. Somewhere banks P a.row) asked
+  each-somewhere [] of all = All-nil (λ (a : Asked n). Somewhere banks P a.row)
+  each-somewhere (a ∷ asked) of all =
+      All-cons (λ (a : Asked n). Somewhere banks P a.row) a asked (own-row a.row a.tick a.asks asked (All-head (λ (a : Asked n). IsOfLines lines a.asks) a asked of) all)
+      (each-somewhere asked (All-tail (λ (a : Asked n). IsOfLines lines a.asks) a asked of)
+      (λ bank lt. later-rows bank a (filter (λ b. is_of bank_of bank b.asks) asked) (is_of bank_of bank a.asks) (all bank lt)))
+
+below-right : (a b : ℕ) → min a b ≤ b
+below-right a b = omega arith
+
+above-both : (low a b : ℕ) → low < a → low < b → low < min a b
+above-both low a b first second = omega (arith, first, second)
+
+-- it is at most that tick
+pub next-within : {n m e : ℕ} (to : ℕ) (clock : ClockState n m e) → next_end to clock ≤ to
+next-within to clock = by (next_action clock)
+  where
+    by : (a : Option Action) → end_by to clock.pace a ≤ to
+    by None = omega arith
+    by (Some action) = below-right (ends clock.pace action) to
+
+-- a bank of which all have come to a tick has
+pub at-tick : {n m e : ℕ} (tick : ℕ) (o : Option (ClockState n m e)) (clock : ClockState n m e) → o ≡ Some clock → IsSomeAnd o (IsAtTick tick) → clock.tick ≡ tick
+at-tick {n} {m} {e} tick o clock is at = subst (λ (o : Option (ClockState n m e)). IsSomeAnd o (IsAtTick tick)) is at
+
+-- what holds of each row of events holds of the one of a number
+row-of : {n : ℕ} (P : ℕ → Type 0) (events : List (Event n)) → All (λ a. P a.row) (asked_for events) → (row : ℕ) → 1 ≤ row → row ≤ length events → P row
+row-of P [] all row least most = absurd (omega (arith, least, most))
+row-of {n = n} P (event ∷ below) all row least most = elim (cases_eq row (length below + 1)) [
+  | inl same ↦ subst P (sym same) (All-head (λ (a : Asked n). P a.row) (asked_by (length below + 1) event) (asked_for below) all)
+  | inr other ↦ row-of P below (All-tail (λ (a : Asked n). P a.row) (asked_by (length below + 1) event) (asked_for below) all) row least (omega (arith, most, other))
+]
+
+module _ {n m e : ℕ} (h : ℕ → List (TimedEvent n m)) (events : List (Event n)) (module_ : ModuleState n m e) (array : ArrayState n m) (results : List (Outcome n))
+    (had : Replays h (asked_for events) module_ array results) (is : IsShape module_.shape) where
+  -- a row has its outcome, or stands in a bank
+  abbrev IsDoneIn : ℕ → ℕ → Type 0
+  IsDoneIn bank row = (outcome_in results row ≢ out.Unset) ⊎ (rows_at module_ bank row ≡ true)
+
+  done-in : (bank : ℕ) → bank < module_.shape.banks → All (λ a. IsDoneIn bank a.row) (asked_of (bank_of_line module_.shape module_.seed) (line_in_bank module_.shape module_.seed) bank (asked_for events))
+  done-in bank exists = by (slice_get module_.banks bank) refl (had.banks bank exists)
+    where
+      own : List (Asked n)
+      own = asked_of (bank_of_line module_.shape module_.seed) (line_in_bank module_.shape module_.seed) bank (asked_for events)
+
+      by : (o : Option (ClockState n m e)) → slice_get module_.banks bank ≡ o → IsSomeAnd o (ReplaysIn module_ bank (h bank) (asked_for events) array results) → All (λ a. IsDoneIn bank a.row) own
+      by None none there = absurd there
+      by (Some clock) found there =
+          let at : bank_at module_ bank ≡ clock = at-bank module_ bank clock found in
+          let P : ClockState n m e → Type 0 = λ c. All (λ (a : Asked n). (outcome_in results a.row ≢ out.Unset) ⊎ (has_standing c.bank a.row ≡ true)) own in
+          subst P (sym at) (own-done _ _ _ _ (h bank) own array results clock there)
+
+  -- one that stands nowhere has its outcome
+  pub known-nowhere : (row : ℕ) → 1 ≤ row → row ≤ length events → ((bank : ℕ) → bank < module_.shape.banks → rows_at module_ bank row ≡ false) → outcome_in results row ≢ out.Unset
+  known-nowhere row least most nowhere =
+      let some : 0 < module_.shape.banks = omega (arith, is.some_banks) in
+      let all = each-somewhere (bank_of_line module_.shape module_.seed) (line_in_bank module_.shape module_.seed) module_.shape.banks (total_of module_.shape)
+      (λ line lt. (lines_law module_.shape module_.seed is).exists line lt) some IsDoneIn (asked_for events) had.exist done-in in
+      let found = row-of (λ row. Somewhere module_.shape.banks IsDoneIn row) events all row least most in
+      elim found.2 [
+        | inl known ↦ known
+        | inr stands ↦ (let off : rows_at module_ found.0 row ≡ false = nowhere found.0 found.1 in let no : true ≡ false = sym stands ∙ off in absurd (cc no))
+      ]
+
+  -- the next action ends later
+  pub next-later : (bank to : ℕ) (clock : ClockState n m e) → bank < module_.shape.banks → slice_get module_.banks bank ≡ Some clock → clock.tick < to → clock.tick < next_end to clock
+  next-later bank to clock exists found before = by (slice_get module_.banks bank) found (had.banks bank exists)
+    where
+      own : ReplaysIn module_ bank (h bank) (asked_for events) array results clock → clock.tick < next_end to clock
+      own there = so (next_action clock) refl
+        where
+          so : (a : Option Action) → next_action clock ≡ a → clock.tick < end_by to clock.pace a
+          so None none = before
+          so (Some action) some =
+              let behind : IfSome (next_action clock) (λ a. clock.tick < ends clock.pace a) =
+              ending_later_law n m e clock (subst (λ (p : Pace). 1 ≤ p.read) (sym there.paced) is.some_read_ticks) (subst (λ (p : Pace). 1 ≤ p.iter) (sym there.paced) is.some_iter_ticks) there.leads.told.to_come in
+              above-both clock.tick (ends clock.pace action) to (subst (λ (a : Option Action). IfSome a (λ a. clock.tick < ends clock.pace a)) some behind) before
+
+      by : (o : Option (ClockState n m e)) → o ≡ Some clock → IsSomeAnd o (ReplaysIn module_ bank (h bank) (asked_for events) array results) → clock.tick < next_end to clock
+      by None none there = cc none
+      by (Some was) same there =
+          let is_clock : was ≡ clock = cc in
+          own (subst (λ (c : ClockState n m e). ReplaysIn module_ bank (h bank) (asked_for events) array results c) is_clock there)
+
+  -- once all banks have come to the tick at which the next action ends of the bank where a row stood, the row has no outcome yet, or has it at that tick
+  pub first-nowhere : (new : ModuleState n m e) (after : ArrayState n m) (recorded : List (Outcome n)) (added : ℕ → List (TimedEvent n m))
+      → Replays (λ bank. added bank ++ h bank) (asked_for events) new after recorded → ((bank : ℕ) → IsQuiet (added bank))
+      → new.shape ≡ module_.shape → new.seed ≡ module_.seed → (reached : ℕ) → ((bank : ℕ) → bank < new.shape.banks → IsSomeAnd (slice_get new.banks bank) (IsAtTick reached))
+      → (bank to row : ℕ) (clock : ClockState n m e) → bank < module_.shape.banks → slice_get module_.banks bank ≡ Some clock → rows_at module_ bank row ≡ true → reached ≡ next_end to clock
+      → IsUnsetOrAt reached (outcome_in recorded row)
+  first-nowhere new after recorded added now quiet shape seeded reached settled bank to row clock exists found stands ends =
+      let there : bank < new.shape.banks = subst (λ (r : RawShape). bank < r.banks) (sym shape) exists in
+      by (slice_get module_.banks bank) found (had.banks bank exists) (slice_get new.banks bank) (moved (slice_get new.banks bank) (now.banks bank there)) (settled bank there)
+    where
+      Own : RawShape → ℕ → ℕ → ℕ → Option (ClockState n m e) → Type 0
+      Own raw seed tick below o = IsSomeAnd o (ReplaysIn (record { shape = raw; seed = seed; banks = new.banks; tick = tick; rows_below = below; finished = new.finished }) bank (added bank ++ h bank) (asked_for events) after recorded)
+
+      moved : (o : Option (ClockState n m e)) → IsSomeAnd o (ReplaysIn new bank (added bank ++ h bank) (asked_for events) after recorded) → Own module_.shape module_.seed new.tick new.rows_below o
+      moved o had = subst (λ (s : ℕ). Own module_.shape s new.tick new.rows_below o) seeded (subst (λ (r : RawShape). Own r new.seed new.tick new.rows_below o) shape had)
+
+      stood : has_standing clock.bank row ≡ true
+      stood = subst (λ (c : ClockState n m e). has_standing c.bank row ≡ true) (at-bank module_ bank clock found) stands
+
+      by : (o : Option (ClockState n m e)) → o ≡ Some clock → IsSomeAnd o (ReplaysIn module_ bank (h bank) (asked_for events) array results) → (p : Option (ClockState n m e)) → Own module_.shape module_.seed new.tick new.rows_below p
+          → IsSomeAnd p (IsAtTick reached) → IsUnsetOrAt reached (outcome_in recorded row)
+      by None none had p own at = absurd (cc none)
+      by (Some was) same had None own at = absurd own
+      by (Some was) same had (Some next) own at =
+          let is_clock : was ≡ clock = cc in
+          let first : ReplaysIn module_ bank (h bank) (asked_for events) array results clock = subst (λ (c : ClockState n m e). ReplaysIn module_ bank (h bank) (asked_for events) array results c) is_clock had in
+          first-told _ _ _ _ (h bank) _ array results clock first _ _ (added bank) after recorded next own (quiet bank) is.some_read_ticks is.some_iter_ticks to reached ends at row stood

@@ -1,0 +1,130 @@
+use Rattle.std.proofs.Common.{◌≡◌, ◌≢◌, ◌⊎◌, ◌∙◌, ◌++◌, ℕ, List, inl, inr, refl, sym, subst, arith}
+use Rattle.std.specs.Prelude.{IsSomeAnd, slice_get}
+use Rattle.result_rows.specs.declared.Outcome.TheVariants.{Unset}
+use Rattle.bank_model.specs.Timing.{TimedEvent}
+use Rattle.bank_timing.proofs.Sizes.{timed_fits}
+use Rattle.bank_timing.specs.Extending.{outcome_in}
+use Rattle.pcm_module.specs.{Asking.asked_for, Settling.IsAtTick}
+use Rattle.row_printer.specs.Printing.{table_told}
+use Rattle.trace_stream.specs.{Asked.events_in, declared.asked.Until.Until as Waited}
+use Rattle.row_stream.{specs.Reaching.IsUnsetOrAt, proofs.Nowhere.{at-tick, first-nowhere, known-nowhere, next-later, next-within}, proofs.Turning.{gone-more, gone-none, serving-until, turn-order}}
+use Rattle.row_stream.proofs.waiting.serve_until.Goals as goal
+
+pub waits-init : goal.waits-init
+waits-init g c =
+    let e = c.settle.ensures in
+    let on = c.settle.ensures.goes_on in
+    record {
+      came = λ raw seed asked had.
+          let state = g.A.CellArray.state c.args.array.now in
+          let out = c.args.out.now in
+          let gone = gone-none raw seed asked c.args.pcm.now state out.rows out.told out.prints out.snapshots had in
+          gone-more raw seed asked c.args.pcm.now state out.rows out.told out.prints out.snapshots had c.args.pcm.now state out.rows out.told gone
+          c.settle.new.self (g.A.CellArray.state c.settle.new.array) c.settle.new.results.rows c.settle.new.results.told e.shape e.seed e.going e.rows on.rows e.table e.replays
+          (turn-order raw seed asked c.args.pcm.now state out.rows out.told out.prints out.snapshots had c.args.pcm.now state out.rows out.told gone g.K.Sink.written g.K.Sink.faults out c.settle.new.results c.tells_once.ensures e.order);
+      settled = λ bank there. subst (λ (t : ℕ). IsSomeAnd (slice_get c.settle.new.self.banks bank) (IsAtTick t)) (sym e.tick) (e.settled bank there);
+      from = omega (arith, e.tick, c.tick-tick.ensures);
+      within = omega (arith, e.tick, c.tick-tick.ensures, c.requires.rises);
+      first = inl (e.tick ∙ c.tick-tick.ensures);
+      prints = on.prints;
+      snapshots = on.snapshots;
+      printing = λ before first h. on.printing before first h;
+      wear = e.stays.wear;
+    }
+
+pub timed-requires : goal.timed-requires
+timed-requires g c = (omega arith, (timed_fits g.row.B g.row.M g.row.E c.requires.layout, c.in-Some.ensures.some.0))
+
+pub next_end-next-requires : goal.next_end-next-requires
+next_end-next-requires g c =
+    let at = at-tick c.waits.pcm.tick (slice_get c.waits.pcm.banks c.in-Some.bank) c.timed.result.now c.timed.ensures (c.waits.invariant.settled c.in-Some.bank c.in-Some.ensures.some.0) in
+    (timed_fits g.row.B g.row.M g.row.E c.requires.layout, omega (arith, at, c.waits.invariant.within, c.requires.in_time))
+
+pub settle-requires-in-Some : goal.settle-requires-in-Some
+settle-requires-in-Some g c =
+    let s = c.requires.serving in
+    let gone = c.waits.invariant.came s.raw s.seed s.before s.serving in
+    let h : ℕ → List (TimedEvent g.row.B g.row.M) = λ bank. gone.added bank ++ s.serving.history bank in
+    let some = c.in-Some.ensures.some in
+    let clock = c.timed.result.now in
+    let at = at-tick c.waits.pcm.tick (slice_get c.waits.pcm.banks c.in-Some.bank) clock c.timed.ensures (c.waits.invariant.settled c.in-Some.bank some.0) in
+    let later =
+    next-later h (events_in s.before) c.waits.pcm (g.A.CellArray.state c.waits.array) (table_told c.waits.out) gone.replays c.in-Some.ensures.shape c.in-Some.bank c.args.until.now.limit clock some.0 c.timed.ensures (omega (arith, at, some.2)) in
+    let within = next-within c.args.until.now.limit clock in (
+      omega arith,
+      (
+        gone.going,
+        ((h, asked_for (events_in s.before), gone.replays), (omega (arith, at, later, c.next_end-next.ensures), omega (arith, within, c.next_end-next.ensures, c.requires.in_time))),
+      ),
+    )
+
+pub waits-preserved : goal.waits-preserved
+waits-preserved g c =
+    let inv = c.waits.invariant in
+    let e = c.settle-in-Some.ensures in
+    let on = e.goes_on in
+    let s = c.requires.serving in
+    let gone = inv.came s.raw s.seed s.before s.serving in
+    let h : ℕ → List (TimedEvent g.row.B g.row.M) = λ bank. gone.added bank ++ s.serving.history bank in
+    let some = c.in-Some.ensures.some in
+    let state = g.A.CellArray.state c.waits.array in
+    let clock = c.timed.result.now in
+    let at = at-tick c.waits.pcm.tick (slice_get c.waits.pcm.banks c.in-Some.bank) clock c.timed.ensures (inv.settled c.in-Some.bank some.0) in
+    let later =
+    next-later h (events_in s.before) c.waits.pcm state (table_told c.waits.out) gone.replays c.in-Some.ensures.shape c.in-Some.bank c.args.until.now.limit clock some.0 c.timed.ensures (omega (arith, at, some.2)) in
+    let within = next-within c.args.until.now.limit clock in
+    let led = e.quiet h (asked_for (events_in s.before)) gone.replays in
+    let first : IsUnsetOrAt c.next_end-next.result (outcome_in (table_told c.settle-in-Some.new.results) c.args.until.now.row) =
+    first-nowhere h (events_in s.before) c.waits.pcm state (table_told c.waits.out) gone.replays c.in-Some.ensures.shape c.settle-in-Some.new.self (g.A.CellArray.state c.settle-in-Some.new.array) (table_told c.settle-in-Some.new.results) led.0 led.1 led.2
+    e.shape e.seed c.next_end-next.result e.settled c.in-Some.bank c.args.until.now.limit c.args.until.now.row clock some.0 c.timed.ensures some.1 c.next_end-next.ensures in
+    record {
+      came = λ raw seed asked had.
+          let out = c.args.out.now in
+          let gone = inv.came raw seed asked had in
+          gone-more raw seed asked c.args.pcm.now (g.A.CellArray.state c.args.array.now) out.rows out.told out.prints out.snapshots had c.waits.pcm state c.waits.out.rows c.waits.out.told gone
+          c.settle-in-Some.new.self (g.A.CellArray.state c.settle-in-Some.new.array) c.settle-in-Some.new.results.rows c.settle-in-Some.new.results.told e.shape e.seed e.going e.rows on.rows e.table e.replays
+          (turn-order raw seed asked c.args.pcm.now (g.A.CellArray.state c.args.array.now) out.rows out.told out.prints out.snapshots had c.waits.pcm state c.waits.out.rows c.waits.out.told gone g.K.Sink.written g.K.Sink.faults c.waits.out c.settle-in-Some.new.results c.tells_once-in-Some.ensures e.order);
+      settled = λ bank there. subst (λ (t : ℕ). IsSomeAnd (slice_get c.settle-in-Some.new.self.banks bank) (IsAtTick t)) (sym e.tick) (e.settled bank there);
+      from = omega (arith, e.tick, inv.from, at, later, c.next_end-next.ensures);
+      within = omega (arith, e.tick, within, c.next_end-next.ensures);
+      first = inr (subst (λ (t : ℕ). IsUnsetOrAt t (outcome_in (table_told c.settle-in-Some.new.results) c.args.until.now.row)) (sym e.tick) first);
+      prints = on.prints ∙ inv.prints;
+      snapshots = on.snapshots ∙ inv.snapshots;
+      printing = λ before first h. on.printing before first (inv.printing before first h);
+      wear = e.stays.wear ∙ inv.wear;
+    }
+
+pub waits-smaller : goal.waits-smaller
+waits-smaller g c =
+    let s = c.requires.serving in
+    let gone = c.waits.invariant.came s.raw s.seed s.before s.serving in
+    let some = c.in-Some.ensures.some in
+    let clock = c.timed.result.now in
+    let at = at-tick c.waits.pcm.tick (slice_get c.waits.pcm.banks c.in-Some.bank) clock c.timed.ensures (c.waits.invariant.settled c.in-Some.bank some.0) in
+    let later =
+    next-later (λ bank. gone.added bank ++ s.serving.history bank) (events_in s.before) c.waits.pcm (g.A.CellArray.state c.waits.array) (table_told c.waits.out) gone.replays c.in-Some.ensures.shape c.in-Some.bank c.args.until.now.limit clock some.0 c.timed.ensures (omega (arith, at, some.2)) in
+    omega (arith, c.settle-in-Some.ensures.tick, at, later, c.next_end-next.ensures, some.2)
+
+pub returns-clause-serves : goal.returns-clause-serves
+returns-clause-serves g c = record {
+  serving = λ raw seed before had.
+      let inv = c.waits.invariant in
+      let out = c.args.out.now in
+      let gone = inv.came raw seed before had in
+      let until : Waited = record { row = c.args.until.now.row; limit = c.args.until.now.limit; reached = c.waits.pcm.tick } in
+      let named = c.requires.named in
+      let known : (outcome_in (table_told c.waits.out) c.args.until.now.row ≢ Unset) ⊎ (c.waits.pcm.tick ≡ c.args.until.now.limit) = elim (c.in_default.ensures.none refl) [
+        | inl above ↦ inr (omega (arith, above, inv.within))
+        | inr nowhere ↦
+            inl (known-nowhere (λ bank. gone.added bank ++ had.history bank) (events_in before) c.waits.pcm (g.A.CellArray.state c.waits.array) (table_told c.waits.out) gone.replays c.in_default.ensures.shape c.args.until.now.row
+            named.0 (omega (arith, named.1, had.counted)) nowhere)
+      ] in
+      serving-until raw seed before c.args.pcm.now (g.A.CellArray.state c.args.array.now) out.rows out.told out.prints out.snapshots had c.waits.pcm (g.A.CellArray.state c.waits.array) c.waits.out.rows c.waits.out.told gone
+      until c.settled.new.self.rows c.settled.new.self.told c.settled.new.self.prints c.settled.new.self.snapshots c.settled.ensures.rows (rw c.tick.ensures at c.settled.ensures.told) refl inv.settled (omega (arith, inv.within, c.requires.in_time))
+      (record { from = inv.from; within = inv.within; known = known; first = inv.first }) (c.settled.ensures.prints ∙ inv.prints) (c.settled.ensures.snapshots ∙ inv.snapshots);
+  prints = c.settled.ensures.prints ∙ c.waits.invariant.prints;
+  wear = c.waits.invariant.wear;
+}
+
+pub returns-clause-printing : goal.returns-clause-printing
+returns-clause-printing g c = λ before first h. c.settled.ensures.printing before first (c.waits.invariant.printing before first h)

@@ -1,0 +1,26 @@
+-- How far a settle goes until a row has its outcome.
+use Rattle.std.specs.Prelude.{◌≡◌, ◌≢◌, ◌⊎◌, ℕ, ◌≤◌, List, Some, None}
+use Rattle.result_rows.specs.{Outcomes.tick_of, declared.Outcome.Outcome, declared.Outcome.TheVariants.Unset}
+use Rattle.bank_timing.specs.Extending.{outcome_in}
+use Rattle.trace_stream.specs.{declared.asked.Asked.Asked, declared.asked.Asked.TheVariants.{Happens, Settle, Query, Look, Until}, declared.asked.Until.Until as Waited}
+
+module _ {n : ℕ} where
+  -- a row has no outcome yet, or has it at this tick
+  abbrev pub IsUnsetOrAt : ℕ → Outcome n → Type 0
+  IsUnsetOrAt tick outcome = (tick_of outcome ≡ None) ⊎ (tick_of outcome ≡ Some tick)
+
+  -- a settle until went on to the first tick behind which its row has an outcome: none before the one at which the module stood; its own, where the row
+  -- has no outcome yet; and where it went on at all, none behind the one at which the row has its outcome
+  pub record HasReached (before : ℕ) (until : Waited) (outcome : Outcome n) : Type 0 where
+    pub from : before ≤ until.reached
+    pub within : until.reached ≤ until.limit
+    pub known : (outcome ≢ Unset) ⊎ (until.reached ≡ until.limit)
+    pub first : (until.reached ≡ before) ⊎ IsUnsetOrAt until.reached outcome
+
+  -- so it is of a row that is one, by the outcomes that are known behind it
+  abbrev pub ReachesBy : ℕ → Asked n → List (Outcome n) → Type 0
+  ReachesBy before (Happens event) outcomes = Unit {0}
+  ReachesBy before (Settle tick) outcomes = Unit {0}
+  ReachesBy before (Query tick) outcomes = Unit {0}
+  ReachesBy before (Look tick) outcomes = Unit {0}
+  ReachesBy before (Until until) outcomes = HasReached before until (outcome_in outcomes until.row)
