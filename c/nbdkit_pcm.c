@@ -261,7 +261,7 @@ static void next_cut(void)
 static void keep_row(void *context, char op, const char *row, size_t size)
 {
     (void)context;
-    if (op != 'S' && fwrite(row, 1, size, log_file) != size)
+    if (strchr("RWMC", op) != NULL && fwrite(row, 1, size, log_file) != size)
         log_failed = 1;
 }
 
@@ -417,7 +417,8 @@ static int plugin_after_fork(void)
         return -1;
     fault = pcm_disk_open(&disk, words, &shape, option_words());
     if (fault != 0) {
-        nbdkit_error("%s stream: %s", program, fault == EPIPE ? "it has ended: it isn't the program of streams, or not one of such modules" : strerror(fault));
+        nbdkit_error("%s stream: %s", program, fault == EPIPE ? "it has ended: it isn't the program of streams, or not one of such modules"
+            : fault == EINVAL ? "it doesn't tell that its module is such a one" : strerror(fault));
         return -1;
     }
     if (log_name != NULL && play_log() != 0)

@@ -18,18 +18,19 @@
 
    Time. The disk has one clock, in the module's ticks, and one request at a time: a request begins where the one before it ended, and each of
    its lines is a row, `row_ticks` behind the last. A write ends when all its lines are accepted; where too many lines wait to be stored,
-   it goes on once some are. A read ends when all its lines are answered. pcm_disk_go_on lets time pass in which nobody asks for
-   anything. Each wait has an end: a bank that stores nothing within the time in which MODEL.md says that it must has stopped.
+   it goes on at the tick at which enough are. A read ends at the tick at which the last of its lines is answered. pcm_disk_go_on lets time
+   pass in which nobody asks for anything. Each wait has an end: where a write isn't stored for long, the module is asked whether its bank
+   goes on.
 
    Banks. Neighbouring lines of the disk go round the banks, and then round their regions, so that they are stored side by side. The disk knows
-   each line's bank (FORMATS.md, 'The randomiser's words') and never sends a bank more writes than its queue holds, nor more reads than
-   it lets wait: no row is `full` or `busy`.
+   each line's bank (FORMATS.md, 'The randomiser's words') and the order of its queue, and never sends a bank more writes than that holds, nor
+   more reads than it lets wait: no row is `full` or `busy`.
 
    Wear. Where a bank has found no spare, or has halted at a worn control line, the disk only reads from then on: writes answer EROFS,
    and all that was accepted is read as before.
 
-   Logs. disk.pcm.log and disk.pcm.context (pcm_stream.h) are the caller's behind pcm_disk_open: the rows that are handed to it but for S,
-   behind a header, are a trace of the disk's life, which pcm_disk_replay plays again. */
+   Logs. disk.pcm.log and disk.pcm.context (pcm_stream.h) are the caller's behind pcm_disk_open: the rows that are handed to it, R, W, M and C
+   alone, behind a header, are a trace of the disk's life, which pcm_disk_replay plays again. */
 #ifndef PCM_DISK_H
 #define PCM_DISK_H
 
@@ -53,14 +54,19 @@ static const struct pcm_disk_shape pcm_disk_default = {16, 16, 256, 128, 8, 32, 
 
 /* No cut is due. */
 #define PCM_DISK_NEVER UINT64_MAX
-/* The most banks of a module, regions of a bank and lines of a module, and rows from a write's to the last one before it is known to be stored. */
+/* The most banks of a module, regions of a bank, lines of a module, and writes and reads that wait in a bank. */
 #define PCM_DISK_BANKS 64
 #define PCM_DISK_REGIONS 64
 #define PCM_DISK_LINES (UINT32_C(1) << 26)
-#define PCM_DISK_SPAN 65536
+#define PCM_DISK_QUEUE 256
 /* The largest sector, and how many entries of the map are looked up at once. */
 #define PCM_DISK_SECTOR 4096
 #define PCM_DISK_ENTRIES 32
+
+/* A write that waits: its row's number, and its line of the module. */
+struct pcm_disk_queued {
+    uint32_t row, line;
+};
 
 struct pcm_disk {
     struct pcm_disk_shape shape;
@@ -77,19 +83,22 @@ struct pcm_disk {
     uint32_t bank_bits, region_bits, line_bits;     /* those of a bank's number, a region's in its bank, and a line's in its region */
     uint32_t sectors, free_block;   /* with `atomic`: how many there are, and which of the sectors + 1 blocks of lines holds none of them */
     uint32_t writes[PCM_DISK_BANKS], reads[PCM_DISK_BANKS]; /* how many of each wait in a bank, as far as is known */
-    uint8_t bank_of[PCM_DISK_SPAN]; /* of a write that waits, by its row's number: its bank, from 1 */
+    struct pcm_disk_queued queue[PCM_DISK_BANKS][PCM_DISK_QUEUE]; /* those writes, in the order in which the bank stores them */
+    uint32_t last_bank;      /* where a write was looked for last */
     int refused;             /* a write of this request was refused */
     uint8_t *to;             /* where the bytes of this read go; NULL outside a read */
     uint64_t offset;
     size_t size;
     uint32_t first_row, first_line, asked, unanswered; /* its rows under way: `asked` of them, from these numbers on */
+    uint8_t is_answered[PCM_DISK_BANKS * PCM_DISK_QUEUE]; /* of each, whether it is answered */
     uint8_t sector[PCM_DISK_SECTOR]; /* the one that is put together */
     struct pcm pcm;
 };
 
 /* Starts a program of streams, `program` being its first words, with the shape and with other options of the module (`options`: words, NULL
-   behind them; or NULL). All words are only lent. Its module is new: all bytes are 0. EINVAL where there is no such shape; EPIPE where the
-   program refuses its options; what the system says where it can't be started. Whatever it answers, pcm_disk_close frees what it took. */
+   behind them; or NULL). All words are only lent. Its module is new: all bytes are 0. EINVAL where there is no such shape, or the module doesn't
+   tell that it has it; EPIPE where the program refuses its options; what the system says where it can't be started. Whatever it answers,
+   pcm_disk_close frees what it took. */
 static inline int pcm_disk_open(struct pcm_disk *disk, const char *const program[], const struct pcm_disk_shape *shape,
                                 const char *const options[]);
 /* A row of an earlier life of the disk, with its LF, is sent again: before the first request, and behind the rows before it. EINVAL where it
@@ -131,7 +140,7 @@ static inline uint64_t pcm_disk_size(const struct pcm_disk *disk)
 
 static inline int pcm_disk__fault(enum pcm_result result)
 {
-    return result == PCM_OK ? 0 : result == PCM_ENDED ? EPIPE : result == PCM_FAILED ? errno : EIO;
+    return result == PCM_OK ? 0 : result == PCM_ENDED ? EPIPE : result == PCM_FAILED ? errno : result == PCM_OTHER ? EINVAL : EIO;
 }
 
 /* So many ticks one try of a line write takes at most (MODEL.md, 'How long it takes'). */
@@ -177,13 +186,37 @@ static inline void pcm_disk__copy(struct pcm_disk *disk, const struct pcm_outcom
     uint64_t until = end > disk->offset + disk->size ? disk->offset + disk->size : end;
     memcpy(disk->to + (from - disk->offset), it->bytes + (from - begin), (size_t)(until - from));
     disk->reads[pcm_disk_bank(disk, pcm_disk_line(disk, line))]--;
+    disk->is_answered[it->row - disk->first_row] = 1;
     disk->unanswered--;
+}
+
+/* A write waits no more. Where it merged, the next write of its line has its place in the queue. */
+static inline void pcm_disk__leave(struct pcm_disk *disk, uint32_t row, int is_merged)
+{
+    for (uint32_t i = 0; i < disk->shape.banks; i++) {
+        uint32_t bank = (disk->last_bank + i) & (disk->shape.banks - 1), at = 0, next;
+        struct pcm_disk_queued *queue = disk->queue[bank];
+        while (at < disk->writes[bank] && queue[at].row != row)
+            at++;
+        if (at == disk->writes[bank])
+            continue;
+        for (next = at + 1; is_merged && next < disk->writes[bank]; next++)
+            if (queue[next].line == queue[at].line) {
+                queue[at].row = queue[next].row;
+                at = next;
+                break;
+            }
+        disk->last_bank = bank; /* (outcomes come bank by bank) */
+        disk->writes[bank]--;
+        disk->waiting--;
+        memmove(queue + at, queue + at + 1, (disk->writes[bank] - at) * sizeof *queue);
+        return;
+    }
 }
 
 /* What became of a row. */
 static inline void pcm_disk__note(struct pcm_disk *disk, const struct pcm_outcome *it)
 {
-    uint8_t *bank = &disk->bank_of[it->row % PCM_DISK_SPAN];
     int is_asked = disk->to != NULL && it->row - disk->first_row < disk->asked;
     if (it->kind >= PCM_SETTLED)
         return;
@@ -195,11 +228,7 @@ static inline void pcm_disk__note(struct pcm_disk *disk, const struct pcm_outcom
         /* fall through */
     case PCM_STORED:
     case PCM_MERGED:
-        if (*bank != 0) {
-            disk->writes[*bank - 1]--;
-            disk->waiting--;
-            *bank = 0;
-        }
+        pcm_disk__leave(disk, it->row, it->kind == PCM_MERGED);
         break;
     case PCM_READ:
     case PCM_FORWARDED:
@@ -248,8 +277,9 @@ static inline int pcm_disk__send(struct pcm_disk *disk, char op, uint32_t line, 
     }
     if (result == PCM_OK && (op == 'W' || op == 'M')) {
         uint32_t bank = pcm_disk_bank(disk, line);
-        disk->bank_of[disk->pcm.rows % PCM_DISK_SPAN] = (uint8_t)(bank + 1);
-        disk->writes[bank]++;
+        struct pcm_disk_queued *last = &disk->queue[bank][disk->writes[bank]++]; /* (there is room for it) */
+        last->row = disk->pcm.rows;
+        last->line = line;
         disk->waiting++;
     }
     return pcm_disk__fault(result);
@@ -277,32 +307,60 @@ static inline int pcm_disk__to(struct pcm_disk *disk, uint64_t tick, int settles
     return fault;
 }
 
+/* Every bank goes on from the disk's tick until a row has its outcome, at most to a tick, and no further than to the next cut, which comes where it
+   is due already. What is known then is noted. */
+static inline int pcm_disk__until(struct pcm_disk *disk, uint32_t row, uint64_t tick)
+{
+    uint32_t left = disk->waiting + disk->unanswered;
+    if (disk->cut_at <= disk->now)
+        return pcm_disk__to(disk, disk->now, 0);
+    if (disk->now >= PCM_LAST_TICK)
+        return EIO;
+    if (tick > disk->cut_at)
+        tick = disk->cut_at;
+    if (tick > PCM_LAST_TICK)
+        tick = PCM_LAST_TICK;
+    disk->settles++;
+    int fault = pcm_disk__fault(pcm_settle_until(&disk->pcm, row, tick, pcm_disk__take, disk));
+    disk->now = disk->pcm.tick;
+    /* (an earlier tick is only reached as the outcome is told) */
+    return fault == 0 && disk->now < tick && disk->waiting + disk->unanswered == left ? EIO : fault;
+}
+
+/* EROFS where a bank takes no writes any more: the module is asked. */
+static inline int pcm_disk__has_stopped(struct pcm_disk *disk, uint32_t bank)
+{
+    struct pcm_bank banks[PCM_DISK_BANKS];
+    memset(banks, 0, sizeof banks);
+    disk->settles++;
+    int fault = pcm_disk__fault(pcm_ask(&disk->pcm, disk->now, banks, disk->shape.banks, pcm_disk__take, disk));
+    if (fault == 0 && banks[bank].mark != PCM_GOING) {
+        disk->worn = 1;
+        fault = EROFS;
+    }
+    return fault;
+}
+
 /* Lets time pass until a bank takes one more write; where it holds all that it may, until it takes `wanted` more, if so many are stored
-   before its queue is half empty: so the bank is never idle, and the program isn't waited for at each line. A bank that has stopped
-   stores nothing within the time that every write is stored in: its writes stand in its queue for ever, and would be waited for as long. */
+   before its queue is half empty: so the bank is never idle, and the program isn't waited for at each line. The write that is waited for is the
+   last of those that must be stored before. Where it isn't within the time that one line write takes at most, or within twice as much, and so on,
+   the bank may have stopped. */
 static inline int pcm_disk__room(struct pcm_disk *disk, uint32_t bank, uint32_t wanted)
 {
-    uint64_t step = disk->shape.read_ticks + disk->shape.iter_ticks, still = 0;
-    uint64_t most = 5 * pcm_disk__try(disk) * (2 * (2 * (uint64_t)disk->shape.write_queue + disk->shape.spares) + 1);
     uint32_t least = 1, half = disk->shape.write_queue / 2;
+    uint64_t patience = pcm_disk__try(disk);
+    int fault = 0;
     if (disk->writes[bank] >= disk->shape.write_queue && half > 1)
         least = wanted < half ? wanted : half;
-    while (disk->writes[bank] + least > disk->shape.write_queue || disk->bank_of[(disk->pcm.rows + 1) % PCM_DISK_SPAN] != 0) {
-        uint64_t cuts = disk->count[PCM_CUT];
-        uint32_t held = disk->writes[bank] + least > disk->shape.write_queue ? disk->writes[bank] + least - disk->shape.write_queue : 1;
-        uint64_t jump = still < 64 * step ? step * held : step;
-        int fault = pcm_disk__to(disk, disk->now + jump, 1);
-        if (fault != 0)
-            return fault;
-        still = disk->count[PCM_CUT] != cuts ? 0 : still + jump;
-        if (still > most) {
-            disk->worn = 1;
-            return EROFS;
+    while (fault == 0 && disk->writes[bank] + least > disk->shape.write_queue) {
+        uint64_t most = disk->now + patience;
+        fault = pcm_disk__until(disk, disk->queue[bank][disk->writes[bank] + least - disk->shape.write_queue - 1].row, most);
+        if (fault == 0 && disk->now >= most && disk->writes[bank] + least > disk->shape.write_queue) {
+            fault = pcm_disk__has_stopped(disk, bank);
+            patience *= 2;
         }
-        if (still > 64 * step)
-            step *= 2;
     }
-    return 0;
+    return fault;
 }
 
 /* Writes bytes of the disk's lines in their order. `refused` tells behind it whether one of them wasn't accepted. */
@@ -336,13 +394,13 @@ static inline int pcm_disk__put(struct pcm_disk *disk, const uint8_t *from, size
     return fault == 0 && disk->refused ? EROFS : fault;
 }
 
-/* The most reads that wait in a bank. */
-static inline uint32_t pcm_disk__most_reads(const struct pcm_disk *disk)
+/* The newest row of a read that isn't answered. */
+static inline uint32_t pcm_disk__newest(const struct pcm_disk *disk)
 {
-    uint32_t most = 0;
-    for (uint32_t i = 0; i < disk->shape.banks; i++)
-        most = disk->reads[i] > most ? disk->reads[i] : most;
-    return most;
+    uint32_t at = disk->asked;
+    while (at > 0 && disk->is_answered[at - 1])
+        at--;
+    return disk->first_row + at - 1;
 }
 
 /* Asks for lines from `next` on, as many as may wait at once, up to `end`; then lets time pass until all are answered. It ends early, and
@@ -362,15 +420,15 @@ static inline int pcm_disk__ask(struct pcm_disk *disk, uint32_t next, uint32_t e
         fault = pcm_disk__to(disk, disk->now + disk->row_ticks, 0);
         if (fault != 0 || disk->count[PCM_CUT] != cuts)
             break;
-        disk->asked++;
+        disk->is_answered[disk->asked++] = 0;
         disk->unanswered++;
         disk->reads[bank]++;
         fault = pcm_disk__send(disk, 'R', here, NULL, NULL);
     }
-    /* each bank answers at most one in so many ticks: the clock never goes further beyond the last answer than a sense takes */
-    most = disk->now + pcm_disk__try(disk) + (uint64_t)(disk->shape.read_queue + 2) * disk->shape.read_ticks;
+    /* (so many ticks a read waits at most; MODEL.md, 'How long it takes') */
+    most = disk->now + pcm_disk__try(disk) + (uint64_t)(disk->shape.read_queue + 1) * disk->shape.read_ticks;
     while (fault == 0 && disk->unanswered > 0 && disk->count[PCM_CUT] == cuts)
-        fault = disk->now > most ? EIO : pcm_disk__to(disk, disk->now + (uint64_t)pcm_disk__most_reads(disk) * disk->shape.read_ticks, 1);
+        fault = disk->now >= most ? EIO : pcm_disk__until(disk, pcm_disk__newest(disk), most);
     return fault;
 }
 
@@ -558,11 +616,14 @@ static inline int pcm_disk_replay(struct pcm_disk *disk, const char *row)
     if (at == NULL || strcmp(at, "\n") != 0 || line >= pcm_disk__all_lines(disk) || (op == 'M' && memchr(given, 1, disk->shape.line) == NULL))
         return EINVAL;
     disk->now = tick;
-    /* (a write's place among those that wait is free now, as it was then) */
-    const uint8_t *place = &disk->bank_of[(disk->pcm.rows + 1) % PCM_DISK_SPAN];
-    int fault = *place != 0 ? pcm_disk__settle(disk, tick) : 0;
-    if (fault == 0 && *place != 0)
-        fault = EINVAL;
+    /* (the queue of a write's bank has room by now, as it had then) */
+    const uint32_t *writes = &disk->writes[pcm_disk_bank(disk, (uint32_t)line)];
+    int fault = 0;
+    if ((op == 'W' || op == 'M') && *writes == disk->shape.write_queue) {
+        fault = pcm_disk__settle(disk, tick);
+        if (fault == 0 && *writes == disk->shape.write_queue)
+            fault = EINVAL;
+    }
     return fault == 0 ? pcm_disk__send(disk, op, (uint32_t)line, bytes, given) : fault;
 }
 
@@ -595,7 +656,8 @@ static inline int pcm_disk__shape(struct pcm_disk *disk, const struct pcm_disk_s
     uint64_t all = (uint64_t)shape->banks * shape->regions * shape->lines, bytes = all * shape->line;
     disk->shape = *shape;
     if (!pcm_disk__is_power(shape->banks, 1, PCM_DISK_BANKS) || !pcm_disk__is_power(shape->regions, 1, PCM_DISK_REGIONS)
-        || !pcm_disk__is_power(shape->lines, 4, PCM_DISK_LINES) || all > PCM_DISK_LINES || !pcm_disk__is_power(shape->line, 64, PCM_MOST_BYTES))
+        || !pcm_disk__is_power(shape->lines, 4, PCM_DISK_LINES) || all > PCM_DISK_LINES || !pcm_disk__is_power(shape->line, 64, PCM_MOST_BYTES)
+        || shape->write_queue - 1 >= PCM_DISK_QUEUE || shape->read_queue - 1 >= PCM_DISK_QUEUE)
         return EINVAL;
     for (uint64_t i = 0; i < 3; i++) {
         uint64_t word = shape->seed + (i + 1) * UINT64_C(0x9e3779b97f4a7c15);
@@ -626,6 +688,8 @@ static inline int pcm_disk_open(struct pcm_disk *disk, const char *const program
                                 shape->write_queue, shape->read_queue, shape->read_ticks, shape->iter_ticks, shape->seed};
     const char *const names[] = {"--banks",       "--regions",    "--lines",      "--line",       "--spares",
                                  "--write-queue", "--read-queue", "--read-ticks", "--iter-ticks", "--seed"};
+    const struct pcm_shape wanted = {1,          shape->banks,       shape->regions,   shape->lines, shape->spares,
+                                     shape->line, shape->write_queue, shape->read_queue};
     char texts[10][21];
     const char *words[64] = {NULL};
     int n = 0;
@@ -644,12 +708,15 @@ static inline int pcm_disk_open(struct pcm_disk *disk, const char *const program
         words[n++] = texts[i];
     }
     for (int i = 0; options != NULL && options[i] != NULL; i++) {
-        if (n == 63)
+        if (n == 62)
             return EINVAL;
         words[n++] = options[i];
     }
+    words[n++] = "--tell=shape";
     int fault = pcm_disk__fault(pcm_open_apart(&disk->pcm, words));
-    return fault == 0 ? pcm_disk__settle(disk, 0) : fault; /* (words that are refused show here) */
+    if (fault == 0)
+        fault = pcm_disk__settle(disk, 0); /* (words that are refused show here, and the shape has come then, where it comes) */
+    return fault != 0 ? fault : disk->pcm.shape.version == 0 ? EINVAL : pcm_disk__fault(pcm_learn(&disk->pcm, &wanted));
 }
 
 static inline int pcm_disk_close(struct pcm_disk *disk)

@@ -13,6 +13,7 @@
        struct pcm_outcome outcome;
        while (pcm_next(&pcm, &outcome) == PCM_OK && outcome.kind != PCM_SETTLED) ..
        if (pcm_write_sure(&pcm, 1000, 8, bytes, NULL, 64, NULL, NULL) == PCM_OK) ..   // it is accepted, so durable
+       pcm_settle_until(&pcm, pcm.rows, 9000, NULL, NULL);   // the array has it; pcm.tick is the tick at which it came there
        pcm_finish(&pcm);                           // no more rows; pcm_next then gives the rest, and PCM_ENDED behind the last
        int status = pcm_close(&pcm);
 
@@ -60,14 +61,16 @@ extern "C" {
 
 /* What a call answers. */
 enum pcm_result {
-    PCM_OK,      /* it is done */
-    PCM_ENDED,   /* the program has ended, and there is no outcome left; pcm_close tells its status */
-    PCM_FULL,    /* answers have to be taken first (pcm_next), before another row can be sent */
-    PCM_FAILED,  /* a call of the system failed; errno tells why */
-    PCM_REFUSED, /* an argument is out of range: a tick, the rows, a mask that gives nothing, a closed module; nothing was sent */
-    PCM_GARBLED, /* the program sent a line that isn't one of a stream */
-    PCM_SIZE,    /* the bytes aren't as many as a line has; nothing was sent */
-    PCM_DECLINED /* the module refused the write: it isn't accepted */
+    PCM_OK,       /* it is done */
+    PCM_ENDED,    /* the program has ended, and there is no outcome left; pcm_close tells its status */
+    PCM_FULL,     /* answers have to be taken first (pcm_next), before another row can be sent */
+    PCM_FAILED,   /* a call of the system failed; errno tells why */
+    PCM_REFUSED,  /* an argument is out of range: a tick, a row, a line (where the shape is known), a mask that gives nothing, a closed
+                     module; nothing was sent */
+    PCM_GARBLED,  /* the program sent a line that isn't one of a stream */
+    PCM_SIZE,     /* the bytes aren't as many as a line has; nothing was sent */
+    PCM_DECLINED, /* the module refused the write: it isn't accepted */
+    PCM_OTHER     /* the module has another shape than is wanted */
 };
 
 /* What became of a row, or that the module has settled. */
@@ -89,6 +92,29 @@ struct pcm_bank {
     enum pcm_mark mark;
 };
 
+/* How worn a module is: numbers over all its array lines, free spares too. */
+struct pcm_wear {
+    uint64_t pulses;   /* of all lines together */
+    uint64_t most;     /* of the line that has most */
+    uint64_t mean;     /* of a line, rounded down */
+    uint64_t pointers; /* the active ones, by the lines' own check cells */
+    uint64_t senses;   /* of all lines together */
+    uint64_t set;      /* cells that pulses drove to 1 */
+    uint64_t reset;    /* cells that pulses drove to 0 */
+};
+
+/* What a module is, where the program tells it (`--tell shape`); all 0 until then. */
+struct pcm_shape {
+    uint32_t version;     /* of the stream's format: 1 */
+    uint32_t banks;
+    uint32_t regions;     /* of a bank */
+    uint32_t lines;       /* of a region */
+    uint32_t spares;      /* of a bank */
+    uint32_t line;        /* the bytes of a line */
+    uint32_t write_queue; /* the writes that a bank's queue holds */
+    uint32_t read_queue;  /* the reads that may wait at a bank */
+};
+
 struct pcm_outcome {
     enum pcm_kind kind;
     uint32_t row;       /* the row's number, from 1; 0 of PCM_SETTLED */
@@ -98,8 +124,8 @@ struct pcm_outcome {
     uint8_t bytes[PCM_MOST_BYTES];
 };
 
-/* The caller's own: what takes a row's text, its end among its `size` bytes, as it is sent: `op` is R, W, M, C, S or Q. The rows but for S and
-   Q, behind the header `tick,op,arg,data`, are a trace that plays the same again. The text is only lent. */
+/* The caller's own: what takes a row's text, its end among its `size` bytes, as it is sent: `op` is R, W, M or C, or S, Q, U or L of a row that
+   settles. The first four, behind the header `tick,op,arg,data`, are a trace that plays the same again. The text is only lent. */
 typedef void (*pcm_logger)(void *context, char op, const char *row, size_t size);
 /* The caller's own: what takes an outcome, which is only lent. It calls nothing of this header. */
 typedef void (*pcm_taker)(void *context, const struct pcm_outcome *outcome);
@@ -108,9 +134,12 @@ struct pcm {
     pid_t process;
     int to, from;          /* -1 where closed */
     uint32_t rows;         /* how many rows were sent: the number of the last one */
-    uint32_t line_size;    /* the bytes of a line, by the words of pcm_open. Where the program was told so otherwise, the caller sets it; 0: any */
-    uint64_t tick;         /* of the last row or settle */
-    uint32_t settles;      /* how many were sent, pcm_ask's among them, whose PCM_SETTLED wasn't taken yet */
+    uint32_t line_size;    /* the bytes of a line, by the words of pcm_open, or by the shape. Where the program was told so otherwise, the caller
+                              sets it; 0: any */
+    int tells_shape;       /* whether the words of pcm_open have `--tell shape`. Where the program was told so otherwise, the caller sets it */
+    struct pcm_shape shape; /* behind pcm_learn: what the module is */
+    uint64_t tick;         /* of the last row or settle; behind pcm_settle_until the one that was reached */
+    uint32_t settles;      /* how many were sent, those of calls that take all among them, whose PCM_SETTLED wasn't taken yet */
     pcm_logger log;        /* the caller's, from pcm_open on, which sets it to NULL: each row is handed to it, with `context` */
     void *context;
     size_t held, begin, end;
@@ -125,6 +154,11 @@ static inline enum pcm_result pcm_open(struct pcm *pcm, const char *const words[
 /* The same with a process group of the program's own: what a terminal sends (Ctrl-C, a hang-up) reaches the caller alone, and the program
    ends once the caller has closed it or has ended. */
 static inline enum pcm_result pcm_open_apart(struct pcm *pcm, const char *const words[]);
+/* What the module is, where the program was started with `--tell shape`: it waits for that, and puts it into pcm->shape. From then on a line
+   that the module hasn't is refused by each call, and a line's size is the module's own, whatever the words said. PCM_OTHER where a number of
+   `wanted` that isn't 0 is another (NULL: all are right); the module goes on. PCM_REFUSED where the program doesn't tell its shape. Call it
+   behind pcm_open, or at any time. */
+static inline enum pcm_result pcm_learn(struct pcm *pcm, const struct pcm_shape *wanted);
 /* A write of a whole line, of so many bytes, arrives. The bytes are copied. */
 static inline enum pcm_result pcm_write(struct pcm *pcm, uint64_t tick, uint32_t line, const uint8_t *bytes, size_t size);
 /* A write that gives the bytes for which `given` isn't 0 (at least one) arrives. Both are copied. */
@@ -142,6 +176,13 @@ static inline enum pcm_result pcm_settle(struct pcm *pcm, uint64_t tick);
 static inline enum pcm_result pcm_settle_all(struct pcm *pcm, uint64_t tick, pcm_taker take, void *context);
 /* The same, and what waits then in the first `count` banks is put into `banks`; where the module has fewer, the others stay as they are. */
 static inline enum pcm_result pcm_ask(struct pcm *pcm, uint64_t tick, struct pcm_bank *banks, size_t count, pcm_taker take, void *context);
+/* The same, but the module goes on only until a row that was sent has its outcome: to the first tick, from the one at which it stands, behind
+   which that is known, and to `tick` where it isn't by then (a write that stays queued has none before the end). pcm.tick is then the tick
+   that was reached, and the next row may have any tick from there on. A row whose outcome is known leaves the module where it stands. */
+static inline enum pcm_result pcm_settle_until(struct pcm *pcm, uint32_t row, uint64_t tick, pcm_taker take, void *context);
+/* The same as pcm_settle_all, and how worn the module is then is put into `wear`. It goes over all array lines: of a large module it takes
+   time. */
+static inline enum pcm_result pcm_look(struct pcm *pcm, uint64_t tick, struct pcm_wear *wear, pcm_taker take, void *context);
 /* A write arrives (of a whole line where `given` is NULL), and is answered at once, by a settle at its tick: PCM_OK where it is accepted, so
    that it outlives every power cut; PCM_DECLINED where its bank's queue is full or the bank is worn. Every outcome that became known,
    a refusal of this write too, is handed to `take`, as by pcm_settle_all. It never answers PCM_FULL. */
@@ -219,15 +260,16 @@ static inline int pcm__start(struct pcm *pcm, const char *const words[], int is_
     return fault;
 }
 
-/* The bytes of a line by the words of the program: 64, but where they ask for 128. (The program refuses all others.) */
-static inline uint32_t pcm__line_size(const char *const words[])
+/* Whether the words of the program give an option (`--line`, in one word or in two) this value. */
+static inline int pcm__has(const char *const words[], const char *option, const char *value)
 {
-    for (int i = 1; words[0] != NULL && words[i] != NULL; i++) {
-        const char *value = strncmp(words[i], "--line=", 7) == 0 ? words[i] + 7 : strcmp(words[i], "--line") == 0 ? words[i + 1] : NULL;
-        if (value != NULL)
-            return strcmp(value, "128") == 0 ? 128 : 64;
-    }
-    return 64;
+    size_t size = strlen(option);
+    for (int i = 1; words[0] != NULL && words[i] != NULL; i++)
+        if (strncmp(words[i], option, size) == 0 && (words[i][size] == '=' || words[i][size] == 0)) {
+            const char *given = words[i][size] == '=' ? words[i] + size + 1 : words[i + 1];
+            return given != NULL && strcmp(given, value) == 0;
+        }
+    return 0;
 }
 
 static inline enum pcm_result pcm__open(struct pcm *pcm, const char *const words[], int is_apart)
@@ -236,7 +278,8 @@ static inline enum pcm_result pcm__open(struct pcm *pcm, const char *const words
     memset(pcm, 0, offsetof(struct pcm, out));
     pcm->to = pcm->from = -1;
     pcm->process = -1;
-    pcm->line_size = pcm__line_size(words);
+    pcm->line_size = pcm__has(words, "--line", "128") ? 128 : 64; /* (the program refuses all other values) */
+    pcm->tells_shape = pcm__has(words, "--tell", "shape");
     if (pcm__pair(to, 0) != 0)
         return PCM_FAILED;
     if (pcm__pair(from, 1) != 0) {
@@ -343,11 +386,21 @@ static inline char *pcm__put_bytes(char *at, const uint8_t *bytes, const uint8_t
     return at;
 }
 
-static inline enum pcm_result pcm__row(struct pcm *pcm, uint64_t tick, char op, uint32_t line, const uint8_t *bytes, const uint8_t *given,
+/* Whether a row of this operation may name this number: a row that came before, a line, or nothing. */
+static inline int pcm__is_known(const struct pcm *pcm, char op, uint32_t number)
+{
+    const struct pcm_shape *shape = &pcm->shape;
+    if (op == 'U')
+        return number > 0 && number <= pcm->rows;
+    return shape->version == 0 || number < (uint64_t)shape->banks * shape->regions * shape->lines;
+}
+
+/* Sends a row. `number` is its line, or the row of a settle until; where it has none, it is 0. */
+static inline enum pcm_result pcm__row(struct pcm *pcm, uint64_t tick, char op, uint32_t number, const uint8_t *bytes, const uint8_t *given,
                                        size_t size)
 {
-    int settles = op == 'S' || op == 'Q';
-    if (pcm->to < 0 || tick < pcm->tick || tick > PCM_LAST_TICK || (!settles && pcm->rows >= PCM_LAST_ROW))
+    int settles = strchr("SQUL", op) != NULL, is_bare = op != 'U' && (settles || op == 'C');
+    if (pcm->to < 0 || tick < pcm->tick || tick > PCM_LAST_TICK || (!settles && pcm->rows >= PCM_LAST_ROW) || !pcm__is_known(pcm, op, number))
         return PCM_REFUSED;
     if (sizeof pcm->out - pcm->held < PCM_MOST_ROW) {
         enum pcm_result result = pcm_flush(pcm);
@@ -358,13 +411,14 @@ static inline enum pcm_result pcm__row(struct pcm *pcm, uint64_t tick, char op, 
     *at++ = ',';
     *at++ = op;
     *at++ = ',';
-    if (op != 'C' && !settles)
-        at = pcm__put_number(at, line);
+    if (!is_bare)
+        at = pcm__put_number(at, number);
     *at++ = ',';
     at = pcm__put_bytes(at, bytes, given, size);
     *at++ = '\n';
     pcm->held += (size_t)(at - row);
-    pcm->tick = tick;
+    if (op != 'U')
+        pcm->tick = tick;
     if (settles)
         pcm->settles++;
     else
@@ -406,10 +460,19 @@ static inline enum pcm_result pcm_cut(struct pcm *pcm, uint64_t tick)
     return pcm__row(pcm, tick, 'C', 0, NULL, NULL, 0);
 }
 
-/* Settles, or asks where `op` is Q. */
-static inline enum pcm_result pcm__settle(struct pcm *pcm, uint64_t tick, char op)
+/* What a row that settles asks for besides, and where that is put. */
+struct pcm__asks {
+    char op;                /* S, Q, U or L */
+    uint32_t row;           /* of U; else 0 */
+    struct pcm_bank *banks; /* of Q: the first `count` */
+    size_t count;
+    struct pcm_wear *wear;  /* of L */
+};
+
+/* Settles. */
+static inline enum pcm_result pcm__settle(struct pcm *pcm, uint64_t tick, const struct pcm__asks *asks)
 {
-    enum pcm_result result = pcm__row(pcm, tick, op, 0, NULL, NULL, 0);
+    enum pcm_result result = pcm__row(pcm, tick, asks->op, asks->row, NULL, NULL, 0);
     if (result != PCM_OK)
         return result;
     /* (the row is taken now: what the stream doesn't hold yet pcm_next hands over) */
@@ -419,23 +482,27 @@ static inline enum pcm_result pcm__settle(struct pcm *pcm, uint64_t tick, char o
 
 static inline enum pcm_result pcm_settle(struct pcm *pcm, uint64_t tick)
 {
-    return pcm__settle(pcm, tick, 'S');
+    const struct pcm__asks asks = {'S', 0, NULL, 0, NULL};
+    return pcm__settle(pcm, tick, &asks);
 }
 
-static inline enum pcm_result pcm__next(struct pcm *pcm, struct pcm_outcome *outcome, struct pcm_bank *banks, size_t count);
+static inline enum pcm_result pcm__next(struct pcm *pcm, struct pcm_outcome *outcome, const struct pcm__asks *asks);
 
-/* Settles, or asks where `op` is Q, and takes all that is known then: what waits in a bank goes into `banks`. */
-static inline enum pcm_result pcm__settle_all(struct pcm *pcm, uint64_t tick, char op, struct pcm_bank *banks, size_t count, pcm_taker take,
-                                              void *context)
+/* Settles, and takes all that is known then. The module stands then at the tick of the row, or at the one that was reached. */
+static inline enum pcm_result pcm__settle_all(struct pcm *pcm, uint64_t tick, const struct pcm__asks *asks, pcm_taker take, void *context)
 {
     struct pcm_outcome outcome;
     enum pcm_result result;
-    while ((result = pcm__settle(pcm, tick, op)) == PCM_FULL && (result = pcm_next(pcm, &outcome)) == PCM_OK)
+    while ((result = pcm__settle(pcm, tick, asks)) == PCM_FULL && (result = pcm_next(pcm, &outcome)) == PCM_OK)
         if (take != NULL)
             take(context, &outcome);
-    while (result == PCM_OK && (result = pcm__next(pcm, &outcome, banks, count)) == PCM_OK) {
-        if (outcome.kind == PCM_SETTLED && pcm->settles == 0)
+    while (result == PCM_OK && (result = pcm__next(pcm, &outcome, asks)) == PCM_OK) {
+        if (outcome.kind == PCM_SETTLED && pcm->settles == 0) {
+            if (outcome.tick < pcm->tick || outcome.tick > tick)
+                return PCM_GARBLED;
+            pcm->tick = outcome.tick;
             break;
+        }
         if (take != NULL)
             take(context, &outcome);
     }
@@ -444,12 +511,26 @@ static inline enum pcm_result pcm__settle_all(struct pcm *pcm, uint64_t tick, ch
 
 static inline enum pcm_result pcm_settle_all(struct pcm *pcm, uint64_t tick, pcm_taker take, void *context)
 {
-    return pcm__settle_all(pcm, tick, 'S', NULL, 0, take, context);
+    const struct pcm__asks asks = {'S', 0, NULL, 0, NULL};
+    return pcm__settle_all(pcm, tick, &asks, take, context);
 }
 
 static inline enum pcm_result pcm_ask(struct pcm *pcm, uint64_t tick, struct pcm_bank *banks, size_t count, pcm_taker take, void *context)
 {
-    return pcm__settle_all(pcm, tick, 'Q', banks, count, take, context);
+    const struct pcm__asks asks = {'Q', 0, banks, count, NULL};
+    return pcm__settle_all(pcm, tick, &asks, take, context);
+}
+
+static inline enum pcm_result pcm_settle_until(struct pcm *pcm, uint32_t row, uint64_t tick, pcm_taker take, void *context)
+{
+    const struct pcm__asks asks = {'U', row, NULL, 0, NULL};
+    return pcm__settle_all(pcm, tick, &asks, take, context);
+}
+
+static inline enum pcm_result pcm_look(struct pcm *pcm, uint64_t tick, struct pcm_wear *wear, pcm_taker take, void *context)
+{
+    const struct pcm__asks asks = {'L', 0, NULL, 0, wear};
+    return pcm__settle_all(pcm, tick, &asks, take, context);
 }
 
 /* What pcm_write_sure hands outcomes through: it looks for a refusal of its row. */
@@ -523,6 +604,42 @@ static inline const char *pcm__number(const char *at, char end, uint64_t *number
     return *at == end ? at + 1 : NULL;
 }
 
+/* Reads so many numbers with a blank between any two, up to the end of a line. */
+static inline enum pcm_result pcm__numbers(const char *at, uint64_t *numbers, int count)
+{
+    for (int i = 0; i < count; i++)
+        if (*at < '0' || *at > '9' || (at = pcm__number(at, i + 1 < count ? ' ' : 0, &numbers[i])) == NULL)
+            return PCM_GARBLED;
+    return PCM_OK;
+}
+
+/* Reads how worn the module is, behind the word of its line, and puts it where it is wanted. */
+static inline enum pcm_result pcm__wear(const char *at, struct pcm_wear *wear)
+{
+    uint64_t tick, place, it[7];
+    if ((at = pcm__number(at, ',', &tick)) == NULL || (at = pcm__number(at, ',', &place)) == NULL || pcm__numbers(at, it, 7) != PCM_OK)
+        return PCM_GARBLED;
+    if (wear != NULL) {
+        const struct pcm_wear found = {it[0], it[1], it[2], it[3], it[4], it[5], it[6]};
+        *wear = found;
+    }
+    return PCM_OK;
+}
+
+/* Reads what the module is, behind the word of its line. */
+static inline enum pcm_result pcm__shape(struct pcm *pcm, const char *at)
+{
+    uint64_t tick, version, it[7];
+    if ((at = pcm__number(at, ',', &tick)) == NULL || (at = pcm__number(at, ',', &version)) == NULL || pcm__numbers(at, it, 7) != PCM_OK
+        || version == 0 || it[4] == 0 || it[4] > PCM_MOST_BYTES)
+        return PCM_GARBLED;
+    const struct pcm_shape found = {(uint32_t)version, (uint32_t)it[0], (uint32_t)it[1], (uint32_t)it[2],
+                                    (uint32_t)it[3],   (uint32_t)it[4], (uint32_t)it[5], (uint32_t)it[6]};
+    pcm->shape = found;
+    pcm->line_size = found.line;
+    return PCM_OK;
+}
+
 /* Reads what waits in a bank, behind the word of its line, and puts it where it is wanted. */
 static inline enum pcm_result pcm__bank(const char *at, struct pcm_bank *banks, size_t count)
 {
@@ -571,31 +688,72 @@ static inline enum pcm_result pcm__outcome(const char *at, struct pcm_outcome *o
     return PCM_OK;
 }
 
-/* The next outcome; what waits in the first `count` banks, where that comes before it, goes into `banks`. */
-static inline enum pcm_result pcm__next(struct pcm *pcm, struct pcm_outcome *outcome, struct pcm_bank *banks, size_t count)
+/* Reads a line of the stream that isn't an outcome: whether it is one. What it tells is put where it is asked for. */
+static inline int pcm__is_aside(struct pcm *pcm, const char *line, const struct pcm__asks *asks, enum pcm_result *result)
+{
+    *result = PCM_OK;
+    if (strncmp(line, ",bank,", 6) == 0)
+        *result = pcm__bank(line + 6, asks == NULL ? NULL : asks->banks, asks == NULL ? 0 : asks->count);
+    else if (strncmp(line, ",wear,", 6) == 0)
+        *result = pcm__wear(line + 6, asks == NULL ? NULL : asks->wear);
+    else if (strncmp(line, ",shape,", 7) == 0)
+        *result = pcm__shape(pcm, line + 7);
+    else
+        return strncmp(line, "row,", 4) == 0;
+    return 1;
+}
+
+/* The next outcome; what comes before it and was asked for is put where that is wanted. */
+static inline enum pcm_result pcm__next(struct pcm *pcm, struct pcm_outcome *outcome, const struct pcm__asks *asks)
 {
     enum pcm_result result = pcm_flush(pcm);
+    const char *line;
     if (result == PCM_FAILED)
         return result;
-    for (;;) {
-        const char *line = pcm__line(pcm, &result);
-        if (line == NULL)
+    do {
+        if ((line = pcm__line(pcm, &result)) == NULL)
             return result;
-        int is_bank = strncmp(line, ",bank,", 6) == 0;
-        if (strncmp(line, "row,", 4) == 0)
-            continue;
-        result = is_bank ? pcm__bank(line + 6, banks, count) : pcm__outcome(line, outcome);
-        if (result == PCM_OK && is_bank)
-            continue;
-        if (result == PCM_OK && outcome->kind == PCM_SETTLED && pcm->settles > 0)
-            pcm->settles--;
-        return result;
-    }
+    } while (pcm__is_aside(pcm, line, asks, &result) && result == PCM_OK);
+    if (result == PCM_OK)
+        result = pcm__outcome(line, outcome);
+    if (result == PCM_OK && outcome->kind == PCM_SETTLED && pcm->settles > 0)
+        pcm->settles--;
+    return result;
 }
 
 static inline enum pcm_result pcm_next(struct pcm *pcm, struct pcm_outcome *outcome)
 {
-    return pcm__next(pcm, outcome, NULL, 0);
+    return pcm__next(pcm, outcome, NULL);
+}
+
+static inline int pcm__is(uint32_t told, uint32_t wanted)
+{
+    return wanted == 0 || told == wanted;
+}
+
+/* Whether a module is the wanted one: of a number that is 0 any will do. */
+static inline int pcm__is_wanted(const struct pcm_shape *told, const struct pcm_shape *wanted)
+{
+    return pcm__is(told->version, wanted->version) && pcm__is(told->banks, wanted->banks) && pcm__is(told->regions, wanted->regions)
+           && pcm__is(told->lines, wanted->lines) && pcm__is(told->spares, wanted->spares) && pcm__is(told->line, wanted->line)
+           && pcm__is(told->write_queue, wanted->write_queue) && pcm__is(told->read_queue, wanted->read_queue);
+}
+
+static inline enum pcm_result pcm_learn(struct pcm *pcm, const struct pcm_shape *wanted)
+{
+    enum pcm_result result = PCM_OK;
+    if (pcm->shape.version == 0 && (pcm->from < 0 || !pcm->tells_shape))
+        return PCM_REFUSED;
+    if (pcm->shape.version == 0 && (result = pcm_flush(pcm)) == PCM_FAILED)
+        return result;
+    while (pcm->shape.version == 0) {
+        const char *line = pcm__line(pcm, &result);
+        if (line == NULL)
+            return result;
+        if (!pcm__is_aside(pcm, line, NULL, &result) || result != PCM_OK)
+            return PCM_GARBLED;
+    }
+    return wanted == NULL || pcm__is_wanted(&pcm->shape, wanted) ? PCM_OK : PCM_OTHER;
 }
 
 static inline enum pcm_result pcm_finish(struct pcm *pcm)

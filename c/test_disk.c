@@ -71,7 +71,7 @@ static int left_of(size_t size, uint64_t offset, uint32_t unit)
 /* A log of rows, as a trace. */
 static void keep(void *log, char op, const char *row, size_t size)
 {
-    if (op != 'S')
+    if (strchr("RWMC", op) != NULL)
         fwrite(row, 1, size, (FILE *)log);
 }
 
@@ -287,6 +287,50 @@ static void worn(const char *registers, uint64_t idle, uint32_t atomic)
     check(pcm_disk_close(&disk) == 1, "status 1");
 }
 
+/* A request ends as its last line is answered, or as there is room for it, by one settle for each wait. */
+static void waits_are_exact(void)
+{
+    const struct pcm_disk_shape one = {1, 1, 16, 64, 4, 4, 4, 5, 10, 0, 1, 0};
+    check(pcm_disk_open(&disk, program, &one, NULL) == 0 && disk.settles == 1, "a disk of one bank");
+    check(pcm_disk_read(&disk, got, 64, 0) == 0 && disk.now == 6 && disk.settles == 2, "a read ends as it is answered");
+    check(pcm_disk_read(&disk, got, 192, 64) == 0 && disk.now == 22 && disk.settles == 3, "one of three lines as the last is");
+    fill(bytes, 320);
+    check(pcm_disk_write(&disk, bytes, 320, 0) == 0 && disk.now == 54 && disk.settles == 5, "two lines are stored before the fifth is taken");
+    check(pcm_disk_go_on(&disk, 1000) == 0 && disk.waiting == 0, "all are stored");
+    fill(bytes, 320);
+    check(pcm_disk_write(&disk, bytes, 192, 0) == 0 && pcm_disk_write(&disk, bytes + 192, 64, 64) == 0, "a line is written, and again");
+    check(disk.now == 1004 && disk.waiting == 3 && disk.count[PCM_MERGED] == 1, "the newer write has the place of the older one");
+    check(pcm_disk_write(&disk, bytes, 64, 192) == 0 && disk.now == 1005 && disk.waiting == 4, "the queue is full");
+    check(pcm_disk_write(&disk, bytes, 64, 256) == 0 && disk.now == 1032, "the newer write is the second that is stored");
+    check(pcm_disk_read(&disk, got, 64, 64) == 0 && memcmp(got, bytes + 192, 64) == 0 && pcm_disk_close(&disk) == 0, "it is what is read");
+}
+
+/* Modules of another shape, and programs whose answers are none. */
+static void other_programs(void)
+{
+    static const char answers[] = "echo row,outcome,tick,place,data; echo ',shape,0,1,4 2 16 4 64 8 4'; while IFS=, read -r tick op arg data; do case $op in "
+                                  "S) echo \",settled,$tick,,\";; U) echo \",settled,$((tick - $0)),,\";; "
+                                  "Q) for bank in 0 1 2 3; do echo \",bank,$tick,$bank,8 0 $1\"; done; echo \",settled,$tick,,\";; esac; done";
+    const char *other[] = {"sh", "-c", "exec \"$0\" stream --tell shape --banks 2", program[0], NULL};
+    const char *silent[] = {"sh", "-c", "exec \"$0\" stream", program[0], NULL};
+    const char *early[] = {"sh", "-c", answers, "1", "going", NULL}, *late[] = {"sh", "-c", answers, "-1", "going", NULL};
+    const char *idle[] = {"sh", "-c", answers, "0", "going", NULL}, *halted[] = {"sh", "-c", answers, "0", "halted", NULL};
+    int fault = 0;
+    check(pcm_disk_open(&disk, other, &small, NULL) == EINVAL && pcm_disk_close(&disk) == 0, "a module of another shape");
+    check(pcm_disk_open(&disk, silent, &small, NULL) == EINVAL && pcm_disk_close(&disk) == 0, "one that doesn't tell it");
+    check(pcm_disk_open(&disk, early, &small, NULL) == 0 && pcm_disk_read(&disk, got, 1, 0) == EIO && pcm_disk_close(&disk) == 0, "no answer");
+    check(pcm_disk_open(&disk, late, &small, NULL) == 0 && pcm_disk_read(&disk, got, 1, 0) == EIO && pcm_disk_close(&disk) == 0, "a tick too late");
+    check(pcm_disk_open(&disk, idle, &small, NULL) == 0 && pcm_disk_read(&disk, got, 1, 0) == EIO && disk.now < 3000, "a read that isn't answered");
+    check(pcm_disk_close(&disk) == 0 && pcm_disk_open(&disk, idle, &small, NULL) == 0, "a module that stores nothing");
+    while (fault == 0)
+        fault = pcm_disk_write(&disk, bytes, 64, 0);
+    check(fault == EIO && disk.now == PCM_LAST_TICK && !disk.worn && pcm_disk_close(&disk) == 0, "is waited for up to the end of time");
+    check(pcm_disk_open(&disk, halted, &small, NULL) == 0, "one that says that it has halted");
+    while ((fault = pcm_disk_write(&disk, bytes, 64, 0)) == 0)
+        ;
+    check(fault == EROFS && disk.now < 3000 && disk.worn && pcm_disk_close(&disk) == 0, "isn't");
+}
+
 static void misuse(void)
 {
     const char *wrong[] = {"--psi", "0", NULL}, *none[] = {"/nowhere/pcm", NULL};
@@ -297,8 +341,9 @@ static void misuse(void)
         {3, 2, 16, 64, 4, 8, 4, 5, 10, 0, 0, 0}, {128, 2, 16, 64, 4, 8, 4, 5, 10, 0, 0, 0},   {4, 0, 16, 64, 4, 8, 4, 5, 10, 0, 0, 0},
         {4, 2, 2, 64, 4, 8, 4, 5, 10, 0, 0, 0},  {4, 2, 16, 32, 4, 8, 4, 5, 10, 0, 0, 0},     {4, 2, 16, 256, 4, 8, 4, 5, 10, 0, 0, 0},
         {4, 2, 16, 64, 4, 8, 4, 5, 10, 1024, 0, 0}, {64, 64, 32768, 64, 4, 8, 4, 5, 10, 0, 0, 0}, {1, 1, 4, 64, 4, 8, 4, 5, 10, 512, 0, 0},
+        {4, 2, 16, 64, 4, 0, 4, 5, 10, 0, 0, 0}, {4, 2, 16, 64, 4, 257, 4, 5, 10, 0, 0, 0},   {4, 2, 16, 64, 4, 8, 257, 5, 10, 0, 0, 0},
     };
-    for (int i = 0; i < 9; i++)
+    for (int i = 0; i < 12; i++)
         check(pcm_disk_open(&disk, program, &shapes[i], NULL) == EINVAL && pcm_disk_close(&disk) == -1, "a shape that there isn't");
     odd.spares = 5000;
     check(pcm_disk_open(&disk, program, &odd, NULL) == EPIPE && pcm_disk_close(&disk) == 2, "too many spares");
@@ -370,6 +415,8 @@ int main(int count, char **words)
         worn("guarded", idle, 512);
         worn("array", idle, 512);
     }
+    waits_are_exact();
+    other_programs();
     misuse();
     printf("%d passed, %d failed\n", passed, failed);
     return failed != 0;

@@ -117,8 +117,9 @@ static void faults_are_told(const char *const words[])
         sent++;
     check(sent < 100000 && pcm_settle(&pcm, 0) == PCM_ENDED, "rows behind it are told so, without a signal");
     check(pcm_close(&pcm) == 3, "status 3");
-    const char *wrong[] = {"1,stored,5", "1,gone,5,3,", "1,read,5,3,0", "1,read,5,3,0x", "1,storedx,5,3,", "1,,5,3,", "x,stored,5,3,", "1,stored,5,x,", "1,stored"};
-    for (int i = 0; i < 9; i++) {
+    const char *wrong[] = {"1,stored,5", "1,gone,5,3,", "1,read,5,3,0", "1,read,5,3,0x", "1,storedx,5,3,", "1,,5,3,", "x,stored,5,3,", "1,stored,5,x,",
+                           "1,stored",   ",wear,5,,1 2 3 4 5 6", ",wear,5,,1 2 3 4 5 6 7 8", ",wear,5,,1 2 3 4 5 6 ", ",wear,5,1 2 3 4 5 6 7"};
+    for (int i = 0; i < 13; i++) {
         const char *echoes[] = {"echo", wrong[i], NULL};
         check(pcm_open(&pcm, echoes) == PCM_OK && pcm_next(&pcm, &outcome) == PCM_GARBLED && pcm_close(&pcm) == 0, "a line that is none");
     }
@@ -168,7 +169,7 @@ static char logged[4096];
 static void keep(void *context, char op, const char *row, size_t size)
 {
     size_t at = strlen((char *)context);
-    if (op != 'S' && op != 'Q') {
+    if (strchr("RWMC", op) != NULL) {
         memcpy((char *)context + at, row, size);
         ((char *)context)[at + size] = 0;
     }
@@ -240,6 +241,156 @@ static void what_waits_in_each_bank_is_told(const char *const words[], int count
     check(pcm_finish(&pcm) == PCM_OK && ends(&pcm) && pcm_close(&pcm) == 0, "status 0");
 }
 
+static void a_settle_until_stops_where_its_row_has_its_outcome(const char *const words[])
+{
+    static struct pcm pcm;
+    uint8_t bytes[64] = {1};
+    memset(&taken, 0, sizeof taken);
+    logged[0] = 0;
+    check(pcm_open(&pcm, words) == PCM_OK, "the program starts");
+    pcm.log = keep;
+    pcm.context = logged;
+    check(pcm_write(&pcm, 0, 0, bytes, 64) == PCM_OK && pcm_settle_until(&pcm, 1, 1000, take, &taken) == PCM_OK, "a write is waited for");
+    check(pcm.tick == 15 && pcm.rows == 1 && taken.count == 1 && taken.kinds[0] == PCM_STORED, "it is stored then, and no later tick is reached");
+    check(pcm_read(&pcm, 14, 0) == PCM_REFUSED && pcm_read(&pcm, 30, 0) == PCM_OK, "rows go on from there");
+    check(pcm_settle_until(&pcm, 2, 1000, take, &taken) == PCM_OK && pcm.tick == 35 && taken.kinds[1] == PCM_READ, "a read is waited for");
+    check(pcm_settle_until(&pcm, 1, 1000, take, &taken) == PCM_OK && pcm.tick == 35 && taken.count == 2, "what is known isn't waited for");
+    check(pcm_write(&pcm, 40, 1, bytes, 64) == PCM_OK && pcm_settle_until(&pcm, 3, 54, take, &taken) == PCM_OK, "a write, not long enough");
+    check(pcm.tick == 54 && taken.count == 2, "it has no outcome yet");
+    check(pcm_settle_until(&pcm, 3, 55, take, &taken) == PCM_OK && pcm.tick == 55 && taken.rows[2] == 3, "one tick more does");
+    check(pcm_write(&pcm, 60, 0, bytes, 64) == PCM_OK && pcm_write(&pcm, 60, 1, bytes, 64) == PCM_OK && pcm_write(&pcm, 61, 1, bytes, 64) == PCM_OK,
+          "a write merges");
+    check(pcm_settle(&pcm, 62) == PCM_OK && pcm_settle_until(&pcm, 5, 1000, take, &taken) == PCM_OK && pcm.tick == 62, "the older one has its outcome");
+    check(taken.count == 5 && taken.kinds[3] == PCM_MERGED && taken.settled == 1 && pcm.settles == 0, "a settle of the caller's own is told");
+    check(pcm_read(&pcm, 62, 2) == PCM_OK && pcm_cut(&pcm, 63) == PCM_OK && pcm_settle_until(&pcm, 7, 1000, take, &taken) == PCM_OK, "a cut");
+    check(pcm.tick == 63 && taken.kinds[5] == PCM_LOST && taken.kinds[6] == PCM_CUT, "the read is lost by it");
+    check(pcm_settle_until(&pcm, 0, 1000, NULL, NULL) == PCM_REFUSED && pcm_settle_until(&pcm, 9, 1000, NULL, NULL) == PCM_REFUSED, "no such row");
+    check(pcm_settle_until(&pcm, 6, 62, NULL, NULL) == PCM_REFUSED && pcm_settle_until(&pcm, 6, PCM_LAST_TICK + 1, NULL, NULL) == PCM_REFUSED,
+          "nor such a tick");
+    check(pcm_settle_until(&pcm, 6, PCM_LAST_TICK, NULL, NULL) == PCM_OK && pcm.tick == 73, "the newer write is stored behind the cut");
+    check(pcm_finish(&pcm) == PCM_OK && pcm_settle_until(&pcm, 6, 1000, NULL, NULL) == PCM_REFUSED && ends(&pcm) && pcm_close(&pcm) == 1, "status 1");
+    check(strchr(logged, 'U') == NULL && strstr(logged, "\n30,R,0,\n40,W,1,01") != NULL, "a log has the rows of a trace alone");
+}
+
+/* A program that reaches tick 9, whatever it is asked. */
+static void a_tick_that_was_not_asked_for(void)
+{
+    static struct pcm pcm;
+    const char *nine[] = {"sh", "-c", "while read -r row; do case $row in *,U,*) echo ,settled,9,,;; esac; done", NULL};
+    check(pcm_open(&pcm, nine) == PCM_OK && pcm_read(&pcm, 0, 0) == PCM_OK && pcm_settle_until(&pcm, 1, 9, NULL, NULL) == PCM_OK, "it may be reached");
+    check(pcm.tick == 9 && pcm_settle_until(&pcm, 1, 20, NULL, NULL) == PCM_OK && pcm.tick == 9, "again");
+    check(pcm_read(&pcm, 12, 0) == PCM_OK && pcm_settle_until(&pcm, 1, 20, NULL, NULL) == PCM_GARBLED && pcm_close(&pcm) == 0, "but not from 12 on");
+    check(pcm_open(&pcm, nine) == PCM_OK && pcm_read(&pcm, 0, 0) == PCM_OK && pcm_settle_until(&pcm, 1, 8, NULL, NULL) == PCM_GARBLED, "nor up to 8");
+    check(pcm_close(&pcm) == 0, "status 0");
+}
+
+/* When each row had its outcome; 0, which is no tick of one here, where it has none yet. */
+static uint64_t known[4096];
+static void know(void *context, const struct pcm_outcome *outcome)
+{
+    ((uint64_t *)context)[outcome->row] = outcome->tick;
+}
+
+/* Each settle until of many reaches a tick that the outcomes agree with. */
+static void settles_until_agree_with_the_outcomes(const char *const words[], int count)
+{
+    static struct pcm pcm;
+    const char *narrow[20] = {0};
+    uint64_t state = 88172645463325252u, reached[3] = {0};
+    uint8_t bytes[64];
+    int right = 0;
+    for (int i = 0; i < count; i++)
+        narrow[i] = i > 0 && strcmp(words[i - 1], "--banks") == 0 ? "4" : words[i];
+    narrow[count] = "--write-queue=4";
+    narrow[count + 1] = "--misses=3";
+    memset(known, 0, sizeof known);
+    check(pcm_open(&pcm, narrow) == PCM_OK && pcm_settle(&pcm, 1) == PCM_OK, "four banks");
+    for (int i = 0; i < 1000; i++) {
+        for (int n = 0; n < 3; n++) {
+            state ^= state << 13, state ^= state >> 7, state ^= state << 17;
+            memset(bytes, (int)(state >> 40 & 255), sizeof bytes);
+            uint64_t tick = pcm.tick + (state >> 8) % 12;
+            uint32_t line = (uint32_t)(state >> 16 & 15);
+            enum pcm_result sent = state >> 50 & 1    ? pcm_write(&pcm, tick, line, bytes, 64)
+                                   : state >> 52 & 31 ? pcm_read(&pcm, tick, line)
+                                                      : pcm_cut(&pcm, tick);
+            right -= sent != PCM_OK;
+        }
+        uint32_t back = (uint32_t)(state >> 24) % 8, row = pcm.rows > back ? pcm.rows - back : 1;
+        uint64_t stood = pcm.tick, limit = stood + (state >> 32) % 60;
+        right += pcm_settle_until(&pcm, row, limit, know, known) == PCM_OK;
+        if (pcm.tick == stood && known[row] != 0 && known[row] <= stood)
+            reached[0]++;
+        else if (pcm.tick == known[row])
+            reached[1]++;
+        else if (known[row] == 0 && pcm.tick == limit)
+            reached[2]++;
+    }
+    check(right == 1000 && reached[0] + reached[1] + reached[2] == 1000, "where the outcome was known, as it comes, or at the end of patience");
+    check(reached[0] > 50 && reached[1] > 50 && reached[2] > 50, "each of them comes");
+    check(pcm_finish(&pcm) == PCM_OK && ends(&pcm) && pcm_close(&pcm) >= 0, "the end");
+}
+
+static void wear_is_told(const char *const words[])
+{
+    static struct pcm pcm;
+    struct pcm_wear wear = {9, 9, 9, 9, 9, 9, 9};
+    uint8_t bytes[64];
+    memset(bytes, 0xff, sizeof bytes);
+    memset(&taken, 0, sizeof taken);
+    check(pcm_open(&pcm, words) == PCM_OK && pcm_look(&pcm, 0, &wear, take, &taken) == PCM_OK && taken.count == 0, "a look at a new module");
+    check(wear.pulses + wear.most + wear.mean + wear.pointers + wear.senses + wear.set + wear.reset == 0, "nothing was done");
+    check(pcm_write(&pcm, 0, 0, bytes, 64) == PCM_OK && pcm_look(&pcm, 14, &wear, take, &taken) == PCM_OK && pcm.rows == 1, "a look has no number");
+    check(wear.senses == 1 && wear.pulses == 0 && taken.count == 0 && pcm.settles == 0, "a sense was made");
+    check(pcm_look(&pcm, 15, &wear, take, &taken) == PCM_OK && taken.count == 1 && taken.kinds[0] == PCM_STORED, "what is known by then is told");
+    check(wear.pulses == 1 && wear.most == 1 && wear.mean == 0 && wear.pointers == 0, "a pulse was made");
+    check(wear.set == 512 && wear.reset == 0, "it drove all cells to 1");
+    check(pcm_look(&pcm, 14, &wear, NULL, NULL) == PCM_REFUSED && pcm_look(&pcm, 20, NULL, NULL, NULL) == PCM_OK, "a tick that falls is refused");
+    check(pcm_finish(&pcm) == PCM_OK && ends(&pcm) && pcm_close(&pcm) == 0, "status 0");
+}
+
+static void what_the_module_is_is_told(const char *const words[], int count)
+{
+    static struct pcm pcm;
+    struct pcm_outcome outcome;
+    const char *telling[22] = {0}, *one[22] = {"sh", "-c", "exec \"$@\" --tell shape --line=128", "sh"};
+    uint8_t bytes[128] = {1};
+    for (int i = 0; i < count; i++)
+        telling[i] = one[i + 4] = words[i];
+    telling[count] = "--tell";
+    telling[count + 1] = "shape";
+    check(pcm_open(&pcm, words) == PCM_OK && !pcm.tells_shape && pcm_learn(&pcm, NULL) == PCM_REFUSED, "who doesn't ask isn't told");
+    check(pcm.shape.version == 0 && pcm_read(&pcm, 0, 4) == PCM_OK && pcm_finish(&pcm) == PCM_OK && ends(&pcm) && pcm_close(&pcm) == 3, "status 3");
+    check(pcm_open(&pcm, telling) == PCM_OK && pcm.tells_shape && pcm_learn(&pcm, NULL) == PCM_OK, "the module tells what it is");
+    const struct pcm_shape told = pcm.shape, right = {1, 1, 1, 4, 8, 64, 32, 32}, banks = {0, 1, 0, 0, 0, 0, 0, 0}, wide = {0, 0, 0, 0, 0, 128, 0, 0};
+    check(told.version == 1 && told.banks == 1 && told.regions == 1 && told.lines == 4 && told.spares == 8, "one bank, one region, four lines");
+    check(told.line == 64 && told.write_queue == 32 && told.read_queue == 32, "and the defaults of the others");
+    check(pcm_learn(&pcm, &right) == PCM_OK && pcm_learn(&pcm, &banks) == PCM_OK && pcm_learn(&pcm, &wide) == PCM_OTHER, "it isn't any other");
+    check(pcm_read(&pcm, 0, 4) == PCM_REFUSED && pcm_write(&pcm, 0, 4, bytes, 64) == PCM_REFUSED, "a line that it hasn't is refused");
+    check(pcm_read(&pcm, 0, 3) == PCM_OK && pcm_cut(&pcm, 9) == PCM_OK && pcm_settle_until(&pcm, 1, 100, NULL, NULL) == PCM_OK, "others aren't");
+    check(pcm_finish(&pcm) == PCM_OK && ends(&pcm) && pcm_learn(&pcm, &right) == PCM_OK && pcm_close(&pcm) == 0, "status 0");
+    check(pcm_open(&pcm, telling) == PCM_OK && pcm_read(&pcm, 0, 0) == PCM_OK && pcm_settle(&pcm, 9) == PCM_OK, "a row before it is asked for");
+    check(pcm_next(&pcm, &outcome) == PCM_OK && outcome.kind == PCM_READ && pcm_learn(&pcm, &right) == PCM_OK, "it is known by the first answer");
+    check(pcm_finish(&pcm) == PCM_OK && ends(&pcm) && pcm_close(&pcm) == 0, "status 0");
+    check(pcm_open(&pcm, one) == PCM_OK && pcm.line_size == 64 && (pcm.tells_shape = 1) && pcm_learn(&pcm, &wide) == PCM_OK, "by a script");
+    check(pcm.line_size == 128 && pcm_write(&pcm, 0, 0, bytes, 64) == PCM_SIZE && pcm_write(&pcm, 0, 0, bytes, 128) == PCM_OK, "whose lines are wide");
+    check(pcm_finish(&pcm) == PCM_OK && ends(&pcm) && pcm_close(&pcm) == 0, "status 0");
+}
+
+static void a_shape_that_is_none(void)
+{
+    static struct pcm pcm;
+    const char *wrong[] = {",shape,0,0,1 1 4 8 64 32 32", ",shape,0,1,1 1 4 8 0 32 32", ",shape,0,1,1 1 4 8 129 32 32",
+                           ",shape,0,1,1 1 4 8 64 32",    "1,stored,5,3,",               "?"};
+    const char *ended[] = {"false", "--tell=shape", NULL};
+    for (int i = 0; i < 6; i++) {
+        const char *echoes[] = {"echo", wrong[i], NULL};
+        check(pcm_open(&pcm, echoes) == PCM_OK && (pcm.tells_shape = 1) && pcm_learn(&pcm, NULL) == PCM_GARBLED, "it is told so");
+        check(pcm_close(&pcm) == 0, "status 0");
+    }
+    check(pcm_open(&pcm, ended) == PCM_OK && pcm_learn(&pcm, NULL) == PCM_ENDED && pcm_close(&pcm) == 1, "nor is it told by what has ended");
+}
+
 static void a_bank_without_a_spare_is_exhausted(const char *const words[], int count)
 {
     static struct pcm pcm;
@@ -257,6 +408,9 @@ static void a_bank_without_a_spare_is_exhausted(const char *const words[], int c
         check(pcm_write(&pcm, 1000 * (uint64_t)i, 0, bytes, 64) == PCM_OK, "a write");
     }
     check(pcm_ask(&pcm, 9000, &bank, 1, NULL, NULL) == PCM_OK && bank.mark == PCM_EXHAUSTED && bank.waiting_writes > 0, "the bank is exhausted");
+    for (uint32_t row = 1; row <= 8; row++)
+        check(pcm_settle_until(&pcm, row, 10000, NULL, NULL) == PCM_OK, "a write that stays in its queue");
+    check(pcm.tick == 10000, "is waited for in vain");
     check(pcm_finish(&pcm) == PCM_OK && ends(&pcm) && pcm_close(&pcm) == 1, "status 1");
 }
 
@@ -326,6 +480,12 @@ int main(int count, char **words)
     arguments_are_looked_at(all, n);
     writes_are_answered_at_once(all, n);
     what_waits_in_each_bank_is_told(all, n);
+    a_settle_until_stops_where_its_row_has_its_outcome(all);
+    a_tick_that_was_not_asked_for();
+    settles_until_agree_with_the_outcomes(all, n);
+    wear_is_told(all);
+    what_the_module_is_is_told(all, n);
+    a_shape_that_is_none();
     a_bank_without_a_spare_is_exhausted(all, n);
     full_has_its_bound(all);
     a_group_of_its_own();

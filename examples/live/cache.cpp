@@ -10,7 +10,6 @@
 #include <iostream>
 #include <algorithm>
 #include <list>
-#include <optional>
 #include <stdexcept>
 #include <string>
 #include <tuple>
@@ -65,13 +64,9 @@ public:
     std::pair<Line, std::uint64_t> read(std::uint64_t tick, std::uint32_t line)
     {
         must(pcm_read(&pcm, tick, line));
-        const std::uint32_t row = pcm.rows;
-        auto outcome = settled(tick, row);
-        for (std::uint64_t done = tick + READ_TICKS; !outcome; done++)
-            outcome = settled(done, row);
-        Line bytes;
-        std::copy_n(outcome->bytes, bytes.size(), bytes.begin());
-        return {bytes, outcome->tick};
+        Answer answer{pcm.rows, {}, 0};
+        must(pcm_settle_until(&pcm, answer.row, PCM_LAST_TICK, keep, &answer));
+        return {answer.bytes, answer.tick};
     }
     std::uint64_t write(std::uint64_t tick, std::uint32_t line, const Line &bytes)
     {
@@ -94,19 +89,19 @@ public:
     bool is_newest(std::uint32_t line, const Line &bytes) const { return newest[line] == bytes; }
 
 private:
-    // Every bank goes on to a tick; what became of a row, if that is known then.
-    std::optional<pcm_outcome> settled(std::uint64_t tick, std::uint32_t row)
+    // What a read is answered, among the outcomes that are told.
+    struct Answer {
+        std::uint32_t row;
+        Line bytes;
+        std::uint64_t tick;
+    };
+    static void keep(void *context, const pcm_outcome *outcome)
     {
-        std::optional<pcm_outcome> found;
-        must(pcm_settle(&pcm, tick));
-        for (;;) {
-            pcm_outcome outcome;
-            must(pcm_next(&pcm, &outcome));
-            if (outcome.kind == PCM_SETTLED)
-                return found;
-            if (outcome.row == row)
-                found = outcome;
-        }
+        const auto answer = static_cast<Answer *>(context);
+        if (outcome->row != answer->row)
+            return;
+        std::copy_n(outcome->bytes, answer->bytes.size(), answer->bytes.begin());
+        answer->tick = outcome->tick;
     }
 
     struct pcm pcm;

@@ -15,7 +15,7 @@ sys.path.insert(0, str(pathlib.Path(__file__).resolve().parents[2] / "python"))
 import pcm  # noqa: E402
 
 LINES, SETS, WAYS, WORDS = 256, 8, 4, 8
-READ_TICKS = 5
+READ_TICKS, LAST_TICK = 5, 2**40
 
 
 def accesses(count):
@@ -38,29 +38,19 @@ class Memory:
     """The memory, as the cache sees it: a line is read or written at a tick, and the call answers when that was done."""
 
     def __init__(self, module):
-        self.module, self.known, self.newest = module, {}, [bytes(64)] * LINES
-
-    def settle(self, tick):
-        for outcome in self.module.settle(tick):
-            self.known[outcome.row] = outcome
+        self.module, self.newest = module, [bytes(64)] * LINES
 
     def read(self, tick, line):
         """The bytes of a line, and when they came."""
         row = self.module.read(tick, line)
-        done = tick + READ_TICKS
-        self.settle(tick)
-        while row not in self.known:
-            self.settle(done)
-            done += 1
-        outcome = self.known.pop(row)
+        outcome = next(it for it in self.module.settle_until(row, LAST_TICK) if it.row == row)
         return outcome.data, outcome.tick
 
     def write(self, tick, line, data):
         """Hands a line over, and answers when it was taken: a full queue has to be tried again, where its bank goes on."""
         while True:
             row = self.module.write(tick, line, data)
-            self.settle(tick)
-            answer = self.known.pop(row, None)
+            answer = next((it for it in self.module.settle(tick) if it.row == row), None)
             if isinstance(answer, pcm.Full) and all(bank.mark == "going" for bank in self.module.banks(tick)):
                 tick += READ_TICKS
             elif isinstance(answer, (pcm.Full, pcm.Worn)):

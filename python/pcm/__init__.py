@@ -15,6 +15,8 @@ Row by row, over a pipe to its second program, `stream`, with answers as they be
         for outcome in module.settle(1000):
             print(outcome)
 
+`module.settle_until(row, tick)` goes on until a row has its outcome, and no further: `module.tick` is the tick that it reached.
+
 How a module ages, as a stream goes on::
 
     for snapshot in pcm.snapshots("trace.csv", every=10_000, lines=256):
@@ -45,18 +47,20 @@ from .explanation import (
 from .frames import to_frame
 from .image import Bank, Entry, Image, ImageError, Region
 from .module import Module
-from .outcomes import Backlog, Busy, Cut, Forwarded, Full, Lost, Merged, Outcome, Queued, Read as ReadOutcome, Settled, Stored, Worn
+from .outcomes import (
+    Backlog, Busy, Cut, Forwarded, Full, Lost, Merged, Outcome, Queued, Read as ReadOutcome, Settled, Shape, Stored, Wear, Worn,
+)
 from .program import command, program
-from .rows import MaskedWrite, PowerCut, Query, Read, Settle, Write, numbered, read_trace, write_trace
+from .rows import Look, MaskedWrite, PowerCut, Query, Read, Settle, SettleUntil, Write, numbered, read_trace, write_trace
 from .snapshots import Snapshot, SnapshotError, read_snapshots, snapshots
 from .whole import Result, ResultRow, WearLine, run
 
-__version__ = "1.6.0"
+__version__ = "1.7.0"
 __all__ = [
     "Answer", "Asks", "Backlog", "Bank", "BankFact", "Busy", "BytesFact", "Cut", "Entry", "Explanation", "ExplanationError", "Fact",
-    "Forwarded", "Full", "Image", "ImageError", "Lost", "MaskedWrite", "Merged", "Module", "OutOfMemory", "Outcome", "PcmError", "PowerCut",
-    "Query", "Queued", "Read", "ReadBetween", "ReadFault", "ReadOutcome", "Region", "Result", "ResultRow", "RowFact", "RowsFact", "Settle",
-    "Settled", "Snapshot", "SnapshotError", "Stored", "StoredBy", "TickFact", "TooLong", "TraceError", "UsageError", "WearLine",
-    "Worn", "Write", "WriteFault", "command", "explain", "explain_all", "numbered", "program", "read_explanation", "read_snapshots",
-    "read_trace", "run", "snapshots", "to_frame", "write_trace",
+    "Forwarded", "Full", "Image", "ImageError", "Look", "Lost", "MaskedWrite", "Merged", "Module", "OutOfMemory", "Outcome", "PcmError",
+    "PowerCut", "Query", "Queued", "Read", "ReadBetween", "ReadFault", "ReadOutcome", "Region", "Result", "ResultRow", "RowFact",
+    "RowsFact", "Settle", "SettleUntil", "Settled", "Shape", "Snapshot", "SnapshotError", "Stored", "StoredBy", "TickFact", "TooLong",
+    "TraceError", "UsageError", "Wear", "WearLine", "Worn", "Write", "WriteFault", "command", "explain", "explain_all", "numbered",
+    "program", "read_explanation", "read_snapshots", "read_trace", "run", "snapshots", "to_frame", "write_trace",
 ]

@@ -221,9 +221,9 @@ static int arrive(void)
             if (!line)
                 return 0;
             now = number(&line);
-            if (!strchr("RWMCSQ", *line) || line[1] != ',')
+            if (!strchr("RWMCSQUL", *line) || line[1] != ',')
                 leave(3, NULL);
-        } while (*line == 'S' || *line == 'Q');
+        } while (strchr("SQUL", *line));
         arrived++;
     }
     *map_at(&waiting, arrived) = now;

@@ -8,7 +8,7 @@ from types import TracebackType
 from typing import Deque, Iterator, List, Optional, Sequence, Type
 
 from .errors import PcmError, UsageError, error_of
-from .outcomes import Backlog, Outcome, Settled, told_of
+from .outcomes import Backlog, Outcome, Settled, Shape, Wear, told_of
 from .program import Program, command, words_of
 from .progress import Progress
 from .rows import HEADER
@@ -21,9 +21,10 @@ class Module:
     """A phase-change memory module behind a pipe.
 
     Rows are numbered from 1 in the order in which they are handed in; each call answers its row's number. Outcomes come from `settle`,
-    `finish` and `outcomes`, each once, in the order in which they become known. Rows may be handed in at any rate and answers taken at
-    any time: what the pipes don't hold is kept here, so neither side ever waits for the other. Behind `finish` or `close`, and where the
-    program draws the rows, none is taken (`ValueError`). A `Module` isn't to be used by two threads at once.
+    `settle_until`, `finish` and `outcomes`, each once, in the order in which they become known. Rows may be handed in at any rate and
+    answers taken at any time: what the pipes don't hold is kept here, so neither side ever waits for the other. Behind `finish` or
+    `close`, and where the program draws the rows, none is taken (`ValueError`). `tick` is that of the last row or settle; behind
+    `settle_until` the one that was reached. A `Module` isn't to be used by two threads at once.
 
     Options are those of `pcm stream`, with `_` for `-`, as `banks=4`, `write_queue=8`, `policy="cancel"`, `end="off"`. `program` names
     the program (else the environment's PCM, or `./pcm` of the checkout). A call that waits for more than a second tells on standard error
@@ -32,7 +33,7 @@ class Module:
     def __init__(self, *, program: Program = None, progress: Optional[bool] = None, **options: object) -> None:
         if options.get("print") not in (None, "rows"):
             raise UsageError(2, "a Module tells the outcome of each row; for other prints there are run and snapshots")
-        self._rows = self._answered = 0
+        self._rows = self._answered = self.tick = 0
         self._progress = Progress(progress)
         self._takes_rows = options.get("input") != "drawn"
         self._tail = b""
@@ -40,6 +41,9 @@ class Module:
         self._known: Deque[Outcome] = collections.deque()
         self._settled: Optional[int] = None
         self._backlogs: List[Backlog] = []
+        self._wear: Optional[Wear] = None
+        self._shape: Optional[Shape] = None
+        self._tells_shape = options.get("tell") == "shape"
         self.status: Optional[int] = None
         self._options = words_of(options)
         words = [*command("stream", program), *self._options]
@@ -57,25 +61,42 @@ class Module:
         self._poll.register(self._from, selectors.EVENT_READ)
         self._writing = self._ended = False
 
+    @property
+    def shape(self) -> Optional[Shape]:
+        """What the module is, as it tells by `tell="shape"`; it waits for that. None where it isn't told."""
+        while self._tells_shape and self._shape is None:
+            if self._ended:
+                raise self._fail()
+            self._pump(wait=True)
+        self._progress.clear()
+        return self._shape
+
     def write(self, tick: int, line: int, data: bytes) -> int:
         """A write of a whole line arrives at a tick. Answers the row's number."""
-        return self._hand(f"{tick},W,{line},{memoryview(data).hex()}\n")
+        return self._hand(tick, f"{tick},W,{line},{memoryview(data).hex()}\n")
 
     def write_masked(self, tick: int, line: int, data: Sequence[Optional[int]]) -> int:
         """A write that gives some bytes of a line arrives at a tick; `None` stands for each byte that stays. Answers the row's number."""
-        return self._hand(f"{tick},M,{line},{''.join('..' if byte is None else f'{byte:02x}' for byte in data)}\n")
+        return self._hand(tick, f"{tick},M,{line},{''.join('..' if byte is None else f'{byte:02x}' for byte in data)}\n")
 
     def read(self, tick: int, line: int) -> int:
         """A read of a line arrives at a tick. Answers the row's number."""
-        return self._hand(f"{tick},R,{line},\n")
+        return self._hand(tick, f"{tick},R,{line},\n")
 
     def cut(self, tick: int) -> int:
         """The power is cut at a tick, and is there again at once. Answers the row's number."""
-        return self._hand(f"{tick},C,,\n")
+        return self._hand(tick, f"{tick},C,,\n")
 
     def settle(self, tick: int) -> List[Outcome]:
         """Every bank goes on to a tick. Answers all outcomes known by then that weren't answered before."""
         self._settle(f"{tick},S,,\n")
+        return self._take()
+
+    def settle_until(self, row: int, tick: int) -> List[Outcome]:
+        """The module goes on until a row that was handed in, by its number, has its outcome: from the tick at which it stands to the first one
+        behind which that is known, and to `tick` where it isn't by then, as of a write that stays queued. The reached tick is `self.tick`, from
+        which the next row may go on. Answers as `settle`."""
+        self._settle(f"{tick},U,{row},\n")
         return self._take()
 
     def banks(self, tick: int) -> List[Backlog]:
@@ -84,6 +105,14 @@ class Module:
         self._backlogs = []
         self._settle(f"{tick},Q,,\n")
         return self._backlogs
+
+    def wear(self, tick: Optional[int] = None) -> Wear:
+        """Every bank goes on to a tick (None: that at which the module stands). Answers how worn the module is then; it goes over all array lines.
+        Outcomes known by then come from the next `settle`, `outcomes` or `finish`."""
+        self._wear = None
+        self._settle(f"{self.tick if tick is None else tick},L,,\n")
+        assert self._wear is not None
+        return self._wear
 
     def outcomes(self) -> Iterator[Outcome]:
         """The outcomes that have come by now and weren't answered before. It doesn't wait."""
@@ -137,6 +166,7 @@ class Module:
             if self._ended:
                 raise self._fail()
             self._pump(wait=True)
+        self.tick = self._settled
         self._progress.clear()
 
     def _gather(self, text: str) -> None:
@@ -144,9 +174,10 @@ class Module:
             raise ValueError("no more rows are taken")
         self._out += text.encode()
 
-    def _hand(self, text: str) -> int:
+    def _hand(self, tick: int, text: str) -> int:
         self._gather(text)
         self._rows += 1
+        self.tick = tick
         if len(self._out) >= _GATHERED:
             self._pump(wait=False)
             if self._ended:
@@ -207,6 +238,10 @@ class Module:
                 self._settled = told.tick
             elif isinstance(told, Backlog):
                 self._backlogs.append(told)
+            elif isinstance(told, Wear):
+                self._wear = told
+            elif isinstance(told, Shape):
+                self._shape = told
             elif told is not None:
                 self._known.append(told)
                 self._answered += 1

@@ -112,6 +112,36 @@ class Backlog:
     mark: str
 
 
+@dataclass(frozen=True)
+class Wear:
+    """How worn a module is, which has gone on to `tick`; numbers of all its array lines, free spares too, as a snapshot has them: `pulses` of all,
+    the `most` of a line, their `mean`, rounded down; active `pointers`; `senses`, and cells that pulses drove to 1 (`set`) and to 0 (`reset`)."""
+
+    tick: int
+    pulses: int
+    most: int
+    mean: int
+    pointers: int
+    senses: int
+    set: int
+    reset: int
+
+
+@dataclass(frozen=True)
+class Shape:
+    """What a module is: its `banks`, the `regions` of each, the `lines` of a region, the `spares` of a bank, the bytes of a `line`, and how many
+    writes a bank's queue holds and how many reads may wait there. `version` is that of the stream's format."""
+
+    version: int
+    banks: int
+    regions: int
+    lines: int
+    spares: int
+    line: int
+    write_queue: int
+    read_queue: int
+
+
 _MARKS = ("going", "exhausted", "halted")
 _BY_WORD: Dict[str, Type[Outcome]] = {it.word: it for it in (Stored, Merged, Queued, Full, Worn, Read, Forwarded, Busy, Lost, Cut)}
 
@@ -135,13 +165,28 @@ def _backlog_of(tick: int, bank: int, data: str) -> Backlog:
     return Backlog(tick, bank, int(writes), int(reads), mark)
 
 
-def told_of(line: str) -> Optional["Outcome | Backlog | Settled"]:
-    """What a line of a stream tells: an outcome, what waits in a bank, or that the module has settled; nothing for the header."""
+def _wear_of(tick: int, data: str) -> Wear:
+    pulses, most, mean, pointers, senses, ones, zeros = map(int, data.split(" "))
+    return Wear(tick, pulses, most, mean, pointers, senses, ones, zeros)
+
+
+def _shape_of(version: int, data: str) -> Shape:
+    banks, regions, lines, spares, line, write_queue, read_queue = map(int, data.split(" "))
+    return Shape(version, banks, regions, lines, spares, line, write_queue, read_queue)
+
+
+def told_of(line: str) -> Optional["Outcome | Backlog | Wear | Shape | Settled"]:
+    """What a line of a stream tells: an outcome, what waits in a bank, how worn the module is, what it is, or that it has settled; nothing for
+    the header."""
     row, word, tick, place, data = line.rstrip("\n").split(",")
     if word == "settled":
         return Settled(int(tick))
     if word == "bank":
         return _backlog_of(int(tick), int(place), data)
+    if word == "wear":
+        return _wear_of(int(tick), data)
+    if word == "shape":
+        return _shape_of(int(place), data)
     if row == "row":
         return None
     return outcome_of(word, int(row), int(tick), place, data)

@@ -72,9 +72,31 @@ class Query:
         return f"{self.tick},Q,,\n"
 
 
-Row = Union[Read, Write, MaskedWrite, PowerCut, Settle, Query]
+@dataclass(frozen=True)
+class SettleUntil:
+    """The module goes on until `row`, the number of a row that came before, has its outcome: to the first tick behind which it has, and to `tick`
+    where it has none by then. The rows behind may have any tick from the reached one on. A row of streams alone, without a number."""
+
+    tick: int
+    row: int
+
+    def text(self) -> str:
+        return f"{self.tick},U,{self.row},\n"
+
+
+@dataclass(frozen=True)
+class Look:
+    """Every bank goes on to a tick, and how worn the module is then is told. A row of streams alone, without a number."""
+
+    tick: int
+
+    def text(self) -> str:
+        return f"{self.tick},L,,\n"
+
+
+Row = Union[Read, Write, MaskedWrite, PowerCut, Settle, Query, SettleUntil, Look]
 # Those that settle, by their letters: a stream's alone, and without a number.
-SETTLING = {"S": Settle, "Q": Query}
+SETTLING = {"S": Settle, "Q": Query, "U": SettleUntil, "L": Look}
 
 
 def numbered(rows: Iterable[Row]) -> Iterator[Row]:
@@ -95,13 +117,15 @@ def write_trace(rows: Iterable[Row], file: IO[str]) -> int:
 def read_trace(file: Iterable[str]) -> Iterator[Row]:
     """The rows of a trace, as the program takes it: quotes, empty lines and a byte order mark are no fault. Open the file with newline="".
     `ValueError` names the first row that isn't one."""
-    number = 0
+    number = count = 0
     try:
         for record in csv.reader(_unmarked(file)):
             if not record:
                 continue
             if number:
-                yield _row_of(record)
+                row = _row_of(record, count)
+                count += record[1] not in SETTLING
+                yield row
             elif ",".join(record) + "\n" != HEADER:
                 raise ValueError("header")
             number += 1
@@ -117,14 +141,16 @@ def _unmarked(file: Iterable[str]) -> Iterator[str]:
         yield line.removeprefix("\ufeff") if number == 0 else line
 
 
-def _row_of(fields: Sequence[str]) -> Row:
-    """The row of these fields; `ValueError` has the first thing wrong with it, a word of docs/FORMATS.md."""
+def _row_of(fields: Sequence[str], count: int) -> Row:
+    """The row of these fields, behind so many that have a number; `ValueError` has the first thing wrong with it, a word of docs/FORMATS.md."""
     if len(fields) != 4:
         raise ValueError("fields")
     op, data = fields[1], fields[3]
     if op not in ("R", "W", "M", "C", *SETTLING):
         raise ValueError("op")
     tick = _natural("tick", fields[0])
+    if op == "U":
+        return SettleUntil(tick, _row_before(count, fields[2], data))
     if op == "C" or op in SETTLING:
         if fields[2] or data:
             raise ValueError("line" if fields[2] else "payload")
@@ -139,6 +165,16 @@ def _row_of(fields: Sequence[str]) -> Row:
         return Write(tick, line, bytes.fromhex(data))
     pairs = (data[at:at + 2] for at in range(0, len(data), 2))
     return MaskedWrite(tick, line, [None if pair == ".." else int(pair, 16) for pair in pairs])
+
+
+def _row_before(count: int, text: str, data: str) -> int:
+    """The number of one of so many rows."""
+    row = _natural("line", text)
+    if not 1 <= row <= count:
+        raise ValueError("line")
+    if data:
+        raise ValueError("payload")
+    return row
 
 
 def _natural(kind: str, text: str) -> int:

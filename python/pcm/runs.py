@@ -422,7 +422,7 @@ def _streamed(source: Source, records: Iterator[Tuple[int, List[str]]]) -> List[
     found: Dict[int, Known] = {}
     for at, record in records:
         number, word, tick, place, _ = _fields(source, at, record, 5)
-        if word in ("bank", "settled") and number == "":
+        if word in ("bank", "wear", "shape", "settled") and number == "":
             continue
         row = _natural(source, at, "row", number)
         if row in found:

@@ -135,6 +135,7 @@ _STREAM = [
     _number("every", "N", 100000, 1, 4294967295, "rows between snapshots"),
     _choice("end", "E", "what becomes of the module behind the last row", "drain", "off"),
     _choice("until", "U", "up to where the rows are served", "end", "refused"),
+    _choice("tell", "T", "what is told of the module before its rows", "nothing", "shape"),
     _number("rows", "N", 1000, 1, 4000000000, "rows of the drawn trace"),
     _number("cuts", "N", 0, 0, 4000000000, "power cuts among the drawn rows"),
     _number("hot", "N", 0, 0, LARGE.all_lines, "lines that nine of ten drawn rows go to"),
@@ -261,6 +262,8 @@ def _together(command: Command, given: Dict[str, str]) -> Optional[str]:
         return f"--rows times --step is {int(value['rows']) * int(value['step'])}: it may be at most {LATEST_TICK}"
     if streams and "every" in given and value["print"] != "snapshots":
         return "--every belongs to --print snapshots alone"
+    if streams and "tell" in given and value["print"] != "rows":
+        return "--tell belongs to --print rows alone"
     return None
 
 
@@ -293,6 +296,8 @@ def wrong_word(words: Sequence[str]) -> Optional[str]:
 # Traces.
 
 HEADER = ["tick", "op", "arg", "data"]
+# The rows of streams alone, which have no number: the module settles.
+SETTLING = {"S": "a settle", "Q": "a query", "U": "a settle until", "L": "a look"}
 # The first line of results.
 RESULTS = "row,op,line,outcome,tick,place,data"
 # The same of a stream.
@@ -350,8 +355,15 @@ def _wrong_payload(op: str, data: str, size: int) -> str:
     return "the fourth field isn't the row's bytes"
 
 
-def _wrong_field(record: List[str], last: Tuple[int, int], shape: Tuple[int, int, bool]) -> Optional[Tuple[str, str]]:
-    """The kind of a row's first fault and what is wrong with its field, None where it has none; `last` is the tick and line before."""
+def _wrong_row_before(text: str, number: int) -> str:
+    """What is wrong with a field that should name one of the rows before the one with this number."""
+    known = f"a row that came before, 1 to {number - 1}" if number > 1 else "a row that came before, and none did"
+    return f"the third field of U must be the number of {known}, and is {_shown(text)}"
+
+
+def _wrong_field(record: List[str], last: Tuple[int, int], shape: Tuple[int, int, bool], number: int) -> Optional[Tuple[str, str]]:
+    """The kind of a row's first fault and what is wrong with its field, None where it has none; `last` is the tick and line before, `number`
+    the row's own, or that of the next one."""
     lines, size, streams = shape
     if len(record) != 4:
         return "fields", f"it has {len(record)} field{'s' * (len(record) != 1)}, and must have four: {','.join(HEADER)}"
@@ -360,12 +372,14 @@ def _wrong_field(record: List[str], last: Tuple[int, int], shape: Tuple[int, int
         return "tick", f"the first field must be a tick, 0 to {LATEST_TICK} in digits, and is {_shown(tick)}"
     if int(tick) < last[0]:
         return "order", f"its tick {int(tick)} is below {last[0]}, the tick of the row before (line {last[1]})"
-    ops = ["R", "W", "M", "C", *["S", "Q"] * streams]
+    ops = ["R", "W", "M", "C", *[*SETTLING] * streams]
     if op not in ops:
-        why = {"S": " (S, a settle, is a stream's alone)", "Q": " (Q, a query, is a stream's alone)"}.get(op, "")
+        why = f" ({op}, {SETTLING[op]}, is a stream's alone)" if op in SETTLING else ""
         return "op", f"the second field must be {either(ops)}, and is {_shown(op)}{why}"
-    if op in ("C", "S", "Q"):
-        if arg:
+    if op == "U" and not (re.fullmatch(r"[0-9]{1,10}", arg) and 1 <= int(arg) < number):
+        return "line", _wrong_row_before(arg, number)
+    if op == "C" or op in SETTLING:
+        if arg and op != "U":
             return "line", f"the third field of {op} must be empty, and is {_shown(arg)}"
         return ("payload", _wrong_payload(op, data, size)) if data else None
     digits = 8 if lines > FIVE_DIGITS else 5
@@ -378,7 +392,8 @@ def _wrong_field(record: List[str], last: Tuple[int, int], shape: Tuple[int, int
 
 def _faulty_row(path: str, row: int, kind: str, words: Sequence[str]) -> Optional[str]:
     """Where a faulty row stands in its file, and what is wrong there."""
-    shape, number, last = _shape_of(words), 0, (0, 1)
+    shape, number, last, until = _shape_of(words), 0, (0, 1), (0, 1)
+    below: List[str] = []
     for begins, record in _records(path):
         if number == 0:
             if row == 0:
@@ -386,17 +401,25 @@ def _faulty_row(path: str, row: int, kind: str, words: Sequence[str]) -> Optiona
                 return f"line {begins}: a trace begins with {','.join(HEADER)}, and {told}"
             number = 1
             continue
-        found = _wrong_field(record, last, shape)
+        found = _wrong_field(record, last, shape, number)
+        if kind == "order" and number == row and not found and int(record[0]) < until[0]:
+            below.append(f"line {begins}: its tick {int(record[0])} is below the one that the settle until of line {until[1]} reached")
         if found or number > row or number > MOST_ROWS:
-            if not found or number != row or found[0] != kind:
-                return None
+            if not found or number != row or found[0] != kind or below:
+                break
             told = found[1]
             if kind == "fields" and len(record) == 7 and words[:1] in (["check"], ["explain"]):
                 told += f"; results begin behind a line that is exactly {RESULTS}, ended by LF, not CRLF"
             return f"line {begins}: {told}"
-        number += not (shape[2] and record[1] in ("S", "Q"))
-        last = int(record[0]), begins
-    return "the file is empty: a trace begins with " + ",".join(HEADER) if row == 0 else None
+        number += not (shape[2] and record[1] in SETTLING)
+        # (which tick a settle until reached isn't known here: one up to its own)
+        if record[1] == "U":
+            until = int(record[0]), begins
+        else:
+            last, until = (int(record[0]), begins), (0, begins)
+    if row == 0 and number == 0:
+        return "the file is empty: a trace begins with " + ",".join(HEADER)
+    return below[0] if len(below) == 1 else None
 
 
 # The outcomes of each operation, and which of them have a place and bytes.

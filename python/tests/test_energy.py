@@ -205,8 +205,10 @@ class Latencies(Room):
         with latencies.compiled() as built:
             found = latencies.of_files(rows, other, None, built)
             self.assertEqual((wanted, "Python"), (found.found, found.by))
-            settled = self.file("settled", given.replace(b"\n", b"\n0,S,,\n0,Q,,\n", 1))
-            self.assertEqual([(wanted, "C" if built else "Python"), (wanted, "Python")], [latencies.of_files(rows, settled, None, by)[:2] for by in (built, None)])
+            head, first, *rest = given.split(b"\n")
+            settled = self.file("settled", b"\n".join([head, b"0,S,,", b"0,Q,,", b"0,L,,", first, b"1099511627776,U,1,", *rest]))
+            found = [latencies.of_files(rows, settled, None, by)[:2] for by in (built, None)]
+            self.assertEqual([(wanted, "C" if built else "Python"), (wanted, "Python")], found)
 
     def test_what_is_wrong_is_told(self):
         trace, rows, given, told = self.both(DRAWN)
@@ -228,7 +230,7 @@ class Latencies(Room):
         faulty = self.file("faulty", given.replace(b",R,", b",X,", 1))
         status, _, err = self.told(latencies, "--run", faulty)
         self.assertEqual(3, status)
-        self.assertIn("the second field must be R, W, M, C, S or Q", err)
+        self.assertIn("the second field must be R, W, M, C, S, Q, U or L", err)
 
     def test_no_compiler_is_no_hindrance(self):
         with mock.patch("shutil.which", lambda name: None), latencies.compiled() as built:

@@ -160,7 +160,7 @@ class Streams(unittest.TestCase):
             told = []
             with pcm.Module(policy=policy, **WORN) as module:
                 for row in rows:
-                    module._hand(row.text())
+                    module._hand(row.tick, row.text())
                     told += module.outcomes()
                 told += module.finish()
             self.assertEqual((3000, wanted), (len(told), set(told)))
@@ -253,7 +253,7 @@ class Packages(unittest.TestCase):
 class Frames(unittest.TestCase):
     ROWS = [
         pcm.Write(0, 0, ONES), pcm.PowerCut(7), pcm.MaskedWrite(50, 1, [1] + [None] * 63),
-        pcm.Settle(60), pcm.Query(60), pcm.Read(100, 0),
+        pcm.Settle(60), pcm.Query(60), pcm.Look(60), pcm.SettleUntil(60, 3), pcm.Read(100, 0),
     ]
 
     def setUp(self):

@@ -186,7 +186,7 @@ class Numbers(Room):
         self.assertEqual(came_of(one), came_of(two))
 
     def test_a_cut_behind_which_the_power_stays_off_and_settles(self):
-        trace = b"tick,op,arg,data\n0,W,0," + b"ff" * 64 + b"\n3,S,,\n3,Q,,\n7,S,,\n"
+        trace = b"tick,op,arg,data\n0,W,0," + b"ff" * 64 + b"\n3,S,,\n3,Q,,\n3,L,,\n7,U,1,\n"
         rows = printed("stream", "--end", "off", given=trace)
         tables = Tables(self.page(self.file(rows), "--trace", self.file(trace), "--end", "off")).found
         counts = {row[0]: row[2] for row in tables["counts"][0][1:]}
