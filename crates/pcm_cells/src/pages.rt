@@ -36,11 +36,17 @@ pub(crate) struct Pages<const B: usize, const M: usize> {
     ghost same_lines: { young_lines young ≡ length grown },
 }
 
-// So many pulses a line may have while it is young.
-fn young_limit(wear: Wear) -> u64
+// An array of fewer lines whose cells miss keeps none of them young: drawn twice they take longer, and their room is small.
+const FEW_LINES: u32 = 16_384;
+
+// So many pulses a line of an array of so many may have while it is young.
+fn young_limit(wear: Wear, lines: u32) -> u64
     requires { IsWear wear }
     ensures { IsYouth wear result }
 {
+    if wear.misses > 0 && lines < FEW_LINES {
+        return 0;
+    }
     (wear.lo as u64 - 1).min(511)
 }
 
@@ -57,7 +63,7 @@ impl<const B: usize, const M: usize> Pages<B, M> {
     {
         Ok(Pages {
             wear,
-            limit: young_limit(wear),
+            limit: young_limit(wear, lines),
             young: Youths::blank(alloc, lines, wear)?,
             grown: PageTable::blank(alloc, lines)?,
         })
