@@ -44,6 +44,9 @@
 #include <sys/types.h>
 #include <sys/wait.h>
 #include <unistd.h>
+#ifdef __SSE2__
+#include <emmintrin.h> /* sixteen digits at once */
+#endif
 
 #ifdef __cplusplus
 extern "C" {
@@ -373,16 +376,43 @@ static inline char *pcm__put_number(char *at, uint64_t number)
     return at;
 }
 
+#ifdef __SSE2__
+/* The digits of sixteen values below 16. */
+static inline __m128i pcm__digits(__m128i values)
+{
+    __m128i are_letters = _mm_cmpgt_epi8(values, _mm_set1_epi8(9));
+    return _mm_add_epi8(_mm_add_epi8(values, _mm_set1_epi8('0')), _mm_and_si128(are_letters, _mm_set1_epi8('a' - '0' - 10)));
+}
+
+/* The values of sixteen digits; `are_digits` loses the lanes in which none is. */
+static inline __m128i pcm__values(const char *at, __m128i *are_digits)
+{
+    __m128i digits = _mm_loadu_si128((const __m128i *)at), are_letters = _mm_cmpgt_epi8(digits, _mm_set1_epi8('9'));
+    __m128i values = _mm_sub_epi8(_mm_sub_epi8(digits, _mm_set1_epi8('0')), _mm_and_si128(are_letters, _mm_set1_epi8('a' - '0' - 10)));
+    __m128i are_small = _mm_cmpeq_epi8(_mm_min_epu8(values, _mm_set1_epi8(15)), values);
+    __m128i are_right = _mm_cmpeq_epi8(_mm_cmpgt_epi8(values, _mm_set1_epi8(9)), are_letters);
+    *are_digits = _mm_and_si128(*are_digits, _mm_and_si128(are_small, are_right));
+    return values;
+}
+#endif
+
 /* Puts the digits of bytes, and answers where they end; two dots for one that isn't given. */
 static inline char *pcm__put_bytes(char *at, const uint8_t *bytes, const uint8_t *given, size_t size)
 {
-    static const char pairs[] =
-        "000102030405060708090a0b0c0d0e0f101112131415161718191a1b1c1d1e1f202122232425262728292a2b2c2d2e2f303132333435363738393a3b3c3d3e3f"
-        "404142434445464748494a4b4c4d4e4f505152535455565758595a5b5c5d5e5f606162636465666768696a6b6c6d6e6f707172737475767778797a7b7c7d7e7f"
-        "808182838485868788898a8b8c8d8e8f909192939495969798999a9b9c9d9e9fa0a1a2a3a4a5a6a7a8a9aaabacadaeafb0b1b2b3b4b5b6b7b8b9babbbcbdbebf"
-        "c0c1c2c3c4c5c6c7c8c9cacbcccdcecfd0d1d2d3d4d5d6d7d8d9dadbdcdddedfe0e1e2e3e4e5e6e7e8e9eaebecedeeeff0f1f2f3f4f5f6f7f8f9fafbfcfdfeff";
-    for (size_t i = 0; i < size; i++, at += 2)
-        memcpy(at, given == NULL || given[i] != 0 ? pairs + 2 * bytes[i] : "..", 2);
+    size_t i = 0;
+#ifdef __SSE2__
+    for (; given == NULL && i + 16 <= size; i += 16, at += 32) {
+        const __m128i low = _mm_set1_epi8(15), it = _mm_loadu_si128((const __m128i *)(bytes + i));
+        const __m128i highs = _mm_and_si128(_mm_srli_epi16(it, 4), low), lows = _mm_and_si128(it, low);
+        _mm_storeu_si128((__m128i *)at, pcm__digits(_mm_unpacklo_epi8(highs, lows)));
+        _mm_storeu_si128((__m128i *)(at + 16), pcm__digits(_mm_unpackhi_epi8(highs, lows)));
+    }
+#endif
+    for (; i < size; i++, at += 2) {
+        int is_given = given == NULL || given[i] != 0;
+        at[0] = is_given ? "0123456789abcdef"[bytes[i] >> 4] : '.';
+        at[1] = is_given ? "0123456789abcdef"[bytes[i] & 15] : '.';
+    }
     return at;
 }
 
@@ -587,13 +617,35 @@ static inline const char *pcm__line(struct pcm *pcm, enum pcm_result *result)
     }
 }
 
-/* The value of a digit; -1 where it is none. (By a table: bytes are often as good as drawn, and a guess which digit comes would often be wrong.) */
+/* The value of a digit; -1 where it is none. */
 static inline int pcm__digit(char c)
 {
-    static const signed char values['f' - '0' + 1] = {0, 1, 2, 3, 4, 5, 6, 7, 8, 9, -1, -1, -1, -1, -1, -1, -1, -1, -1, -1,
-                                                      -1, -1, -1, -1, -1, -1, -1, -1, -1, -1, -1, -1, -1, -1, -1, -1, -1, -1, -1, -1, -1, -1, -1, -1, -1, -1, -1, -1, -1, 10, 11, 12, 13, 14, 15};
-    unsigned at = (unsigned)(unsigned char)c - '0';
-    return at < sizeof values ? values[at] : -1;
+    return c >= '0' && c <= '9' ? c - '0' : c >= 'a' && c <= 'f' ? c - 'a' + 10 : -1;
+}
+
+/* Reads the digits of bytes, up to the end of a line; how many bytes, or -1 where one is none or there are too many. */
+static inline int pcm__get_bytes(const char *at, uint8_t *bytes)
+{
+    size_t digits = strlen(at), i = 0;
+    if (digits % 2 != 0 || digits > 2 * PCM_MOST_BYTES)
+        return -1;
+#ifdef __SSE2__
+    __m128i are_digits = _mm_set1_epi8(-1);
+    for (; i + 32 <= digits; i += 32) {
+        const __m128i low = _mm_set1_epi16(255), one = pcm__values(at + i, &are_digits), two = pcm__values(at + i + 16, &are_digits);
+        _mm_storeu_si128((__m128i *)(bytes + i / 2), _mm_packus_epi16(_mm_and_si128(_mm_or_si128(_mm_slli_epi16(one, 4), _mm_srli_epi16(one, 8)), low),
+                                                                     _mm_and_si128(_mm_or_si128(_mm_slli_epi16(two, 4), _mm_srli_epi16(two, 8)), low)));
+    }
+    if (_mm_movemask_epi8(are_digits) != 0xffff)
+        return -1;
+#endif
+    for (; i < digits; i += 2) {
+        int high = pcm__digit(at[i]), low = pcm__digit(at[i + 1]);
+        if (high < 0 || low < 0)
+            return -1;
+        bytes[i / 2] = (uint8_t)(high << 4 | low);
+    }
+    return (int)(digits / 2);
 }
 
 /* Reads the digits of a field, which may be empty, and what ends it (a comma, or a space within a field); NULL where it is none. */
@@ -677,21 +729,17 @@ static inline enum pcm_result pcm__outcome(const char *at, struct pcm_outcome *o
     outcome->kind = (enum pcm_kind)kind;
     outcome->row = (uint32_t)row;
     outcome->place = (uint32_t)place;
-    uint32_t size = 0;
-    for (; *at != 0; at += 2) {
-        int high = pcm__digit(at[0]), low = high < 0 ? -1 : pcm__digit(at[1]);
-        if (low < 0 || size >= PCM_MOST_BYTES)
-            return PCM_GARBLED;
-        outcome->bytes[size++] = (uint8_t)(high << 4 | low);
-    }
-    outcome->size = size;
-    return PCM_OK;
+    int size = pcm__get_bytes(at, outcome->bytes);
+    outcome->size = size < 0 ? 0 : (uint32_t)size;
+    return size < 0 ? PCM_GARBLED : PCM_OK;
 }
 
 /* Reads a line of the stream that isn't an outcome: whether it is one. What it tells is put where it is asked for. */
 static inline int pcm__is_aside(struct pcm *pcm, const char *line, const struct pcm__asks *asks, enum pcm_result *result)
 {
     *result = PCM_OK;
+    if (*line >= '0' && *line <= '9')
+        return 0;
     if (strncmp(line, ",bank,", 6) == 0)
         *result = pcm__bank(line + 6, asks == NULL ? NULL : asks->banks, asks == NULL ? 0 : asks->count);
     else if (strncmp(line, ",wear,", 6) == 0)

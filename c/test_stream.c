@@ -414,6 +414,47 @@ static void a_bank_without_a_spare_is_exhausted(const char *const words[], int c
     check(pcm_finish(&pcm) == PCM_OK && ends(&pcm) && pcm_close(&pcm) == 1, "status 1");
 }
 
+/* Digits, of which lanes take sixteen at once. */
+static void digits_are_put_and_read(void)
+{
+    char text[2 * PCM_MOST_BYTES + 3], one[3];
+    uint8_t bytes[PCM_MOST_BYTES], back[PCM_MOST_BYTES], given[PCM_MOST_BYTES];
+    int right = 0;
+    for (size_t size = 0; size <= PCM_MOST_BYTES; size++) {
+        for (size_t i = 0; i < size; i++) {
+            bytes[i] = (uint8_t)(73 * size + 151 * i);
+            given[i] = (uint8_t)(i % 3);
+        }
+        *pcm__put_bytes(text, bytes, NULL, size) = 0;
+        int same = strlen(text) == 2 * size && pcm__get_bytes(text, back) == (int)size && memcmp(bytes, back, size) == 0;
+        for (size_t i = 0; i < size; i++) {
+            snprintf(one, sizeof one, "%02x", bytes[i]);
+            same &= memcmp(one, text + 2 * i, 2) == 0;
+        }
+        *pcm__put_bytes(text, bytes, given, size) = 0;
+        for (size_t i = 0; i < size; i++) {
+            snprintf(one, sizeof one, "%02x", bytes[i]);
+            same &= memcmp(i % 3 == 0 ? ".." : one, text + 2 * i, 2) == 0;
+        }
+        right += same && strlen(text) == 2 * size;
+    }
+    check(right == PCM_MOST_BYTES + 1, "bytes of each number");
+    right = 0;
+    for (int at = 0; at < 80; at++)
+        for (int c = 1; c < 256; c++) {
+            memset(text, '0', 80);
+            text[80] = 0;
+            text[at] = (char)c;
+            int is_digit = (c >= '0' && c <= '9') || (c >= 'a' && c <= 'f');
+            right += pcm__get_bytes(text, back) == (is_digit ? 40 : -1);
+        }
+    check(right == 80 * 255, "no other character is a digit, wherever it stands");
+    memset(text, '0', sizeof text);
+    text[2 * PCM_MOST_BYTES + 2] = 0;
+    check(pcm__get_bytes(text, back) == -1 && pcm__get_bytes(text + 1, back) == -1, "nor are more bytes than a line has");
+    check(pcm__get_bytes(text + 2, back) == PCM_MOST_BYTES && pcm__get_bytes("0", back) == -1, "nor half of one");
+}
+
 /* PCM_FULL comes where so many bytes wait as the header says, and never by the calls that take answers themselves. */
 static void full_has_its_bound(const char *const words[])
 {
@@ -487,6 +528,7 @@ int main(int count, char **words)
     what_the_module_is_is_told(all, n);
     a_shape_that_is_none();
     a_bank_without_a_spare_is_exhausted(all, n);
+    digits_are_put_and_read();
     full_has_its_bound(all);
     a_group_of_its_own();
     standard_descriptors_may_be_closed(all);
