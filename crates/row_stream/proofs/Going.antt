@@ -83,7 +83,7 @@ module _ {n m e : ℕ} (raw : RawShape) (seed : ℕ) (asked : List (Asked n)) (m
   pub serving-event : (event : Event n) (new : ModuleState n m e) (after : ArrayState n m) (places2 : ℕ) (told2 : List (Told n)) (shown2 : Shown) (snaps1 snaps2 : List Snapshot) (row : ℕ) (results : List (Outcome n))
       → results ≡ longer (table_of places told) → row ≡ places + 1 → places2 ≡ places + 1
       → (outcomes : List (ℕ × Outcome n)) → told2 ≡ told ++ became outcomes → ComeInOrder raw seed (Happens event) (events_in asked) outcomes
-      → new.shape ≡ module_.shape → new.seed ≡ module_.seed → new.finished ≡ false → new.tick ≡ event.tick → event.tick ≤ latest_tick → new.rows_below ≡ row + 1
+      → new.shape ≡ module_.shape → new.seed ≡ module_.seed → new.finished ≡ false → new.tick ≡ event.tick → module_.tick ≤ event.tick → event.tick ≤ latest_tick → new.rows_below ≡ row + 1
       → length (table_of places2 told2) ≡ length results
       → ((h : ℕ → List (TimedEvent n m)) (rows : List (AskedRow n)) → Replays h rows module_ array results
       → (added : ℕ → List (TimedEvent n m)) × Replays (λ bank. added bank ++ h bank) (asked_by row event ∷ rows) new after (table_of places2 told2))
@@ -91,7 +91,7 @@ module _ {n m e : ℕ} (raw : RawShape) (seed : ℕ) (asked : List (Asked n)) (m
       → ((ends : ℕ → BankEnd) → AreEndsOf new ends → AddsDue (is_due shown2 places2) (IsSnapshot places2 new.tick told2 new after) snaps1 snaps2)
       → (has : IsServing raw seed (Happens event ∷ asked) new after places2 told2 shown2 snaps2) × (told_before (Happens event) asked (told_so_far has) ≡ told_so_far had)
   unfolding next-replayed
-  serving-event event new after places2 told2 shown2 snaps1 snaps2 row results grown is counts outcomes tells order shape seeded going tick in_time bound size leads shows snapped adds =
+  serving-event event new after places2 told2 shown2 snaps1 snaps2 row results grown is counts outcomes tells order shape seeded going tick rises in_time bound size leads shows snapped adds =
       let next = next-replayed results grown in
       let led = leads had.history (asked_for (events_in asked)) next.2 in
       let h : ℕ → List (TimedEvent n m) = λ bank. led.0 bank ++ had.history bank in
@@ -115,7 +115,7 @@ module _ {n m e : ℕ} (raw : RawShape) (seed : ℕ) (asked : List (Asked n)) (m
       subst (B (length (event ∷ events_in asked)) event.tick) snapped (subst (λ at. B (length (event ∷ events_in asked)) at snaps1) tick (subst (λ k. B k new.tick snaps1) counted (adds ends.0 ends.1))) in (
         record {
           history = h;
-          along = (had.history, told, had.along, led.0, refl, outcomes, order, record { module_ = new; array = after; served = subst Q counted served; tick = tick; settled = tt; reached = tt }, tells ∙ sym (append-nil (told ++ became outcomes)));
+          along = (had.history, told, had.along, led.0, refl, outcomes, order, record { module_ = new; array = after; served = subst Q counted served; tick = tick; rises = omega (arith, had.tick, rises); settled = tt; reached = tt }, tells ∙ sym (append-nil (told ++ became outcomes)));
           snaps = (snaps, subst A (sym shows) had.snaps, added);
           served = served;
           counted = counted;
@@ -152,14 +152,14 @@ module _ {n m e : ℕ} (raw : RawShape) (seed : ℕ) (asked : List (Asked n)) (m
   -- so is a settle
   pub serving-settle : (at : ℕ) (new : ModuleState n m e) (after : ArrayState n m) (places2 : ℕ) (told1 told2 : List (Told n)) (shown2 : Shown) (snaps2 : List Snapshot)
       → places2 ≡ places → (outcomes : List (ℕ × Outcome n)) → told1 ≡ told ++ became outcomes → ComeByBanks raw seed (events_in asked) raw.banks outcomes → told2 ≡ told1 ++ lines_of (Settle at) new after
-      → new.shape ≡ module_.shape → new.seed ≡ module_.seed → new.finished ≡ false → new.tick ≡ at → ((bank : ℕ) → bank < new.shape.banks → IsSomeAnd (slice_get new.banks bank) (IsAtTick at))
+      → new.shape ≡ module_.shape → new.seed ≡ module_.seed → new.finished ≡ false → new.tick ≡ at → module_.tick ≤ at → ((bank : ℕ) → bank < new.shape.banks → IsSomeAnd (slice_get new.banks bank) (IsAtTick at))
       → at ≤ latest_tick → new.rows_below ≡ module_.rows_below
       → length (table_of places2 told1) ≡ length (table_of places told)
       → ((h : ℕ → List (TimedEvent n m)) (rows : List (AskedRow n)) → Replays h rows module_ array (table_of places told)
       → (added : ℕ → List (TimedEvent n m)) × Replays (λ bank. added bank ++ h bank) rows new after (table_of places2 told1))
       → shown2 ≡ shown → snaps2 ≡ snaps
       → (has : IsServing raw seed (Settle at ∷ asked) new after places2 told2 shown2 snaps2) × (told_before (Settle at) asked (told_so_far has) ≡ told_so_far had)
-  serving-settle at new after places2 told1 told2 shown2 snaps2 counts outcomes tells order tells2 shape seeded going tick settled in_time bound size leads shows snapped =
+  serving-settle at new after places2 told1 told2 shown2 snaps2 counts outcomes tells order tells2 shape seeded going tick rises settled in_time bound size leads shows snapped =
       let lines : List (Told n) = lines_of (Settle at) new after in
       let now = settled-served new after places2 told1 told2 lines (refl) counts tells2 shape seeded going bound size leads in
       let h : ℕ → List (TimedEvent n m) = λ bank. now.0 bank ++ had.history bank in
@@ -175,7 +175,7 @@ module _ {n m e : ℕ} (raw : RawShape) (seed : ℕ) (asked : List (Asked n)) (m
             refl,
             outcomes,
             order,
-            record { module_ = new; array = after; served = subst Q counted now.1; tick = tick; settled = settled; reached = tt },
+            record { module_ = new; array = after; served = subst Q counted now.1; tick = tick; rises = omega (arith, had.tick, rises); settled = settled; reached = tt },
             tells2 ∙ ap (λ t. t ++ lines) tells,
           );
           snaps = (snaps, subst (λ s. SnapsAlong e raw seed s asked had.history told had.along snaps) (sym shows) had.snaps, snapped);
@@ -190,14 +190,14 @@ module _ {n m e : ℕ} (raw : RawShape) (seed : ℕ) (asked : List (Asked n)) (m
   -- so is a query
   pub serving-query : (at : ℕ) (new : ModuleState n m e) (after : ArrayState n m) (places2 : ℕ) (told1 told2 : List (Told n)) (shown2 : Shown) (snaps2 : List Snapshot)
       → places2 ≡ places → (outcomes : List (ℕ × Outcome n)) → told1 ≡ told ++ became outcomes → ComeByBanks raw seed (events_in asked) raw.banks outcomes → told2 ≡ told1 ++ lines_of (Query at) new after
-      → new.shape ≡ module_.shape → new.seed ≡ module_.seed → new.finished ≡ false → new.tick ≡ at → ((bank : ℕ) → bank < new.shape.banks → IsSomeAnd (slice_get new.banks bank) (IsAtTick at))
+      → new.shape ≡ module_.shape → new.seed ≡ module_.seed → new.finished ≡ false → new.tick ≡ at → module_.tick ≤ at → ((bank : ℕ) → bank < new.shape.banks → IsSomeAnd (slice_get new.banks bank) (IsAtTick at))
       → at ≤ latest_tick → new.rows_below ≡ module_.rows_below
       → length (table_of places2 told1) ≡ length (table_of places told)
       → ((h : ℕ → List (TimedEvent n m)) (rows : List (AskedRow n)) → Replays h rows module_ array (table_of places told)
       → (added : ℕ → List (TimedEvent n m)) × Replays (λ bank. added bank ++ h bank) rows new after (table_of places2 told1))
       → shown2 ≡ shown → snaps2 ≡ snaps
       → (has : IsServing raw seed (Query at ∷ asked) new after places2 told2 shown2 snaps2) × (told_before (Query at) asked (told_so_far has) ≡ told_so_far had)
-  serving-query at new after places2 told1 told2 shown2 snaps2 counts outcomes tells order tells2 shape seeded going tick settled in_time bound size leads shows snapped =
+  serving-query at new after places2 told1 told2 shown2 snaps2 counts outcomes tells order tells2 shape seeded going tick rises settled in_time bound size leads shows snapped =
       let lines : List (Told n) = lines_of (Query at) new after in
       let now = settled-served new after places2 told1 told2 lines (query-no-outcome new after at) counts tells2 shape seeded going bound size leads in
       let h : ℕ → List (TimedEvent n m) = λ bank. now.0 bank ++ had.history bank in
@@ -213,7 +213,7 @@ module _ {n m e : ℕ} (raw : RawShape) (seed : ℕ) (asked : List (Asked n)) (m
             refl,
             outcomes,
             order,
-            record { module_ = new; array = after; served = subst Q counted now.1; tick = tick; settled = settled; reached = tt },
+            record { module_ = new; array = after; served = subst Q counted now.1; tick = tick; rises = omega (arith, had.tick, rises); settled = settled; reached = tt },
             tells2 ∙ ap (λ t. t ++ lines) tells,
           );
           snaps = (snaps, subst (λ s. SnapsAlong e raw seed s asked had.history told had.along snaps) (sym shows) had.snaps, snapped);
@@ -228,14 +228,14 @@ module _ {n m e : ℕ} (raw : RawShape) (seed : ℕ) (asked : List (Asked n)) (m
   -- so is a look
   pub serving-look : (at : ℕ) (new : ModuleState n m e) (after : ArrayState n m) (places2 : ℕ) (told1 told2 : List (Told n)) (shown2 : Shown) (snaps2 : List Snapshot)
       → places2 ≡ places → (outcomes : List (ℕ × Outcome n)) → told1 ≡ told ++ became outcomes → ComeByBanks raw seed (events_in asked) raw.banks outcomes → told2 ≡ told1 ++ lines_of (Look at) new after
-      → new.shape ≡ module_.shape → new.seed ≡ module_.seed → new.finished ≡ false → new.tick ≡ at → ((bank : ℕ) → bank < new.shape.banks → IsSomeAnd (slice_get new.banks bank) (IsAtTick at))
+      → new.shape ≡ module_.shape → new.seed ≡ module_.seed → new.finished ≡ false → new.tick ≡ at → module_.tick ≤ at → ((bank : ℕ) → bank < new.shape.banks → IsSomeAnd (slice_get new.banks bank) (IsAtTick at))
       → at ≤ latest_tick → new.rows_below ≡ module_.rows_below
       → length (table_of places2 told1) ≡ length (table_of places told)
       → ((h : ℕ → List (TimedEvent n m)) (rows : List (AskedRow n)) → Replays h rows module_ array (table_of places told)
       → (added : ℕ → List (TimedEvent n m)) × Replays (λ bank. added bank ++ h bank) rows new after (table_of places2 told1))
       → shown2 ≡ shown → snaps2 ≡ snaps
       → (has : IsServing raw seed (Look at ∷ asked) new after places2 told2 shown2 snaps2) × (told_before (Look at) asked (told_so_far has) ≡ told_so_far had)
-  serving-look at new after places2 told1 told2 shown2 snaps2 counts outcomes tells order tells2 shape seeded going tick settled in_time bound size leads shows snapped =
+  serving-look at new after places2 told1 told2 shown2 snaps2 counts outcomes tells order tells2 shape seeded going tick rises settled in_time bound size leads shows snapped =
       let lines : List (Told n) = lines_of (Look at) new after in
       let now = settled-served new after places2 told1 told2 lines (refl) counts tells2 shape seeded going bound size leads in
       let h : ℕ → List (TimedEvent n m) = λ bank. now.0 bank ++ had.history bank in
@@ -251,7 +251,7 @@ module _ {n m e : ℕ} (raw : RawShape) (seed : ℕ) (asked : List (Asked n)) (m
             refl,
             outcomes,
             order,
-            record { module_ = new; array = after; served = subst Q counted now.1; tick = tick; settled = settled; reached = tt },
+            record { module_ = new; array = after; served = subst Q counted now.1; tick = tick; rises = omega (arith, had.tick, rises); settled = settled; reached = tt },
             tells2 ∙ ap (λ t. t ++ lines) tells,
           );
           snaps = (snaps, subst (λ s. SnapsAlong e raw seed s asked had.history told had.along snaps) (sym shows) had.snaps, snapped);

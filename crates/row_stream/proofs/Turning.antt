@@ -139,7 +139,7 @@ module _ {n m e : ℕ} (raw : RawShape) (seed : ℕ) (asked : List (Asked n)) (m
               refl,
               gone.outcomes,
               (gone.turns, gone.order),
-              record { module_ = mid; array = between; served = subst Q counted now; tick = tick; settled = settled; reached = subst U counted (subst T had.tick here) },
+              record { module_ = mid; array = between; served = subst Q counted now; tick = tick; rises = omega (arith, had.tick, reached.from); settled = settled; reached = subst U counted (subst T had.tick here) },
               tells ∙ ap (λ t. t ++ lines) gone.tells,
             );
             snaps = (snaps, subst (λ s. SnapsAlong e raw seed s asked had.history told had.along snaps) (sym shows) had.snaps, snapped);

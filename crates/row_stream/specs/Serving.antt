@@ -80,12 +80,13 @@ module _ {n m : ℕ} (e : ℕ) (raw : RawShape) (seed : ℕ) where
   HasSettled (Until until) module_ = (bank : ℕ) → bank < module_.shape.banks → IsSomeAnd (slice_get module_.banks bank) (IsAtTick until.reached)
 
   -- of these rows exactly those outcomes were told which these histories gave so far, at the module and the array to which they led, which is
-  -- at the tick of the last row, and each of its banks where that settles, no sooner and no later than where that waits for a row
+  -- at the tick of the last row, no earlier than before, and each of its banks where that settles, no sooner and no later than where that waits for a row
   pub record AreKnown (asked : Asked n) (before : List (Asked n)) (h : ℕ → List (TimedEvent n m)) (told : List (Told n)) : Type 0 where
     pub module_ : ModuleState n m e
     pub array : ArrayState n m
     pub served : HasServed raw seed (events_in (asked ∷ before)) h module_ array (table_of (length (events_in (asked ∷ before))) told)
     pub tick : module_.tick ≡ tick_reached (asked ∷ before)
+    pub rises : tick_reached before ≤ tick_reached (asked ∷ before)
     pub settled : HasSettled asked module_
     pub reached : ReachesBy (tick_reached before) asked (table_of (length (events_in (asked ∷ before))) told)
 

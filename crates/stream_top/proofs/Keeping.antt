@@ -18,7 +18,7 @@ use Rattle.program_calls.specs.Calls.{GetsPart, IsUntouched, Lent, SinkChange, S
 use Rattle.row_printer.specs.{Printing.{stream_text, table_of}, Telling.{outcomes_in, TellsOnce}, declared.snapshot.Snapshot.Snapshot, declared.told.Shown.Shown}
 use Rattle.row_printer.specs.declared.told.Told.{Told}
 use Rattle.row_stream.specs.{Asking.{stays_off, with_cut}, Ending.SnapsAll, Laws.EachToldLaw, Serving.{HasServed, IsServing, SnapsAlong, told_so_far}}
-use Rattle.stream_words.specs.{declared.job.StreamJob.StreamJob, declared.job.StreamPrint.StreamPrint}
+use Rattle.stream_words.specs.{Jobs.IsStreamJob, declared.job.StreamJob.StreamJob, declared.job.StreamPrint.StreamPrint}
 use Rattle.stream_words.specs.declared.job.StreamPrint.TheVariants.{Rows, Summary, Wear, Lines, Energy, Image, Snapshots}
 use Rattle.trace_stream.specs.{Asked.events_in, declared.asked.Asked.Asked}
 use Rattle.stream_top.specs.{Calls.LentSource, FaultLines.{fault_line, status_of}, Leaving.{IsClosing, Leaves, LeavesLaw, senses_for}}
@@ -77,9 +77,10 @@ nothing-before raw Image told snaps is = refl
 nothing-before raw (Snapshots every) told snaps is = absurd (cc is)
 
 module _ {S : Type 0} (n m e : ℕ) (job : StreamJob) (source : LentSource S) (module_ : ModuleState n m e) (before : ArrayState n m) (places : ℕ) (told : List (Told n)) (prints : Shown) (snaps : List Snapshot) (alike : prints ≡ shown_by job.shape job.print)
-    (once : TellsOnce places (outcomes_in told)) where
+    (once : TellsOnce places (outcomes_in told)) (lawful : IsStreamJob job) where
   part-of : before.wear ≡ Some job.wear → (asked : List (Asked n)) → IsServing job.shape job.seed asked module_ before places told prints snaps → IsServedInPart n m e job source before asked told
   part-of wear asked serving = record {
+    lawful = lawful;
     history = serving.history;
     along = serving.along;
     module_ = module_;
@@ -111,6 +112,7 @@ module _ {S : Type 0} (n m e : ℕ) (job : StreamJob) (source : LentSource S) (m
 
     served-of : IsServed n m e job source array told
     served-of = record {
+      lawful = lawful;
       asked = asked;
       places = places;
       module_ = module_;

@@ -14,7 +14,7 @@ use Rattle.run_text.specs.{Counting.counts_of, Shortfall.any_short}
 use Rattle.row_printer.specs.{Printing.{stream_text, table_of}, Telling.{outcomes_in, TellsOnce}, declared.snapshot.Snapshot.Snapshot, declared.told.Shown.Shown}
 use Rattle.row_printer.specs.declared.told.{Told.Told, ToldShape.ToldShape}
 use Rattle.row_printer.specs.declared.told.Shown.TheVariants as shown
-use Rattle.stream_words.specs.{declared.job.End.End, declared.job.End.TheVariants.{Drain, Off}, declared.job.StreamJob.StreamJob, declared.job.StreamPrint.StreamPrint, declared.job.Until.Until}
+use Rattle.stream_words.specs.{Jobs.IsStreamJob, declared.job.End.End, declared.job.End.TheVariants.{Drain, Off}, declared.job.StreamJob.StreamJob, declared.job.StreamPrint.StreamPrint, declared.job.Until.Until}
 use Rattle.stream_words.specs.declared.job.{Tell.Tell, Tell.TheVariants.{Nothing, Shape}}
 use Rattle.stream_words.specs.declared.job.Until.TheVariants as up_to
 use Rattle.stream_words.specs.declared.job.StreamPrint.TheVariants.{Rows, Summary, Wear, Lines, Energy, Image, Snapshots}
@@ -143,6 +143,7 @@ module _ {S : Type 0} (n m e : ℕ) (job : StreamJob) (source : LentSource S) wh
   -- were taken, each of what its row left, and one of what stands in the end. By what was told the rows are right
   -- over the array as it was left, and as it is now; the array was powered up with the job's wear, and only lines sensed for an image since
   pub record IsServed (array : ArrayState n m) (told : List (Told n)) : Type 0 where
+    pub lawful : IsStreamJob job
     pub asked : List (Asked n)
     pub places : ℕ
     pub module_ : ModuleState n m e
@@ -167,6 +168,7 @@ module _ {S : Type 0} (n m e : ℕ) (job : StreamJob) (source : LentSource S) wh
   -- only its first rows were, which asked this, and this was told: row by row what became known, once of a row; and
   -- these snapshots were taken, each of what its row left. The array, which was powered up with the job's wear, is as the last of these rows left it
   pub record IsServedInPart (array : ArrayState n m) (asked : List (Asked n)) (told : List (Told n)) : Type 0 where
+    pub lawful : IsStreamJob job
     pub history : ℕ → List (TimedEvent n m)
     pub along : TellsAlong e job.shape job.seed asked history told
     pub module_ : ModuleState n m e

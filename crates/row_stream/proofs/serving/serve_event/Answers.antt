@@ -41,7 +41,7 @@ returns-clause-serves g c = record {
       (serving-event raw seed before c.args.pcm.now (g.A.CellArray.state c.args.array.now) c.args.out.now.rows c.args.out.now.told c.args.out.now.prints c.args.out.now.snapshots had c.args.event.now
       c.event.new.self (g.A.CellArray.state c.event.new.array) c.event.new.results.rows c.event.new.results.told c.event.new.results.prints c.event.new.results.snapshots c.show_due.new.out.snapshots c.rows-row.result (table_told c.add_row.new.self)
       c.add_row.ensures.table row (on.rows ∙ c.add_row.ensures.rows) order.outcomes (order.told ∙ ap (λ t. t ++ became order.outcomes) c.add_row.ensures.told) order.are
-      e.shape e.seed (e.going ∙ had.served.going) e.tick c.requires.event.in_time e.rows e.table e.replays
+      e.shape e.seed (e.going ∙ had.served.going) e.tick c.requires.event.rises c.requires.event.in_time e.rows e.table e.replays
       (on.prints ∙ c.add_row.ensures.prints) (on.snapshots ∙ c.add_row.ensures.snapshots) c.show_due.ensures.looks.snapshots);
   prints = c.show_due.ensures.looks.prints ∙ c.event.ensures.goes_on.prints ∙ c.add_row.ensures.prints;
   wear = c.event.ensures.takes.stays.wear;

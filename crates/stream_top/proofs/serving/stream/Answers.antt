@@ -65,13 +65,13 @@ returns-in-Err-play g c =
     record {
       done = tt;
       write = λ is.
-          stream-breaks g.row.B g.row.M g.row.E c.args.job.now source new.pcm state new.out.rows new.out.told new.out.prints new.out.snapshots prints c.end.ensures.once
+          stream-breaks g.row.B g.row.M g.row.E c.args.job.now source new.pcm state new.out.rows new.out.told new.out.prints new.out.snapshots prints c.end.ensures.once c.requires.job
           (g.A.TellsCells.changes new.array) c.each_row_is_told.ensures c.ended_streams_are_kept.ensures c.requires.job.shape c.in-Ok.ensures.taken.small (p.wear ∙ c.in-Ok.ensures.taken.wear) out
           (p.broken is) (rw c.end.ensures.sink (p.part is _ _ c.new-printer.ensures.printing));
       cause = λ other.
           let calm = calm-fault (Err c.in-Err-play.fault) c.in-Err-play.fault refl other in
           let s = p.stopped other in
-          inl (stream-stops g.row.B g.row.M g.row.E c.args.job.now source new.pcm state new.out.rows new.out.told new.out.prints new.out.snapshots prints c.end.ensures.once
+          inl (stream-stops g.row.B g.row.M g.row.E c.args.job.now source new.pcm state new.out.rows new.out.told new.out.prints new.out.snapshots prints c.end.ensures.once c.requires.job
           (p.wear ∙ c.in-Ok.ensures.taken.wear) out c.in-Err-play.fault s.0 s.1 s.2 s.3 (rw c.end.ensures.sink (p.written calm _ _ c.new-printer.ensures.printing)));
       unread = p.unread;
     }
@@ -90,7 +90,7 @@ returns-in-Ok-print_closing g c =
     let shown = c.shown_of-shown.ensures.is ∙ ap (λ raw. shown_by raw c.args.job.now.print) c.raw.ensures.same in
     record {
       done =
-          stream-whole g.row.B g.row.M g.row.E c.args.job.now source new.pcm before new.out.rows new.out.told new.out.prints new.out.snapshots (p.prints ∙ c.new-printer.ensures.prints ∙ shown) c.end-out.ensures.once
+          stream-whole g.row.B g.row.M g.row.E c.args.job.now source new.pcm before new.out.rows new.out.told new.out.prints new.out.snapshots (p.prints ∙ c.new-printer.ensures.prints ∙ shown) c.end-out.ensures.once c.requires.job
           array (g.A.TellsCells.changes new.array) (g.A.TellsCells.changes c.print_closing.new.array) (λ other. ap g.A.TellsCells.changes (c.print_closing.ensures.untouched other)) c.each_row_is_told.ensures c.ended_streams_are_kept.ensures c.requires.job.shape c.in-Ok.ensures.taken.small (all.since.wear ∙ p.wear ∙ c.in-Ok.ensures.taken.wear)
           (λ other. ap g.A.CellArray.state (c.print_closing.ensures.untouched other)) (senses_for c.args.job.now.print before.lines) all p.done.0 p.done.1
           out (g.K.Sink.written c.deref_mut.result.now)
@@ -117,7 +117,7 @@ returns g c =
     record {
       done = tt;
       write = λ is.
-          stream-part g.row.B g.row.M g.row.E c.args.job.now source new.pcm before new.out.rows new.out.told new.out.prints new.out.snapshots (p.prints ∙ c.new-printer.ensures.prints ∙ shown) c.end-out.ensures.once
+          stream-part g.row.B g.row.M g.row.E c.args.job.now source new.pcm before new.out.rows new.out.told new.out.prints new.out.snapshots (p.prints ∙ c.new-printer.ensures.prints ∙ shown) c.end-out.ensures.once c.requires.job
           array (g.A.TellsCells.changes new.array) (g.A.TellsCells.changes c.print_closing.new.array) (λ other. ap g.A.TellsCells.changes (c.print_closing.ensures.untouched other)) c.each_row_is_told.ensures c.ended_streams_are_kept.ensures c.requires.job.shape c.in-Ok.ensures.taken.small (some.2.since.wear ∙ p.wear ∙ c.in-Ok.ensures.taken.wear)
           (λ other. ap g.A.CellArray.state (c.print_closing.ensures.untouched other)) some.0 some.2 p.done.0 p.done.1
           out (g.K.Sink.written c.deref_mut.result.now)
