@@ -69,11 +69,11 @@ along_law moment n m e raw seed asked h told is along row later before same =
     (subst (λ (asked : List (Asked n)). TellsAlong e raw seed asked h told) same along)
 
 pub whole_law : AlongLaw → {S : Type 0} → WholeStreamLaw S
-whole_law along n m e job source array told served is row later before same =
+whole_law along n m e job source array told served row later before same =
     let ended = served.ended in
     went_on e job.shape job.seed (events_in (row ∷ before)) ended.history ended.history (λ bank. []) ended.said told (became ended.rest) (λ bank. refl) ended.all
-    (along n m e job.shape job.seed _ ended.history ended.said is.shape ended.along row later before same)
+    (along n m e job.shape job.seed _ ended.history ended.said served.lawful.shape ended.along row later before same)
 
 pub begun_law : AlongLaw → {S : Type 0} → BegunStreamLaw S
-begun_law along n m e job source array asked told served is =
-    along n m e job.shape job.seed asked served.history told is.shape served.along
+begun_law along n m e job source array asked told served =
+    along n m e job.shape job.seed asked served.history told served.lawful.shape served.along
