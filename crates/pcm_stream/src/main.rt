@@ -1,4 +1,4 @@
-//! The program of streams: it hands its words, standard input, standard output and standard error to `stream_run`, and
+//! The program of streams: it hands its words, standard input, standard output and standard error to `run_stream`, and
 //! ends with the status that this answers.
 #![tactic(auto)]
 
@@ -8,7 +8,8 @@ use pcm_cells::MemArray;
 use pcm_io::{Sink, StdSink, StdSource, write_all};
 use std::process::ExitCode;
 use std::{env, io};
-use stream_top::{asks_energy, stream_run};
+use stream_promise::run_stream;
+use stream_top::asks_energy;
 
 /// The words couldn't be had, for another cause than memory.
 const WORDS_FAULT: u8 = 8;
@@ -44,7 +45,7 @@ fn stream<F: Sink>(rt: &HostRuntime, err: &mut F) -> io::Result<u8> {
     let words = words(rt)?;
     let out = Box::new(rt.alloc(), StdSink::new(rt.stdout()))?;
     let (mut array, mut wide) = arrays(asks_energy(rt.alloc(), words.as_slice()));
-    let (status, _out) = stream_run(
+    let (status, _out) = run_stream(
         rt.alloc(),
         words.as_slice(),
         &mut array,

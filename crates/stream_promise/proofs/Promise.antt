@@ -1,0 +1,207 @@
+-- What a stream promises along the histories of its banks it promises by its rows.
+use Rattle.std.proofs.Common.{◌≡◌, ◌&&◌, inl, inr, ℕ, ◌<◌, List, Option, Result, Ok, Err, length, ap, sym, subst, ◌∙◌}
+use Rattle.cell_rows.specs.Device.{ArrayState}
+use Rattle.command_line.specs.{declared.job.Input.Input, declared.job.Input.TheVariants.{Source, Drawn}, declared.job.LineSize.LineSize, declared.job.LineSize.TheVariants.{Bytes64, Bytes128}, declared.job.Refusal.Refusal}
+use Rattle.module_shape.specs.{Limits.total_of, declared.raw.RawShape.RawShape}
+use Rattle.trace_gen.specs.Generated.{generated}
+use Rattle.std.specs.Prelude.{reverse}
+use Rattle.program_calls.specs.Calls.{Lent, SinkChange}
+use Rattle.row_printer.specs.{Printing.table_of, Snapshots.takes_snapshots, declared.told.Told.Told}
+use Rattle.stream_words.specs.declared.job.StreamJob.{StreamJob}
+use Rattle.trace_stream.specs.{Asked.events_in, Laws.all_events, declared.asked.Asked.Asked}
+use Rattle.row_stream.specs.{Asking.{BeginsWith, tick_reached, with_cut}, Ending.{told_along, without_cut}, Looking.IsSnapshot, Serving.Telling, Sourcing.{IsRead, IsReadTo}}
+use Rattle.stream_top.specs.{Calls.LentSource, Promises.{Breaks, BreaksOn, Call, Does, DoesOn, KeepsPromises, Stops as StopsCall, StopsOn}}
+use Rattle.stream_top.specs.Streams.{BeginsInPart, BreaksOff, ComeFrom, GoesAsFarAs, IsServed, IsServedInPart, Streams, StreamsInPart, StreamsUpTo, done_by, is_off, shown_by, stops_at_refusal, told_in_part}
+use Rattle.stream_top.specs.{declared.done.Done.Done, declared.fault.Fault.Fault, declared.fault.Fault.TheVariants.{Usage, Trace, Read, Write, TooLong, NoMemory}}
+use Rattle.moment_laws.specs.Moments.{MomentLaw}
+use Rattle.settle_laws.specs.Streams.{BegunStreamLaw, WholeStreamLaw}
+use Rattle.stream_promise.specs.Rows.{is_refusal_told}
+use Rattle.stream_promise.specs.Promise.{BeginsInPartByRows, BreakByRows, BreaksByRows, BreaksOnRows, ComeByRows, DoesByRows, DoesOnRows, EndsInPartByRows, EndsRows, GoesOnTo, IsServedByRows, IsServedInPartByRows, PromisesByRows, StopByRows, StopsByRows, StopsOnRows, StreamsByRows}
+use Rattle.pcm_module.specs.Roles.{spares_used}
+use Rattle.stream_promise.proofs.Spares.{used-alike}
+use Rattle.stream_promise.proofs.Rows.{adds, by-rows, counts-rows, cut-same, end-where, rows-of, snaps-by-rows, without-refusal, without-refusal-before}
+
+module _ {S : Type 0} (moment : MomentLaw) (whole : WholeStreamLaw S) (begun : BegunStreamLaw S) (n m e : ℕ) (job : StreamJob) (source : LentSource S) where
+  come : (input : Input) (asked : List (Asked n)) (telling : Telling n m e job.shape job.seed asked) → ComeFrom n m e job source input asked telling
+      → ComeByRows n m e job source input asked (rows-of e job.shape job.seed asked telling)
+  come Source asked telling is =
+      end-where e job.shape job.seed (stops_at_refusal job.until) asked telling
+      (IsRead (total_of job.shape) source.left source.taken source.faults source.before source.now asked)
+      (IsReadTo (total_of job.shape) source.left source.taken source.faults source.before source.now asked) is
+  come (Drawn mix) asked telling is = (
+    is.0,
+    end-where e job.shape job.seed (stops_at_refusal job.until) asked telling (reverse asked ≡ all_events (generated n job.seed (total_of job.shape) mix))
+    (BeginsWith asked (all_events (generated n job.seed (total_of job.shape) mix))) is.1,
+  )
+
+  goes-on : (fault : Fault) (asked : List (Asked n)) (telling : Telling n m e job.shape job.seed asked) → GoesAsFarAs n m e job source fault asked telling
+      → GoesOnTo n m e job source fault asked (rows-of e job.shape job.seed asked telling)
+  goes-on Usage asked telling is = without-refusal e job.shape job.seed (stops_at_refusal job.until) asked telling is
+  goes-on (Trace f) asked telling is = without-refusal e job.shape job.seed (stops_at_refusal job.until) asked telling is
+  goes-on Read asked telling is = without-refusal e job.shape job.seed (stops_at_refusal job.until) asked telling is
+  goes-on Write asked telling is = without-refusal-before e job.shape job.seed (stops_at_refusal job.until) asked telling is
+  goes-on TooLong asked telling is = without-refusal e job.shape job.seed (stops_at_refusal job.until) asked telling is
+  goes-on NoMemory asked telling is = without-refusal e job.shape job.seed (stops_at_refusal job.until) asked telling is
+
+  module _ (array : ArrayState n m) where
+    -- ---- to the end
+    abbrev served-by-rows : (told : List (Told n)) → IsServed n m e job source array told → IsServedByRows n m e job source array told
+    served-by-rows told served =
+        let asked = with_cut (is_off job.end) served.asked in
+        let telling : Telling n m e job.shape job.seed asked = told_along served.ended in
+        let tick : ℕ = tick_reached asked in
+        record {
+          asked = served.asked;
+          along = rows-of e job.shape job.seed asked telling;
+          come =
+              subst (λ it. ComeByRows n m e job source job.input served.asked it) (cut-same e job.shape job.seed (is_off job.end) served.asked telling)
+              (come job.input served.asked (without_cut (is_off job.end) served.asked telling) served.come);
+          rest = served.ended.rest;
+          all = served.ended.all;
+          order = served.ended.order;
+          places = served.places;
+          counted = served.ended.counted;
+          once = served.once;
+          each = served.each;
+          in_time = whole n m e job source array told served;
+          ends = served.ended.ends;
+          before = served.before;
+          sensed = served.sensed;
+          saved = served.saved;
+          since = served.leaves.since;
+          right = served.leaves.right;
+          saves = served.leaves.saves;
+          snapshots = served.snapshots;
+          snaps = (
+            served.snaps.0,
+            snaps-by-rows e job.shape job.seed (shown_by job.shape job.print) asked served.ended.history served.ended.said served.ended.along served.snaps.0 served.snaps.1,
+            adds (takes_snapshots (shown_by job.shape job.print)) (IsSnapshot served.places tick told served.module_ served.before)
+            (EndsRows n m e job source served.places tick told served.ended.ends served.before) served.snaps.0 served.snapshots
+            (λ one is. record {
+              counts = counts-rows served.places tick told served.module_ served.before one is;
+              retired =
+                  is.retired.2
+                  ∙ ap (λ (raw : RawShape). spares_used raw is.retired.0) served.ended.shape
+                  ∙ used-alike job.shape served.module_ is.retired.0 served.ended.ends served.ended.shape (λ bank below. served.ended.finished.1.shapes bank below) is.retired.1 served.ended.are;
+              wear = is.wear;
+            }) served.snaps.2,
+          );
+          untouched = served.untouched;
+          wear = served.wear;
+        }
+
+    -- ---- up to a row
+    abbrev part-by-rows : (asked : List (Asked n)) (told : List (Told n)) → IsServedInPart n m e job source array asked told → IsServedInPartByRows n m e job source array asked told
+    part-by-rows asked told served =
+        let kept =
+        moment n m e job.shape job.seed (events_in asked) served.history served.module_ array (table_of (length (events_in asked)) told) served.lawful.shape served.left in
+        record {
+          rows = by-rows e job.shape job.seed asked served.history told served.along;
+          once = served.once;
+          in_time = begun n m e job source array asked told served;
+          snapshots = served.snapshots;
+          snaps = snaps-by-rows e job.shape job.seed (shown_by job.shape job.print) asked served.history told served.along served.snapshots served.snaps;
+          module_ = served.module_;
+          stands = λ line below. kept.stands line (subst (λ (raw : RawShape). line < total_of raw) (sym served.left.shape) below);
+          queued = kept.queued;
+          wear = served.wear;
+        }
+
+    module _ (out : SinkChange) where
+      streams : (changes : ℕ → Option (ℕ → ℕ)) (done : Done) → Streams n m e job source out array changes done → StreamsByRows n m e job source out array changes done
+      streams changes done is =
+          let asked : List (Asked n) = is.served.asked in
+          let telling = told_along is.served.ended in
+          record {
+            told = is.told;
+            served = served-by-rows is.told is.served;
+            text = is.text;
+            closes = is.closes;
+            written = is.written;
+            sensed = is.sensed;
+            ending =
+                is.ending
+                ∙ ap (λ it. done_by (stops_at_refusal job.until && is_refusal_told job.shape job.seed asked it) (table_of is.served.places is.told))
+                (cut-same e job.shape job.seed (is_off job.end) asked telling);
+          }
+
+      stops : (fault : Fault) → StreamsUpTo n m e job source out array fault → StopsByRows n m e job source out array fault
+      stops fault is = record {
+        asked = is.asked;
+        told = is.told;
+        served = part-by-rows is.asked is.told is.served;
+        cause = is.cause;
+        far = goes-on fault is.asked (told_in_part n m e job source is.served) is.far;
+        written = is.written;
+      }
+
+      in-part : (changes : ℕ → Option (ℕ → ℕ)) → StreamsInPart n m e job source out array changes → EndsInPartByRows n m e job source out array changes
+      in-part changes is = record {
+        told = is.told;
+        served = served-by-rows is.told is.served;
+        text = is.text;
+        closes = is.closes;
+        part = is.part;
+        sensed = is.sensed;
+        rows = is.rows;
+      }
+
+      begins : BeginsInPart n m e job source out array → BeginsInPartByRows n m e job source out array
+      begins is = record {
+        asked = is.asked;
+        told = is.told;
+        served = part-by-rows is.asked is.told is.served;
+        cause = is.cause;
+        far = goes-on Write is.asked (told_in_part n m e job source is.served) is.far;
+        part = is.part;
+      }
+
+      breaks : (changes : ℕ → Option (ℕ → ℕ)) → BreaksOff n m e job source out array changes → BreaksByRows n m e job source out array changes
+      breaks changes is = record {
+        served = elim is.served [
+          | inl ends ↦ inl (in-part changes ends)
+          | inr some ↦ inr (begins some)
+        ];
+        fails = is.fails;
+      }
+
+-- ---- a call
+
+module _ {A V S K : Type 0} (moment : MomentLaw) (whole : WholeStreamLaw S) (begun : BegunStreamLaw S) (call : Call A V S K) where
+  does : (asked : Result StreamJob Refusal) (done : Done) → Does call asked done → DoesByRows call asked done
+  does (Err e) done is = absurd is
+  does (Ok job) done is = on job.line is
+    where
+      on : (line : LineSize) → DoesOn call job done line → DoesOnRows call job done line
+      on Bytes64 is = streams moment whole begun 64 8 6 job call.source call.array.seen.0 call.out.seen call.array.seen.1 done is
+      on Bytes128 is = streams moment whole begun 128 16 8 job call.source call.wide.seen.0 call.out.seen call.wide.seen.1 done is
+
+  breaks-off : (asked : Result StreamJob Refusal) → Breaks call asked → BreakByRows call asked
+  breaks-off (Err e) is = absurd is
+  breaks-off (Ok job) is = on job.line is
+    where
+      on : (line : LineSize) → BreaksOn call job line → BreaksOnRows call job line
+      on Bytes64 is = breaks moment whole begun 64 8 6 job call.source call.array.seen.0 call.out.seen call.array.seen.1 is
+      on Bytes128 is = breaks moment whole begun 128 16 8 job call.source call.wide.seen.0 call.out.seen call.wide.seen.1 is
+
+  stops-at : (asked : Result StreamJob Refusal) (fault : Fault) → StopsCall call asked fault → StopByRows call asked fault
+  stops-at (Err e) fault is = is
+  stops-at (Ok job) fault (inl is) = inl (on job.line is)
+    where
+      on : (line : LineSize) → StopsOn call job fault line → StopsOnRows call job fault line
+      on Bytes64 is = stops moment whole begun 64 8 6 job call.source call.array.seen.0 call.out.seen fault is
+      on Bytes128 is = stops moment whole begun 128 16 8 job call.source call.wide.seen.0 call.out.seen fault is
+  stops-at (Ok job) fault (inr none) = inr none
+
+  pub promises : {F : Type 0} (err : Lent F SinkChange) (status : ℕ) → KeepsPromises call err status → PromisesByRows call err status
+  promises err status keeps = record {
+    done = λ low. let it = keeps.done low in (it.0, does call.asked it.0 it.1, it.2);
+    silent = keeps.silent;
+    told = λ two other. let it = keeps.told two other in (it.0, stops-at call.asked it.0 it.1, it.2, it.3);
+    broken = λ five. elim (keeps.broken five) [
+      | inl it ↦ inl (breaks-off call.asked it.0, it.1)
+      | inr it ↦ inr (it.0, stops-at call.asked it.0 it.1, it.2, it.3)
+    ];
+    unread = keeps.unread;
+    others = keeps.others;
+  }

@@ -1,0 +1,196 @@
+-- What a stream promises, said of its rows, its lines, and what it left. What was asked stands with the newest row first.
+use Rattle.std.specs.Prelude.{◌≡◌, ◌≢◌, ◌⊎◌, ◌&&◌, ℕ, ◌<◌, ◌≤◌, List, ◌++◌, All, length, map, reverse, Option, Some, Result, Ok, Err}
+use Rattle.cell_rows.specs.Device.{ArrayState}
+use Rattle.result_rows.specs.declared.Outcome.{Outcome}
+use Rattle.row_rules.specs.Rows.{newest}
+use Rattle.command_line.specs.{declared.job.Input.Input, declared.job.Input.TheVariants.{Source, Drawn}, declared.job.LineSize.LineSize, declared.job.LineSize.TheVariants.{Bytes64, Bytes128}, declared.job.Refusal.Refusal}
+use Rattle.module_shape.specs.Limits.{total_of}
+use Rattle.right_runs.specs.{Ends.BankEnd, Runs.RunsRightTo}
+use Rattle.pcm_image.specs.Saved.{Saved}
+use Rattle.right_images.specs.SavesRun.{SavesRunTo}
+use Rattle.image_text.specs.Sensing.{SensesRows}
+use Rattle.pcm_module.specs.{Asking.asked_for, Roles.spares_used, State.ModuleState}
+use Rattle.module_prints.specs.{Images.WritesRows, WearReports.cells_at}
+use Rattle.program_calls.specs.Calls.{Gets, GetsPart, IsUntouched, Lent, SinkChange, SinkFails}
+use Rattle.run_text.specs.Counting.{counts_of}
+use Rattle.row_printer.specs.{Printing.{stream_text, table_of}, Snapshots.{AddsDue, takes_snapshots}, Telling.{became, outcomes_in, TellsOnce}, declared.snapshot.Snapshot.Snapshot}
+use Rattle.row_printer.specs.declared.told.Told.{Told}
+use Rattle.stream_words.specs.{declared.job.StreamJob.StreamJob, declared.job.StreamPrint.TheVariants.Image}
+use Rattle.trace_gen.specs.Generated.{generated}
+use Rattle.trace_stream.specs.{Asked.events_in, Laws.all_events, declared.asked.Asked.Asked}
+use Rattle.row_stream.specs.{Asking.{BeginsWith, stays_off, tick_reached, with_cut}, Ending.rows_of, Laws.TellsEach, Looking.wear_of, Serving.ComeByBanks, Sourcing.{IsRead, IsReadTo}}
+use Rattle.stream_top.specs.{Calls.{LentSource}, FaultLines.{fault_line, status_of}, Leaving.{IsClosing, senses_for}, Promises.{Call, IsAsleep, IsUnread, OthersUntouched}, Streams.{StopsBy, done_by, is_off, rows_told, shown_by, status_done, stops_at_refusal}}
+use Rattle.stream_top.specs.{declared.done.Done.Done, declared.done.Done.TheVariants.Short, declared.fault.Fault.Fault, declared.fault.Fault.TheVariants.{Usage, Write, NoMemory}}
+use Rattle.moment_laws.specs.Moments.{IsQueuedNow, so_far, stand_now}
+use Rattle.settle_laws.specs.Settles.{SettlesForGood, SettlesSoFar}
+use Rattle.stream_promise.specs.Rows.{CountsRows, EndWhere, RowsTold, SnapsByRows, TellsByRows, WithoutRefusal, WithoutRefusalBefore, before_cut, is_refusal_told}
+
+-- lines of n bytes with m check bytes and e error-correcting pointers
+module _ {S : Type 0} (n m e : ℕ) (job : StreamJob) (source : LentSource S) where
+  -- the rows asked this, of which this was told as they were served: the source was read to its end and its bytes are such a stream; or the seed draws them,
+  -- and nothing is read. Where the stream is to stop at a refusal, they are those up to the row by which the first was told
+  abbrev pub ComeByRows : Input → (asked : List (Asked n)) → RowsTold job.shape job.seed asked → Type 0
+  ComeByRows Source asked it =
+      EndWhere job.shape job.seed (stops_at_refusal job.until) asked it
+      (IsRead (total_of job.shape) source.left source.taken source.faults source.before source.now asked)
+      (IsReadTo (total_of job.shape) source.left source.taken source.faults source.before source.now asked)
+  ComeByRows (Drawn mix) asked it =
+      (source.now ≡ source.before)
+      × EndWhere job.shape job.seed (stops_at_refusal job.until) asked it (reverse asked ≡ all_events (generated n job.seed (total_of job.shape) mix))
+      (BeginsWith asked (all_events (generated n job.seed (total_of job.shape) mix)))
+
+  -- and where a fault ends a stream that is to stop at a refusal, none was told; but the last row may have been where the output failed
+  abbrev pub GoesOnTo : Fault → (asked : List (Asked n)) → RowsTold job.shape job.seed asked → Type 0
+  GoesOnTo Write asked it = WithoutRefusalBefore job.shape job.seed (stops_at_refusal job.until) asked it
+  GoesOnTo _ asked it = WithoutRefusal job.shape job.seed (stops_at_refusal job.until) asked it
+
+  -- the last of all snapshots says what stands in the end
+  pub record EndsRows (places tick : ℕ) (told : List (Told n)) (ends : ℕ → BankEnd) (array : ArrayState n m) (snapshot : Snapshot) : Type 0 where
+    pub counts : CountsRows places tick told snapshot
+    pub retired : snapshot.retired ≡ spares_used job.shape ends
+    pub wear : snapshot.wear ≡ wear_of e array
+
+  -- a stream was served to its end, or up to a refusal where it is to stop there, and this was told. Row by row what became known, up to each settle all that
+  -- had come by its tick, and in the end the rest, bank by bank: of each row once. By that the rows, with the cut behind which the power stays off, are right
+  -- over the array as it is now, and were powered up with the job's wear; only for an image lines were sensed since, and it says what these rows left
+  pub record IsServedByRows (array : ArrayState n m) (told : List (Told n)) : Type 0 where
+    pub asked : List (Asked n)
+    pub along : RowsTold job.shape job.seed (with_cut (is_off job.end) asked)
+    pub come : ComeByRows job.input asked (before_cut job.shape job.seed (is_off job.end) asked along)
+    pub rest : List (ℕ × Outcome n)
+    pub all : told ≡ along.told ++ became rest
+    pub order : ComeByBanks job.shape job.seed (events_in (with_cut (is_off job.end) asked)) job.shape.banks rest
+    pub places : ℕ
+    pub counted : places ≡ length (events_in (with_cut (is_off job.end) asked))
+    pub once : TellsOnce places (outcomes_in told)
+    pub each : TellsEach places told
+    pub in_time : SettlesForGood (with_cut (is_off job.end) asked) places told
+    pub ends : ℕ → BankEnd
+    pub before : ArrayState n m
+    pub sensed : ℕ
+    pub saved : Saved n m
+    pub since : SensesRows sensed before array
+    pub right : RunsRightTo e job.shape job.seed (stays_off (is_off job.end) asked) (rows_told n m e job source asked places told) array ends
+    pub saves : SavesRunTo (stays_off (is_off job.end) asked) e job.shape job.seed (rows_told n m e job source asked places told) array ends saved
+    pub snapshots : List Snapshot
+    pub snaps :
+        (first : List Snapshot) × SnapsByRows job.shape job.seed (shown_by job.shape job.print) (with_cut (is_off job.end) asked) along.told along.rows first
+        × AddsDue (takes_snapshots (shown_by job.shape job.print)) (EndsRows places (tick_reached (with_cut (is_off job.end) asked)) told ends before) first snapshots
+    pub untouched : job.print ≢ Image → array ≡ before
+    pub wear : array.wear ≡ Some job.wear
+
+  -- what is written of it in the end, behind what was printed as it became known; the array tells these changes of its cells
+  abbrev pub ClosesRows : (array : ArrayState n m) (changes : ℕ → Option (ℕ → ℕ)) (told : List (Told n)) → IsServedByRows array told → List ℕ → Type 0
+  ClosesRows array changes told served text =
+      IsClosing job.shape job.seed served.places (counts_of (table_of served.places told)) served.ends array (cells_at e array changes) served.saved job.print text
+
+  -- only its first rows were, which asked this, and this was told; nothing is lost: the bytes that stand for each line, in a module over the array as it is, are its newest by
+  -- what was told so far, where a write without an outcome counts as queued, and is
+  pub record IsServedInPartByRows (array : ArrayState n m) (asked : List (Asked n)) (told : List (Told n)) : Type 0 where
+    pub rows : TellsByRows job.shape job.seed asked told
+    pub once : TellsOnce (length (events_in asked)) (outcomes_in told)
+    pub in_time : SettlesSoFar asked told
+    pub snapshots : List Snapshot
+    pub snaps : SnapsByRows job.shape job.seed (shown_by job.shape job.print) asked told rows snapshots
+    pub module_ : ModuleState n m e
+    pub stands : (line : ℕ) → line < total_of job.shape
+        → stand_now module_ array line ≡ newest (map so_far (rows_of (events_in asked) (table_of (length (events_in asked)) told))) line
+    pub queued : All (IsQueuedNow module_ (table_of (length (events_in asked)) told)) (asked_for (events_in asked))
+    pub wear : array.wear ≡ Some job.wear
+
+  -- what was told of them
+  abbrev pub told_by_rows : {array : ArrayState n m} {asked : List (Asked n)} {told : List (Told n)} → IsServedInPartByRows array asked told → RowsTold job.shape job.seed asked
+  told_by_rows {told = told} served = record { told = told; rows = served.rows }
+
+  module _ (out : SinkChange) where
+    -- it was served to its end, and exactly what was told was written, and then the text of the end, for which each line was sensed where it is an
+    -- image, and else none; whether a row fell short says how it was done
+    pub record StreamsByRows (array : ArrayState n m) (changes : ℕ → Option (ℕ → ℕ)) (done : Done) : Type 0 where
+      pub told : List (Told n)
+      pub served : IsServedByRows array told
+      pub text : List ℕ
+      pub closes : ClosesRows array changes told served text
+      pub written : Gets out (stream_text (shown_by job.shape job.print) told served.snapshots ++ text)
+      pub sensed : served.sensed ≡ senses_for job.print array.lines
+      pub ending :
+          done ≡ done_by (stops_at_refusal job.until && is_refusal_told job.shape job.seed served.asked (before_cut job.shape job.seed (is_off job.end) served.asked served.along)) (table_of served.places told)
+
+    -- it stopped at this fault; exactly what was known by then was written
+    pub record StopsByRows (array : ArrayState n m) (fault : Fault) : Type 0 where
+      pub asked : List (Asked n)
+      pub told : List (Told n)
+      pub served : IsServedInPartByRows array asked told
+      pub cause : StopsBy n m e job source job.input fault asked
+      pub far : GoesOnTo fault asked (told_by_rows served)
+      pub written : Gets out (stream_text (shown_by job.shape job.print) told served.snapshots)
+
+    -- it was served to its end, and first bytes of all that were written, for which no more lines were sensed; of an image they are of rows that have the
+    -- bytes of a line
+    pub record EndsInPartByRows (array : ArrayState n m) (changes : ℕ → Option (ℕ → ℕ)) : Type 0 where
+      pub told : List (Told n)
+      pub served : IsServedByRows array told
+      pub text : List ℕ
+      pub closes : ClosesRows array changes told served text
+      pub part : GetsPart out (stream_text (shown_by job.shape job.print) told served.snapshots ++ text)
+      pub sensed : served.sensed ≤ senses_for job.print array.lines
+      pub rows : job.print ≡ Image → WritesRows array served.saved out.written_before out.written_now
+
+    -- its first rows were served, and first bytes of what was told of them were written
+    pub record BeginsInPartByRows (array : ArrayState n m) : Type 0 where
+      pub asked : List (Asked n)
+      pub told : List (Told n)
+      pub served : IsServedInPartByRows array asked told
+      pub cause : StopsBy n m e job source job.input Write asked
+      pub far : GoesOnTo Write asked (told_by_rows served)
+      pub part : GetsPart out (stream_text (shown_by job.shape job.print) told served.snapshots)
+
+    -- the output failed, behind the last row or before
+    pub record BreaksByRows (array : ArrayState n m) (changes : ℕ → Option (ℕ → ℕ)) : Type 0 where
+      pub served : EndsInPartByRows array changes ⊎ BeginsInPartByRows array
+      pub fails : SinkFails out
+
+-- a call of the program
+module _ {A V S K : Type 0} (call : Call A V S K) where
+  -- what a job does, on the array of its lines
+  abbrev pub DoesOnRows : StreamJob → Done → LineSize → Type 0
+  DoesOnRows job done Bytes64 = StreamsByRows 64 8 6 job call.source call.out.seen call.array.seen.0 call.array.seen.1 done
+  DoesOnRows job done Bytes128 = StreamsByRows 128 16 8 job call.source call.out.seen call.wide.seen.0 call.wide.seen.1 done
+
+  abbrev pub DoesByRows : Result StreamJob Refusal → Done → Type 0
+  DoesByRows (Err e) done = ⊥
+  DoesByRows (Ok job) done = DoesOnRows job done job.line
+
+  -- how far it came before the output failed
+  abbrev pub BreaksOnRows : StreamJob → LineSize → Type 0
+  BreaksOnRows job Bytes64 = BreaksByRows 64 8 6 job call.source call.out.seen call.array.seen.0 call.array.seen.1
+  BreaksOnRows job Bytes128 = BreaksByRows 128 16 8 job call.source call.out.seen call.wide.seen.0 call.wide.seen.1
+
+  abbrev pub BreakByRows : Result StreamJob Refusal → Type 0
+  BreakByRows (Err e) = ⊥
+  BreakByRows (Ok job) = BreaksOnRows job job.line
+
+  -- how far it came, and why no further: up to a row, or there was no memory to begin with
+  abbrev pub StopsOnRows : StreamJob → Fault → LineSize → Type 0
+  StopsOnRows job fault Bytes64 = StopsByRows 64 8 6 job call.source call.out.seen call.array.seen.0 fault
+  StopsOnRows job fault Bytes128 = StopsByRows 128 16 8 job call.source call.out.seen call.wide.seen.0 fault
+
+  abbrev pub StopByRows : Result StreamJob Refusal → Fault → Type 0
+  StopByRows (Err e) fault = ((fault ≡ Usage) ⊎ (fault ≡ NoMemory)) × IsAsleep call
+  StopByRows (Ok job) fault = StopsOnRows job fault job.line ⊎ ((fault ≡ NoMemory) × IsAsleep call)
+
+  -- what holds of every call
+  module _ {F : Type 0} (err : Lent F SinkChange) (status : ℕ) where
+    pub record PromisesByRows : Type 0 where
+      -- The status is 0 or 1: the stream was served to its end, and exactly what was told was written; the status is 1 exactly where some row
+      -- fell short, but not where it stopped at a refused row, as it was to.
+      pub done : status ≤ status_done Short → (done : Done) × DoesByRows call.asked done × (status ≡ status_done done)
+      pub silent : status ≤ status_done Short → IsUntouched err
+      -- It is another, but for 5: the stream stopped at a fault that has its cause, exactly what was known by then was written, and the fault is told.
+      pub told : status_of Usage ≤ status → status ≢ status_of Write
+          → (fault : Fault) × StopByRows call.asked fault × (status ≡ status_of fault) × Gets err.seen (fault_line fault)
+      -- It is 5: the output failed, and first bytes of what was told were written; or a fault couldn't be told whole.
+      pub broken : status ≡ status_of Write
+          → (BreakByRows call.asked × GetsPart err.seen (fault_line Write)) ⊎ ((fault : Fault) × StopByRows call.asked fault × GetsPart err.seen (fault_line fault) × SinkFails err.seen)
+      -- A source is left alone where the rows are drawn, and so is the array of the other size of line.
+      pub unread : IsUnread call call.asked
+      pub others : OthersUntouched call call.asked

@@ -1,0 +1,93 @@
+-- What a stream tells row by row, said of its rows and its lines alone. What was asked stands with the newest row first.
+use Rattle.std.specs.Prelude.{◌≡◌, ◌⊎◌, ℕ, zero, suc, Bool, true, false, List, [], ◌∷◌, ◌++◌, length}
+use Rattle.result_rows.specs.declared.Outcome.{Outcome}
+use Rattle.module_shape.specs.declared.raw.RawShape.{RawShape}
+use Rattle.run_text.specs.Counting.{counts_of}
+use Rattle.row_printer.specs.{Printing.table_of, Refusing.any_refused, Snapshots.AddsDue, Telling.became, declared.snapshot.Snapshot.Snapshot, declared.told.Shown.Shown}
+use Rattle.row_printer.specs.declared.told.{ArrayWear.ArrayWear, Backlog.Backlog, Told.Told, Told.TheVariants.{Bank, Looked, Settled}}
+use Rattle.trace_stream.specs.{Asked.events_in, declared.asked.Asked.Asked, declared.asked.Asked.TheVariants.{Happens, Settle, Query, Look, Until}}
+use Rattle.row_stream.specs.{Asking.{behind_of, cut_if, tick_reached, with_cut}, Reaching.ReachesBy, Serving.{ComeInOrder, is_due_behind}}
+use Rattle.row_stream.specs.declared.stop.{Behind.Behind, Behind.TheVariants.{Nothing, Going, Off}}
+
+module _ {n : ℕ} where
+  -- the lines of the first so many banks at a tick, one of each, in their order
+  abbrev pub AreOfBanks : ℕ → ℕ → List (Told n) → Type 0
+  AreOfBanks tick zero lines = lines ≡ []
+  AreOfBanks tick (suc bank) lines =
+      (earlier : List (Told n)) × (backlog : Backlog) × AreOfBanks tick bank earlier × (backlog.bank ≡ bank) × (lines ≡ earlier ++ Bank tick backlog ∷ [])
+
+  -- the lines that answer a row beside outcomes, on a module of so many banks: of each that settles the last one is its tick
+  abbrev pub AreAnswers : ℕ → Asked n → List (Told n) → Type 0
+  AreAnswers banks (Happens event) lines = lines ≡ []
+  AreAnswers banks (Settle tick) lines = lines ≡ Settled tick ∷ []
+  AreAnswers banks (Query tick) lines = (first : List (Told n)) × AreOfBanks tick banks first × (lines ≡ first ++ Settled tick ∷ [])
+  AreAnswers banks (Look tick) lines = (wear : ArrayWear) × (lines ≡ Looked tick wear ∷ Settled tick ∷ [])
+  AreAnswers banks (Until until) lines = lines ≡ Settled until.reached ∷ []
+
+module _ {n : ℕ} (raw : RawShape) (seed : ℕ) where
+  -- this was told of rows that asked this: of each, in their order, the outcomes that became known as it was served, and its answer; a settle until went on to
+  -- the first tick behind which its row has an outcome
+  abbrev pub TellsByRows : List (Asked n) → List (Told n) → Type 0
+  TellsByRows [] told = told ≡ []
+  TellsByRows (row ∷ before) told =
+      (said : List (Told n)) × TellsByRows before said
+      × (outcomes : List (ℕ × Outcome n)) × ComeInOrder raw seed row (events_in before) outcomes
+      × (lines : List (Told n)) × AreAnswers raw.banks row lines × (told ≡ (said ++ became outcomes) ++ lines)
+      × ReachesBy (tick_reached before) row (table_of (length (events_in (row ∷ before))) told)
+
+  -- what was told of rows that asked this
+  pub record RowsTold (asked : List (Asked n)) : Type 0 where
+    pub told : List (Told n)
+    pub rows : TellsByRows asked told
+
+  -- and before the last of them was served
+  abbrev pub before_row : (row : Asked n) (before : List (Asked n)) → RowsTold (row ∷ before) → RowsTold before
+  before_row row before it = record { told = it.rows.0; rows = it.rows.1 }
+
+  -- without the cut that may have been added behind them
+  abbrev pub before_cut_if : (behind : Behind) (asked : List (Asked n)) → RowsTold (cut_if behind asked) → RowsTold asked
+  before_cut_if Nothing asked it = it
+  before_cut_if Off asked it = it
+  before_cut_if Going asked it = before_row _ asked it
+
+  abbrev pub before_cut : (off : Bool) (asked : List (Asked n)) → RowsTold (with_cut off asked) → RowsTold asked
+  before_cut false asked it = it
+  before_cut true asked it = before_cut_if (behind_of asked) asked it
+
+  -- whether a refusal was told
+  abbrev pub is_refusal_told : (asked : List (Asked n)) → RowsTold asked → Bool
+  is_refusal_told asked it = any_refused (table_of (length (events_in asked)) it.told)
+
+  -- none was, before the last row was served
+  abbrev pub NoneWasBefore : (asked : List (Asked n)) → RowsTold asked → Type 0
+  NoneWasBefore [] it = Unit {0}
+  NoneWasBefore (row ∷ before) it = is_refusal_told before (before_row row before it) ≡ false
+
+  -- where the rows end: behind all of them; or, where a stream is to stop at a refusal, behind the row by which the first is told, and else behind all of them
+  abbrev pub EndWhere : Bool → (asked : List (Asked n)) → RowsTold asked → (All Some : Type 0) → Type 0
+  EndWhere false asked it All Some = All
+  EndWhere true asked it All Some =
+      ((is_refusal_told asked it ≡ false) × All) ⊎ (NoneWasBefore asked it × (is_refusal_told asked it ≡ true) × Some)
+
+  -- where a stream is to stop at a refusal, none was told so far
+  abbrev pub WithoutRefusal : Bool → (asked : List (Asked n)) → RowsTold asked → Type 0
+  WithoutRefusal false asked it = Unit {0}
+  WithoutRefusal true asked it = is_refusal_told asked it ≡ false
+
+  -- and before its last row none was
+  abbrev pub WithoutRefusalBefore : Bool → (asked : List (Asked n)) → RowsTold asked → Type 0
+  WithoutRefusalBefore false asked it = Unit {0}
+  WithoutRefusalBefore true asked it = NoneWasBefore asked it
+
+-- a snapshot tells of so many rows, at a tick, how many had each outcome by what was told
+pub record CountsRows {n : ℕ} (places at : ℕ) (told : List (Told n)) (snapshot : Snapshot) : Type 0 where
+  pub rows : snapshot.rows ≡ places
+  pub tick : snapshot.tick ≡ at
+  pub counts : snapshot.counts ≡ counts_of (table_of places told)
+
+-- the snapshots that were taken of rows: one stands behind each with a number where one is due, and counts what was told by then
+abbrev pub SnapsByRows : {n : ℕ} (raw : RawShape) (seed : ℕ) → Shown → (asked : List (Asked n)) (told : List (Told n)) → TellsByRows raw seed asked told → List Snapshot → Type 0
+SnapsByRows raw seed shown [] told rows snapshots = snapshots ≡ []
+SnapsByRows raw seed shown (row ∷ before) told rows snapshots =
+    (earlier : List Snapshot) × SnapsByRows raw seed shown before rows.0 rows.1 earlier
+    × AddsDue (is_due_behind shown row (length (events_in (row ∷ before)))) (CountsRows (length (events_in (row ∷ before))) (tick_reached (row ∷ before)) told) earlier snapshots

@@ -1,0 +1,40 @@
+//! The promise of streams, by their rows alone: what was told row by row and in time, that the rows are right, and what was written. It follows
+//! from the contract of `stream_run`, which tells of the histories of the module's banks, by laws of streams.
+#![tactic(auto)]
+
+ghost use Rattle.std.specs.Prelude.{map, string_bytes};
+ghost use Rattle.stream_words.specs.Jobs.{stream_job_of};
+ghost use Rattle.program_calls.specs.Calls.{lent_sink};
+ghost use Rattle.stream_top.specs.Calls.{lent_telling, source_between};
+ghost use Rattle.stream_promise.specs.Promise.{PromisesByRows};
+
+use cell_wear::TellsCells;
+use moment_laws::no_moment_loses_bytes;
+use pcm_io::{Sink, Source};
+use settle_laws::streams_settle_for_good;
+use std::alloc::Global;
+use stream_top::stream_run;
+
+/// Runs the program of streams on the words behind its name, and answers its status and the output, as `stream_run` does: each promise is a
+/// field of `PromisesByRows`.
+pub fn run_stream<A: TellsCells<64, 8>, V: TellsCells<128, 16>, S: Source, K: Sink + Drop, F: Sink>(
+    alloc: Global,
+    words: &[String],
+    array: &mut A,
+    wide: &mut V,
+    source: &mut S,
+    out: Box<K>,
+    err: &mut F,
+) -> (u8, Box<K>)
+    ensures { PromisesByRows (record {
+      asked = stream_job_of (map string_bytes words.now);
+      array = lent_telling A.state A.changes array.old array.new;
+      wide = lent_telling V.state V.changes wide.old wide.new;
+      source = source_between S.left S.taken S.faults source.old source.new;
+      out = lent_sink K.written K.faults out.value result.1.value;
+    }) (lent_sink F.written F.faults err.old err.new) result.0 }
+{
+    no_moment_loses_bytes();
+    streams_settle_for_good::<S>();
+    stream_run(alloc, words, array, wide, source, out, err)
+}
