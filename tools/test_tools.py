@@ -56,6 +56,12 @@ CRATES = "# 1. PARTS\nfirst:\nsecond: first\n# 2. PROGRAMS\npcm_cli: second\npcm
 PROGRAMS = ("pcm_cli", "pcm_stream", "pcm_explain")
 
 
+def setUpModule():
+    """What is started in the background has Ctrl-C ignored, by nohup a hang-up too, and so has all that it starts: a shell can't even trap it then."""
+    signal.signal(signal.SIGINT, signal.default_int_handler)
+    signal.signal(signal.SIGHUP, signal.SIG_DFL)
+
+
 class Room:
     """A small repository, a kit, and a folder for what builds keep, in a folder of their own, whose name has a blank."""
 
@@ -654,8 +660,7 @@ class Counting(unittest.TestCase):
     def start(self, *words):
         """In a session of its own, where a signal goes to all that was started."""
         how = {"stdin": subprocess.DEVNULL, "stdout": subprocess.PIPE, "stderr": subprocess.STDOUT, "text": True, "start_new_session": True}
-        default = lambda: signal.signal(signal.SIGINT, signal.default_int_handler)  # (a shell can't trap what was ignored before it)
-        return subprocess.Popen(words, env={**os.environ, "TMPDIR": str(self.room / "rooms")}, cwd="/", preexec_fn=default, **how)
+        return subprocess.Popen(words, env={**os.environ, "TMPDIR": str(self.room / "rooms")}, cwd="/", **how)
 
     def check(self, shell, text):
         script = self.room / "a check"

@@ -141,6 +141,11 @@ class Faults(Rooms):
 
 
 class Breaking(unittest.TestCase):
+    @classmethod
+    def setUpClass(cls):
+        # (what is started in the background has Ctrl-C ignored, and so has all that it starts)
+        signal.signal(signal.SIGINT, signal.default_int_handler)
+
     def broken_off(self, *words):
         """What a process says that is broken off while it reads."""
         with subprocess.Popen([sys.executable, *words], stdin=subprocess.PIPE, stdout=subprocess.PIPE, stderr=subprocess.PIPE, env=around()) as it:
