@@ -1,25 +1,26 @@
 -- What a stream promises along the histories of its banks it promises by its rows.
 use Rattle.std.proofs.Common.{◌≡◌, ◌&&◌, inl, inr, ℕ, ◌<◌, List, Option, Result, Ok, Err, length, ap, sym, subst, ◌∙◌}
+use Rattle.std.specs.Prelude.{reverse}
 use Rattle.cell_rows.specs.Device.{ArrayState}
-use Rattle.command_line.specs.{declared.job.Input.Input, declared.job.Input.TheVariants.{Source, Drawn}, declared.job.LineSize.LineSize, declared.job.LineSize.TheVariants.{Bytes64, Bytes128}, declared.job.Refusal.Refusal}
+use Rattle.command_line.specs.{declared.job.Input.Input, declared.job.Input.TheVariants.{Source, Drawn}, declared.job.LineSize.LineSize}
+use Rattle.command_line.specs.{declared.job.LineSize.TheVariants.{Bytes64, Bytes128}, declared.job.Refusal.Refusal}
 use Rattle.module_shape.specs.{Limits.total_of, declared.raw.RawShape.RawShape}
 use Rattle.trace_gen.specs.Generated.{generated}
-use Rattle.std.specs.Prelude.{reverse}
 use Rattle.program_calls.specs.Calls.{Lent, SinkChange}
 use Rattle.row_printer.specs.{Printing.table_of, Snapshots.takes_snapshots, declared.told.Told.Told}
 use Rattle.stream_words.specs.declared.job.StreamJob.{StreamJob}
 use Rattle.trace_stream.specs.{Asked.events_in, Laws.all_events, declared.asked.Asked.Asked}
 use Rattle.row_stream.specs.{Asking.{BeginsWith, tick_reached, with_cut}, Ending.{told_along, without_cut}, Looking.IsSnapshot, Serving.Telling, Sourcing.{IsRead, IsReadTo}}
 use Rattle.stream_top.specs.{Calls.LentSource, Promises.{Breaks, BreaksOn, Call, Does, DoesOn, KeepsPromises, Stops as StopsCall, StopsOn}}
-use Rattle.stream_top.specs.Streams.{BeginsInPart, BreaksOff, ComeFrom, GoesAsFarAs, IsServed, IsServedInPart, Streams, StreamsInPart, StreamsUpTo, done_by, is_off, shown_by, stops_at_refusal, told_in_part}
-use Rattle.stream_top.specs.{declared.done.Done.Done, declared.fault.Fault.Fault, declared.fault.Fault.TheVariants.{Usage, Trace, Read, Write, TooLong, NoMemory}}
+use Rattle.stream_top.specs.Streams.{BeginsInPart, BreaksOff, ComeFrom, GoesAsFarAs, IsServed, IsServedInPart, Streams, StreamsInPart, StreamsUpTo, done_by, is_off, shown_by}
+use Rattle.stream_top.specs.{Streams.{stops_at_refusal, told_in_part}, declared.done.Done.Done, declared.fault.Fault.Fault}
+use Rattle.stream_top.specs.declared.fault.Fault.TheVariants.{Usage, Trace, Read, Write, TooLong, NoMemory}
 use Rattle.moment_laws.specs.Moments.{MomentLaw}
 use Rattle.settle_laws.specs.Streams.{BegunStreamLaw, WholeStreamLaw}
-use Rattle.stream_promise.specs.Rows.{is_refusal_told}
-use Rattle.stream_promise.specs.Promise.{BeginsInPartByRows, BreakByRows, BreaksByRows, BreaksOnRows, ComeByRows, DoesByRows, DoesOnRows, EndsInPartByRows, EndsRows, GoesOnTo, IsServedByRows, IsServedInPartByRows, PromisesByRows, StopByRows, StopsByRows, StopsOnRows, StreamsByRows}
+use Rattle.stream_promise.specs.Promise.{BeginsInPartByRows, BreakByRows, BreaksByRows, BreaksOnRows, ComeByRows, DoesByRows, DoesOnRows, EndsInPartByRows, EndsRows, GoesOnTo}
+use Rattle.stream_promise.specs.{Promise.{IsServedByRows, IsServedInPartByRows, PromisesByRows, StopByRows, StopsByRows, StopsOnRows, StreamsByRows}, Rows.is_refusal_told}
+use Rattle.stream_promise.proofs.{Rows.{adds, by-rows, counts-rows, cut-same, end-where, rows-of, snaps-by-rows, without-refusal, without-refusal-before}, Spares.used-alike}
 use Rattle.pcm_module.specs.Roles.{spares_used}
-use Rattle.stream_promise.proofs.Spares.{used-alike}
-use Rattle.stream_promise.proofs.Rows.{adds, by-rows, counts-rows, cut-same, end-where, rows-of, snaps-by-rows, without-refusal, without-refusal-before}
 
 module _ {S : Type 0} (moment : MomentLaw) (whole : WholeStreamLaw S) (begun : BegunStreamLaw S) (n m e : ℕ) (job : StreamJob) (source : LentSource S) where
   come : (input : Input) (asked : List (Asked n)) (telling : Telling n m e job.shape job.seed asked) → ComeFrom n m e job source input asked telling

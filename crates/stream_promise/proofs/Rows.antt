@@ -6,10 +6,11 @@ use Rattle.module_shape.specs.declared.raw.RawShape.{RawShape}
 use Rattle.pcm_module.specs.State.{ModuleState, bank_at}
 use Rattle.row_printer.specs.{Snapshots.AddsDue, declared.snapshot.Snapshot.Snapshot, declared.told.Shown.Shown, declared.told.Told.Told}
 use Rattle.trace_stream.specs.{Asked.events_in, declared.asked.Asked.Asked, declared.asked.Asked.TheVariants.{Happens, Settle, Query, Look, Until}}
-use Rattle.row_stream.specs.{Answering.{backlog_of, banks_told}, Asking.{behind_of, cut_if, tick_reached, with_cut}, Ending.{without_cut, without_cut_if}, Looking.{IsSnapshot, wear_of}}
-use Rattle.row_stream.specs.{Refusing.{EndsBehind, MayGoOn, NoneBefore, WentOn}, Serving.{SnapsAlong, Telling, TellsAlong, is_due_behind, lines_of}}
-use Rattle.row_stream.specs.declared.stop.{Behind.Behind, Behind.TheVariants.{Nothing, Going, Off}}
-use Rattle.stream_promise.specs.Rows.{AreAnswers, AreOfBanks, CountsRows, EndWhere, NoneWasBefore, RowsTold, SnapsByRows, TellsByRows, WithoutRefusal, WithoutRefusalBefore, before_cut, before_cut_if}
+use Rattle.row_stream.specs.{Answering.{backlog_of, banks_told}, Asking.{behind_of, cut_if, tick_reached, with_cut}, Ending.{without_cut, without_cut_if}}
+use Rattle.row_stream.specs.{Looking.{IsSnapshot, wear_of}, Refusing.{EndsBehind, MayGoOn, NoneBefore, WentOn}, Serving.{SnapsAlong, Telling, TellsAlong, is_due_behind, lines_of}}
+use Rattle.row_stream.specs.{declared.stop.Behind.Behind, declared.stop.Behind.TheVariants.{Nothing, Going, Off}}
+use Rattle.stream_promise.specs.Rows.{AreAnswers, AreOfBanks, CountsRows, EndWhere, NoneWasBefore, RowsTold, SnapsByRows, TellsByRows, WithoutRefusal, WithoutRefusalBefore}
+use Rattle.stream_promise.specs.Rows.{before_cut, before_cut_if}
 
 -- ---- lines
 

@@ -3,7 +3,8 @@ use Rattle.std.specs.Prelude.{◌≡◌, ◌≢◌, ◌⊎◌, ◌&&◌, ℕ, �
 use Rattle.cell_rows.specs.Device.{ArrayState}
 use Rattle.result_rows.specs.declared.Outcome.{Outcome}
 use Rattle.row_rules.specs.Rows.{newest}
-use Rattle.command_line.specs.{declared.job.Input.Input, declared.job.Input.TheVariants.{Source, Drawn}, declared.job.LineSize.LineSize, declared.job.LineSize.TheVariants.{Bytes64, Bytes128}, declared.job.Refusal.Refusal}
+use Rattle.command_line.specs.{declared.job.Input.Input, declared.job.Input.TheVariants.{Source, Drawn}, declared.job.LineSize.LineSize}
+use Rattle.command_line.specs.{declared.job.LineSize.TheVariants.{Bytes64, Bytes128}, declared.job.Refusal.Refusal}
 use Rattle.module_shape.specs.Limits.{total_of}
 use Rattle.right_runs.specs.{Ends.BankEnd, Runs.RunsRightTo}
 use Rattle.pcm_image.specs.Saved.{Saved}
@@ -18,9 +19,11 @@ use Rattle.row_printer.specs.declared.told.Told.{Told}
 use Rattle.stream_words.specs.{declared.job.StreamJob.StreamJob, declared.job.StreamPrint.TheVariants.Image}
 use Rattle.trace_gen.specs.Generated.{generated}
 use Rattle.trace_stream.specs.{Asked.events_in, Laws.all_events, declared.asked.Asked.Asked}
-use Rattle.row_stream.specs.{Asking.{BeginsWith, stays_off, tick_reached, with_cut}, Ending.rows_of, Laws.TellsEach, Looking.wear_of, Serving.ComeByBanks, Sourcing.{IsRead, IsReadTo}}
-use Rattle.stream_top.specs.{Calls.{LentSource}, FaultLines.{fault_line, status_of}, Leaving.{IsClosing, senses_for}, Promises.{Call, IsAsleep, IsUnread, OthersUntouched}, Streams.{StopsBy, done_by, is_off, rows_told, shown_by, status_done, stops_at_refusal}}
-use Rattle.stream_top.specs.{declared.done.Done.Done, declared.done.Done.TheVariants.Short, declared.fault.Fault.Fault, declared.fault.Fault.TheVariants.{Usage, Write, NoMemory}}
+use Rattle.row_stream.specs.{Asking.{BeginsWith, stays_off, tick_reached, with_cut}, Ending.rows_of, Laws.TellsEach, Looking.wear_of, Serving.ComeByBanks}
+use Rattle.row_stream.specs.Sourcing.{IsRead, IsReadTo}
+use Rattle.stream_top.specs.{Calls.LentSource, FaultLines.{fault_line, status_of}, Leaving.{IsClosing, senses_for}, Promises.{Call, IsAsleep, IsUnread, OthersUntouched}}
+use Rattle.stream_top.specs.{Streams.{StopsBy, done_by, is_off, rows_told, shown_by, status_done, stops_at_refusal}, declared.done.Done.Done, declared.done.Done.TheVariants.Short}
+use Rattle.stream_top.specs.{declared.fault.Fault.Fault, declared.fault.Fault.TheVariants.{Usage, Write, NoMemory}}
 use Rattle.moment_laws.specs.Moments.{IsQueuedNow, so_far, stand_now}
 use Rattle.settle_laws.specs.Settles.{SettlesForGood, SettlesSoFar}
 use Rattle.stream_promise.specs.Rows.{CountsRows, EndWhere, RowsTold, SnapsByRows, TellsByRows, WithoutRefusal, WithoutRefusalBefore, before_cut, is_refusal_told}

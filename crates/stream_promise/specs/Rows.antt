@@ -3,11 +3,11 @@ use Rattle.std.specs.Prelude.{◌≡◌, ◌⊎◌, ℕ, zero, suc, Bool, true, 
 use Rattle.result_rows.specs.declared.Outcome.{Outcome}
 use Rattle.module_shape.specs.declared.raw.RawShape.{RawShape}
 use Rattle.run_text.specs.Counting.{counts_of}
-use Rattle.row_printer.specs.{Printing.table_of, Refusing.any_refused, Snapshots.AddsDue, Telling.became, declared.snapshot.Snapshot.Snapshot, declared.told.Shown.Shown}
-use Rattle.row_printer.specs.declared.told.{ArrayWear.ArrayWear, Backlog.Backlog, Told.Told, Told.TheVariants.{Bank, Looked, Settled}}
+use Rattle.row_printer.specs.{Printing.table_of, Refusing.any_refused, Snapshots.AddsDue, Telling.became, declared.snapshot.Snapshot.Snapshot, declared.told.ArrayWear.ArrayWear}
+use Rattle.row_printer.specs.{declared.told.Backlog.Backlog, declared.told.Shown.Shown, declared.told.Told.Told, declared.told.Told.TheVariants.{Bank, Looked, Settled}}
 use Rattle.trace_stream.specs.{Asked.events_in, declared.asked.Asked.Asked, declared.asked.Asked.TheVariants.{Happens, Settle, Query, Look, Until}}
-use Rattle.row_stream.specs.{Asking.{behind_of, cut_if, tick_reached, with_cut}, Reaching.ReachesBy, Serving.{ComeInOrder, is_due_behind}}
-use Rattle.row_stream.specs.declared.stop.{Behind.Behind, Behind.TheVariants.{Nothing, Going, Off}}
+use Rattle.row_stream.specs.{Asking.{behind_of, cut_if, tick_reached, with_cut}, Reaching.ReachesBy, Serving.{ComeInOrder, is_due_behind}, declared.stop.Behind.Behind}
+use Rattle.row_stream.specs.declared.stop.Behind.TheVariants.{Nothing, Going, Off}
 
 module _ {n : ℕ} where
   -- the lines of the first so many banks at a tick, one of each, in their order
