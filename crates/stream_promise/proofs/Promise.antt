@@ -1,5 +1,5 @@
 -- What a stream promises along the histories of its banks it promises by its rows.
-use Rattle.std.proofs.Common.{◌≡◌, ◌&&◌, inl, inr, ℕ, ◌<◌, List, Option, Result, Ok, Err, length, ap, sym, subst, ◌∙◌}
+use Rattle.std.proofs.Common.{◌≡◌, ◌&&◌, inl, inr, ℕ, ◌<◌, Bool, true, List, Option, Result, Ok, Err, length, refl, ap, sym, subst, ◌∙◌}
 use Rattle.std.specs.Prelude.{reverse}
 use Rattle.cell_rows.specs.Device.{ArrayState}
 use Rattle.command_line.specs.{declared.job.Input.Input, declared.job.Input.TheVariants.{Source, Drawn}, declared.job.LineSize.LineSize}
@@ -7,7 +7,8 @@ use Rattle.command_line.specs.{declared.job.LineSize.TheVariants.{Bytes64, Bytes
 use Rattle.module_shape.specs.{Limits.total_of, declared.raw.RawShape.RawShape}
 use Rattle.trace_gen.specs.Generated.{generated}
 use Rattle.program_calls.specs.Calls.{Lent, SinkChange}
-use Rattle.row_printer.specs.{Printing.table_of, Snapshots.takes_snapshots, declared.told.Told.Told}
+use Rattle.row_printer.specs.{Printing.table_of, Snapshots.{AddsDue, takes_snapshots}, declared.snapshot.Snapshot.Snapshot, declared.told.Told.Told}
+use Rattle.run_text.specs.{Counting.counts_of, Pulses.pulses_in_all, SummaryText.summary_text}
 use Rattle.stream_words.specs.declared.job.StreamJob.{StreamJob}
 use Rattle.trace_stream.specs.{Asked.events_in, Laws.all_events, declared.asked.Asked.Asked}
 use Rattle.row_stream.specs.{Asking.{BeginsWith, tick_reached, with_cut}, Ending.{told_along, without_cut}, Looking.IsSnapshot, Serving.Telling, Sourcing.{IsRead, IsReadTo}}
@@ -18,7 +19,8 @@ use Rattle.stream_top.specs.declared.fault.Fault.TheVariants.{Usage, Trace, Read
 use Rattle.moment_laws.specs.Moments.{MomentLaw}
 use Rattle.settle_laws.specs.Streams.{BegunStreamLaw, WholeStreamLaw}
 use Rattle.stream_promise.specs.Promise.{BeginsInPartByRows, BreakByRows, BreaksByRows, BreaksOnRows, ComeByRows, DoesByRows, DoesOnRows, EndsInPartByRows, EndsRows, GoesOnTo}
-use Rattle.stream_promise.specs.{Promise.{IsServedByRows, IsServedInPartByRows, PromisesByRows, StopByRows, StopsByRows, StopsOnRows, StreamsByRows}, Rows.is_refusal_told}
+use Rattle.stream_promise.specs.Promise.{IsServedByRows, IsServedInPartByRows, LastSnapshotLaw, PromisesByRows, StopByRows, StopsByRows, StopsOnRows, StreamsByRows}
+use Rattle.stream_promise.specs.Rows.{is_refusal_told}
 use Rattle.stream_promise.proofs.{Rows.{adds, by-rows, counts-rows, cut-same, end-where, rows-of, snaps-by-rows, without-refusal, without-refusal-before}, Spares.used-alike}
 use Rattle.pcm_module.specs.Roles.{spares_used}
 
@@ -32,7 +34,7 @@ module _ {S : Type 0} (moment : MomentLaw) (whole : WholeStreamLaw S) (begun : B
   come (Drawn mix) asked telling is = (
     is.0,
     end-where e job.shape job.seed (stops_at_refusal job.until) asked telling (reverse asked ≡ all_events (generated n job.seed (total_of job.shape) mix))
-    (BeginsWith asked (all_events (generated n job.seed (total_of job.shape) mix))) is.1,
+        (BeginsWith asked (all_events (generated n job.seed (total_of job.shape) mix))) is.1,
   )
 
   goes-on : (fault : Fault) (asked : List (Asked n)) (telling : Telling n m e job.shape job.seed asked) → GoesAsFarAs n m e job source fault asked telling
@@ -77,15 +79,15 @@ module _ {S : Type 0} (moment : MomentLaw) (whole : WholeStreamLaw S) (begun : B
             served.snaps.0,
             snaps-by-rows e job.shape job.seed (shown_by job.shape job.print) asked served.ended.history served.ended.said served.ended.along served.snaps.0 served.snaps.1,
             adds (takes_snapshots (shown_by job.shape job.print)) (IsSnapshot served.places tick told served.module_ served.before)
-            (EndsRows n m e job source served.places tick told served.ended.ends served.before) served.snaps.0 served.snapshots
-            (λ one is. record {
-              counts = counts-rows served.places tick told served.module_ served.before one is;
-              retired =
-                  is.retired.2
-                  ∙ ap (λ (raw : RawShape). spares_used raw is.retired.0) served.ended.shape
-                  ∙ used-alike job.shape served.module_ is.retired.0 served.ended.ends served.ended.shape (λ bank below. served.ended.finished.1.shapes bank below) is.retired.1 served.ended.are;
-              wear = is.wear;
-            }) served.snaps.2,
+                (EndsRows n m e job source served.places tick told served.ended.ends served.before) served.snaps.0 served.snapshots
+                (λ one is. record {
+                  counts = counts-rows served.places tick told served.module_ served.before one is;
+                  retired =
+                      is.retired.2
+                      ∙ ap (λ (raw : RawShape). spares_used raw is.retired.0) served.ended.shape
+                      ∙ used-alike job.shape served.module_ is.retired.0 served.ended.ends served.ended.shape (λ bank below. served.ended.finished.1.shapes bank below) is.retired.1 served.ended.are;
+                  wear = is.wear;
+                }) served.snaps.2,
           );
           untouched = served.untouched;
           wear = served.wear;
@@ -206,3 +208,19 @@ module _ {A V S K : Type 0} (moment : MomentLaw) (whole : WholeStreamLaw S) (beg
     unread = keeps.unread;
     others = keeps.others;
   }
+
+-- ---- the last snapshot
+
+pub last-snapshot : {S : Type 0} → LastSnapshotLaw S
+last-snapshot {S} n m e job source array told served takes = (served.snaps.0, last.0, last.2, numbers last.0 last.1)
+  where
+    Last : Snapshot → Type 0
+    Last one = EndsRows n m e job source served.places (tick_reached (with_cut (is_off job.end) served.asked)) told served.ends served.before one
+
+    last : AddsDue true Last served.snaps.0 served.snapshots
+    last = subst (λ (due : Bool). AddsDue due Last served.snaps.0 served.snapshots) takes served.snaps.2
+
+    numbers : (one : Snapshot) → Last one
+        → summary_text one.rows one.counts one.retired one.wear.pulses
+        ≡ summary_text served.places (counts_of (table_of served.places told)) (spares_used job.shape served.ends) (pulses_in_all served.before)
+    numbers one is = rw (is.counts.rows, is.counts.counts, is.retired, is.wear) refl

@@ -101,5 +101,5 @@ module _ {n m : ℕ} (e : ℕ) (raw : RawShape) (seed : ℕ) where
         snaps.0,
         snaps-by-rows shown before along.0 along.1 along.2 snaps.0 snaps.1,
         adds (is_due_behind shown row rows) (IsSnapshot rows tick told along.7.module_ along.7.array) (CountsRows rows tick told) snaps.0 snapshots
-        (counts-rows rows tick told along.7.module_ along.7.array) snaps.2,
+            (counts-rows rows tick told along.7.module_ along.7.array) snaps.2,
       )

@@ -1,5 +1,5 @@
 -- What a stream promises, said of its rows, its lines, and what it left. What was asked stands with the newest row first.
-use Rattle.std.specs.Prelude.{◌≡◌, ◌≢◌, ◌⊎◌, ◌&&◌, ℕ, ◌<◌, ◌≤◌, List, ◌++◌, All, length, map, reverse, Option, Some, Result, Ok, Err}
+use Rattle.std.specs.Prelude.{◌≡◌, ◌≢◌, ◌⊎◌, ◌&&◌, true, ℕ, ◌<◌, ◌≤◌, List, ◌∷◌, [], ◌++◌, All, length, map, reverse, Option, Some, Result, Ok, Err}
 use Rattle.cell_rows.specs.Device.{ArrayState}
 use Rattle.result_rows.specs.declared.Outcome.{Outcome}
 use Rattle.row_rules.specs.Rows.{newest}
@@ -13,7 +13,7 @@ use Rattle.image_text.specs.Sensing.{SensesRows}
 use Rattle.pcm_module.specs.{Asking.asked_for, Roles.spares_used, State.ModuleState}
 use Rattle.module_prints.specs.{Images.WritesRows, WearReports.cells_at}
 use Rattle.program_calls.specs.Calls.{Gets, GetsPart, IsUntouched, Lent, SinkChange, SinkFails}
-use Rattle.run_text.specs.Counting.{counts_of}
+use Rattle.run_text.specs.{Counting.counts_of, Pulses.pulses_in_all, SummaryText.summary_text}
 use Rattle.row_printer.specs.{Printing.{stream_text, table_of}, Snapshots.{AddsDue, takes_snapshots}, Telling.{became, outcomes_in, TellsOnce}, declared.snapshot.Snapshot.Snapshot}
 use Rattle.row_printer.specs.declared.told.Told.{Told}
 use Rattle.stream_words.specs.{declared.job.StreamJob.StreamJob, declared.job.StreamPrint.TheVariants.Image}
@@ -197,3 +197,12 @@ module _ {A V S K : Type 0} (call : Call A V S K) where
       -- A source is left alone where the rows are drawn, and so is the array of the other size of line.
       pub unread : IsUnread call call.asked
       pub others : OthersUntouched call call.asked
+
+-- a stream of snapshots that was served to its end: the numbers of the last one are those of the summary of what it left
+abbrev pub LastSnapshotLaw : Type 0 → Type 0
+LastSnapshotLaw S =
+    (n m e : ℕ) (job : StreamJob) (source : LentSource S) (array : ArrayState n m) (told : List (Told n)) (served : IsServedByRows n m e job source array told)
+    → takes_snapshots (shown_by job.shape job.print) ≡ true
+    → (first : List Snapshot) × (last : Snapshot) × (served.snapshots ≡ first ++ last ∷ [])
+    × (summary_text last.rows last.counts last.retired last.wear.pulses
+    ≡ summary_text served.places (counts_of (table_of served.places told)) (spares_used job.shape served.ends) (pulses_in_all served.before))

@@ -6,7 +6,7 @@ ghost use Rattle.std.specs.Prelude.{map, string_bytes};
 ghost use Rattle.stream_words.specs.Jobs.{stream_job_of};
 ghost use Rattle.program_calls.specs.Calls.{lent_sink};
 ghost use Rattle.stream_top.specs.Calls.{lent_telling, source_between};
-ghost use Rattle.stream_promise.specs.Promise.{PromisesByRows};
+ghost use Rattle.stream_promise.specs.Promise.{LastSnapshotLaw, PromisesByRows};
 
 use cell_wear::TellsCells;
 use moment_laws::no_moment_loses_bytes;
@@ -38,3 +38,9 @@ pub fn run_stream<A: TellsCells<64, 8>, V: TellsCells<128, 16>, S: Source, K: Si
     streams_settle_for_good::<S>();
     stream_run(alloc, words, array, wide, source, out, err)
 }
+
+/// Of a stream of snapshots that was served to its end, the last one has the numbers of the summary of what it left. (A law: the function does
+/// nothing when it runs.)
+pub fn the_last_snapshot_is_the_summary<S: Source>()
+    ensures { LastSnapshotLaw S }
+{}
