@@ -9,7 +9,8 @@ use pcm_io::{Sink, StdSink, StdSource, write_all};
 use std::process::ExitCode;
 use std::{env, io};
 use stream_promise::run_stream;
-use stream_top::asks_energy;
+use stream_top::{asks_energy, asks_totals};
+use wear_totals::TotalledArray;
 
 /// The words couldn't be had, for another cause than memory.
 const WORDS_FAULT: u8 = 8;
@@ -40,11 +41,31 @@ fn arrays(counts_energy: bool) -> (MemArray<64, 8>, MemArray<128, 16>)
     }
 }
 
+type Narrow = TotalledArray<MemArray<64, 8>, 64, 8, 6>;
+
+type Wide = TotalledArray<MemArray<128, 16>, 128, 16, 8>;
+
+// The same arrays, which keep totals only where snapshots are taken: to keep them takes time too.
+fn totalled(keeps: bool, narrow: MemArray<64, 8>, wide: MemArray<128, 16>) -> (Narrow, Wide)
+    ensures { result ≡ (narrow, wide) }
+{
+    if keeps {
+        (
+            TotalledArray::with_totals(narrow),
+            TotalledArray::with_totals(wide),
+        )
+    } else {
+        (TotalledArray::new(narrow), TotalledArray::new(wide))
+    }
+}
+
 // The status of a stream, if its words and the memory for its output can be had.
 fn stream<F: Sink>(rt: &HostRuntime, err: &mut F) -> io::Result<u8> {
     let words = words(rt)?;
     let out = Box::new(rt.alloc(), StdSink::new(rt.stdout()))?;
-    let (mut array, mut wide) = arrays(asks_energy(rt.alloc(), words.as_slice()));
+    let (array, wide) = arrays(asks_energy(rt.alloc(), words.as_slice()));
+    let keeps = asks_totals(rt.alloc(), words.as_slice());
+    let (mut array, mut wide) = totalled(keeps, array, wide);
     let (status, _out) = run_stream(
         rt.alloc(),
         words.as_slice(),

@@ -8,11 +8,12 @@ use crate::source::CaseSource;
 use crate::stream::{are_same, without_op};
 use crate::tally::Tally;
 use explain_top::explain_run;
-use pcm_cells::{CellArray, Cells, MemArray, ScriptArray, TellsCells};
+use pcm_cells::{CellArray, Cells, MemArray, ScriptArray};
 use pcm_top::pcm_run;
 use std::alloc::{AllocError, Global};
 use std::str;
 use stream_top::stream_run;
+use wear_totals::{TellsWear, TotalledArray};
 
 /// What a run answered.
 #[derive(Drop)]
@@ -94,12 +95,12 @@ fn push_stood_for(text: &mut String, case: &Case, image: &[u8]) -> Result<(), Al
 
 fn answer_of(alloc: Global, case: &Case, trace: &[u8]) -> Result<Answer, AllocError> {
     if case.seeded {
-        let mut array = MemArray::new();
-        let mut wide = MemArray::new();
+        let mut array = TotalledArray::with_totals(MemArray::new());
+        let mut wide = TotalledArray::with_totals(MemArray::new());
         answer_over(alloc, case, trace, &mut array, &mut wide)
     } else {
-        let mut array = scripted(alloc, case)?;
-        let mut wide = scripted(alloc, case)?;
+        let mut array = TotalledArray::new(scripted(alloc, case)?);
+        let mut wide = TotalledArray::new(scripted(alloc, case)?);
         answer_over(alloc, case, trace, &mut array, &mut wide)
     }
 }
@@ -115,7 +116,7 @@ fn scripted<const B: usize, const M: usize>(
     Ok(ScriptArray::new(script))
 }
 
-fn answer_over<A: TellsCells<64, 8>, V: TellsCells<128, 16>>(
+fn answer_over<A: TellsWear<64, 8, 6>, V: TellsWear<128, 16, 8>>(
     alloc: Global,
     case: &Case,
     trace: &[u8],
@@ -130,7 +131,7 @@ fn answer_over<A: TellsCells<64, 8>, V: TellsCells<128, 16>>(
 
 // Plays the words on the program of streams, or the one that explains, where the first one says
 // so, or else on the other.
-fn run<A: TellsCells<64, 8>, V: TellsCells<128, 16>>(
+fn run<A: TellsWear<64, 8, 6>, V: TellsWear<128, 16, 8>>(
     alloc: Global,
     case: &Case,
     array: &mut A,

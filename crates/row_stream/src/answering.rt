@@ -7,19 +7,18 @@ ghost use Rattle.row_printer.specs.Printing.{IsPrinting};
 ghost use Rattle.row_stream.specs.Answering.{backlog_of, banks_told, mark_of};
 ghost use Rattle.row_stream.specs.Serving.{MayServe, ServesOn};
 
-use crate::looking::wear_of;
 use bank_timing::clocked::Timed;
-use cell_wear::TellsCells;
 use pcm_io::Sink;
 use pcm_module::Module;
 use row_printer::{Backlog, Mark, RowPrinter};
+use wear_totals::TellsWear;
 
 /// Brings every bank to a tick, and tells, behind what became known by it, what waits in each bank then, and the tick.
 pub fn serve_query<
     const B: usize,
     const M: usize,
     const E: usize,
-    A: TellsCells<B, M>,
+    A: TellsWear<B, M, E>,
     K: Sink + Drop,
 >(pcm: &mut Module<B, M, E>, array: &mut A, tick: u64, out: &mut RowPrinter<B, K>)
     requires layout { IsLayout B M E }
@@ -43,7 +42,7 @@ pub fn serve_look<
     const B: usize,
     const M: usize,
     const E: usize,
-    A: TellsCells<B, M>,
+    A: TellsWear<B, M, E>,
     K: Sink + Drop,
 >(pcm: &mut Module<B, M, E>, array: &mut A, tick: u64, out: &mut RowPrinter<B, K>)
     requires layout { IsLayout B M E }
@@ -58,7 +57,7 @@ pub fn serve_look<
 {
     pcm.settle(array, tick, out);
     out.tells_once();
-    let wear = wear_of::<B, M, E, A>(array);
+    let wear = array.array_wear();
     out.looked(tick, wear);
     out.settled(tick);
 }

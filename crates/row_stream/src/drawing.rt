@@ -16,12 +16,12 @@ ghost use Rattle.row_stream.specs.Serving.{IsServing, told_so_far};
 
 use crate::serving::serve_event;
 use crate::stop::{Behind, behind_event, stops_behind};
-use cell_wear::TellsCells;
 use pcm_io::{Sink, WriteFault};
 use pcm_module::Module;
 use row_printer::RowPrinter;
 use trace_gen::laws::long_events_are_lawful;
 use trace_gen::{Generator, Mix};
+use wear_totals::TellsWear;
 
 /// Serves the rows that a seed draws, one after the other, or, where it is to stop at a refusal, up to the first row that is refused, and then
 /// writes what became known by them. Nothing is read meanwhile, so lines are gathered and written where they are many. Answers how the module
@@ -30,7 +30,7 @@ pub fn serve_drawn<
     const B: usize,
     const M: usize,
     const E: usize,
-    A: TellsCells<B, M>,
+    A: TellsWear<B, M, E>,
     K: Sink + Drop,
 >(
     pcm: &mut Module<B, M, E>,

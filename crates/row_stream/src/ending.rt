@@ -12,16 +12,16 @@ ghost use Rattle.row_stream.specs.Ending.{EndsShowing, IsLeft, told_along, witho
 use crate::looking::show_last;
 use crate::serving::serve_event;
 use crate::stop::Behind;
-use cell_wear::TellsCells;
 use pcm_io::Sink;
 use pcm_module::Module;
 use row_printer::RowPrinter;
 use trace_reader::{Event, EventOp};
+use wear_totals::TellsWear;
 
 /// Ends a stream behind its last row: its banks drain, or, where the power is to stay off, it is cut where that is not its last row, and no
 /// bank goes on. What became known by it is told, and where snapshots are taken,
 /// one more of what then stands.
-pub fn end<const B: usize, const M: usize, const E: usize, A: TellsCells<B, M>, K: Sink + Drop>(
+pub fn end<const B: usize, const M: usize, const E: usize, A: TellsWear<B, M, E>, K: Sink + Drop>(
     pcm: &mut Module<B, M, E>,
     array: &mut A,
     off: bool,
@@ -51,7 +51,7 @@ pub fn end<const B: usize, const M: usize, const E: usize, A: TellsCells<B, M>, 
 }
 
 // Lets the banks drain, or leaves them with the power off.
-fn leave<const B: usize, const M: usize, const E: usize, A: TellsCells<B, M>, K: Sink + Drop>(
+fn leave<const B: usize, const M: usize, const E: usize, A: TellsWear<B, M, E>, K: Sink + Drop>(
     pcm: &mut Module<B, M, E>,
     array: &mut A,
     off: bool,
@@ -83,7 +83,7 @@ fn leave<const B: usize, const M: usize, const E: usize, A: TellsCells<B, M>, K:
 }
 
 // The power is to stay off.
-fn stay_off<const B: usize, const M: usize, const E: usize, A: TellsCells<B, M>, K: Sink + Drop>(
+fn stay_off<const B: usize, const M: usize, const E: usize, A: TellsWear<B, M, E>, K: Sink + Drop>(
     pcm: &mut Module<B, M, E>,
     array: &mut A,
     behind: Behind,
@@ -117,7 +117,7 @@ fn stay_off<const B: usize, const M: usize, const E: usize, A: TellsCells<B, M>,
 }
 
 // Cuts the power at the tick that was reached.
-fn serve_cut<const B: usize, const M: usize, const E: usize, A: TellsCells<B, M>, K: Sink + Drop>(
+fn serve_cut<const B: usize, const M: usize, const E: usize, A: TellsWear<B, M, E>, K: Sink + Drop>(
     pcm: &mut Module<B, M, E>,
     array: &mut A,
     out: &mut RowPrinter<B, K>,
@@ -139,7 +139,7 @@ fn serve_cut<const B: usize, const M: usize, const E: usize, A: TellsCells<B, M>
 }
 
 // Lets the banks finish what is left to do.
-fn drain<const B: usize, const M: usize, const E: usize, A: TellsCells<B, M>, K: Sink + Drop>(
+fn drain<const B: usize, const M: usize, const E: usize, A: TellsWear<B, M, E>, K: Sink + Drop>(
     pcm: &mut Module<B, M, E>,
     array: &mut A,
     out: &mut RowPrinter<B, K>,
@@ -164,7 +164,7 @@ fn drain<const B: usize, const M: usize, const E: usize, A: TellsCells<B, M>, K:
 }
 
 // Leaves all as it is behind a power cut; the array, which is only looked at here, stays as the cut left it.
-fn stop<const B: usize, const M: usize, const E: usize, A: TellsCells<B, M>, K: Sink + Drop>(
+fn stop<const B: usize, const M: usize, const E: usize, A: TellsWear<B, M, E>, K: Sink + Drop>(
     pcm: &mut Module<B, M, E>,
     array: &A,
     out: &mut RowPrinter<B, K>,

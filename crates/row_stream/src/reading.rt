@@ -15,13 +15,13 @@ ghost use Rattle.row_stream.specs.Sourcing.{GivesNext, HasNoNext, HasStopped, Is
 
 use crate::serving::serve;
 use crate::stop::{Behind, Stop, behind_asked, stops_behind};
-use cell_wear::TellsCells;
 use pcm_io::{Sink, Source};
 use pcm_module::Module;
 use row_printer::RowPrinter;
 use std::alloc::Global;
 use trace_reader::{Kind, TraceFault};
 use trace_stream::{Asked, TraceStream};
+use wear_totals::TellsWear;
 
 // The next row: the source is asked for it only where it hasn't come whole, and once all that is known is written.
 fn next_row<const B: usize, S: Source, K: Sink + Drop>(
@@ -76,7 +76,7 @@ pub fn serve_source<
     const B: usize,
     const M: usize,
     const E: usize,
-    A: TellsCells<B, M>,
+    A: TellsWear<B, M, E>,
     S: Source,
     K: Sink + Drop,
 >(

@@ -14,17 +14,17 @@ ghost use Rattle.row_stream.specs.Serving.{MayServe, ServesOn};
 use crate::answering::{serve_look, serve_query};
 use crate::looking::show_due;
 use crate::waiting::serve_until;
-use cell_wear::TellsCells;
 use pcm_io::Sink;
 use pcm_module::Module;
 use row_printer::RowPrinter;
 use trace_reader::Event;
 use trace_stream::Asked;
+use wear_totals::TellsWear;
 
 /// Serves one row of a stream, and tells what became known by it: of an event what its bank did before it and what the event itself
 /// decides, at a power cut what all banks did, and at a settle too, behind which its tick is told, and at a query, behind which what waits in
 /// each bank is told, and its tick, at a look how worn the array is, and at a settle until, which says how far it went. An event has the next number.
-pub fn serve<const B: usize, const M: usize, const E: usize, A: TellsCells<B, M>, K: Sink + Drop>(
+pub fn serve<const B: usize, const M: usize, const E: usize, A: TellsWear<B, M, E>, K: Sink + Drop>(
     pcm: &mut Module<B, M, E>,
     array: &mut A,
     asked: &Asked<B>,
@@ -55,7 +55,7 @@ pub fn serve_event<
     const B: usize,
     const M: usize,
     const E: usize,
-    A: TellsCells<B, M>,
+    A: TellsWear<B, M, E>,
     K: Sink + Drop,
 >(pcm: &mut Module<B, M, E>, array: &mut A, event: &Event<B>, out: &mut RowPrinter<B, K>)
     requires layout { IsLayout B M E }
@@ -80,7 +80,7 @@ fn serve_settle<
     const B: usize,
     const M: usize,
     const E: usize,
-    A: TellsCells<B, M>,
+    A: TellsWear<B, M, E>,
     K: Sink + Drop,
 >(pcm: &mut Module<B, M, E>, array: &mut A, tick: u64, out: &mut RowPrinter<B, K>)
     requires layout { IsLayout B M E }

@@ -8,11 +8,11 @@ ghost use Rattle.pcm_module.specs.Telling.{rows_at};
 ghost use Rattle.row_printer.specs.Printing.{IsPrinting};
 ghost use Rattle.row_stream.specs.Serving.{MayServe, ServesOn};
 
-use cell_wear::TellsCells;
 use pcm_io::Sink;
 use pcm_module::Module;
 use row_printer::RowPrinter;
 use trace_stream::Until;
+use wear_totals::TellsWear;
 
 /// Brings every bank to the tick that was reached before, and then, as long as a row stands in a bank, to the next tick at which an
 /// action of that bank ends, at most to a tick; and tells, behind what became known by it, the tick that was reached.
@@ -20,7 +20,7 @@ pub fn serve_until<
     const B: usize,
     const M: usize,
     const E: usize,
-    A: TellsCells<B, M>,
+    A: TellsWear<B, M, E>,
     K: Sink + Drop,
 >(pcm: &mut Module<B, M, E>, array: &mut A, until: &Until, out: &mut RowPrinter<B, K>)
     requires layout { IsLayout B M E }

@@ -8,16 +8,22 @@ ghost use Rattle.program_calls.specs.Calls.{lent_sink};
 ghost use Rattle.stream_top.specs.Calls.{lent_telling, source_between};
 ghost use Rattle.stream_promise.specs.Promise.{LastSnapshotLaw, PromisesByRows};
 
-use cell_wear::TellsCells;
 use moment_laws::no_moment_loses_bytes;
 use pcm_io::{Sink, Source};
 use settle_laws::streams_settle_for_good;
 use std::alloc::Global;
 use stream_top::stream_run;
+use wear_totals::TellsWear;
 
 /// Runs the program of streams on the words behind its name, and answers its status and the output, as `stream_run` does: each promise is a
 /// field of `PromisesByRows`.
-pub fn run_stream<A: TellsCells<64, 8>, V: TellsCells<128, 16>, S: Source, K: Sink + Drop, F: Sink>(
+pub fn run_stream<
+    A: TellsWear<64, 8, 6>,
+    V: TellsWear<128, 16, 8>,
+    S: Source,
+    K: Sink + Drop,
+    F: Sink,
+>(
     alloc: Global,
     words: &[String],
     array: &mut A,

@@ -1,8 +1,9 @@
 // The program's one call.
-ghost use Rattle.std.specs.Prelude.{◌≡◌, false, map, string_bytes, Ok, IfOk, IfErr};
+ghost use Rattle.std.specs.Prelude.{◌≡◌, ℕ, true, false, map, string_bytes, Ok, IfOk, IfErr};
 ghost use Rattle.stream_words.specs.Jobs.{IsStreamJob, stream_job_of};
 ghost use Rattle.stream_words.specs.Options.{tells_energy};
 ghost use Rattle.stream_words.specs.declared.job.StreamJob.{StreamJob as Asked};
+ghost use Rattle.stream_words.specs.declared.job.StreamPrint.TheVariants.{Snapshots};
 ghost use Rattle.program_calls.specs.Calls.{lent_sink, sink_change};
 ghost use Rattle.stream_top.specs.Calls.{lent_telling, source_between};
 ghost use Rattle.stream_top.specs.Promises.{EndsCall, IsRefused, IsStatusOf, IsToldOf, KeepsPromises};
@@ -10,11 +11,11 @@ ghost use Rattle.stream_top.specs.Promises.{EndsCall, IsRefused, IsStatusOf, IsT
 use crate::done::Done;
 use crate::fault::{Fault, tell};
 use crate::serving::stream;
-use cell_wear::TellsCells;
 use command_line::{LineSize, Refusal};
 use pcm_io::{Sink, Source};
 use std::alloc::Global;
-use stream_words::{StreamJob, read_stream_job};
+use stream_words::{StreamJob, StreamPrint, read_stream_job};
+use wear_totals::TellsWear;
 
 // The status of a fault, after its line was written; that of a fault of writing where the line couldn't be.
 fn give_up<F: Sink>(fault: Fault, err: &mut F) -> u8
@@ -37,7 +38,7 @@ fn say<F: Sink>(ended: Result<Done, Fault>, err: &mut F) -> u8
 }
 
 // Serves a stream on the array of its lines; the other one stays as it is.
-fn stream_on<A: TellsCells<64, 8>, V: TellsCells<128, 16>, S: Source, K: Sink + Drop>(
+fn stream_on<A: TellsWear<64, 8, 6>, V: TellsWear<128, 16, 8>, S: Source, K: Sink + Drop>(
     alloc: Global,
     job: &StreamJob,
     array: &mut A,
@@ -85,8 +86,34 @@ pub fn asks_energy(alloc: Global, words: &[String]) -> bool
     }
 }
 
+// Whether snapshots are taken.
+fn takes_snapshots(print: StreamPrint) -> bool
+    ensures { result ≡ true → (every : ℕ) × (print ≡ Snapshots every) }
+{
+    match print {
+        StreamPrint::Snapshots(_) => true,
+        StreamPrint::Rows(_)
+        | StreamPrint::Summary
+        | StreamPrint::Wear
+        | StreamPrint::Lines
+        | StreamPrint::Energy
+        | StreamPrint::Image => false,
+    }
+}
+
+/// Whether a stream of these words takes snapshots, so that its array is to keep totals: `stream_run` itself needs none kept.
+pub fn asks_totals(alloc: Global, words: &[String]) -> bool
+    ensures { result ≡ true → (job : Asked) × (stream_job_of (map string_bytes words.now) ≡ Ok job)
+        × (every : ℕ) × (job.print ≡ Snapshots every) }
+{
+    match read_stream_job(alloc, words) {
+        Ok(job) => takes_snapshots(job.print),
+        Err(_) => false,
+    }
+}
+
 // Does what the words ask for.
-fn work<A: TellsCells<64, 8>, V: TellsCells<128, 16>, S: Source, K: Sink + Drop>(
+fn work<A: TellsWear<64, 8, 6>, V: TellsWear<128, 16, 8>, S: Source, K: Sink + Drop>(
     alloc: Global,
     words: &[String],
     array: &mut A,
@@ -112,7 +139,13 @@ fn work<A: TellsCells<64, 8>, V: TellsCells<128, 16>, S: Source, K: Sink + Drop>
 /// to a refused row where it was to stop there, 1 to its end and some row was refused, lost or left in a queue, 2 the words ask for nothing, 3 a row has a fault, 4 reading failed, 5 writing failed,
 /// 6 there are too many rows, 7 memory ran out. It is served on the array of its lines, which is powered up first: `array` for lines of 64
 /// bytes, `wide` for lines of 128.
-pub fn stream_run<A: TellsCells<64, 8>, V: TellsCells<128, 16>, S: Source, K: Sink + Drop, F: Sink>(
+pub fn stream_run<
+    A: TellsWear<64, 8, 6>,
+    V: TellsWear<128, 16, 8>,
+    S: Source,
+    K: Sink + Drop,
+    F: Sink,
+>(
     alloc: Global,
     words: &[String],
     array: &mut A,

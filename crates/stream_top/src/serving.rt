@@ -22,7 +22,6 @@ use crate::done::Done;
 use crate::fault::Fault;
 use crate::laws::ended_streams_are_kept;
 use crate::memory::take_memory;
-use cell_wear::TellsCells;
 use command_line::Input;
 use module_shape::RawShape;
 use pcm_io::{Sink, Source};
@@ -33,6 +32,7 @@ use run_text::TEXT_ROOM;
 use std::alloc::Global;
 use stream_words::{End, StreamJob, StreamPrint, Tell, Until};
 use trace_stream::StreamFault;
+use wear_totals::TellsWear;
 
 // The fault of the program that a stop of a stream is.
 fn fault_of(stop: Stop) -> Fault
@@ -131,7 +131,7 @@ fn serve_rows<
     const B: usize,
     const M: usize,
     const E: usize,
-    A: TellsCells<B, M>,
+    A: TellsWear<B, M, E>,
     S: Source,
     K: Sink + Drop,
 >(
@@ -192,7 +192,7 @@ fn play<
     const B: usize,
     const M: usize,
     const E: usize,
-    A: TellsCells<B, M>,
+    A: TellsWear<B, M, E>,
     S: Source,
     K: Sink + Drop,
 >(
@@ -264,7 +264,7 @@ pub fn stream<
     const B: usize,
     const M: usize,
     const E: usize,
-    A: TellsCells<B, M>,
+    A: TellsWear<B, M, E>,
     S: Source,
     K: Sink + Drop,
 >(

@@ -12,7 +12,7 @@ returns-clause-serves g c = record {
       let was = c.settle.new.results.told in
       let wear : ArrayWear = wear_of g.row.E (g.A.CellArray.state c.settle.new.array) in
       let looked : c.looked.new.self.told ≡ was ++ Looked c.args.tick wear ∷ [] =
-      c.looked.ensures.told ∙ ap (λ (w : ArrayWear). was ++ Looked c.args.tick w ∷ []) c.wear_of-wear.ensures in
+      c.looked.ensures.told ∙ ap (λ (w : ArrayWear). was ++ Looked c.args.tick w ∷ []) c.array_wear-wear.ensures in
       let order = banks-order raw seed before c.args.pcm.now (g.A.CellArray.state c.args.array.now) c.args.out.now.rows c.args.out.now.told c.args.out.now.prints c.args.out.now.snapshots had g.K.Sink.written g.K.Sink.faults c.args.out.now c.settle.new.results c.tells_once.ensures e.order in
       serving-look raw seed before c.args.pcm.now (g.A.CellArray.state c.args.array.now) c.args.out.now.rows c.args.out.now.told c.args.out.now.prints c.args.out.now.snapshots had c.args.tick
       c.settle.new.self (g.A.CellArray.state c.settle.new.array) c.settled.new.self.rows was c.settled.new.self.told c.settled.new.self.prints c.settled.new.self.snapshots

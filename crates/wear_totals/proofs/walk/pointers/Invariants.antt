@@ -1,6 +1,6 @@
 use Rattle.std.proofs.Common.{◌≡◌, ◌*◌, ◌≤◌}
-use Rattle.row_stream.specs.Looking.{pointers_of_first}
-use Rattle.row_stream.proofs.looking.pointers.Given as goal
+use Rattle.wear_totals.specs.Wear.{pointers_of_first}
+use Rattle.wear_totals.proofs.walk.pointers.Given as goal
 
 -- the lines so far are summed
 abbrev pub invariant-loop-line : goal.invariant-loop-line

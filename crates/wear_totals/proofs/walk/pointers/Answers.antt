@@ -1,8 +1,8 @@
 use Rattle.std.proofs.Common.{sym, ap, arith, ◌∙◌}
 use Rattle.cell_rows.specs.Rows.{cell}
 use Rattle.ecp_line.specs.Layout.{active}
-use Rattle.row_stream.proofs.Standing.{byte-small, pointers-none, pointers-on}
-use Rattle.row_stream.proofs.looking.pointers.Goals as goal
+use Rattle.wear_totals.proofs.Sums.{byte-small, pointers-none, pointers-on}
+use Rattle.wear_totals.proofs.walk.pointers.Goals as goal
 
 pub loop-line-init : goal.loop-line-init
 loop-line-init g c = (sym (pointers-none g.row.E (g.A.CellArray.state c.args.array.now)), omega arith)

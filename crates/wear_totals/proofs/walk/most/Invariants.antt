@@ -1,6 +1,6 @@
 use Rattle.std.proofs.Common.{◌≡◌}
 use Rattle.cell_wear.specs.Told.{most}
-use Rattle.row_stream.proofs.looking.most.Given as goal
+use Rattle.wear_totals.proofs.walk.most.Given as goal
 
 -- the lines so far are seen
 abbrev pub invariant-loop-line : goal.invariant-loop-line

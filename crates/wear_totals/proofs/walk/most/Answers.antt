@@ -1,7 +1,7 @@
 use Rattle.std.proofs.Common.{sym}
 use Rattle.cell_wear.proofs.Most.{most-zero}
-use Rattle.row_stream.proofs.Standing.{most-on}
-use Rattle.row_stream.proofs.looking.most.Goals as goal
+use Rattle.wear_totals.proofs.Sums.{most-on}
+use Rattle.wear_totals.proofs.walk.most.Goals as goal
 
 pub loop-line-init : goal.loop-line-init
 loop-line-init g c = sym (most-zero _)
