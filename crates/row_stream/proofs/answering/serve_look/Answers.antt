@@ -1,5 +1,5 @@
-use Rattle.std.proofs.Common.{◌≡◌, [], ◌∷◌, ◌++◌, sym, ap, ◌∙◌, List}
-use Rattle.row_printer.specs.{declared.told.ArrayWear.ArrayWear, declared.told.Told.Told, declared.told.Told.TheVariants.{Looked, Settled}}
+use Rattle.std.proofs.Common.{◌≡◌, [], ◌∷◌, ◌++◌, ap, ◌∙◌}
+use Rattle.row_printer.specs.{declared.told.ArrayWear.ArrayWear, declared.told.Told.TheVariants.{Looked, Settled}}
 use Rattle.row_stream.{specs.Looking.wear_of, proofs.Backlogs.lines-both, proofs.Going.{banks-order, serving-look}}
 use Rattle.row_stream.proofs.answering.serve_look.Goals as goal
 
