@@ -1,7 +1,13 @@
--- How far what a bank kept has been read back.
+-- What is read back of what a bank kept, and how far it has been.
 use Rattle.std.specs.Prelude.{ℕ, zero, suc, List, [], ◌∷◌, take, replicate, false}
 use Rattle.region_regs.specs.Region.{first_region}
 use Rattle.power_recovery.specs.{Events.with_regions, Kept.KeptState, Restoring.stripped_kept}
+use Rattle.bank_core.specs.Stepping.{with_kept}
+use Rattle.clock_laws.specs.State.{ClockState}
+
+-- a bank with its clock, which keeps this
+abbrev pub keeping : {n m e : ℕ} → KeptState n → ClockState n m e → ClockState n m e
+keeping kept clock = record clock { bank = with_kept clock.bank kept }
 
 -- the first so many of one list, and the rest of another
 abbrev pub merged : {A : Type 0} → ℕ → List A → List A → List A

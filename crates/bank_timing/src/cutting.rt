@@ -7,9 +7,11 @@ ghost use Rattle.bank_model.specs.Timing.{TimedEvent, is_doing};
 ghost use Rattle.bank_invariant.specs.Holds.{Holds};
 ghost use Rattle.bank_model.specs.Changes.{all_controls};
 ghost use Rattle.bank_model.specs.Touching.{Touches};
-ghost use Rattle.power_recovery.specs.Kept.{IsKept};
+ghost use Rattle.bank_shape.specs.declared.Home.TheVariants.{Array, Guarded};
+ghost use Rattle.power_recovery.specs.Kept.{KeptState};
+ghost use Rattle.power_recovery.specs.Restoring.{stripped_kept};
 ghost use Rattle.reg_lines.specs.Keeping.{broken_off};
-ghost use Rattle.register_laws.specs.Control.{Control};
+ghost use Rattle.register_laws.specs.Recovering.{IsReadable};
 ghost use Rattle.clock_laws.specs.Leads.{Leads};
 ghost use Rattle.clock_laws.specs.Arriving.{cancels_for};
 ghost use Rattle.clock_laws.specs.Actions.{ReachesBy};
@@ -17,6 +19,7 @@ ghost use Rattle.bank_timing.specs.Cancelling.{cancel_by, cancelled_by};
 ghost use Rattle.clock_laws.specs.Cutting.{cut};
 ghost use Rattle.bank_timing.specs.Extending.{Extends, GoesOn, IsGoing};
 ghost use Rattle.bank_timing.specs.Losing.{LosesOpen, lost_recorded, with_lost};
+ghost use Rattle.bank_timing.specs.Reading.{keeping};
 
 use crate::clocked::Timed;
 use crate::recovery::recover;
@@ -50,15 +53,20 @@ impl<const B: usize, const M: usize, const E: usize> Timed<B, M, E> {
         self.read_back(array);
     }
 
-    // What a bank kept is read back from its control lines, where its registers are kept there.
+    // What a bank kept is read back from its control lines, where its registers are kept there: whoever wrote them, and whatever
+    // registers, counters, spares and mark it kept before, it then keeps what they and the change hold.
     fn read_back<A: CellArray<B, M>>(&mut self, array: &mut A)
         requires idle { self.old.bank.running ≡ None }
         requires served { self.old.bank.waiting ≡ [] }
         requires taken { self.old.bank.lost ≡ [] }
-        requires stopped { self.old.regs.writer ≡ None }
-        requires in_range { IsKept self.old.bank.kept }
-        requires control { Control self.old.bank.kept self.old.regs (A.state array.old) }
-        ensures clock { self.new ≡ self.old }
+        requires rests { self.old.action ≡ None }
+        requires readable { self.old.bank.kept.shape.home ≡ Array → (kept : KeptState B)
+            × IsReadable kept (stripped_kept self.old.bank.kept) self.old.regs
+            (A.state array.old) }
+        ensures guarded { self.old.bank.kept.shape.home ≡ Guarded → self.new ≡ self.old }
+        ensures back { self.old.bank.kept.shape.home ≡ Array → (kept : KeptState B)
+            → IsReadable kept (stripped_kept self.old.bank.kept) self.old.regs
+            (A.state array.old) → self.new ≡ keeping kept self.old }
         ensures touches { Touches self.old.tick (all_controls self.old.bank.kept.shape) None false
             (A.state array.old) (A.state array.new) }
     {

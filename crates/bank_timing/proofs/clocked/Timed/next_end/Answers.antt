@@ -1,4 +1,4 @@
-use Rattle.std.proofs.Common.{arith, refl, sym, ◌∙◌}
+use Rattle.std.proofs.Common.{sym, ◌∙◌}
 use Rattle.clock_laws.specs.State.{ClockState}
 use Rattle.bank_timing.proofs.{Acting.begun-before, Running.small-first, Sizes.timed_fits}
 use Rattle.bank_timing.proofs.clocked.Timed.next_end.Goals as goal

@@ -6,7 +6,7 @@ use Rattle.bank_invariant.specs.{Holds.Holds, Steps.cut_off}
 use Rattle.reg_lines.specs.{Keeping.broken_off, Regs.AreHeld}
 use Rattle.bank_timing.specs.Losing.{bank_with_lost, lost_recorded}
 use Rattle.bank_timing.proofs.Losses.{meets, cut-ready, cut-change-ready, cut-open, cut-unset, cut-control, broken-control, cut-extends, cut-others, CutExtends, rows_of}
-use Rattle.bank_timing.proofs.{Sizes.{bank_fits, regs_fits, timed_fits}, Views.clock_of, clocked.Timed.power_cut.Given.Over}
+use Rattle.bank_timing.proofs.{Recovers.{IsHeld, held-readable, same-back}, Sizes.{bank_fits, regs_fits, timed_fits}, Views.clock_of, clocked.Timed.power_cut.Given.Over}
 use Rattle.bank_timing.proofs.clocked.Timed.power_cut.Goals.{After-tears_change-change, After-lose, After-read_back}
 use Rattle.bank_timing.proofs.clocked.Timed.power_cut.Goals as goal
 
@@ -32,14 +32,28 @@ pub lose-requires : goal.lose-requires
 lose-requires g c = (timed_fits g.row.B g.row.M g.row.E c.self.invariant.layout, rw c.cut.ensures.bank (cut-open (meets c.self.view_is c.self.invariant.fit c.requires.going.led c.requires.going.unset)))
 
 -- the control lines hold what the bank keeps, also behind the cut of the change
+stands : (g : Over) (c : After-lose g) → IsHeld {n = g.row.B} {m = g.row.M} {e = g.row.E} c.lose.new.self (g.A.CellArray.state c.cut-2.new.array)
+stands g c =
+    let work : c.tears_work-work.result ≡ (is_doing Iterating c.self.inside.action && not (is_some c.self.inside.regs.change)) = rw (c.is_some-stands.ensures, c.change.ensures) at c.tears_work-work.ensures in
+    let change : c.tears_change-change.result ≡ (is_doing Iterating c.self.inside.action && is_some c.self.inside.regs.change) = rw (c.is_some-stands.ensures, c.change.ensures) at c.tears_change-change.ensures in
+    let m = meets c.self.view_is c.self.invariant.fit c.requires.going.led c.requires.going.unset in
+    let held : AreHeld (broken_off c.self.inside.regs) (g.A.CellArray.state c.cut-2.new.array) = rw c.cut-2.ensures.regs at c.cut-2.ensures.held in
+    rw (c.lose.ensures.clock, c.cut.ensures.bank, c.cut-2.ensures.regs)
+    (record {
+      idle = refl;
+      in_range = m.led.1.holds.kept;
+      control = broken-control m c.tears_work-work.result work c.cut.ensures.touches c.tears_change-change.result change c.cut-2.ensures.touches held;
+    })
+
 pub read_back-requires : goal.read_back-requires
 read_back-requires g c =
-    let m = meets c.self.view_is c.self.invariant.fit c.requires.going.led c.requires.going.unset in
-    let was = (goal.at.read_back-requires g c).After-tears_change-change in
-    let held : AreHeld (broken_off c.self.inside.regs) (g.A.CellArray.state c.cut-2.new.array) = rw c.cut-2.ensures.regs at c.cut-2.ensures.held in
-    rw (c.lose.ensures.clock, c.cut.ensures.bank, c.cut-2.ensures.regs) (
+    let is = stands g (goal.at.read_back-requires g c).After-lose in
+    let readable = held-readable c.lose.new.self (g.A.CellArray.state c.cut-2.new.array) is in (
       timed_fits g.row.B g.row.M g.row.E c.self.invariant.layout,
-      (refl, (refl, (refl, (refl, (m.led.1.holds.kept, broken-control m c.tears_work-work.result (work-is g was) c.cut.ensures.touches c.tears_change-change.result (change-is g was) c.cut-2.ensures.touches held))))),
+      (
+        rw (c.lose.ensures.clock, c.cut.ensures.bank) refl,
+        (rw (c.lose.ensures.clock, c.cut.ensures.bank) refl, (rw c.lose.ensures.clock refl, (rw c.lose.ensures.clock refl, (λ home. (c.lose.new.self.bank.kept, readable home))))),
+      ),
     )
 
 -- a bank of which a history holds is one of which the history with the cut holds, once its lost reads are taken
@@ -59,7 +73,8 @@ returns-clause-extends g c =
     let clock : ClockState g.row.B g.row.M g.row.E = clock_of c.self.inside in
     let was = (goal.at.returns-clause-extends g c).After-tears_change-change in
     let held : AreHeld (broken_off c.self.inside.regs) (g.A.CellArray.state c.cut-2.new.array) = rw c.cut-2.ensures.regs at c.cut-2.ensures.held in
-    rw (c.lose.ensures.results, c.read_back.ensures.clock, c.lose.ensures.clock, c.cut.ensures.bank, c.cut-2.ensures.regs)
+    let back = same-back c.lose.new.self c.read_back.new.self (g.A.CellArray.state c.cut-2.new.array) (stands g (goal.at.returns-clause-extends g c).After-lose) c.read_back.ensures.guarded c.read_back.ensures.back in
+    rw (c.lose.ensures.results, back, c.lose.ensures.clock, c.cut.ensures.bank, c.cut-2.ensures.regs)
     (subst (λ (now : ClockState g.row.B g.row.M g.row.E). CutExtends now (after_cut clock (bank_with_lost [] (cut_off clock.bank))) (g.A.CellArray.state c.args.array.now) (g.A.CellArray.state c.read_back.new.array)
     (g.R.Outcomes.table c.args.results.now) (lost_recorded clock.tick (rows_of clock.bank.waiting) (g.R.Outcomes.table c.args.results.now))) c.self.view_is
     (cut-extends (meets c.self.view_is c.self.invariant.fit c.requires.going.led c.requires.going.unset) c.tears_work-work.result (work-is g was) c.cut.ensures.touches c.tears_change-change.result (change-is g was) c.cut-2.ensures.touches held
@@ -78,10 +93,14 @@ pub invariant_of-self : goal.invariant_of-self
 invariant_of-self g c = grind arith
 
 pub returns-clause-kept : goal.returns-clause-kept
-returns-clause-kept g c = rw (c.read_back.ensures.clock, c.lose.ensures.clock, c.cut.ensures.bank, ← c.self.view_is) refl
+returns-clause-kept g c =
+    let back = same-back c.lose.new.self c.read_back.new.self (g.A.CellArray.state c.cut-2.new.array) (stands g (goal.at.returns-clause-kept g c).After-lose) c.read_back.ensures.guarded c.read_back.ensures.back in
+    rw (back, c.lose.ensures.clock, c.cut.ensures.bank, ← c.self.view_is) refl
 
 pub returns-clause-regs : goal.returns-clause-regs
-returns-clause-regs g c = rw (c.read_back.ensures.clock, c.lose.ensures.clock, c.cut-2.ensures.regs, ← c.self.view_is) refl
+returns-clause-regs g c =
+    let back = same-back c.lose.new.self c.read_back.new.self (g.A.CellArray.state c.cut-2.new.array) (stands g (goal.at.returns-clause-regs g c).After-lose) c.read_back.ensures.guarded c.read_back.ensures.back in
+    rw (back, c.lose.ensures.clock, c.cut-2.ensures.regs, ← c.self.view_is) refl
 
 pub returns-clause-goes_on : goal.returns-clause-goes_on
 returns-clause-goes_on g c = c.lose.ensures.goes_on
@@ -91,7 +110,8 @@ returns-clause-ran g c =
     let m = meets c.self.view_is c.self.invariant.fit c.requires.going.led c.requires.going.unset in
     let was = (goal.at.returns-clause-ran g c).After-tears_change-change in
     let held : AreHeld (broken_off c.self.inside.regs) (g.A.CellArray.state c.cut-2.new.array) = rw c.cut-2.ensures.regs at c.cut-2.ensures.held in
-    rw (c.lose.ensures.results, c.read_back.ensures.clock, c.lose.ensures.clock, c.cut.ensures.bank, ← c.self.view_is)
+    let back = same-back c.lose.new.self c.read_back.new.self (g.A.CellArray.state c.cut-2.new.array) (stands g (goal.at.returns-clause-ran g c).After-lose) c.read_back.ensures.guarded c.read_back.ensures.back in
+    rw (c.lose.ensures.results, back, c.lose.ensures.clock, c.cut.ensures.bank, ← c.self.view_is)
     (record {
       now = refl;
       drained = refl;
