@@ -1,5 +1,5 @@
 -- The rows of which a bank tells were asked of it.
-use Rattle.std.proofs.Common.{◌≡◌, ℕ, ◌<◌, ◌==◌, ◌||◌, ◌&&◌, Bool, true, false, cond, List, [], ◌∷◌, map, Option, Some, None, refl, subst, inl, inr}
+use Rattle.std.proofs.Common.{◌≡◌, ℕ, ◌<◌, ◌==◌, ◌||◌, ◌&&◌, Bool, true, false, cond, List, [], ◌∷◌, map, Option, Some, None, refl, sym, subst, inl, inr}
 use Rattle.std.specs.Prelude.{filter, IsSomeAnd, slice_get}
 use Rattle.cell_rows.specs.Device.{ArrayState}
 use Rattle.masked_bytes.specs.Entries.{has_row}
@@ -9,7 +9,7 @@ use Rattle.bank_model.specs.Timing.{TimedEvent}
 use Rattle.clock_laws.specs.{Standing.has_waiting, State.ClockState}
 use Rattle.module_laws.specs.Asking.{Asked, asked_in, asked_of}
 use Rattle.right_runs.specs.Banks.{bank_of_line, line_in_bank}
-use Rattle.pcm_module.specs.{Replaying.{Replays, ReplaysIn, asked_in_bank}, State.ModuleState, Telling.{has_standing, comes_to, is_asked_of, rows_at, rows_taking}}
+use Rattle.pcm_module.specs.{Replaying.{Replays, ReplaysIn, asked_in_bank}, State.ModuleState, Telling.{has_standing, comes_to, is_asked_of, rows_at}}
 use Rattle.pcm_module.proofs.{Moving.standing_named, Naming.{is_numbered, names}, TakenRows.bank_there}
 
 either : (a b c : Bool) → (a ≡ true → c ≡ true) → (b ≡ true → c ≡ true) → (a || b) ≡ true → c ≡ true
@@ -73,9 +73,11 @@ module _ {n m e : ℕ} (h : ℕ → List (TimedEvent n m)) (asked : List (Asked 
           (λ waits. standing_named (h bank) clock array there.leads (asked_in_bank module_ bank asked) there.arrived row (inr waits))
           (subst (λ (c : ClockState n m e). has_standing c.bank row ≡ true) (bank_there module_ bank clock is) stands))
 
-  -- so was one that is a bank's with a row that is taken, of those that were asked with it
-  pub taking_asked : (a : Asked n) (row : ℕ) → rows_taking module_ a.row a.asks bank row ≡ true → is_asked_of (bank_of_line module_.shape module_.seed) bank (a ∷ asked) row ≡ true
-  taking_asked a row is =
+  -- so was that, or the row that is taken, where that one comes to the bank, of those that were asked with it
+  pub taking_asked : (a : Asked n) (row : ℕ) → comes_to (bank_of_line module_.shape module_.seed) bank a.asks ≡ true → (rows_at module_ bank row || a.row == row) ≡ true
+      → is_asked_of (bank_of_line module_.shape module_.seed) bank (a ∷ asked) row ≡ true
+  taking_asked a row comes is =
       let own : Bool = comes_to (bank_of_line module_.shape module_.seed) bank a.asks && a.row == row in
       let rest : Bool = is_asked_of (bank_of_line module_.shape module_.seed) bank asked row in
-      either (rows_at module_ bank row) own (own || rest) (λ stands. in_rest own rest (standing_asked row stands)) (in_first own rest) is
+      either (rows_at module_ bank row) (a.row == row) (own || rest) (λ stands. in_rest own rest (standing_asked row stands))
+      (λ same. in_first own rest (subst (λ (b : Bool). (b && a.row == row) ≡ true) (sym comes) same)) is

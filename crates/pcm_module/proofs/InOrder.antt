@@ -1,17 +1,16 @@
--- That outcomes are told bank by bank.
-use Rattle.std.proofs.Common.{◌≡◌, ℕ, zero, suc, ◌+◌, ◌<◌, ◌==◌, ◌&&◌, Bool, true, false, List, Some, refl, sym, ap, subst, ◌∙◌, inl, inr, arith}
-use Rattle.std.{specs.Prelude.slice_get, proofs.lemmas.Bool.{cases_eq, eqb-false}}
+-- Which banks tell outcomes, and in which order.
+use Rattle.std.proofs.Common.{◌≡◌, ℕ, suc, ◌+◌, ◌==◌, Bool, false, List, Some, sym, ap, subst, ◌∙◌, arith}
+use Rattle.std.{specs.Prelude.slice_get, proofs.lemmas.Bool.eqb-false}
 use Rattle.masked_bytes.{specs.Entries.has_row, proofs.Truth.{neither_first, neither_second}}
 use Rattle.cell_rows.specs.Device.{ArrayState}
 use Rattle.result_rows.specs.{Table.{HasRow, with_outcome}, declared.Outcome.Outcome}
-use Rattle.row_rules.specs.declared.Asks.{Asks}
 use Rattle.bank_model.specs.Timing.{TimedEvent}
 use Rattle.clock_laws.specs.{Leads.Leads, Standing.has_waiting, State.ClockState}
 use Rattle.module_laws.specs.Asking.{Asked}
 use Rattle.bank_timing.specs.Extending.{LeavesOthers, LeavesOthersThan, outcome_in}
 use Rattle.right_runs.specs.Banks.{bank_of_line}
-use Rattle.pcm_module.specs.{State.ModuleState, Stepping.IsStep, Telling.{TellsOf, TellsByBanks, TellsInOrder, comes_to, has_standing, rows_at, rows_taking}}
-use Rattle.pcm_module.proofs.{AsIf.other_there, Moving.left_alone, TakenRows.bank_there}
+use Rattle.pcm_module.{specs.State.ModuleState, specs.Stepping.IsStep, specs.Telling.{TellsOf, TellsByBanks, has_standing, rows_at, rows_taking}, proofs.AsIf.other_there}
+use Rattle.pcm_module.proofs.{Moving.left_alone, TakenRows.bank_there}
 
 -- a step that tells a bank's rows, whatever row arrives with it, leaves the others
 pub step_leaves : {n m e : ℕ} (xs : List (TimedEvent n m)) (clock next : ClockState n m e) (before after : ArrayState n m) (results recorded : List (Outcome n)) (a : ℕ → Asked n)
@@ -34,45 +33,28 @@ module _ {n m e : ℕ} {R : Type 0} (goes_on : R → R → Type 0) (table : R �
   next_bank rows bank next first one two is so_far tells = let e : next ≡ suc bank = omega (arith, is) in rw e (one, so_far, tells)
 
   -- a bank that leaves other rows tells of its own
-  pub of_bank : (rows : ℕ → Bool) (bank : ℕ) (clock : ClockState n m e) (one two : R) → ((row : ℕ) → rows row ≡ false → rows_at old bank row ≡ false)
-      → slice_get old.banks bank ≡ Some clock → goes_on one two → LeavesOthers clock.bank (table one) (table two) → TellsOf goes_on table rows one two
-  of_bank rows bank clock one two within is on leaves = record {
+  pub of_bank : (bank : ℕ) (clock : ClockState n m e) (one two : R) → slice_get old.banks bank ≡ Some clock → goes_on one two → LeavesOthers clock.bank (table one) (table two)
+      → TellsOf goes_on table (rows_at old bank) one two
+  of_bank bank clock one two is on leaves = record {
     on = on;
     others = λ row has none.
-        let off : has_standing clock.bank row ≡ false = subst (λ (c : ClockState n m e). has_standing c.bank row ≡ false) (bank_there old bank clock is) (within row none) in
+        let off : has_standing clock.bank row ≡ false = subst (λ (c : ClockState n m e). has_standing c.bank row ≡ false) (bank_there old bank clock is) none in
         leaves row has (neither_first (has_row clock.bank.kept.entries row) (has_waiting clock.bank.waiting row) off) (neither_second (has_row clock.bank.kept.entries row) (has_waiting clock.bank.waiting row) off);
   }
 
-  -- one bank alone tells
-  pub one_bank : ((one : R) → goes_on one one) → (rows : ℕ → ℕ → Bool) (bank banks : ℕ) (one two : R) → bank < banks
-      → TellsOf goes_on table (rows bank) one two → TellsByBanks goes_on table rows banks one two
-  one_bank stands rows bank zero one two below tells = absurd (omega (arith, below))
-  one_bank stands rows bank (suc banks) one two below tells = elim (cases_eq banks bank) [
-    | inl same ↦ (one, none banks one, subst (λ (k : ℕ). TellsOf goes_on table (rows k) one two) (sym same) tells)
-    | inr off ↦ (two, one_bank stands rows bank banks one two (omega (arith, below, off)) tells, record { on = stands two; others = λ row has no. refl })
-  ]
-    where
-      none : (banks : ℕ) (one : R) → TellsByBanks goes_on table rows banks one one
-      none zero one = refl
-      none (suc banks) one = (one, none banks one, record { on = stands one; others = λ row has no. refl })
-
-  -- so does the bank to which a row comes
-  pub in_order : ((one : R) → goes_on one one) → (bank row : ℕ) (asks : Asks n) (clock : ClockState n m e) (one two : R) → slice_get old.banks bank ≡ Some clock → bank < old.shape.banks
-      → comes_to (bank_of_line old.shape old.seed) bank asks ≡ true → goes_on one two → LeavesOthersThan row clock.bank (table one) (table two)
-      → TellsInOrder goes_on table (rows_taking old row asks) old.shape.banks row one two
-  in_order stands bank row asks clock one two is there own on leaves = (
-    two,
-    one_bank stands (rows_taking old row asks) bank old.shape.banks one two there
-        (record {
-          on = on;
-          others = λ other has none.
-              let off = subst (λ (c : ClockState n m e). has_standing c.bank other ≡ false) (bank_there old bank clock is) (neither_first (rows_at old bank other) _ none) in
-              let apart : (row == other) ≡ false = subst (λ b. (b && row == other) ≡ false) own (neither_second (rows_at old bank other) _ none) in
-              leaves other has (λ same. eqb-false row other apart (sym same))
-              (neither_first (has_row clock.bank.kept.entries other) (has_waiting clock.bank.waiting other) off) (neither_second (has_row clock.bank.kept.entries other) (has_waiting clock.bank.waiting other) off);
-        }),
-    record { on = stands two; others = λ other has none. refl },
-  )
+  -- so does the bank of a line to which a row comes, and of that row
+  pub of_taking : (bank row line : ℕ) (clock : ClockState n m e) (one two : R) → slice_get old.banks bank ≡ Some clock → bank ≡ bank_of_line old.shape old.seed line
+      → goes_on one two → LeavesOthersThan row clock.bank (table one) (table two) → TellsOf goes_on table (rows_taking old row line) one two
+  of_taking bank row line clock one two is home on leaves = record {
+    on = on;
+    others = λ other has none.
+        let stood : rows_at old (bank_of_line old.shape old.seed line) other ≡ false = neither_first (rows_at old (bank_of_line old.shape old.seed line) other) (row == other) none in
+        let apart : (row == other) ≡ false = neither_second (rows_at old (bank_of_line old.shape old.seed line) other) (row == other) none in
+        let there : rows_at old bank other ≡ false = subst (λ (k : ℕ). rows_at old k other ≡ false) (sym home) stood in
+        let off : has_standing clock.bank other ≡ false = subst (λ (c : ClockState n m e). has_standing c.bank other ≡ false) (bank_there old bank clock is) there in
+        leaves other has (λ same. eqb-false row other apart (sym same))
+        (neither_first (has_row clock.bank.kept.entries other) (has_waiting clock.bank.waiting other) off) (neither_second (has_row clock.bank.kept.entries other) (has_waiting clock.bank.waiting other) off);
+  }
 
 -- a row that is told alone is told behind
 pub tells_own : {n : ℕ} {R : Type 0} (goes_on : R → R → Type 0) (table : R → List (Outcome n)) (row : ℕ) (o : Outcome n) (one two : R) → HasRow (table one) row

@@ -16,9 +16,8 @@ use Rattle.module_shape.specs.{Addresses.{module_of, lines_of, bank_shape}, Limi
 use Rattle.clock_laws.specs.{Leads.Leads, State.ClockState}
 use Rattle.bank_timing.specs.Extending.{IsOpen, LeavesOthersThan, last_tick}
 use Rattle.right_runs.specs.Banks.{pacing_in, bank_of_line, line_in_bank}
-use Rattle.pcm_module.specs.{Replaying.{BankReplays, IsReplayed, asked_in_bank}, Shaped.{IsModule, IsBankOf}, State.ModuleState, Stepping.{MayCome, MayArrive, IsAt, IsStep}}
-use Rattle.pcm_module.{specs.Taking.Takes, specs.Telling.{TellsInOrder, rows_taking}, proofs.Banks.{from_get, at_get}, proofs.InOrder.{in_order, step_leaves_but}}
-use Rattle.pcm_module.proofs.TakenRows.{takes_one}
+use Rattle.pcm_module.specs.{Replaying.{BankReplays, IsReplayed, asked_in_bank}, Shaped.{IsModule, IsBankOf}, State.ModuleState, Stepping.{MayArrive, IsAt, IsStep}, Taking.Takes}
+use Rattle.pcm_module.{specs.Telling.TellsFor, proofs.Banks.{from_get, at_get}, proofs.InOrder.{of_taking, step_leaves_but}, proofs.TakenRows.takes_one}
 
 module _ {n m e : ℕ} where
   -- a module stays one with another tick, and another bank of the same shape
@@ -160,24 +159,24 @@ module _ {n m e row tick line bank at : ℕ} {old : ModuleState n m e} {before :
       c.forward c.above c.fresh c.exists c.is there
       (λ xs leads. subst (λ (k : ℕ). (added : List (TimedEvent n m)) × IsStep xs added (record { row = row; tick = tick; asks = Writes k bytes given }) clock next before after results recorded) c.number (step xs leads)) c.led
 
-  -- what its bank told, and it, stand in order
-  module _ {R : Type 0} (goes_on : R → R → Type 0) (table : R → List (Outcome n)) (stands : (one : R) → goes_on one one) (one two : R) (same : table one ≡ results) (on : goes_on one two) where
-    pub read_in_order : {next : ClockState n m e} {after : ArrayState n m}
+  -- its bank alone tells
+  module _ {R : Type 0} (goes_on : R → R → Type 0) (table : R → List (Outcome n)) (one two : R) (same : table one ≡ results) (on : goes_on one two) where
+    pub read_tells : {next : ClockState n m e} {after : ArrayState n m}
         → ((xs : List (TimedEvent n m)) → Leads xs clock before
         → (added : List (TimedEvent n m)) × IsStep xs added (record { row = row; tick = tick; asks = Reads at }) clock next before after results (table two))
-        → TellsInOrder goes_on table (rows_taking old row (Reads line)) old.shape.banks row one two
-    read_in_order {next = next} {after = after} step =
+        → TellsFor goes_on table old row (Reads line) one two
+    read_tells {next = next} {after = after} step =
         let s = step (c.led.0 bank) bank_replays.leads in
-        in_order goes_on table old stands bank row (Reads line) clock one two c.is c.exists (eq-eqb (bank_of_line old.shape old.seed line) bank (sym c.home)) on
+        of_taking goes_on table old bank row line clock one two c.is c.home on
         (subst (λ (r : List (Outcome n)). LeavesOthersThan row clock.bank r (table two)) (sym same)
         (step_leaves_but (c.led.0 bank) s.0 clock next before after results (table two) (record { row = row; tick = tick; asks = Reads at }) bank_replays.leads s.1))
 
-    pub write_in_order : {bytes : List ℕ} {given : List Bool} {next : ClockState n m e} {after : ArrayState n m}
+    pub write_tells : {bytes : List ℕ} {given : List Bool} {next : ClockState n m e} {after : ArrayState n m}
         → ((xs : List (TimedEvent n m)) → Leads xs clock before
         → (added : List (TimedEvent n m)) × IsStep xs added (record { row = row; tick = tick; asks = Writes at bytes given }) clock next before after results (table two))
-        → TellsInOrder goes_on table (rows_taking old row (Writes line bytes given)) old.shape.banks row one two
-    write_in_order {bytes = bytes} {given = given} {next = next} {after = after} step =
+        → TellsFor goes_on table old row (Writes line bytes given) one two
+    write_tells {bytes = bytes} {given = given} {next = next} {after = after} step =
         let s = step (c.led.0 bank) bank_replays.leads in
-        in_order goes_on table old stands bank row (Writes line bytes given) clock one two c.is c.exists (eq-eqb (bank_of_line old.shape old.seed line) bank (sym c.home)) on
+        of_taking goes_on table old bank row line clock one two c.is c.home on
         (subst (λ (r : List (Outcome n)). LeavesOthersThan row clock.bank r (table two)) (sym same)
         (step_leaves_but (c.led.0 bank) s.0 clock next before after results (table two) (record { row = row; tick = tick; asks = Writes at bytes given }) bank_replays.leads s.1))

@@ -1,4 +1,4 @@
--- In which order a module tells outcomes: bank by bank.
+-- Which banks of a module tell outcomes, and in which order.
 use Rattle.std.specs.Prelude.{◌≡◌, ℕ, zero, suc, ◌==◌, ◌||◌, ◌&&◌, Bool, false, List, [], ◌∷◌}
 use Rattle.masked_bytes.specs.Entries.{has_row}
 use Rattle.result_rows.specs.{Table.HasRow, declared.Outcome.Outcome}
@@ -30,9 +30,9 @@ module _ {n m e : ℕ} (module_ : ModuleState n m e) where
   abbrev pub rows_at : ℕ → ℕ → Bool
   rows_at bank = has_standing (bank_at module_ bank).bank
 
-  -- the rows of a bank as one is taken that asks this: those that stand there, and that one, where it comes to the bank
-  abbrev pub rows_taking : ℕ → Asks n → ℕ → ℕ → Bool
-  rows_taking row asks bank other = rows_at bank other || (comes_to (bank_of_line module_.shape module_.seed) bank asks && row == other)
+  -- the rows of a line's own bank as one of that line is taken: those that stand there, and that one
+  abbrev pub rows_taking : ℕ → ℕ → ℕ → Bool
+  rows_taking row line other = rows_at (bank_of_line module_.shape module_.seed line) other || row == other
 
 module _ {n : ℕ} {R : Type 0} (goes_on : R → R → Type 0) (table : R → List (Outcome n)) where
   -- outcomes of these rows alone were told
@@ -48,3 +48,9 @@ module _ {n : ℕ} {R : Type 0} (goes_on : R → R → Type 0) (table : R → Li
   -- and behind the banks at most the outcome of a row that was taken
   abbrev pub TellsInOrder : (ℕ → ℕ → Bool) → ℕ → ℕ → R → R → Type 0
   TellsInOrder rows banks row old new = (between : R) × TellsByBanks rows banks old between × TellsOf (λ other. row == other) between new
+
+  -- as a row is taken that asks this: one of a line makes the line's own bank alone tell; at a cut the banks tell one by one, and behind them the cut's own row
+  abbrev pub TellsFor : {m e : ℕ} → ModuleState n m e → ℕ → Asks n → R → R → Type 0
+  TellsFor module_ row (Reads line) old new = TellsOf (rows_taking module_ row line) old new
+  TellsFor module_ row (Writes line bytes given) old new = TellsOf (rows_taking module_ row line) old new
+  TellsFor module_ row Cuts old new = TellsInOrder (rows_at module_) module_.shape.banks row old new

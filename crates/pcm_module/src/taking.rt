@@ -3,7 +3,7 @@ ghost use Rattle.masked_bytes.specs.Masked.{IsMasked};
 ghost use Rattle.row_rules.specs.declared.Asks.TheVariants.{Reads, Writes, Cuts};
 ghost use Rattle.pcm_module.specs.Asking.{asked_by};
 ghost use Rattle.pcm_module.specs.Taking.{MayTake, MayTakeRow, Takes};
-ghost use Rattle.pcm_module.specs.Telling.{TellsInOrder, rows_taking};
+ghost use Rattle.pcm_module.specs.Telling.{TellsFor};
 ghost use Rattle.trace_rows.specs.Rows.{asks_of};
 
 use crate::bank::{cut_at, read_at, write_at};
@@ -30,10 +30,9 @@ impl<const B: usize, const M: usize, const E: usize> Module<B, M, E> {
             (A.state array.old) (A.state array.new) (R.table results.old) (R.table results.new) }
         ensures goes_on { R.goes_on results.old results.new }
 
-        // bank by bank, and behind the banks the row's own outcome where it comes to none
-        ensures order { TellsInOrder R.goes_on R.table
-            (rows_taking self.old row (asks_of event.now.op))
-            self.old.shape.banks row results.old results.new }
+        // of a line's row its own bank alone tells; of a cut one bank after the other, and the cut's row behind them
+        ensures order { TellsFor R.goes_on R.table self.old row (asks_of event.now.op)
+            results.old results.new }
     {
         // A field that is read makes known what is true of every module.
         let _ = &self.shape;
@@ -71,8 +70,8 @@ impl<const B: usize, const M: usize, const E: usize> Module<B, M, E> {
             self.old self.new (A.state array.old) (A.state array.new)
             (R.table results.old) (R.table results.new) }
         ensures goes_on { R.goes_on results.old results.new }
-        ensures order { TellsInOrder R.goes_on R.table (rows_taking self.old row (Reads line))
-            self.old.shape.banks row results.old results.new }
+        ensures order { TellsFor R.goes_on R.table self.old row (Reads line)
+            results.old results.new }
     {
         let place = self.place(line);
         let timed = &mut self.banks[place.bank as usize];
@@ -105,10 +104,9 @@ impl<const B: usize, const M: usize, const E: usize> Module<B, M, E> {
             self.old self.new (A.state array.old) (A.state array.new) (R.table results.old)
             (R.table results.new) }
         ensures goes_on { R.goes_on results.old results.new }
-        ensures order { TellsInOrder R.goes_on R.table
-            (rows_taking self.old entry.entry.row
-            (Writes entry.entry.line entry.entry.bytes entry.entry.given))
-            self.old.shape.banks entry.entry.row results.old results.new }
+        ensures order { TellsFor R.goes_on R.table self.old entry.entry.row
+            (Writes entry.entry.line entry.entry.bytes entry.entry.given)
+            results.old results.new }
     {
         let place = self.place(entry.line);
         let mut here = entry;
@@ -132,8 +130,7 @@ impl<const B: usize, const M: usize, const E: usize> Module<B, M, E> {
         ensures takes { Takes (record { row = row; tick = tick; asks = Cuts }) self.old self.new
             (A.state array.old) (A.state array.new) (R.table results.old) (R.table results.new) }
         ensures goes_on { R.goes_on results.old results.new }
-        ensures order { TellsInOrder R.goes_on R.table (rows_taking self.old row Cuts)
-            self.old.shape.banks row results.old results.new }
+        ensures order { TellsFor R.goes_on R.table self.old row Cuts results.old results.new }
     {
         let banks = self.shape.banks();
         for bank in 0..banks {

@@ -1,23 +1,27 @@
 -- How a row of a stream is served.
-use Rattle.std.proofs.Common.{◌≡◌, ℕ, zero, suc, ◌+◌, ◌<◌, ◌≤◌, false, List, [], ◌∷◌, ◌++◌, length, refl, sym, ap, ◌∙◌, subst, arith, replicate, true, Option}
-use Rattle.std.{proofs.lemmas.List.{append-nil, length_push}, specs.Prelude.{IsSomeAnd, slice_get}}
+use Rattle.std.proofs.Common.{◌≡◌, ℕ, zero, suc, ◌+◌, ◌<◌, ◌≤◌, ◌==◌, ◌&&◌, false, List, [], ◌∷◌, ◌++◌, length, refl, sym, ap, ◌∙◌, subst, arith, eq-eqb, replicate, true, Option}
+use Rattle.std.{specs.Prelude.{IsSomeAnd, slice_get}, proofs.lemmas.List.{append-nil, length_push}}
 use Rattle.cell_rows.specs.Device.{ArrayState}
-use Rattle.trace_reader.specs.{Rows.latest_tick, declared.event.Event.Event}
+use Rattle.trace_reader.specs.{Events.IsOpFor, Rows.latest_tick, declared.event.Event.Event, declared.event.EventOp.EventOp}
+use Rattle.trace_reader.specs.declared.event.EventOp.TheVariants.{Read, Write, Mask, Cut}
 use Rattle.result_rows.specs.declared.Outcome.{Outcome}
 use Rattle.bank_model.specs.Timing.{TimedEvent}
-use Rattle.module_shape.specs.declared.raw.RawShape.{RawShape}
+use Rattle.row_rules.specs.{Lines.IsOfLines, declared.Asks.Asks, declared.Asks.TheVariants.{Reads, Writes, Cuts}}
+use Rattle.module_shape.specs.{Limits.{IsShape, total_of}, declared.raw.RawShape.RawShape}
+use Rattle.run_laws.proofs.Mixing.{lines_law}
 use Rattle.module_laws.specs.Asking.{Asked as AskedRow}
 use Rattle.bank_timing.specs.Extending.{IsOpen}
 use Rattle.pcm_module.specs.{Asking.{asked_by, asked_for}, Replaying.Replays, Settling.IsAtTick, State.{ModuleState, AreEndsOf, bank_at}}
-use Rattle.pcm_module.{specs.Telling.{TellsByBanks, TellsInOrder, is_asked_of, rows_at, rows_taking}, proofs.Asked.{standing_asked, taking_asked}}
+use Rattle.pcm_module.{specs.Telling.{TellsByBanks, TellsFor, TellsOf, comes_to, is_asked_of, rows_at, rows_taking}, proofs.Asked.{standing_asked, taking_asked}}
 use Rattle.right_runs.specs.{Banks.bank_of_line, Ends.BankEnd}
 use Rattle.trace_rows.specs.Rows.{asks_of}
 use Rattle.row_printer.specs.{Printing.{Printing, PrintsOn, table_of, table_told}, Snapshots.{AddsDue, is_due}, Telling.{became, outcomes_in, recorded, TellsOnce}}
 use Rattle.row_printer.specs.{declared.snapshot.Snapshot.Snapshot, declared.told.Shown.Shown, declared.told.Told.Told, declared.told.Told.TheVariants.{Bank, Settled}}
-use Rattle.trace_stream.specs.{Asked.events_in, declared.asked.Asked.Asked, declared.asked.Asked.TheVariants.{Happens, Settle, Query, Look}}
 use Rattle.row_printer.proofs.Telling.{outcomes-same}
-use Rattle.row_stream.specs.{Answering.{backlog_of, banks_told}, Looking.IsSnapshot, Serving.{ComeBehind, ComeByBanks, ComeInOrder, HasServed, IsServing, SnapsAlong, lines_of, told_before, told_so_far}}
-use Rattle.row_stream.proofs.{Growing.{none, longer, open-last, replays-longer}, Order.{ToldSo, come-by-banks, come-in-order}, Standing.ends-now}
+use Rattle.trace_stream.specs.{Asked.events_in, declared.asked.Asked.Asked, declared.asked.Asked.TheVariants.{Happens, Settle, Query, Look}}
+use Rattle.row_stream.specs.{Answering.{backlog_of, banks_told}, Looking.IsSnapshot}
+use Rattle.row_stream.specs.Serving.{ComeByBanks, ComeFor, ComeInOrder, ComeOfBank, HasServed, IsServing, SnapsAlong, lines_of, told_before, told_so_far}
+use Rattle.row_stream.proofs.{Growing.{none, longer, open-last, replays-longer}, Order.{ToldSo, come-by-banks, come-in-order, come-of-bank, in_rest}, Standing.ends-now}
 
 -- the lines that answer a query tell no outcome
 banks-no-outcome : {n m e : ℕ} (module_ : ModuleState n m e) (tick banks : ℕ) → outcomes_in (banks_told module_ tick banks) ≡ []
@@ -26,6 +30,13 @@ banks-no-outcome module_ tick (suc bank) = outcomes-same (banks_told module_ tic
 
 query-no-outcome : {n m e : ℕ} (module_ : ModuleState n m e) (array : ArrayState n m) (tick : ℕ) → outcomes_in (lines_of (Query tick) module_ array) ≡ []
 query-no-outcome module_ array tick = outcomes-same (banks_told module_ tick module_.shape.banks) (Settled tick ∷ []) refl ∙ banks-no-outcome module_ tick module_.shape.banks
+
+-- what an operation for so many lines asks is of one of them, or of none
+lines-asked : {n : ℕ} (lines : ℕ) (op : EventOp n) → IsOpFor lines op → IsOfLines lines (asks_of op)
+lines-asked lines (Read line) is = is
+lines-asked lines (Write line bytes) is = is.0
+lines-asked lines (Mask line bytes given) is = is.0
+lines-asked lines Cut is = tt
 
 module _ {n m e : ℕ} (raw : RawShape) (seed : ℕ) (asked : List (Asked n)) (module_ : ModuleState n m e) (array : ArrayState n m) (places : ℕ) (told : List (Told n)) (shown : Shown) (snaps : List Snapshot)
     (had : IsServing raw seed asked module_ array places told shown snaps) where
@@ -46,27 +57,47 @@ module _ {n m e : ℕ} (raw : RawShape) (seed : ℕ) (asked : List (Asked n)) (m
       let Q : ℕ → Type 0 = λ r. IsOpen (longer (table_of places told)) r in
       subst P (sym grown) (subst Q last (open-last (table_of places told)))
 
-  -- what is told of it comes in order
-  pub event-order : {S : Type 0} (written : S → Option (List ℕ)) (faults : S → ℕ) (event : Event n) (row : ℕ) (results : List (Outcome n)) (one two : Printing n S)
-      → results ≡ longer (table_of places told) → row ≡ places + 1 → TellsOnce two.rows (outcomes_in two.told)
-      → TellsInOrder (PrintsOn written faults) table_told (rows_taking module_ row (asks_of event.op)) module_.shape.banks row one two
+  -- what is told of it comes of the bank of its line, or of a cut in order
+  pub event-order : {S : Type 0} (written : S → Option (List ℕ)) (faults : S → ℕ) (event : Event n) (row : ℕ) (one two : Printing n S)
+      → row ≡ places + 1 → IsShape module_.shape → IsOpFor (total_of module_.shape) event.op → TellsOnce two.rows (outcomes_in two.told)
+      → TellsFor (PrintsOn written faults) table_told module_ row (asks_of event.op) one two
       → ToldSo (ComeInOrder raw seed (Happens event) (events_in asked)) one.told two.told
-  unfolding next-replayed
-  event-order {S = S} written faults event row results one two grown is once order =
-      let next = next-replayed results grown in
-      let number : row ≡ length (events_in asked) + 1 = omega (arith, is, had.counted) in
-      let home : ℕ → ℕ = bank_of_line module_.shape module_.seed in
-      let came =
-      come-in-order written faults module_.shape module_.seed (event ∷ events_in asked) (rows_taking module_ row (asks_of event.op))
-      (λ bank there other of.
-      let P : ℕ → Type 0 = λ k. is_asked_of home bank (asked_by k event ∷ asked_for (events_in asked)) other ≡ true in
-      subst P number (taking_asked next.0 next.1 module_ array results next.2 bank there (asked_by row event) other of)) row one two once order in
-      let Q : RawShape → ℕ → ℕ → Type 0 = λ r k at. ComeBehind r k (event ∷ events_in asked) at came.outcomes in
+  event-order {S = S} written faults event row one two is shaped lawful once tells =
+      let came : ToldSo (ComeFor module_.shape module_.seed events row (asks_of event.op)) one.told two.told = by (asks_of event.op) refl (lines-asked (total_of module_.shape) event.op lawful) tells in
+      let Q : RawShape → ℕ → ℕ → Type 0 = λ r k at. ComeFor r k events at (asks_of event.op) came.outcomes in
       record {
         outcomes = came.outcomes;
         told = came.told;
         are = subst (λ at. Q raw seed at) number (subst (λ k. Q raw k row) had.served.seeded (subst (λ r. Q r module_.seed row) had.served.shape came.are));
       }
+    where
+      events : List (Event n)
+      events = event ∷ events_in asked
+
+      home : ℕ → ℕ
+      home = bank_of_line module_.shape module_.seed
+
+      number : row ≡ length (events_in asked) + 1
+      number = omega (arith, is, had.counted)
+
+      own : (line : ℕ) → comes_to home (home line) (asks_of event.op) ≡ true → line < total_of module_.shape → TellsOf (PrintsOn written faults) table_told (rows_taking module_ row line) one two
+          → ToldSo (ComeOfBank module_.shape module_.seed events (home line)) one.told two.told
+      own line comes there tells =
+          let exists : home line < module_.shape.banks = (lines_law module_.shape module_.seed shaped).exists line there in
+          come-of-bank written faults module_.shape module_.seed events (home line) (rows_taking module_ row line)
+          (λ other of.
+          let P : ℕ → Type 0 = λ k. is_asked_of home (home line) (asked_by k event ∷ asked_for (events_in asked)) other ≡ true in
+          subst P number (taking_asked had.history (asked_for (events_in asked)) module_ array (table_of places told) had.served.replays (home line) exists (asked_by row event) other comes of)) one two once tells
+
+      by : (asks : Asks n) → asks_of event.op ≡ asks → IsOfLines (total_of module_.shape) asks → TellsFor (PrintsOn written faults) table_told module_ row asks one two
+          → ToldSo (ComeFor module_.shape module_.seed events row asks) one.told two.told
+      by (Reads line) asks there tells = own line (subst (λ (a : Asks n). comes_to home (home line) a ≡ true) (sym asks) (eq-eqb (home line) (home line) refl)) there tells
+      by (Writes line bytes given) asks there tells = own line (subst (λ (a : Asks n). comes_to home (home line) a ≡ true) (sym asks) (eq-eqb (home line) (home line) refl)) there tells
+      by Cuts asks there tells =
+          come-in-order written faults module_.shape module_.seed events (rows_at module_)
+          (λ bank there other stands.
+          in_rest (comes_to home bank (asks_of event.op) && (length (events_in asked) + 1) == other) (is_asked_of home bank (asked_for (events_in asked)) other)
+          (standing_asked had.history (asked_for (events_in asked)) module_ array (table_of places told) had.served.replays bank there other stands)) row one two once tells
 
   -- so does what the banks tell where no row comes
   pub banks-order : {S : Type 0} (written : S → Option (List ℕ)) (faults : S → ℕ) (one two : Printing n S) → TellsOnce two.rows (outcomes_in two.told)

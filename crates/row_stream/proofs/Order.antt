@@ -1,4 +1,4 @@
--- That what a printer was told comes bank by bank.
+-- That what a printer was told comes of the bank of a line, or bank by bank.
 use Rattle.std.proofs.Common.{◌≡◌, ℕ, zero, suc, ◌-◌, ◌<◌, ◌≤◌, ◌==◌, ◌||◌, Bool, true, false, List, [], ◌∷◌, ◌++◌, length, replicate, Option, Some, refl, sym, ap, subst, ◌∙◌, eqb-true, eq-eqb, append_assoc, arith}
 use Rattle.std.{specs.Prelude.{All, unwrap_or}, proofs.lemmas.Bool.or_from, proofs.lemmas.List.{append-nil, length-replicate, get_or-replicate}}
 use Rattle.std.proofs.{lemmas.List.Elements.{All-nil, All-cons, All-weaker}, lemmas.Option.slice_get-get_or}
@@ -11,9 +11,9 @@ use Rattle.right_runs.specs.Banks.{bank_of_line}
 use Rattle.pcm_module.specs.{Asking.asked_for, Telling.{TellsOf, TellsByBanks, TellsInOrder, is_asked_of}}
 use Rattle.row_printer.specs.{Printing.{Printing, PrintsOn, table_told}, Telling.{became, outcomes_in, recorded, tells, TellsOnce}, declared.told.Told.Told}
 use Rattle.row_printer.{specs.declared.told.Told.TheVariants.{Became, Bank, Looked, Settled}, proofs.Once.{open-untold, stays-told}, proofs.Telling.length-recorded}
-use Rattle.row_stream.{specs.Serving.{ComeByBanks, ComeBehind}, proofs.Each.some-at, proofs.Growing.none}
+use Rattle.row_stream.{specs.Serving.{ComeByBanks, ComeBehind, ComeOfBank}, proofs.Each.some-at, proofs.Growing.none}
 
-in_rest : (a b : Bool) → b ≡ true → (a || b) ≡ true
+pub in_rest : (a b : Bool) → b ≡ true → (a || b) ≡ true
 in_rest true b is = refl
 in_rest false b is = is
 
@@ -135,6 +135,17 @@ module _ {n : ℕ} {S : Type 0} (written : S → Option (List ℕ)) (faults : S 
       (subst (λ (told : List (ℕ × Outcome n)). TellsOnce new.rows told) whole once)
       (subst (λ (told : List (ℕ × Outcome n)). (row : ℕ) → HasRow (table new.rows (outcomes_in old.told)) row → rows row ≡ false → outcome_in (table new.rows told) row ≡ outcome_in (table new.rows (outcomes_in old.told)) row) whole
       (subst (λ (most : ℕ). (row : ℕ) → HasRow (table most (outcomes_in old.told)) row → rows row ≡ false → outcome_in (table_told new) row ≡ outcome_in (table most (outcomes_in old.told)) row) (sym of.on.rows) of.others))
+
+  -- what was told of rows of one bank comes of it
+  pub come-of-bank : (raw : RawShape) (seed : ℕ) (events : List (Event n)) (bank : ℕ) (rows : ℕ → Bool)
+      → ((row : ℕ) → rows row ≡ true → is_asked_of (bank_of_line raw seed) bank (asked_for events) row ≡ true)
+      → (old new : Printing n S) → Once new → TellsOf (PrintsOn written faults) table_told rows old new → ToldSo (ComeOfBank raw seed events bank) old.told new.told
+  come-of-bank raw seed events bank rows asked old new once of = record {
+    outcomes = of.on.added;
+    told = of.on.told;
+    are = All-weaker (λ (one : ℕ × Outcome n). rows one.0 ≡ true) (λ (one : ℕ × Outcome n). is_asked_of (bank_of_line raw seed) bank (asked_for events) one.0 ≡ true)
+        (λ one is. asked one.0 is) of.on.added (own-told rows old new once of);
+  }
 
   module _ (raw : RawShape) (seed : ℕ) (events : List (Event n)) (rows : ℕ → ℕ → Bool)
       (asked : (bank : ℕ) → bank < raw.banks → (row : ℕ) → rows bank row ≡ true → is_asked_of (bank_of_line raw seed) bank (asked_for events) row ≡ true) where

@@ -3,6 +3,8 @@ use Rattle.std.specs.Prelude.{◌≡◌, ℕ, zero, suc, ◌+◌, ◌<◌, ◌�
 use Rattle.cell_rows.specs.Device.{ArrayState}
 use Rattle.trace_reader.specs.{Rows.latest_tick, declared.event.Event.Event}
 use Rattle.result_rows.specs.declared.Outcome.{Outcome}
+use Rattle.row_rules.specs.{declared.Asks.Asks, declared.Asks.TheVariants.{Reads, Writes, Cuts}}
+use Rattle.trace_rows.specs.Rows.{asks_of}
 use Rattle.bank_model.specs.Timing.{TimedEvent}
 use Rattle.module_shape.specs.declared.raw.RawShape.{RawShape}
 use Rattle.right_runs.specs.Banks.{bank_of_line}
@@ -24,18 +26,29 @@ module _ {n m e : ℕ} (raw : RawShape) (seed : ℕ) where
     pub replays : Replays h (asked_for events) module_ array outcomes
 
 module _ {n : ℕ} (raw : RawShape) (seed : ℕ) where
+  -- outcomes of rows that these events asked of one bank, of no others
+  abbrev pub ComeOfBank : List (Event n) → ℕ → List (ℕ × Outcome n) → Type 0
+  ComeOfBank events bank outcomes = All (λ one. is_asked_of (bank_of_line raw seed) bank (asked_for events) one.0 ≡ true) outcomes
+
   -- outcomes of rows that these events asked of so many banks, bank by bank from the first on
   abbrev pub ComeByBanks : List (Event n) → ℕ → List (ℕ × Outcome n) → Type 0
   ComeByBanks events zero outcomes = outcomes ≡ []
   ComeByBanks events (suc bank) outcomes =
       (earlier : List (ℕ × Outcome n)) × (own : List (ℕ × Outcome n)) × (outcomes ≡ earlier ++ own) × ComeByBanks events bank earlier
-      × All (λ one. is_asked_of (bank_of_line raw seed) bank (asked_for events) one.0 ≡ true) own
+      × ComeOfBank events bank own
 
   -- and behind the banks at most that of this row
   abbrev pub ComeBehind : List (Event n) → ℕ → List (ℕ × Outcome n) → Type 0
   ComeBehind events row outcomes =
       (of_banks : List (ℕ × Outcome n)) × (own : List (ℕ × Outcome n)) × (outcomes ≡ of_banks ++ own) × ComeByBanks events raw.banks of_banks
       × All (λ one. one.0 ≡ row) own
+
+  -- outcomes that were told as the last row of these was taken, which asked this: of a line's row, outcomes of the line's own bank alone; of a cut bank by bank, and its own
+  -- behind the banks
+  abbrev pub ComeFor : List (Event n) → ℕ → Asks n → List (ℕ × Outcome n) → Type 0
+  ComeFor events row (Reads line) outcomes = ComeOfBank events (bank_of_line raw seed line) outcomes
+  ComeFor events row (Writes line bytes given) outcomes = ComeOfBank events (bank_of_line raw seed line) outcomes
+  ComeFor events row Cuts outcomes = ComeBehind events row outcomes
 
   -- outcomes that were told turn by turn, in each of so many turns bank by bank
   abbrev pub ComeByTurns : List (Event n) → ℕ → List (ℕ × Outcome n) → Type 0
@@ -44,10 +57,10 @@ module _ {n : ℕ} (raw : RawShape) (seed : ℕ) where
       (earlier : List (ℕ × Outcome n)) × (own : List (ℕ × Outcome n)) × (outcomes ≡ earlier ++ own) × ComeByTurns events turns earlier
       × ComeByBanks events raw.banks own
 
-  -- the outcomes that are told as a row is served, behind these events: bank by bank, and behind the banks at most that of the row itself, as
-  -- a cut's, which is asked of no bank alone; of a settle until turn by turn, one for each tick to which the banks came
+  -- the outcomes that are told as a row is served, behind these events: of an event what comes for it; of what settles bank by bank, and of a settle until so
+  -- turn by turn, one for each tick to which the banks came
   abbrev pub ComeInOrder : Asked n → List (Event n) → List (ℕ × Outcome n) → Type 0
-  ComeInOrder (Happens event) before outcomes = ComeBehind (event ∷ before) (length before + 1) outcomes
+  ComeInOrder (Happens event) before outcomes = ComeFor (event ∷ before) (length before + 1) (asks_of event.op) outcomes
   ComeInOrder (Settle tick) before outcomes = ComeByBanks before raw.banks outcomes
   ComeInOrder (Query tick) before outcomes = ComeByBanks before raw.banks outcomes
   ComeInOrder (Look tick) before outcomes = ComeByBanks before raw.banks outcomes

@@ -70,6 +70,8 @@ pub fn serve_event<
 {
     out.add_row();
     let row = out.rows();
+    // Its sizes make known that each line's bank is one of the module's.
+    let _ = pcm.shape();
     pcm.event(array, row, event, out);
     out.tells_once();
     show_due(pcm, array, out);

@@ -61,7 +61,7 @@ loop-bank-preserved g c = (
       let within : bank < length banks = subst (λ (k : ℕ). bank < k) (sym so_far.count) exists in
       let is : slice_get banks bank ≡ Some clock = item-at banks bank clock within c.index_mut.ensures.value in
       next_bank g.R.Outcomes.goes_on g.R.Outcomes.table of (rows_at of) bank _ c.args.results.now c.loop-bank.results c.advance.new.results refl (c.loop-bank.invariant.2 of may)
-      (of_bank g.R.Outcomes.goes_on g.R.Outcomes.table of (rows_at of bank) bank clock c.loop-bank.results c.advance.new.results (λ row none. none)
+      (of_bank g.R.Outcomes.goes_on g.R.Outcomes.table of bank clock c.loop-bank.results c.advance.new.results
       (sym (so_far.ahead bank (omega arith)) ∙ is) c.advance.ensures.goes_on c.advance.ensures.ran.others),
 )
 

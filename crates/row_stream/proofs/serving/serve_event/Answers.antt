@@ -1,10 +1,9 @@
 use Rattle.std.proofs.Common.{◌≡◌, ◌∙◌, ◌+◌, ◌++◌, ℕ, List, ◌∷◌, ap, refl, arith}
 use Rattle.row_printer.specs.{Printing.table_told, Telling.became, declared.snapshot.Snapshot.Snapshot, declared.told.Shown.Shown, declared.told.Told.Told}
 use Rattle.trace_stream.specs.declared.asked.Asked.TheVariants.{Happens}
-use Rattle.row_stream.{specs.Serving.{IsServing, told_before, told_so_far}, proofs.Alike.told-same}
-use Rattle.trace_reader.proofs.Sizes.{event_fits}
-use Rattle.row_stream.proofs.Going.{event-order, next-bound, next-open, next-replayed, serving-event}
+use Rattle.row_stream.{specs.Serving.{IsServing, told_before, told_so_far}, proofs.Alike.told-same, proofs.Going.{event-order, next-bound, next-open, next-replayed, serving-event}}
 use Rattle.row_stream.proofs.serving.serve_event.Goals as goal
+use Rattle.trace_reader.proofs.Sizes.{event_fits}
 
 pub event-requires : goal.event-requires
 event-requires g c =
@@ -31,8 +30,8 @@ returns-clause-serves g c = record {
       let row : c.rows-row.result ≡ c.args.out.now.rows + 1 = c.rows-row.ensures ∙ c.add_row.ensures.rows in
       let on = c.event.ensures.goes_on in
       let e = c.event.ensures.takes in
-      let order = event-order raw seed before c.args.pcm.now (g.A.CellArray.state c.args.array.now) c.args.out.now.rows c.args.out.now.told c.args.out.now.prints c.args.out.now.snapshots had g.K.Sink.written g.K.Sink.faults c.args.event.now c.rows-row.result (table_told c.add_row.new.self)
-      c.add_row.new.self c.event.new.results c.add_row.ensures.table row c.tells_once.ensures c.event.ensures.order in
+      let order = event-order raw seed before c.args.pcm.now (g.A.CellArray.state c.args.array.now) c.args.out.now.rows c.args.out.now.told c.args.out.now.prints c.args.out.now.snapshots had g.K.Sink.written g.K.Sink.faults c.args.event.now c.rows-row.result
+      c.add_row.new.self c.event.new.results row c.shape.ensures.in_range c.requires.event.op c.tells_once.ensures c.event.ensures.order in
       let Goes : ℕ → List (Told g.row.B) → Shown → List Snapshot → Type 0 = λ rows told prints snaps.
       (has : IsServing raw seed (Happens c.args.event.now ∷ before) c.event.new.self (g.A.CellArray.state c.event.new.array) rows told prints snaps)
       × (told_before (Happens c.args.event.now) before (told_so_far has) ≡ told_so_far had) in

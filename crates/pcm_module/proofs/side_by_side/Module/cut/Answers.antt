@@ -1,12 +1,12 @@
 use Rattle.std.proofs.Common.{arith, ◌∙◌, ℕ, ◌≡◌, ◌+◌, ◌++◌, ◌<◌, ◌≤◌, length, Some, refl, sym, ap, subst}
 use Rattle.std.specs.Prelude.{slice_get}
-use Rattle.row_rules.specs.{declared.Asks.Asks, declared.Asks.TheVariants.Cuts}
+use Rattle.row_rules.specs.declared.Asks.TheVariants.{Cuts}
 use Rattle.bank_timing.proofs.Sizes.{timed_fits, outcome_fits}
-use Rattle.pcm_module.specs.{State.ModuleState, Taking.Takes, Telling.{TellsByBanks, rows_at, rows_taking}}
-use Rattle.pcm_module.proofs.{AsIf.{as_if, opens_back, at_as_if, step_as_if, stays_open}, Cuts.{CutsUpTo, cut_none, cut_replays, cut_one, cut_every, in_list}}
-use Rattle.pcm_module.proofs.{Draining.{reached_all, reached_bank}, InOrder.{next_bank, of_bank, step_leaves, tells_own}, Serving.{module_kept, module_at, at_above}}
+use Rattle.pcm_module.{specs.State.ModuleState, specs.Taking.Takes, specs.Telling.{TellsByBanks, rows_at}, proofs.AsIf.{as_if, opens_back, at_as_if, step_as_if, stays_open}}
+use Rattle.pcm_module.proofs.{Cuts.{CutsUpTo, cut_none, cut_replays, cut_one, cut_every, in_list}, Draining.{reached_all, reached_bank}}
+use Rattle.pcm_module.proofs.{InOrder.{next_bank, of_bank, step_leaves, tells_own}, Serving.{module_kept, module_at, at_above}}
 use Rattle.pcm_module.proofs.side_by_side.Module.cut.Goals as goal
-use Rattle.masked_bytes.proofs.{Lists.item-at, Truth.neither_first}
+use Rattle.masked_bytes.proofs.Lists.{item-at}
 use Rattle.result_rows.specs.declared.Outcome.TheVariants as out
 use Rattle.module_laws.specs.Asking.{Asked}
 
@@ -75,7 +75,6 @@ loop-bank-preserved g c =
     let next = c.cut_at.new.timed in
     let between = g.A.CellArray.state c.loop-bank.array in
     let after = g.A.CellArray.state c.cut_at.new.array in
-    let asks : Asks g.row.B = Cuts in
     let the_cut : Asked g.row.B = record { row = c.args.row; tick = c.args.tick; asks = Cuts } in
     let below : next.bank.rows_below ≤ c.args.row = omega (arith, c.cut_at.ensures.at.below, f.below) in
     let s = c.cut_at.ensures.step c.args.row xs f.leads in (
@@ -91,9 +90,8 @@ loop-bank-preserved g c =
         fresh = stays_open c.args.row (out.Cut c.args.tick) xs s.0 clock next between after real told f.leads s.1.extends inv.fresh.exists below inv.fresh;
       },
       g.met.R.Outcomes.follows _ _ _ c.loop-bank.invariant.1 c.cut_at.ensures.goes_on,
-      next_bank g.R.Outcomes.goes_on g.R.Outcomes.table old (rows_taking old c.args.row asks) c.loop-bank.bank _ c.args.results.now c.loop-bank.results c.cut_at.new.results refl c.loop-bank.invariant.2
-          (of_bank g.R.Outcomes.goes_on g.R.Outcomes.table old (rows_taking old c.args.row asks c.loop-bank.bank) c.loop-bank.bank clock c.loop-bank.results c.cut_at.new.results
-          (λ row none. neither_first (rows_at old c.loop-bank.bank row) _ none) (sym (inv.cuts.ahead c.loop-bank.bank (omega arith)) ∙ is) c.cut_at.ensures.goes_on
+      next_bank g.R.Outcomes.goes_on g.R.Outcomes.table old (rows_at old) c.loop-bank.bank _ c.args.results.now c.loop-bank.results c.cut_at.new.results refl c.loop-bank.invariant.2
+          (of_bank g.R.Outcomes.goes_on g.R.Outcomes.table old c.loop-bank.bank clock c.loop-bank.results c.cut_at.new.results (sym (inv.cuts.ahead c.loop-bank.bank (omega arith)) ∙ is) c.cut_at.ensures.goes_on
           (step_leaves xs clock next between after real told (λ row. record { row = row; tick = c.args.tick; asks = Cuts }) (λ row. refl) f.leads (λ row. c.cut_at.ensures.step row xs f.leads))),
     )
 
@@ -105,7 +103,6 @@ pub returns : goal.returns
 returns g c =
     let old = c.args.self.now in
     let inv = c.loop-bank.invariant.0 in
-    let asks : Asks g.row.B = Cuts in
     let s = c.loop-bank.self-inside in
     let items = s.banks.items in
     let ends : c.self.inside.shape.banks ≡ old.shape.banks = ap (λ (o : ModuleState g.row.B g.row.M g.row.E). o.shape.banks) c.self.view_is in
@@ -119,7 +116,7 @@ returns g c =
     record {
       order = (
         c.loop-bank.results,
-        subst (λ (k : ℕ). TellsByBanks g.R.Outcomes.goes_on g.R.Outcomes.table (rows_taking old c.args.row asks) k c.args.results.now c.loop-bank.results) all c.loop-bank.invariant.2,
+        subst (λ (k : ℕ). TellsByBanks g.R.Outcomes.goes_on g.R.Outcomes.table (rows_at old) k c.args.results.now c.loop-bank.results) all c.loop-bank.invariant.2,
         tells_own g.R.Outcomes.goes_on g.R.Outcomes.table c.args.row (out.Cut c.args.tick) c.loop-bank.results c.set.new.self inv.fresh.exists c.set.ensures.table c.set.ensures.goes_on,
       );
       goes_on = g.met.R.Outcomes.follows _ _ _ c.loop-bank.invariant.1 c.set.ensures.goes_on;

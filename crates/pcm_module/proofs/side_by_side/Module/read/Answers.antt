@@ -1,5 +1,5 @@
 use Rattle.std.proofs.Common.{refl, arith}
-use Rattle.pcm_module.proofs.{Serving.{ComesTo, comes, may_arrive, taken_kept, read_taken, read_in_order}, Views.state_of, side_by_side.Module.read.Given.Over}
+use Rattle.pcm_module.proofs.{Serving.{ComesTo, comes, may_arrive, taken_kept, read_taken, read_tells}, Views.state_of, side_by_side.Module.read.Given.Over}
 use Rattle.pcm_module.proofs.side_by_side.Module.read.Goals.{After-index_mut-timed}
 use Rattle.pcm_module.proofs.side_by_side.Module.read.Goals as goal
 use Rattle.bank_timing.proofs.Sizes.{timed_fits}
@@ -26,7 +26,7 @@ returns g c =
     rw (← c.self.view_is) (record {
       goes_on = c.read_at.ensures.goes_on;
       takes = read_taken h c.read_at.ensures.at c.read_at.ensures.step;
-      order = read_in_order h g.R.Outcomes.goes_on g.R.Outcomes.table g.met.R.Outcomes.stands c.args.results.now c.read_at.new.results refl c.read_at.ensures.goes_on c.read_at.ensures.step;
+      order = read_tells h g.R.Outcomes.goes_on g.R.Outcomes.table c.args.results.now c.read_at.new.results refl c.read_at.ensures.goes_on c.read_at.ensures.step;
     })
 
 pub place-place-requires : goal.place-place-requires

@@ -1,5 +1,5 @@
 use Rattle.std.proofs.Common.{refl, arith}
-use Rattle.pcm_module.proofs.{Serving.{ComesTo, comes, may_arrive, taken_kept, write_taken, write_in_order}, Views.state_of, side_by_side.Module.write.Given.Over}
+use Rattle.pcm_module.proofs.{Serving.{ComesTo, comes, may_arrive, taken_kept, write_taken, write_tells}, Views.state_of, side_by_side.Module.write.Given.Over}
 use Rattle.pcm_module.proofs.side_by_side.Module.write.Goals.{After-index_mut-timed}
 use Rattle.pcm_module.proofs.side_by_side.Module.write.Goals as goal
 use Rattle.bank_timing.proofs.Sizes.{timed_fits, entry_fits}
@@ -26,7 +26,7 @@ returns g c =
     rw (← c.self.view_is) (record {
       goes_on = c.write_at.ensures.goes_on;
       takes = write_taken h c.write_at.ensures.at c.write_at.ensures.step;
-      order = write_in_order h g.R.Outcomes.goes_on g.R.Outcomes.table g.met.R.Outcomes.stands c.args.results.now c.write_at.new.results refl c.write_at.ensures.goes_on c.write_at.ensures.step;
+      order = write_tells h g.R.Outcomes.goes_on g.R.Outcomes.table c.args.results.now c.write_at.new.results refl c.write_at.ensures.goes_on c.write_at.ensures.step;
     })
 
 pub place-place-requires : goal.place-place-requires
