@@ -4,4 +4,4 @@
 
 mod row;
 
-pub use row::{LineCells, print_lines_header, print_lines_row};
+pub use row::{LineCells, print_lines_header, print_lines_row, push_row};

@@ -54,8 +54,16 @@ fn push_wear(wear: Option<CellWear>, text: &mut Text)
     }
 }
 
+/// Appends the row of an array line. Pulses count those that were torn, too.
 #[tactic(auto, using(pcm_io::proofs::DigitLemmas::ten_digits, pcm_io::proofs::DigitLemmas::twenty_digits))]
-fn push_row(array_line: u32, bank: u32, pulses: u64, role: Role, cells: LineCells, text: &mut Text)
+pub fn push_row(
+    array_line: u32,
+    bank: u32,
+    pulses: u64,
+    role: Role,
+    cells: LineCells,
+    text: &mut Text,
+)
     requires { 160 ≤ room_in text.old }
     ensures { text.new ≡ appended text.old (lines_row_text array_line bank pulses role cells) }
 {

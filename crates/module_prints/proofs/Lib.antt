@@ -1,2 +1,3 @@
 pub mod Wearing
 mod Clocks
+mod Pulsing

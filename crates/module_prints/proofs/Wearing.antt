@@ -59,7 +59,7 @@ module _ {n m : ℕ} (raw : RawShape) (seed : ℕ) (ends : ℕ → BankEnd) (arr
       (div-lt_iff_lt-mul {k = array_lines_of (module_of raw)} {x = line} {y = raw.banks} (omega arith)).1 below
 
   -- each array line has a row
-  a-row : IsShape raw → HaveRoles raw seed ends → (line : ℕ) → line < raw.banks * array_lines_of (module_of raw)
+  pub a-row : IsShape raw → HaveRoles raw seed ends → (line : ℕ) → line < raw.banks * array_lines_of (module_of raw)
       → (row : ℕ × ℕ × Role) × IsWearRow raw seed ends array line row
   a-row shape roles line below =
       let bank = bank_with raw line in

@@ -1,2 +1,3 @@
 pub mod WearReports
+pub mod PulsedLines
 pub mod Images

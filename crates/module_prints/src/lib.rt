@@ -1,13 +1,15 @@
 //! The wear report, the report on array lines, the report of energy and the image of a module over its array: a row for each array line, one
-//! for each bank, and the bytes of all that both keep.
+//! for each bank, and the bytes of all that both keep. Of the first two the rows of lines that were never pulsed may be left out.
 #![tactic(auto)]
 
 mod energy;
 mod image;
 mod lines;
+mod pulsed;
 mod wear;
 
 pub use energy::print_energy;
 pub use image::print_image;
 pub use lines::print_lines;
+pub use pulsed::{Report, print_pulsed};
 pub use wear::print_wear;

@@ -20,7 +20,7 @@ use pcm_module::Module;
 use run_text::{TEXT_ROOM, print_rest};
 
 // What the cells of an array line say of it.
-fn line_cells<const B: usize, const M: usize, const E: usize, A: TellsCells<B, M>>(
+pub(crate) fn line_cells<const B: usize, const M: usize, const E: usize, A: TellsCells<B, M>>(
     array: &A,
     line: u32,
 ) -> LineCells

@@ -1,6 +1,5 @@
 use Rattle.std.proofs.Common.{◌≡◌, ◌*◌, ◌/◌, ◌∙◌, sym, ap, subst, arith, ℕ}
-use Rattle.std.specs.Prelude.{OnErr, OnOk}
-use Rattle.std.specs.Io.KnownBytes.{Appends}
+use Rattle.std.specs.{Io.KnownBytes.Appends, Prelude.{OnErr, OnOk}}
 use Rattle.pcm_io.specs.Giving.{AppendsPrefix}
 use Rattle.energy_report.specs.EnergyText.{energy_report}
 use Rattle.module_shape.specs.Addresses.{array_lines_of, module_of}
