@@ -545,6 +545,8 @@ class Words(unittest.TestCase):
             "stream --tell shape --print wear": "--tell belongs to --print rows alone",
             "stream --tell": "--tell lacks its value: it may be nothing or shape",
             "run --tell shape": "--tell is no option of run, but of stream",
+            "stream --skip unpulsed": "--skip belongs to --print wear or lines alone",
+            "stream --print lines --skip pulsed": "--skip pulsed: it may be nothing or unpulsed (did you mean unpulsed?)",
             "rum": "there is no command rum (did you mean run?)",
             "explian": "there is no command explian (did you mean explain?)",
             "explain --psi 5": "--psi is no option of explain, but of run or stream",
@@ -554,6 +556,7 @@ class Words(unittest.TestCase):
             "explain --lines 100": "--lines 100: it may be a power of two, 4 to 4096; nearest are 64 and 128",
             "run": None,
             "stream --print snapshots --every 5 --rows=4000000000 --step 0 --input drawn": None,
+            "stream --print wear --skip=unpulsed": None,
         }
         for words, said in wanted.items():
             self.assertEqual(pages.table().explain(words.split(), "usage: pcm\n"), said, words)

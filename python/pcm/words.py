@@ -136,6 +136,7 @@ _STREAM = [
     _choice("end", "E", "what becomes of the module behind the last row", "drain", "off"),
     _choice("until", "U", "up to where the rows are served", "end", "refused"),
     _choice("tell", "T", "what is told of the module before its rows", "nothing", "shape"),
+    _choice("skip", "K", "which array lines a report leaves out", "nothing", "unpulsed"),
     _number("rows", "N", 1000, 1, 4000000000, "rows of the drawn trace"),
     _number("cuts", "N", 0, 0, 4000000000, "power cuts among the drawn rows"),
     _number("hot", "N", 0, 0, LARGE.all_lines, "lines that nine of ten drawn rows go to"),
@@ -264,6 +265,8 @@ def _together(command: Command, given: Dict[str, str]) -> Optional[str]:
         return "--every belongs to --print snapshots alone"
     if streams and "tell" in given and value["print"] != "rows":
         return "--tell belongs to --print rows alone"
+    if streams and "skip" in given and value["print"] not in ("wear", "lines"):
+        return "--skip belongs to --print wear or lines alone"
     return None
 
 

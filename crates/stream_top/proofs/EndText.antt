@@ -3,10 +3,9 @@ use Rattle.std.proofs.Common.{◌≡◌, ℕ, List, [], refl, sym, ap, ◌∙◌
 use Rattle.std.specs.Prelude.{Result, Ok, Err, OnErr, OnOk}
 use Rattle.pcm_io.specs.Reserved.{Reserved, appended, reserved}
 use Rattle.cell_rows.specs.Device.{ArrayState}
-use Rattle.wear_report.specs.WearText.{wear_text}
 use Rattle.bank_shape.specs.declared.Role.{Role}
 use Rattle.energy_report.specs.EnergyText.{energy_report}
-use Rattle.lines_report.specs.{LinesText.lines_text, declared.row.LineCells.LineCells}
+use Rattle.lines_report.specs.declared.row.LineCells.{LineCells}
 use Rattle.module_shape.specs.Addresses.{array_lines_of, module_of}
 use Rattle.right_runs.specs.Ends.{BankEnd}
 use Rattle.pcm_image.specs.{Saved.Saved, Spelling.image_bytes}
@@ -15,8 +14,9 @@ use Rattle.image_text.{specs.Sensing.SensesRows, proofs.Sensing.senses-none}
 use Rattle.run_text.specs.{Pulses.pulses_in_all, SummaryText.summary_text, declared.counts.Counts.Counts}
 use Rattle.pcm_module.specs.{Roles.spares_used, State.{AreEndsOf, ModuleState}}
 use Rattle.module_prints.specs.{Images.kept_in, WearReports.{HaveRoles, IsWearReport}}
-use Rattle.stream_words.specs.{declared.job.StreamPrint.StreamPrint, declared.job.StreamPrint.TheVariants.{Rows, Summary, Wear, Lines, Energy, Image, Snapshots}, declared.job.Tell.Tell}
-use Rattle.stream_top.specs.Leaving.{IsClosing, senses_for}
+use Rattle.stream_words.specs.{declared.job.Skip.Skip, declared.job.StreamPrint.StreamPrint}
+use Rattle.stream_words.specs.{declared.job.StreamPrint.TheVariants.{Rows, Summary, Wear, Lines, Energy, Image, Snapshots}, declared.job.Tell.Tell}
+use Rattle.stream_top.specs.Leaving.{IsClosing, lines_but, senses_for, wear_but}
 
 module _ {n m e : ℕ} (module_ : ModuleState n m e) (array : ArrayState n m) (cells : ℕ → LineCells) (rows : ℕ) (counts : Counts) (print : StreamPrint) (P : List ℕ → Type 0) where
   -- what is written is the text of the end, by whatever ends the module's banks have
@@ -41,19 +41,19 @@ module _ {n m e : ℕ} (module_ : ModuleState n m e) (array : ArrayState n m) (c
       text ∙ ap (λ (k : ℕ). summary_text rows counts k pulses) (used ends are) ∙ ap (λ (k : ℕ). summary_text rows counts (spares_used module_.shape ends) k) summed in
       (bytes, subst (Closes ends bytes) (sym is) own, written)
 
-  pub wear-closes : print ≡ Wear
+  pub wear-closes : (skip : Skip) → print ≡ Wear skip
       → ((ends : ℕ → BankEnd) → AreEndsOf module_ ends → HaveRoles module_.shape module_.seed ends
-      → (report : List (ℕ × ℕ × Role)) × IsWearReport module_.shape module_.seed ends array report × P (wear_text report)) → PrintsOf
-  wear-closes is writes = λ ends are roles.
+      → (report : List (ℕ × ℕ × Role)) × IsWearReport module_.shape module_.seed ends array report × P (wear_but skip cells report)) → PrintsOf
+  wear-closes skip is writes = λ ends are roles.
       let report = writes ends are roles in
-      (wear_text report.0, subst (Closes ends (wear_text report.0)) (sym is) ((report.0, report.1, refl)), report.2)
+      (wear_but skip cells report.0, subst (Closes ends (wear_but skip cells report.0)) (sym is) ((report.0, report.1, refl)), report.2)
 
-  pub lines-closes : print ≡ Lines
+  pub lines-closes : (skip : Skip) → print ≡ Lines skip
       → ((ends : ℕ → BankEnd) → AreEndsOf module_ ends → HaveRoles module_.shape module_.seed ends
-      → (report : List (ℕ × ℕ × Role)) × IsWearReport module_.shape module_.seed ends array report × P (lines_text cells report)) → PrintsOf
-  lines-closes is writes = λ ends are roles.
+      → (report : List (ℕ × ℕ × Role)) × IsWearReport module_.shape module_.seed ends array report × P (lines_but skip cells report)) → PrintsOf
+  lines-closes skip is writes = λ ends are roles.
       let report = writes ends are roles in
-      (lines_text cells report.0, subst (Closes ends (lines_text cells report.0)) (sym is) ((report.0, report.1, refl)), report.2)
+      (lines_but skip cells report.0, subst (Closes ends (lines_but skip cells report.0)) (sym is) ((report.0, report.1, refl)), report.2)
 
   pub energy-closes : print ≡ Energy → P (energy_report array.energy module_.shape.banks (array_lines_of (module_of module_.shape))) → PrintsOf
   energy-closes is written = λ ends are roles.

@@ -2,9 +2,8 @@
 use Rattle.std.proofs.Common.{◌≡◌, ◌≢◌, ◌⊎◌, inl, inr, ℕ, ◌*◌, ◌^◌, ◌<◌, ◌≤◌, ◌++◌, List, [], Option, Some, refl, sym, ap, ◌∙◌, subst, arith}
 use Rattle.std.specs.{Io.KnownBytes.Appends, Prelude.{Result, Ok, Err}}
 use Rattle.pcm_io.{specs.Giving.AppendsPrefix, proofs.ByteLemmas.{Appends-Appends, Appends-AppendsPrefix, AppendsPrefix-longer}}
-use Rattle.wear_report.specs.WearText.{wear_text}
 use Rattle.energy_report.specs.EnergyText.{energy_report}
-use Rattle.lines_report.specs.{LinesText.lines_text, declared.row.LineCells.LineCells}
+use Rattle.lines_report.specs.declared.row.LineCells.{LineCells}
 use Rattle.module_shape.specs.{Addresses.{array_lines_of, module_of}, Limits.IsShape, declared.raw.RawShape.RawShape}
 use Rattle.right_runs.specs.Ends.{BankEnd}
 use Rattle.run_text.specs.{Counting.counts_of, Pulses.pulses_in_all, SummaryText.summary_text, declared.counts.Counts.Counts}
@@ -21,10 +20,10 @@ use Rattle.row_stream.specs.{Asking.{stays_off, with_cut}, Ending.SnapsAll, Laws
 use Rattle.stream_words.specs.{Jobs.IsStreamJob, declared.job.StreamJob.StreamJob, declared.job.StreamPrint.StreamPrint}
 use Rattle.stream_words.specs.declared.job.StreamPrint.TheVariants.{Rows, Summary, Wear, Lines, Energy, Image, Snapshots}
 use Rattle.trace_stream.specs.{Asked.events_in, declared.asked.Asked.Asked}
-use Rattle.stream_top.specs.{Calls.LentSource, FaultLines.{fault_line, status_of}, Leaving.{IsClosing, Leaves, LeavesLaw, senses_for}}
+use Rattle.stream_top.specs.{Calls.LentSource, FaultLines.{fault_line, status_of}, Leaving.{IsClosing, Leaves, LeavesLaw, lines_but, senses_for, wear_but}}
 use Rattle.stream_top.specs.Promises.{Breaks, Call, EndsCall, IsAsleep, IsRefused, IsStatusOf, IsUnread, KeepsPromises, OthersOn, OthersUntouched, Stops}
-use Rattle.stream_top.specs.Streams.{BreaksOff, Closes, GoesAsFarAs, HasPlayed, IsServed, IsServedInPart, StopsBy, Streams, StreamsUpTo, done_by, has_stopped, is_off, rows_told, shown_by, status_done, told_of_rows}
-use Rattle.stream_top.specs.{declared.done.Done.Done, declared.done.Done.TheVariants.{Whole, Short}, declared.fault.Fault.Fault}
+use Rattle.stream_top.specs.Streams.{BreaksOff, Closes, GoesAsFarAs, HasPlayed, IsServed, IsServedInPart, StopsBy, Streams, StreamsUpTo, done_by, has_stopped, is_off, rows_told}
+use Rattle.stream_top.specs.{Streams.{shown_by, status_done, told_of_rows}, declared.done.Done.Done, declared.done.Done.TheVariants.{Whole, Short}, declared.fault.Fault.Fault}
 use Rattle.stream_top.{specs.declared.fault.Fault.TheVariants.{Usage, Trace, Read, Write, TooLong, NoMemory}, proofs.EndText.PrintsOf}
 use Rattle.command_line.specs.{declared.job.LineSize.LineSize, declared.job.LineSize.TheVariants.{Bytes64, Bytes128}, declared.job.Refusal.Refusal}
 
@@ -38,13 +37,14 @@ module _ {n m : ℕ} (raw : RawShape) (seed rows places : ℕ) (counts all : Cou
   closing-now Summary text same counted still told is =
       let stood : array ≡ before = still (λ p. cc p) in
       rw (← same, ← counted, stood) is
-  closing-now Wear text same counted still told is =
-      let stood : array ≡ before = still (λ p. cc p) in
-      (is.0, subst (λ (a : ArrayState n m). IsWearReport raw seed ends a is.0) (sym stood) is.1, is.2)
-  closing-now Lines text same counted still told is =
+  closing-now (Wear skip) text same counted still told is =
       let stood : array ≡ before = still (λ p. cc p) in
       let alike : cells_now ≡ cells = told (λ p. cc p) in
-      (is.0, subst (λ (a : ArrayState n m). IsWearReport raw seed ends a is.0) (sym stood) is.1, is.2 ∙ ap (λ (w : ℕ → LineCells). lines_text w is.0) (sym alike))
+      (is.0, subst (λ (a : ArrayState n m). IsWearReport raw seed ends a is.0) (sym stood) is.1, is.2 ∙ ap (λ (w : ℕ → LineCells). wear_but skip w is.0) (sym alike))
+  closing-now (Lines skip) text same counted still told is =
+      let stood : array ≡ before = still (λ p. cc p) in
+      let alike : cells_now ≡ cells = told (λ p. cc p) in
+      (is.0, subst (λ (a : ArrayState n m). IsWearReport raw seed ends a is.0) (sym stood) is.1, is.2 ∙ ap (λ (w : ℕ → LineCells). lines_but skip w is.0) (sym alike))
   closing-now Energy text same counted still told is =
       let stood : array ≡ before = still (λ p. cc p) in
       is ∙ ap (λ (a : ArrayState n m). energy_report a.energy raw.banks (array_lines_of (module_of raw))) (sym stood)
@@ -56,12 +56,12 @@ some-closing : {n m : ℕ} (raw : RawShape) (seed rows : ℕ) (counts : Counts) 
     → IsShape raw → HaveRoles raw seed ends → array.lines ≡ raw.banks * array_lines_of (module_of raw) → (text : List ℕ) × IsClosing raw seed rows counts ends array cells saved print text
 some-closing raw seed rows counts ends array cells saved (Rows tell) is roles size = ([], refl)
 some-closing raw seed rows counts ends array cells saved Summary is roles size = (summary_text rows counts (spares_used raw ends) (pulses_in_all array), refl)
-some-closing raw seed rows counts ends array cells saved Wear is roles size =
+some-closing raw seed rows counts ends array cells saved (Wear skip) is roles size =
     let report = worn-goes_on raw seed ends array is roles 0 [] size (omega arith) (worn-none raw seed ends array) in
-    (wear_text ([] ++ report.0), ([] ++ report.0, report.1, refl))
-some-closing raw seed rows counts ends array cells saved Lines is roles size =
+    (wear_but skip cells ([] ++ report.0), ([] ++ report.0, report.1, refl))
+some-closing raw seed rows counts ends array cells saved (Lines skip) is roles size =
     let report = worn-goes_on raw seed ends array is roles 0 [] size (omega arith) (worn-none raw seed ends array) in
-    (lines_text cells ([] ++ report.0), ([] ++ report.0, report.1, refl))
+    (lines_but skip cells ([] ++ report.0), ([] ++ report.0, report.1, refl))
 some-closing raw seed rows counts ends array cells saved Energy is roles size = (energy_report array.energy raw.banks (array_lines_of (module_of raw)), refl)
 some-closing raw seed rows counts ends array cells saved Image is roles size = (image_bytes saved, refl)
 some-closing raw seed rows counts ends array cells saved (Snapshots every) is roles size = ([], refl)
@@ -70,8 +70,8 @@ some-closing raw seed rows counts ends array cells saved (Snapshots every) is ro
 nothing-before : {n : ℕ} (raw : RawShape) (print : StreamPrint) (told : List (Told n)) (snaps : List Snapshot) → print ≡ Image → stream_text (shown_by raw print) told snaps ≡ []
 nothing-before raw (Rows tell) told snaps is = absurd (cc is)
 nothing-before raw Summary told snaps is = absurd (cc is)
-nothing-before raw Wear told snaps is = absurd (cc is)
-nothing-before raw Lines told snaps is = absurd (cc is)
+nothing-before raw (Wear skip) told snaps is = absurd (cc is)
+nothing-before raw (Lines skip) told snaps is = absurd (cc is)
 nothing-before raw Energy told snaps is = absurd (cc is)
 nothing-before raw Image told snaps is = refl
 nothing-before raw (Snapshots every) told snaps is = absurd (cc is)

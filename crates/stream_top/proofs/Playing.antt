@@ -8,12 +8,13 @@ use Rattle.module_prints.specs.Images.{HasImage}
 use Rattle.pcm_module.specs.{Replaying.Replays, State.ModuleState}
 use Rattle.row_printer.specs.{Printing.table_of, Refusing.any_refused, declared.snapshot.Snapshot.Snapshot, declared.told.Shown.Shown, declared.told.Told.Told}
 use Rattle.row_stream.specs.{Asking.{stays_off, with_cut}, Ending.{EndsShowing, HasEnded, told_along, without_cut}, Refusing.{EndsBehind, GoesAsFar, WentOn, tells_refusal}}
-use Rattle.row_stream.proofs.Refusals.{told-refusal}
 use Rattle.row_stream.specs.{Serving.{IsServing, Telling, told_so_far}, Sourcing.HasStopped, declared.stop.Stop.Stop, declared.stop.Stop.TheVariants.{Input, Late, Endless, Output}}
+use Rattle.row_stream.proofs.Refusals.{told-refusal}
 use Rattle.stream_words.specs.{Jobs.IsStreamJob, declared.job.StreamJob.StreamJob, declared.job.StreamPrint.TheVariants.Image}
 use Rattle.trace_stream.specs.declared.asked.Asked.{Asked}
 use Rattle.trace_stream.specs.declared.fault.StreamFault.TheVariants as from
-use Rattle.stream_top.specs.{Calls.LentSource, Streams.{ComeFrom, GoesAsFarAs, HasCause, HasPlayed, has_stopped, is_off, stop_fault, stops_at_refusal, told_of_rows}, declared.fault.Fault.TheVariants.Write}
+use Rattle.stream_top.specs.{Calls.LentSource, Streams.{ComeFrom, GoesAsFarAs, HasCause, HasPlayed, has_stopped, is_off, stop_fault, stops_at_refusal, told_of_rows}}
+use Rattle.stream_top.specs.declared.fault.Fault.TheVariants.{Write}
 
 -- a module to which nothing was handed yet has served nothing
 pub serves-none : {n m e : ℕ} (raw : RawShape) (seed : ℕ) (module_ : ModuleState n m e) (array : ArrayState n m) (shown : Shown) → module_.shape ≡ raw → module_.seed ≡ seed → module_.tick ≡ 0

@@ -14,11 +14,14 @@ use Rattle.right_images.specs.{SavesRun.SavesRunTo, Saving.saved_of}
 use Rattle.image_text.specs.Sensing.{SensesRows}
 use Rattle.run_text.specs.{Pulses.pulses_in_all, SummaryText.summary_text, declared.counts.Counts.Counts}
 use Rattle.pcm_module.specs.{Roles.spares_used, State.ModuleState}
-use Rattle.module_prints.specs.{Images.kept_in, WearReports.{HaveRoles, IsWearReport}}
+use Rattle.module_prints.specs.{Images.kept_in, PulsedLines.pulsed_text, WearReports.{HaveRoles, IsWearReport}}
+use Rattle.module_prints.specs.declared.pulsed.Report.TheVariants as of
 use Rattle.row_printer.specs.{Printing.table_of, declared.told.Told.Told}
 use Rattle.trace_stream.specs.{Asked.events_in, declared.asked.Asked.Asked}
 use Rattle.row_stream.specs.Ending.{HasEnded, rows_of}
-use Rattle.stream_words.specs.{declared.job.StreamPrint.StreamPrint, declared.job.StreamPrint.TheVariants.{Rows, Summary, Wear, Lines, Energy, Image, Snapshots}}
+use Rattle.stream_words.specs.{declared.job.Skip.Skip, declared.job.StreamPrint.StreamPrint}
+use Rattle.stream_words.specs.declared.job.StreamPrint.TheVariants.{Rows, Summary, Wear, Lines, Energy, Image, Snapshots}
+use Rattle.stream_words.specs.declared.job.Skip.TheVariants as skip
 
 -- rows left a module over an array, of whose lines the first, so many, were sensed since, each once and in their order, at tick 0: by the ends of its
 -- banks they are right over the array as it is now, and the module is saved as what these rows left, with each line's newest bytes
@@ -32,21 +35,30 @@ pub record Leaves {n m : ℕ} (off : Bool) (e : ℕ) (raw : RawShape) (seed : �
 abbrev pub senses_for : StreamPrint → ℕ → ℕ
 senses_for (Rows tell) lines = 0
 senses_for Summary lines = 0
-senses_for Wear lines = 0
-senses_for Lines lines = 0
+senses_for (Wear skip) lines = 0
+senses_for (Lines skip) lines = 0
 senses_for Energy lines = 0
 senses_for Image lines = lines
 senses_for (Snapshots every) lines = 0
+
+-- the wear report, and the report on lines, without the rows of the array lines that are left out
+abbrev pub wear_but : Skip → (ℕ → LineCells) → List (ℕ × ℕ × Role) → List ℕ
+wear_but skip.Nothing cells report = wear_text report
+wear_but skip.Unpulsed cells report = pulsed_text of.Wear cells report
+
+abbrev pub lines_but : Skip → (ℕ → LineCells) → List (ℕ × ℕ × Role) → List ℕ
+lines_but skip.Nothing cells report = lines_text cells report
+lines_but skip.Unpulsed cells report = pulsed_text of.Lines cells report
 
 -- what is written in the end of so many rows, of which so many had each outcome: by the ends of the banks, the array, what the
 -- cells of its lines say, and the module that is saved
 abbrev pub IsClosing : {n m : ℕ} → RawShape → ℕ → ℕ → Counts → (ℕ → BankEnd) → ArrayState n m → (ℕ → LineCells) → Saved n m → StreamPrint → List ℕ → Type 0
 IsClosing raw seed rows counts ends array cells saved (Rows tell) text = text ≡ []
 IsClosing raw seed rows counts ends array cells saved Summary text = text ≡ summary_text rows counts (spares_used raw ends) (pulses_in_all array)
-IsClosing raw seed rows counts ends array cells saved Wear text =
-    (report : List (ℕ × ℕ × Role)) × IsWearReport raw seed ends array report × (text ≡ wear_text report)
-IsClosing raw seed rows counts ends array cells saved Lines text =
-    (report : List (ℕ × ℕ × Role)) × IsWearReport raw seed ends array report × (text ≡ lines_text cells report)
+IsClosing raw seed rows counts ends array cells saved (Wear skip) text =
+    (report : List (ℕ × ℕ × Role)) × IsWearReport raw seed ends array report × (text ≡ wear_but skip cells report)
+IsClosing raw seed rows counts ends array cells saved (Lines skip) text =
+    (report : List (ℕ × ℕ × Role)) × IsWearReport raw seed ends array report × (text ≡ lines_but skip cells report)
 IsClosing raw seed rows counts ends array cells saved Energy text =
     text ≡ energy_report array.energy raw.banks (array_lines_of (module_of raw))
 IsClosing raw seed rows counts ends array cells saved Image text = text ≡ image_bytes saved

@@ -12,18 +12,18 @@ use Rattle.module_prints.specs.{Images.WritesRows, WearReports.cells_at}
 use Rattle.program_calls.specs.Calls.{Gets, GetsPart, IsUntouched, Lent, SinkChange, SinkFails}
 use Rattle.run_text.specs.{Counting.counts_of, Shortfall.any_short}
 use Rattle.row_printer.specs.{Printing.{stream_text, table_of}, Telling.{outcomes_in, TellsOnce}, declared.snapshot.Snapshot.Snapshot, declared.told.Shown.Shown}
-use Rattle.row_printer.specs.declared.told.{Told.Told, ToldShape.ToldShape}
+use Rattle.row_printer.specs.{declared.told.Told.Told, declared.told.ToldShape.ToldShape}
 use Rattle.row_printer.specs.declared.told.Shown.TheVariants as shown
-use Rattle.stream_words.specs.{Jobs.IsStreamJob, declared.job.End.End, declared.job.End.TheVariants.{Drain, Off}, declared.job.StreamJob.StreamJob, declared.job.StreamPrint.StreamPrint, declared.job.Until.Until}
-use Rattle.stream_words.specs.declared.job.{Tell.Tell, Tell.TheVariants.{Nothing, Shape}}
+use Rattle.stream_words.specs.{Jobs.IsStreamJob, declared.job.End.End, declared.job.End.TheVariants.{Drain, Off}, declared.job.StreamJob.StreamJob}
+use Rattle.stream_words.specs.{declared.job.StreamPrint.StreamPrint, declared.job.StreamPrint.TheVariants.{Rows, Summary, Wear, Lines, Energy, Image, Snapshots}}
+use Rattle.stream_words.specs.{declared.job.Tell.Tell, declared.job.Tell.TheVariants.{Nothing, Shape}, declared.job.Until.Until}
 use Rattle.stream_words.specs.declared.job.Until.TheVariants as up_to
-use Rattle.stream_words.specs.declared.job.StreamPrint.TheVariants.{Rows, Summary, Wear, Lines, Energy, Image, Snapshots}
 use Rattle.trace_gen.specs.Generated.{generated}
 use Rattle.trace_stream.specs.{Asked.events_in, Laws.all_events, declared.asked.Asked.Asked}
 use Rattle.trace_stream.specs.declared.fault.StreamFault.TheVariants as from
 use Rattle.row_stream.specs.{Asking.{BeginsWith, stays_off, with_cut}, Ending.{EndsShowing, HasEnded, SnapsAll, rows_of, told_along, without_cut}, Laws.TellsEach}
-use Rattle.row_stream.specs.{Refusing.{EndsBehind, MayGoOn, WentOn, tells_refusal}, Serving.{HasServed, SnapsAlong, Telling, TellsAlong}}
-use Rattle.row_stream.specs.{Sourcing.{HasStopped, IsRead, IsReadTo}, declared.stop.Stop.Stop, declared.stop.Stop.TheVariants.{Input as No, Late, Endless, Output}}
+use Rattle.row_stream.specs.{Refusing.{EndsBehind, MayGoOn, WentOn, tells_refusal}, Serving.{HasServed, SnapsAlong, Telling, TellsAlong}, Sourcing.{HasStopped, IsRead, IsReadTo}}
+use Rattle.row_stream.specs.{declared.stop.Stop.Stop, declared.stop.Stop.TheVariants.{Input as No, Late, Endless, Output}}
 use Rattle.stream_top.specs.{Calls.LentSource, Leaving.{IsClosing, Leaves, senses_for}, declared.done.Done.Done, declared.done.Done.TheVariants.{Whole, Short}}
 use Rattle.stream_top.specs.{declared.fault.Fault.Fault, declared.fault.Fault.TheVariants.{Usage, Trace, Read, Write, TooLong, NoMemory}}
 
@@ -52,8 +52,8 @@ shape_told raw Shape =
 abbrev pub shown_by : RawShape → StreamPrint → Shown
 shown_by raw (Rows tell) = shown.Rows (shape_told raw tell)
 shown_by raw Summary = shown.Nothing
-shown_by raw Wear = shown.Nothing
-shown_by raw Lines = shown.Nothing
+shown_by raw (Wear skip) = shown.Nothing
+shown_by raw (Lines skip) = shown.Nothing
 shown_by raw Energy = shown.Nothing
 shown_by raw Image = shown.Nothing
 shown_by raw (Snapshots every) = shown.Snapshots every

@@ -118,8 +118,8 @@ fn shown_of(raw: &RawShape, print: StreamPrint) -> Shown
     match print {
         StreamPrint::Rows(tell) => Shown::Rows(shape_told(raw, tell)),
         StreamPrint::Summary => Shown::Nothing,
-        StreamPrint::Wear => Shown::Nothing,
-        StreamPrint::Lines => Shown::Nothing,
+        StreamPrint::Wear(_) => Shown::Nothing,
+        StreamPrint::Lines(_) => Shown::Nothing,
         StreamPrint::Energy => Shown::Nothing,
         StreamPrint::Image => Shown::Nothing,
         StreamPrint::Snapshots(every) => Shown::Snapshots(every),

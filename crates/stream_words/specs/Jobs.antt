@@ -6,7 +6,8 @@ use Rattle.trace_gen.specs.Generated.{IsLongMix}
 use Rattle.module_shape.specs.Limits.{IsShape, IsSmall}
 use Rattle.command_line.specs.{Jobs.{answer_of, faults_at}, Options.{with_some, line_of, large_shape_of, seed_of, wear_of, input_of}, declared.job.Input.Input}
 use Rattle.command_line.specs.{declared.job.Input.TheVariants.{Source, Drawn}, declared.job.Refusal.Refusal}
-use Rattle.stream_words.specs.{Options.{IsPrint, can_be_printed, end_of, long_mix_of, print_of, until_of}, Table.stream_app, declared.job.StreamJob.StreamJob, declared.job.StreamPrint.TheVariants.Image}
+use Rattle.stream_words.specs.{Options.{IsPrint, can_be_printed, end_of, long_mix_of, print_of, until_of}, Table.stream_app, declared.job.StreamJob.StreamJob}
+use Rattle.stream_words.specs.declared.job.StreamPrint.TheVariants.{Image}
 
 -- a job that writes what can be written of its module
 abbrev pub fitting : StreamJob → Option StreamJob

@@ -5,18 +5,18 @@ use Rattle.trace_reader.specs.{Number.number_of, Rows.latest_tick}
 use Rattle.trace_gen.specs.{Generated.stream_lines, declared.mix.Mix.Mix}
 use Rattle.module_shape.specs.{Limits.is_small, declared.raw.RawShape.RawShape}
 use Rattle.command_line.specs.{Options.{mix_within, one_of_two, with_some}, declared.job.Input.Input, declared.job.Input.TheVariants.{Source, Drawn}}
-use Rattle.stream_words.specs.{declared.job.End.End, declared.job.End.TheVariants.{Drain, Off}, declared.job.StreamPrint.StreamPrint}
-use Rattle.stream_words.specs.declared.job.{Tell.Tell, Until.Until}
+use Rattle.stream_words.specs.{declared.job.End.End, declared.job.End.TheVariants.{Drain, Off}, declared.job.Skip.Skip, declared.job.StreamPrint.StreamPrint}
+use Rattle.stream_words.specs.{declared.job.StreamPrint.TheVariants.{Rows, Summary, Wear, Lines, Energy, Image, Snapshots}, declared.job.Tell.Tell, declared.job.Until.Until}
+use Rattle.stream_words.specs.declared.job.Skip.TheVariants as skip
 use Rattle.stream_words.specs.declared.job.Tell.TheVariants as tell
 use Rattle.stream_words.specs.declared.job.Until.TheVariants as up_to
-use Rattle.stream_words.specs.declared.job.StreamPrint.TheVariants.{Rows, Summary, Wear, Lines, Energy, Image, Snapshots}
 
 -- what a stream writes in the end alone
 abbrev pub closing_of : Text → Option StreamPrint
 closing_of text =
     if bytes_eq text (codes "summary") then Some Summary
-    else (if bytes_eq text (codes "wear") then Some Wear
-    else (if bytes_eq text (codes "lines") then Some Lines
+    else (if bytes_eq text (codes "wear") then Some (Wear skip.Nothing)
+    else (if bytes_eq text (codes "lines") then Some (Lines skip.Nothing)
     else (if bytes_eq text (codes "energy") then Some Energy
     else (if bytes_eq text (codes "image") then Some Image else None))))
 
@@ -52,18 +52,46 @@ abbrev pub plain_of : (print tell : Option Text) → Option StreamPrint
 plain_of None tell = told_rows tell
 plain_of (Some text) tell = if bytes_eq text (codes "rows") then told_rows tell else without tell (closing_of text)
 
--- what a stream writes: `--every` is for snapshots alone, and `--tell` for rows alone
-abbrev pub print_of : List Row → Option StreamPrint
-print_of rows =
+-- what a stream writes that leaves nothing out: `--every` is for snapshots alone, and `--tell` for rows alone
+abbrev pub whole_of : List Row → Option StreamPrint
+whole_of rows =
     if asks_snapshots (first_of (codes "print") rows) then snapshots_of rows
     else without (first_of (codes "every") rows) (plain_of (first_of (codes "print") rows) (first_of (codes "tell") rows))
+
+-- which array lines a report leaves out
+abbrev pub skip_of : Text → Option Skip
+skip_of text =
+    if bytes_eq text (codes "nothing") then Some skip.Nothing
+    else (if bytes_eq text (codes "unpulsed") then Some skip.Unpulsed else None)
+
+-- a report with a row for each array line, but for those
+abbrev pub report_of : Skip → Option Text → Option StreamPrint
+report_of skipped None = None
+report_of skipped (Some text) =
+    if bytes_eq text (codes "wear") then Some (Wear skipped)
+    else (if bytes_eq text (codes "lines") then Some (Lines skipped) else None)
+
+-- what a stream writes where this stands behind `--skip`, which is for those reports alone
+abbrev pub skipping_of : Text → List Row → Option StreamPrint
+skipping_of text rows =
+    without (first_of (codes "every") rows) (without (first_of (codes "tell") rows)
+    (with_some (skip_of text) (λ skipped. report_of skipped (first_of (codes "print") rows))))
+
+-- what a stream writes, by what stands behind `--skip`
+abbrev pub print_by : Option Text → List Row → Option StreamPrint
+print_by None rows = whole_of rows
+print_by (Some text) rows = skipping_of text rows
+
+-- what a stream writes
+abbrev pub print_of : List Row → Option StreamPrint
+print_of rows = print_by (first_of (codes "skip") rows) rows
 
 -- a snapshot stands of at least one row more
 abbrev pub IsPrint : StreamPrint → Type 0
 IsPrint (Rows told) = Unit {0}
 IsPrint Summary = Unit {0}
-IsPrint Wear = Unit {0}
-IsPrint Lines = Unit {0}
+IsPrint (Wear skipped) = Unit {0}
+IsPrint (Lines skipped) = Unit {0}
 IsPrint Energy = Unit {0}
 IsPrint Image = Unit {0}
 IsPrint (Snapshots every) = 1 ≤ every
@@ -77,8 +105,8 @@ is_read (Drawn mix) = false
 abbrev pub tells_energy : StreamPrint → Input → Bool
 tells_energy (Rows told) input = is_read input
 tells_energy Summary input = false
-tells_energy Wear input = false
-tells_energy Lines input = true
+tells_energy (Wear skipped) input = false
+tells_energy (Lines skipped) input = true
 tells_energy Energy input = true
 tells_energy Image input = false
 tells_energy (Snapshots every) input = true
@@ -103,8 +131,8 @@ long_mix_of rows = with_some (mix_within 4000000000 stream_lines rows) in_time
 abbrev pub can_be_printed : RawShape → StreamPrint → Bool
 can_be_printed raw (Rows told) = true
 can_be_printed raw Summary = true
-can_be_printed raw Wear = true
-can_be_printed raw Lines = true
+can_be_printed raw (Wear skipped) = true
+can_be_printed raw (Lines skipped) = true
 can_be_printed raw Energy = true
 can_be_printed raw Image = is_small raw
 can_be_printed raw (Snapshots every) = true

@@ -34,10 +34,10 @@ pub enum StreamPrint {
     Rows(Tell),
     /// How many rows had each outcome.
     Summary,
-    /// A row for each array line.
-    Wear,
+    /// A row for each array line, but for those that are left out.
+    Wear(Skip),
     /// The same, and what the cells of the line say.
-    Lines,
+    Lines(Skip),
     /// A row for each bank, and one for the module: how often lines were sensed and cells driven.
     Energy,
     /// The module as it stands in the end, as bytes.
@@ -55,16 +55,25 @@ pub enum Tell {
     Shape,
 }
 
+/// Which array lines a report leaves out.
+#[derive(Clone, Copy, Debug, Drop, PartialEq, Eq)]
+pub enum Skip {
+    /// None.
+    Nothing,
+    /// Those that were never pulsed.
+    Unpulsed,
+}
+
 impl StreamJob {
     /// Whether it may tell how often lines were sensed and cells driven: where it doesn't, an array needn't count that.
     pub fn tells_energy(&self) -> bool
         ensures { result ≡ tells_energy self.now.print self.now.input }
     {
         match self.print {
-            StreamPrint::Lines | StreamPrint::Energy | StreamPrint::Snapshots(_) => true,
+            StreamPrint::Lines(_) | StreamPrint::Energy | StreamPrint::Snapshots(_) => true,
             // One of the rows may be a look.
             StreamPrint::Rows(_) => is_read(&self.input),
-            StreamPrint::Summary | StreamPrint::Wear | StreamPrint::Image => false,
+            StreamPrint::Summary | StreamPrint::Wear(_) | StreamPrint::Image => false,
         }
     }
 }

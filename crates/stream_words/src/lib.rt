@@ -1,5 +1,5 @@
 //! The words of the program of streams: options alone, as `clap` reads them. They are those of `pcm run`, with other
-//! values of `--print`, longer drawn traces, `--end`, `--every`, `--until` and `--tell`.
+//! values of `--print`, longer drawn traces, `--end`, `--every`, `--until`, `--tell` and `--skip`.
 #![tactic(auto)]
 
 mod job;
@@ -7,5 +7,5 @@ mod options;
 mod read;
 mod table;
 
-pub use job::{End, StreamJob, StreamPrint, Tell, Until};
+pub use job::{End, Skip, StreamJob, StreamPrint, Tell, Until};
 pub use read::read_stream_job;

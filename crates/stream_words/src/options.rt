@@ -1,12 +1,13 @@
 // What the options of a stream mean, where it isn't what those of a run mean.
-ghost use Rattle.std.specs.Prelude.{◌≡◌, ◌≤◌, IfSome, IsTrue, codes};
+ghost use Rattle.std.specs.Prelude.{◌≡◌, ◌≤◌, IfSome, IsTrue, codes, option_map};
 ghost use Rattle.module_shape.specs.Limits.{IsSmall};
 ghost use Rattle.stream_words.specs.declared.job.StreamPrint.TheVariants.{Image};
 ghost use Rattle.clap.specs.Words.{first_of, found_of, rows_of};
+ghost use Rattle.command_line.specs.Options.{with_some};
 ghost use Rattle.trace_gen.specs.Generated.{IsLongMix};
-ghost use Rattle.stream_words.specs.Options.{IsPrint, can_be_printed, closing_of, end_of, every_of, long_mix_of, plain_of, print_of, snapshots_of, tell_of, told_rows, until_of, without};
+ghost use Rattle.stream_words.specs.Options.{IsPrint, can_be_printed, closing_of, end_of, every_of, long_mix_of, plain_of, print_of, report_of, skip_of, skipping_of, snapshots_of, tell_of, told_rows, until_of, whole_of, without};
 
-use crate::job::{End, StreamPrint, Tell, Until};
+use crate::job::{End, Skip, StreamPrint, Tell, Until};
 use clap::ArgMatches;
 use command_line::options::{mix_within, value};
 use module_shape::Shape;
@@ -31,6 +32,67 @@ fn every(matches: &ArgMatches<'_>) -> Option<u32>
 // What a stream writes.
 pub(crate) fn print(matches: &ArgMatches<'_>) -> Option<StreamPrint>
     ensures exact { result ≡ print_of (rows_of (found_of matches.now)) }
+    ensures in_range { IfSome result IsPrint }
+{
+    match value(matches, "skip") {
+        None => whole(matches),
+        Some(text) => skipping(matches, text),
+    }
+}
+
+// A report that may leave array lines out: of how many rows more each snapshot stands is asked for with others.
+fn skipping(matches: &ArgMatches<'_>, text: &str) -> Option<StreamPrint>
+    ensures exact { result ≡ skipping_of text.now (rows_of (found_of matches.now)) }
+    ensures in_range { IfSome result IsPrint }
+{
+    match value(matches, "every") {
+        None => untold(matches, text),
+        Some(_) => None,
+    }
+}
+
+// The same, and what is told in front is asked for with others, too.
+fn untold(matches: &ArgMatches<'_>, text: &str) -> Option<StreamPrint>
+    ensures exact { result ≡ without (first_of (codes "tell") (rows_of (found_of matches.now)))
+        (with_some (skip_of text.now) (λ skipped. report_of skipped
+        (first_of (codes "print") (rows_of (found_of matches.now))))) }
+    ensures in_range { IfSome result IsPrint }
+{
+    match value(matches, "tell") {
+        None => {
+            let skip = skip(text)?;
+            report(skip, value(matches, "print"))
+        }
+        Some(_) => None,
+    }
+}
+
+// A report with a row for each array line, but for those that are left out.
+fn report(skip: Skip, print: Option<&str>) -> Option<StreamPrint>
+    ensures exact { result ≡ report_of skip (option_map (λ s. s.now) print.entry) }
+    ensures in_range { IfSome result IsPrint }
+{
+    match print {
+        Some("wear") => Some(StreamPrint::Wear(skip)),
+        Some("lines") => Some(StreamPrint::Lines(skip)),
+        _ => None,
+    }
+}
+
+// Which array lines a report leaves out.
+fn skip(text: &str) -> Option<Skip>
+    ensures { result ≡ skip_of text.now }
+{
+    match text {
+        "nothing" => Some(Skip::Nothing),
+        "unpulsed" => Some(Skip::Unpulsed),
+        _ => None,
+    }
+}
+
+// What a stream writes that leaves nothing out.
+fn whole(matches: &ArgMatches<'_>) -> Option<StreamPrint>
+    ensures exact { result ≡ whole_of (rows_of (found_of matches.now)) }
     ensures in_range { IfSome result IsPrint }
 {
     if let Some("snapshots") = value(matches, "print") {
@@ -108,8 +170,8 @@ fn closing(print: &str) -> Option<StreamPrint>
 {
     match print {
         "summary" => Some(StreamPrint::Summary),
-        "wear" => Some(StreamPrint::Wear),
-        "lines" => Some(StreamPrint::Lines),
+        "wear" => Some(StreamPrint::Wear(Skip::Nothing)),
+        "lines" => Some(StreamPrint::Lines(Skip::Nothing)),
         "energy" => Some(StreamPrint::Energy),
         "image" => Some(StreamPrint::Image),
         _ => None,

@@ -15,6 +15,7 @@ pub(crate) fn stream_command<'a>(alloc: Global) -> Result<Command<'a>, AllocErro
     let run = run_command(alloc, "pcm_stream")?;
     let ends = add_option(alloc, add_option(alloc, run, "end")?, "every")?;
     let bounded = add_option(alloc, ends, "until")?;
-    let command = add_option(alloc, bounded, "tell")?;
+    let telling = add_option(alloc, bounded, "tell")?;
+    let command = add_option(alloc, telling, "skip")?;
     Ok(command.disable_help_flag(true).no_binary_name(true))
 }

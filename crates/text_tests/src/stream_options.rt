@@ -2,7 +2,7 @@ use crate::expected::compare;
 use command_line::{Input, LineSize, Refusal};
 use module_shape::{Home, Policy, RawShape};
 use std::alloc::{AllocError, Global};
-use stream_words::{End, StreamJob, StreamPrint, Tell, Until, read_stream_job};
+use stream_words::{End, Skip, StreamJob, StreamPrint, Tell, Until, read_stream_job};
 use trace_gen::Mix;
 
 // The job of a line of words.
@@ -122,7 +122,7 @@ const LATEST: Mix = Mix {
 };
 
 // Two dashes end the options.
-static ENDS: [(&str, (StreamPrint, Input, End, Until)); 13] = [
+static ENDS: [(&str, (StreamPrint, Input, End, Until)); 16] = [
     ("", (PLAIN, Input::Source, End::Drain, Until::End)),
     (
         "--print image --input drawn --rows 4000000000 --write-percent 100 --cuts 4000000000 --step 274 --hot 3 --end off",
@@ -139,7 +139,12 @@ static ENDS: [(&str, (StreamPrint, Input, End, Until)); 13] = [
     ),
     (
         "--print wear --input source --end off --",
-        (StreamPrint::Wear, Input::Source, End::Off, Until::End),
+        (
+            StreamPrint::Wear(Skip::Nothing),
+            Input::Source,
+            End::Off,
+            Until::End,
+        ),
     ),
     (
         "--print rows",
@@ -147,7 +152,39 @@ static ENDS: [(&str, (StreamPrint, Input, End, Until)); 13] = [
     ),
     (
         "--print lines",
-        (StreamPrint::Lines, Input::Source, End::Drain, Until::End),
+        (
+            StreamPrint::Lines(Skip::Nothing),
+            Input::Source,
+            End::Drain,
+            Until::End,
+        ),
+    ),
+    (
+        "--skip unpulsed --print=lines",
+        (
+            StreamPrint::Lines(Skip::Unpulsed),
+            Input::Source,
+            End::Drain,
+            Until::End,
+        ),
+    ),
+    (
+        "--print wear --skip=unpulsed",
+        (
+            StreamPrint::Wear(Skip::Unpulsed),
+            Input::Source,
+            End::Drain,
+            Until::End,
+        ),
+    ),
+    (
+        "--print wear --skip nothing",
+        (
+            StreamPrint::Wear(Skip::Nothing),
+            Input::Source,
+            End::Drain,
+            Until::End,
+        ),
     ),
     (
         "--print snapshots",
@@ -201,7 +238,7 @@ fn a_stream_may_be_long_and_end_without_power(rt: HostRuntime) {
     }
 }
 
-static REFUSED: [&str; 40] = [
+static REFUSED: [&str; 48] = [
     "run",
     "3",
     "--help",
@@ -242,6 +279,14 @@ static REFUSED: [&str; 40] = [
     "--tell shape --print summary",
     "--print snapshots --tell shape",
     "--print energy --tell nothing",
+    "--skip",
+    "--skip unpulsed",
+    "--print wear --skip",
+    "--print wear --skip=",
+    "--print lines --skip pulsed",
+    "--print wear --skip unpulsed --skip unpulsed",
+    "--print summary --skip nothing",
+    "--print snapshots --skip unpulsed",
 ];
 
 fn is_refused(alloc: Global, line: &str) -> bool {

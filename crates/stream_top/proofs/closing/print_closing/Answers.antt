@@ -5,8 +5,11 @@ use Rattle.run_text.proofs.Gathered.{on_err, on_ok}
 use Rattle.right_images.specs.Saving.{saved_of}
 use Rattle.image_text.{specs.Sensing.{SensesRows, SensesSome}, proofs.Sensing.senses-none}
 use Rattle.module_prints.specs.{Images.{WritesRows, kept_in}, WearReports.cells_at}
+use Rattle.stream_words.specs.declared.job.StreamPrint.TheVariants.{Wear, Lines}
+use Rattle.stream_words.specs.declared.job.Skip.TheVariants as skip
 use Rattle.stream_top.specs.Leaving.{senses_for}
-use Rattle.stream_top.proofs.EndText.{energy-closes, image-closes, lines-closes, no-image, nothing-closes, senses-nothing, snapshots-close, summary-bytes, summary-closes, wear-closes}
+use Rattle.stream_top.proofs.EndText.{energy-closes, image-closes, lines-closes, no-image, nothing-closes, senses-nothing, snapshots-close, summary-bytes, summary-closes}
+use Rattle.stream_top.proofs.EndText.{wear-closes}
 use Rattle.stream_top.proofs.closing.print_closing.Goals as goal
 
 pub returns-in-Rows-clause-ok : goal.returns-in-Rows-clause-ok
@@ -69,57 +72,109 @@ returns-in-Summary-clause-all g c =
 pub returns-in-Summary-clause-untouched : goal.returns-in-Summary-clause-untouched
 returns-in-Summary-clause-untouched g c = λ other. refl
 
-pub returns-in-Wear-clause-ok : goal.returns-in-Wear-clause-ok
-returns-in-Wear-clause-ok g c =
+pub returns-in-Wear-Nothing-clause-ok : goal.returns-in-Wear-Nothing-clause-ok
+returns-in-Wear-Nothing-clause-ok g c =
     on_ok c.print_wear.result _ _ c.print_wear.ensures.ok
     (wear-closes c.args.pcm.now (g.A.CellArray.state c.args.array.now) (cells_at g.row.E (g.A.CellArray.state c.args.array.now) (g.A.TellsCells.changes c.args.array.now)) c.args.rows c.args.counts.now c.args.job.now.print
-    (λ whole. Appends (g.K.Sink.written c.args.out.now) (g.K.Sink.written c.print_wear.new.out) whole) c.in-Wear.is)
+    (λ whole. Appends (g.K.Sink.written c.args.out.now) (g.K.Sink.written c.print_wear.new.out) whole) skip.Nothing (c.in-Wear-Nothing.is ∙ ap Wear (rw c.in-Wear-Nothing.is at c.in-Wear-Nothing.field-0-is)))
 
-pub returns-in-Wear-clause-prefix : goal.returns-in-Wear-clause-prefix
-returns-in-Wear-clause-prefix g c =
+pub returns-in-Wear-Nothing-clause-prefix : goal.returns-in-Wear-Nothing-clause-prefix
+returns-in-Wear-Nothing-clause-prefix g c =
     on_err c.print_wear.result _ _ c.print_wear.ensures.prefix
     (wear-closes c.args.pcm.now (g.A.CellArray.state c.args.array.now) (cells_at g.row.E (g.A.CellArray.state c.args.array.now) (g.A.TellsCells.changes c.args.array.now)) c.args.rows c.args.counts.now c.args.job.now.print
-    (λ whole. AppendsPrefix (g.K.Sink.written c.args.out.now) (g.K.Sink.written c.print_wear.new.out) whole) c.in-Wear.is)
+    (λ whole. AppendsPrefix (g.K.Sink.written c.args.out.now) (g.K.Sink.written c.print_wear.new.out) whole) skip.Nothing (c.in-Wear-Nothing.is ∙ ap Wear (rw c.in-Wear-Nothing.is at c.in-Wear-Nothing.field-0-is)))
 
-pub returns-in-Wear-clause-part : goal.returns-in-Wear-clause-part
-returns-in-Wear-clause-part g c = no-image c.print_wear.result c.args.job.now.print _ (λ is. absurd (cc (sym is ∙ c.in-Wear.is)))
+pub returns-in-Wear-Nothing-clause-part : goal.returns-in-Wear-Nothing-clause-part
+returns-in-Wear-Nothing-clause-part g c = no-image c.print_wear.result c.args.job.now.print _ (λ is. absurd (cc (sym is ∙ c.in-Wear-Nothing.is)))
 
-pub returns-in-Wear-clause-sensed : goal.returns-in-Wear-clause-sensed
-returns-in-Wear-clause-sensed g c = (0, omega arith, senses-none (g.A.CellArray.state c.args.array.now))
+pub returns-in-Wear-Nothing-clause-sensed : goal.returns-in-Wear-Nothing-clause-sensed
+returns-in-Wear-Nothing-clause-sensed g c = (0, omega arith, senses-none (g.A.CellArray.state c.args.array.now))
 
-pub returns-in-Wear-clause-all : goal.returns-in-Wear-clause-all
-returns-in-Wear-clause-all g c =
+pub returns-in-Wear-Nothing-clause-all : goal.returns-in-Wear-Nothing-clause-all
+returns-in-Wear-Nothing-clause-all g c =
     let array = g.A.CellArray.state c.args.array.now in
-    senses-nothing c.print_wear.result c.args.job.now.print array (ap (λ p. senses_for p array.lines) c.in-Wear.is)
+    senses-nothing c.print_wear.result c.args.job.now.print array (ap (λ p. senses_for p array.lines) c.in-Wear-Nothing.is)
 
-pub returns-in-Wear-clause-untouched : goal.returns-in-Wear-clause-untouched
-returns-in-Wear-clause-untouched g c = λ other. refl
+pub returns-in-Wear-Nothing-clause-untouched : goal.returns-in-Wear-Nothing-clause-untouched
+returns-in-Wear-Nothing-clause-untouched g c = λ other. refl
 
-pub returns-in-Lines-clause-ok : goal.returns-in-Lines-clause-ok
-returns-in-Lines-clause-ok g c =
+pub returns-in-Wear-Unpulsed-clause-ok : goal.returns-in-Wear-Unpulsed-clause-ok
+returns-in-Wear-Unpulsed-clause-ok g c =
+    on_ok c.print_pulsed.result _ _ c.print_pulsed.ensures.ok
+    (wear-closes c.args.pcm.now (g.A.CellArray.state c.args.array.now) (cells_at g.row.E (g.A.CellArray.state c.args.array.now) (g.A.TellsCells.changes c.args.array.now)) c.args.rows c.args.counts.now c.args.job.now.print
+    (λ whole. Appends (g.K.Sink.written c.args.out.now) (g.K.Sink.written c.print_pulsed.new.out) whole) skip.Unpulsed (c.in-Wear-Unpulsed.is ∙ ap Wear (rw c.in-Wear-Unpulsed.is at c.in-Wear-Unpulsed.field-0-is)))
+
+pub returns-in-Wear-Unpulsed-clause-prefix : goal.returns-in-Wear-Unpulsed-clause-prefix
+returns-in-Wear-Unpulsed-clause-prefix g c =
+    on_err c.print_pulsed.result _ _ c.print_pulsed.ensures.prefix
+    (wear-closes c.args.pcm.now (g.A.CellArray.state c.args.array.now) (cells_at g.row.E (g.A.CellArray.state c.args.array.now) (g.A.TellsCells.changes c.args.array.now)) c.args.rows c.args.counts.now c.args.job.now.print
+    (λ whole. AppendsPrefix (g.K.Sink.written c.args.out.now) (g.K.Sink.written c.print_pulsed.new.out) whole) skip.Unpulsed (c.in-Wear-Unpulsed.is ∙ ap Wear (rw c.in-Wear-Unpulsed.is at c.in-Wear-Unpulsed.field-0-is)))
+
+pub returns-in-Wear-Unpulsed-clause-part : goal.returns-in-Wear-Unpulsed-clause-part
+returns-in-Wear-Unpulsed-clause-part g c = no-image c.print_pulsed.result c.args.job.now.print _ (λ is. absurd (cc (sym is ∙ c.in-Wear-Unpulsed.is)))
+
+pub returns-in-Wear-Unpulsed-clause-sensed : goal.returns-in-Wear-Unpulsed-clause-sensed
+returns-in-Wear-Unpulsed-clause-sensed g c = (0, omega arith, senses-none (g.A.CellArray.state c.args.array.now))
+
+pub returns-in-Wear-Unpulsed-clause-all : goal.returns-in-Wear-Unpulsed-clause-all
+returns-in-Wear-Unpulsed-clause-all g c =
+    let array = g.A.CellArray.state c.args.array.now in
+    senses-nothing c.print_pulsed.result c.args.job.now.print array (ap (λ p. senses_for p array.lines) c.in-Wear-Unpulsed.is)
+
+pub returns-in-Wear-Unpulsed-clause-untouched : goal.returns-in-Wear-Unpulsed-clause-untouched
+returns-in-Wear-Unpulsed-clause-untouched g c = λ other. refl
+
+pub returns-in-Lines-Nothing-clause-ok : goal.returns-in-Lines-Nothing-clause-ok
+returns-in-Lines-Nothing-clause-ok g c =
     on_ok c.print_lines.result _ _ c.print_lines.ensures.ok
     (lines-closes c.args.pcm.now (g.A.CellArray.state c.args.array.now) (cells_at g.row.E (g.A.CellArray.state c.args.array.now) (g.A.TellsCells.changes c.args.array.now)) c.args.rows c.args.counts.now c.args.job.now.print
-    (λ whole. Appends (g.K.Sink.written c.args.out.now) (g.K.Sink.written c.print_lines.new.out) whole) c.in-Lines.is)
+    (λ whole. Appends (g.K.Sink.written c.args.out.now) (g.K.Sink.written c.print_lines.new.out) whole) skip.Nothing (c.in-Lines-Nothing.is ∙ ap Lines (rw c.in-Lines-Nothing.is at c.in-Lines-Nothing.field-0-is)))
 
-pub returns-in-Lines-clause-prefix : goal.returns-in-Lines-clause-prefix
-returns-in-Lines-clause-prefix g c =
+pub returns-in-Lines-Nothing-clause-prefix : goal.returns-in-Lines-Nothing-clause-prefix
+returns-in-Lines-Nothing-clause-prefix g c =
     on_err c.print_lines.result _ _ c.print_lines.ensures.prefix
     (lines-closes c.args.pcm.now (g.A.CellArray.state c.args.array.now) (cells_at g.row.E (g.A.CellArray.state c.args.array.now) (g.A.TellsCells.changes c.args.array.now)) c.args.rows c.args.counts.now c.args.job.now.print
-    (λ whole. AppendsPrefix (g.K.Sink.written c.args.out.now) (g.K.Sink.written c.print_lines.new.out) whole) c.in-Lines.is)
+    (λ whole. AppendsPrefix (g.K.Sink.written c.args.out.now) (g.K.Sink.written c.print_lines.new.out) whole) skip.Nothing (c.in-Lines-Nothing.is ∙ ap Lines (rw c.in-Lines-Nothing.is at c.in-Lines-Nothing.field-0-is)))
 
-pub returns-in-Lines-clause-part : goal.returns-in-Lines-clause-part
-returns-in-Lines-clause-part g c = no-image c.print_lines.result c.args.job.now.print _ (λ is. absurd (cc (sym is ∙ c.in-Lines.is)))
+pub returns-in-Lines-Nothing-clause-part : goal.returns-in-Lines-Nothing-clause-part
+returns-in-Lines-Nothing-clause-part g c = no-image c.print_lines.result c.args.job.now.print _ (λ is. absurd (cc (sym is ∙ c.in-Lines-Nothing.is)))
 
-pub returns-in-Lines-clause-sensed : goal.returns-in-Lines-clause-sensed
-returns-in-Lines-clause-sensed g c = (0, omega arith, senses-none (g.A.CellArray.state c.args.array.now))
+pub returns-in-Lines-Nothing-clause-sensed : goal.returns-in-Lines-Nothing-clause-sensed
+returns-in-Lines-Nothing-clause-sensed g c = (0, omega arith, senses-none (g.A.CellArray.state c.args.array.now))
 
-pub returns-in-Lines-clause-all : goal.returns-in-Lines-clause-all
-returns-in-Lines-clause-all g c =
+pub returns-in-Lines-Nothing-clause-all : goal.returns-in-Lines-Nothing-clause-all
+returns-in-Lines-Nothing-clause-all g c =
     let array = g.A.CellArray.state c.args.array.now in
-    senses-nothing c.print_lines.result c.args.job.now.print array (ap (λ p. senses_for p array.lines) c.in-Lines.is)
+    senses-nothing c.print_lines.result c.args.job.now.print array (ap (λ p. senses_for p array.lines) c.in-Lines-Nothing.is)
 
-pub returns-in-Lines-clause-untouched : goal.returns-in-Lines-clause-untouched
-returns-in-Lines-clause-untouched g c = λ other. refl
+pub returns-in-Lines-Nothing-clause-untouched : goal.returns-in-Lines-Nothing-clause-untouched
+returns-in-Lines-Nothing-clause-untouched g c = λ other. refl
+
+pub returns-in-Lines-Unpulsed-clause-ok : goal.returns-in-Lines-Unpulsed-clause-ok
+returns-in-Lines-Unpulsed-clause-ok g c =
+    on_ok c.print_pulsed-in-Lines-Unpulsed.result _ _ c.print_pulsed-in-Lines-Unpulsed.ensures.ok
+    (lines-closes c.args.pcm.now (g.A.CellArray.state c.args.array.now) (cells_at g.row.E (g.A.CellArray.state c.args.array.now) (g.A.TellsCells.changes c.args.array.now)) c.args.rows c.args.counts.now c.args.job.now.print
+    (λ whole. Appends (g.K.Sink.written c.args.out.now) (g.K.Sink.written c.print_pulsed-in-Lines-Unpulsed.new.out) whole) skip.Unpulsed (c.in-Lines-Unpulsed.is ∙ ap Lines (rw c.in-Lines-Unpulsed.is at c.in-Lines-Unpulsed.field-0-is)))
+
+pub returns-in-Lines-Unpulsed-clause-prefix : goal.returns-in-Lines-Unpulsed-clause-prefix
+returns-in-Lines-Unpulsed-clause-prefix g c =
+    on_err c.print_pulsed-in-Lines-Unpulsed.result _ _ c.print_pulsed-in-Lines-Unpulsed.ensures.prefix
+    (lines-closes c.args.pcm.now (g.A.CellArray.state c.args.array.now) (cells_at g.row.E (g.A.CellArray.state c.args.array.now) (g.A.TellsCells.changes c.args.array.now)) c.args.rows c.args.counts.now c.args.job.now.print
+    (λ whole. AppendsPrefix (g.K.Sink.written c.args.out.now) (g.K.Sink.written c.print_pulsed-in-Lines-Unpulsed.new.out) whole) skip.Unpulsed (c.in-Lines-Unpulsed.is ∙ ap Lines (rw c.in-Lines-Unpulsed.is at c.in-Lines-Unpulsed.field-0-is)))
+
+pub returns-in-Lines-Unpulsed-clause-part : goal.returns-in-Lines-Unpulsed-clause-part
+returns-in-Lines-Unpulsed-clause-part g c = no-image c.print_pulsed-in-Lines-Unpulsed.result c.args.job.now.print _ (λ is. absurd (cc (sym is ∙ c.in-Lines-Unpulsed.is)))
+
+pub returns-in-Lines-Unpulsed-clause-sensed : goal.returns-in-Lines-Unpulsed-clause-sensed
+returns-in-Lines-Unpulsed-clause-sensed g c = (0, omega arith, senses-none (g.A.CellArray.state c.args.array.now))
+
+pub returns-in-Lines-Unpulsed-clause-all : goal.returns-in-Lines-Unpulsed-clause-all
+returns-in-Lines-Unpulsed-clause-all g c =
+    let array = g.A.CellArray.state c.args.array.now in
+    senses-nothing c.print_pulsed-in-Lines-Unpulsed.result c.args.job.now.print array (ap (λ p. senses_for p array.lines) c.in-Lines-Unpulsed.is)
+
+pub returns-in-Lines-Unpulsed-clause-untouched : goal.returns-in-Lines-Unpulsed-clause-untouched
+returns-in-Lines-Unpulsed-clause-untouched g c = λ other. refl
 
 pub returns-in-Energy-clause-ok : goal.returns-in-Energy-clause-ok
 returns-in-Energy-clause-ok g c =

@@ -1,8 +1,8 @@
 use Rattle.std.proofs.Common.{◌≡◌, ◌∙◌, ℕ, List, Bool, inl, inr, Err, ap, subst}
 use Rattle.row_printer.specs.{Printing.table_told, declared.snapshot.Snapshot.Snapshot, declared.told.Shown.Shown, declared.told.Told.Told}
 use Rattle.row_stream.{specs.Serving.told_so_far, proofs.Alike.told-same}
-use Rattle.stream_top.specs.{Calls.source_between, Streams.{GoesAsFarAs, HasPlayed, StopsBy, done_by, has_stopped, told_of_rows}, declared.fault.Fault.Fault, declared.fault.Fault.TheVariants.Write}
-use Rattle.stream_top.proofs.Playing.{stopped-of}
+use Rattle.stream_top.specs.{Calls.source_between, Streams.{GoesAsFarAs, HasPlayed, StopsBy, done_by, has_stopped, told_of_rows}, declared.fault.Fault.Fault}
+use Rattle.stream_top.{specs.declared.fault.Fault.TheVariants.Write, proofs.Playing.stopped-of}
 use Rattle.stream_top.proofs.serving.play.Goals as goal
 
 pub returns-in-Err-clause-part : goal.returns-in-Err-clause-part

@@ -3,8 +3,7 @@ use Rattle.row_stream.specs.Asking.{stays_off, with_cut}
 use Rattle.bank_timing.proofs.Sizes.{timed_fits}
 use Rattle.program_calls.specs.Calls.{sink_change}
 use Rattle.stream_top.specs.{Calls.source_between, Leaving.senses_for, Streams.{is_off, shown_by}}
-use Rattle.stream_top.proofs.Keeping.{calm-done, calm-fault, never-failed, stream-breaks, stream-part, stream-stops, stream-whole}
-use Rattle.stream_top.proofs.Playing.{has-image}
+use Rattle.stream_top.proofs.{Keeping.{calm-done, calm-fault, never-failed, stream-breaks, stream-part, stream-stops, stream-whole}, Playing.has-image}
 use Rattle.stream_top.proofs.serving.stream.Goals as goal
 
 pub drop-pcm-inside-requires-room-T-Destruct : goal.drop-pcm-inside-requires-room-T-Destruct
