@@ -11,20 +11,29 @@ use Rattle.row_printer.specs.{Printing.table_of, Snapshots.{AddsDue, takes_snaps
 use Rattle.run_text.specs.{Counting.counts_of, Pulses.pulses_in_all, SummaryText.summary_text}
 use Rattle.stream_words.specs.declared.job.StreamJob.{StreamJob}
 use Rattle.trace_stream.specs.{Asked.events_in, Laws.all_events, declared.asked.Asked.Asked}
-use Rattle.row_stream.specs.{Asking.{BeginsWith, tick_reached, with_cut}, Ending.{told_along, without_cut}, Looking.IsSnapshot, Serving.Telling, Sourcing.{IsRead, IsReadTo}}
+use Rattle.row_stream.specs.{Asking.{BeginsWith, stays_off, tick_reached, with_cut}, Ending.{told_along, without_cut}, Looking.IsSnapshot, Serving.Telling, Sourcing.{IsRead, IsReadTo}}
 use Rattle.stream_top.specs.{Calls.LentSource, Promises.{Breaks, BreaksOn, Call, Does, DoesOn, KeepsPromises, Stops as StopsCall, StopsOn}}
 use Rattle.stream_top.specs.Streams.{BeginsInPart, BreaksOff, ComeFrom, GoesAsFarAs, IsServed, IsServedInPart, Streams, StreamsInPart, StreamsUpTo, done_by, is_off, shown_by}
 use Rattle.stream_top.specs.{Streams.{stops_at_refusal, told_in_part}, declared.done.Done.Done, declared.fault.Fault.Fault}
 use Rattle.stream_top.specs.declared.fault.Fault.TheVariants.{Usage, Trace, Read, Write, TooLong, NoMemory}
 use Rattle.moment_laws.specs.Moments.{MomentLaw}
 use Rattle.settle_laws.specs.Streams.{BegunStreamLaw, WholeStreamLaw}
+use Rattle.snapshot_laws.specs.Rising.{EndedLaw, SoFarLaw}
 use Rattle.stream_promise.specs.Promise.{BeginsInPartByRows, BreakByRows, BreaksByRows, BreaksOnRows, ComeByRows, DoesByRows, DoesOnRows, EndsInPartByRows, EndsRows, GoesOnTo}
 use Rattle.stream_promise.specs.Promise.{IsServedByRows, IsServedInPartByRows, LastSnapshotLaw, PromisesByRows, StopByRows, StopsByRows, StopsOnRows, StreamsByRows}
 use Rattle.stream_promise.specs.Rows.{is_refusal_told}
 use Rattle.stream_promise.proofs.{Rows.{adds, by-rows, counts-rows, cut-same, end-where, rows-of, snaps-by-rows, without-refusal, without-refusal-before}, Spares.used-alike}
 use Rattle.pcm_module.specs.Roles.{spares_used}
 
-module _ {S : Type 0} (moment : MomentLaw) (whole : WholeStreamLaw S) (begun : BegunStreamLaw S) (n m e : ℕ) (job : StreamJob) (source : LentSource S) where
+-- the laws of streams by which it does
+pub record StreamLaws (S : Type 0) : Type 0 where
+  pub moment : MomentLaw
+  pub whole : WholeStreamLaw S
+  pub begun : BegunStreamLaw S
+  pub ended_rises : EndedLaw
+  pub so_far_rises : SoFarLaw
+
+module _ {S : Type 0} (laws : StreamLaws S) (n m e : ℕ) (job : StreamJob) (source : LentSource S) where
   come : (input : Input) (asked : List (Asked n)) (telling : Telling n m e job.shape job.seed asked) → ComeFrom n m e job source input asked telling
       → ComeByRows n m e job source input asked (rows-of e job.shape job.seed asked telling)
   come Source asked telling is =
@@ -66,7 +75,7 @@ module _ {S : Type 0} (moment : MomentLaw) (whole : WholeStreamLaw S) (begun : B
           counted = served.ended.counted;
           once = served.once;
           each = served.each;
-          in_time = whole n m e job source array told served;
+          in_time = laws.whole n m e job source array told served;
           ends = served.ended.ends;
           before = served.before;
           sensed = served.sensed;
@@ -89,6 +98,9 @@ module _ {S : Type 0} (moment : MomentLaw) (whole : WholeStreamLaw S) (begun : B
                   wear = is.wear;
                 }) served.snaps.2,
           );
+          rise =
+              laws.ended_rises n m e job.shape job.seed (stays_off (is_off job.end) served.asked) asked served.module_ served.before served.places told (shown_by job.shape job.print) served.snapshots
+              served.once (served.ended, served.snaps);
           untouched = served.untouched;
           wear = served.wear;
         }
@@ -97,13 +109,15 @@ module _ {S : Type 0} (moment : MomentLaw) (whole : WholeStreamLaw S) (begun : B
     abbrev part-by-rows : (asked : List (Asked n)) (told : List (Told n)) → IsServedInPart n m e job source array asked told → IsServedInPartByRows n m e job source array asked told
     part-by-rows asked told served =
         let kept =
-        moment n m e job.shape job.seed (events_in asked) served.history served.module_ array (table_of (length (events_in asked)) told) served.lawful.shape served.left in
+        laws.moment n m e job.shape job.seed (events_in asked) served.history served.module_ array (table_of (length (events_in asked)) told) served.lawful.shape served.left in
         record {
           rows = by-rows e job.shape job.seed asked served.history told served.along;
           once = served.once;
-          in_time = begun n m e job source array asked told served;
+          in_time = laws.begun n m e job source array asked told served;
           snapshots = served.snapshots;
           snaps = snaps-by-rows e job.shape job.seed (shown_by job.shape job.print) asked served.history told served.along served.snapshots served.snaps;
+          rise =
+              laws.so_far_rises n m e job.shape job.seed (length (events_in asked)) (shown_by job.shape job.print) asked served.history told served.along served.snapshots served.once served.snaps;
           module_ = served.module_;
           stands = λ line below. kept.stands line (subst (λ (raw : RawShape). line < total_of raw) (sym served.left.shape) below);
           queued = kept.queued;
@@ -170,30 +184,30 @@ module _ {S : Type 0} (moment : MomentLaw) (whole : WholeStreamLaw S) (begun : B
 
 -- ---- a call
 
-module _ {A V S K : Type 0} (moment : MomentLaw) (whole : WholeStreamLaw S) (begun : BegunStreamLaw S) (call : Call A V S K) where
+module _ {A V S K : Type 0} (laws : StreamLaws S) (call : Call A V S K) where
   does : (asked : Result StreamJob Refusal) (done : Done) → Does call asked done → DoesByRows call asked done
   does (Err e) done is = absurd is
   does (Ok job) done is = on job.line is
     where
       on : (line : LineSize) → DoesOn call job done line → DoesOnRows call job done line
-      on Bytes64 is = streams moment whole begun 64 8 6 job call.source call.array.seen.0 call.out.seen call.array.seen.1 done is
-      on Bytes128 is = streams moment whole begun 128 16 8 job call.source call.wide.seen.0 call.out.seen call.wide.seen.1 done is
+      on Bytes64 is = streams laws 64 8 6 job call.source call.array.seen.0 call.out.seen call.array.seen.1 done is
+      on Bytes128 is = streams laws 128 16 8 job call.source call.wide.seen.0 call.out.seen call.wide.seen.1 done is
 
   breaks-off : (asked : Result StreamJob Refusal) → Breaks call asked → BreakByRows call asked
   breaks-off (Err e) is = absurd is
   breaks-off (Ok job) is = on job.line is
     where
       on : (line : LineSize) → BreaksOn call job line → BreaksOnRows call job line
-      on Bytes64 is = breaks moment whole begun 64 8 6 job call.source call.array.seen.0 call.out.seen call.array.seen.1 is
-      on Bytes128 is = breaks moment whole begun 128 16 8 job call.source call.wide.seen.0 call.out.seen call.wide.seen.1 is
+      on Bytes64 is = breaks laws 64 8 6 job call.source call.array.seen.0 call.out.seen call.array.seen.1 is
+      on Bytes128 is = breaks laws 128 16 8 job call.source call.wide.seen.0 call.out.seen call.wide.seen.1 is
 
   stops-at : (asked : Result StreamJob Refusal) (fault : Fault) → StopsCall call asked fault → StopByRows call asked fault
   stops-at (Err e) fault is = is
   stops-at (Ok job) fault (inl is) = inl (on job.line is)
     where
       on : (line : LineSize) → StopsOn call job fault line → StopsOnRows call job fault line
-      on Bytes64 is = stops moment whole begun 64 8 6 job call.source call.array.seen.0 call.out.seen fault is
-      on Bytes128 is = stops moment whole begun 128 16 8 job call.source call.wide.seen.0 call.out.seen fault is
+      on Bytes64 is = stops laws 64 8 6 job call.source call.array.seen.0 call.out.seen fault is
+      on Bytes128 is = stops laws 128 16 8 job call.source call.wide.seen.0 call.out.seen fault is
   stops-at (Ok job) fault (inr none) = inr none
 
   pub promises : {F : Type 0} (err : Lent F SinkChange) (status : ℕ) → KeepsPromises call err status → PromisesByRows call err status

@@ -26,6 +26,7 @@ use Rattle.stream_top.specs.{Streams.{StopsBy, done_by, is_off, rows_told, shown
 use Rattle.stream_top.specs.{declared.fault.Fault.Fault, declared.fault.Fault.TheVariants.{Usage, Write, NoMemory}}
 use Rattle.moment_laws.specs.Moments.{IsQueuedNow, so_far, stand_now}
 use Rattle.settle_laws.specs.Settles.{SettlesForGood, SettlesSoFar}
+use Rattle.snapshot_laws.specs.Rising.{NeverFall}
 use Rattle.stream_promise.specs.Rows.{CountsRows, EndWhere, RowsTold, SnapsByRows, TellsByRows, WithoutRefusal, WithoutRefusalBefore, before_cut, is_refusal_told}
 
 -- lines of n bytes with m check bytes and e error-correcting pointers
@@ -55,7 +56,8 @@ module _ {S : Type 0} (n m e : ℕ) (job : StreamJob) (source : LentSource S) wh
 
   -- a stream was served to its end, or up to a refusal where it is to stop there, and this was told. Row by row what became known, up to each settle all that
   -- had come by its tick, and in the end the rest, bank by bank: of each row once. By that the rows, with the cut behind which the power stays off, are right
-  -- over the array as it is now, and were powered up with the job's wear; only for an image lines were sensed since, and it says what these rows left
+  -- over the array as it is now, and were powered up with the job's wear; only for an image lines were sensed since, and it says what these rows left. No count
+  -- of a snapshot falls to a later one
   pub record IsServedByRows (array : ArrayState n m) (told : List (Told n)) : Type 0 where
     pub asked : List (Asked n)
     pub along : RowsTold job.shape job.seed (with_cut (is_off job.end) asked)
@@ -79,6 +81,7 @@ module _ {S : Type 0} (n m e : ℕ) (job : StreamJob) (source : LentSource S) wh
     pub snaps :
         (first : List Snapshot) × SnapsByRows job.shape job.seed (shown_by job.shape job.print) (with_cut (is_off job.end) asked) along.told along.rows first
         × AddsDue (takes_snapshots (shown_by job.shape job.print)) (EndsRows places (tick_reached (with_cut (is_off job.end) asked)) told ends before) first snapshots
+    pub rise : NeverFall snapshots
     pub untouched : job.print ≢ Image → array ≡ before
     pub wear : array.wear ≡ Some job.wear
 
@@ -95,6 +98,7 @@ module _ {S : Type 0} (n m e : ℕ) (job : StreamJob) (source : LentSource S) wh
     pub in_time : SettlesSoFar asked told
     pub snapshots : List Snapshot
     pub snaps : SnapsByRows job.shape job.seed (shown_by job.shape job.print) asked told rows snapshots
+    pub rise : NeverFall snapshots
     pub module_ : ModuleState n m e
     pub stands : (line : ℕ) → line < total_of job.shape
         → stand_now module_ array line ≡ newest (map so_far (rows_of (events_in asked) (table_of (length (events_in asked)) told))) line

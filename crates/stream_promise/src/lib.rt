@@ -11,6 +11,7 @@ ghost use Rattle.stream_promise.specs.Promise.{LastSnapshotLaw, PromisesByRows};
 use moment_laws::no_moment_loses_bytes;
 use pcm_io::{Sink, Source};
 use settle_laws::streams_settle_for_good;
+use snapshot_laws::{snapshots_never_fall, snapshots_never_fall_so_far};
 use std::alloc::Global;
 use stream_top::stream_run;
 use wear_totals::TellsWear;
@@ -42,6 +43,8 @@ pub fn run_stream<
 {
     no_moment_loses_bytes();
     streams_settle_for_good::<S>();
+    snapshots_never_fall();
+    snapshots_never_fall_so_far();
     stream_run(alloc, words, array, wide, source, out, err)
 }
 

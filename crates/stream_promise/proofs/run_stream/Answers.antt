@@ -2,4 +2,11 @@ use Rattle.stream_promise.proofs.Promise.{promises}
 use Rattle.stream_promise.proofs.run_stream.Goals as goal
 
 pub returns : goal.returns
-returns g c = promises c.no_moment_loses_bytes.ensures c.streams_settle_for_good.ensures.whole c.streams_settle_for_good.ensures.begun _ _ _ c.stream_run.ensures
+returns g c =
+    promises (record {
+      moment = c.no_moment_loses_bytes.ensures;
+      whole = c.streams_settle_for_good.ensures.whole;
+      begun = c.streams_settle_for_good.ensures.begun;
+      ended_rises = c.snapshots_never_fall.ensures;
+      so_far_rises = c.snapshots_never_fall_so_far.ensures;
+    }) _ _ _ c.stream_run.ensures
