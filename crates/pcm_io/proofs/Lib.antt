@@ -5,3 +5,4 @@ pub mod DigitLemmas
 pub mod PrintLemmas
 mod HexLanes
 mod HexPushes
+mod Places

@@ -4,6 +4,7 @@
 #![tactic(auto)]
 
 mod calls;
+mod decimal;
 mod fault;
 mod hexadecimal;
 mod sink;

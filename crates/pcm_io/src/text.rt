@@ -3,29 +3,32 @@ ghost use Rattle.std.specs.Prelude.{◌≡◌, ◌+◌, ◌*◌, ◌≤◌, ◌+
 ghost use Rattle.hex.specs.Hex.{encode_lower};
 ghost use Rattle.pcm_io.specs.Reserved.{reserved, room_in, appended};
 
+use crate::decimal::digits_in;
 use crate::hexadecimal::{BYTES, digits_of, digits_of_byte};
-use itoa::Buffer;
+use itoa::write_digits;
 use std::alloc::{AllocError, Global};
 use std::marker::Model;
 
 /// Bytes that grow within room taken at the start, so that no later call takes memory.
 #[derive(Drop)]
 pub struct Text {
+    // All the room: the bytes of the text, and behind them what is left of others.
     buffer: Vec<u8>,
-    limit: usize,
+    at: usize,
 }
 
 impl Model for Text {
-    ghost use Rattle.std.specs.Prelude.{◌≤◌, length, vec_capacity};
-    ghost use Rattle.hex.specs.Hex.{encode_lower};
+    ghost use Rattle.std.specs.Prelude.{◌≤◌, length, take};
     ghost use Rattle.pcm_io.specs.Reserved.{Reserved};
 
     ghost Value = { Reserved };
 
-    ghost view = { λ text. record { bytes = text.buffer.items; limit = text.limit } };
+    ghost view = { λ text. record {
+      bytes = take text.at text.buffer.items;
+      limit = length text.buffer.items;
+    } };
 
-    ghost invariant = { λ text. (text.limit ≤ vec_capacity text.buffer)
-        × (length text.buffer.items ≤ text.limit) };
+    ghost invariant = { λ text. text.at ≤ length text.buffer.items };
 }
 
 impl Text {
@@ -33,28 +36,28 @@ impl Text {
     pub fn new(alloc: Global, room: usize) -> Result<Text, AllocError>
         ensures { IfOk result (λ text. text ≡ reserved room) }
     {
-        Ok(Text {
-            buffer: Vec::with_capacity(alloc, room)?,
-            limit: room,
-        })
+        let mut buffer = Vec::with_capacity(alloc, room)?;
+        buffer.resize(room, 0)?;
+        Ok(Text { buffer, at: 0 })
     }
 
     /// The number of bytes that still fit.
     pub fn room(&self) -> usize
         ensures { result ≡ room_in self.now }
     {
-        self.limit - self.buffer.len()
+        self.buffer.len() - self.at
     }
 
     /// Puts the bytes at the end.
+    #[inline(always)]
     pub fn push(&mut self, bytes: &[u8])
         requires { length bytes.now ≤ room_in self.old }
         ensures after { self.new ≡ appended self.old bytes.now }
         ensures room { room_in self.new + length bytes.now ≡ room_in self.old }
     {
-        let Ok(()) = self.buffer.extend_from_slice(bytes) else {
-            unreachable!()
-        };
+        let end = self.at + bytes.len();
+        self.buffer[self.at..end].copy_from_slice(bytes);
+        self.at = end;
     }
 
     /// Puts the bytes at the end, and a comma behind them.
@@ -73,7 +76,9 @@ impl Text {
         ensures after { self.new ≡ appended self.old (decimal number) }
         ensures room { room_in self.new + length (decimal number) ≡ room_in self.old }
     {
-        self.push(Buffer::new().format(number).as_bytes());
+        let end = self.at + digits_in(number);
+        write_digits(number, &mut self.buffer, end);
+        self.at = end;
     }
 
     /// Puts the decimal digits of the number at the end, and these bytes behind them.
@@ -107,13 +112,13 @@ impl Text {
     pub fn bytes(&self) -> &[u8]
         ensures { result.now ≡ self.now.bytes }
     {
-        self.buffer.as_slice()
+        &self.buffer[..self.at]
     }
 
     /// Forgets the bytes and keeps the room.
     pub fn clear(&mut self)
         ensures { self.new ≡ reserved self.old.limit }
     {
-        self.buffer.clear();
+        self.at = 0;
     }
 }

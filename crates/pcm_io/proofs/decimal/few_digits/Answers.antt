@@ -1,0 +1,19 @@
+use Rattle.std.proofs.Common.{◌+◌, ◌/◌, sym, ap, ◌∙◌, ℕ, arith}
+use Rattle.itoa.proofs.Decimal.{length_one, length_pair, length_two}
+use Rattle.pcm_io.proofs.decimal.few_digits.Goals as goal
+
+pub returns-then-number-lt10 : goal.returns-then-number-lt10
+returns-then-number-lt10 c = sym (length_one c.args.number (omega arith))
+
+pub returns-then-number-lt100 : goal.returns-then-number-lt100
+returns-then-number-lt100 c = sym (length_two c.args.number (omega arith) (omega arith))
+
+pub returns-then-number-lt1000 : goal.returns-then-number-lt1000
+returns-then-number-lt1000 c =
+    let n = c.args.number in
+    sym (length_pair n (omega arith) (omega arith) ∙ ap (λ (k : ℕ). k + 2) (length_one (n / 100) (omega arith)))
+
+pub returns-else-number-lt1000 : goal.returns-else-number-lt1000
+returns-else-number-lt1000 c =
+    let n = c.args.number in
+    sym (length_pair n (omega arith) (omega arith) ∙ ap (λ (k : ℕ). k + 2) (length_two (n / 100) (omega arith) (omega arith)))
