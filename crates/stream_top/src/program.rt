@@ -94,8 +94,8 @@ fn takes_snapshots(print: StreamPrint) -> bool
         StreamPrint::Snapshots(_) => true,
         StreamPrint::Rows(_)
         | StreamPrint::Summary
-        | StreamPrint::Wear
-        | StreamPrint::Lines
+        | StreamPrint::Wear(_)
+        | StreamPrint::Lines(_)
         | StreamPrint::Energy
         | StreamPrint::Image => false,
     }
