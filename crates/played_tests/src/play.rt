@@ -95,12 +95,12 @@ fn push_stood_for(text: &mut String, case: &Case, image: &[u8]) -> Result<(), Al
 
 fn answer_of(alloc: Global, case: &Case, trace: &[u8]) -> Result<Answer, AllocError> {
     if case.seeded {
-        let mut array = TotalledArray::with_totals(MemArray::new());
-        let mut wide = TotalledArray::with_totals(MemArray::new());
+        let mut array = TotalledArray::new(MemArray::new());
+        let mut wide = TotalledArray::new(MemArray::new());
         answer_over(alloc, case, trace, &mut array, &mut wide)
     } else {
-        let mut array = TotalledArray::new(scripted(alloc, case)?);
-        let mut wide = TotalledArray::new(scripted(alloc, case)?);
+        let mut array = TotalledArray::with_totals(scripted(alloc, case)?);
+        let mut wide = TotalledArray::with_totals(scripted(alloc, case)?);
         answer_over(alloc, case, trace, &mut array, &mut wide)
     }
 }
