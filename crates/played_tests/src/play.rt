@@ -99,8 +99,8 @@ fn answer_of(alloc: Global, case: &Case, trace: &[u8]) -> Result<Answer, AllocEr
         let mut wide = TotalledArray::new(MemArray::new());
         answer_over(alloc, case, trace, &mut array, &mut wide)
     } else {
-        let mut array = TotalledArray::with_totals(scripted(alloc, case)?);
-        let mut wide = TotalledArray::with_totals(scripted(alloc, case)?);
+        let mut array = TotalledArray::new(scripted(alloc, case)?);
+        let mut wide = TotalledArray::new(scripted(alloc, case)?);
         answer_over(alloc, case, trace, &mut array, &mut wide)
     }
 }
