@@ -91,10 +91,12 @@ impl<A: TellsCells<B, M> + Drop, const B: usize, const M: usize, const E: usize>
         result
     }
 
+    #[inline(always)]
     fn lines(&self) -> u32 {
         self.inner.lines()
     }
 
+    #[inline(always)]
     fn sense(&mut self, line: u32, tick: u64) -> Cells<B, M> {
         let Some(totals) = self.totals else {
             return self.inner.sense(line, tick);
@@ -128,6 +130,7 @@ impl<A: TellsCells<B, M> + Drop, const B: usize, const M: usize, const E: usize>
         self.totals = Some(renewed(&totals, &before, &torn));
     }
 
+    #[inline(always)]
     fn pulses(&self, line: u32) -> u64 {
         self.inner.pulses(line)
     }
