@@ -1,6 +1,6 @@
 -- How a report without the lines that were never pulsed comes about, line by line.
 use Rattle.std.proofs.Common.{◌≡◌, ℕ, zero, suc, ◌+◌, ◌*◌, ◌<◌, ◌≤◌, List, [], ◌∷◌, ◌++◌, length, Option, refl, sym, ap, ◌∙◌, subst, arith, add-zero, append_assoc}
-use Rattle.std.{specs.Io.KnownBytes.Appends, proofs.lemmas.List.append-nil}
+use Rattle.std.proofs.lemmas.List.{append-nil}
 use Rattle.cell_rows.specs.Device.{ArrayState}
 use Rattle.pcm_io.{specs.Giving.AppendsPrefix, specs.Reserved.{Reserved, appended}, proofs.ByteLemmas.AppendsPrefix-longer}
 use Rattle.lines_report.specs.declared.row.LineCells.{LineCells}

@@ -99,7 +99,8 @@ fn print_next<const B: usize, const M: usize, const E: usize, A: TellsCells<B, M
     ensures never_falls { K.faults out.old ≤ K.faults out.new }
 {
     let pulses = array.pulses(line);
-    if pulses == 0 {
+    let left_out = pulses == 0;
+    if left_out {
         return Ok(());
     }
     make_room(text, out)?;

@@ -1,4 +1,4 @@
-use Rattle.std.proofs.Common.{◌≡◌, ◌*◌, ◌/◌, ◌∙◌, sym, ap, subst, arith, ℕ}
+use Rattle.std.proofs.Common.{◌≡◌, ◌*◌, ◌/◌, ◌∙◌, sym, ap, subst, arith}
 use Rattle.std.specs.{Io.KnownBytes.Appends, Prelude.{OnErr, OnOk}}
 use Rattle.pcm_io.specs.Giving.{AppendsPrefix}
 use Rattle.energy_report.specs.EnergyText.{energy_report}

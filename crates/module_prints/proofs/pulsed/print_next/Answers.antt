@@ -3,8 +3,8 @@ use Rattle.run_text.proofs.Gathered.{on_err_any}
 use Rattle.module_prints.{specs.PulsedLines.pulsed_text, specs.WearReports.cells_at, proofs.Pulsing.{next-none, next-some, pulsed-part}}
 use Rattle.module_prints.proofs.pulsed.print_next.Goals as goal
 
-pub returns-then-pulses-eq0-clause-ok : goal.returns-then-pulses-eq0-clause-ok
-returns-then-pulses-eq0-clause-ok g c =
+pub returns-then-left_out-clause-ok : goal.returns-then-left_out-clause-ok
+returns-then-left_out-clause-ok g c =
     let told = cells_at g.row.E (g.A.CellArray.state c.args.array.now) (g.A.TellsCells.changes c.args.array.now) in
     let none : c.pulses-pulses.result ≡ 0 = grind arith in
     next-none c.args.report told c.args.pcm.now (g.A.CellArray.state c.args.array.now) c.requires.in_range c.requires.size c.args.line c.requires.exists (sym c.pulses-pulses.ensures ∙ none)
