@@ -192,6 +192,8 @@ def beside(command, option, text):
     """The words beside an option's value that let no other rule speak: sizes small, and rows at one tick."""
     if option == "every":
         return ["--print", "snapshots"]
+    if option == "skip":
+        return ["--print", "wear"]
     if option == "lo" and text.isdigit():
         return ["--hi", "4000000000"]
     if option == "hi":
