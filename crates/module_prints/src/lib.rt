@@ -4,12 +4,16 @@
 
 mod energy;
 mod image;
+mod laws;
 mod lines;
+mod map;
 mod pulsed;
 mod wear;
 
 pub use energy::print_energy;
 pub use image::print_image;
+pub use laws::maps_are_told_alike;
 pub use lines::print_lines;
+pub use map::print_map;
 pub use pulsed::{Report, print_pulsed};
 pub use wear::print_wear;
