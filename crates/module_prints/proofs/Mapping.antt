@@ -1,5 +1,5 @@
 -- How a map comes about, row by row.
-use Rattle.std.proofs.Common.{◌≡◌, ℕ, zero, suc, ◌+◌, ◌≤◌, inl, inr, List, [], ◌++◌, Option, refl, sym, ap, ◌∙◌, subst, arith, append_assoc}
+use Rattle.std.proofs.Common.{◌≡◌, ℕ, zero, suc, ◌+◌, ◌≤◌, inl, inr, List, [], ◌++◌, Option, refl, sym, ap, ◌∙◌, subst, arith, append_assoc, zero-add, add-one}
 use Rattle.std.{specs.Io.KnownBytes.Appends, proofs.lemmas.Bool.cases_eq, proofs.lemmas.List.append-nil}
 use Rattle.pcm_io.{specs.Giving.AppendsPrefix, specs.Reserved.{Reserved, appended, reserved}, proofs.ByteLemmas.AppendsPrefix-longer}
 use Rattle.rotation_reports.specs.{MapText.map_header, Rows.rows_from}
@@ -16,8 +16,9 @@ module _ (row : ℕ → List ℕ) where
 
   next : (i : ℕ) → first i ++ row i ≡ first (i + 1)
   next i =
-      let one : i + 1 ≡ suc i = omega arith in
-      rw one (append_assoc map_header (rows_from row 0 i) (row i))
+      let same : row i ≡ row (0 + i) = ap row (sym (zero-add i)) in
+      let more : first i ++ row i ≡ first (suc i) = append_assoc map_header (rows_from row 0 i) (row i) ∙ ap (λ (xs : List ℕ). map_header ++ (rows_from row 0 i ++ xs)) same in
+      more ∙ ap first (sym (add-one i))
 
   -- the rows behind the first i
   rest : (i count : ℕ) → i ≤ count → (later : List ℕ) × (rows_from row 0 i ++ later ≡ rows_from row 0 count)

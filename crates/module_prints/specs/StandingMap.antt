@@ -9,7 +9,7 @@ use Rattle.pcm_module.specs.Standings.{standing_of}
 module _ (raw : RawShape) (seed : ℕ) (ends : ℕ → BankEnd) where
   -- the row of a line
   abbrev pub standing_line : ℕ → List ℕ
-  standing_line line = let at = standing_of raw seed ends line in standing_row line at.address at.place at.array
+  standing_line line = let stands = standing_of raw seed ends line in standing_row line stands.address stands.place stands.array
 
   -- the rows of all lines
   abbrev pub standing_map : List ℕ

@@ -12,7 +12,8 @@ use Rattle.pcm_image.specs.{Saved.Saved, Spelling.image_bytes}
 use Rattle.right_images.specs.Saving.{first_rows, saved_of}
 use Rattle.image_text.{specs.Sensing.SensesRows, proofs.Sensing.senses-none}
 use Rattle.pcm_module.specs.{Roles.spares_used, State.ModuleState}
-use Rattle.module_prints.{specs.Images.{WritesRows, kept_in}, specs.StandingMap.standing_map, specs.WearReports.{HaveRoles, IsWearReport, cells_at}, proofs.Wearing.{worn-goes_on, worn-none}}
+use Rattle.module_prints.specs.{Images.{WritesRows, kept_in}, StandingMap.standing_map, WearReports.{HaveRoles, IsWearReport, cells_at}}
+use Rattle.module_prints.proofs.Wearing.{worn-goes_on, worn-none}
 use Rattle.program_calls.specs.Calls.{GetsPart, IsUntouched, Lent, SinkChange, SinkFails}
 use Rattle.row_printer.specs.{Printing.{stream_text, table_of}, Telling.{outcomes_in, TellsOnce}, declared.snapshot.Snapshot.Snapshot, declared.told.Shown.Shown}
 use Rattle.row_printer.specs.declared.told.Told.{Told}

@@ -23,8 +23,9 @@ use pcm_module::Module;
 use run_text::{Counts, TEXT_ROOM, print_rest, print_summary, sum_pulses};
 use stream_words::{Skip, StreamJob, StreamPrint};
 
-/// Writes what is asked for in the end of a stream that was served: its summary, a report with a row for each array line, where each line stands, the report of energy, or the
-/// image of what it left; behind rows and snapshots nothing. For an image each line of the array is sensed once, in order, at tick 0; otherwise nothing happens to the array.
+/// Writes what is asked for in the end of a stream that was served: its summary, a report with a row for each array line, the map of its
+/// lines, the report of energy, or the image of what it left; behind rows and snapshots nothing. For an image each line of the array is
+/// sensed once, in order, at tick 0; otherwise nothing happens to the array.
 pub fn print_closing<const B: usize, const M: usize, const E: usize, A: TellsCells<B, M>, K: Sink>(
     job: &StreamJob,
     pcm: &Module<B, M, E>,

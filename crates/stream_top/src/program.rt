@@ -96,6 +96,7 @@ fn takes_snapshots(print: StreamPrint) -> bool
         | StreamPrint::Summary
         | StreamPrint::Wear(_)
         | StreamPrint::Lines(_)
+        | StreamPrint::Map
         | StreamPrint::Energy
         | StreamPrint::Image => false,
     }

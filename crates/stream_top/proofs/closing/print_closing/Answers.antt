@@ -8,8 +8,8 @@ use Rattle.module_prints.specs.{Images.{WritesRows, kept_in}, WearReports.cells_
 use Rattle.stream_words.specs.declared.job.StreamPrint.TheVariants.{Wear, Lines}
 use Rattle.stream_words.specs.declared.job.Skip.TheVariants as skip
 use Rattle.stream_top.specs.Leaving.{senses_for}
-use Rattle.stream_top.proofs.EndText.{energy-closes, image-closes, lines-closes, map-closes, no-image, nothing-closes, senses-nothing, snapshots-close, summary-bytes, summary-closes}
-use Rattle.stream_top.proofs.EndText.{wear-closes}
+use Rattle.stream_top.proofs.EndText.{energy-closes, image-closes, lines-closes, map-closes, no-image, nothing-closes, senses-nothing, snapshots-close, summary-bytes}
+use Rattle.stream_top.proofs.EndText.{summary-closes, wear-closes}
 use Rattle.stream_top.proofs.closing.print_closing.Goals as goal
 
 pub returns-in-Rows-clause-ok : goal.returns-in-Rows-clause-ok
