@@ -2,6 +2,7 @@
 mod Growing
 mod Standing
 pub mod Each
+mod InTurn
 mod Order
 mod Backlogs
 mod Going
