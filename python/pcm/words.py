@@ -131,7 +131,7 @@ _STREAM = [
     _few("banks", "A", 4, LARGE.banks, "banks of the module"),
     _few("regions", "B", 2, LARGE.regions, "regions of a bank"),
     _power("lines", "N", 64, 4, LARGE.lines, "lines of a region"),
-    _choice("print", "P", "what is printed", "rows", "summary", "wear", "image", "lines", "energy", "snapshots"),
+    _choice("print", "P", "what is printed", "rows", "summary", "wear", "image", "lines", "energy", "snapshots", "map"),
     _number("every", "N", 100000, 1, 4294967295, "rows between snapshots"),
     _choice("end", "E", "what becomes of the module behind the last row", "drain", "off"),
     _choice("until", "U", "up to where the rows are served", "end", "refused"),

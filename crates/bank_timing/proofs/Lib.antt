@@ -24,3 +24,4 @@ mod Restoring
 mod Recovers
 mod Firsts
 mod Lawful
+pub mod Telling

@@ -6,3 +6,4 @@ pub mod Losing
 pub mod Laws
 pub mod Cancelling
 pub mod Reading
+pub mod Telling

@@ -11,6 +11,7 @@ ghost use Rattle.clock_laws.specs.State.{next_action, is_busy, may_start};
 ghost use Rattle.clock_laws.specs.Leads.{Leads};
 ghost use Rattle.clock_laws.specs.Passing.{at_tick};
 ghost use Rattle.bank_timing.specs.Extending.{Extends, GoesOn, IsGoing, IsQuiet, first_clock, last_tick};
+ghost use Rattle.bank_timing.specs.Telling.{TellsUpTo};
 
 use bank_core::bank::Bank;
 use bank_shape::clock::{Action, Doing, choose};
@@ -114,7 +115,8 @@ impl<const B: usize, const M: usize, const E: usize> Timed<B, M, E> {
         self.cancels
     }
 
-    /// The clock goes on to a tick: each action that ends by then is completed, and of the rows of that tick none is taken yet.
+    /// The clock goes on to a tick: each action that ends by then is completed, and of the rows of that tick none is taken yet. What
+    /// becomes known is told in the order of its ticks.
     pub fn advance<A: CellArray<B, M>, R: Outcomes<B>>(
         &mut self,
         array: &mut A,
@@ -130,6 +132,7 @@ impl<const B: usize, const M: usize, const E: usize> Timed<B, M, E> {
             × Extends xs added self.old self.new (A.state array.old) (A.state array.new)
             (R.table results.old) (R.table results.new) × IsQuiet added }
         ensures goes_on { R.goes_on results.old results.new }
+        ensures in_turn { TellsUpTo R.goes_on R.table to results.old results.new }
     {
         while self.tick < to {
             match self.next_action() {

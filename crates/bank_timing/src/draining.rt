@@ -8,6 +8,7 @@ ghost use Rattle.clock_laws.specs.Draining.{FollowsStores};
 ghost use Rattle.clock_laws.specs.Leads.{Leads};
 ghost use Rattle.bank_timing.specs.Extending.{RunsDown, AreOpen, IsGoing, IsOpen, LeavesOthers, last_tick};
 ghost use Rattle.bank_timing.specs.Laws.{KeepsLaws};
+ghost use Rattle.bank_timing.specs.Telling.{TellsInTurn, TellsUpTo};
 ghost use Rattle.bank_timing.specs.Draining.{Drains, DrainsTo, AreQueueable, AreQueued, closed};
 ghost use Rattle.bank_laws.specs.Resting.{IsCutOff};
 ghost use Rattle.cell_rows.specs.Device.{ArrayState};
@@ -24,10 +25,11 @@ use table_laws::{
 
 impl<const B: usize, const M: usize, const E: usize> Timed<B, M, E> {
     /// The clock goes on until nothing runs and nothing would be chosen; the writes that stand in the queue then are queued, with
-    /// the ticks of their arrival. The present tick is that of the last event, or still that of before where none came. Nothing may
-    /// come any more. The rows of every history that leads to the drained bank keep the laws of rows, of places and wear, and of the
-    /// log; a read that found fewer than four cancels of the line write then in progress waited for the reads before it alone; and
-    /// each region's registers stand for the gap moves that its stores give.
+    /// the ticks of their arrival. What becomes known is told in the order of its ticks, and the queued writes behind it. The present
+    /// tick is that of the last event, or still that of before where none came. Nothing may come any more. The rows of every history
+    /// that leads to the drained bank keep the laws of rows, of places and wear, and of the log; a read that found fewer than four
+    /// cancels of the line write then in progress waited for the reads before it alone; and each region's registers stand for the
+    /// gap moves that its stores give.
     pub fn drain<A: CellArray<B, M>, R: Outcomes<B>>(&mut self, array: &mut A, results: &mut R)
         requires going { IsGoing self.old (A.state array.old) (R.table results.old) }
         requires within { self.old.tick ≤ last_tick }
@@ -44,6 +46,7 @@ impl<const B: usize, const M: usize, const E: usize> Timed<B, M, E> {
             → (region : ℕ) → region < self.new.bank.kept.shape.regions
             → FollowsStores xs self.new (A.state array.new) region }
         ensures goes_on { R.goes_on results.old results.new }
+        ensures in_turn { TellsInTurn R.goes_on R.table true results.old results.new }
     {
         tables_keep_their_laws();
         places_keep_their_laws();
@@ -65,6 +68,7 @@ impl<const B: usize, const M: usize, const E: usize> Timed<B, M, E> {
             (R.table results.new) }
         ensures others { LeavesOthers self.old.bank (R.table results.old) (R.table results.new) }
         ensures goes_on { R.goes_on results.old results.new }
+        ensures in_turn { TellsInTurn R.goes_on R.table true results.old results.new }
     {
         leave_queued(self.bank.kept(), &self.arrivals, results);
         self.drained = true;
@@ -79,6 +83,7 @@ impl<const B: usize, const M: usize, const E: usize> Timed<B, M, E> {
             (R.table results.old) (R.table results.new) }
         ensures rests { next_action self.new ≡ None }
         ensures goes_on { R.goes_on results.old results.new }
+        ensures in_turn { TellsUpTo R.goes_on R.table self.new.tick results.old results.new }
     {
         // A field that is read makes known what is true of every clock.
         let _drained = self.drained;

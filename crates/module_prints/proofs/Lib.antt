@@ -1,3 +1,5 @@
 pub mod Wearing
 mod Clocks
 mod Pulsing
+mod Mapping
+mod MapsAlike

@@ -1,3 +1,4 @@
 pub mod WearReports
 pub mod PulsedLines
+pub mod StandingMap
 pub mod Images

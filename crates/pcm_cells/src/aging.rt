@@ -4,6 +4,7 @@ ghost use Rattle.cell_rows.specs.Rows.{cell};
 ghost use Rattle.cell_rows.specs.Shape.{IsShape, IsWhole};
 ghost use Rattle.pcm_cells.specs.Follows.{Follows, FollowsIn};
 ghost use Rattle.pcm_cells.specs.Planes.{bit_in};
+ghost use Rattle.pcm_cells.specs.Young.{aging, changes_in, young_cell, MayAge};
 
 use crate::calm::reach;
 use crate::line::has_end;
@@ -13,7 +14,6 @@ use cell_rows::Cells;
 /// pulse.
 pub(crate) trait YoungPage<const B: usize, const M: usize> {
     ghost use Rattle.pcm_cells.specs.declared.young.Young.{Young};
-    ghost use Rattle.pcm_cells.specs.Young.{aging, changes_in, young_cell, MayAge};
 
     ghost young: { Self → Young B M };
 
@@ -44,48 +44,53 @@ pub(crate) trait YoungPage<const B: usize, const M: usize> {
         requires { (young self.old).pulses < room }
         ensures cells { (n : ℕ) → young_cell (young self.new) n ≡ young_cell (young self.old) n }
         ensures pulses { (young self.new).pulses ≡ (young self.old).pulses + 1 };
+}
 
-    /// The masked cells of some blocks.
-    #[inline(always)]
-    fn wear_in(
-        &mut self,
-        tearing: bool,
-        from: usize,
-        to: usize,
-        mask: &Cells<B, M>,
-        want: &Cells<B, M>,
-    )
-        requires order { from ≤ to }
-        requires exists { 8 * to ≤ B + M }
-        requires shape { IsShape B M }
-        requires whole { IsWhole B M }
-        requires few { (n : ℕ) → 64 * from ≤ n → changes_in (young self.old) n < room }
-        ensures cells { FollowsIn (64 * from) (64 * to) (cell mask.now)
-            (aging tearing (cell want.now)) (young_cell (young self.old))
-            (young_cell (young self.new)) }
-        ensures pulses { (young self.new).pulses ≡ (young self.old).pulses }
-    {
-        let reach = reach(tearing);
-        for block in from..to {
-            self.wear_block(tearing, reach, block, mask, want);
-        }
+// The masked cells of some blocks.
+#[inline(always)]
+fn wear_in<P: YoungPage<B, M>, const B: usize, const M: usize>(
+    page: &mut P,
+    tearing: bool,
+    from: usize,
+    to: usize,
+    mask: &Cells<B, M>,
+    want: &Cells<B, M>,
+)
+    requires order { from ≤ to }
+    requires exists { 8 * to ≤ B + M }
+    requires shape { IsShape B M }
+    requires whole { IsWhole B M }
+    requires few { (n : ℕ) → 64 * from ≤ n → changes_in (P.young page.old) n < P.room }
+    ensures cells { FollowsIn (64 * from) (64 * to) (cell mask.now) (aging tearing (cell want.now))
+        (young_cell (P.young page.old)) (young_cell (P.young page.new)) }
+    ensures pulses { (P.young page.new).pulses ≡ (P.young page.old).pulses }
+{
+    let reach = reach(tearing);
+    for block in from..to {
+        page.wear_block(tearing, reach, block, mask, want);
     }
+}
 
-    /// A pulse or a tear. The data blocks and the check blocks have a loop each, so that neither asks which a block is.
-    fn wear(&mut self, tearing: bool, mask: &Cells<B, M>, want: &Cells<B, M>)
-        requires shape { IsShape B M }
-        requires whole { IsWhole B M }
-        requires young { MayAge room (young self.old) }
-        ensures cells { Follows (cell mask.now) (aging tearing (cell want.now))
-            (young_cell (young self.old)) (young_cell (young self.new)) }
-        ensures pulses { (young self.new).pulses ≡ (young self.old).pulses + 1 }
-        ensures end { (n : ℕ) → 8 * (B + M) ≤ n → cell mask.now n ≡ false }
-    {
-        has_end(mask);
-        // Copies, so that LLVM sees that no write to the line changes them.
-        let (mask, want) = (*mask, *want);
-        self.wear_in(tearing, 0, B / 8, &mask, &want);
-        self.wear_in(tearing, B / 8, (B + M) / 8, &mask, &want);
-        self.count_pulse();
-    }
+/// A pulse or a tear of a young line. The data blocks and the check blocks have a loop each, so that neither asks which a block is. It
+/// is no method of the trait, since those are told to LLVM without the hint that inlines them.
+pub(crate) fn wear_page<P: YoungPage<B, M>, const B: usize, const M: usize>(
+    page: &mut P,
+    tearing: bool,
+    mask: &Cells<B, M>,
+    want: &Cells<B, M>,
+)
+    requires shape { IsShape B M }
+    requires whole { IsWhole B M }
+    requires young { MayAge P.room (P.young page.old) }
+    ensures cells { Follows (cell mask.now) (aging tearing (cell want.now))
+        (young_cell (P.young page.old)) (young_cell (P.young page.new)) }
+    ensures pulses { (P.young page.new).pulses ≡ (P.young page.old).pulses + 1 }
+    ensures end { (n : ℕ) → 8 * (B + M) ≤ n → cell mask.now n ≡ false }
+{
+    has_end(mask);
+    // Copies, so that LLVM sees that no write to the line changes them.
+    let (mask, want) = (*mask, *want);
+    wear_in(page, tearing, 0, B / 8, &mask, &want);
+    wear_in(page, tearing, B / 8, (B + M) / 8, &mask, &want);
+    page.count_pulse();
 }

@@ -8,7 +8,7 @@ ghost use Rattle.pcm_cells.specs.Book.{AgesAt, WearsAt};
 ghost use Rattle.pcm_cells.specs.Counting.{worked};
 ghost use Rattle.pcm_cells.specs.Young.{MayAge};
 
-use crate::aging::YoungPage;
+use crate::aging::{YoungPage, wear_page};
 use crate::energies::{Work, worked};
 use crate::seeded::SeededLine;
 use cell_rows::{Cells, LineEnergy};
@@ -112,7 +112,7 @@ impl<T: Drop> Book<T> {
     {
         let chunk = &mut self.chunks[index / CHUNK];
         let page = &mut chunk[index % CHUNK];
-        page.wear(tearing, mask, want);
+        wear_page(page, tearing, mask, want);
     }
 }
 

@@ -1,5 +1,6 @@
 // The pages of lines, of which none has one at first.
 ghost use Rattle.std.specs.Prelude.{◌≡◌, ◌<◌, ℕ, length, slice_set, Some, None, IfOk, IsSome, is_some, option_copied, replicate};
+ghost use Rattle.cell_rows.specs.Energy.{no_energy};
 ghost use Rattle.cell_rows.specs.Shape.{IsShape, IsWhole};
 ghost use Rattle.pcm_cells.specs.Counting.{worked};
 ghost use Rattle.pcm_cells.specs.Energies.{energy_at};
@@ -145,20 +146,30 @@ impl<const B: usize, const M: usize> PageTable<SeededLine<B, M>> {
 }
 
 impl PageTable<LineEnergy> {
+    // Counts what is done to a line that has no page. It stands apart, so that what is done to each other line is short.
+    #[cold]
+    #[inline(never)]
+    fn begin(&mut self, line: u32, work: Work)
+        requires exists { line < length self.old }
+        requires none { page_at self.old line ≡ None }
+        ensures { self.new ≡ slice_set self.old line (Some (worked work no_energy)) }
+    {
+        let none = LineEnergy {
+            set: 0,
+            reset: 0,
+            senses: 0,
+        };
+        self.insert(line, worked(work, none));
+    }
+
     /// Counts what is done to a line. One without a page gets one.
+    #[inline(always)]
     pub(crate) fn work(&mut self, line: u32, work: Work)
         requires { line < length self.old }
         ensures { self.new ≡ slice_set self.old line (Some (worked work (energy_at self.old line))) }
     {
         match self.table.get(line) {
-            0 => {
-                let none = LineEnergy {
-                    set: 0,
-                    reset: 0,
-                    senses: 0,
-                };
-                self.insert(line, worked(work, none));
-            }
+            0 => self.begin(line, work),
             page => self.pages.work(page as usize - 1, work),
         }
     }

@@ -11,6 +11,7 @@ use Rattle.clock_laws.proofs.{Extending.both_added_law, Recording.both_recorded_
 use Rattle.module_laws.specs.Asking.{Asked, AreAsked, IsAsked}
 use Rattle.reg_lines.specs.declared.Change.{Change}
 use Rattle.bank_timing.{specs.Cancelling.{cancel_by, cancel_first}, specs.Extending.{Extends, IsOpen, IsQuiet, EndsAction, outcome_in}, proofs.Running.none-arrives}
+use Rattle.bank_timing.proofs.Telling.{AreAt}
 use Rattle.bank_laws.specs.Ticks.{ends_action}
 use Rattle.pcm_module.{specs.Stepping.IsStep, proofs.Moving.{untouched, open_kept, outcome_at_row}}
 
@@ -77,6 +78,15 @@ module _ {n m e : ℕ} (xs : List (TimedEvent n m)) (clock : ClockState n m e) w
       by : (cancels : Bool) → arrives_with (if cancels then cancel_by clock.regs.change xs clock ∷ [] else []) row ≡ false
       by true = or_from (is_arrival_of (cancel_by clock.regs.change xs clock).happens row) false (cancel_off clock.regs.change row) refl
       by false = refl
+
+  -- and comes at the tick of the read
+  pub first_at : (line : ℕ) → AreAt clock.tick (cancel_first xs clock line)
+  first_at line = by (cancels_for clock line) clock.regs.change
+    where
+      by : (cancels : Bool) (change : Option Change) → AreAt clock.tick (if cancels then cancel_by change xs clock ∷ [] else [])
+      by false change = tt
+      by true None = (refl, tt)
+      by true (Some change) = (refl, tt)
 
 module _ {n m e : ℕ} (xs added : List (TimedEvent n m)) (first between last : ClockState n m e) (a0 a1 a2 : ArrayState n m) (r0 r1 r2 : List (Outcome n))
     (leads : Leads xs first a0) (own : IsQuiet added) (ext : Extends xs added first between a0 a1 r0 r1) where

@@ -24,3 +24,4 @@ mod Translating
 pub mod Tables
 mod EndRoles
 mod Placed
+mod Mapped

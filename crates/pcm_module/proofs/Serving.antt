@@ -1,5 +1,5 @@
 -- A read and a write of a line are taken by the line's bank, and what a bank of a module has for them.
-use Rattle.std.proofs.Common.{◌≡◌, ℕ, ◌+◌, ◌<◌, ◌≤◌, Bool, List, length, get_or, Some, refl, sym, ap, subst, ◌∙◌, eq-eqb, inl, inr, arith}
+use Rattle.std.proofs.Common.{◌≡◌, ℕ, ◌+◌, ◌<◌, ◌≤◌, Bool, false, List, length, get_or, Some, refl, sym, ap, subst, ◌∙◌, eq-eqb, inl, inr, arith}
 use Rattle.std.{specs.Prelude.{IsSomeAnd, slice_get, slice_set}, proofs.Math.ListN.length-set, proofs.lemmas.Bool.{ne_eqb, cases_eq}}
 use Rattle.masked_bytes.proofs.Lists.{item-at}
 use Rattle.circular_buffer.proofs.Places.{slice_get-set_same, slice_get-set_other}
@@ -14,7 +14,7 @@ use Rattle.power_recovery.specs.{Kept.IsKept, Slots.bank_lines}
 use Rattle.module_laws.specs.Asking.{Asked}
 use Rattle.module_shape.specs.{Addresses.{module_of, lines_of, bank_shape}, Limits.total_of, declared.raw.RawShape.RawShape}
 use Rattle.clock_laws.specs.{Leads.Leads, State.ClockState}
-use Rattle.bank_timing.specs.Extending.{IsOpen, LeavesOthersThan, last_tick}
+use Rattle.bank_timing.specs.{Extending.{IsOpen, LeavesOthersThan, last_tick}, Telling.TellsInTurn}
 use Rattle.right_runs.specs.Banks.{pacing_in, bank_of_line, line_in_bank}
 use Rattle.pcm_module.specs.{Replaying.{BankReplays, IsReplayed, asked_in_bank}, Shaped.{IsModule, IsBankOf}, State.ModuleState, Stepping.{MayArrive, IsAt, IsStep}, Taking.Takes}
 use Rattle.pcm_module.{specs.Telling.TellsFor, proofs.Banks.{from_get, at_get}, proofs.InOrder.{of_taking, step_leaves_but}, proofs.TakenRows.takes_one}
@@ -160,7 +160,8 @@ module _ {n m e row tick line bank at : ℕ} {old : ModuleState n m e} {before :
       (λ xs leads. subst (λ (k : ℕ). (added : List (TimedEvent n m)) × IsStep xs added (record { row = row; tick = tick; asks = Writes k bytes given }) clock next before after results recorded) c.number (step xs leads)) c.led
 
   -- its bank alone tells
-  module _ {R : Type 0} (goes_on : R → R → Type 0) (table : R → List (Outcome n)) (one two : R) (same : table one ≡ results) (on : goes_on one two) where
+  module _ {R : Type 0} (goes_on : R → R → Type 0) (table : R → List (Outcome n)) (one two : R) (same : table one ≡ results) (on : goes_on one two)
+      (in_turn : TellsInTurn goes_on table false one two) where
     pub read_tells : {next : ClockState n m e} {after : ArrayState n m}
         → ((xs : List (TimedEvent n m)) → Leads xs clock before
         → (added : List (TimedEvent n m)) × IsStep xs added (record { row = row; tick = tick; asks = Reads at }) clock next before after results (table two))
@@ -169,7 +170,7 @@ module _ {n m e row tick line bank at : ℕ} {old : ModuleState n m e} {before :
         let s = step (c.led.0 bank) bank_replays.leads in
         of_taking goes_on table old bank row line clock one two c.is c.home on
         (subst (λ (r : List (Outcome n)). LeavesOthersThan row clock.bank r (table two)) (sym same)
-        (step_leaves_but (c.led.0 bank) s.0 clock next before after results (table two) (record { row = row; tick = tick; asks = Reads at }) bank_replays.leads s.1))
+        (step_leaves_but (c.led.0 bank) s.0 clock next before after results (table two) (record { row = row; tick = tick; asks = Reads at }) bank_replays.leads s.1)) in_turn
 
     pub write_tells : {bytes : List ℕ} {given : List Bool} {next : ClockState n m e} {after : ArrayState n m}
         → ((xs : List (TimedEvent n m)) → Leads xs clock before
@@ -179,4 +180,4 @@ module _ {n m e row tick line bank at : ℕ} {old : ModuleState n m e} {before :
         let s = step (c.led.0 bank) bank_replays.leads in
         of_taking goes_on table old bank row line clock one two c.is c.home on
         (subst (λ (r : List (Outcome n)). LeavesOthersThan row clock.bank r (table two)) (sym same)
-        (step_leaves_but (c.led.0 bank) s.0 clock next before after results (table two) (record { row = row; tick = tick; asks = Writes at bytes given }) bank_replays.leads s.1))
+        (step_leaves_but (c.led.0 bank) s.0 clock next before after results (table two) (record { row = row; tick = tick; asks = Writes at bytes given }) bank_replays.leads s.1)) in_turn

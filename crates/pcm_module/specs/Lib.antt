@@ -8,3 +8,4 @@ pub mod Draining
 pub mod Settling
 pub mod Shaped
 pub mod Roles
+pub mod Standings

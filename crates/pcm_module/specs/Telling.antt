@@ -6,7 +6,7 @@ use Rattle.row_rules.specs.{declared.Asks.Asks, declared.Asks.TheVariants.{Reads
 use Rattle.bank_invariant.specs.State.{BankState}
 use Rattle.module_laws.specs.Asking.{Asked}
 use Rattle.clock_laws.specs.Standing.{has_waiting}
-use Rattle.bank_timing.specs.Extending.{outcome_in}
+use Rattle.bank_timing.specs.{Extending.outcome_in, Telling.TellsInTurn}
 use Rattle.right_runs.specs.Banks.{bank_of_line}
 use Rattle.pcm_module.specs.State.{ModuleState, bank_at}
 
@@ -35,22 +35,23 @@ module _ {n m e : ℕ} (module_ : ModuleState n m e) where
   rows_taking row line other = rows_at (bank_of_line module_.shape module_.seed line) other || row == other
 
 module _ {n : ℕ} {R : Type 0} (goes_on : R → R → Type 0) (table : R → List (Outcome n)) where
-  -- outcomes of these rows alone were told
-  pub record TellsOf (rows : ℕ → Bool) (old new : R) : Type 0 where
+  -- outcomes of these rows alone were told, in the order of their ticks, and where nothing comes any more those of writes that stay queued behind them
+  pub record TellsOf (ends : Bool) (rows : ℕ → Bool) (old new : R) : Type 0 where
     pub on : goes_on old new
     pub others : (row : ℕ) → HasRow (table old) row → rows row ≡ false → outcome_in (table new) row ≡ outcome_in (table old) row
+    pub in_turn : TellsInTurn goes_on table ends old new
 
   -- bank by bank, so many from the first on: with each, outcomes of its rows alone
-  abbrev pub TellsByBanks : (ℕ → ℕ → Bool) → ℕ → R → R → Type 0
-  TellsByBanks rows zero old new = old ≡ new
-  TellsByBanks rows (suc bank) old new = (between : R) × TellsByBanks rows bank old between × TellsOf (rows bank) between new
+  abbrev pub TellsByBanks : Bool → (ℕ → ℕ → Bool) → ℕ → R → R → Type 0
+  TellsByBanks ends rows zero old new = old ≡ new
+  TellsByBanks ends rows (suc bank) old new = (between : R) × TellsByBanks ends rows bank old between × TellsOf ends (rows bank) between new
 
   -- and behind the banks at most the outcome of a row that was taken
   abbrev pub TellsInOrder : (ℕ → ℕ → Bool) → ℕ → ℕ → R → R → Type 0
-  TellsInOrder rows banks row old new = (between : R) × TellsByBanks rows banks old between × TellsOf (λ other. row == other) between new
+  TellsInOrder rows banks row old new = (between : R) × TellsByBanks false rows banks old between × TellsOf false (λ other. row == other) between new
 
   -- as a row is taken that asks this: one of a line makes the line's own bank alone tell; at a cut the banks tell one by one, and behind them the cut's own row
   abbrev pub TellsFor : {m e : ℕ} → ModuleState n m e → ℕ → Asks n → R → R → Type 0
-  TellsFor module_ row (Reads line) old new = TellsOf (rows_taking module_ row line) old new
-  TellsFor module_ row (Writes line bytes given) old new = TellsOf (rows_taking module_ row line) old new
+  TellsFor module_ row (Reads line) old new = TellsOf false (rows_taking module_ row line) old new
+  TellsFor module_ row (Writes line bytes given) old new = TellsOf false (rows_taking module_ row line) old new
   TellsFor module_ row Cuts old new = TellsInOrder (rows_at module_) module_.shape.banks row old new

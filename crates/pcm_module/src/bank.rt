@@ -1,9 +1,10 @@
 // What a module asks of one of its banks.
-ghost use Rattle.std.specs.Prelude.{◌+◌, ℕ, List};
+ghost use Rattle.std.specs.Prelude.{◌+◌, ℕ, List, false};
 ghost use Rattle.masked_bytes.specs.Masked.{IsMasked};
 ghost use Rattle.row_rules.specs.declared.Asks.TheVariants.{Reads, Writes, Cuts};
 ghost use Rattle.bank_model.specs.Timing.{TimedEvent};
 ghost use Rattle.clock_laws.specs.Leads.{Leads};
+ghost use Rattle.bank_timing.specs.Telling.{TellsInTurn};
 ghost use Rattle.pcm_module.specs.Stepping.{MayCome, MayArrive, IsAt, IsStep};
 
 use bank_timing::clocked::Timed;
@@ -27,6 +28,7 @@ pub fn read_at<const B: usize, const M: usize, const E: usize, A: CellArray<B, M
         × IsStep xs added (record { row = row; tick = tick; asks = Reads line }) timed.old timed.new
         (A.state array.old) (A.state array.new) (R.table results.old) (R.table results.new) }
     ensures goes_on { R.goes_on results.old results.new }
+    ensures in_turn { TellsInTurn R.goes_on R.table false results.old results.new }
 {
     timed.advance(array, tick, results);
     timed.arrive_read(array, row, line, results);
@@ -55,6 +57,7 @@ pub fn write_at<const B: usize, const M: usize, const E: usize, A: CellArray<B, 
         timed.old timed.new (A.state array.old) (A.state array.new)
         (R.table results.old) (R.table results.new) }
     ensures goes_on { R.goes_on results.old results.new }
+    ensures in_turn { TellsInTurn R.goes_on R.table false results.old results.new }
 {
     timed.advance(array, tick, results);
     timed.arrive_write(entry, results);
@@ -74,6 +77,7 @@ pub fn cut_at<const B: usize, const M: usize, const E: usize, A: CellArray<B, M>
         × IsStep xs added (record { row = row; tick = tick; asks = Cuts }) timed.old timed.new
         (A.state array.old) (A.state array.new) (R.table results.old) (R.table results.new) }
     ensures goes_on { R.goes_on results.old results.new }
+    ensures in_turn { TellsInTurn R.goes_on R.table false results.old results.new }
 {
     timed.advance(array, tick, results);
     timed.power_cut(array, results);

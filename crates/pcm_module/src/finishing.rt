@@ -54,7 +54,7 @@ impl<const B: usize, const M: usize, const E: usize> Module<B, M, E> {
             (self.old.shape.banks * array_lines_of (module_of self.old.shape))
             (A.state array.old) (A.state array.new) }
         ensures goes_on { R.goes_on results.old results.new }
-        ensures order { TellsByBanks R.goes_on R.table (rows_at self.old) self.old.shape.banks
+        ensures order { TellsByBanks R.goes_on R.table true (rows_at self.old) self.old.shape.banks
             results.old results.new }
     {
         finished_runs_are_right();
@@ -92,7 +92,7 @@ impl<const B: usize, const M: usize, const E: usize> Module<B, M, E> {
         ensures others { (row : ℕ) → HasRow (R.table results.old) row → StandsNowhere self.old row
             → outcome_in (R.table results.new) row ≡ outcome_in (R.table results.old) row }
         ensures goes_on { R.goes_on results.old results.new }
-        ensures order { TellsByBanks R.goes_on R.table (rows_at self.old) self.old.shape.banks
+        ensures order { TellsByBanks R.goes_on R.table true (rows_at self.old) self.old.shape.banks
             results.old results.new }
     {
         stopped_runs_are_right();
@@ -116,7 +116,7 @@ fn stop_all<const B: usize, const M: usize, const E: usize, R: Outcomes<B>>(
     ensures goes_on { R.goes_on results.old results.new }
     ensures order { (of : ModuleState B M E) (array : ArrayState B M)
         → MayFinish true of banks.old.items array (R.table results.old)
-        → TellsByBanks R.goes_on R.table (rows_at of) of.shape.banks results.old results.new }
+        → TellsByBanks R.goes_on R.table true (rows_at of) of.shape.banks results.old results.new }
 {
     for bank in 0..banks.len() {
         banks[bank].stop(results);
@@ -139,7 +139,7 @@ fn drain_all<const B: usize, const M: usize, const E: usize, A: CellArray<B, M>,
     ensures goes_on { R.goes_on results.old results.new }
     ensures order { (of : ModuleState B M E)
         → MayFinish false of banks.old.items (A.state array.old) (R.table results.old)
-        → TellsByBanks R.goes_on R.table (rows_at of) of.shape.banks results.old results.new }
+        → TellsByBanks R.goes_on R.table true (rows_at of) of.shape.banks results.old results.new }
 {
     for bank in 0..banks.len() {
         banks[bank].drain(array, results);

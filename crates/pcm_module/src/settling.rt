@@ -60,7 +60,7 @@ impl<const B: usize, const M: usize, const E: usize> Module<B, M, E> {
             (self.old.shape.banks * array_lines_of (module_of self.old.shape))
             (A.state array.old) (A.state array.new) }
         ensures goes_on { R.goes_on results.old results.new }
-        ensures order { TellsByBanks R.goes_on R.table (rows_at self.old) self.old.shape.banks
+        ensures order { TellsByBanks R.goes_on R.table false (rows_at self.old) self.old.shape.banks
             results.old results.new }
     {
         settle_all(&mut self.banks, array, tick, results);
@@ -85,7 +85,7 @@ fn settle_all<const B: usize, const M: usize, const E: usize, A: CellArray<B, M>
     ensures goes_on { R.goes_on results.old results.new }
     ensures order { (of : ModuleState B M E)
         → MaySettle tick of banks.old.items (A.state array.old) (R.table results.old)
-        → TellsByBanks R.goes_on R.table (rows_at of) of.shape.banks results.old results.new }
+        → TellsByBanks R.goes_on R.table false (rows_at of) of.shape.banks results.old results.new }
 {
     for bank in 0..banks.len() {
         banks[bank].advance(array, tick, results);

@@ -9,7 +9,7 @@ use pcm_io::{Sink, StdSink, StdSource, write_all};
 use std::process::ExitCode;
 use std::{env, io};
 use stream_promise::run_stream;
-use stream_top::{asks_energy, asks_totals};
+use stream_words::{counts_energy, keeps_totals, read_stream_job};
 use wear_totals::TotalledArray;
 
 /// The words couldn't be had, for another cause than memory.
@@ -63,9 +63,9 @@ fn totalled(keeps: bool, narrow: MemArray<64, 8>, wide: MemArray<128, 16>) -> (N
 fn stream<F: Sink>(rt: &HostRuntime, err: &mut F) -> io::Result<u8> {
     let words = words(rt)?;
     let out = Box::new(rt.alloc(), StdSink::new(rt.stdout()))?;
-    let (array, wide) = arrays(asks_energy(rt.alloc(), words.as_slice()));
-    let keeps = asks_totals(rt.alloc(), words.as_slice());
-    let (mut array, mut wide) = totalled(keeps, array, wide);
+    let asked = read_stream_job(rt.alloc(), words.as_slice());
+    let (array, wide) = arrays(counts_energy(&asked));
+    let (mut array, mut wide) = totalled(keeps_totals(&asked), array, wide);
     let (status, _out) = run_stream(
         rt.alloc(),
         words.as_slice(),

@@ -4,7 +4,7 @@ use Rattle.std.{specs.Prelude.{codes, decimal}, proofs.lemmas.Nat.mul-le}
 use Rattle.pcm_io.specs.Reserved.{Reserved, appended}
 use Rattle.start_gap.specs.{Rotation.{place_after, move_after}, Slots.slot_at, declared.Move.Move}
 use Rattle.feistel_map.specs.declared.address.Address.{Address}
-use Rattle.rotation_reports.specs.{MapText.{map_address, map_row, array_lines_of}, MovesText.move_row, Rows.row_of, declared.line_rows.MapOptions.MapOptions}
+use Rattle.rotation_reports.specs.{MapText.{map_address, map_row, standing_row, array_lines_of}, MovesText.move_row, Rows.row_of, declared.line_rows.MapOptions.MapOptions}
 
 -- the slots of a bank, those of the regions before, and the array lines of the banks before
 pub slots_few : (regions lines : ℕ) → regions ≤ 16 → lines ≤ 4096 → regions * (lines + 1) ≤ 65552
@@ -32,8 +32,7 @@ four_fields t a b c d = simp append_assoc
 pub map_row-is : (o : MapOptions) (line : ℕ) (address : Address) (place array : ℕ) → address ≡ map_address o line
     → place ≡ place_after o.lines address.offset o.moves
     → array ≡ address.bank * array_lines_of o + slot_at o.lines address.region place
-    → row_of (decimal line ∷ decimal address.bank ∷ decimal address.region ∷ decimal address.offset ∷ decimal place ∷ decimal array ∷ [])
-    ≡ map_row o line
+    → standing_row line address place array ≡ map_row o line
 map_row-is o line address place array a p q = rw (q, p, a) refl
 
 pub move_row-is : (n t : ℕ) (move : Move) → move ≡ move_after n t

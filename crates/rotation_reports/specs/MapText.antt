@@ -42,11 +42,14 @@ abbrev pub map_array : MapOptions → ℕ → ℕ
 map_array o line =
     (map_address o line).bank * array_lines_of o + slot_at o.lines (map_address o line).region (map_place o line)
 
--- the row of a line
+-- the row of a line: its number, its address, its place in the region, and its array line
+abbrev pub standing_row : ℕ → Address → ℕ → ℕ → List ℕ
+standing_row line address place array = row_of
+    (decimal line ∷ decimal address.bank ∷ decimal address.region ∷ decimal address.offset ∷ decimal place ∷ decimal array ∷ [])
+
+-- the same, by the options
 abbrev pub map_row : MapOptions → ℕ → List ℕ
-map_row o line = row_of
-    (decimal line ∷ decimal (map_address o line).bank ∷ decimal (map_address o line).region ∷ decimal (map_address o line).offset
-    ∷ decimal (map_place o line) ∷ decimal (map_array o line) ∷ [])
+map_row o line = standing_row line (map_address o line) (map_place o line) (map_array o line)
 
 -- the rows of all lines
 abbrev pub map_text : MapOptions → List ℕ

@@ -1,5 +1,5 @@
 //! The texts of two reports on rotation: `map`, where every line of a module stands, and `moves`, the gap moves of one
-//! region over a full turn. Each row is put into a text that was reserved before, so that printing takes no memory.
+//! region over a full turn; and the row of a line of any module. Each row is put into a text that was reserved before, so that printing takes no memory.
 #![tactic(auto)]
 
 mod line_rows;
@@ -8,7 +8,7 @@ mod move_rows;
 ghost use Rattle.std.specs.Prelude.{◌≡◌, ◌≤◌};
 ghost use Rattle.start_gap.specs.Rotation.{IsRotation, StandsFor};
 
-pub use line_rows::{Map, MapOptions, print_map_header};
+pub use line_rows::{Map, MapOptions, print_map_header, push_standing};
 pub use move_rows::{print_move_row, print_moves_header};
 use start_gap::Registers;
 

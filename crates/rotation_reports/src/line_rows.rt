@@ -4,7 +4,7 @@ ghost use Rattle.pcm_io.specs.Reserved.{room_in, appended};
 ghost use Rattle.feistel_map.specs.Log2.{log2};
 ghost use Rattle.start_gap.specs.Slots.{slot_at};
 ghost use Rattle.bank_shape.specs.Shape.{if_array};
-ghost use Rattle.rotation_reports.specs.MapText.{IsMapOptions, map_header, map_row, map_address, lines_of, array_lines_of};
+ghost use Rattle.rotation_reports.specs.MapText.{IsMapOptions, map_header, map_row, map_address, standing_row, lines_of, array_lines_of};
 
 use crate::registers_after;
 use bank_shape::Home;
@@ -60,7 +60,6 @@ impl Map {
     }
 
     /// Appends the row of a line of the module.
-    #[tactic(auto, using(pcm_io::proofs::DigitLemmas::five_digits, pcm_io::proofs::DigitLemmas::ten_digits))]
     pub fn print_row(&self, line: u32, text: &mut Text)
         requires exists { line < lines_of self.now }
         requires room { 64 ≤ room_in text.old }
@@ -70,12 +69,7 @@ impl Map {
         let address = self.address(line);
         let place = self.registers.place(address.offset);
         let array = array_line(&self.options, address, place);
-        text.push_number_then(line as u64, b",");
-        text.push_number_then(address.bank as u64, b",");
-        text.push_number_then(address.region as u64, b",");
-        text.push_number_then(address.offset as u64, b",");
-        text.push_number_then(place as u64, b",");
-        text.push_number_then(array as u64, b"\n");
+        push_standing(line, address, place, array, text);
     }
 
     // The address of a line.
@@ -93,6 +87,22 @@ impl Map {
             self.options.lines,
         )
     }
+}
+
+/// Appends the row of a line of a module: its number, its address, its place in the region, and its array line.
+#[tactic(auto, using(pcm_io::proofs::DigitLemmas::five_digits, pcm_io::proofs::DigitLemmas::ten_digits))]
+pub fn push_standing(line: u32, address: Address, place: u32, array: u32, text: &mut Text)
+    requires few_banks { address.bank < 100000 }
+    requires room { 64 ≤ room_in text.old }
+    ensures after { text.new ≡ appended text.old (standing_row line address place array) }
+    ensures room { room_in text.old ≤ room_in text.new + 64 }
+{
+    text.push_number_then(line as u64, b",");
+    text.push_number_then(address.bank as u64, b",");
+    text.push_number_then(address.region as u64, b",");
+    text.push_number_then(address.offset as u64, b",");
+    text.push_number_then(place as u64, b",");
+    text.push_number_then(array as u64, b"\n");
 }
 
 /// Appends the first line of `map`, with its LF.

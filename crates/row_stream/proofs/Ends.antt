@@ -51,7 +51,7 @@ module _ {n m e : ℕ} (raw : RawShape) (seed : ℕ) (asked : List (Asked n)) (m
     (had : IsServing raw seed asked module_ array places told shown snaps) where
   -- what is left, where the banks drained or the power stays off
   pub has-ended : (off : Bool) (new : ModuleState n m e) (after : ArrayState n m) (places2 : ℕ) (told2 : List (Told n)) (shown2 : Shown) (snaps2 : List Snapshot)
-      → shown2 ≡ shown → snaps2 ≡ snaps → places2 ≡ places → (outcomes : List (ℕ × Outcome n)) → told2 ≡ told ++ became outcomes → ComeByBanks raw seed (events_in asked) raw.banks outcomes
+      → shown2 ≡ shown → snaps2 ≡ snaps → places2 ≡ places → (outcomes : List (ℕ × Outcome n)) → told2 ≡ told ++ became outcomes → ComeByBanks raw seed true (events_in asked) raw.banks outcomes
       → new.shape ≡ module_.shape → new.seed ≡ module_.seed → length (table_of places2 told2) ≡ length (table_of places told)
       → ((added : ℕ → List (TimedEvent n m))
       × IsFinishedTo new.shape new.seed off (λ bank. added bank ++ had.history bank) (asked_for (events_in asked)) (bank_at new) after (outcome_in (table_of places2 told2)))

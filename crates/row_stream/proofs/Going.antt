@@ -1,5 +1,5 @@
 -- How a row of a stream is served.
-use Rattle.std.proofs.Common.{◌≡◌, ℕ, zero, suc, ◌+◌, ◌<◌, ◌≤◌, ◌==◌, ◌&&◌, false, List, [], ◌∷◌, ◌++◌, length, refl, sym, ap, ◌∙◌, subst, arith, eq-eqb, replicate, true, Option}
+use Rattle.std.proofs.Common.{◌≡◌, ℕ, zero, suc, ◌+◌, ◌<◌, ◌≤◌, ◌==◌, ◌&&◌, Bool, false, List, [], ◌∷◌, ◌++◌, length, refl, sym, ap, ◌∙◌, subst, arith, eq-eqb, replicate, true, Option}
 use Rattle.std.{specs.Prelude.{IsSomeAnd, slice_get}, proofs.lemmas.List.{append-nil, length_push}}
 use Rattle.cell_rows.specs.Device.{ArrayState}
 use Rattle.trace_reader.specs.{Events.IsOpFor, Rows.latest_tick, declared.event.Event.Event, declared.event.EventOp.EventOp}
@@ -80,11 +80,11 @@ module _ {n m e : ℕ} (raw : RawShape) (seed : ℕ) (asked : List (Asked n)) (m
       number : row ≡ length (events_in asked) + 1
       number = omega (arith, is, had.counted)
 
-      own : (line : ℕ) → comes_to home (home line) (asks_of event.op) ≡ true → line < total_of module_.shape → TellsOf (PrintsOn written faults) table_told (rows_taking module_ row line) one two
-          → ToldSo (ComeOfBank module_.shape module_.seed events (home line)) one.told two.told
+      own : (line : ℕ) → comes_to home (home line) (asks_of event.op) ≡ true → line < total_of module_.shape → TellsOf (PrintsOn written faults) table_told false (rows_taking module_ row line) one two
+          → ToldSo (ComeOfBank module_.shape module_.seed false events (home line)) one.told two.told
       own line comes there tells =
           let exists : home line < module_.shape.banks = (lines_law module_.shape module_.seed shaped).exists line there in
-          come-of-bank written faults module_.shape module_.seed events (home line) (rows_taking module_ row line)
+          come-of-bank written faults module_.shape module_.seed false events (home line) (rows_taking module_ row line)
           (λ other of.
           let P : ℕ → Type 0 = λ k. is_asked_of home (home line) (asked_by k event ∷ asked_for (events_in asked)) other ≡ true in
           subst P number (taking_asked had.history (asked_for (events_in asked)) module_ array (table_of places told) had.served.replays (home line) exists (asked_by row event) other comes of)) one two once tells
@@ -100,14 +100,14 @@ module _ {n m e : ℕ} (raw : RawShape) (seed : ℕ) (asked : List (Asked n)) (m
           (standing_asked had.history (asked_for (events_in asked)) module_ array (table_of places told) had.served.replays bank there other stands)) row one two once tells
 
   -- so does what the banks tell where no row comes
-  pub banks-order : {S : Type 0} (written : S → Option (List ℕ)) (faults : S → ℕ) (one two : Printing n S) → TellsOnce two.rows (outcomes_in two.told)
-      → TellsByBanks (PrintsOn written faults) table_told (rows_at module_) module_.shape.banks one two
-      → ToldSo (ComeByBanks raw seed (events_in asked) raw.banks) one.told two.told
-  banks-order {S = S} written faults one two once order =
+  pub banks-order : {S : Type 0} (ends : Bool) (written : S → Option (List ℕ)) (faults : S → ℕ) (one two : Printing n S) → TellsOnce two.rows (outcomes_in two.told)
+      → TellsByBanks (PrintsOn written faults) table_told ends (rows_at module_) module_.shape.banks one two
+      → ToldSo (ComeByBanks raw seed ends (events_in asked) raw.banks) one.told two.told
+  banks-order {S = S} ends written faults one two once order =
       let came =
       come-by-banks written faults module_.shape module_.seed (events_in asked) (rows_at module_)
-      (λ bank there other of. standing_asked had.history (asked_for (events_in asked)) module_ array (table_of places told) had.served.replays bank there other of) module_.shape.banks one two (omega arith) once order in
-      let Q : RawShape → ℕ → Type 0 = λ r k. ComeByBanks r k (events_in asked) r.banks came.outcomes in
+      (λ bank there other of. standing_asked had.history (asked_for (events_in asked)) module_ array (table_of places told) had.served.replays bank there other of) ends module_.shape.banks one two (omega arith) once order in
+      let Q : RawShape → ℕ → Type 0 = λ r k. ComeByBanks r k ends (events_in asked) r.banks came.outcomes in
       record { outcomes = came.outcomes; told = came.told; are = subst (λ k. Q raw k) had.served.seeded (subst (λ r. Q r module_.seed) had.served.shape came.are) }
 
   -- and then it is served
@@ -182,7 +182,7 @@ module _ {n m e : ℕ} (raw : RawShape) (seed : ℕ) (asked : List (Asked n)) (m
 
   -- so is a settle
   pub serving-settle : (at : ℕ) (new : ModuleState n m e) (after : ArrayState n m) (places2 : ℕ) (told1 told2 : List (Told n)) (shown2 : Shown) (snaps2 : List Snapshot)
-      → places2 ≡ places → (outcomes : List (ℕ × Outcome n)) → told1 ≡ told ++ became outcomes → ComeByBanks raw seed (events_in asked) raw.banks outcomes → told2 ≡ told1 ++ lines_of (Settle at) new after
+      → places2 ≡ places → (outcomes : List (ℕ × Outcome n)) → told1 ≡ told ++ became outcomes → ComeByBanks raw seed false (events_in asked) raw.banks outcomes → told2 ≡ told1 ++ lines_of (Settle at) new after
       → new.shape ≡ module_.shape → new.seed ≡ module_.seed → new.finished ≡ false → new.tick ≡ at → module_.tick ≤ at → ((bank : ℕ) → bank < new.shape.banks → IsSomeAnd (slice_get new.banks bank) (IsAtTick at))
       → at ≤ latest_tick → new.rows_below ≡ module_.rows_below
       → length (table_of places2 told1) ≡ length (table_of places told)
@@ -220,7 +220,7 @@ module _ {n m e : ℕ} (raw : RawShape) (seed : ℕ) (asked : List (Asked n)) (m
 
   -- so is a query
   pub serving-query : (at : ℕ) (new : ModuleState n m e) (after : ArrayState n m) (places2 : ℕ) (told1 told2 : List (Told n)) (shown2 : Shown) (snaps2 : List Snapshot)
-      → places2 ≡ places → (outcomes : List (ℕ × Outcome n)) → told1 ≡ told ++ became outcomes → ComeByBanks raw seed (events_in asked) raw.banks outcomes → told2 ≡ told1 ++ lines_of (Query at) new after
+      → places2 ≡ places → (outcomes : List (ℕ × Outcome n)) → told1 ≡ told ++ became outcomes → ComeByBanks raw seed false (events_in asked) raw.banks outcomes → told2 ≡ told1 ++ lines_of (Query at) new after
       → new.shape ≡ module_.shape → new.seed ≡ module_.seed → new.finished ≡ false → new.tick ≡ at → module_.tick ≤ at → ((bank : ℕ) → bank < new.shape.banks → IsSomeAnd (slice_get new.banks bank) (IsAtTick at))
       → at ≤ latest_tick → new.rows_below ≡ module_.rows_below
       → length (table_of places2 told1) ≡ length (table_of places told)
@@ -258,7 +258,7 @@ module _ {n m e : ℕ} (raw : RawShape) (seed : ℕ) (asked : List (Asked n)) (m
 
   -- so is a look
   pub serving-look : (at : ℕ) (new : ModuleState n m e) (after : ArrayState n m) (places2 : ℕ) (told1 told2 : List (Told n)) (shown2 : Shown) (snaps2 : List Snapshot)
-      → places2 ≡ places → (outcomes : List (ℕ × Outcome n)) → told1 ≡ told ++ became outcomes → ComeByBanks raw seed (events_in asked) raw.banks outcomes → told2 ≡ told1 ++ lines_of (Look at) new after
+      → places2 ≡ places → (outcomes : List (ℕ × Outcome n)) → told1 ≡ told ++ became outcomes → ComeByBanks raw seed false (events_in asked) raw.banks outcomes → told2 ≡ told1 ++ lines_of (Look at) new after
       → new.shape ≡ module_.shape → new.seed ≡ module_.seed → new.finished ≡ false → new.tick ≡ at → module_.tick ≤ at → ((bank : ℕ) → bank < new.shape.banks → IsSomeAnd (slice_get new.banks bank) (IsAtTick at))
       → at ≤ latest_tick → new.rows_below ≡ module_.rows_below
       → length (table_of places2 told1) ≡ length (table_of places told)

@@ -1,7 +1,8 @@
--- A table with one place more, that each row was told, in which order, how a row is served, how what waits in the banks is told, the table of a run, how a stream ends, where it stops at a refusal, and printers that were told the same.
+-- A table with one place more, that each row was told, in which order, how a row is served, what a step of a stream does, how what waits in the banks is told, the table of a run, how a stream ends, where it stops at a refusal, and printers that were told the same.
 mod Growing
 mod Standing
 pub mod Each
+mod InTurn
 mod Order
 mod Backlogs
 mod Going
@@ -11,6 +12,7 @@ mod Turning
 pub mod Tables
 mod Ends
 mod Rows
+mod Steps
 mod Draws
 mod Decided
 pub mod Refusals

@@ -10,7 +10,7 @@ use Rattle.pcm_module.specs.State.{ModuleState}
 use Rattle.row_printer.specs.{Printing.table_of, Refusing.any_refused, declared.snapshot.Snapshot.Snapshot, declared.told.Shown.Shown, declared.told.Told.Told}
 use Rattle.trace_reader.specs.declared.fault.TraceFault.{TraceFault}
 use Rattle.trace_reader.specs.declared.fault.Kind.TheVariants as kind
-use Rattle.trace_stream.specs.{Arrived.StaysEnded, Asked.{IsAskedFor, IsUnreached, NamesRow, events_in, reached_at, rows_after, tick_asked, tick_named}, Kept.{LacksHeader, decides}}
+use Rattle.trace_stream.specs.{Arrived.StaysEnded, Asked.{IsAskedFor, IsUnreached, events_in, reached_at, rows_after, tick_asked, tick_named}, Kept.{LacksHeader, decides}}
 use Rattle.trace_stream.specs.{Stream.{AsksNext, HasFault, HasFront, IsOfText, Opens, Standing, asked_from, front_from, front_of, front_rows, records_left, stream_of}, declared.asked.Asked.Asked}
 use Rattle.trace_stream.specs.{declared.asked.Asked.TheVariants.{Happens, Settle, Query, Look, Until}, declared.fault.StreamFault.StreamFault}
 use Rattle.trace_stream.proofs.Runs.{HasAsked, asked-all, asked-faulty, asked-first, asked-front, asked-more}
@@ -72,12 +72,16 @@ reread {n = n} stood tick reached same (Until until) is =
     ap again (sym (is ∙ same))
 
 -- what may be asked at a tick may be asked at a later one that it doesn't come before
-later-asked : {n : ℕ} (lines before now : ℕ) (asked : Asked n) → IsAskedFor lines before asked → now ≤ tick_named asked → IsAskedFor lines now asked
+pub later-asked : {n : ℕ} (lines before now : ℕ) (asked : Asked n) → IsAskedFor lines before asked → now ≤ tick_named asked → IsAskedFor lines now asked
 later-asked lines before now (Happens event) lawful named = record { rises = named; in_time = lawful.in_time; op = lawful.op }
 later-asked lines before now (Settle at) lawful named = (named, lawful.1)
 later-asked lines before now (Query at) lawful named = (named, lawful.1)
 later-asked lines before now (Look at) lawful named = (named, lawful.1)
 later-asked lines before now (Until until) lawful named = (named, lawful.1)
+
+-- and so behind the tick 0, of as many lines
+pub asked-ever : {n : ℕ} (lines total before : ℕ) (asked : Asked n) → lines ≡ total → IsAskedFor lines before asked → IsAskedFor total 0 asked
+asked-ever lines total before asked same lawful = later-asked total before 0 asked (subst (λ (k : ℕ). IsAskedFor k before asked) same lawful) (omega arith)
 
 module _ (n lines : ℕ) {S : Type 0} (left : S → Option (List ℕ)) (taken faults : S → ℕ) (old : S) where
   -- nothing came
@@ -140,16 +144,6 @@ module _ {n m e : ℕ} {stops : Bool} (raw : RawShape) (seed : ℕ) {S : Type 0}
     -- a row more may be served
     pub next-few : places < 4294967295
     next-few = omega (arith, had.serving.counted, had.rows, had.most)
-
-    -- what is asked next may be asked of the module
-    pub next-asked : (asked : Asked n) → IsAskedFor stream.lines stream.tick asked → module_.tick ≤ tick_named asked → IsAskedFor (total_of module_.shape) module_.tick asked
-    next-asked asked lawful named =
-        let lines : stream.lines ≡ total_of module_.shape = had.lines ∙ ap total_of (sym had.serving.served.shape) in
-        later-asked (total_of module_.shape) stream.tick module_.tick asked (subst (λ (k : ℕ). IsAskedFor k stream.tick asked) lines lawful) named
-
-    -- it waits for a row that came
-    pub next-named : (asked : Asked n) → NamesRow stream.rows asked → NamesRow places asked
-    next-named asked names = subst (λ (k : ℕ). NamesRow k asked) (had.rows ∙ sym had.serving.counted) names
 
     rows-next : (tick : ℕ) (asked : Asked n) (rows : ℕ) → rows ≡ rows_after stream.rows asked → rows ≡ length (events_in (reached_at tick asked ∷ had.asked))
     rows-next tick (Happens event) rows is = omega (arith, is, had.rows)

@@ -66,13 +66,13 @@ module _ {n m e : ℕ} (raw : RawShape) (seed : ℕ) (asked : List (Asked n)) (m
   module _ (mid : ModuleState n m e) (between : ArrayState n m) (places1 : ℕ) (told1 : List (Told n)) (gone : HasGone mid between places1 told1) where
     -- a turn of it comes bank by bank
     pub turn-order : {S : Type 0} (written : S → Option (List ℕ)) (faults : S → ℕ) (one two : Printing n S) → TellsOnce two.rows (outcomes_in two.told)
-        → TellsByBanks (PrintsOn written faults) table_told (rows_at mid) mid.shape.banks one two
-        → ToldSo (ComeByBanks raw seed (events_in asked) raw.banks) one.told two.told
+        → TellsByBanks (PrintsOn written faults) table_told false (rows_at mid) mid.shape.banks one two
+        → ToldSo (ComeByBanks raw seed false (events_in asked) raw.banks) one.told two.told
     turn-order written faults one two once order =
         let came =
         come-by-banks written faults mid.shape mid.seed (events_in asked) (rows_at mid)
-        (λ bank there other of. standing_asked (λ bank. gone.added bank ++ had.history bank) (asked_for (events_in asked)) mid between (table_of places1 told1) gone.replays bank there other of) mid.shape.banks one two (omega arith) once order in
-        let Q : RawShape → ℕ → Type 0 = λ r k. ComeByBanks r k (events_in asked) r.banks came.outcomes in
+        (λ bank there other of. standing_asked (λ bank. gone.added bank ++ had.history bank) (asked_for (events_in asked)) mid between (table_of places1 told1) gone.replays bank there other of) false mid.shape.banks one two (omega arith) once order in
+        let Q : RawShape → ℕ → Type 0 = λ r k. ComeByBanks r k false (events_in asked) r.banks came.outcomes in
         record { outcomes = came.outcomes; told = came.told; are = subst (λ k. Q raw k) gone.seeded (subst (λ r. Q r mid.seed) gone.shape came.are) }
 
     -- a turn more
@@ -81,7 +81,7 @@ module _ {n m e : ℕ} (raw : RawShape) (seed : ℕ) (asked : List (Asked n)) (m
         → length (table_of places2 told2) ≡ length (table_of places1 told1)
         → ((h : ℕ → List (TimedEvent n m)) (rows : List (AskedRow n)) → Replays h rows mid between (table_of places1 told1)
         → (added : ℕ → List (TimedEvent n m)) × Replays (λ bank. added bank ++ h bank) rows new after (table_of places2 told2))
-        → ToldSo (ComeByBanks raw seed (events_in asked) raw.banks) told1 told2 → HasGone new after places2 told2
+        → ToldSo (ComeByBanks raw seed false (events_in asked) raw.banks) told1 told2 → HasGone new after places2 told2
     gone-more new after places2 told2 shape seeded going bound counted size leads order =
         let led = leads (λ bank. gone.added bank ++ had.history bank) (asked_for (events_in asked)) gone.replays in
         record {

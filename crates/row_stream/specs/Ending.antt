@@ -32,7 +32,7 @@ pub record HasEnded {n m e : ℕ} (raw : RawShape) (seed : ℕ) (off : Bool) (as
   pub along : TellsAlong e raw seed asked history said
   pub rest : List (ℕ × Outcome n)
   pub all : told ≡ said ++ became rest
-  pub order : ComeByBanks raw seed (events_in asked) raw.banks rest
+  pub order : ComeByBanks raw seed true (events_in asked) raw.banks rest
   pub finished : (added : ℕ → List (TimedEvent n m))
       × IsFinishedTo raw seed off (λ bank. added bank ++ history bank) (asked_for (events_in asked))
       (bank_at module_) array (outcome_in (table_of places told))

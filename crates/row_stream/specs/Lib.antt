@@ -5,5 +5,6 @@ pub mod Reaching
 pub mod Serving
 pub mod Refusing
 pub mod Sourcing
+pub mod Stepping
 pub mod Ending
 pub mod Laws

@@ -1,9 +1,9 @@
 -- What a module and what was told have to do with what the rows of a stream asked so far. What was asked stands with the newest first.
-use Rattle.std.specs.Prelude.{◌≡◌, ℕ, zero, suc, ◌+◌, ◌<◌, ◌≤◌, Bool, true, false, List, [], ◌∷◌, ◌++◌, length, All, IsSomeAnd, slice_get}
+use Rattle.std.specs.Prelude.{◌≡◌, ℕ, zero, suc, ◌+◌, ◌<◌, ◌≤◌, Bool, true, false, List, [], ◌∷◌, ◌++◌, length, Some, All, IsSomeAnd, slice_get}
 use Rattle.cell_rows.specs.Device.{ArrayState}
 use Rattle.trace_reader.specs.{Rows.latest_tick, declared.event.Event.Event}
-use Rattle.result_rows.specs.declared.Outcome.{Outcome}
-use Rattle.row_rules.specs.{declared.Asks.Asks, declared.Asks.TheVariants.{Reads, Writes, Cuts}}
+use Rattle.result_rows.specs.{Outcomes.tick_of, declared.Outcome.Outcome}
+use Rattle.row_rules.specs.{Answers.is_queued, declared.Asks.Asks, declared.Asks.TheVariants.{Reads, Writes, Cuts}}
 use Rattle.trace_rows.specs.Rows.{asks_of}
 use Rattle.bank_model.specs.Timing.{TimedEvent}
 use Rattle.module_shape.specs.declared.raw.RawShape.{RawShape}
@@ -25,29 +25,43 @@ module _ {n m e : ℕ} (raw : RawShape) (seed : ℕ) where
     pub size : length outcomes ≡ length events
     pub replays : Replays h (asked_for events) module_ array outcomes
 
+module _ {n : ℕ} where
+  -- outcomes in the order of their ticks, from this tick on: from one to the next no tick falls, and none is that of a write that stays queued
+  abbrev pub ComeByTick : ℕ → List (ℕ × Outcome n) → Type 0
+  ComeByTick from [] = Unit {0}
+  ComeByTick from (one ∷ outcomes) = (tick : ℕ) × (from ≤ tick) × (tick_of one.1 ≡ Some tick) × (is_queued one.1 ≡ false) × ComeByTick tick outcomes
+
+  -- so they come where rows may still come, and in the end those of writes that stay queued behind them
+  abbrev pub ComeInTurn : Bool → List (ℕ × Outcome n) → Type 0
+  ComeInTurn false outcomes = ComeByTick 0 outcomes
+  ComeInTurn true outcomes =
+      (known : List (ℕ × Outcome n)) × (left : List (ℕ × Outcome n)) × (outcomes ≡ known ++ left) × ComeByTick 0 known
+      × All (λ one. is_queued one.1 ≡ true) left
+
 module _ {n : ℕ} (raw : RawShape) (seed : ℕ) where
-  -- outcomes of rows that these events asked of one bank, of no others
-  abbrev pub ComeOfBank : List (Event n) → ℕ → List (ℕ × Outcome n) → Type 0
-  ComeOfBank events bank outcomes = All (λ one. is_asked_of (bank_of_line raw seed) bank (asked_for events) one.0 ≡ true) outcomes
+  -- outcomes of rows that these events asked of one bank, of no others, in the order of their ticks, and in the end those of writes that stay queued behind them
+  abbrev pub ComeOfBank : Bool → List (Event n) → ℕ → List (ℕ × Outcome n) → Type 0
+  ComeOfBank ends events bank outcomes =
+      All (λ one. is_asked_of (bank_of_line raw seed) bank (asked_for events) one.0 ≡ true) outcomes × ComeInTurn ends outcomes
 
   -- outcomes of rows that these events asked of so many banks, bank by bank from the first on
-  abbrev pub ComeByBanks : List (Event n) → ℕ → List (ℕ × Outcome n) → Type 0
-  ComeByBanks events zero outcomes = outcomes ≡ []
-  ComeByBanks events (suc bank) outcomes =
-      (earlier : List (ℕ × Outcome n)) × (own : List (ℕ × Outcome n)) × (outcomes ≡ earlier ++ own) × ComeByBanks events bank earlier
-      × ComeOfBank events bank own
+  abbrev pub ComeByBanks : Bool → List (Event n) → ℕ → List (ℕ × Outcome n) → Type 0
+  ComeByBanks ends events zero outcomes = outcomes ≡ []
+  ComeByBanks ends events (suc bank) outcomes =
+      (earlier : List (ℕ × Outcome n)) × (own : List (ℕ × Outcome n)) × (outcomes ≡ earlier ++ own) × ComeByBanks ends events bank earlier
+      × ComeOfBank ends events bank own
 
   -- and behind the banks at most that of this row
   abbrev pub ComeBehind : List (Event n) → ℕ → List (ℕ × Outcome n) → Type 0
   ComeBehind events row outcomes =
-      (of_banks : List (ℕ × Outcome n)) × (own : List (ℕ × Outcome n)) × (outcomes ≡ of_banks ++ own) × ComeByBanks events raw.banks of_banks
+      (of_banks : List (ℕ × Outcome n)) × (own : List (ℕ × Outcome n)) × (outcomes ≡ of_banks ++ own) × ComeByBanks false events raw.banks of_banks
       × All (λ one. one.0 ≡ row) own
 
   -- outcomes that were told as the last row of these was taken, which asked this: of a line's row, outcomes of the line's own bank alone; of a cut bank by bank, and its own
   -- behind the banks
   abbrev pub ComeFor : List (Event n) → ℕ → Asks n → List (ℕ × Outcome n) → Type 0
-  ComeFor events row (Reads line) outcomes = ComeOfBank events (bank_of_line raw seed line) outcomes
-  ComeFor events row (Writes line bytes given) outcomes = ComeOfBank events (bank_of_line raw seed line) outcomes
+  ComeFor events row (Reads line) outcomes = ComeOfBank false events (bank_of_line raw seed line) outcomes
+  ComeFor events row (Writes line bytes given) outcomes = ComeOfBank false events (bank_of_line raw seed line) outcomes
   ComeFor events row Cuts outcomes = ComeBehind events row outcomes
 
   -- outcomes that were told turn by turn, in each of so many turns bank by bank
@@ -55,15 +69,15 @@ module _ {n : ℕ} (raw : RawShape) (seed : ℕ) where
   ComeByTurns events zero outcomes = outcomes ≡ []
   ComeByTurns events (suc turns) outcomes =
       (earlier : List (ℕ × Outcome n)) × (own : List (ℕ × Outcome n)) × (outcomes ≡ earlier ++ own) × ComeByTurns events turns earlier
-      × ComeByBanks events raw.banks own
+      × ComeByBanks false events raw.banks own
 
   -- the outcomes that are told as a row is served, behind these events: of an event what comes for it; of what settles bank by bank, and of a settle until so
   -- turn by turn, one for each tick to which the banks came
   abbrev pub ComeInOrder : Asked n → List (Event n) → List (ℕ × Outcome n) → Type 0
   ComeInOrder (Happens event) before outcomes = ComeFor (event ∷ before) (length before + 1) (asks_of event.op) outcomes
-  ComeInOrder (Settle tick) before outcomes = ComeByBanks before raw.banks outcomes
-  ComeInOrder (Query tick) before outcomes = ComeByBanks before raw.banks outcomes
-  ComeInOrder (Look tick) before outcomes = ComeByBanks before raw.banks outcomes
+  ComeInOrder (Settle tick) before outcomes = ComeByBanks false before raw.banks outcomes
+  ComeInOrder (Query tick) before outcomes = ComeByBanks false before raw.banks outcomes
+  ComeInOrder (Look tick) before outcomes = ComeByBanks false before raw.banks outcomes
   ComeInOrder (Until until) before outcomes = (turns : ℕ) × ComeByTurns before turns outcomes
 
 -- the lines that answer a row besides outcomes, at the module and the array behind it: of a settle its tick, of a query what waits in each bank before

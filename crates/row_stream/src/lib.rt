@@ -6,8 +6,10 @@ mod drawing;
 mod ending;
 mod laws;
 mod looking;
+mod next;
 mod reading;
 mod serving;
+mod stepping;
 mod stop;
 mod waiting;
 

@@ -1,5 +1,5 @@
 // The rows that a source gives.
-ghost use Rattle.std.specs.Prelude.{◌≡◌, ◌≢◌, ◌⊎◌, ◌<◌, ◌≤◌, ◌+◌, ℕ, List, [], ◌∷◌, Option, true, Ok, Err, IfOk, IfErr, IfNone};
+ghost use Rattle.std.specs.Prelude.{◌≡◌, ◌≢◌, ◌<◌, ◌≤◌, ℕ, List, [], Option, Err, IfOk, IfErr};
 ghost use Rattle.std.specs.Io.KnownBytes.{Appends};
 ghost use Rattle.pcm_io.specs.Faults.{Rose};
 ghost use Rattle.pcm_io.specs.Giving.{AppendsPrefix};
@@ -11,63 +11,16 @@ ghost use Rattle.row_printer.specs.Printing.{IsPrinting, text_told};
 ghost use Rattle.row_stream.specs.Asking.{behind_of};
 ghost use Rattle.row_stream.specs.Refusing.{EndsBehind, GoesAsFar};
 ghost use Rattle.row_stream.specs.Serving.{IsServing, told_so_far};
-ghost use Rattle.row_stream.specs.Sourcing.{GivesNext, HasNoNext, HasStopped, IsRead, IsReadTo, StopsLate};
+ghost use Rattle.row_stream.specs.Sourcing.{HasStopped, IsRead, IsReadTo};
 
-use crate::serving::serve;
-use crate::stop::{Behind, Stop, behind_asked, stops_behind};
+use crate::stepping::take_next;
+use crate::stop::{Behind, Step, Stop};
 use pcm_io::{Sink, Source};
 use pcm_module::Module;
 use row_printer::RowPrinter;
 use std::alloc::Global;
-use trace_reader::{Kind, TraceFault};
-use trace_stream::{Asked, TraceStream};
+use trace_stream::TraceStream;
 use wear_totals::TellsWear;
-
-// The next row: the source is asked for it only where it hasn't come whole, and once all that is known is written.
-fn next_row<const B: usize, S: Source, K: Sink + Drop>(
-    stream: &mut TraceStream,
-    source: &mut S,
-    out: &mut RowPrinter<B, K>,
-) -> Result<Option<Asked<B>>, Stop>
-    requires { B ≤ 128 }
-    ensures ok { IfOk result (λ next. GivesNext S.left S.taken S.faults source.old source.new
-        stream.old stream.new next) }
-    ensures err { IfErr result (λ stop. HasNoNext B S.left S.taken S.faults source.old
-        source.new stream.old stream.new stop) }
-    ensures waits { (source.new ≡ source.old) ⊎ ((before : Option (List ℕ)) (first : ℕ)
-        → IsPrinting K.written K.faults before first out.old
-        → Appends before (K.written out.new.sink) (text_told out.new)) }
-    ensures none { IfOk result (λ next. IfNone next ((before : Option (List ℕ)) (first : ℕ)
-        → IsPrinting K.written K.faults before first out.old
-        → Appends before (K.written out.new.sink) (text_told out.new))) }
-    ensures written { IfErr result (λ stop. stop ≢ Stop.Output
-        → (before : Option (List ℕ)) (first : ℕ)
-        → IsPrinting K.written K.faults before first out.old
-        → Appends before (K.written out.new.sink) (text_told out.new)) }
-    ensures part { result ≡ Err Stop.Output → (before : Option (List ℕ)) (first : ℕ)
-        → IsPrinting K.written K.faults before first out.old
-        → AppendsPrefix before (K.written out.new.sink) (text_told out.new)
-        × Rose first (K.faults out.new.sink) }
-    ensures rows { out.new.rows ≡ out.old.rows }
-    ensures told { out.new.told ≡ out.old.told }
-    ensures snapshots { out.new.snapshots ≡ out.old.snapshots }
-    ensures prints { out.new.prints ≡ out.old.prints }
-    ensures printing { (before : Option (List ℕ)) (first : ℕ)
-        → IsPrinting K.written K.faults before first out.old
-        → IsPrinting K.written K.faults before first out.new }
-    ensures never_falls { S.faults source.old ≤ S.faults source.new }
-{
-    if let Some(asked) = stream.arrived() {
-        return Ok(Some(asked));
-    }
-    let Ok(()) = out.flush() else {
-        return Err(Stop::Output);
-    };
-    match stream.next(source) {
-        Ok(next) => Ok(next),
-        Err(fault) => Err(Stop::Input(fault)),
-    }
-}
 
 /// Serves the rows that a source gives, one after the other, to its end; or, where it is to stop at a refusal, behind the first row that is
 /// refused, and asks for nothing more. The source is asked only once all that is known is written: at first the header, and then what became
@@ -130,54 +83,14 @@ pub fn serve_source<
     };
     let mut behind = Behind::Nothing;
     'rows: for _ in 0..u64::MAX {
-        match next_row(&mut stream, source, out) {
-            Ok(Some(asked)) => {
-                if asked.named() < pcm.tick() {
-                    return Err(stop_late(out));
-                }
-                serve(pcm, array, &asked, out);
-                behind = behind_asked(&asked);
-                if stops_behind(stops, out) {
-                    let Ok(()) = out.flush() else {
-                        return Err(Stop::Output);
-                    };
-                    return Ok(behind);
-                }
-            }
-            Ok(None) => return Ok(behind),
-            Err(stop) => return Err(stop),
+        match take_next(pcm, array, &mut stream, source, stops, behind, out) {
+            Step::Goes(stands) => behind = stands,
+            Step::Ends(last) => return Ok(last),
+            Step::Stops(stop) => return Err(stop),
         }
     }
     let Ok(()) = out.flush() else {
         return Err(Stop::Output);
     };
     Err(Stop::Endless)
-}
-
-// Why a stream stops at a row that comes too late: all that is known is written before.
-fn stop_late<const B: usize, K: Sink + Drop>(out: &mut RowPrinter<B, K>) -> Stop
-    requires few { out.old.rows < 4294967295 }
-    ensures stops { StopsLate out.new.rows result }
-    ensures written { result ≢ Stop.Output → (before : Option (List ℕ)) (first : ℕ)
-        → IsPrinting K.written K.faults before first out.old
-        → Appends before (K.written out.new.sink) (text_told out.new) }
-    ensures part { result ≡ Stop.Output → (before : Option (List ℕ)) (first : ℕ)
-        → IsPrinting K.written K.faults before first out.old
-        → AppendsPrefix before (K.written out.new.sink) (text_told out.new)
-        × Rose first (K.faults out.new.sink) }
-    ensures rows { out.new.rows ≡ out.old.rows }
-    ensures told { out.new.told ≡ out.old.told }
-    ensures snapshots { out.new.snapshots ≡ out.old.snapshots }
-    ensures prints { out.new.prints ≡ out.old.prints }
-    ensures printing { (before : Option (List ℕ)) (first : ℕ)
-        → IsPrinting K.written K.faults before first out.old
-        → IsPrinting K.written K.faults before first out.new }
-{
-    let Ok(()) = out.flush() else {
-        return Stop::Output;
-    };
-    Stop::Late(TraceFault {
-        row: out.rows() + 1,
-        kind: Kind::Order,
-    })
 }

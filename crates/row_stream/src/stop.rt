@@ -34,6 +34,17 @@ pub enum Behind {
     Off,
 }
 
+/// What one step of a stream comes to.
+#[derive(Clone, Copy)]
+pub enum Step {
+    /// A row was served, behind which the module stands so, and the stream goes on.
+    Goes(Behind),
+    /// The stream ends, and the module stands so: no row is left, or one was refused at which it is to stop.
+    Ends(Behind),
+    /// It isn't served to its end.
+    Stops(Stop),
+}
+
 /// How a module stands behind a row.
 pub fn behind_asked<const B: usize>(asked: &Asked<B>) -> Behind
     ensures { (before : List (StreamAsked B)) → result ≡ behind_of (asked.now ∷ before) }

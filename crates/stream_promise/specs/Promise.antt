@@ -64,7 +64,7 @@ module _ {S : Type 0} (n m e : ℕ) (job : StreamJob) (source : LentSource S) wh
     pub come : ComeByRows job.input asked (before_cut job.shape job.seed (is_off job.end) asked along)
     pub rest : List (ℕ × Outcome n)
     pub all : told ≡ along.told ++ became rest
-    pub order : ComeByBanks job.shape job.seed (events_in (with_cut (is_off job.end) asked)) job.shape.banks rest
+    pub order : ComeByBanks job.shape job.seed true (events_in (with_cut (is_off job.end) asked)) job.shape.banks rest
     pub places : ℕ
     pub counted : places ≡ length (events_in (with_cut (is_off job.end) asked))
     pub once : TellsOnce places (outcomes_in told)

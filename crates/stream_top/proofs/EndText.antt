@@ -13,9 +13,9 @@ use Rattle.right_images.specs.Saving.{saved_of}
 use Rattle.image_text.{specs.Sensing.SensesRows, proofs.Sensing.senses-none}
 use Rattle.run_text.specs.{Pulses.pulses_in_all, SummaryText.summary_text, declared.counts.Counts.Counts}
 use Rattle.pcm_module.specs.{Roles.spares_used, State.{AreEndsOf, ModuleState}}
-use Rattle.module_prints.specs.{Images.kept_in, WearReports.{HaveRoles, IsWearReport}}
+use Rattle.module_prints.specs.{Images.kept_in, StandingMap.standing_map, WearReports.{HaveRoles, IsWearReport}}
 use Rattle.stream_words.specs.{declared.job.Skip.Skip, declared.job.StreamPrint.StreamPrint}
-use Rattle.stream_words.specs.{declared.job.StreamPrint.TheVariants.{Rows, Summary, Wear, Lines, Energy, Image, Snapshots}, declared.job.Tell.Tell}
+use Rattle.stream_words.specs.{declared.job.StreamPrint.TheVariants.{Rows, Summary, Wear, Lines, Map, Energy, Image, Snapshots}, declared.job.Tell.Tell}
 use Rattle.stream_top.specs.Leaving.{IsClosing, lines_but, senses_for, wear_but}
 
 module _ {n m e : ℕ} (module_ : ModuleState n m e) (array : ArrayState n m) (cells : ℕ → LineCells) (rows : ℕ) (counts : Counts) (print : StreamPrint) (P : List ℕ → Type 0) where
@@ -54,6 +54,11 @@ module _ {n m e : ℕ} (module_ : ModuleState n m e) (array : ArrayState n m) (c
   lines-closes skip is writes = λ ends are roles.
       let report = writes ends are roles in
       (lines_but skip cells report.0, subst (Closes ends (lines_but skip cells report.0)) (sym is) ((report.0, report.1, refl)), report.2)
+
+  pub map-closes : print ≡ Map → ((ends : ℕ → BankEnd) → AreEndsOf module_ ends → P (standing_map module_.shape module_.seed ends)) → PrintsOf
+  map-closes is written = λ ends are roles.
+      let text : List ℕ = standing_map module_.shape module_.seed ends in
+      (text, subst (Closes ends text) (sym is) refl, written ends are)
 
   pub energy-closes : print ≡ Energy → P (energy_report array.energy module_.shape.banks (array_lines_of (module_of module_.shape))) → PrintsOf
   energy-closes is written = λ ends are roles.

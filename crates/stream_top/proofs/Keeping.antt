@@ -12,13 +12,14 @@ use Rattle.pcm_image.specs.{Saved.Saved, Spelling.image_bytes}
 use Rattle.right_images.specs.Saving.{first_rows, saved_of}
 use Rattle.image_text.{specs.Sensing.SensesRows, proofs.Sensing.senses-none}
 use Rattle.pcm_module.specs.{Roles.spares_used, State.ModuleState}
-use Rattle.module_prints.{specs.Images.{WritesRows, kept_in}, specs.WearReports.{HaveRoles, IsWearReport, cells_at}, proofs.Wearing.{worn-goes_on, worn-none}}
+use Rattle.module_prints.specs.{Images.{WritesRows, kept_in}, StandingMap.standing_map, WearReports.{HaveRoles, IsWearReport, cells_at}}
+use Rattle.module_prints.proofs.Wearing.{worn-goes_on, worn-none}
 use Rattle.program_calls.specs.Calls.{GetsPart, IsUntouched, Lent, SinkChange, SinkFails}
 use Rattle.row_printer.specs.{Printing.{stream_text, table_of}, Telling.{outcomes_in, TellsOnce}, declared.snapshot.Snapshot.Snapshot, declared.told.Shown.Shown}
 use Rattle.row_printer.specs.declared.told.Told.{Told}
 use Rattle.row_stream.specs.{Asking.{stays_off, with_cut}, Ending.SnapsAll, Laws.EachToldLaw, Serving.{HasServed, IsServing, SnapsAlong, told_so_far}}
 use Rattle.stream_words.specs.{Jobs.IsStreamJob, declared.job.StreamJob.StreamJob, declared.job.StreamPrint.StreamPrint}
-use Rattle.stream_words.specs.declared.job.StreamPrint.TheVariants.{Rows, Summary, Wear, Lines, Energy, Image, Snapshots}
+use Rattle.stream_words.specs.declared.job.StreamPrint.TheVariants.{Rows, Summary, Wear, Lines, Map, Energy, Image, Snapshots}
 use Rattle.trace_stream.specs.{Asked.events_in, declared.asked.Asked.Asked}
 use Rattle.stream_top.specs.{Calls.LentSource, FaultLines.{fault_line, status_of}, Leaving.{IsClosing, Leaves, LeavesLaw, lines_but, senses_for, wear_but}}
 use Rattle.stream_top.specs.Promises.{Breaks, Call, EndsCall, IsAsleep, IsRefused, IsStatusOf, IsUnread, KeepsPromises, OthersOn, OthersUntouched, Stops}
@@ -45,6 +46,7 @@ module _ {n m : ℕ} (raw : RawShape) (seed rows places : ℕ) (counts all : Cou
       let stood : array ≡ before = still (λ p. cc p) in
       let alike : cells_now ≡ cells = told (λ p. cc p) in
       (is.0, subst (λ (a : ArrayState n m). IsWearReport raw seed ends a is.0) (sym stood) is.1, is.2 ∙ ap (λ (w : ℕ → LineCells). lines_but skip w is.0) (sym alike))
+  closing-now Map text same counted still told is = is
   closing-now Energy text same counted still told is =
       let stood : array ≡ before = still (λ p. cc p) in
       is ∙ ap (λ (a : ArrayState n m). energy_report a.energy raw.banks (array_lines_of (module_of raw))) (sym stood)
@@ -62,6 +64,7 @@ some-closing raw seed rows counts ends array cells saved (Wear skip) is roles si
 some-closing raw seed rows counts ends array cells saved (Lines skip) is roles size =
     let report = worn-goes_on raw seed ends array is roles 0 [] size (omega arith) (worn-none raw seed ends array) in
     (lines_but skip cells ([] ++ report.0), ([] ++ report.0, report.1, refl))
+some-closing raw seed rows counts ends array cells saved Map is roles size = (standing_map raw seed ends, refl)
 some-closing raw seed rows counts ends array cells saved Energy is roles size = (energy_report array.energy raw.banks (array_lines_of (module_of raw)), refl)
 some-closing raw seed rows counts ends array cells saved Image is roles size = (image_bytes saved, refl)
 some-closing raw seed rows counts ends array cells saved (Snapshots every) is roles size = ([], refl)
@@ -72,6 +75,7 @@ nothing-before raw (Rows tell) told snaps is = absurd (cc is)
 nothing-before raw Summary told snaps is = absurd (cc is)
 nothing-before raw (Wear skip) told snaps is = absurd (cc is)
 nothing-before raw (Lines skip) told snaps is = absurd (cc is)
+nothing-before raw Map told snaps is = absurd (cc is)
 nothing-before raw Energy told snaps is = absurd (cc is)
 nothing-before raw Image told snaps is = refl
 nothing-before raw (Snapshots every) told snaps is = absurd (cc is)

@@ -14,13 +14,13 @@ use Rattle.right_images.specs.{SavesRun.SavesRunTo, Saving.saved_of}
 use Rattle.image_text.specs.Sensing.{SensesRows}
 use Rattle.run_text.specs.{Pulses.pulses_in_all, SummaryText.summary_text, declared.counts.Counts.Counts}
 use Rattle.pcm_module.specs.{Roles.spares_used, State.ModuleState}
-use Rattle.module_prints.specs.{Images.kept_in, PulsedLines.pulsed_text, WearReports.{HaveRoles, IsWearReport}}
+use Rattle.module_prints.specs.{Images.kept_in, PulsedLines.pulsed_text, StandingMap.standing_map, WearReports.{HaveRoles, IsWearReport}}
 use Rattle.module_prints.specs.declared.pulsed.Report.TheVariants as of
 use Rattle.row_printer.specs.{Printing.table_of, declared.told.Told.Told}
 use Rattle.trace_stream.specs.{Asked.events_in, declared.asked.Asked.Asked}
 use Rattle.row_stream.specs.Ending.{HasEnded, rows_of}
 use Rattle.stream_words.specs.{declared.job.Skip.Skip, declared.job.StreamPrint.StreamPrint}
-use Rattle.stream_words.specs.declared.job.StreamPrint.TheVariants.{Rows, Summary, Wear, Lines, Energy, Image, Snapshots}
+use Rattle.stream_words.specs.declared.job.StreamPrint.TheVariants.{Rows, Summary, Wear, Lines, Map, Energy, Image, Snapshots}
 use Rattle.stream_words.specs.declared.job.Skip.TheVariants as skip
 
 -- rows left a module over an array, of whose lines the first, so many, were sensed since, each once and in their order, at tick 0: by the ends of its
@@ -37,6 +37,7 @@ senses_for (Rows tell) lines = 0
 senses_for Summary lines = 0
 senses_for (Wear skip) lines = 0
 senses_for (Lines skip) lines = 0
+senses_for Map lines = 0
 senses_for Energy lines = 0
 senses_for Image lines = lines
 senses_for (Snapshots every) lines = 0
@@ -59,6 +60,7 @@ IsClosing raw seed rows counts ends array cells saved (Wear skip) text =
     (report : List (ℕ × ℕ × Role)) × IsWearReport raw seed ends array report × (text ≡ wear_but skip cells report)
 IsClosing raw seed rows counts ends array cells saved (Lines skip) text =
     (report : List (ℕ × ℕ × Role)) × IsWearReport raw seed ends array report × (text ≡ lines_but skip cells report)
+IsClosing raw seed rows counts ends array cells saved Map text = text ≡ standing_map raw seed ends
 IsClosing raw seed rows counts ends array cells saved Energy text =
     text ≡ energy_report array.energy raw.banks (array_lines_of (module_of raw))
 IsClosing raw seed rows counts ends array cells saved Image text = text ≡ image_bytes saved

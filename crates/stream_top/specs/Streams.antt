@@ -15,7 +15,7 @@ use Rattle.row_printer.specs.{Printing.{stream_text, table_of}, Telling.{outcome
 use Rattle.row_printer.specs.{declared.told.Told.Told, declared.told.ToldShape.ToldShape}
 use Rattle.row_printer.specs.declared.told.Shown.TheVariants as shown
 use Rattle.stream_words.specs.{Jobs.IsStreamJob, declared.job.End.End, declared.job.End.TheVariants.{Drain, Off}, declared.job.StreamJob.StreamJob}
-use Rattle.stream_words.specs.{declared.job.StreamPrint.StreamPrint, declared.job.StreamPrint.TheVariants.{Rows, Summary, Wear, Lines, Energy, Image, Snapshots}}
+use Rattle.stream_words.specs.{declared.job.StreamPrint.StreamPrint, declared.job.StreamPrint.TheVariants.{Rows, Summary, Wear, Lines, Map, Energy, Image, Snapshots}}
 use Rattle.stream_words.specs.{declared.job.Tell.Tell, declared.job.Tell.TheVariants.{Nothing, Shape}, declared.job.Until.Until}
 use Rattle.stream_words.specs.declared.job.Until.TheVariants as up_to
 use Rattle.trace_gen.specs.Generated.{generated}
@@ -54,6 +54,7 @@ shown_by raw (Rows tell) = shown.Rows (shape_told raw tell)
 shown_by raw Summary = shown.Nothing
 shown_by raw (Wear skip) = shown.Nothing
 shown_by raw (Lines skip) = shown.Nothing
+shown_by raw Map = shown.Nothing
 shown_by raw Energy = shown.Nothing
 shown_by raw Image = shown.Nothing
 shown_by raw (Snapshots every) = shown.Snapshots every

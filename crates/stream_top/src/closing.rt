@@ -15,14 +15,17 @@ ghost use Rattle.module_prints.specs.WearReports.{HaveRoles, cells_at};
 ghost use Rattle.stream_top.specs.Leaving.{IsClosing, senses_for};
 
 use cell_wear::TellsCells;
-use module_prints::{Report, print_energy, print_image, print_lines, print_pulsed, print_wear};
+use module_prints::{
+    Report, print_energy, print_image, print_lines, print_map, print_pulsed, print_wear,
+};
 use pcm_io::{Sink, Text, WriteFault};
 use pcm_module::Module;
 use run_text::{Counts, TEXT_ROOM, print_rest, print_summary, sum_pulses};
 use stream_words::{Skip, StreamJob, StreamPrint};
 
-/// Writes what is asked for in the end of a stream that was served: its summary, a report with a row for each array line, that of energy, or the
-/// image of what it left; behind rows and snapshots nothing. For an image each line of the array is sensed once, in order, at tick 0; otherwise nothing happens to the array.
+/// Writes what is asked for in the end of a stream that was served: its summary, a report with a row for each array line, the map of its
+/// lines, the report of energy, or the image of what it left; behind rows and snapshots nothing. For an image each line of the array is
+/// sensed once, in order, at tick 0; otherwise nothing happens to the array.
 pub fn print_closing<const B: usize, const M: usize, const E: usize, A: TellsCells<B, M>, K: Sink>(
     job: &StreamJob,
     pcm: &Module<B, M, E>,
@@ -76,6 +79,7 @@ pub fn print_closing<const B: usize, const M: usize, const E: usize, A: TellsCel
         StreamPrint::Wear(Skip::Unpulsed) => print_pulsed(Report::Wear, pcm, array, text, out),
         StreamPrint::Lines(Skip::Nothing) => print_lines(pcm, array, text, out),
         StreamPrint::Lines(Skip::Unpulsed) => print_pulsed(Report::Lines, pcm, array, text, out),
+        StreamPrint::Map => print_map(pcm, text, out),
         StreamPrint::Energy => print_energy(pcm, array, text, out),
         StreamPrint::Image => print_image(pcm, job.seed, array, text, out),
     }

@@ -12,4 +12,4 @@ mod serving;
 
 pub use done::Done;
 pub use fault::{Fault, tell};
-pub use program::{asks_energy, asks_totals, stream_run};
+pub use program::stream_run;

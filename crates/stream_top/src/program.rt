@@ -1,9 +1,6 @@
 // The program's one call.
-ghost use Rattle.std.specs.Prelude.{◌≡◌, ℕ, true, false, map, string_bytes, Ok, IfOk, IfErr};
+ghost use Rattle.std.specs.Prelude.{◌≡◌, map, string_bytes, Ok, IfOk, IfErr};
 ghost use Rattle.stream_words.specs.Jobs.{IsStreamJob, stream_job_of};
-ghost use Rattle.stream_words.specs.Options.{tells_energy};
-ghost use Rattle.stream_words.specs.declared.job.StreamJob.{StreamJob as Asked};
-ghost use Rattle.stream_words.specs.declared.job.StreamPrint.TheVariants.{Snapshots};
 ghost use Rattle.program_calls.specs.Calls.{lent_sink, sink_change};
 ghost use Rattle.stream_top.specs.Calls.{lent_telling, source_between};
 ghost use Rattle.stream_top.specs.Promises.{EndsCall, IsRefused, IsStatusOf, IsToldOf, KeepsPromises};
@@ -14,7 +11,7 @@ use crate::serving::stream;
 use command_line::{LineSize, Refusal};
 use pcm_io::{Sink, Source};
 use std::alloc::Global;
-use stream_words::{StreamJob, StreamPrint, read_stream_job};
+use stream_words::{StreamJob, read_stream_job};
 use wear_totals::TellsWear;
 
 // The status of a fault, after its line was written; that of a fault of writing where the line couldn't be.
@@ -72,43 +69,6 @@ fn read_words(alloc: Global, words: &[String]) -> Result<StreamJob, Fault>
         Ok(job) => Ok(job),
         Err(Refusal::Usage) => Err(Fault::Usage),
         Err(Refusal::NoMemory) => Err(Fault::NoMemory),
-    }
-}
-
-/// Whether a stream of these words may tell of energy, so that its array is to count it: `stream_run` itself needs no count.
-pub fn asks_energy(alloc: Global, words: &[String]) -> bool
-    ensures { result ≡ false → (job : Asked) × (stream_job_of (map string_bytes words.now) ≡ Ok job)
-        × (tells_energy job.print job.input ≡ false) }
-{
-    match read_stream_job(alloc, words) {
-        Ok(job) => job.tells_energy(),
-        Err(_) => true,
-    }
-}
-
-// Whether snapshots are taken.
-fn takes_snapshots(print: StreamPrint) -> bool
-    ensures { result ≡ true → (every : ℕ) × (print ≡ Snapshots every) }
-{
-    match print {
-        StreamPrint::Snapshots(_) => true,
-        StreamPrint::Rows(_)
-        | StreamPrint::Summary
-        | StreamPrint::Wear(_)
-        | StreamPrint::Lines(_)
-        | StreamPrint::Energy
-        | StreamPrint::Image => false,
-    }
-}
-
-/// Whether a stream of these words takes snapshots, so that its array is to keep totals: `stream_run` itself needs none kept.
-pub fn asks_totals(alloc: Global, words: &[String]) -> bool
-    ensures { result ≡ true → (job : Asked) × (stream_job_of (map string_bytes words.now) ≡ Ok job)
-        × (every : ℕ) × (job.print ≡ Snapshots every) }
-{
-    match read_stream_job(alloc, words) {
-        Ok(job) => takes_snapshots(job.print),
-        Err(_) => false,
     }
 }
 

@@ -120,6 +120,7 @@ fn shown_of(raw: &RawShape, print: StreamPrint) -> Shown
         StreamPrint::Summary => Shown::Nothing,
         StreamPrint::Wear(_) => Shown::Nothing,
         StreamPrint::Lines(_) => Shown::Nothing,
+        StreamPrint::Map => Shown::Nothing,
         StreamPrint::Energy => Shown::Nothing,
         StreamPrint::Image => Shown::Nothing,
         StreamPrint::Snapshots(every) => Shown::Snapshots(every),

@@ -2,3 +2,4 @@
 pub mod Table
 pub mod Options
 pub mod Jobs
+pub mod Arrays

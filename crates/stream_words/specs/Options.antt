@@ -6,7 +6,7 @@ use Rattle.trace_gen.specs.{Generated.stream_lines, declared.mix.Mix.Mix}
 use Rattle.module_shape.specs.{Limits.is_small, declared.raw.RawShape.RawShape}
 use Rattle.command_line.specs.{Options.{mix_within, one_of_two, with_some}, declared.job.Input.Input, declared.job.Input.TheVariants.{Source, Drawn}}
 use Rattle.stream_words.specs.{declared.job.End.End, declared.job.End.TheVariants.{Drain, Off}, declared.job.Skip.Skip, declared.job.StreamPrint.StreamPrint}
-use Rattle.stream_words.specs.{declared.job.StreamPrint.TheVariants.{Rows, Summary, Wear, Lines, Energy, Image, Snapshots}, declared.job.Tell.Tell, declared.job.Until.Until}
+use Rattle.stream_words.specs.{declared.job.StreamPrint.TheVariants.{Rows, Summary, Wear, Lines, Map, Energy, Image, Snapshots}, declared.job.Tell.Tell, declared.job.Until.Until}
 use Rattle.stream_words.specs.declared.job.Skip.TheVariants as skip
 use Rattle.stream_words.specs.declared.job.Tell.TheVariants as tell
 use Rattle.stream_words.specs.declared.job.Until.TheVariants as up_to
@@ -18,7 +18,8 @@ closing_of text =
     else (if bytes_eq text (codes "wear") then Some (Wear skip.Nothing)
     else (if bytes_eq text (codes "lines") then Some (Lines skip.Nothing)
     else (if bytes_eq text (codes "energy") then Some Energy
-    else (if bytes_eq text (codes "image") then Some Image else None))))
+    else (if bytes_eq text (codes "image") then Some Image
+    else (if bytes_eq text (codes "map") then Some Map else None)))))
 
 -- what is told in front of rows
 abbrev pub tell_of : Option Text → Option Tell
@@ -92,6 +93,7 @@ IsPrint (Rows told) = Unit {0}
 IsPrint Summary = Unit {0}
 IsPrint (Wear skipped) = Unit {0}
 IsPrint (Lines skipped) = Unit {0}
+IsPrint Map = Unit {0}
 IsPrint Energy = Unit {0}
 IsPrint Image = Unit {0}
 IsPrint (Snapshots every) = 1 ≤ every
@@ -107,6 +109,7 @@ tells_energy (Rows told) input = is_read input
 tells_energy Summary input = false
 tells_energy (Wear skipped) input = false
 tells_energy (Lines skipped) input = true
+tells_energy Map input = false
 tells_energy Energy input = true
 tells_energy Image input = false
 tells_energy (Snapshots every) input = true
@@ -133,6 +136,7 @@ can_be_printed raw (Rows told) = true
 can_be_printed raw Summary = true
 can_be_printed raw (Wear skipped) = true
 can_be_printed raw (Lines skipped) = true
+can_be_printed raw Map = true
 can_be_printed raw Energy = true
 can_be_printed raw Image = is_small raw
 can_be_printed raw (Snapshots every) = true

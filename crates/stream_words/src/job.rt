@@ -38,6 +38,8 @@ pub enum StreamPrint {
     Wear(Skip),
     /// The same, and what the cells of the line say.
     Lines(Skip),
+    /// A row for each line: where it stands.
+    Map,
     /// A row for each bank, and one for the module: how often lines were sensed and cells driven.
     Energy,
     /// The module as it stands in the end, as bytes.
@@ -73,7 +75,8 @@ impl StreamJob {
             StreamPrint::Lines(_) | StreamPrint::Energy | StreamPrint::Snapshots(_) => true,
             // One of the rows may be a look.
             StreamPrint::Rows(_) => is_read(&self.input),
-            StreamPrint::Summary | StreamPrint::Wear(_) | StreamPrint::Image => false,
+            StreamPrint::Summary | StreamPrint::Wear(_) | StreamPrint::Map | StreamPrint::Image =>
+                false,
         }
     }
 }

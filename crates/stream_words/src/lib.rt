@@ -2,10 +2,12 @@
 //! values of `--print`, longer drawn traces, `--end`, `--every`, `--until`, `--tell` and `--skip`.
 #![tactic(auto)]
 
+mod arrays;
 mod job;
 mod options;
 mod read;
 mod table;
 
+pub use arrays::{counts_energy, keeps_totals};
 pub use job::{End, Skip, StreamJob, StreamPrint, Tell, Until};
 pub use read::read_stream_job;

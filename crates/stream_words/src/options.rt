@@ -174,6 +174,7 @@ fn closing(print: &str) -> Option<StreamPrint>
         "lines" => Some(StreamPrint::Lines(Skip::Nothing)),
         "energy" => Some(StreamPrint::Energy),
         "image" => Some(StreamPrint::Image),
+        "map" => Some(StreamPrint::Map),
         _ => None,
     }
 }

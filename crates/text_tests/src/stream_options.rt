@@ -122,7 +122,7 @@ const LATEST: Mix = Mix {
 };
 
 // Two dashes end the options.
-static ENDS: [(&str, (StreamPrint, Input, End, Until)); 16] = [
+static ENDS: [(&str, (StreamPrint, Input, End, Until)); 17] = [
     ("", (PLAIN, Input::Source, End::Drain, Until::End)),
     (
         "--print image --input drawn --rows 4000000000 --write-percent 100 --cuts 4000000000 --step 274 --hot 3 --end off",
@@ -213,6 +213,10 @@ static ENDS: [(&str, (StreamPrint, Input, End, Until)); 16] = [
         (PLAIN, Input::Source, End::Drain, Until::End),
     ),
     (
+        "--print map",
+        (StreamPrint::Map, Input::Source, End::Drain, Until::End),
+    ),
+    (
         "--print energy",
         (StreamPrint::Energy, Input::Source, End::Drain, Until::End),
     ),
@@ -238,7 +242,7 @@ fn a_stream_may_be_long_and_end_without_power(rt: HostRuntime) {
     }
 }
 
-static REFUSED: [&str; 48] = [
+static REFUSED: [&str; 50] = [
     "run",
     "3",
     "--help",
@@ -286,6 +290,8 @@ static REFUSED: [&str; 48] = [
     "--print lines --skip pulsed",
     "--print wear --skip unpulsed --skip unpulsed",
     "--print summary --skip nothing",
+    "--print map --skip unpulsed",
+    "--print map --tell shape",
     "--print snapshots --skip unpulsed",
 ];
 

@@ -1,8 +1,8 @@
 -- When a text is a number.
-use Rattle.std.proofs.Common.{Bool, if◌then◌else◌, ◌≡◌, ℕ, ◌+◌, ◌-◌, ◌*◌, ◌<◌, ◌≤◌, List, length, get_or, take, true, false, ◌&&◌, Some, None, refl, sym, ap, ◌∙◌, arith, nat_lt, nat_le}
+use Rattle.std.proofs.Common.{Bool, if◌then◌else◌, ◌≡◌, ℕ, ◌+◌, ◌-◌, ◌*◌, ◌^◌, ◌<◌, ◌≤◌, List, length, get_or, take, true, false, ◌&&◌, Some, None, refl, sym, ap, ◌∙◌, arith, nat_lt, nat_le}
 use Rattle.std.{specs.Char.{is_ascii_digit, digit_value}, specs.List.list_all, specs.Str.Parse.digits_value, proofs.lemmas.Bool.Decides.nat_tests}
 use Rattle.std.proofs.{lemmas.Int.Digits.digits_value_more, lemmas.List.take_all, lemmas.List.Folds.{list_all_at, list_all_more}, lemmas.Str.digit_value_digit}
-use Rattle.std.proofs.lemmas.Str.Parse.{digits_value-take-le}
+use Rattle.std.proofs.{Math.Nat.pow-le-pow_right, lemmas.Nat.pow-add, lemmas.Str.Parse.digits_value-take-le}
 use Rattle.trace_reader.specs.{Number.{is_number, number_of}, Rows.line_digits}
 
 -- a text that is too short or too long
@@ -74,6 +74,22 @@ number_of-over_tens width most text i value below is_digit reads over =
 -- a digit's code is at least that of `0`
 pub digit-back : (c : ℕ) → is_ascii_digit c ≡ true → c - 48 + 48 ≡ c
 digit-back c digit = grind arith
+
+-- and at most that of `9`
+pub digit-small : (c : ℕ) → is_ascii_digit c ≡ true → c - 48 < 10
+digit-small c digit = grind arith
+
+-- i digits write less than 10 to the power i
+pub few-next : (i value digit : ℕ) → value < 10 ^ i → digit < 10 → value * 10 + digit < 10 ^ (i + 1)
+few-next i value digit small below =
+    let tenfold : 10 ^ (i + 1) ≡ 10 ^ i * 10 = pow-add 10 i 1 in
+    omega (arith, tenfold)
+
+-- and so 19 digits fit into 64 bits
+pub few-fits : (i value : ℕ) → i < 19 → value < 10 ^ i → value * 10 + 9 < 2 ^ 64
+few-fits i value few small =
+    let most : 10 ^ i ≤ 10 ^ 18 = pow-le-pow_right {n = 10} (omega arith) {i = i} {j = 18} (omega arith) in
+    omega (arith, most)
 
 -- a number is at most the greatest that is allowed
 pub number_within : (width most value : ℕ) (text : List ℕ) → number_of width most text ≡ Some value → value ≤ most

@@ -1,11 +1,13 @@
 //! A streamed trace, row by row.
-ghost use Rattle.std.specs.Prelude.{◌≡◌, ◌≢◌, ◌-◌, ◌^◌, ◌≤◌, ◌++◌, ℕ, List, [], Bool, true, false, length, Some, Ok, Err, IfOk, IfErr, IfSome, IfNone, OnOk};
+ghost use Rattle.std.specs.Prelude.{◌≡◌, ◌≢◌, ◌+◌, ◌-◌, ◌^◌, ◌≤◌, ◌++◌, ℕ, List, [], Bool, true, false, length, Some, Ok, Err, IfOk, IfErr, IfSome, IfNone, OnOk};
 ghost use Rattle.std.specs.Io.KnownBytes.{IsAtEnd};
 ghost use Rattle.pcm_io.specs.Faults.{Rose};
 ghost use Rattle.pcm_io.specs.Taking.{Takes};
+ghost use Rattle.trace_reader.specs.Events.{IsEventFor};
 ghost use Rattle.trace_stream.specs.Arrived.{StaysEnded};
 ghost use Rattle.trace_stream.specs.Asked.{IsAskedFor, IsUnreached, NamesRow, rows_after, tick_asked};
 ghost use Rattle.trace_stream.specs.Kept.{LacksHeader, decides};
+ghost use Rattle.trace_stream.specs.declared.asked.Asked.TheVariants.{Happens};
 ghost use Rattle.trace_stream.specs.Stream.{AsksNext, HasFault, HasFront, IsOfText, IsPlainNext, Opens, asked_from, front_from, front_of, is_past, stream_of};
 
 use crate::asked::{Asked, is_event_word, is_header_row, is_settle_row, read_asked};
@@ -17,7 +19,7 @@ use crate::records::Records;
 use pcm_io::Source;
 use std::alloc::Global;
 use std::marker::Model;
-use trace_reader::{Kind, PlainRow, TraceFault, read_plain_row};
+use trace_reader::{Event, Kind, PlainRow, TraceFault, read_plain_row};
 
 /// The greatest number of rows that have a number: all behind the header but those that settle.
 pub const MOST_STREAMED: u32 = 4_294_967_294;
@@ -107,16 +109,15 @@ impl TraceStream {
         })
     }
 
-    /// Reads the next row, where all of it has come as a plain row of a read, a write or a cut without a fault; else it reads nothing. No
-    /// source is asked.
-    pub fn arrived<const B: usize>(&mut self) -> Option<Asked<B>>
+    /// Reads the event of the next row, where all of it has come as a plain row of a read, a write or a cut without a fault; else it reads
+    /// nothing. No source is asked.
+    pub fn arrived<const B: usize>(&mut self) -> Option<Event<B>>
         requires { B ≤ 128 }
-        ensures next { IfSome result (λ asked. AsksNext self.old [] (Some asked) self.new) }
-        ensures lawful { IfSome result (λ asked. IsAskedFor self.old.lines self.old.tick asked) }
-        ensures waits { IfSome result (λ asked. NamesRow self.old.rows asked
-            × IsUnreached self.old.tick asked) }
-        ensures row { IfSome result (λ asked. (self.new.rows ≡ rows_after self.old.rows asked)
-            × (self.new.rows ≤ MOST_STREAMED) × (self.new.tick ≡ tick_asked asked)) }
+        ensures next { IfSome result (λ event. AsksNext self.old [] (Some (Happens event))
+            self.new) }
+        ensures lawful { IfSome result (λ event. IsEventFor self.old.lines self.old.tick event) }
+        ensures row { IfSome result (λ event. (self.new.rows ≡ self.old.rows + 1)
+            × (self.new.rows ≤ MOST_STREAMED) × (self.new.tick ≡ event.tick)) }
         ensures lines { self.new.lines ≡ self.old.lines }
         ensures ended { self.new.arrived.ended ≡ self.old.arrived.ended }
         ensures none { IfNone result (self.new ≡ self.old) }
@@ -131,7 +132,7 @@ impl TraceStream {
         self.records.incoming.pass(row.payload + 1);
         self.rows += 1;
         self.tick = event.tick;
-        Some(Asked::Happens(event))
+        Some(event)
     }
 
     /// Reads the next row, as soon as its line has come, or finds that there is none. A row of more than four fields is found to be faulty

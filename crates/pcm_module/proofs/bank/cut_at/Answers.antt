@@ -3,7 +3,7 @@ use Rattle.row_rules.specs.declared.Asks.TheVariants.{Cuts}
 use Rattle.bank_model.specs.Timing.{TimedEvent}
 use Rattle.clock_laws.specs.Cutting.{cut}
 use Rattle.module_laws.specs.Asking.{Asked}
-use Rattle.bank_timing.proofs.Sizes.{timed_fits}
+use Rattle.bank_timing.proofs.{Sizes.timed_fits, Telling.{at-most, behind, extends-told}}
 use Rattle.pcm_module.proofs.Arriving.{step_on}
 use Rattle.pcm_module.proofs.bank.cut_at.Goals as goal
 
@@ -47,3 +47,15 @@ advance-requires g c =
 
 pub returns-clause-goes_on : goal.returns-clause-goes_on
 returns-clause-goes_on g c = g.met.R.Outcomes.follows _ _ _ c.advance.ensures.goes_on c.power_cut.ensures.goes_on
+
+pub returns-clause-in_turn : goal.returns-clause-in_turn
+returns-clause-in_turn g c =
+    let run = c.advance.ensures.extends c.requires.may.led.0 c.requires.may.led.1 in
+    let xs = run.0 ++ c.requires.may.led.0 in
+    let clock = c.advance.new.self in
+    let between = g.A.CellArray.state c.advance.new.array in
+    let after = g.A.CellArray.state c.power_cut.new.array in
+    let next = c.power_cut.ensures.extends xs run.1.leads in
+    let event : TimedEvent g.row.B g.row.M = cut xs clock after in
+    behind g.R.Outcomes.goes_on g.R.Outcomes.table c.args.tick clock.tick c.args.results.now c.advance.new.results c.power_cut.new.results (at-most c.args.tick clock.tick c.advance.ensures.ran.now) c.advance.ensures.in_turn
+    (extends-told g.R.Outcomes.goes_on g.R.Outcomes.table xs (event ∷ []) clock c.power_cut.new.self between after c.advance.new.results c.power_cut.new.results clock.tick next (refl, tt) c.power_cut.ensures.goes_on)

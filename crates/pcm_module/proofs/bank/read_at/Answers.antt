@@ -1,4 +1,4 @@
-use Rattle.std.proofs.Common.{ℕ, ◌<◌, ◌==◌, List, ◌∷◌, ◌++◌, sym, ap, subst, ◌∙◌, arith}
+use Rattle.std.proofs.Common.{ℕ, ◌<◌, ◌==◌, List, ◌∷◌, ◌++◌, refl, sym, ap, subst, ◌∙◌, arith}
 use Rattle.std.proofs.lemmas.Bool.{ne_eqb, or_from}
 use Rattle.row_rules.specs.declared.Asks.TheVariants.{Reads}
 use Rattle.bank_shape.specs.declared.BankShape.{BankShape}
@@ -7,8 +7,8 @@ use Rattle.bank_invariant.specs.Serving.{read_from}
 use Rattle.power_recovery.specs.Slots.{bank_lines}
 use Rattle.clock_laws.specs.Arriving.{arrival}
 use Rattle.module_laws.specs.Asking.{Asked}
-use Rattle.bank_timing.{specs.Cancelling.cancel_first, proofs.Sizes.timed_fits}
-use Rattle.pcm_module.proofs.Arriving.{open_on, step_on, first_asked, first_off}
+use Rattle.bank_timing.{specs.Cancelling.cancel_first, proofs.Sizes.timed_fits, proofs.Telling.{at-most, behind, extends-told}}
+use Rattle.pcm_module.proofs.Arriving.{open_on, step_on, first_asked, first_at, first_off}
 use Rattle.pcm_module.proofs.bank.read_at.Goals as goal
 
 pub arrive_read-requires : goal.arrive_read-requires
@@ -65,3 +65,16 @@ advance-requires g c =
 
 pub returns-clause-goes_on : goal.returns-clause-goes_on
 returns-clause-goes_on g c = g.met.R.Outcomes.follows _ _ _ c.advance.ensures.goes_on c.arrive_read.ensures.goes_on
+
+pub returns-clause-in_turn : goal.returns-clause-in_turn
+returns-clause-in_turn g c =
+    let run = c.advance.ensures.extends c.requires.may.comes.led.0 c.requires.may.comes.led.1 in
+    let xs = run.0 ++ c.requires.may.comes.led.0 in
+    let clock = c.advance.new.self in
+    let between = g.A.CellArray.state c.advance.new.array in
+    let after = g.A.CellArray.state c.arrive_read.new.array in
+    let next = c.arrive_read.ensures.arrives.extends xs run.1.leads in
+    let event : TimedEvent g.row.B g.row.M = arrival clock.tick (Read c.args.row c.args.line (read_from clock.bank c.args.line)) in
+    let extra : List (TimedEvent g.row.B g.row.M) = cancel_first xs clock c.args.line in
+    behind g.R.Outcomes.goes_on g.R.Outcomes.table c.args.tick clock.tick c.args.results.now c.advance.new.results c.arrive_read.new.results (at-most c.args.tick clock.tick c.advance.ensures.ran.now) c.advance.ensures.in_turn
+    (extends-told g.R.Outcomes.goes_on g.R.Outcomes.table xs (event ∷ extra) clock c.arrive_read.new.self between after c.advance.new.results c.arrive_read.new.results clock.tick next (refl, first_at xs clock c.args.line) c.arrive_read.ensures.goes_on)

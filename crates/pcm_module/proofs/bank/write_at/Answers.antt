@@ -7,7 +7,7 @@ use Rattle.bank_core.specs.Steps.{write_from}
 use Rattle.power_recovery.specs.Slots.{bank_lines}
 use Rattle.clock_laws.specs.Arriving.{arrival}
 use Rattle.module_laws.specs.Asking.{Asked}
-use Rattle.bank_timing.proofs.Sizes.{timed_fits, entry_fits}
+use Rattle.bank_timing.proofs.{Sizes.{timed_fits, entry_fits}, Telling.{at-most, behind, extends-told}}
 use Rattle.pcm_module.proofs.Arriving.{open_on, step_on}
 use Rattle.pcm_module.proofs.bank.write_at.Goals as goal
 
@@ -66,3 +66,13 @@ advance-requires g c =
 
 pub returns-clause-goes_on : goal.returns-clause-goes_on
 returns-clause-goes_on g c = g.met.R.Outcomes.follows _ _ _ c.advance.ensures.goes_on c.arrive_write.ensures.goes_on
+
+pub returns-clause-in_turn : goal.returns-clause-in_turn
+returns-clause-in_turn g c =
+    let run = c.advance.ensures.extends c.requires.may.comes.led.0 c.requires.may.comes.led.1 in
+    let clock = c.advance.new.self in
+    let after = g.A.CellArray.state c.advance.new.array in
+    let next = (c.arrive_write.ensures.arrives after).extends (run.0 ++ c.requires.may.comes.led.0) run.1.leads in
+    let event : TimedEvent g.row.B g.row.M = arrival clock.tick (Write c.args.entry.row c.args.entry.line c.args.entry.bytes c.args.entry.given (write_from clock.bank c.args.entry.line)) in
+    behind g.R.Outcomes.goes_on g.R.Outcomes.table c.args.tick clock.tick c.args.results.now c.advance.new.results c.arrive_write.new.results (at-most c.args.tick clock.tick c.advance.ensures.ran.now) c.advance.ensures.in_turn
+    (extends-told g.R.Outcomes.goes_on g.R.Outcomes.table (run.0 ++ c.requires.may.comes.led.0) (event ∷ []) clock c.arrive_write.new.self after after c.advance.new.results c.arrive_write.new.results clock.tick next (refl, tt) c.arrive_write.ensures.goes_on)

@@ -1,4 +1,4 @@
-use Rattle.std.proofs.Common.{arith, false, ◌≡◌, ℕ, ◌<◌, ◌++◌, length, Some, refl, sym, subst, ◌∙◌}
+use Rattle.std.proofs.Common.{arith, true, false, ◌≡◌, ℕ, ◌<◌, ◌++◌, length, Some, refl, sym, subst, ◌∙◌}
 use Rattle.std.specs.Prelude.{slice_get}
 use Rattle.bank_timing.proofs.Sizes.{timed_fits}
 use Rattle.pcm_module.specs.{Draining.AreDrained, Telling.{TellsByBanks, rows_at}}
@@ -53,9 +53,9 @@ loop-bank-preserved g c = (
       let exists = reached_bank bank c.len-bank-end.result (length c.args.banks.now.items) of.shape.banks c.loop-bank-test.true (c.len-bank-end.ensures ∙ c.args.banks.now.ok.0) may.count in
       let within : bank < length banks = subst (λ (k : ℕ). bank < k) (sym so_far.count) exists in
       let is : slice_get banks bank ≡ Some clock = item-at banks bank clock within c.index_mut.ensures.value in
-      next_bank g.R.Outcomes.goes_on g.R.Outcomes.table of (rows_at of) bank _ c.args.results.now c.loop-bank.results c.drain.new.results refl (c.loop-bank.invariant.2 of may)
-      (of_bank g.R.Outcomes.goes_on g.R.Outcomes.table of bank clock c.loop-bank.results c.drain.new.results
-      (sym (so_far.ahead bank (omega arith)) ∙ is) c.drain.ensures.goes_on c.drain.ensures.others),
+      next_bank g.R.Outcomes.goes_on g.R.Outcomes.table of true (rows_at of) bank _ c.args.results.now c.loop-bank.results c.drain.new.results refl (c.loop-bank.invariant.2 of may)
+      (of_bank g.R.Outcomes.goes_on g.R.Outcomes.table of true bank clock c.loop-bank.results c.drain.new.results
+      (sym (so_far.ahead bank (omega arith)) ∙ is) c.drain.ensures.goes_on c.drain.ensures.others c.drain.ensures.in_turn),
 )
 
 pub returns : goal.returns
@@ -63,7 +63,7 @@ returns g c = record {
   goes_on = c.loop-bank.invariant.1;
   order = λ of may.
       let all = reached_all c.loop-bank.bank c.len-bank-end.result (length c.args.banks.now.items) of.shape.banks c.loop-bank.auto.bank-end c.loop-bank-test.false (c.len-bank-end.ensures ∙ c.args.banks.now.ok.0) may.count in
-      subst (λ (k : ℕ). TellsByBanks g.R.Outcomes.goes_on g.R.Outcomes.table (rows_at of) k c.args.results.now c.loop-bank.results) all (c.loop-bank.invariant.2 of may);
+      subst (λ (k : ℕ). TellsByBanks g.R.Outcomes.goes_on g.R.Outcomes.table true (rows_at of) k c.args.results.now c.loop-bank.results) all (c.loop-bank.invariant.2 of may);
   drained = λ of may.
       let all = reached_all c.loop-bank.bank c.len-bank-end.result (length c.args.banks.now.items) of.shape.banks c.loop-bank.auto.bank-end c.loop-bank-test.false (c.len-bank-end.ensures ∙ c.args.banks.now.ok.0) may.count in
       subst (λ (k : ℕ). AreDrained false of k c.loop-bank.banks.items (g.A.CellArray.state c.args.array.now) (g.A.CellArray.state c.loop-bank.array) (g.R.Outcomes.table c.args.results.now) (g.R.Outcomes.table c.loop-bank.results)) all (c.loop-bank.invariant.0 of may);

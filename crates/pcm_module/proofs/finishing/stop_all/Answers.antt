@@ -54,9 +54,9 @@ loop-bank-preserved g c = (
       let exists = reached_bank bank c.len-bank-end.result (length c.args.banks.now.items) of.shape.banks c.loop-bank-test.true (c.len-bank-end.ensures ∙ c.args.banks.now.ok.0) may.count in
       let within : bank < length banks = subst (λ (k : ℕ). bank < k) (sym so_far.count) exists in
       let is : slice_get banks bank ≡ Some clock = item-at banks bank clock within c.index_mut.ensures.value in
-      next_bank g.R.Outcomes.goes_on g.R.Outcomes.table of (rows_at of) bank _ c.args.results.now c.loop-bank.results c.stop.new.results refl (c.loop-bank.invariant.2 of array may)
-      (of_bank g.R.Outcomes.goes_on g.R.Outcomes.table of bank clock c.loop-bank.results c.stop.new.results
-      (sym (so_far.ahead bank (omega arith)) ∙ is) c.stop.ensures.goes_on c.stop.ensures.others),
+      next_bank g.R.Outcomes.goes_on g.R.Outcomes.table of true (rows_at of) bank _ c.args.results.now c.loop-bank.results c.stop.new.results refl (c.loop-bank.invariant.2 of array may)
+      (of_bank g.R.Outcomes.goes_on g.R.Outcomes.table of true bank clock c.loop-bank.results c.stop.new.results
+      (sym (so_far.ahead bank (omega arith)) ∙ is) c.stop.ensures.goes_on c.stop.ensures.others c.stop.ensures.in_turn),
 )
 
 pub returns : goal.returns
@@ -64,7 +64,7 @@ returns g c = record {
   goes_on = c.loop-bank.invariant.1;
   order = λ of array may.
       let all = reached_all c.loop-bank.bank c.len-bank-end.result (length c.args.banks.now.items) of.shape.banks c.loop-bank.auto.bank-end c.loop-bank-test.false (c.len-bank-end.ensures ∙ c.args.banks.now.ok.0) may.count in
-      subst (λ (k : ℕ). TellsByBanks g.R.Outcomes.goes_on g.R.Outcomes.table (rows_at of) k c.args.results.now c.loop-bank.results) all (c.loop-bank.invariant.2 of array may);
+      subst (λ (k : ℕ). TellsByBanks g.R.Outcomes.goes_on g.R.Outcomes.table true (rows_at of) k c.args.results.now c.loop-bank.results) all (c.loop-bank.invariant.2 of array may);
   stopped = λ of array may.
       let all = reached_all c.loop-bank.bank c.len-bank-end.result (length c.args.banks.now.items) of.shape.banks c.loop-bank.auto.bank-end c.loop-bank-test.false (c.len-bank-end.ensures ∙ c.args.banks.now.ok.0) may.count in
       subst (λ (k : ℕ). AreDrained true of k c.loop-bank.banks.items array array (g.R.Outcomes.table c.args.results.now) (g.R.Outcomes.table c.loop-bank.results)) all (c.loop-bank.invariant.0 of array may);

@@ -9,4 +9,4 @@ invariant-loop-bank g l =
     → AreDrained true of l.bank l.banks.items array array (g.R.Outcomes.table l.fn.results) (g.R.Outcomes.table l.results))
     × g.R.Outcomes.goes_on l.fn.results l.results
     × ((of : ModuleState g.row.B g.row.M g.row.E) (array : ArrayState g.row.B g.row.M) → MayFinish true of l.fn.banks.items array (g.R.Outcomes.table l.fn.results)
-    → TellsByBanks g.R.Outcomes.goes_on g.R.Outcomes.table (rows_at of) l.bank l.fn.results l.results)
+    → TellsByBanks g.R.Outcomes.goes_on g.R.Outcomes.table true (rows_at of) l.bank l.fn.results l.results)

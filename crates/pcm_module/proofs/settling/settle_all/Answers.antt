@@ -1,6 +1,6 @@
-use Rattle.std.proofs.Common.{arith, ◌≡◌, ℕ, ◌<◌, ◌++◌, length, Some, refl, sym, subst, ◌∙◌}
+use Rattle.std.proofs.Common.{arith, false, ◌≡◌, ℕ, ◌<◌, ◌++◌, length, Some, refl, sym, subst, ◌∙◌}
 use Rattle.std.specs.Prelude.{slice_get}
-use Rattle.bank_timing.proofs.Sizes.{timed_fits}
+use Rattle.bank_timing.proofs.{Sizes.timed_fits, Telling.in-turn}
 use Rattle.masked_bytes.proofs.Lists.{item-at}
 use Rattle.pcm_module.{specs.Settling.AreSettled, specs.Telling.{TellsByBanks, rows_at}, proofs.Draining.{reached_bank, reached_all}, proofs.InOrder.{next_bank, of_bank}}
 use Rattle.pcm_module.proofs.Settles.{settle_none, settle_replays, settle_one}
@@ -60,9 +60,10 @@ loop-bank-preserved g c = (
       let exists = reached_bank bank c.len-bank-end.result (length c.args.banks.now.items) of.shape.banks c.loop-bank-test.true (c.len-bank-end.ensures ∙ c.args.banks.now.ok.0) may.count in
       let within : bank < length banks = subst (λ (k : ℕ). bank < k) (sym so_far.count) exists in
       let is : slice_get banks bank ≡ Some clock = item-at banks bank clock within c.index_mut.ensures.value in
-      next_bank g.R.Outcomes.goes_on g.R.Outcomes.table of (rows_at of) bank _ c.args.results.now c.loop-bank.results c.advance.new.results refl (c.loop-bank.invariant.2 of may)
-      (of_bank g.R.Outcomes.goes_on g.R.Outcomes.table of bank clock c.loop-bank.results c.advance.new.results
-      (sym (so_far.ahead bank (omega arith)) ∙ is) c.advance.ensures.goes_on c.advance.ensures.ran.others),
+      next_bank g.R.Outcomes.goes_on g.R.Outcomes.table of false (rows_at of) bank _ c.args.results.now c.loop-bank.results c.advance.new.results refl (c.loop-bank.invariant.2 of may)
+      (of_bank g.R.Outcomes.goes_on g.R.Outcomes.table of false bank clock c.loop-bank.results c.advance.new.results
+      (sym (so_far.ahead bank (omega arith)) ∙ is) c.advance.ensures.goes_on c.advance.ensures.ran.others
+      (in-turn g.R.Outcomes.goes_on g.R.Outcomes.table c.args.tick c.loop-bank.results c.advance.new.results c.advance.ensures.in_turn)),
 )
 
 pub returns : goal.returns
@@ -73,7 +74,7 @@ returns g c = record {
   goes_on = c.loop-bank.invariant.1;
   order = λ of may.
       let all = reached_all c.loop-bank.bank c.len-bank-end.result (length c.args.banks.now.items) of.shape.banks c.loop-bank.auto.bank-end c.loop-bank-test.false (c.len-bank-end.ensures ∙ c.args.banks.now.ok.0) may.count in
-      subst (λ (k : ℕ). TellsByBanks g.R.Outcomes.goes_on g.R.Outcomes.table (rows_at of) k c.args.results.now c.loop-bank.results) all (c.loop-bank.invariant.2 of may);
+      subst (λ (k : ℕ). TellsByBanks g.R.Outcomes.goes_on g.R.Outcomes.table false (rows_at of) k c.args.results.now c.loop-bank.results) all (c.loop-bank.invariant.2 of may);
 }
 
 pub index_mut-requires : goal.index_mut-requires

@@ -1,4 +1,4 @@
-use Rattle.std.proofs.Common.{◌≡◌, [], ◌∷◌, ◌++◌, ap, ◌∙◌}
+use Rattle.std.proofs.Common.{◌≡◌, false, [], ◌∷◌, ◌++◌, ap, ◌∙◌}
 use Rattle.row_printer.specs.{declared.told.ArrayWear.ArrayWear, declared.told.Told.TheVariants.{Looked, Settled}}
 use Rattle.row_stream.{specs.Looking.wear_of, proofs.Backlogs.lines-both, proofs.Going.{banks-order, serving-look}}
 use Rattle.row_stream.proofs.answering.serve_look.Goals as goal
@@ -13,7 +13,7 @@ returns-clause-serves g c = record {
       let wear : ArrayWear = wear_of g.row.E (g.A.CellArray.state c.settle.new.array) in
       let looked : c.looked.new.self.told ≡ was ++ Looked c.args.tick wear ∷ [] =
       c.looked.ensures.told ∙ ap (λ (w : ArrayWear). was ++ Looked c.args.tick w ∷ []) c.array_wear-wear.ensures in
-      let order = banks-order raw seed before c.args.pcm.now (g.A.CellArray.state c.args.array.now) c.args.out.now.rows c.args.out.now.told c.args.out.now.prints c.args.out.now.snapshots had g.K.Sink.written g.K.Sink.faults c.args.out.now c.settle.new.results c.tells_once.ensures e.order in
+      let order = banks-order raw seed before c.args.pcm.now (g.A.CellArray.state c.args.array.now) c.args.out.now.rows c.args.out.now.told c.args.out.now.prints c.args.out.now.snapshots had false g.K.Sink.written g.K.Sink.faults c.args.out.now c.settle.new.results c.tells_once.ensures e.order in
       serving-look raw seed before c.args.pcm.now (g.A.CellArray.state c.args.array.now) c.args.out.now.rows c.args.out.now.told c.args.out.now.prints c.args.out.now.snapshots had c.args.tick
       c.settle.new.self (g.A.CellArray.state c.settle.new.array) c.settled.new.self.rows was c.settled.new.self.told c.settled.new.self.prints c.settled.new.self.snapshots
       (same ∙ on.rows) order.outcomes order.told order.are (lines-both was c.looked.new.self.told c.settled.new.self.told (Looked c.args.tick wear ∷ []) (Settled c.args.tick ∷ []) looked c.settled.ensures.told) e.shape e.seed e.going e.tick c.requires.rises e.settled c.requires.in_time e.rows (rw same e.table) (rw same e.replays)

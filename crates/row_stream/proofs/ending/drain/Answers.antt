@@ -1,4 +1,4 @@
-use Rattle.std.proofs.Common.{false}
+use Rattle.std.proofs.Common.{true, false}
 use Rattle.trace_stream.specs.Asked.{events_in}
 use Rattle.row_stream.proofs.{Ends.has-ended, Going.banks-order}
 use Rattle.row_stream.proofs.ending.drain.Goals as goal
@@ -8,7 +8,7 @@ pub returns-clause-ended : goal.returns-clause-ended
 returns-clause-ended g c = λ raw seed asked had.
     let on = c.finish.ensures.goes_on in
     let e = c.finish.ensures in
-    let order = banks-order raw seed asked c.args.pcm.now (g.A.CellArray.state c.args.array.now) c.args.out.now.rows c.args.out.now.told c.args.out.now.prints c.args.out.now.snapshots had g.K.Sink.written g.K.Sink.faults c.args.out.now c.finish.new.results c.tells_once.ensures e.order in
+    let order = banks-order raw seed asked c.args.pcm.now (g.A.CellArray.state c.args.array.now) c.args.out.now.rows c.args.out.now.told c.args.out.now.prints c.args.out.now.snapshots had true g.K.Sink.written g.K.Sink.faults c.args.out.now c.finish.new.results c.tells_once.ensures e.order in
     has-ended raw seed asked c.args.pcm.now (g.A.CellArray.state c.args.array.now) c.args.out.now.rows c.args.out.now.told c.args.out.now.prints c.args.out.now.snapshots had false
     c.finish.new.self (g.A.CellArray.state c.finish.new.array) c.finish.new.results.rows c.finish.new.results.told c.finish.new.results.prints c.finish.new.results.snapshots on.prints on.snapshots on.rows order.outcomes order.told order.are e.shape e.seed e.table
     (e.finishes had.history (asked_for (events_in asked)) had.served.replays) (e.right had.history (asked_for (events_in asked)) had.served.replays)

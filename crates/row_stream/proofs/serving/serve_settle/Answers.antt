@@ -1,4 +1,4 @@
-use Rattle.std.proofs.Common.{◌∙◌}
+use Rattle.std.proofs.Common.{false, ◌∙◌}
 use Rattle.row_stream.proofs.Going.{banks-order, serving-settle}
 use Rattle.row_stream.proofs.serving.serve_settle.Goals as goal
 
@@ -8,7 +8,7 @@ returns-clause-serves g c = record {
       let on = c.settle.ensures.goes_on in
       let e = c.settle.ensures in
       let same = c.settled.ensures.rows in
-      let order = banks-order raw seed before c.args.pcm.now (g.A.CellArray.state c.args.array.now) c.args.out.now.rows c.args.out.now.told c.args.out.now.prints c.args.out.now.snapshots had g.K.Sink.written g.K.Sink.faults c.args.out.now c.settle.new.results c.tells_once.ensures e.order in
+      let order = banks-order raw seed before c.args.pcm.now (g.A.CellArray.state c.args.array.now) c.args.out.now.rows c.args.out.now.told c.args.out.now.prints c.args.out.now.snapshots had false g.K.Sink.written g.K.Sink.faults c.args.out.now c.settle.new.results c.tells_once.ensures e.order in
       serving-settle raw seed before c.args.pcm.now (g.A.CellArray.state c.args.array.now) c.args.out.now.rows c.args.out.now.told c.args.out.now.prints c.args.out.now.snapshots had c.args.tick
       c.settle.new.self (g.A.CellArray.state c.settle.new.array) c.settled.new.self.rows c.settle.new.results.told c.settled.new.self.told c.settled.new.self.prints c.settled.new.self.snapshots
       (same ∙ on.rows) order.outcomes order.told order.are c.settled.ensures.told e.shape e.seed e.going e.tick c.requires.rises e.settled c.requires.in_time e.rows (rw same e.table) (rw same e.replays)

@@ -8,8 +8,8 @@ use Rattle.module_prints.specs.{Images.{WritesRows, kept_in}, WearReports.cells_
 use Rattle.stream_words.specs.declared.job.StreamPrint.TheVariants.{Wear, Lines}
 use Rattle.stream_words.specs.declared.job.Skip.TheVariants as skip
 use Rattle.stream_top.specs.Leaving.{senses_for}
-use Rattle.stream_top.proofs.EndText.{energy-closes, image-closes, lines-closes, no-image, nothing-closes, senses-nothing, snapshots-close, summary-bytes, summary-closes}
-use Rattle.stream_top.proofs.EndText.{wear-closes}
+use Rattle.stream_top.proofs.EndText.{energy-closes, image-closes, lines-closes, map-closes, no-image, nothing-closes, senses-nothing, snapshots-close, summary-bytes}
+use Rattle.stream_top.proofs.EndText.{summary-closes, wear-closes}
 use Rattle.stream_top.proofs.closing.print_closing.Goals as goal
 
 pub returns-in-Rows-clause-ok : goal.returns-in-Rows-clause-ok
@@ -175,6 +175,32 @@ returns-in-Lines-Unpulsed-clause-all g c =
 
 pub returns-in-Lines-Unpulsed-clause-untouched : goal.returns-in-Lines-Unpulsed-clause-untouched
 returns-in-Lines-Unpulsed-clause-untouched g c = λ other. refl
+
+pub returns-in-Map-clause-ok : goal.returns-in-Map-clause-ok
+returns-in-Map-clause-ok g c =
+    on_ok c.print_map.result _ _ c.print_map.ensures.ok
+    (map-closes c.args.pcm.now (g.A.CellArray.state c.args.array.now) (cells_at g.row.E (g.A.CellArray.state c.args.array.now) (g.A.TellsCells.changes c.args.array.now)) c.args.rows c.args.counts.now c.args.job.now.print
+    (λ whole. Appends (g.K.Sink.written c.args.out.now) (g.K.Sink.written c.print_map.new.out) whole) c.in-Map.is)
+
+pub returns-in-Map-clause-prefix : goal.returns-in-Map-clause-prefix
+returns-in-Map-clause-prefix g c =
+    on_err c.print_map.result _ _ c.print_map.ensures.prefix
+    (map-closes c.args.pcm.now (g.A.CellArray.state c.args.array.now) (cells_at g.row.E (g.A.CellArray.state c.args.array.now) (g.A.TellsCells.changes c.args.array.now)) c.args.rows c.args.counts.now c.args.job.now.print
+    (λ whole. AppendsPrefix (g.K.Sink.written c.args.out.now) (g.K.Sink.written c.print_map.new.out) whole) c.in-Map.is)
+
+pub returns-in-Map-clause-part : goal.returns-in-Map-clause-part
+returns-in-Map-clause-part g c = no-image c.print_map.result c.args.job.now.print _ (λ is. absurd (cc (sym is ∙ c.in-Map.is)))
+
+pub returns-in-Map-clause-sensed : goal.returns-in-Map-clause-sensed
+returns-in-Map-clause-sensed g c = (0, omega arith, senses-none (g.A.CellArray.state c.args.array.now))
+
+pub returns-in-Map-clause-all : goal.returns-in-Map-clause-all
+returns-in-Map-clause-all g c =
+    let array = g.A.CellArray.state c.args.array.now in
+    senses-nothing c.print_map.result c.args.job.now.print array (ap (λ p. senses_for p array.lines) c.in-Map.is)
+
+pub returns-in-Map-clause-untouched : goal.returns-in-Map-clause-untouched
+returns-in-Map-clause-untouched g c = λ other. refl
 
 pub returns-in-Energy-clause-ok : goal.returns-in-Energy-clause-ok
 returns-in-Energy-clause-ok g c =

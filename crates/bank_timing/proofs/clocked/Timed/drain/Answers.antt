@@ -1,6 +1,6 @@
 use Rattle.std.proofs.Common.{true, refl}
 use Rattle.clock_laws.{specs.State.ClockState, proofs.Draining.resting_registers_law}
-use Rattle.bank_timing.proofs.{Drains.{queueable, drains, drain-others}, Lawful.keeps-laws, Sizes.{bank_fits, kept_fits}}
+use Rattle.bank_timing.proofs.{Drains.{queueable, drains, drain-others}, Lawful.keeps-laws, Sizes.{bank_fits, kept_fits}, Telling.left-told}
 use Rattle.bank_timing.proofs.clocked.Timed.drain.Goals as goal
 
 pub kept-requires : goal.kept-requires
@@ -86,3 +86,11 @@ returns-clause-drained g c = refl
 
 pub returns-clause-goes_on : goal.returns-clause-goes_on
 returns-clause-goes_on g c = g.met.R.Outcomes.follows _ _ _ c.settle.ensures.goes_on c.leave_queued.ensures.goes_on
+
+pub returns-clause-in_turn : goal.returns-clause-in_turn
+returns-clause-in_turn g c = record {
+  to = c.settle.new.self.tick;
+  between = c.settle.new.results;
+  first = c.settle.ensures.in_turn;
+  left = left-told g.R.Outcomes.goes_on g.R.Outcomes.table _ _ c.settle.new.results c.leave_queued.new.results c.leave_queued.ensures.queued c.leave_queued.ensures.goes_on;
+}

@@ -1,6 +1,7 @@
 use Rattle.std.proofs.Common.{◌≤◌, refl, subst, sym, ◌∙◌}
 use Rattle.clock_laws.specs.{Remaining.actions_left, State.ClockState}
 use Rattle.bank_timing.proofs.{Acting.begun-before, Running.{down-none, down-more}, Settling.{few-actions, enough, ends-soon, spent, within-of}, Sizes.timed_fits}
+use Rattle.bank_timing.proofs.Telling.{completes-told, no-earlier, up-more, up-none}
 use Rattle.bank_timing.proofs.clocked.Timed.settle.Goals as goal
 
 pub loop-action-init : goal.loop-action-init
@@ -8,6 +9,7 @@ loop-action-init g c = (
   down-none c.args.self.now (g.A.CellArray.state c.args.array.now) (g.R.Outcomes.table c.args.results.now) c.requires.led c.requires.unset,
   enough c.args.self.now.tick (actions_left c.args.self.now.bank c.args.self.now.regs) c.requires.within (few-actions c.requires.led.0 c.args.self.now (g.A.CellArray.state c.args.array.now) c.self.invariant.layout c.requires.led.1),
   g.met.R.Outcomes.stands c.args.results.now,
+  up-none g.R.Outcomes.goes_on g.R.Outcomes.table c.args.self.now.tick c.args.results.now,
 )
 
 pub complete-requires : goal.complete-requires
@@ -45,6 +47,10 @@ loop-action-preserved g c =
       spent t.tick c.complete.new.self.tick _ (actions_left t.bank t.regs) (actions_left c.complete.new.self.bank c.complete.new.self.regs) now
           (ends-soon clock t.pace c.in-Some.action refl c.self-in-loop-action.invariant.paced (begun-before clock c.in-Some.action next c.self-in-loop-action.invariant.begun)) less within,
       g.met.R.Outcomes.follows _ _ _ kept.2 c.complete.ensures.goes_on,
+      up-more g.R.Outcomes.goes_on g.R.Outcomes.table c.loop-action.self.tick c.complete.new.self.tick c.args.results.now c.loop-action.results c.complete.new.results
+          (no-earlier c.loop-action.self.tick c.complete.new.self.tick c.complete.ensures.completes.later) kept.3
+          (completes-told g.R.Outcomes.goes_on g.R.Outcomes.table c.in-Some.action c.loop-action.self c.complete.new.self (g.A.CellArray.state c.loop-action.array) (g.A.CellArray.state c.complete.new.array) c.loop-action.results c.complete.new.results
+          read iter (sym c.next_action.ensures ∙ c.in-Some.is) kept.0.led c.complete.ensures.completes c.complete.ensures.goes_on),
     )
 
 pub loop-action-smaller : goal.loop-action-smaller
@@ -61,3 +67,6 @@ next_action-requires g c = timed_fits g.row.B g.row.M g.row.E c.self.invariant.l
 
 pub returns-clause-goes_on : goal.returns-clause-goes_on
 returns-clause-goes_on g c = c.loop-action.invariant.2
+
+pub returns-clause-in_turn : goal.returns-clause-in_turn
+returns-clause-in_turn g c = c.loop-action.invariant.3

@@ -1,4 +1,4 @@
-use Rattle.bank_timing.proofs.{Drains.{stop-queueable, stops, stop-others}, Sizes.{bank_fits, kept_fits}, Views.clock_of}
+use Rattle.bank_timing.proofs.{Drains.{stop-queueable, stops, stop-others}, Sizes.{bank_fits, kept_fits}, Telling.{left-told, up-none}, Views.clock_of}
 use Rattle.bank_timing.proofs.clocked.Timed.stop.Goals as goal
 
 pub kept-requires : goal.kept-requires
@@ -25,3 +25,11 @@ returns-clause-others g c =
 
 pub returns-clause-goes_on : goal.returns-clause-goes_on
 returns-clause-goes_on g c = c.leave_queued.ensures.goes_on
+
+pub returns-clause-in_turn : goal.returns-clause-in_turn
+returns-clause-in_turn g c = record {
+  to = 0;
+  between = c.args.results.now;
+  first = up-none g.R.Outcomes.goes_on g.R.Outcomes.table 0 c.args.results.now;
+  left = left-told g.R.Outcomes.goes_on g.R.Outcomes.table _ _ c.args.results.now c.leave_queued.new.results c.leave_queued.ensures.queued c.leave_queued.ensures.goes_on;
+}

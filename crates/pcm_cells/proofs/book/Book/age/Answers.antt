@@ -18,8 +18,8 @@ index_mut-page-requires g c =
     let own = subst (λ v. c.args.index % 65536 < length v.items) (sym c.index_mut-chunk.ensures.value) at.page in
     omega (arith, own, len)
 
-pub wear-requires : goal.wear-requires
-wear-requires g c =
+pub wear_page-requires : goal.wear_page-requires
+wear_page-requires g c =
     let pages : pages_in c.self.inside.chunks.items ≡ c.args.self.now.pages = ap (λ (k : Kept g.row.T.Denot). k.pages) c.self.view_is in
     let at = stands _ _ c.self.inside.chunks.items c.args.index c.index_mut-chunk.result.now c.self.invariant.0 (omega (arith, c.requires.exists, ap length pages, pages-count _ _ _ c.self.invariant.0)) in
     let is =
@@ -36,23 +36,23 @@ returns-clause-ages g c =
     let at = stands _ _ c.self.inside.chunks.items c.args.index c.index_mut-chunk.result.now c.self.invariant.0 (omega (arith, c.requires.exists, ap length pages, pages-count _ _ _ c.self.invariant.0)) in
     record {
       before = c.index_mut-page.result.now;
-      after = c.wear.new.self;
+      after = c.wear_page.new.page;
       was =
           c.index_mut-page.ensures.value
           ∙ ap (λ v. get_or v.items (c.args.index % 65536) c.index_mut-page.result.now) c.index_mut-chunk.ensures.value
           ∙ sym (at.is c.index_mut-page.result.now)
           ∙ ap (λ (xs : List g.row.T.Denot). get_or xs c.args.index c.index_mut-page.result.now) pages;
       is =
-          at.set_is _ c.wear.new.self (ap (λ v. set v.items (c.args.index % 65536) c.wear.new.self) c.index_mut-chunk.ensures.value)
-          ∙ ap (λ (xs : List g.row.T.Denot). set xs c.args.index c.wear.new.self) pages;
-      cells = c.wear.ensures.cells;
-      pulses = c.wear.ensures.pulses;
+          at.set_is _ c.wear_page.new.page (ap (λ v. set v.items (c.args.index % 65536) c.wear_page.new.page) c.index_mut-chunk.ensures.value)
+          ∙ ap (λ (xs : List g.row.T.Denot). set xs c.args.index c.wear_page.new.page) pages;
+      cells = c.wear_page.ensures.cells;
+      pulses = c.wear_page.ensures.pulses;
     }
 
 pub invariant_of-self : goal.invariant_of-self
 invariant_of-self g c = (
   hold-set _ _ c.self.inside.chunks.items (c.args.index / 65536) c.index_mut-chunk.result.now _ c.self.invariant.0
-      (length-set c.index_mut-chunk.result.now.items (c.args.index % 65536) c.wear.new.self ∙ ap (λ v. length v.items) c.index_mut-chunk.ensures.value)
+      (length-set c.index_mut-chunk.result.now.items (c.args.index % 65536) c.wear_page.new.page ∙ ap (λ v. length v.items) c.index_mut-chunk.ensures.value)
       (ap vec_capacity c.index_mut-chunk.ensures.value),
   c.self.invariant.1,
   c.self.invariant.2,

@@ -8,8 +8,8 @@ use Rattle.pcm_cells.proofs.page_table.PageTable+LineEnergy.work.Goals as goal
 pub get-requires : goal.get-requires
 get-requires c = omega (arith, c.requires, ap length c.self.view_is, pages-count c.self.inside.pages.pages c.self.inside.table)
 
-pub insert-requires-clause-none : goal.insert-requires-clause-none
-insert-requires-clause-none c =
+pub begin-requires-clause-none : goal.begin-requires-clause-none
+begin-requires-clause-none c =
     sym (ap (λ (xs : List (Option LineEnergy)). page_at xs c.args.line) c.self.view_is)
     ∙ pages-none c.self.inside.pages.pages c.self.inside.table c.args.line (sym c.get.ensures ∙ c.in-0.is)
 
@@ -18,8 +18,8 @@ returns-in-0 c =
     let none : page_at c.args.self.now c.args.line ≡ None =
     sym (ap (λ (xs : List (Option LineEnergy)). page_at xs c.args.line) c.self.view_is)
     ∙ pages-none c.self.inside.pages.pages c.self.inside.table c.args.line (sym c.get.ensures ∙ c.in-0.is) in
-    c.insert.ensures
-    ∙ ap (λ (e : LineEnergy). set c.args.self.now c.args.line (Some e)) (c.worked.ensures ∙ ap (λ (o : Option LineEnergy). worked c.args.work (energy_or_none o)) (sym none))
+    c.begin.ensures
+    ∙ ap (λ (e : LineEnergy). set c.args.self.now c.args.line (Some e)) (ap (λ (o : Option LineEnergy). worked c.args.work (energy_or_none o)) (sym none))
 
 pub work-requires : goal.work-requires
 work-requires c = omega (arith, c.get.ensures, c.self.invariant.paging.made c.args.line)

@@ -1,4 +1,4 @@
-use Rattle.std.proofs.Common.{arith, ◌∙◌, ℕ, ◌≡◌, ◌+◌, ◌++◌, ◌<◌, ◌≤◌, length, Some, refl, sym, ap, subst}
+use Rattle.std.proofs.Common.{arith, false, ◌∙◌, ℕ, ◌≡◌, ◌+◌, ◌++◌, ◌<◌, ◌≤◌, length, Some, refl, sym, ap, subst}
 use Rattle.std.specs.Prelude.{slice_get}
 use Rattle.row_rules.specs.declared.Asks.TheVariants.{Cuts}
 use Rattle.bank_timing.proofs.Sizes.{timed_fits, outcome_fits}
@@ -90,9 +90,9 @@ loop-bank-preserved g c =
         fresh = stays_open c.args.row (out.Cut c.args.tick) xs s.0 clock next between after real told f.leads s.1.extends inv.fresh.exists below inv.fresh;
       },
       g.met.R.Outcomes.follows _ _ _ c.loop-bank.invariant.1 c.cut_at.ensures.goes_on,
-      next_bank g.R.Outcomes.goes_on g.R.Outcomes.table old (rows_at old) c.loop-bank.bank _ c.args.results.now c.loop-bank.results c.cut_at.new.results refl c.loop-bank.invariant.2
-          (of_bank g.R.Outcomes.goes_on g.R.Outcomes.table old c.loop-bank.bank clock c.loop-bank.results c.cut_at.new.results (sym (inv.cuts.ahead c.loop-bank.bank (omega arith)) ∙ is) c.cut_at.ensures.goes_on
-          (step_leaves xs clock next between after real told (λ row. record { row = row; tick = c.args.tick; asks = Cuts }) (λ row. refl) f.leads (λ row. c.cut_at.ensures.step row xs f.leads))),
+      next_bank g.R.Outcomes.goes_on g.R.Outcomes.table old false (rows_at old) c.loop-bank.bank _ c.args.results.now c.loop-bank.results c.cut_at.new.results refl c.loop-bank.invariant.2
+          (of_bank g.R.Outcomes.goes_on g.R.Outcomes.table old false c.loop-bank.bank clock c.loop-bank.results c.cut_at.new.results (sym (inv.cuts.ahead c.loop-bank.bank (omega arith)) ∙ is) c.cut_at.ensures.goes_on
+          (step_leaves xs clock next between after real told (λ row. record { row = row; tick = c.args.tick; asks = Cuts }) (λ row. refl) f.leads (λ row. c.cut_at.ensures.step row xs f.leads)) c.cut_at.ensures.in_turn),
     )
 
 pub invariant_of-self : goal.invariant_of-self
@@ -116,8 +116,8 @@ returns g c =
     record {
       order = (
         c.loop-bank.results,
-        subst (λ (k : ℕ). TellsByBanks g.R.Outcomes.goes_on g.R.Outcomes.table (rows_at old) k c.args.results.now c.loop-bank.results) all c.loop-bank.invariant.2,
-        tells_own g.R.Outcomes.goes_on g.R.Outcomes.table c.args.row (out.Cut c.args.tick) c.loop-bank.results c.set.new.self inv.fresh.exists c.set.ensures.table c.set.ensures.goes_on,
+        subst (λ (k : ℕ). TellsByBanks g.R.Outcomes.goes_on g.R.Outcomes.table false (rows_at old) k c.args.results.now c.loop-bank.results) all c.loop-bank.invariant.2,
+        tells_own g.R.Outcomes.goes_on g.R.Outcomes.table c.args.row c.args.tick (out.Cut c.args.tick) c.loop-bank.results c.set.new.self inv.fresh.exists c.set.ensures.table (record { at = refl; known = refl }) c.set.ensures.goes_on,
       );
       goes_on = g.met.R.Outcomes.follows _ _ _ c.loop-bank.invariant.1 c.set.ensures.goes_on;
       takes =

@@ -26,7 +26,7 @@ returns g c =
     rw (← c.self.view_is) (record {
       goes_on = c.read_at.ensures.goes_on;
       takes = read_taken h c.read_at.ensures.at c.read_at.ensures.step;
-      order = read_tells h g.R.Outcomes.goes_on g.R.Outcomes.table c.args.results.now c.read_at.new.results refl c.read_at.ensures.goes_on c.read_at.ensures.step;
+      order = read_tells h g.R.Outcomes.goes_on g.R.Outcomes.table c.args.results.now c.read_at.new.results refl c.read_at.ensures.goes_on c.read_at.ensures.in_turn c.read_at.ensures.step;
     })
 
 pub place-place-requires : goal.place-place-requires

@@ -26,7 +26,7 @@ returns g c =
     rw (← c.self.view_is) (record {
       goes_on = c.write_at.ensures.goes_on;
       takes = write_taken h c.write_at.ensures.at c.write_at.ensures.step;
-      order = write_tells h g.R.Outcomes.goes_on g.R.Outcomes.table c.args.results.now c.write_at.new.results refl c.write_at.ensures.goes_on c.write_at.ensures.step;
+      order = write_tells h g.R.Outcomes.goes_on g.R.Outcomes.table c.args.results.now c.write_at.new.results refl c.write_at.ensures.goes_on c.write_at.ensures.in_turn c.write_at.ensures.step;
     })
 
 pub place-place-requires : goal.place-place-requires

@@ -1,7 +1,7 @@
 use Rattle.std.proofs.Common.{◌≡◌, ◌+◌, ◌*◌, ◌∙◌, ap}
 use Rattle.start_gap.specs.{Rotation.place_after, Slots.slot_at}
 use Rattle.pcm_io.specs.Reserved.{appended}
-use Rattle.rotation_reports.{specs.MapText.array_lines_of, proofs.Bounds.{six_fields, map_row-is}}
+use Rattle.rotation_reports.{specs.MapText.array_lines_of, proofs.Bounds.map_row-is}
 use Rattle.rotation_reports.proofs.line_rows.Map.print_row.Goals as goal
 
 pub returns-clause-after : goal.returns-clause-after
@@ -13,12 +13,4 @@ returns-clause-after c =
     let array : c.array_line-array.result ≡ c.address-address.result.bank * array_lines_of c.args.self.now
     + slot_at c.args.self.now.lines c.address-address.result.region c.place-place.result
     = rw (← same) c.array_line-array.ensures in
-    rw (
-      c.push_number_then-6.ensures.after,
-      c.push_number_then-5.ensures.after,
-      c.push_number_then-4.ensures.after,
-      c.push_number_then-3.ensures.after,
-      c.push_number_then-2.ensures.after,
-      c.push_number_then.ensures.after,
-    ) (six_fields c.args.text.now _ _ _ _ _ _
-    ∙ ap (appended c.args.text.now) (map_row-is c.args.self.now c.args.line _ _ _ c.address-address.ensures.address place array))
+    c.push_standing.ensures.after ∙ ap (appended c.args.text.now) (map_row-is c.args.self.now c.args.line _ _ _ c.address-address.ensures.address place array)

@@ -14,6 +14,3 @@ returns-clause-lawful g c =
     let old : Standing = record { arrived = c.self.inside.records.incoming; state = state_of c.self.inside.records.place; rows = c.self.inside.rows; tick = c.self.inside.tick; lines = c.self.inside.lines } in
     let next : IsPlainNext old c.in-Some.row = rw (← c.self.view_is) at c.in-Some.ensures in
     rw (← c.self.view_is) (plain-lawful g.row.B old c.in-Some.row c.requires next c.in-Ok.event c.self.invariant.0 (rw c.bytes-bytes.ensures at (sym c.in-Ok.ensures)))
-
-pub returns-clause-waits : goal.returns-clause-waits
-returns-clause-waits g c = (tt, tt)

@@ -3,7 +3,7 @@ use Rattle.cell_rows.specs.Rows.{cell}
 use Rattle.pcm_cells.specs.{Follows.FollowsIn, Young.{YoungCell, aging, young_cell}}
 use Rattle.pcm_cells.proofs.{FollowsLemmas.{followed_all, followed_group}}
 use Rattle.pcm_cells.proofs.SizeLemmas.{blocks_all, blocks_within, cells_first, data_first, data_within, from_first, groups_fit, row_fits}
-use Rattle.pcm_cells.proofs.aging.YoungPage.wear.Goals as goal
+use Rattle.pcm_cells.proofs.aging.wear_page.Goals as goal
 
 same : (n : ℕ) → n ≤ n
 same n = omega arith
@@ -40,16 +40,16 @@ count_pulse-requires g c = omega (arith, c.wear_in.ensures.pulses, c.wear_in-2.e
 
 pub returns-clause-cells : goal.returns-clause-cells
 returns-clause-cells g c n =
-    let young = g.Self.YoungPage.young in
+    let young = g.P.YoungPage.young in
     let bits : ℕ = g.row.B / 8 in
     let all : ℕ = (g.row.B + g.row.M) / 8 in
     let first = data_first g.row.B g.row.M in
-    let done : FollowsIn 0 (8 * (g.row.B + g.row.M)) (cell c.args.mask.now) (aging c.args.tearing (cell c.args.want.now)) (young_cell (young c.args.self.now)) (young_cell (young c.wear_in-2.new.self)) =
+    let done : FollowsIn 0 (8 * (g.row.B + g.row.M)) (cell c.args.mask.now) (aging c.args.tearing (cell c.args.want.now)) (young_cell (young c.args.page.now)) (young_cell (young c.wear_in-2.new.page)) =
     rw (← blocks_all g.row.B g.row.M all c.requires.whole (same all) (same all))
     (followed_group 0 (64 * bits) (64 * all) (cell c.args.mask.now) (aging c.args.tearing (cell c.args.want.now))
-    _ (young_cell (young c.wear_in.new.self)) _ c.wear_in.ensures.cells c.wear_in-2.ensures.cells (from_first _) (cells_first bits all first)) in
+    _ (young_cell (young c.wear_in.new.page)) _ c.wear_in.ensures.cells c.wear_in-2.ensures.cells (from_first _) (cells_first bits all first)) in
     c.count_pulse.ensures.cells n
-    ∙ followed_all (8 * (g.row.B + g.row.M)) (cell c.args.mask.now) (aging c.args.tearing (cell c.args.want.now)) (young_cell (young c.args.self.now)) (young_cell (young c.wear_in-2.new.self)) done c.has_end.ensures n
+    ∙ followed_all (8 * (g.row.B + g.row.M)) (cell c.args.mask.now) (aging c.args.tearing (cell c.args.want.now)) (young_cell (young c.args.page.now)) (young_cell (young c.wear_in-2.new.page)) done c.has_end.ensures n
 
 pub returns-clause-pulses : goal.returns-clause-pulses
 returns-clause-pulses g c = omega (arith, c.count_pulse.ensures.pulses, c.wear_in.ensures.pulses, c.wear_in-2.ensures.pulses)
