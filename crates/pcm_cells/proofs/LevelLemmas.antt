@@ -69,48 +69,53 @@ spread_lane bits value (suc (suc (suc (suc (suc (suc (suc (suc i)))))))) low = u
     upper (suc (suc (suc (suc (suc (suc (suc zero))))))) low = second_byte bits 7 value 128 15 (omega arith) refl refl
     upper (suc (suc (suc (suc (suc (suc (suc (suc i)))))))) low = absurd (omega arith)
 
-or_number : (low middle high : Bool) → bit_or (bit_or (cond low 1 0) (cond middle 2 0)) (cond high 4 0) ≡ number_of low middle high
-or_number false false false = refl
-or_number false false true = refl
-or_number false true false = refl
-or_number false true true = refl
-or_number true false false = refl
-or_number true false true = refl
-or_number true true false = refl
-or_number true true true = refl
+-- the sum of two lanes
+abbrev plus : ℕ → ℕ → ℕ
+plus a b = (a + b) % 2 ^ 8
+
+sum_number : (unit : ℕ) (low middle high : Bool) → unit ≤ 32
+    → plus (plus (cond low unit 0) (cond middle (2 * unit) 0)) (cond high (4 * unit) 0) ≡ unit * number_of low middle high
+sum_number unit false false false few = omega arith
+sum_number unit false false true few = omega (arith, few)
+sum_number unit false true false few = omega (arith, few)
+sum_number unit false true true few = omega (arith, few)
+sum_number unit true false false few = omega (arith, few)
+sum_number unit true false true few = omega (arith, few)
+sum_number unit true true false few = omega (arith, few)
+sum_number unit true true true few = omega (arith, few)
 
 -- eight of sixteen lanes, from one on, of the numbers with these digits
-pub number_lane : (a b c : List ℕ) (low middle high : Bool) (from i : ℕ) → length a ≡ 16 → length b ≡ 16 → length c ≡ 16
+pub number_lane : (unit : ℕ) (a b c : List ℕ) (low middle high : Bool) (from i : ℕ) → length a ≡ 16 → length b ≡ 16 → length c ≡ 16
     → from + 8 ≤ 16 → i < 8
-    → pick_l 0 (zip2 bit_or (zip2 bit_or a b) c ++ zip2 bit_or (zip2 bit_or a b) c) (range_with_len from 8)
-    ≡ pick_l 0 (zip2 bit_or (zip2 bit_or a b) c) (range_with_len from 8)
-    → get_or a (from + i) 0 ≡ cond low 1 0 → get_or b (from + i) 0 ≡ cond middle 2 0 → get_or c (from + i) 0 ≡ cond high 4 0
-    → get_or (pick_l 0 (zip2 bit_or (zip2 bit_or a b) c ++ zip2 bit_or (zip2 bit_or a b) c) (range_with_len from 8)) i 0 ≡ number_of low middle high
-number_lane a b c low middle high from i len_a len_b len_c room few left a_is b_is c_is =
-    let ab = zip2 bit_or a b in
-    let all = zip2 bit_or ab c in
-    let len_ab : length ab ≡ 16 = length-zip2 bit_or a b (omega arith) ∙ len_a in
-    let len : length all ≡ 16 = length-zip2 bit_or ab c (omega arith) ∙ len_ab in
+    → pick_l 0 (zip2 plus (zip2 plus a b) c ++ zip2 plus (zip2 plus a b) c) (range_with_len from 8)
+    ≡ pick_l 0 (zip2 plus (zip2 plus a b) c) (range_with_len from 8)
+    → unit ≤ 32 → get_or a (from + i) 0 ≡ cond low unit 0 → get_or b (from + i) 0 ≡ cond middle (2 * unit) 0 → get_or c (from + i) 0 ≡ cond high (4 * unit) 0
+    → get_or (pick_l 0 (zip2 plus (zip2 plus a b) c ++ zip2 plus (zip2 plus a b) c) (range_with_len from 8)) i 0 ≡ unit * number_of low middle high
+number_lane unit a b c low middle high from i len_a len_b len_c room few left small a_is b_is c_is =
+    let ab = zip2 plus a b in
+    let all = zip2 plus ab c in
+    let len_ab : length ab ≡ 16 = length-zip2 plus a b (omega arith) ∙ len_a in
+    let len : length all ≡ 16 = length-zip2 plus ab c (omega arith) ∙ len_ab in
     ap (λ l. get_or l i 0) (left ∙ pick_l-range_with_len 0 all from 8 (omega arith)) ∙ get_or-chunk from 8 all i 0 few
-    ∙ get_or-zip2 bit_or ab c (from + i) 0 0 0 (omega arith) (omega arith)
-    ∙ ap (λ x. bit_or x (get_or c (from + i) 0)) (get_or-zip2 bit_or a b (from + i) 0 0 0 (omega arith) (omega arith))
-    ∙ rw (a_is, b_is, c_is) (or_number low middle high)
+    ∙ get_or-zip2 plus ab c (from + i) 0 0 0 (omega arith) (omega arith)
+    ∙ ap (λ x. plus x (get_or c (from + i) 0)) (get_or-zip2 plus a b (from + i) 0 0 0 (omega arith) (omega arith))
+    ∙ rw (a_is, b_is, c_is) (sum_number unit low middle high small)
 
 -- eight lanes of sixteen are among the first copy of them
 pub first_lanes : (a b c : List ℕ) → length a ≡ 16 → length b ≡ 16 → length c ≡ 16
-    → pick_l 0 (zip2 bit_or (zip2 bit_or a b) c ++ zip2 bit_or (zip2 bit_or a b) c) (range_with_len 0 8)
-    ≡ pick_l 0 (zip2 bit_or (zip2 bit_or a b) c) (range_with_len 0 8)
+    → pick_l 0 (zip2 plus (zip2 plus a b) c ++ zip2 plus (zip2 plus a b) c) (range_with_len 0 8)
+    ≡ pick_l 0 (zip2 plus (zip2 plus a b) c) (range_with_len 0 8)
 first_lanes a b c len_a len_b len_c =
-    let all = zip2 bit_or (zip2 bit_or a b) c in
-    let len : length all ≡ 16 = length-zip2 bit_or (zip2 bit_or a b) c (length-zip2 bit_or a b (omega arith) ∙ omega arith) ∙ length-zip2 bit_or a b (omega arith) ∙ len_a in
+    let all = zip2 plus (zip2 plus a b) c in
+    let len : length all ≡ 16 = length-zip2 plus (zip2 plus a b) c (length-zip2 plus a b (omega arith) ∙ omega arith) ∙ length-zip2 plus a b (omega arith) ∙ len_a in
     pick_l_left 0 all all 16 (range_with_len 0 8) len tt
 
 pub last_lanes : (a b c : List ℕ) → length a ≡ 16 → length b ≡ 16 → length c ≡ 16
-    → pick_l 0 (zip2 bit_or (zip2 bit_or a b) c ++ zip2 bit_or (zip2 bit_or a b) c) (range_with_len 8 8)
-    ≡ pick_l 0 (zip2 bit_or (zip2 bit_or a b) c) (range_with_len 8 8)
+    → pick_l 0 (zip2 plus (zip2 plus a b) c ++ zip2 plus (zip2 plus a b) c) (range_with_len 8 8)
+    ≡ pick_l 0 (zip2 plus (zip2 plus a b) c) (range_with_len 8 8)
 last_lanes a b c len_a len_b len_c =
-    let all = zip2 bit_or (zip2 bit_or a b) c in
-    let len : length all ≡ 16 = length-zip2 bit_or (zip2 bit_or a b) c (length-zip2 bit_or a b (omega arith) ∙ omega arith) ∙ length-zip2 bit_or a b (omega arith) ∙ len_a in
+    let all = zip2 plus (zip2 plus a b) c in
+    let len : length all ≡ 16 = length-zip2 plus (zip2 plus a b) c (length-zip2 plus a b (omega arith) ∙ omega arith) ∙ length-zip2 plus a b (omega arith) ∙ len_a in
     pick_l_left 0 all all 16 (range_with_len 8 8) len tt
 
 -- less so much, down to 0

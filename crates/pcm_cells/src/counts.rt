@@ -117,19 +117,20 @@ impl<const B: usize, const M: usize> Counts<B, M> {
         }
     }
 
-    // Takes from the number of each cell of a block of 64 the one whose binary digits these are, the lowest first.
-    pub(crate) fn level(&mut self, block: usize, low: u64, middle: u64, high: u64)
+    // Takes from the number of each cell of a block of 64 so many times the one whose binary digits these are, the lowest first.
+    pub(crate) fn level(&mut self, block: usize, unit: u8, low: u64, middle: u64, high: u64)
+        requires few { unit ≤ 32 }
         requires whole { IsWhole B M }
         requires exists { 8 * block < B + M }
         ensures here { (i : ℕ) → i < 64 → count self.new (64 * block + i)
             ≡ count self.old (64 * block + i)
-            - number_of (bit_in low i) (bit_in middle i) (bit_in high i) }
+            - unit * number_of (bit_in low i) (bit_in middle i) (bit_in high i) }
         ensures others { (n : ℕ) → n / 64 ≢ block → count self.new n ≡ count self.old n }
     {
         if 8 * block < B {
-            level(&mut self.bits, block, low, middle, high);
+            level(&mut self.bits, block, unit, low, middle, high);
         } else {
-            level(&mut self.meta, block - B / 8, low, middle, high);
+            level(&mut self.meta, block - B / 8, unit, low, middle, high);
         }
     }
 }

@@ -21,15 +21,16 @@ fn spread(bits: u64, value: u8) -> u8x16
         .select(u8x16::splat(value), u8x16::splat(0))
 }
 
-// The numbers whose binary digits are the sixteen lowest bits of these, the lowest digit first: the first
-// eight numbers, and the others.
-fn numbers(low: u64, middle: u64, high: u64) -> (u8x8, u8x8)
+// So many times the numbers whose binary digits are the sixteen lowest bits of these, the lowest digit first:
+// the first eight numbers, and the others.
+fn numbers(unit: u8, low: u64, middle: u64, high: u64) -> (u8x8, u8x8)
+    requires { unit ≤ 32 }
     ensures first { (i : ℕ) → i < 8 → slice_index result.0 i
-        ≡ number_of (bit_in low i) (bit_in middle i) (bit_in high i) }
+        ≡ unit * number_of (bit_in low i) (bit_in middle i) (bit_in high i) }
     ensures others { (i : ℕ) → i < 8 → slice_index result.1 i
-        ≡ number_of (bit_in low (8 + i)) (bit_in middle (8 + i)) (bit_in high (8 + i)) }
+        ≡ unit * number_of (bit_in low (8 + i)) (bit_in middle (8 + i)) (bit_in high (8 + i)) }
 {
-    let all = spread(low, 1) | spread(middle, 2) | spread(high, 4);
+    let all = spread(low, unit) + spread(middle, 2 * unit) + spread(high, 4 * unit);
     (all.extract::<0, 8>(), all.extract::<8, 8>())
 }
 
@@ -41,17 +42,18 @@ fn levelled(row: u32x8, less: u8x8) -> u32x8
     row.simd_max(less) - less
 }
 
-// Takes from each count of a block of 64 the number whose binary digits these are, the lowest first.
-pub(crate) fn level(rows: &mut [[u32; 8]], block: usize, low: u64, middle: u64, high: u64)
-    requires { 8 * block + 8 ≤ length rows.old }
+// Takes from each count of a block of 64 so many times the number whose binary digits these are, the lowest first.
+pub(crate) fn level(rows: &mut [[u32; 8]], block: usize, unit: u8, low: u64, middle: u64, high: u64)
+    requires exists { 8 * block + 8 ≤ length rows.old }
+    requires few { unit ≤ 32 }
     ensures here { (i : ℕ) → i < 64 → count_in rows.new (64 * block + i)
         ≡ count_in rows.old (64 * block + i)
-        - number_of (bit_in low i) (bit_in middle i) (bit_in high i) }
+        - unit * number_of (bit_in low i) (bit_in middle i) (bit_in high i) }
     ensures others { (n : ℕ) → n / 64 ≢ block → count_in rows.new n ≡ count_in rows.old n }
 {
     for pair in 0..4 {
         let from = 16 * pair as u32;
-        let (first, others) = numbers(low >> from, middle >> from, high >> from);
+        let (first, others) = numbers(unit, low >> from, middle >> from, high >> from);
         let row = 8 * block + 2 * pair;
         rows[row] = levelled(u32x8::from_array(rows[row]), first).to_array();
         rows[row + 1] = levelled(u32x8::from_array(rows[row + 1]), others).to_array();

@@ -5,7 +5,7 @@ use Rattle.pcm_cells.proofs.counts.Counts.level.Goals as goal
 pub returns-then-block-clause-here : goal.returns-then-block-clause-here
 returns-then-block-clause-here g c i low =
     block_count-bits _ c.args.block i (omega arith) c.requires.whole.0 (omega arith) low ∙ c.level.ensures.here i low
-    ∙ ap (λ k. k - number_of (bit_in c.args.low i) (bit_in c.args.middle i) (bit_in c.args.high i))
+    ∙ ap (λ k. k - c.args.unit * number_of (bit_in c.args.low i) (bit_in c.args.middle i) (bit_in c.args.high i))
     (sym (block_count-bits c.args.self.now c.args.block i (omega arith) c.requires.whole.0 (omega arith) low))
 
 pub returns-then-block-clause-others : goal.returns-then-block-clause-others
@@ -15,7 +15,7 @@ returns-then-block-clause-others g c n apart =
 pub returns-else-block-clause-here : goal.returns-else-block-clause-here
 returns-else-block-clause-here g c i low =
     block_count-meta _ c.args.block i (omega arith) c.requires.whole.0 (omega arith) ∙ c.level-else-block.ensures.here i low
-    ∙ ap (λ k. k - number_of (bit_in c.args.low i) (bit_in c.args.middle i) (bit_in c.args.high i))
+    ∙ ap (λ k. k - c.args.unit * number_of (bit_in c.args.low i) (bit_in c.args.middle i) (bit_in c.args.high i))
     (sym (block_count-meta c.args.self.now c.args.block i (omega arith) c.requires.whole.0 (omega arith)))
 
 pub returns-else-block-clause-others : goal.returns-else-block-clause-others
