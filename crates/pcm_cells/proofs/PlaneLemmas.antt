@@ -145,3 +145,54 @@ pub digit_carried : {B M : ℕ} (old new : Digits B M) (n : ℕ) (more carry : B
     → digit new n + cond carry 8 0 ≡ digit old n + cond more 1 0
 digit_carried old new n more carry low middle high over =
     rw (digit-is new n, low, middle, high, over, digit-is old n) (carried more (cell old.low n) (cell old.middle n) (cell old.high n))
+
+-- the sum of three binary digits
+pub full : (a b c : Bool) → cond (xor (xor a b) c) 1 0 + 2 * cond (cond (a && b) true (xor a b && c)) 1 0 ≡ cond a 1 0 + cond b 1 0 + cond c 1 0
+full true true true = refl
+full true true false = refl
+full true false true = refl
+full true false false = refl
+full false true true = refl
+full false true false = refl
+full false false true = refl
+full false false false = refl
+
+by_ones : (low middle high : Bool) → number_of low middle high ≡ cond low 1 0 + 2 * cond middle 1 0 + 4 * cond high 1 0
+by_ones true true true = refl
+by_ones true true false = refl
+by_ones true false true = refl
+by_ones true false false = refl
+by_ones false true true = refl
+by_ones false true false = refl
+by_ones false false true = refl
+by_ones false false false = refl
+
+eight : (b : Bool) → cond b 8 0 ≡ 8 * cond b 1 0
+eight true = refl
+eight false = refl
+
+first_sum : (a b : Bool) → cond (xor a b) 1 0 + 2 * cond (a && b) 1 0 ≡ cond a 1 0 + cond b 1 0
+first_sum true true = refl
+first_sum true false = refl
+first_sum false true = refl
+first_sum false false = refl
+
+summed : (a b c x y z first second third : Bool) → first ≡ (a && x) → second ≡ cond (b && y) true (xor b y && first) → third ≡ cond (c && z) true (xor c z && second)
+    → number_of (xor a x) (xor (xor b y) first) (xor (xor c z) second) + cond third 8 0 ≡ number_of a b c + number_of x y z
+summed a b c x y z first second third first_is second_is third_is =
+    let one = first_sum a x in
+    let two = full b y first in
+    let four = full c z second in
+    let f : cond first 1 0 ≡ cond (a && x) 1 0 = ap (λ t. cond t 1 0) first_is in
+    let s : cond second 1 0 ≡ cond (cond (b && y) true (xor b y && first)) 1 0 = ap (λ t. cond t 1 0) second_is in
+    let t : cond third 1 0 ≡ cond (cond (c && z) true (xor c z && second)) 1 0 = ap (λ t. cond t 1 0) third_is in
+    omega (arith, one, two, four, f, s, t, eight third, by_ones (xor a x) (xor (xor b y) first) (xor (xor c z) second), by_ones a b c, by_ones x y z)
+
+-- the same of one cell's number
+pub digit_summed : {B M : ℕ} (old new : Digits B M) (n : ℕ) (x y z first second third : Bool) → first ≡ (cell old.low n && x)
+    → second ≡ cond (cell old.middle n && y) true (xor (cell old.middle n) y && first) → third ≡ cond (cell old.high n && z) true (xor (cell old.high n) z && second)
+    → cell new.low n ≡ xor (cell old.low n) x → cell new.middle n ≡ xor (xor (cell old.middle n) y) first
+    → cell new.high n ≡ xor (xor (cell old.high n) z) second
+    → digit new n + cond third 8 0 ≡ digit old n + number_of x y z
+digit_summed old new n x y z first second third first_is second_is third_is low middle high =
+    rw (digit-is new n, low, middle, high, digit-is old n) (summed (cell old.low n) (cell old.middle n) (cell old.high n) x y z first second third first_is second_is third_is)

@@ -13,14 +13,17 @@ digits_size row = up 1 (up 1 (up 1 (0 + row) + row) + row)
 abbrev counts_size : ℕ → ℕ → ℕ
 counts_size b m = up 4 (up 4 (0 + b * 32) + m * 32)
 
+abbrev left_size : ℕ → ℕ → ℕ
+left_size digits counts = up 4 (up 1 (up 1 (up 1 (0 + counts) + digits) + digits) + digits)
+
 abbrev moving_size : ℕ → ℕ → ℕ
 moving_size row digits = up 1 (up 1 (up 1 (0 + row) + digits) + digits)
 
 abbrev settled_size : ℕ → ℕ → ℕ → ℕ
-settled_size row digits counts = up 4 (up 1 (up 1 (up 4 (0 + row) + counts) + digits) + row)
+settled_size row digits left = up 4 (up 1 (up 1 (up 4 (0 + row) + left) + digits) + row)
 
 abbrev line_size : ℕ → ℕ → ℕ → ℕ
-line_size b moving settled = up 8 (up 1 (up 8 (up 4 (0 + moving) + settled) + 8) + b * 1)
+line_size b moving settled = up 8 (up 4 (up 4 (up 1 (up 8 (up 4 (0 + moving) + settled) + 8) + b * 1) + 4) + 4)
 
 abbrev first_size : ℕ → ℕ → ℕ
 first_size row digits = up 8 (up 8 (up 1 (0 + row) + digits) + 8)
@@ -43,8 +46,11 @@ counts_few b m few_b few_m = omega arith
 moving_few : (row digits : ℕ) → row ≤ 200 → digits ≤ 700 → moving_size row digits ≤ 2000
 moving_few row digits few_r few_d = omega arith
 
-settled_few : (row digits counts : ℕ) → row ≤ 200 → digits ≤ 700 → counts ≤ 5000 → settled_size row digits counts ≤ 7000
-settled_few row digits counts few_r few_d few_c = omega arith
+left_few : (digits counts : ℕ) → digits ≤ 700 → counts ≤ 5000 → left_size digits counts ≤ 7200
+left_few digits counts few_d few_c = omega arith
+
+settled_few : (row digits left : ℕ) → row ≤ 200 → digits ≤ 700 → left ≤ 7200 → settled_size row digits left ≤ 8400
+settled_few row digits left few_r few_d few_l = omega arith
 
 first_few : (row digits : ℕ) → row ≤ 200 → digits ≤ 700 → first_size row digits ≤ 1000
 first_few row digits few_r few_d = omega arith
@@ -55,13 +61,13 @@ later_few row digits few_r few_d = omega arith
 young_few : (row digits : ℕ) → row ≤ 200 → digits ≤ 700 → young_size row digits ≤ 4000
 young_few row digits few_r few_d = omega arith
 
-line_few : (b moving settled : ℕ) → b ≤ 128 → moving ≤ 2000 → settled ≤ 7000 → line_size b moving settled ≤ 10000
+line_few : (b moving settled : ℕ) → b ≤ 128 → moving ≤ 2000 → settled ≤ 8400 → line_size b moving settled ≤ 11000
 line_few b moving settled few_b few_m few_s = omega arith
 
-below : (size : ℕ) → size ≤ 10000 → size < 9223372036854775808
+below : (size : ℕ) → size ≤ 11000 → size < 9223372036854775808
 below size few = omega arith
 
-less : (size most : ℕ) → size ≤ most → most ≤ 10000 → size < 9223372036854775808
+less : (size most : ℕ) → size ≤ most → most ≤ 11000 → size < 9223372036854775808
 less size most few least = omega arith
 
 module _ {b m : ℕ} (shape : IsShape b m) where
@@ -77,8 +83,11 @@ module _ {b m : ℕ} (shape : IsShape b m) where
   moving_at_most : moving_size (row_size b m) (digits_size (row_size b m)) ≤ 2000
   moving_at_most = moving_few _ _ row_at_most digits_at_most
 
-  settled_at_most : settled_size (row_size b m) (digits_size (row_size b m)) (counts_size b m) ≤ 7000
-  settled_at_most = settled_few _ _ _ row_at_most digits_at_most counts_at_most
+  left_at_most : left_size (digits_size (row_size b m)) (counts_size b m) ≤ 7200
+  left_at_most = left_few _ _ digits_at_most counts_at_most
+
+  settled_at_most : settled_size (row_size b m) (digits_size (row_size b m)) (left_size (digits_size (row_size b m)) (counts_size b m)) ≤ 8400
+  settled_at_most = settled_few _ _ _ row_at_most digits_at_most left_at_most
 
   pub row_fits : row_size b m < 9223372036854775808
   row_fits = less _ 200 row_at_most (omega arith)
@@ -92,8 +101,11 @@ module _ {b m : ℕ} (shape : IsShape b m) where
   pub moving_fits : moving_size (row_size b m) (digits_size (row_size b m)) < 9223372036854775808
   moving_fits = less _ 2000 moving_at_most (omega arith)
 
-  pub settled_fits : settled_size (row_size b m) (digits_size (row_size b m)) (counts_size b m) < 9223372036854775808
-  settled_fits = less _ 7000 settled_at_most (omega arith)
+  pub left_fits : left_size (digits_size (row_size b m)) (counts_size b m) < 9223372036854775808
+  left_fits = less _ 7200 left_at_most (omega arith)
+
+  pub settled_fits : settled_size (row_size b m) (digits_size (row_size b m)) (left_size (digits_size (row_size b m)) (counts_size b m)) < 9223372036854775808
+  settled_fits = less _ 8400 settled_at_most (omega arith)
 
   pub young_fits : young_size (row_size b m) (digits_size (row_size b m)) < 9223372036854775808
   young_fits = less _ 4000 (young_few _ _ row_at_most digits_at_most) (omega arith)
@@ -104,7 +116,7 @@ module _ {b m : ℕ} (shape : IsShape b m) where
   pub later_fits : later_size (row_size b m) (digits_size (row_size b m)) < 9223372036854775808
   later_fits = less _ 3000 (later_few _ _ row_at_most digits_at_most) (omega arith)
 
-  pub line_fits : line_size b (moving_size (row_size b m) (digits_size (row_size b m))) (settled_size (row_size b m) (digits_size (row_size b m)) (counts_size b m)) < 9223372036854775808
+  pub line_fits : line_size b (moving_size (row_size b m) (digits_size (row_size b m))) (settled_size (row_size b m) (digits_size (row_size b m)) (left_size (digits_size (row_size b m)) (counts_size b m))) < 9223372036854775808
   line_fits = below _ (line_few b _ _ shape.1 moving_at_most settled_at_most)
 
   pub calm_fits : b * 1 < 9223372036854775808

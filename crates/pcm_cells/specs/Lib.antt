@@ -5,6 +5,7 @@ pub mod Logging
 pub mod Logged
 pub mod Planes
 pub mod Counts
+pub mod Left
 pub mod Energies
 pub mod Seeded
 pub mod Pages

@@ -3,8 +3,8 @@ use Rattle.std.specs.{Int.bit_at, List.range_with_len}
 use Rattle.std.specs.Prelude.{ℕ, ◌≡◌, ◌≢◌, ◌+◌, ◌≤◌, ◌-◌, ◌*◌, ◌/◌, ◌%◌, ◌^◌, ◌<◌, min, Bool, true, false, ◌&&◌, nat_eq, nat_lt, nat_le, bit_xor, if◌then◌else◌, List, [], length}
 use Rattle.std.specs.Prelude.{map, slice_index, slice_index_or, Option, None, Some}
 use Rattle.cell_rows.specs.{Device.{ArrayState, LineState, CellBounds, counted}, Rows.{cell, zero_row}, declared.array.LineEnergy.LineEnergy, declared.array.Wear.Wear, declared.row.Cells.Cells}
-use Rattle.pcm_cells.specs.{Counts.count, Energies.energy_told, Follows.Follows, Planes.{PlaneLine, plane_cell, blank_planes, digit, zero_digits}, declared.calm.Moving.Moving}
-use Rattle.pcm_cells.specs.{declared.calm.Settled.Settled, declared.counts.Counts.Counts, declared.digits.Digits.Digits, declared.seeded.SeededCell.SeededCell}
+use Rattle.pcm_cells.specs.{Energies.energy_told, Follows.Follows, Planes.{PlaneLine, plane_cell, blank_planes, digit, zero_digits}, declared.calm.Moving.Moving}
+use Rattle.pcm_cells.specs.{Left.left_in, declared.calm.Settled.Settled, declared.digits.Digits.Digits, declared.left.Left.Left, declared.seeded.SeededCell.SeededCell}
 use Rattle.seeded_words.specs.Words.{xoshiro_of, word_at}
 
 -- how many changes a cell with this word lives through; it sticks in the last one
@@ -53,9 +53,9 @@ pub record LifeLine (B M : ℕ) : Type 0 where
   pub limits : Digits B M
   pub ends : Cells B M
 
--- what is left of each cell's count, where it changed so often since the count was brought up to date
-unfoldable pub left_of : {B M : ℕ} → Digits B M → Counts B M → List ℕ
-left_of {B} {M} spent counts = map (λ n. count counts n - digit spent n) (range_with_len 0 (8 * (B + M)))
+-- what each cell has left, where it changed so often since
+unfoldable pub left_of : {B M : ℕ} → Digits B M → Left B M → List ℕ
+left_of {B} {M} spent left = map (λ n. left_in left n - digit spent n) (range_with_len 0 (8 * (B + M)))
 
 -- a line from what a calm pulse changes and what it leaves, as if it were never pulsed
 abbrev pub life_of : {B M : ℕ} → Moving B M → Settled B M → LifeLine B M
@@ -69,6 +69,16 @@ life_of moving settled = record {
 -- each live cell of a calm block of the row has a count of at least eight
 abbrev pub IsCalm : {B M : ℕ} → List Bool → Cells B M → (ℕ → ℕ) → Type 0
 IsCalm {B} {M} calm stuck counts = (n : ℕ) → n < 8 * (B + M) → slice_index_or calm (n / 64) false ≡ true → cell stuck n ≡ false → 8 ≤ counts n
+
+-- so many pulses may come before a cell is near its end or has changed seven times since what it changed was taken from what it has left
+pub record HasRoom (room top : ℕ) (stuck : ℕ → Bool) (spent left : ℕ → ℕ) : Type 0 where
+  pub few : (n : ℕ) → n < top → 0 < room → spent n + room ≤ 7
+  pub many : (n : ℕ) → n < top → 0 < room → stuck n ≡ false → 8 ≤ left n
+
+-- so often may that be taken, and once more, before the counts are looked at
+pub record HasFolds (folds top : ℕ) (stuck : ℕ → Bool) (taken left : ℕ → ℕ) : Type 0 where
+  pub few : (n : ℕ) → n < top → taken n + 7 * folds ≤ 504
+  pub many : (n : ℕ) → n < top → 0 < folds → stuck n ≡ false → 8 + 7 * folds ≤ left n
 
 abbrev pub seeded_cell : {B M : ℕ} → LifeLine B M → ℕ → SeededCell
 seeded_cell row number = record {

@@ -77,30 +77,36 @@ fn lacks(bits: u64, index: u32) -> bool
     bits >> index & 1 == 0
 }
 
-// Whether each count is at least eight.
-fn are_all_many(left: &[u32; 64]) -> bool
-    ensures { IsTrue result → (i : ℕ) → i < 64 → 8 ≤ slice_index left.now i }
+// A number that no count is below.
+fn least_of_all(left: &[u32; 64]) -> u32
+    ensures { (i : ℕ) → i < 64 → result ≤ slice_index left.now i }
 {
-    let mut few = false;
+    let mut least = u32::MAX;
     for index in 0..64 {
-        few |= left[index] < 8;
+        least = least.min(left[index]);
     }
-    !few
+    least
 }
 
-// Whether each count is at least eight that isn't in the mask.
-pub(crate) fn are_many(left: &[u32; 64], mask: u64) -> bool
-    ensures { IsTrue result → (i : ℕ) → i < 64 → bit_in mask i ≡ false
-        → 8 ≤ slice_index left.now i }
+// The count, if it is to be looked at, or else one that none is above.
+fn looked_at(count: u32, is_asked: bool) -> u32
+    ensures { IsTrue is_asked → result ≡ count }
 {
-    if are_all_many(left) {
-        return true;
+    if is_asked { count } else { u32::MAX }
+}
+
+// A number that no count is below that isn't in the mask.
+pub(crate) fn least(left: &[u32; 64], mask: u64) -> u32
+    ensures { (i : ℕ) → i < 64 → bit_in mask i ≡ false → result ≤ slice_index left.now i }
+{
+    if mask == 0 {
+        return least_of_all(left);
     }
-    let mut few = false;
+    let mut least = u32::MAX;
     for index in 0..64 {
-        few |= (left[index as usize] < 8) & lacks(mask, index);
+        least = least.min(looked_at(left[index as usize], lacks(mask, index)));
     }
-    !few
+    least
 }
 
 // At each number up to 7 its binary digits, the lowest in bit 0, the next in bit 8, the last in bit 16.

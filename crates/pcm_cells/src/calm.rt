@@ -1,15 +1,15 @@
 // Pulses of lines of which no live cell is near its end.
 ghost use Rattle.std.specs.Prelude.{◌≡◌, ◌≢◌, ℕ, ◌+◌, ◌*◌, ◌/◌, ◌%◌, ◌<◌, ◌≤◌, ◌&&◌, true, false, not, nat_eq, IsTrue, slice_index_or};
 ghost use Rattle.cell_rows.specs.Rows.{cell};
-ghost use Rattle.pcm_cells.specs.Counts.{count};
+ghost use Rattle.pcm_cells.specs.Left.{left_in};
 ghost use Rattle.pcm_cells.specs.Planes.{bit_in, digit};
 ghost use Rattle.cell_rows.specs.Shape.{IsShape, IsWhole};
 ghost use Rattle.pcm_cells.specs.Follows.{FollowsIn};
 ghost use Rattle.pcm_cells.specs.Seeded.{seeded, seeded_cell, life_of};
 
 use crate::blocks::{chosen, without};
-use crate::counts::Counts;
 use crate::digits::Digits;
+use crate::left::Left;
 use cell_rows::Cells;
 
 /// What a calm pulse may change of a line's cells, which is one in which none of them is near its end.
@@ -17,7 +17,7 @@ use cell_rows::Cells;
 pub(crate) struct Moving<const B: usize, const M: usize> {
     pub(crate) held: Cells<B, M>,
     pub(crate) misses: Digits<B, M>,
-    // How often each cell changed since its count in `left` was last brought up to date.
+    // How often each cell changed since that was last taken from what it has left.
     pub(crate) spent: Digits<B, M>,
 }
 
@@ -25,7 +25,7 @@ pub(crate) struct Moving<const B: usize, const M: usize> {
 #[derive(Drop)]
 pub(crate) struct Settled<const B: usize, const M: usize> {
     pub(crate) stuck: Cells<B, M>,
-    pub(crate) left: Counts<B, M>,
+    pub(crate) left: Left<B, M>,
     pub(crate) limits: Digits<B, M>,
     pub(crate) ends: Cells<B, M>,
 }
@@ -42,40 +42,6 @@ pub(crate) fn is_calm<const B: usize, const M: usize>(calm: &[bool; B]) -> bool
         all &= calm[block];
     }
     all
-}
-
-// Of some blocks, whether no masked cell has the number 7.
-#[inline(always)]
-fn has_room_in<const B: usize, const M: usize>(
-    spent: &Digits<B, M>,
-    mask: &Cells<B, M>,
-    from: usize,
-    to: usize,
-) -> bool
-    requires whole { IsWhole B M }
-    requires shape { IsShape B M }
-    requires exists { 8 * to ≤ B + M }
-    ensures { IsTrue result → (n : ℕ) → 64 * from ≤ n → n < 64 * to → cell mask.now n ≡ true
-        → digit spent.now n < 7 }
-{
-    let mut full = 0;
-    for block in from..to {
-        full |= spent.full(block) & mask.block(block);
-    }
-    full == 0
-}
-
-// Whether no masked cell has the number 7.
-pub(crate) fn has_room<const B: usize, const M: usize>(
-    spent: &Digits<B, M>,
-    mask: &Cells<B, M>,
-) -> bool
-    requires whole { IsWhole B M }
-    requires shape { IsShape B M }
-    ensures { IsTrue result → (n : ℕ) → n < 8 * (B + M) → cell mask.now n ≡ true
-        → digit spent.now n < 7 }
-{
-    has_room_in(spent, mask, 0, B / 8) & has_room_in(spent, mask, B / 8, (B + M) / 8)
 }
 
 // The cells that a pulse reaches, or a tear, which reaches those of even number alone.
@@ -105,12 +71,14 @@ fn wear_calm_block<const B: usize, const M: usize>(
     requires whole { IsWhole B M }
     requires reach { (i : ℕ) → i < 64 → bit_in reach i ≡ not (tearing && nat_eq (i % 2) 1) }
     requires many { (i : ℕ) → i < 64 → cell settled.now.stuck (64 * block + i) ≡ false
-        → 8 ≤ count settled.now.left (64 * block + i) }
+        → 8 ≤ left_in settled.now.left (64 * block + i) }
     requires few { (i : ℕ) → i < 64 → cell mask.now (64 * block + i) ≡ true
         → digit moving.old.spent (64 * block + i) < 7 }
     ensures cells { FollowsIn (64 * block) (64 * block + 64) (cell mask.now)
         (seeded tearing (cell want.now)) (seeded_cell (life_of moving.old settled.now))
         (seeded_cell (life_of moving.new settled.now)) }
+    ensures grown { (i : ℕ) → i < 64 → digit moving.new.spent (64 * block + i)
+        ≤ digit moving.old.spent (64 * block + i) + 1 }
     ensures others { (n : ℕ) → n / 64 ≢ block
         → digit moving.new.spent n ≡ digit moving.old.spent n }
 {
@@ -139,12 +107,14 @@ fn wear_calm_in<const B: usize, const M: usize>(
     requires shape { IsShape B M }
     requires whole { IsWhole B M }
     requires many { (n : ℕ) → n < 8 * (B + M) → cell settled.now.stuck n ≡ false
-        → 8 ≤ count settled.now.left n }
+        → 8 ≤ left_in settled.now.left n }
     requires few { (n : ℕ) → 64 * from ≤ n → n < 8 * (B + M) → cell mask.now n ≡ true
         → digit moving.old.spent n < 7 }
     ensures cells { FollowsIn (64 * from) (64 * to) (cell mask.now) (seeded tearing (cell want.now))
         (seeded_cell (life_of moving.old settled.now))
         (seeded_cell (life_of moving.new settled.now)) }
+    ensures grown { (n : ℕ) → digit moving.new.spent n ≤ digit moving.old.spent n + 1 }
+    ensures below { (n : ℕ) → n < 64 * from → digit moving.new.spent n ≡ digit moving.old.spent n }
     ensures others { (n : ℕ) → 64 * to ≤ n → digit moving.new.spent n ≡ digit moving.old.spent n }
 {
     let reach = reach(tearing);
@@ -166,12 +136,13 @@ pub(crate) fn wear_calm<const B: usize, const M: usize>(
     requires shape { IsShape B M }
     requires whole { IsWhole B M }
     requires many { (n : ℕ) → n < 8 * (B + M) → cell settled.now.stuck n ≡ false
-        → 8 ≤ count settled.now.left n }
+        → 8 ≤ left_in settled.now.left n }
     requires few { (n : ℕ) → n < 8 * (B + M) → cell mask.now n ≡ true
         → digit moving.old.spent n < 7 }
-    ensures { FollowsIn 0 (8 * (B + M)) (cell mask.now) (seeded tearing (cell want.now))
+    ensures cells { FollowsIn 0 (8 * (B + M)) (cell mask.now) (seeded tearing (cell want.now))
         (seeded_cell (life_of moving.old settled.now))
         (seeded_cell (life_of moving.new settled.now)) }
+    ensures grown { (n : ℕ) → digit moving.new.spent n ≤ digit moving.old.spent n + 1 }
 {
     wear_calm_in(moving, settled, tearing, 0, B / 8, mask, want);
     wear_calm_in(moving, settled, tearing, B / 8, (B + M) / 8, mask, want);

@@ -123,6 +123,32 @@ impl<const B: usize, const M: usize> Digits<B, M> {
         if any { self.add(block, more) } else { 0 }
     }
 
+    // Over a block: each number grows by the one whose binary digits these are, the lowest first, and is less by 8 where there is a carry.
+    #[inline(always)]
+    pub(crate) fn add_number(&mut self, block: usize, number: (u64, u64, u64)) -> u64
+        requires whole { IsWhole B M }
+        requires exists { 8 * block < B + M }
+        ensures here { (i : ℕ) → i < 64 → digit self.new (64 * block + i)
+            + (if bit_in result i then 8 else 0)
+            ≡ digit self.old (64 * block + i)
+            + number_of (bit_in number.0 i) (bit_in number.1 i) (bit_in number.2 i) }
+        ensures others { (n : ℕ) → n / 64 ≢ block → digit self.new n ≡ digit self.old n }
+    {
+        let (one, two, four) = number;
+        let (low, middle, high) = (
+            self.low.block(block),
+            self.middle.block(block),
+            self.high.block(block),
+        );
+        let first = low & one;
+        let second = middle & two | (middle ^ two) & first;
+        let third = high & four | (high ^ four) & second;
+        self.low.set_block(block, low ^ one);
+        self.middle.set_block(block, middle ^ two ^ first);
+        self.high.set_block(block, high ^ four ^ second);
+        third
+    }
+
     // As a mask over a block: the cells whose number is 7.
     pub(crate) fn full(&self, block: usize) -> u64
         requires whole { IsWhole B M }
@@ -133,6 +159,7 @@ impl<const B: usize, const M: usize> Digits<B, M> {
     }
 
     // The binary digits of a block's numbers, the lowest first.
+    #[inline(always)]
     pub(crate) fn planes(&self, block: usize) -> (u64, u64, u64)
         requires whole { IsWhole B M }
         requires exists { 8 * block < B + M }

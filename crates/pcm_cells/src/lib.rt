@@ -11,6 +11,7 @@ mod digits;
 mod energies;
 mod first;
 mod later;
+mod left;
 mod levels;
 mod line;
 mod logged;

@@ -2,10 +2,11 @@
 ghost use Rattle.std.specs.Prelude.{◌≡◌, ◌≢◌, ℕ, ◌+◌, ◌-◌, ◌*◌, ◌%◌, ◌<◌, ◌≤◌, true, false, length, OnOk, OnErr, slice_index};
 
 use crate::CellState;
-use crate::blocks::{are_many, byte_at, chosen, life, reached, spend, with_life, without};
-use crate::calm::{Moving, Settled, has_room, is_calm, wear_calm};
+use crate::blocks::{byte_at, chosen, life, reached, spend, with_life, without};
+use crate::calm::{Moving, Settled, is_calm, wear_calm};
 use crate::counts::Counts;
 use crate::digits::Digits;
+use crate::left::{Left, fold, level_all, level_block};
 use crate::line::has_end;
 use crate::pages::Pages;
 use crate::tally::Tally;
@@ -50,19 +51,42 @@ fn miss_limit(wear: Wear, word: u64) -> u8
     ((word >> 32) % 8).min(wear.misses as u64) as u8
 }
 
+// So many pulses may come after all was looked at, where no live cell has fewer changes left than this.
+fn room_of(least: u32) -> u32
+    ensures few { result ≤ 7 }
+    ensures many { 0 < result → 8 ≤ least }
+{
+    if least >= 8 { 7 } else { 0 }
+}
+
+// So often may what cells spent be taken without a look at them.
+fn folds_of(least: u32) -> u32
+    ensures few { result ≤ 72 }
+    ensures many { 0 < result → 8 + 7 * result ≤ least }
+{
+    (least.saturating_sub(8) / 7).min(72)
+}
+
 /// The cells of one line, and the life of each.
 #[derive(Drop)]
 pub(crate) struct SeededLine<const B: usize, const M: usize> {
     moving: Moving<B, M>,
     settled: Settled<B, M>,
     pulses: u64,
-    // Of each block, whether each live cell's count in `left` is at least eight.
+    // Of each block, whether each live cell has at least eight changes in `left`.
     calm: [bool; B],
+    // So many pulses may come before a cell is near its end, or a number in `spent` is 7.
+    room: u32,
+    // So often may the numbers in `spent` be taken from `left` before its counts are looked at.
+    folds: u32,
 }
 
 impl<const B: usize, const M: usize> Model for SeededLine<B, M> {
-    ghost use Rattle.pcm_cells.specs.Counts.{count};
-    ghost use Rattle.pcm_cells.specs.Seeded.{LifeLine, left_of, IsCalm};
+    ghost use Rattle.std.specs.Prelude.{◌+◌, ◌*◌};
+    ghost use Rattle.cell_rows.specs.Rows.{cell};
+    ghost use Rattle.pcm_cells.specs.Left.{left_in, taken};
+    ghost use Rattle.pcm_cells.specs.Planes.{digit};
+    ghost use Rattle.pcm_cells.specs.Seeded.{LifeLine, left_of, IsCalm, HasRoom, HasFolds};
     ghost use Rattle.cell_rows.specs.Shape.{IsShape};
 
     ghost Value = { LifeLine B M };
@@ -79,7 +103,9 @@ impl<const B: usize, const M: usize> Model for SeededLine<B, M> {
       ends = l.settled.ends;
     } };
 
-    ghost invariant = { λ l. IsShape B M × IsCalm l.calm l.settled.stuck (count l.settled.left) };
+    ghost invariant = { λ l. IsShape B M × IsCalm l.calm l.settled.stuck (left_in l.settled.left)
+        × HasRoom l.room (8 * (B + M)) (cell l.settled.stuck) (digit l.moving.spent) (left_in l.settled.left)
+        × HasFolds l.folds (8 * (B + M)) (cell l.settled.stuck) (taken l.settled.left) (left_in l.settled.left) };
 }
 
 ghost use Rattle.cell_rows.specs.Rows.{cell, members};
@@ -95,15 +121,16 @@ ghost use Rattle.pcm_cells.specs.Young.{grown_line};
 ghost use Rattle.std.specs.Prelude.{◌/◌, ◌&&◌, nat_le, IsTrue, if◌then◌else◌};
 
 impl<const B: usize, const M: usize> SeededLine<B, M> {
-    // A line with these lives that was never pulsed. It may be told that each count is at least eight.
+    // A line with these lives that was never pulsed, and a number that no count is below.
     fn new(
-        left: Counts<B, M>,
+        left: Left<B, M>,
         limits: Digits<B, M>,
         ends: Cells<B, M>,
-        calm: bool,
+        least: u32,
     ) -> SeededLine<B, M>
         requires shape { IsShape B M }
-        requires many { IsTrue calm → (n : ℕ) → n < 8 * (B + M) → 8 ≤ count left n }
+        requires many { (n : ℕ) → n < 8 * (B + M) → least ≤ left_in left n }
+        requires none { (n : ℕ) → taken left n ≡ 0 }
         ensures is { result ≡ record {
           line = blank_planes B M;
           left = left_of (zero_digits B M) left.entry;
@@ -126,7 +153,9 @@ impl<const B: usize, const M: usize> SeededLine<B, M> {
                 ends,
             },
             pulses: 0,
-            calm: [calm; B],
+            calm: [least >= 8; B],
+            room: 0,
+            folds: folds_of(least),
         }
     }
 
@@ -152,7 +181,7 @@ impl<const B: usize, const M: usize> SeededLine<B, M> {
             limits.set_group(group, planes);
             ends.set_group(group, byte_at(planes, 3));
         }
-        SeededLine::new(left, limits, ends, wear.lo >= 8)
+        SeededLine::new(Left::new(left), limits, ends, wear.lo)
     }
 
     // What stands for a young line, whose words are drawn now.
@@ -163,12 +192,14 @@ impl<const B: usize, const M: usize> SeededLine<B, M> {
         ensures { HaveSameLife (grown_line wear number young.now) result }
     {
         let mut line = SeededLine::drawn(wear, number);
-        young.take_from(&mut line.settled.left);
+        young.take_from(&mut line.settled.left.counts);
         line.moving.held = young.held;
         line.moving.misses = young.misses;
         line.pulses = young.pulses;
         let calm = [false; B];
         line.calm = calm;
+        line.room = 0;
+        line.folds = 0;
         line.level();
         line
     }
@@ -192,21 +223,25 @@ impl<const B: usize, const M: usize> SeededLine<B, M> {
         ensures limits { self.new.limits ≡ self.old.limits }
         ensures ends { self.new.ends ≡ self.old.ends }
     {
+        self.room = 0;
         if self.calm[block] && self.moving.spent.full(block) & changing == 0 {
             self.moving.spent.advance(block, changing, 0);
             return 0;
         }
-        let stuck = self.settled.stuck.block(block);
-        let (low, middle, high) = self.moving.spent.planes(block);
-        self.settled.left.level(block, low, middle, high);
-        self.moving.spent.clear(block);
-        let calm = are_many(self.settled.left.block(block), stuck);
+        self.folds = 0;
+        let least = level_block(
+            &mut self.moving.spent,
+            &mut self.settled.left,
+            &self.settled.stuck,
+            block,
+        );
+        let calm = least >= 8;
         self.calm[block] = calm;
         if calm {
             self.moving.spent.advance(block, changing, 0);
             return 0;
         }
-        let mut counts = *self.settled.left.block(block);
+        let mut counts = *self.settled.left.counts.block(block);
         let last = spend(&mut counts, changing);
         self.settled.left.set_block(block, &counts);
         last
@@ -233,31 +268,36 @@ impl<const B: usize, const M: usize> SeededLine<B, M> {
         self.moving.misses.advance(block, missing, changing);
     }
 
-    // Brings the counts of a block up to date.
-    fn level_block(&mut self, block: usize)
-        requires exists { 8 * block < B + M }
-        requires shape { IsShape B M }
-        requires whole { IsWhole B M }
-        ensures { self.new ≡ self.old }
-    {
-        let stuck = self.settled.stuck.block(block);
-        let (low, middle, high) = self.moving.spent.planes(block);
-        self.settled.left.level(block, low, middle, high);
-        self.moving.spent.clear(block);
-        self.calm[block] = are_many(self.settled.left.block(block), stuck);
-    }
-
-    // Brings the counts up to date.
+    // Brings the counts up to date, and looks at them.
     fn level(&mut self)
         requires shape { IsShape B M }
         requires whole { IsWhole B M }
         ensures { self.new ≡ self.old }
     {
-        for block in 0..(B + M) / 8 {
-            let (low, middle, high) = self.moving.spent.planes(block);
-            if low | middle | high != 0 || !self.calm[block] {
-                self.level_block(block);
-            }
+        let least = level_all(
+            &mut self.moving.spent,
+            &mut self.settled.left,
+            &self.settled.stuck,
+            &mut self.calm,
+        );
+        self.room = room_of(least);
+        self.folds = folds_of(least);
+    }
+
+    // Takes what the cells spent from what they have left, where none can be near its end by that, or else by their counts, where a line
+    // is new, or none of its cells was near its end.
+    #[inline(never)]
+    fn settle(&mut self)
+        requires shape { IsShape B M }
+        requires whole { IsWhole B M }
+        ensures { self.new ≡ self.old }
+    {
+        if self.folds > 0 {
+            fold(&mut self.moving.spent, &mut self.settled.left);
+            self.folds -= 1;
+            self.room = 7;
+        } else if self.pulses == 0 || is_calm::<B, M>(&self.calm) {
+            self.level();
         }
     }
 
@@ -276,23 +316,25 @@ impl<const B: usize, const M: usize> SeededLine<B, M> {
         }
     }
 
-    // The masked cells in a pulse or in a tear. The counts are brought up to date first where a line is new, and
-    // where no cell of it is near its end.
-    #[inline(never)]
-    fn wear_levelled(&mut self, tearing: bool, mask: &Cells<B, M>, want: &Cells<B, M>)
+    // The same, by all blocks at once where no cell is near its end.
+    fn wear_settled(&mut self, tearing: bool, mask: &Cells<B, M>, want: &Cells<B, M>)
         requires shape { IsShape B M }
         requires whole { IsWhole B M }
         ensures cells { FollowsIn 0 (8 * (B + M)) (cell mask.now) (seeded tearing (cell want.now))
             (seeded_cell self.old) (seeded_cell self.new) }
         ensures pulses { self.new.line.pulses ≡ self.old.line.pulses }
     {
-        if self.pulses == 0 || is_calm::<B, M>(&self.calm) {
-            self.level();
+        if self.room > 0 {
+            self.room -= 1;
+            // Copies, so that LLVM sees that no write to the line changes them.
+            let (mask, want) = (*mask, *want);
+            wear_calm(&mut self.moving, &self.settled, tearing, &mask, &want);
+        } else {
+            self.wear_blocks(tearing, mask, want);
         }
-        self.wear_blocks(tearing, mask, want);
     }
 
-    // The same, by all blocks at once where no cell is near its end.
+    // The masked cells in a pulse or in a tear.
     fn wear_cells(&mut self, tearing: bool, mask: &Cells<B, M>, want: &Cells<B, M>)
         requires shape { IsShape B M }
         requires whole { IsWhole B M }
@@ -300,13 +342,10 @@ impl<const B: usize, const M: usize> SeededLine<B, M> {
             (seeded_cell self.old) (seeded_cell self.new) }
         ensures pulses { self.new.line.pulses ≡ self.old.line.pulses }
     {
-        if is_calm::<B, M>(&self.calm) && has_room(&self.moving.spent, mask) {
-            // Copies, so that LLVM sees that no write to the line changes them.
-            let (mask, want) = (*mask, *want);
-            wear_calm(&mut self.moving, &self.settled, tearing, &mask, &want);
-        } else {
-            self.wear_levelled(tearing, mask, want);
+        if self.room == 0 {
+            self.settle();
         }
+        self.wear_settled(tearing, mask, want);
     }
 
     // A pulse or a tear of the line.
