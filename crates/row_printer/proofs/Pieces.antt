@@ -13,6 +13,18 @@ pub pieces-told : (t : Reserved) (a d e f g : List ℕ) →
     ≡ appended t (join_with_byte 44 (a ∷ d ∷ e ∷ f ∷ g ∷ []) ++ codes "\n")
 pieces-told t a d e f g = simp append_assoc
 
+-- the line of a row that was stored, whose word stands between its commas
+pub pieces-stored : (t : Reserved) (a b d : List ℕ) →
+    appended (appended (appended t (a ++ codes ",stored,")) (b ++ codes ",")) (d ++ codes ",\n")
+    ≡ appended t (join_with_byte 44 (a ∷ codes "stored" ∷ b ∷ d ∷ [] ∷ []) ++ codes "\n")
+pieces-stored t a b d = simp append_assoc
+
+-- and of one that was read
+pub pieces-read : (t : Reserved) (a b d e : List ℕ) →
+    appended (appended (appended (appended (appended t (a ++ codes ",read,")) (b ++ codes ",")) (d ++ codes ",")) e) (codes "\n")
+    ≡ appended t (join_with_byte 44 (a ∷ codes "read" ∷ b ∷ d ∷ e ∷ []) ++ codes "\n")
+pieces-read t a b d e = simp append_assoc
+
 -- ten counts that were pushed one by one, with a comma behind each
 pub pieces-counts : (t : Reserved) (a b d e f g h i j k : List ℕ) →
     appended (appended (appended (appended (appended (appended (appended (appended (appended (appended t (a ++ codes ",")) (b ++ codes ",")) (d ++ codes ",")) (e ++ codes ",")) (f ++ codes ",")) (g ++ codes ",")) (h ++ codes ",")) (i ++ codes ",")) (j ++ codes ",")) (k ++ codes ",")

@@ -10,7 +10,7 @@ ghost use Rattle.result_rows.specs.Table.{HasRow, outcome_at, with_outcome};
 ghost use Rattle.run_text.specs.Counting.{counts_of};
 ghost use Rattle.run_text.specs.Shortfall.{any_short};
 ghost use Rattle.row_printer.specs.declared.told.Told.{Told as Line};
-ghost use Rattle.row_printer.specs.declared.told.Told.TheVariants.{Bank, Looked, Settled};
+ghost use Rattle.row_printer.specs.declared.told.Told.TheVariants.{Bank, Became, Looked, Settled};
 ghost use Rattle.row_printer.specs.Telling.{outcomes_in, TellsOnce};
 ghost use Rattle.row_printer.specs.declared.snapshot.Snapshot.{Snapshot as Taken};
 ghost use Rattle.row_printer.specs.Snapshots.{IsShown, is_due, takes_snapshots};
@@ -18,7 +18,7 @@ ghost use Rattle.row_printer.specs.Refusing.{any_refused};
 ghost use Rattle.row_printer.specs.Printing.{IsPrinting, Prints, PrintsOn, stream_text, table_told, text_told};
 
 use crate::snapshot::{Snapshot, print_snapshot, snapshots_header};
-use crate::text::{print_head, print_told};
+use crate::text::{print_became, print_head, print_told};
 use crate::told::{ArrayWear, Backlog, Shown, Told};
 use ghost_list::GhostList;
 use pcm_io::{Sink, Text, WriteFault};
@@ -311,15 +311,16 @@ impl<const B: usize, S: Sink + Drop> Outcomes<B> for RowPrinter<B, S> {
         ensures table { table_told self.new ≡ with_outcome (table_told self.old) row outcome.entry }
         ensures goes_on { PrintsOn S.written S.faults self.old self.new }
     {
-        let line = Told::Became(row, outcome);
-        self.broken = print_line(
-            &line,
+        self.broken = print_row(
+            row,
+            &outcome,
             self.prints,
             self.broken,
             &mut self.text,
             &mut *self.sink,
         );
         self.counts.count(&outcome);
+        let line = Told::Became(row, outcome);
         self.told = self.told.and(&line);
     }
 }
@@ -366,6 +367,41 @@ fn print_line<const B: usize, S: Sink>(
     match make_room(text, sink) {
         Ok(()) => {
             print_told(line, text);
+            false
+        }
+        Err(_) => true,
+    }
+}
+
+// Prints the line of a row's outcome, where lines are printed, unless a write failed before; answers whether one failed. The outcome is
+// printed where it stands: among all lines it would be copied.
+fn print_row<const B: usize, S: Sink>(
+    row: u32,
+    outcome: &Outcome<B>,
+    prints: Shown,
+    broken: bool,
+    text: &mut Text,
+    sink: &mut S,
+) -> bool
+    requires few { B ≤ 128 }
+    requires limit { text.old.limit ≡ TEXT_ROOM }
+    ensures limit { text.new.limit ≡ TEXT_ROOM }
+    ensures printed { (before : Option (List ℕ)) (first : ℕ) (told : List (Line B))
+        (snapshots : List Taken)
+        → Prints before first (S.written sink.old) (S.faults sink.old) text.old
+        (stream_text prints told snapshots) broken
+        → Prints before first (S.written sink.new) (S.faults sink.new) text.new
+        (stream_text prints (told ++ Became row outcome.now ∷ []) snapshots) result }
+{
+    if broken {
+        return true;
+    }
+    let Shown::Rows(_) = prints else {
+        return false;
+    };
+    match make_room(text, sink) {
+        Ok(()) => {
+            print_became(row, outcome, text);
             false
         }
         Err(_) => true,

@@ -1,6 +1,7 @@
 // The bytes of a stream's lines.
-ghost use Rattle.std.specs.Prelude.{◌≡◌, ◌+◌, ◌*◌, ◌≤◌, length};
+ghost use Rattle.std.specs.Prelude.{◌≡◌, ℕ, ◌+◌, ◌*◌, ◌≤◌, length};
 ghost use Rattle.pcm_io.specs.Reserved.{room_in, appended};
+ghost use Rattle.result_rows.specs.declared.Outcome.TheVariants.{Read, Stored};
 ghost use Rattle.row_printer.specs.Telling.{bank_row, driven_text, mark_word, settled_row, shape_row, told_head, told_header, told_line, told_row, wear_row};
 
 use crate::told::{ArrayWear, Backlog, Mark, Told, ToldShape};
@@ -59,9 +60,47 @@ pub fn print_told<const B: usize>(told: &Told<B>, text: &mut Text)
     }
 }
 
-// What became of a row.
+/// Appends the line of a row's outcome. Most rows were stored or read: their words are put together with the commas beside them, in one piece.
+pub fn print_became<const B: usize>(row: u32, outcome: &Outcome<B>, text: &mut Text)
+    requires size { B ≤ 128 }
+    requires room { 64 + 2 * B ≤ room_in text.old }
+    ensures { text.new ≡ appended text.old (told_row row outcome.now) }
+{
+    match outcome {
+        Outcome::Stored { tick, place } => print_stored(row, *tick, *place, text),
+        Outcome::Read { tick, place, bytes } => print_read(row, *tick, *place, bytes, text),
+        _ => print_any(row, outcome, text),
+    }
+}
+
+// A row whose bytes were stored.
+#[tactic(auto, using(pcm_io::proofs::DigitLemmas::ten_digits, pcm_io::proofs::DigitLemmas::twenty_digits))]
+fn print_stored(row: u32, tick: u64, place: u32, text: &mut Text)
+    requires { 64 ≤ room_in text.old }
+    ensures { (n : ℕ) → text.new ≡ appended text.old (told_row {n = n} row (Stored tick place)) }
+{
+    text.push_number_then(row as u64, b",stored,");
+    text.push_number_then(tick, b",");
+    text.push_number_then(place as u64, b",\n");
+}
+
+// A row that was read.
+#[tactic(auto, using(pcm_io::proofs::DigitLemmas::ten_digits, pcm_io::proofs::DigitLemmas::twenty_digits))]
+fn print_read<const B: usize>(row: u32, tick: u64, place: u32, bytes: &[u8; B], text: &mut Text)
+    requires size { B ≤ 128 }
+    requires room { 64 + 2 * B ≤ room_in text.old }
+    ensures { text.new ≡ appended text.old (told_row row (Read tick place bytes.now)) }
+{
+    text.push_number_then(row as u64, b",read,");
+    text.push_number_then(tick, b",");
+    text.push_number_then(place as u64, b",");
+    text.push_hex(bytes);
+    text.push(b"\n");
+}
+
+// A row of any outcome.
 #[tactic(auto, using(pcm_io::proofs::DigitLemmas::ten_digits))]
-fn print_became<const B: usize>(row: u32, outcome: &Outcome<B>, text: &mut Text)
+fn print_any<const B: usize>(row: u32, outcome: &Outcome<B>, text: &mut Text)
     requires size { B ≤ 128 }
     requires room { 64 + 2 * B ≤ room_in text.old }
     ensures { text.new ≡ appended text.old (told_row row outcome.now) }

@@ -16,7 +16,7 @@ invariant_of-self g c =
     rw c.and.ensures (record {
       few = c.self.invariant.few;
       shown = c.self.invariant.shown;
-      limit = c.print_line-self-inside.ensures.limit;
+      limit = c.print_row-self-inside.ensures.limit;
       once = rw (outcomes-more told c.args.row c.args.outcome) (tells-next c.self.inside.rows (outcomes_in told) c.args.row c.args.outcome c.self.invariant.once exists unset c.requires.told);
       counted = set-counted c.self.inside.rows told c.args.row c.args.outcome c.self.inside.counts c.count.new.self c.self.invariant.counted c.count.ensures unset;
     })
@@ -33,5 +33,5 @@ returns-clause-goes_on g c =
       rows = refl;
       prints = refl;
       printing = λ before first h.
-          rw c.and.ensures (c.print_line-self-inside.ensures.printed before first (items c.self.inside.told) (items c.self.inside.snapshots) (rw c.deref_mut.ensures.value h));
+          rw c.and.ensures (c.print_row-self-inside.ensures.printed before first (items c.self.inside.told) (items c.self.inside.snapshots) (rw c.deref_mut.ensures.value h));
     })
