@@ -7,9 +7,11 @@ use cell_rows::Cells;
 use ecp_line::Ecp;
 
 // The bytes of a line that holds these cells.
-pub(crate) fn read_as<const B: usize, const M: usize, const E: usize>(cells: Cells<B, M>) -> [u8; B]
+pub(crate) fn read_as<const B: usize, const M: usize, const E: usize>(
+    cells: &Cells<B, M>,
+) -> [u8; B]
     requires { IsLayout B M E }
-    ensures { result ≡ decode E cells.entry }
+    ensures { result ≡ decode E cells.now }
 {
-    Ecp::<B, M, E>::decode(&cells)
+    Ecp::<B, M, E>::decode(cells)
 }

@@ -26,16 +26,15 @@ impl<const B: usize, const M: usize, const E: usize> Bank<B, M, E> {
         ensures holds { (h : List (BankEvent B)) → Holds h self.old (A.state array.old)
             → Holds (Serve result ∷ h) self.new (A.state array.new) }
     {
-        let Some(read) = self.waiting.pop_front() else {
+        let Some(read) = self.waiting.front() else {
             unreachable!()
         };
+        let row = read.row;
         let place = self.kept.array_line(self.kept.slot_of(read.line));
-        let mut bytes = read_as::<B, M, E>(array.sense(place, tick));
+        let cells = array.sense(place, tick);
+        let mut bytes = read_as::<B, M, E>(&cells);
         lay_over(&read.kept, &read.given, &mut bytes);
-        Served {
-            row: read.row,
-            place,
-            bytes,
-        }
+        self.waiting.pop_front();
+        Served { row, place, bytes }
     }
 }

@@ -8,7 +8,9 @@ ghost use Rattle.bank_model.specs.Timing.{TimedEvent};
 ghost use Rattle.bank_invariant.specs.Serving.{read_from};
 ghost use Rattle.bank_core.specs.Steps.{write_from};
 ghost use Rattle.clock_laws.specs.Leads.{Leads};
+ghost use Rattle.result_rows.specs.Table.{with_outcome};
 ghost use Rattle.result_rows.specs.declared.Outcome.{Outcome as RowOutcome};
+ghost use Rattle.result_rows.specs.declared.Outcome.TheVariants.{Merged, Full, Worn, Forwarded, Busy};
 ghost use Rattle.clock_laws.specs.Arriving.{cancels_for, drops};
 ghost use Rattle.bank_timing.specs.Cancelling.{cancel_by, cancel_first};
 ghost use Rattle.bank_shape.specs.declared.clock.Doing.TheVariants.{Beginning};
@@ -48,11 +50,11 @@ impl<const B: usize, const M: usize, const E: usize> Timed<B, M, E> {
         match self.bank.write(entry) {
             Arrived::Accepted => self.arrive_last(),
             Arrived::Merged { row: old, index } => {
-                results.set(old, Outcome::Merged { tick: self.tick });
+                tell_merged(results, old, self.tick);
                 self.arrive_again(index);
             }
-            Arrived::Full => results.set(row, Outcome::Full { tick: self.tick }),
-            Arrived::Exhausted => results.set(row, Outcome::Worn { tick: self.tick }),
+            Arrived::Full => tell_full(results, row, self.tick),
+            Arrived::Exhausted => tell_worn(results, row, self.tick),
         }
     }
 
@@ -137,15 +139,9 @@ impl<const B: usize, const M: usize, const E: usize> Timed<B, M, E> {
     {
         let drops = self.begins_store_of(line);
         match self.bank.read(row, line) {
-            ReadAnswer::Forwarded(bytes) => results.set(
-                row,
-                Outcome::Forwarded {
-                    tick: self.tick,
-                    bytes,
-                },
-            ),
+            ReadAnswer::Forwarded(bytes) => tell_forwarded(results, row, self.tick, &bytes),
             ReadAnswer::Waiting => self.action = unless(drops, self.action),
-            ReadAnswer::Busy => results.set(row, Outcome::Busy { tick: self.tick }),
+            ReadAnswer::Busy => tell_busy(results, row, self.tick),
         }
     }
 
@@ -188,6 +184,72 @@ impl<const B: usize, const M: usize, const E: usize> Timed<B, M, E> {
             _ => false,
         }
     }
+}
+
+// Tells that another write was laid over one. It is called, as those below are: no room for an outcome is made where none is told.
+#[inline(never)]
+fn tell_merged<const B: usize, R: Outcomes<B>>(results: &mut R, row: u32, tick: u64)
+    requires few { B ≤ 128 }
+    requires open { IsOpen (R.table results.old) row }
+    ensures told { (R.table results.new) ≡ with_outcome (R.table results.old) row (Merged tick) }
+    ensures goes_on { R.goes_on results.old results.new }
+{
+    results.set(row, Outcome::Merged { tick });
+}
+
+// Tells that the queue was full.
+#[inline(never)]
+fn tell_full<const B: usize, R: Outcomes<B>>(results: &mut R, row: u32, tick: u64)
+    requires few { B ≤ 128 }
+    requires open { IsOpen (R.table results.old) row }
+    ensures told { (R.table results.new) ≡ with_outcome (R.table results.old) row (Full tick) }
+    ensures goes_on { R.goes_on results.old results.new }
+{
+    results.set(row, Outcome::Full { tick });
+}
+
+// Tells that the bank takes no more writes.
+#[inline(never)]
+fn tell_worn<const B: usize, R: Outcomes<B>>(results: &mut R, row: u32, tick: u64)
+    requires few { B ≤ 128 }
+    requires open { IsOpen (R.table results.old) row }
+    ensures told { (R.table results.new) ≡ with_outcome (R.table results.old) row (Worn tick) }
+    ensures goes_on { R.goes_on results.old results.new }
+{
+    results.set(row, Outcome::Worn { tick });
+}
+
+// Tells what a read found in the queue.
+#[inline(never)]
+fn tell_forwarded<const B: usize, R: Outcomes<B>>(
+    results: &mut R,
+    row: u32,
+    tick: u64,
+    bytes: &[u8; B],
+)
+    requires few { B ≤ 128 }
+    requires open { IsOpen (R.table results.old) row }
+    ensures told { (R.table results.new) ≡ with_outcome (R.table results.old) row (Forwarded tick bytes.now) }
+    ensures goes_on { R.goes_on results.old results.new }
+{
+    results.set(
+        row,
+        Outcome::Forwarded {
+            tick,
+            bytes: *bytes,
+        },
+    );
+}
+
+// Tells that no read can wait any more.
+#[inline(never)]
+fn tell_busy<const B: usize, R: Outcomes<B>>(results: &mut R, row: u32, tick: u64)
+    requires few { B ≤ 128 }
+    requires open { IsOpen (R.table results.old) row }
+    ensures told { (R.table results.new) ≡ with_outcome (R.table results.old) row (Busy tick) }
+    ensures goes_on { R.goes_on results.old results.new }
+{
+    results.set(row, Outcome::Busy { tick });
 }
 
 // Whether a work is a store of a line.

@@ -117,6 +117,7 @@ impl<const B: usize, const M: usize, const E: usize> Timed<B, M, E> {
 
     /// The clock goes on to a tick: each action that ends by then is completed, and of the rows of that tick none is taken yet. What
     /// becomes known is told in the order of its ticks.
+    #[inline(never)]
     pub fn advance<A: CellArray<B, M>, R: Outcomes<B>>(
         &mut self,
         array: &mut A,
@@ -150,6 +151,7 @@ impl<const B: usize, const M: usize, const E: usize> Timed<B, M, E> {
     }
 
     // The action that runs from now on: that which runs, or the one that is chosen now.
+    #[inline(always)]
     pub(crate) fn next_action(&self) -> Option<Action>
         ensures { result ≡ next_action self.now }
     {

@@ -23,6 +23,7 @@ use spare_pool::Remap;
 
 impl<const B: usize, const M: usize, const E: usize> Timed<B, M, E> {
     // Completes the action that runs from now on, at its end: its event happens, and sets what outcome it makes.
+    #[inline(always)]
     pub(crate) fn complete<A: CellArray<B, M>, R: Outcomes<B>>(
         &mut self,
         array: &mut A,
@@ -44,6 +45,7 @@ impl<const B: usize, const M: usize, const E: usize> Timed<B, M, E> {
     }
 
     // The oldest waiting read is served.
+    #[inline(always)]
     fn serve<A: CellArray<B, M>, R: Outcomes<B>>(
         &mut self,
         array: &mut A,
@@ -71,6 +73,7 @@ impl<const B: usize, const M: usize, const E: usize> Timed<B, M, E> {
     }
 
     // A line write begins: that of the change that stands, or else that of the bank's next work.
+    #[inline(always)]
     fn begin<A: CellArray<B, M>, R: Outcomes<B>>(
         &mut self,
         array: &mut A,
@@ -91,6 +94,7 @@ impl<const B: usize, const M: usize, const E: usize> Timed<B, M, E> {
     }
 
     // A line write goes on by an iteration: that of the change that stands, or else the bank's.
+    #[inline(always)]
     fn iterate<A: CellArray<B, M>, R: Outcomes<B>>(
         &mut self,
         array: &mut A,
@@ -139,6 +143,7 @@ impl<const B: usize, const M: usize, const E: usize> Timed<B, M, E> {
     }
 
     // The line write of the bank's next work begins.
+    #[inline(always)]
     fn begin_work<A: CellArray<B, M>, R: Outcomes<B>>(
         &mut self,
         array: &mut A,
@@ -161,6 +166,7 @@ impl<const B: usize, const M: usize, const E: usize> Timed<B, M, E> {
     }
 
     // It goes on by an iteration.
+    #[inline(always)]
     fn iterate_work<A: CellArray<B, M>, R: Outcomes<B>>(
         &mut self,
         array: &mut A,

@@ -39,20 +39,22 @@ pub fn write_at<const B: usize, const M: usize, const E: usize, A: CellArray<B, 
     timed: &mut Timed<B, M, E>,
     array: &mut A,
     tick: u64,
-    entry: Entry<B>,
+    row: u32,
+    line: u32,
+    bytes: &[u8; B],
+    given: &[bool; B],
     results: &mut R,
 )
-    requires may { MayArrive entry.row tick entry.line timed.old (A.state array.old)
-        (R.table results.old) }
-    requires masked { IsMasked B entry.bytes entry.given }
-    ensures at { IsAt tick (entry.entry.row + 1) timed.new (R.table results.new) }
+    requires may { MayArrive row tick line timed.old (A.state array.old) (R.table results.old) }
+    requires masked { IsMasked B bytes.now given.now }
+    ensures at { IsAt tick (row + 1) timed.new (R.table results.new) }
     ensures step { (xs : List (TimedEvent B M)) → Leads xs timed.old (A.state array.old)
         → (added : List (TimedEvent B M))
         × IsStep xs added
         (record {
-          row = entry.entry.row;
+          row = row;
           tick = tick;
-          asks = Writes entry.entry.line entry.entry.bytes entry.entry.given;
+          asks = Writes line bytes.now given.now;
         })
         timed.old timed.new (A.state array.old) (A.state array.new)
         (R.table results.old) (R.table results.new) }
@@ -60,6 +62,12 @@ pub fn write_at<const B: usize, const M: usize, const E: usize, A: CellArray<B, 
     ensures in_turn { TellsInTurn R.goes_on R.table false results.old results.new }
 {
     timed.advance(array, tick, results);
+    let entry = Entry {
+        row,
+        line,
+        bytes: *bytes,
+        given: *given,
+    };
     timed.arrive_write(entry, results);
 }
 

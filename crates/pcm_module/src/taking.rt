@@ -9,7 +9,6 @@ ghost use Rattle.trace_rows.specs.Rows.{asks_of};
 use crate::bank::{cut_at, read_at, write_at};
 use crate::side_by_side::Module;
 use cell_rows::CellArray;
-use masked_bytes::entry::Entry;
 use result_rows::Outcome;
 use row_telling::Outcomes;
 use trace_reader::{Event, EventOp};
@@ -36,20 +35,14 @@ impl<const B: usize, const M: usize, const E: usize> Module<B, M, E> {
     {
         // A field that is read makes known what is true of every module.
         let _ = &self.shape;
-        match event.op {
-            EventOp::Read(line) => self.read(array, event.tick, row, line, results),
+        match &event.op {
+            EventOp::Read(line) => self.read(array, event.tick, row, *line, results),
             EventOp::Write(line, bytes) => {
-                let entry = Entry::whole(row, line, &bytes);
-                self.write(array, event.tick, entry, results);
+                let given = [true; B];
+                self.write(array, event.tick, row, *line, bytes, &given, results);
             }
             EventOp::Mask(line, bytes, given) => {
-                let entry = Entry {
-                    row,
-                    line,
-                    bytes,
-                    given,
-                };
-                self.write(array, event.tick, entry, results);
+                self.write(array, event.tick, row, *line, bytes, given, results);
             }
             EventOp::Cut => self.cut(array, event.tick, row, results),
         }
@@ -80,41 +73,38 @@ impl<const B: usize, const M: usize, const E: usize> Module<B, M, E> {
         self.rows_below = row as u64 + 1;
     }
 
-    // A write of a line of the module arrives at its bank, where the line has another number.
+    // A write of a line of the module arrives at its bank, where the line has another number. Its bytes are lent: an entry that was made before
+    // the bank has come to the tick would be copied.
     fn write<A: CellArray<B, M>, R: Outcomes<B>>(
         &mut self,
         array: &mut A,
         tick: u64,
-        entry: Entry<B>,
+        row: u32,
+        line: u32,
+        bytes: &[u8; B],
+        given: &[bool; B],
         results: &mut R,
     )
         requires may_take { MayTake (record {
-          row = entry.row;
+          row = row;
           tick = tick;
-          asks = Writes entry.line entry.bytes entry.given;
+          asks = Writes line bytes.now given.now;
         }) self.old (A.state array.old)
             (R.table results.old) }
-        requires masked { IsMasked B entry.bytes entry.given }
+        requires masked { IsMasked B bytes.now given.now }
         ensures takes { Takes
-            (record {
-              row = entry.entry.row;
-              tick = tick;
-              asks = Writes entry.entry.line entry.entry.bytes entry.entry.given;
-            })
+            (record { row = row; tick = tick; asks = Writes line bytes.now given.now })
             self.old self.new (A.state array.old) (A.state array.new) (R.table results.old)
             (R.table results.new) }
         ensures goes_on { R.goes_on results.old results.new }
-        ensures order { TellsFor R.goes_on R.table self.old entry.entry.row
-            (Writes entry.entry.line entry.entry.bytes entry.entry.given)
+        ensures order { TellsFor R.goes_on R.table self.old row (Writes line bytes.now given.now)
             results.old results.new }
     {
-        let place = self.place(entry.line);
-        let mut here = entry;
-        here.line = place.line;
+        let place = self.place(line);
         let timed = &mut self.banks[place.bank as usize];
-        write_at(timed, array, tick, here, results);
+        write_at(timed, array, tick, row, place.line, bytes, given, results);
         self.tick = tick;
-        self.rows_below = entry.row as u64 + 1;
+        self.rows_below = row as u64 + 1;
     }
 
     // The power is cut: each bank is brought to the tick and cut, in order. Behind them the cut's own row is told.

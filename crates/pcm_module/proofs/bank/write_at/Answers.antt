@@ -16,8 +16,8 @@ arrive_write-requires g c =
     let run = c.advance.ensures.extends c.requires.may.comes.led.0 c.requires.may.comes.led.1 in
     let before = g.A.CellArray.state c.args.array.now in
     let after = g.A.CellArray.state c.advance.new.array in
-    let stays = subst (λ (s : BankShape). c.args.entry.line < bank_lines s) (sym run.1.shape) c.requires.may.exists in
-    let still = open_on c.requires.may.comes.led.0 run.0 c.args.timed.now c.advance.new.self c.advance.new.self before after after (g.R.Outcomes.table c.args.results.now) (g.R.Outcomes.table c.advance.new.results) (g.R.Outcomes.table c.advance.new.results) c.requires.may.comes.led.1 run.2 run.1 c.args.entry.row c.requires.may.rises c.requires.may.fresh in (
+    let stays = subst (λ (s : BankShape). c.args.line < bank_lines s) (sym run.1.shape) c.requires.may.exists in
+    let still = open_on c.requires.may.comes.led.0 run.0 c.args.timed.now c.advance.new.self c.advance.new.self before after after (g.R.Outcomes.table c.args.results.now) (g.R.Outcomes.table c.advance.new.results) (g.R.Outcomes.table c.advance.new.results) c.requires.may.comes.led.1 run.2 run.1 c.args.row c.requires.may.rises c.requires.may.fresh in (
       timed_fits g.row.B g.row.M g.row.E c.requires.may.comes.layout,
       (
         entry_fits g.row.B c.requires.may.comes.layout.shape.1,
@@ -51,12 +51,12 @@ returns-clause-step g c xs leads =
     let before = g.A.CellArray.state c.args.array.now in
     let after = g.A.CellArray.state c.advance.new.array in
     let next = (c.arrive_write.ensures.arrives after).extends (run.0 ++ xs) run.1.leads in
-    let event : TimedEvent g.row.B g.row.M = arrival c.advance.new.self.tick (Write c.args.entry.row c.args.entry.line c.args.entry.bytes c.args.entry.given (write_from c.advance.new.self.bank c.args.entry.line)) in
-    let a : Asked g.row.B = record { row = c.args.entry.row; tick = c.args.tick; asks = Writes c.args.entry.line c.args.entry.bytes c.args.entry.given } in (
+    let event : TimedEvent g.row.B g.row.M = arrival c.advance.new.self.tick (Write c.args.row c.args.line c.args.bytes.now c.args.given.now (write_from c.advance.new.self.bank c.args.line)) in
+    let a : Asked g.row.B = record { row = c.args.row; tick = c.args.tick; asks = Writes c.args.line c.args.bytes.now c.args.given.now } in (
       event ∷ run.0,
       step_on xs run.0 c.args.timed.now c.advance.new.self c.arrive_write.new.self before after after (g.R.Outcomes.table c.args.results.now) (g.R.Outcomes.table c.advance.new.results) (g.R.Outcomes.table c.arrive_write.new.results) leads run.2 run.1 (event ∷ []) a next
-          (λ asked is. (ap (λ (t : ℕ). let b : Asked g.row.B = record { row = c.args.entry.row; tick = t; asks = Writes c.args.entry.line c.args.entry.bytes c.args.entry.given } in b) (sym c.advance.ensures.ran.now), is))
-          (λ other off. or_from (c.args.entry.row == other) _ (ne_eqb c.args.entry.row other (λ e. off (sym e))) refl),
+          (λ asked is. (ap (λ (t : ℕ). let b : Asked g.row.B = record { row = c.args.row; tick = t; asks = Writes c.args.line c.args.bytes.now c.args.given.now } in b) (sym c.advance.ensures.ran.now), is))
+          (λ other off. or_from (c.args.row == other) _ (ne_eqb c.args.row other (λ e. off (sym e))) refl),
     )
 
 pub advance-requires : goal.advance-requires
@@ -73,6 +73,6 @@ returns-clause-in_turn g c =
     let clock = c.advance.new.self in
     let after = g.A.CellArray.state c.advance.new.array in
     let next = (c.arrive_write.ensures.arrives after).extends (run.0 ++ c.requires.may.comes.led.0) run.1.leads in
-    let event : TimedEvent g.row.B g.row.M = arrival clock.tick (Write c.args.entry.row c.args.entry.line c.args.entry.bytes c.args.entry.given (write_from clock.bank c.args.entry.line)) in
+    let event : TimedEvent g.row.B g.row.M = arrival clock.tick (Write c.args.row c.args.line c.args.bytes.now c.args.given.now (write_from clock.bank c.args.line)) in
     behind g.R.Outcomes.goes_on g.R.Outcomes.table c.args.tick clock.tick c.args.results.now c.advance.new.results c.arrive_write.new.results (at-most c.args.tick clock.tick c.advance.ensures.ran.now) c.advance.ensures.in_turn
     (extends-told g.R.Outcomes.goes_on g.R.Outcomes.table (run.0 ++ c.requires.may.comes.led.0) (event ∷ []) clock c.arrive_write.new.self after after c.advance.new.results c.arrive_write.new.results clock.tick next (refl, tt) c.arrive_write.ensures.goes_on)

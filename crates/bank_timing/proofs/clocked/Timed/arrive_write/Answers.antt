@@ -1,7 +1,7 @@
-use Rattle.std.proofs.Common.{◌≡◌, sym, ap, ◌∙◌, refl}
+use Rattle.std.proofs.Common.{◌≡◌, sym, ap, ◌∙◌}
 use Rattle.bank_core.specs.{Arriving.answer_of, declared.arriving.Arrived.Arrived}
 use Rattle.bank_core.specs.declared.arriving.Arrived.TheVariants as arrived
-use Rattle.bank_timing.proofs.{Sizes.{bank_fits, timed_fits, outcome_fits, entry_fits}, Views.clock_of}
+use Rattle.bank_timing.proofs.{Sizes.{bank_fits, timed_fits, entry_fits}, Views.clock_of}
 use Rattle.bank_timing.proofs.{WriteArrivals.{TakesWrite, write-arrives, write-clock, merge-unset, merge-room, accept-room}, clocked.Timed.arrive_write.Given.Over}
 use Rattle.bank_timing.proofs.clocked.Timed.arrive_write.Goals.{After-write}
 use Rattle.bank_timing.proofs.clocked.Timed.arrive_write.Goals as goal
@@ -33,16 +33,15 @@ arrive_last-requires g c = (timed_fits g.row.B g.row.M g.row.E c.self.invariant.
 pub arrive_again-requires : goal.arrive_again-requires
 arrive_again-requires g c = (timed_fits g.row.B g.row.M g.row.E c.self.invariant.layout, merge-room (taken g (goal.at.arrive_again-requires g c).After-write (arrived.Merged c.in-Merged.old c.in-Merged.index) c.in-Merged.is) c.in-Merged.index (rw c.in-Merged.is at c.write.ensures.index))
 
-pub set-requires : goal.set-requires
-set-requires g c =
-    let own = merge-unset (taken g (goal.at.set-requires g c).After-write (arrived.Merged c.in-Merged.old c.in-Merged.index) c.in-Merged.is) in
-    (outcome_fits g.row.B g.row.M g.row.E c.self.invariant.layout, (own.exists, (own.unset, refl)))
+pub tell_merged-requires : goal.tell_merged-requires
+tell_merged-requires g c =
+    (c.self.invariant.layout.shape.1, merge-unset (taken g (goal.at.tell_merged-requires g c).After-write (arrived.Merged c.in-Merged.old c.in-Merged.index) c.in-Merged.is))
 
-pub set-requires-in-Full : goal.set-requires-in-Full
-set-requires-in-Full g c = (outcome_fits g.row.B g.row.M g.row.E c.self.invariant.layout, (c.requires.fresh.exists, (c.requires.fresh.unset, refl)))
+pub tell_full-requires : goal.tell_full-requires
+tell_full-requires g c = (c.self.invariant.layout.shape.1, c.requires.fresh)
 
-pub set-requires-in-Exhausted : goal.set-requires-in-Exhausted
-set-requires-in-Exhausted g c = (outcome_fits g.row.B g.row.M g.row.E c.self.invariant.layout, (c.requires.fresh.exists, (c.requires.fresh.unset, refl)))
+pub tell_worn-requires : goal.tell_worn-requires
+tell_worn-requires g c = (c.self.invariant.layout.shape.1, c.requires.fresh)
 
 pub invariant_of-self : goal.invariant_of-self
 invariant_of-self g c = write-clock (taken g (goal.at.invariant_of-self g c).After-write arrived.Accepted c.in-Accepted.is) c.self.invariant
@@ -64,18 +63,18 @@ returns-in-Accepted g c = record {
 
 pub returns-in-Merged : goal.returns-in-Merged
 returns-in-Merged g c = record {
-  arrives = rw (c.arrive_again.ensures, c.set.ensures.table, ← c.self.view_is) (write-arrives (taken g (goal.at.returns-in-Merged g c).After-write (arrived.Merged c.in-Merged.old c.in-Merged.index) c.in-Merged.is) c.in-Merged.index (rw c.in-Merged.is at c.write.ensures.index));
-  goes_on = c.set.ensures.goes_on;
+  arrives = rw (c.arrive_again.ensures, c.tell_merged.ensures.told, ← c.self.view_is) (write-arrives (taken g (goal.at.returns-in-Merged g c).After-write (arrived.Merged c.in-Merged.old c.in-Merged.index) c.in-Merged.is) c.in-Merged.index (rw c.in-Merged.is at c.write.ensures.index));
+  goes_on = c.tell_merged.ensures.goes_on;
 }
 
 pub returns-in-Full : goal.returns-in-Full
 returns-in-Full g c = record {
-  arrives = rw (c.set-in-Full.ensures.table, ← c.self.view_is) (write-arrives (taken g (goal.at.returns-in-Full g c).After-write arrived.Full c.in-Full.is) 0 tt);
-  goes_on = c.set-in-Full.ensures.goes_on;
+  arrives = rw (c.tell_full.ensures.told, ← c.self.view_is) (write-arrives (taken g (goal.at.returns-in-Full g c).After-write arrived.Full c.in-Full.is) 0 tt);
+  goes_on = c.tell_full.ensures.goes_on;
 }
 
 pub returns-in-Exhausted : goal.returns-in-Exhausted
 returns-in-Exhausted g c = record {
-  arrives = rw (c.set-in-Exhausted.ensures.table, ← c.self.view_is) (write-arrives (taken g (goal.at.returns-in-Exhausted g c).After-write arrived.Exhausted c.in-Exhausted.is) 0 tt);
-  goes_on = c.set-in-Exhausted.ensures.goes_on;
+  arrives = rw (c.tell_worn.ensures.told, ← c.self.view_is) (write-arrives (taken g (goal.at.returns-in-Exhausted g c).After-write arrived.Exhausted c.in-Exhausted.is) 0 tt);
+  goes_on = c.tell_worn.ensures.goes_on;
 }

@@ -1,7 +1,7 @@
-use Rattle.std.proofs.Common.{◌≡◌, sym, ◌∙◌, refl}
+use Rattle.std.proofs.Common.{◌≡◌, sym, ◌∙◌}
 use Rattle.bank_shape.specs.declared.answer.ReadAnswer.{ReadAnswer}
 use Rattle.bank_shape.specs.declared.answer.ReadAnswer.TheVariants as came
-use Rattle.bank_timing.proofs.{ReadArrivals.{TakesRead, read-arrives, read-clock}, Sizes.{bank_fits, outcome_fits, read_fits, timed_fits}, Views.clock_of}
+use Rattle.bank_timing.proofs.{ReadArrivals.{TakesRead, read-arrives, read-clock}, Sizes.{bank_fits, bytes_fits, read_fits, timed_fits}, Views.clock_of}
 use Rattle.bank_timing.proofs.{clocked.Timed.take_read.Given.Over, clocked.Timed.take_read.Goals.After-read}
 use Rattle.bank_timing.proofs.clocked.Timed.take_read.Goals as goal
 
@@ -11,11 +11,11 @@ read-requires g c =
     let rises = rw (← c.self.view_is) at c.requires.rises in
     (bank_fits c.self.invariant.layout, (read_fits g.row.B g.row.M g.row.E c.self.invariant.layout, (exists, rises)))
 
-pub set-requires : goal.set-requires
-set-requires g c = (outcome_fits g.row.B g.row.M g.row.E c.self.invariant.layout, (c.requires.fresh.exists, (c.requires.fresh.unset, refl)))
+pub tell_forwarded-requires : goal.tell_forwarded-requires
+tell_forwarded-requires g c = (bytes_fits c.self.invariant.layout, (c.self.invariant.layout.shape.1, c.requires.fresh))
 
-pub set-requires-in-Busy : goal.set-requires-in-Busy
-set-requires-in-Busy g c = (outcome_fits g.row.B g.row.M g.row.E c.self.invariant.layout, (c.requires.fresh.exists, (c.requires.fresh.unset, refl)))
+pub tell_busy-requires : goal.tell_busy-requires
+tell_busy-requires g c = (c.self.invariant.layout.shape.1, c.requires.fresh)
 
 -- the bank takes the read, with the answer that it gives
 taken : (g : Over) (c : After-read g) (answer : ReadAnswer g.row.B) → c.read.result ≡ answer
@@ -48,8 +48,8 @@ begins_store_of-drops-requires g c = timed_fits g.row.B g.row.M g.row.E c.self.i
 
 pub returns-in-Forwarded : goal.returns-in-Forwarded
 returns-in-Forwarded g c = record {
-  arrives = rw (c.set.ensures.table, ← c.self.view_is) (read-arrives (taken g (goal.at.returns-in-Forwarded g c).After-read (came.Forwarded c.in-Forwarded.bytes) c.in-Forwarded.is));
-  goes_on = c.set.ensures.goes_on;
+  arrives = rw (c.tell_forwarded.ensures.told, ← c.self.view_is) (read-arrives (taken g (goal.at.returns-in-Forwarded g c).After-read (came.Forwarded c.in-Forwarded.bytes) c.in-Forwarded.is));
+  goes_on = c.tell_forwarded.ensures.goes_on;
 }
 
 pub returns-in-Waiting : goal.returns-in-Waiting
@@ -60,6 +60,6 @@ returns-in-Waiting g c = record {
 
 pub returns-in-Busy : goal.returns-in-Busy
 returns-in-Busy g c = record {
-  arrives = rw (c.set-in-Busy.ensures.table, ← c.self.view_is) (read-arrives (taken g (goal.at.returns-in-Busy g c).After-read came.Busy c.in-Busy.is));
-  goes_on = c.set-in-Busy.ensures.goes_on;
+  arrives = rw (c.tell_busy.ensures.told, ← c.self.view_is) (read-arrives (taken g (goal.at.returns-in-Busy g c).After-read came.Busy c.in-Busy.is));
+  goes_on = c.tell_busy.ensures.goes_on;
 }

@@ -2,11 +2,11 @@ use Rattle.std.proofs.Common.{refl, arith}
 use Rattle.pcm_module.proofs.{Serving.{ComesTo, comes, may_arrive, taken_kept, write_taken, write_tells}, Views.state_of, side_by_side.Module.write.Given.Over}
 use Rattle.pcm_module.proofs.side_by_side.Module.write.Goals.{After-index_mut-timed}
 use Rattle.pcm_module.proofs.side_by_side.Module.write.Goals as goal
-use Rattle.bank_timing.proofs.Sizes.{timed_fits, entry_fits}
+use Rattle.bank_timing.proofs.Sizes.{timed_fits, bytes_fits}
 
 -- the write comes to the bank of its line
 arrives : (g : Over) (c : After-index_mut-timed g)
-    → ComesTo (state_of c.self.inside) (g.A.CellArray.state c.args.array.now) (g.R.Outcomes.table c.args.results.now) c.args.entry.row c.args.tick c.args.entry.line c.place-place.result.bank c.place-place.result.line c.index_mut-timed.result.now
+    → ComesTo (state_of c.self.inside) (g.A.CellArray.state c.args.array.now) (g.R.Outcomes.table c.args.results.now) c.args.row c.args.tick c.args.line c.place-place.result.bank c.place-place.result.line c.index_mut-timed.result.now
 arrives g c =
     let place = c.place-place.ensures in
     comes c.self.view_is c.self.invariant c.requires.may_take.replayed c.requires.may_take.forward c.requires.may_take.rises c.requires.may_take.exist c.requires.may_take.fresh
@@ -15,7 +15,9 @@ arrives g c =
 pub write_at-requires : goal.write_at-requires
 write_at-requires g c =
     let h = arrives g (goal.at.write_at-requires g c).After-index_mut-timed in
-    (timed_fits g.row.B g.row.M g.row.E c.self.invariant.layout, (entry_fits g.row.B c.self.invariant.layout.shape.1, (may_arrive h c.self.invariant.layout c.requires.may_take.within, c.requires.masked)))
+    let layout = c.self.invariant.layout in
+    let fits = bytes_fits layout in
+    (timed_fits g.row.B g.row.M g.row.E layout, (fits, (fits, (may_arrive h layout c.requires.may_take.within, c.requires.masked))))
 
 pub invariant_of-self : goal.invariant_of-self
 invariant_of-self g c = taken_kept (arrives g (goal.at.invariant_of-self g c).After-index_mut-timed) c.self.invariant c.requires.may_take.within c.write_at.ensures.step
