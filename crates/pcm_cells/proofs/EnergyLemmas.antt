@@ -1,8 +1,10 @@
 -- What a pulse drives, and what becomes of the counts.
-use Rattle.std.proofs.Common.{◌≡◌, ℕ, zero, suc, ◌+◌, ◌<◌, ◌&&◌, Bool, true, false, not, cond, List, [], length, length-set, set, replicate, refl, sym, ◌∙◌, ap, arith, Option, Some, None, get_or-set_same, get_or-set_other}
+use Rattle.std.proofs.Common.{◌≡◌, ℕ, zero, suc, ◌+◌, ◌-◌, ◌*◌, ◌^◌, ◌<◌, ◌≤◌, bit_and, ◌&&◌, Bool, true, false, not, cond, List, [], length, length-set, set, replicate, refl, sym, ◌∙◌, ap, arith, Option, Some, None, get_or-set_same, get_or-set_other}
 use Rattle.std.proofs.lemmas.{List.{get_or-replicate, length-replicate}, Option.{none-some, same_Some}}
 use Rattle.std.specs.{Option.option_map, Prelude.{IfSome, is_some}}
-use Rattle.cell_rows.specs.{Device.{ArrayState, EnergyChanges}, Energy.no_energy, Rows.members, declared.array.LineEnergy.LineEnergy}
+use Rattle.std.specs.Int.RustNames.{count_ones}
+use Rattle.cell_rows.proofs.{BlockLemmas.count_bits, ByteLemmas.digit_and, RowLemmas.{members_le, members-zero}}
+use Rattle.cell_rows.specs.{Device.{ArrayState, EnergyChanges}, Energy.no_energy, Rows.{bit_in, members}, declared.array.LineEnergy.LineEnergy}
 use Rattle.pcm_cells.specs.Energies.{energy_at, energy_or_none, energy_told}
 
 abbrev as_one : Bool → ℕ
@@ -30,6 +32,42 @@ members-both one other (suc n) =
     each true true = refl
     each true false = refl
     each false b = refl
+
+-- the members of a block more
+pub members_block : (has : ℕ → Bool) (block from total word : ℕ) → word < 2 ^ 64 → ((i : ℕ) → i < 64 → bit_in word i ≡ has (64 * block + i))
+    → members has (64 * block) ≡ members has from + total → members has (64 * (block + 1)) ≡ members has from + (total + count_ones word)
+members_block has block from total word small bits before =
+    let next : 64 * (block + 1) ≡ 64 * block + 64 = omega arith in
+    omega (arith, ap (members has) next, count_bits has 64 (64 * block) word small bits, before)
+
+-- the bits of two numbers that both have
+pub both_bits : (one other : ℕ → Bool) (a b from : ℕ) → ((i : ℕ) → i < 64 → bit_in a i ≡ one (from + i)) → ((i : ℕ) → i < 64 → bit_in b i ≡ other (from + i))
+    → (i : ℕ) → i < 64 → bit_in (bit_and a b) i ≡ (one (from + i) && other (from + i))
+both_bits one other a b from first second i low = digit_and a b i ∙ ap (λ x. x && bit_in b i) (first i low) ∙ ap (λ x. one (from + i) && x) (second i low)
+
+-- what a mask drives to 1 and to 0, by the counts of two runs of blocks
+pub record Driven (one other : ℕ → Bool) (n all set : ℕ) : Type 0 where
+  pub set_is : members (λ k. one k && other k) n ≡ set
+  pub reset_is : members (λ k. one k && not (other k)) n ≡ all - set
+  pub less : set ≤ all
+  pub most : all ≤ n
+
+pub driven : (one other : ℕ → Bool) (middle end n all_first all_then set_first set_then : ℕ) → 64 * end ≡ n
+    → members one (64 * middle) ≡ members one (64 * 0) + all_first → members one (64 * end) ≡ members one (64 * middle) + all_then
+    → members (λ k. one k && other k) (64 * middle) ≡ members (λ k. one k && other k) (64 * 0) + set_first
+    → members (λ k. one k && other k) (64 * end) ≡ members (λ k. one k && other k) (64 * middle) + set_then
+    → Driven one other n (all_first + all_then) (set_first + set_then)
+driven one other middle end n all_first all_then set_first set_then whole a b c d =
+    let both : ℕ → Bool = λ k. one k && other k in
+    let all_is : members one n ≡ all_first + all_then = omega (arith, a, b, members-zero one, ap (members one) whole) in
+    let set_is : members both n ≡ set_first + set_then = omega (arith, c, d, members-zero both, ap (members both) whole) in
+    let split = members-both one other n in
+    record {
+      set_is = set_is;
+      reset_is = omega (arith, all_is, set_is, split);
+      less = omega (arith, all_is, set_is, split);
+      most = omega (arith, all_is, members_le one n);
+    }
 
 -- a line without counts has none
 pub energy-none : (lines line : ℕ) (energies : List (Option LineEnergy)) → energies ≡ replicate lines None → line < lines → energy_at energies line ≡ no_energy

@@ -16,6 +16,7 @@ pub mod YoungLemmas
 pub mod TableLemmas
 pub mod TierLemmas
 pub mod BegunLemmas
+pub mod BelowLemmas
 pub mod PagingLemmas
 pub mod AgeLemmas
 pub mod EnduranceLemmas

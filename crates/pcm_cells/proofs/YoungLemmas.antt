@@ -43,6 +43,15 @@ changes_more l m h l2 m2 h2 old new false true false false before after few low 
 changes_more l m h l2 m2 h2 old new false false true false before after few low middle high = omega arith
 changes_more l m h l2 m2 h2 old new false false false false before after few low middle high = omega arith
 
+-- fewer changes than fill two digits carry nothing into the third
+pub no_over : (l m h l2 m2 old : ℕ) (changing carry over : Bool) → old ≡ l + 8 * m + 64 * h → old < 63
+    → l2 + cond carry 8 0 ≡ l + cond changing 1 0 → m2 + cond over 8 0 ≡ m + cond carry 1 0 → over ≡ false
+no_over l m h l2 m2 old changing carry false before few low middle = refl
+no_over l m h l2 m2 old true true true before few low middle = absurd (omega (arith, before, few, low, middle))
+no_over l m h l2 m2 old true false true before few low middle = absurd (omega (arith, before, few, low, middle))
+no_over l m h l2 m2 old false true true before few low middle = absurd (omega (arith, before, few, low, middle))
+no_over l m h l2 m2 old false false true before few low middle = absurd (omega (arith, before, few, low, middle))
+
 -- and by one digit alone, the others being 0
 pub changes_first : (l m h l2 old new : ℕ) (changing carry : Bool) → m ≡ 0 → h ≡ 0 → old ≡ l + 8 * m + 64 * h → new ≡ l2 + 8 * m + 64 * h → old < 7
     → l2 + cond carry 8 0 ≡ l + cond changing 1 0 → new ≡ cond changing (old + 1) old

@@ -15,6 +15,7 @@ pub mod PageTable
 pub mod Counting
 pub mod Begun
 pub mod Tiered
+pub mod Below
 pub mod Youths
 pub mod Paged
 pub mod Paging

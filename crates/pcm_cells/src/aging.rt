@@ -1,5 +1,5 @@
 // Pages of young lines, each of which keeps no more than its line needs.
-ghost use Rattle.std.specs.Prelude.{◌≡◌, ℕ, ◌+◌, ◌*◌, ◌/◌, ◌%◌, ◌<◌, ◌≤◌, ◌&&◌, false, not, nat_eq};
+ghost use Rattle.std.specs.Prelude.{◌≡◌, ℕ, ◌+◌, ◌*◌, ◌/◌, ◌%◌, ◌<◌, ◌≤◌, ◌&&◌, false, not, nat_eq, IsFalse};
 ghost use Rattle.cell_rows.specs.Rows.{cell};
 ghost use Rattle.cell_rows.specs.Shape.{IsShape, IsWhole};
 ghost use Rattle.pcm_cells.specs.Follows.{Follows, FollowsIn};
@@ -19,11 +19,12 @@ pub(crate) trait YoungPage<const B: usize, const M: usize> {
 
     ghost room: { ℕ };
 
-    /// The masked cells of one block.
+    /// The masked cells of one block. `many` may be false where none of its cells has changed 63 times, and then less is read and written.
     fn wear_block(
         &mut self,
         tearing: bool,
         reach: u64,
+        many: bool,
         block: usize,
         mask: &Cells<B, M>,
         want: &Cells<B, M>,
@@ -34,10 +35,19 @@ pub(crate) trait YoungPage<const B: usize, const M: usize> {
         requires reach { (i : ℕ) → i < 64 → bit_in reach i
             ≡ not (tearing && nat_eq (i % 2) 1) }
         requires few { (n : ℕ) → n / 64 ≡ block → changes_in (young self.old) n < room }
+        requires fewer { IsFalse many → (n : ℕ) → n / 64 ≡ block → changes_in (young self.old) n < 63 }
         ensures cells { FollowsIn (64 * block) (64 * block + 64) (cell mask.now)
             (aging tearing (cell want.now)) (young_cell (young self.old))
             (young_cell (young self.new)) }
         ensures pulses { (young self.new).pulses ≡ (young self.old).pulses };
+
+    /// How often the line was pulsed or torn.
+    fn pulses(&self) -> u64
+        ensures { result ≡ (young self.now).pulses };
+
+    /// Whether a cell may have changed 63 times.
+    fn may_have_many(&self) -> bool
+        ensures { IsFalse result → (young self.now).pulses < 63 };
 
     /// Counts a pulse.
     fn count_pulse(&mut self)
@@ -51,6 +61,7 @@ pub(crate) trait YoungPage<const B: usize, const M: usize> {
 fn wear_in<P: YoungPage<B, M>, const B: usize, const M: usize>(
     page: &mut P,
     tearing: bool,
+    many: bool,
     from: usize,
     to: usize,
     mask: &Cells<B, M>,
@@ -61,18 +72,62 @@ fn wear_in<P: YoungPage<B, M>, const B: usize, const M: usize>(
     requires shape { IsShape B M }
     requires whole { IsWhole B M }
     requires few { (n : ℕ) → 64 * from ≤ n → changes_in (P.young page.old) n < P.room }
+    requires fewer { IsFalse many → (n : ℕ) → 64 * from ≤ n → changes_in (P.young page.old) n < 63 }
     ensures cells { FollowsIn (64 * from) (64 * to) (cell mask.now) (aging tearing (cell want.now))
         (young_cell (P.young page.old)) (young_cell (P.young page.new)) }
     ensures pulses { (P.young page.new).pulses ≡ (P.young page.old).pulses }
 {
     let reach = reach(tearing);
     for block in from..to {
-        page.wear_block(tearing, reach, block, mask, want);
+        page.wear_block(tearing, reach, many, block, mask, want);
     }
 }
 
-/// A pulse or a tear of a young line. The data blocks and the check blocks have a loop each, so that neither asks which a block is. It
-/// is no method of the trait, since those are told to LLVM without the hint that inlines them.
+// The masked cells. The data blocks and the check blocks have a loop each, so that neither asks which a block is.
+#[inline(always)]
+fn wear_all<P: YoungPage<B, M>, const B: usize, const M: usize>(
+    page: &mut P,
+    tearing: bool,
+    many: bool,
+    mask: &Cells<B, M>,
+    want: &Cells<B, M>,
+)
+    requires shape { IsShape B M }
+    requires whole { IsWhole B M }
+    requires few { (n : ℕ) → changes_in (P.young page.old) n < P.room }
+    requires fewer { IsFalse many → (n : ℕ) → changes_in (P.young page.old) n < 63 }
+    ensures cells { FollowsIn 0 (8 * (B + M)) (cell mask.now) (aging tearing (cell want.now))
+        (young_cell (P.young page.old)) (young_cell (P.young page.new)) }
+    ensures pulses { (P.young page.new).pulses ≡ (P.young page.old).pulses }
+{
+    wear_in(page, tearing, many, 0, B / 8, mask, want);
+    wear_in(page, tearing, many, B / 8, (B + M) / 8, mask, want);
+}
+
+// The masked cells. Each call knows whether there may be cells of many changes, and so asks for no block whether there are.
+#[inline(always)]
+fn wear_cells<P: YoungPage<B, M>, const B: usize, const M: usize>(
+    page: &mut P,
+    tearing: bool,
+    mask: &Cells<B, M>,
+    want: &Cells<B, M>,
+)
+    requires shape { IsShape B M }
+    requires whole { IsWhole B M }
+    requires young { MayAge P.room (P.young page.old) }
+    ensures cells { FollowsIn 0 (8 * (B + M)) (cell mask.now) (aging tearing (cell want.now))
+        (young_cell (P.young page.old)) (young_cell (P.young page.new)) }
+    ensures pulses { (P.young page.new).pulses ≡ (P.young page.old).pulses }
+{
+    if page.may_have_many() {
+        wear_all(page, tearing, true, mask, want);
+    } else {
+        wear_all(page, tearing, false, mask, want);
+    }
+}
+
+/// A pulse or a tear of a young line. Neither it nor its parts are methods of the trait, since such a method has no hint that it be inlined.
+#[inline(never)]
 pub(crate) fn wear_page<P: YoungPage<B, M>, const B: usize, const M: usize>(
     page: &mut P,
     tearing: bool,
@@ -90,7 +145,6 @@ pub(crate) fn wear_page<P: YoungPage<B, M>, const B: usize, const M: usize>(
     has_end(mask);
     // Copies, so that LLVM sees that no write to the line changes them.
     let (mask, want) = (*mask, *want);
-    wear_in(page, tearing, 0, B / 8, &mask, &want);
-    wear_in(page, tearing, B / 8, (B + M) / 8, &mask, &want);
+    wear_cells(page, tearing, &mask, &want);
     page.count_pulse();
 }

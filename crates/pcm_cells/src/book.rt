@@ -92,6 +92,7 @@ impl<T: Drop> Book<T> {
     }
 
     /// A pulse or a tear of the young line on a page.
+    #[inline(always)]
     pub(crate) fn age<const B: usize, const M: usize>(
         &mut self,
         index: usize,

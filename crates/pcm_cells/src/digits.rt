@@ -1,5 +1,5 @@
 // Small numbers of a row's cells, as planes of their binary digits.
-ghost use Rattle.std.specs.Prelude.{◌≡◌, ◌≢◌, ℕ, ◌+◌, ◌*◌, ◌/◌, ◌<◌, true, false, nat_lt, if◌then◌else◌};
+ghost use Rattle.std.specs.Prelude.{◌≡◌, ◌≢◌, ℕ, ◌+◌, ◌*◌, ◌/◌, ◌<◌, true, false, nat_lt, IsFalse, if◌then◌else◌};
 ghost use Rattle.pcm_cells.specs.Planes.{bit_in, digit, number_of, zero_digits};
 ghost use Rattle.cell_rows.specs.Shape.{IsWhole};
 
@@ -107,6 +107,20 @@ impl<const B: usize, const M: usize> Digits<B, M> {
         self.middle.set_block(block, second ^ middle);
         self.high.set_block(block, third ^ high);
         third & high
+    }
+
+    // The same, where it may be told that no number grows.
+    #[inline(always)]
+    pub(crate) fn add_any(&mut self, any: bool, block: usize, more: u64) -> u64
+        requires whole { IsWhole B M }
+        requires exists { 8 * block < B + M }
+        requires none { IsFalse any → (i : ℕ) → i < 64 → bit_in more i ≡ false }
+        ensures here { (i : ℕ) → i < 64 → digit self.new (64 * block + i)
+            + (if bit_in result i then 8 else 0)
+            ≡ digit self.old (64 * block + i) + (if bit_in more i then 1 else 0) }
+        ensures others { (n : ℕ) → n / 64 ≢ block → digit self.new n ≡ digit self.old n }
+    {
+        if any { self.add(block, more) } else { 0 }
     }
 
     // As a mask over a block: the cells whose number is 7.

@@ -1,7 +1,8 @@
 // How many cells of each line were driven to 1 and to 0, and how often it was sensed.
-ghost use Rattle.std.specs.Prelude.{◌≡◌, ◌<◌, ℕ, length, slice_set, replicate, Some, None, [], IfOk};
+ghost use Rattle.std.specs.Prelude.{◌≡◌, ◌<◌, ◌≤◌, ◌+◌, ◌*◌, ◌&&◌, ℕ, length, slice_set, replicate, Some, None, [], IfOk};
 ghost use Rattle.cell_rows.specs.Energy.{reset_cells, set_cells, with_pulse, with_sense};
-ghost use Rattle.cell_rows.specs.Shape.{IsShape};
+ghost use Rattle.cell_rows.specs.Rows.{cell, members};
+ghost use Rattle.cell_rows.specs.Shape.{IsShape, IsWhole};
 ghost use Rattle.pcm_cells.specs.declared.energies.Work.TheVariants.{Drives};
 ghost use Rattle.pcm_cells.specs.Counting.{worked};
 ghost use Rattle.pcm_cells.specs.Energies.{energy_at};
@@ -38,11 +39,57 @@ pub(crate) fn worked(work: Work, energy: LineEnergy) -> LineEnergy
     }
 }
 
+// Of some blocks: how many cells are in the mask, and how many of these are to be 1.
+#[inline(always)]
+fn count_in<const B: usize, const M: usize>(
+    mask: &Cells<B, M>,
+    want: &Cells<B, M>,
+    from: usize,
+    to: usize,
+) -> (u32, u32)
+    requires order { from ≤ to }
+    requires exists { 8 * to ≤ B + M }
+    requires shape { IsShape B M }
+    requires whole { IsWhole B M }
+    ensures all { members (cell mask.now) (64 * to) ≡ members (cell mask.now) (64 * from)
+        + result.0 }
+    ensures set { members (λ n. cell mask.now n && cell want.now n) (64 * to)
+        ≡ members (λ n. cell mask.now n && cell want.now n) (64 * from) + result.1 }
+{
+    let mut all = 0;
+    let mut set = 0;
+    for block in from..to {
+        let bits = mask.block(block);
+        let ones = bits & want.block(block);
+        all += bits.count_ones();
+        set += ones.count_ones();
+    }
+    (all, set)
+}
+
+// What a pulse of these cells does to its line, or a tear, where rows are whole blocks.
+fn drives_blocks<const B: usize, const M: usize>(mask: &Cells<B, M>, want: &Cells<B, M>) -> Work
+    requires shape { IsShape B M }
+    requires whole { IsWhole B M }
+    ensures { result ≡ Drives (set_cells mask.now want.now) (reset_cells mask.now want.now) }
+{
+    let (data, data_set) = count_in(mask, want, 0, B / 8);
+    let (checks, checks_set) = count_in(mask, want, B / 8, (B + M) / 8);
+    let set = data_set + checks_set;
+    Work::Drives {
+        set,
+        reset: data + checks - set,
+    }
+}
+
 // What a pulse of these cells does to its line, or a tear.
 fn drives<const B: usize, const M: usize>(mask: &Cells<B, M>, want: &Cells<B, M>) -> Work
     requires { IsShape B M }
     ensures { result ≡ Drives (set_cells mask.now want.now) (reset_cells mask.now want.now) }
 {
+    if B % 8 == 0 && M % 8 == 0 {
+        return drives_blocks(mask, want);
+    }
     let set = mask.meet(want).count();
     Work::Drives {
         set,

@@ -76,6 +76,7 @@ impl<const B: usize, const M: usize> YoungPage<B, M> for First<B, M> {
         &mut self,
         tearing: bool,
         reach: u64,
+        many: bool,
         block: usize,
         mask: &Cells<B, M>,
         want: &Cells<B, M>,
@@ -84,6 +85,16 @@ impl<const B: usize, const M: usize> YoungPage<B, M> for First<B, M> {
         let _none = self.changes.add(block, changing);
         let held = chosen(self.held.block(block), changing, want.block(block));
         self.held.set_block(block, held);
+    }
+
+    #[inline(always)]
+    fn pulses(&self) -> u64 {
+        self.pulses
+    }
+
+    #[inline(always)]
+    fn may_have_many(&self) -> bool {
+        true
     }
 
     fn count_pulse(&mut self) {

@@ -66,6 +66,7 @@ impl<const B: usize, const M: usize> YoungPage<B, M> for Later<B, M> {
         &mut self,
         tearing: bool,
         reach: u64,
+        many: bool,
         block: usize,
         mask: &Cells<B, M>,
         want: &Cells<B, M>,
@@ -73,9 +74,19 @@ impl<const B: usize, const M: usize> YoungPage<B, M> for Later<B, M> {
         let changing = mask.block(block) & reach;
         let carry = self.low.add(block, changing);
         let over = self.middle.add(block, carry);
-        let _none = self.high.add(block, over);
+        let _none = self.high.add_any(many, block, over);
         let held = chosen(self.held.block(block), changing, want.block(block));
         self.held.set_block(block, held);
+    }
+
+    #[inline(always)]
+    fn pulses(&self) -> u64 {
+        self.pulses
+    }
+
+    #[inline(always)]
+    fn may_have_many(&self) -> bool {
+        self.pulses >= 63
     }
 
     fn count_pulse(&mut self) {

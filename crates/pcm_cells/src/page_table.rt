@@ -1,11 +1,11 @@
 // The pages of lines, of which none has one at first.
-ghost use Rattle.std.specs.Prelude.{◌≡◌, ◌<◌, ℕ, length, slice_set, Some, None, IfOk, IsSome, is_some, option_copied, replicate};
+ghost use Rattle.std.specs.Prelude.{◌≡◌, ◌<◌, ◌≤◌, ℕ, IsTrue, IsFalse, length, slice_set, Some, None, IfOk, IsSome, is_some, option_copied, replicate};
 ghost use Rattle.cell_rows.specs.Energy.{no_energy};
 ghost use Rattle.cell_rows.specs.Shape.{IsShape, IsWhole};
 ghost use Rattle.pcm_cells.specs.Counting.{worked};
 ghost use Rattle.pcm_cells.specs.Energies.{energy_at};
 ghost use Rattle.pcm_cells.specs.PageTable.{AgesPage, WearsPage, page_at};
-ghost use Rattle.pcm_cells.specs.Young.{MayAge};
+ghost use Rattle.pcm_cells.specs.Young.{MayAge, changes_in};
 
 use crate::aging::YoungPage;
 use crate::book::Book;
@@ -109,6 +109,7 @@ impl<T: Drop> PageTable<T> {
     }
 
     /// A pulse or a tear of a line that has a young page.
+    #[inline(always)]
     pub(crate) fn age<const B: usize, const M: usize>(
         &mut self,
         line: u32,
@@ -128,6 +129,53 @@ impl<T: Drop> PageTable<T> {
     {
         let index = self.table.get(line) as usize - 1;
         self.pages.age(index, tearing, mask, want);
+    }
+
+    // Whether the line has a page, and was pulsed less often than so many times.
+    #[inline(always)]
+    fn has_fewer<const B: usize, const M: usize>(&self, line: u32, limit: u64) -> bool
+    where
+        T: YoungPage<B, M>,
+        requires { line < length self.now }
+        ensures { IsTrue result → (page : T) × (page_at self.now line ≡ Some page)
+            × ((T.young page).pulses < limit) }
+    {
+        match self.get(line) {
+            Some(page) => page.pulses() < limit,
+            None => false,
+        }
+    }
+
+    /// A pulse or a tear of a line that has a young page, if it was pulsed less often than so many times. Tells whether it was.
+    #[inline(always)]
+    pub(crate) fn age_below<const B: usize, const M: usize>(
+        &mut self,
+        line: u32,
+        limit: u64,
+        tearing: bool,
+        mask: &Cells<B, M>,
+        want: &Cells<B, M>,
+    ) -> bool
+    where
+        T: YoungPage<B, M>,
+        requires exists { line < length self.old }
+        requires room { limit ≤ T.room }
+        requires young { (page : T) → page_at self.old line ≡ Some page
+            → (n : ℕ) → changes_in (T.young page) n ≤ (T.young page).pulses }
+        requires shape { IsShape B M }
+        requires whole { IsWhole B M }
+        ensures ages { IsTrue result → AgesPage T.young line tearing mask.now want.now self.old
+            self.new }
+        ensures few { IsTrue result → (page : T) × (page_at self.old line ≡ Some page)
+            × ((T.young page).pulses < limit) }
+        ensures same { IsFalse result → self.new ≡ self.old }
+        ensures lines { length self.new ≡ length self.old }
+    {
+        if !self.has_fewer(line, limit) {
+            return false;
+        }
+        self.age(line, tearing, mask, want);
+        true
     }
 }
 

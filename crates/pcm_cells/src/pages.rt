@@ -1,5 +1,5 @@
 // Lines that are kept from their first pulse on.
-ghost use Rattle.std.specs.Prelude.{◌≡◌, ◌≢◌, ℕ, ◌*◌, ◌+◌, ◌<◌, length, IfOk, IsTrue, IsSome, Some, None, replicate};
+ghost use Rattle.std.specs.Prelude.{◌≡◌, ◌≢◌, ℕ, ◌*◌, ◌+◌, ◌<◌, length, IfOk, IsTrue, IsFalse, IsSome, Some, None, replicate};
 ghost use Rattle.cell_rows.specs.Rows.{cell, members};
 ghost use Rattle.cell_wear.specs.Told.{most};
 ghost use Rattle.cell_rows.specs.Shape.{IsShape, IsWhole};
@@ -82,13 +82,14 @@ impl<const B: usize, const M: usize> Pages<B, M> {
         requires shape { IsShape B M }
         ensures { result ≡ (seen self.now line).line.held }
     {
-        match self.grown.get(line) {
-            Some(grown) => grown.held(),
-            None => match self.young.held(line) {
-                Some(held) => held,
-                None => Cells::zero(),
-            },
+        // Each answer is copied once: a `match` would hand it on by way of a local.
+        if let Some(grown) = self.grown.get(line) {
+            return grown.held();
         }
+        if let Some(held) = self.young.held(line) {
+            return *held;
+        }
+        Cells::zero()
     }
 
     /// How often the line was pulsed or torn.
@@ -202,15 +203,79 @@ impl<const B: usize, const M: usize> Pages<B, M> {
         }
     }
 
-    // A pulse or a tear of a line, for which it grows.
+    // A pulse or a tear of a line that has grown.
+    #[inline(never)]
     fn wear_grown(&mut self, line: u32, tearing: bool, mask: &Cells<B, M>, want: &Cells<B, M>)
+        requires exists { line < length self.old.grown }
+        requires has { IsSome (page_at self.old.grown line) }
+        requires shape { IsShape B M }
+        requires whole { IsWhole B M }
+        ensures { WearsLine line tearing mask.now want.now self.old self.new }
+    {
+        self.grown.wear(line, tearing, mask, want);
+    }
+
+    // A pulse or a tear of a line, for which it grows.
+    fn outgrow(&mut self, line: u32, tearing: bool, mask: &Cells<B, M>, want: &Cells<B, M>)
         requires exists { line < length self.old.grown }
         requires shape { IsShape B M }
         requires whole { IsWhole B M }
         ensures { WearsLine line tearing mask.now want.now self.old self.new }
     {
         self.grow(line);
-        self.grown.wear(line, tearing, mask, want);
+        self.wear_grown(line, tearing, mask, want);
+    }
+
+    // A pulse or a tear of a line, for which it may get another page. It stands apart, so that what is done to each other line is short.
+    #[cold]
+    #[inline(never)]
+    fn wear_anew(&mut self, line: u32, tearing: bool, mask: &Cells<B, M>, want: &Cells<B, M>)
+        requires exists { line < length self.old.grown }
+        requires shape { IsShape B M }
+        requires whole { IsWhole B M }
+        ensures { WearsLine line tearing mask.now want.now self.old self.new }
+    {
+        if self.stays_young(line) {
+            self.age(line, tearing, mask, want);
+        } else {
+            self.outgrow(line, tearing, mask, want);
+        }
+    }
+
+    // A pulse or a tear of a line that hasn't grown, if it stays on its page. Tells whether it does.
+    #[inline(always)]
+    fn age_below(
+        &mut self,
+        line: u32,
+        tearing: bool,
+        mask: &Cells<B, M>,
+        want: &Cells<B, M>,
+    ) -> bool
+        requires exists { line < length self.old.grown }
+        requires young { page_at self.old.grown line ≡ None }
+        requires shape { IsShape B M }
+        requires whole { IsWhole B M }
+        ensures wears { IsTrue result → WearsLine line tearing mask.now want.now self.old self.new }
+        ensures same { IsFalse result → (n : ℕ) → seen self.new n ≡ seen self.old n }
+        ensures lines { length self.new.grown ≡ length self.old.grown }
+        ensures wear { self.new.wear ≡ self.old.wear }
+    {
+        has_end(mask);
+        self.young.age_below(line, self.limit, tearing, mask, want)
+    }
+
+    // A pulse or a tear of a line that hasn't grown.
+    #[inline(always)]
+    fn wear_young(&mut self, line: u32, tearing: bool, mask: &Cells<B, M>, want: &Cells<B, M>)
+        requires exists { line < length self.old.grown }
+        requires young { page_at self.old.grown line ≡ None }
+        requires shape { IsShape B M }
+        requires whole { IsWhole B M }
+        ensures { WearsLine line tearing mask.now want.now self.old self.new }
+    {
+        if !self.age_below(line, tearing, mask, want) {
+            self.wear_anew(line, tearing, mask, want);
+        }
     }
 
     /// A pulse or a tear of the line.
@@ -220,10 +285,10 @@ impl<const B: usize, const M: usize> Pages<B, M> {
         requires whole { IsWhole B M }
         ensures { WearsLine line tearing mask.now want.now self.old self.new }
     {
-        if self.stays_young(line) {
-            self.age(line, tearing, mask, want);
-        } else {
+        if self.grown.has(line) {
             self.wear_grown(line, tearing, mask, want);
+        } else {
+            self.wear_young(line, tearing, mask, want);
         }
     }
 }

@@ -1,10 +1,11 @@
 // The young lines of an array whose cells don't miss.
-ghost use Rattle.std.specs.Prelude.{◌≡◌, ◌≢◌, ℕ, ◌<◌, length, IfOk, IsTrue, IsSome, Some, None};
+ghost use Rattle.std.specs.Prelude.{◌≡◌, ◌≢◌, ℕ, ◌<◌, ◌≤◌, length, IfOk, IsTrue, IsFalse, IsSome, Some, None, option_copied};
 ghost use Rattle.std.specs.Option.{option_map};
 ghost use Rattle.cell_rows.specs.Shape.{IsShape, IsWhole};
 ghost use Rattle.pcm_cells.specs.PageTable.{page_at};
 ghost use Rattle.pcm_cells.specs.Tiers.{by_later, first_or_blank, young_or_blank, AgesYoung};
-ghost use Rattle.pcm_cells.specs.Young.{MayAge};
+ghost use Rattle.pcm_cells.specs.Young.{MayAge, changes_in};
+ghost use Rattle.pcm_cells.specs.Below.{AgesBelow};
 
 use crate::first::First;
 use crate::later::Later;
@@ -36,14 +37,14 @@ impl<const B: usize, const M: usize> Tiers<B, M> {
     }
 
     /// What the cells of a young line hold.
-    pub(crate) fn held(&self, line: u32) -> Option<Cells<B, M>>
+    pub(crate) fn held(&self, line: u32) -> Option<&Cells<B, M>>
         requires { line < length self.now.first }
-        ensures { result ≡ option_map (λ young. young.held) (tier_at self.now line) }
+        ensures { option_copied result ≡ option_map (λ young. young.held) (tier_at self.now line) }
     {
         match self.later.get(line) {
-            Some(later) => Some(later.held),
+            Some(later) => Some(&later.held),
             None => match self.first.get(line) {
-                Some(first) => Some(first.held),
+                Some(first) => Some(&first.held),
                 None => None,
             },
         }
@@ -181,6 +182,34 @@ impl<const B: usize, const M: usize> Tiers<B, M> {
         } else {
             self.age_later(line, tearing, mask, want);
         }
+    }
+
+    /// A pulse or a tear of a line that stays on its page, if it was pulsed less often than so many times. Tells whether it does and was.
+    #[inline(always)]
+    pub(crate) fn age_below(
+        &mut self,
+        line: u32,
+        limit: u64,
+        tearing: bool,
+        mask: &Cells<B, M>,
+        want: &Cells<B, M>,
+    ) -> bool
+        requires exists { line < length self.old.first }
+        requires room { limit ≤ 511 }
+        requires young { (young : Young B M) → tier_at self.old line ≡ Some young
+            → (n : ℕ) → changes_in young n ≤ young.pulses }
+        requires shape { IsShape B M }
+        requires whole { IsWhole B M }
+        ensures ages { IsTrue result → AgesBelow limit line tearing mask.now want.now
+            (tier_at self.old) (tier_at self.new) }
+        ensures same { IsFalse result → (n : ℕ) → tier_at self.new n ≡ tier_at self.old n }
+        ensures lines { length self.new.first ≡ length self.old.first }
+    {
+        if self.later.has(line) {
+            return self.later.age_below(line, limit, tearing, mask, want);
+        }
+        self.first
+            .age_below(line, limit.min(7), tearing, mask, want)
     }
 
     /// Takes the page of a line that is young no more: another line may get it.

@@ -96,6 +96,7 @@ impl<const B: usize, const M: usize> YoungPage<B, M> for Young<B, M> {
         &mut self,
         tearing: bool,
         reach: u64,
+        many: bool,
         block: usize,
         mask: &Cells<B, M>,
         want: &Cells<B, M>,
@@ -105,10 +106,20 @@ impl<const B: usize, const M: usize> YoungPage<B, M> for Young<B, M> {
         let changing = without(reached, missing);
         let carry = self.low.add(block, changing);
         let over = self.middle.add(block, carry);
-        let _none = self.high.add(block, over);
+        let _none = self.high.add_any(many, block, over);
         let held = chosen(self.held.block(block), changing, want.block(block));
         self.held.set_block(block, held);
         self.misses.advance(block, missing, changing);
+    }
+
+    #[inline(always)]
+    fn pulses(&self) -> u64 {
+        self.pulses
+    }
+
+    #[inline(always)]
+    fn may_have_many(&self) -> bool {
+        self.pulses >= 63
     }
 
     fn count_pulse(&mut self) {

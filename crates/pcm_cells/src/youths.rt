@@ -1,11 +1,12 @@
 // The young lines of an array.
-ghost use Rattle.std.specs.Prelude.{◌≡◌, ◌≢◌, ℕ, ◌<◌, length, IfOk, IsSome, Some, None};
+ghost use Rattle.std.specs.Prelude.{◌≡◌, ◌≢◌, ℕ, ◌<◌, ◌≤◌, length, IfOk, IsTrue, IsFalse, IsSome, Some, None, option_copied};
 ghost use Rattle.std.specs.Option.{option_map};
 ghost use Rattle.cell_rows.specs.Device.{IsWear};
 ghost use Rattle.cell_rows.specs.Shape.{IsShape, IsWhole};
 ghost use Rattle.pcm_cells.specs.Begun.{AgesLine, Starts};
 ghost use Rattle.pcm_cells.specs.PageTable.{page_at};
-ghost use Rattle.pcm_cells.specs.Young.{MayAge};
+ghost use Rattle.pcm_cells.specs.Young.{MayAge, changes_in};
+ghost use Rattle.pcm_cells.specs.Below.{AgesBelow};
 
 use crate::page_table::PageTable;
 use crate::tiers::Tiers;
@@ -78,14 +79,14 @@ impl<const B: usize, const M: usize> Youths<B, M> {
     }
 
     /// What the cells of a young line hold.
-    pub(crate) fn held(&self, line: u32) -> Option<Cells<B, M>>
+    pub(crate) fn held(&self, line: u32) -> Option<&Cells<B, M>>
         requires { line < young_lines self.now }
-        ensures { result ≡ option_map (λ young. young.held) (young_at self.now line) }
+        ensures { option_copied result ≡ option_map (λ young. young.held) (young_at self.now line) }
     {
         match self {
             Youths::Sure(tiers) => tiers.held(line),
             Youths::Missing(pages) => match pages.get(line) {
-                Some(young) => Some(young.held),
+                Some(young) => Some(&young.held),
                 None => None,
             },
         }
@@ -144,6 +145,34 @@ impl<const B: usize, const M: usize> Youths<B, M> {
         match self {
             Youths::Sure(tiers) => tiers.age(line, tearing, mask, want),
             Youths::Missing(pages) => age_missing(pages, wear, line, tearing, mask, want),
+        }
+    }
+
+    /// A pulse or a tear of a line that stays on its page, if it was pulsed less often than so many times. Tells whether it does and was.
+    #[inline(always)]
+    pub(crate) fn age_below(
+        &mut self,
+        line: u32,
+        limit: u64,
+        tearing: bool,
+        mask: &Cells<B, M>,
+        want: &Cells<B, M>,
+    ) -> bool
+        requires exists { line < young_lines self.old }
+        requires room { limit ≤ 511 }
+        requires young { (young : Young B M) → young_at self.old line ≡ Some young
+            → (n : ℕ) → changes_in young n ≤ young.pulses }
+        requires shape { IsShape B M }
+        requires whole { IsWhole B M }
+        ensures ages { IsTrue result → AgesBelow limit line tearing mask.now want.now
+            (young_at self.old) (young_at self.new) }
+        ensures same { IsFalse result → (n : ℕ) → young_at self.new n ≡ young_at self.old n }
+        ensures lines { young_lines self.new ≡ young_lines self.old }
+        ensures suits { (wear : Wear) → Suits wear self.old → Suits wear self.new }
+    {
+        match self {
+            Youths::Sure(tiers) => tiers.age_below(line, limit, tearing, mask, want),
+            Youths::Missing(pages) => pages.age_below(line, limit, tearing, mask, want),
         }
     }
 

@@ -1,55 +1,21 @@
-use Rattle.std.proofs.Common.{ℕ, ◌+◌, ◌*◌, ◌/◌, ◌≤◌, ◌∙◌, ap, arith}
+use Rattle.std.proofs.Common.{◌+◌, ◌*◌, ◌∙◌, arith}
 use Rattle.cell_rows.specs.Rows.{cell}
-use Rattle.pcm_cells.specs.{Follows.FollowsIn, Young.{YoungCell, aging, young_cell}}
-use Rattle.pcm_cells.proofs.{FollowsLemmas.{followed_all, followed_group}}
-use Rattle.pcm_cells.proofs.SizeLemmas.{blocks_all, blocks_within, cells_first, data_first, data_within, from_first, groups_fit, row_fits}
+use Rattle.pcm_cells.specs.Young.{aging, young_cell}
+use Rattle.pcm_cells.proofs.{FollowsLemmas.followed_all, SizeLemmas.row_fits}
 use Rattle.pcm_cells.proofs.aging.wear_page.Goals as goal
 
-same : (n : ℕ) → n ≤ n
-same n = omega arith
-
-pub wear_in-requires : goal.wear_in-requires
-wear_in-requires g c =
-    let shape = c.requires.shape in
-    (row_fits shape, (from_first _, (data_within g.row.B g.row.M, (shape, (c.requires.whole, λ n from. omega (arith, c.requires.young.changes n, c.requires.young.pulses))))))
-
-pub wear_in-requires-2 : goal.wear_in-requires-2
-wear_in-requires-2 g c =
-    let shape = c.requires.shape in (
-      row_fits shape,
-      (
-        data_first g.row.B g.row.M,
-        (
-          blocks_within g.row.B g.row.M,
-          (
-            shape,
-            (
-              c.requires.whole,
-              λ n from. omega (arith, c.requires.young.changes n, c.requires.young.pulses, ap (λ (x : YoungCell). x.changes) (c.wear_in.ensures.cells.above n from)),
-            ),
-          ),
-        ),
-      ),
-    )
-
-pub overflow_add-wear_in : goal.overflow_add-wear_in
-overflow_add-wear_in g c = groups_fit c.requires.shape
+pub wear_cells-requires : goal.wear_cells-requires
+wear_cells-requires g c = (row_fits c.requires.shape, (c.requires.shape, (c.requires.whole, c.requires.young)))
 
 pub count_pulse-requires : goal.count_pulse-requires
-count_pulse-requires g c = omega (arith, c.wear_in.ensures.pulses, c.wear_in-2.ensures.pulses, c.requires.young.pulses)
+count_pulse-requires g c = omega (arith, c.wear_cells.ensures.pulses, c.requires.young.pulses)
 
 pub returns-clause-cells : goal.returns-clause-cells
 returns-clause-cells g c n =
     let young = g.P.YoungPage.young in
-    let bits : ℕ = g.row.B / 8 in
-    let all : ℕ = (g.row.B + g.row.M) / 8 in
-    let first = data_first g.row.B g.row.M in
-    let done : FollowsIn 0 (8 * (g.row.B + g.row.M)) (cell c.args.mask.now) (aging c.args.tearing (cell c.args.want.now)) (young_cell (young c.args.page.now)) (young_cell (young c.wear_in-2.new.page)) =
-    rw (← blocks_all g.row.B g.row.M all c.requires.whole (same all) (same all))
-    (followed_group 0 (64 * bits) (64 * all) (cell c.args.mask.now) (aging c.args.tearing (cell c.args.want.now))
-    _ (young_cell (young c.wear_in.new.page)) _ c.wear_in.ensures.cells c.wear_in-2.ensures.cells (from_first _) (cells_first bits all first)) in
     c.count_pulse.ensures.cells n
-    ∙ followed_all (8 * (g.row.B + g.row.M)) (cell c.args.mask.now) (aging c.args.tearing (cell c.args.want.now)) (young_cell (young c.args.page.now)) (young_cell (young c.wear_in-2.new.page)) done c.has_end.ensures n
+    ∙ followed_all (8 * (g.row.B + g.row.M)) (cell c.args.mask.now) (aging c.args.tearing (cell c.args.want.now)) (young_cell (young c.args.page.now)) (young_cell (young c.wear_cells.new.page))
+    c.wear_cells.ensures.cells c.has_end.ensures n
 
 pub returns-clause-pulses : goal.returns-clause-pulses
-returns-clause-pulses g c = omega (arith, c.count_pulse.ensures.pulses, c.wear_in.ensures.pulses, c.wear_in-2.ensures.pulses)
+returns-clause-pulses g c = omega (arith, c.count_pulse.ensures.pulses, c.wear_cells.ensures.pulses)

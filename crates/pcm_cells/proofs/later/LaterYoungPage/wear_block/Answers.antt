@@ -2,14 +2,14 @@ use Rattle.std.proofs.Common.{◌≡◌, ℕ, ◌+◌, ◌*◌, ◌%◌, ◌&&�
 use Rattle.cell_rows.{specs.Rows.cell, proofs.ByteLemmas.digit_and}
 use Rattle.pcm_cells.specs.{Planes.bit_in, Tiers.by_later, Young.{aging, young_cell}, declared.later.Later.Later}
 use Rattle.pcm_cells.proofs.{FollowsLemmas.followed_block, PlaneLemmas.digit-zeros, SeededLemmas.in_block, SizeLemmas.{digits_fit, row_fits}}
-use Rattle.pcm_cells.proofs.YoungLemmas.{ages_here, changes-is, changes_more, stays_here}
+use Rattle.pcm_cells.proofs.YoungLemmas.{ages_here, changes-is, changes_more, no_over, stays_here}
 use Rattle.pcm_cells.proofs.later.LaterYoungPage.wear_block.Goals as goal
 
 pub returns-clause-cells : goal.returns-clause-cells
 returns-clause-cells g c =
     let block = c.args.block in
     let before = c.args.self.now in
-    let after : Later g.row.B g.row.M = record before { held = c.set_block.new.self; low = c.add-carry.new.self; middle = c.add-over.new.self; high = c.add-none.new.self } in
+    let after : Later g.row.B g.row.M = record before { held = c.set_block.new.self; low = c.add-carry.new.self; middle = c.add-over.new.self; high = c.add_any-none.new.self } in
     let old = by_later before in
     let new = by_later after in
     let zeros = digit-zeros g.row.B g.row.M in
@@ -22,11 +22,11 @@ returns-clause-cells g c =
     digit_and c.block.result c.args.reach i ∙ rw (c.block.ensures i low, c.requires.reach i low, parity) refl in
     ages_here c.args.tearing (cell c.args.mask.now n) (cell c.args.want.now) old new n changing is (zeros n) (zeros n) (zeros n) (zeros n)
     (c.set_block.ensures.here i low ∙ c.chosen-held.ensures.bits i ∙ rw (c.block-2.ensures i low, c.block-3.ensures i low) refl)
-    (changes_more _ _ _ _ _ _ _ _ changing (bit_in c.add-carry.result i) (bit_in c.add-over.result i) (bit_in c.add-none.result i)
+    (changes_more _ _ _ _ _ _ _ _ changing (bit_in c.add-carry.result i) (bit_in c.add-over.result i) (bit_in c.add_any-none.result i)
     (changes-is old n) (changes-is new n) (c.requires.few n (in_block block i low))
-    (c.add-carry.ensures.here i low) (c.add-over.ensures.here i low) (c.add-none.ensures.here i low)))
+    (c.add-carry.ensures.here i low) (c.add-over.ensures.here i low) (c.add_any-none.ensures.here i low)))
     (λ n apart.
-    stays_here old new n (c.set_block.ensures.others n apart) refl refl (c.add-carry.ensures.others n apart) (c.add-over.ensures.others n apart) (c.add-none.ensures.others n apart))
+    stays_here old new n (c.set_block.ensures.others n apart) refl refl (c.add-carry.ensures.others n apart) (c.add-over.ensures.others n apart) (c.add_any-none.ensures.others n apart))
 
 pub block-requires : goal.block-requires
 block-requires g c = (row_fits c.requires.shape, (c.requires.whole, c.requires.exists))
@@ -43,8 +43,20 @@ add-carry-requires g c = (digits_fit c.requires.shape, (c.requires.whole, c.requ
 pub add-over-requires : goal.add-over-requires
 add-over-requires g c = (digits_fit c.requires.shape, (c.requires.whole, c.requires.exists))
 
-pub add-none-requires : goal.add-none-requires
-add-none-requires g c = (digits_fit c.requires.shape, (c.requires.whole, c.requires.exists))
+pub add_any-none-requires : goal.add_any-none-requires
+add_any-none-requires g c = (
+  digits_fit c.requires.shape,
+  (
+    c.requires.whole,
+    (
+      c.requires.exists,
+      λ few i low.
+          let n : ℕ = 64 * c.args.block + i in
+          no_over _ _ _ _ _ _ _ (bit_in c.add-carry.result i) (bit_in c.add-over.result i) (changes-is (by_later c.args.self.now) n)
+          (c.requires.fewer few n (in_block c.args.block i low)) (c.add-carry.ensures.here i low) (c.add-over.ensures.here i low),
+    ),
+  ),
+)
 
 pub chosen-held-requires : goal.chosen-held-requires
 chosen-held-requires g c = tt

@@ -3,7 +3,7 @@ use Rattle.std.specs.Prelude.{nat_lt}
 use Rattle.cell_rows.{specs.Rows.cell, proofs.ByteLemmas.digit_and}
 use Rattle.pcm_cells.specs.{Planes.{bit_in, digit}, Young.{aging, young_cell}, declared.young.Young.Young}
 use Rattle.pcm_cells.proofs.{FollowsLemmas.followed_block, PlaneLemmas.digit_few, SeededLemmas.in_block, SizeLemmas.{digits_fit, row_fits}}
-use Rattle.pcm_cells.proofs.YoungLemmas.{changes-is, changes_more, missing_few, stays_here, tries_here}
+use Rattle.pcm_cells.proofs.YoungLemmas.{changes-is, changes_more, no_over, missing_few, stays_here, tries_here}
 use Rattle.pcm_cells.proofs.young.YoungYoungPage.wear_block.Goals as goal
 
 -- a cell misses, or changes
@@ -11,7 +11,7 @@ pub returns-clause-cells : goal.returns-clause-cells
 returns-clause-cells g c =
     let block = c.args.block in
     let old = c.args.self.now in
-    let new : Young g.row.B g.row.M = record old { held = c.set_block.new.self; misses = c.advance.new.self; low = c.add-carry.new.self; middle = c.add-over.new.self; high = c.add-none.new.self } in
+    let new : Young g.row.B g.row.M = record old { held = c.set_block.new.self; misses = c.advance.new.self; low = c.add-carry.new.self; middle = c.add-over.new.self; high = c.add_any-none.new.self } in
     followed_block block (cell c.args.mask.now) (aging c.args.tearing (cell c.args.want.now)) (young_cell old) (young_cell new)
     (λ i low.
     let n : ℕ = 64 * block + i in
@@ -31,11 +31,11 @@ returns-clause-cells g c =
     (c.set_block.ensures.here i low ∙ c.chosen-held.ensures.bits i ∙ rw (c.block-2.ensures i low, c.block-3.ensures i low) refl)
     (c.advance.ensures.here i low)
     refl
-    (changes_more _ _ _ _ _ _ _ _ changing (bit_in c.add-carry.result i) (bit_in c.add-over.result i) (bit_in c.add-none.result i)
+    (changes_more _ _ _ _ _ _ _ _ changing (bit_in c.add-carry.result i) (bit_in c.add-over.result i) (bit_in c.add_any-none.result i)
     (changes-is old n) (changes-is new n) (c.requires.few n (in_block block i low))
-    (c.add-carry.ensures.here i low) (c.add-over.ensures.here i low) (c.add-none.ensures.here i low)))
+    (c.add-carry.ensures.here i low) (c.add-over.ensures.here i low) (c.add_any-none.ensures.here i low)))
     (λ n apart.
-    stays_here old new n (c.set_block.ensures.others n apart) (c.advance.ensures.others n apart) refl (c.add-carry.ensures.others n apart) (c.add-over.ensures.others n apart) (c.add-none.ensures.others n apart))
+    stays_here old new n (c.set_block.ensures.others n apart) (c.advance.ensures.others n apart) refl (c.add-carry.ensures.others n apart) (c.add-over.ensures.others n apart) (c.add_any-none.ensures.others n apart))
 
 -- a cell that misses has missed less than seven times
 pub advance-requires : goal.advance-requires
@@ -72,8 +72,20 @@ add-carry-requires g c = (digits_fit c.requires.shape, (c.requires.whole, c.requ
 pub add-over-requires : goal.add-over-requires
 add-over-requires g c = (digits_fit c.requires.shape, (c.requires.whole, c.requires.exists))
 
-pub add-none-requires : goal.add-none-requires
-add-none-requires g c = (digits_fit c.requires.shape, (c.requires.whole, c.requires.exists))
+pub add_any-none-requires : goal.add_any-none-requires
+add_any-none-requires g c = (
+  digits_fit c.requires.shape,
+  (
+    c.requires.whole,
+    (
+      c.requires.exists,
+      λ few i low.
+          let n : ℕ = 64 * c.args.block + i in
+          no_over _ _ _ _ _ _ _ (bit_in c.add-carry.result i) (bit_in c.add-over.result i) (changes-is (c.args.self.now) n)
+          (c.requires.fewer few n (in_block c.args.block i low)) (c.add-carry.ensures.here i low) (c.add-over.ensures.here i low),
+    ),
+  ),
+)
 
 pub set_block-requires : goal.set_block-requires
 set_block-requires g c = (row_fits c.requires.shape, (c.requires.whole, c.requires.exists))
