@@ -2,10 +2,10 @@
 //! Bytes are read exactly where they spell a module, and what is read is spelled by them alone.
 #![tactic(auto)]
 
-mod fields;
+pub mod fields;
 mod image;
-mod parts;
-mod standing;
+pub mod parts;
+pub mod standing;
 mod writing;
 
 pub use fields::{HeadImage, ReadImage};
@@ -56,6 +56,9 @@ pub enum ImageKind {
     Bank,
     /// A line of an entry is out of range, or its given bits don't fit its bytes.
     Entry,
+    /// The number of an array line is out of range or not above the one before it, or all its cells are 0: of the images of large modules
+    /// alone, which have such numbers.
+    Line,
     /// A byte follows the last field.
     Extra,
 }

@@ -14,8 +14,8 @@ use crate::{BankImage, EntryImage, Image, ImageFault, ImageKind, RegionImage};
 use cell_rows::Cells;
 use std::alloc::Global;
 
-// The mark of a bank.
-fn mark_at<'a>(fields: Fields<'a>) -> Result<(u8, Fields<'a>), ReadImage>
+/// The mark of a bank.
+pub fn mark_at<'a>(fields: Fields<'a>) -> Result<(u8, Fields<'a>), ReadImage>
     requires { fields.at < 2 ^ 31 }
     ensures gives { Gives (λ x. (x.0, cursor x.1)) result
         (byte_at kind.Bank (λ n. nat_lt n 2) (cursor fields.entry)) }
@@ -28,8 +28,8 @@ fn mark_at<'a>(fields: Fields<'a>) -> Result<(u8, Fields<'a>), ReadImage>
     Ok((number, rest))
 }
 
-// A number of a bank that is at most another.
-fn up_to<'a>(fields: Fields<'a>, most: u16) -> Result<(u16, Fields<'a>), ReadImage>
+/// A number of a bank that is at most another.
+pub fn up_to<'a>(fields: Fields<'a>, most: u16) -> Result<(u16, Fields<'a>), ReadImage>
     requires { fields.at < 2 ^ 31 }
     ensures gives { Gives (λ x. (x.0, cursor x.1)) result
         (number_at w16 kind.Bank (λ n. nat_le n most) (cursor fields.entry)) }
@@ -57,8 +57,8 @@ fn start_at<'a>(fields: Fields<'a>, lines: u16) -> Result<(u16, Fields<'a>), Rea
     Ok((number, rest))
 }
 
-// The stores of a region since its last move.
-fn counter_at<'a>(fields: Fields<'a>) -> Result<(u16, Fields<'a>), ReadImage>
+/// The stores of a region since its last move.
+pub fn counter_at<'a>(fields: Fields<'a>) -> Result<(u16, Fields<'a>), ReadImage>
     requires { fields.at < 2 ^ 31 }
     ensures gives { Gives (λ x. (x.0, cursor x.1)) result
         (number_at w16 kind.Bank any (cursor fields.entry)) }
@@ -105,8 +105,8 @@ fn region_of<'a>(
     ))
 }
 
-// The line of a write.
-fn entry_line<'a>(fields: Fields<'a>, lines: u32) -> Result<(u32, Fields<'a>), ReadImage>
+/// The line of a write, in a bank of so many lines.
+pub fn entry_line<'a>(fields: Fields<'a>, lines: u32) -> Result<(u32, Fields<'a>), ReadImage>
     requires { fields.at < 2 ^ 31 }
     ensures gives { Gives (λ x. (x.0, cursor x.1)) result
         (number_at w32 kind.Entry (λ n. nat_lt n lines) (cursor fields.entry)) }
@@ -119,8 +119,8 @@ fn entry_line<'a>(fields: Fields<'a>, lines: u32) -> Result<(u32, Fields<'a>), R
     Ok((number, rest))
 }
 
-// The bytes of a write.
-fn bytes_at<'a, const B: usize>(fields: Fields<'a>) -> Result<([u8; B], Fields<'a>), ReadImage>
+/// The bytes of a write.
+pub fn bytes_at<'a, const B: usize>(fields: Fields<'a>) -> Result<([u8; B], Fields<'a>), ReadImage>
     requires at { fields.at < 2 ^ 31 }
     requires few { B ≤ 128 }
     ensures gives { Gives (λ x. (x.0, cursor x.1)) result
@@ -190,8 +190,8 @@ fn zeros(bytes: &[u8], given: &[bool]) -> bool
     true
 }
 
-// Which bytes of a write are given.
-fn given_at<'a, const B: usize>(
+/// Which bytes of a write are given.
+pub fn given_at<'a, const B: usize>(
     fields: Fields<'a>,
     bytes: &[u8; B],
 ) -> Result<([bool; B], Fields<'a>), ReadImage>
@@ -245,8 +245,8 @@ fn entry_of<'a, const B: usize>(
     Ok((EntryImage { line, bytes, given }, rest))
 }
 
-// The slots of the used spares.
-fn slots_of<'a>(
+/// The slots of the used spares.
+pub fn slots_of<'a>(
     alloc: Global,
     fields: Fields<'a>,
     used: u16,
@@ -376,9 +376,9 @@ fn banks_of<'a, const B: usize>(
     Ok((items, rest))
 }
 
-// The cells of an array line.
+/// The cells of an array line.
 #[tactic(auto, unfolding(crate::specs::Reading::cells_at))]
-fn row_at<'a, const B: usize, const M: usize>(
+pub fn row_at<'a, const B: usize, const M: usize>(
     fields: Fields<'a>,
 ) -> Result<(Cells<B, M>, Fields<'a>), ReadImage>
     requires at { fields.at < 2 ^ 31 }

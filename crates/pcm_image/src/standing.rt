@@ -19,8 +19,8 @@ use feistel_map::Feistel;
 use masked_bytes::layers::lay_over;
 use start_gap::Registers;
 
-// The line of a slot, behind these spares: the last that was given to it, or its own.
-fn line_of(slots: u32, replaced: &[u32], slot: u32) -> u32
+/// The line of a slot, behind these spares: the last that was given to it, or its own.
+pub fn line_of(slots: u32, replaced: &[u32], slot: u32) -> u32
     requires { slots + length replaced.now < 2 ^ 32 }
     ensures is { result ≡ line_from slots slot replaced.now slot }
     ensures within { slot < slots → result < slots + length replaced.now }
@@ -34,8 +34,8 @@ fn line_of(slots: u32, replaced: &[u32], slot: u32) -> u32
     line
 }
 
-// Lays what the entries of a line give over its bytes, the last one on top.
-fn lay_entries<const B: usize>(entries: &[EntryImage<B>], line: u32, bytes: &mut [u8; B])
+/// Lays what the entries of a line give over its bytes, the last one on top.
+pub fn lay_entries<const B: usize>(entries: &[EntryImage<B>], line: u32, bytes: &mut [u8; B])
     requires { AllMasked (map entry_of entries.now) }
     ensures { bytes.new ≡ laid (layer_of (map entry_of entries.now) line).bytes
         (layer_of (map entry_of entries.now) line).given bytes.old }

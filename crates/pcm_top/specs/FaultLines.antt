@@ -14,6 +14,7 @@ image_word image.Shape = codes "shape"
 image_word image.Bank = codes "bank"
 image_word image.Entry = codes "entry"
 image_word image.Extra = codes "extra"
+image_word image.Line = codes "line"
 
 -- the commands that there are
 abbrev pub usage_text : List ℕ

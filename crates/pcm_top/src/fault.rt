@@ -58,6 +58,7 @@ fn image_word_of(kind: ImageKind) -> &'static [u8]
         ImageKind::Bank => b"bank",
         ImageKind::Entry => b"entry",
         ImageKind::Extra => b"extra",
+        ImageKind::Line => b"line",
     }
 }
 
