@@ -9,10 +9,10 @@ use Rattle.spare_pool.specs.Table.{line_by, line_from}
 use Rattle.bank_shape.specs.{Shape.slots_of, declared.BankShape.BankShape, declared.Home.Home}
 use Rattle.bank_shape.specs.declared.Home.TheVariants as home
 use Rattle.power_recovery.specs.Kept.{KeptState, IsKept, AllBelow, region_at, no_region as no_kept}
-use Rattle.module_shape.specs.{Addresses.{module_of, bank_shape}, Limits.{IsShape, IsSmall, is_power_between, total_of}, declared.raw.RawShape.RawShape}
+use Rattle.module_shape.specs.{Addresses.{module_of, bank_shape}, Limits.{IsShape, IsSmall, is_power_between, large_limits, small_limits, total_of}, declared.raw.{RawShape.RawShape, SizeLimits.SizeLimits}}
 use Rattle.end_laws.specs.EndLaws.{IsEndOf}
 use Rattle.right_runs.specs.Ends.{BankEnd}
-use Rattle.pcm_image.specs.{Saved.{Head, IsHead, IsSavedBank, IsSavedEntry, IsSavedRegion, lines_in, slots_in}, Standing.{rotation_of, table_of, no_region}}
+use Rattle.pcm_image.specs.{Saved.{Head, IsHeadIn, IsSavedBank, IsSavedEntry, IsSavedRegion, lines_in, slots_in}, Standing.{rotation_of, table_of, no_region}}
 use Rattle.right_images.specs.Saving.{head_of, home_number, saved_bank, saved_entry, saved_region}
 use Rattle.image_laws.proofs.Factors.{first-test, second-test, third-test}
 
@@ -25,19 +25,36 @@ home-low : (h : Home) → home_number h < 2
 home-low home.Guarded = omega arith
 home-low home.Array = omega arith
 
-pub head-right : (raw : RawShape) (seed : ℕ) → IsShape raw → IsSmall raw → seed < 2 ^ 64 → IsHead (head_of raw seed)
-head-right raw seed is small low =
+-- the sizes are within limits
+record Within (most : SizeLimits) (raw : RawShape) : Type 0 where
+  few_banks : raw.banks ≤ most.banks
+  few_regions : raw.regions ≤ most.regions
+  few_lines : raw.lines ≤ most.lines
+  few_in_all : total_of raw ≤ most.total
+
+head-within : (most : SizeLimits) (raw : RawShape) (seed : ℕ) → IsShape raw → Within most raw → seed < 2 ^ 64 → IsHeadIn most (head_of raw seed)
+head-within most raw seed is few low =
     let power : raw.banks * raw.regions * raw.lines ≡ 2 ^ log2 (total_of raw) = sym is.whole_bits in
     record {
-      banks = within 1 16 raw.banks (first-test _ raw.banks raw.regions raw.lines power) is.some_banks small.few_banks;
-      regions = within 1 16 raw.regions (second-test _ raw.banks raw.regions raw.lines power) is.some_regions small.few_regions;
-      lines = and_from (is_power_between 4 4096 raw.lines) (nat_le (raw.banks * raw.regions * raw.lines) 65536)
-          (within 4 4096 raw.lines (third-test _ raw.banks raw.regions raw.lines power) is.some_lines small.few_lines)
-          (le-leb (raw.banks * raw.regions * raw.lines) 65536 small.few_in_all);
+      banks = within 1 most.banks raw.banks (first-test _ raw.banks raw.regions raw.lines power) is.some_banks few.few_banks;
+      regions = within 1 most.regions raw.regions (second-test _ raw.banks raw.regions raw.lines power) is.some_regions few.few_regions;
+      lines = and_from (is_power_between 4 most.lines raw.lines) (nat_le (raw.banks * raw.regions * raw.lines) most.total)
+          (within 4 most.lines raw.lines (third-test _ raw.banks raw.regions raw.lines power) is.some_lines few.few_lines)
+          (le-leb (raw.banks * raw.regions * raw.lines) most.total few.few_in_all);
       spares = is.few_spares;
       seed = low;
       home = home-low raw.home;
     }
+
+pub head-right : (raw : RawShape) (seed : ℕ) → IsShape raw → IsSmall raw → seed < 2 ^ 64 → IsHeadIn small_limits (head_of raw seed)
+head-right raw seed is small low =
+    head-within small_limits raw seed is
+    (record { few_banks = small.few_banks; few_regions = small.few_regions; few_lines = small.few_lines; few_in_all = small.few_in_all }) low
+
+pub head-large : (raw : RawShape) (seed : ℕ) → IsShape raw → seed < 2 ^ 64 → IsHeadIn large_limits (head_of raw seed)
+head-large raw seed is low =
+    head-within large_limits raw seed is
+    (record { few_banks = is.few_banks; few_regions = is.few_regions; few_lines = is.few_lines; few_in_all = is.few_in_all }) low
 
 entries-right : {n : ℕ} (h : Head) (es : List (Entry n)) (lines : ℕ) → lines ≡ lines_in h → AllMasked es → AllBelow es lines → All (IsSavedEntry h) (map saved_entry es)
 entries-right h [] lines same masked below = All-nil (IsSavedEntry h)

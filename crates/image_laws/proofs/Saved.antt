@@ -11,14 +11,14 @@ use Rattle.bank_model.specs.Timing.{TimedEvent, core}
 use Rattle.bank_laws.{specs.Laws.{IsSized, LeavesArray}, specs.Outcomes.table_of, specs.Resting.EndsIn, proofs.Serves.newest_same, proofs.Settling.opens}
 use Rattle.right_runs.specs.{Banks.{bank_of_line, line_in_bank}, Ends.{is_moved_to, BankEnd}, Runs.RunsRightTo, Tables.table_in}
 use Rattle.bank_invariant.specs.{Bridge.{AgreeLaw, AgreesWith}, Holds.stands_for as kept_for}
-use Rattle.module_shape.specs.{Addresses.{module_of, bank_shape}, Limits.{IsShape, IsSmall, total_of}, declared.raw.RawShape.RawShape}
+use Rattle.module_shape.specs.{Addresses.{module_of, bank_shape}, Limits.{IsShape, IsSmall, large_limits, small_limits, total_of}, declared.raw.{RawShape.RawShape, SizeLimits.SizeLimits}}
 use Rattle.module_laws.{specs.Asking.row_with, specs.Serves.BankTableLaw, proofs.Serving.newest_in_bank}
 use Rattle.clock_laws.specs.{Ending.LeavingLaw, Leads.Leads, State.ClockState}
 use Rattle.end_laws.specs.EndLaws.{IsEndOf}
 use Rattle.run_laws.{specs.FinishedLaws.LinesLaw, proofs.Finished.sized}
-use Rattle.pcm_image.specs.{Saved.{Saved, SavedBank, IsSaved, IsSavedBank, IsSavedRow}, Standing.{no_bank, own_bytes, stands_for}}
+use Rattle.pcm_image.specs.{Saved.{Saved, SavedBank, IsHeadIn, IsSaved, IsSavedIn, IsSavedBank, IsSavedRow}, Standing.{no_bank, own_bytes, stands_for}}
 use Rattle.right_images.specs.{SavedBanks.{SavesEnd, SavesMarkTo, SavesQueue}, SavesRun.{AreRows, SavesRunTo}, Saving.{head_of, saved_bank, saved_banks, saved_cells, saved_of}}
-use Rattle.image_laws.{specs.SavedRuns.{IsLeftTo, SavedToLaw}, proofs.Ended.saves-end, proofs.Keeping.{bank-right, head-right}, proofs.Marking.{saves-mark, saves-queue}}
+use Rattle.image_laws.{specs.SavedRuns.{IsLeftTo, SavedToLaw}, proofs.Ended.saves-end, proofs.Keeping.{bank-right, head-large, head-right}, proofs.Marking.{saves-mark, saves-queue}}
 use Rattle.image_laws.proofs.Standing.{lines-same, own-saved}
 
 -- what the image of a run follows from
@@ -46,9 +46,9 @@ module _ (off : Bool) (laws : ImageLaws) {n m : ℕ} (e : ℕ) (raw : RawShape) 
   part-right : (bank : ℕ) → bank < raw.banks → IsSavedBank (head_of raw seed) (saved_bank (kept bank))
   part-right bank lt = bank-right raw seed bank (kept bank) (left.finished.leads bank lt).holds.kept (left.finished.shapes bank lt)
 
-  right : IsSmall raw → AreRows array → IsSaved saved
-  right small are = record {
-    head = head-right raw seed is small low;
+  saved-in : (most : SizeLimits) → IsHeadIn most (head_of raw seed) → AreRows array → IsSavedIn most saved
+  saved-in most head are = record {
+    head = head;
     one_each = length-map-range_with_len (λ b. saved_bank (kept b)) 0 raw.banks;
     parts = All-from_get_or (IsSavedBank (head_of raw seed)) (saved_banks kept raw.banks) (no_bank n)
         (λ bank lt.
@@ -63,6 +63,12 @@ module _ (off : Bool) (laws : ImageLaws) {n m : ℕ} (e : ℕ) (raw : RawShape) 
         let some : line < array.lines = omega (arith, few, left.since.lines) in
         rw (cells-at line few) (subst (λ l. IsSavedRow n m l.held) (left.since.line line) (are line some)));
   }
+
+  right : IsSmall raw → AreRows array → IsSaved saved
+  right small are = saved-in small_limits (head-right raw seed is small low) are
+
+  large : AreRows array → IsSavedIn large_limits saved
+  large are = saved-in large_limits (head-large raw seed is low) are
 
   cells : (line : ℕ) → line < array.lines → get_or saved.cells line (zero_row n m) ≡ (array.line line).held
   cells line lt = cells-at line (omega (arith, lt, left.since.lines)) ∙ sym (ap (λ l. l.held) (left.since.line line))
@@ -180,7 +186,7 @@ module _ (off : Bool) (laws : ImageLaws) {n m : ℕ} (e : ℕ) (raw : RawShape) 
   pub saves : SavesRunTo off e raw seed rows array ends s
   saves =
       subst (λ t. SavesRunTo off e raw seed rows array ends t) (sym left.saved)
-      (record { head = refl; right = right; cells = cells; banks = saved-end; queues = saved-queue; marks = saved-mark; stands = line-stands })
+      (record { head = refl; right = right; large = large; cells = cells; banks = saved-end; queues = saved-queue; marks = saved-mark; stands = line-stands })
 
 pub saved_law : ImageLaws → (off : Bool) → SavedToLaw off
 saved_law laws off n m e raw seed rows array ends s left is low right of_ends = saves off laws e raw seed rows array ends s left is low right of_ends

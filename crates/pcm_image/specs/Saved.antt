@@ -2,7 +2,7 @@
 use Rattle.std.specs.Prelude.{◌≡◌, ℕ, ◌+◌, ◌*◌, ◌^◌, ◌%◌, ◌<◌, ◌≤◌, ◌==◌, ◌&&◌, nat_le, Bool, if◌then◌else◌, List, length, All, IsTrue}
 use Rattle.masked_bytes.specs.Masked.{IsMasked}
 use Rattle.cell_rows.specs.declared.row.Cells.{Cells}
-use Rattle.module_shape.specs.Limits.{is_power_between, small_limits}
+use Rattle.module_shape.specs.{Limits.{is_power_between, small_limits}, declared.raw.SizeLimits.SizeLimits}
 use Rattle.pcm_image.specs.{declared.EntryImage.EntryImage, declared.RegionImage.RegionImage}
 
 -- what is saved of a bank: whether it is exhausted, the slots that were given its spares, in order, the registers of its regions, and
@@ -49,18 +49,26 @@ controls_in h = if h.home == 0 then 0 else h.regions + h.spares + 1
 abbrev pub array_lines_in : Head → ℕ
 array_lines_in h = slots_in h + h.spares + controls_in h
 
--- whether a region may have so many lines, in a module of so many banks of so many regions: it has at most 65,536 lines in all
-abbrev pub is_lines : ℕ → ℕ → ℕ → Bool
-is_lines banks regions n = is_power_between 4 small_limits.lines n && nat_le (banks * regions * n) small_limits.total
+-- whether a region may have so many lines, in a module of so many banks of so many regions, of which there are most sizes
+abbrev pub is_lines_in : SizeLimits → ℕ → ℕ → ℕ → Bool
+is_lines_in most banks regions n = is_power_between 4 most.lines n && nat_le (banks * regions * n) most.total
 
--- the numbers are those of a module
-pub record IsHead (h : Head) : Type 0 where
-  pub banks : IsTrue (is_power_between 1 16 h.banks)
-  pub regions : IsTrue (is_power_between 1 16 h.regions)
-  pub lines : IsTrue (is_lines h.banks h.regions h.lines)
+-- of a small module: it has at most 65,536 lines in all
+abbrev pub is_lines : ℕ → ℕ → ℕ → Bool
+is_lines banks regions n = is_lines_in small_limits banks regions n
+
+-- the numbers are those of a module, of which there are most sizes
+pub record IsHeadIn (most : SizeLimits) (h : Head) : Type 0 where
+  pub banks : IsTrue (is_power_between 1 most.banks h.banks)
+  pub regions : IsTrue (is_power_between 1 most.regions h.regions)
+  pub lines : IsTrue (is_lines_in most h.banks h.regions h.lines)
   pub spares : h.spares ≤ 1024
   pub seed : h.seed < 2 ^ 64
   pub home : h.home < 2
+
+-- of a small module
+abbrev pub IsHead : Head → Type 0
+IsHead h = IsHeadIn small_limits h
 
 -- the registers of a region are in range; how many stores make a gap move due isn't saved
 pub record IsSavedRegion (h : Head) (r : RegionImage) : Type 0 where
@@ -88,13 +96,18 @@ pub record IsSavedRow (B M : ℕ) (row : Cells B M) : Type 0 where
   pub bits : length row.bits ≡ B
   pub meta : length row.meta ≡ M
 
--- a module that can be saved: each number is in range, and there are as many banks, and rows of cells, as the head says
-pub record IsSaved {B M : ℕ} (s : Saved B M) : Type 0 where
-  pub head : IsHead s.head
+-- a module that can be saved, of which there are most sizes: each number is in range, and there are as many banks, and rows of cells, as
+-- the head says
+pub record IsSavedIn {B M : ℕ} (most : SizeLimits) (s : Saved B M) : Type 0 where
+  pub head : IsHeadIn most s.head
   pub one_each : length s.parts ≡ s.head.banks
   pub parts : All (IsSavedBank s.head) s.parts
   pub all_lines : length s.cells ≡ s.head.banks * array_lines_in s.head
   pub rows : All (IsSavedRow B M) s.cells
+
+-- a small one
+abbrev pub IsSaved : {B M : ℕ} → Saved B M → Type 0
+IsSaved s = IsSavedIn small_limits s
 
 -- the sizes of a row that an image can have: as many data bytes as fill whole bytes of given bits, and few check bytes
 pub record IsSize (B M : ℕ) : Type 0 where
