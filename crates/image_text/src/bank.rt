@@ -41,15 +41,15 @@ fn entry_image<const B: usize>(entry: &Entry<B>) -> EntryImage<B>
     }
 }
 
-// The mark of a bank as an image has it.
-fn mark_of(exhausted: bool) -> u8
+/// The mark of a bank as an image has it.
+pub fn mark_of(exhausted: bool) -> u8
     ensures { result ≡ (if exhausted then 1 else 0) }
 {
     if exhausted { 1 } else { 0 }
 }
 
-// The slots of the used spares, in order.
-fn print_slots<K: Sink>(remap: &Remap, text: &mut Text, out: &mut K) -> Result<(), WriteFault>
+/// Writes the slots of the used spares, in order.
+pub fn print_slots<K: Sink>(remap: &Remap, text: &mut Text, out: &mut K) -> Result<(), WriteFault>
     requires { ROW_ROOM ≤ text.old.limit }
     ensures printed { OnOk result (PrintsMore text.old text.new (K.written out.old)
         (K.written out.new) (flat_map u32 remap.now.replaced)) }
@@ -87,8 +87,8 @@ fn print_regions<const B: usize, K: Sink>(
     Ok(())
 }
 
-// The writes of the queue, the oldest first.
-fn print_entries<const B: usize, K: Sink>(
+/// Writes the writes of the queue, the oldest first.
+pub fn print_entries<const B: usize, K: Sink>(
     kept: &Kept<B>,
     text: &mut Text,
     out: &mut K,

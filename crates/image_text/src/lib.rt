@@ -2,9 +2,9 @@
 //! gathered in memory that was reserved before, and written whenever the next piece might not fit.
 #![tactic(auto)]
 
-mod bank;
+pub mod bank;
 mod lines;
-mod pieces;
+pub mod pieces;
 
 pub use bank::print_bank;
 pub use lines::print_rows;

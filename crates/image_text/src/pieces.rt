@@ -16,8 +16,8 @@ use pcm_image::{
 use pcm_io::{Sink, Text, WriteFault};
 use run_text::{ROW_ROOM, make_room};
 
-// The number by which an image says where registers are kept.
-fn number_of_home(home: Home) -> u8
+/// The number by which an image says where registers are kept.
+pub fn number_of_home(home: Home) -> u8
     ensures { result ≡ home_number home }
 {
     match home {
@@ -67,8 +67,8 @@ pub fn print_head<K: Sink>(
     Ok(())
 }
 
-// The mark of a bank, and how many of its spares are used.
-pub(crate) fn print_mark<K: Sink>(
+/// Writes the mark of a bank, and how many of its spares are used.
+pub fn print_mark<K: Sink>(
     mark: u8,
     used: u16,
     text: &mut Text,
@@ -88,8 +88,8 @@ pub(crate) fn print_mark<K: Sink>(
     Ok(())
 }
 
-// The slot of a used spare.
-pub(crate) fn print_slot<K: Sink>(slot: u32, text: &mut Text, out: &mut K) -> Result<(), WriteFault>
+/// Writes the slot of a used spare.
+pub fn print_slot<K: Sink>(slot: u32, text: &mut Text, out: &mut K) -> Result<(), WriteFault>
     requires limit { ROW_ROOM ≤ text.old.limit }
     ensures printed { OnOk result (PrintsMore text.old text.new (K.written out.old)
         (K.written out.new) (u32 slot)) }
@@ -104,8 +104,8 @@ pub(crate) fn print_slot<K: Sink>(slot: u32, text: &mut Text, out: &mut K) -> Re
     Ok(())
 }
 
-// The registers of a region.
-pub(crate) fn print_region<K: Sink>(
+/// Writes the registers of a region.
+pub fn print_region<K: Sink>(
     region: &RegionImage,
     text: &mut Text,
     out: &mut K,
@@ -124,12 +124,8 @@ pub(crate) fn print_region<K: Sink>(
     Ok(())
 }
 
-// How many writes stand in a queue.
-pub(crate) fn print_count<K: Sink>(
-    entries: u16,
-    text: &mut Text,
-    out: &mut K,
-) -> Result<(), WriteFault>
+/// Writes how many writes stand in a queue.
+pub fn print_count<K: Sink>(entries: u16, text: &mut Text, out: &mut K) -> Result<(), WriteFault>
     requires limit { ROW_ROOM ≤ text.old.limit }
     ensures printed { OnOk result (PrintsMore text.old text.new (K.written out.old)
         (K.written out.new) (u16 entries)) }
@@ -144,8 +140,8 @@ pub(crate) fn print_count<K: Sink>(
     Ok(())
 }
 
-// A write of a queue.
-pub(crate) fn print_entry<const B: usize, K: Sink>(
+/// Writes a write of a queue.
+pub fn print_entry<const B: usize, K: Sink>(
     entry: &EntryImage<B>,
     text: &mut Text,
     out: &mut K,
@@ -165,8 +161,8 @@ pub(crate) fn print_entry<const B: usize, K: Sink>(
     Ok(())
 }
 
-// The cells of an array line.
-pub(crate) fn print_cells<const B: usize, const M: usize, K: Sink>(
+/// Writes the cells of an array line.
+pub fn print_cells<const B: usize, const M: usize, K: Sink>(
     cells: &Cells<B, M>,
     text: &mut Text,
     out: &mut K,
