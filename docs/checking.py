@@ -354,7 +354,7 @@ def declared(crate):
         found |= names_by(IN_CODE if file.suffix == ".rt" else IN_DEFINITIONS, text) | {file.stem, file.parent.name}
     found |= {it.stem for it in crates.named(crate).files("must-fail")}
     stored = crates.named(crate).folder / "stdin"
-    return found | (set(re.findall(r"(?m)^case (\w+)$", stored.read_text(encoding="utf-8"))) if stored.is_file() else set())
+    return found | (set(re.findall(r"(?m)^case (\w+)$", stored.read_text(encoding="utf-8", errors="replace"))) if stored.is_file() else set())
 
 
 @functools.cache

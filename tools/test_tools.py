@@ -52,8 +52,8 @@ echo "$(basename "$0")" "$@"
 END
 chmod +x "$out"
 """
-CRATES = "# 1. PARTS\nfirst:\nsecond: first\n# 2. PROGRAMS\npcm_cli: second\npcm_stream: first\npcm_explain: second\n"
-PROGRAMS = ("pcm_cli", "pcm_stream", "pcm_explain")
+CRATES = "# 1. PARTS\nfirst:\nsecond: first\n# 2. PROGRAMS\npcm_cli: second\npcm_stream: first\npcm_explain: second\npcm_view: second\n"
+PROGRAMS = ("pcm_cli", "pcm_stream", "pcm_explain", "pcm_view")
 
 
 def setUpModule():
@@ -308,6 +308,7 @@ class Wrapper(unittest.TestCase):
         self.assertEqual(self.room.run("pcm", "run", "--psi", "5 5", "").stdout, "pcm_cli run --psi 5 5 \n")
         self.assertEqual(self.room.run("pcm", "stream", "--psi", "5").stdout, "pcm_stream --psi 5\n")
         self.assertEqual(self.room.run("pcm", "explain", "--spares", "5").stdout, "pcm_explain --spares 5\n")
+        self.assertEqual(self.room.run("pcm", "view").stdout, "pcm_view\n")
 
     def test_it_runs_through_a_link_and_by_the_search_path(self):
         os.symlink(self.room.top / "pcm", self.room.folder / "a link")
@@ -320,7 +321,7 @@ class Wrapper(unittest.TestCase):
 
     def test_it_tells_where_the_programs_are(self):
         self.assertEqual(self.room.run("pcm", "path").stdout, f"{self.room.top}/crates/pcm_cli/out/pcm_cli\n")
-        for word in ("stream", "explain"):
+        for word in ("stream", "explain", "view"):
             self.assertEqual(self.room.run("pcm", "path", word).stdout, f"{self.room.top}/crates/pcm_{word}/out/pcm_{word}\n")
         done = self.room.run("pcm", "path", "gen")
         self.assertEqual((done.returncode, done.stdout, len(done.stderr.splitlines())), (2, "", 1))
@@ -515,7 +516,7 @@ class Pages(unittest.TestCase):
     def test_bash_completes_commands_options_and_values(self):
         wanted = {
             "pcm st": ["stream"], "pcm run --pol": ["--policy"], "pcm run --policy c": ["cancel"], "pcm run --policy = c": ["cancel"],
-            "pcm run --psi 5 --ps": [], "pcm help mo": ["moves"], "pcm path ": ["stream", "explain"], "pcm stream --print s": ["summary", "snapshots"],
+            "pcm run --psi 5 --ps": [], "pcm help mo": ["moves"], "pcm path ": ["stream", "explain", "view"], "pcm stream --print s": ["summary", "snapshots"],
             "pcm run --print s": ["summary"], "pcm run --psi ": [], "pcm show ": ["--help"], "pcm run --banks 1": ["1", "16"],
             "pcm e": ["explain"], "pcm explain --p": ["--policy"], "pcm explain --policy c": ["cancel"], "pcm explain --a": ["--all"],
             "pcm explain --all --a": [], "pcm explain --all --li": ["--lines", "--line"], "pcm stream --pro": ["--progress"],
@@ -540,8 +541,6 @@ class Words(unittest.TestCase):
             "gen --psi 3": "--psi is no option of gen, but of run or stream",
             "run --print rows": "--print rows: it may be results, summary, wear or image (rows is for stream)",
             "stream --every 5": "--every belongs to --print snapshots alone",
-            "stream --lines 8192 --print image":
-                "--print image: an image has at most 16 banks of 16 regions of 4096 lines, and 65536 lines in all",
             "stream --tell shape --print wear": "--tell belongs to --print rows alone",
             "stream --tell": "--tell lacks its value: it may be nothing or shape",
             "run --tell shape": "--tell is no option of run, but of stream",
@@ -554,9 +553,11 @@ class Words(unittest.TestCase):
             "explain --all=3": "--all=3: --all has no value",
             "check --all": "--all is no option of check, but of explain",
             "explain --lines 100": "--lines 100: it may be a power of two, 4 to 4096; nearest are 64 and 128",
+            "view --lines 4": "--lines: view has no options",
             "run": None,
             "stream --print snapshots --every 5 --rows=4000000000 --step 0 --input drawn": None,
             "stream --print wear --skip=unpulsed": None,
+            "stream --lines 8192 --print image": None,
         }
         for words, said in wanted.items():
             self.assertEqual(pages.table().explain(words.split(), "usage: pcm\n"), said, words)

@@ -1,12 +1,26 @@
-"""The image of a module: its state as bytes, as `--print image` writes it and `pcm show` reads it (docs/FORMATS.md)."""
+"""The image of a module: its state as bytes, as `--print image` writes it and `pcm show` (of a large module `pcm view`) reads it
+(docs/FORMATS.md)."""
 import struct
 from dataclasses import dataclass, field
-from typing import Iterator, List, Optional, Tuple
+from typing import Dict, Iterator, List, NamedTuple, Optional, Sequence, Tuple, Union, overload
 
 from .randomiser import Randomiser
-from .words import SMALL
+from .words import LARGE, SMALL, Sizes
 
-_MAGIC = b"PCMIMG01"
+
+class _Format(NamedTuple):
+    """How an image begins, the sizes that it has room for, and the bytes of a number of lines or of a register."""
+
+    magic: bytes
+    most: Sizes
+    width: int
+
+
+_SMALL = _Format(b"PCMIMG01", SMALL, 2)
+_LARGE = _Format(b"PCMIMG02", LARGE, 4)
+
+# Behind the last array line of the image of a large module.
+_END = 0xFFFFFFFF
 
 
 class ImageError(ValueError):
@@ -45,10 +59,42 @@ class Bank:
     entries: List[Entry] = field(default_factory=list)
 
 
+class ListedLines(Sequence[bytes]):
+    """The cells of all array lines of a large module, of which only those that aren't all 0 are kept."""
+
+    def __init__(self, count: int, size: int, listed: Dict[int, bytes]) -> None:
+        self._count = count
+        self._zeros = bytes(size)
+        self.listed = listed
+
+    def __len__(self) -> int:
+        return self._count
+
+    @overload
+    def __getitem__(self, at: int) -> bytes: ...
+
+    @overload
+    def __getitem__(self, at: slice) -> List[bytes]: ...
+
+    def __getitem__(self, at: Union[int, slice]) -> Union[bytes, List[bytes]]:
+        if isinstance(at, slice):
+            return [self[one] for one in range(*at.indices(self._count))]
+        one = at + self._count if at < 0 else at
+        if not 0 <= one < self._count:
+            raise IndexError("there is no such array line")
+        return self.listed.get(one, self._zeros)
+
+    def __eq__(self, other: object) -> bool:
+        if isinstance(other, ListedLines):
+            return (self._count, self._zeros, self.listed) == (other._count, other._zeros, other.listed)
+        return NotImplemented
+
+
 @dataclass
 class Image:
     """A module: the bytes of a line, the lines of a region, the spares of a bank, the seed of the randomiser, whether registers stand in
-    the array, its banks, and the cells of each array line, data before check cells, the lowest bit of a byte first."""
+    the array, its banks, the cells of each array line, data before check cells, the lowest bit of a byte first, and whether it is spelled
+    as that of a large module."""
 
     line_bytes: int
     lines: int
@@ -56,7 +102,8 @@ class Image:
     seed: int
     registers_in_array: bool
     banks: List[Bank]
-    cells: List[bytes]
+    cells: Sequence[bytes]
+    large: bool = False
 
     @property
     def check_bytes(self) -> int:
@@ -80,23 +127,36 @@ class Image:
 
     @staticmethod
     def read(data: bytes) -> "Image":
-        """The image that these bytes are; `ImageError` where they are none, as `pcm show` would tell."""
+        """The image that these bytes are, of a module of any size; `ImageError` where they are none, as `pcm show` would tell, or
+        `pcm view` where they begin as that of a large module."""
         return _Reader(data).image()
+
+    def touched(self) -> Iterator[Tuple[int, bytes]]:
+        """The array lines of which a cell is 1, each by its number and its cells."""
+        if isinstance(self.cells, ListedLines):
+            yield from sorted(self.cells.listed.items())
+        else:
+            yield from ((array, cells) for array, cells in enumerate(self.cells) if any(cells))
 
     def write(self) -> bytes:
         """The bytes of the image."""
-        size, banks = self.line_bytes, self.banks
-        parts = [_MAGIC, struct.pack("<BBBHHQB", size, len(banks), self.regions, self.lines, self.spares, self.seed, self.registers_in_array)]
+        size, banks, form = self.line_bytes, self.banks, _LARGE if self.large else _SMALL
+        head = "<BBBIHQB" if self.large else "<BBBHHQB"
+        parts = [form.magic, struct.pack(head, size, len(banks), self.regions, self.lines, self.spares, self.seed, self.registers_in_array)]
         for bank in banks:
             parts.append(struct.pack("<BH", bank.mark, len(bank.replaced)))
             parts += [struct.pack("<I", slot) for slot in bank.replaced]
-            parts += [struct.pack("<HHH", region.start, region.gap, region.counter) for region in bank.regions]
+            registers = "<IIH" if self.large else "<HHH"
+            parts += [struct.pack(registers, region.start, region.gap, region.counter) for region in bank.regions]
             parts.append(struct.pack("<H", len(bank.entries)))
             for entry in bank.entries:
                 given = bytes(
                     sum((entry.data[8 * at + bit] is not None) << bit for bit in range(8)) for at in range(size // 8)
                 )
                 parts += [struct.pack("<I", entry.line), bytes(byte or 0 for byte in entry.data), given]
+        if self.large:
+            rows = (struct.pack("<I", array) + cells for array, cells in self.touched())
+            return b"".join([*parts, *rows, struct.pack("<I", _END)])
         return b"".join([*parts, *self.cells])
 
     def array_line(self, bank: int, slot: int) -> int:
@@ -189,32 +249,54 @@ class _Reader:
         return value
 
     def image(self) -> Image:
-        if self.take(8) != _MAGIC:
+        magic = self.take(8)
+        form = _LARGE if magic == _LARGE.magic else _SMALL
+        if magic != form.magic:
             raise ImageError(0, "magic")
         begun = self.at
         size = self.number(1, "size")
         if size not in (64, 128):
             raise ImageError(begun, "size")
-        banks, regions = self.power(1, 1, SMALL.banks), self.power(1, 1, SMALL.regions)
+        banks, regions = self.power(1, 1, form.most.banks), self.power(1, 1, form.most.regions)
         begun = self.at
-        lines = self.power(2, 4, SMALL.lines)
-        if banks * regions * lines > SMALL.all_lines:
+        lines = self.power(form.width, 4, form.most.lines)
+        if banks * regions * lines > form.most.all_lines:
             raise ImageError(begun, "shape")
         spares, seed = self.number(2, "shape", most=1024), self.number(8, "seed")
         home = self.number(1, "shape", most=1)
-        parts = [self.bank(size, regions, lines, spares) for _ in range(banks)]
-        image = Image(size, lines, spares, seed, bool(home), parts, [])
-        image.cells = [self.take(size + image.check_bytes) for _ in range(banks * image.array_lines)]
+        parts = [self.bank(form.width, size, regions, lines, spares) for _ in range(banks)]
+        image = Image(size, lines, spares, seed, bool(home), parts, [], form is _LARGE)
+        count, row = banks * image.array_lines, size + image.check_bytes
+        image.cells = self.listed(count, row) if image.large else [self.take(row) for _ in range(count)]
         if self.at < len(self.data):
             raise ImageError(self.at, "extra")
         return image
 
-    def bank(self, size: int, regions: int, lines: int, spares: int) -> Bank:
+    def listed(self, count: int, row: int) -> ListedLines:
+        """The array lines of the image of a large module: each number above the one before it, with cells of which one is 1."""
+        listed: Dict[int, bytes] = {}
+        least = 0
+        while True:
+            begun = self.at
+            number = self.number(4, "line")
+            if number == _END:
+                return ListedLines(count, row, listed)
+            if not least <= number < count:
+                raise ImageError(begun, "line")
+            begun = self.at
+            cells = self.take(row)
+            if not any(cells):
+                raise ImageError(begun, "line")
+            listed[number] = cells
+            least = number + 1
+
+    def bank(self, width: int, size: int, regions: int, lines: int, spares: int) -> Bank:
         bank = Bank(self.number(1, "bank", most=1))
         slots = regions * (lines + 1)
         bank.replaced = [self.number(4, "bank", most=slots - 1) for _ in range(self.number(2, "bank", most=spares))]
         for _ in range(regions):
-            bank.regions.append(Region(self.number(2, "bank", most=lines - 1), self.number(2, "bank", most=lines), self.number(2, "bank")))
+            start, gap = self.number(width, "bank", most=lines - 1), self.number(width, "bank", most=lines)
+            bank.regions.append(Region(start, gap, self.number(2, "bank")))
         bank.entries = list(self.entries(self.number(2, "bank", most=256), size, regions * lines))
         return bank
 

@@ -32,7 +32,7 @@ def program(given: Program = None) -> List[str]:
 
 
 def command(name: str, given: Program = None) -> List[str]:
-    """The words that start a command of `pcm` (`run`, `gen`, .., `stream` or `explain`). Where `pcm` is that of a checkout or an installed one, these
+    """The words that start a command of `pcm` (`run`, `gen`, .., `stream`, `explain` or `view`). Where `pcm` is that of a checkout or an installed one, these
     name the built program behind it, which is asked for once in a process: it is built first where it isn't yet, which tells on standard
     error how far it is, and no later call pays for the question. `PcmError` where it can't be built. Another program, as a script around
     `pcm`, is started as it is."""

@@ -193,7 +193,10 @@ def pointers(run: Run) -> Optional[Sequence[int]]:
         return run.wear.pointers
     if run.image is None:
         return None
-    return [len(run.image.pointers(at)) for at in range(len(run.image.cells))]
+    found = bytearray(len(run.image.cells))
+    for at, _ in run.image.touched():
+        found[at] = len(run.image.pointers(at))
+    return found
 
 
 def sampled(snapshots: Sequence[Snapshot], most: int) -> List[Snapshot]:

@@ -68,7 +68,7 @@ class Sizes(NamedTuple):
     all_lines: int
 
 
-# Those of a module that every command takes, and whose image has a format; and those of one that streams take.
+# Those of a module that every command takes; and those of one that streams take.
 SMALL = Sizes(16, 16, 4096, 1 << 16)
 LARGE = Sizes(64, 64, 1 << 26, 1 << 26)
 
@@ -166,10 +166,11 @@ COMMANDS = {
         Command("check", "checks results behind their trace", "< TRACE-AND-RESULTS", _CHECK),
         Command("stream", "replays a trace as it comes", "< TRACE", {**_named([*_RUN, *_DRAWN]), **_named(_STREAM)}),
         Command("explain", "checks results, and explains what breaks a rule", "< TRACE-AND-RESULTS", _CHECK),
+        Command("view", "prints the newest bytes of a saved large module", "< IMAGE", {}),
     )
 }
 # Those that are programs of their own, beside the one that has the others.
-ALONE = ("stream", "explain")
+ALONE = ("stream", "explain", "view")
 # What the wrapper takes behind a command besides its options, without a value.
 FLAGS = {
     **dict.fromkeys(("run", "stream"), {"progress": "tells how far it is"}),
@@ -254,9 +255,6 @@ def _together(command: Command, given: Dict[str, str]) -> Optional[str]:
         most = (LARGE if streams else SMALL).all_lines
         if banks * regions * lines > most:
             return f"banks x regions x lines are {banks * regions * lines}: a module of {command.name} has at most {most} lines"
-        if streams and value["print"] == "image" and not are_small(banks, regions, lines):
-            shape = f"{SMALL.banks} banks of {SMALL.regions} regions of {SMALL.lines} lines, and {SMALL.all_lines} lines in all"
-            return f"--print image: an image has at most {shape}"
     if "cuts" in value and int(value["cuts"]) > int(value["rows"]):
         return f"--cuts {value['cuts']} are more than --rows {value['rows']}"
     if streams and int(value["rows"]) * int(value["step"]) > LATEST_TICK:

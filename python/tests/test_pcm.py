@@ -101,7 +101,7 @@ class Images(unittest.TestCase):
 
     def test_faults_are_those_of_show(self):
         whole = pcm.run([pcm.Write(0, 0, ONES)], print="image", **SMALL).image.write()
-        broken = [whole[:-1], whole + b"x", b"", b"PCMIMG02" + whole[8:]]
+        broken = [whole[:-1], whole + b"x", b"", b"PCMIMG03" + whole[8:]]
         broken += [whole[:at] + b"\xff\xff" + whole[at + 2:] for at in range(8, 40)]
         for data in broken:
             shown = subprocess.run([*pcm.program(), "show"], input=data, stdout=subprocess.PIPE, stderr=subprocess.PIPE, check=False)

@@ -11,7 +11,7 @@ use Rattle.pcm_image.specs.Saved.{Saved}
 use Rattle.right_images.specs.SavesRun.{SavesRunTo}
 use Rattle.image_text.specs.Sensing.{SensesRows}
 use Rattle.pcm_module.specs.{Asking.asked_for, Roles.spares_used, State.ModuleState}
-use Rattle.module_prints.specs.{Images.WritesRows, WearReports.cells_at}
+use Rattle.module_prints.specs.WearReports.{cells_at}
 use Rattle.program_calls.specs.Calls.{Gets, GetsPart, IsUntouched, Lent, SinkChange, SinkFails}
 use Rattle.run_text.specs.{Counting.counts_of, Pulses.pulses_in_all, SummaryText.summary_text}
 use Rattle.row_printer.specs.{Printing.{stream_text, table_of}, Snapshots.{AddsDue, takes_snapshots}, Telling.{became, outcomes_in, TellsOnce}, declared.snapshot.Snapshot.Snapshot}
@@ -21,7 +21,7 @@ use Rattle.trace_gen.specs.Generated.{generated}
 use Rattle.trace_stream.specs.{Asked.events_in, Laws.all_events, declared.asked.Asked.Asked}
 use Rattle.row_stream.specs.{Asking.{BeginsWith, stays_off, tick_reached, with_cut}, Ending.rows_of, Laws.TellsEach, Looking.wear_of, Serving.ComeByBanks}
 use Rattle.row_stream.specs.Sourcing.{IsRead, IsReadTo}
-use Rattle.stream_top.specs.{Calls.LentSource, FaultLines.{fault_line, status_of}, Leaving.{IsClosing, senses_for}, Promises.{Call, IsAsleep, IsUnread, OthersUntouched}}
+use Rattle.stream_top.specs.{Calls.LentSource, FaultLines.{fault_line, status_of}, Leaving.{IsClosing, WritesRowsOf, senses_for}, Promises.{Call, IsAsleep, IsUnread, OthersUntouched}}
 use Rattle.stream_top.specs.{Streams.{StopsBy, done_by, is_off, rows_told, shown_by, status_done, stops_at_refusal}, declared.done.Done.Done, declared.done.Done.TheVariants.Short}
 use Rattle.stream_top.specs.{declared.fault.Fault.Fault, declared.fault.Fault.TheVariants.{Usage, Write, NoMemory}}
 use Rattle.moment_laws.specs.Moments.{IsQueuedNow, so_far, stand_now}
@@ -140,7 +140,7 @@ module _ {S : Type 0} (n m e : ℕ) (job : StreamJob) (source : LentSource S) wh
       pub closes : ClosesRows array changes told served text
       pub part : GetsPart out (stream_text (shown_by job.shape job.print) told served.snapshots ++ text)
       pub sensed : served.sensed ≤ senses_for job.print array.lines
-      pub rows : job.print ≡ Image → WritesRows array served.saved out.written_before out.written_now
+      pub rows : job.print ≡ Image → WritesRowsOf job.shape array served.saved out.written_before out.written_now
 
     -- its first rows were served, and first bytes of what was told of them were written
     pub record BeginsInPartByRows (array : ArrayState n m) : Type 0 where

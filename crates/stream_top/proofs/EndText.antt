@@ -8,7 +8,7 @@ use Rattle.energy_report.specs.EnergyText.{energy_report}
 use Rattle.lines_report.specs.declared.row.LineCells.{LineCells}
 use Rattle.module_shape.specs.Addresses.{array_lines_of, module_of}
 use Rattle.right_runs.specs.Ends.{BankEnd}
-use Rattle.pcm_image.specs.{Saved.Saved, Spelling.image_bytes}
+use Rattle.pcm_image.specs.Saved.{Saved}
 use Rattle.right_images.specs.Saving.{saved_of}
 use Rattle.image_text.{specs.Sensing.SensesRows, proofs.Sensing.senses-none}
 use Rattle.run_text.specs.{Pulses.pulses_in_all, SummaryText.summary_text, declared.counts.Counts.Counts}
@@ -16,7 +16,7 @@ use Rattle.pcm_module.specs.{Roles.spares_used, State.{AreEndsOf, ModuleState}}
 use Rattle.module_prints.specs.{Images.kept_in, StandingMap.standing_map, WearReports.{HaveRoles, IsWearReport}}
 use Rattle.stream_words.specs.{declared.job.Skip.Skip, declared.job.StreamPrint.StreamPrint}
 use Rattle.stream_words.specs.{declared.job.StreamPrint.TheVariants.{Rows, Summary, Wear, Lines, Map, Energy, Image, Snapshots}, declared.job.Tell.Tell}
-use Rattle.stream_top.specs.Leaving.{IsClosing, lines_but, senses_for, wear_but}
+use Rattle.stream_top.specs.Leaving.{IsClosing, lines_but, senses_for, spelled, wear_but}
 
 module _ {n m e : ℕ} (module_ : ModuleState n m e) (array : ArrayState n m) (cells : ℕ → LineCells) (rows : ℕ) (counts : Counts) (print : StreamPrint) (P : List ℕ → Type 0) where
   -- what is written is the text of the end, by whatever ends the module's banks have
@@ -65,10 +65,10 @@ module _ {n m e : ℕ} (module_ : ModuleState n m e) (array : ArrayState n m) (c
       let text : List ℕ = energy_report array.energy module_.shape.banks (array_lines_of (module_of module_.shape)) in
       (text, subst (Closes ends text) (sym is) refl, written)
 
-  pub image-closes : print ≡ Image → (seed : ℕ) → seed ≡ module_.seed → P (image_bytes (saved_of module_.shape seed (kept_in module_) array)) → PrintsOf
+  pub image-closes : print ≡ Image → (seed : ℕ) → seed ≡ module_.seed → P (spelled module_.shape (saved_of module_.shape seed (kept_in module_) array)) → PrintsOf
   image-closes is seed same written = λ ends are roles.
       let saved : Saved n m = saved_of module_.shape module_.seed (kept_in module_) array in
-      (image_bytes saved, subst (Closes ends (image_bytes saved)) (sym is) refl, subst (λ (k : ℕ). P (image_bytes (saved_of module_.shape k (kept_in module_) array))) same written)
+      (spelled module_.shape saved, subst (Closes ends (spelled module_.shape saved)) (sym is) refl, subst (λ (k : ℕ). P (spelled module_.shape (saved_of module_.shape k (kept_in module_) array))) same written)
 
 -- a summary that an empty text got
 pub summary-bytes : (old new : Reserved) (limit : ℕ) (text : List ℕ) → old ≡ reserved limit → new ≡ appended old text → new.bytes ≡ text

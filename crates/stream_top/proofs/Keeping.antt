@@ -1,10 +1,10 @@
 -- What a stream that ended is, and what its call promises.
-use Rattle.std.proofs.Common.{◌≡◌, ◌≢◌, ◌⊎◌, inl, inr, ℕ, ◌*◌, ◌^◌, ◌<◌, ◌≤◌, ◌++◌, List, [], Option, Some, refl, sym, ap, ◌∙◌, subst, arith}
+use Rattle.std.proofs.Common.{◌≡◌, ◌≢◌, ◌⊎◌, inl, inr, ℕ, ◌*◌, ◌^◌, ◌<◌, ◌≤◌, ◌++◌, Bool, true, false, List, [], Option, Some, refl, sym, ap, ◌∙◌, subst, arith}
 use Rattle.std.specs.{Io.KnownBytes.Appends, Prelude.{Result, Ok, Err}}
 use Rattle.pcm_io.{specs.Giving.AppendsPrefix, proofs.ByteLemmas.{Appends-Appends, Appends-AppendsPrefix, AppendsPrefix-longer}}
 use Rattle.energy_report.specs.EnergyText.{energy_report}
 use Rattle.lines_report.specs.declared.row.LineCells.{LineCells}
-use Rattle.module_shape.specs.{Addresses.{array_lines_of, module_of}, Limits.IsShape, declared.raw.RawShape.RawShape}
+use Rattle.module_shape.specs.{Addresses.{array_lines_of, module_of}, Limits.{IsShape, is_small}, declared.raw.RawShape.RawShape}
 use Rattle.right_runs.specs.Ends.{BankEnd}
 use Rattle.run_text.specs.{Counting.counts_of, Pulses.pulses_in_all, SummaryText.summary_text, declared.counts.Counts.Counts}
 use Rattle.cell_rows.specs.Device.{ArrayState}
@@ -12,7 +12,8 @@ use Rattle.pcm_image.specs.{Saved.Saved, Spelling.image_bytes}
 use Rattle.right_images.specs.Saving.{first_rows, saved_of}
 use Rattle.image_text.{specs.Sensing.SensesRows, proofs.Sensing.senses-none}
 use Rattle.pcm_module.specs.{Roles.spares_used, State.ModuleState}
-use Rattle.module_prints.specs.{Images.{WritesRows, kept_in}, StandingMap.standing_map, WearReports.{HaveRoles, IsWearReport, cells_at}}
+use Rattle.large_prints.specs.Rows.{large_to}
+use Rattle.module_prints.specs.{Images.kept_in, StandingMap.standing_map, WearReports.{HaveRoles, IsWearReport, cells_at}}
 use Rattle.module_prints.proofs.Wearing.{worn-goes_on, worn-none}
 use Rattle.program_calls.specs.Calls.{GetsPart, IsUntouched, Lent, SinkChange, SinkFails}
 use Rattle.row_printer.specs.{Printing.{stream_text, table_of}, Telling.{outcomes_in, TellsOnce}, declared.snapshot.Snapshot.Snapshot, declared.told.Shown.Shown}
@@ -21,7 +22,7 @@ use Rattle.row_stream.specs.{Asking.{stays_off, with_cut}, Ending.SnapsAll, Laws
 use Rattle.stream_words.specs.{Jobs.IsStreamJob, declared.job.StreamJob.StreamJob, declared.job.StreamPrint.StreamPrint}
 use Rattle.stream_words.specs.declared.job.StreamPrint.TheVariants.{Rows, Summary, Wear, Lines, Map, Energy, Image, Snapshots}
 use Rattle.trace_stream.specs.{Asked.events_in, declared.asked.Asked.Asked}
-use Rattle.stream_top.specs.{Calls.LentSource, FaultLines.{fault_line, status_of}, Leaving.{IsClosing, Leaves, LeavesLaw, lines_but, senses_for, wear_but}}
+use Rattle.stream_top.specs.{Calls.LentSource, FaultLines.{fault_line, status_of}, Leaving.{IsClosing, Leaves, LeavesLaw, WritesRowsBy, WritesRowsOf, lines_but, senses_for, spelled, wear_but}}
 use Rattle.stream_top.specs.Promises.{Breaks, Call, EndsCall, IsAsleep, IsRefused, IsStatusOf, IsUnread, KeepsPromises, OthersOn, OthersUntouched, Stops}
 use Rattle.stream_top.specs.Streams.{BreaksOff, Closes, GoesAsFarAs, HasPlayed, IsServed, IsServedInPart, StopsBy, Streams, StreamsUpTo, done_by, has_stopped, is_off, rows_told}
 use Rattle.stream_top.specs.{Streams.{shown_by, status_done, told_of_rows}, declared.done.Done.Done, declared.done.Done.TheVariants.{Whole, Short}, declared.fault.Fault.Fault}
@@ -66,7 +67,7 @@ some-closing raw seed rows counts ends array cells saved (Lines skip) is roles s
     (lines_but skip cells ([] ++ report.0), ([] ++ report.0, report.1, refl))
 some-closing raw seed rows counts ends array cells saved Map is roles size = (standing_map raw seed ends, refl)
 some-closing raw seed rows counts ends array cells saved Energy is roles size = (energy_report array.energy raw.banks (array_lines_of (module_of raw)), refl)
-some-closing raw seed rows counts ends array cells saved Image is roles size = (image_bytes saved, refl)
+some-closing raw seed rows counts ends array cells saved Image is roles size = (spelled raw saved, refl)
 some-closing raw seed rows counts ends array cells saved (Snapshots every) is roles size = ([], refl)
 
 -- before an image nothing is printed
@@ -79,6 +80,32 @@ nothing-before raw Map told snaps is = absurd (cc is)
 nothing-before raw Energy told snaps is = absurd (cc is)
 nothing-before raw Image told snaps is = refl
 nothing-before raw (Snapshots every) told snaps is = absurd (cc is)
+
+-- first bytes of an image are so where nothing was written before them
+rows-behind : {n m : ℕ} (small : Bool) (array : ArrayState n m) (saved : Saved n m) (before mid now : Option (List ℕ)) → Appends before mid [] → WritesRowsBy small array saved mid now → WritesRowsBy small array saved before now
+rows-behind true array saved before mid now none had = record {
+  count = had.count;
+  rows = had.rows;
+  part = Appends-AppendsPrefix before mid now [] (image_bytes (first_rows had.count saved)) none had.part;
+}
+rows-behind false array saved before mid now none had = record {
+  count = had.count;
+  rows = had.rows;
+  part = Appends-AppendsPrefix before mid now [] (large_to had.count saved) none had.part;
+}
+
+-- and so is nothing
+no-rows : {n m : ℕ} (small : Bool) (array : ArrayState n m) (saved : Saved n m) (before now : Option (List ℕ)) → AppendsPrefix before now [] → WritesRowsBy small array saved before now
+no-rows true array saved before now part = record {
+  count = 0;
+  rows = λ line below. absurd (omega (arith, below));
+  part = AppendsPrefix-longer before now [] (image_bytes (first_rows 0 saved)) part;
+}
+no-rows false array saved before now part = record {
+  count = 0;
+  rows = λ line below. absurd (omega (arith, below));
+  part = AppendsPrefix-longer before now [] (large_to 0 saved) part;
+}
 
 module _ {S : Type 0} (n m e : ℕ) (job : StreamJob) (source : LentSource S) (module_ : ModuleState n m e) (before : ArrayState n m) (places : ℕ) (told : List (Told n)) (prints : Shown) (snaps : List Snapshot) (alike : prints ≡ shown_by job.shape job.print)
     (once : TellsOnce places (outcomes_in told)) (lawful : IsStreamJob job) where
@@ -170,7 +197,7 @@ module _ {S : Type 0} (n m e : ℕ) (job : StreamJob) (source : LentSource S) (m
     pub stream-part : (out : SinkChange) (mid : Option (List ℕ)) → Appends out.written_before mid (stream_text prints told snaps)
         → (rows : ℕ) (counts : Counts) → rows ≡ places → counts ≡ counts_of (table_of places told) → PrintsOf module_ before (cells_at e before changes) rows counts job.print (λ whole. AppendsPrefix mid out.written_now whole)
         → sensed ≤ senses_for job.print before.lines
-        → (job.print ≡ Image → WritesRows array (saved_of module_.shape module_.seed (kept_in module_) before) mid out.written_now)
+        → (job.print ≡ Image → WritesRowsOf module_.shape array (saved_of module_.shape module_.seed (kept_in module_) before) mid out.written_now)
         → SinkFails out → BreaksOff n m e job source out array changes_now
     unfolding served-of
     stream-part out mid gets rows counts same counted writes some image fails =
@@ -188,12 +215,8 @@ module _ {S : Type 0} (n m e : ℕ) (job : StreamJob) (source : LentSource S) (m
                 λ is.
                 let had = image is in
                 let none : Appends out.written_before mid [] = subst (Appends out.written_before mid) (nothing-before job.shape job.print told snaps is) first in
-                let Of : RawShape → ℕ → Type 0 = λ raw seed. WritesRows array (saved_of raw seed (kept_in module_) before) out.written_before out.written_now in
-                let own : Of module_.shape module_.seed = record {
-                  count = had.count;
-                  rows = had.rows;
-                  part = Appends-AppendsPrefix out.written_before mid out.written_now [] (image_bytes (first_rows had.count (saved_of module_.shape module_.seed (kept_in module_) before))) none had.part;
-                } in
+                let Of : RawShape → ℕ → Type 0 = λ raw seed. WritesRowsOf raw array (saved_of raw seed (kept_in module_) before) out.written_before out.written_now in
+                let own : Of module_.shape module_.seed = rows-behind (is_small module_.shape) array (saved_of module_.shape module_.seed (kept_in module_) before) out.written_before mid out.written_now none had in
                 subst (λ (seed : ℕ). Of job.shape seed) played.0.0.seeded (subst (λ (raw : RawShape). Of raw module_.seed) played.0.0.shape own);
           });
           fails = fails;
@@ -215,11 +238,7 @@ module _ {S : Type 0} (n m e : ℕ) (job : StreamJob) (source : LentSource S) (m
             closes = text.1;
             part = AppendsPrefix-longer out.written_before out.written_now (stream_text (shown_by job.shape job.print) told snaps) text.0 first;
             sensed = rw none (omega arith);
-            rows = λ is. record {
-              count = 0;
-              rows = λ line below. absurd (omega (arith, below));
-              part = AppendsPrefix-longer out.written_before out.written_now [] (image_bytes (first_rows 0 saved)) (subst (AppendsPrefix out.written_before out.written_now) (nothing-before job.shape job.print told snaps is) first);
-            };
+            rows = λ is. no-rows (is_small job.shape) array saved out.written_before out.written_now (subst (AppendsPrefix out.written_before out.written_now) (nothing-before job.shape job.print told snaps is) first);
           });
           fails = fails;
         }

@@ -10,7 +10,7 @@ use Rattle.row_printer.specs.{Printing.table_of, Refusing.any_refused, declared.
 use Rattle.row_stream.specs.{Asking.{stays_off, with_cut}, Ending.{EndsShowing, HasEnded, told_along, without_cut}, Refusing.{EndsBehind, GoesAsFar, WentOn, tells_refusal}}
 use Rattle.row_stream.specs.{Serving.{IsServing, Telling, told_so_far}, Sourcing.HasStopped, declared.stop.Stop.Stop, declared.stop.Stop.TheVariants.{Input, Late, Endless, Output}}
 use Rattle.row_stream.proofs.Refusals.{told-refusal}
-use Rattle.stream_words.specs.{Jobs.IsStreamJob, declared.job.StreamJob.StreamJob, declared.job.StreamPrint.TheVariants.Image}
+use Rattle.stream_words.specs.declared.job.StreamJob.{StreamJob}
 use Rattle.trace_stream.specs.declared.asked.Asked.{Asked}
 use Rattle.trace_stream.specs.declared.fault.StreamFault.TheVariants as from
 use Rattle.stream_top.specs.{Calls.LentSource, Streams.{ComeFrom, GoesAsFarAs, HasCause, HasPlayed, has_stopped, is_off, stop_fault, stops_at_refusal, told_of_rows}}
@@ -30,12 +30,12 @@ serves-none raw seed module_ array shown shape seeded tick below going begins = 
   in_time = omega (arith, tick);
 }
 
--- a stream that was served to its end leaves a module with an image, where it asks for one
-pub has-image : {n m e : ℕ} (job : StreamJob) (off : Bool) (asked : List (Asked n)) (module_ : ModuleState n m e) (array : ArrayState n m) (places : ℕ) (told : List (Told n)) → IsStreamJob job
-    → HasEnded job.shape job.seed off asked module_ array places told → job.print ≡ Image → HasImage module_
-has-image job off asked module_ array places told is ended print =
-    let small = is.image print in record {
-      small = subst IsSmall (sym ended.shape) small;
+-- a stream that was served to its end leaves a small module with an image
+pub has-image : {n m e : ℕ} (job : StreamJob) (off : Bool) (asked : List (Asked n)) (module_ : ModuleState n m e) (array : ArrayState n m) (places : ℕ) (told : List (Told n))
+    → HasEnded job.shape job.seed off asked module_ array places told → IsSmall module_.shape → HasImage module_
+has-image job off asked module_ array places told ended own =
+    let small : IsSmall job.shape = subst IsSmall ended.shape own in record {
+      small = own;
       few_lines =
           λ bank low.
           let shaped = ended.finished.1.shapes bank (subst (λ (raw : RawShape). bank < raw.banks) ended.shape low) in

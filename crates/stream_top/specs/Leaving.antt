@@ -1,21 +1,23 @@
 -- What a stream leaves that was served to its end, and what is written of it.
-use Rattle.std.specs.Prelude.{◌≡◌, ℕ, ◌^◌, ◌<◌, Bool, List, []}
+use Rattle.std.specs.Prelude.{◌≡◌, ℕ, ◌^◌, ◌<◌, Bool, true, false, if◌then◌else◌, List, [], Option}
 use Rattle.cell_rows.specs.Device.{ArrayState}
 use Rattle.row_rules.specs.declared.Row.{Row}
 use Rattle.wear_report.specs.WearText.{wear_text}
 use Rattle.bank_shape.specs.declared.Role.{Role}
 use Rattle.energy_report.specs.EnergyText.{energy_report}
 use Rattle.lines_report.specs.{LinesText.lines_text, declared.row.LineCells.LineCells}
-use Rattle.module_shape.specs.{Addresses.{array_lines_of, module_of}, Limits.IsShape, declared.raw.RawShape.RawShape}
+use Rattle.module_shape.specs.{Addresses.{array_lines_of, module_of}, Limits.{IsShape, is_small}, declared.raw.RawShape.RawShape}
 use Rattle.right_runs.specs.{Ends.BankEnd, Runs.RunsRightTo}
 use Rattle.pcm_image.specs.{Saved.Saved, Spelling.image_bytes}
+use Rattle.large_image.specs.Spelling.{large_bytes}
 use Rattle.image_laws.specs.SavedRuns.{IsLeftTo}
 use Rattle.right_images.specs.{SavesRun.SavesRunTo, Saving.saved_of}
 use Rattle.image_text.specs.Sensing.{SensesRows}
 use Rattle.run_text.specs.{Pulses.pulses_in_all, SummaryText.summary_text, declared.counts.Counts.Counts}
 use Rattle.pcm_module.specs.{Roles.spares_used, State.ModuleState}
-use Rattle.module_prints.specs.{Images.kept_in, PulsedLines.pulsed_text, StandingMap.standing_map, WearReports.{HaveRoles, IsWearReport}}
+use Rattle.module_prints.specs.{Images.{WritesRows, kept_in}, PulsedLines.pulsed_text, StandingMap.standing_map, WearReports.{HaveRoles, IsWearReport}}
 use Rattle.module_prints.specs.declared.pulsed.Report.TheVariants as of
+use Rattle.large_prints.specs.Rows.{WritesLargeRows}
 use Rattle.row_printer.specs.{Printing.table_of, declared.told.Told.Told}
 use Rattle.trace_stream.specs.{Asked.events_in, declared.asked.Asked.Asked}
 use Rattle.row_stream.specs.Ending.{HasEnded, rows_of}
@@ -51,6 +53,18 @@ abbrev pub lines_but : Skip → (ℕ → LineCells) → List (ℕ × ℕ × Role
 lines_but skip.Nothing cells report = lines_text cells report
 lines_but skip.Unpulsed cells report = pulsed_text of.Lines cells report
 
+-- the bytes of a saved module of these sizes: a small one's are spelled otherwise than a large one's
+abbrev pub spelled : {n m : ℕ} → RawShape → Saved n m → List ℕ
+spelled raw saved = if is_small raw then image_bytes saved else large_bytes saved
+
+-- of these first bytes were written, no more than to the end of some of the array's first rows, each of which has the bytes of a line
+abbrev pub WritesRowsBy : {n m : ℕ} → Bool → ArrayState n m → Saved n m → Option (List ℕ) → Option (List ℕ) → Type 0
+WritesRowsBy true array saved was now = WritesRows array saved was now
+WritesRowsBy false array saved was now = WritesLargeRows array saved was now
+
+abbrev pub WritesRowsOf : {n m : ℕ} → RawShape → ArrayState n m → Saved n m → Option (List ℕ) → Option (List ℕ) → Type 0
+WritesRowsOf raw array saved was now = WritesRowsBy (is_small raw) array saved was now
+
 -- what is written in the end of so many rows, of which so many had each outcome: by the ends of the banks, the array, what the
 -- cells of its lines say, and the module that is saved
 abbrev pub IsClosing : {n m : ℕ} → RawShape → ℕ → ℕ → Counts → (ℕ → BankEnd) → ArrayState n m → (ℕ → LineCells) → Saved n m → StreamPrint → List ℕ → Type 0
@@ -63,7 +77,7 @@ IsClosing raw seed rows counts ends array cells saved (Lines skip) text =
 IsClosing raw seed rows counts ends array cells saved Map text = text ≡ standing_map raw seed ends
 IsClosing raw seed rows counts ends array cells saved Energy text =
     text ≡ energy_report array.energy raw.banks (array_lines_of (module_of raw))
-IsClosing raw seed rows counts ends array cells saved Image text = text ≡ image_bytes saved
+IsClosing raw seed rows counts ends array cells saved Image text = text ≡ spelled raw saved
 IsClosing raw seed rows counts ends array cells saved (Snapshots every) text = text ≡ []
 
 -- a stream that has ended leaves all that, whether or not the power stays off, and each array line has one role

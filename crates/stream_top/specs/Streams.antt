@@ -8,7 +8,7 @@ use Rattle.command_line.specs.{declared.job.Input.Input, declared.job.Input.TheV
 use Rattle.module_shape.specs.{Limits.total_of, declared.raw.RawShape.RawShape}
 use Rattle.pcm_image.specs.Saved.{Saved}
 use Rattle.pcm_module.specs.State.{ModuleState}
-use Rattle.module_prints.specs.{Images.WritesRows, WearReports.cells_at}
+use Rattle.module_prints.specs.WearReports.{cells_at}
 use Rattle.program_calls.specs.Calls.{Gets, GetsPart, IsUntouched, Lent, SinkChange, SinkFails}
 use Rattle.run_text.specs.{Counting.counts_of, Shortfall.any_short}
 use Rattle.row_printer.specs.{Printing.{stream_text, table_of}, Telling.{outcomes_in, TellsOnce}, declared.snapshot.Snapshot.Snapshot, declared.told.Shown.Shown}
@@ -24,7 +24,7 @@ use Rattle.trace_stream.specs.declared.fault.StreamFault.TheVariants as from
 use Rattle.row_stream.specs.{Asking.{BeginsWith, stays_off, with_cut}, Ending.{EndsShowing, HasEnded, SnapsAll, rows_of, told_along, without_cut}, Laws.TellsEach}
 use Rattle.row_stream.specs.{Refusing.{EndsBehind, MayGoOn, WentOn, tells_refusal}, Serving.{HasServed, SnapsAlong, Telling, TellsAlong}, Sourcing.{HasStopped, IsRead, IsReadTo}}
 use Rattle.row_stream.specs.{declared.stop.Stop.Stop, declared.stop.Stop.TheVariants.{Input as No, Late, Endless, Output}}
-use Rattle.stream_top.specs.{Calls.LentSource, Leaving.{IsClosing, Leaves, senses_for}, declared.done.Done.Done, declared.done.Done.TheVariants.{Whole, Short}}
+use Rattle.stream_top.specs.{Calls.LentSource, Leaving.{IsClosing, Leaves, WritesRowsOf, senses_for}, declared.done.Done.Done, declared.done.Done.TheVariants.{Whole, Short}}
 use Rattle.stream_top.specs.{declared.fault.Fault.Fault, declared.fault.Fault.TheVariants.{Usage, Trace, Read, Write, TooLong, NoMemory}}
 
 -- whether the power is to stay off behind the last row
@@ -214,7 +214,7 @@ module _ {S : Type 0} (n m e : ℕ) (job : StreamJob) (source : LentSource S) wh
       pub closes : Closes array changes told served text
       pub part : GetsPart out (stream_text (shown_by job.shape job.print) told served.snapshots ++ text)
       pub sensed : served.sensed ≤ senses_for job.print array.lines
-      pub rows : job.print ≡ Image → WritesRows array served.saved out.written_before out.written_now
+      pub rows : job.print ≡ Image → WritesRowsOf job.shape array served.saved out.written_before out.written_now
 
     -- its first rows were served, and first bytes of what was told of them were written
     pub record BeginsInPart (array : ArrayState n m) : Type 0 where

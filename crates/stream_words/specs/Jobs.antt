@@ -1,17 +1,12 @@
 -- What the words of a stream ask for.
-use Rattle.std.specs.Prelude.{◌≡◌, if◌then◌else◌, List, codes, Option, Some, None, Result}
+use Rattle.std.specs.Prelude.{◌≡◌, List, codes, Option, Some, Result}
 use Rattle.clap.specs.Words.{App, Row, Text, first_of, matches_of}
 use Rattle.cell_rows.specs.Device.{IsWear}
 use Rattle.trace_gen.specs.Generated.{IsLongMix}
-use Rattle.module_shape.specs.Limits.{IsShape, IsSmall}
+use Rattle.module_shape.specs.Limits.{IsShape}
 use Rattle.command_line.specs.{Jobs.{answer_of, faults_at}, Options.{with_some, line_of, large_shape_of, seed_of, wear_of, input_of}, declared.job.Input.Input}
 use Rattle.command_line.specs.{declared.job.Input.TheVariants.{Source, Drawn}, declared.job.Refusal.Refusal}
-use Rattle.stream_words.specs.{Options.{IsPrint, can_be_printed, end_of, long_mix_of, print_of, until_of}, Table.stream_app, declared.job.StreamJob.StreamJob}
-use Rattle.stream_words.specs.declared.job.StreamPrint.TheVariants.{Image}
-
--- a job that writes what can be written of its module
-abbrev pub fitting : StreamJob → Option StreamJob
-fitting job = if can_be_printed job.shape job.print then Some job else None
+use Rattle.stream_words.specs.{Options.{IsPrint, end_of, long_mix_of, print_of, until_of}, Table.stream_app, declared.job.StreamJob.StreamJob}
 
 -- the job of these options; those of a generated trace are looked at whatever the input is
 unfoldable pub stream_of : List Row → Option StreamJob
@@ -25,7 +20,7 @@ stream_of rows =
     with_some (input_of mix (first_of (codes "input") rows)) (λ input.
     with_some (end_of (first_of (codes "end") rows)) (λ end.
     with_some (until_of (first_of (codes "until") rows)) (λ until.
-    fitting (record { line = line; shape = shape; seed = seed; wear = wear; print = print; input = input; end = end; until = until }))))))))))
+    Some (record { line = line; shape = shape; seed = seed; wear = wear; print = print; input = input; end = end; until = until }))))))))))
 
 -- the options that `clap` finds in words
 unfoldable pub options_at : App → List Text → List Row
@@ -50,5 +45,4 @@ pub record IsStreamJob (job : StreamJob) : Type 0 where
   pub wear : IsWear job.wear
   pub one_seed : job.wear.seed ≡ job.seed
   pub print : IsPrint job.print
-  pub image : job.print ≡ Image → IsSmall job.shape
   pub input : IsLongInput job.input

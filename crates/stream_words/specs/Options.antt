@@ -3,7 +3,6 @@ use Rattle.std.specs.{Prelude.{ℕ, ◌*◌, ◌≤◌, nat_le, Bool, true, fals
 use Rattle.clap.specs.Words.{Row, Text, first_of}
 use Rattle.trace_reader.specs.{Number.number_of, Rows.latest_tick}
 use Rattle.trace_gen.specs.{Generated.stream_lines, declared.mix.Mix.Mix}
-use Rattle.module_shape.specs.{Limits.is_small, declared.raw.RawShape.RawShape}
 use Rattle.command_line.specs.{Options.{mix_within, one_of_two, with_some}, declared.job.Input.Input, declared.job.Input.TheVariants.{Source, Drawn}}
 use Rattle.stream_words.specs.{declared.job.End.End, declared.job.End.TheVariants.{Drain, Off}, declared.job.Skip.Skip, declared.job.StreamPrint.StreamPrint}
 use Rattle.stream_words.specs.{declared.job.StreamPrint.TheVariants.{Rows, Summary, Wear, Lines, Map, Energy, Image, Snapshots}, declared.job.Tell.Tell, declared.job.Until.Until}
@@ -129,14 +128,3 @@ in_time mix = if nat_le (mix.rows * mix.step) latest_tick then Some mix else Non
 -- what the rows are that a stream draws
 abbrev pub long_mix_of : List Row → Option Mix
 long_mix_of rows = with_some (mix_within 4000000000 stream_lines rows) in_time
-
--- whether that can be written of a module of these sizes: an image has no room for those of a larger one
-abbrev pub can_be_printed : RawShape → StreamPrint → Bool
-can_be_printed raw (Rows told) = true
-can_be_printed raw Summary = true
-can_be_printed raw (Wear skipped) = true
-can_be_printed raw (Lines skipped) = true
-can_be_printed raw Map = true
-can_be_printed raw Energy = true
-can_be_printed raw Image = is_small raw
-can_be_printed raw (Snapshots every) = true

@@ -1,16 +1,13 @@
 // What the options of a stream mean, where it isn't what those of a run mean.
-ghost use Rattle.std.specs.Prelude.{◌≡◌, ◌≤◌, IfSome, IsTrue, codes, option_map};
-ghost use Rattle.module_shape.specs.Limits.{IsSmall};
-ghost use Rattle.stream_words.specs.declared.job.StreamPrint.TheVariants.{Image};
+ghost use Rattle.std.specs.Prelude.{◌≡◌, ◌≤◌, IfSome, codes, option_map};
 ghost use Rattle.clap.specs.Words.{first_of, found_of, rows_of};
 ghost use Rattle.command_line.specs.Options.{with_some};
 ghost use Rattle.trace_gen.specs.Generated.{IsLongMix};
-ghost use Rattle.stream_words.specs.Options.{IsPrint, can_be_printed, closing_of, end_of, every_of, long_mix_of, plain_of, print_of, report_of, skip_of, skipping_of, snapshots_of, tell_of, told_rows, until_of, whole_of, without};
+ghost use Rattle.stream_words.specs.Options.{IsPrint, closing_of, end_of, every_of, long_mix_of, plain_of, print_of, report_of, skip_of, skipping_of, snapshots_of, tell_of, told_rows, until_of, whole_of, without};
 
 use crate::job::{End, Skip, StreamPrint, Tell, Until};
 use clap::ArgMatches;
 use command_line::options::{mix_within, value};
-use module_shape::Shape;
 use trace_gen::Mix;
 use trace_reader::{LATEST_TICK, number};
 
@@ -213,15 +210,4 @@ pub(crate) fn long_mix(matches: &ArgMatches<'_>) -> Option<Mix>
         return None;
     }
     Some(mix)
-}
-
-// Whether it can be written of a module of these sizes: an image has no room for those of a larger one.
-pub(crate) fn can_print(shape: &Shape, print: StreamPrint) -> bool
-    ensures exact { result ≡ can_be_printed shape.now print }
-    ensures image { IsTrue result → print ≡ Image → IsSmall shape.now }
-{
-    match print {
-        StreamPrint::Image => shape.is_small(),
-        _ => true,
-    }
 }

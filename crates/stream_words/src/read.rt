@@ -2,12 +2,10 @@
 ghost use Rattle.std.specs.Prelude.{◌≡◌, ◌≢◌, IfErr, IfOk, IfSome, Err, Ok, map, string_bytes};
 ghost use Rattle.clap.specs.Words.{found_of, rows_of};
 ghost use Rattle.command_line.specs.Jobs.{or_usage};
-ghost use Rattle.module_shape.specs.Limits.{IsSmall};
-ghost use Rattle.stream_words.specs.declared.job.StreamPrint.TheVariants.{Image};
-ghost use Rattle.stream_words.specs.Jobs.{IsStreamJob, fitting, stream_job_of, stream_of};
+ghost use Rattle.stream_words.specs.Jobs.{IsStreamJob, stream_job_of, stream_of};
 
 use crate::job::StreamJob;
-use crate::options::{can_print, end, long_mix, print, until};
+use crate::options::{end, long_mix, print, until};
 use crate::table::stream_command;
 use clap::ArgMatches;
 use command_line::Refusal;
@@ -29,7 +27,7 @@ fn stream(matches: &ArgMatches<'_>) -> Option<StreamJob>
     let input = input(matches, mix)?;
     let end = end(matches)?;
     let until = until(matches)?;
-    fitting(StreamJob {
+    Some(StreamJob {
         line,
         shape,
         seed,
@@ -39,19 +37,6 @@ fn stream(matches: &ArgMatches<'_>) -> Option<StreamJob>
         end,
         until,
     })
-}
-
-// A job that writes what can be written of its module.
-fn fitting(job: StreamJob) -> Option<StreamJob>
-    requires ready { (job.print ≡ Image → IsSmall job.shape) → IsStreamJob job }
-    ensures exact { result ≡ fitting job }
-    ensures in_range { IfSome result IsStreamJob }
-{
-    if can_print(&job.shape, job.print) {
-        Some(job)
-    } else {
-        None
-    }
 }
 
 /// What the words behind the program's name ask for.

@@ -4,10 +4,10 @@ use Rattle.pcm_io.{specs.Giving.AppendsPrefix, proofs.ByteLemmas.Appends-nothing
 use Rattle.run_text.proofs.Gathered.{on_err, on_ok}
 use Rattle.right_images.specs.Saving.{saved_of}
 use Rattle.image_text.{specs.Sensing.{SensesRows, SensesSome}, proofs.Sensing.senses-none}
-use Rattle.module_prints.specs.{Images.{WritesRows, kept_in}, WearReports.cells_at}
+use Rattle.module_prints.specs.{Images.kept_in, WearReports.cells_at}
 use Rattle.stream_words.specs.declared.job.StreamPrint.TheVariants.{Wear, Lines}
 use Rattle.stream_words.specs.declared.job.Skip.TheVariants as skip
-use Rattle.stream_top.specs.Leaving.{senses_for}
+use Rattle.stream_top.specs.Leaving.{WritesRowsOf, senses_for}
 use Rattle.stream_top.proofs.EndText.{energy-closes, image-closes, lines-closes, map-closes, no-image, nothing-closes, senses-nothing, snapshots-close, summary-bytes}
 use Rattle.stream_top.proofs.EndText.{summary-closes, wear-closes}
 use Rattle.stream_top.proofs.closing.print_closing.Goals as goal
@@ -230,31 +230,31 @@ returns-in-Energy-clause-untouched g c = λ other. refl
 
 pub returns-in-Image-clause-ok : goal.returns-in-Image-clause-ok
 returns-in-Image-clause-ok g c =
-    on_ok c.print_image.result _ _ c.print_image.ensures.ok
+    on_ok c.print_spelled.result _ _ c.print_spelled.ensures.ok
     (image-closes c.args.pcm.now (g.A.CellArray.state c.args.array.now) (cells_at g.row.E (g.A.CellArray.state c.args.array.now) (g.A.TellsCells.changes c.args.array.now)) c.args.rows c.args.counts.now c.args.job.now.print
-    (λ whole. Appends (g.K.Sink.written c.args.out.now) (g.K.Sink.written c.print_image.new.out) whole) c.in-Image.is c.args.job.now.seed c.requires.seed)
+    (λ whole. Appends (g.K.Sink.written c.args.out.now) (g.K.Sink.written c.print_spelled.new.out) whole) c.in-Image.is c.args.job.now.seed c.requires.seed)
 
 pub returns-in-Image-clause-prefix : goal.returns-in-Image-clause-prefix
 returns-in-Image-clause-prefix g c =
-    on_err c.print_image.result _ _ c.print_image.ensures.prefix
+    on_err c.print_spelled.result _ _ c.print_spelled.ensures.prefix
     (image-closes c.args.pcm.now (g.A.CellArray.state c.args.array.now) (cells_at g.row.E (g.A.CellArray.state c.args.array.now) (g.A.TellsCells.changes c.args.array.now)) c.args.rows c.args.counts.now c.args.job.now.print
-    (λ whole. AppendsPrefix (g.K.Sink.written c.args.out.now) (g.K.Sink.written c.print_image.new.out) whole) c.in-Image.is c.args.job.now.seed c.requires.seed)
+    (λ whole. AppendsPrefix (g.K.Sink.written c.args.out.now) (g.K.Sink.written c.print_spelled.new.out) whole) c.in-Image.is c.args.job.now.seed c.requires.seed)
 
 pub returns-in-Image-clause-part : goal.returns-in-Image-clause-part
 returns-in-Image-clause-part g c =
-    on_err c.print_image.result _ _ c.print_image.ensures.part
+    on_err c.print_spelled.result _ _ c.print_spelled.ensures.part
     (λ part is.
-    subst (λ seed. WritesRows (g.A.CellArray.state c.print_image.new.array) (saved_of c.args.pcm.now.shape seed (kept_in c.args.pcm.now) (g.A.CellArray.state c.args.array.now)) (g.K.Sink.written c.args.out.now) (g.K.Sink.written c.print_image.new.out)) c.requires.seed part)
+    subst (λ seed. WritesRowsOf c.args.pcm.now.shape (g.A.CellArray.state c.print_spelled.new.array) (saved_of c.args.pcm.now.shape seed (kept_in c.args.pcm.now) (g.A.CellArray.state c.args.array.now)) (g.K.Sink.written c.args.out.now) (g.K.Sink.written c.print_spelled.new.out)) c.requires.seed part)
 
 pub returns-in-Image-clause-sensed : goal.returns-in-Image-clause-sensed
 returns-in-Image-clause-sensed g c =
     let first = g.A.CellArray.state c.args.array.now in
-    subst (λ p. SensesSome (senses_for p first.lines) first (g.A.CellArray.state c.print_image.new.array)) (sym c.in-Image.is) c.print_image.ensures.sensed
+    subst (λ p. SensesSome (senses_for p first.lines) first (g.A.CellArray.state c.print_spelled.new.array)) (sym c.in-Image.is) c.print_spelled.ensures.sensed
 
 pub returns-in-Image-clause-all : goal.returns-in-Image-clause-all
 returns-in-Image-clause-all g c =
     let first = g.A.CellArray.state c.args.array.now in
-    subst (λ p. OnOk c.print_image.result (SensesRows (senses_for p first.lines) first (g.A.CellArray.state c.print_image.new.array))) (sym c.in-Image.is) c.print_image.ensures.all
+    subst (λ p. OnOk c.print_spelled.result (SensesRows (senses_for p first.lines) first (g.A.CellArray.state c.print_spelled.new.array))) (sym c.in-Image.is) c.print_spelled.ensures.all
 
 pub returns-in-Image-clause-untouched : goal.returns-in-Image-clause-untouched
 returns-in-Image-clause-untouched g c = λ other. absurd (other c.in-Image.is)

@@ -43,7 +43,7 @@ print_closing-requires g c =
           (
             search rules,
             (
-              has-image c.args.job.now (stays_off (is_off c.args.job.now.end) p.0) (with_cut (is_off c.args.job.now.end) p.0) new.pcm (g.A.CellArray.state new.array) new.out.rows new.out.told c.requires.job p.1.0.0,
+              has-image c.args.job.now (stays_off (is_off c.args.job.now.end) p.0) (with_cut (is_off c.args.job.now.end) p.0) new.pcm (g.A.CellArray.state new.array) new.out.rows new.out.told p.1.0.0,
               search rules,
             ),
           ),

@@ -77,7 +77,7 @@ returns-in_err-until-clause-exact c = c.from_residual-in_err-until.ensures ∙ s
 
 pub returns-clause-exact : goal.returns-clause-exact
 unfolding stream_of
-returns-clause-exact c = c.fitting.ensures.exact ∙ sym (some_step _ _ _ _ (sym c.in_ok-line.ensures)
+returns-clause-exact c = sym (some_step _ _ _ _ (sym c.in_ok-line.ensures)
     (some_step _ _ _ _ (sym c.in_ok-shape.ensures.exact)
     (some_step _ _ _ _ (sym c.in_ok-seed.ensures)
     (some_step _ _ _ _ (sym c.in_ok-wear.ensures.exact)

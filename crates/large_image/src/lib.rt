@@ -1,0 +1,48 @@
+//! The image of a large module, whose numbers have more room than those of [pcm_image](../pcm_image), and which of the array lines has only
+//! those of which a cell is 1: a module of 4 GiB that was written a thousand times has an image of 100 KB. It saves the same: what its
+//! banks keep, and what the cells of its array hold. Here is how it is spelled, and its parts that aren't spelled as those of the image of
+//! a small module.
+#![tactic(auto)]
+
+ghost use Rattle.std.specs.Prelude.{◌≡◌};
+ghost use Rattle.large_image.specs.Spelling.{are_zero};
+
+mod writing;
+
+pub use writing::{write_head, write_line, write_region};
+
+/// Stands where the number of a further array line would.
+pub const END_MARK: u32 = 4_294_967_295;
+
+/// The numbers at the beginning of the image of a large module, but for the size of its lines.
+#[derive(Clone, Copy, Debug, PartialEq, Eq)]
+pub struct LargeHead {
+    pub banks: u8,
+    pub regions: u8,
+    /// Lines of a region.
+    pub lines: u32,
+    /// Spares of a bank.
+    pub spares: u16,
+    /// The seed of the randomiser.
+    pub seed: u64,
+    /// 1 where the registers have array lines of their own, else 0.
+    pub home: u8,
+}
+
+/// The registers of a region, and its stores since the last move of its gap.
+#[derive(Clone, Copy, Debug, PartialEq, Eq)]
+pub struct LargeRegion {
+    /// Below the number of lines.
+    pub start: u32,
+    /// At most the number of lines.
+    pub gap: u32,
+    /// Stores since the gap last moved.
+    pub counter: u16,
+}
+
+/// Whether no byte is other than 0.
+pub fn are_zero(bytes: &[u8]) -> bool
+    ensures { result ≡ are_zero bytes.now }
+{
+    bytes.iter().all(|byte| *byte == 0)
+}

@@ -1,0 +1,4 @@
+mod Rows
+mod Whole
+mod Clocks
+mod Images

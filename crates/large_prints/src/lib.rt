@@ -1,0 +1,10 @@
+//! The image of a large module over its array, printed whole: its numbers, what its banks keep, those array lines of which a cell is 1, each
+//! behind its number, and the end mark. What is spelled as in the image of a small module is printed by [image_text](../image_text).
+#![tactic(auto)]
+
+mod bank;
+mod image;
+mod lines;
+mod pieces;
+
+pub use image::print_large_image;

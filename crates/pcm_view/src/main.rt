@@ -1,0 +1,47 @@
+//! The program that shows the image of a large module: it hands its words, standard input, standard output and
+//! standard error to `view_run`, and ends with the status that this answers.
+#![tactic(auto)]
+
+use pcm_io::{StdSink, StdSource, write_all};
+use std::process::ExitCode;
+use std::{env, io};
+use view_top::view_run;
+
+/// The words couldn't be had, for another cause than memory.
+const WORDS_FAULT: u8 = 8;
+
+/// Memory ran out.
+const OUT_OF_MEMORY: u8 = 7;
+
+// The words behind the program's name.
+fn words(rt: &HostRuntime) -> io::Result<Vec<String>> {
+    let mut args = env::args(rt)?;
+    let _name = args.next();
+    let mut words = Vec::new(rt.alloc());
+    for word in args {
+        words.push(word)?;
+    }
+    Ok(words)
+}
+
+fn main(rt: HostRuntime) -> ExitCode {
+    let mut err = StdSink::new(rt.stderr());
+    let status = match words(&rt) {
+        Ok(words) => view_run(
+            rt.alloc(),
+            words.as_slice(),
+            &mut StdSource::new(rt.stdin()),
+            &mut StdSink::new(rt.stdout()),
+            &mut err,
+        ),
+        Err(fault) if fault.kind() == io::ErrorKind::OutOfMemory => {
+            let _ = write_all(&mut err, b"out of memory\n");
+            OUT_OF_MEMORY
+        }
+        Err(_) => {
+            let _ = write_all(&mut err, b"words fault\n");
+            WORDS_FAULT
+        }
+    };
+    ExitCode::from(status)
+}
