@@ -1,0 +1,5 @@
+use Rattle.printer.proofs.Printed.{prints-then}
+use Rattle.large_images.proofs.lines.print_numbered.Goals as goal
+
+pub returns : goal.returns
+returns g c = prints-then g.K.Sink.written g.K.Sink.faults _ _ _ _ _ c.print_line.ensures c.print_cells.ensures
