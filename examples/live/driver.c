@@ -14,8 +14,10 @@ int main(int count, char **words_given)
     static struct pcm pcm;
     const char *words[] = {count > 1 ? words_given[1] : "./pcm", "stream", NULL};
     const uint8_t line[64] = {1, 2, 3};
-    if (pcm_open(&pcm, words) != PCM_OK)
+    if (pcm_open(&pcm, words) != PCM_OK) {
+        perror(words[0]);
         return 1;
+    }
     if (pcm_write_sure(&pcm, 0, 7, line, NULL, 64, NULL, NULL) == PCM_OK)
         printf("row %u: accepted, so durable\n", (unsigned)pcm.rows);
     if (pcm_settle_until(&pcm, pcm.rows, 1000, tell, NULL) == PCM_OK)

@@ -22,6 +22,11 @@ How a module ages, as a stream goes on::
     for snapshot in pcm.snapshots("trace.csv", every=10_000, lines=256):
         print(snapshot.rows, snapshot.most, snapshot.mean, snapshot.retired)
 
+What a saved module holds, of any size (`./pcm stream --print image < trace.csv > saved.image`)::
+
+    image = pcm.Image.read(open("saved.image", "rb").read())
+    print(image.newest(7).hex(), image.place(7))
+
 Why results of a trace break a rule, and what would be right there::
 
     told = pcm.explain("trace.csv", "results.csv", policy="cancel")

@@ -168,8 +168,10 @@ class Image:
         return base + slot
 
     def place(self, line: int) -> Tuple[int, int]:
-        """The bank of a line of the module, and its line there, by the randomiser."""
+        """The bank of a line of the module, and its line there, by the randomiser; `IndexError` where the module has no such line."""
         lines = self.regions * self.lines
+        if not 0 <= line < len(self.banks) * lines:
+            raise IndexError(f"the module has no line {line}")
         return divmod(Randomiser(len(self.banks) * lines, self.seed).place(line), lines)
 
     def slot(self, bank: int, line: int) -> int:

@@ -32,7 +32,7 @@ class Module:
 
     def __init__(self, *, program: Program = None, progress: Optional[bool] = None, **options: object) -> None:
         if options.get("print") not in (None, "rows"):
-            raise UsageError(2, "a Module tells the outcome of each row; for other prints there are run and snapshots")
+            raise UsageError(2, "a Module tells the outcome of each row; for other prints there are run, snapshots, and the words of pcm.command('stream')")
         self._rows = self._answered = self.tick = 0
         self._progress = Progress(progress)
         self._takes_rows = options.get("input") != "drawn"

@@ -6,7 +6,7 @@ usage: python3 -m pcm report RESULTS.. [options] > report.html          of what 
 
 Each of these once for each run, in their order, or once for all:
   --trace FILE      the run's trace: with it come latencies, times in the queue and queues over time
-  --wear FILE       its wear report, as `--print wear` (or `--print lines`) prints it: maps, and pulses for each store
+  --wear FILE       its wear report, as `--print wear` (or `--print lines`) prints it without `--skip`: maps, pulses for each store
   --image FILE      its image, as `--print image` prints it: pointers
   --summary FILE    its summary: spares in use and all pulses
   --snapshots FILE  its snapshots, beside results: how its lines age
@@ -170,7 +170,7 @@ def _words_of(words: str) -> Dict[str, str]:
         pairs += part.split("=", 1) if part.startswith("--") else [part]
     for name, value in zip(pairs[::2], pairs[1::2]):
         if not name.startswith("--") or name[2:] not in (*known_options(), "print", "every"):
-            raise UsageError(2, f"--options: no option {name} of a run")
+            raise UsageError(2, f"--options: no option {name} of a run, or none that says what it was")
         found[name[2:]] = value
     if len(pairs) % 2:
         raise UsageError(2, f"--options: {pairs[-1]} wants a value")

@@ -330,6 +330,8 @@ def _worn(source: Source, at: int, header: List[str], record: List[str]) -> Worn
     told = {
         name: _natural(source, at, name, text, MOST.get(name, MOST_PULSES)) for name, text in fields.items() if text or name in MOST
     }
+    if told["array"] > at - 1:
+        raise FileFault(f"{source.name} row {at}: array (line {at - 1} is missing: a report wants all array lines, without --skip)")
     if told["array"] != at - 1:
         raise FileFault(f"{source.name} row {at}: array")
     if not _ROLE.fullmatch(role) or int(role.partition(" ")[2] or 0) > MOST["array"]:

@@ -497,19 +497,26 @@ def _faulty_result(path: str, row: int, words: Sequence[str]) -> Optional[str]:
     return f"line {begins}: {_shown(line)} isn't a row that run prints" + ("" if ended else ": its line isn't ended")
 
 
+# How an image begins, by the command that reads it.
+_MAGIC = {
+    "show": "show reads images that begin with PCMIMG01, with nothing in front: that of a module that run doesn't take is for view",
+    "view": "view reads images that begin with PCMIMG02, with nothing in front: that of a module that run takes is for show",
+}
 _IMAGE = {
-    "magic": "an image begins with PCMIMG01: it is what --print image writes, and nothing in front",
     "size": "the bytes of a line must be 64 or 128", "shape": "a size of the module is out of its range",
     "bank": "what a bank keeps is out of its range", "entry": "a write of a queue isn't one", "short": "the image ends here, in a field",
     "extra": "bytes follow the image's last field",
+    "line": "array lines stand in order, each once, with a cell that is 1, and behind them 4294967295",
 }
 
 
 def wrong_text(words: Sequence[str], line: str, path: Optional[str]) -> Optional[str]:
     """What is wrong with a trace, results or an image, by the program's line of them and the file that it read."""
     if found := re.fullmatch(r"image byte \d+: (\w+)", line):
-        return _IMAGE.get(found[1])
+        return _MAGIC.get(words[0] if words else "") if found[1] == "magic" else _IMAGE.get(found[1])
     if line == "trace too long":
+        if words[:1] == ["show"]:
+            return "show reads images of at most 67,108,864 bytes: that of a module that run doesn't take is for view"
         bound = "run takes a trace of 400,000 rows and 64 MiB (128 MiB for lines of 128 bytes): stream has no such bound"
         return bound if words[:1] == ["run"] else None
     if path is None:
