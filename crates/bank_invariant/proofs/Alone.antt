@@ -7,7 +7,7 @@ use Rattle.masked_bytes.{specs.declared.entry.Entry.Entry, proofs.Layering.{join
 use Rattle.bank_shape.specs.{Kinds.is_store, declared.BankShape.BankShape, declared.Work.TheVariants.Nothing}
 use Rattle.bank_shape.specs.declared.answer.WriteAnswer.TheVariants as wrote
 use Rattle.bank_shape.specs.declared.answer.Step.TheVariants as did
-use Rattle.bank_model.specs.{After.{due_work, work_after, is_ready}, Answers.{MayAll, head_busy_after}, Events.{BankEvent, Write, Read, Serve, Begin, Iterate, Cut, newest}}
+use Rattle.bank_model.specs.{After.{due_work, work_after, is_ready}, Answers.{MayAll, head_busy_after}, Events.{BankEvent, Write, Read, Serve, Begin, Iterate, newest}}
 use Rattle.bank_model.specs.History.{Awaited, queue, waits, begun, due_after, has_exhausted, in_progress}
 use Rattle.bank_invariant.proofs.Taking.{answer_accepted}
 
@@ -155,27 +155,17 @@ module _ {n : ℕ} where
 
     -- while a store is in progress its head is complete
     complete_in : (h : List (BankEvent n)) → MayAll shape most h → in_progress h ≡ true → due_after shape h ≡ None → IsComplete (queue shape h)
-    complete_in [] may busy none = cc
     complete_in (Write row line bytes given wrote.Accepted ∷ h) may busy none = IsComplete-append (queue shape h) _ (complete_in h may.1 busy none)
     complete_in (Write row line bytes given (wrote.Merged old) ∷ h) may busy none =
         IsComplete-merged old row bytes given (queue shape h) may.0.1 (complete_in h may.1 busy none)
-    complete_in (Write row line bytes given wrote.Full ∷ h) may busy none = complete_in h may.1 busy none
-    complete_in (Write row line bytes given wrote.Exhausted ∷ h) may busy none = complete_in h may.1 busy none
+    complete_in (Write row line bytes given _ ∷ h) may busy none = complete_in h may.1 busy none
     complete_in (Read row line answer ∷ h) may busy none = complete_in h may.1 busy none
     complete_in (Serve answer ∷ h) may busy none = complete_in h may.1 busy none
     complete_in (Begin did.More ∷ h) may busy none =
         begins_complete h (waits shape h) (has_exhausted h) (due_after shape h) (newest h) (queue shape h)
         (and_second (not (in_progress h)) (is_ready (waits shape h) (work_after shape h)) may.0.0) none
-    complete_in (Begin (did.Stored row place) ∷ h) may busy none = cc
-    complete_in (Begin (did.Moved step) ∷ h) may busy none = cc
-    complete_in (Begin (did.Retired slot line) ∷ h) may busy none = cc
-    complete_in (Begin did.Exhausted ∷ h) may busy none = cc
     complete_in (Iterate did.More ∷ h) may busy none = complete_in h may.1 may.0.0 none
-    complete_in (Iterate (did.Stored row place) ∷ h) may busy none = cc
-    complete_in (Iterate (did.Moved step) ∷ h) may busy none = cc
-    complete_in (Iterate (did.Retired slot line) ∷ h) may busy none = cc
-    complete_in (Iterate did.Exhausted ∷ h) may busy none = cc
-    complete_in (Cut tearing ∷ h) may busy none = cc
+    complete_in _ may busy none = cc
 
     store_due : (h : List (BankEvent n)) (mark : Bool) (due : Option ℕ) (es : List (Entry n)) → is_store (if mark then Nothing else due_work shape h due es) ≡ true → due ≡ None
     store_due h true due es store = cc
@@ -194,21 +184,10 @@ module _ {n : ℕ} where
         IsApart-append (head_busy_after shape h) (queue shape h) _ (queue-apart h may.1) told.1 (complete_busy h may.1)
     queue-apart (Write row line bytes given (wrote.Merged old) ∷ h) may =
         IsApart-merged old row bytes given (queue shape h) may.0.1 (queue-apart h may.1)
-    queue-apart (Write row line bytes given wrote.Full ∷ h) may = queue-apart h may.1
-    queue-apart (Write row line bytes given wrote.Exhausted ∷ h) may = queue-apart h may.1
-    queue-apart (Read row line answer ∷ h) may = queue-apart h may.1
-    queue-apart (Serve answer ∷ h) may = queue-apart h may.1
     queue-apart (Begin (did.Stored row place) ∷ h) may = IsApart-drop (queue shape h) (queue-apart h may.1)
-    queue-apart (Begin did.More ∷ h) may = IsApart-begun (due_after shape h) (newest h) (queue shape h) (queue-apart h may.1)
-    queue-apart (Begin (did.Moved step) ∷ h) may = IsApart-begun (due_after shape h) (newest h) (queue shape h) (queue-apart h may.1)
-    queue-apart (Begin (did.Retired slot line) ∷ h) may = IsApart-begun (due_after shape h) (newest h) (queue shape h) (queue-apart h may.1)
-    queue-apart (Begin did.Exhausted ∷ h) may = IsApart-begun (due_after shape h) (newest h) (queue shape h) (queue-apart h may.1)
+    queue-apart (Begin _ ∷ h) may = IsApart-begun (due_after shape h) (newest h) (queue shape h) (queue-apart h may.1)
     queue-apart (Iterate (did.Stored row place) ∷ h) may = IsApart-drop (queue shape h) (queue-apart h may.1)
-    queue-apart (Iterate did.More ∷ h) may = queue-apart h may.1
-    queue-apart (Iterate (did.Moved step) ∷ h) may = queue-apart h may.1
-    queue-apart (Iterate (did.Retired slot line) ∷ h) may = queue-apart h may.1
-    queue-apart (Iterate did.Exhausted ∷ h) may = queue-apart h may.1
-    queue-apart (Cut tearing ∷ h) may = queue-apart h may.1
+    queue-apart (_ ∷ h) may = queue-apart h may.1
 
   no_row-no_layer : (es : List (Entry n)) (line : ℕ) → newest_row es line ≡ None → layer_of es line ≡ no_layer n
   no_row-no_layer [] line none = refl

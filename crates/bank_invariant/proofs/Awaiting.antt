@@ -10,7 +10,7 @@ use Rattle.bank_shape.specs.{Shape.slot_at, declared.BankShape.BankShape, declar
 use Rattle.bank_shape.specs.{declared.answer.ReadAnswer.ReadAnswer, declared.waiting.Waiting.Waiting}
 use Rattle.bank_shape.specs.declared.answer.ReadAnswer.TheVariants as came
 use Rattle.power_recovery.specs.Kept.{KeptState, array_line, stands_at}
-use Rattle.bank_model.specs.{Answers.{MayAll, IsServed}, Events.{BankEvent, Write, Read, Serve, Begin, Iterate, Cut, newest}, History.{Awaited, awaited, queue, waits, iterated}}
+use Rattle.bank_model.specs.{Answers.{MayAll, IsServed}, Events.{BankEvent, Read, Serve, Cut, newest}, History.{Awaited, awaited, queue, waits, iterated}}
 use Rattle.bank_model.{specs.Touching.Touches, proofs.Newest.length-newest, proofs.Rising.RowsBelow-more}
 use Rattle.bank_invariant.specs.{Holds.{Holds, waiting_of}, Serving.{kept_with, served_from, WaitingLaw, SensedLaw, MayReadLaw, MayServeLaw, ServedLaw}}
 use Rattle.bank_invariant.{specs.State.{BankState, Operation}, specs.Tied.{StandsAs, IsUnderWay, IsOf, IsRunning, AreSound, AreTied}, proofs.Agreeing.agree_law}
@@ -234,16 +234,12 @@ waiting_law n m e row line h bank array holds above may =
 -- each read that waits is of a line of the bank
 pub waits-known : {n : ℕ} (shape : BankShape) (most : ℕ) (h : List (BankEvent n)) → MayAll shape most h → All (λ w. w.line < shape.regions * shape.lines) (waits shape h)
 waits-known shape most [] may = λ k d few. let none : ⊥ = omega (arith, few) in absurd none
-waits-known shape most (Write row line bytes given answer ∷ h) may = waits-known shape most h may.1
-waits-known shape most (Read row line (came.Forwarded bytes) ∷ h) may = waits-known shape most h may.1
-waits-known shape most (Read row line came.Busy ∷ h) may = waits-known shape most h may.1
 waits-known shape most (Read row line came.Waiting ∷ h) may =
     All-push (λ w. w.line < shape.regions * shape.lines) (waits shape h) (awaited row line (newest h line) (layer_of (queue shape h) line))
     (waits-known shape most h may.1) may.0.0
 waits-known shape most (Serve answer ∷ h) may = All-drop (λ w. w.line < shape.regions * shape.lines) 1 (waits shape h) (waits-known shape most h may.1)
-waits-known shape most (Begin answer ∷ h) may = waits-known shape most h may.1
-waits-known shape most (Iterate answer ∷ h) may = waits-known shape most h may.1
 waits-known shape most (Cut tearing ∷ h) may = λ k d few. let none : ⊥ = omega (arith, few) in absurd none
+waits-known shape most (_ ∷ h) may = waits-known shape most h may.1
 
 pub may_serve_law : MayServeLaw
 may_serve_law n m e h bank array w ws holds first =

@@ -12,7 +12,7 @@ use Rattle.bank_shape.proofs.Sizes.{slot_at-within}
 use Rattle.bank_shape.specs.declared.answer.ReadAnswer.TheVariants as came
 use Rattle.power_recovery.specs.{Kept.{KeptState, IsKept, region_at, slot_of, array_line, stands_at, target_slot, due_region, next_work}, Slots.bank_lines}
 use Rattle.power_recovery.proofs.{Bundle.due_region-Some, Placing.{slot_of-within, slot_at-place}}
-use Rattle.bank_model.specs.{Answers.MayAll, Events.{BankEvent, Write, Read, Serve, Begin, Iterate, Cut}, History.{Awaited, waits, iterated}}
+use Rattle.bank_model.specs.{Answers.MayAll, Events.{BankEvent, Read, Serve, Cut}, History.{Awaited, waits, iterated}}
 use Rattle.bank_invariant.specs.{Holds.{Holds, waiting_of}, Iterating.{IteratedLaw, IsLater}, State.{BankState, Operation, target_of}, Tearing.DiffersAt}
 use Rattle.bank_invariant.specs.Tied.{AreSound, IsOf, IsRunning, IsUnderWay}
 use Rattle.bank_invariant.proofs.Targets.{target-orderly, next_copy-region, decoded-other, decoded-off, stands_for-differs, AreSound-differs, AreUntouched-differs}
@@ -23,16 +23,12 @@ use Rattle.ecp_line.specs.ArrayLines.{decoded}
 pub waits-known : {n : ℕ} (shape : BankShape) (most : ℕ) (h : List (BankEvent n)) → MayAll shape most h
     → All (λ (w : Awaited). w.line < bank_lines shape) (waits shape h)
 waits-known shape most [] may = λ k d few. let none : ⊥ = omega (arith, few) in absurd none
-waits-known shape most (Write row line bytes given answer ∷ h) may = waits-known shape most h may.1
 waits-known shape most (Read row line came.Waiting ∷ h) may =
     All-push (λ (w : Awaited). w.line < bank_lines shape) (waits shape h) _ (waits-known shape most h may.1) may.0.0
-waits-known shape most (Read row line came.Busy ∷ h) may = waits-known shape most h may.1
-waits-known shape most (Read row line (came.Forwarded bytes) ∷ h) may = waits-known shape most h may.1
 waits-known shape most (Serve answer ∷ h) may =
     All-drop (λ (w : Awaited). w.line < bank_lines shape) 1 (waits shape h) (waits-known shape most h may.1)
-waits-known shape most (Begin answer ∷ h) may = waits-known shape most h may.1
-waits-known shape most (Iterate answer ∷ h) may = waits-known shape most h may.1
 waits-known shape most (Cut tearing ∷ h) may = λ k d few. let none : ⊥ = omega (arith, few) in absurd none
+waits-known shape most (_ ∷ h) may = waits-known shape most h may.1
 
 -- a line write with a step left has a greatest number of them that isn't 0
 pub under_way-steps : {n m e : ℕ} (writer : LineWriter n m e) (line : LineState n m) → IsUnderWay writer line → 0 < steps_left writer

@@ -6,7 +6,7 @@ use Rattle.masked_bytes.proofs.Rows.{apart-push, apart-drop, apart-merged}
 use Rattle.bank_shape.specs.declared.BankShape.{BankShape}
 use Rattle.bank_shape.specs.declared.answer.WriteAnswer.TheVariants as wrote
 use Rattle.bank_shape.specs.declared.answer.Step.TheVariants as did
-use Rattle.bank_model.specs.{Answers.{MayAll, head_busy_after}, Events.{BankEvent, Write, Read, Serve, Begin, Iterate, Cut, line_of_row, newest, RowsBelow}}
+use Rattle.bank_model.specs.{Answers.{MayAll, head_busy_after}, Events.{BankEvent, Write, Read, Begin, Iterate, line_of_row, newest, RowsBelow}}
 use Rattle.bank_model.{specs.History.{queue, begun, due_after, has_exhausted}, proofs.Begun.apart-begun}
 use Rattle.bank_invariant.proofs.Taking.{answer_merged}
 
@@ -105,31 +105,16 @@ module _ {n : ℕ} where
       let told = answer_merged shape h (has_exhausted h) (candidate (head_busy_after shape h) (queue shape h) line) old may.0.2 in
       AreNamed-merged (λ at. line_of_row at h) old row line bound bytes given (queue shape h) below.0
       (candidate-named (λ at. line_of_row at h) row line old (head_busy_after shape h) (queue shape h) rest told.1) rest
-  queue-named shape most bound (Write row line bytes given wrote.Full ∷ h) may below =
-      AreNamed-too (λ at. line_of_row at h) row line bound (queue shape h) below.0 (queue-named shape most row h may.1 below.1)
-  queue-named shape most bound (Write row line bytes given wrote.Exhausted ∷ h) may below =
-      AreNamed-too (λ at. line_of_row at h) row line bound (queue shape h) below.0 (queue-named shape most row h may.1 below.1)
+  queue-named shape most bound (Write row line bytes given _ ∷ h) may below = AreNamed-too (λ at. line_of_row at h) row line bound (queue shape h) below.0 (queue-named shape most row h may.1 below.1)
   queue-named shape most bound (Read row line answer ∷ h) may below =
       let first = below.0 in
       AreNamed-more (λ at. line_of_row at h) row bound (queue shape h) (omega arith) (queue-named shape most row h may.1 below.1)
-  queue-named shape most bound (Serve answer ∷ h) may below = queue-named shape most bound h may.1 below
   queue-named shape most bound (Begin (did.Stored row place) ∷ h) may below =
       AreNamed-drop (λ at. line_of_row at h) bound (queue shape h) (queue-named shape most bound h may.1 below)
-  queue-named shape most bound (Begin did.More ∷ h) may below =
-      AreNamed-begun (λ at. line_of_row at h) bound (due_after shape h) (newest h) (queue shape h) (queue-named shape most bound h may.1 below)
-  queue-named shape most bound (Begin (did.Moved step) ∷ h) may below =
-      AreNamed-begun (λ at. line_of_row at h) bound (due_after shape h) (newest h) (queue shape h) (queue-named shape most bound h may.1 below)
-  queue-named shape most bound (Begin (did.Retired slot line) ∷ h) may below =
-      AreNamed-begun (λ at. line_of_row at h) bound (due_after shape h) (newest h) (queue shape h) (queue-named shape most bound h may.1 below)
-  queue-named shape most bound (Begin did.Exhausted ∷ h) may below =
-      AreNamed-begun (λ at. line_of_row at h) bound (due_after shape h) (newest h) (queue shape h) (queue-named shape most bound h may.1 below)
+  queue-named shape most bound (Begin _ ∷ h) may below = AreNamed-begun (λ at. line_of_row at h) bound (due_after shape h) (newest h) (queue shape h) (queue-named shape most bound h may.1 below)
   queue-named shape most bound (Iterate (did.Stored row place) ∷ h) may below =
       AreNamed-drop (λ at. line_of_row at h) bound (queue shape h) (queue-named shape most bound h may.1 below)
-  queue-named shape most bound (Iterate did.More ∷ h) may below = queue-named shape most bound h may.1 below
-  queue-named shape most bound (Iterate (did.Moved step) ∷ h) may below = queue-named shape most bound h may.1 below
-  queue-named shape most bound (Iterate (did.Retired slot line) ∷ h) may below = queue-named shape most bound h may.1 below
-  queue-named shape most bound (Iterate did.Exhausted ∷ h) may below = queue-named shape most bound h may.1 below
-  queue-named shape most bound (Cut tearing ∷ h) may below = queue-named shape most bound h may.1 below
+  queue-named shape most bound (_ ∷ h) may below = queue-named shape most bound h may.1 below
 
   -- so has the head
   pub head-named : (line_of : ℕ → ℕ) (bound : ℕ) (es : List (Entry n)) → 0 < length es → AreNamed line_of bound es → line_of (head_row es) ≡ head_line es
@@ -153,18 +138,9 @@ module _ {n : ℕ} where
   rows-apart shape most bound (Write row line bytes given (wrote.Merged old) ∷ h) may below =
       apart-merged old row bytes given (queue shape h) (rows-apart shape most row h may.1 below.1)
       (AreNamed-no_row (λ at. line_of_row at h) row (queue shape h) (queue-named shape most row h may.1 below.1))
-  rows-apart shape most bound (Write row line bytes given wrote.Full ∷ h) may below = rows-apart shape most row h may.1 below.1
-  rows-apart shape most bound (Write row line bytes given wrote.Exhausted ∷ h) may below = rows-apart shape most row h may.1 below.1
+  rows-apart shape most bound (Write row line bytes given _ ∷ h) may below = rows-apart shape most row h may.1 below.1
   rows-apart shape most bound (Read row line answer ∷ h) may below = rows-apart shape most row h may.1 below.1
-  rows-apart shape most bound (Serve answer ∷ h) may below = rows-apart shape most bound h may.1 below
   rows-apart shape most bound (Begin (did.Stored row place) ∷ h) may below = apart-drop (queue shape h) (rows-apart shape most bound h may.1 below)
-  rows-apart shape most bound (Begin did.More ∷ h) may below = apart-begun (due_after shape h) (newest h) (queue shape h) (rows-apart shape most bound h may.1 below)
-  rows-apart shape most bound (Begin (did.Moved step) ∷ h) may below = apart-begun (due_after shape h) (newest h) (queue shape h) (rows-apart shape most bound h may.1 below)
-  rows-apart shape most bound (Begin (did.Retired slot line) ∷ h) may below = apart-begun (due_after shape h) (newest h) (queue shape h) (rows-apart shape most bound h may.1 below)
-  rows-apart shape most bound (Begin did.Exhausted ∷ h) may below = apart-begun (due_after shape h) (newest h) (queue shape h) (rows-apart shape most bound h may.1 below)
+  rows-apart shape most bound (Begin _ ∷ h) may below = apart-begun (due_after shape h) (newest h) (queue shape h) (rows-apart shape most bound h may.1 below)
   rows-apart shape most bound (Iterate (did.Stored row place) ∷ h) may below = apart-drop (queue shape h) (rows-apart shape most bound h may.1 below)
-  rows-apart shape most bound (Iterate did.More ∷ h) may below = rows-apart shape most bound h may.1 below
-  rows-apart shape most bound (Iterate (did.Moved step) ∷ h) may below = rows-apart shape most bound h may.1 below
-  rows-apart shape most bound (Iterate (did.Retired slot line) ∷ h) may below = rows-apart shape most bound h may.1 below
-  rows-apart shape most bound (Iterate did.Exhausted ∷ h) may below = rows-apart shape most bound h may.1 below
-  rows-apart shape most bound (Cut tearing ∷ h) may below = rows-apart shape most bound h may.1 below
+  rows-apart shape most bound (_ ∷ h) may below = rows-apart shape most bound h may.1 below

@@ -28,10 +28,7 @@ module _ {n : ℕ} where
   wrote-asked (Write at of bytes given answer ∷ h) row line (inl w) = inl w
   wrote-asked (Write at of bytes given answer ∷ h) row line (inr w) = inr (wrote-asked h row line w)
   wrote-asked (Read at of answer ∷ h) row line w = inr (wrote-asked h row line w)
-  wrote-asked (Serve answer ∷ h) row line w = wrote-asked h row line w
-  wrote-asked (Begin answer ∷ h) row line w = wrote-asked h row line w
-  wrote-asked (Iterate answer ∷ h) row line w = wrote-asked h row line w
-  wrote-asked (Cut tearing ∷ h) row line w = wrote-asked h row line w
+  wrote-asked (_ ∷ h) row line w = wrote-asked h row line w
 
   pub asked-below : (h : List (BankEvent n)) (next row line : ℕ) → RowsBelow h next → Asked h row line → row < next
   asked-below [] next row line b a = absurd a
@@ -39,10 +36,7 @@ module _ {n : ℕ} where
   asked-below (Write at of bytes given answer ∷ h) next row line b (inr a) = omega (arith, b.0, asked-below h at row line b.1 a)
   asked-below (Read at of answer ∷ h) next row line b (inl a) = omega (arith, b.0, a.0)
   asked-below (Read at of answer ∷ h) next row line b (inr a) = omega (arith, b.0, asked-below h at row line b.1 a)
-  asked-below (Serve answer ∷ h) next row line b a = asked-below h next row line b a
-  asked-below (Begin answer ∷ h) next row line b a = asked-below h next row line b a
-  asked-below (Iterate answer ∷ h) next row line b a = asked-below h next row line b a
-  asked-below (Cut tearing ∷ h) next row line b a = asked-below h next row line b a
+  asked-below (_ ∷ h) next row line b a = asked-below h next row line b a
 
   -- a row asked for one line
   pub asked-one : (h : List (BankEvent n)) (next row one other : ℕ) → RowsBelow h next → Asked h row one → Asked h row other → one ≡ other
@@ -55,10 +49,7 @@ module _ {n : ℕ} where
   asked-one (Read at of answer ∷ h) next row one other b (inl p) (inr q) = absurd (omega (arith, p.0, asked-below h at row other b.1 q))
   asked-one (Read at of answer ∷ h) next row one other b (inr p) (inl q) = absurd (omega (arith, q.0, asked-below h at row one b.1 p))
   asked-one (Read at of answer ∷ h) next row one other b (inr p) (inr q) = asked-one h at row one other b.1 p q
-  asked-one (Serve answer ∷ h) next row one other b p q = asked-one h next row one other b p q
-  asked-one (Begin answer ∷ h) next row one other b p q = asked-one h next row one other b p q
-  asked-one (Iterate answer ∷ h) next row one other b p q = asked-one h next row one other b p q
-  asked-one (Cut tearing ∷ h) next row one other b p q = asked-one h next row one other b p q
+  asked-one (_ ∷ h) next row one other b p q = asked-one h next row one other b p q
 
   pub wrote-below : (h : List (BankEvent n)) (next row line : ℕ) → RowsBelow h next → Wrote h row line → row < next
   wrote-below h next row line b w = asked-below h next row line b (wrote-asked h row line w)
@@ -76,10 +67,7 @@ module _ {n : ℕ} where
       by false is go (inl w) = absurd (cc (eq-eqb at row w.0))
       by false is go (inr w) = go w
   wrote-line (Read at of answer ∷ h) next row line b w = wrote-line h at row line b.1 w
-  wrote-line (Serve answer ∷ h) next row line b w = wrote-line h next row line b w
-  wrote-line (Begin answer ∷ h) next row line b w = wrote-line h next row line b w
-  wrote-line (Iterate answer ∷ h) next row line b w = wrote-line h next row line b w
-  wrote-line (Cut tearing ∷ h) next row line b w = wrote-line h next row line b w
+  wrote-line (_ ∷ h) next row line b w = wrote-line h next row line b w
 
   -- every line is one of the bank's
   pub asked-within : (shape : BankShape) (most : ℕ) (h : List (BankEvent n)) (row line : ℕ) → MayAll shape most h → Asked h row line → line < shape.regions * shape.lines
@@ -88,10 +76,7 @@ module _ {n : ℕ} where
   asked-within shape most (Write at of bytes given answer ∷ h) row line may (inr a) = asked-within shape most h row line may.1 a
   asked-within shape most (Read at of answer ∷ h) row line may (inl a) = omega (arith, may.0.0, a.1)
   asked-within shape most (Read at of answer ∷ h) row line may (inr a) = asked-within shape most h row line may.1 a
-  asked-within shape most (Serve answer ∷ h) row line may a = asked-within shape most h row line may.1 a
-  asked-within shape most (Begin answer ∷ h) row line may a = asked-within shape most h row line may.1 a
-  asked-within shape most (Iterate answer ∷ h) row line may a = asked-within shape most h row line may.1 a
-  asked-within shape most (Cut tearing ∷ h) row line may a = asked-within shape most h row line may.1 a
+  asked-within shape most (_ ∷ h) row line may a = asked-within shape most h row line may.1 a
 
   -- What stands in the queue
 
@@ -143,21 +128,12 @@ module _ {n : ℕ} where
       by : Stands (queue shape h) row line ⊎ ((at ≡ row) × Stands (queue shape h) old line) → (Stands (queue shape h) row line → Wrote h row line) → ((at ≡ row) × (of ≡ line)) ⊎ Wrote h row line
       by (inl s) go = inr (go s)
       by (inr new) go = inl (new.0, stands-one (queue shape h) old of line (stand_apart shape h at b.1).queued_apart (merges-stands shape h of old may.0.2) new.1)
-  queue-wrote shape most (Write at of bytes given wrote.Full ∷ h) next row line may b s = inr (queue-wrote shape most h at row line may.1 b.1 s)
-  queue-wrote shape most (Write at of bytes given wrote.Exhausted ∷ h) next row line may b s = inr (queue-wrote shape most h at row line may.1 b.1 s)
+  queue-wrote shape most (Write at of bytes given _ ∷ h) next row line may b s = inr (queue-wrote shape most h at row line may.1 b.1 s)
   queue-wrote shape most (Read at of answer ∷ h) next row line may b s = queue-wrote shape most h at row line may.1 b.1 s
-  queue-wrote shape most (Serve answer ∷ h) next row line may b s = queue-wrote shape most h next row line may.1 b s
   queue-wrote shape most (Begin (did.Stored at place) ∷ h) next row line may b s = queue-wrote shape most h next row line may.1 b (dropped-stands (queue shape h) row line s)
-  queue-wrote shape most (Begin did.More ∷ h) next row line may b s = queue-wrote shape most h next row line may.1 b (begun-stands _ _ (queue shape h) row line s)
-  queue-wrote shape most (Begin (did.Moved step) ∷ h) next row line may b s = queue-wrote shape most h next row line may.1 b (begun-stands _ _ (queue shape h) row line s)
-  queue-wrote shape most (Begin (did.Retired slot spare) ∷ h) next row line may b s = queue-wrote shape most h next row line may.1 b (begun-stands _ _ (queue shape h) row line s)
-  queue-wrote shape most (Begin did.Exhausted ∷ h) next row line may b s = queue-wrote shape most h next row line may.1 b (begun-stands _ _ (queue shape h) row line s)
+  queue-wrote shape most (Begin _ ∷ h) next row line may b s = queue-wrote shape most h next row line may.1 b (begun-stands _ _ (queue shape h) row line s)
   queue-wrote shape most (Iterate (did.Stored at place) ∷ h) next row line may b s = queue-wrote shape most h next row line may.1 b (dropped-stands (queue shape h) row line s)
-  queue-wrote shape most (Iterate did.More ∷ h) next row line may b s = queue-wrote shape most h next row line may.1 b s
-  queue-wrote shape most (Iterate (did.Moved step) ∷ h) next row line may b s = queue-wrote shape most h next row line may.1 b s
-  queue-wrote shape most (Iterate (did.Retired slot spare) ∷ h) next row line may b s = queue-wrote shape most h next row line may.1 b s
-  queue-wrote shape most (Iterate did.Exhausted ∷ h) next row line may b s = queue-wrote shape most h next row line may.1 b s
-  queue-wrote shape most (Cut tearing ∷ h) next row line may b s = queue-wrote shape most h next row line may.1 b s
+  queue-wrote shape most (_ ∷ h) next row line may b s = queue-wrote shape most h next row line may.1 b s
 
 -- a read of this row and line waits
 abbrev pub WaitsFor : List Awaited → ℕ → ℕ → Type 0
@@ -181,15 +157,13 @@ dropped-waits (w ∷ ws) row line s = inr s
 -- what waits was asked for, with its own line
 pub waits-asked : {n : ℕ} (shape : BankShape) (h : List (BankEvent n)) (row line : ℕ) → WaitsFor (waits shape h) row line → Asked h row line
 waits-asked shape [] row line w = w
-waits-asked shape (Write at of bytes given answer ∷ h) row line w = inr (waits-asked shape h row line w)
 waits-asked shape (Read at of came.Waiting ∷ h) row line w = by (pushed-waits (waits shape h) _ row line w) (λ w. waits-asked shape h row line w)
   where
     by : WaitsFor (waits shape h) row line ⊎ ((at ≡ row) × (of ≡ line)) → (WaitsFor (waits shape h) row line → Asked h row line) → ((at ≡ row) × (of ≡ line)) ⊎ Asked h row line
     by (inl w) go = inr (go w)
     by (inr new) go = inl new
-waits-asked shape (Read at of came.Busy ∷ h) row line w = inr (waits-asked shape h row line w)
-waits-asked shape (Read at of (came.Forwarded bytes) ∷ h) row line w = inr (waits-asked shape h row line w)
 waits-asked shape (Serve answer ∷ h) row line w = waits-asked shape h row line (dropped-waits (waits shape h) row line w)
 waits-asked shape (Begin answer ∷ h) row line w = waits-asked shape h row line w
 waits-asked shape (Iterate answer ∷ h) row line w = waits-asked shape h row line w
 waits-asked shape (Cut tearing ∷ h) row line w = absurd w
+waits-asked shape (_ ∷ h) row line w = inr (waits-asked shape h row line w)

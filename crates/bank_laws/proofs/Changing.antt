@@ -6,7 +6,7 @@ use Rattle.bank_shape.specs.declared.answer.Step.TheVariants as did
 use Rattle.bank_shape.specs.declared.answer.Keep.TheVariants as keep
 use Rattle.bank_model.specs.{Changes.{change_after, change_by, keeping_after, keeping_by, halted_after, halted_by}, Events.{Write, Read, Serve, Begin, Iterate, Cut}}
 use Rattle.bank_model.specs.{History.in_progress, Lawful.{Lawful, MayCome}, Running.{busy_by, made_by}}
-use Rattle.bank_model.specs.Timing.{Happens, Core, Regs, KeepBegin, KeepIterate, KeepCut, TimedEvent, core, core_of}
+use Rattle.bank_model.specs.Timing.{Happens, Core, Regs, KeepBegin, KeepIterate, TimedEvent, core, core_of}
 
 pub busy-none : (change : Option ℕ) (keeping busy : Bool) → change ≡ None → busy_by change keeping busy ≡ busy
 busy-none None keeping busy is = refl
@@ -36,27 +36,14 @@ module _ {n m : ℕ} (shape : BankShape) (pace : Pace) (e : ℕ) where
 
       by : (h : Happens n) → MayCome shape pace e xs x h → (is_some (change_after shape xs) ≡ true → in_progress (core xs) ≡ false)
           → is_some (change_by shape (core xs) h (change_after shape xs)) ≡ true → in_progress (core_of h (core xs)) ≡ false
-      by (Core (Write row line bytes given answer)) may ih some = ih some
-      by (Core (Read row line answer)) may ih some = ih some
-      by (Core (Serve answer)) may ih some = ih some
       by (Core (Begin did.More)) may ih some = more (change_after shape xs) may.on_time.2 some
-      by (Core (Begin (did.Stored row place))) may ih some = refl
-      by (Core (Begin (did.Moved step))) may ih some = refl
-      by (Core (Begin (did.Retired slot line))) may ih some = refl
-      by (Core (Begin did.Exhausted)) may ih some = refl
+      by (Core (Begin _)) may ih some = refl
       by (Core (Iterate did.More)) may ih some = more (change_after shape xs) may.on_time.2 some
-      by (Core (Iterate (did.Stored row place))) may ih some = refl
-      by (Core (Iterate (did.Moved step))) may ih some = refl
-      by (Core (Iterate (did.Retired slot line))) may ih some = refl
-      by (Core (Iterate did.Exhausted)) may ih some = refl
+      by (Core (Iterate _)) may ih some = refl
       by (Core (Cut tearing)) may ih some = refl
-      by (Regs (KeepBegin keep.More)) may ih some = ih some
       by (Regs (KeepBegin keep.Done)) may ih some = absurd (cc)
-      by (Regs (KeepBegin keep.Halted)) may ih some = ih some
-      by (Regs (KeepIterate keep.More)) may ih some = ih some
       by (Regs (KeepIterate keep.Done)) may ih some = absurd (cc)
-      by (Regs (KeepIterate keep.Halted)) may ih some = ih some
-      by (Regs (KeepCut tearing)) may ih some = ih some
+      by _ may ih some = ih some
 
   -- the writing of a change that has halted is not in progress
   pub halted-stops : (xs : List (TimedEvent n m)) → Lawful shape pace e xs → halted_after xs ≡ true → keeping_after xs ≡ false
@@ -67,11 +54,6 @@ module _ {n m : ℕ} (shape : BankShape) (pace : Pace) (e : ℕ) where
       by (Core (Write row line bytes given answer)) may ih is = ih is
       by (Core (Read row line answer)) may ih is = ih is
       by (Core (Serve answer)) may ih is = ih is
-      by (Core (Begin answer)) may ih is = refl
-      by (Core (Iterate answer)) may ih is = refl
-      by (Core (Cut tearing)) may ih is = refl
       by (Regs (KeepBegin answer)) may ih is = absurd (cc (may.may.1, is))
       by (Regs (KeepIterate keep.More)) may ih is = absurd (cc (may.may.0, ih is))
-      by (Regs (KeepIterate keep.Done)) may ih is = refl
-      by (Regs (KeepIterate keep.Halted)) may ih is = refl
-      by (Regs (KeepCut tearing)) may ih is = refl
+      by _ may ih is = refl

@@ -44,43 +44,19 @@ module _ {n : ℕ} where
   own_row row t o = subst (λ b. unwrap_or (cond b (Some t) None) o ≡ t) (sym (eq-eqb row row refl)) refl
 
   left-ended : (tick : ℕ) (o : Outcome n) → IsLeft o → ended tick o ≡ o
-  left-ended tick out.Unset l = absurd l
   left-ended tick (out.Stored at place) l = refl
   left-ended tick (out.Merged at) l = refl
-  left-ended tick (out.Queued at) l = absurd l
-  left-ended tick (out.Full at) l = absurd l
-  left-ended tick (out.Worn at) l = absurd l
-  left-ended tick (out.Read at place bytes) l = absurd l
-  left-ended tick (out.Forwarded at bytes) l = absurd l
-  left-ended tick (out.Busy at) l = absurd l
-  left-ended tick (out.Lost at) l = absurd l
-  left-ended tick (out.Cut at) l = absurd l
+  left-ended tick _ l = absurd l
 
   left-accepts : (o : Outcome n) → IsLeft o → accepts o ≡ true
-  left-accepts out.Unset l = absurd l
   left-accepts (out.Stored at place) l = refl
   left-accepts (out.Merged at) l = refl
-  left-accepts (out.Queued at) l = absurd l
-  left-accepts (out.Full at) l = absurd l
-  left-accepts (out.Worn at) l = absurd l
-  left-accepts (out.Read at place bytes) l = absurd l
-  left-accepts (out.Forwarded at bytes) l = absurd l
-  left-accepts (out.Busy at) l = absurd l
-  left-accepts (out.Lost at) l = absurd l
-  left-accepts (out.Cut at) l = absurd l
+  left-accepts _ l = absurd l
 
   left-may : (tick line : ℕ) (bytes : List ℕ) (given : List Bool) (o : Outcome n) → IsLeft o → may_have tick (Writes line bytes given) [] o ≡ true
-  left-may tick line bytes given out.Unset l = absurd l
   left-may tick line bytes given (out.Stored at place) l = refl
   left-may tick line bytes given (out.Merged at) l = refl
-  left-may tick line bytes given (out.Queued at) l = absurd l
-  left-may tick line bytes given (out.Full at) l = absurd l
-  left-may tick line bytes given (out.Worn at) l = absurd l
-  left-may tick line bytes given (out.Read at place some) l = absurd l
-  left-may tick line bytes given (out.Forwarded at some) l = absurd l
-  left-may tick line bytes given (out.Busy at) l = absurd l
-  left-may tick line bytes given (out.Lost at) l = absurd l
-  left-may tick line bytes given (out.Cut at) l = absurd l
+  left-may tick line bytes given _ l = absurd l
 
   -- the rows and the events agree on which writes are accepted
   pub outcome-accepts : (tick : ℕ) (answer : WriteAnswer) (o : Outcome n) → IsOutcome tick answer o → accepts o ≡ accepting answer

@@ -9,7 +9,7 @@ use Rattle.bank_shape.specs.declared.answer.WriteAnswer.TheVariants as wrote
 use Rattle.bank_shape.specs.declared.answer.ReadAnswer.TheVariants as came
 use Rattle.bank_shape.specs.declared.answer.Step.TheVariants as did
 use Rattle.bank_model.specs.{Answers.IsServed, Events.{Write, Read, Serve, Begin, Iterate, Cut, newest}, History.{Awaited, queue, waits, due_after}, Lawful.{Lawful, MayCome}}
-use Rattle.bank_model.{specs.Timing.{Happens, Core, Regs, TimedEvent, core, core_of}, proofs.Begun.row-begun}
+use Rattle.bank_model.{specs.Timing.{Happens, Core, TimedEvent, core, core_of}, proofs.Begun.row-begun}
 use Rattle.bank_laws.{specs.Outcomes.{on_row, outcome_with, outcome_of}, specs.Standing.has_wait, proofs.Answering.{IsHead, stored-head}, proofs.Settling.{opens, step_stays}}
 
 module _ {n : ℕ} where
@@ -29,27 +29,13 @@ module _ {n : ℕ} where
   left-set out.Unset l e = l
   left-set (out.Stored tick place) l e = absurd (cc)
   left-set (out.Merged tick) l e = absurd (cc)
-  left-set (out.Queued tick) l e = absurd l
-  left-set (out.Full tick) l e = absurd l
-  left-set (out.Worn tick) l e = absurd l
-  left-set (out.Read tick place bytes) l e = absurd l
-  left-set (out.Forwarded tick bytes) l e = absurd l
-  left-set (out.Busy tick) l e = absurd l
-  left-set (out.Lost tick) l e = absurd l
-  left-set (out.Cut tick) l e = absurd l
+  left-set _ l e = absurd l
 
   settled-set : (owed : List ℕ) (o : Outcome n) → IsSettled owed o → o ≢ out.Unset
   settled-set owed out.Unset l e = l
-  settled-set owed (out.Stored tick place) l e = absurd l
-  settled-set owed (out.Merged tick) l e = absurd l
-  settled-set owed (out.Queued tick) l e = absurd l
-  settled-set owed (out.Full tick) l e = absurd l
-  settled-set owed (out.Worn tick) l e = absurd l
   settled-set owed (out.Read tick place bytes) l e = absurd (cc)
-  settled-set owed (out.Forwarded tick bytes) l e = absurd l
-  settled-set owed (out.Busy tick) l e = absurd l
   settled-set owed (out.Lost tick) l e = absurd (cc)
-  settled-set owed (out.Cut tick) l e = absurd l
+  settled-set owed _ l e = absurd l
 
   there-push : (es : List (Entry n)) (x : Entry n) (r : ℕ) → has_row es r ≡ true → has_row (es ++ x ∷ []) r ≡ true
   there-push [] x r h = absurd (cc)
@@ -152,22 +138,10 @@ module _ {n m : ℕ} (shape : BankShape) (pace : Pace) (e : ℕ) where
       → has_row (queue shape (core zs)) row ≡ true → WriteFateBy shape zs x.tick h row
   standing_fate zs x (Core (Write at line bytes given wrote.Accepted)) row may h = inl (there-push (queue shape (core zs)) _ row h)
   standing_fate zs x (Core (Write at line bytes given (wrote.Merged old))) row may h = merged_fate zs x.tick at line old row bytes given h
-  standing_fate zs x (Core (Write at line bytes given wrote.Full)) row may h = inl h
-  standing_fate zs x (Core (Write at line bytes given wrote.Exhausted)) row may h = inl h
-  standing_fate zs x (Core (Read at line answer)) row may h = inl h
-  standing_fate zs x (Core (Serve answer)) row may h = inl h
-  standing_fate zs x (Regs event) row may h = inl h
   standing_fate zs x (Core (Begin (did.Stored at place))) row may h = stored_fate zs x.tick at place row (queue shape (core zs)) (stored-head shape (core zs) at place may.may.1) h
-  standing_fate zs x (Core (Begin did.More)) row may h = inl (row-begun (due_after shape (core zs)) (newest (core zs)) (queue shape (core zs)) row ∙ h)
-  standing_fate zs x (Core (Begin (did.Moved step))) row may h = inl (row-begun (due_after shape (core zs)) (newest (core zs)) (queue shape (core zs)) row ∙ h)
-  standing_fate zs x (Core (Begin (did.Retired slot line))) row may h = inl (row-begun (due_after shape (core zs)) (newest (core zs)) (queue shape (core zs)) row ∙ h)
-  standing_fate zs x (Core (Begin did.Exhausted)) row may h = inl (row-begun (due_after shape (core zs)) (newest (core zs)) (queue shape (core zs)) row ∙ h)
+  standing_fate zs x (Core (Begin _)) row may h = inl (row-begun (due_after shape (core zs)) (newest (core zs)) (queue shape (core zs)) row ∙ h)
   standing_fate zs x (Core (Iterate (did.Stored at place))) row may h = stored_fate zs x.tick at place row (queue shape (core zs)) (stored-head shape (core zs) at place may.may.1) h
-  standing_fate zs x (Core (Iterate did.More)) row may h = inl h
-  standing_fate zs x (Core (Iterate (did.Moved step))) row may h = inl h
-  standing_fate zs x (Core (Iterate (did.Retired slot line))) row may h = inl h
-  standing_fate zs x (Core (Iterate did.Exhausted)) row may h = inl h
-  standing_fate zs x (Core (Cut tearing)) row may h = inl h
+  standing_fate zs x _ row may h = inl h
 
   served_fate : (zs : List (TimedEvent n m)) (tick row : ℕ) (owed : List ℕ) (ws : List Awaited) (answer : Served n) → IsServed shape (core zs) ws answer
       → Awaits ws row owed → Awaits (drop 1 ws) row owed ⊎ IsSettled owed (unwrap_or (on_row answer.row row (out.Read tick answer.place answer.bytes)) (outcome_of shape zs row))
@@ -184,15 +158,10 @@ module _ {n m : ℕ} (shape : BankShape) (pace : Pace) (e : ℕ) where
 
   waiting_fate : (zs : List (TimedEvent n m)) (x : TimedEvent n m) (h : Happens n) (row : ℕ) (owed : List ℕ) → MayCome shape pace e zs x h
       → Awaits (waits shape (core zs)) row owed → ReadFateBy shape zs x.tick h row owed
-  waiting_fate zs x (Core (Write at line bytes given answer)) row owed may a = inl a
   waiting_fate zs x (Core (Read at line came.Waiting)) row owed may a = inl (awaits-push (waits shape (core zs)) _ row owed a)
-  waiting_fate zs x (Core (Read at line came.Busy)) row owed may a = inl a
-  waiting_fate zs x (Core (Read at line (came.Forwarded bytes))) row owed may a = inl a
-  waiting_fate zs x (Regs event) row owed may a = inl a
   waiting_fate zs x (Core (Serve answer)) row owed may a = served_fate zs x.tick row owed (waits shape (core zs)) answer may.may a
-  waiting_fate zs x (Core (Begin answer)) row owed may a = inl a
-  waiting_fate zs x (Core (Iterate answer)) row owed may a = inl a
   waiting_fate zs x (Core (Cut tearing)) row owed may a = inr (lost_fate zs x.tick row owed (has_wait (waits shape (core zs)) row) (awaits-has (waits shape (core zs)) row owed a))
+  waiting_fate zs x _ row owed may a = inl a
 
   -- over any later events
   pub write_fate : (later zs : List (TimedEvent n m)) (row : ℕ) → Lawful shape pace e (later ++ zs) → WriteFate shape zs row → WriteFate shape (later ++ zs) row

@@ -63,32 +63,19 @@ module _ {n : ℕ} where
   holds_few shape most (Write row line bytes given (wrote.Merged old) ∷ h) m =
       let k = holds_few shape most h m.1 in
       record { writes = subst (λ k. k ≤ shape.writes) (sym (length-merged old row bytes given (queue shape h))) k.writes; reads = k.reads }
-  holds_few shape most (Write row line bytes given wrote.Full ∷ h) m = let k = holds_few shape most h m.1 in record { writes = k.writes; reads = k.reads }
-  holds_few shape most (Write row line bytes given wrote.Exhausted ∷ h) m = let k = holds_few shape most h m.1 in record { writes = k.writes; reads = k.reads }
   holds_few shape most (Read row line came.Waiting ∷ h) m =
       let k = holds_few shape most h m.1 in
       let room : length (waits shape h) ≡ shape.reads → ⊥ = waiting-room shape h line m.0.1 in
       let few : length (waits shape h) ≤ shape.reads = k.reads in
       let more : length (waits shape (Read row line came.Waiting ∷ h)) ≡ length (waits shape h) + 1 = length-push (waits shape h) _ in
       record { writes = k.writes; reads = omega arith }
-  holds_few shape most (Read row line came.Busy ∷ h) m = let k = holds_few shape most h m.1 in record { writes = k.writes; reads = k.reads }
-  holds_few shape most (Read row line (came.Forwarded bytes) ∷ h) m = let k = holds_few shape most h m.1 in record { writes = k.writes; reads = k.reads }
   holds_few shape most (Serve answer ∷ h) m = let k = holds_few shape most h m.1 in record { writes = k.writes; reads = length-drop_one (waits shape h) shape.reads k.reads }
   holds_few shape most (Begin (did.Stored row place) ∷ h) m = let k = holds_few shape most h m.1 in record { writes = length-drop_one (queue shape h) shape.writes k.writes; reads = k.reads }
-  holds_few shape most (Begin did.More ∷ h) m =
-      let k = holds_few shape most h m.1 in record { writes = subst (λ k. k ≤ shape.writes) (sym (length-begun (due_after shape h) (newest h) (queue shape h))) k.writes; reads = k.reads }
-  holds_few shape most (Begin (did.Moved step) ∷ h) m =
-      let k = holds_few shape most h m.1 in record { writes = subst (λ k. k ≤ shape.writes) (sym (length-begun (due_after shape h) (newest h) (queue shape h))) k.writes; reads = k.reads }
-  holds_few shape most (Begin (did.Retired slot line) ∷ h) m =
-      let k = holds_few shape most h m.1 in record { writes = subst (λ k. k ≤ shape.writes) (sym (length-begun (due_after shape h) (newest h) (queue shape h))) k.writes; reads = k.reads }
-  holds_few shape most (Begin did.Exhausted ∷ h) m =
+  holds_few shape most (Begin _ ∷ h) m =
       let k = holds_few shape most h m.1 in record { writes = subst (λ k. k ≤ shape.writes) (sym (length-begun (due_after shape h) (newest h) (queue shape h))) k.writes; reads = k.reads }
   holds_few shape most (Iterate (did.Stored row place) ∷ h) m = let k = holds_few shape most h m.1 in record { writes = length-drop_one (queue shape h) shape.writes k.writes; reads = k.reads }
-  holds_few shape most (Iterate did.More ∷ h) m = let k = holds_few shape most h m.1 in record { writes = k.writes; reads = k.reads }
-  holds_few shape most (Iterate (did.Moved step) ∷ h) m = let k = holds_few shape most h m.1 in record { writes = k.writes; reads = k.reads }
-  holds_few shape most (Iterate (did.Retired slot line) ∷ h) m = let k = holds_few shape most h m.1 in record { writes = k.writes; reads = k.reads }
-  holds_few shape most (Iterate did.Exhausted ∷ h) m = let k = holds_few shape most h m.1 in record { writes = k.writes; reads = k.reads }
   holds_few shape most (Cut tearing ∷ h) m = let k = holds_few shape most h m.1 in record { writes = k.writes; reads = omega arith }
+  holds_few shape most (_ ∷ h) m = let k = holds_few shape most h m.1 in record { writes = k.writes; reads = k.reads }
 
 pub bound_law : BoundLaw
 bound_law n most shape h m = holds_few shape most h m

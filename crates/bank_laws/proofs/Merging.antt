@@ -9,8 +9,8 @@ use Rattle.row_rules.specs.{Answers.accepts, Queueing.{merges_at, merge_fits}, R
 use Rattle.bank_shape.specs.{declared.BankShape.BankShape, declared.answer.WriteAnswer.WriteAnswer, declared.pace.Pace.Pace}
 use Rattle.bank_shape.specs.declared.answer.WriteAnswer.TheVariants as wrote
 use Rattle.bank_shape.specs.declared.answer.Step.TheVariants as did
-use Rattle.bank_model.specs.{Events.{Write, Read, Serve, Begin, Iterate, Cut, newest}, History.{begun, queue, due_after}, Lawful.{Lawful, MayCome}}
-use Rattle.bank_model.specs.Timing.{Happens, Core, Regs, TimedEvent, core, core_of}
+use Rattle.bank_model.specs.{Events.{Write, Read, Begin, Iterate, Cut, newest}, History.{begun, queue, due_after}, Lawful.{Lawful, MayCome}}
+use Rattle.bank_model.specs.Timing.{Happens, Core, TimedEvent, core, core_of}
 use Rattle.bank_laws.specs.{Outcomes.{on_row, outcome_with, outcome_of, ended, row_with, rows_from}, RowLaws.{is_merge_fair, MergeLaw}, Settling.AreOpen}
 use Rattle.bank_laws.proofs.{Answering.{IsHead, stored-head}, Ending.{Onwards, IsOutcome, accepting, write_outcome, outcome-accepts}}
 use Rattle.bank_laws.proofs.Lines.{Stands, Covered, covered-stands, stands-row, stands-one, stands-push, stands-new, covered-push, covered-new, stands-begun, covered-begun}
@@ -106,26 +106,13 @@ module _ {n m : ℕ} (shape : BankShape) (pace : Pace) (e : ℕ) where
       → P (queue shape (core zs)) → P (queue shape (core_of h (core zs))) ⊎ StoredBy shape zs x.tick h row
   stays_there P row k zs x (Core (Write at line bytes given wrote.Accepted)) may spares p = inl (k.push (queue shape (core zs)) _ p)
   stays_there P row k zs x (Core (Write at line bytes given (wrote.Merged old))) may spares p = inl (k.merge old at bytes given (queue shape (core zs)) spares p)
-  stays_there P row k zs x (Core (Write at line bytes given wrote.Full)) may spares p = inl p
-  stays_there P row k zs x (Core (Write at line bytes given wrote.Exhausted)) may spares p = inl p
-  stays_there P row k zs x (Core (Read at line answer)) may spares p = inl p
-  stays_there P row k zs x (Core (Serve answer)) may spares p = inl p
-  stays_there P row k zs x (Regs event) may spares p = inl p
   stays_there P row k zs x (Core (Begin (did.Stored at place))) may spares p = drops P row k (queue shape (core zs)) at x.tick place (outcome_of shape zs row) (stored-head shape (core zs) at place may.may.1) p
-  stays_there P row k zs x (Core (Begin did.More)) may spares p = inl (k.begin (due_after shape (core zs)) (newest (core zs)) (queue shape (core zs)) p)
-  stays_there P row k zs x (Core (Begin (did.Moved step))) may spares p = inl (k.begin (due_after shape (core zs)) (newest (core zs)) (queue shape (core zs)) p)
-  stays_there P row k zs x (Core (Begin (did.Retired slot line))) may spares p = inl (k.begin (due_after shape (core zs)) (newest (core zs)) (queue shape (core zs)) p)
-  stays_there P row k zs x (Core (Begin did.Exhausted)) may spares p = inl (k.begin (due_after shape (core zs)) (newest (core zs)) (queue shape (core zs)) p)
+  stays_there P row k zs x (Core (Begin _)) may spares p = inl (k.begin (due_after shape (core zs)) (newest (core zs)) (queue shape (core zs)) p)
   stays_there P row k zs x (Core (Iterate (did.Stored at place))) may spares p = drops P row k (queue shape (core zs)) at x.tick place (outcome_of shape zs row) (stored-head shape (core zs) at place may.may.1) p
-  stays_there P row k zs x (Core (Iterate did.More)) may spares p = inl p
-  stays_there P row k zs x (Core (Iterate (did.Moved step))) may spares p = inl p
-  stays_there P row k zs x (Core (Iterate (did.Retired slot line))) may spares p = inl p
-  stays_there P row k zs x (Core (Iterate did.Exhausted)) may spares p = inl p
-  stays_there P row k zs x (Core (Cut tearing)) may spares p = inl p
+  stays_there P row k zs x _ may spares p = inl p
 
   -- a row with an entry of its line behind it is never merged
   pub spares_covered : (zs : List (TimedEvent n m)) (x : TimedEvent n m) (h : Happens n) (row line : ℕ) → MayCome shape pace e zs x h → RowsApart (queue shape (core zs)) → Covered (queue shape (core zs)) row line → SparesRow h row
-  spares_covered zs x (Core (Write at l bytes given wrote.Accepted)) row line may apart c = tt
   spares_covered zs x (Core (Write at l bytes given (wrote.Merged old))) row line may apart c = by (eqb old row) refl
     where
       same : old ≡ row → ⊥
@@ -137,14 +124,7 @@ module _ {n m : ℕ} (shape : BankShape) (pace : Pace) (e : ℕ) where
       by : (b : Bool) → eqb old row ≡ b → eqb old row ≡ false
       by true is = absurd (same (eqb-true old row is))
       by false is = is
-  spares_covered zs x (Core (Write at l bytes given wrote.Full)) row line may apart c = tt
-  spares_covered zs x (Core (Write at l bytes given wrote.Exhausted)) row line may apart c = tt
-  spares_covered zs x (Core (Read at l answer)) row line may apart c = tt
-  spares_covered zs x (Core (Serve answer)) row line may apart c = tt
-  spares_covered zs x (Regs event) row line may apart c = tt
-  spares_covered zs x (Core (Begin answer)) row line may apart c = tt
-  spares_covered zs x (Core (Iterate answer)) row line may apart c = tt
-  spares_covered zs x (Core (Cut tearing)) row line may apart c = tt
+  spares_covered zs x _ row line may apart c = tt
 
   -- nor is one by a write of another line
   spares_other : (zs : List (TimedEvent n m)) (x : TimedEvent n m) (at l row line old : ℕ) (bytes : List ℕ) (given : List Bool) → MayCome shape pace e zs x (Core (Write at l bytes given (wrote.Merged old))) → RowsApart (queue shape (core zs))
@@ -216,13 +196,8 @@ module _ {n m : ℕ} (shape : BankShape) (pace : Pace) (e : ℕ) where
         by false is =
             alone_on zs x (Core (Write at l bytes given (wrote.Merged old))) between (own ∷ []) row line may (spares_other zs x at l row line old bytes given may apart s is) s none
             (or_from (l == line && accepts own.outcome) false (and_left (l == line) _ is) refl)
-    alone_step zs x (Core (Read at l answer)) cancels between row line apart may acc s none = alone_on zs x (Core (Read at l answer)) between _ row line may tt s none refl
-    alone_step zs x (Regs event) cancels between row line apart may acc s none = alone_on zs x (Regs event) between _ row line may tt s none refl
-    alone_step zs x (Core (Serve answer)) cancels between row line apart may acc s none = alone_on zs x (Core (Serve answer)) between _ row line may tt s none refl
-    alone_step zs x (Core (Begin answer)) cancels between row line apart may acc s none = alone_on zs x (Core (Begin answer)) between _ row line may tt s none refl
-    alone_step zs x (Core (Iterate answer)) cancels between row line apart may acc s none = alone_on zs x (Core (Iterate answer)) between _ row line may tt s none refl
     alone_step zs x (Core (Cut tearing)) true between row line apart may acc s none = alone_on zs x (Core (Cut tearing)) between _ row line may tt s none refl
-    alone_step zs x (Core (Cut tearing)) false between row line apart may acc s none = alone_on zs x (Core (Cut tearing)) between _ row line may tt s none refl
+    alone_step zs x h _ between row line apart may acc s none = alone_on zs x h between _ row line may tt s none refl
 
     fate_step : (zs : List (TimedEvent n m)) (x : TimedEvent n m) (h : Happens n) (cancels : Bool) (between : List (Row n)) (row line : ℕ) → Lawful shape pace e zs → RowsApart (queue shape (core zs)) → MayCome shape pace e zs x h → RowAgrees x.tick h
         → Fate shape zs between row line → FateBy shape zs x.tick h (between ++ row_with shape all h x.tick cancels) row line
@@ -247,12 +222,7 @@ module _ {n m : ℕ} (shape : BankShape) (pace : Pace) (e : ℕ) where
       where
         by : (h : Happens n) → MayCome shape pace e ys x h → Onwards shape all ys x.tick h → RowAgrees x.tick h
         by (Core (Write at line bytes given answer)) may on = outcome-accepts x.tick answer (ended x.tick (outcome_of shape all at)) (write_outcome shape pace e all ys x at line bytes given answer o may on)
-        by (Core (Read at line answer)) may on = tt
-        by (Core (Serve answer)) may on = tt
-        by (Regs event) may on = tt
-        by (Core (Begin answer)) may on = tt
-        by (Core (Iterate answer)) may on = tt
-        by (Core (Cut tearing)) may on = tt
+        by _ may on = tt
 
     -- over any later events
     pub fate : (pre later zs : List (TimedEvent n m)) (row line : ℕ) → Lawful shape pace e all → AreOpen shape all → all ≡ pre ++ (later ++ zs) → Fate shape zs [] row line → Fate shape (later ++ zs) (rows_after shape all later) row line
@@ -309,12 +279,8 @@ module _ {n m : ℕ} (shape : BankShape) (pace : Pace) (e : ℕ) where
             kind true acc = fits at line (inl (fate_new ys x at line bytes given answer before may acc, refl))
             kind false ref = refused_fits x.tick line answer (ended x.tick (outcome_of shape all at)) (rows_after shape all later) ref (write_outcome shape pace e all ys x at line bytes given answer o may on)
         by (Core (Read at line answer)) cancels before may on fits = refl
-        by (Core (Serve answer)) cancels before may on fits = tt
-        by (Regs event) cancels before may on fits = tt
-        by (Core (Begin answer)) cancels before may on fits = tt
-        by (Core (Iterate answer)) cancels before may on fits = tt
-        by (Core (Cut tearing)) true before may on fits = tt
         by (Core (Cut tearing)) false before may on fits = refl
+        by _ _ before may on fits = tt
 
 pub merge_law : MergeLaw
 merge_law n m e shape pace xs l = walk shape xs is_merge_fair [] xs refl (merged_at shape pace e xs l (opens shape pace e xs l))

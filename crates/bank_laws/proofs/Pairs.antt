@@ -7,7 +7,7 @@ use Rattle.bank_shape.specs.{Kinds.is_store, declared.BankShape.BankShape, decla
 use Rattle.bank_shape.specs.declared.answer.WriteAnswer.TheVariants as wrote
 use Rattle.bank_shape.specs.declared.answer.Step.TheVariants as did
 use Rattle.bank_model.specs.{After.{is_ready, due_work}, Answers.{head_busy_after, accept_answer, write_answer, MayAll}}
-use Rattle.bank_model.specs.{Events.{BankEvent, Write, Read, Serve, Begin, Iterate, Cut, newest}, History.{Awaited, begun, queue, waits, due_after, has_exhausted, in_progress}}
+use Rattle.bank_model.specs.{Events.{BankEvent, Write, Begin, Iterate, Cut, newest}, History.{Awaited, begun, queue, waits, due_after, has_exhausted, in_progress}}
 use Rattle.bank_laws.{specs.Pairs.{has_line, LinesApart, ArePaired, PairLaw}, proofs.Entries.either}
 
 pub gives_all-joined : (given other : List Bool) → length given ≡ length other → gives_all other ≡ true → gives_all (joined given other) ≡ true
@@ -220,10 +220,6 @@ module _ {n : ℕ} (shape : BankShape) where
         long = long-merged old row bytes given (queue shape h) m.0.1.given_len k.long;
         working = λ p. work-merged (has_exhausted h) (due_after shape h) old row bytes given (queue shape h) m.0.1.given_len k.long (k.working p);
       }
-  keeps_pairs most (Write row line bytes given wrote.Full ∷ h) m = let k = keeps_pairs most h m.1 in record { paired = k.paired; long = k.long; working = k.working }
-  keeps_pairs most (Write row line bytes given wrote.Exhausted ∷ h) m = let k = keeps_pairs most h m.1 in record { paired = k.paired; long = k.long; working = k.working }
-  keeps_pairs most (Read row line answer ∷ h) m = let k = keeps_pairs most h m.1 in record { paired = k.paired; long = k.long; working = k.working }
-  keeps_pairs most (Serve answer ∷ h) m = let k = keeps_pairs most h m.1 in record { paired = k.paired; long = k.long; working = k.working }
   keeps_pairs most (Begin (did.Stored row place) ∷ h) m =
       let k = keeps_pairs most h m.1 in record { paired = paired-drop (queue shape h) k.paired; long = long-drop (queue shape h) k.long; working = λ p. absurd (cc) }
   keeps_pairs most (Begin did.More ∷ h) m =
@@ -233,23 +229,16 @@ module _ {n : ℕ} (shape : BankShape) where
         long = long-begun (due_after shape h) (newest h) (queue shape h) k.long;
         working = λ p. work-begun h (has_exhausted h) (due_after shape h) (queue shape h) (waits shape h) (newest h) (and_second (not (in_progress h)) _ m.0.0);
       }
-  keeps_pairs most (Begin (did.Moved step) ∷ h) m =
-      let k = keeps_pairs most h m.1 in
-      record { paired = paired-begun (due_after shape h) (newest h) (queue shape h) k.paired; long = long-begun (due_after shape h) (newest h) (queue shape h) k.long; working = λ p. absurd (cc) }
-  keeps_pairs most (Begin (did.Retired slot line) ∷ h) m =
-      let k = keeps_pairs most h m.1 in
-      record { paired = paired-begun (due_after shape h) (newest h) (queue shape h) k.paired; long = long-begun (due_after shape h) (newest h) (queue shape h) k.long; working = λ p. absurd (cc) }
-  keeps_pairs most (Begin did.Exhausted ∷ h) m =
+  keeps_pairs most (Begin _ ∷ h) m =
       let k = keeps_pairs most h m.1 in
       record { paired = paired-begun (due_after shape h) (newest h) (queue shape h) k.paired; long = long-begun (due_after shape h) (newest h) (queue shape h) k.long; working = λ p. absurd (cc) }
   keeps_pairs most (Iterate (did.Stored row place) ∷ h) m =
       let k = keeps_pairs most h m.1 in record { paired = paired-drop (queue shape h) k.paired; long = long-drop (queue shape h) k.long; working = λ p. absurd (cc) }
   keeps_pairs most (Iterate did.More ∷ h) m =
       let k = keeps_pairs most h m.1 in record { paired = k.paired; long = k.long; working = λ p. k.working m.0.0 }
-  keeps_pairs most (Iterate (did.Moved step) ∷ h) m = let k = keeps_pairs most h m.1 in record { paired = k.paired; long = k.long; working = λ p. absurd (cc) }
-  keeps_pairs most (Iterate (did.Retired slot line) ∷ h) m = let k = keeps_pairs most h m.1 in record { paired = k.paired; long = k.long; working = λ p. absurd (cc) }
-  keeps_pairs most (Iterate did.Exhausted ∷ h) m = let k = keeps_pairs most h m.1 in record { paired = k.paired; long = k.long; working = λ p. absurd (cc) }
+  keeps_pairs most (Iterate _ ∷ h) m = let k = keeps_pairs most h m.1 in record { paired = k.paired; long = k.long; working = λ p. absurd (cc) }
   keeps_pairs most (Cut tearing ∷ h) m = let k = keeps_pairs most h m.1 in record { paired = k.paired; long = k.long; working = λ p. absurd (cc) }
+  keeps_pairs most (_ ∷ h) m = let k = keeps_pairs most h m.1 in record { paired = k.paired; long = k.long; working = k.working }
 
 pub pair_law : PairLaw
 pair_law n most shape h m = (keeps_pairs shape most h m).paired

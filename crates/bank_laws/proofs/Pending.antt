@@ -8,9 +8,9 @@ use Rattle.row_rules.specs.{Answers.{accepts, is_full, is_merged, is_queued, sto
 use Rattle.bank_shape.specs.{declared.BankShape.BankShape, declared.answer.WriteAnswer.WriteAnswer, declared.pace.Pace.Pace}
 use Rattle.bank_shape.specs.declared.answer.WriteAnswer.TheVariants as wrote
 use Rattle.bank_shape.specs.declared.answer.Step.TheVariants as did
-use Rattle.bank_model.specs.{Answers.{head_busy_after, accept_answer, write_answer}, Events.{BankEvent, Write, Read, Serve, Begin, Iterate, Cut, RowsBelow, newest}}
+use Rattle.bank_model.specs.{Answers.{head_busy_after, accept_answer, write_answer}, Events.{BankEvent, Write, Read, Begin, Iterate, Cut, RowsBelow, newest}}
 use Rattle.bank_model.specs.{History.{queue, due_after, has_exhausted}, Lawful.{Lawful, MayCome}, Sensing.most_steps}
-use Rattle.bank_model.{specs.Timing.{Happens, Core, Regs, TimedEvent, core, core_of, last_tick}, proofs.Begun.row-begun}
+use Rattle.bank_model.{specs.Timing.{Happens, Core, TimedEvent, core, core_of, last_tick}, proofs.Begun.row-begun}
 use Rattle.bank_laws.specs.{Outcomes.{outcome_with, outcome_of, ended, row_with, rows_from}, RowLaws.{is_room_fair, QueueLaw}, Ticks.ends_action}
 use Rattle.bank_laws.proofs.{Counting.{among, Falling, falling-more, hits, entries-counted}, Ending.{Onwards, IsOutcome, accepting, own_row, write_outcome, outcome-accepts}}
 use Rattle.bank_laws.proofs.{Entries.either, Fates.{IsLeft, WriteFate, write_fate}, Holding.bound_law, Later.{EndsAbove, ends_at_row, stored_over}}
@@ -86,11 +86,7 @@ writes-fall {n} {m} (z ∷ zs) bound b = by z.happens (λ bound b. writes-fall z
     by : (h : Happens n) → ((bound : ℕ) → RowsBelow (core zs) bound → Falling (writes_in zs) bound) → RowsBelow (core_of h (core zs)) bound → Falling (write_rows h ++ writes_in zs) bound
     by (Core (Write at line bytes given answer)) go b = (b.0, go at b.1)
     by (Core (Read at line answer)) go b = falling-more (writes_in zs) at bound (omega (arith, b.0)) (go at b.1)
-    by (Core (Serve answer)) go b = go bound b
-    by (Regs event) go b = go bound b
-    by (Core (Begin answer)) go b = go bound b
-    by (Core (Iterate answer)) go b = go bound b
-    by (Core (Cut tearing)) go b = go bound b
+    by _ go b = go bound b
 
 pub queue-asked : {n m : ℕ} (shape : BankShape) (zs : List (TimedEvent n m)) (r : ℕ) → has_row (queue shape (core zs)) r ≡ true → among (writes_in zs) r ≡ true
 queue-asked shape [] r there = absurd (cc)
@@ -110,22 +106,11 @@ queue-asked {n} {m} shape (z ∷ zs) r there = by z.happens (λ t. queue-asked s
     by (Core (Write at line bytes given (wrote.Merged old))) go there =
         either (has_row (queue shape (core zs)) r) (λ t. or_right (at == r) _ (go t))
         (λ f. either (eqb at r) (λ is. or_left (at == r) _ is) (λ ne. absurd (cc (lacks-merged old at bytes given (queue shape (core zs)) r f ne, there))))
-    by (Core (Write at line bytes given wrote.Full)) go there = or_right (at == r) _ (go there)
-    by (Core (Write at line bytes given wrote.Exhausted)) go there = or_right (at == r) _ (go there)
-    by (Core (Read at line answer)) go there = go there
-    by (Core (Serve answer)) go there = go there
-    by (Regs event) go there = go there
+    by (Core (Write at line bytes given _)) go there = or_right (at == r) _ (go there)
     by (Core (Begin (did.Stored at place))) go there = dropped go there
-    by (Core (Begin did.More)) go there = go (sym (row-begun (due_after shape (core zs)) (newest (core zs)) (queue shape (core zs)) r) ∙ there)
-    by (Core (Begin (did.Moved step))) go there = go (sym (row-begun (due_after shape (core zs)) (newest (core zs)) (queue shape (core zs)) r) ∙ there)
-    by (Core (Begin (did.Retired slot line))) go there = go (sym (row-begun (due_after shape (core zs)) (newest (core zs)) (queue shape (core zs)) r) ∙ there)
-    by (Core (Begin did.Exhausted)) go there = go (sym (row-begun (due_after shape (core zs)) (newest (core zs)) (queue shape (core zs)) r) ∙ there)
+    by (Core (Begin _)) go there = go (sym (row-begun (due_after shape (core zs)) (newest (core zs)) (queue shape (core zs)) r) ∙ there)
     by (Core (Iterate (did.Stored at place))) go there = dropped go there
-    by (Core (Iterate did.More)) go there = go there
-    by (Core (Iterate (did.Moved step))) go there = go there
-    by (Core (Iterate (did.Retired slot line))) go there = go there
-    by (Core (Iterate did.Exhausted)) go there = go there
-    by (Core (Cut tearing)) go there = go there
+    by _ go there = go there
 
 -- a refused write has its outcome at once
 pub refused_set : {n m : ℕ} (shape : BankShape) (ys : List (TimedEvent n m)) (tick at line : ℕ) (bytes : List ℕ) (given : List Bool) (answer : WriteAnswer) → accepting answer ≡ false
@@ -154,17 +139,9 @@ module _ {n m : ℕ} (shape : BankShape) (pace : Pace) (e : ℕ) where
 
 module _ {n m : ℕ} (shape : BankShape) (pace : Pace) (e : ℕ) (all : List (TimedEvent n m)) where
   pub left_by : (t tick : ℕ) (o : Outcome n) → IsLeft o → ((u p : ℕ) → o ≡ out.Stored u p → t < u) → stands_by t tick false o ≡ true
-  left_by t tick out.Unset left above = absurd left
   left_by t tick (out.Stored at place) left above = by_stored_later n t tick false at place (above at place refl)
   left_by t tick (out.Merged at) left above = refl
-  left_by t tick (out.Queued at) left above = absurd left
-  left_by t tick (out.Full at) left above = absurd left
-  left_by t tick (out.Worn at) left above = absurd left
-  left_by t tick (out.Read at place bytes) left above = absurd left
-  left_by t tick (out.Forwarded at bytes) left above = absurd left
-  left_by t tick (out.Busy at) left above = absurd left
-  left_by t tick (out.Lost at) left above = absurd left
-  left_by t tick (out.Cut at) left above = absurd left
+  left_by t tick _ left above = absurd left
 
   module _ (later now : List (TimedEvent n m)) (t : ℕ) (r : 1 ≤ pace.read) (i : 1 ≤ pace.iter)
       (l : Lawful shape pace e all) (same : all ≡ later ++ now)
@@ -313,13 +290,8 @@ module _ {n m : ℕ} (shape : BankShape) (pace : Pace) (e : ℕ) (all : List (Ti
                 (outcome_of shape all at) ≡ has_row (queue shape (core now)) at
             kind true acc = f at line (inl (fate_new shape pace e all ys z at line bytes given answer before.1 may acc, refl))
             kind false ref = refused_same at z.tick (list_any (accepted_of line) (rows_after shape all mid)) (agrees ∙ ref) (g at (refused_set shape ys z.tick at line bytes given answer ref))
-        by (Core (Read at line answer)) cancels may on f g ih = ih
-        by (Core (Serve answer)) cancels may on f g ih = ih
-        by (Regs event) cancels may on f g ih = ih
-        by (Core (Begin answer)) cancels may on f g ih = ih
-        by (Core (Iterate answer)) cancels may on f g ih = ih
         by (Core (Cut tearing)) true may on f g ih = ih
-        by (Core (Cut tearing)) false may on f g ih = ih
+        by _ _ may on f g ih = ih
 
     -- as many writes stand by the rows as by the events
     pub queue_length : length (pending t [] (rows_from shape all now)) ≡ length (queue shape (core now))
@@ -359,12 +331,8 @@ module _ {n m : ℕ} (shape : BankShape) (pace : Pace) (e : ℕ) (all : List (Ti
           full_outcome x.tick answer (ended x.tick (outcome_of shape all row)) (write_outcome shape pace e all ys x row line bytes given answer (opens shape pace e all l) may on) full in
           ap (λ k. k == shape.writes) (count refl) ∙ full-room shape (core ys) line (sym was ∙ may.may.2)))
       by (Core (Read row line answer)) cancels may on count = and_from _ _ (few (count refl)) refl
-      by (Core (Serve answer)) cancels may on count = tt
-      by (Regs event) cancels may on count = tt
-      by (Core (Begin answer)) cancels may on count = tt
-      by (Core (Iterate answer)) cancels may on count = tt
-      by (Core (Cut tearing)) true may on count = tt
       by (Core (Cut tearing)) false may on count = and_from _ _ (few (count refl)) refl
+      by _ _ may on count = tt
 
 pub queue_law : QueueLaw
 queue_law n m e shape pace xs sized l = walk shape xs (is_room_fair shape.writes) [] xs refl (room_at shape pace e xs sized.read sized.iter l)

@@ -7,9 +7,9 @@ use Rattle.result_rows.specs.declared.Outcome.TheVariants as out
 use Rattle.row_rules.specs.{Answers.{is_worn, accepts}, Rows.accepted, Wearing.{worn_row, worn_by, store_fits, is_wear_final, is_wear_earned}, declared.Row.Row}
 use Rattle.bank_shape.specs.{declared.BankShape.BankShape, declared.Work.TheVariants.Nothing, declared.answer.WriteAnswer.WriteAnswer, declared.pace.Pace.Pace}
 use Rattle.bank_shape.specs.declared.answer.WriteAnswer.TheVariants as wrote
-use Rattle.bank_model.specs.{After.{is_ready, due_work, may_begin_after}, Events.{BankEvent, Write, Read, Serve, Begin, Iterate, Cut}}
+use Rattle.bank_model.specs.{After.{is_ready, due_work, may_begin_after}, Events.{BankEvent, Write, Read, Begin, Iterate, Cut}}
 use Rattle.bank_model.specs.{History.{first_or, stores, stored_in, moved_in, due_after, queue, waits, has_exhausted, in_progress}, Lawful.{Lawful, MayCome}}
-use Rattle.bank_model.specs.Timing.{Happens, Core, Regs, TimedEvent, core, core_of}
+use Rattle.bank_model.specs.Timing.{Happens, Core, TimedEvent, core, core_of}
 use Rattle.bank_laws.specs.{Outcomes.{outcome_of, ended, row_with, rows_from}, RowLaws.WearLaw, Settling.AreOpen}
 use Rattle.bank_laws.proofs.{Ending.{Onwards, IsOutcome, accepting, write_outcome, outcome-accepts}, Entries.either, Serves.{may_at, onwards_at}, Settling.opens}
 use Rattle.bank_laws.proofs.{Walking.{Passes, walk, rows_after}, Wears.{refused-exhausted, exhausted-refused, worn_outcome, worn_rows-exhausted, none_worn_before, none_worn_after}}
@@ -40,25 +40,13 @@ module _ {n : ℕ} (shape : BankShape) (h : List (BankEvent n)) where
     where
       by : (b ex : Bool) (due : Option ℕ) (es : List (Entry n)) → ex ≡ false → due ≡ None → es ≡ []
           → (not b && is_ready (waits shape h) (cond ex Nothing (due_work shape h due es))) ≡ true → ⊥
-      by true ex due es fine none empty m = absurd (cc)
-      by false true due es fine none empty m = absurd (cc)
-      by false false (Some region) es fine none empty m = absurd (cc)
       by false false None [] fine none empty m = absurd (cc)
-      by false false None (e ∷ es) fine none empty m = absurd (cc)
+      by _ _ _ _ fine none empty m = absurd (cc)
 
 module _ {n : ℕ} where
   pub ended_stored : (tick : ℕ) (o : Outcome n) (u p : ℕ) → ended tick o ≡ out.Stored u p → o ≡ out.Stored u p
   ended_stored tick out.Unset u p s = absurd (cc)
-  ended_stored tick (out.Stored at place) u p s = s
-  ended_stored tick (out.Merged at) u p s = s
-  ended_stored tick (out.Queued at) u p s = s
-  ended_stored tick (out.Full at) u p s = s
-  ended_stored tick (out.Worn at) u p s = s
-  ended_stored tick (out.Read at place bytes) u p s = s
-  ended_stored tick (out.Forwarded at bytes) u p s = s
-  ended_stored tick (out.Busy at) u p s = s
-  ended_stored tick (out.Lost at) u p s = s
-  ended_stored tick (out.Cut at) u p s = s
+  ended_stored tick _ u p s = s
 
 module _ {n m : ℕ} (shape : BankShape) (pace : Pace) (e : ℕ) (all : List (TimedEvent n m)) where
   -- where no row is an accepted write the bank is quiet
@@ -81,31 +69,20 @@ module _ {n m : ℕ} (shape : BankShape) (pace : Pace) (e : ℕ) (all : List (Ti
           let acc : accepts (ended x.tick (outcome_of shape all at)) ≡ accepting answer =
           outcome-accepts x.tick answer (ended x.tick (outcome_of shape all at)) (write_outcome shape pace e all ys x at line bytes given answer o may on) in
           refused at line bytes given answer (sym acc ∙ neither_first (accepts (ended x.tick (outcome_of shape all at))) _ none) (rest (neither_second (accepts (ended x.tick (outcome_of shape all at))) _ none))
-      by (Core (Read at line answer)) cancels may on rest none = let q = rest none in record { queue = q.queue; stored = q.stored; exhausted = q.exhausted; idle = q.idle }
-      by (Core (Serve answer)) cancels may on rest none = let q = rest none in record { queue = q.queue; stored = q.stored; exhausted = q.exhausted; idle = q.idle }
-      by (Regs event) cancels may on rest none = let q = rest none in record { queue = q.queue; stored = q.stored; exhausted = q.exhausted; idle = q.idle }
       by (Core (Begin answer)) cancels may on rest none = absurd (quiet-begins_none shape (core ys) some (rest none) may.may.0)
       by (Core (Iterate answer)) cancels may on rest none = let is : in_progress (core ys) ≡ false = (rest none).idle in absurd (cc (may.may.0))
       by (Core (Cut tearing)) true may on rest none = let q = rest none in record { queue = q.queue; stored = q.stored; exhausted = q.exhausted; idle = refl }
       by (Core (Cut tearing)) false may on rest none = let q = rest none in record { queue = q.queue; stored = q.stored; exhausted = q.exhausted; idle = refl }
+      by _ cancels may on rest none = let q = rest none in record { queue = q.queue; stored = q.stored; exhausted = q.exhausted; idle = q.idle }
 
   stores_fit : (o : Outcome n) (before after : List (Row n)) → ((u p : ℕ) → o ≡ out.Stored u p → (worn_by u before ≡ false) × (worn_by u after ≡ false)) → store_fits o before after ≡ true
-  stores_fit out.Unset before after h = refl
   stores_fit (out.Stored at place) before after h = let f = h at place refl in by (worn_by at before) (worn_by at after) f.0 f.1
     where
       by : (a b : Bool) → a ≡ false → b ≡ false → (not a && not b) ≡ true
       by true b h k = absurd (cc)
       by false true h k = absurd (cc)
       by false false h k = refl
-  stores_fit (out.Merged at) before after h = refl
-  stores_fit (out.Queued at) before after h = refl
-  stores_fit (out.Full at) before after h = refl
-  stores_fit (out.Worn at) before after h = refl
-  stores_fit (out.Read at place bytes) before after h = refl
-  stores_fit (out.Forwarded at bytes) before after h = refl
-  stores_fit (out.Busy at) before after h = refl
-  stores_fit (out.Lost at) before after h = refl
-  stores_fit (out.Cut at) before after h = refl
+  stores_fit _ before after h = refl
 
   worn-is_worn : (tick : ℕ) (answer : WriteAnswer) (o : Outcome n) → IsOutcome tick answer o → answer ≡ wrote.Exhausted → is_worn o ≡ true
   worn-is_worn tick wrote.Accepted o is ex = absurd (cc)
@@ -133,12 +110,8 @@ module _ {n m : ℕ} (shape : BankShape) (pace : Pace) (e : ℕ) (all : List (Ti
             none_worn_after shape pace e all [] later (x ∷ ys) at u p r i l o same stored,
           )))
       by (Core (Read at line answer)) cancels may on worn = refl
-      by (Core (Serve answer)) cancels may on worn = tt
-      by (Regs event) cancels may on worn = tt
-      by (Core (Begin answer)) cancels may on worn = tt
-      by (Core (Iterate answer)) cancels may on worn = tt
-      by (Core (Cut tearing)) true may on worn = tt
       by (Core (Cut tearing)) false may on worn = refl
+      by _ _ may on worn = tt
 
   earned_at : 1 ≤ shape.psi → Lawful shape pace e all → AreOpen shape all → (later : List (TimedEvent n m)) (x : TimedEvent n m) (ys : List (TimedEvent n m)) → all ≡ later ++ x ∷ ys
       → Passes is_wear_earned (rows_from shape all ys) (row_with shape all x.happens x.tick x.cancels) (rows_after shape all later)
@@ -155,12 +128,8 @@ module _ {n m : ℕ} (shape : BankShape) (pace : Pace) (e : ℕ) (all : List (Ti
           (sym (worn_outcome x.tick answer (ended x.tick (outcome_of shape all at)) (write_outcome shape pace e all ys x at line bytes given answer o may on) worn) ∙ may.may.2) in
           either (list_any accepted (rows_from shape all ys)) (λ is. is) (λ none. let fine : has_exhausted (core ys) ≡ false = (calm none).exhausted in absurd (cc)))
       by (Core (Read at line answer)) cancels may on calm = refl
-      by (Core (Serve answer)) cancels may on calm = tt
-      by (Regs event) cancels may on calm = tt
-      by (Core (Begin answer)) cancels may on calm = tt
-      by (Core (Iterate answer)) cancels may on calm = tt
-      by (Core (Cut tearing)) true may on calm = tt
       by (Core (Cut tearing)) false may on calm = refl
+      by _ _ may on calm = tt
 
 pub wear_law : WearLaw
 wear_law n m e shape pace xs sized l = record {

@@ -11,8 +11,8 @@ use Rattle.bank_shape.specs.{declared.answer.WriteAnswer.WriteAnswer, declared.p
 use Rattle.bank_shape.specs.declared.answer.WriteAnswer.TheVariants as wrote
 use Rattle.bank_shape.specs.declared.answer.ReadAnswer.TheVariants as came
 use Rattle.bank_shape.specs.declared.clock.Doing.TheVariants as doing
-use Rattle.bank_model.specs.{Answers.read_answer, Events.{BankEvent, Write, Read, Serve, Begin, Iterate, Cut, newest}, History.{Awaited, awaited, queue, waits}}
-use Rattle.bank_model.specs.{Lawful.{Lawful, IsIdle, MayCome}, Running.choice_after, Timing.{Happens, Core, Regs, TimedEvent, core, core_of, is_empty}}
+use Rattle.bank_model.specs.{Answers.read_answer, Events.{BankEvent, Write, Read, Cut, newest}, History.{Awaited, awaited, queue, waits}}
+use Rattle.bank_model.specs.{Lawful.{Lawful, IsIdle, MayCome}, Running.choice_after, Timing.{Happens, Core, TimedEvent, core, core_of, is_empty}}
 use Rattle.bank_laws.specs.{Outcomes.{outcome_of, ended, row_with, rows_from}, RowLaws.ServedLaw, Settling.AreOpen}
 use Rattle.bank_laws.proofs.{Ending.{Onwards, onwards, accepting, outcome-accepts, outcome-may, own_answer, write_outcome}, Fates.{Awaits, IsSettled, ReadFate, awaits-new}}
 use Rattle.bank_laws.proofs.{Settling.{opens, lawful_before}, Walking.{Passes, walk, rows_after}}
@@ -90,26 +90,13 @@ module _ {n m : ℕ} (shape : BankShape) (pace : Pace) (e : ℕ) (all : List (Ti
       by (Core (Write row at bytes given answer)) cancels may on ih =
           newest_write ys x at row line bytes given answer
           (outcome-accepts x.tick answer (ended x.tick (outcome_of shape all row)) (write_outcome shape pace e all ys x row at bytes given answer o may on)) ih
-      by (Core (Read row at answer)) cancels may on ih = ih
-      by (Core (Serve answer)) cancels may on ih = ih
-      by (Regs event) cancels may on ih = ih
-      by (Core (Begin answer)) cancels may on ih = ih
-      by (Core (Iterate answer)) cancels may on ih = ih
       by (Core (Cut tearing)) true may on ih = ih
-      by (Core (Cut tearing)) false may on ih = ih
+      by _ _ may on ih = ih
 
   read_may : (tick line : ℕ) (newest : List ℕ) (owed : List ℕ) (o : Outcome n) → owed ≡ newest → IsSettled owed o → may_have tick (Reads line) newest o ≡ true
-  read_may tick line newest owed out.Unset is s = absurd s
-  read_may tick line newest owed (out.Stored at place) is s = absurd s
-  read_may tick line newest owed (out.Merged at) is s = absurd s
-  read_may tick line newest owed (out.Queued at) is s = absurd s
-  read_may tick line newest owed (out.Full at) is s = absurd s
-  read_may tick line newest owed (out.Worn at) is s = absurd s
   read_may tick line newest owed (out.Read at place bytes) is s = same_bytes-same bytes newest (s ∙ is)
-  read_may tick line newest owed (out.Forwarded at bytes) is s = absurd s
-  read_may tick line newest owed (out.Busy at) is s = absurd s
   read_may tick line newest owed (out.Lost at) is s = refl
-  read_may tick line newest owed (out.Cut at) is s = absurd s
+  read_may tick line newest owed _ is s = absurd s
 
   waited_may : (tick line row : ℕ) (newest owed : List ℕ) → waits shape (core all) ≡ [] → owed ≡ newest → ReadFate shape all row owed → may_have tick (Reads line) newest (outcome_of shape all row) ≡ true
   waited_may tick line row newest owed none is (inl a) = absurd (subst (λ ws. Awaits ws row owed) none a)
@@ -134,12 +121,8 @@ module _ {n m : ℕ} (shape : BankShape) (pace : Pace) (e : ℕ) (all : List (Ti
       by (Core (Read row line came.Waiting)) cancels may on new =
           waited_may x.tick line row (rows.newest (rows_from shape all ys) line) (newest (core ys) line) none (sym (new line))
           (on.reads row (newest (core ys) line) (inl (awaits-new (waits shape (core ys)) (awaited row line (newest (core ys) line) (layer_of (queue shape (core ys)) line)))))
-      by (Core (Serve answer)) cancels may on new = tt
-      by (Regs event) cancels may on new = tt
-      by (Core (Begin answer)) cancels may on new = tt
-      by (Core (Iterate answer)) cancels may on new = tt
-      by (Core (Cut tearing)) true may on new = tt
       by (Core (Cut tearing)) false may on new = eq-eqb x.tick x.tick refl
+      by _ _ may on new = tt
 
 pub served_law : ServedLaw
 served_law n m e shape pace xs l still =

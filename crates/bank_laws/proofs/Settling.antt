@@ -153,38 +153,13 @@ module _ {n m : ℕ} (shape : BankShape) (pace : Pace) (e : ℕ) where
       by : (h : Happens n) → ((next : ℕ) × RowsBelow (core xs) next) → MayCome shape pace e xs x h → (next : ℕ) × RowsBelow (core_of h (core xs)) next
       by (Core (Write row line bytes given answer)) b may = (row + 1, (omega arith, may.asked))
       by (Core (Read row line answer)) b may = (row + 1, (omega arith, may.asked))
-      by (Core (Serve answer)) b may = b
-      by (Regs event) b may = b
-      by (Core (Begin answer)) b may = b
-      by (Core (Iterate answer)) b may = b
-      by (Core (Cut tearing)) b may = b
+      by _ b may = b
 
   step_open : (xs : List (TimedEvent n m)) (x : TimedEvent n m) (h : Happens n) → Lawful shape pace e xs → AreOpen shape xs → MayCome shape pace e xs x h → OpenBy shape xs x.tick h
   step_open xs x (Core (Write row line bytes given wrote.Accepted)) l o may = open_accepted shape xs x.tick o row line bytes given may.asked
   step_open xs x (Core (Write row line bytes given (wrote.Merged old))) l o may =
       open_merged shape xs x.tick o row line old bytes given may.asked (merged-there shape (core xs) line old may.may.2)
-  step_open xs x (Core (Write row line bytes given wrote.Full)) l o may = record {
-    queued = λ r h. refused shape xs x.tick o row r _ may.asked (inl h);
-    waiting = λ r h. refused shape xs x.tick o row r _ may.asked (inr h);
-    coming = λ r below. refused_later shape xs x.tick o row r _ below.0 may.asked;
-  }
-  step_open xs x (Core (Write row line bytes given wrote.Exhausted)) l o may = record {
-    queued = λ r h. refused shape xs x.tick o row r _ may.asked (inl h);
-    waiting = λ r h. refused shape xs x.tick o row r _ may.asked (inr h);
-    coming = λ r below. refused_later shape xs x.tick o row r _ below.0 may.asked;
-  }
   step_open xs x (Core (Read row line came.Waiting)) l o may = open_waiting shape xs x.tick o row line may.asked
-  step_open xs x (Core (Read row line came.Busy)) l o may = record {
-    queued = λ r h. refused shape xs x.tick o row r _ may.asked (inl h);
-    waiting = λ r h. refused shape xs x.tick o row r _ may.asked (inr h);
-    coming = λ r below. refused_later shape xs x.tick o row r _ below.0 may.asked;
-  }
-  step_open xs x (Core (Read row line (came.Forwarded bytes))) l o may = record {
-    queued = λ r h. refused shape xs x.tick o row r _ may.asked (inl h);
-    waiting = λ r h. refused shape xs x.tick o row r _ may.asked (inr h);
-    coming = λ r below. refused_later shape xs x.tick o row r _ below.0 may.asked;
-  }
-  step_open xs x (Regs event) l o may = record { queued = o.queued; waiting = o.waiting; coming = o.coming }
   step_open xs x (Core (Serve answer)) l o may =
       let b = above_all xs l in open_served shape xs x.tick o answer b.0 b.1 (served-first shape (core xs) (waits shape (core xs)) answer may.may)
   step_open xs x (Core (Begin (did.Stored row place))) l o may =
@@ -195,10 +170,7 @@ module _ {n m : ℕ} (shape : BankShape) (pace : Pace) (e : ℕ) where
         waiting = λ r h. head_waiting shape xs x.tick o row b.0 r _ b.1 head h;
         coming = λ r below. head_coming shape xs x.tick o row r _ head below;
       }
-  step_open xs x (Core (Begin did.More)) l o may = open_begun shape xs x.tick o did.More refl (λ r. refl)
-  step_open xs x (Core (Begin (did.Moved step))) l o may = open_begun shape xs x.tick o (did.Moved step) refl (λ r. refl)
-  step_open xs x (Core (Begin (did.Retired slot line))) l o may = open_begun shape xs x.tick o (did.Retired slot line) refl (λ r. refl)
-  step_open xs x (Core (Begin did.Exhausted)) l o may = open_begun shape xs x.tick o did.Exhausted refl (λ r. refl)
+  step_open xs x (Core (Begin answer)) l o may = open_begun shape xs x.tick o answer refl (λ r. refl)
   step_open xs x (Core (Iterate (did.Stored row place))) l o may =
       let b = above_all xs l in
       let head = stored-head shape (core xs) row place may.may.1 in
@@ -207,11 +179,14 @@ module _ {n m : ℕ} (shape : BankShape) (pace : Pace) (e : ℕ) where
         waiting = λ r h. head_waiting shape xs x.tick o row b.0 r _ b.1 head h;
         coming = λ r below. head_coming shape xs x.tick o row r _ head below;
       }
-  step_open xs x (Core (Iterate did.More)) l o may = record { queued = o.queued; waiting = o.waiting; coming = o.coming }
-  step_open xs x (Core (Iterate (did.Moved step))) l o may = record { queued = o.queued; waiting = o.waiting; coming = o.coming }
-  step_open xs x (Core (Iterate (did.Retired slot line))) l o may = record { queued = o.queued; waiting = o.waiting; coming = o.coming }
-  step_open xs x (Core (Iterate did.Exhausted)) l o may = record { queued = o.queued; waiting = o.waiting; coming = o.coming }
   step_open xs x (Core (Cut tearing)) l o may = let b = above_all xs l in open_cut shape xs x.tick o tearing b.0 b.1
+  step_open xs x (Core (Iterate _)) l o may = record { queued = o.queued; waiting = o.waiting; coming = o.coming }
+  step_open xs x (Regs _) l o may = record { queued = o.queued; waiting = o.waiting; coming = o.coming }
+  step_open xs x _ l o may = record {
+    queued = λ r h. refused shape xs x.tick o _ r _ may.asked (inl h);
+    waiting = λ r h. refused shape xs x.tick o _ r _ may.asked (inr h);
+    coming = λ r below. refused_later shape xs x.tick o _ r _ below.0 may.asked;
+  }
 
   pub opens : (xs : List (TimedEvent n m)) → Lawful shape pace e xs → AreOpen shape xs
   opens [] l = record { queued = λ row h. refl; waiting = λ row h. refl; coming = λ row h. refl }
@@ -222,30 +197,20 @@ module _ {n m : ℕ} (shape : BankShape) (pace : Pace) (e : ℕ) where
   -- so an outcome stays over one more event
   pub step_stays : (xs : List (TimedEvent n m)) (x : TimedEvent n m) (h : Happens n) (row : ℕ) → Lawful shape pace e xs → AreOpen shape xs → MayCome shape pace e xs x h
       → outcome_of shape xs row ≢ out.Unset → unwrap_or (outcome_with shape xs h x.tick row) (outcome_of shape xs row) ≡ outcome_of shape xs row
-  step_stays xs x (Core (Write at line bytes given wrote.Accepted)) row l o may set = refl
   step_stays xs x (Core (Write at line bytes given (wrote.Merged old))) row l o may set =
       settled (outcome_of shape xs) old row _ (o.queued old (merged-there shape (core xs) line old may.may.2)) set
   step_stays xs x (Core (Write at line bytes given wrote.Full)) row l o may set = settled (outcome_of shape xs) at row _ (o.coming at may.asked) set
   step_stays xs x (Core (Write at line bytes given wrote.Exhausted)) row l o may set = settled (outcome_of shape xs) at row _ (o.coming at may.asked) set
-  step_stays xs x (Core (Read at line came.Waiting)) row l o may set = refl
   step_stays xs x (Core (Read at line came.Busy)) row l o may set = settled (outcome_of shape xs) at row _ (o.coming at may.asked) set
   step_stays xs x (Core (Read at line (came.Forwarded bytes))) row l o may set = settled (outcome_of shape xs) at row _ (o.coming at may.asked) set
-  step_stays xs x (Regs event) row l o may set = refl
   step_stays xs x (Core (Serve answer)) row l o may set =
       settled (outcome_of shape xs) answer.row row _ (o.waiting answer.row (first-there (waits shape (core xs)) answer.row (served-first shape (core xs) (waits shape (core xs)) answer may.may))) set
   step_stays xs x (Core (Begin (did.Stored at place))) row l o may set =
       settled (outcome_of shape xs) at row _ (o.queued at (head-there (queue shape (core xs)) at (stored-head shape (core xs) at place may.may.1))) set
-  step_stays xs x (Core (Begin did.More)) row l o may set = refl
-  step_stays xs x (Core (Begin (did.Moved step))) row l o may set = refl
-  step_stays xs x (Core (Begin (did.Retired slot line))) row l o may set = refl
-  step_stays xs x (Core (Begin did.Exhausted)) row l o may set = refl
   step_stays xs x (Core (Iterate (did.Stored at place))) row l o may set =
       settled (outcome_of shape xs) at row _ (o.queued at (head-there (queue shape (core xs)) at (stored-head shape (core xs) at place may.may.1))) set
-  step_stays xs x (Core (Iterate did.More)) row l o may set = refl
-  step_stays xs x (Core (Iterate (did.Moved step))) row l o may set = refl
-  step_stays xs x (Core (Iterate (did.Retired slot line))) row l o may set = refl
-  step_stays xs x (Core (Iterate did.Exhausted)) row l o may set = refl
   step_stays xs x (Core (Cut tearing)) row l o may set = settled_lost (outcome_of shape xs) (has_wait (waits shape (core xs)) row) row _ (o.waiting row) set
+  step_stays xs x _ row l o may set = refl
 
   pub lawful_before : (later xs : List (TimedEvent n m)) → Lawful shape pace e (later ++ xs) → Lawful shape pace e xs
   lawful_before [] xs l = l

@@ -115,22 +115,14 @@ module _ {n : ℕ} where
   stand_apart shape [] next b = record { queued_below = λ row h. refl; waiting_below = λ row h. refl; queued_apart = tt; waiting_apart = tt; one_place = λ row h. refl }
   stand_apart shape (Write row line bytes given wrote.Accepted ∷ h) next b = accepted _ _ _ next b.0 (stand_apart shape h row b.1)
   stand_apart shape (Write row line bytes given (wrote.Merged old) ∷ h) next b = merges _ _ old row bytes given next b.0 (stand_apart shape h row b.1)
-  stand_apart shape (Write row line bytes given wrote.Full ∷ h) next b = later _ _ row next (omega (arith, b.0)) (stand_apart shape h row b.1)
-  stand_apart shape (Write row line bytes given wrote.Exhausted ∷ h) next b = later _ _ row next (omega (arith, b.0)) (stand_apart shape h row b.1)
+  stand_apart shape (Write row line bytes given _ ∷ h) next b = later _ _ row next (omega (arith, b.0)) (stand_apart shape h row b.1)
   stand_apart shape (Read row line came.Waiting ∷ h) next b = waiting _ _ (awaited row line _ _) next b.0 (stand_apart shape h row b.1)
-  stand_apart shape (Read row line came.Busy ∷ h) next b = later _ _ row next (omega (arith, b.0)) (stand_apart shape h row b.1)
-  stand_apart shape (Read row line (came.Forwarded bytes) ∷ h) next b = later _ _ row next (omega (arith, b.0)) (stand_apart shape h row b.1)
+  stand_apart shape (Read row line _ ∷ h) next b = later _ _ row next (omega (arith, b.0)) (stand_apart shape h row b.1)
   stand_apart shape (Serve answer ∷ h) next b = served _ _ next (stand_apart shape h next b)
   stand_apart shape (Begin (did.Stored row place) ∷ h) next b = stored _ _ next (stand_apart shape h next b)
-  stand_apart shape (Begin did.More ∷ h) next b = begins _ _ _ _ next (stand_apart shape h next b)
-  stand_apart shape (Begin (did.Moved step) ∷ h) next b = begins _ _ _ _ next (stand_apart shape h next b)
-  stand_apart shape (Begin (did.Retired slot line) ∷ h) next b = begins _ _ _ _ next (stand_apart shape h next b)
-  stand_apart shape (Begin did.Exhausted ∷ h) next b = begins _ _ _ _ next (stand_apart shape h next b)
+  stand_apart shape (Begin _ ∷ h) next b = begins _ _ _ _ next (stand_apart shape h next b)
   stand_apart shape (Iterate (did.Stored row place) ∷ h) next b = stored _ _ next (stand_apart shape h next b)
-  stand_apart shape (Iterate did.More ∷ h) next b = stand_apart shape h next b
-  stand_apart shape (Iterate (did.Moved step) ∷ h) next b = stand_apart shape h next b
-  stand_apart shape (Iterate (did.Retired slot line) ∷ h) next b = stand_apart shape h next b
-  stand_apart shape (Iterate did.Exhausted ∷ h) next b = stand_apart shape h next b
+  stand_apart shape (Iterate _ ∷ h) next b = stand_apart shape h next b
   stand_apart shape (Cut tearing ∷ h) next b = dropped _ _ next (stand_apart shape h next b)
 
 pub row_law : RowLaw

@@ -117,24 +117,14 @@ module _ {n : ℕ} (shape : BankShape) where
     work-merged (has_exhausted h) (due_after shape h) old row bytes given (queue shape h) w,
     target-by shape h (has_exhausted h) (due_after shape h) _ (queue shape h) (λ b. due-merged shape h (due_after shape h) old row bytes given (queue shape h)),
   )
-  target-same (Write row line bytes given wrote.Full) h s w = (w, refl)
-  target-same (Write row line bytes given wrote.Exhausted) h s w = (w, refl)
-  target-same (Read row line answer) h s w = (w, refl)
-  target-same (Serve answer) h s w = (w, refl)
   target-same (Begin did.More) h s w = (
     work-begun (has_exhausted h) (due_after shape h) (due_after shape h) (newest h) (queue shape h) w,
     target-by shape h (has_exhausted h) (due_after shape h) _ (queue shape h) (λ b. due-begun shape h (due_after shape h) (due_after shape h) (newest h) (queue shape h)),
   )
-  target-same (Begin (did.Stored row place)) h s w = absurd (cc)
-  target-same (Begin (did.Moved step)) h s w = absurd (cc)
-  target-same (Begin (did.Retired slot line)) h s w = absurd (cc)
-  target-same (Begin did.Exhausted) h s w = absurd (cc)
+  target-same (Begin _) h s w = absurd (cc)
   target-same (Iterate did.More) h s w = (w, refl)
-  target-same (Iterate (did.Stored row place)) h s w = absurd (cc)
-  target-same (Iterate (did.Moved step)) h s w = absurd (cc)
-  target-same (Iterate (did.Retired slot line)) h s w = absurd (cc)
-  target-same (Iterate did.Exhausted) h s w = absurd (cc)
-  target-same (Cut tearing) h s w = (w, refl)
+  target-same (Iterate _) h s w = absurd (cc)
+  target-same _ h s w = (w, refl)
 
   -- a bank without waiting reads and without a line write in progress may begin a work that is there
   pub work-begins : (h : List (BankEvent n)) (ws : List Awaited) → waits shape h ≡ ws → ws ≡ [] → in_progress h ≡ false → WorkAfter h → may_begin_after shape h ≡ true

@@ -4,9 +4,9 @@ use Rattle.std.{specs.Prelude.{IsTrue, IfSome, All, nat_lt}, proofs.lemmas.List.
 use Rattle.bank_shape.specs.{Acting.lasts, declared.BankShape.BankShape, declared.clock.Action.Action, declared.clock.Doing.Doing}
 use Rattle.bank_shape.specs.{declared.clock.Doing.TheVariants.{Serving, Beginning, Iterating}, declared.pace.Pace.Pace}
 use Rattle.bank_shape.specs.declared.answer.ReadAnswer.TheVariants as came
-use Rattle.bank_model.specs.{Changes.change_after, Events.{Write, Read, Serve, Begin, Iterate, Cut}, Lawful.{Lawful, MayCome}}
+use Rattle.bank_model.specs.{Changes.change_after, Events.{Write, Read, Serve, Begin, Iterate}, Lawful.{Lawful, MayCome}}
 use Rattle.bank_model.specs.Running.{drops_begin, started, left_by, running, running_at, chosen_after}
-use Rattle.bank_model.specs.Timing.{Happens, Core, Regs, KeepBegin, KeepIterate, KeepCut, TimedEvent, ends, core, last_tick}
+use Rattle.bank_model.specs.Timing.{Happens, Core, Regs, KeepBegin, KeepIterate, TimedEvent, ends, core, last_tick}
 use Rattle.bank_laws.specs.Ticks.{ends_action, TickLaw}
 
 pub lasts_some : (read iter : ℕ) (doing : Doing) → 1 ≤ read → 1 ≤ iter → 1 ≤ lasts read iter doing
@@ -42,13 +42,8 @@ module _ {n m : ℕ} (shape : BankShape) (pace : Pace) (e : ℕ) where
       by : (h : Happens n) → MayCome shape pace e xs x h → IfSome (left_by shape (core xs) (change_after shape xs) h (running_at shape pace xs x.tick)) (λ a. x.tick < ends pace a)
       by (Core (Write row line bytes given answer)) may = may.on_time.0.2
       by (Core (Read row line came.Waiting)) may = left (drops_begin shape (core xs) (change_after shape xs) line (running_at shape pace xs x.tick)) _ may.on_time.0.2
-      by (Core (Read row line came.Busy)) may = may.on_time.0.2
-      by (Core (Read row line (came.Forwarded bytes))) may = may.on_time.0.2
-      by (Core (Serve answer)) may = tt
-      by (Regs event) may = tt
-      by (Core (Begin answer)) may = tt
-      by (Core (Iterate answer)) may = tt
-      by (Core (Cut tearing)) may = tt
+      by (Core (Read row line _)) may = may.on_time.0.2
+      by _ may = tt
 
   -- the action that ends at an event ends above the last one
   ends-after : (xs : List (TimedEvent n m)) (x : TimedEvent n m) (doing : Doing) → 1 ≤ pace.read → 1 ≤ pace.iter → Lawful shape pace e xs
@@ -64,29 +59,23 @@ module _ {n m : ℕ} (shape : BankShape) (pace : Pace) (e : ℕ) where
   last-below xs x r i l = by x.happens l.0
     where
       by : (h : Happens n) → MayCome shape pace e xs x h → IsTrue (ends_action h) → last_tick xs < x.tick
-      by (Core (Write row line bytes given answer)) may is = absurd (cc)
-      by (Core (Read row line answer)) may is = absurd (cc)
-      by (Regs (KeepBegin answer)) may is = ends-after xs x Beginning r i l.1 may.on_time.0.0 may.on_time.0.1
-      by (Regs (KeepIterate answer)) may is = ends-after xs x Iterating r i l.1 may.on_time.0.0 may.on_time.0.1
-      by (Regs (KeepCut tearing)) may is = absurd (cc)
       by (Core (Serve answer)) may is = ends-after xs x Serving r i l.1 may.on_time.0.0 may.on_time.0.1
       by (Core (Begin answer)) may is = ends-after xs x Beginning r i l.1 may.on_time.0.0 may.on_time.0.1
       by (Core (Iterate answer)) may is = ends-after xs x Iterating r i l.1 may.on_time.0.0 may.on_time.0.1
-      by (Core (Cut tearing)) may is = absurd (cc)
+      by (Regs (KeepBegin answer)) may is = ends-after xs x Beginning r i l.1 may.on_time.0.0 may.on_time.0.1
+      by (Regs (KeepIterate answer)) may is = ends-after xs x Iterating r i l.1 may.on_time.0.0 may.on_time.0.1
+      by _ may is = absurd (cc)
 
   pub last_tick-rises : (xs : List (TimedEvent n m)) (x : TimedEvent n m) → 1 ≤ pace.read → 1 ≤ pace.iter → Lawful shape pace e (x ∷ xs) → last_tick xs ≤ x.tick
   last_tick-rises xs x r i l = by x.happens l.0
     where
       by : (h : Happens n) → MayCome shape pace e xs x h → last_tick xs ≤ x.tick
-      by (Core (Write row line bytes given answer)) may = may.on_time.0.1
-      by (Core (Read row line answer)) may = may.on_time.0.1
-      by (Regs (KeepBegin answer)) may = let lt : last_tick xs < x.tick = ends-after xs x Beginning r i l.1 may.on_time.0.0 may.on_time.0.1 in omega arith
-      by (Regs (KeepIterate answer)) may = let lt : last_tick xs < x.tick = ends-after xs x Iterating r i l.1 may.on_time.0.0 may.on_time.0.1 in omega arith
-      by (Regs (KeepCut tearing)) may = may.on_time.0.1
       by (Core (Serve answer)) may = let lt : last_tick xs < x.tick = ends-after xs x Serving r i l.1 may.on_time.0.0 may.on_time.0.1 in omega arith
       by (Core (Begin answer)) may = let lt : last_tick xs < x.tick = ends-after xs x Beginning r i l.1 may.on_time.0.0 may.on_time.0.1 in omega arith
       by (Core (Iterate answer)) may = let lt : last_tick xs < x.tick = ends-after xs x Iterating r i l.1 may.on_time.0.0 may.on_time.0.1 in omega arith
-      by (Core (Cut tearing)) may = may.on_time.0.1
+      by (Regs (KeepBegin answer)) may = let lt : last_tick xs < x.tick = ends-after xs x Beginning r i l.1 may.on_time.0.0 may.on_time.0.1 in omega arith
+      by (Regs (KeepIterate answer)) may = let lt : last_tick xs < x.tick = ends-after xs x Iterating r i l.1 may.on_time.0.0 may.on_time.0.1 in omega arith
+      by _ may = may.on_time.0.1
 
   -- no event is above the last
   pub ticks-up_to : (xs : List (TimedEvent n m)) → 1 ≤ pace.read → 1 ≤ pace.iter → Lawful shape pace e xs → All (λ y. y.tick ≤ last_tick xs) xs

@@ -7,13 +7,13 @@ use Rattle.result_rows.specs.declared.Outcome.TheVariants as out
 use Rattle.row_rules.specs.{Answers.{is_lost, read_after}, Queueing.waiting, Rows.is_cut, declared.Row.Row}
 use Rattle.bank_shape.specs.{Pausing.{is_cancelling, most_cancels}, declared.BankShape.BankShape, declared.answer.ReadAnswer.ReadAnswer, declared.pace.Pace.Pace}
 use Rattle.bank_shape.specs.declared.answer.ReadAnswer.TheVariants as came
-use Rattle.bank_model.specs.{Answers.{read_answer, MayAll}, Events.{BankEvent, Write, Read, Serve, Begin, Iterate, Cut, RowsBelow, newest}}
+use Rattle.bank_model.specs.{Answers.{read_answer, MayAll}, Events.{BankEvent, Write, Read, Serve, Cut, RowsBelow, newest}}
 use Rattle.bank_model.specs.{History.{Awaited, awaited, queue, waits}, Lawful.{Lawful, MayCome, would_cancel}, Running.{running_at, cancels_after}, Sensing.most_steps}
 use Rattle.bank_model.specs.Timing.{Happens, Core, Regs, TimedEvent, core, core_of, last_tick, is_empty, is_writing}
 use Rattle.bank_laws.specs.{Outcomes.{on_row, outcome_with, outcome_of, row_with, rows_from}, RowLaws.{waits_fit, is_wait_fair, WaitLaw}, Standing.has_wait, Ticks.ends_action}
 use Rattle.bank_laws.proofs.{Answering.{IsFirst, served-first}, Counting.{among, Falling, falling-more, hits, waits-counted}, Ending.{Onwards, own_row, own_answer}}
 use Rattle.bank_laws.proofs.{Entries.{either, no_wait-push, no_wait-drop}, Fates.{Awaits, IsSettled, ReadFate, awaits-new}, Holding.bound_law, Later.{EndsAbove, ends_at_row}}
-use Rattle.bank_laws.proofs.{Serves.{may_at, onwards_at, idle-waits}, Settling.{opens, above_all, lawful_before, step_stays, stays}, Standing.stand_apart, Ticks.last_tick-rises}
+use Rattle.bank_laws.proofs.{Serves.{may_at, onwards_at}, Settling.{opens, above_all, lawful_before, step_stays, stays}, Standing.stand_apart, Ticks.last_tick-rises}
 use Rattle.bank_laws.proofs.Walking.{Passes, walk, rows_after, rows_after-more}
 use Rattle.masked_bytes.specs.{Entries.layer_of, Masked.gives_all}
 
@@ -54,11 +54,7 @@ module _ {n m : ℕ} (shape : BankShape) (pace : Pace) (e : ℕ) (all : List (Ti
       ⊎ ((unwrap_or (outcome_with shape zs h x.tick row) (outcome_of shape zs row) ≡ out.Lost x.tick) × (list_any is_cut (row_with shape all h x.tick x.cancels) ≡ true)))
 
   wait_step : (zs : List (TimedEvent n m)) (x : TimedEvent n m) (h : Happens n) (row : ℕ) → MayCome shape pace e zs x h → has_wait (waits shape (core zs)) row ≡ true → Waits zs x h row
-  wait_step zs x (Core (Write at line bytes given answer)) row may there = inl (there, refl)
   wait_step zs x (Core (Read at line came.Waiting)) row may there = inl (wait-push (waits shape (core zs)) _ row there, refl)
-  wait_step zs x (Core (Read at line came.Busy)) row may there = inl (there, refl)
-  wait_step zs x (Core (Read at line (came.Forwarded bytes))) row may there = inl (there, refl)
-  wait_step zs x (Regs event) row may there = inl (there, refl)
   wait_step zs x (Core (Serve answer)) row may there = by (waits shape (core zs)) (served-first shape (core zs) (waits shape (core zs)) answer may.may) there
     where
       by : (ws : List Awaited) → IsFirst ws answer.row → has_wait ws row ≡ true
@@ -78,8 +74,6 @@ module _ {n m : ℕ} (shape : BankShape) (pace : Pace) (e : ℕ) (all : List (Ti
               ⊎ ((unwrap_or (cond b (Some (out.Read x.tick answer.place answer.bytes)) None) (outcome_of shape zs row) ≡ out.Lost x.tick) × (false ≡ true)))
           own true is = inr (inl (refl, answer.place, answer.bytes, refl))
           own false is = inl (rest (w.row == row) (subst (λ r. (r == row) ≡ false) first is) there, refl)
-  wait_step zs x (Core (Begin answer)) row may there = inl (there, refl)
-  wait_step zs x (Core (Iterate answer)) row may there = inl (there, refl)
   wait_step zs x (Core (Cut tearing)) row may there = by x.cancels may.on_time.2
     where
       lost : (b : Bool) → b ≡ true → unwrap_or (cond b (Some (out.Lost x.tick)) None) (outcome_of shape zs row) ≡ out.Lost x.tick
@@ -95,6 +89,7 @@ module _ {n m : ℕ} (shape : BankShape) (pace : Pace) (e : ℕ) (all : List (Ti
           cancels-none (is_cancelling pace.policy) (is_writing (running_at shape pace zs x.tick)) (is_empty (waits shape (core zs))) (nat_lt (cancels_after zs) most_cancels) (none refl) in
           absurd (cc (empty-lacks (waits shape (core zs)) row empty, there))
       by false none = inr (inr (lost (has_wait (waits shape (core zs)) row) there, refl))
+  wait_step zs x _ row may there = inl (there, refl)
 
   -- a read that has an outcome: it is read no later than the last event, or lost at a cut behind it
   pub record IsPast (o : Outcome n) (last : ℕ) (between : List (Row n)) : Type 0 where
@@ -232,29 +227,21 @@ reads-fall {n} {m} (z ∷ zs) bound b = by z.happens (λ bound b. reads-fall zs 
     by : (h : Happens n) → ((bound : ℕ) → RowsBelow (core zs) bound → Falling (reads_in zs) bound) → RowsBelow (core_of h (core zs)) bound → Falling (read_rows h ++ reads_in zs) bound
     by (Core (Write at line bytes given answer)) go b = falling-more (reads_in zs) at bound (omega (arith, b.0)) (go at b.1)
     by (Core (Read at line answer)) go b = (b.0, go at b.1)
-    by (Core (Serve answer)) go b = go bound b
-    by (Regs event) go b = go bound b
-    by (Core (Begin answer)) go b = go bound b
-    by (Core (Iterate answer)) go b = go bound b
-    by (Core (Cut tearing)) go b = go bound b
+    by _ go b = go bound b
 
 pub waits-asked : {n m : ℕ} (shape : BankShape) (zs : List (TimedEvent n m)) (r : ℕ) → has_wait (waits shape (core zs)) r ≡ true → among (reads_in zs) r ≡ true
 waits-asked shape [] r there = absurd (cc)
 waits-asked {n} {m} shape (z ∷ zs) r there = by z.happens (λ t. waits-asked shape zs r t) there
   where
     by : (h : Happens n) → (has_wait (waits shape (core zs)) r ≡ true → among (reads_in zs) r ≡ true) → has_wait (waits shape (core_of h (core zs))) r ≡ true → among (read_rows h ++ reads_in zs) r ≡ true
-    by (Core (Write at line bytes given answer)) go there = go there
     by (Core (Read at line came.Waiting)) go there =
         either (has_wait (waits shape (core zs)) r) (λ t. or_right (at == r) _ (go t))
         (λ f. either (eqb at r) (λ is. or_left (at == r) _ is)
         (λ ne. absurd (cc (no_wait-push (waits shape (core zs)) (awaited at line (newest (core zs) line) (layer_of (queue shape (core zs)) line)) r f ne, there))))
-    by (Core (Read at line came.Busy)) go there = or_right (at == r) _ (go there)
-    by (Core (Read at line (came.Forwarded bytes))) go there = or_right (at == r) _ (go there)
+    by (Core (Read at line _)) go there = or_right (at == r) _ (go there)
     by (Core (Serve answer)) go there = either (has_wait (waits shape (core zs)) r) go (λ f. absurd (cc (no_wait-drop (waits shape (core zs)) r f, there)))
-    by (Regs event) go there = go there
-    by (Core (Begin answer)) go there = go there
-    by (Core (Iterate answer)) go there = go there
     by (Core (Cut tearing)) go there = absurd (cc)
+    by _ go there = go there
 
 pub may_all : {n m : ℕ} (shape : BankShape) (pace : Pace) (e : ℕ) (zs : List (TimedEvent n m)) → Lawful shape pace e zs → MayAll shape (most_steps e) (core zs)
 may_all shape pace e [] l = tt
@@ -316,15 +303,10 @@ module _ {n m : ℕ} (shape : BankShape) (pace : Pace) (e : ℕ) (all : List (Ti
             → length (waiting t (rows_after shape all mid)
             (row_with shape all h z.tick cancels ++ rows_from shape all ys))
             ≡ hits (λ row. has_wait (waits shape (core now)) row) (read_rows h ++ reads_in ys)
-        by (Core (Write at line bytes given answer)) cancels f ih = ih
         by (Core (Read at line answer)) cancels f ih =
             cond_length _ _ _ _ _ (f at (state_new ys z.tick at line answer)) ih
-        by (Core (Serve answer)) cancels f ih = ih
-        by (Regs event) cancels f ih = ih
-        by (Core (Begin answer)) cancels f ih = ih
-        by (Core (Iterate answer)) cancels f ih = ih
         by (Core (Cut tearing)) true f ih = ih
-        by (Core (Cut tearing)) false f ih = ih
+        by _ _ f ih = ih
 
     -- as many reads wait by the rows as by the events
     pub awaiting_length : length (waiting t [] (rows_from shape all now)) ≡ length (waits shape (core now))
@@ -359,17 +341,9 @@ module _ {n m : ℕ} (shape : BankShape) (pace : Pace) (e : ℕ) (all : List (Ti
   fits_busy count tick o is full = ap (waits_fit shape.reads count) is ∙ subst (λ b. cond b true false ≡ true) (sym full) refl
 
   pub fits_waiting : (count : ℕ) (owed : List ℕ) (o : Outcome n) → IsSettled owed o → (count == shape.reads) ≡ false → waits_fit shape.reads count o ≡ true
-  fits_waiting count owed out.Unset s room = absurd s
-  fits_waiting count owed (out.Stored at place) s room = absurd s
-  fits_waiting count owed (out.Merged at) s room = absurd s
-  fits_waiting count owed (out.Queued at) s room = absurd s
-  fits_waiting count owed (out.Full at) s room = absurd s
-  fits_waiting count owed (out.Worn at) s room = absurd s
   fits_waiting count owed (out.Read at place bytes) s room = subst (λ b. cond b false true ≡ true) (sym room) refl
-  fits_waiting count owed (out.Forwarded at bytes) s room = absurd s
-  fits_waiting count owed (out.Busy at) s room = absurd s
   fits_waiting count owed (out.Lost at) s room = subst (λ b. cond b false true ≡ true) (sym room) refl
-  fits_waiting count owed (out.Cut at) s room = absurd s
+  fits_waiting count owed _ s room = absurd s
 
   pub settled_all : (row : ℕ) (owed : List ℕ) → waits shape (core all) ≡ [] → ReadFate shape all row owed → IsSettled owed (outcome_of shape all row)
   settled_all row owed none (inl a) = absurd (subst (λ ws. Awaits ws row owed) none a)
@@ -405,12 +379,8 @@ module _ {n m : ℕ} (shape : BankShape) (pace : Pace) (e : ℕ) (all : List (Ti
           (settled_all row (newest (core ys) line) none
           (on.reads row (newest (core ys) line) (inl (awaits-new (waits shape (core ys)) (awaited row line (newest (core ys) line) (layer_of (queue shape (core ys)) line))))))
           (ap (λ k. k == shape.reads) (count refl) ∙ (read_room (core ys) line came.Waiting may.may.1).1 refl))
-      by (Core (Serve answer)) cancels may on count = tt
-      by (Regs event) cancels may on count = tt
-      by (Core (Begin answer)) cancels may on count = tt
-      by (Core (Iterate answer)) cancels may on count = tt
-      by (Core (Cut tearing)) true may on count = tt
       by (Core (Cut tearing)) false may on count = and_from _ _ (few (count refl)) refl
+      by _ _ may on count = tt
 
 pub wait_law : WaitLaw
 wait_law n m e shape pace xs sized l still =

@@ -3,7 +3,7 @@ use Rattle.std.proofs.Common.{◌≡◌, ℕ, Bool, true, false, List, [], ◌�
 use Rattle.std.proofs.{lemmas.Bool.and_from, lemmas.List.append-nil}
 use Rattle.row_rules.specs.{Rows.{RowTest, each_row}, declared.Row.Row}
 use Rattle.bank_shape.specs.declared.BankShape.{BankShape}
-use Rattle.bank_model.specs.{Events.{Write, Read, Serve, Begin, Iterate, Cut}, Timing.{Happens, Core, Regs, TimedEvent}}
+use Rattle.bank_model.specs.{Events.{Write, Read, Cut}, Timing.{Happens, Core, TimedEvent}}
 use Rattle.bank_laws.specs.Outcomes.{row_with, rows_from}
 
 -- the row of an event, if it has one, passes a test
@@ -27,12 +27,8 @@ module _ {n m : ℕ} (shape : BankShape) (all : List (TimedEvent n m)) where
       → each_row test before (row_with shape all h tick cancels ++ after) ≡ true → each_row test (row_with shape all h tick cancels ++ before) after ≡ true
   one_row test (Core (Write row line bytes given answer)) tick cancels before after p rest = and_from _ _ p rest
   one_row test (Core (Read row line answer)) tick cancels before after p rest = and_from _ _ p rest
-  one_row test (Core (Serve answer)) tick cancels before after p rest = rest
-  one_row test (Regs event) tick cancels before after p rest = rest
-  one_row test (Core (Begin answer)) tick cancels before after p rest = rest
-  one_row test (Core (Iterate answer)) tick cancels before after p rest = rest
-  one_row test (Core (Cut tearing)) tick true before after p rest = rest
   one_row test (Core (Cut tearing)) tick false before after p rest = and_from _ _ p rest
+  one_row test _ tick _ before after p rest = rest
 
   -- where the row of each event passes between those before it and those after it, every row passes
   pub walk : (test : RowTest n) (later xs : List (TimedEvent n m)) → all ≡ later ++ xs

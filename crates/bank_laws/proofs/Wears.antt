@@ -38,17 +38,8 @@ module _ {n : ℕ} where
 
   -- an accepted outcome is not worn
   accepted_not_worn : (o : Outcome n) → accepts o ≡ true → is_worn o ≡ false
-  accepted_not_worn out.Unset a = refl
-  accepted_not_worn (out.Stored at place) a = refl
-  accepted_not_worn (out.Merged at) a = refl
-  accepted_not_worn (out.Queued at) a = refl
-  accepted_not_worn (out.Full at) a = refl
   accepted_not_worn (out.Worn at) a = absurd (cc)
-  accepted_not_worn (out.Read at place bytes) a = refl
-  accepted_not_worn (out.Forwarded at bytes) a = refl
-  accepted_not_worn (out.Busy at) a = refl
-  accepted_not_worn (out.Lost at) a = refl
-  accepted_not_worn (out.Cut at) a = refl
+  accepted_not_worn _ a = refl
 
   -- a worn outcome comes of a bank that is exhausted
   pub worn_outcome : (tick : ℕ) (answer : WriteAnswer) (o : Outcome n) → IsOutcome tick answer o → is_worn o ≡ true → answer ≡ wrote.Exhausted
@@ -66,20 +57,9 @@ module _ {n : ℕ} where
       by false ex d = absurd (cc)
 
   pub exhausted-more : (event : BankEvent n) (h : List (BankEvent n)) → has_exhausted h ≡ true → has_exhausted (event ∷ h) ≡ true
-  exhausted-more (Write row line bytes given answer) h ex = ex
-  exhausted-more (Read row line answer) h ex = ex
-  exhausted-more (Serve answer) h ex = ex
-  exhausted-more (Begin did.More) h ex = ex
-  exhausted-more (Begin (did.Stored row place)) h ex = ex
-  exhausted-more (Begin (did.Moved step)) h ex = ex
-  exhausted-more (Begin (did.Retired slot line)) h ex = ex
   exhausted-more (Begin did.Exhausted) h ex = refl
-  exhausted-more (Iterate did.More) h ex = ex
-  exhausted-more (Iterate (did.Stored row place)) h ex = ex
-  exhausted-more (Iterate (did.Moved step)) h ex = ex
-  exhausted-more (Iterate (did.Retired slot line)) h ex = ex
   exhausted-more (Iterate did.Exhausted) h ex = refl
-  exhausted-more (Cut tearing) h ex = ex
+  exhausted-more _ h ex = ex
 
   -- a write is refused as worn exactly where the bank is exhausted
   pub refused-exhausted : (shape : BankShape) (h : List (BankEvent n)) (line : ℕ) → wrote.Exhausted ≡ write_answer shape h line → has_exhausted h ≡ true
@@ -102,26 +82,16 @@ module _ {n m : ℕ} (shape : BankShape) (pace : Pace) (e : ℕ) where
   -- what an event leaves stored was stored before, or is stored at its tick
   pub stored_by : (zs : List (TimedEvent n m)) (x : TimedEvent n m) (h : Happens n) (row u p : ℕ) → unwrap_or (outcome_with shape zs h x.tick row) (outcome_of shape zs row) ≡ out.Stored u p
       → ((ends_action h ≡ true) × (u ≡ x.tick)) ⊎ (outcome_of shape zs row ≡ out.Stored u p)
-  stored_by zs x (Core (Write at line bytes given wrote.Accepted)) row u p s = inr s
   stored_by zs x (Core (Write at line bytes given (wrote.Merged old))) row u p s = inr (not_stored old row _ _ u p (λ is. absurd (cc)) s)
   stored_by zs x (Core (Write at line bytes given wrote.Full)) row u p s = inr (not_stored at row _ _ u p (λ is. absurd (cc)) s)
   stored_by zs x (Core (Write at line bytes given wrote.Exhausted)) row u p s = inr (not_stored at row _ _ u p (λ is. absurd (cc)) s)
-  stored_by zs x (Core (Read at line came.Waiting)) row u p s = inr s
   stored_by zs x (Core (Read at line came.Busy)) row u p s = inr (not_stored at row _ _ u p (λ is. absurd (cc)) s)
   stored_by zs x (Core (Read at line (came.Forwarded bytes))) row u p s = inr (not_stored at row _ _ u p (λ is. absurd (cc)) s)
-  stored_by zs x (Regs event) row u p s = inr s
   stored_by zs x (Core (Serve answer)) row u p s = inr (not_stored answer.row row _ _ u p (λ is. absurd (cc)) s)
   stored_by zs x (Core (Begin (did.Stored at place))) row u p s = stored_tick at row x.tick place _ u p s
-  stored_by zs x (Core (Begin did.More)) row u p s = inr s
-  stored_by zs x (Core (Begin (did.Moved step))) row u p s = inr s
-  stored_by zs x (Core (Begin (did.Retired slot line))) row u p s = inr s
-  stored_by zs x (Core (Begin did.Exhausted)) row u p s = inr s
   stored_by zs x (Core (Iterate (did.Stored at place))) row u p s = stored_tick at row x.tick place _ u p s
-  stored_by zs x (Core (Iterate did.More)) row u p s = inr s
-  stored_by zs x (Core (Iterate (did.Moved step))) row u p s = inr s
-  stored_by zs x (Core (Iterate (did.Retired slot line))) row u p s = inr s
-  stored_by zs x (Core (Iterate did.Exhausted)) row u p s = inr s
   stored_by zs x (Core (Cut tearing)) row u p s = inr (lost_not_stored (has_wait (waits shape (core zs)) row) x.tick _ u p s)
+  stored_by zs x _ row u p s = inr s
 
   -- a store is no later than the last event
   pub stored_up_to : (zs : List (TimedEvent n m)) (row u p : ℕ) → 1 ≤ pace.read → 1 ≤ pace.iter → Lawful shape pace e zs → outcome_of shape zs row ≡ out.Stored u p → u ≤ last_tick zs
@@ -135,26 +105,16 @@ module _ {n m : ℕ} (shape : BankShape) (pace : Pace) (e : ℕ) where
   -- an exhausted bank's event stores nothing
   kept_by : (zs : List (TimedEvent n m)) (x : TimedEvent n m) (h : Happens n) (row u p : ℕ) → MayCome shape pace e zs x h → has_exhausted (core zs) ≡ true
       → unwrap_or (outcome_with shape zs h x.tick row) (outcome_of shape zs row) ≡ out.Stored u p → outcome_of shape zs row ≡ out.Stored u p
-  kept_by zs x (Core (Write at line bytes given wrote.Accepted)) row u p may ex s = s
   kept_by zs x (Core (Write at line bytes given (wrote.Merged old))) row u p may ex s = not_stored old row _ _ u p (λ is. absurd (cc)) s
   kept_by zs x (Core (Write at line bytes given wrote.Full)) row u p may ex s = not_stored at row _ _ u p (λ is. absurd (cc)) s
   kept_by zs x (Core (Write at line bytes given wrote.Exhausted)) row u p may ex s = not_stored at row _ _ u p (λ is. absurd (cc)) s
-  kept_by zs x (Core (Read at line came.Waiting)) row u p may ex s = s
   kept_by zs x (Core (Read at line came.Busy)) row u p may ex s = not_stored at row _ _ u p (λ is. absurd (cc)) s
   kept_by zs x (Core (Read at line (came.Forwarded bytes))) row u p may ex s = not_stored at row _ _ u p (λ is. absurd (cc)) s
-  kept_by zs x (Regs event) row u p may ex s = s
   kept_by zs x (Core (Serve answer)) row u p may ex s = not_stored answer.row row _ _ u p (λ is. absurd (cc)) s
   kept_by zs x (Core (Begin (did.Stored at place))) row u p may ex s = absurd (exhausted-stores_none shape (core zs) at place ex may.may.1)
-  kept_by zs x (Core (Begin did.More)) row u p may ex s = s
-  kept_by zs x (Core (Begin (did.Moved step))) row u p may ex s = s
-  kept_by zs x (Core (Begin (did.Retired slot line))) row u p may ex s = s
-  kept_by zs x (Core (Begin did.Exhausted)) row u p may ex s = s
   kept_by zs x (Core (Iterate (did.Stored at place))) row u p may ex s = absurd (exhausted-stores_none shape (core zs) at place ex may.may.1)
-  kept_by zs x (Core (Iterate did.More)) row u p may ex s = s
-  kept_by zs x (Core (Iterate (did.Moved step))) row u p may ex s = s
-  kept_by zs x (Core (Iterate (did.Retired slot line))) row u p may ex s = s
-  kept_by zs x (Core (Iterate did.Exhausted)) row u p may ex s = s
   kept_by zs x (Core (Cut tearing)) row u p may ex s = lost_not_stored (has_wait (waits shape (core zs)) row) x.tick _ u p s
+  kept_by zs x _ row u p may ex s = s
 
   exhausted_on : (h : Happens n) (zs : List (TimedEvent n m)) → has_exhausted (core zs) ≡ true → has_exhausted (core_of h (core zs)) ≡ true
   exhausted_on (Core event) zs ex = exhausted-more event (core zs) ex
@@ -174,21 +134,9 @@ module _ {n m : ℕ} (shape : BankShape) (pace : Pace) (e : ℕ) where
   -- an event exhausts the bank as it ends an action, or the bank was exhausted before
   exhausted_by : (zs : List (TimedEvent n m)) (h : Happens n) → has_exhausted (core_of h (core zs)) ≡ true
       → ((ends_action h ≡ true) × ((tick row : ℕ) → outcome_with shape zs h tick row ≡ None)) ⊎ (has_exhausted (core zs) ≡ true)
-  exhausted_by zs (Core (Write row line bytes given answer)) ex = inr ex
-  exhausted_by zs (Core (Read row line answer)) ex = inr ex
-  exhausted_by zs (Core (Serve answer)) ex = inr ex
-  exhausted_by zs (Regs event) ex = inr ex
-  exhausted_by zs (Core (Begin did.More)) ex = inr ex
-  exhausted_by zs (Core (Begin (did.Stored row place))) ex = inr ex
-  exhausted_by zs (Core (Begin (did.Moved step))) ex = inr ex
-  exhausted_by zs (Core (Begin (did.Retired slot line))) ex = inr ex
   exhausted_by zs (Core (Begin did.Exhausted)) ex = inl (refl, λ tick row. refl)
-  exhausted_by zs (Core (Iterate did.More)) ex = inr ex
-  exhausted_by zs (Core (Iterate (did.Stored row place))) ex = inr ex
-  exhausted_by zs (Core (Iterate (did.Moved step))) ex = inr ex
-  exhausted_by zs (Core (Iterate (did.Retired slot line))) ex = inr ex
   exhausted_by zs (Core (Iterate did.Exhausted)) ex = inl (refl, λ tick row. refl)
-  exhausted_by zs (Core (Cut tearing)) ex = inr ex
+  exhausted_by zs _ ex = inr ex
 
   -- what an exhausted bank had stored it stored below its last event
   pub stored_below_exhausted : (zs : List (TimedEvent n m)) (row u p : ℕ) → 1 ≤ pace.read → 1 ≤ pace.iter → Lawful shape pace e zs → has_exhausted (core zs) ≡ true
@@ -239,13 +187,8 @@ module _ {n m : ℕ} (shape : BankShape) (pace : Pace) (e : ℕ) (all : List (Ti
           (sym (worn_outcome x.tick answer (ended x.tick (outcome_of shape all at)) (write_outcome shape pace e all ys x at line bytes given answer o may on) worn) ∙ may.may.2) in
           or_from (is_worn (ended x.tick (outcome_of shape all at)) && nat_le x.tick u) false (and_right (is_worn (ended x.tick (outcome_of shape all at))) _ (lt-leb x.tick u (above ex))) refl)
           (λ fine. or_from (is_worn (ended x.tick (outcome_of shape all at)) && nat_le x.tick u) false (and_left (is_worn (ended x.tick (outcome_of shape all at))) _ fine) refl)
-      by (Core (Read at line answer)) cancels may on above = refl
-      by (Core (Serve answer)) cancels may on above = refl
-      by (Regs event) cancels may on above = refl
-      by (Core (Begin answer)) cancels may on above = refl
-      by (Core (Iterate answer)) cancels may on above = refl
       by (Core (Cut tearing)) true may on above = refl
-      by (Core (Cut tearing)) false may on above = refl
+      by _ _ may on above = refl
 
   pub none_worn_before : (later ys : List (TimedEvent n m)) (row u p : ℕ) → 1 ≤ pace.read → 1 ≤ pace.iter → Lawful shape pace e all → AreOpen shape all → all ≡ later ++ ys
       → outcome_of shape all row ≡ out.Stored u p → worn_by u (rows_from shape all ys) ≡ false
@@ -278,10 +221,5 @@ module _ {n m : ℕ} (shape : BankShape) (pace : Pace) (e : ℕ) (all : List (Ti
           (λ worn. refused-exhausted shape (core ys) line
           (sym (worn_outcome x.tick answer (ended x.tick (outcome_of shape all at)) (write_outcome shape pace e all ys x at line bytes given answer o may on) worn) ∙ may.may.2))
           (λ fine. rest (or_rest (is_worn (ended x.tick (outcome_of shape all at))) _ fine w))
-      by (Core (Read at line answer)) cancels may on rest w = rest w
-      by (Core (Serve answer)) cancels may on rest w = rest w
-      by (Regs event) cancels may on rest w = rest w
-      by (Core (Begin answer)) cancels may on rest w = rest w
-      by (Core (Iterate answer)) cancels may on rest w = rest w
       by (Core (Cut tearing)) true may on rest w = rest w
-      by (Core (Cut tearing)) false may on rest w = rest w
+      by _ _ may on rest w = rest w

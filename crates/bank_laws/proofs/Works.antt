@@ -6,7 +6,7 @@ use Rattle.bank_shape.specs.{Shape.{controls_from, control_line}, declared.BankS
 use Rattle.bank_shape.specs.declared.clock.Doing.TheVariants.{Iterating}
 use Rattle.bank_shape.specs.declared.answer.Step.TheVariants as did
 use Rattle.bank_model.specs.{After.target_after, Answers.MayAll, Changes.line_of_change, Events.BankEvent, History.{goes_on, in_progress, iterated}}
-use Rattle.bank_model.specs.{Sensing.{is_at, torn_control, kept_pulsed}, Timing.{Keeping, KeepBegin, KeepIterate, KeepCut, is_doing}, Works.held_on}
+use Rattle.bank_model.specs.{Sensing.{is_at, torn_control, kept_pulsed}, Timing.{Keeping, KeepIterate, KeepCut, is_doing}, Works.held_on}
 use Rattle.bank_laws.proofs.Targets.{WorkAfter, spares_work, working, target-same}
 
 pub counted-few : (k : ℕ) → counted k ≤ k + 1
@@ -14,10 +14,7 @@ counted-few k = min-le_left (k + 1) _
 
 pub more-goes_on : (answer : Step) → goes_on answer ≡ true → answer ≡ did.More
 more-goes_on did.More is = refl
-more-goes_on (did.Stored row place) is = absurd (cc)
-more-goes_on (did.Moved step) is = absurd (cc)
-more-goes_on (did.Retired slot line) is = absurd (cc)
-more-goes_on did.Exhausted is = absurd (cc)
+more-goes_on _ is = absurd (cc)
 
 pub tearing-going : (tearing busy : Bool) → (not tearing || busy) ≡ true → tearing ≡ true → busy ≡ true
 tearing-going true busy may is = may
@@ -39,10 +36,9 @@ module _ (shape : BankShape) (at : ℕ) (low : at < controls_from shape) where
   change-elsewhere (Some item) = control-elsewhere item
 
   pub kept-elsewhere : (change : Option ℕ) (event : Keeping) → is_at (kept_pulsed (line_of_change shape change) event) at ≡ false
-  kept-elsewhere change (KeepBegin answer) = refl
   kept-elsewhere change (KeepIterate answer) = change-elsewhere change
   kept-elsewhere change (KeepCut true) = change-elsewhere change
-  kept-elsewhere change (KeepCut false) = refl
+  kept-elsewhere change _ = refl
 
   pub torn-elsewhere : (change : Option ℕ) (action : Option Action) → is_at (torn_control shape change action) at ≡ false
   torn-elsewhere change action = by (is_doing Iterating action)

@@ -72,15 +72,7 @@ module _ {n : ℕ} (read t : ℕ) where
           ap (λ b. not b && (is_far_below read u found && (list_all (λ v. nat_le (u + read) v || nat_le (v + read) u) ends && list_all (λ v. not (u == v)) waits)))
           (ne_eqb u v (λ e. omega (arith, e, le, above)))
           ∙ ap (λ b. is_far_below read u found && (list_all (λ v. nat_le (u + read) v || nat_le (v + read) u) ends && list_all (λ v. not (u == v)) (cond b (v ∷ waits) waits))) (sym (le-ltb t v le))
-  stored u place above out.Unset found ends waits = refl
-  stored u place above (out.Merged v) found ends waits = refl
-  stored u place above (out.Queued v) found ends waits = refl
-  stored u place above (out.Full v) found ends waits = refl
-  stored u place above (out.Worn v) found ends waits = refl
-  stored u place above (out.Forwarded v bytes) found ends waits = refl
-  stored u place above (out.Busy v) found ends waits = refl
-  stored u place above (out.Lost v) found ends waits = refl
-  stored u place above (out.Cut v) found ends waits = refl
+  stored u place above _ found ends waits = refl
 
   -- a read row
   answered : (u place : ℕ) (bytes : List ℕ) → t < u → (o : Outcome n) (found : Option ℕ) (ends : List ℕ)
@@ -98,15 +90,7 @@ module _ {n : ℕ} (read t : ℕ) where
           ∙ ap (λ b. is_far_below read u found && list_all (λ v. not (u == v)) (cond b (v ∷ ends) ends)) (sym (le-ltb t v le))
   answered u place bytes above (out.Read v other some) found ends =
       and_group (nat_le (v + read) u) (is_far_below read u found) _ ∙ ap (λ b. b && list_all (λ v. not (u == v)) ends) (sym (far_later read u v found))
-  answered u place bytes above out.Unset found ends = refl
-  answered u place bytes above (out.Merged v) found ends = refl
-  answered u place bytes above (out.Queued v) found ends = refl
-  answered u place bytes above (out.Full v) found ends = refl
-  answered u place bytes above (out.Worn v) found ends = refl
-  answered u place bytes above (out.Forwarded v some) found ends = refl
-  answered u place bytes above (out.Busy v) found ends = refl
-  answered u place bytes above (out.Lost v) found ends = refl
-  answered u place bytes above (out.Cut v) found ends = refl
+  answered u place bytes above _ found ends = refl
 
   -- any other
   free : (o : Outcome n) → ((other : Outcome n) → apart read o other ≡ true) → (rows : List (Row n)) → list_all (λ q. apart read o q.outcome) rows ≡ true
@@ -122,15 +106,7 @@ module _ {n : ℕ} (read t : ℕ) where
   told (out.Read u place bytes) (q ∷ rows) h =
       ap (λ b. apart read (out.Read u place bytes) q.outcome && b) (told (out.Read u place bytes) rows h)
       ∙ answered u place bytes (ltb-true t u h) q.outcome (last_read rows) (ends_above t rows)
-  told out.Unset rows h = free out.Unset (λ other. refl) rows
-  told (out.Merged u) rows h = free (out.Merged u) (λ other. refl) rows
-  told (out.Queued u) rows h = free (out.Queued u) (λ other. refl) rows
-  told (out.Full u) rows h = free (out.Full u) (λ other. refl) rows
-  told (out.Worn u) rows h = free (out.Worn u) (λ other. refl) rows
-  told (out.Forwarded u bytes) rows h = free (out.Forwarded u bytes) (λ other. refl) rows
-  told (out.Busy u) rows h = free (out.Busy u) (λ other. refl) rows
-  told (out.Lost u) rows h = free (out.Lost u) (λ other. refl) rows
-  told (out.Cut u) rows h = free (out.Cut u) (λ other. refl) rows
+  told answer rows h = free answer (λ other. refl) rows
 
 pub apart_law : ApartLaw
 apart_law n read t o rows h = told read t o rows h

@@ -75,16 +75,7 @@ module _ {n : ℕ} (t line e : ℕ) where
           stored true true number = by_least e v (next_store t line rows) ∙ some_more (nat_le v e) (comes_by e (next_store t line rows)) k (line_stores line t e rows) ih number
           stored true false number = none true k number ih
           stored false above number = none false k number ih
-      by own out.Unset is k number ih = none own k number ih
-      by own (out.Merged v) is k number ih = none own k number ih
-      by own (out.Queued v) is k number ih = none own k number ih
-      by own (out.Full v) is k number ih = none own k number ih
-      by own (out.Worn v) is k number ih = none own k number ih
-      by own (out.Read v place bytes) is k number ih = none own k number ih
-      by own (out.Forwarded v bytes) is k number ih = none own k number ih
-      by own (out.Busy v) is k number ih = none own k number ih
-      by own (out.Lost v) is k number ih = none own k number ih
-      by own (out.Cut v) is k number ih = none own k number ih
+      by own _ is k number ih = none own k number ih
 
 pub before_next : (u v : ℕ) → not (nat_lt v u) ≡ nat_le u v
 before_next u v = by (cases_lt v u)
@@ -99,29 +90,11 @@ module _ {n : ℕ} (line : ℕ) (next : Option ℕ) where
     where
       some : (u : ℕ) (o : Outcome n) → not (stored_before u o) ≡ at_end (λ e. nat_le u e) o
       some u (out.Stored v place) = before_next u v
-      some u out.Unset = refl
-      some u (out.Merged v) = refl
-      some u (out.Queued v) = refl
-      some u (out.Full v) = refl
-      some u (out.Worn v) = refl
-      some u (out.Read v place bytes) = refl
-      some u (out.Forwarded v bytes) = refl
-      some u (out.Busy v) = refl
-      some u (out.Lost v) = refl
-      some u (out.Cut v) = refl
+      some u _ = refl
 
       none : (o : Outcome n) → not (is_stored o) ≡ at_end (λ e. false) o
-      none (out.Stored v place) = refl
       none out.Unset = refl
-      none (out.Merged v) = refl
-      none (out.Queued v) = refl
-      none (out.Full v) = refl
-      none (out.Worn v) = refl
-      none (out.Read v place bytes) = refl
-      none (out.Forwarded v bytes) = refl
-      none (out.Busy v) = refl
-      none (out.Lost v) = refl
-      none (out.Cut v) = refl
+      none _ = refl
 
       all_some : (u : ℕ) (ps : List (Row n)) → list_all (λ q. write_of line q || not (stored_before u q.outcome)) ps ≡ list_all (λ q. write_of line q || at_end (λ e. nat_le u e) q.outcome) ps
       all_some u [] = refl
@@ -142,16 +115,7 @@ module _ {n : ℕ} (line : ℕ) (next : Option ℕ) where
 module _ {n : ℕ} (f g : ℕ → Bool) (same : (e : ℕ) → f e ≡ g e) where
   at_same : (o : Outcome n) → at_end f o ≡ at_end g o
   at_same (out.Stored v place) = same v
-  at_same out.Unset = refl
-  at_same (out.Merged v) = refl
-  at_same (out.Queued v) = refl
-  at_same (out.Full v) = refl
-  at_same (out.Worn v) = refl
-  at_same (out.Read v place bytes) = refl
-  at_same (out.Forwarded v bytes) = refl
-  at_same (out.Busy v) = refl
-  at_same (out.Lost v) = refl
-  at_same (out.Cut v) = refl
+  at_same _ = refl
 
   all_same : (line : ℕ) (ps : List (Row n)) → list_all (λ q. write_of line q || at_end f q.outcome) ps ≡ list_all (λ q. write_of line q || at_end g q.outcome) ps
   all_same line [] = refl
@@ -203,16 +167,7 @@ module _ {n : ℕ} (a d : ℕ) where
               most_of v (last_store a rows) d ∙ ap (λ b. b && nat_le (last_store a rows) d) is
               ∙ none_more above (nat_le (last_store a rows) d) k (stores_in d a rows) ih (number ∙ ap (λ b. one_if b + stores_in d a rows) (and_true above))
           stored false above is number = none above k number ih
-      by true out.Unset k number ih = none true k number ih
-      by true (out.Merged v) k number ih = none true k number ih
-      by true (out.Queued v) k number ih = none true k number ih
-      by true (out.Full v) k number ih = none true k number ih
-      by true (out.Worn v) k number ih = none true k number ih
-      by true (out.Read v place bytes) k number ih = none true k number ih
-      by true (out.Forwarded v bytes) k number ih = none true k number ih
-      by true (out.Busy v) k number ih = none true k number ih
-      by true (out.Lost v) k number ih = none true k number ih
-      by true (out.Cut v) k number ih = none true k number ih
+      by true _ k number ih = none true k number ih
 
 pub last_by_count_law : LastByCountLaw
 last_by_count_law n a d rows = last_is a d rows

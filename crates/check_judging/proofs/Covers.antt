@@ -20,7 +20,6 @@ module _ {n : ℕ} where
       → cond (own && stored_by t o) (none_given n) (cond (own && accepts o) (joined given u) u)
       ≡ joined (cond (own && accepts o) (cond (is_stored o) (none_given n) (joined given r)) r)
       (cond ((own && accepts o) && is_stored o) (cond (stored_by t o) (none_given n) (joined (joined given r) h)) h)
-  step t false o given r h u g rl hl is = is
   step t true (out.Stored tick place) given r h u g rl hl is = by (nat_le tick t)
     where
       by : (b : Bool) → cond b (none_given n) (joined given u) ≡ joined (none_given n) (cond b (none_given n) (joined (joined given r) h))
@@ -31,14 +30,7 @@ module _ {n : ℕ} where
           ∙ sym (joined-none_given n (joined (joined given r) h) (joined_long n (joined given r) h (joined_long n given r (g refl) rl) hl))
   step t true (out.Merged tick) given r h u g rl hl is = ap (joined given) is ∙ sym (joined-joined given r h (omega (arith, g refl, rl)) (omega (arith, g refl, hl)))
   step t true (out.Queued tick) given r h u g rl hl is = ap (joined given) is ∙ sym (joined-joined given r h (omega (arith, g refl, rl)) (omega (arith, g refl, hl)))
-  step t true out.Unset given r h u g rl hl is = is
-  step t true (out.Full tick) given r h u g rl hl is = is
-  step t true (out.Worn tick) given r h u g rl hl is = is
-  step t true (out.Read tick place bytes) given r h u g rl hl is = is
-  step t true (out.Forwarded tick bytes) given r h u g rl hl is = is
-  step t true (out.Busy tick) given r h u g rl hl is = is
-  step t true (out.Lost tick) given r h u g rl hl is = is
-  step t true (out.Cut tick) given r h u g rl hl is = is
+  step t _ _ given r h u g rl hl is = is
 
   cond_long : (b : Bool) (x y : List Bool) → (b ≡ true → length x ≡ n) → length y ≡ n → length (cond b x y) ≡ n
   cond_long true x y f g = f refl

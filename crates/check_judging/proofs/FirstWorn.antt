@@ -55,15 +55,7 @@ module _ {n : ℕ} where
       by : (b : Bool) → ((not b || true) && true) ≡ true
       by true = refl
       by false = refl
-  fits t before after out.Unset h = plain (list_any worn_row before)
-  fits t before after (out.Merged u) h = plain (list_any worn_row before)
-  fits t before after (out.Queued u) h = plain (list_any worn_row before)
-  fits t before after (out.Full u) h = plain (list_any worn_row before)
-  fits t before after (out.Read u place bytes) h = plain (list_any worn_row before)
-  fits t before after (out.Forwarded u bytes) h = plain (list_any worn_row before)
-  fits t before after (out.Busy u) h = plain (list_any worn_row before)
-  fits t before after (out.Lost u) h = plain (list_any worn_row before)
-  fits t before after (out.Cut u) h = plain (list_any worn_row before)
+  fits t before after _ h = plain (list_any worn_row before)
 
 pub worn_law : WornLaw
 worn_law n t before r after h = ap (λ b. not (asks_write r.asks) || b) (fits t before after r.outcome h)

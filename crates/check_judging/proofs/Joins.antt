@@ -23,16 +23,7 @@ module _ {n : ℕ} where
           by : (u < tick) ⊎ (tick ≤ u) → nat_le tick u ≡ false
           by (inl a) = lt-leb tick u a
           by (inr b) = let j : nat_lt tick v ≡ true = lt-ltb tick v (omega (arith, b, lt)) in absurd (cc)
-      one out.Unset k = refl
-      one (out.Merged tick) k = refl
-      one (out.Queued tick) k = refl
-      one (out.Full tick) k = refl
-      one (out.Worn tick) k = refl
-      one (out.Read tick place bytes) k = refl
-      one (out.Forwarded tick bytes) k = refl
-      one (out.Busy tick) k = refl
-      one (out.Lost tick) k = refl
-      one (out.Cut tick) k = refl
+      one _ k = refl
 
   -- none where none is stored at all
   none_at_all : (u : ℕ) (ps : List (Row n)) → list_all (λ q. not (is_stored q.outcome)) ps ≡ true → list_any (λ q. stored_by u q.outcome) ps ≡ false
@@ -42,16 +33,7 @@ module _ {n : ℕ} where
     where
       one : (o : Outcome n) → not (is_stored o) ≡ true → stored_by u o ≡ false
       one (out.Stored tick place) k = absurd (cc)
-      one out.Unset k = refl
-      one (out.Merged tick) k = refl
-      one (out.Queued tick) k = refl
-      one (out.Full tick) k = refl
-      one (out.Worn tick) k = refl
-      one (out.Read tick place bytes) k = refl
-      one (out.Forwarded tick bytes) k = refl
-      one (out.Busy tick) k = refl
-      one (out.Lost tick) k = refl
-      one (out.Cut tick) k = refl
+      one _ k = refl
 
   -- what is stored by v is stored by u above it
   some_by : (u v : ℕ) → v ≤ u → (ps : List (Row n)) → list_any (λ q. stored_by v q.outcome) ps ≡ true → list_any (λ q. stored_by u q.outcome) ps ≡ true
@@ -60,16 +42,7 @@ module _ {n : ℕ} where
     where
       one : (o : Outcome n) → stored_by v o ≡ true → stored_by u o ≡ true
       one (out.Stored tick place) k = let j : tick ≤ v = leb-true tick v k in le-leb tick u (omega (arith, j, le))
-      one out.Unset k = absurd (cc)
-      one (out.Merged tick) k = absurd (cc)
-      one (out.Queued tick) k = absurd (cc)
-      one (out.Full tick) k = absurd (cc)
-      one (out.Worn tick) k = absurd (cc)
-      one (out.Read tick place bytes) k = absurd (cc)
-      one (out.Forwarded tick bytes) k = absurd (cc)
-      one (out.Busy tick) k = absurd (cc)
-      one (out.Lost tick) k = absurd (cc)
-      one (out.Cut tick) k = absurd (cc)
+      one _ k = absurd (cc)
 
       by : (b : Bool) → stored_by v q.outcome ≡ b → (b || list_any (λ q. stored_by v q.outcome) ps) ≡ true
           → (list_any (λ q. stored_by v q.outcome) ps ≡ true → list_any (λ q. stored_by u q.outcome) ps ≡ true) → list_any (λ q. stored_by u q.outcome) (q ∷ ps) ≡ true
@@ -83,16 +56,7 @@ module _ {n : ℕ} where
 
     absorbed : (w : Outcome n) → list_all (λ q. not (is_stored q.outcome)) ps ≡ true → (not (is_stored w) && list_all (λ q. not (is_stored q.outcome)) ps) ≡ comes_behind w ps
     absorbed (out.Stored u at) h = sym (none_at_all u ps h)
-    absorbed out.Unset h = h
-    absorbed (out.Merged tick) h = h
-    absorbed (out.Queued tick) h = h
-    absorbed (out.Full tick) h = h
-    absorbed (out.Worn tick) h = h
-    absorbed (out.Read tick at bytes) h = h
-    absorbed (out.Forwarded tick bytes) h = h
-    absorbed (out.Busy tick) h = h
-    absorbed (out.Lost tick) h = h
-    absorbed (out.Cut tick) h = h
+    absorbed _ h = h
 
     -- behind the older of a pair the new one comes exactly where it comes behind some
     behind_older : (o : Outcome n) → is_merged o ≡ false → ((v place : ℕ) → o ≡ out.Stored v place → list_any (λ p. stored_by v p.outcome) ps ≡ true)
@@ -105,16 +69,7 @@ module _ {n : ℕ} where
             order : (u < v) ⊎ (v ≤ u) → (not (nat_lt u v) && list_all (λ q. not (stored_before v q.outcome)) ps) ≡ list_any (λ q. stored_by u q.outcome) ps
             order (inl lt) = ap (λ b. not b && list_all (λ q. not (stored_before v q.outcome)) ps) (lt-ltb u v lt) ∙ sym (none_by u v lt ps none)
             order (inr le) = ap (λ b. not b && list_all (λ q. not (stored_before v q.outcome)) ps) (le-ltb u v le) ∙ none ∙ sym (some_by u v le ps (within v place refl))
-        by out.Unset = none
-        by (out.Merged tick) = none
-        by (out.Queued tick) = none
-        by (out.Full tick) = none
-        by (out.Worn tick) = none
-        by (out.Read tick at bytes) = none
-        by (out.Forwarded tick bytes) = none
-        by (out.Busy tick) = none
-        by (out.Lost tick) = none
-        by (out.Cut tick) = none
+        by _ = none
     behind_older (out.Merged tick) nm within none = absurd (cc)
     behind_older out.Unset nm within none = absorbed new.outcome none
     behind_older (out.Queued tick) nm within none = absorbed new.outcome none

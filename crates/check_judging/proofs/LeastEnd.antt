@@ -20,29 +20,11 @@ module _ {n : ℕ} (never : ℕ) where
   -- a tick up to never
   before_one : (u : ℕ) → u ≤ never → (o : Outcome n) → not (stored_before u o) ≡ nat_le u (end_of never o)
   before_one u le (out.Stored v place) = before_next u v
-  before_one u le out.Unset = sym (le-leb u never le)
-  before_one u le (out.Merged v) = sym (le-leb u never le)
-  before_one u le (out.Queued v) = sym (le-leb u never le)
-  before_one u le (out.Full v) = sym (le-leb u never le)
-  before_one u le (out.Worn v) = sym (le-leb u never le)
-  before_one u le (out.Read v place bytes) = sym (le-leb u never le)
-  before_one u le (out.Forwarded v bytes) = sym (le-leb u never le)
-  before_one u le (out.Busy v) = sym (le-leb u never le)
-  before_one u le (out.Lost v) = sym (le-leb u never le)
-  before_one u le (out.Cut v) = sym (le-leb u never le)
+  before_one u le _ = sym (le-leb u never le)
 
   at_all : (o : Outcome n) → stored_below never o ≡ true → not (is_stored o) ≡ nat_le never (end_of never o)
   at_all (out.Stored v place) h = sym (lt-leb never v (ltb-true v never h))
-  at_all out.Unset h = sym (le-leb never never (omega arith))
-  at_all (out.Merged v) h = sym (le-leb never never (omega arith))
-  at_all (out.Queued v) h = sym (le-leb never never (omega arith))
-  at_all (out.Full v) h = sym (le-leb never never (omega arith))
-  at_all (out.Worn v) h = sym (le-leb never never (omega arith))
-  at_all (out.Read v place bytes) h = sym (le-leb never never (omega arith))
-  at_all (out.Forwarded v bytes) h = sym (le-leb never never (omega arith))
-  at_all (out.Busy v) h = sym (le-leb never never (omega arith))
-  at_all (out.Lost v) h = sym (le-leb never never (omega arith))
-  at_all (out.Cut v) h = sym (le-leb never never (omega arith))
+  at_all _ h = sym (le-leb never never (omega arith))
 
   before_all : (u : ℕ) → u ≤ never → (rows : List (Row n)) → list_all (λ q. not (stored_before u q.outcome)) rows ≡ nat_le u (least_end never rows)
   before_all u le [] = sym (le-leb u never le)
@@ -90,15 +72,7 @@ module _ {n : ℕ} (never : ℕ) where
   leaves : (o : Outcome n) (rows : List (Row n)) → leave_of never o ≤ never → all_stored_below never rows ≡ true → none_before o rows ≡ nat_le (leave_of never o) (least_end never rows)
   leaves (out.Stored u place) rows le h = before_all u le rows
   leaves (out.Merged u) rows le h = before_all u le rows
-  leaves out.Unset rows le h = none_stored rows h
-  leaves (out.Queued u) rows le h = none_stored rows h
-  leaves (out.Full u) rows le h = none_stored rows h
-  leaves (out.Worn u) rows le h = none_stored rows h
-  leaves (out.Read u place bytes) rows le h = none_stored rows h
-  leaves (out.Forwarded u bytes) rows le h = none_stored rows h
-  leaves (out.Busy u) rows le h = none_stored rows h
-  leaves (out.Lost u) rows le h = none_stored rows h
-  leaves (out.Cut u) rows le h = none_stored rows h
+  leaves _ rows le h = none_stored rows h
 
   firsts : (line : ℕ) (next : Option ℕ) (rows : List (Row n)) → next_of never next ≤ never → all_stored_below never rows ≡ true
       → is_first line next rows ≡ nat_le (next_of never next) (least_other never line rows)

@@ -33,33 +33,15 @@ or_group false b c m is = is
 module _ {n : ℕ} where
   stands_later : (t u : ℕ) → t ≤ u → (a m : Bool) (o : Outcome n)
       → (a && (stored_after u o || (is_queued o || (is_merged o && m)))) ≡ ((a && (stored_after t o || (is_queued o || (is_merged o && m)))) && not (stored_by u o))
-  stands_later t u le false m o = refl
   stands_later t u le true m (out.Stored v place) = or_false (nat_lt u v) ∙ over t u v le ∙ ap (λ b. b && not (nat_le v u)) (sym (or_false (nat_lt t v)))
-  stands_later t u le true m out.Unset = refl
   stands_later t u le true m (out.Merged v) = sym (and_true m)
-  stands_later t u le true m (out.Queued v) = refl
-  stands_later t u le true m (out.Full v) = refl
-  stands_later t u le true m (out.Worn v) = refl
-  stands_later t u le true m (out.Read v place bytes) = refl
-  stands_later t u le true m (out.Forwarded v bytes) = refl
-  stands_later t u le true m (out.Busy v) = refl
-  stands_later t u le true m (out.Lost v) = refl
-  stands_later t u le true m (out.Cut v) = refl
+  stands_later t u le _ m _ = refl
 
   awaits_later : (t u : ℕ) → t ≤ u → (a m : Bool) (o : Outcome n)
       → (a && (read_after u o || (is_lost o && m))) ≡ ((a && (read_after t o || (is_lost o && m))) && not (read_by u o))
-  awaits_later t u le false m o = refl
   awaits_later t u le true m (out.Read v place bytes) = or_false (nat_lt u v) ∙ over t u v le ∙ ap (λ b. b && not (nat_le v u)) (sym (or_false (nat_lt t v)))
-  awaits_later t u le true m out.Unset = refl
-  awaits_later t u le true m (out.Stored v place) = refl
-  awaits_later t u le true m (out.Merged v) = refl
-  awaits_later t u le true m (out.Queued v) = refl
-  awaits_later t u le true m (out.Full v) = refl
-  awaits_later t u le true m (out.Worn v) = refl
-  awaits_later t u le true m (out.Forwarded v bytes) = refl
-  awaits_later t u le true m (out.Busy v) = refl
   awaits_later t u le true m (out.Lost v) = sym (and_true m)
-  awaits_later t u le true m (out.Cut v) = refl
+  awaits_later t u le _ m _ = refl
 
   writes_later : (t u : ℕ) → t ≤ u → (between rows : List (Row n)) → pending u between rows ≡ filter (stays u) (pending t between rows)
   writes_later t u le between [] = refl
@@ -78,33 +60,15 @@ module _ {n : ℕ} where
   -- a row more between
   stands_behind : (t : ℕ) (a m l r : Bool) (o : Outcome n) → m ≡ (l || r)
       → (a && (stored_after t o || (is_queued o || (is_merged o && not m)))) ≡ ((a && (stored_after t o || (is_queued o || (is_merged o && not l)))) && not (is_merged o && r))
-  stands_behind t false m l r o is = refl
   stands_behind t true m l r (out.Merged v) is = ap not is ∙ not_either l r
   stands_behind t true m l r (out.Stored v place) is = sym (and_true (nat_lt t v || false))
-  stands_behind t true m l r out.Unset is = refl
-  stands_behind t true m l r (out.Queued v) is = refl
-  stands_behind t true m l r (out.Full v) is = refl
-  stands_behind t true m l r (out.Worn v) is = refl
-  stands_behind t true m l r (out.Read v place bytes) is = refl
-  stands_behind t true m l r (out.Forwarded v bytes) is = refl
-  stands_behind t true m l r (out.Busy v) is = refl
-  stands_behind t true m l r (out.Lost v) is = refl
-  stands_behind t true m l r (out.Cut v) is = refl
+  stands_behind t _ m l r _ is = refl
 
   awaits_behind : (t : ℕ) (a m l r : Bool) (o : Outcome n) → m ≡ (l || r)
       → (a && (read_after t o || (is_lost o && not m))) ≡ ((a && (read_after t o || (is_lost o && not l))) && not (is_lost o && r))
-  awaits_behind t false m l r o is = refl
   awaits_behind t true m l r (out.Lost v) is = ap not is ∙ not_either l r
   awaits_behind t true m l r (out.Read v place bytes) is = sym (and_true (nat_lt t v || false))
-  awaits_behind t true m l r out.Unset is = refl
-  awaits_behind t true m l r (out.Stored v place) is = refl
-  awaits_behind t true m l r (out.Merged v) is = refl
-  awaits_behind t true m l r (out.Queued v) is = refl
-  awaits_behind t true m l r (out.Full v) is = refl
-  awaits_behind t true m l r (out.Worn v) is = refl
-  awaits_behind t true m l r (out.Forwarded v bytes) is = refl
-  awaits_behind t true m l r (out.Busy v) is = refl
-  awaits_behind t true m l r (out.Cut v) is = refl
+  awaits_behind t _ m l r _ is = refl
 
   writes_behind : (t : ℕ) (r : Row n) (some other rows : List (Row n))
       → ((line : ℕ) → list_any (accepted_of line) some ≡ (list_any (accepted_of line) other || accepted_of line r))

@@ -73,15 +73,7 @@ module _ {n : ℕ} where
   none-sub : (o : Outcome n) (all less : List (Row n)) → Sub all less → none_before o all ≡ true → none_before o less ≡ true
   none-sub (out.Stored tick place) all less s h = sub-all (λ q. not (stored_before tick q.outcome)) all less s h
   none-sub (out.Merged tick) all less s h = sub-all (λ q. not (stored_before tick q.outcome)) all less s h
-  none-sub out.Unset all less s h = sub-all (λ q. not (is_stored q.outcome)) all less s h
-  none-sub (out.Queued tick) all less s h = sub-all (λ q. not (is_stored q.outcome)) all less s h
-  none-sub (out.Full tick) all less s h = sub-all (λ q. not (is_stored q.outcome)) all less s h
-  none-sub (out.Worn tick) all less s h = sub-all (λ q. not (is_stored q.outcome)) all less s h
-  none-sub (out.Read tick place bytes) all less s h = sub-all (λ q. not (is_stored q.outcome)) all less s h
-  none-sub (out.Forwarded tick bytes) all less s h = sub-all (λ q. not (is_stored q.outcome)) all less s h
-  none-sub (out.Busy tick) all less s h = sub-all (λ q. not (is_stored q.outcome)) all less s h
-  none-sub (out.Lost tick) all less s h = sub-all (λ q. not (is_stored q.outcome)) all less s h
-  none-sub (out.Cut tick) all less s h = sub-all (λ q. not (is_stored q.outcome)) all less s h
+  none-sub _ all less s h = sub-all (λ q. not (is_stored q.outcome)) all less s h
 
   older-sub : (all less : List (Row n)) (newer older : Row n) → Sub all less → is_older all newer older ≡ true → is_older less newer older ≡ true
   older-sub all less newer older s h =
@@ -106,29 +98,11 @@ module _ {n : ℕ} where
 
   stored_above : (t u : ℕ) → t ≤ u → (o : Outcome n) → stored_after u o ≡ true → stored_after t o ≡ true
   stored_above t u le (out.Stored tick place) h = above t u tick le h
-  stored_above t u le out.Unset h = h
-  stored_above t u le (out.Merged tick) h = h
-  stored_above t u le (out.Queued tick) h = h
-  stored_above t u le (out.Full tick) h = h
-  stored_above t u le (out.Worn tick) h = h
-  stored_above t u le (out.Read tick place bytes) h = h
-  stored_above t u le (out.Forwarded tick bytes) h = h
-  stored_above t u le (out.Busy tick) h = h
-  stored_above t u le (out.Lost tick) h = h
-  stored_above t u le (out.Cut tick) h = h
+  stored_above t u le _ h = h
 
   read_above : (t u : ℕ) → t ≤ u → (o : Outcome n) → read_after u o ≡ true → read_after t o ≡ true
   read_above t u le (out.Read tick place bytes) h = above t u tick le h
-  read_above t u le out.Unset h = h
-  read_above t u le (out.Stored tick place) h = h
-  read_above t u le (out.Merged tick) h = h
-  read_above t u le (out.Queued tick) h = h
-  read_above t u le (out.Full tick) h = h
-  read_above t u le (out.Worn tick) h = h
-  read_above t u le (out.Forwarded tick bytes) h = h
-  read_above t u le (out.Busy tick) h = h
-  read_above t u le (out.Lost tick) h = h
-  read_above t u le (out.Cut tick) h = h
+  read_above t u le _ h = h
 
   pub pending-later : (t u : ℕ) → t ≤ u → (between rows : List (Row n)) → Sub (pending t between rows) (pending u between rows)
   pending-later t u le between [] = refl

@@ -37,16 +37,7 @@ module _ {n : ℕ} where
 
   by_end : (test : ℕ → Bool) → test never ≡ true → (o : Outcome n) → at_end test o ≡ test (end_of never o)
   by_end test passes (out.Stored u place) = refl
-  by_end test passes out.Unset = sym passes
-  by_end test passes (out.Merged u) = sym passes
-  by_end test passes (out.Queued u) = sym passes
-  by_end test passes (out.Full u) = sym passes
-  by_end test passes (out.Worn u) = sym passes
-  by_end test passes (out.Read u place bytes) = sym passes
-  by_end test passes (out.Forwarded u bytes) = sym passes
-  by_end test passes (out.Busy u) = sym passes
-  by_end test passes (out.Lost u) = sym passes
-  by_end test passes (out.Cut u) = sym passes
+  by_end test passes _ = sym passes
 
   module _ (t : ℕ) (rows : List (Row n)) (members : List Member) (waits : List ℕ) (lost : ℕ) (last_answer last_store : Option ℕ)
       (kept : KeptBank t rows members waits lost last_answer last_store) where
@@ -69,15 +60,7 @@ module _ {n : ℕ} where
         let k : u < reach = ltb-true u reach short in
         ap (λ b. b && list_all (λ v. not (u == v)) (ends_above t rows)) (sym (kept.answered read u))
         ∙ ap (λ b. is_far_below read u last_answer && b) (by_members (λ v. not (u == v)) (ap not (ne_eqb u never (λ e. omega (arith, e, k)))))
-    told read out.Unset short small = refl
-    told read (out.Merged u) short small = refl
-    told read (out.Queued u) short small = refl
-    told read (out.Full u) short small = refl
-    told read (out.Worn u) short small = refl
-    told read (out.Forwarded u bytes) short small = refl
-    told read (out.Busy u) short small = refl
-    told read (out.Lost u) short small = refl
-    told read (out.Cut u) short small = refl
+    told read _ short small = refl
 
 pub apart_kept_law : ApartKeptLaw
 apart_kept_law n read t o rows members waits lost last_answer last_store kept short small above =

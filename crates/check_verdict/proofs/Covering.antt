@@ -22,20 +22,11 @@ module _ {n : ℕ} where
           → ((own && stored_by t o) || list_any (λ q. write_of line q && stored_by t q.outcome) rows) ≡ comes_by t (sooner line q o found)
       by (out.Stored v place) true is None ih =
           ap (λ b. nat_le v t || b) ih ∙ or_false (nat_le v t) ∙ ap (λ b. comes_by t (cond b (Some v) None)) (sym is)
-      by (out.Stored v place) false is None ih = ih ∙ ap (λ b. comes_by t (cond b (Some v) None)) (sym is)
       by (out.Stored v place) true is (Some u) ih =
           ap (λ b. nat_le v t || b) ih ∙ sym (either_least v u t) ∙ ap (λ b. comes_by t (cond b (Some (min v u)) (Some u))) (sym is)
+      by (out.Stored v place) false is None ih = ih ∙ ap (λ b. comes_by t (cond b (Some v) None)) (sym is)
       by (out.Stored v place) false is (Some u) ih = ih ∙ ap (λ b. comes_by t (cond b (Some (min v u)) (Some u))) (sym is)
-      by out.Unset own is found ih = none own found (list_any (λ q. write_of line q && stored_by t q.outcome) rows) ih
-      by (out.Merged v) own is found ih = none own found (list_any (λ q. write_of line q && stored_by t q.outcome) rows) ih
-      by (out.Queued v) own is found ih = none own found (list_any (λ q. write_of line q && stored_by t q.outcome) rows) ih
-      by (out.Full v) own is found ih = none own found (list_any (λ q. write_of line q && stored_by t q.outcome) rows) ih
-      by (out.Worn v) own is found ih = none own found (list_any (λ q. write_of line q && stored_by t q.outcome) rows) ih
-      by (out.Read v place bytes) own is found ih = none own found (list_any (λ q. write_of line q && stored_by t q.outcome) rows) ih
-      by (out.Forwarded v bytes) own is found ih = none own found (list_any (λ q. write_of line q && stored_by t q.outcome) rows) ih
-      by (out.Busy v) own is found ih = none own found (list_any (λ q. write_of line q && stored_by t q.outcome) rows) ih
-      by (out.Lost v) own is found ih = none own found (list_any (λ q. write_of line q && stored_by t q.outcome) rows) ih
-      by (out.Cut v) own is found ih = none own found (list_any (λ q. write_of line q && stored_by t q.outcome) rows) ih
+      by _ own is found ih = none own found (list_any (λ q. write_of line q && stored_by t q.outcome) rows) ih
 
 pub cover_kept_law : CoverKeptLaw
 cover_kept_law n now t line before after bytes unclosed runs kept le sized =
@@ -102,16 +93,7 @@ module _ {n : ℕ} (now line : ℕ) (r : Row n) (rows : List (Row n)) (bytes : L
 
   unstored_o : (o : Outcome n) → ((u place : ℕ) → o ≡ out.Stored u place → ⊥) → is_stored o ≡ false
   unstored_o (out.Stored v place) never = absurd (never v place refl)
-  unstored_o out.Unset never = refl
-  unstored_o (out.Merged v) never = refl
-  unstored_o (out.Queued v) never = refl
-  unstored_o (out.Full v) never = refl
-  unstored_o (out.Worn v) never = refl
-  unstored_o (out.Read v place bytes) never = refl
-  unstored_o (out.Forwarded v bytes) never = refl
-  unstored_o (out.Busy v) never = refl
-  unstored_o (out.Lost v) never = refl
-  unstored_o (out.Cut v) never = refl
+  unstored_o _ never = refl
 
   other : ((u place : ℕ) → r.outcome ≡ out.Stored u place → ⊥) → KeptLine n now line (r ∷ rows) (laid (bytes_of r.asks) (given_of r.asks) bytes) (joined (given_of r.asks) unclosed) runs
   other never = record {

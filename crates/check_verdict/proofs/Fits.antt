@@ -84,13 +84,9 @@ twins [] = false
 twins (x ∷ xs) = list_any (λ y. y == x) xs || twins xs
 
 turn : (a e b c : Bool) → ((a || (e || false)) || (b || c)) ≡ ((e || b) || (a || c))
-turn true true b c = refl
 turn true false true c = refl
-turn true false false c = refl
-turn false true b c = refl
 turn false false true true = refl
-turn false false true false = refl
-turn false false false c = refl
+turn _ _ _ _ = refl
 
 same_sides : (x y : ℕ) → (x == y) ≡ (y == x)
 same_sides x y = by (cases_eq x y)
@@ -191,28 +187,11 @@ module _ {n : ℕ} where
   pub brief_leave : (o : Outcome n) → is_brief o ≡ true → leave_of never o ≤ never
   brief_leave (out.Stored v place) h = below_never v h
   brief_leave (out.Merged v) h = below_never v h
-  brief_leave out.Unset h = omega arith
-  brief_leave (out.Queued v) h = omega arith
-  brief_leave (out.Full v) h = omega arith
-  brief_leave (out.Worn v) h = omega arith
-  brief_leave (out.Read v place bytes) h = omega arith
-  brief_leave (out.Forwarded v bytes) h = omega arith
-  brief_leave (out.Busy v) h = omega arith
-  brief_leave (out.Lost v) h = omega arith
-  brief_leave (out.Cut v) h = omega arith
+  brief_leave _ h = omega arith
 
   brief_below : (o : Outcome n) → is_brief o ≡ true → stored_below never o ≡ true
   brief_below (out.Stored v place) h = let k : v < reach = ltb-true v reach h in lt-ltb v never (omega (arith, k))
-  brief_below out.Unset h = refl
-  brief_below (out.Merged v) h = refl
-  brief_below (out.Queued v) h = refl
-  brief_below (out.Full v) h = refl
-  brief_below (out.Worn v) h = refl
-  brief_below (out.Read v place bytes) h = refl
-  brief_below (out.Forwarded v bytes) h = refl
-  brief_below (out.Busy v) h = refl
-  brief_below (out.Lost v) h = refl
-  brief_below (out.Cut v) h = refl
+  brief_below _ h = refl
 
   all_below : (rows : List (Row n)) → all_brief rows ≡ true → all_stored_below never rows ≡ true
   all_below [] h = refl
@@ -287,31 +266,13 @@ module _ {n : ℕ} where
         where
           one : (o : Outcome n) → stored_by u o ≡ nat_le (end_of never o) u
           one (out.Stored v place) = refl
-          one out.Unset = sym (lt-leb never u lt)
-          one (out.Merged v) = sym (lt-leb never u lt)
-          one (out.Queued v) = sym (lt-leb never u lt)
-          one (out.Full v) = sym (lt-leb never u lt)
-          one (out.Worn v) = sym (lt-leb never u lt)
-          one (out.Read v place bytes) = sym (lt-leb never u lt)
-          one (out.Forwarded v bytes) = sym (lt-leb never u lt)
-          one (out.Busy v) = sym (lt-leb never u lt)
-          one (out.Lost v) = sym (lt-leb never u lt)
-          one (out.Cut v) = sym (lt-leb never u lt)
+          one _ = sym (lt-leb never u lt)
 
       by : (o : Outcome n) → is_brief o ≡ true → comes_behind o rows ≡ ((end_of never o == never) || list_any (λ p. nat_le p.end (end_of never o)) others)
       by (out.Stored u place) k =
           let lt : u < reach = ltb-true u reach k in
           stored u (omega (arith, lt)) (omega (arith, lt)) ∙ ap (λ b. b || list_any (λ p. nat_le p.end u) others) (sym (ne_eqb u never (λ e. omega (arith, e, lt))))
-      by out.Unset k = refl
-      by (out.Merged v) k = refl
-      by (out.Queued v) k = refl
-      by (out.Full v) k = refl
-      by (out.Worn v) k = refl
-      by (out.Read v place bytes) k = refl
-      by (out.Forwarded v bytes) k = refl
-      by (out.Busy v) k = refl
-      by (out.Lost v) k = refl
-      by (out.Cut v) k = refl
+      by _ k = refl
 
   -- the newest row, and the newest member
   pub joins_shown : (m : Member) (new : Row n) (others all : List Member) (rows : List (Row n)) → Flat others rows → Flat all (new ∷ rows) → sight m ≡ sight_of new

@@ -68,56 +68,22 @@ module _ {n : ℕ} where
   -- a write's outcome adds nothing to reads
   pub no_wait : (t : ℕ) (o : Outcome n) (waits : List ℕ) → is_answered o ≡ false → wait_above t o waits ≡ waits
   no_wait t (out.Read u place bytes) waits h = absurd (cc)
-  no_wait t out.Unset waits h = refl
-  no_wait t (out.Stored u place) waits h = refl
-  no_wait t (out.Merged u) waits h = refl
-  no_wait t (out.Queued u) waits h = refl
-  no_wait t (out.Full u) waits h = refl
-  no_wait t (out.Worn u) waits h = refl
-  no_wait t (out.Forwarded u bytes) waits h = refl
-  no_wait t (out.Busy u) waits h = refl
-  no_wait t (out.Lost u) waits h = refl
-  no_wait t (out.Cut u) waits h = refl
+  no_wait t _ waits h = refl
 
   pub no_answer : (o : Outcome n) (last : Option ℕ) → is_answered o ≡ false → read_to o last ≡ last
   no_answer (out.Read u place bytes) last h = absurd (cc)
-  no_answer out.Unset last h = refl
-  no_answer (out.Stored u place) last h = refl
-  no_answer (out.Merged u) last h = refl
-  no_answer (out.Queued u) last h = refl
-  no_answer (out.Full u) last h = refl
-  no_answer (out.Worn u) last h = refl
-  no_answer (out.Forwarded u bytes) last h = refl
-  no_answer (out.Busy u) last h = refl
-  no_answer (out.Lost u) last h = refl
-  no_answer (out.Cut u) last h = refl
+  no_answer _ last h = refl
 
   accepts_unanswered : (o : Outcome n) → accepts o ≡ true → is_answered o ≡ false
   accepts_unanswered (out.Stored u place) h = refl
   accepts_unanswered (out.Merged u) h = refl
   accepts_unanswered (out.Queued u) h = refl
-  accepts_unanswered out.Unset h = absurd (cc)
-  accepts_unanswered (out.Full u) h = absurd (cc)
-  accepts_unanswered (out.Worn u) h = absurd (cc)
-  accepts_unanswered (out.Read u place bytes) h = absurd (cc)
-  accepts_unanswered (out.Forwarded u bytes) h = absurd (cc)
-  accepts_unanswered (out.Busy u) h = absurd (cc)
-  accepts_unanswered (out.Lost u) h = absurd (cc)
-  accepts_unanswered (out.Cut u) h = absurd (cc)
+  accepts_unanswered _ h = absurd (cc)
 
   -- what stands isn't stored yet
   not_yet : (t : ℕ) (m : Bool) (o : Outcome n) (last : Option ℕ) → accepts o ≡ true → (stored_after t o || (is_queued o || (is_merged o && m))) ≡ true → end_to t o last ≡ last
   not_yet t m (out.Stored u place) last a h = ap (λ b. cond b last (later_of u last)) (sym (or_false (nat_lt t u)) ∙ h)
-  not_yet t m (out.Merged u) last a h = refl
-  not_yet t m (out.Queued u) last a h = refl
-  not_yet t m out.Unset last a h = refl
-  not_yet t m (out.Full u) last a h = refl
-  not_yet t m (out.Worn u) last a h = refl
-  not_yet t m (out.Read u place bytes) last a h = refl
-  not_yet t m (out.Forwarded u bytes) last a h = refl
-  not_yet t m (out.Busy u) last a h = refl
-  not_yet t m (out.Lost u) last a h = refl
-  not_yet t m (out.Cut u) last a h = refl
+  not_yet t m _ last a h = refl
 
   writes_only : (asks : Asks n) → asks_write asks ≡ true → (asks_read asks ≡ false) × (asks_cut asks ≡ false)
   writes_only (Reads line) h = absurd (cc)

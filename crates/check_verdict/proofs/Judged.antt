@@ -34,29 +34,11 @@ rooms all own false fits answer a b c = ap (λ x. x && (own && answer)) a
 written : {n : ℕ} (tick line : ℕ) (bytes : List ℕ) (given : List Bool) (some other : List ℕ) (o : Outcome n)
     → may_have tick (Writes line bytes given) some o ≡ may_have tick (Writes line bytes given) other o
 written tick line bytes given some other out.Unset = refl
-written tick line bytes given some other (out.Stored v place) = refl
-written tick line bytes given some other (out.Merged v) = refl
-written tick line bytes given some other (out.Queued v) = refl
-written tick line bytes given some other (out.Full v) = refl
-written tick line bytes given some other (out.Worn v) = refl
-written tick line bytes given some other (out.Read v place more) = refl
-written tick line bytes given some other (out.Forwarded v more) = refl
-written tick line bytes given some other (out.Busy v) = refl
-written tick line bytes given some other (out.Lost v) = refl
-written tick line bytes given some other (out.Cut v) = refl
+written tick line bytes given some other _ = refl
 
 cutting : {n : ℕ} (tick : ℕ) (some other : List ℕ) (o : Outcome n) → may_have tick Cuts some o ≡ may_have tick Cuts other o
 cutting tick some other out.Unset = refl
-cutting tick some other (out.Stored v place) = refl
-cutting tick some other (out.Merged v) = refl
-cutting tick some other (out.Queued v) = refl
-cutting tick some other (out.Full v) = refl
-cutting tick some other (out.Worn v) = refl
-cutting tick some other (out.Read v place more) = refl
-cutting tick some other (out.Forwarded v more) = refl
-cutting tick some other (out.Busy v) = refl
-cutting tick some other (out.Lost v) = refl
-cutting tick some other (out.Cut v) = refl
+cutting tick some other _ = refl
 
 pub judge_write_law : JudgeWriteLaw
 judge_write_law n tick line bytes given outcome rules banks some before after members waits lost last_answer last_store room latest found times rooms_are latest_is =

@@ -22,16 +22,7 @@ module _ {n : ℕ} where
 
   no_end : (t : ℕ) (o : Outcome n) (last : Option ℕ) → is_stored o ≡ false → end_to t o last ≡ last
   no_end t (out.Stored u place) last h = absurd (cc)
-  no_end t out.Unset last h = refl
-  no_end t (out.Merged u) last h = refl
-  no_end t (out.Queued u) last h = refl
-  no_end t (out.Full u) last h = refl
-  no_end t (out.Worn u) last h = refl
-  no_end t (out.Read u place bytes) last h = refl
-  no_end t (out.Forwarded u bytes) last h = refl
-  no_end t (out.Busy u) last h = refl
-  no_end t (out.Lost u) last h = refl
-  no_end t (out.Cut u) last h = refl
+  no_end t _ last h = refl
 
 pub other_kept_law : OtherKeptLaw
 other_kept_law n t r rows members waits lost last_answer last_store kept own refused whole stored answered gone =

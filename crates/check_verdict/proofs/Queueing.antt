@@ -29,30 +29,13 @@ module _ {n : ℕ} where
 
   merging : (line : ℕ) (o : Outcome n) (after : List (Row n)) → merge_fits line o after ≡ merge_kept (next_accepted line after) o
   merging line (out.Merged v) after = merges line v after
-  merging line out.Unset after = refl
-  merging line (out.Stored v place) after = refl
-  merging line (out.Queued v) after = refl
-  merging line (out.Full v) after = refl
-  merging line (out.Worn v) after = refl
-  merging line (out.Read v place bytes) after = refl
-  merging line (out.Forwarded v bytes) after = refl
-  merging line (out.Busy v) after = refl
-  merging line (out.Lost v) after = refl
-  merging line (out.Cut v) after = refl
+  merging line _ after = refl
 
   -- what stands at a tick is stored above it, if at all
   stood : (t : ℕ) (w m : Bool) (o : Outcome n) → ((w && accepts o) && (stored_after t o || (is_queued o || (is_merged o && m)))) ≡ true → ends_behind t o ≡ true
   stood t w m (out.Stored v place) h = sym (or_false (nat_lt t v)) ∙ and_second (w && true) _ h
   stood t w m (out.Read v place bytes) h = let k : false ≡ true = and_second w false (and_first (w && false) _ h) in absurd (cc)
-  stood t w m out.Unset h = refl
-  stood t w m (out.Merged v) h = refl
-  stood t w m (out.Queued v) h = refl
-  stood t w m (out.Full v) h = refl
-  stood t w m (out.Worn v) h = refl
-  stood t w m (out.Forwarded v bytes) h = refl
-  stood t w m (out.Busy v) h = refl
-  stood t w m (out.Lost v) h = refl
-  stood t w m (out.Cut v) h = refl
+  stood t w m _ h = refl
 
   stands_above : (t : ℕ) (between rows : List (Row n)) → list_all (λ q. ends_behind t q.outcome) (pending t between rows) ≡ true
   stands_above t between [] = refl
@@ -82,16 +65,7 @@ module _ {n : ℕ} where
         let k : v < reach = ltb-true v reach b in
         let l : t < v = ltb-true t v c in
         sym (tell v (omega (arith, l)) k) ∙ ap (λ x. x || stores_between keys line t v) (sym (ne_eqb v never (λ e. omega (arith, e, k))))
-    told out.Unset b c = refl
-    told (out.Merged v) b c = refl
-    told (out.Queued v) b c = refl
-    told (out.Full v) b c = refl
-    told (out.Worn v) b c = refl
-    told (out.Read v place bytes) b c = refl
-    told (out.Forwarded v bytes) b c = refl
-    told (out.Busy v) b c = refl
-    told (out.Lost v) b c = refl
-    told (out.Cut v) b c = refl
+    told _ b c = refl
 
     behind : (q : Row n) → Known t q ≡ true
         → (write_of line q || at_end (λ e. nat_lt 0 (line_stores line t e rows)) q.outcome)

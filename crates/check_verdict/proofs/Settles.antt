@@ -90,16 +90,7 @@ module _ {n : ℕ} (t u : ℕ) (le : t ≤ u) where
       by : (o : Outcome n) → is_far_below read x (last_end u rows) ≡ (is_far_below read x (last_end t rows) && list_all (Far u read x) (ends_above t rows))
           → is_far_below read x (end_to u o (last_end u rows)) ≡ (is_far_below read x (end_to t o (last_end t rows)) && list_all (Far u read x) (end_above t o (ends_above t rows)))
       by (out.Stored v place) ih = far_one t u le read x v (last_end u rows) (last_end t rows) (ends_above t rows) ih
-      by out.Unset ih = ih
-      by (out.Merged v) ih = ih
-      by (out.Queued v) ih = ih
-      by (out.Full v) ih = ih
-      by (out.Worn v) ih = ih
-      by (out.Read v place bytes) ih = ih
-      by (out.Forwarded v bytes) ih = ih
-      by (out.Busy v) ih = ih
-      by (out.Lost v) ih = ih
-      by (out.Cut v) ih = ih
+      by _ ih = ih
 
   waits_on : (rows : List (Row n)) → waits_above u rows ≡ filter (λ v. nat_lt u v) (waits_above t rows)
   waits_on [] = refl
@@ -107,16 +98,7 @@ module _ {n : ℕ} (t u : ℕ) (le : t ≤ u) where
     where
       by : (o : Outcome n) → waits_above u rows ≡ filter (λ v. nat_lt u v) (waits_above t rows) → wait_above u o (waits_above u rows) ≡ filter (λ v. nat_lt u v) (wait_above t o (waits_above t rows))
       by (out.Read v place bytes) ih = waits_one t u le v (waits_above u rows) (waits_above t rows) ih
-      by out.Unset ih = ih
-      by (out.Stored v place) ih = ih
-      by (out.Merged v) ih = ih
-      by (out.Queued v) ih = ih
-      by (out.Full v) ih = ih
-      by (out.Worn v) ih = ih
-      by (out.Forwarded v bytes) ih = ih
-      by (out.Busy v) ih = ih
-      by (out.Lost v) ih = ih
-      by (out.Cut v) ih = ih
+      by _ ih = ih
 
 -- the last store, once members have left
 far_ended : (u read x : ℕ) (members : List Member) (last : Option ℕ) → is_far_below read x (ended u members last) ≡ (is_far_below read x last && list_all (λ m. Far u read x m.end) members)
@@ -135,16 +117,7 @@ far_ended u read x (m ∷ members) last = by (nat_le m.end u) (λ l. far_ended u
 module _ {n : ℕ} (u : ℕ) (below : u < never) where
   stays_is : (o : Outcome n) → not (stored_by u o) ≡ not (nat_le (end_of never o) u)
   stays_is (out.Stored v place) = refl
-  stays_is out.Unset = sym (ap not (lt-leb never u below))
-  stays_is (out.Merged v) = sym (ap not (lt-leb never u below))
-  stays_is (out.Queued v) = sym (ap not (lt-leb never u below))
-  stays_is (out.Full v) = sym (ap not (lt-leb never u below))
-  stays_is (out.Worn v) = sym (ap not (lt-leb never u below))
-  stays_is (out.Read v place bytes) = sym (ap not (lt-leb never u below))
-  stays_is (out.Forwarded v bytes) = sym (ap not (lt-leb never u below))
-  stays_is (out.Busy v) = sym (ap not (lt-leb never u below))
-  stays_is (out.Lost v) = sym (ap not (lt-leb never u below))
-  stays_is (out.Cut v) = sym (ap not (lt-leb never u below))
+  stays_is _ = sym (ap not (lt-leb never u below))
 
   -- members that stay show rows that stay
   show_on : (members : List Member) (rows : List (Row n)) → Shows members rows → Shows (filter (λ m. not (nat_le m.end u)) members) (filter (stays u) rows)

@@ -88,12 +88,7 @@ write_passes_law n tick line bytes given outcome rules rows f m some s room serv
     by (out.Queued u) k b a is = joins tick line bytes given rules rows f s room (out.Queued u) m refl refl refl b refl refl is
     by (out.Full u) k b a is = refused tick line bytes given rules rows f s room (out.Full u) f.worn refl refl refl refl b s.worn_is
     by (out.Worn u) k b a is = refused tick line bytes given rules rows f s room (out.Worn u) true refl refl refl refl b refl
-    by out.Unset k b a is = absurd (cc)
-    by (out.Read u place more) k b a is = absurd (cc)
-    by (out.Forwarded u more) k b a is = absurd (cc)
-    by (out.Busy u) k b a is = absurd (cc)
-    by (out.Lost u) k b a is = absurd (cc)
-    by (out.Cut u) k b a is = absurd (cc)
+    by _ k b a is = absurd (cc)
 
 module _ {n : ℕ} (tick line : ℕ) (rules : Rules) (rows : List (Row n)) (f : Facts) (s : Stands tick rows f) (room : has_room rules tick rows ≡ true) where
   -- a read that doesn't wait
@@ -139,13 +134,7 @@ read_passes_law n tick line outcome rules rows f some s room served brief above 
     }
     by (out.Forwarded u more) k b a = answered tick line rules rows f s room (out.Forwarded u more) refl refl refl b
     by (out.Busy u) k b a = answered tick line rules rows f s room (out.Busy u) refl refl refl b
-    by out.Unset k b a = absurd (cc)
-    by (out.Stored u place) k b a = absurd (cc)
-    by (out.Merged u) k b a = absurd (cc)
-    by (out.Queued u) k b a = absurd (cc)
-    by (out.Full u) k b a = absurd (cc)
-    by (out.Worn u) k b a = absurd (cc)
-    by (out.Cut u) k b a = absurd (cc)
+    by _ k b a = absurd (cc)
 
 pub cut_passes_law : CutPassesLaw
 cut_passes_law n tick outcome rules rows f some s room served brief = by outcome served brief
@@ -161,13 +150,4 @@ cut_passes_law n tick outcome rules rows f some s room served brief = by outcome
       four = (four_law n (a_cut tick (out.Cut u)) rows f.first f.second f.third f.fourth s.four).1 refl;
       passed = falls_on tick rows s.passed;
     }
-    by out.Unset k b = absurd (cc)
-    by (out.Stored u place) k b = absurd (cc)
-    by (out.Merged u) k b = absurd (cc)
-    by (out.Queued u) k b = absurd (cc)
-    by (out.Full u) k b = absurd (cc)
-    by (out.Worn u) k b = absurd (cc)
-    by (out.Read u place more) k b = absurd (cc)
-    by (out.Forwarded u more) k b = absurd (cc)
-    by (out.Busy u) k b = absurd (cc)
-    by (out.Lost u) k b = absurd (cc)
+    by _ k b = absurd (cc)

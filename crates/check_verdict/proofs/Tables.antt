@@ -101,48 +101,17 @@ pub own_law : OwnLaw
 own_law n r bytes h = by r.asks r.outcome h
   where
     by : (asks : Asks n) (o : Outcome n) → may_have r.tick asks bytes o ≡ true → ((not (is_stored o) || asks_write asks) && (not (is_answered o) || asks_read asks)) ≡ true
-    by (Reads line) out.Unset h = refl
     by (Reads line) (out.Stored v place) h = absurd (cc)
-    by (Reads line) (out.Merged v) h = refl
-    by (Reads line) (out.Queued v) h = refl
-    by (Reads line) (out.Full v) h = refl
-    by (Reads line) (out.Worn v) h = refl
-    by (Reads line) (out.Read v place bytes) h = refl
-    by (Reads line) (out.Forwarded v bytes) h = refl
-    by (Reads line) (out.Busy v) h = refl
-    by (Reads line) (out.Lost v) h = refl
-    by (Reads line) (out.Cut v) h = refl
-    by (Writes line some given) out.Unset h = refl
-    by (Writes line some given) (out.Stored v place) h = refl
-    by (Writes line some given) (out.Merged v) h = refl
-    by (Writes line some given) (out.Queued v) h = refl
-    by (Writes line some given) (out.Full v) h = refl
-    by (Writes line some given) (out.Worn v) h = refl
     by (Writes line some given) (out.Read v place bytes) h = absurd (cc)
-    by (Writes line some given) (out.Forwarded v bytes) h = refl
-    by (Writes line some given) (out.Busy v) h = refl
-    by (Writes line some given) (out.Lost v) h = refl
-    by (Writes line some given) (out.Cut v) h = refl
-    by Cuts out.Unset h = refl
     by Cuts (out.Stored v place) h = absurd (cc)
-    by Cuts (out.Merged v) h = refl
-    by Cuts (out.Queued v) h = refl
-    by Cuts (out.Full v) h = refl
-    by Cuts (out.Worn v) h = refl
     by Cuts (out.Read v place bytes) h = absurd (cc)
-    by Cuts (out.Forwarded v bytes) h = refl
-    by Cuts (out.Busy v) h = refl
-    by Cuts (out.Lost v) h = refl
-    by Cuts (out.Cut v) h = refl
+    by _ _ h = refl
 
 -- The reads that came
 
 fourth_is : (v : ℕ) (ticks : List ℕ) (fourth : Option ℕ) → fourth ≡ slice_get ticks 3 → fourth_from v ticks ≡ at_fourth v fourth
-fourth_is v [] fourth is = ap (at_fourth v) (sym is)
-fourth_is v (a ∷ []) fourth is = ap (at_fourth v) (sym is)
-fourth_is v (a ∷ b ∷ []) fourth is = ap (at_fourth v) (sym is)
 fourth_is v (a ∷ b ∷ c ∷ []) fourth is = ap (at_fourth v) (sym is)
-fourth_is v (a ∷ b ∷ c ∷ d ∷ more) fourth is = ap (at_fourth v) (sym is)
+fourth_is v _ fourth is = ap (at_fourth v) (sym is)
 
 pub delay_law : DelayLaw
 delay_law n t a rules before after first second third fourth kept h = by rules.policy

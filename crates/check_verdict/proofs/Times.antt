@@ -50,15 +50,8 @@ module _ {n : ℕ} (rules : Rules) (before : List (Row n)) (tick : ℕ) (after :
   a_read (out.Lost u) short own =
       ap (λ b. (b && nat_lt u (bound rules tick before after)) && list_all (λ q. apart rules.read_ticks (out.Lost u) q.outcome) before) ((first_cut_law n tick u after later).at ∙ cut_at u (cut_ticks after))
       ∙ ap (λ b. Timely (out.Lost u) && b) (distances (out.Lost u) short refl)
-  a_read out.Unset short own = distances out.Unset short refl
   a_read (out.Stored u place) short own = absurd (cc)
-  a_read (out.Merged u) short own = distances (out.Merged u) short refl
-  a_read (out.Queued u) short own = distances (out.Queued u) short refl
-  a_read (out.Full u) short own = distances (out.Full u) short refl
-  a_read (out.Worn u) short own = distances (out.Worn u) short refl
-  a_read (out.Forwarded u bytes) short own = distances (out.Forwarded u bytes) short refl
-  a_read (out.Busy u) short own = distances (out.Busy u) short refl
-  a_read (out.Cut u) short own = distances (out.Cut u) short refl
+  a_read answer short own = distances answer short refl
 
   a_write : (r : Row n) (o : Outcome n) (latest : ℕ) → r.tick ≡ tick → is_short o ≡ true → (not (is_answered o) || false) ≡ true
       → ((u place : ℕ) → o ≡ out.Stored u place → latest ≡ latest_store rules u r before after)
@@ -67,15 +60,7 @@ module _ {n : ℕ} (rules : Rules) (before : List (Row n)) (tick : ℕ) (after :
       ap (λ k. (nat_lt r.tick u && nat_le u k) && list_all (λ q. apart rules.read_ticks (out.Stored u place) q.outcome) before) (sym (is u place refl))
       ∙ under (nat_lt r.tick u) (nat_le u latest) _ _ (λ k. distances (out.Stored u place) short (ap (λ t. nat_lt t u) (sym at) ∙ k))
   a_write r (out.Read u place bytes) latest at short own is = absurd (cc)
-  a_write r out.Unset latest at short own is = distances out.Unset short refl
-  a_write r (out.Merged u) latest at short own is = distances (out.Merged u) short refl
-  a_write r (out.Queued u) latest at short own is = distances (out.Queued u) short refl
-  a_write r (out.Full u) latest at short own is = distances (out.Full u) short refl
-  a_write r (out.Worn u) latest at short own is = distances (out.Worn u) short refl
-  a_write r (out.Forwarded u bytes) latest at short own is = distances (out.Forwarded u bytes) short refl
-  a_write r (out.Busy u) latest at short own is = distances (out.Busy u) short refl
-  a_write r (out.Lost u) latest at short own is = distances (out.Lost u) short refl
-  a_write r (out.Cut u) latest at short own is = distances (out.Cut u) short refl
+  a_write r answer latest at short own is = distances answer short refl
 
 pub read_times_law : ReadTimesLaw
 read_times_law n rules before r after members waits lost last_answer last_store f own reads = by r.asks own reads

@@ -97,16 +97,7 @@ same_timely tick (out.Stored u place) f g same short = by (cases_lt tick u)
     by : (tick < u) ⊎ (u ≤ tick) → (nat_lt tick u && nat_le u (f u)) ≡ (nat_lt tick u && nat_le u (g u))
     by (inl lt) = ap (λ k. nat_lt tick u && nat_le u k) (same u lt (ltb-true u reach short))
     by (inr le) = ap (λ b. b && nat_le u (f u)) (le-ltb tick u le) ∙ ap (λ b. b && nat_le u (g u)) (sym (le-ltb tick u le))
-same_timely tick out.Unset f g same short = refl
-same_timely tick (out.Merged v) f g same short = refl
-same_timely tick (out.Queued v) f g same short = refl
-same_timely tick (out.Full v) f g same short = refl
-same_timely tick (out.Worn v) f g same short = refl
-same_timely tick (out.Read v place more) f g same short = refl
-same_timely tick (out.Forwarded v more) f g same short = refl
-same_timely tick (out.Busy v) f g same short = refl
-same_timely tick (out.Lost v) f g same short = refl
-same_timely tick (out.Cut v) f g same short = refl
+same_timely tick _ f g same short = refl
 
 pub write_verdict_law : WriteVerdictLaw
 write_verdict_law n tick line bytes given outcome rules banks some before after f room keys comes room_is has =

@@ -19,16 +19,7 @@ module _ {n : ℕ} where
 
   precedes : (after : List (Row n)) (o : Outcome n) → store_precedes o after ≡ stored_early (first_worn after) o
   precedes after (out.Stored u place) = early u after
-  precedes after out.Unset = refl
-  precedes after (out.Merged u) = refl
-  precedes after (out.Queued u) = refl
-  precedes after (out.Full u) = refl
-  precedes after (out.Worn u) = refl
-  precedes after (out.Read u place bytes) = refl
-  precedes after (out.Forwarded u bytes) = refl
-  precedes after (out.Busy u) = refl
-  precedes after (out.Lost u) = refl
-  precedes after (out.Cut u) = refl
+  precedes after _ = refl
 
 pub worn_kept_law : WornKeptLaw
 worn_kept_law n t before r after later writes =

@@ -21,29 +21,14 @@ module _ {n : ℕ} where
       pub queue-lacks : (event : BankEvent n) → is_arrival_of (Core event) row ≡ false → has_row (queue shape (event ∷ h)) row ≡ false
       queue-lacks (Write at line bytes given wrote.Accepted) off = lacks-push (queue shape h) _ row none off
       queue-lacks (Write at line bytes given (wrote.Merged old)) off = lacks-merged old at bytes given (queue shape h) row none off
-      queue-lacks (Write at line bytes given wrote.Full) off = none
-      queue-lacks (Write at line bytes given wrote.Exhausted) off = none
-      queue-lacks (Read at line answer) off = none
-      queue-lacks (Serve answer) off = none
       queue-lacks (Begin (did.Stored at place)) off = lacks-drop (queue shape h) row none
-      queue-lacks (Begin did.More) off = lacks-begun (due_after shape h) (newest h) (queue shape h) row none
-      queue-lacks (Begin (did.Moved step)) off = lacks-begun (due_after shape h) (newest h) (queue shape h) row none
-      queue-lacks (Begin (did.Retired slot line)) off = lacks-begun (due_after shape h) (newest h) (queue shape h) row none
-      queue-lacks (Begin did.Exhausted) off = lacks-begun (due_after shape h) (newest h) (queue shape h) row none
+      queue-lacks (Begin _) off = lacks-begun (due_after shape h) (newest h) (queue shape h) row none
       queue-lacks (Iterate (did.Stored at place)) off = lacks-drop (queue shape h) row none
-      queue-lacks (Iterate did.More) off = none
-      queue-lacks (Iterate (did.Moved step)) off = none
-      queue-lacks (Iterate (did.Retired slot line)) off = none
-      queue-lacks (Iterate did.Exhausted) off = none
-      queue-lacks (Cut tearing) off = none
+      queue-lacks _ off = none
 
     module _ (waits_not : has_wait (waits shape h) row ≡ false) where
       pub waits-lack : (event : BankEvent n) → is_arrival_of (Core event) row ≡ false → has_wait (waits shape (event ∷ h)) row ≡ false
-      waits-lack (Write at line bytes given answer) off = waits_not
       waits-lack (Read at line came.Waiting) off = no_wait-push (waits shape h) _ row waits_not off
-      waits-lack (Read at line came.Busy) off = waits_not
-      waits-lack (Read at line (came.Forwarded bytes)) off = waits_not
       waits-lack (Serve answer) off = no_wait-drop (waits shape h) row waits_not
-      waits-lack (Begin answer) off = waits_not
-      waits-lack (Iterate answer) off = waits_not
       waits-lack (Cut tearing) off = refl
+      waits-lack _ off = waits_not

@@ -4,7 +4,7 @@ use Rattle.std.{specs.Prelude.IsFalse, proofs.lemmas.Bool.cases_lt}
 use Rattle.cell_rows.specs.Device.{CellBounds, LineState, ArrayState, IsBlank, counted}
 use Rattle.bank_shape.specs.{Shape.{slots_of, lines_in, controls_from}, declared.BankShape.BankShape, declared.pace.Pace.Pace}
 use Rattle.bank_model.specs.{After.target_after, Aging.{Ages, Endures, MissesUnspent, AreAged, most_aged}, Answers.MayAll, Changes.change_after}
-use Rattle.bank_model.specs.{Events.{BankEvent, Write, Read, Serve, Begin, Iterate, Cut}, History.{goes_on, in_progress, iterated}, Lawful.MayCome, Running.running_at}
+use Rattle.bank_model.specs.{Events.{BankEvent, Begin, Iterate, Cut}, History.{goes_on, in_progress, iterated}, Lawful.MayCome, Running.running_at}
 use Rattle.bank_model.specs.{Sensing.{is_at, most_steps, pulsed_by, torn_control}, Timing.{TimedEvent, Happens, Core, Regs, core, core_of}}
 use Rattle.bank_model.specs.{Touching.{Sticks, Strikes, AreStruck, Touches, breaks_off}, Works.{works_on, held_on}}
 use Rattle.bank_laws.proofs.{Counted.{counted-cases, pulses-few}, Targets.{WorkAfter, spares_work, working, target-same}}
@@ -178,9 +178,6 @@ module _ {n m : ℕ} (shape : BankShape) (pace : Pace) (e at : ℕ) (low : at < 
 
   pub ages-next : (h : Happens n) → MayCome shape pace e xs x h → IsStruck h
       → IsAged bounds (works_on shape at (core_of h (core xs))) (held_on shape at (core_of h (core xs))) new
-  ages-next (Core (Write row line bytes given answer)) may strikes = quiet (Write row line bytes given answer) refl may.pulsed refl refl refl
-  ages-next (Core (Read row line answer)) may strikes = quiet (Read row line answer) refl may.pulsed refl refl refl
-  ages-next (Core (Serve answer)) may strikes = quiet (Serve answer) refl may.pulsed refl refl refl
   ages-next (Core (Begin answer)) may strikes =
       untouched None may.pulsed refl (works_on shape at (Begin answer ∷ core xs)) (held_on shape at (Begin answer ∷ core xs))
       (subst (λ (k : ℕ). IsAged bounds (works_on shape at (Begin answer ∷ core xs)) k old) (sym (none_held (goes_on answer && (target_after shape (Begin answer ∷ core xs) == at))))
@@ -208,6 +205,7 @@ module _ {n m : ℕ} (shape : BankShape) (pace : Pace) (e at : ℕ) (low : at < 
       struck_by : (b : Bool) → is_at (pulsed_by shape (core xs) control (Cut b)) at ≡ (b && (target_after shape (core xs) == at))
       struck_by true = refl
       struck_by false = torn-elsewhere shape at low (change_after shape xs) (running_at shape pace xs x.tick)
+  ages-next (Core event) may strikes = quiet event refl may.pulsed refl refl refl
   ages-next (Regs event) may strikes = untouched _ may.pulsed (kept-elsewhere shape at low (change_after shape xs) event) works (held_on shape at (core xs)) aged
 
 -- The lines of a bank

@@ -174,17 +174,11 @@ read-to_come kept change line (came.Forwarded bytes) action P own = own
 off_without : (a b c d g : Bool) → (a && (b && (c && (d && not g)))) ≡ false → g ≡ false → (a && (b && (c && d))) ≡ false
 off_without true true true true false h k = absurd (cc)
 off_without true true true true true h k = absurd (cc)
-off_without true true true false g h k = refl
-off_without true true false d g h k = refl
-off_without true false c d g h k = refl
-off_without false b c d g h k = refl
+off_without _ _ _ _ g h k = refl
 
 on_with : (a b c d g : Bool) → (a && (b && (c && (d && g)))) ≡ true → (a && (b && (c && d))) ≡ true
 on_with true true true true g h = refl
-on_with true true true false g h = absurd (cc)
-on_with true true false d g h = absurd (cc)
-on_with true false c d g h = absurd (cc)
-on_with false b c d g h = absurd (cc)
+on_with _ _ _ _ g h = absurd (cc)
 
 pub off_idle : (a c : Bool) → (a && (false && c)) ≡ false
 off_idle true c = refl

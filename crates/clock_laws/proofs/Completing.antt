@@ -7,7 +7,7 @@ use Rattle.ecp_line.specs.Reading.{decode}
 use Rattle.bank_shape.specs.{Shape.{controls_of, control_line}, declared.BankShape.BankShape, declared.clock.Action.Action, declared.clock.Doing.Doing}
 use Rattle.bank_shape.specs.{declared.clock.Doing.TheVariants.{Serving, Beginning, Iterating}, declared.pace.Pace.Pace}
 use Rattle.bank_shape.specs.declared.answer.Step.TheVariants as did
-use Rattle.bank_model.specs.{Changes.{change_after, line_of_change}, Events.{BankEvent, Write, Read, Serve, Begin, Iterate, Cut, newest}, History.{queue, begun, due_after}}
+use Rattle.bank_model.specs.{Changes.{change_after, line_of_change}, Events.{BankEvent, Serve, Begin, Iterate, newest}, History.{queue, begun, due_after}}
 use Rattle.bank_model.specs.{Lawful.{IsAsked, IsOnTime, IsKeptOnTime}, Running.{left, cancels_by, cancels_with, running_at}}
 use Rattle.bank_model.specs.Sensing.{is_at, sensed_by, pulsed_by, read_again, kept_sensed, kept_pulsed, copied, begun_with}
 use Rattle.bank_model.specs.{Timing.{TimedEvent, Happens, Core, Regs, Keeping, KeepBegin, KeepIterate, KeepCut, ends, core}, Told.tick_of_row, Touching.{Touches, shown}}
@@ -20,12 +20,10 @@ use Rattle.clock_laws.proofs.{Stepping.{follows, uncancelled, leads-reaches, rea
 
 -- no event that ends an action has a row of its own
 ends-asked : {n : ℕ} (h : List (BankEvent n)) (event : BankEvent n) (doing : Doing) → EndsDoing event doing → IsAsked h event
-ends-asked h (Write row line bytes given answer) doing is = absurd is
-ends-asked h (Read row line answer) doing is = absurd is
 ends-asked h (Serve answer) doing is = tt
 ends-asked h (Begin answer) doing is = tt
 ends-asked h (Iterate answer) doing is = tt
-ends-asked h (Cut tearing) doing is = absurd is
+ends-asked h _ doing is = absurd is
 
 -- it comes as the action ends
 doing_is : (pace : Pace) (action : Action) (doing : Doing) (runs : Option Action) → action.doing ≡ doing → runs ≡ Some action
@@ -37,38 +35,30 @@ doing_is pace action doing runs is run =
 ends-on_time : {n m : ℕ} (shape : BankShape) (pace : Pace) (xs : List (TimedEvent n m)) (event : BankEvent n) (action : Action) (runs : Option Action) (senses : List (Sense n m)) (pulsed : Option ℕ)
     → EndsDoing event action.doing → (change : Option Change) → IsAlone event change → item_of change ≡ change_after shape xs → runs ≡ Some action
     → IsOnTime shape pace runs xs (completion action.first (ends pace action) (Core event) senses pulsed) event
-ends-on_time shape pace xs (Write row line bytes given answer) action runs senses pulsed is change alone told run = absurd is
-ends-on_time shape pace xs (Read row line answer) action runs senses pulsed is change alone told run = absurd is
 ends-on_time shape pace xs (Serve answer) action runs senses pulsed is change alone told run = (doing_is pace action Serving runs is run, refl)
 ends-on_time shape pace xs (Begin answer) action runs senses pulsed is change alone told run = (doing_is pace action Beginning runs is run, refl, sym told ∙ ap item_of alone)
 ends-on_time shape pace xs (Iterate answer) action runs senses pulsed is change alone told run = (doing_is pace action Iterating runs is run, refl, sym told ∙ ap item_of alone)
-ends-on_time shape pace xs (Cut tearing) action runs senses pulsed is change alone told run = absurd is
+ends-on_time shape pace xs _ action runs senses pulsed is change alone told run = absurd is
 
 -- it looks at no control line
 pub ends-senses : {n : ℕ} (shape : BankShape) (h : List (BankEvent n)) (controls : List ℕ) (event : BankEvent n) (doing : Doing) → EndsDoing event doing → sensed_by shape h [] event ≡ sensed_by shape h controls event
-ends-senses shape h controls (Write row line bytes given answer) doing is = absurd is
-ends-senses shape h controls (Read row line answer) doing is = absurd is
 ends-senses shape h controls (Serve answer) doing is = refl
 ends-senses shape h controls (Begin answer) doing is = refl
 ends-senses shape h controls (Iterate answer) doing is = refl
-ends-senses shape h controls (Cut tearing) doing is = absurd is
+ends-senses shape h controls _ doing is = absurd is
 
 pub ends-pulses : {n : ℕ} (shape : BankShape) (h : List (BankEvent n)) (torn : Option ℕ) (event : BankEvent n) (doing : Doing) → EndsDoing event doing → pulsed_by shape h None event ≡ pulsed_by shape h torn event
-ends-pulses shape h torn (Write row line bytes given answer) doing is = absurd is
-ends-pulses shape h torn (Read row line answer) doing is = absurd is
 ends-pulses shape h torn (Serve answer) doing is = refl
 ends-pulses shape h torn (Begin answer) doing is = refl
 ends-pulses shape h torn (Iterate answer) doing is = refl
-ends-pulses shape h torn (Cut tearing) doing is = absurd is
+ends-pulses shape h torn _ doing is = absurd is
 
 -- no action runs behind it
 ends-left : {n : ℕ} (shape : BankShape) (h : List (BankEvent n)) (change : Option ℕ) (event : BankEvent n) (doing : Doing) (runs : Option Action) → EndsDoing event doing → None ≡ left shape h change event runs
-ends-left shape h change (Write row line bytes given answer) doing runs is = absurd is
-ends-left shape h change (Read row line answer) doing runs is = absurd is
 ends-left shape h change (Serve answer) doing runs is = refl
 ends-left shape h change (Begin answer) doing runs is = refl
 ends-left shape h change (Iterate answer) doing runs is = refl
-ends-left shape h change (Cut tearing) doing runs is = absurd is
+ends-left shape h change _ doing runs is = absurd is
 
 -- Arrival ticks
 
@@ -85,20 +75,13 @@ module _ {n m : ℕ} (shape : BankShape) (xs : List (TimedEvent n m)) where
   ends-arrived : (event : BankEvent n) (doing : Doing) (first tick : ℕ) (senses : List (Sense n m)) (pulsed : Option ℕ) (arrivals : List ℕ) → EndsDoing event doing
       → arrivals ≡ map tick_at (queue shape (core xs))
       → arrivals_with event arrivals ≡ map (λ entry. tick_of_row entry.row (completion first tick (Core event) senses pulsed ∷ xs)) (queue shape (event ∷ core xs))
-  ends-arrived (Write row line bytes given answer) doing first tick senses pulsed arrivals is before = absurd is
-  ends-arrived (Read row line answer) doing first tick senses pulsed arrivals is before = absurd is
   ends-arrived (Serve answer) doing first tick senses pulsed arrivals is before = before
-  ends-arrived (Begin did.More) doing first tick senses pulsed arrivals is before = before ∙ sym (ticks-begun (λ row. tick_of_row row xs) (due_after shape (core xs)) (newest (core xs)) (queue shape (core xs)))
   ends-arrived (Begin (did.Stored row place)) doing first tick senses pulsed arrivals is before = ap (λ ticks. drop 1 ticks) before ∙ drop-map tick_at 1 (queue shape (core xs))
-  ends-arrived (Begin (did.Moved step)) doing first tick senses pulsed arrivals is before = before ∙ sym (ticks-begun (λ row. tick_of_row row xs) (due_after shape (core xs)) (newest (core xs)) (queue shape (core xs)))
-  ends-arrived (Begin (did.Retired slot line)) doing first tick senses pulsed arrivals is before = before ∙ sym (ticks-begun (λ row. tick_of_row row xs) (due_after shape (core xs)) (newest (core xs)) (queue shape (core xs)))
-  ends-arrived (Begin did.Exhausted) doing first tick senses pulsed arrivals is before = before ∙ sym (ticks-begun (λ row. tick_of_row row xs) (due_after shape (core xs)) (newest (core xs)) (queue shape (core xs)))
-  ends-arrived (Iterate did.More) doing first tick senses pulsed arrivals is before = before
+  ends-arrived (Begin _) doing first tick senses pulsed arrivals is before =
+      before ∙ sym (ticks-begun (λ row. tick_of_row row xs) (due_after shape (core xs)) (newest (core xs)) (queue shape (core xs)))
   ends-arrived (Iterate (did.Stored row place)) doing first tick senses pulsed arrivals is before = ap (λ ticks. drop 1 ticks) before ∙ drop-map tick_at 1 (queue shape (core xs))
-  ends-arrived (Iterate (did.Moved step)) doing first tick senses pulsed arrivals is before = before
-  ends-arrived (Iterate (did.Retired slot line)) doing first tick senses pulsed arrivals is before = before
-  ends-arrived (Iterate did.Exhausted) doing first tick senses pulsed arrivals is before = before
-  ends-arrived (Cut tearing) doing first tick senses pulsed arrivals is before = absurd is
+  ends-arrived (Iterate _) doing first tick senses pulsed arrivals is before = before
+  ends-arrived _ doing first tick senses pulsed arrivals is before = absurd is
 
 pub completion_law : CompletionLaw
 completion_law n m e event action xs clock bank regs old new leads next is later alone holds shape taken touches struck right copies told control goes =

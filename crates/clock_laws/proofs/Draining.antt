@@ -6,7 +6,7 @@ use Rattle.bank_shape.specs.{declared.BankShape.BankShape, declared.clock.Action
 use Rattle.bank_shape.specs.{declared.clock.Doing.TheVariants.{Serving, Beginning, Iterating}, declared.pace.Pace.Pace}
 use Rattle.bank_model.specs.{Changes.change_after, Events.{Write, Read, Serve, Begin, Iterate, Cut}, History.moved_in, Lawful.{Lawful, MayCome}}
 use Rattle.bank_model.specs.Running.{started, left_by, running, running_at, chosen_after}
-use Rattle.bank_model.specs.Timing.{Happens, Core, Regs, KeepBegin, KeepIterate, KeepCut, TimedEvent, ends, core, last_tick}
+use Rattle.bank_model.specs.Timing.{Happens, Core, Regs, KeepBegin, KeepIterate, TimedEvent, ends, core, last_tick}
 use Rattle.bank_laws.{specs.Laws.IsSized, specs.Ticks.ends_action, proofs.Ticks.last-below}
 use Rattle.place_laws.proofs.Moved.{moved_law}
 use Rattle.clock_laws.{specs.Draining.{ticks_of, ticks_in, NoGapLaw, RestingRegistersLaw}, specs.Leads.Leads, specs.State.{ClockState, next_action}, proofs.Leaving.leaving_law}
@@ -57,15 +57,12 @@ module _ {n m : ℕ} (shape : BankShape) (pace : Pace) (e : ℕ) where
 
   an-end : (xs : List (TimedEvent n m)) (x : TimedEvent n m) (h : Happens n) → MayCome shape pace e xs x h → IsTrue (ends_action h)
       → IsAnEnd xs x (ticks_of pace h)
-  an-end xs x (Core (Write row line bytes given answer)) may is = absurd (cc)
-  an-end xs x (Core (Read row line answer)) may is = absurd (cc)
-  an-end xs x (Core (Cut tearing)) may is = absurd (cc)
-  an-end xs x (Regs (KeepCut tearing)) may is = absurd (cc)
   an-end xs x (Core (Serve answer)) may is = record { doing = Serving; runs = may.on_time.0.0; at = may.on_time.0.1; long = may.on_time.0.1 }
   an-end xs x (Core (Begin answer)) may is = record { doing = Beginning; runs = may.on_time.0.0; at = may.on_time.0.1; long = may.on_time.0.1 }
   an-end xs x (Core (Iterate answer)) may is = record { doing = Iterating; runs = may.on_time.0.0; at = may.on_time.0.1; long = may.on_time.0.1 }
   an-end xs x (Regs (KeepBegin answer)) may is = record { doing = Beginning; runs = may.on_time.0.0; at = may.on_time.0.1; long = may.on_time.0.1 }
   an-end xs x (Regs (KeepIterate answer)) may is = record { doing = Iterating; runs = may.on_time.0.0; at = may.on_time.0.1; long = may.on_time.0.1 }
+  an-end xs x _ may is = absurd (cc)
 
   -- no action runs behind it
   none-runs : (y : TimedEvent n m) (ys : List (TimedEvent n m)) (h : Happens n) → IsTrue (ends_action h)
@@ -73,10 +70,7 @@ module _ {n m : ℕ} (shape : BankShape) (pace : Pace) (e : ℕ) where
   none-runs y ys (Core (Write row line bytes given answer)) is = absurd (cc)
   none-runs y ys (Core (Read row line answer)) is = absurd (cc)
   none-runs y ys (Core (Cut tearing)) is = absurd (cc)
-  none-runs y ys (Regs event) is = refl
-  none-runs y ys (Core (Serve answer)) is = refl
-  none-runs y ys (Core (Begin answer)) is = refl
-  none-runs y ys (Core (Iterate answer)) is = refl
+  none-runs y ys _ is = refl
 
   -- the next one begins at its tick
   next-begun : (y : TimedEvent n m) (ys : List (TimedEvent n m)) (x : TimedEvent n m) (ticks : ℕ) → IsTrue (ends_action y.happens)

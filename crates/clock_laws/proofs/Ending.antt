@@ -10,7 +10,7 @@ use Rattle.bank_shape.specs.{declared.answer.Step.Step, declared.clock.Action.Ac
 use Rattle.bank_shape.specs.declared.answer.Step.TheVariants as did
 use Rattle.power_recovery.{specs.Kept.{KeptState, slot_of, array_line, stands_at, due_region, next_work}, specs.Slots.bank_lines, proofs.Bundle.head-known}
 use Rattle.bank_model.specs.{After.{work_after, sources_of, stands_at_after, target_after}, Answers.{IsDone, IsIterated, MayAll, MayHappen}}
-use Rattle.bank_model.specs.{Events.{BankEvent, Write, Read, Serve, Begin, Iterate, Cut, newest, up_to, line_of_row}, History.{Awaited, queue, waits}}
+use Rattle.bank_model.specs.{Events.{BankEvent, Serve, Begin, Iterate, newest, up_to, line_of_row}, History.{Awaited, queue, waits}}
 use Rattle.bank_model.specs.{Sensing.{is_at, most_steps, stand_of, sensed_by, pulsed_by, IsReadRight, IsLaid, copied, begun_with}, Timing.{Core, TimedEvent, core, ends}}
 use Rattle.bank_model.specs.Touching.{AreStruck, Touches, shown}
 use Rattle.bank_laws.{specs.Pairs.ArePaired, proofs.Pairs.pair_law}
@@ -66,12 +66,10 @@ module _ {n m e : ℕ} (xs : List (TimedEvent n m)) (clock : ClockState n m e) (
 -- One event
 
 no_tear : {n : ℕ} (event : BankEvent n) (pulsed : Option ℕ) (doing : Doing) → EndsDoing event doing → false ≡ is_tear (Core event) pulsed
-no_tear (Write row line bytes given answer) pulsed doing is = absurd is
-no_tear (Read row line answer) pulsed doing is = absurd is
 no_tear (Serve answer) pulsed doing is = refl
 no_tear (Begin answer) pulsed doing is = refl
 no_tear (Iterate answer) pulsed doing is = refl
-no_tear (Cut tearing) pulsed doing is = absurd is
+no_tear _ pulsed doing is = absurd is
 
 module _ {n m e : ℕ} (xs : List (TimedEvent n m)) (clock : ClockState n m e) (bank : BankState n m e) (regs : RegsState n m e) (event : BankEvent n) (action : Action) (sensed : List ℕ) (pulsed : Option ℕ) (old new : ArrayState n m)
     (leads : Leads xs clock old) (end : IsCompletion xs clock bank regs event action sensed pulsed old new) where
@@ -84,12 +82,10 @@ module _ {n m e : ℕ} (xs : List (TimedEvent n m)) (clock : ClockState n m e) (
   -- a serve leaves the writing of the change that stands
   aside : (event : BankEvent n) (doing : Doing) (tick : ℕ) (pulsed : Option ℕ) → EndsDoing event doing → regs ≡ put_if (item_with clock.bank.kept event) bank.kept clock.regs
       → GoesOnWriting tick clock.regs regs (Core event) pulsed old new
-  aside (Write row line bytes given answer) doing tick pulsed is put = absurd is
-  aside (Read row line answer) doing tick pulsed is put = absurd is
   aside (Serve answer) doing tick pulsed is put = put
   aside (Begin answer) doing tick pulsed is put = tt
   aside (Iterate answer) doing tick pulsed is put = tt
-  aside (Cut tearing) doing tick pulsed is put = absurd is
+  aside _ doing tick pulsed is put = absurd is
 
   -- where it senses and pulses what the history says, and reads it right
   finish : sensed ≡ sensed_by clock.bank.kept.shape (core xs) [] event → pulsed ≡ pulsed_by clock.bank.kept.shape (core xs) None event

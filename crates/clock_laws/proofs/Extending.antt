@@ -3,8 +3,8 @@ use Rattle.std.proofs.Common.{◌≡◌, ◌⊎◌, inl, inr, ℕ, ◌+◌, ◌<
 use Rattle.std.specs.Prelude.{IfSome}
 use Rattle.cell_rows.specs.{Device.counted, declared.array.Sense.Sense}
 use Rattle.bank_shape.specs.{Shape.lines_in, declared.BankShape.BankShape}
-use Rattle.bank_model.specs.{Adding.{senses_of, pulses_on, torn_by, tears_on}, Events.{BankEvent, Write, Read, Serve, Begin, Iterate, Cut}, Sensing.is_at}
-use Rattle.bank_model.specs.Timing.{Happens, Core, Regs, KeepBegin, KeepIterate, KeepCut, TimedEvent}
+use Rattle.bank_model.specs.{Adding.{senses_of, pulses_on, torn_by, tears_on}, Events.{BankEvent, Cut}, Sensing.is_at}
+use Rattle.bank_model.specs.Timing.{Happens, Core, Regs, KeepCut, TimedEvent}
 use Rattle.clock_laws.{specs.Arriving.arrival, specs.Extending.{NothingAddedLaw, OneAddedLaw, ArrivalAddedLaw, BothAddedLaw, is_tear}, proofs.Arriving.untouched}
 
 pub nothing_added_law : NothingAddedLaw
@@ -31,17 +31,9 @@ off-pulsed shape (Some at) line within off = by (at == line) (eqb-true at line) 
     by true is (inr behind) = absurd (omega (arith, is refl, behind, within.0, within.1))
 
 tears-one : {n : ℕ} (happens : Happens n) (pulsed : Option ℕ) (tears : ℕ) → cond (is_tear happens pulsed) (counted tears) tears ≡ torn_by happens pulsed tears
-tears-one (Core (Write row line bytes given answer)) pulsed tears = refl
-tears-one (Core (Read row line answer)) pulsed tears = refl
-tears-one (Core (Serve answer)) pulsed tears = refl
-tears-one (Core (Begin answer)) pulsed tears = refl
-tears-one (Core (Iterate answer)) pulsed tears = refl
-tears-one (Core (Cut tearing)) (Some line) tears = refl
 tears-one (Core (Cut tearing)) None tears = refl
-tears-one (Regs (KeepBegin answer)) pulsed tears = refl
-tears-one (Regs (KeepIterate answer)) pulsed tears = refl
-tears-one (Regs (KeepCut tearing)) (Some line) tears = refl
 tears-one (Regs (KeepCut tearing)) None tears = refl
+tears-one _ _ tears = refl
 
 pub one_added_law : OneAddedLaw
 one_added_law n m shape x sensed tearing old new senses within is touches = record {
@@ -63,12 +55,8 @@ one_added_law n m shape x sensed tearing old new senses within is touches = reco
 
 -- nothing is torn where nothing is pulsed
 none-torn : {n : ℕ} (event : BankEvent n) → false ≡ is_tear (Core event) None
-none-torn (Write row line bytes given answer) = refl
-none-torn (Read row line answer) = refl
-none-torn (Serve answer) = refl
-none-torn (Begin answer) = refl
-none-torn (Iterate answer) = refl
 none-torn (Cut tearing) = refl
+none-torn _ = refl
 
 pub arrival_added_law : ArrivalAddedLaw
 arrival_added_law n m tick shape event array =

@@ -8,7 +8,7 @@ use Rattle.masked_bytes.proofs.{Queueing.candidate-newest, Standing.layer_of-hea
 use Rattle.bank_shape.specs.declared.BankShape.{BankShape}
 use Rattle.bank_shape.specs.declared.answer.WriteAnswer.TheVariants as wrote
 use Rattle.bank_shape.specs.declared.answer.Step.TheVariants as did
-use Rattle.bank_model.specs.{Answers.{MayAll, head_busy_after}, Events.{BankEvent, Write, Read, Serve, Begin, Iterate, Cut, newest, up_to, RowsBelow}}
+use Rattle.bank_model.specs.{Answers.{MayAll, head_busy_after}, Events.{BankEvent, Write, Read, Begin, Iterate, newest, up_to, RowsBelow}}
 use Rattle.bank_model.{specs.History.{queue, begun, due_after, has_exhausted}, proofs.Newest.length-newest}
 use Rattle.bank_laws.{specs.Pairs.{has_line, ArePaired}, proofs.Pairs.{no_candidate-rest, pair_law}, proofs.Standing.stand_apart}
 use Rattle.bank_invariant.proofs.Taking.{answer_merged}
@@ -267,18 +267,10 @@ module _ {n : ℕ} where
     queue-fresh (Write row line bytes given wrote.Exhausted ∷ h) bound may below =
         refused-fresh row line bytes given h (Write row line bytes given wrote.Exhausted) below.1 (λ r at. newest_of-if (row == r) _ _ at) (queue-fresh h row may.1 below.1)
     queue-fresh (Read row line answer ∷ h) bound may below = queue-fresh h row may.1 below.1
-    queue-fresh (Serve answer ∷ h) bound may below = queue-fresh h bound may.1 below
     queue-fresh (Begin (did.Stored row place) ∷ h) bound may below = fresh-drop (newest_at h) (newest h) (queue shape h) (queue-fresh h bound may.1 below)
-    queue-fresh (Begin did.More ∷ h) bound may below = begun-fresh h may.1 (queue-fresh h bound may.1 below)
-    queue-fresh (Begin (did.Moved step) ∷ h) bound may below = begun-fresh h may.1 (queue-fresh h bound may.1 below)
-    queue-fresh (Begin (did.Retired slot line) ∷ h) bound may below = begun-fresh h may.1 (queue-fresh h bound may.1 below)
-    queue-fresh (Begin did.Exhausted ∷ h) bound may below = begun-fresh h may.1 (queue-fresh h bound may.1 below)
+    queue-fresh (Begin _ ∷ h) bound may below = begun-fresh h may.1 (queue-fresh h bound may.1 below)
     queue-fresh (Iterate (did.Stored row place) ∷ h) bound may below = fresh-drop (newest_at h) (newest h) (queue shape h) (queue-fresh h bound may.1 below)
-    queue-fresh (Iterate did.More ∷ h) bound may below = queue-fresh h bound may.1 below
-    queue-fresh (Iterate (did.Moved step) ∷ h) bound may below = queue-fresh h bound may.1 below
-    queue-fresh (Iterate (did.Retired slot line) ∷ h) bound may below = queue-fresh h bound may.1 below
-    queue-fresh (Iterate did.Exhausted ∷ h) bound may below = queue-fresh h bound may.1 below
-    queue-fresh (Cut tearing ∷ h) bound may below = queue-fresh h bound may.1 below
+    queue-fresh (_ ∷ h) bound may below = queue-fresh h bound may.1 below
 
   -- The head
 

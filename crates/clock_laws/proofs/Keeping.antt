@@ -68,9 +68,8 @@ module _ {n m e : ℕ} (xs : List (TimedEvent n m)) (clock : ClockState n m e) (
       }
     where
       never : (event : Keeping) (doing : Doing) → EndsKeeping event doing → false ≡ is_tear {n = n} (Regs event) (kept_pulsed (line_kept clock) event)
-      never (KeepBegin answer) doing is = refl
-      never (KeepIterate answer) doing is = refl
       never (KeepCut tearing) doing is = absurd is
+      never _ doing is = refl
 
   -- what a step leaves is told by the history
   kept-told : (x : TimedEvent n m) (event : Keeping) (answer : Keep) (writer : LineWriter n m e) (count : ℕ) → x.happens ≡ Regs event

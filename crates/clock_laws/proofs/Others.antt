@@ -77,29 +77,20 @@ module _ {n : ℕ} where
     served-other (w ∷ ws) answer lacks is = ap (λ r. r == row) is.0 ∙ neither_first (w.row == row) _ lacks
 
     no-outcome : (most tick : ℕ) (event : BankEvent n) → MayHappen shape h most event → is_arrival_of (Core event) row ≡ false → outcome_by (waits shape h) event tick row ≡ None
-    no-outcome most tick (Write at line bytes given wrote.Accepted) may off = refl
     no-outcome most tick (Write at line bytes given (wrote.Merged old)) may off =
         let told = answer_merged shape h (has_exhausted h) (candidate (head_busy_after shape h) (queue shape h) line) old may.2 in
         on-other old row _ (other-row (queue shape h) old row (candidate-there (head_busy_after shape h) (queue shape h) line old told.1) none)
     no-outcome most tick (Write at line bytes given wrote.Full) may off = on-other at row _ off
     no-outcome most tick (Write at line bytes given wrote.Exhausted) may off = on-other at row _ off
-    no-outcome most tick (Read at line came.Waiting) may off = refl
     no-outcome most tick (Read at line came.Busy) may off = on-other at row _ off
     no-outcome most tick (Read at line (came.Forwarded bytes)) may off = on-other at row _ off
     no-outcome most tick (Serve answer) may off = on-other answer.row row _ (served-other (waits shape h) answer waits_not may)
     no-outcome most tick (Begin (did.Stored at place)) may off =
         on-other at row _ (stored-other (has_exhausted h) (due_after shape h) (queue shape h) at place refl may.1)
-    no-outcome most tick (Begin did.More) may off = refl
-    no-outcome most tick (Begin (did.Moved step)) may off = refl
-    no-outcome most tick (Begin (did.Retired slot line)) may off = refl
-    no-outcome most tick (Begin did.Exhausted) may off = refl
     no-outcome most tick (Iterate (did.Stored at place)) may off =
         on-other at row _ (stored-other (has_exhausted h) (due_after shape h) (queue shape h) at place refl may.1)
-    no-outcome most tick (Iterate did.More) may off = refl
-    no-outcome most tick (Iterate (did.Moved step)) may off = refl
-    no-outcome most tick (Iterate (did.Retired slot line)) may off = refl
-    no-outcome most tick (Iterate did.Exhausted) may off = refl
     no-outcome most tick (Cut tearing) may off = ap (λ b. cond b (Some (out.Lost tick)) None) waits_not
+    no-outcome most tick _ may off = refl
 
 module _ {n m : ℕ} (shape : BankShape) (pace : Pace) (e row : ℕ) (before : ℕ → Outcome n) where
   -- a row that neither stands nor waits after events, and whose outcome is as before them

@@ -13,7 +13,7 @@ use Rattle.start_gap.specs.declared.Move.{Move}
 use Rattle.power_recovery.{specs.Kept.{KeptState, due_region}, proofs.Bundle.{next_work-store, next_work-copy}}
 use Rattle.bank_model.specs.{After.work_after, Answers.{IsDone, MayHappen}}
 use Rattle.bank_model.specs.Changes.{item_if, changed_by, change_by, change_after, keeping_by, keeping_after, rounds_by, rounds_after, halted_by, halted_after}
-use Rattle.bank_model.specs.{Events.{Write, Read, Serve, Begin, Iterate, Cut, line_of_row}, History.{queue, stores, first_or}, Timing.{TimedEvent, Happens, Core, core}}
+use Rattle.bank_model.specs.{Events.{Serve, Begin, Iterate, line_of_row}, History.{queue, stores, first_or}, Timing.{TimedEvent, Happens, Core, core}}
 use Rattle.reg_lines.specs.{Regs.{RegsState, IsWritingOf}, declared.Change.Change}
 use Rattle.register_laws.specs.Telling.{AreTold, item_of}
 use Rattle.bank_invariant.proofs.Naming.{AreNamed, queue-named, head-named}
@@ -137,12 +137,10 @@ told-on {n} {m} {e} shape xs x regs h is change keeping halted rounds told = rec
 }
 
 pub put_law : PutLaw
-put_law n m e (Write row line bytes given answer) doing x xs clock kept array leads may ends alone is = absurd ends
-put_law n m e (Read row line answer) doing x xs clock kept array leads may ends alone is = absurd ends
 put_law n m e (Serve answer) doing x xs clock kept array leads may ends alone is =
     told-on clock.bank.kept.shape xs x clock.regs (Core (Serve answer)) is refl refl refl refl leads.regs
 put_law n m e (Begin answer) doing x xs clock kept array leads may ends alone is =
     put-told xs clock array leads (item_by clock.bank.kept answer) kept x (Core (Begin answer)) is alone (item-same xs clock array leads answer may.1 alone kept) refl refl
 put_law n m e (Iterate answer) doing x xs clock kept array leads may ends alone is =
     put-told xs clock array leads (item_by clock.bank.kept answer) kept x (Core (Iterate answer)) is alone (item-iterated xs clock array leads answer may alone kept) refl refl
-put_law n m e (Cut tearing) doing x xs clock kept array leads may ends alone is = absurd ends
+put_law n m e _ doing x xs clock kept array leads may ends alone is = absurd ends

@@ -10,9 +10,9 @@ use Rattle.bank_shape.specs.{declared.Work.TheVariants.{Nothing, Store, Copy}, d
 use Rattle.bank_shape.proofs.Sizes.{slot_at-within}
 use Rattle.power_recovery.specs.{Kept.{KeptState, IsKept, AllBelow, region_at, slot_of, array_line, stands_at, due_region, due_work, next_work, target_slot}, Slots.bank_lines}
 use Rattle.power_recovery.proofs.{Bundle.due_region-Some, Placing.slot_of-within}
-use Rattle.bank_model.specs.{After.{work_after, target_after, sources_of}, Changes.{line_of_change, numbers_from}, Events.{BankEvent, Write, Read, Serve, Begin, Iterate, Cut}}
+use Rattle.bank_model.specs.{After.{work_after, target_after, sources_of}, Changes.{line_of_change, numbers_from}, Events.{BankEvent, Serve, Begin, Iterate, Cut}}
 use Rattle.bank_model.specs.{History.{Awaited, waits}, Sensing.{is_at, pulses_of, stand_of, sensed_by, pulsed_by, read_again, torn_control, kept_sensed, kept_pulsed}}
-use Rattle.bank_model.specs.{Timing.{TimedEvent, Keeping, KeepBegin, KeepIterate, KeepCut, is_doing}, Touching.{Touches, shown}}
+use Rattle.bank_model.specs.{Timing.{TimedEvent, Keeping, KeepIterate, KeepCut, is_doing}, Touching.{Touches, shown}}
 use Rattle.bank_invariant.{specs.Bridge.AgreesWith, specs.Holds.Holds, specs.State.{BankState, target_of}, proofs.Agreeing.agree_law, proofs.Awaiting.waits-known}
 
 -- one that is no control line
@@ -111,8 +111,6 @@ module _ {n m e : ℕ} (h : List (BankEvent n)) (bank : BankState n m e) (array 
 
   -- each event senses lines of its bank
   pub sensed-in : (controls : List ℕ) (event : BankEvent n) → AreIn bank.kept.shape controls → AreIn bank.kept.shape (sensed_by bank.kept.shape h controls event)
-  sensed-in controls (Write row line bytes given answer) own = tt
-  sensed-in controls (Read row line answer) own = tt
   sensed-in controls (Serve answer) own = first-in (waits bank.kept.shape h) (waits-known bank.kept.shape _ h holds.past)
   sensed-in controls (Begin answer) own =
       AreIn-append bank.kept.shape (sources_of bank.kept.shape h (work_after bank.kept.shape h)) (target_after bank.kept.shape h ∷ [])
@@ -120,16 +118,14 @@ module _ {n m e : ℕ} (h : List (BankEvent n)) (bank : BankState n m e) (array 
       (target_after-in, tt)
   sensed-in controls (Iterate answer) own = (target_after-in, tt)
   sensed-in controls (Cut tearing) own = own
+  sensed-in controls _ own = tt
 
   -- and pulses one of them or none
   pub pulsed-in : (torn : Option ℕ) (event : BankEvent n) → IfSome torn (IsIn bank.kept.shape) → IfSome (pulsed_by bank.kept.shape h torn event) (IsIn bank.kept.shape)
-  pulsed-in torn (Write row line bytes given answer) own = tt
-  pulsed-in torn (Read row line answer) own = tt
-  pulsed-in torn (Serve answer) own = tt
-  pulsed-in torn (Begin answer) own = tt
   pulsed-in torn (Iterate answer) own = target_after-in
   pulsed-in torn (Cut true) own = target_after-in
   pulsed-in torn (Cut false) own = own
+  pulsed-in torn _ own = tt
 
 -- Control lines
 
@@ -156,15 +152,13 @@ torn-in shape change action below = by (is_doing Iterating action)
 -- what a step of its writing senses and pulses
 pub kept-sensed-in : (shape : BankShape) (line : Option ℕ) (event : Keeping) → IfSome line (IsIn shape) → AreIn shape (kept_sensed line event)
 kept-sensed-in shape None event own = tt
-kept-sensed-in shape (Some line) (KeepBegin answer) own = (own, tt)
-kept-sensed-in shape (Some line) (KeepIterate answer) own = (own, tt)
 kept-sensed-in shape (Some line) (KeepCut tearing) own = tt
+kept-sensed-in shape (Some line) _ own = (own, tt)
 
 pub kept-pulsed-in : (shape : BankShape) (line : Option ℕ) (event : Keeping) → IfSome line (IsIn shape) → IfSome (kept_pulsed line event) (IsIn shape)
-kept-pulsed-in shape line (KeepBegin answer) own = tt
 kept-pulsed-in shape line (KeepIterate answer) own = own
 kept-pulsed-in shape line (KeepCut true) own = own
-kept-pulsed-in shape line (KeepCut false) own = tt
+kept-pulsed-in shape line _ own = tt
 
 -- Pulses
 

@@ -129,37 +129,26 @@ module _ {n : ℕ} (shape : BankShape) (h : List (BankEvent n)) (row tick : ℕ)
   step most (Read at line came.Waiting) may (inr (inr (inr done))) = inr (inr done)
   step most (Read at line came.Busy) may stands = on-own at (out.Busy tick) (queue shape h) (waits shape h) refl stands
   step most (Read at line (came.Forwarded bytes)) may stands = on-own at (out.Forwarded tick bytes) (queue shape h) (waits shape h) refl stands
-  step most (Serve answer) may (inl own) = cc
   step most (Serve answer) may (inr stands) =
       kept-by (answer.row == row) (out.Read tick answer.place answer.bytes) (queue shape h) (queue shape h) (waits shape h) (drop 1 (waits shape h)) refl
       (λ off there. there) (λ off waiting. wait-drop (waits shape h) answer may off waiting) stands
-  step most (Begin (did.Stored at place)) may (inl own) = cc
   step most (Begin (did.Stored at place)) may (inr stands) =
       kept-by (at == row) (out.Stored tick place) (queue shape h) (drop 1 (queue shape h)) (waits shape h) (waits shape h) refl
       (λ off there. there-drop (queue shape h) at (stored-head (work_after shape h) at place may.1) off there) (λ off waiting. waiting) stands
-  step most (Begin did.More) may (inl own) = cc
   step most (Begin did.More) may (inr stands) = begun-kept stands
-  step most (Begin (did.Moved move)) may (inl own) = cc
   step most (Begin (did.Moved move)) may (inr stands) = begun-kept stands
-  step most (Begin (did.Retired slot line)) may (inl own) = cc
   step most (Begin (did.Retired slot line)) may (inr stands) = begun-kept stands
-  step most (Begin did.Exhausted) may (inl own) = cc
   step most (Begin did.Exhausted) may (inr stands) = begun-kept stands
-  step most (Iterate (did.Stored at place)) may (inl own) = cc
   step most (Iterate (did.Stored at place)) may (inr stands) =
       kept-by (at == row) (out.Stored tick place) (queue shape h) (drop 1 (queue shape h)) (waits shape h) (waits shape h) refl
       (λ off there. there-drop (queue shape h) at (stored-head (work_after shape h) at place may.1) off there) (λ off waiting. waiting) stands
-  step most (Iterate did.More) may (inl own) = cc
   step most (Iterate did.More) may (inr stands) = stands
-  step most (Iterate (did.Moved move)) may (inl own) = cc
   step most (Iterate (did.Moved move)) may (inr stands) = stands
-  step most (Iterate (did.Retired slot line)) may (inl own) = cc
   step most (Iterate (did.Retired slot line)) may (inr stands) = stands
-  step most (Iterate did.Exhausted) may (inl own) = cc
   step most (Iterate did.Exhausted) may (inr stands) = stands
-  step most (Cut tearing) may (inl own) = cc
   step most (Cut tearing) may (inr stands) =
       kept-by (has_wait (waits shape h) row) (out.Lost tick) (queue shape h) (queue shape h) (waits shape h) [] refl (λ off there. there) (λ off waiting. cc) stands
+  step most _ may (inl own) = cc
 
 module _ {n m : ℕ} (shape : BankShape) (pace : Pace) (e row : ℕ) where
   stands : (xs : List (TimedEvent n m)) → Lawful shape pace e xs → arrives_with xs row ≡ true → Stands shape (core xs) row 0 (outcome_of shape xs row) (queue shape (core xs)) (waits shape (core xs)) (outcome_of shape xs row)
@@ -218,11 +207,7 @@ module _ {n m : ℕ} where
           let off : (at == row) ≡ false = ne_eqb at row (λ same. omega (arith, same, under.0)) in
           (omega (arith, under.0, below.0), ap (λ b. cond b y.tick (tick_of_row row (later ++ x ∷ xs))) off ∙ under.1)
       by (Core (Read at own reply)) below rest = let under = rest at below.1 in (omega (arith, under.0, below.0), under.1)
-      by (Core (Serve reply)) below rest = rest bound below
-      by (Core (Begin reply)) below rest = rest bound below
-      by (Core (Iterate reply)) below rest = rest bound below
-      by (Core (Cut tearing)) below rest = rest bound below
-      by (Regs event) below rest = rest bound below
+      by _ below rest = rest bound below
 
 pub arrival_tick_law : ArrivalTickLaw
 arrival_tick_law n m row line bound bytes given answer later xs x below is = (came-below row line bytes given answer later xs x bound below is).1

@@ -155,10 +155,6 @@ module _ {n m e : ℕ} (xs : List (TimedEvent n m)) (clock : ClockState n m e) (
     torn-off false change is = absurd (cc (is))
 
     hits : (h : Happens n) → MayCome shape clock.pace e xs x h → GoesOnWriting x.tick regs now h x.pulsed old new → is_at x.pulsed at ≡ true → Hits h
-    hits (Core (Write row line bytes given answer)) may goes hit = absurd (not-hit None may.pulsed refl hit)
-    hits (Core (Read row line answer)) may goes hit = absurd (not-hit None may.pulsed refl hit)
-    hits (Core (Serve answer)) may goes hit = absurd (not-hit None may.pulsed refl hit)
-    hits (Core (Begin answer)) may goes hit = absurd (not-hit None may.pulsed refl hit)
     hits (Core (Iterate answer)) may goes hit = absurd (not-hit (Some (target_after shape (core xs))) may.pulsed target-off hit)
     hits (Core (Cut true)) may goes hit = absurd (not-hit (Some (target_after shape (core xs))) may.pulsed target-off hit)
     hits (Core (Cut false)) may goes hit =
@@ -166,14 +162,13 @@ module _ {n m e : ℕ} (xs : List (TimedEvent n m)) (clock : ClockState n m e) (
         let on : is_at torn at ≡ true = sym (ap (λ o. is_at o at) may.pulsed) ∙ hit in
         let (written, some) = torn-off (is_doing Iterating (running_at shape clock.pace xs x.tick)) (change_after shape xs) on in
         (may.on_time.4 some, written, tears torn may.pulsed on written goes)
-    hits (Regs (KeepBegin answer)) may goes hit = absurd (not-hit None may.pulsed refl hit)
     hits (Regs (KeepIterate answer)) may goes hit =
         let written : is_written shape at xs ≡ true = sym (ap (λ o. is_at o at) may.pulsed) ∙ hit in
         (may.may.0, written, subst (λ (l : ℕ). IsHit l false) (line-at goes.change goes.stands written) (iterated-hit answer goes))
     hits (Regs (KeepCut true)) may goes hit =
         let written : is_written shape at xs ≡ true = sym (ap (λ o. is_at o at) may.pulsed) ∙ hit in
         (may.may refl, written, tears (line_of_change shape (change_after shape xs)) may.pulsed written written goes)
-    hits (Regs (KeepCut false)) may goes hit = absurd (not-hit None may.pulsed refl hit)
+    hits _ may goes hit = absurd (not-hit None may.pulsed refl hit)
 
     -- it stays orderly
     orderly-next : (h : Happens n) → MayCome shape clock.pace e xs x h → GoesOnWriting x.tick regs now h x.pulsed old new → IsOrderly new.bounds.misses (new.line at)
@@ -280,12 +275,10 @@ module _ {n m e : ℕ} (xs : List (TimedEvent n m)) (clock : ClockState n m e) (
     off-keeping off = ap (λ b. cond (b && is_written shape at xs) (rounds_after xs) 0) off
 
     ages-next : (h : Happens n) → MayCome shape clock.pace e xs x h → GoesOnWriting x.tick regs now h x.pulsed old new → Next h
-    ages-next (Core (Write row line bytes given answer)) may goes = stays may.pulsed
-    ages-next (Core (Read row line answer)) may goes = stays may.pulsed
-    ages-next (Core (Serve answer)) may goes = stays may.pulsed
     ages-next (Core (Begin answer)) may goes = rests false (none-pulsed None may.pulsed refl) (unheld may.on_time.2)
     ages-next (Core (Iterate answer)) may goes = rests false (none-pulsed (Some (target_after shape (core xs))) may.pulsed target-off) (unheld may.on_time.2)
     ages-next (Core (Cut tearing)) may goes = cut-off (keeping_after xs && is_written shape at xs) refl (λ hit. hits (Core (Cut tearing)) may goes hit)
+    ages-next (Core _) may goes = stays may.pulsed
     ages-next (Regs (KeepBegin answer)) may goes =
         subst (λ (k : ℕ). IsAged old.bounds (cond (not (keeps_on answer) && is_written shape at xs) 1 0 + works) k (new.line at))
         (sym (none-cond (keeps_on answer && is_at (line_of_change shape (written_by answer (change_after shape xs))) at)))
@@ -344,12 +337,8 @@ module _ {n m e : ℕ} (xs : List (TimedEvent n m)) (clock : ClockState n m e) (
   made-next (Core (Write row line bytes given answer)) may goes = made-stays may.pulsed goes
   made-next (Core (Read row line answer)) may goes = made-stays may.pulsed goes
   made-next (Core (Serve answer)) may goes = made-stays may.pulsed goes
-  made-next (Core (Begin answer)) may goes = λ writer change runs stands live. omega arith
-  made-next (Core (Iterate answer)) may goes = λ writer change runs stands live. omega arith
-  made-next (Core (Cut tearing)) may goes = λ writer change runs stands live. omega arith
-  made-next (Regs (KeepBegin answer)) may goes = λ writer change runs stands live. omega arith
   made-next (Regs (KeepIterate answer)) may goes = made-iterated answer goes
-  made-next (Regs (KeepCut tearing)) may goes = λ writer change runs stands live. omega arith
+  made-next _ may goes = λ writer change runs stands live. omega arith
 
   -- so the lines of the bank have aged by the longer history
   pub has-aged-next : MayCome shape clock.pace e xs x x.happens → GoesOnWriting x.tick regs now x.happens x.pulsed old new → AreAged shape (core (x ∷ xs)) new

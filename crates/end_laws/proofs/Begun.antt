@@ -6,7 +6,7 @@ use Rattle.masked_bytes.{specs.Entries.{candidate, laid_on, merged}, specs.decla
 use Rattle.bank_shape.specs.{Kinds.is_store, declared.BankShape.BankShape, declared.Work.TheVariants.Nothing}
 use Rattle.bank_shape.specs.declared.answer.WriteAnswer.TheVariants as wrote
 use Rattle.bank_shape.specs.declared.answer.Step.TheVariants as did
-use Rattle.bank_model.specs.{After.{due_work, work_after}, Answers.{MayAll, head_busy_after, write_answer}, Events.{BankEvent, Write, Read, Serve, Begin, Iterate, Cut, newest}}
+use Rattle.bank_model.specs.{After.{due_work, work_after}, Answers.{MayAll, head_busy_after, write_answer}, Events.{BankEvent, Write, Begin, Iterate, Cut, newest}}
 use Rattle.bank_model.specs.History.{begun, queue, due_after, has_exhausted, in_progress}
 use Rattle.bank_laws.{specs.Pairs.{has_line, ArePaired}, proofs.Pairs.{accepted-none, keeps_pairs, line-merged, no_candidate-head}}
 use Rattle.queue_laws.specs.EntryLaws.{is_head_begun}
@@ -28,12 +28,6 @@ module _ {n : ℕ} (shape : BankShape) where
 
   pub keeps-begun : (most : ℕ) (h : List (BankEvent n)) → MayAll shape most h → KeepsBegun h
   keeps-begun most [] may = record { before = λ is. absurd (cc); working = λ is none. absurd (cc); exhausted = λ is none. absurd (cc) }
-  keeps-begun most (Write row line bytes given answer ∷ h) may =
-      let k = keeps-begun most h may.1 in record { before = k.before; working = k.working; exhausted = k.exhausted }
-  keeps-begun most (Read row line answer ∷ h) may =
-      let k = keeps-begun most h may.1 in record { before = k.before; working = k.working; exhausted = k.exhausted }
-  keeps-begun most (Serve answer ∷ h) may =
-      let k = keeps-begun most h may.1 in record { before = k.before; working = k.working; exhausted = k.exhausted }
   keeps-begun most (Cut tearing ∷ h) may =
       let k = keeps-begun most h may.1 in record { before = k.before; working = λ is none. absurd (cc); exhausted = k.exhausted }
   keeps-begun most (Begin did.More ∷ h) may =
@@ -77,6 +71,7 @@ module _ {n : ℕ} (shape : BankShape) where
       let k = keeps-begun most h may.1 in record { before = k.before; working = λ is none. absurd (cc); exhausted = k.exhausted }
   keeps-begun most (Iterate did.Exhausted ∷ h) may =
       let k = keeps-begun most h may.1 in record { before = k.before; working = λ is none. absurd (cc); exhausted = λ is none. k.working may.0.0 none }
+  keeps-begun most (_ ∷ h) may = let k = keeps-begun most h may.1 in record { before = k.before; working = k.working; exhausted = k.exhausted }
 
 -- Two writes of one line stand in the queue only where a store of the first was begun.
 
@@ -138,18 +133,7 @@ module _ {n : ℕ} (shape : BankShape) where
       again-pushed most h (record { row = row; line = line; bytes = bytes; given = given }) may.1 may.0.2 (queue shape h) refl (begun-again most h may.1)
   begun-again most (Write row line bytes given (wrote.Merged old) ∷ h) may =
       again-merged old row bytes given (queue shape h) (is_head_begun shape h) (begun-again most h may.1)
-  begun-again most (Write row line bytes given wrote.Full ∷ h) may = begun-again most h may.1
-  begun-again most (Write row line bytes given wrote.Exhausted ∷ h) may = begun-again most h may.1
-  begun-again most (Read row line answer ∷ h) may = begun-again most h may.1
-  begun-again most (Serve answer ∷ h) may = begun-again most h may.1
-  begun-again most (Cut tearing ∷ h) may = begun-again most h may.1
   begun-again most (Begin (did.Stored row place) ∷ h) may = again-drop (queue shape h) (keeps_pairs shape most h may.1).paired
-  begun-again most (Begin did.More ∷ h) may = again-begun (due_after shape h) (newest h) (queue shape h) (is_head_begun shape h) (begun-again most h may.1)
-  begun-again most (Begin (did.Moved step) ∷ h) may = again-begun (due_after shape h) (newest h) (queue shape h) (is_head_begun shape h) (begun-again most h may.1)
-  begun-again most (Begin (did.Retired slot line) ∷ h) may = again-begun (due_after shape h) (newest h) (queue shape h) (is_head_begun shape h) (begun-again most h may.1)
-  begun-again most (Begin did.Exhausted ∷ h) may = again-begun (due_after shape h) (newest h) (queue shape h) (is_head_begun shape h) (begun-again most h may.1)
+  begun-again most (Begin _ ∷ h) may = again-begun (due_after shape h) (newest h) (queue shape h) (is_head_begun shape h) (begun-again most h may.1)
   begun-again most (Iterate (did.Stored row place) ∷ h) may = again-drop (queue shape h) (keeps_pairs shape most h may.1).paired
-  begun-again most (Iterate did.More ∷ h) may = begun-again most h may.1
-  begun-again most (Iterate (did.Moved step) ∷ h) may = begun-again most h may.1
-  begun-again most (Iterate (did.Retired slot line) ∷ h) may = begun-again most h may.1
-  begun-again most (Iterate did.Exhausted ∷ h) may = begun-again most h may.1
+  begun-again most (_ ∷ h) may = begun-again most h may.1

@@ -9,7 +9,7 @@ use Rattle.row_rules.specs.{Answers.stored_before, declared.Row.Row}
 use Rattle.bank_shape.specs.{Shape.{slots_of, slot_moved}, declared.BankShape.BankShape, declared.pace.Pace.Pace}
 use Rattle.bank_shape.specs.declared.answer.Step.TheVariants as did
 use Rattle.power_recovery.specs.Kept.{array_line}
-use Rattle.bank_model.specs.{After.{slot_after, array_line_after, stands_at_after}, Events.{BankEvent, Write, Read, Serve, Begin, Iterate, Cut}}
+use Rattle.bank_model.specs.{After.{slot_after, array_line_after, stands_at_after}, Events.{BankEvent, Write, Read, Begin, Iterate, Cut}}
 use Rattle.bank_model.specs.{History.{retired, moved_in, stored_in}, Lawful.Lawful, Sensing.most_steps, Timing.{Happens, Core, Regs, TimedEvent, core, core_of}}
 use Rattle.bank_laws.{specs.Laws.{IsSized, LeavesArray}, specs.Outcomes.{outcome_of, ended, row_with, rows_from}, proofs.Asked.{Asked, asked-within, wrote-asked, queue-wrote}}
 use Rattle.bank_laws.proofs.{Settling.{lawful_before, above_all}, Waiting.may_all, Walking.{Passes, walk, rows_after}}
@@ -58,20 +58,9 @@ module _ (slots slot : ℕ) (before : List ℕ) (exists : slot < slots) where
 
   module _ {n : ℕ} where
     follows-event : (event : BankEvent n) (h : List (BankEvent n)) → Follows slots slot before (retired h) → Follows slots slot before (retired (event ∷ h))
-    follows-event (Write row line bytes given answer) h f = f
-    follows-event (Read row line answer) h f = f
-    follows-event (Serve answer) h f = f
-    follows-event (Cut tearing) h f = f
-    follows-event (Begin (did.Stored row place)) h f = f
-    follows-event (Begin did.More) h f = f
-    follows-event (Begin (did.Moved step)) h f = f
     follows-event (Begin (did.Retired at line)) h f = follows-retired (retired h) at f
-    follows-event (Begin did.Exhausted) h f = f
-    follows-event (Iterate (did.Stored row place)) h f = f
-    follows-event (Iterate did.More) h f = f
-    follows-event (Iterate (did.Moved step)) h f = f
     follows-event (Iterate (did.Retired at line)) h f = follows-retired (retired h) at f
-    follows-event (Iterate did.Exhausted) h f = f
+    follows-event _ h f = f
 
 pub follows-later : {n m : ℕ} (slots slot : ℕ) (later zs : List (TimedEvent n m)) → slot < slots → Follows slots slot (retired (core zs)) (retired (core (later ++ zs)))
 follows-later slots slot [] zs exists = follows-same slots slot (retired (core zs)) exists
@@ -163,12 +152,8 @@ module _ {n m : ℕ} (shape : BankShape) (pace : Pace) (e : ℕ) (all : List (Ti
           (outcome-ends (rows_from shape all ys ++ (row_with shape all (Core (Write row line bytes given answer)) x.tick cancels ++ rows_after shape all later)) row line sums (asked row line (inl (refl, refl))))
       by (Core (Read row line answer)) cancels sums asked =
           outcome-ends (rows_from shape all ys ++ (row_with shape all (Core (Read row line answer)) x.tick cancels ++ rows_after shape all later)) row line sums (asked row line (inl (refl, refl)))
-      by (Core (Serve answer)) cancels sums asked = tt
-      by (Regs event) cancels sums asked = tt
-      by (Core (Begin answer)) cancels sums asked = tt
-      by (Core (Iterate answer)) cancels sums asked = tt
-      by (Core (Cut tearing)) true sums asked = tt
       by (Core (Cut tearing)) false sums asked = refl
+      by _ _ sums asked = tt
 
 pub still_there_law : StillThereLaw
 still_there_law n m e pace xs bank array sized l holds halted =

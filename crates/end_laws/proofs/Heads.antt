@@ -24,15 +24,11 @@ module _ {n : ℕ} where
   -- a row that was written is below the next
   pub written-below : (h : List (BankEvent n)) (bound row line : ℕ) → RowsBelow h bound → line_written row h ≡ Some line → row < bound
   written-below [] bound row line below is = absurd (cc)
-  written-below (Write at l bytes given wrote.Accepted ∷ h) bound row line below is = written-either at bound row line l h (eqb at row) refl below.0 (written-below h at row line below.1) is
-  written-below (Write at l bytes given (wrote.Merged old) ∷ h) bound row line below is = written-either at bound row line l h (eqb at row) refl below.0 (written-below h at row line below.1) is
   written-below (Write at l bytes given wrote.Full ∷ h) bound row line below is = let low = written-below h at row line below.1 is in omega (arith, low, below.0)
   written-below (Write at l bytes given wrote.Exhausted ∷ h) bound row line below is = let low = written-below h at row line below.1 is in omega (arith, low, below.0)
+  written-below (Write at l bytes given _ ∷ h) bound row line below is = written-either at bound row line l h (eqb at row) refl below.0 (written-below h at row line below.1) is
   written-below (Read at l answer ∷ h) bound row line below is = let low = written-below h at row line below.1 is in omega (arith, low, below.0)
-  written-below (Serve answer ∷ h) bound row line below is = written-below h bound row line below is
-  written-below (Begin answer ∷ h) bound row line below is = written-below h bound row line below is
-  written-below (Iterate answer ∷ h) bound row line below is = written-below h bound row line below is
-  written-below (Cut tearing ∷ h) bound row line below is = written-below h bound row line below is
+  written-below (_ ∷ h) bound row line below is = written-below h bound row line below is
 
   last-either : (at line row l : ℕ) (h : List (BankEvent n)) (b : Bool) → eqb l line ≡ b → RowsBelow h at → (last_write h line ≡ Some row → line_written row h ≡ Some line)
       → cond b (Some at) (last_write h line) ≡ Some row → cond (eqb at row) (Some l) (line_written row h) ≡ Some line
@@ -45,15 +41,11 @@ module _ {n : ℕ} where
   -- the last write of a line was one of the line
   last-written : (h : List (BankEvent n)) (bound line row : ℕ) → RowsBelow h bound → last_write h line ≡ Some row → line_written row h ≡ Some line
   last-written [] bound line row below is = absurd (cc)
-  last-written (Write at l bytes given wrote.Accepted ∷ h) bound line row below is = last-either at line row l h (eqb l line) refl below.1 (last-written h at line row below.1) is
-  last-written (Write at l bytes given (wrote.Merged old) ∷ h) bound line row below is = last-either at line row l h (eqb l line) refl below.1 (last-written h at line row below.1) is
   last-written (Write at l bytes given wrote.Full ∷ h) bound line row below is = last-written h at line row below.1 is
   last-written (Write at l bytes given wrote.Exhausted ∷ h) bound line row below is = last-written h at line row below.1 is
+  last-written (Write at l bytes given _ ∷ h) bound line row below is = last-either at line row l h (eqb l line) refl below.1 (last-written h at line row below.1) is
   last-written (Read at l answer ∷ h) bound line row below is = last-written h at line row below.1 is
-  last-written (Serve answer ∷ h) bound line row below is = last-written h bound line row below is
-  last-written (Begin answer ∷ h) bound line row below is = last-written h bound line row below is
-  last-written (Iterate answer ∷ h) bound line row below is = last-written h bound line row below is
-  last-written (Cut tearing ∷ h) bound line row below is = last-written h bound line row below is
+  last-written (_ ∷ h) bound line row below is = last-written h bound line row below is
 
   since-either : (at line row l : ℕ) (bytes : List ℕ) (given : List Bool) (h whole : List (BankEvent n)) (b : Bool) → eqb l line ≡ b → RowsBelow h at
       → newest whole line ≡ cond (eqb l line) (laid bytes given (newest h line)) (newest h line)
@@ -69,21 +61,16 @@ module _ {n : ℕ} where
   -- behind its last write nothing changes the newest bytes of a line
   newest-since : (h : List (BankEvent n)) (bound line row : ℕ) → RowsBelow h bound → last_write h line ≡ Some row → newest (up_to row h) line ≡ newest h line
   newest-since [] bound line row below is = absurd (cc)
-  newest-since (Write at l bytes given wrote.Accepted ∷ h) bound line row below is =
-      since-either at line row l bytes given h (Write at l bytes given wrote.Accepted ∷ h) (eqb l line) refl below.1 refl (newest-since h at line row below.1) is
-  newest-since (Write at l bytes given (wrote.Merged old) ∷ h) bound line row below is =
-      since-either at line row l bytes given h (Write at l bytes given (wrote.Merged old) ∷ h) (eqb l line) refl below.1 refl (newest-since h at line row below.1) is
   newest-since (Write at l bytes given wrote.Full ∷ h) bound line row below is =
       let low = written-below h at row line below.1 (last-written h at line row below.1 is) in
       ap (λ b. newest (cond b (Write at l bytes given wrote.Full ∷ h) (up_to row h)) line) (above at row low) ∙ newest-since h at line row below.1 is
   newest-since (Write at l bytes given wrote.Exhausted ∷ h) bound line row below is =
       let low = written-below h at row line below.1 (last-written h at line row below.1 is) in
       ap (λ b. newest (cond b (Write at l bytes given wrote.Exhausted ∷ h) (up_to row h)) line) (above at row low) ∙ newest-since h at line row below.1 is
+  newest-since (Write at l bytes given answer ∷ h) bound line row below is =
+      since-either at line row l bytes given h (Write at l bytes given answer ∷ h) (eqb l line) refl below.1 refl (newest-since h at line row below.1) is
   newest-since (Read at l answer ∷ h) bound line row below is = newest-since h at line row below.1 is
-  newest-since (Serve answer ∷ h) bound line row below is = newest-since h bound line row below is
-  newest-since (Begin answer ∷ h) bound line row below is = newest-since h bound line row below is
-  newest-since (Iterate answer ∷ h) bound line row below is = newest-since h bound line row below is
-  newest-since (Cut tearing ∷ h) bound line row below is = newest-since h bound line row below is
+  newest-since (_ ∷ h) bound line row below is = newest-since h bound line row below is
 
 -- what the write of a row and those merged into it give is among the newest bytes of its line as it came
 record IsGiven (n : ℕ) (own : Layer) (newest : List ℕ) : Type 0 where
@@ -155,10 +142,7 @@ module _ {n : ℕ} (shape : BankShape) where
   given-stays most (Write at l bytes given wrote.Exhausted ∷ h) bound row line may below is =
       unseen h at row line (Write at l bytes given wrote.Exhausted ∷ h) (written-below h at row line below.1 is) (given-stays most h at row line may.1 below.1 is)
   given-stays most (Read at l answer ∷ h) bound row line may below is = given-stays most h at row line may.1 below.1 is
-  given-stays most (Serve answer ∷ h) bound row line may below is = given-stays most h bound row line may.1 below is
-  given-stays most (Begin answer ∷ h) bound row line may below is = given-stays most h bound row line may.1 below is
-  given-stays most (Iterate answer ∷ h) bound row line may below is = given-stays most h bound row line may.1 below is
-  given-stays most (Cut tearing ∷ h) bound row line may below is = given-stays most h bound row line may.1 below is
+  given-stays most (_ ∷ h) bound row line may below is = given-stays most h bound row line may.1 below is
 
   -- The head
 
@@ -296,16 +280,6 @@ module _ {n : ℕ} (shape : BankShape) where
   head-whole most (Serve answer ∷ h) bound may below is = whole-same h (Serve answer ∷ h) (queue shape h) (λ row there. refl) (head-whole most h bound may.1 below is)
   head-whole most (Cut tearing ∷ h) bound may below is = whole-same h (Cut tearing ∷ h) (queue shape h) (λ row there. refl) (head-whole most h bound may.1 below is)
   head-whole most (Begin (did.Stored row place) ∷ h) bound may below is = absurd (cc)
-  head-whole most (Begin did.More ∷ h) bound may below is = begin-whole most h bound did.More may.1 below (head-whole most h bound may.1 below) is
-  head-whole most (Begin (did.Moved step) ∷ h) bound may below is = begin-whole most h bound (did.Moved step) may.1 below (head-whole most h bound may.1 below) is
-  head-whole most (Begin (did.Retired slot line) ∷ h) bound may below is = begin-whole most h bound (did.Retired slot line) may.1 below (head-whole most h bound may.1 below) is
-  head-whole most (Begin did.Exhausted ∷ h) bound may below is = begin-whole most h bound did.Exhausted may.1 below (head-whole most h bound may.1 below) is
+  head-whole most (Begin answer ∷ h) bound may below is = begin-whole most h bound answer may.1 below (head-whole most h bound may.1 below) is
   head-whole most (Iterate (did.Stored row place) ∷ h) bound may below is = absurd (cc)
-  head-whole most (Iterate did.More ∷ h) bound may below is =
-      whole-same h (Iterate did.More ∷ h) (queue shape h) (λ row there. refl) (head-whole most h bound may.1 below is)
-  head-whole most (Iterate (did.Moved step) ∷ h) bound may below is =
-      whole-same h (Iterate (did.Moved step) ∷ h) (queue shape h) (λ row there. refl) (head-whole most h bound may.1 below is)
-  head-whole most (Iterate (did.Retired slot line) ∷ h) bound may below is =
-      whole-same h (Iterate (did.Retired slot line) ∷ h) (queue shape h) (λ row there. refl) (head-whole most h bound may.1 below is)
-  head-whole most (Iterate did.Exhausted ∷ h) bound may below is =
-      whole-same h (Iterate did.Exhausted ∷ h) (queue shape h) (λ row there. refl) (head-whole most h bound may.1 below is)
+  head-whole most (Iterate answer ∷ h) bound may below is = whole-same h (Iterate answer ∷ h) (queue shape h) (λ row there. refl) (head-whole most h bound may.1 below is)

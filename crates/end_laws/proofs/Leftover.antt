@@ -6,8 +6,8 @@ use Rattle.cell_rows.specs.Device.{ArrayState}
 use Rattle.ecp_line.specs.ArrayLines.{is_worn_at}
 use Rattle.row_rules.specs.{Answers.is_worn, Wearing.worn_row}
 use Rattle.bank_shape.specs.{Shape.{controls_from, controls_of, control_line}, declared.BankShape.BankShape, declared.pace.Pace.Pace}
-use Rattle.bank_model.specs.{Changes.{change_after, halted_after}, Events.{Write, Read, Serve, Begin, Iterate, Cut}, History.has_exhausted, Lawful.{Lawful, MayCome}}
-use Rattle.bank_model.specs.{Running.{is_over, over_by}, Timing.{Happens, Core, Regs, TimedEvent, core}}
+use Rattle.bank_model.specs.{Changes.{change_after, halted_after}, Events.{Write, Cut}, History.has_exhausted, Lawful.{Lawful, MayCome}}
+use Rattle.bank_model.specs.{Running.{is_over, over_by}, Timing.{Happens, Core, TimedEvent, core}}
 use Rattle.bank_laws.{specs.Laws.{IsSized, LeavesArray}, specs.Outcomes.{outcome_of, ended, row_with, rows_from}, proofs.Ending.{Onwards, write_outcome}}
 use Rattle.bank_laws.proofs.{Serves.{may_at, onwards_at}, Settling.opens, Wears.{worn_outcome, refused-exhausted, exhausted_later}}
 use Rattle.place_laws.proofs.WornOut.{worn_control, change-within}
@@ -35,13 +35,8 @@ module _ {n m : ℕ} (shape : BankShape) (pace : Pace) (e : ℕ) (all : List (Ti
               now (refused-exhausted shape (core zs) line
               (sym (worn_outcome x.tick answer (ended x.tick (outcome_of shape all row)) (write_outcome shape pace e all zs x row line bytes given answer (opens shape pace e all l) may on) worn) ∙ may.may.2))
           own false worn is = rest is
-      by (Core (Read row line answer)) cancels may on now rest is = rest is
-      by (Core (Serve answer)) cancels may on now rest is = rest is
-      by (Core (Begin answer)) cancels may on now rest is = rest is
-      by (Core (Iterate answer)) cancels may on now rest is = rest is
       by (Core (Cut tearing)) true may on now rest is = rest is
-      by (Core (Cut tearing)) false may on now rest is = rest is
-      by (Regs event) cancels may on now rest is = rest is
+      by _ _ may on now rest is = rest is
 
   -- where no line write is begun any more the bank is exhausted, or a control line of it is worn
   pub over-why : (array : ArrayState n m) → IsSized shape pace → LeavesArray e shape all array → is_over shape all ≡ true

@@ -9,7 +9,7 @@ use Rattle.row_rules.specs.Rows as rows
 use Rattle.bank_shape.specs.{declared.BankShape.BankShape, declared.answer.WriteAnswer.WriteAnswer, declared.pace.Pace.Pace}
 use Rattle.bank_shape.specs.declared.answer.WriteAnswer.TheVariants as wrote
 use Rattle.bank_shape.specs.declared.answer.Step.TheVariants as did
-use Rattle.bank_model.specs.{Events.{BankEvent, Write, Read, Serve, Begin, Iterate, Cut, RowsBelow, newest, up_to}, History.{begun, queue, due_after}, Lawful.{Lawful, MayCome}}
+use Rattle.bank_model.specs.{Events.{BankEvent, Write, Begin, Iterate, Cut, RowsBelow, newest, up_to}, History.{begun, queue, due_after}, Lawful.{Lawful, MayCome}}
 use Rattle.bank_model.specs.{Sensing.most_steps, Timing.{Happens, Core, Regs, TimedEvent, core, core_of}}
 use Rattle.bank_laws.{specs.Outcomes.{outcome_of, ended, row_with, rows_from, table_of}, specs.Pairs.has_line, specs.Settling.AreOpen, proofs.Answering.{IsHead, stored-head}}
 use Rattle.bank_laws.proofs.Ending.{Onwards, own_row, accepting, outcome-accepts, write_outcome}
@@ -51,13 +51,8 @@ module _ {n m : ℕ} (shape : BankShape) (all : List (TimedEvent n m)) where
           → writes (numbered_by zs h x.tick (numbered zs)) ≡ by_order (row_with shape all h x.tick cancels ++ rows_from shape all zs)
       by (Core (Write row line bytes given answer)) cancels ih =
           one (accepts (ended x.tick (outcome_of shape all row))) (record { row = row; write = coming (rows_from shape all zs) (row_of row x.tick line bytes given) }) ih
-      by (Core (Read row line answer)) cancels ih = ih
-      by (Core (Serve answer)) cancels ih = ih
-      by (Core (Begin answer)) cancels ih = ih
-      by (Core (Iterate answer)) cancels ih = ih
       by (Core (Cut tearing)) true ih = ih
-      by (Core (Cut tearing)) false ih = ih
-      by (Regs event) cancels ih = ih
+      by _ _ ih = ih
 
   -- a write by its order is that of its row: its outcome, its line, what it gives, and its line's newest bytes
   record IsItem (past : List (BankEvent n)) (w : Numbered n) : Type 0 where
@@ -107,11 +102,7 @@ module _ {n m : ℕ} (shape : BankShape) (all : List (TimedEvent n m)) where
 
   item-over : (past : List (BankEvent n)) (event : BankEvent n) → NoWrite event → (w : Numbered n) → IsItem past w → IsItem (event ∷ past) w
   item-over past (Write row line bytes given answer) none w is = absurd none
-  item-over past (Read row line answer) none w is = record { ends = is.ends; line = is.line; gives = is.gives; newest_is = is.newest_is }
-  item-over past (Serve answer) none w is = record { ends = is.ends; line = is.line; gives = is.gives; newest_is = is.newest_is }
-  item-over past (Begin answer) none w is = record { ends = is.ends; line = is.line; gives = is.gives; newest_is = is.newest_is }
-  item-over past (Iterate answer) none w is = record { ends = is.ends; line = is.line; gives = is.gives; newest_is = is.newest_is }
-  item-over past (Cut tearing) none w is = record { ends = is.ends; line = is.line; gives = is.gives; newest_is = is.newest_is }
+  item-over past _ none w is = record { ends = is.ends; line = is.line; gives = is.gives; newest_is = is.newest_is }
 
   -- these writes are so, and those that aren't gone are the queue's
   record PlacedIn (past : List (BankEvent n)) (gone : ℕ → Type 0) (ws : List (Numbered n)) : Type 0 where
@@ -357,27 +348,18 @@ module _ {n m : ℕ} (shape : BankShape) (all : List (TimedEvent n m)) where
           subst (λ b. PlacedIn (Write row line bytes given wrote.Exhausted ∷ core zs) (StoredBy shape zs x.tick (Core (Write row line bytes given wrote.Exhausted)))
           (cond b (put (new-item row line bytes given) (numbered zs)) (numbered zs)))
           (sym (agrees row line bytes given wrote.Exhausted k)) (refuses row line bytes given wrote.Exhausted k refl)
-      step (Core (Read row line answer)) k = record { each = others (Read row line answer) tt; match = still (Core (Read row line answer)) k.may }
-      step (Core (Serve answer)) k = record { each = others (Serve answer) tt; match = still (Core (Serve answer)) k.may }
-      step (Core (Cut tearing)) k = record { each = others (Cut tearing) tt; match = still (Core (Cut tearing)) k.may }
       step (Core (Begin (did.Stored row place))) k = record {
         each = others (Begin (did.Stored row place)) tt;
         match = stores-head (Core (Begin (did.Stored row place))) row place k.may (stored-head shape (core zs) row place k.may.may.1)
             (x.tick, place, own_row row (out.Stored x.tick place) (outcome_of shape zs row)) (queue shape (core zs)) refl;
       }
-      step (Core (Begin did.More)) k = record { each = others (Begin did.More) tt; match = begins (Core (Begin did.More)) k.may }
-      step (Core (Begin (did.Moved move))) k = record { each = others (Begin (did.Moved move)) tt; match = begins (Core (Begin (did.Moved move))) k.may }
-      step (Core (Begin (did.Retired slot line))) k = record { each = others (Begin (did.Retired slot line)) tt; match = begins (Core (Begin (did.Retired slot line))) k.may }
-      step (Core (Begin did.Exhausted)) k = record { each = others (Begin did.Exhausted) tt; match = begins (Core (Begin did.Exhausted)) k.may }
+      step (Core (Begin answer)) k = record { each = others (Begin answer) tt; match = begins (Core (Begin answer)) k.may }
       step (Core (Iterate (did.Stored row place))) k = record {
         each = others (Iterate (did.Stored row place)) tt;
         match = stores-head (Core (Iterate (did.Stored row place))) row place k.may (stored-head shape (core zs) row place k.may.may.1)
             (x.tick, place, own_row row (out.Stored x.tick place) (outcome_of shape zs row)) (queue shape (core zs)) refl;
       }
-      step (Core (Iterate did.More)) k = record { each = others (Iterate did.More) tt; match = still (Core (Iterate did.More)) k.may }
-      step (Core (Iterate (did.Moved move))) k = record { each = others (Iterate (did.Moved move)) tt; match = still (Core (Iterate (did.Moved move))) k.may }
-      step (Core (Iterate (did.Retired slot line))) k = record { each = others (Iterate (did.Retired slot line)) tt; match = still (Core (Iterate (did.Retired slot line))) k.may }
-      step (Core (Iterate did.Exhausted)) k = record { each = others (Iterate did.Exhausted) tt; match = still (Core (Iterate did.Exhausted)) k.may }
+      step (Core event) k = record { each = others event tt; match = still (Core event) k.may }
       step (Regs event) k = record { each = placed.each; match = still (Regs event) k.may }
 
       known : Known x.happens

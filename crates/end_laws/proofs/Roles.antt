@@ -191,25 +191,22 @@ module _ (shape : BankShape) (range : IsBankShape shape) where
     one-role (Line a) Retired is other = absurd (not-retired (line-slot a is) other)
     one-role (Line a) Control is other = absurd (not-control (line-slot a is) other)
     one-role Gap (Line b) is other = absurd (line-gap b other is)
-    one-role Gap Gap is other = refl
     one-role Gap Free is other = absurd (not-free (gap-slot is) other)
     one-role Gap Retired is other = absurd (not-retired (gap-slot is) other)
     one-role Gap Control is other = absurd (not-control (gap-slot is) other)
     one-role Free (Line b) is other = absurd (not-free (line-slot b other) is)
     one-role Free Gap is other = absurd (not-free (gap-slot other) is)
-    one-role Free Free is other = refl
     one-role Free Retired is other = absurd (omega (arith, is.0, other.0))
     one-role Free Control is other = absurd (omega (arith, is.1, other))
     one-role Retired (Line b) is other = absurd (not-retired (line-slot b other) is)
     one-role Retired Gap is other = absurd (not-retired (gap-slot other) is)
     one-role Retired Free is other = absurd (omega (arith, is.0, other.0))
-    one-role Retired Retired is other = refl
     one-role Retired Control is other = absurd (omega (arith, is.0, other, used-before))
     one-role Control (Line b) is other = absurd (not-control (line-slot b other) is)
     one-role Control Gap is other = absurd (not-control (gap-slot other) is)
     one-role Control Free is other = absurd (omega (arith, is, other.1))
     one-role Control Retired is other = absurd (omega (arith, is, other.0, used-before))
-    one-role Control Control is other = refl
+    one-role _ _ is other = refl
 
     found : (role : Role) → IsRole shape named end at role → HasOneRole shape named end at
     found role is = record { role = role; is = is; only = λ other k. one-role other role k is }

@@ -8,7 +8,7 @@ use Rattle.cell_rows.specs.Device.{ArrayState}
 use Rattle.row_rules.specs.{Answers.{accepts, is_merged, is_queued}, Rows.asks_write, declared.Row.Row}
 use Rattle.bank_shape.specs.{Shape.{controls_from, controls_of}, declared.BankShape.BankShape, declared.pace.Pace.Pace}
 use Rattle.power_recovery.{specs.Kept.{KeptState, region_at, no_region as no_kept}, proofs.Bundle.{due_region-Some, due_region-is}}
-use Rattle.bank_model.specs.{Events.{Read, Cut}, History.{queue, due_after, has_exhausted}, Lawful.{Lawful, IsIdle}, Running.is_over, Sensing.most_steps, Timing.{TimedEvent, core}}
+use Rattle.bank_model.specs.{History.{queue, due_after, has_exhausted}, Lawful.{Lawful, IsIdle}, Running.is_over, Sensing.most_steps, Timing.{TimedEvent, core}}
 use Rattle.bank_laws.{specs.Laws.{IsSized, LeavesArray}, specs.Outcomes.table_of, specs.Resting.EndsIn, proofs.Settling.above_all, proofs.Waiting.may_all}
 use Rattle.ecp_line.specs.ArrayLines.{is_worn_at}
 use Rattle.right_runs.specs.{Ends.BankEnd, Queued.{QueueEntry, QueuedWrite, coming, entries_by, merging, queued_after, by_order, queued_writes}, WornLines.worn_among}
@@ -65,29 +65,11 @@ or-swap false b c = refl
 module _ {n : ℕ} where
   merged-unqueued : (o : Outcome n) → is_merged o ≡ true → is_queued o ≡ false
   merged-unqueued (out.Merged tick) is = refl
-  merged-unqueued out.Unset is = absurd (cc)
-  merged-unqueued (out.Stored tick place) is = absurd (cc)
-  merged-unqueued (out.Queued tick) is = absurd (cc)
-  merged-unqueued (out.Full tick) is = absurd (cc)
-  merged-unqueued (out.Worn tick) is = absurd (cc)
-  merged-unqueued (out.Read tick place bytes) is = absurd (cc)
-  merged-unqueued (out.Forwarded tick bytes) is = absurd (cc)
-  merged-unqueued (out.Busy tick) is = absurd (cc)
-  merged-unqueued (out.Lost tick) is = absurd (cc)
-  merged-unqueued (out.Cut tick) is = absurd (cc)
+  merged-unqueued _ is = absurd (cc)
 
   refused-unqueued : (o : Outcome n) → accepts o ≡ false → is_queued o ≡ false
-  refused-unqueued (out.Merged tick) is = refl
-  refused-unqueued out.Unset is = refl
-  refused-unqueued (out.Stored tick place) is = refl
   refused-unqueued (out.Queued tick) is = absurd (cc)
-  refused-unqueued (out.Full tick) is = refl
-  refused-unqueued (out.Worn tick) is = refl
-  refused-unqueued (out.Read tick place bytes) is = refl
-  refused-unqueued (out.Forwarded tick bytes) is = refl
-  refused-unqueued (out.Busy tick) is = refl
-  refused-unqueued (out.Lost tick) is = refl
-  refused-unqueued (out.Cut tick) is = refl
+  refused-unqueued _ is = refl
 
   abbrev waits_on : QueuedWrite n → Bool
   waits_on w = is_queued w.outcome

@@ -7,7 +7,7 @@ use Rattle.row_rules.specs.{Answers.is_stored, Rows.is_cut, Ticking.tries, decla
 use Rattle.bank_shape.specs.{Pausing.is_cancelling, declared.BankShape.BankShape, declared.pace.Pace.Pace, declared.pace.Policy.Policy}
 use Rattle.bank_shape.specs.declared.pace.Policy.TheVariants.{Pause, Plain, Cancel}
 use Rattle.bank_shape.specs.declared.answer.Step.TheVariants as did
-use Rattle.bank_model.specs.{After.target_after, Changes.{change_after, change_by}, Events.{BankEvent, Write, Read, Serve, Begin, Iterate, Cut}}
+use Rattle.bank_model.specs.{After.target_after, Changes.{change_after, change_by}, Events.{BankEvent, Begin, Iterate, Cut}}
 use Rattle.bank_model.specs.{History.{in_progress, goes_on, moved_in, stored_in}, Lawful.{Lawful, MayCome}, Running.{cancels_after, cancels_with}, Sensing.most_steps}
 use Rattle.bank_model.specs.{Timing.{Happens, Core, Regs, TimedEvent, core, core_of}, Works.{tally, works_on}}
 use Rattle.bank_laws.{specs.Outcomes.table_of, proofs.Targets.{WorkAfter, spares_work, working, target-same}, proofs.Waiting.may_all}
@@ -24,12 +24,10 @@ ended_tally shape at h = tally (λ h answer. not (goes_on answer) && target_afte
 
 works-parts : {n : ℕ} (shape : BankShape) (at : ℕ) (h : List (BankEvent n)) → works_on shape at h ≡ ended_tally shape at h + cut_tally shape at h
 works-parts shape at [] = refl
-works-parts shape at (Write row line bytes given answer ∷ h) = works-parts shape at h
-works-parts shape at (Read row line answer ∷ h) = works-parts shape at h
-works-parts shape at (Serve answer ∷ h) = works-parts shape at h
 works-parts shape at (Begin answer ∷ h) = omega (arith, works-parts shape at h)
 works-parts shape at (Iterate answer ∷ h) = omega (arith, works-parts shape at h)
 works-parts shape at (Cut tearing ∷ h) = omega (arith, works-parts shape at h)
+works-parts shape at (_ ∷ h) = works-parts shape at h
 
 -- the line writes that were broken off are at most four for each that was done or given up and each cut, the cuts, and those of the
 -- work at hand, which is one of the array line
@@ -102,19 +100,10 @@ module _ {n m : ℕ} (shape : BankShape) (pace : Pace) (e at : ℕ) where
       its own = eq-eqb (target_after shape (core xs)) at own.1
 
       by : (h : Happens n) (c : Bool) → x.cancels ≡ c → MayCome shape pace e xs x h → Broken xs → By h c
-      by (Core (Write row line bytes given answer)) c is may k = broken-passed _ _ _ _ _ _ k _ (goes shape at (Write row line bytes given answer) (core xs) refl)
-      by (Core (Read row line answer)) c is may k = broken-passed _ _ _ _ _ _ k _ (goes shape at (Read row line answer) (core xs) refl)
-      by (Core (Serve answer)) c is may k = broken-passed _ _ _ _ _ _ k _ (goes shape at (Serve answer) (core xs) refl)
       by (Core (Begin did.More)) c is may k = broken-kept _ _ _ _ _ _ k _ (goes shape at (Begin did.More) (core xs) refl)
-      by (Core (Begin (did.Stored row place))) c is may k = broken-ended _ _ _ _ _ _ k _ _ _ four its
-      by (Core (Begin (did.Moved step))) c is may k = broken-ended _ _ _ _ _ _ k _ _ _ four its
-      by (Core (Begin (did.Retired slot line))) c is may k = broken-ended _ _ _ _ _ _ k _ _ _ four its
-      by (Core (Begin did.Exhausted)) c is may k = broken-ended _ _ _ _ _ _ k _ _ _ four its
+      by (Core (Begin _)) c is may k = broken-ended _ _ _ _ _ _ k _ _ _ four its
       by (Core (Iterate did.More)) c is may k = broken-kept _ _ _ _ _ _ k _ (goes shape at (Iterate did.More) (core xs) refl)
-      by (Core (Iterate (did.Stored row place))) c is may k = broken-ended _ _ _ _ _ _ k _ _ _ four its
-      by (Core (Iterate (did.Moved step))) c is may k = broken-ended _ _ _ _ _ _ k _ _ _ four its
-      by (Core (Iterate (did.Retired slot line))) c is may k = broken-ended _ _ _ _ _ _ k _ _ _ four its
-      by (Core (Iterate did.Exhausted)) c is may k = broken-ended _ _ _ _ _ _ k _ _ _ four its
+      by (Core (Iterate _)) c is may k = broken-ended _ _ _ _ _ _ k _ _ _ four its
       by (Core (Cut tearing)) false is may k = broken-cut _ _ _ _ _ _ k (in_progress (core xs) && target_after shape (core xs) == at) _ four
       by (Core (Cut tearing)) true is may k =
           broken-cancelled _ _ _ _ _ _ k (in_progress (core xs) && target_after shape (core xs) == at) _ (may.on_time.3 is) (λ here. now (in_progress (core xs)) refl here)
@@ -123,6 +112,7 @@ module _ {n m : ℕ} (shape : BankShape) (pace : Pace) (e at : ℕ) where
           now : (busy : Bool) → in_progress (core xs) ≡ busy → (busy && target_after shape (core xs) == at) ≡ true → IsItsWork shape at (Cut tearing ∷ core xs)
           now true busy here = goes shape at (Cut tearing) (core xs) refl (working shape (most_steps e) (core xs) (may_all shape pace e xs l.1) busy, eqb-true (target_after shape (core xs)) at here)
           now false busy here = absurd (cc (here))
+      by (Core event) c is may k = broken-passed _ _ _ _ _ _ k _ (goes shape at event (core xs) refl)
       by (Regs event) c is may k = broken-stands _ _ _ _ _ _ k _ _ may.stands
 
   -- where reads don't cancel, the cuts that break off a line write of an array line are cuts of the power
@@ -132,16 +122,11 @@ module _ {n m : ℕ} (shape : BankShape) (pace : Pace) (e at : ℕ) where
     where
       by : (h : Happens n) (c : Bool) → x.cancels ≡ c → MayCome shape pace e xs x h → cut_tally shape at (core xs) ≤ cuts_in xs
           → cut_tally shape at (core_of h (core xs)) ≤ one_if (cuts_power h c) + cuts_in xs
-      by (Core (Write row line bytes given answer)) c is may few = omega (arith, few)
-      by (Core (Read row line answer)) c is may few = omega (arith, few)
-      by (Core (Serve answer)) c is may few = omega (arith, few)
-      by (Core (Begin answer)) c is may few = omega (arith, few)
-      by (Core (Iterate answer)) c is may few = omega (arith, few)
-      by (Regs event) c is may few = omega (arith, few)
       by (Core (Cut tearing)) true is may few =
           absurd (both_ways (is_cancelling pace.policy) plain
           (and_first (is_cancelling pace.policy) _ (may.on_time.2 is)))
       by (Core (Cut tearing)) false is may few = omega (arith, few, one-few (in_progress (core xs) && target_after shape (core xs) == at))
+      by _ c is may few = omega (arith, few)
 
 -- all line writes, as often as each may be begun, where one more would end if one is at hand
 pub by-policy : (policy : Policy) (works ended broken cuts held most : ℕ) → works ≡ ended + broken → ended + cuts ≤ most → (is_cancelling policy ≡ false → broken ≤ cuts)

@@ -7,7 +7,7 @@ use Rattle.bank_shape.specs.{Pausing.is_cancelling, Shape.{slots_of, control_lin
 use Rattle.bank_shape.specs.declared.Home.TheVariants as home
 use Rattle.bank_shape.specs.declared.answer.Step.TheVariants as did
 use Rattle.bank_model.specs.{After.work_after, Answers.MayAll, Changes.{item_if, change_after, keeping_after, rounds_after, halted_after, line_of_change}}
-use Rattle.bank_model.specs.Events.{BankEvent, Write, Read, Serve, Begin, Iterate, Cut, line_of_row}
+use Rattle.bank_model.specs.Events.{BankEvent, Begin, Iterate, line_of_row}
 use Rattle.bank_model.specs.{History.{first_or, stores, stored_in, moved_in, retired, has_exhausted, in_progress}, Lawful.Lawful, Running.{busy_by, busy_after, cancels_after}}
 use Rattle.bank_model.specs.{Sensing.{is_at, most_steps, pulses_of}, Timing.{TimedEvent, core}, Works.{written_on, rounds_on}}
 use Rattle.bank_laws.{specs.Laws.IsSized, specs.Outcomes.table_of, proofs.Waiting.may_all}
@@ -34,10 +34,6 @@ other-item where_ other item isnt =
 module _ {n : ℕ} (shape : BankShape) (item : ℕ) (exists : item < shape.regions) where
   changes-region : (most : ℕ) (h : List (BankEvent n)) → MayAll shape most h → changes_of shape item h ≤ stored_in shape.lines h item + moved_in shape.lines h item
   changes-region most [] may = omega arith
-  changes-region most (Write row line bytes given answer ∷ h) may = changes-region most h may.1
-  changes-region most (Read row line answer ∷ h) may = changes-region most h may.1
-  changes-region most (Serve answer ∷ h) may = changes-region most h may.1
-  changes-region most (Cut tearing ∷ h) may = changes-region most h may.1
   changes-region most (Begin did.More ∷ h) may = omega (arith, changes-region most h may.1)
   changes-region most (Begin (did.Stored row place) ∷ h) may = omega (arith, changes-region most h may.1, some-item shape.home (line_of_row row h / shape.lines) item)
   changes-region most (Begin (did.Moved step) ∷ h) may = omega (arith, changes-region most h may.1, some-item shape.home (first_or 0 (stores h) / shape.lines) item)
@@ -50,6 +46,7 @@ module _ {n : ℕ} (shape : BankShape) (item : ℕ) (exists : item < shape.regio
       omega (arith, changes-region most h may.1, other-item shape.home (shape.regions + length (retired h)) item (λ e. omega (arith, e, exists)))
   changes-region most (Iterate did.Exhausted ∷ h) may =
       omega (arith, changes-region most h may.1, other-item shape.home (shape.regions + shape.spares) item (λ e. omega (arith, e, exists)))
+  changes-region most (_ ∷ h) may = changes-region most h may.1
 
 -- that of a spare, and that of the mark
 module _ {n : ℕ} (shape : BankShape) (some : 1 ≤ shape.regions) (lines : 1 ≤ shape.lines) (item : ℕ) (beyond : shape.regions ≤ item) where
@@ -82,10 +79,6 @@ module _ {n : ℕ} (shape : BankShape) (some : 1 ≤ shape.regions) (lines : 1 �
 
   once-only : (most : ℕ) (h : List (BankEvent n)) → MayAll shape most h → Once h
   once-only most [] may = record { few = omega arith; gone = λ le. absurd (omega (arith, le)) }
-  once-only most (Write row line bytes given answer ∷ h) may = same-once _ h refl refl refl (once-only most h may.1)
-  once-only most (Read row line answer ∷ h) may = same-once _ h refl refl refl (once-only most h may.1)
-  once-only most (Serve answer ∷ h) may = same-once _ h refl refl refl (once-only most h may.1)
-  once-only most (Cut tearing ∷ h) may = same-once _ h refl refl refl (once-only most h may.1)
   once-only most (Begin did.More ∷ h) may = same-once _ h (omega arith) refl refl (once-only most h may.1)
   once-only most (Begin (did.Stored row place) ∷ h) may =
       same-once _ h (region-else h (line_of_row row h) (row_line-within shape some lines most h row may.1)) refl refl (once-only most h may.1)
@@ -132,6 +125,7 @@ module _ {n : ℕ} (shape : BankShape) (some : 1 ≤ shape.regions) (lines : 1 �
       at_most : (b : Bool) → one_if b ≤ 1
       at_most true = omega arith
       at_most false = omega arith
+  once-only most (_ ∷ h) may = same-once _ h refl refl refl (once-only most h may.1)
 
 module _ {n m : ℕ} (shape : BankShape) (pace : Pace) (e item : ℕ) (sized : IsSized shape pace) (xs : List (TimedEvent n m)) (l : Lawful shape pace e xs) where
   changes-few : changes_of shape item (core xs) ≤ most_changes shape (table_of shape xs) item

@@ -7,7 +7,7 @@ use Rattle.bank_shape.specs.{Shape.{slots_of, slot_at}, declared.BankShape.BankS
 use Rattle.bank_shape.specs.declared.answer.Step.{Step}
 use Rattle.bank_shape.specs.declared.answer.Step.TheVariants as did
 use Rattle.bank_model.specs.{After.{work_after, due_work, slot_of_work, array_line_after, target_after}, Answers.{IsDone, MayAll}}
-use Rattle.bank_model.specs.{Events.{BankEvent, Write, Read, Serve, Begin, Iterate, Cut}, History.{in_progress, retired, has_exhausted, moved_in, due_after, queue}}
+use Rattle.bank_model.specs.{Events.{BankEvent, Begin, Iterate, Cut}, History.{in_progress, retired, has_exhausted, moved_in, due_after, queue}}
 use Rattle.bank_model.specs.Works.{tally, works_on}
 use Rattle.place_laws.proofs.{Moves.{last_region, some-due}, Slots.{IsAway, away-more, begin-retires_none, begin-exhausts_none}, Working.done-move}
 use Rattle.bank_laws.proofs.Targets.{WorkAfter, working, unexhausted}
@@ -46,24 +46,16 @@ module _ {n : ℕ} (shape : BankShape) (at : ℕ) where
   -- each is one of these
   pub works-split : (most : ℕ) (h : List (BankEvent n)) → MayAll shape most h → works_on shape at h ≡ stored_tally any at h + moved_tally h + gave_tally h + cut_tally h
   works-split most [] may = refl
-  works-split most (Write row line bytes given answer ∷ h) may = works-split most h may.1
-  works-split most (Read row line answer ∷ h) may = works-split most h may.1
-  works-split most (Serve answer ∷ h) may = works-split most h may.1
-  works-split most (Begin did.More ∷ h) may = omega (arith, works-split most h may.1)
   works-split most (Begin (did.Stored row place) ∷ h) may =
       let same : one_if (place == at) ≡ one_if (target_after shape h == at) = ap (λ x. one_if (x == at)) (done-place h (work_after shape h) row place may.0.1) in
       omega (arith, same, works-split most h may.1)
-  works-split most (Begin (did.Moved step) ∷ h) may = omega (arith, works-split most h may.1)
-  works-split most (Begin (did.Retired slot line) ∷ h) may = omega (arith, works-split most h may.1)
-  works-split most (Begin did.Exhausted ∷ h) may = omega (arith, works-split most h may.1)
-  works-split most (Iterate did.More ∷ h) may = omega (arith, works-split most h may.1)
+  works-split most (Begin _ ∷ h) may = omega (arith, works-split most h may.1)
   works-split most (Iterate (did.Stored row place) ∷ h) may =
       let same : one_if (place == at) ≡ one_if (target_after shape h == at) = ap (λ x. one_if (x == at)) (done-place h (work_after shape h) row place may.0.1) in
       omega (arith, same, works-split most h may.1)
-  works-split most (Iterate (did.Moved step) ∷ h) may = omega (arith, works-split most h may.1)
-  works-split most (Iterate (did.Retired slot line) ∷ h) may = omega (arith, works-split most h may.1)
-  works-split most (Iterate did.Exhausted ∷ h) may = omega (arith, works-split most h may.1)
+  works-split most (Iterate _ ∷ h) may = omega (arith, works-split most h may.1)
   works-split most (Cut tearing ∷ h) may = omega (arith, works-split most h may.1)
+  works-split most (_ ∷ h) may = works-split most h may.1
 
 module _ (shape : BankShape) (slot : ℕ) where
   -- the test of moves into the slot
@@ -111,24 +103,16 @@ module _ {n : ℕ} (shape : BankShape) (slot : ℕ) (exists : slot < slots_of sh
 
   pub moves-into : (most : ℕ) (h : List (BankEvent n)) → MayAll shape most h → moved_tally shape (shape.base + slot) h ≤ passing (into shape slot) (moved_in shape.lines h (region shape slot))
   moves-into most [] may = omega arith
-  moves-into most (Write row line bytes given answer ∷ h) may = moves-into most h may.1
-  moves-into most (Read row line answer ∷ h) may = moves-into most h may.1
-  moves-into most (Serve answer ∷ h) may = moves-into most h may.1
   moves-into most (Cut tearing ∷ h) may = omega (arith, moves-into most h may.1)
-  moves-into most (Begin did.More ∷ h) may = omega (arith, moves-into most h may.1)
-  moves-into most (Begin (did.Stored row place) ∷ h) may = omega (arith, moves-into most h may.1)
-  moves-into most (Begin (did.Retired at line) ∷ h) may = omega (arith, moves-into most h may.1)
-  moves-into most (Begin did.Exhausted ∷ h) may = omega (arith, moves-into most h may.1)
-  moves-into most (Iterate did.More ∷ h) may = omega (arith, moves-into most h may.1)
-  moves-into most (Iterate (did.Stored row place) ∷ h) may = omega (arith, moves-into most h may.1)
-  moves-into most (Iterate (did.Retired at line) ∷ h) may = omega (arith, moves-into most h may.1)
-  moves-into most (Iterate did.Exhausted ∷ h) may = omega (arith, moves-into most h may.1)
   moves-into most (Begin (did.Moved step) ∷ h) may =
       move-step shape slot (target_after shape h == shape.base + slot) (last_region shape h == region shape slot) (moved_in shape.lines h (region shape slot)) (moved_tally shape (shape.base + slot) h)
       (λ is. let m = moved-target h step may.0.1 (eqb-true _ _ is) in (eq-eqb (last_region shape h) (region shape slot) m.0, m.1)) (moves-into most h may.1)
+  moves-into most (Begin _ ∷ h) may = omega (arith, moves-into most h may.1)
   moves-into most (Iterate (did.Moved step) ∷ h) may =
       move-step shape slot (target_after shape h == shape.base + slot) (last_region shape h == region shape slot) (moved_in shape.lines h (region shape slot)) (moved_tally shape (shape.base + slot) h)
       (λ is. let m = moved-target h step may.0.1 (eqb-true _ _ is) in (eq-eqb (last_region shape h) (region shape slot) m.0, m.1)) (moves-into most h may.1)
+  moves-into most (Iterate _ ∷ h) may = omega (arith, moves-into most h may.1)
+  moves-into most (_ ∷ h) may = moves-into most h may.1
 
   -- the slot has lost its own line, or the bank is exhausted
   abbrev pub IsOver : List (BankEvent n) → Type 0
@@ -170,20 +154,14 @@ module _ {n : ℕ} (shape : BankShape) (slot : ℕ) (exists : slot < slots_of sh
 
   pub gives-once : (most : ℕ) (h : List (BankEvent n)) → MayAll shape most h → GivesOnce h
   gives-once most [] may = record { few = omega arith; over = λ le. absurd (omega (arith, le)) }
-  gives-once most (Write row line bytes given answer ∷ h) may = keeps-over _ h refl (λ ex. ex) (gives-once most h may.1)
-  gives-once most (Read row line answer ∷ h) may = keeps-over _ h refl (λ ex. ex) (gives-once most h may.1)
-  gives-once most (Serve answer ∷ h) may = keeps-over _ h refl (λ ex. ex) (gives-once most h may.1)
   gives-once most (Cut tearing ∷ h) may = keeps-over _ h (omega arith) (λ ex. ex) (gives-once most h may.1)
-  gives-once most (Begin did.More ∷ h) may = keeps-over _ h (omega arith) (λ ex. ex) (gives-once most h may.1)
-  gives-once most (Begin (did.Stored row place) ∷ h) may = keeps-over _ h (omega arith) (λ ex. ex) (gives-once most h may.1)
-  gives-once most (Begin (did.Moved step) ∷ h) may = keeps-over _ h (omega arith) (λ ex. ex) (gives-once most h may.1)
   gives-once most (Begin (did.Retired at line) ∷ h) may = absurd (begin-retires_none shape h (work_after shape h) at line may.0.1)
   gives-once most (Begin did.Exhausted ∷ h) may = absurd (begin-exhausts_none shape h (work_after shape h) may.0.1)
-  gives-once most (Iterate did.More ∷ h) may = keeps-over _ h (omega arith) (λ ex. ex) (gives-once most h may.1)
-  gives-once most (Iterate (did.Stored row place) ∷ h) may = keeps-over _ h (omega arith) (λ ex. ex) (gives-once most h may.1)
-  gives-once most (Iterate (did.Moved step) ∷ h) may = keeps-over _ h (omega arith) (λ ex. ex) (gives-once most h may.1)
+  gives-once most (Begin _ ∷ h) may = keeps-over _ h (omega arith) (λ ex. ex) (gives-once most h may.1)
   gives-once most (Iterate (did.Retired at line) ∷ h) may =
       gives most (Iterate (did.Retired at line)) h (target_after shape h == shape.base + slot) refl may.1 may.0.0 refl (λ ex. ex)
       (λ is. inl (away-now h at (may.0.1.0 ∙ own-slot h (slot_of_work shape h (work_after shape h)) (eqb-true _ _ is)))) (gives-once most h may.1)
   gives-once most (Iterate did.Exhausted ∷ h) may =
       gives most (Iterate did.Exhausted) h (target_after shape h == shape.base + slot) refl may.1 may.0.0 refl (λ ex. refl) (λ is. inr refl) (gives-once most h may.1)
+  gives-once most (Iterate _ ∷ h) may = keeps-over _ h (omega arith) (λ ex. ex) (gives-once most h may.1)
+  gives-once most (_ ∷ h) may = keeps-over _ h refl (λ ex. ex) (gives-once most h may.1)

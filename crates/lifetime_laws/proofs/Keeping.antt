@@ -8,7 +8,7 @@ use Rattle.bank_shape.specs.{declared.clock.Doing.TheVariants.Iterating, declare
 use Rattle.bank_shape.specs.declared.answer.Keep.TheVariants as keep
 use Rattle.bank_model.specs.After.{work_after, slot_of_work, target_after}
 use Rattle.bank_model.specs.Changes.{change_after, change_by, changed_by, keeping_after, keeping_by, rounds_after, rounds_by, halted_after, halted_by, line_of_change}
-use Rattle.bank_model.specs.{Events.{BankEvent, Write, Read, Serve, Begin, Iterate, Cut}, History.retired, Lawful.{Lawful, MayCome}}
+use Rattle.bank_model.specs.{Events.{BankEvent, Begin, Iterate, Cut}, History.retired, Lawful.{Lawful, MayCome}}
 use Rattle.bank_model.specs.{Running.{running_at, cancels_after, cancels_with}, Sensing.{is_at, most_steps, pulses_of, pulsed_by, torn_control, kept_pulsed}}
 use Rattle.bank_model.specs.{Timing.{Happens, Core, Regs, KeepBegin, KeepIterate, KeepCut, TimedEvent, is_doing, core, core_of}, Works.{ends_keeping, is_written, written_on}}
 use Rattle.bank_laws.{specs.Laws.IsSized, proofs.Changing.halted-stops, proofs.Settling.above_all, proofs.Waiting.may_all}
@@ -427,9 +427,6 @@ module _ {n m : ℕ} (shape : BankShape) (pace : Pace) (e item : ℕ) (sized : I
           (kept-begun _ _ _ _ _ _ _ _ _ _ k (pulses_of (x ∷ xs) at) count (is_item item (changed_by shape (core xs) answer None)) le (none-item item (change_after shape xs) none))
 
       by : (h : Happens n) (c : Bool) → x.cancels ≡ c → MayCome shape pace e xs x h → Kept shape pace e item xs → By h c
-      by (Core (Write row line bytes given answer)) c is may k = kept-passed _ _ _ _ _ _ _ _ _ _ k (pulses_of (x ∷ xs) at) (quiet may.pulsed)
-      by (Core (Read row line answer)) c is may k = kept-passed _ _ _ _ _ _ _ _ _ _ k (pulses_of (x ∷ xs) at) (quiet may.pulsed)
-      by (Core (Serve answer)) c is may k = kept-passed _ _ _ _ _ _ _ _ _ _ k (pulses_of (x ∷ xs) at) (quiet may.pulsed)
       by (Core (Begin answer)) c is may k = brings answer _ (quiet may.pulsed) may.on_time.2 k
       by (Core (Iterate answer)) c is may k = brings answer _ (elsewhere may.pulsed) may.on_time.2 k
       by (Core (Cut tearing)) false is may k =
@@ -458,6 +455,7 @@ module _ {n m : ℕ} (shape : BankShape) (pace : Pace) (e item : ℕ) (sized : I
                   (running_at shape pace xs x.tick)
                   (target-low xs l.1) may.on_time.4 torn)))
               unpulsed false torn = omega (arith, pulsed-more x xs at _ may.pulsed, ap one_if torn)
+      by (Core _) c is may k = kept-passed _ _ _ _ _ _ _ _ _ _ k (pulses_of (x ∷ xs) at) (quiet may.pulsed)
       by (Regs (KeepBegin keep.More)) c is may k = kept-writes _ _ _ _ _ _ _ _ _ _ k (pulses_of (x ∷ xs) at) (quiet may.pulsed) may.may.0 (omega arith)
       by (Regs (KeepBegin keep.Done)) c is may k =
           kept-done _ _ _ _ _ _ _ _ _ _ k (pulses_of (x ∷ xs) at) 0 (is_item item (change_after shape xs)) refl
@@ -552,9 +550,6 @@ module _ {n m : ℕ} (shape : BankShape) (pace : Pace) (e item : ℕ) (sized : I
           (kept-begun _ _ _ _ _ _ _ _ _ _ k (0 + p) count (is_item item (changed_by shape (core xs) answer None)) same (none-item item (change_after shape xs) none))
 
       by : (h : Happens n) (c : Bool) → x.cancels ≡ c → MayCome shape pace e xs x h → Written shape pace e item xs → By h c
-      by (Core (Write row line bytes given answer)) c is may k = kept-passed _ _ _ _ _ _ _ _ _ _ k (0 + p) same
-      by (Core (Read row line answer)) c is may k = kept-passed _ _ _ _ _ _ _ _ _ _ k (0 + p) same
-      by (Core (Serve answer)) c is may k = kept-passed _ _ _ _ _ _ _ _ _ _ k (0 + p) same
       by (Core (Begin answer)) c is may k = brings answer _ may.on_time.2 k
       by (Core (Iterate answer)) c is may k = brings answer _ may.on_time.2 k
       by (Core (Cut tearing)) false is may k =
@@ -564,6 +559,7 @@ module _ {n m : ℕ} (shape : BankShape) (pace : Pace) (e item : ℕ) (sized : I
           let off : here ≡ false = none-item item (change_after shape xs) none in
           kept-still _ _ _ _ _ _ _ _ _ _ k (one_if (keeping_after xs && on) + p)
           (omega (arith, breaks, ap (λ b. one_if (b && keeping_after xs)) off)) off
+      by (Core _) c is may k = kept-passed _ _ _ _ _ _ _ _ _ _ k (0 + p) same
       by (Regs (KeepBegin keep.More)) c is may k = kept-writes _ _ _ _ _ _ _ _ _ _ k (0 + p) same may.may.0 (omega arith)
       by (Regs (KeepBegin keep.Done)) c is may k =
           kept-done _ _ _ _ _ _ _ _ _ _ k (one_if on + p) 0 here refl

@@ -120,22 +120,15 @@ module _ {n m : ℕ} (shape : BankShape) (pace : Pace) (e : ℕ) (keep : ℕ →
           same (Core (Read at line came.Busy)) (λ row. other_kept on at row (out.Busy x.tick) (outcome_of shape zs) refl (o.coming at may.asked)) ih
       by (Core (Read at line (came.Forwarded bytes))) may o ih =
           same (Core (Read at line (came.Forwarded bytes))) (λ row. other_kept on at row (out.Forwarded x.tick bytes) (outcome_of shape zs) refl (o.coming at may.asked)) ih
-      by (Regs event) may o ih = ih
       by (Core (Serve answer)) may o ih =
           same (Core (Serve answer)) (λ row. other_kept on answer.row row (out.Read x.tick answer.place answer.bytes) (outcome_of shape zs) refl
           (o.waiting answer.row (first-there (waits shape (core zs)) answer.row (served-first shape (core zs) (waits shape (core zs)) answer may.may)))) ih
       by (Core (Begin (did.Stored at place))) may o ih = store-landed zs x.tick at place l.1 (done-store shape (core zs) at place may.may.1) ih
-      by (Core (Begin did.More)) may o ih = none_more _ _ ih
-      by (Core (Begin (did.Moved step))) may o ih = none_more _ _ ih
-      by (Core (Begin (did.Retired slot line))) may o ih = none_more _ _ ih
-      by (Core (Begin did.Exhausted)) may o ih = none_more _ _ ih
       by (Core (Iterate (did.Stored at place))) may o ih = store-landed zs x.tick at place l.1 (done-store shape (core zs) at place may.may.1) ih
-      by (Core (Iterate did.More)) may o ih = none_more _ _ ih
-      by (Core (Iterate (did.Moved step))) may o ih = none_more _ _ ih
-      by (Core (Iterate (did.Retired slot line))) may o ih = none_more _ _ ih
-      by (Core (Iterate did.Exhausted)) may o ih = none_more _ _ ih
       by (Core (Cut tearing)) may o ih =
           none_more _ _ (same (Core (Cut tearing)) (λ row. lost_kept on (has_wait (waits shape (core zs)) row) x.tick (outcome_of shape zs row) (o.waiting row)) ih)
+      by (Core _) may o ih = none_more _ _ ih
+      by (Regs event) may o ih = ih
 
 pub stores-landed : {n m : ℕ} (shape : BankShape) (pace : Pace) (e on : ℕ) (xs : List (TimedEvent n m)) → Lawful shape pace e xs → stores_at on (table_of shape xs) ≡ stored_tally any on (core xs)
 stores-landed shape pace e on xs l =

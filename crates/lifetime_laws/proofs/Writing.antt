@@ -2,7 +2,7 @@
 use Rattle.std.proofs.Common.{◌≡◌, ℕ, ◌+◌, ◌*◌, ◌<◌, ◌≤◌, ◌==◌, ◌&&◌, not, Bool, true, false, List, [], ◌∷◌, Option, None, refl, ap, subst, arith, cond}
 use Rattle.cell_rows.specs.Device.{counted}
 use Rattle.bank_shape.specs.{Shape.controls_from, declared.BankShape.BankShape, declared.pace.Pace.Pace}
-use Rattle.bank_model.specs.{After.target_after, Changes.change_after, Events.{BankEvent, Write, Read, Serve, Begin, Iterate, Cut}, History.{goes_on, in_progress, iterated}}
+use Rattle.bank_model.specs.{After.target_after, Changes.change_after, Events.{BankEvent, Begin, Iterate, Cut}, History.{goes_on, in_progress, iterated}}
 use Rattle.bank_model.specs.{Lawful.{Lawful, MayCome}, Running.running_at, Sensing.{is_at, most_steps, pulses_of, pulsed_by, torn_control}}
 use Rattle.bank_model.specs.{Timing.{Happens, Core, Regs, TimedEvent, core, core_of}, Works.{works_on, held_on}}
 use Rattle.bank_laws.proofs.{Targets.{WorkAfter, spares_work, working, target-same}, Waiting.may_all}
@@ -65,13 +65,10 @@ module _ {n m : ℕ} (shape : BankShape) (pace : Pace) (e at : ℕ) (low : at < 
   room (x ∷ xs) l = by x.happens l.0 (room xs l.1)
     where
       by : (h : Happens n) → MayCome shape pace e xs x h → Room (most_steps e) (core xs) → Room (most_steps e) (core_of h (core xs))
-      by (Core (Write row line bytes given answer)) may r = r
-      by (Core (Read row line answer)) may r = r
-      by (Core (Serve answer)) may r = r
       by (Core (Begin answer)) may r = λ is. omega arith
       by (Core (Iterate answer)) may r = λ is. omega (arith, may.may.3 (more-goes_on answer is))
       by (Core (Cut tearing)) may r = λ is. absurd (cc (is))
-      by (Regs event) may r = r
+      by _ may r = r
 
   pub pulses-few : (xs : List (TimedEvent n m)) → Lawful shape pace e xs → Few xs
   pulses-few [] l = omega arith
@@ -96,9 +93,6 @@ module _ {n m : ℕ} (shape : BankShape) (pace : Pace) (e at : ℕ) (low : at < 
           )
 
       by : (h : Happens n) → MayCome shape pace e xs x h → Few xs → pulses_of (x ∷ xs) at ≤ w * works_on shape at (core_of h (core xs)) + held_on shape at (core_of h (core xs))
-      by (Core (Write row line bytes given answer)) may few = quiet (Write row line bytes given answer) refl may.pulsed refl refl refl few
-      by (Core (Read row line answer)) may few = quiet (Read row line answer) refl may.pulsed refl refl refl few
-      by (Core (Serve answer)) may few = quiet (Serve answer) refl may.pulsed refl refl refl few
       by (Core (Begin answer)) may few =
           let idle : in_progress (core xs) ≡ false = begins-idle shape (core xs) may.may.0 in
           let step : pulses_of (x ∷ xs) at ≤ w * (one_if (not (goes_on answer) && (target_after shape (core xs) == at)) + works) + cond (goes_on answer && (target_after shape (core xs) == at)) 0 0 =
@@ -134,6 +128,7 @@ module _ {n m : ℕ} (shape : BankShape) (pace : Pace) (e at : ℕ) (low : at < 
                 ap one_if (torn-elsewhere shape at low (change_after shape xs)
                     (running_at shape pace xs x.tick)),
               )
+      by (Core event) may few = quiet event refl may.pulsed refl refl refl few
       by (Regs event) may few =
           omega (
             arith,

@@ -4,7 +4,7 @@ use Rattle.std.{specs.Prelude.{IsTrue, nat_le}, proofs.lemmas.Bool.{le-leb, and_
 use Rattle.row_rules.specs.declared.Rules.{Rules}
 use Rattle.bank_shape.specs.{Pausing.is_cancelling, declared.BankShape.BankShape, declared.pace.Pace.Pace}
 use Rattle.bank_shape.specs.declared.answer.ReadAnswer.TheVariants as came
-use Rattle.bank_model.specs.{Events.{BankEvent, Write, Read, Serve, Begin, Iterate, Cut}, Lawful.{Lawful, MayCome, IsRead}, Timing.{Happens, Core, Regs, TimedEvent}}
+use Rattle.bank_model.specs.{Events.{BankEvent, Read, Cut}, Lawful.{Lawful, MayCome, IsRead}, Timing.{Happens, Core, Regs, TimedEvent}}
 use Rattle.right_runs.specs.Logs.{is_broken}
 use Rattle.bank_laws.{specs.Outcomes.{row_with, rows_from}, proofs.Settling.lawful_before}
 
@@ -14,13 +14,7 @@ between from at to le lt = and_from (nat_le from at) _ (le-leb from at le) (le-l
 -- a read that begins to wait, behind a cancel
 is_read-same : {n : ℕ} (h : BankEvent n) (tick at : ℕ) → IsRead tick at h → (at ≡ tick) × IsRead at at h
 is_read-same (Read row line came.Waiting) tick at is = (is, refl)
-is_read-same (Read row line came.Busy) tick at is = absurd is
-is_read-same (Read row line (came.Forwarded bytes)) tick at is = absurd is
-is_read-same (Write row line bytes given answer) tick at is = absurd is
-is_read-same (Serve answer) tick at is = absurd is
-is_read-same (Begin answer) tick at is = absurd is
-is_read-same (Iterate answer) tick at is = absurd is
-is_read-same (Cut tearing) tick at is = absurd is
+is_read-same _ tick at is = absurd is
 
 module _ {n m : ℕ} (shape : BankShape) (rules : Rules) where
   -- what an event's row breaks, the table has
@@ -45,13 +39,7 @@ module _ {n m : ℕ} (shape : BankShape) (rules : Rules) where
       → is_broken rules (row_with shape all (Core h) tick cancels) from to ≡ true
   read_breaks all (Read row line came.Waiting) tick from to cancels policy is le lt =
       or_left _ false (and_from (is_cancelling rules.policy && true) _ (and_from (is_cancelling rules.policy) true policy refl) (between from tick to le lt))
-  read_breaks all (Read row line came.Busy) tick from to cancels policy is le lt = absurd is
-  read_breaks all (Read row line (came.Forwarded bytes)) tick from to cancels policy is le lt = absurd is
-  read_breaks all (Write row line bytes given answer) tick from to cancels policy is le lt = absurd is
-  read_breaks all (Serve answer) tick from to cancels policy is le lt = absurd is
-  read_breaks all (Begin answer) tick from to cancels policy is le lt = absurd is
-  read_breaks all (Iterate answer) tick from to cancels policy is le lt = absurd is
-  read_breaks all (Cut tearing) tick from to cancels policy is le lt = absurd is
+  read_breaks all _ tick from to cancels policy is le lt = absurd is
 
   split-end : (pre : List (TimedEvent n m)) (z x : TimedEvent n m) (xs : List (TimedEvent n m)) → (pre ++ z ∷ x ∷ xs) ≡ (pre ++ z ∷ []) ++ x ∷ xs
   split-end [] z x xs = refl

@@ -4,8 +4,8 @@ use Rattle.std.{specs.List.{list_any, list_all}, specs.Prelude.{All, map, nat_le
 use Rattle.std.proofs.{lemmas.List.Elements.{All-head, All-tail}, lemmas.List.Folds.list_any-append}
 use Rattle.cell_rows.specs.declared.array.Sense.{Sense}
 use Rattle.bank_shape.specs.{Shape.lines_in, declared.BankShape.BankShape, declared.pace.Pace.Pace}
-use Rattle.bank_model.specs.{Adding.senses_of, Changes.all_controls, Events.{Write, Read, Serve, Begin, Iterate, Cut}, Lawful.{Lawful, MayCome}, Sensing.{pulses_of, read_again}}
-use Rattle.bank_model.specs.Timing.{Happens, Core, Regs, TimedEvent}
+use Rattle.bank_model.specs.{Adding.senses_of, Changes.all_controls, Events.{Write, Read, Cut}, Lawful.{Lawful, MayCome}, Sensing.{pulses_of, read_again}}
+use Rattle.bank_model.specs.Timing.{Happens, Core, TimedEvent}
 use Rattle.bank_laws.{specs.Laws.log_of, specs.Outcomes.{row_with, rows_from}, proofs.Serves.may_at, proofs.Walking.{Passes, walk, rows_after}}
 use Rattle.right_runs.specs.Logs.{has_controls}
 use Rattle.log_laws.{specs.Laws.ControlsLaw, proofs.Owning.among, proofs.Sensed.any-filter}
@@ -50,11 +50,6 @@ module _ {n m : ℕ} (shape : BankShape) (pace : Pace) (e : ℕ) (all : List (Ti
           → Passes (has_controls shape log) (rows_from shape all ys) (row_with shape all h x.tick cancels) (rows_after shape all later)
       by (Core (Write row line bytes given answer)) cancels is may = refl
       by (Core (Read row line answer)) cancels is may = refl
-      by (Core (Serve answer)) cancels is may = tt
-      by (Core (Begin answer)) cancels is may = tt
-      by (Core (Iterate answer)) cancels is may = tt
-      by (Regs event) cancels is may = tt
-      by (Core (Cut tearing)) true is may = tt
       by (Core (Cut tearing)) false is may =
           all-among (λ line. list_any (at_tick line x.tick) log) (all_controls shape) (λ line there.
           in-log (at_tick line x.tick)
@@ -62,6 +57,7 @@ module _ {n m : ℕ} (shape : BankShape) (pace : Pace) (e : ℕ) (all : List (Ti
           (any-later (at_tick line x.tick) later x ys
           (sensed-there line x.tick (λ l. pulses_of (x ∷ ys) l) x.senses may.senses
           (ap (among line) (may.lines ∙ ap (read_again shape) is) ∙ there)))))
+      by _ _ is may = tt
 
 pub controls_law : ControlsLaw
 controls_law n m e shape pace xs log extra l shown = walk shape xs (has_controls shape log) [] xs refl (λ later x ys same. controls_at shape pace e xs log extra l shown later x ys same)

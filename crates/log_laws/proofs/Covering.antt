@@ -4,7 +4,7 @@ use Rattle.masked_bytes.{specs.Entries.{newest_row, has_row}, specs.Masked.{join
 use Rattle.bank_shape.specs.declared.BankShape.{BankShape}
 use Rattle.bank_shape.specs.declared.answer.WriteAnswer.TheVariants as wrote
 use Rattle.bank_shape.specs.declared.answer.Step.TheVariants as did
-use Rattle.bank_model.specs.{Answers.{MayAll, head_busy_after}, Events.{BankEvent, Write, Read, Serve, Begin, Iterate, Cut, RowsBelow, line_of_row, newest}}
+use Rattle.bank_model.specs.{Answers.{MayAll, head_busy_after}, Events.{BankEvent, Write, Read, Begin, Iterate, RowsBelow, line_of_row, newest}}
 use Rattle.bank_model.specs.History.{queue, due_after}
 use Rattle.bank_laws.proofs.{Answering.{IsHead, head-there, stored-head}, Entries.either, Lines.merged-candidate, Pairs.keeps_pairs, Standing.stand_apart}
 use Rattle.log_laws.proofs.Fitting.{out_with, out_with-not, Grows, Fits, fits-push, fits-push_other, fits-merged, fits-merged_other, fits-begun, fits-drop}
@@ -57,20 +57,11 @@ module _ {n : ℕ} (shape : BankShape) where
   out-fresh most [] bound line r m below le = refl
   out-fresh most (Write row at bytes given answer ∷ h) bound line r m below le = let lt : row < bound = below.0 in out-fresh most h row line r m.1 below.1 (omega arith)
   out-fresh most (Read row at answer ∷ h) bound line r m below le = let lt : row < bound = below.0 in out-fresh most h row line r m.1 below.1 (omega arith)
-  out-fresh most (Serve answer ∷ h) bound line r m below le = out-fresh most h bound line r m.1 below le
   out-fresh most (Begin (did.Stored row place) ∷ h) bound line r m below le =
       out_with-not (line_of_row row h == line) (out_in line h) row r (out-fresh most h bound line r m.1 below le) (head-not h bound row r below (stored-head shape h row place m.0.1) le)
-  out-fresh most (Begin did.More ∷ h) bound line r m below le = out-fresh most h bound line r m.1 below le
-  out-fresh most (Begin (did.Moved step) ∷ h) bound line r m below le = out-fresh most h bound line r m.1 below le
-  out-fresh most (Begin (did.Retired slot to) ∷ h) bound line r m below le = out-fresh most h bound line r m.1 below le
-  out-fresh most (Begin did.Exhausted ∷ h) bound line r m below le = out-fresh most h bound line r m.1 below le
   out-fresh most (Iterate (did.Stored row place) ∷ h) bound line r m below le =
       out_with-not (line_of_row row h == line) (out_in line h) row r (out-fresh most h bound line r m.1 below le) (head-not h bound row r below (stored-head shape h row place m.0.1) le)
-  out-fresh most (Iterate did.More ∷ h) bound line r m below le = out-fresh most h bound line r m.1 below le
-  out-fresh most (Iterate (did.Moved step) ∷ h) bound line r m below le = out-fresh most h bound line r m.1 below le
-  out-fresh most (Iterate (did.Retired slot to) ∷ h) bound line r m below le = out-fresh most h bound line r m.1 below le
-  out-fresh most (Iterate did.Exhausted ∷ h) bound line r m below le = out-fresh most h bound line r m.1 below le
-  out-fresh most (Cut tearing ∷ h) bound line r m below le = out-fresh most h bound line r m.1 below le
+  out-fresh most (_ ∷ h) bound line r m below le = out-fresh most h bound line r m.1 below le
 
   -- the entries have the lines of their rows, and give what the writes give
   pub record FitsAfter (h : List (BankEvent n)) : Type 0 where
@@ -115,14 +106,10 @@ module _ {n : ℕ} (shape : BankShape) where
             fits-merged_other (λ out. uncovered_by n (at == line) (out row) given (uncovered out line h)) (out_in line h) at line old row bytes given (queue shape h) stand.queued_apart newest_is other
             (subst (λ b. Fits (λ out. uncovered_by n b (out row) given (uncovered out line h)) (out_in line h) line (queue shape h)) (sym other) (k.fits line)));
       }
-  fits-after most (Write row at bytes given wrote.Full ∷ h) bound m below =
-      let k = fits-after most h row m.1 below.1 in
-      record { named = named-too (λ r. line_of_row r h) row at (queue shape h) ((stand_apart shape h row below.1).queued_below row (omega arith)) k.named; fits = k.fits }
-  fits-after most (Write row at bytes given wrote.Exhausted ∷ h) bound m below =
+  fits-after most (Write row at bytes given _ ∷ h) bound m below =
       let k = fits-after most h row m.1 below.1 in
       record { named = named-too (λ r. line_of_row r h) row at (queue shape h) ((stand_apart shape h row below.1).queued_below row (omega arith)) k.named; fits = k.fits }
   fits-after most (Read row at answer ∷ h) bound m below = let k = fits-after most h row m.1 below.1 in record { named = k.named; fits = k.fits }
-  fits-after most (Serve answer ∷ h) bound m below = let k = fits-after most h bound m.1 below in record { named = k.named; fits = k.fits }
   fits-after most (Begin (did.Stored row place) ∷ h) bound m below =
       let k = fits-after most h bound m.1 below in
       let head : IsHead (queue shape h) row = stored-head shape h row place m.0.1 in
@@ -130,25 +117,7 @@ module _ {n : ℕ} (shape : BankShape) where
         named = named-drop (λ r. line_of_row r h) (queue shape h) k.named;
         fits = λ line. fits-store (λ r. line_of_row r h) (λ out. uncovered out line h) (out_in line h) line row (queue shape h) head k.named (k.fits line);
       }
-  fits-after most (Begin did.More ∷ h) bound m below =
-      let k = fits-after most h bound m.1 below in
-      record {
-        named = named-begun (λ r. line_of_row r h) (due_after shape h) (newest h) (queue shape h) k.named;
-        fits = λ line. fits-begun (λ out. uncovered out line h) (out_in line h) line (due_after shape h) (newest h) (queue shape h) (keeps_pairs shape most h m.1).long (k.fits line);
-      }
-  fits-after most (Begin (did.Moved step) ∷ h) bound m below =
-      let k = fits-after most h bound m.1 below in
-      record {
-        named = named-begun (λ r. line_of_row r h) (due_after shape h) (newest h) (queue shape h) k.named;
-        fits = λ line. fits-begun (λ out. uncovered out line h) (out_in line h) line (due_after shape h) (newest h) (queue shape h) (keeps_pairs shape most h m.1).long (k.fits line);
-      }
-  fits-after most (Begin (did.Retired slot to) ∷ h) bound m below =
-      let k = fits-after most h bound m.1 below in
-      record {
-        named = named-begun (λ r. line_of_row r h) (due_after shape h) (newest h) (queue shape h) k.named;
-        fits = λ line. fits-begun (λ out. uncovered out line h) (out_in line h) line (due_after shape h) (newest h) (queue shape h) (keeps_pairs shape most h m.1).long (k.fits line);
-      }
-  fits-after most (Begin did.Exhausted ∷ h) bound m below =
+  fits-after most (Begin _ ∷ h) bound m below =
       let k = fits-after most h bound m.1 below in
       record {
         named = named-begun (λ r. line_of_row r h) (due_after shape h) (newest h) (queue shape h) k.named;
@@ -161,8 +130,4 @@ module _ {n : ℕ} (shape : BankShape) where
         named = named-drop (λ r. line_of_row r h) (queue shape h) k.named;
         fits = λ line. fits-store (λ r. line_of_row r h) (λ out. uncovered out line h) (out_in line h) line row (queue shape h) head k.named (k.fits line);
       }
-  fits-after most (Iterate did.More ∷ h) bound m below = let k = fits-after most h bound m.1 below in record { named = k.named; fits = k.fits }
-  fits-after most (Iterate (did.Moved step) ∷ h) bound m below = let k = fits-after most h bound m.1 below in record { named = k.named; fits = k.fits }
-  fits-after most (Iterate (did.Retired slot to) ∷ h) bound m below = let k = fits-after most h bound m.1 below in record { named = k.named; fits = k.fits }
-  fits-after most (Iterate did.Exhausted ∷ h) bound m below = let k = fits-after most h bound m.1 below in record { named = k.named; fits = k.fits }
-  fits-after most (Cut tearing ∷ h) bound m below = let k = fits-after most h bound m.1 below in record { named = k.named; fits = k.fits }
+  fits-after most (_ ∷ h) bound m below = let k = fits-after most h bound m.1 below in record { named = k.named; fits = k.fits }

@@ -20,11 +20,8 @@ none-begins : (way reads : Bool) (c : Choice) → chosen_by way reads c ≡ None
 none-begins way reads c is = by (way && reads) c.busy reads c.ready is
   where
     by : (a b r k : Bool) → cond a (Some Serving) (cond b (Some c.going_on) (cond r (Some Serving) (cond k (Some c.beginning) None))) ≡ None → k ≡ false
-    by true b r k is = absurd (cc)
-    by false true r k is = absurd (cc)
-    by false false true k is = absurd (cc)
-    by false false false true is = absurd (cc)
     by false false false false is = refl
+    by _ _ _ _ is = absurd (cc)
 
 -- behind a history that ends with a power cut stands a cut at its last tick
 cut-row : {n m : ℕ} (shape : BankShape) (all : List (TimedEvent n m)) → IsCutOff all → (k : ℕ) → k ≤ last_tick all → list_any (λ r. is_cut r && nat_le k r.tick) (rows_from shape all all) ≡ true

@@ -3,7 +3,7 @@ use Rattle.std.proofs.Common.{ℕ, ◌≤◌, Bool, true, false, List, Option, S
 use Rattle.std.specs.Prelude.{IfSome, nat_lt}
 use Rattle.bank_shape.specs.{declared.BankShape.BankShape, declared.clock.Action.Action, declared.clock.Doing.Doing}
 use Rattle.bank_shape.specs.declared.answer.ReadAnswer.TheVariants as came
-use Rattle.bank_model.specs.{Events.{BankEvent, Write, Read, Serve, Begin, Iterate, Cut}, Running.{drops_begin, started, left}}
+use Rattle.bank_model.specs.{Events.{BankEvent, Write, Read}, Running.{drops_begin, started, left}}
 
 -- an action, if there is one, began at this tick or later
 abbrev pub BeganFrom : ℕ → Option Action → Type 0
@@ -25,9 +25,5 @@ left-from shape h change (Read row line came.Waiting) p action b = by (drops_beg
     by : (c : Bool) → BeganFrom p (cond c None action)
     by true = tt
     by false = b
-left-from shape h change (Read row line came.Busy) p action b = b
-left-from shape h change (Read row line (came.Forwarded bytes)) p action b = b
-left-from shape h change (Serve answer) p action b = tt
-left-from shape h change (Begin answer) p action b = tt
-left-from shape h change (Iterate answer) p action b = tt
-left-from shape h change (Cut tearing) p action b = tt
+left-from shape h change (Read row line _) p action b = b
+left-from shape h change _ p action b = tt

@@ -3,7 +3,7 @@ use Rattle.std.proofs.Common.{◌≡◌, ℕ, ◌<◌, ◌≤◌, ◌==◌, inl,
 use Rattle.masked_bytes.specs.{Entries.{newest_row, merged, laid_on, has_row, RowsApart}, declared.entry.Entry.Entry}
 use Rattle.masked_bytes.proofs.Truth.{neither_first, neither_second, differ_sym}
 use Rattle.bank_shape.specs.declared.answer.WriteAnswer.{WriteAnswer}
-use Rattle.bank_model.specs.{Events.{BankEvent, Write, Read, Serve, Begin, Iterate, Cut, RowsBelow, line_of_row, up_to}, History.begun}
+use Rattle.bank_model.specs.{Events.{BankEvent, Write, Read, RowsBelow, line_of_row, up_to}, History.begun}
 use Rattle.bank_laws.proofs.{Entries.differ_back, Given.{NewestOf, newest-of}}
 
 module _ {n : ℕ} where
@@ -50,10 +50,7 @@ module _ {n : ℕ} where
   row-below [] row line bytes given answer h bound below = below.0
   row-below (Write at to some which how ∷ pre) row line bytes given answer h bound below = let lt : row < at = row-below pre row line bytes given answer h at below.1 in let up : at < bound = below.0 in omega arith
   row-below (Read at to how ∷ pre) row line bytes given answer h bound below = let lt : row < at = row-below pre row line bytes given answer h at below.1 in let up : at < bound = below.0 in omega arith
-  row-below (Serve how ∷ pre) row line bytes given answer h bound below = row-below pre row line bytes given answer h bound below
-  row-below (Begin how ∷ pre) row line bytes given answer h bound below = row-below pre row line bytes given answer h bound below
-  row-below (Iterate how ∷ pre) row line bytes given answer h bound below = row-below pre row line bytes given answer h bound below
-  row-below (Cut how ∷ pre) row line bytes given answer h bound below = row-below pre row line bytes given answer h bound below
+  row-below (_ ∷ pre) row line bytes given answer h bound below = row-below pre row line bytes given answer h bound below
 
   pub line-kept : (pre : List (BankEvent n)) (row line : ℕ) (bytes : List ℕ) (given : List Bool) (answer : WriteAnswer) (h : List (BankEvent n)) (bound : ℕ) → RowsBelow (pre ++ Write row line bytes given answer ∷ h) bound
       → line_of_row row (pre ++ Write row line bytes given answer ∷ h) ≡ line
@@ -62,10 +59,7 @@ module _ {n : ℕ} where
       ap (λ b. cond b to (line_of_row row (pre ++ Write row line bytes given answer ∷ h))) (differ_back row at (row-below pre row line bytes given answer h at below.1))
       ∙ line-kept pre row line bytes given answer h at below.1
   line-kept (Read at to how ∷ pre) row line bytes given answer h bound below = line-kept pre row line bytes given answer h at below.1
-  line-kept (Serve how ∷ pre) row line bytes given answer h bound below = line-kept pre row line bytes given answer h bound below
-  line-kept (Begin how ∷ pre) row line bytes given answer h bound below = line-kept pre row line bytes given answer h bound below
-  line-kept (Iterate how ∷ pre) row line bytes given answer h bound below = line-kept pre row line bytes given answer h bound below
-  line-kept (Cut how ∷ pre) row line bytes given answer h bound below = line-kept pre row line bytes given answer h bound below
+  line-kept (_ ∷ pre) row line bytes given answer h bound below = line-kept pre row line bytes given answer h bound below
 
   pub up_to-kept : (pre : List (BankEvent n)) (row line : ℕ) (bytes : List ℕ) (given : List Bool) (answer : WriteAnswer) (h : List (BankEvent n)) (bound : ℕ) → RowsBelow (pre ++ Write row line bytes given answer ∷ h) bound
       → up_to row (pre ++ Write row line bytes given answer ∷ h) ≡ Write row line bytes given answer ∷ h
@@ -74,17 +68,11 @@ module _ {n : ℕ} where
       ap (λ b. cond b (Write at to some which how ∷ pre ++ Write row line bytes given answer ∷ h) (up_to row (pre ++ Write row line bytes given answer ∷ h))) (differ_back row at (row-below pre row line bytes given answer h at below.1))
       ∙ up_to-kept pre row line bytes given answer h at below.1
   up_to-kept (Read at to how ∷ pre) row line bytes given answer h bound below = up_to-kept pre row line bytes given answer h at below.1
-  up_to-kept (Serve how ∷ pre) row line bytes given answer h bound below = up_to-kept pre row line bytes given answer h bound below
-  up_to-kept (Begin how ∷ pre) row line bytes given answer h bound below = up_to-kept pre row line bytes given answer h bound below
-  up_to-kept (Iterate how ∷ pre) row line bytes given answer h bound below = up_to-kept pre row line bytes given answer h bound below
-  up_to-kept (Cut how ∷ pre) row line bytes given answer h bound below = up_to-kept pre row line bytes given answer h bound below
+  up_to-kept (_ ∷ pre) row line bytes given answer h bound below = up_to-kept pre row line bytes given answer h bound below
 
   -- the rows of older events are below those of newer ones
   pub rows_below-end : (pre h : List (BankEvent n)) (bound : ℕ) → RowsBelow (pre ++ h) bound → (low : ℕ) × RowsBelow h low × (low ≤ bound)
   rows_below-end [] h bound below = (bound, below, omega arith)
   rows_below-end (Write at to some which how ∷ pre) h bound below = let k = rows_below-end pre h at below.1 in (k.0, k.1, let up : at < bound = below.0 in let le : k.0 ≤ at = k.2 in omega (arith, up, le))
   rows_below-end (Read at to how ∷ pre) h bound below = let k = rows_below-end pre h at below.1 in (k.0, k.1, let up : at < bound = below.0 in let le : k.0 ≤ at = k.2 in omega (arith, up, le))
-  rows_below-end (Serve how ∷ pre) h bound below = rows_below-end pre h bound below
-  rows_below-end (Begin how ∷ pre) h bound below = rows_below-end pre h bound below
-  rows_below-end (Iterate how ∷ pre) h bound below = rows_below-end pre h bound below
-  rows_below-end (Cut how ∷ pre) h bound below = rows_below-end pre h bound below
+  rows_below-end (_ ∷ pre) h bound below = rows_below-end pre h bound below

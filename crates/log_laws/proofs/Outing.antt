@@ -25,20 +25,9 @@ core-append {n} {m} (x ∷ mid) ys = by x.happens (core-append mid ys)
 module _ {n : ℕ} where
   -- what was stored stays so
   pub out-more : (line : ℕ) (event : BankEvent n) (h : List (BankEvent n)) (row : ℕ) → out_in line h row ≡ true → out_in line (event ∷ h) row ≡ true
-  out-more line (Write at to bytes given answer) h row k = k
-  out-more line (Read at to answer) h row k = k
-  out-more line (Serve answer) h row k = k
-  out-more line (Begin did.More) h row k = k
   out-more line (Begin (did.Stored at place)) h row k = out_with-kept (line_of_row at h == line) (out_in line h) at row k
-  out-more line (Begin (did.Moved step)) h row k = k
-  out-more line (Begin (did.Retired slot to)) h row k = k
-  out-more line (Begin did.Exhausted) h row k = k
-  out-more line (Iterate did.More) h row k = k
   out-more line (Iterate (did.Stored at place)) h row k = out_with-kept (line_of_row at h == line) (out_in line h) at row k
-  out-more line (Iterate (did.Moved step)) h row k = k
-  out-more line (Iterate (did.Retired slot to)) h row k = k
-  out-more line (Iterate did.Exhausted) h row k = k
-  out-more line (Cut tearing) h row k = k
+  out-more line _ h row k = k
 
   -- an outcome that is no store stores nothing
   on_row-not : (at row : ℕ) (t o : Outcome n) → is_stored t ≡ false → is_stored o ≡ false → is_stored (unwrap_or (on_row at row t) o) ≡ false
@@ -66,17 +55,8 @@ module _ {n : ℕ} where
       by false other = was ∙ sym (out_with-not (line_of_row at h == line) (out_in line h) at row none other)
 
   not_stored : (o : Outcome n) → ((u p : ℕ) → o ≡ out.Stored u p → ⊥) → is_stored o ≡ false
-  not_stored out.Unset isnt = refl
   not_stored (out.Stored tick place) isnt = absurd (isnt tick place refl)
-  not_stored (out.Merged tick) isnt = refl
-  not_stored (out.Queued tick) isnt = refl
-  not_stored (out.Full tick) isnt = refl
-  not_stored (out.Worn tick) isnt = refl
-  not_stored (out.Read tick place bytes) isnt = refl
-  not_stored (out.Forwarded tick bytes) isnt = refl
-  not_stored (out.Busy tick) isnt = refl
-  not_stored (out.Lost tick) isnt = refl
-  not_stored (out.Cut tick) isnt = refl
+  not_stored _ isnt = refl
 
 module _ {n m : ℕ} (shape : BankShape) (pace : Pace) (e : ℕ) where
   -- over one more event
@@ -97,26 +77,16 @@ module _ {n m : ℕ} (shape : BankShape) (pace : Pace) (e : ℕ) where
       o = outcome_of shape zs row
 
       by : (h : Happens n) → is_stored (outcome_of shape zs row) ≡ false → out_in line (core zs) row ≡ false → is_stored (unwrap_or (outcome_with shape zs h y.tick row) (outcome_of shape zs row)) ≡ out_in line (core_of h (core zs)) row
-      by (Core (Write at to bytes given wrote.Accepted)) isnt none = isnt ∙ sym none
       by (Core (Write at to bytes given (wrote.Merged old))) isnt none = on_row-not old row (out.Merged y.tick) o refl isnt ∙ sym none
       by (Core (Write at to bytes given wrote.Full)) isnt none = on_row-not at row (out.Full y.tick) o refl isnt ∙ sym none
       by (Core (Write at to bytes given wrote.Exhausted)) isnt none = on_row-not at row (out.Worn y.tick) o refl isnt ∙ sym none
-      by (Core (Read at to came.Waiting)) isnt none = isnt ∙ sym none
       by (Core (Read at to came.Busy)) isnt none = on_row-not at row (out.Busy y.tick) o refl isnt ∙ sym none
       by (Core (Read at to (came.Forwarded bytes))) isnt none = on_row-not at row (out.Forwarded y.tick bytes) o refl isnt ∙ sym none
       by (Core (Serve answer)) isnt none = on_row-not answer.row row (out.Read y.tick answer.place answer.bytes) o refl isnt ∙ sym none
       by (Core (Begin (did.Stored at place))) isnt none = on_row-out line (core zs) at row y.tick place o is isnt none
-      by (Core (Begin did.More)) isnt none = isnt ∙ sym none
-      by (Regs event) isnt none = isnt ∙ sym none
-      by (Core (Begin (did.Moved step))) isnt none = isnt ∙ sym none
-      by (Core (Begin (did.Retired slot to))) isnt none = isnt ∙ sym none
-      by (Core (Begin did.Exhausted)) isnt none = isnt ∙ sym none
       by (Core (Iterate (did.Stored at place))) isnt none = on_row-out line (core zs) at row y.tick place o is isnt none
-      by (Core (Iterate did.More)) isnt none = isnt ∙ sym none
-      by (Core (Iterate (did.Moved step))) isnt none = isnt ∙ sym none
-      by (Core (Iterate (did.Retired slot to))) isnt none = isnt ∙ sym none
-      by (Core (Iterate did.Exhausted)) isnt none = isnt ∙ sym none
       by (Core (Cut tearing)) isnt none = lost-not (has_wait (waits shape (core zs)) row) y.tick o isnt ∙ sym none
+      by _ isnt none = isnt ∙ sym none
 
   module _ (x : TimedEvent n m) (ys : List (TimedEvent n m)) (row line : ℕ) (bytes : List ℕ) (given : List Bool) (answer : WriteAnswer) (is : x.happens ≡ Core (Write row line bytes given answer)) where
     whole : (mid : List (TimedEvent n m)) → core (mid ++ x ∷ ys) ≡ core mid ++ Write row line bytes given answer ∷ core ys

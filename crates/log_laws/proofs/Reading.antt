@@ -12,7 +12,7 @@ use Rattle.bank_shape.specs.declared.answer.WriteAnswer.TheVariants as wrote
 use Rattle.bank_shape.specs.declared.answer.ReadAnswer.TheVariants as came
 use Rattle.bank_shape.specs.declared.answer.Step.TheVariants as did
 use Rattle.bank_model.specs.{Adding.senses_of, After.stands_at_after, Answers.IsServed, Events.{Write, Read, Serve, Begin, Iterate, Cut, RowsBelow}, History.{Awaited, waits}}
-use Rattle.bank_model.specs.{Lawful.{Lawful, MayCome}, Sensing.{pulses_of, stand_of, IsLaid, IsReadRight}, Timing.{Happens, Core, Regs, TimedEvent, core, core_of}}
+use Rattle.bank_model.specs.{Lawful.{Lawful, MayCome}, Sensing.{pulses_of, stand_of, IsLaid, IsReadRight}, Timing.{Happens, Core, TimedEvent, core, core_of}}
 use Rattle.right_runs.specs.Logs.{is_sensed}
 use Rattle.bank_laws.{specs.Outcomes.{on_row, outcome_with, outcome_of}, specs.Standing.has_wait, proofs.Serves.same_bytes-same, proofs.Settling.opens, proofs.Standing.stand_apart}
 use Rattle.log_laws.proofs.{Naming.rows_below-end, Outing.core-append, Storing.{one_sense, now-sensed, older-sensed}}
@@ -66,40 +66,25 @@ module _ {n m : ℕ} (shape : BankShape) where
 
   answers-now : (zs : List (TimedEvent n m)) (y : TimedEvent n m) (h : Happens n) (row u p : ℕ) (bytes : List ℕ) → unwrap_or (outcome_with shape zs h y.tick row) (outcome_of shape zs row) ≡ out.Read u p bytes
       → AnswersNow y h row u p bytes ⊎ (outcome_of shape zs row ≡ out.Read u p bytes)
-  answers-now zs y (Core (Write at line some given wrote.Accepted)) row u p bytes s = inr s
   answers-now zs y (Core (Write at line some given (wrote.Merged old))) row u p bytes s = inr (not_read old row _ _ u p bytes (λ is. absurd (cc)) s)
   answers-now zs y (Core (Write at line some given wrote.Full)) row u p bytes s = inr (not_read at row _ _ u p bytes (λ is. absurd (cc)) s)
   answers-now zs y (Core (Write at line some given wrote.Exhausted)) row u p bytes s = inr (not_read at row _ _ u p bytes (λ is. absurd (cc)) s)
-  answers-now zs y (Core (Read at line came.Waiting)) row u p bytes s = inr s
   answers-now zs y (Core (Read at line came.Busy)) row u p bytes s = inr (not_read at row _ _ u p bytes (λ is. absurd (cc)) s)
   answers-now zs y (Core (Read at line (came.Forwarded some))) row u p bytes s = inr (not_read at row _ _ u p bytes (λ is. absurd (cc)) s)
   answers-now zs y (Core (Serve answer)) row u p bytes s = read_now answer.row row y.tick answer.place answer.bytes _ u p bytes s
   answers-now zs y (Core (Begin (did.Stored at place))) row u p bytes s = inr (not_read at row _ _ u p bytes (λ is. absurd (cc)) s)
-  answers-now zs y (Core (Begin did.More)) row u p bytes s = inr s
-  answers-now zs y (Regs event) row u p bytes s = inr s
-  answers-now zs y (Core (Begin (did.Moved step))) row u p bytes s = inr s
-  answers-now zs y (Core (Begin (did.Retired slot line))) row u p bytes s = inr s
-  answers-now zs y (Core (Begin did.Exhausted)) row u p bytes s = inr s
   answers-now zs y (Core (Iterate (did.Stored at place))) row u p bytes s = inr (not_read at row _ _ u p bytes (λ is. absurd (cc)) s)
-  answers-now zs y (Core (Iterate did.More)) row u p bytes s = inr s
-  answers-now zs y (Core (Iterate (did.Moved step))) row u p bytes s = inr s
-  answers-now zs y (Core (Iterate (did.Retired slot line))) row u p bytes s = inr s
-  answers-now zs y (Core (Iterate did.Exhausted)) row u p bytes s = inr s
   answers-now zs y (Core (Cut tearing)) row u p bytes s = inr (lost_not_read (has_wait (waits shape (core zs)) row) y.tick _ u p bytes s)
+  answers-now zs y _ row u p bytes s = inr s
 
 module _ {n m : ℕ} (shape : BankShape) (pace : Pace) (e : ℕ) (mine : Awaited) where
   -- a read's row is above those before, so its wait stays the only one
   only-next : (zs : List (TimedEvent n m)) (y : TimedEvent n m) (h : Happens n) → MayCome shape pace e zs y h → ((row : ℕ) → RowsBelow (core zs) row → mine.row < row) → OnlyOne mine (waits shape (core zs)) → OnlyOne mine (waits shape (core_of h (core zs)))
-  only-next zs y (Core (Write row line bytes given answer)) may above k = k
   only-next zs y (Core (Read row line came.Waiting)) may above k =
       only-push mine _ (waits shape (core zs)) k (λ same. let lt : mine.row < row = above row may.asked in absurd (omega (arith, same, lt)))
-  only-next zs y (Core (Read row line came.Busy)) may above k = k
-  only-next zs y (Core (Read row line (came.Forwarded bytes))) may above k = k
   only-next zs y (Core (Serve answer)) may above k = only-drop mine (waits shape (core zs)) k
-  only-next zs y (Core (Begin answer)) may above k = k
-  only-next zs y (Regs event) may above k = k
-  only-next zs y (Core (Iterate answer)) may above k = k
   only-next zs y (Core (Cut tearing)) may above k = tt
+  only-next zs y _ may above k = k
 
   -- what the serve of a read sensed
   record ServedSense (y : TimedEvent n m) (p : ℕ) (bytes : List ℕ) : Type 0 where
@@ -133,12 +118,7 @@ module _ {n m : ℕ} (shape : BankShape) (pace : Pace) (e : ℕ) (mine : Awaited
         (subst (λ l. ServedSense y l answer.bytes) s.2
         (served_first zs y answer (waits shape (core zs)) may.may only s.0 may.lines may.senses (λ sense are. subst (λ ss. IsReadRight e shape zs (Serve answer) ss) are may.right))),
   )
-  served-sense zs y (Core (Write at line some given answer)) u p bytes may only s = absurd s
-  served-sense zs y (Core (Read at line answer)) u p bytes may only s = absurd s
-  served-sense zs y (Core (Begin answer)) u p bytes may only s = absurd s
-  served-sense zs y (Regs event) u p bytes may only s = absurd s
-  served-sense zs y (Core (Iterate answer)) u p bytes may only s = absurd s
-  served-sense zs y (Core (Cut tearing)) u p bytes may only s = absurd s
+  served-sense zs y _ u p bytes may only s = absurd s
 
   module _ (x : TimedEvent n m) (ys : List (TimedEvent n m)) (line : ℕ) (is : x.happens ≡ Core (Read mine.row line came.Waiting)) (waiting : waits shape (core (x ∷ ys)) ≡ waits shape (core ys) ++ mine ∷ []) where
     asked : Lawful shape pace e (x ∷ ys) → RowsBelow (core ys) mine.row

@@ -1,8 +1,8 @@
 -- Each row that was stored or read has its sense in the log.
 use Rattle.std.proofs.Common.{◌≡◌, ℕ, ◌+◌, ◌==◌, ◌&&◌, ◌||◌, inl, Bool, true, false, List, [], ◌∷◌, ◌++◌, refl, sym, ap, ◌∙◌, subst, cond, length, append_assoc}
 use Rattle.std.{specs.List.list_any, specs.Prelude.{filter, nat_le, nat_lt}, proofs.lemmas.Bool.or_left, proofs.lemmas.List.Folds.list_any-append}
-use Rattle.bank_model.specs.{Adding.senses_of, Events.{Write, Read, Serve, Begin, Iterate, Cut, newest}, History.{Awaited, awaited, queue, waits}, Lawful.{Lawful, MayCome}}
-use Rattle.bank_model.{specs.Timing.{Happens, Core, Regs, TimedEvent, core, core_of}, proofs.Waits.waits-some}
+use Rattle.bank_model.specs.{Adding.senses_of, Events.{Write, Read, Cut, newest}, History.{Awaited, awaited, queue, waits}, Lawful.{Lawful, MayCome}}
+use Rattle.bank_model.{specs.Timing.{Happens, Core, TimedEvent, core, core_of}, proofs.Waits.waits-some}
 use Rattle.cell_rows.specs.declared.array.Sense.{Sense}
 use Rattle.ecp_line.specs.Reading.{decode}
 use Rattle.result_rows.specs.declared.Outcome.{Outcome}
@@ -42,21 +42,13 @@ module _ {n m : ℕ} (shape : BankShape) (pace : Pace) (e : ℕ) (all : List (Ti
         → rows.newest (r ∷ rows_from shape all ys) (rows.line_of r.asks) ≡ newest (Write row line bytes given answer ∷ core ys) line
         → may_have {n = n} x.tick (Writes line bytes given) [] (ended x.tick k) ≡ true → outcome_of shape all row ≡ k
         → outcome_sensed (decode e) log (rows_from shape all ys) r after (ended x.tick k) ≡ true
-    written row line bytes given answer r after out.Unset is newest_is may of = refl
     written row line bytes given answer r after (out.Stored u p) is newest_is may of =
         in-log p u (same_bytes (rows.newest (r ∷ rows_from shape all ys) (rows.line_of r.asks)))
         (subst (λ (xs : List (TimedEvent n m)). is_sensed (decode e) (senses_of xs) p u (same_bytes (rows.newest (r ∷ rows_from shape all ys) (rows.line_of r.asks))) ≡ true) (sym same)
         (subst (λ b. is_sensed (decode e) (senses_of (later ++ x ∷ ys)) p u (same_bytes b) ≡ true) (sym newest_is)
         (stored-sensed shape pace e later x ys row line bytes given answer is whole u p (sym (ap (λ xs. outcome_of shape xs row) same) ∙ of))))
-    written row line bytes given answer r after (out.Merged at) is newest_is may of = refl
-    written row line bytes given answer r after (out.Queued at) is newest_is may of = refl
-    written row line bytes given answer r after (out.Full at) is newest_is may of = refl
-    written row line bytes given answer r after (out.Worn at) is newest_is may of = refl
     written row line bytes given answer r after (out.Read at place some) is newest_is may of = absurd (cc)
-    written row line bytes given answer r after (out.Forwarded at some) is newest_is may of = refl
-    written row line bytes given answer r after (out.Busy at) is newest_is may of = refl
-    written row line bytes given answer r after (out.Lost at) is newest_is may of = refl
-    written row line bytes given answer r after (out.Cut at) is newest_is may of = refl
+    written row line bytes given answer r after _ is newest_is may of = refl
 
     waited : (row line : ℕ) (k : Outcome n) → x.happens ≡ Core (Read row line came.Waiting) → gives_all (layer_of (queue shape (core ys)) line).given ≡ false → rows.newest (rows_from shape all ys) line ≡ newest (core ys) line
         → IsSettled (newest (core ys) line) k → outcome_of shape all row ≡ k
@@ -71,16 +63,8 @@ module _ {n m : ℕ} (shape : BankShape) (pace : Pace) (e : ℕ) (all : List (Ti
         (subst (λ c. is_sensed (decode e) (senses_of (later ++ x ∷ ys)) p u (λ under. same_bytes bytes (laid (rows.newest (rows_from shape all ys) line) c under)) ≡ true) (sym covered)
         (subst (λ b. is_sensed (decode e) (senses_of (later ++ x ∷ ys)) p u (λ under. same_bytes bytes (laid b (layer_of (queue shape (core ys)) line).given under)) ≡ true) (sym newest_is)
         (read-sensed shape pace e mine x ys line is (ap (λ h. waits shape (core_of h (core ys))) is) later whole u p bytes (sym (ap (λ xs. outcome_of shape xs row) same) ∙ of)))))
-    waited row line out.Unset is some newest_is settled of = absurd settled
-    waited row line (out.Stored at place) is some newest_is settled of = absurd settled
-    waited row line (out.Merged at) is some newest_is settled of = absurd settled
-    waited row line (out.Queued at) is some newest_is settled of = absurd settled
-    waited row line (out.Full at) is some newest_is settled of = absurd settled
-    waited row line (out.Worn at) is some newest_is settled of = absurd settled
-    waited row line (out.Forwarded at bytes) is some newest_is settled of = absurd settled
-    waited row line (out.Busy at) is some newest_is settled of = absurd settled
     waited row line (out.Lost at) is some newest_is settled of = refl
-    waited row line (out.Cut at) is some newest_is settled of = absurd settled
+    waited row line _ is some newest_is settled of = absurd settled
 
     -- the row of each event has its sense
     sensed_at : waits shape (core all) ≡ [] → Passes (has_sense (decode e) log) (rows_from shape all ys) (row_with shape all x.happens x.tick x.cancels) (rows_after shape all later)
@@ -108,12 +92,8 @@ module _ {n m : ℕ} (shape : BankShape) (pace : Pace) (e : ℕ) (all : List (Ti
             (waits-some (gives_all (layer_of (queue shape (core ys)) line).given) (length (waits shape (core ys)) == shape.reads) (newest (core ys) line) may.may.1) (old line)
             (settled_all shape pace e all row (newest (core ys) line) none
             (on.reads row (newest (core ys) line) (inl (awaits-new (waits shape (core ys)) (awaited row line (newest (core ys) line) (layer_of (queue shape (core ys)) line)))))) refl
-        by (Core (Serve answer)) cancels is may on old new = tt
-        by (Regs event) cancels is may on old new = tt
-        by (Core (Begin answer)) cancels is may on old new = tt
-        by (Core (Iterate answer)) cancels is may on old new = tt
-        by (Core (Cut tearing)) true is may on old new = tt
         by (Core (Cut tearing)) false is may on old new = refl
+        by _ _ is may on old new = tt
 
 pub sensed_law : SensedLaw
 sensed_law n m e shape pace xs log extra sized l still shown =

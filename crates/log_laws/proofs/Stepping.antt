@@ -9,7 +9,7 @@ use Rattle.bank_shape.specs.{declared.answer.Step.Step, declared.clock.Action.Ac
 use Rattle.bank_shape.specs.declared.answer.Keep.TheVariants as keep
 use Rattle.bank_model.specs.After.{target_after, sources_of, work_after}
 use Rattle.bank_model.specs.Changes.{change_after, change_by, written_by, keeping_after, keeping_by, halted_after, halted_by, line_of_change, all_controls}
-use Rattle.bank_model.specs.{Events.{BankEvent, Write, Read, Serve, Begin, Iterate, Cut}, History.{queue, due_after, has_exhausted, in_progress}}
+use Rattle.bank_model.specs.{Events.{BankEvent, Serve, Begin, Iterate, Cut}, History.{queue, due_after, has_exhausted, in_progress}}
 use Rattle.bank_model.specs.{Lawful.{Lawful, MayCome, IsNext, IsNextKept}, Running.{tears_bank, running, running_at, chosen_after, left, left_by}}
 use Rattle.bank_model.specs.Sensing.{is_at, most_steps, pulses_of, read_again, kept_sensed}
 use Rattle.bank_model.specs.Timing.{Happens, Core, Regs, Keeping, KeepBegin, KeepIterate, KeepCut, TimedEvent, is_doing, core, core_of, last_tick}
@@ -24,12 +24,9 @@ use Rattle.log_laws.proofs.Unworn.{worn_below, unworn}
 
 -- what goes on after an event was spared by it
 goes-spares : {n : ℕ} (event : BankEvent n) (h : List (BankEvent n)) → in_progress (event ∷ h) ≡ true → spares_work event ≡ true
-goes-spares (Write row line bytes given answer) h p = refl
-goes-spares (Read row line answer) h p = refl
-goes-spares (Serve answer) h p = refl
 goes-spares (Begin answer) h p = p
 goes-spares (Iterate answer) h p = p
-goes-spares (Cut tearing) h p = refl
+goes-spares _ h p = refl
 
 -- what stands is no change that doesn't
 clash : (shape : BankShape) (line : ℕ) (change : Option ℕ) → change ≡ None → line_of_change shape change ≡ Some line → ⊥
@@ -617,16 +614,13 @@ module _ {n m : ℕ} (e : ℕ) (shape : BankShape) (pace : Pace) (wears : Bool) 
       unsensed none = own-lacks line x.senses (ap (among line) none)
 
       by : (h : Happens n) → x.happens ≡ h → Known (x ∷ xs)
-      by (Core (Write row at bytes given answer)) is =
-          let m = may (Write row at bytes given answer) is in
-          passes (Write row at bytes given answer) is refl (λ p. p) (λ p. p) refl (λ p. p) (λ p. p) (unsensed m.lines) (ap (λ p. is_at p line) m.pulsed) known
-      by (Core (Read row at answer)) is =
-          let m = may (Read row at answer) is in
-          passes (Read row at answer) is refl (λ p. p) (λ p. p) refl (λ p. p) (λ p. p) (unsensed m.lines) (ap (λ p. is_at p line) m.pulsed) known
       by (Core (Serve answer)) is = serves answer is known
       by (Core (Begin answer)) is = begins answer is known
       by (Core (Iterate answer)) is = iterates answer is known
       by (Core (Cut tearing)) is = cuts tearing is known
+      by (Core event) is =
+          let m = may event is in
+          passes event is refl (λ p. p) (λ p. p) refl (λ p. p) (λ p. p) (unsensed m.lines) (ap (λ p. is_at p line) m.pulsed) known
       by (Regs (KeepBegin answer)) is = keep_begins answer is known
       by (Regs (KeepIterate answer)) is = keep_iterates answer is known
       by (Regs (KeepCut tearing)) is = keep_cuts tearing is known

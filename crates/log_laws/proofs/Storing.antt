@@ -14,7 +14,7 @@ use Rattle.bank_shape.specs.declared.answer.ReadAnswer.TheVariants as came
 use Rattle.bank_shape.specs.declared.answer.Step.TheVariants as did
 use Rattle.bank_model.specs.{Adding.senses_of, After.{array_line_after, slot_of_work, sources_of, target_after, work_after}, Answers.IsDone}
 use Rattle.bank_model.specs.{Events.{BankEvent, Write, Read, Serve, Begin, Iterate, Cut, newest, up_to, line_of_row}, History.waits, Lawful.{Lawful, MayCome}}
-use Rattle.bank_model.specs.{Sensing.{pulses_of, IsReadRight}, Timing.{Happens, Core, Regs, TimedEvent, core}}
+use Rattle.bank_model.specs.{Sensing.{pulses_of, IsReadRight}, Timing.{Happens, Core, TimedEvent, core}}
 use Rattle.right_runs.specs.Logs.{is_sensed}
 use Rattle.bank_laws.{specs.Outcomes.{on_row, outcome_with, outcome_of}, specs.Standing.has_wait, proofs.Serves.same_bytes-same, proofs.Wears.{not_stored, lost_not_stored}}
 use Rattle.log_laws.proofs.Outing.{line-in, up_to-in, unstored-first}
@@ -64,26 +64,16 @@ module _ {n m : ℕ} (shape : BankShape) where
 
   stores-now : (zs : List (TimedEvent n m)) (y : TimedEvent n m) (h : Happens n) (row u p : ℕ) → unwrap_or (outcome_with shape zs h y.tick row) (outcome_of shape zs row) ≡ out.Stored u p
       → StoresNow zs y h row u p ⊎ (outcome_of shape zs row ≡ out.Stored u p)
-  stores-now zs y (Core (Write at line bytes given wrote.Accepted)) row u p s = inr s
   stores-now zs y (Core (Write at line bytes given (wrote.Merged old))) row u p s = inr (not_stored old row _ _ u p (λ is. absurd (cc)) s)
   stores-now zs y (Core (Write at line bytes given wrote.Full)) row u p s = inr (not_stored at row _ _ u p (λ is. absurd (cc)) s)
   stores-now zs y (Core (Write at line bytes given wrote.Exhausted)) row u p s = inr (not_stored at row _ _ u p (λ is. absurd (cc)) s)
-  stores-now zs y (Core (Read at line came.Waiting)) row u p s = inr s
   stores-now zs y (Core (Read at line came.Busy)) row u p s = inr (not_stored at row _ _ u p (λ is. absurd (cc)) s)
   stores-now zs y (Core (Read at line (came.Forwarded bytes))) row u p s = inr (not_stored at row _ _ u p (λ is. absurd (cc)) s)
   stores-now zs y (Core (Serve answer)) row u p s = inr (not_stored answer.row row _ _ u p (λ is. absurd (cc)) s)
   stores-now zs y (Core (Begin (did.Stored at place))) row u p s = stored_now at row y.tick place _ u p s
-  stores-now zs y (Core (Begin did.More)) row u p s = inr s
-  stores-now zs y (Regs event) row u p s = inr s
-  stores-now zs y (Core (Begin (did.Moved step))) row u p s = inr s
-  stores-now zs y (Core (Begin (did.Retired slot line))) row u p s = inr s
-  stores-now zs y (Core (Begin did.Exhausted)) row u p s = inr s
   stores-now zs y (Core (Iterate (did.Stored at place))) row u p s = stored_now at row y.tick place _ u p s
-  stores-now zs y (Core (Iterate did.More)) row u p s = inr s
-  stores-now zs y (Core (Iterate (did.Moved step))) row u p s = inr s
-  stores-now zs y (Core (Iterate (did.Retired slot line))) row u p s = inr s
-  stores-now zs y (Core (Iterate did.Exhausted)) row u p s = inr s
   stores-now zs y (Core (Cut tearing)) row u p s = inr (lost_not_stored (has_wait (waits shape (core zs)) row) y.tick _ u p s)
+  stores-now zs y _ row u p s = inr s
 
 module _ {n m : ℕ} (shape : BankShape) (pace : Pace) (e : ℕ) where
   -- what the event of a store sensed
@@ -119,36 +109,12 @@ module _ {n m : ℕ} (shape : BankShape) (pace : Pace) (e : ℕ) where
       (λ sense are.
       subst (λ r. decode e sense.cells ≡ newest (up_to r (core zs)) (line_of_row r (core zs))) s.0
       (subst (λ ss. IsReadRight e shape zs (Iterate (did.Stored at place)) ss) are may.right))
-  stored-sense zs y (Core (Begin did.More)) row u p may s = absurd s
-  stored-sense zs y (Regs event) row u p may s = absurd s
-  stored-sense zs y (Core (Begin (did.Moved step))) row u p may s = absurd s
-  stored-sense zs y (Core (Begin (did.Retired slot line))) row u p may s = absurd s
-  stored-sense zs y (Core (Begin did.Exhausted)) row u p may s = absurd s
-  stored-sense zs y (Core (Iterate did.More)) row u p may s = absurd s
-  stored-sense zs y (Core (Iterate (did.Moved step))) row u p may s = absurd s
-  stored-sense zs y (Core (Iterate (did.Retired slot line))) row u p may s = absurd s
-  stored-sense zs y (Core (Iterate did.Exhausted)) row u p may s = absurd s
-  stored-sense zs y (Core (Write at line bytes given answer)) row u p may s = absurd s
-  stored-sense zs y (Core (Read at line answer)) row u p may s = absurd s
-  stored-sense zs y (Core (Serve answer)) row u p may s = absurd s
-  stored-sense zs y (Core (Cut tearing)) row u p may s = absurd s
+  stored-sense zs y _ row u p may s = absurd s
 
   stored-tick : (zs : List (TimedEvent n m)) (y : TimedEvent n m) (h : Happens n) (row u p : ℕ) → StoresNow shape zs y h row u p → y.tick ≡ u
   stored-tick zs y (Core (Begin (did.Stored at place))) row u p s = s.1
   stored-tick zs y (Core (Iterate (did.Stored at place))) row u p s = s.1
-  stored-tick zs y (Core (Begin did.More)) row u p s = absurd s
-  stored-tick zs y (Regs event) row u p s = absurd s
-  stored-tick zs y (Core (Begin (did.Moved step))) row u p s = absurd s
-  stored-tick zs y (Core (Begin (did.Retired slot line))) row u p s = absurd s
-  stored-tick zs y (Core (Begin did.Exhausted)) row u p s = absurd s
-  stored-tick zs y (Core (Iterate did.More)) row u p s = absurd s
-  stored-tick zs y (Core (Iterate (did.Moved step))) row u p s = absurd s
-  stored-tick zs y (Core (Iterate (did.Retired slot line))) row u p s = absurd s
-  stored-tick zs y (Core (Iterate did.Exhausted)) row u p s = absurd s
-  stored-tick zs y (Core (Write at line bytes given answer)) row u p s = absurd s
-  stored-tick zs y (Core (Read at line answer)) row u p s = absurd s
-  stored-tick zs y (Core (Serve answer)) row u p s = absurd s
-  stored-tick zs y (Core (Cut tearing)) row u p s = absurd s
+  stored-tick zs y _ row u p s = absurd s
 
   -- a write that was stored has its sense
   pub stored-sensed : (mid : List (TimedEvent n m)) (x : TimedEvent n m) (ys : List (TimedEvent n m)) (row line : ℕ) (bytes : List ℕ) (given : List Bool) (answer : WriteAnswer) → x.happens ≡ Core (Write row line bytes given answer)

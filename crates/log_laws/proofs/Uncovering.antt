@@ -7,8 +7,8 @@ use Rattle.masked_bytes.specs.Masked.{joined, none_given, gives_all}
 use Rattle.row_rules.specs.{Answers.{accepts, is_stored, stored_by}, Queueing.{unstored, cover}, Rows.write_of, declared.Row.Row}
 use Rattle.bank_shape.specs.{declared.BankShape.BankShape, declared.answer.WriteAnswer.WriteAnswer, declared.pace.Pace.Pace}
 use Rattle.bank_shape.specs.declared.answer.WriteAnswer.TheVariants as wrote
-use Rattle.bank_model.specs.{Events.{Write, Read, Serve, Begin, Iterate, Cut}, History.queue, Lawful.{Lawful, MayCome}, Sensing.most_steps}
-use Rattle.bank_model.specs.Timing.{Happens, Core, Regs, TimedEvent, core, core_of, last_tick}
+use Rattle.bank_model.specs.{Events.{Write, Cut}, History.queue, Lawful.{Lawful, MayCome}, Sensing.most_steps}
+use Rattle.bank_model.specs.Timing.{Happens, Core, TimedEvent, core, core_of, last_tick}
 use Rattle.bank_laws.specs.{Laws.IsSized, Outcomes.{outcome_of, ended, row_with, rows_from}, Settling.AreOpen, Ticks.ends_action}
 use Rattle.bank_laws.proofs.{Ending.{Onwards, write_outcome, outcome-accepts}, Entries.either, Given.given_of, Later.{last-later, stored_above}, Serves.{may_at, onwards_at}}
 use Rattle.bank_laws.proofs.{Settling.{opens, above_all, lawful_before, stays}, Ticks.last_tick-rises, Waiting.may_all, Walking.rows_after}
@@ -18,58 +18,22 @@ use Rattle.log_laws.proofs.{Covering.{uncovered, uncovered_by, out_in, fits-afte
 module _ {n : ℕ} where
   stored-ended : (t tick : ℕ) (o : Outcome n) → stored_by t (ended tick o) ≡ stored_by t o
   stored-ended t tick out.Unset = refl
-  stored-ended t tick (out.Stored at place) = refl
-  stored-ended t tick (out.Merged at) = refl
-  stored-ended t tick (out.Queued at) = refl
-  stored-ended t tick (out.Full at) = refl
-  stored-ended t tick (out.Worn at) = refl
-  stored-ended t tick (out.Read at place bytes) = refl
-  stored-ended t tick (out.Forwarded at bytes) = refl
-  stored-ended t tick (out.Busy at) = refl
-  stored-ended t tick (out.Lost at) = refl
-  stored-ended t tick (out.Cut at) = refl
+  stored-ended t tick _ = refl
 
   -- what isn't accepted isn't stored
   refused-unstored : (t : ℕ) (o : Outcome n) → accepts o ≡ false → stored_by t o ≡ false
-  refused-unstored t out.Unset k = refl
   refused-unstored t (out.Stored at place) k = absurd (cc)
-  refused-unstored t (out.Merged at) k = refl
-  refused-unstored t (out.Queued at) k = refl
-  refused-unstored t (out.Full at) k = refl
-  refused-unstored t (out.Worn at) k = refl
-  refused-unstored t (out.Read at place bytes) k = refl
-  refused-unstored t (out.Forwarded at bytes) k = refl
-  refused-unstored t (out.Busy at) k = refl
-  refused-unstored t (out.Lost at) k = refl
-  refused-unstored t (out.Cut at) k = refl
+  refused-unstored t _ k = refl
 
   -- a store above a tick isn't one by it
   above-unstored : (t : ℕ) (o : Outcome n) → ((u p : ℕ) → o ≡ out.Stored u p → t < u) → stored_by t o ≡ false
-  above-unstored t out.Unset k = refl
   above-unstored t (out.Stored at place) k = lt-leb at t (k at place refl)
-  above-unstored t (out.Merged at) k = refl
-  above-unstored t (out.Queued at) k = refl
-  above-unstored t (out.Full at) k = refl
-  above-unstored t (out.Worn at) k = refl
-  above-unstored t (out.Read at place bytes) k = refl
-  above-unstored t (out.Forwarded at bytes) k = refl
-  above-unstored t (out.Busy at) k = refl
-  above-unstored t (out.Lost at) k = refl
-  above-unstored t (out.Cut at) k = refl
+  above-unstored t _ k = refl
 
   -- an outcome that is a store is one by a tick that it doesn't exceed
   below-stored : (t : ℕ) (o : Outcome n) → ((u p : ℕ) → o ≡ out.Stored u p → u ≤ t) → is_stored o ≡ true → stored_by t o ≡ true
-  below-stored t out.Unset k s = absurd (cc)
   below-stored t (out.Stored at place) k s = le-leb at t (k at place refl)
-  below-stored t (out.Merged at) k s = absurd (cc)
-  below-stored t (out.Queued at) k s = absurd (cc)
-  below-stored t (out.Full at) k s = absurd (cc)
-  below-stored t (out.Worn at) k s = absurd (cc)
-  below-stored t (out.Read at place bytes) k s = absurd (cc)
-  below-stored t (out.Forwarded at bytes) k s = absurd (cc)
-  below-stored t (out.Busy at) k s = absurd (cc)
-  below-stored t (out.Lost at) k s = absurd (cc)
-  below-stored t (out.Cut at) k s = absurd (cc)
+  below-stored t _ k s = absurd (cc)
 
 -- one write, by the rows and by the events
 accepted_row : (n : ℕ) (own isout acc o : Bool) (given before rest : List Bool) → (own ≡ true → isout ≡ o) → acc ≡ true → before ≡ rest
@@ -126,13 +90,8 @@ module _ {n m : ℕ} (shape : BankShape) (pace : Pace) (e : ℕ) (all : List (Ti
             (last-later shape pace e mid (x ∷ ys) sized.read sized.iter now.1)
             (ap is_stored (coming at to bytes given answer its)) in
             or_from ((to == line) && stored_by x.tick (ended y.tick (outcome_of shape all at))) false (and_right (to == line) _ (stored-ended x.tick y.tick (outcome_of shape all at) ∙ late)) refl
-        row (Core (Read at to answer)) cancels its = refl
-        row (Core (Serve answer)) cancels its = refl
-        row (Regs event) cancels its = refl
-        row (Core (Begin answer)) cancels its = refl
-        row (Core (Iterate answer)) cancels its = refl
         row (Core (Cut tearing)) true its = refl
-        row (Core (Cut tearing)) false its = refl
+        row _ _ its = refl
 
     -- a write before it is stored by its tick exactly where it is out of the queue
     out-here : (mid : List (TimedEvent n m)) (w : TimedEvent n m) (zs : List (TimedEvent n m)) (row at : ℕ) (bytes : List ℕ) (given : List Bool) (answer : WriteAnswer) → ys ≡ mid ++ w ∷ zs → w.happens ≡ Core (Write row at bytes given answer)
@@ -187,12 +146,6 @@ module _ {n m : ℕ} (shape : BankShape) (pace : Pace) (e : ℕ) (all : List (Ti
         by : (h : Happens n) (cancels : Bool) → w.happens ≡ h → MayCome shape pace e zs w h → Onwards shape all zs w.tick h
             → unstored (stored_by x.tick) line (rows_from shape all zs) ≡ uncovered (out_in line (core ys)) line (core zs)
             → unstored (stored_by x.tick) line (row_with shape all h w.tick cancels ++ rows_from shape all zs) ≡ uncovered (out_in line (core ys)) line (core_of h (core zs))
-        by (Core (Write row at bytes given wrote.Accepted)) cancels is may on rest =
-            accepted_row n (at == line) _ _ _ given _ _ (outs row at bytes given wrote.Accepted is)
-            (outcome-accepts w.tick wrote.Accepted (ended w.tick (outcome_of shape all row)) (write_outcome shape pace e all zs w row at bytes given wrote.Accepted o may on)) rest
-        by (Core (Write row at bytes given (wrote.Merged old))) cancels is may on rest =
-            accepted_row n (at == line) _ _ _ given _ _ (outs row at bytes given (wrote.Merged old) is)
-            (outcome-accepts w.tick (wrote.Merged old) (ended w.tick (outcome_of shape all row)) (write_outcome shape pace e all zs w row at bytes given (wrote.Merged old) o may on)) rest
         by (Core (Write row at bytes given wrote.Full)) cancels is may on rest =
             let acc : accepts (ended w.tick (outcome_of shape all row)) ≡ false =
             outcome-accepts w.tick wrote.Full (ended w.tick (outcome_of shape all row)) (write_outcome shape pace e all zs w row at bytes given wrote.Full o may on) in
@@ -201,13 +154,11 @@ module _ {n m : ℕ} (shape : BankShape) (pace : Pace) (e : ℕ) (all : List (Ti
             let acc : accepts (ended w.tick (outcome_of shape all row)) ≡ false =
             outcome-accepts w.tick wrote.Exhausted (ended w.tick (outcome_of shape all row)) (write_outcome shape pace e all zs w row at bytes given wrote.Exhausted o may on) in
             refused_row n (at == line) _ _ given _ _ (refused-unstored x.tick (ended w.tick (outcome_of shape all row)) acc) acc rest
-        by (Core (Read row at answer)) cancels is may on rest = rest
-        by (Core (Serve answer)) cancels is may on rest = rest
-        by (Regs event) cancels is may on rest = rest
-        by (Core (Begin answer)) cancels is may on rest = rest
-        by (Core (Iterate answer)) cancels is may on rest = rest
+        by (Core (Write row at bytes given answer)) cancels is may on rest =
+            accepted_row n (at == line) _ _ _ given _ _ (outs row at bytes given answer is)
+            (outcome-accepts w.tick answer (ended w.tick (outcome_of shape all row)) (write_outcome shape pace e all zs w row at bytes given answer o may on)) rest
         by (Core (Cut tearing)) true is may on rest = rest
-        by (Core (Cut tearing)) false is may on rest = rest
+        by _ _ is may on rest = rest
 
     -- where the queue doesn't give all bytes of a line, it gives those that the rows say
     pub cover-same : gives_all (given_of (queue shape (core ys)) line) ≡ false → cover x.tick line (rows_from shape all ys) (rows_after shape all later) ≡ given_of (queue shape (core ys)) line

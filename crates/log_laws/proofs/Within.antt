@@ -8,9 +8,9 @@ use Rattle.spare_pool.{specs.Table.Table, proofs.Lines.line_by-within}
 use Rattle.bank_shape.specs.{Shape.{slots_of, lines_in, controls_of, controls_from, IsIn}, declared.BankShape.BankShape, declared.Work.Work, declared.Work.TheVariants.Nothing}
 use Rattle.bank_shape.proofs.Sizes.{slot_at-within}
 use Rattle.bank_model.specs.{Adding.senses_of, After.{due_work, work_after, slot_of_work, slot_after, array_line_after, target_after, sources_of}, Answers.MayAll}
-use Rattle.bank_model.specs.{Changes.{change_after, line_of_change, numbers_from}, Events.{BankEvent, Write, Read, Serve, Begin, Iterate, Cut, RowsBelow, line_of_row}}
+use Rattle.bank_model.specs.{Changes.{change_after, line_of_change, numbers_from}, Events.{BankEvent, Serve, Begin, Iterate, Cut, RowsBelow, line_of_row}}
 use Rattle.bank_model.specs.{History.{Awaited, first_or, stores, moved_in, retired, has_exhausted, due_after, queue, waits}, Lawful.MayCome}
-use Rattle.bank_model.specs.{Sensing.{most_steps, stand_of, sensed_by, read_again, kept_sensed}, Timing.{Happens, Core, Regs, Keeping, KeepBegin, KeepIterate, KeepCut, core}}
+use Rattle.bank_model.specs.{Sensing.{most_steps, stand_of, sensed_by, read_again, kept_sensed}, Timing.{Happens, Core, Regs, Keeping, KeepCut, core}}
 use Rattle.bank_model.proofs.Within.{line_of_row-known, last_store-known}
 use Rattle.bank_laws.proofs.{Asked.{WaitsFor, asked-within, wrote-asked, queue-wrote, waits-asked}, Lines.Stands, Settling.above_all, Waiting.may_all}
 use Rattle.place_laws.proofs.{Moves.some-due, Slots.{slot_moved-within, gap-within, retired-few}, WornOut.{change-within, some_product}}
@@ -87,12 +87,11 @@ module _ {n : ℕ} (shape : BankShape) (r : 1 ≤ shape.regions) (l : 1 ≤ shap
         controls false = numbers-in shape (controls_from shape) (controls_of shape) (omega arith) (omega arith)
 
         by : (event : BankEvent n) → All (IsIn shape) (sensed_by shape h (read_again shape cancels) event)
-        by (Write row line bytes given answer) = All-nil (IsIn shape)
-        by (Read row line answer) = All-nil (IsIn shape)
         by (Serve answer) = stand-in (waits shape h) refl
         by (Begin answer) = All-append (IsIn shape) (sources_of shape h (work_after shape h)) (target_after shape h ∷ []) own.1 target
         by (Iterate answer) = target
         by (Cut tearing) = controls cancels
+        by _ = All-nil (IsIn shape)
 
 -- senses are of lines of a bank where those lines are
 senses-in : {n m : ℕ} (shape : BankShape) (ss : List (Sense n m)) → All (IsIn shape) (map (λ s. s.line) ss) → All (λ s. IsIn shape s.line) ss
@@ -117,6 +116,5 @@ within_law n m e shape pace (x ∷ xs) r l lawful =
       where
         kept-in : (change : Option ℕ) → IfSome change (λ item. item < controls_of shape) → (event : Keeping) → All (IsIn shape) (kept_sensed (line_of_change shape change) event)
         kept-in None within event = All-nil (IsIn shape)
-        kept-in (Some item) within (KeepBegin answer) = All-cons (IsIn shape) _ [] (omega arith, omega (arith, within)) (All-nil (IsIn shape))
-        kept-in (Some item) within (KeepIterate answer) = All-cons (IsIn shape) _ [] (omega arith, omega (arith, within)) (All-nil (IsIn shape))
         kept-in (Some item) within (KeepCut tearing) = All-nil (IsIn shape)
+        kept-in (Some item) within _ = All-cons (IsIn shape) _ [] (omega arith, omega (arith, within)) (All-nil (IsIn shape))

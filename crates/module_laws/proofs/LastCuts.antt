@@ -3,8 +3,8 @@ use Rattle.std.proofs.Common.{◌≡◌, ℕ, ◌<◌, ◌≤◌, Bool, true, fa
 use Rattle.std.{specs.Prelude.{IsTrue, IsFalse}, proofs.lemmas.Bool.false_from_ne_true}
 use Rattle.row_rules.specs.{declared.Asks.Asks, declared.Asks.TheVariants.{Reads, Writes, Cuts}}
 use Rattle.bank_shape.specs.{declared.BankShape.BankShape, declared.pace.Pace.Pace}
-use Rattle.bank_model.specs.{Events.{BankEvent, Write, Read, Serve, Begin, Iterate, Cut}, Lawful.{Lawful, MayCome, FollowsCancel, IsUncancelled, IsRead}}
-use Rattle.bank_model.specs.{Timing.{Happens, Core, Regs, KeepBegin, KeepIterate, KeepCut, TimedEvent, last_tick}, Told.IsWhole}
+use Rattle.bank_model.specs.{Events.{BankEvent, Write, Read, Cut}, Lawful.{Lawful, MayCome, FollowsCancel, IsUncancelled, IsRead}}
+use Rattle.bank_model.specs.{Timing.{Happens, Core, Regs, KeepCut, TimedEvent, last_tick}, Told.IsWhole}
 use Rattle.bank_laws.{specs.Resting.IsCutOff, specs.Ticks.ends_action, proofs.Ticks.last-below}
 use Rattle.module_laws.specs.{Asking.{Asked, IsAsked, AreAsked}, Serves.LastCutLaw}
 
@@ -39,12 +39,9 @@ module _ {n m : ℕ} (shape : BankShape) (pace : Pace) (e : ℕ) (r : 1 ≤ pace
       by before (Core (Read row line answer)) c hs cs may past = let clash : ◌≡◌ {A = Asks n} (Reads line) Cuts = sym (ap (λ (q : Asked n). q.asks) past.0) ∙ is in absurd (cc)
       by before (Core (Cut tearing)) false hs cs may past = ((tearing, hs, cs), sym past.0)
       by before (Core (Cut tearing)) true hs cs may past = absurd (cc (w, cs))
+      by before (Core event) c hs cs may past = ended before (ap ends_action hs) (whole-core xs x.tick event may.behind (λ tick bad. bad)) past
       by before (Regs (KeepCut tearing)) c hs cs may past = absurd (cc (w, may.on_time.2))
-      by before (Regs (KeepBegin answer)) c hs cs may past = ended before (ap ends_action hs) (whole-regs xs may.behind) past
-      by before (Regs (KeepIterate answer)) c hs cs may past = ended before (ap ends_action hs) (whole-regs xs may.behind) past
-      by before (Core (Serve answer)) c hs cs may past = ended before (ap ends_action hs) (whole-core xs x.tick (Serve answer) may.behind (λ tick bad. bad)) past
-      by before (Core (Begin answer)) c hs cs may past = ended before (ap ends_action hs) (whole-core xs x.tick (Begin answer) may.behind (λ tick bad. bad)) past
-      by before (Core (Iterate answer)) c hs cs may past = ended before (ap ends_action hs) (whole-core xs x.tick (Iterate answer) may.behind (λ tick bad. bad)) past
+      by before (Regs _) c hs cs may past = ended before (ap ends_action hs) (whole-regs xs may.behind) past
 
 pub last_cut_law : LastCutLaw
 last_cut_law n m e shape pace xs a asked r i l w are is le = (cut-last shape pace e r i xs a asked l w are is le).0

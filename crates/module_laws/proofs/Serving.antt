@@ -13,30 +13,12 @@ module _ {n : ℕ} where
   -- what a row may have doesn't go by the number of its line
   may_read : (tick line other : ℕ) (newest : List ℕ) (o : Outcome n) → may_have tick (Reads other) newest o ≡ may_have tick (Reads line) newest o
   may_read tick line other newest out.Unset = refl
-  may_read tick line other newest (out.Stored at place) = refl
-  may_read tick line other newest (out.Merged at) = refl
-  may_read tick line other newest (out.Queued at) = refl
-  may_read tick line other newest (out.Full at) = refl
-  may_read tick line other newest (out.Worn at) = refl
-  may_read tick line other newest (out.Read at place bytes) = refl
-  may_read tick line other newest (out.Forwarded at bytes) = refl
-  may_read tick line other newest (out.Busy at) = refl
-  may_read tick line other newest (out.Lost at) = refl
-  may_read tick line other newest (out.Cut at) = refl
+  may_read tick line other newest _ = refl
 
   may_write : (tick line other : ℕ) (bytes : List ℕ) (given : List Bool) (newest : List ℕ) (o : Outcome n)
       → may_have tick (Writes other bytes given) newest o ≡ may_have tick (Writes line bytes given) newest o
   may_write tick line other bytes given newest out.Unset = refl
-  may_write tick line other bytes given newest (out.Stored at place) = refl
-  may_write tick line other bytes given newest (out.Merged at) = refl
-  may_write tick line other bytes given newest (out.Queued at) = refl
-  may_write tick line other bytes given newest (out.Full at) = refl
-  may_write tick line other bytes given newest (out.Worn at) = refl
-  may_write tick line other bytes given newest (out.Read at place some) = refl
-  may_write tick line other bytes given newest (out.Forwarded at some) = refl
-  may_write tick line other bytes given newest (out.Busy at) = refl
-  may_write tick line other bytes given newest (out.Lost at) = refl
-  may_write tick line other bytes given newest (out.Cut at) = refl
+  may_write tick line other bytes given newest _ = refl
 
 module _ {n : ℕ} (bank_of line_in : ℕ → ℕ) where
   -- in its bank's words a row is a cut where it is one

@@ -4,7 +4,7 @@ use Rattle.std.{specs.Prelude.{filter, All}, proofs.lemmas.Bool.{cases_lt, and_f
 use Rattle.result_rows.specs.declared.Outcome.{Outcome}
 use Rattle.row_rules.specs.{Queueing.has_room, Rows.each_row, Table.is_of, declared.Row.Row}
 use Rattle.bank_shape.specs.{declared.BankShape.BankShape, declared.pace.Pace.Pace}
-use Rattle.bank_model.specs.{Events.{Write, Read, Serve, Begin, Iterate, Cut}, Lawful.Lawful, Timing.{Happens, Core, Regs, TimedEvent, last_tick}}
+use Rattle.bank_model.specs.{Events.{Write, Read, Cut}, Lawful.Lawful, Timing.{Happens, Core, TimedEvent, last_tick}}
 use Rattle.bank_laws.{specs.Laws.IsSized, specs.Outcomes.rows_from, specs.Resting.IsStill, specs.Room.RoomLaw, proofs.Settling.lawful_before, proofs.Ticks.last_tick-rises}
 use Rattle.right_runs.specs.{Banks.rules_of, Tables.{bank_table, finds_room_in}}
 use Rattle.module_laws.specs.{Asking.{Asked, row_with, asked_in, asked_of, AreAsked, IsAsked}, Serves.{AreRecorded, TicksFall, last_outcome, RoomByBankLaw}}
@@ -72,12 +72,8 @@ module _ {n m : ℕ} (shape : BankShape) (pace : Pace) (e : ℕ) (read : 1 ≤ p
           → IsSplit a.tick asked (x ∷ xs) × (a.tick ≤ x.tick)
       by (Core (Write row line bytes given answer)) cancels are ih = just_before a asked x xs l (ap (λ (b : Asked n). b.tick) are.0) are.1
       by (Core (Read row line answer)) cancels are ih = just_before a asked x xs l (ap (λ (b : Asked n). b.tick) are.0) are.1
-      by (Core (Serve answer)) cancels are ih = later (ih are)
-      by (Regs event) cancels are ih = later (ih are)
-      by (Core (Begin answer)) cancels are ih = later (ih are)
-      by (Core (Iterate answer)) cancels are ih = later (ih are)
-      by (Core (Cut tearing)) true are ih = later (ih are)
       by (Core (Cut tearing)) false are ih = just_before a asked x xs l are.0 are.2
+      by _ _ are ih = later (ih are)
 
   -- a row of another bank splits it at its tick
   other_split : (tick : ℕ) (asked : List (Asked n)) (xs : List (TimedEvent n m)) → AreAsked xs asked → All (By tick) asked → IsSplit tick asked xs
@@ -97,13 +93,9 @@ module _ {n m : ℕ} (shape : BankShape) (pace : Pace) (e : ℕ) (read : 1 ≤ p
       by (Core (Write row line bytes given answer)) cancels late (b ∷ asked) all are ih = absurd (too_late tick x.tick b asked all (ap (λ (b : Asked n). b.tick) are.0) late)
       by (Core (Read row line answer)) cancels late [] all are ih = absurd are
       by (Core (Read row line answer)) cancels late (b ∷ asked) all are ih = absurd (too_late tick x.tick b asked all (ap (λ (b : Asked n). b.tick) are.0) late)
-      by (Core (Serve answer)) cancels late asked all are ih = one_more tick asked x xs (omega (arith, late)) (ih are)
-      by (Regs event) cancels late asked all are ih = one_more tick asked x xs (omega (arith, late)) (ih are)
-      by (Core (Begin answer)) cancels late asked all are ih = one_more tick asked x xs (omega (arith, late)) (ih are)
-      by (Core (Iterate answer)) cancels late asked all are ih = one_more tick asked x xs (omega (arith, late)) (ih are)
-      by (Core (Cut tearing)) true late asked all are ih = one_more tick asked x xs (omega (arith, late)) (ih are)
       by (Core (Cut tearing)) false late [] all are ih = absurd are
       by (Core (Cut tearing)) false late (b ∷ asked) all are ih = absurd (too_late tick x.tick b asked all are.0 late)
+      by _ _ late asked all are ih = one_more tick asked x xs (omega (arith, late)) (ih are)
 
       at : (AreAsked xs asked → IsSplit tick asked xs) → (tick < x.tick) ⊎ (x.tick ≤ tick) → IsSplit tick asked (x ∷ xs)
       at ih (inr early) = record {

@@ -5,7 +5,7 @@ use Rattle.result_rows.specs.declared.Outcome.{Outcome}
 use Rattle.result_rows.specs.declared.Outcome.TheVariants as out
 use Rattle.row_rules.specs.{Table.{is_of, of_bank}, declared.Asks.Asks, declared.Asks.TheVariants.{Reads, Writes, Cuts}, declared.Row.Row}
 use Rattle.bank_shape.specs.declared.BankShape.{BankShape}
-use Rattle.bank_model.specs.{Events.{Write, Read, Serve, Begin, Iterate, Cut}, Timing.{Happens, Core, Regs, TimedEvent}}
+use Rattle.bank_model.specs.{Events.{Write, Read, Cut}, Timing.{Happens, Core, TimedEvent}}
 use Rattle.bank_laws.specs.Outcomes.{outcome_of, ended, row_with as row_of, rows_from}
 use Rattle.module_laws.specs.{Asking.{Asked, row_with, asked_in, asked_of, AreAsked, IsAsked}, Serves.{last_outcome, AreRecorded, BankTableLaw}}
 use Rattle.right_runs.specs.Tables.{row_in, bank_table}
@@ -71,15 +71,11 @@ module _ {n m : ℕ} (shape : BankShape) (all : List (TimedEvent n m)) (outcome 
       by (Core (Read row line answer)) cancels (a ∷ asked) is rec ih =
           ap (λ (r : Row n). r ∷ map (row_with outcome) asked) (row_read x.tick row line a is.0 (All-head IsRight a asked rec))
           ∙ ap (λ (rs : List (Row n)). record { tick = x.tick; asks = Reads line; outcome = outcome_of shape all row } ∷ rs) (ih asked is.1 (All-tail IsRight a asked rec))
-      by (Core (Serve answer)) cancels asked is rec ih = ih asked is rec
-      by (Regs event) cancels asked is rec ih = ih asked is rec
-      by (Core (Begin answer)) cancels asked is rec ih = ih asked is rec
-      by (Core (Iterate answer)) cancels asked is rec ih = ih asked is rec
-      by (Core (Cut tearing)) true asked is rec ih = ih asked is rec
       by (Core (Cut tearing)) false [] is rec ih = absurd is
       by (Core (Cut tearing)) false (a ∷ asked) is rec ih =
           ap (λ (r : Row n). r ∷ map (row_with outcome) asked) (row_cut x.tick a is.0 is.1 (All-head IsRight a asked rec))
           ∙ ap (λ (rs : List (Row n)). record { tick = x.tick; asks = Cuts; outcome = out.Cut x.tick } ∷ rs) (ih asked is.2 (All-tail IsRight a asked rec))
+      by _ _ asked is rec ih = ih asked is rec
 
 pub bank_table_law : BankTableLaw
 bank_table_law n m shape bank_of line_in bank xs asked outcome are rec =

@@ -7,7 +7,7 @@ use Rattle.result_rows.specs.declared.Outcome.TheVariants as out
 use Rattle.row_rules.specs.{Lines.IsOfLines, Rows.{asks_write, line_of}, Table.is_of, declared.Asks.Asks, declared.Asks.TheVariants.{Reads, Writes, Cuts}}
 use Rattle.bank_shape.specs.{declared.BankShape.BankShape, declared.answer.WriteAnswer.WriteAnswer, declared.pace.Pace.Pace}
 use Rattle.bank_shape.specs.declared.answer.WriteAnswer.TheVariants as wrote
-use Rattle.bank_model.specs.{Events.{Write, Read, Serve, Begin, Iterate, Cut}, History.queue, Lawful.{Lawful, MayCome}, Timing.{Happens, Core, Regs, TimedEvent, core}}
+use Rattle.bank_model.specs.{Events.{Write, Read, Cut}, History.queue, Lawful.{Lawful, MayCome}, Timing.{Happens, Core, TimedEvent, core}}
 use Rattle.bank_laws.{specs.Outcomes.{outcome_of, ended}, specs.Settling.AreOpen, proofs.Answering.merged-there, proofs.Ending.{Onwards, write_outcome}}
 use Rattle.bank_laws.proofs.{Fates.{IsLeft, WriteFate, new-push, new-merged}, Serves.{may_at, onwards_at}}
 use Rattle.module_laws.specs.Asking.{Asked, asked_in, asked_of, AreAsked, IsAsked}
@@ -72,14 +72,10 @@ module _ {n m : ℕ} (shape : BankShape) (pace : Pace) (e : ℕ) (all : List (Ti
       by (Core (Read row line answer)) cancels [] may on is rec ih = absurd is
       by (Core (Read row line answer)) cancels (a ∷ asked) may on is rec ih =
           All-cons IsQueuedBy a asked (no_write a (Reads line) (ap (λ (a : Asked n). a.asks) is.0) refl) (ih asked is.1 (All-tail IsRecorded a asked rec))
-      by (Core (Serve answer)) cancels asked may on is rec ih = ih asked is rec
-      by (Regs event) cancels asked may on is rec ih = ih asked is rec
-      by (Core (Begin answer)) cancels asked may on is rec ih = ih asked is rec
-      by (Core (Iterate answer)) cancels asked may on is rec ih = ih asked is rec
-      by (Core (Cut tearing)) true asked may on is rec ih = ih asked is rec
       by (Core (Cut tearing)) false [] may on is rec ih = absurd is
       by (Core (Cut tearing)) false (a ∷ asked) may on is rec ih =
           All-cons IsQueuedBy a asked (no_write a Cuts is.1 refl) (ih asked is.2 (All-tail IsRecorded a asked rec))
+      by _ _ asked may on is rec ih = ih asked is rec
 
 -- what holds of each row that was asked of each bank, in its bank's words, holds of each that was asked of the module
 module _ {n : ℕ} (bank_of line_in : ℕ → ℕ) (banks lines : ℕ) (exists : (line : ℕ) → line < lines → bank_of line < banks) (P : ℕ → ℕ → Type 0) where

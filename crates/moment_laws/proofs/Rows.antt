@@ -5,7 +5,7 @@ use Rattle.masked_bytes.specs.Masked.{laid}
 use Rattle.result_rows.specs.declared.Outcome.{Outcome}
 use Rattle.row_rules.specs.{Answers.accepts, Rows.newest, Table.{is_of, of_bank}, declared.Asks.Asks, declared.Asks.TheVariants.{Reads, Writes, Cuts}, declared.Row.Row}
 use Rattle.bank_shape.specs.declared.BankShape.{BankShape}
-use Rattle.bank_model.specs.{Events.{Write, Read, Serve, Begin, Iterate, Cut}, Timing.{Happens, Core, Regs, TimedEvent}}
+use Rattle.bank_model.specs.{Events.{Write, Read, Cut}, Timing.{Happens, Core, TimedEvent}}
 use Rattle.bank_laws.specs.Outcomes.{outcome_of, ended, row_with as row_of, rows_from}
 use Rattle.module_laws.specs.Asking.{Asked, row_with, AreAsked, IsAsked}
 use Rattle.right_runs.specs.Tables.{row_in, bank_table}
@@ -68,10 +68,6 @@ module _ {n m : ℕ} (shape : BankShape) (all : List (TimedEvent n m)) (outcome 
       by (Core (Read row at answer)) cancels [] is rec ih = absurd is
       by (Core (Read row at answer)) cancels (a ∷ asked) is rec ih =
           not_laid a asked (Reads at) (ap (λ (a : Asked n). a.asks) is.0) refl ∙ ih asked is.1 (All-tail Is a asked rec)
-      by (Core (Serve answer)) cancels asked is rec ih = ih asked is rec
-      by (Regs event) cancels asked is rec ih = ih asked is rec
-      by (Core (Begin answer)) cancels asked is rec ih = ih asked is rec
-      by (Core (Iterate answer)) cancels asked is rec ih = ih asked is rec
-      by (Core (Cut tearing)) true asked is rec ih = ih asked is rec
       by (Core (Cut tearing)) false [] is rec ih = absurd is
       by (Core (Cut tearing)) false (a ∷ asked) is rec ih = not_laid a asked Cuts is.1 refl ∙ ih asked is.2 (All-tail Is a asked rec)
+      by _ _ asked is rec ih = ih asked is rec

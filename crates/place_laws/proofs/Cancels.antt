@@ -4,7 +4,7 @@ use Rattle.std.{specs.Prelude.nat_lt, proofs.lemmas.Bool.ltb-true}
 use Rattle.bank_shape.specs.{Pausing.{is_cancelling, most_cancels}, declared.BankShape.BankShape, declared.pace.Pace.Pace, declared.pace.Policy.Policy}
 use Rattle.bank_shape.specs.declared.answer.Step.TheVariants as did
 use Rattle.bank_shape.specs.declared.answer.Keep.TheVariants as keep
-use Rattle.bank_model.specs.{Changes.{change_after, change_by, halted_after, halted_by}, Events.{Write, Read, Serve, Begin, Iterate, Cut}, History.{has_exhausted, waits}}
+use Rattle.bank_model.specs.{Changes.{change_after, change_by, halted_after, halted_by}, Events.{Begin, Iterate, Cut}, History.{has_exhausted, waits}}
 use Rattle.bank_model.specs.{Lawful.{Lawful, MayCome, would_cancel}, Running.{over_by, is_over, running_at, cancels_with, cancels_after}}
 use Rattle.bank_model.specs.Timing.{Happens, Core, Regs, KeepBegin, KeepIterate, KeepCut, TimedEvent, is_writing, is_empty, core, core_of}
 use Rattle.masked_bytes.proofs.Counting.{one_if}
@@ -60,25 +60,14 @@ module _ {n m : ℕ} (shape : BankShape) (pace : Pace) (e : ℕ) where
           (one_if (cancels_work h cancels) + cancels_in xs) (one_if (ends_work h cancels) + ends_in xs) (cancels_with h cancels (cancels_after xs))
 
       by : (h : Happens n) (cancels : Bool) → x.cancels ≡ cancels → MayCome shape pace e xs x h → KeepsCancels pace.policy (is_over shape xs) (cancels_in xs) (ends_in xs) (cancels_after xs) → By h cancels
-      by (Core (Write row line bytes given answer)) cancels is may k = passed pace.policy _ _ _ _ k
-      by (Core (Read row line answer)) cancels is may k = passed pace.policy _ _ _ _ k
-      by (Core (Serve answer)) cancels is may k = passed pace.policy _ _ _ _ k
       by (Core (Begin did.More)) cancels is may k = passed pace.policy _ _ _ _ k
-      by (Core (Begin (did.Stored row place))) cancels is may k = closed pace.policy (is_over shape xs) _ _ _ (cancels_after xs) k
-      by (Core (Begin (did.Moved step))) cancels is may k = closed pace.policy (is_over shape xs) _ _ _ (cancels_after xs) k
-      by (Core (Begin (did.Retired slot line))) cancels is may k = closed pace.policy (is_over shape xs) _ _ _ (cancels_after xs) k
-      by (Core (Begin did.Exhausted)) cancels is may k = closed pace.policy (is_over shape xs) _ _ _ (cancels_after xs) k
+      by (Core (Begin _)) cancels is may k = closed pace.policy (is_over shape xs) _ _ _ (cancels_after xs) k
       by (Core (Iterate did.More)) cancels is may k = passed pace.policy _ _ _ _ k
-      by (Core (Iterate (did.Stored row place))) cancels is may k = closed pace.policy (is_over shape xs) _ _ _ (cancels_after xs) k
-      by (Core (Iterate (did.Moved step))) cancels is may k = closed pace.policy (is_over shape xs) _ _ _ (cancels_after xs) k
-      by (Core (Iterate (did.Retired slot line))) cancels is may k = closed pace.policy (is_over shape xs) _ _ _ (cancels_after xs) k
-      by (Core (Iterate did.Exhausted)) cancels is may k = closed pace.policy (is_over shape xs) _ _ _ (cancels_after xs) k
+      by (Core (Iterate _)) cancels is may k = closed pace.policy (is_over shape xs) _ _ _ (cancels_after xs) k
       by (Core (Cut tearing)) true is may k = cut_kept xs x.tick true _ _ _ before (λ yes. may.on_time.2 is) refl k
       by (Core (Cut tearing)) false is may k = cut_kept xs x.tick false _ _ _ before (λ yes. absurd (cc)) refl k
+      by (Core _) cancels is may k = passed pace.policy _ _ _ _ k
       by (Regs (KeepBegin keep.More)) cancels is may k = passed pace.policy _ _ _ _ k
-      by (Regs (KeepBegin keep.Done)) cancels is may k = closed pace.policy (is_over shape xs) _ _ _ (cancels_after xs) k
-      by (Regs (KeepBegin keep.Halted)) cancels is may k = closed pace.policy (is_over shape xs) _ _ _ (cancels_after xs) k
       by (Regs (KeepIterate keep.More)) cancels is may k = passed pace.policy _ _ _ _ k
-      by (Regs (KeepIterate keep.Done)) cancels is may k = closed pace.policy (is_over shape xs) _ _ _ (cancels_after xs) k
-      by (Regs (KeepIterate keep.Halted)) cancels is may k = closed pace.policy (is_over shape xs) _ _ _ (cancels_after xs) k
       by (Regs (KeepCut tearing)) cancels is may k = cut_kept xs x.tick true _ _ _ before (λ yes. may.on_time.3) refl k
+      by (Regs _) cancels is may k = closed pace.policy (is_over shape xs) _ _ _ (cancels_after xs) k

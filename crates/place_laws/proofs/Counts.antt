@@ -3,7 +3,7 @@ use Rattle.std.proofs.Common.{◌≡◌, ℕ, ◌+◌, ◌<◌, inl, inr, Bool, 
 use Rattle.std.proofs.lemmas.Bool.{ne_eqb}
 use Rattle.masked_bytes.proofs.Counting.{one_if}
 use Rattle.bank_shape.specs.declared.answer.Step.TheVariants as did
-use Rattle.bank_model.{specs.Events.{BankEvent, Write, Read, Serve, Begin, Iterate, Cut, RowsBelow, line_of_row}, proofs.Rising.RowsBelow-more}
+use Rattle.bank_model.{specs.Events.{BankEvent, Write, Read, Begin, Iterate, RowsBelow, line_of_row}, proofs.Rising.RowsBelow-more}
 use Rattle.bank_laws.proofs.Asked.{Wrote, wrote-asked, asked-below}
 
 one-counted : (k b c : Bool) → b ≡ false → c ≡ true → one_if (k && c) ≡ one_if (k && b) + one_if k
@@ -30,11 +30,7 @@ module _ {n : ℕ} where
   writes-same keep f g [] same = refl
   writes-same keep f g (Write row line bytes given answer ∷ h) same =
       ap (λ b. one_if (keep line && b) + writes_with keep f h) (same row) ∙ ap (λ k. one_if (keep line && g row) + k) (writes-same keep f g h same)
-  writes-same keep f g (Read row line answer ∷ h) same = writes-same keep f g h same
-  writes-same keep f g (Serve answer ∷ h) same = writes-same keep f g h same
-  writes-same keep f g (Begin answer ∷ h) same = writes-same keep f g h same
-  writes-same keep f g (Iterate answer ∷ h) same = writes-same keep f g h same
-  writes-same keep f g (Cut tearing ∷ h) same = writes-same keep f g h same
+  writes-same keep f g (_ ∷ h) same = writes-same keep f g h same
 
   writes-below : (keep f g : ℕ → Bool) (h : List (BankEvent n)) (at : ℕ) → RowsBelow h at → ((row : ℕ) → (at == row) ≡ false → f row ≡ g row) → writes_with keep f h ≡ writes_with keep g h
   writes-below keep f g [] at b same = refl
@@ -42,10 +38,7 @@ module _ {n : ℕ} where
       ap (λ b. one_if (keep line && b) + writes_with keep f h) (same row (ne_eqb at row (λ is. omega (arith, b.0, is))))
       ∙ ap (λ k. one_if (keep line && g row) + k) (writes-below keep f g h at (RowsBelow-more h row at (omega (arith, b.0)) b.1) same)
   writes-below keep f g (Read row line answer ∷ h) at b same = writes-below keep f g h at (RowsBelow-more h row at (omega (arith, b.0)) b.1) same
-  writes-below keep f g (Serve answer ∷ h) at b same = writes-below keep f g h at b same
-  writes-below keep f g (Begin answer ∷ h) at b same = writes-below keep f g h at b same
-  writes-below keep f g (Iterate answer ∷ h) at b same = writes-below keep f g h at b same
-  writes-below keep f g (Cut tearing ∷ h) at b same = writes-below keep f g h at b same
+  writes-below keep f g (_ ∷ h) at b same = writes-below keep f g h at b same
 
   -- one more row counts, that of a write of this line
   pub writes-more : (keep f g : ℕ → Bool) (h : List (BankEvent n)) (next at line : ℕ) → RowsBelow h next → Wrote h at line → f at ≡ false → g at ≡ true
@@ -63,7 +56,4 @@ module _ {n : ℕ} where
       let rest : writes_with keep g h ≡ writes_with keep f h + one_if (keep line) = writes-more keep f g h row at line b.1 w off on same in
       omega (arith, rest, here)
   writes-more keep f g (Read row of answer ∷ h) next at line b w off on same = writes-more keep f g h row at line b.1 w off on same
-  writes-more keep f g (Serve answer ∷ h) next at line b w off on same = writes-more keep f g h next at line b w off on same
-  writes-more keep f g (Begin answer ∷ h) next at line b w off on same = writes-more keep f g h next at line b w off on same
-  writes-more keep f g (Iterate answer ∷ h) next at line b w off on same = writes-more keep f g h next at line b w off on same
-  writes-more keep f g (Cut tearing ∷ h) next at line b w off on same = writes-more keep f g h next at line b w off on same
+  writes-more keep f g (_ ∷ h) next at line b w off on same = writes-more keep f g h next at line b w off on same

@@ -5,7 +5,7 @@ use Rattle.masked_bytes.specs.declared.entry.Entry.{Entry}
 use Rattle.start_gap.{specs.Rotation.{move_after, moved_line, gap_after}, specs.Turn.Copies, specs.declared.Move.Move, proofs.FullTurn.has_each_pair_once}
 use Rattle.bank_shape.specs.{declared.BankShape.BankShape, declared.Work.TheVariants.Nothing}
 use Rattle.bank_shape.specs.declared.answer.Step.TheVariants as did
-use Rattle.bank_model.specs.{After.{work_after, due_work}, Answers.{IsDone, MayAll}, Events.{BankEvent, Write, Read, Serve, Begin, Iterate, Cut}}
+use Rattle.bank_model.specs.{After.{work_after, due_work}, Answers.{IsDone, MayAll}, Events.{BankEvent, Begin, Iterate}}
 use Rattle.bank_model.specs.History.{queue, moved_in, due_after, has_exhausted}
 use Rattle.place_laws.{specs.GapMoves.{moves_of, first_moves, GapMovesLaw, copies_into, FullTurnLaw}, proofs.Moves.{last_region, some-due}}
 
@@ -49,18 +49,7 @@ module _ {n : ℕ} (shape : BankShape) where
   moves-are most region [] may = refl
   moves-are most region (Begin (did.Moved step) ∷ h) may = moved-more h region step may.0.1 (moves-are most region h may.1)
   moves-are most region (Iterate (did.Moved step) ∷ h) may = moved-more h region step may.0.1 (moves-are most region h may.1)
-  moves-are most region (Write row line bytes given answer ∷ h) may = moves-are most region h may.1
-  moves-are most region (Read row line answer ∷ h) may = moves-are most region h may.1
-  moves-are most region (Serve answer ∷ h) may = moves-are most region h may.1
-  moves-are most region (Cut tearing ∷ h) may = moves-are most region h may.1
-  moves-are most region (Begin did.More ∷ h) may = moves-are most region h may.1
-  moves-are most region (Begin (did.Stored row place) ∷ h) may = moves-are most region h may.1
-  moves-are most region (Begin (did.Retired slot line) ∷ h) may = moves-are most region h may.1
-  moves-are most region (Begin did.Exhausted ∷ h) may = moves-are most region h may.1
-  moves-are most region (Iterate did.More ∷ h) may = moves-are most region h may.1
-  moves-are most region (Iterate (did.Stored row place) ∷ h) may = moves-are most region h may.1
-  moves-are most region (Iterate (did.Retired slot line) ∷ h) may = moves-are most region h may.1
-  moves-are most region (Iterate did.Exhausted ∷ h) may = moves-are most region h may.1
+  moves-are most region (_ ∷ h) may = moves-are most region h may.1
 
 pub gap_moves_law : GapMovesLaw
 gap_moves_law n most region shape h may = moves-are shape most region h may

@@ -3,7 +3,7 @@ use Rattle.std.proofs.Common.{◌≡◌, ℕ, ◌+◌, ◌*◌, ◌/◌, ◌<◌
 use Rattle.std.{specs.Prelude.nat_le, proofs.lemmas.Bool.{leb-true, leb-false}}
 use Rattle.bank_shape.specs.declared.BankShape.{BankShape}
 use Rattle.bank_shape.specs.declared.answer.Step.TheVariants as did
-use Rattle.bank_model.specs.{Answers.MayAll, Events.{BankEvent, Write, Read, Serve, Begin, Iterate, Cut, line_of_row}, History.{first_or, stores, stored_in, moved_in, due_after}}
+use Rattle.bank_model.specs.{Answers.MayAll, Events.{BankEvent, Begin, Iterate, line_of_row}, History.{first_or, stores, stored_in, moved_in, due_after}}
 use Rattle.masked_bytes.proofs.Counting.{one_if}
 use Rattle.place_laws.proofs.Working.{IsStoreOf, done-store, done-move}
 
@@ -104,24 +104,15 @@ module _ {n : ℕ} (shape : BankShape) where
     near = λ region. omega arith;
     last = λ region le. absurd (omega (arith, le, next_product shape.psi 0));
   }
-  keeps most (Write row line bytes given answer ∷ h) some may = let k = keeps most h some may.1 in record { few = k.few; near = k.near; last = k.last }
-  keeps most (Read row line answer ∷ h) some may = let k = keeps most h some may.1 in record { few = k.few; near = k.near; last = k.last }
-  keeps most (Serve answer ∷ h) some may = let k = keeps most h some may.1 in record { few = k.few; near = k.near; last = k.last }
-  keeps most (Cut tearing ∷ h) some may = let k = keeps most h some may.1 in record { few = k.few; near = k.near; last = k.last }
   keeps most (Begin (did.Stored row place) ∷ h) some may =
       let k = store_kept h row place (keeps most h some may.1) (done-store shape h row place may.0.1) in record { few = k.few; near = k.near; last = k.last }
-  keeps most (Iterate (did.Stored row place) ∷ h) some may = store_kept h row place (keeps most h some may.1) (done-store shape h row place may.0.1)
   keeps most (Begin (did.Moved step) ∷ h) some may =
       let m = done-move shape h step may.0.1 in
       let k = keeps-moved some h m.region (keeps most h some may.1) m.due in
       record { few = λ at. (k at).0; near = λ at. (k at).1; last = λ at. (k at).2 }
+  keeps most (Iterate (did.Stored row place) ∷ h) some may = store_kept h row place (keeps most h some may.1) (done-store shape h row place may.0.1)
   keeps most (Iterate (did.Moved step) ∷ h) some may =
       let m = done-move shape h step may.0.1 in
       let k = keeps-moved some h m.region (keeps most h some may.1) m.due in
       record { few = λ at. (k at).0; near = λ at. (k at).1; last = λ at. (k at).2 }
-  keeps most (Begin did.More ∷ h) some may = let k = keeps most h some may.1 in record { few = k.few; near = k.near; last = k.last }
-  keeps most (Begin (did.Retired slot line) ∷ h) some may = let k = keeps most h some may.1 in record { few = k.few; near = k.near; last = k.last }
-  keeps most (Begin did.Exhausted ∷ h) some may = let k = keeps most h some may.1 in record { few = k.few; near = k.near; last = k.last }
-  keeps most (Iterate did.More ∷ h) some may = let k = keeps most h some may.1 in record { few = k.few; near = k.near; last = k.last }
-  keeps most (Iterate (did.Retired slot line) ∷ h) some may = let k = keeps most h some may.1 in record { few = k.few; near = k.near; last = k.last }
-  keeps most (Iterate did.Exhausted ∷ h) some may = let k = keeps most h some may.1 in record { few = k.few; near = k.near; last = k.last }
+  keeps most (_ ∷ h) some may = let k = keeps most h some may.1 in record { few = k.few; near = k.near; last = k.last }

@@ -7,8 +7,8 @@ use Rattle.cell_rows.specs.Device.{ArrayState}
 use Rattle.spare_pool.{specs.Table.{Table, line_from}, proofs.Lines.{line_from-cases, HasSpare, only_own}}
 use Rattle.row_rules.specs.{Answers.stored_before, Rows.{asks_write, line_of}, declared.Row.Row}
 use Rattle.bank_shape.specs.{Shape.slots_of, declared.BankShape.BankShape, declared.pace.Pace.Pace}
-use Rattle.bank_model.specs.{After.{slot_after, stands_at_after}, Events.{Write, Read, Serve, Begin, Iterate, Cut}, History.{retired, moved_in, stored_in}, Lawful.Lawful}
-use Rattle.bank_model.specs.{Sensing.most_steps, Timing.{Happens, Core, Regs, TimedEvent, core, core_of}}
+use Rattle.bank_model.specs.{After.{slot_after, stands_at_after}, Events.{Write, Read, Cut}, History.{retired, moved_in, stored_in}, Lawful.Lawful}
+use Rattle.bank_model.specs.{Sensing.most_steps, Timing.{Happens, Core, TimedEvent, core, core_of}}
 use Rattle.bank_laws.specs.{Laws.{IsSized, LeavesArray}, Outcomes.{outcome_of, ended, row_with, rows_from, table_of}, Ticks.ends_action}
 use Rattle.bank_laws.proofs.{Asked.{Asked, asked-one, asked-within, wrote-asked, queue-wrote, waits-asked}, Settling.{lawful_before, above_all}, Waiting.may_all}
 use Rattle.bank_laws.proofs.Walking.{Passes, walk, rows_after}
@@ -55,11 +55,7 @@ module _ {n m : ℕ} (shape : BankShape) where
   asked-more : (h : Happens n) (zs : List (TimedEvent n m)) (row line : ℕ) → Asked (core zs) row line → Asked (core_of h (core zs)) row line
   asked-more (Core (Write at of bytes given answer)) zs row line a = inr a
   asked-more (Core (Read at of answer)) zs row line a = inr a
-  asked-more (Core (Serve answer)) zs row line a = a
-  asked-more (Regs event) zs row line a = a
-  asked-more (Core (Begin answer)) zs row line a = a
-  asked-more (Core (Iterate answer)) zs row line a = a
-  asked-more (Core (Cut tearing)) zs row line a = a
+  asked-more _ zs row line a = a
 
   pub asked-later : (later zs : List (TimedEvent n m)) (row line : ℕ) → Asked (core zs) row line → Asked (core (later ++ zs)) row line
   asked-later [] zs row line a = a
@@ -185,12 +181,8 @@ module _ {n m : ℕ} (shape : BankShape) (pace : Pace) (e : ℕ) (all : List (Ti
       by (Core (Write row line bytes given answer)) cancels sums asked = ended-placed x.tick line (rows_from shape all ys ++ (row_with shape all (Core (Write row line bytes given answer)) x.tick cancels ++ rows_after shape all later)) (outcome_of shape all row)
           (outcome-placed (rows_from shape all ys ++ (row_with shape all (Core (Write row line bytes given answer)) x.tick cancels ++ rows_after shape all later)) row line sums (asked row line (inl (refl, refl))))
       by (Core (Read row line answer)) cancels sums asked = outcome-placed (rows_from shape all ys ++ (row_with shape all (Core (Read row line answer)) x.tick cancels ++ rows_after shape all later)) row line sums (asked row line (inl (refl, refl)))
-      by (Core (Serve answer)) cancels sums asked = tt
-      by (Regs event) cancels sums asked = tt
-      by (Core (Begin answer)) cancels sums asked = tt
-      by (Core (Iterate answer)) cancels sums asked = tt
-      by (Core (Cut tearing)) true sums asked = tt
       by (Core (Cut tearing)) false sums asked = refl
+      by _ _ sums asked = tt
 
 pub placed_law : PlacedLaw
 placed_law n m e shape pace xs array sized l leaves =

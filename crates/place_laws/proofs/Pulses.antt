@@ -6,9 +6,9 @@ use Rattle.result_rows.specs.declared.Outcome.TheVariants as out
 use Rattle.bank_shape.specs.{Pausing.{is_cancelling, gives_way}, Shape.{is_array, if_array, controls_of, lines_in}, declared.BankShape.BankShape, declared.Home.Home}
 use Rattle.bank_shape.specs.{declared.pace.Pace.Pace, declared.pace.Policy.Policy, declared.pace.Policy.TheVariants.{Pause, Plain, Cancel}}
 use Rattle.bank_shape.specs.declared.Home.TheVariants as home
-use Rattle.bank_model.specs.{After.due_moves, Answers.MayAll, Changes.{change_after, halted_after}, Events.{Write, Read, Serve, Begin, Iterate, Cut}}
+use Rattle.bank_model.specs.{After.due_moves, Answers.MayAll, Changes.{change_after, halted_after}, Events.{Write, Read, Cut}}
 use Rattle.bank_model.specs.{History.{has_exhausted, retired, waits, due_after}, Lawful.Lawful, Running.{over_by, busy_after, made_after, is_over, choice_after, cancels_after}}
-use Rattle.bank_model.specs.{Sensing.{most_steps, pulses_of}, Timing.{Happens, Core, Regs, TimedEvent, core, is_empty}}
+use Rattle.bank_model.specs.{Sensing.{most_steps, pulses_of}, Timing.{Happens, Core, TimedEvent, core, is_empty}}
 use Rattle.bank_laws.{specs.Laws.IsSized, specs.Outcomes.{outcome_of, ended, row_with, rows_from, table_of}, specs.Resting.IsStill, proofs.Waiting.may_all}
 use Rattle.right_runs.specs.{Banks.rules_of, KeepsPlaces.{pulses_among, most_pulses}}
 use Rattle.place_laws.{specs.PlaceLaws.PulsesLaw, proofs.Cancels.cancels-kept, proofs.Moves.next_product}
@@ -54,13 +54,9 @@ module _ {n m : ℕ} (shape : BankShape) (all : List (TimedEvent n m)) where
           omega (arith, ih, sum_by-cons (λ (r : Row n). one_if (is_cut r)) (record { tick = x.tick; asks = Writes line bytes given; outcome = ended x.tick (outcome_of shape all row) }) (rows_from shape all ys))
       by (Core (Read row line answer)) cancels ih =
           omega (arith, ih, sum_by-cons (λ (r : Row n). one_if (is_cut r)) (record { tick = x.tick; asks = Reads line; outcome = outcome_of shape all row }) (rows_from shape all ys))
-      by (Core (Serve answer)) cancels ih = omega (arith, ih)
-      by (Regs event) cancels ih = omega (arith, ih)
-      by (Core (Begin answer)) cancels ih = omega (arith, ih)
-      by (Core (Iterate answer)) cancels ih = omega (arith, ih)
-      by (Core (Cut tearing)) true ih = omega (arith, ih)
       by (Core (Cut tearing)) false ih =
           omega (arith, ih, sum_by-cons (λ (r : Row n). one_if (is_cut r)) (record { tick = x.tick; asks = Cuts; outcome = out.Cut x.tick }) (rows_from shape all ys))
+      by _ _ ih = omega (arith, ih)
 
 module _ {n m : ℕ} (shape : BankShape) (pace : Pace) (e : ℕ) (all : List (TimedEvent n m)) (sized : IsSized shape pace) (l : Lawful shape pace e all) (still : IsStill shape all) where
   abbrev stores_by_rows : ℕ

@@ -226,10 +226,7 @@ module _ {n m : ℕ} (shape : BankShape) (pace : Pace) (e from count : ℕ) wher
           began : (answer : Step) → pulses_in (x ∷ xs) ≤ w * (one_if (not (goes_on answer)) + ends_in xs + (0 + cancels_in xs)) + held_by (goes_on answer) 0 → change_after shape xs ≡ None
               → KeepsAt xs x (Core (Begin answer)) (pulses_in (x ∷ xs)) (one_if (not (goes_on answer)) + ends_in xs + (0 + cancels_in xs))
           began did.More few is = goes (change_after shape xs) is 0 _ few (omega arith)
-          began (did.Stored row place) few is = stops _ _ _ few
-          began (did.Moved step) few is = stops _ _ _ few
-          began (did.Retired slot line) few is = stops _ _ _ few
-          began did.Exhausted few is = stops _ _ _ few
+          began _ few is = stops _ _ _ few
       by (Core (Iterate answer)) cancels may k more = went answer (subst (λ c. pulses_in (x ∷ xs) ≤ w * (one_if (not (goes_on answer)) + ends_in xs + (0 + cancels_in xs)) + held_by (goes_on answer) (c + 1)) made few) may.may.3 may.on_time.2
         where
           made : made_after shape xs ≡ iterated (core xs)
@@ -242,10 +239,7 @@ module _ {n m : ℕ} (shape : BankShape) (pace : Pace) (e from count : ℕ) wher
               → (answer ≡ did.More → iterated (core xs) + 1 < w) → change_after shape xs ≡ None
               → KeepsAt xs x (Core (Iterate answer)) (pulses_in (x ∷ xs)) (one_if (not (goes_on answer)) + ends_in xs + (0 + cancels_in xs))
           went did.More few room is = goes (change_after shape xs) is (iterated (core xs) + 1) _ few (let r : iterated (core xs) + 1 < w = room refl in omega (arith, r))
-          went (did.Stored row place) few room is = stops _ _ _ few
-          went (did.Moved step) few room is = stops _ _ _ few
-          went (did.Retired slot line) few room is = stops _ _ _ few
-          went did.Exhausted few room is = stops _ _ _ few
+          went _ few room is = stops _ _ _ few
       by (Core (Cut tearing)) cancels may k more =
           stops (change_after shape xs) _ _ (cut (torn-busy shape (change_after shape xs) (keeping_after xs) (in_progress (core xs)) (running_at shape pace xs x.tick) tearing
           (tearing-going tearing (in_progress (core xs)) may.may) may.on_time.1 may.on_time.4 (core xs)))

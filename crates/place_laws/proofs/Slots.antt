@@ -6,7 +6,7 @@ use Rattle.bank_shape.proofs.Sizes.{slot_at-within}
 use Rattle.bank_shape.specs.declared.answer.Step.TheVariants as did
 use Rattle.start_gap.specs.Rotation.{place_after, gap_after}
 use Rattle.spare_pool.{specs.Table.line_from, proofs.Lines.line_from-more}
-use Rattle.bank_model.specs.{After.work_after, Answers.{IsDone, MayAll}, Events.{BankEvent, Write, Read, Serve, Begin, Iterate, Cut}, History.retired}
+use Rattle.bank_model.specs.{After.work_after, Answers.{IsDone, MayAll}, Events.{BankEvent, Begin, Iterate}, History.retired}
 use Rattle.bank_model.specs.Timing.{Happens, Core, Regs, TimedEvent, core, core_of}
 
 pub slot_moved-within : (shape : BankShape) (line moves : ℕ) → 1 ≤ shape.lines → line < shape.regions * shape.lines → slot_moved shape line moves < slots_of shape
@@ -32,20 +32,9 @@ module _ {n : ℕ} (shape : BankShape) where
   -- no more retirements than spares
   pub retired-few : (most : ℕ) (h : List (BankEvent n)) → MayAll shape most h → length (retired h) ≤ shape.spares
   retired-few most [] may = omega arith
-  retired-few most (Write row line bytes given answer ∷ h) may = retired-few most h may.1
-  retired-few most (Read row line answer ∷ h) may = retired-few most h may.1
-  retired-few most (Serve answer ∷ h) may = retired-few most h may.1
-  retired-few most (Cut tearing ∷ h) may = retired-few most h may.1
-  retired-few most (Begin (did.Stored row place) ∷ h) may = retired-few most h may.1
-  retired-few most (Begin did.More ∷ h) may = retired-few most h may.1
-  retired-few most (Begin (did.Moved step) ∷ h) may = retired-few most h may.1
   retired-few most (Begin (did.Retired slot line) ∷ h) may = absurd (begin-retires_none shape h (work_after shape h) slot line may.0.1)
-  retired-few most (Begin did.Exhausted ∷ h) may = retired-few most h may.1
-  retired-few most (Iterate (did.Stored row place) ∷ h) may = retired-few most h may.1
-  retired-few most (Iterate did.More ∷ h) may = retired-few most h may.1
-  retired-few most (Iterate (did.Moved step) ∷ h) may = retired-few most h may.1
   retired-few most (Iterate (did.Retired slot line) ∷ h) may = omega (arith, length-append (retired h) (slot ∷ []), may.0.1.2)
-  retired-few most (Iterate did.Exhausted ∷ h) may = retired-few most h may.1
+  retired-few most (_ ∷ h) may = retired-few most h may.1
 
   -- a slot that has a spare has one after any later event
   abbrev pub IsAway : List (BankEvent n) → ℕ → Type 0
@@ -59,20 +48,9 @@ module _ {n : ℕ} (shape : BankShape) where
       by false = away
 
   pub away-more : (event : BankEvent n) (h : List (BankEvent n)) (slot : ℕ) → IsAway h slot → IsAway (event ∷ h) slot
-  away-more (Write row line bytes given answer) h slot away = away
-  away-more (Read row line answer) h slot away = away
-  away-more (Serve answer) h slot away = away
-  away-more (Cut tearing) h slot away = away
-  away-more (Begin (did.Stored row place)) h slot away = away
-  away-more (Begin did.More) h slot away = away
-  away-more (Begin (did.Moved step)) h slot away = away
   away-more (Begin (did.Retired at line)) h slot away = away-retired h at slot away
-  away-more (Begin did.Exhausted) h slot away = away
-  away-more (Iterate (did.Stored row place)) h slot away = away
-  away-more (Iterate did.More) h slot away = away
-  away-more (Iterate (did.Moved step)) h slot away = away
   away-more (Iterate (did.Retired at line)) h slot away = away-retired h at slot away
-  away-more (Iterate did.Exhausted) h slot away = away
+  away-more _ h slot away = away
 
   pub away-later : {m : ℕ} (later zs : List (TimedEvent n m)) (slot : ℕ) → IsAway (core zs) slot → IsAway (core (later ++ zs)) slot
   away-later [] zs slot away = away

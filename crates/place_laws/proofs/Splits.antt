@@ -8,7 +8,7 @@ use Rattle.bank_shape.specs.declared.answer.WriteAnswer.TheVariants as wrote
 use Rattle.bank_shape.specs.declared.answer.ReadAnswer.TheVariants as came
 use Rattle.bank_shape.specs.declared.answer.Step.TheVariants as did
 use Rattle.bank_model.specs.{After.stands_at_after, Answers.IsServed, Events.{BankEvent, Write, Read, Serve, Begin, Iterate, Cut}, History.{Awaited, waits}}
-use Rattle.bank_model.specs.{Lawful.{Lawful, MayCome}, Timing.{Happens, Core, Regs, TimedEvent, core}}
+use Rattle.bank_model.specs.{Lawful.{Lawful, MayCome}, Timing.{Happens, Core, TimedEvent, core}}
 use Rattle.bank_laws.{specs.Outcomes.{on_row, outcome_with, outcome_of}, specs.Standing.has_wait, specs.Ticks.ends_action, proofs.Asked.WaitsFor}
 use Rattle.place_laws.proofs.Working.{IsStoreOf, done-store}
 
@@ -98,26 +98,16 @@ module _ {n m : ℕ} (shape : BankShape) (pace : Pace) (e : ℕ) where
 
       by : (h : Happens n) → x.happens ≡ h → MayCome shape pace e zs x h → (outcome_of shape zs row ≡ out.Stored u p → IsStoredAt shape zs row u p)
           → unwrap_or (outcome_with shape zs h x.tick row) (outcome_of shape zs row) ≡ out.Stored u p → IsStoredAt shape (x ∷ zs) row u p
-      by (Core (Write at line bytes given wrote.Accepted)) is may go s = more (go s)
       by (Core (Write at line bytes given (wrote.Merged old))) is may go s = more (go (not_this old row _ _ _ (λ k. absurd (cc)) s))
       by (Core (Write at line bytes given wrote.Full)) is may go s = more (go (not_this at row _ _ _ (λ k. absurd (cc)) s))
       by (Core (Write at line bytes given wrote.Exhausted)) is may go s = more (go (not_this at row _ _ _ (λ k. absurd (cc)) s))
-      by (Core (Read at line came.Waiting)) is may go s = more (go s)
       by (Core (Read at line came.Busy)) is may go s = more (go (not_this at row _ _ _ (λ k. absurd (cc)) s))
       by (Core (Read at line (came.Forwarded bytes))) is may go s = more (go (not_this at row _ _ _ (λ k. absurd (cc)) s))
-      by (Regs event) is may go s = more (go s)
       by (Core (Serve answer)) is may go s = more (go (not_this answer.row row _ _ _ (λ k. absurd (cc)) s))
       by (Core (Begin (did.Stored at place))) is may go s = store_now x zs at place row u p (ap ends_action is) (done-store shape (core zs) at place may.may.1) go s
-      by (Core (Begin did.More)) is may go s = more (go s)
-      by (Core (Begin (did.Moved step))) is may go s = more (go s)
-      by (Core (Begin (did.Retired slot line))) is may go s = more (go s)
-      by (Core (Begin did.Exhausted)) is may go s = more (go s)
       by (Core (Iterate (did.Stored at place))) is may go s = store_now x zs at place row u p (ap ends_action is) (done-store shape (core zs) at place may.may.1) go s
-      by (Core (Iterate did.More)) is may go s = more (go s)
-      by (Core (Iterate (did.Moved step))) is may go s = more (go s)
-      by (Core (Iterate (did.Retired slot line))) is may go s = more (go s)
-      by (Core (Iterate did.Exhausted)) is may go s = more (go s)
       by (Core (Cut tearing)) is may go s = more (go (not_lost (has_wait (waits shape (core zs)) row) _ _ _ (λ k. absurd (cc)) s))
+      by _ is may go s = more (go s)
 
   serve_now : (x : TimedEvent n m) (zs : List (TimedEvent n m)) (answer : Served n) (row u p : ℕ) (bytes : List ℕ) → ends_action x.happens ≡ true → IsServeOf shape (core zs) answer.row answer.place
       → (outcome_of shape zs row ≡ out.Read u p bytes → IsReadAt shape zs row u p)
@@ -147,23 +137,13 @@ module _ {n m : ℕ} (shape : BankShape) (pace : Pace) (e : ℕ) where
 
       by : (h : Happens n) → x.happens ≡ h → MayCome shape pace e zs x h → (outcome_of shape zs row ≡ out.Read u p bytes → IsReadAt shape zs row u p)
           → unwrap_or (outcome_with shape zs h x.tick row) (outcome_of shape zs row) ≡ out.Read u p bytes → IsReadAt shape (x ∷ zs) row u p
-      by (Core (Write at line some given wrote.Accepted)) is may go s = more (go s)
       by (Core (Write at line some given (wrote.Merged old))) is may go s = more (go (not_this old row _ _ _ (λ k. absurd (cc)) s))
       by (Core (Write at line some given wrote.Full)) is may go s = more (go (not_this at row _ _ _ (λ k. absurd (cc)) s))
       by (Core (Write at line some given wrote.Exhausted)) is may go s = more (go (not_this at row _ _ _ (λ k. absurd (cc)) s))
-      by (Core (Read at line came.Waiting)) is may go s = more (go s)
       by (Core (Read at line came.Busy)) is may go s = more (go (not_this at row _ _ _ (λ k. absurd (cc)) s))
       by (Core (Read at line (came.Forwarded some))) is may go s = more (go (not_this at row _ _ _ (λ k. absurd (cc)) s))
-      by (Regs event) is may go s = more (go s)
       by (Core (Serve answer)) is may go s = serve_now x zs answer row u p bytes (ap ends_action is) (served-of shape (core zs) answer may.may) go s
       by (Core (Begin (did.Stored at place))) is may go s = more (go (not_this at row _ _ _ (λ k. absurd (cc)) s))
-      by (Core (Begin did.More)) is may go s = more (go s)
-      by (Core (Begin (did.Moved step))) is may go s = more (go s)
-      by (Core (Begin (did.Retired slot line))) is may go s = more (go s)
-      by (Core (Begin did.Exhausted)) is may go s = more (go s)
       by (Core (Iterate (did.Stored at place))) is may go s = more (go (not_this at row _ _ _ (λ k. absurd (cc)) s))
-      by (Core (Iterate did.More)) is may go s = more (go s)
-      by (Core (Iterate (did.Moved step))) is may go s = more (go s)
-      by (Core (Iterate (did.Retired slot line))) is may go s = more (go s)
-      by (Core (Iterate did.Exhausted)) is may go s = more (go s)
       by (Core (Cut tearing)) is may go s = more (go (not_lost (has_wait (waits shape (core zs)) row) _ _ _ (λ k. absurd (cc)) s))
+      by _ is may go s = more (go s)

@@ -9,7 +9,7 @@ use Rattle.bank_shape.specs.declared.answer.WriteAnswer.TheVariants as wrote
 use Rattle.bank_shape.specs.declared.answer.ReadAnswer.TheVariants as came
 use Rattle.bank_shape.specs.declared.answer.Step.TheVariants as did
 use Rattle.bank_model.specs.{Events.{BankEvent, Write, Read, Serve, Begin, Iterate, Cut, RowsBelow, line_of_row}, History.{queue, waits, stored_in}, Lawful.{Lawful, MayCome}}
-use Rattle.bank_model.{specs.Sensing.most_steps, specs.Timing.{Happens, Core, Regs, TimedEvent, core, core_of, last_tick}, proofs.Rising.RowsBelow-more}
+use Rattle.bank_model.{specs.Sensing.most_steps, specs.Timing.{Happens, Core, TimedEvent, core, core_of, last_tick}, proofs.Rising.RowsBelow-more}
 use Rattle.bank_laws.specs.{Outcomes.{on_row, outcome_with, outcome_of}, Settling.AreOpen, Standing.has_wait, Ticks.ends_action}
 use Rattle.bank_laws.proofs.{Answering.{merged-there, served-first, first-there}, Asked.{queue-wrote, wrote-line}, Ending.own_row, Later.last-later, Lines.stands-row}
 use Rattle.bank_laws.proofs.{Settling.{opens, above_all, lawful_before, stays}, Ticks.{last_tick-rises, last-below}, Waiting.may_all, Wears.{stored_by, stored_up_to}}
@@ -46,34 +46,14 @@ module _ {n : ℕ} where
   stored_agrees : (t : ℕ) (o last : Outcome n) → ((u p : ℕ) → o ≡ out.Stored u p → (last ≡ out.Stored u p) × (u < t))
       → ((u p : ℕ) → last ≡ out.Stored u p → (t ≤ u) ⊎ (o ≡ out.Stored u p)) → stored_before t last ≡ is_stored o
   stored_agrees t (out.Stored u p) last keeps from = let k = keeps u p refl in ap (stored_before t) k.0 ∙ lt-ltb u t k.1
-  stored_agrees t out.Unset last keeps from = none_before t out.Unset last refl from
-  stored_agrees t (out.Merged at) last keeps from = none_before t (out.Merged at) last refl from
-  stored_agrees t (out.Queued at) last keeps from = none_before t (out.Queued at) last refl from
-  stored_agrees t (out.Full at) last keeps from = none_before t (out.Full at) last refl from
-  stored_agrees t (out.Worn at) last keeps from = none_before t (out.Worn at) last refl from
-  stored_agrees t (out.Read at place bytes) last keeps from = none_before t (out.Read at place bytes) last refl from
-  stored_agrees t (out.Forwarded at bytes) last keeps from = none_before t (out.Forwarded at bytes) last refl from
-  stored_agrees t (out.Busy at) last keeps from = none_before t (out.Busy at) last refl from
-  stored_agrees t (out.Lost at) last keeps from = none_before t (out.Lost at) last refl from
-  stored_agrees t (out.Cut at) last keeps from = none_before t (out.Cut at) last refl from
+  stored_agrees t answer last keeps from = none_before t answer last refl from
 
   -- the stores of a region
   pub region-stored : (lines : ℕ) (h : List (BankEvent n)) (region : ℕ) → stores_with (λ line. line / lines == region) h ≡ stored_in lines h region
   region-stored lines [] region = refl
-  region-stored lines (Write row line bytes given answer ∷ h) region = region-stored lines h region
-  region-stored lines (Read row line answer ∷ h) region = region-stored lines h region
-  region-stored lines (Serve answer ∷ h) region = region-stored lines h region
-  region-stored lines (Cut tearing ∷ h) region = region-stored lines h region
   region-stored lines (Begin (did.Stored row place) ∷ h) region = ap (λ k. one_if (line_of_row row h / lines == region) + k) (region-stored lines h region)
   region-stored lines (Iterate (did.Stored row place) ∷ h) region = ap (λ k. one_if (line_of_row row h / lines == region) + k) (region-stored lines h region)
-  region-stored lines (Begin did.More ∷ h) region = region-stored lines h region
-  region-stored lines (Begin (did.Moved step) ∷ h) region = region-stored lines h region
-  region-stored lines (Begin (did.Retired slot line) ∷ h) region = region-stored lines h region
-  region-stored lines (Begin did.Exhausted ∷ h) region = region-stored lines h region
-  region-stored lines (Iterate did.More ∷ h) region = region-stored lines h region
-  region-stored lines (Iterate (did.Moved step) ∷ h) region = region-stored lines h region
-  region-stored lines (Iterate (did.Retired slot line) ∷ h) region = region-stored lines h region
-  region-stored lines (Iterate did.Exhausted ∷ h) region = region-stored lines h region
+  region-stored lines (_ ∷ h) region = region-stored lines h region
 
 module _ {n m : ℕ} (shape : BankShape) (pace : Pace) (e : ℕ) where
   -- one more store
@@ -119,26 +99,17 @@ module _ {n m : ℕ} (shape : BankShape) (pace : Pace) (e : ℕ) where
           let each : (row : ℕ) → is_stored (unwrap_or (on_row at row (out.Worn x.tick)) (outcome_of shape zs row)) ≡ is_stored (outcome_of shape zs row) =
           λ row. other_kept at row (out.Worn x.tick) (outcome_of shape zs) refl (o.coming at may.asked) in
           none_first (keep line) _ _ _ (each at ∙ ap is_stored (o.coming at may.asked)) (same (Core (Write at line bytes given wrote.Exhausted)) each ih)
-      by (Core (Read at line came.Waiting)) may o ih = ih
       by (Core (Read at line came.Busy)) may o ih =
           same (Core (Read at line came.Busy)) (λ row. other_kept at row (out.Busy x.tick) (outcome_of shape zs) refl (o.coming at may.asked)) ih
       by (Core (Read at line (came.Forwarded bytes))) may o ih =
           same (Core (Read at line (came.Forwarded bytes))) (λ row. other_kept at row (out.Forwarded x.tick bytes) (outcome_of shape zs) refl (o.coming at may.asked)) ih
-      by (Regs event) may o ih = ih
       by (Core (Serve answer)) may o ih =
           same (Core (Serve answer)) (λ row. other_kept answer.row row (out.Read x.tick answer.place answer.bytes) (outcome_of shape zs) refl
           (o.waiting answer.row (first-there (waits shape (core zs)) answer.row (served-first shape (core zs) (waits shape (core zs)) answer may.may)))) ih
       by (Core (Begin (did.Stored at place))) may o ih = store-counted keep zs x.tick at place l.1 (done-store shape (core zs) at place may.may.1) ih
-      by (Core (Begin did.More)) may o ih = ih
-      by (Core (Begin (did.Moved step))) may o ih = ih
-      by (Core (Begin (did.Retired slot line))) may o ih = ih
-      by (Core (Begin did.Exhausted)) may o ih = ih
       by (Core (Iterate (did.Stored at place))) may o ih = store-counted keep zs x.tick at place l.1 (done-store shape (core zs) at place may.may.1) ih
-      by (Core (Iterate did.More)) may o ih = ih
-      by (Core (Iterate (did.Moved step))) may o ih = ih
-      by (Core (Iterate (did.Retired slot line))) may o ih = ih
-      by (Core (Iterate did.Exhausted)) may o ih = ih
       by (Core (Cut tearing)) may o ih = same (Core (Cut tearing)) (λ row. lost_kept (has_wait (waits shape (core zs)) row) x.tick (outcome_of shape zs row) (o.waiting row)) ih
+      by _ may o ih = ih
 
   -- rows below those of later events
   rows_below-before : (later zs : List (TimedEvent n m)) (bound : ℕ) → RowsBelow (core (later ++ zs)) bound → RowsBelow (core zs) bound
@@ -148,11 +119,7 @@ module _ {n m : ℕ} (shape : BankShape) (pace : Pace) (e : ℕ) where
       by : (h : Happens n) (bound : ℕ) → RowsBelow (core_of h (core (later ++ zs))) bound → ((bound : ℕ) → RowsBelow (core (later ++ zs)) bound → RowsBelow (core zs) bound) → RowsBelow (core zs) bound
       by (Core (Write row line bytes given answer)) bound b go = RowsBelow-more (core zs) row bound (omega (arith, b.0)) (go row b.1)
       by (Core (Read row line answer)) bound b go = RowsBelow-more (core zs) row bound (omega (arith, b.0)) (go row b.1)
-      by (Core (Serve answer)) bound b go = go bound b
-      by (Regs event) bound b go = go bound b
-      by (Core (Begin answer)) bound b go = go bound b
-      by (Core (Iterate answer)) bound b go = go bound b
-      by (Core (Cut tearing)) bound b go = go bound b
+      by _ bound b go = go bound b
 
   -- a test that fails for every later row counts the earlier ones
   later-counted : (keep f : ℕ → Bool) (later zs : List (TimedEvent n m)) → Lawful shape pace e (later ++ zs) → ((row : ℕ) → RowsBelow (core zs) row → f row ≡ false)
@@ -162,12 +129,7 @@ module _ {n m : ℕ} (shape : BankShape) (pace : Pace) (e : ℕ) where
     where
       by : (h : Happens n) → MayCome shape pace e (later ++ zs) x h → writes_with keep f (core (later ++ zs)) ≡ writes_with keep f (core zs) → writes_with keep f (core_of h (core (later ++ zs))) ≡ writes_with keep f (core zs)
       by (Core (Write row line bytes given answer)) may ih = none_first (keep line) (f row) _ _ (none row (rows_below-before later zs row may.asked)) ih
-      by (Core (Read row line answer)) may ih = ih
-      by (Core (Serve answer)) may ih = ih
-      by (Regs event) may ih = ih
-      by (Core (Begin answer)) may ih = ih
-      by (Core (Iterate answer)) may ih = ih
-      by (Core (Cut tearing)) may ih = ih
+      by _ may ih = ih
 
   -- what is stored in the end was stored before an event, or at its tick or later
   stored-from : (later : List (TimedEvent n m)) (z : TimedEvent n m) (zs : List (TimedEvent n m)) (row u p : ℕ) → 1 ≤ pace.read → 1 ≤ pace.iter → Lawful shape pace e (later ++ z ∷ zs)

@@ -5,7 +5,7 @@ use Rattle.result_rows.specs.declared.Outcome.{Outcome}
 use Rattle.result_rows.specs.declared.Outcome.TheVariants as out
 use Rattle.row_rules.specs.{Answers.{is_stored, stored_before}, Rows.{asks_write, line_of}, declared.Asks.TheVariants.{Reads, Writes, Cuts}, declared.Row.Row}
 use Rattle.bank_shape.specs.declared.BankShape.{BankShape}
-use Rattle.bank_model.specs.{Events.{Write, Read, Serve, Begin, Iterate, Cut}, Timing.{Happens, Core, Regs, TimedEvent, core, core_of}}
+use Rattle.bank_model.specs.{Events.{Write, Read, Cut}, Timing.{Happens, Core, TimedEvent, core, core_of}}
 use Rattle.bank_laws.{specs.Outcomes.{outcome_of, ended, row_with, rows_from, table_of}, proofs.Walking.{rows_after, rows_after-more}}
 use Rattle.place_laws.proofs.Counts.{writes_with}
 use Rattle.masked_bytes.proofs.Counting.{one_if}
@@ -41,12 +41,8 @@ module _ {n m : ℕ} (shape : BankShape) (all : List (TimedEvent n m)) where
           → sum_by (λ r. one_if (test r)) (row_with shape all h x.tick cancels ++ rows_from shape all ys) ≡ writes_with keep (λ row. counts (outcome_of shape all row)) (core_of h (core ys))
       by (Core (Write row line bytes given answer)) cancels ih = first _ _ _ (is.writes x.tick line bytes given (outcome_of shape all row)) ih
       by (Core (Read row line answer)) cancels ih = none _ _ (is.reads x.tick line (outcome_of shape all row)) ih
-      by (Core (Serve answer)) cancels ih = ih
-      by (Regs event) cancels ih = ih
-      by (Core (Begin answer)) cancels ih = ih
-      by (Core (Iterate answer)) cancels ih = ih
-      by (Core (Cut tearing)) true ih = ih
       by (Core (Cut tearing)) false ih = none _ _ (is.cuts x.tick (out.Cut x.tick)) ih
+      by _ _ ih = ih
 
   -- the stores of a region below a tick
   pub region-counted : (t region : ℕ) → sum_by (λ (q : Row n). one_if (asks_write q.asks && (line_of q.asks / shape.lines == region && stored_before t q.outcome))) (table_of shape all)

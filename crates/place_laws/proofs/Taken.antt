@@ -9,8 +9,8 @@ use Rattle.row_rules.specs.{Answers.{accepts, is_worn, is_queued, is_full}, Queu
 use Rattle.row_rules.specs.{declared.Asks.TheVariants.{Reads, Writes, Cuts}, declared.Row.Row}
 use Rattle.bank_shape.specs.{Shape.{controls_of, control_line}, declared.BankShape.BankShape, declared.answer.WriteAnswer.WriteAnswer, declared.pace.Pace.Pace}
 use Rattle.bank_shape.specs.declared.answer.WriteAnswer.TheVariants as wrote
-use Rattle.bank_model.specs.{Changes.{change_after, halted_after}, Events.{Write, Read, Serve, Begin, Iterate, Cut}, History.{queue, has_exhausted}}
-use Rattle.bank_model.specs.{Lawful.{Lawful, IsIdle, MayCome}, Running.{over_by, is_over}, Timing.{Happens, Core, Regs, TimedEvent, core}}
+use Rattle.bank_model.specs.{Changes.{change_after, halted_after}, Events.{Write, Read, Cut}, History.{queue, has_exhausted}}
+use Rattle.bank_model.specs.{Lawful.{Lawful, IsIdle, MayCome}, Running.{over_by, is_over}, Timing.{Happens, Core, TimedEvent, core}}
 use Rattle.bank_laws.specs.{Laws.{IsSized, LeavesArray}, Outcomes.{outcome_of, ended, row_with, rows_from, table_of}, Resting.EndsIn, RowLaws.is_room_fair}
 use Rattle.bank_laws.proofs.{Answering.merged-there, Ending.{Onwards, IsOutcome, write_outcome}, Fates.{IsLeft, WriteFate, new-push, new-merged}, Pending.queue_law}
 use Rattle.bank_laws.proofs.{Resting.ends-still, Serves.{may_at, onwards_at, served_law}, Settling.opens, Walking.{Passes, walk, rows_after}}
@@ -29,17 +29,9 @@ taken_if writes count left fine h = by (nat_lt count writes) left refl refl
 
 module _ {n : ℕ} where
   left-not_queued : (tick : ℕ) (o : Outcome n) → IsLeft o → is_queued (ended tick o) ≡ false
-  left-not_queued tick out.Unset l = absurd l
   left-not_queued tick (out.Stored at place) l = refl
   left-not_queued tick (out.Merged at) l = refl
-  left-not_queued tick (out.Queued at) l = absurd l
-  left-not_queued tick (out.Full at) l = absurd l
-  left-not_queued tick (out.Worn at) l = absurd l
-  left-not_queued tick (out.Read at place bytes) l = absurd l
-  left-not_queued tick (out.Forwarded at bytes) l = absurd l
-  left-not_queued tick (out.Busy at) l = absurd l
-  left-not_queued tick (out.Lost at) l = absurd l
-  left-not_queued tick (out.Cut at) l = absurd l
+  left-not_queued tick _ l = absurd l
 
   -- three tests that every row passes make a fourth
   each-of : (one two three test : RowTest n)
@@ -96,12 +88,8 @@ module _ {n m : ℕ} (shape : BankShape) (pace : Pace) (e : ℕ) (all : List (Ti
           (on_exhausted (refused-exhausted shape (core ys) line (sym (worn_outcome x.tick answer (ended x.tick (outcome_of shape all row)) is worn) ∙ may.may.2)))))
           (implied (is_queued (ended x.tick (outcome_of shape all row))) _ (queued_true ys x row line bytes given answer may on is))
       by (Core (Read row line answer)) cancels may on on_exhausted = refl
-      by (Core (Serve answer)) cancels may on on_exhausted = tt
-      by (Regs event) cancels may on on_exhausted = tt
-      by (Core (Begin answer)) cancels may on on_exhausted = tt
-      by (Core (Iterate answer)) cancels may on on_exhausted = tt
-      by (Core (Cut tearing)) true may on on_exhausted = tt
       by (Core (Cut tearing)) false may on on_exhausted = refl
+      by _ _ may on on_exhausted = tt
 
 pub worn_law : WornLaw
 worn_law off n m e shape pace xs array sized l ends leaves =

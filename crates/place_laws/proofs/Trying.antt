@@ -12,7 +12,7 @@ use Rattle.bank_model.specs.{After.{due_work, work_after, is_ready, may_begin_af
 use Rattle.bank_model.specs.{Changes.{item_if, change_after, change_by, keeping_after, halted_after, halted_by}, Events.{BankEvent, Write, Read, Serve, Begin, Iterate, Cut}}
 use Rattle.bank_model.specs.{History.{moved_in, stored_in, retired, has_exhausted, due_after, queue, waits, in_progress}, Lawful.{Lawful, MayCome}}
 use Rattle.bank_model.specs.Running.{busy_by, ready_by, over_by, busy_after, ready_after, is_over, drops_begin, started, left_by, running, running_at, chosen_after}
-use Rattle.bank_model.specs.{Sensing.most_steps, Timing.{Happens, Core, Regs, KeepBegin, KeepIterate, KeepCut, TimedEvent, is_writing, is_empty, core, core_of, last_tick}}
+use Rattle.bank_model.specs.{Sensing.most_steps, Timing.{Happens, Core, Regs, KeepBegin, KeepIterate, TimedEvent, is_writing, is_empty, core, core_of, last_tick}}
 use Rattle.bank_model.proofs.Within.{due_moves-few}
 use Rattle.row_rules.specs.Ticking.{writings}
 use Rattle.bank_laws.proofs.{Changing.halted-stops, Waiting.may_all}
@@ -56,21 +56,12 @@ module _ {n : ℕ} (shape : BankShape) where
 
   -- and no line write is in progress
   pub exhausted-idle : (most : ℕ) (h : List (BankEvent n)) → MayAll shape most h → has_exhausted h ≡ true → in_progress h ≡ false
-  exhausted-idle most [] may ex = refl
   exhausted-idle most (Write row line bytes given answer ∷ h) may ex = exhausted-idle most h may.1 ex
   exhausted-idle most (Read row line answer ∷ h) may ex = exhausted-idle most h may.1 ex
   exhausted-idle most (Serve answer ∷ h) may ex = exhausted-idle most h may.1 ex
-  exhausted-idle most (Cut tearing ∷ h) may ex = refl
   exhausted-idle most (Begin did.More ∷ h) may ex = begun_idle h true ex may.0.0
-  exhausted-idle most (Begin (did.Stored row place) ∷ h) may ex = refl
-  exhausted-idle most (Begin (did.Moved step) ∷ h) may ex = refl
-  exhausted-idle most (Begin (did.Retired slot line) ∷ h) may ex = refl
-  exhausted-idle most (Begin did.Exhausted ∷ h) may ex = refl
   exhausted-idle most (Iterate did.More ∷ h) may ex = absurd (cc (exhausted-idle most h may.1 ex, may.0.0))
-  exhausted-idle most (Iterate (did.Stored row place) ∷ h) may ex = refl
-  exhausted-idle most (Iterate (did.Moved step) ∷ h) may ex = refl
-  exhausted-idle most (Iterate (did.Retired slot line) ∷ h) may ex = refl
-  exhausted-idle most (Iterate did.Exhausted ∷ h) may ex = refl
+  exhausted-idle most _ may ex = refl
 
   -- after a move none is due
   moved-none_due : 1 ≤ shape.psi → (h : List (BankEvent n)) → KeepsMoves shape h
@@ -92,26 +83,17 @@ module _ {n : ℕ} (shape : BankShape) where
     where
       none_at_first : due_moves (due_after {n = n} shape []) ≡ 0
       none_at_first = ap (λ b. due_moves (cond b (Some (last_region {n = n} shape [])) None)) (lt-leb (shape.psi * (0 + 1)) 0 (omega (arith, next_product shape.psi 0, some)))
-  moves-few most (Write row line bytes given answer ∷ h) some may = moves-few most h some may.1
-  moves-few most (Read row line answer ∷ h) some may = moves-few most h some may.1
-  moves-few most (Serve answer ∷ h) some may = moves-few most h some may.1
-  moves-few most (Cut tearing ∷ h) some may = moves-few most h some may.1
-  moves-few most (Begin did.More ∷ h) some may = moves-few most h some may.1
   moves-few most (Begin (did.Stored row place) ∷ h) some may =
       omega (arith, moves-few most h some may.1, due_moves-few (due_after shape (Begin (did.Stored row place) ∷ h)))
   moves-few most (Begin (did.Moved step) ∷ h) some may =
       let m = done-move shape h step may.0.1 in
       omega (arith, moves-few most h some may.1, ap due_moves m.due, moved-none_due some h (keeps shape most h some may.1))
-  moves-few most (Begin (did.Retired slot line) ∷ h) some may = moves-few most h some may.1
-  moves-few most (Begin did.Exhausted ∷ h) some may = moves-few most h some may.1
-  moves-few most (Iterate did.More ∷ h) some may = moves-few most h some may.1
   moves-few most (Iterate (did.Stored row place) ∷ h) some may =
       omega (arith, moves-few most h some may.1, due_moves-few (due_after shape (Iterate (did.Stored row place) ∷ h)))
   moves-few most (Iterate (did.Moved step) ∷ h) some may =
       let m = done-move shape h step may.0.1 in
       omega (arith, moves-few most h some may.1, ap due_moves m.due, moved-none_due some h (keeps shape most h some may.1))
-  moves-few most (Iterate (did.Retired slot line) ∷ h) some may = moves-few most h some may.1
-  moves-few most (Iterate did.Exhausted ∷ h) some may = moves-few most h some may.1
+  moves-few most (_ ∷ h) some may = moves-few most h some may.1
 
 -- what may be done once nothing is in progress and nothing may be begun
 chosen-serves : (way reads busy ready : Bool) (d : Doing) → busy ≡ false → ready ≡ false → chosen_by way reads (choice busy ready) ≡ Some d → d ≡ doing.Serving
@@ -204,13 +186,8 @@ module _ {n m : ℕ} (shape : BankShape) (pace : Pace) (e : ℕ) where
           → is_writing (left_by shape (core xs) (change_after shape xs) h (running_at shape pace xs x.tick)) ≡ false
       by (Core (Write row line bytes given answer)) over still = still over
       by (Core (Read row line came.Waiting)) over still = dropped-still (drops_begin shape (core xs) (change_after shape xs) line (running_at shape pace xs x.tick)) (running_at shape pace xs x.tick) (still over)
-      by (Core (Read row line came.Busy)) over still = still over
-      by (Core (Read row line (came.Forwarded bytes))) over still = still over
-      by (Core (Serve answer)) over still = refl
-      by (Core (Begin answer)) over still = refl
-      by (Core (Iterate answer)) over still = refl
-      by (Core (Cut tearing)) over still = refl
-      by (Regs event) over still = refl
+      by (Core (Read row line _)) over still = still over
+      by _ over still = refl
 
   pub still_at : (xs : List (TimedEvent n m)) (tick : ℕ) → Lawful shape pace e xs → is_over shape xs ≡ true → is_writing (running_at shape pace xs tick) ≡ false
   still_at xs tick l over = started-still (running shape pace xs) (chosen_after shape pace xs) (last_tick xs) tick (over-still xs l over) (chosen-still xs l over)
@@ -240,26 +217,18 @@ module _ {n m : ℕ} (shape : BankShape) (pace : Pace) (e : ℕ) where
 
       by : (h : Happens n) (cancels : Bool) → MayCome shape pace e xs x h → ends_in xs + was ≤ each shape * causes (core xs) + cuts_in xs → (has_exhausted (core xs) ≡ true → in_progress (core xs) ≡ false)
           → one_if (ends_work h cancels) + ends_in xs + unwritten (change_by shape (core xs) h (change_after shape xs)) (halted_by h (halted_after xs)) ≤ each shape * causes (core_of h (core xs)) + (one_if (cuts_power h cancels) + cuts_in xs)
-      by (Core (Write row line bytes given answer)) cancels may ih idle = omega (arith, ih)
-      by (Core (Read row line answer)) cancels may ih idle = omega (arith, ih)
-      by (Core (Serve answer)) cancels may ih idle = omega (arith, ih)
-      by (Core (Begin did.More)) cancels may ih idle = omega (arith, ih)
       by (Core (Begin (did.Stored row place))) cancels may ih idle = ended _ _ (omega arith) may.on_time.2 ih
       by (Core (Begin (did.Moved step))) cancels may ih idle = ended _ _ (omega arith) may.on_time.2 ih
       by (Core (Begin (did.Retired slot line))) cancels may ih idle = absurd (begin-retires_none shape (core xs) (work_after shape (core xs)) slot line may.may.1)
       by (Core (Begin did.Exhausted)) cancels may ih idle = absurd (begin-exhausts_none shape (core xs) (work_after shape (core xs)) may.may.1)
-      by (Core (Iterate did.More)) cancels may ih idle = omega (arith, ih)
       by (Core (Iterate (did.Stored row place))) cancels may ih idle = ended _ _ (omega arith) may.on_time.2 ih
       by (Core (Iterate (did.Moved step))) cancels may ih idle = ended _ _ (omega arith) may.on_time.2 ih
       by (Core (Iterate (did.Retired slot line))) cancels may ih idle = ended _ _ (omega (arith, length-append (retired (core xs)) (slot ∷ []))) may.on_time.2 ih
       by (Core (Iterate did.Exhausted)) cancels may ih idle =
           ended _ _ (let f : has_exhausted (core xs) ≡ false = fresh (has_exhausted (core xs)) (in_progress (core xs)) idle may.may.0 in omega (arith, ap one_if f)) may.on_time.2 ih
       by (Core (Cut tearing)) true may ih idle = omega (arith, ih)
-      by (Core (Cut tearing)) false may ih idle = omega (arith, ih)
-      by (Regs (KeepBegin keep.More)) cancels may ih idle = omega (arith, ih)
       by (Regs (KeepBegin keep.Done)) cancels may ih idle = omega (arith, ih, some_change (change_after shape xs) (halted_after xs) may.stands may.may.1)
       by (Regs (KeepBegin keep.Halted)) cancels may ih idle = absurd (may.may.2 refl)
-      by (Regs (KeepIterate keep.More)) cancels may ih idle = omega (arith, ih)
       by (Regs (KeepIterate keep.Done)) cancels may ih idle =
           omega (arith, ih, some_change (change_after shape xs) (halted_after xs) may.stands (not_halted (keeping_after xs) may.may.0 (halted-stops shape pace e xs l.1)))
       by (Regs (KeepIterate keep.Halted)) cancels may ih idle =
@@ -270,4 +239,4 @@ module _ {n m : ℕ} (shape : BankShape) (pace : Pace) (e : ℕ) where
           gone : (change : Option ℕ) → unwritten change true ≡ 0
           gone None = refl
           gone (Some item) = refl
-      by (Regs (KeepCut tearing)) cancels may ih idle = omega (arith, ih)
+      by _ _ may ih idle = omega (arith, ih)

@@ -13,10 +13,10 @@ use Rattle.bank_shape.specs.declared.answer.Step.TheVariants as did
 use Rattle.bank_shape.specs.declared.clock.Doing.TheVariants as doing
 use Rattle.bank_model.specs.{After.{due_work, work_after, slot_of_work, is_ready, may_begin_after}, Answers.MayAll}
 use Rattle.bank_model.specs.Changes.{item_if, change_after, change_by, keeping_after, halted_after}
-use Rattle.bank_model.specs.Events.{BankEvent, Write, Read, Serve, Begin, Iterate, Cut, RowsBelow, line_of_row}
+use Rattle.bank_model.specs.Events.{BankEvent, Write, Read, Begin, Iterate, RowsBelow, line_of_row}
 use Rattle.bank_model.specs.{History.{Awaited, first_or, stores, moved_in, retired, has_exhausted, due_after, queue, waits, in_progress}, Lawful.{Lawful, IsIdle, MayCome}}
 use Rattle.bank_model.specs.{Running.{busy_by, ready_by, over_by, busy_after, ready_after, is_over, choice_after}, Sensing.most_steps}
-use Rattle.bank_model.specs.Timing.{Happens, Core, Regs, KeepBegin, KeepIterate, KeepCut, TimedEvent, core, is_empty}
+use Rattle.bank_model.specs.Timing.{Happens, Core, Regs, KeepBegin, KeepIterate, TimedEvent, core, is_empty}
 use Rattle.bank_laws.{specs.Laws.{IsSized, LeavesArray}, proofs.Asked.{asked-within, wrote-asked, wrote-line, queue-wrote}, proofs.Lines.Stands, proofs.Serves.idle-waits}
 use Rattle.bank_laws.proofs.{Settling.above_all, Waiting.may_all}
 use Rattle.ecp_line.specs.ArrayLines.{is_worn_at}
@@ -31,20 +31,11 @@ module _ {n : ℕ} (shape : BankShape) where
   -- an exhausted bank has used all its spares
   pub exhausted-full : (most : ℕ) (h : List (BankEvent n)) → MayAll shape most h → has_exhausted h ≡ true → length (retired h) ≡ shape.spares
   exhausted-full most [] may ex = absurd (cc)
-  exhausted-full most (Write row line bytes given answer ∷ h) may ex = exhausted-full most h may.1 ex
-  exhausted-full most (Read row line answer ∷ h) may ex = exhausted-full most h may.1 ex
-  exhausted-full most (Serve answer ∷ h) may ex = exhausted-full most h may.1 ex
-  exhausted-full most (Cut tearing ∷ h) may ex = exhausted-full most h may.1 ex
-  exhausted-full most (Begin (did.Stored row place) ∷ h) may ex = exhausted-full most h may.1 ex
-  exhausted-full most (Begin did.More ∷ h) may ex = exhausted-full most h may.1 ex
-  exhausted-full most (Begin (did.Moved step) ∷ h) may ex = exhausted-full most h may.1 ex
   exhausted-full most (Begin (did.Retired slot line) ∷ h) may ex = absurd (begin-retires_none shape h (work_after shape h) slot line may.0.1)
   exhausted-full most (Begin did.Exhausted ∷ h) may ex = absurd (begin-exhausts_none shape h (work_after shape h) may.0.1)
-  exhausted-full most (Iterate (did.Stored row place) ∷ h) may ex = exhausted-full most h may.1 ex
-  exhausted-full most (Iterate did.More ∷ h) may ex = exhausted-full most h may.1 ex
-  exhausted-full most (Iterate (did.Moved step) ∷ h) may ex = exhausted-full most h may.1 ex
   exhausted-full most (Iterate (did.Retired slot line) ∷ h) may ex = absurd (omega (arith, exhausted-full most h may.1 ex, may.0.1.2))
   exhausted-full most (Iterate did.Exhausted ∷ h) may ex = may.0.1
+  exhausted-full most (_ ∷ h) may ex = exhausted-full most h may.1 ex
 
   store_line : (most : ℕ) (h : List (BankEvent n)) (next row place : ℕ) → MayAll shape most h → RowsBelow h next → IsStoreOf shape h row place → line_of_row row h < shape.regions * shape.lines
   store_line most h next row place may b store =
@@ -56,18 +47,9 @@ module _ {n : ℕ} (shape : BankShape) where
   last_within most [] next r l may b = some_product shape.regions shape.lines r l
   last_within most (Write row line bytes given answer ∷ h) next r l may b = last_within most h row r l may.1 b.1
   last_within most (Read row line answer ∷ h) next r l may b = last_within most h row r l may.1 b.1
-  last_within most (Serve answer ∷ h) next r l may b = last_within most h next r l may.1 b
-  last_within most (Cut tearing ∷ h) next r l may b = last_within most h next r l may.1 b
   last_within most (Begin (did.Stored row place) ∷ h) next r l may b = store_line most h next row place may.1 b (done-store shape h row place may.0.1)
-  last_within most (Begin did.More ∷ h) next r l may b = last_within most h next r l may.1 b
-  last_within most (Begin (did.Moved step) ∷ h) next r l may b = last_within most h next r l may.1 b
-  last_within most (Begin (did.Retired slot line) ∷ h) next r l may b = last_within most h next r l may.1 b
-  last_within most (Begin did.Exhausted ∷ h) next r l may b = last_within most h next r l may.1 b
   last_within most (Iterate (did.Stored row place) ∷ h) next r l may b = store_line most h next row place may.1 b (done-store shape h row place may.0.1)
-  last_within most (Iterate did.More ∷ h) next r l may b = last_within most h next r l may.1 b
-  last_within most (Iterate (did.Moved step) ∷ h) next r l may b = last_within most h next r l may.1 b
-  last_within most (Iterate (did.Retired slot line) ∷ h) next r l may b = last_within most h next r l may.1 b
-  last_within most (Iterate did.Exhausted ∷ h) next r l may b = last_within most h next r l may.1 b
+  last_within most (_ ∷ h) next r l may b = last_within most h next r l may.1 b
 
   -- what is due writes a slot of the bank
   pub due-within : (most : ℕ) (h : List (BankEvent n)) (next : ℕ) → 1 ≤ shape.regions → 1 ≤ shape.lines → MayAll shape most h → RowsBelow h next
@@ -129,12 +111,9 @@ idle-queued {n} shape pace xs row idle there =
   where
     by : (busy ex : Bool) (due : Option ℕ) (es : List (Entry n)) (ws : List Awaited) → busy ≡ false → ws ≡ []
         → (not busy && is_ready ws (cond ex Nothing (due_work shape (core xs) due es))) ≡ false → has_row es row ≡ true → ex ≡ true
-    by true ex due es ws idle empty ready there = absurd (cc)
     by false true due es ws idle empty ready there = refl
-    by false false (Some region) es ws idle empty ready there = absurd (cc)
-    by false false None [] ws idle empty ready there = absurd (cc)
     by false false None (e ∷ es) [] idle empty ready there = absurd (cc)
-    by false false None (e ∷ es) (w ∷ ws) idle empty ready there = absurd (cc)
+    by _ _ _ _ _ idle empty ready there = absurd (cc)
 
 -- and so is one where a move is due
 pub idle-due : {n m : ℕ} (shape : BankShape) (pace : Pace) (xs : List (TimedEvent n m)) (region : ℕ) → IsIdle shape pace xs → due_after shape (core xs) ≡ Some region → is_over shape xs ≡ true
@@ -247,24 +226,14 @@ change-within {n} shape pace e (x ∷ xs) r l law = by x.happens law.0 (change-w
         there _ (omega (arith, within))
 
     by : (h : Happens n) → MayCome shape pace e xs x h → Within (change_after shape xs) → Within (change_by shape (core xs) h (change_after shape xs))
-    by (Core (Write row line bytes given answer)) may old = old
-    by (Core (Read row line answer)) may old = old
-    by (Core (Serve answer)) may old = old
-    by (Core (Begin did.More)) may old = old
     by (Core (Begin (did.Stored row place))) may old = stored row place (done-store shape (core xs) row place may.may.1)
     by (Core (Begin (did.Moved step))) may old = moved
     by (Core (Begin (did.Retired slot line))) may old = absurd (begin-retires_none shape (core xs) (work_after shape (core xs)) slot line may.may.1)
     by (Core (Begin did.Exhausted)) may old = absurd (begin-exhausts_none shape (core xs) (work_after shape (core xs)) may.may.1)
-    by (Core (Iterate did.More)) may old = old
     by (Core (Iterate (did.Stored row place))) may old = stored row place (done-store shape (core xs) row place may.may.1)
     by (Core (Iterate (did.Moved step))) may old = moved
     by (Core (Iterate (did.Retired slot line))) may old = there _ (omega (arith, may.may.1.2))
     by (Core (Iterate did.Exhausted)) may old = there _ (omega arith)
-    by (Core (Cut tearing)) may old = old
-    by (Regs (KeepBegin keep.More)) may old = old
     by (Regs (KeepBegin keep.Done)) may old = tt
-    by (Regs (KeepBegin keep.Halted)) may old = old
-    by (Regs (KeepIterate keep.More)) may old = old
     by (Regs (KeepIterate keep.Done)) may old = tt
-    by (Regs (KeepIterate keep.Halted)) may old = old
-    by (Regs (KeepCut tearing)) may old = old
+    by _ may old = old

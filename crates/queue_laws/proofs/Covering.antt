@@ -12,7 +12,7 @@ use Rattle.bank_shape.specs.declared.answer.ReadAnswer.TheVariants as came
 use Rattle.bank_shape.specs.declared.answer.Step.TheVariants as did
 use Rattle.bank_model.specs.{Answers.head_busy_after, Events.{Write, Read, Serve, Begin, Iterate, Cut, RowsBelow, newest}}
 use Rattle.bank_model.specs.{History.{begun, queue, waits, due_after, has_exhausted, in_progress}, Lawful.{Lawful, MayCome}, Sensing.most_steps}
-use Rattle.bank_model.specs.{Timing.{Happens, Core, Regs, TimedEvent, core, core_of}, Told.tick_of_row}
+use Rattle.bank_model.specs.{Timing.{Happens, Core, TimedEvent, core, core_of}, Told.tick_of_row}
 use Rattle.bank_laws.{specs.Outcomes.{on_row, outcome_with, outcome_of}, specs.Pairs.ArePaired, specs.Standing.has_wait, proofs.Answering.{IsHead, stored-head}}
 use Rattle.bank_laws.proofs.{Asked.{Wrote, wrote-one, pushed-stands, merged-stands, begun-stands}, Ending.accepting, Entries.{either, differ}}
 use Rattle.bank_laws.proofs.Lines.{Stands, stands-one, merged-candidate, merges-stands}
@@ -46,26 +46,16 @@ module _ {n m : ℕ} (shape : BankShape) where
 
 module _ {n m : ℕ} (shape : BankShape) (pace : Pace) (e : ℕ) where
   pub none_new : (zs : List (TimedEvent n m)) (x : TimedEvent n m) (h : Happens n) (row u p : ℕ) → Storeless h → unwrap_or (outcome_with shape zs h x.tick row) (outcome_of shape zs row) ≡ out.Stored u p → outcome_of shape zs row ≡ out.Stored u p
-  none_new zs x (Core (Write at line bytes given wrote.Accepted)) row u p less s = s
   none_new zs x (Core (Write at line bytes given (wrote.Merged old))) row u p less s = not_stored old row (out.Merged x.tick) (outcome_of shape zs row) u p (λ is. absurd (cc)) s
   none_new zs x (Core (Write at line bytes given wrote.Full)) row u p less s = not_stored at row (out.Full x.tick) (outcome_of shape zs row) u p (λ is. absurd (cc)) s
   none_new zs x (Core (Write at line bytes given wrote.Exhausted)) row u p less s = not_stored at row (out.Worn x.tick) (outcome_of shape zs row) u p (λ is. absurd (cc)) s
-  none_new zs x (Core (Read at line came.Waiting)) row u p less s = s
   none_new zs x (Core (Read at line came.Busy)) row u p less s = not_stored at row (out.Busy x.tick) (outcome_of shape zs row) u p (λ is. absurd (cc)) s
   none_new zs x (Core (Read at line (came.Forwarded bytes))) row u p less s = not_stored at row (out.Forwarded x.tick bytes) (outcome_of shape zs row) u p (λ is. absurd (cc)) s
-  none_new zs x (Regs event) row u p less s = s
   none_new zs x (Core (Serve answer)) row u p less s = not_stored answer.row row (out.Read x.tick answer.place answer.bytes) (outcome_of shape zs row) u p (λ is. absurd (cc)) s
   none_new zs x (Core (Begin (did.Stored at place))) row u p less s = absurd less
-  none_new zs x (Core (Begin did.More)) row u p less s = s
-  none_new zs x (Core (Begin (did.Moved step))) row u p less s = s
-  none_new zs x (Core (Begin (did.Retired slot line))) row u p less s = s
-  none_new zs x (Core (Begin did.Exhausted)) row u p less s = s
   none_new zs x (Core (Iterate (did.Stored at place))) row u p less s = absurd less
-  none_new zs x (Core (Iterate did.More)) row u p less s = s
-  none_new zs x (Core (Iterate (did.Moved step))) row u p less s = s
-  none_new zs x (Core (Iterate (did.Retired slot line))) row u p less s = s
-  none_new zs x (Core (Iterate did.Exhausted)) row u p less s = s
   none_new zs x (Core (Cut tearing)) row u p less s = lost_not_stored (has_wait (waits shape (core zs)) row) x.tick (outcome_of shape zs row) u p s
+  none_new zs x _ row u p less s = s
 
   module _ (zs : List (TimedEvent n m)) (x : TimedEvent n m) (r : 1 ≤ pace.read) (i : 1 ≤ pace.iter) (l : Lawful shape pace e zs) (c : IsCovered shape zs) where
     pairs : KeepsPairs shape (core zs)
@@ -337,22 +327,12 @@ module _ {n m : ℕ} (shape : BankShape) (pace : Pace) (e : ℕ) where
     covered_step (Core (Write at k bytes given (wrote.Merged old))) may = merges at k old bytes given may
     covered_step (Core (Write at k bytes given wrote.Full)) may = quiet (Core (Write at k bytes given wrote.Full)) may tt (λ line f. refl) (λ line. new_floor at k bytes given wrote.Full line may tt) (λ row line a. inr a) refl
     covered_step (Core (Write at k bytes given wrote.Exhausted)) may = quiet (Core (Write at k bytes given wrote.Exhausted)) may tt (λ line f. refl) (λ line. new_floor at k bytes given wrote.Exhausted line may tt) (λ row line a. inr a) refl
-    covered_step (Core (Read at k answer)) may = quiet (Core (Read at k answer)) may tt (λ line f. refl) (λ line. same_floor (Core (Read at k answer)) line may tt) (λ row line a. a) refl
-    covered_step (Regs event) may = quiet (Regs event) may tt (λ line f. refl) (λ line. same_floor (Regs event) line may tt) (λ row line a. a) refl
-    covered_step (Core (Serve answer)) may = quiet (Core (Serve answer)) may tt (λ line f. refl) (λ line. same_floor (Core (Serve answer)) line may tt) (λ row line a. a) refl
     covered_step (Core (Begin (did.Stored at place))) may =
         let s = stored at place (stored-head shape (core zs) at place may.may.1) in record { front = s.front; tails = s.tails; above = s.above; asked = s.asked }
-    covered_step (Core (Begin did.More)) may = begins did.More may tt refl
-    covered_step (Core (Begin (did.Moved step))) may = begins (did.Moved step) may tt refl
-    covered_step (Core (Begin (did.Retired slot line))) may = begins (did.Retired slot line) may tt refl
-    covered_step (Core (Begin did.Exhausted)) may = begins did.Exhausted may tt refl
+    covered_step (Core (Begin answer)) may = begins answer may tt refl
     covered_step (Core (Iterate (did.Stored at place))) may =
         let s = stored at place (stored-head shape (core zs) at place may.may.1) in record { front = s.front; tails = s.tails; above = s.above; asked = s.asked }
-    covered_step (Core (Iterate did.More)) may = quiet (Core (Iterate did.More)) may tt (λ line f. refl) (λ line. same_floor (Core (Iterate did.More)) line may tt) (λ row line a. a) refl
-    covered_step (Core (Iterate (did.Moved step))) may = quiet (Core (Iterate (did.Moved step))) may tt (λ line f. refl) (λ line. same_floor (Core (Iterate (did.Moved step))) line may tt) (λ row line a. a) refl
-    covered_step (Core (Iterate (did.Retired slot at))) may = quiet (Core (Iterate (did.Retired slot at))) may tt (λ line f. refl) (λ line. same_floor (Core (Iterate (did.Retired slot at))) line may tt) (λ row line a. a) refl
-    covered_step (Core (Iterate did.Exhausted)) may = quiet (Core (Iterate did.Exhausted)) may tt (λ line f. refl) (λ line. same_floor (Core (Iterate did.Exhausted)) line may tt) (λ row line a. a) refl
-    covered_step (Core (Cut tearing)) may = quiet (Core (Cut tearing)) may tt (λ line f. refl) (λ line. same_floor (Core (Cut tearing)) line may tt) (λ row line a. a) refl
+    covered_step h may = quiet h may tt (λ line f. refl) (λ line. same_floor h line may tt) (λ row line a. a) refl
 
   pub is_covered : (zs : List (TimedEvent n m)) → 1 ≤ pace.read → 1 ≤ pace.iter → Lawful shape pace e zs → IsCovered shape zs
   is_covered [] r i l = record { front = λ line. refl; tails = λ line. tt; above = λ row line s. absurd s; asked = λ row line s. s }

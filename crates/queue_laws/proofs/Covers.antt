@@ -7,25 +7,16 @@ use Rattle.masked_bytes.specs.Masked.{joined, none_given}
 use Rattle.row_rules.specs.{Answers.{accepts, is_stored}, Queueing.{unstored, cover}, Rows.write_of, declared.Row.Row}
 use Rattle.row_rules.specs.Answers as answers
 use Rattle.bank_shape.specs.{declared.BankShape.BankShape, declared.pace.Pace.Pace}
-use Rattle.bank_model.specs.{Events.{Write, Read, Serve, Begin, Iterate, Cut, RowsBelow}, Lawful.{Lawful, MayCome}}
-use Rattle.bank_model.{specs.Timing.{Happens, Core, Regs, TimedEvent, core, core_of, last_tick}, proofs.Rising.RowsBelow-more}
+use Rattle.bank_model.specs.{Events.{Write, Read, Cut, RowsBelow}, Lawful.{Lawful, MayCome}}
+use Rattle.bank_model.{specs.Timing.{Happens, Core, TimedEvent, core, core_of, last_tick}, proofs.Rising.RowsBelow-more}
 use Rattle.bank_laws.{specs.Outcomes.{outcome_of, ended, row_with, rows_from}, proofs.Ending.{Onwards, accepting, write_outcome, outcome-accepts}}
 use Rattle.bank_laws.proofs.{Later.{EndsAbove, stored_over}, Serves.onwards_at, Settling.{opens, lawful_before, stays}, Walking.rows_after, Wears.stored_up_to}
 use Rattle.queue_laws.proofs.Floors.{since, floor_of, since-none, since-other, floor-bound, floor-skip, stored_case}
 
 module _ {n : ℕ} where
   later_stored : (t tick : ℕ) (o : Outcome n) → ((u p : ℕ) → o ≡ out.Stored u p → t < u) → answers.stored_by t (ended tick o) ≡ false
-  later_stored t tick out.Unset h = refl
   later_stored t tick (out.Stored at place) h = lt-leb at t (h at place refl)
-  later_stored t tick (out.Merged at) h = refl
-  later_stored t tick (out.Queued at) h = refl
-  later_stored t tick (out.Full at) h = refl
-  later_stored t tick (out.Worn at) h = refl
-  later_stored t tick (out.Read at place bytes) h = refl
-  later_stored t tick (out.Forwarded at bytes) h = refl
-  later_stored t tick (out.Busy at) h = refl
-  later_stored t tick (out.Lost at) h = refl
-  later_stored t tick (out.Cut at) h = refl
+  later_stored t tick _ h = refl
 
 three_true : (a b c : Bool) → b ≡ true → c ≡ true → (a && (b && c)) ≡ a
 three_true true true true h k = refl
@@ -44,11 +35,7 @@ rows_before {n} {m} (x ∷ mid) now bound b = by x.happens (λ bound b. rows_bef
     by : (h : Happens n) → ((bound : ℕ) → RowsBelow (core (mid ++ now)) bound → RowsBelow (core now) bound) → RowsBelow (core_of h (core (mid ++ now))) bound → RowsBelow (core now) bound
     by (Core (Write at line bytes given answer)) go b = RowsBelow-more (core now) at bound (omega (arith, b.0)) (go at b.1)
     by (Core (Read at line answer)) go b = RowsBelow-more (core now) at bound (omega (arith, b.0)) (go at b.1)
-    by (Core (Serve answer)) go b = go bound b
-    by (Regs event) go b = go bound b
-    by (Core (Begin answer)) go b = go bound b
-    by (Core (Iterate answer)) go b = go bound b
-    by (Core (Cut tearing)) go b = go bound b
+    by _ go b = go bound b
 
 module _ {n m : ℕ} (shape : BankShape) (pace : Pace) (e : ℕ) (all later now : List (TimedEvent n m)) (t : ℕ) (r : 1 ≤ pace.read) (i : 1 ≤ pace.iter) (l : Lawful shape pace e all) (same : all ≡ later ++ now)
     (up : last_tick now ≤ t) (ends : EndsAbove t later) where
@@ -120,13 +107,8 @@ module _ {n m : ℕ} (shape : BankShape) (pace : Pace) (e : ℕ) (all later now 
               ∙ ih
               ∙ sym (since-other given (since (core ys) line (floor_of (outcome_of shape now) (core ys) line)) (accepting answer) k at line (floor_of (outcome_of shape now) (core ys) line) ne)
               ∙ sym (ap (λ f. since (Write at k bytes given answer ∷ core ys) line f) (floor-skip (k == line && is_stored (outcome_of shape now at)) at (floor_of (outcome_of shape now) (core ys) line) (and_left (k == line) _ ne)))
-      by (Core (Read at k answer)) cancels may on ih = ih
-      by (Core (Serve answer)) cancels may on ih = ih
-      by (Regs event) cancels may on ih = ih
-      by (Core (Begin answer)) cancels may on ih = ih
-      by (Core (Iterate answer)) cancels may on ih = ih
       by (Core (Cut tearing)) true may on ih = ih
-      by (Core (Cut tearing)) false may on ih = ih
+      by _ _ may on ih = ih
 
   unstored_is : (line : ℕ) → unstored (λ (o : Outcome n). answers.stored_by t o) line (rows_from shape all now) ≡ since (core now) line (floor_of (outcome_of shape now) (core now) line)
   unstored_is line = unstored_by (λ (o : Outcome n). answers.stored_by t o) stored_same line [] now refl
@@ -144,13 +126,8 @@ module _ {n m : ℕ} (shape : BankShape) (pace : Pace) (e : ℕ) (all later now 
           or_from (k == line && answers.stored_by t (ended x.tick (outcome_of shape all at))) false
           (and_right (k == line) _ (unstored_later at x.tick
           (λ u p s. let both : ◌≡◌ {A = Outcome n} (out.Stored u p) out.Unset = sym s ∙ (opens shape pace e now here).coming at (low at (rows_before mid zs at may.asked)) in absurd (cc)))) refl
-      by (Core (Read at k answer)) cancels may = refl
-      by (Core (Serve answer)) cancels may = refl
-      by (Regs event) cancels may = refl
-      by (Core (Begin answer)) cancels may = refl
-      by (Core (Iterate answer)) cancels may = refl
       by (Core (Cut tearing)) true may = refl
-      by (Core (Cut tearing)) false may = refl
+      by _ _ may = refl
 
   -- what the rows show as given by the queue
   pub cover_is : (line : ℕ) (mid zs : List (TimedEvent n m)) → Lawful shape pace e (mid ++ zs) → ((bound : ℕ) → RowsBelow (core zs) bound → RowsBelow (core now) bound)

@@ -53,30 +53,12 @@ module _ {n : ℕ} where
   head_one (e ∷ es) a b h k = h ∙ sym k
 
   pub not_stored_ended : (tick : ℕ) (o : Outcome n) → ((u p : ℕ) → o ≡ out.Stored u p → ⊥) → not (is_stored (ended tick o)) ≡ true
-  not_stored_ended tick out.Unset h = refl
   not_stored_ended tick (out.Stored at place) h = absurd (h at place refl)
-  not_stored_ended tick (out.Merged at) h = refl
-  not_stored_ended tick (out.Queued at) h = refl
-  not_stored_ended tick (out.Full at) h = refl
-  not_stored_ended tick (out.Worn at) h = refl
-  not_stored_ended tick (out.Read at place bytes) h = refl
-  not_stored_ended tick (out.Forwarded at bytes) h = refl
-  not_stored_ended tick (out.Busy at) h = refl
-  not_stored_ended tick (out.Lost at) h = refl
-  not_stored_ended tick (out.Cut at) h = refl
+  not_stored_ended tick _ h = refl
 
   pub not_before_ended : (tick v : ℕ) (o : Outcome n) → ((u p : ℕ) → o ≡ out.Stored u p → v ≤ u) → not (stored_before v (ended tick o)) ≡ true
-  not_before_ended tick v out.Unset h = refl
   not_before_ended tick v (out.Stored at place) h = ap not (le-ltb at v (h at place refl))
-  not_before_ended tick v (out.Merged at) h = refl
-  not_before_ended tick v (out.Queued at) h = refl
-  not_before_ended tick v (out.Full at) h = refl
-  not_before_ended tick v (out.Worn at) h = refl
-  not_before_ended tick v (out.Read at place bytes) h = refl
-  not_before_ended tick v (out.Forwarded at bytes) h = refl
-  not_before_ended tick v (out.Busy at) h = refl
-  not_before_ended tick v (out.Lost at) h = refl
-  not_before_ended tick v (out.Cut at) h = refl
+  not_before_ended tick v _ h = refl
 
 -- what holds of a queue by now, and of its rows in the end
 pub record StandsWell {n m : ℕ} (shape : BankShape) (all now : List (TimedEvent n m)) : Type 0 where

@@ -9,7 +9,7 @@ use Rattle.bank_shape.specs.declared.answer.WriteAnswer.TheVariants as wrote
 use Rattle.bank_shape.specs.declared.answer.ReadAnswer.TheVariants as came
 use Rattle.bank_shape.specs.declared.answer.Step.TheVariants as did
 use Rattle.bank_model.specs.{Events.{Write, Read, Serve, Begin, Iterate, Cut, newest}, History.{begun, queue, waits, due_after}, Lawful.{Lawful, MayCome}}
-use Rattle.bank_model.specs.Timing.{Happens, Core, Regs, TimedEvent, core, core_of, last_tick}
+use Rattle.bank_model.specs.Timing.{Happens, Core, TimedEvent, core, core_of, last_tick}
 use Rattle.bank_laws.{specs.Outcomes.{on_row, outcome_with, outcome_of}, specs.Standing.has_wait, specs.Ticks.ends_action, proofs.Answering.{IsHead, stored-head}}
 use Rattle.bank_laws.proofs.{Settling.{opens, step_stays}, Ticks.last_tick-rises, Wears.{not_stored, lost_not_stored, stored_tick, stored_by}}
 
@@ -91,24 +91,16 @@ module _ {n m : ℕ} (shape : BankShape) (pace : Pace) (e : ℕ) (now : List (Ti
   head_first zs x (Core (Write at line bytes given (wrote.Merged old))) head may h none = merge_first zs x at line old head bytes given h none
   head_first zs x (Core (Write at line bytes given wrote.Full)) head may h none = inl (h, λ row u p unset s. none row u p unset (not_stored at row (out.Full x.tick) (outcome_of shape zs row) u p (λ is. absurd (cc)) s))
   head_first zs x (Core (Write at line bytes given wrote.Exhausted)) head may h none = inl (h, λ row u p unset s. none row u p unset (not_stored at row (out.Worn x.tick) (outcome_of shape zs row) u p (λ is. absurd (cc)) s))
-  head_first zs x (Core (Read at line came.Waiting)) head may h none = inl (h, none)
   head_first zs x (Core (Read at line came.Busy)) head may h none = inl (h, λ row u p unset s. none row u p unset (not_stored at row (out.Busy x.tick) (outcome_of shape zs row) u p (λ is. absurd (cc)) s))
   head_first zs x (Core (Read at line (came.Forwarded bytes))) head may h none =
       inl (h, λ row u p unset s. none row u p unset (not_stored at row (out.Forwarded x.tick bytes) (outcome_of shape zs row) u p (λ is. absurd (cc)) s))
-  head_first zs x (Regs event) head may h none = inl (h, none)
   head_first zs x (Core (Serve answer)) head may h none =
       inl (h, λ row u p unset s. none row u p unset (not_stored answer.row row (out.Read x.tick answer.place answer.bytes) (outcome_of shape zs row) u p (λ is. absurd (cc)) s))
   head_first zs x (Core (Begin (did.Stored at place))) head may h none = inr (stored_first zs x.tick at place head (queue shape (core zs)) (stored-head shape (core zs) at place may.may.1) h none)
-  head_first zs x (Core (Begin did.More)) head may h none = inl (head-begun (due_after shape (core zs)) (newest (core zs)) (queue shape (core zs)) head h, none)
-  head_first zs x (Core (Begin (did.Moved step))) head may h none = inl (head-begun (due_after shape (core zs)) (newest (core zs)) (queue shape (core zs)) head h, none)
-  head_first zs x (Core (Begin (did.Retired slot line))) head may h none = inl (head-begun (due_after shape (core zs)) (newest (core zs)) (queue shape (core zs)) head h, none)
-  head_first zs x (Core (Begin did.Exhausted)) head may h none = inl (head-begun (due_after shape (core zs)) (newest (core zs)) (queue shape (core zs)) head h, none)
+  head_first zs x (Core (Begin _)) head may h none = inl (head-begun (due_after shape (core zs)) (newest (core zs)) (queue shape (core zs)) head h, none)
   head_first zs x (Core (Iterate (did.Stored at place))) head may h none = inr (stored_first zs x.tick at place head (queue shape (core zs)) (stored-head shape (core zs) at place may.may.1) h none)
-  head_first zs x (Core (Iterate did.More)) head may h none = inl (h, none)
-  head_first zs x (Core (Iterate (did.Moved step))) head may h none = inl (h, none)
-  head_first zs x (Core (Iterate (did.Retired slot line))) head may h none = inl (h, none)
-  head_first zs x (Core (Iterate did.Exhausted)) head may h none = inl (h, none)
   head_first zs x (Core (Cut tearing)) head may h none = inl (h, λ row u p unset s. none row u p unset (lost_not_stored (has_wait (waits shape (core zs)) row) x.tick (outcome_of shape zs row) u p s))
+  head_first zs x _ head may h none = inl (h, none)
 
   first_step : (zs : List (TimedEvent n m)) (x : TimedEvent n m) (h : Happens n) (head : ℕ) → Lawful shape pace e zs → MayCome shape pace e zs x h → last_tick zs ≤ x.tick → First shape now zs head → FirstBy shape now zs x.tick h head
   first_step zs x h head l may rises (inl there) = head_first zs x h head may there.0 there.1

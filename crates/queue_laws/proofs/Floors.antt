@@ -5,7 +5,7 @@ use Rattle.result_rows.specs.declared.Outcome.{Outcome}
 use Rattle.result_rows.specs.declared.Outcome.TheVariants as out
 use Rattle.masked_bytes.specs.Masked.{joined, none_given}
 use Rattle.row_rules.specs.Answers.{is_stored}
-use Rattle.bank_model.specs.Events.{BankEvent, Write, Read, Serve, Begin, Iterate, Cut, RowsBelow}
+use Rattle.bank_model.specs.Events.{BankEvent, Write, Read, RowsBelow}
 use Rattle.bank_laws.proofs.{Asked.{Wrote, wrote-below}, Ending.accepting}
 
 since-skip : (b : Bool) (given rest : List Bool) → b ≡ false → cond b (joined given rest) rest ≡ rest
@@ -52,10 +52,7 @@ module _ {n : ℕ} where
       since-skip (accepting answer && (l == line && nat_le floor at)) given (since h line floor) (and_right (accepting answer) _ (and_right (l == line) _ (lt-leb floor at (omega (arith, r.0, le)))))
       ∙ since-none h at line floor r.1 (omega (arith, r.0, le))
   since-none (Read at l answer ∷ h) bound line floor r le = since-none h at line floor r.1 (omega (arith, r.0, le))
-  since-none (Serve answer ∷ h) bound line floor r le = since-none h bound line floor r le
-  since-none (Begin answer ∷ h) bound line floor r le = since-none h bound line floor r le
-  since-none (Iterate answer ∷ h) bound line floor r le = since-none h bound line floor r le
-  since-none (Cut tearing ∷ h) bound line floor r le = since-none h bound line floor r le
+  since-none (_ ∷ h) bound line floor r le = since-none h bound line floor r le
 
   -- The floor
 
@@ -67,10 +64,7 @@ module _ {n : ℕ} where
       by true le = omega (arith, r.0)
       by false le = omega (arith, r.0, le)
   floor-bound o (Read at l answer ∷ h) bound line r = let le : floor_of o h line ≤ at = floor-bound o h at line r.1 in omega (arith, le, r.0)
-  floor-bound o (Serve answer ∷ h) bound line r = floor-bound o h bound line r
-  floor-bound o (Begin answer ∷ h) bound line r = floor-bound o h bound line r
-  floor-bound o (Iterate answer ∷ h) bound line r = floor-bound o h bound line r
-  floor-bound o (Cut tearing ∷ h) bound line r = floor-bound o h bound line r
+  floor-bound o (_ ∷ h) bound line r = floor-bound o h bound line r
 
   -- outcomes that agree on which rows of the line are stored leave one floor
   pub floor-agree : (o p : ℕ → Outcome n) (h : List (BankEvent n)) (line : ℕ) → ((row l : ℕ) → Wrote h row l → (l == line) ≡ true → is_stored (p row) ≡ is_stored (o row)) → floor_of p h line ≡ floor_of o h line
@@ -80,11 +74,7 @@ module _ {n : ℕ} where
       by : (b : Bool) → (b ≡ true → is_stored (p at) ≡ is_stored (o at)) → floor_of p h line ≡ floor_of o h line → cond (b && is_stored (p at)) (suc at) (floor_of p h line) ≡ cond (b && is_stored (o at)) (suc at) (floor_of o h line)
       by true own rest = ap (λ k. cond k (suc at) (floor_of p h line)) (own refl) ∙ ap (λ k. cond (is_stored (o at)) (suc at) k) rest
       by false own rest = rest
-  floor-agree o p (Read at l answer ∷ h) line same = floor-agree o p h line same
-  floor-agree o p (Serve answer ∷ h) line same = floor-agree o p h line same
-  floor-agree o p (Begin answer ∷ h) line same = floor-agree o p h line same
-  floor-agree o p (Iterate answer ∷ h) line same = floor-agree o p h line same
-  floor-agree o p (Cut tearing ∷ h) line same = floor-agree o p h line same
+  floor-agree o p (_ ∷ h) line same = floor-agree o p h line same
 
   -- a stored row of the line is below the floor
   pub floor-above : (o : ℕ → Outcome n) (h : List (BankEvent n)) (bound row line : ℕ) → RowsBelow h bound → Wrote h row line → is_stored (o row) ≡ true → row < floor_of o h line
@@ -103,10 +93,7 @@ module _ {n : ℕ} where
           ))
       by false is (inr k) go = go k
   floor-above o (Read at l answer ∷ h) bound row line r a s = floor-above o h at row line r.1 a s
-  floor-above o (Serve answer ∷ h) bound row line r a s = floor-above o h bound row line r a s
-  floor-above o (Begin answer ∷ h) bound row line r a s = floor-above o h bound row line r a s
-  floor-above o (Iterate answer ∷ h) bound row line r a s = floor-above o h bound row line r a s
-  floor-above o (Cut tearing ∷ h) bound row line r a s = floor-above o h bound row line r a s
+  floor-above o (_ ∷ h) bound row line r a s = floor-above o h bound row line r a s
 
   -- where no later row of the line is stored, the floor is behind a stored row
   pub floor-own : (o : ℕ → Outcome n) (h : List (BankEvent n)) (bound row line : ℕ) → RowsBelow h bound → Wrote h row line → is_stored (o row) ≡ true
@@ -121,10 +108,7 @@ module _ {n : ℕ} where
       by false is (inl k) go = absurd (cc (is, eq-eqb l line k.1))
       by false is (inr k) go = go k
   floor-own o (Read at l answer ∷ h) bound row line r a s none = floor-own o h at row line r.1 a s none
-  floor-own o (Serve answer ∷ h) bound row line r a s none = floor-own o h bound row line r a s none
-  floor-own o (Begin answer ∷ h) bound row line r a s none = floor-own o h bound row line r a s none
-  floor-own o (Iterate answer ∷ h) bound row line r a s none = floor-own o h bound row line r a s none
-  floor-own o (Cut tearing ∷ h) bound row line r a s none = floor-own o h bound row line r a s none
+  floor-own o (_ ∷ h) bound row line r a s none = floor-own o h bound row line r a s none
 
   pub floor-new : (o : ℕ → Outcome n) (h : List (BankEvent n)) (row at line : ℕ) → is_stored (o row) ≡ false → cond (at == line && is_stored (o row)) (suc row) (floor_of o h line) ≡ floor_of o h line
   floor-new o h row at line s = floor-skip (at == line && is_stored (o row)) row (floor_of o h line) (and_right (at == line) _ s)
@@ -132,17 +116,8 @@ module _ {n : ℕ} where
   -- Stored or not
 
   pub stored_case : (o : Outcome n) → ((u : ℕ) × (p : ℕ) × (o ≡ out.Stored u p)) ⊎ (is_stored o ≡ false)
-  stored_case out.Unset = inr refl
   stored_case (out.Stored at place) = inl (at, place, refl)
-  stored_case (out.Merged at) = inr refl
-  stored_case (out.Queued at) = inr refl
-  stored_case (out.Full at) = inr refl
-  stored_case (out.Worn at) = inr refl
-  stored_case (out.Read at place bytes) = inr refl
-  stored_case (out.Forwarded at bytes) = inr refl
-  stored_case (out.Busy at) = inr refl
-  stored_case (out.Lost at) = inr refl
-  stored_case (out.Cut at) = inr refl
+  stored_case _ = inr refl
 
   -- outcomes of which one is stored where the other is
   pub stored-agree : (o q : Outcome n) → ((u p : ℕ) → q ≡ out.Stored u p → o ≡ out.Stored u p) → ((u p : ℕ) → o ≡ out.Stored u p → q ≡ out.Stored u p) → is_stored q ≡ is_stored o

@@ -7,8 +7,8 @@ use Rattle.masked_bytes.specs.{Entries.{has_row, layer_of}, Masked.gives_all, de
 use Rattle.row_rules.specs.{Answers.is_forwarded, Queueing.{pending, waiting, cover, is_at_head, read_fits}, Rows.write_of, declared.Row.Row}
 use Rattle.bank_shape.specs.{declared.BankShape.BankShape, declared.answer.ReadAnswer.ReadAnswer, declared.pace.Pace.Pace}
 use Rattle.bank_shape.specs.declared.answer.ReadAnswer.TheVariants as came
-use Rattle.bank_model.specs.{Answers.read_answer, Events.{BankEvent, Write, Read, Serve, Begin, Iterate, Cut, RowsBelow, newest}, History.{awaited, queue, waits}}
-use Rattle.bank_model.specs.{Lawful.{Lawful, MayCome}, Sensing.most_steps, Timing.{Happens, Core, Regs, TimedEvent, core, core_of, last_tick}}
+use Rattle.bank_model.specs.{Answers.read_answer, Events.{BankEvent, Write, Read, Cut, RowsBelow, newest}, History.{awaited, queue, waits}}
+use Rattle.bank_model.specs.{Lawful.{Lawful, MayCome}, Sensing.most_steps, Timing.{Happens, Core, TimedEvent, core, core_of, last_tick}}
 use Rattle.bank_model.proofs.Rising.{RowsBelow-more}
 use Rattle.bank_laws.{specs.Outcomes.{outcome_of, row_with, rows_from}, specs.RowLaws.waits_fit, specs.Ticks.ends_action, proofs.Asked.Wrote, proofs.Ending.{Onwards, own_answer}}
 use Rattle.bank_laws.proofs.{Fates.{IsSettled, awaits-new}, Given.given-layer, Later.{EndsAbove, ends_at_row}, Lines.{Stands, stands-row}, Pairs.{AllLong, keeps_pairs}}
@@ -62,17 +62,9 @@ module _ {n : ℕ} where
       by false h = h refl
 
   settled-not_forwarded : (owed : List ℕ) (o : Outcome n) → IsSettled owed o → is_forwarded o ≡ false
-  settled-not_forwarded owed out.Unset s = absurd s
-  settled-not_forwarded owed (out.Stored at place) s = absurd s
-  settled-not_forwarded owed (out.Merged at) s = absurd s
-  settled-not_forwarded owed (out.Queued at) s = absurd s
-  settled-not_forwarded owed (out.Full at) s = absurd s
-  settled-not_forwarded owed (out.Worn at) s = absurd s
   settled-not_forwarded owed (out.Read at place bytes) s = refl
-  settled-not_forwarded owed (out.Forwarded at bytes) s = absurd s
-  settled-not_forwarded owed (out.Busy at) s = absurd s
   settled-not_forwarded owed (out.Lost at) s = refl
-  settled-not_forwarded owed (out.Cut at) s = absurd s
+  settled-not_forwarded owed _ s = absurd s
 
 one_down : {n m : ℕ} (x : TimedEvent n m) (ys : List (TimedEvent n m)) (bound : ℕ) → RowsBelow (core (x ∷ ys)) bound → RowsBelow (core ys) bound
 one_down {n} x ys bound b = by x.happens b
@@ -80,11 +72,7 @@ one_down {n} x ys bound b = by x.happens b
     by : (h : Happens n) → RowsBelow (core_of h (core ys)) bound → RowsBelow (core ys) bound
     by (Core (Write at line bytes given answer)) b = RowsBelow-more (core ys) at bound (omega (arith, b.0)) b.1
     by (Core (Read at line answer)) b = RowsBelow-more (core ys) at bound (omega (arith, b.0)) b.1
-    by (Core (Serve answer)) b = b
-    by (Regs event) b = b
-    by (Core (Begin answer)) b = b
-    by (Core (Iterate answer)) b = b
-    by (Core (Cut tearing)) b = b
+    by _ b = b
 
 module _ {n m : ℕ} (shape : BankShape) (pace : Pace) (e : ℕ) (all later : List (TimedEvent n m)) (x : TimedEvent n m) (ys : List (TimedEvent n m)) (r : 1 ≤ pace.read) (i : 1 ≤ pace.iter) (l : Lawful shape pace e all) (same : all ≡ later ++ x ∷ ys)
     (arrives : ends_action x.happens ≡ false) where
@@ -204,12 +192,8 @@ module _ {n m : ℕ} (shape : BankShape) (pace : Pace) (e : ℕ) (all : List (Ti
           ((f refl).not_covered line (others-lack shape (core ys) line came.Waiting tt may.may.1)) (settled-not_forwarded (newest (core ys) line) (outcome_of shape all row) settled)
           (fits_waiting shape pace e all (length (waiting x.tick [] (rows_from shape all ys))) (newest (core ys) line) (outcome_of shape all row) settled
           (ap (λ k. k == shape.reads) (f refl).count ∙ (read_room shape pace e all (core ys) line came.Waiting may.may.1).1 refl))
-      by (Core (Serve answer)) cancels may on f = tt
-      by (Regs event) cancels may on f = tt
-      by (Core (Begin answer)) cancels may on f = tt
-      by (Core (Iterate answer)) cancels may on f = tt
-      by (Core (Cut tearing)) true may on f = tt
       by (Core (Cut tearing)) false may on f = refl
+      by _ _ may on f = tt
 
 pub forward_law : ForwardLaw
 forward_law n m e shape pace xs sized l still =

@@ -8,8 +8,8 @@ use Rattle.row_rules.specs.{Answers.{is_stored, stored_before}, Queueing.{least,
 use Rattle.bank_shape.specs.{declared.BankShape.BankShape, declared.pace.Pace.Pace}
 use Rattle.bank_shape.specs.declared.answer.WriteAnswer.TheVariants as wrote
 use Rattle.bank_shape.specs.declared.answer.Step.TheVariants as did
-use Rattle.bank_model.specs.{Events.{Write, Read, Serve, Begin, Iterate, Cut, newest}, History.{begun, queue, due_after}, Lawful.{Lawful, MayCome}}
-use Rattle.bank_model.specs.Timing.{Happens, Core, Regs, TimedEvent, core, core_of, last_tick}
+use Rattle.bank_model.specs.{Events.{Write, Read, Begin, Iterate, Cut, newest}, History.{begun, queue, due_after}, Lawful.{Lawful, MayCome}}
+use Rattle.bank_model.specs.Timing.{Happens, Core, TimedEvent, core, core_of, last_tick}
 use Rattle.bank_laws.{specs.Outcomes.{on_row, outcome_with, outcome_of, ended, row_with, rows_from}, specs.Ticks.ends_action, proofs.Answering.{IsHead, stored-head}}
 use Rattle.bank_laws.proofs.{Asked.Wrote, Later.EndsAbove, Lines.Stands, Settling.{opens, step_stays}, Ticks.last_tick-rises, Walking.rows_after, Wears.{stored_by, stored_tick}}
 use Rattle.queue_laws.proofs.{Covering.{is_covered, Storeless, none_new}, Few.{StandsWell, entry_unset, not_stored_ended, not_before_ended}, First.{NoneStored, NoneBelow}}
@@ -65,21 +65,12 @@ module _ {n : ℕ} where
   store_of-own t line u p q found own lt = subst (λ b. NextBy u (cond b (least found u) found)) (sym (and_from (write_of line q) (nat_lt t u) own (lt-ltb t u lt))) (least-own found u)
 
   store_of-more : (t line u : ℕ) (q : Row n) (o : Outcome n) (found : Option ℕ) → NextBy u found → NextBy u (store_of t line q o found)
-  store_of-more t line u q out.Unset found f = f
   store_of-more t line u q (out.Stored at place) found f = by (write_of line q && nat_lt t at)
     where
       by : (b : Bool) → NextBy u (cond b (least found at) found)
       by true = subst (λ k. NextBy u (least k at)) (sym f.1) (min f.0 at, refl, omega (arith, f.2))
       by false = f
-  store_of-more t line u q (out.Merged at) found f = f
-  store_of-more t line u q (out.Queued at) found f = f
-  store_of-more t line u q (out.Full at) found f = f
-  store_of-more t line u q (out.Worn at) found f = f
-  store_of-more t line u q (out.Read at place bytes) found f = f
-  store_of-more t line u q (out.Forwarded at bytes) found f = f
-  store_of-more t line u q (out.Busy at) found f = f
-  store_of-more t line u q (out.Lost at) found f = f
-  store_of-more t line u q (out.Cut at) found f = f
+  store_of-more t line u q _ found f = f
 
   next_found : (t line u : ℕ) (rows : List (Row n)) → HasStore line u rows → t < u → NextBy u (next_store t line rows)
   next_found t line u [] s lt = absurd s
@@ -99,12 +90,8 @@ module _ {n m : ℕ} (shape : BankShape) (all : List (TimedEvent n m)) (row line
       by (Core (Write at k bytes given answer)) cancels go (inl own) = inl (store-own y.tick at k own.0 own.1)
       by (Core (Write at k bytes given answer)) cancels go (inr rest) = inr (go rest)
       by (Core (Read at k answer)) cancels go a = inr (go a)
-      by (Core (Serve answer)) cancels go a = go a
-      by (Regs event) cancels go a = go a
-      by (Core (Begin answer)) cancels go a = go a
-      by (Core (Iterate answer)) cancels go a = go a
-      by (Core (Cut tearing)) true go a = go a
       by (Core (Cut tearing)) false go a = inr (go a)
+      by _ _ go a = go a
 
   pub store-after : (mid zs : List (TimedEvent n m)) → Wrote (core (mid ++ zs)) row line → HasStore line u (rows_after shape all mid) ⊎ Wrote (core zs) row line
   store-after [] zs a = inr a
@@ -119,12 +106,7 @@ module _ {n m : ℕ} (shape : BankShape) (all : List (TimedEvent n m)) (row line
       by (Core (Write at k bytes given answer)) cancels go (inl own) =
           inl (store-right line u (rows_after shape all mid) (row_with shape all (Core (Write at k bytes given answer)) x.tick cancels) (inl (store-own x.tick at k own.0 own.1)))
       by (Core (Write at k bytes given answer)) cancels go (inr rest) = more (Core (Write at k bytes given answer)) cancels (go rest)
-      by (Core (Read at k answer)) cancels go a = more (Core (Read at k answer)) cancels (go a)
-      by (Regs event) cancels go a = more (Regs event) cancels (go a)
-      by (Core (Serve answer)) cancels go a = more (Core (Serve answer)) cancels (go a)
-      by (Core (Begin answer)) cancels go a = more (Core (Begin answer)) cancels (go a)
-      by (Core (Iterate answer)) cancels go a = more (Core (Iterate answer)) cancels (go a)
-      by (Core (Cut tearing)) cancels go a = more (Core (Cut tearing)) cancels (go a)
+      by h cancels go a = more h cancels (go a)
 
 module _ {n m : ℕ} (shape : BankShape) (now : List (TimedEvent n m)) (t line : ℕ) where
   -- a write of the line is stored above a tick, and no other row before it
@@ -159,12 +141,7 @@ module _ {n m : ℕ} (shape : BankShape) (now : List (TimedEvent n m)) (t line :
 module _ {n m : ℕ} (shape : BankShape) (pace : Pace) (e : ℕ) (now : List (TimedEvent n m)) (t line : ℕ) where
   asked_more : (zs : List (TimedEvent n m)) (h : Happens n) (row : ℕ) → Wrote (core zs) row line → Wrote (core_of h (core zs)) row line
   asked_more zs (Core (Write at k bytes given answer)) row a = inr a
-  asked_more zs (Core (Read at k answer)) row a = a
-  asked_more zs (Core (Serve answer)) row a = a
-  asked_more zs (Regs event) row a = a
-  asked_more zs (Core (Begin answer)) row a = a
-  asked_more zs (Core (Iterate answer)) row a = a
-  asked_more zs (Core (Cut tearing)) row a = a
+  asked_more zs _ row a = a
 
   module _ (zs : List (TimedEvent n m)) (x : TimedEvent n m) (r : 1 ≤ pace.read) (i : 1 ≤ pace.iter) (l : Lawful shape pace e zs) where
     on : (h : Happens n) → Storeless h → NoneStored shape now (outcome_of shape zs) → HasHead line (queue shape (core_of h (core zs))) → LineFirstBy shape now t line zs x.tick h
@@ -186,11 +163,6 @@ module _ {n m : ℕ} (shape : BankShape) (pace : Pace) (e : ℕ) (now : List (Ti
     line_head : (h : Happens n) → MayCome shape pace e zs x h → (ends_action h ≡ true → t < x.tick) → HasHead line (queue shape (core zs)) → NoneStored shape now (outcome_of shape zs) → LineFirstBy shape now t line zs x.tick h
     line_head (Core (Write at k bytes given wrote.Accepted)) may above head none = on (Core (Write at k bytes given wrote.Accepted)) tt none (line-pushed (queue shape (core zs)) _ line head)
     line_head (Core (Write at k bytes given (wrote.Merged old))) may above head none = on (Core (Write at k bytes given (wrote.Merged old))) tt none (line-merged old at bytes given (queue shape (core zs)) line head)
-    line_head (Core (Write at k bytes given wrote.Full)) may above head none = on (Core (Write at k bytes given wrote.Full)) tt none head
-    line_head (Core (Write at k bytes given wrote.Exhausted)) may above head none = on (Core (Write at k bytes given wrote.Exhausted)) tt none head
-    line_head (Core (Read at k answer)) may above head none = on (Core (Read at k answer)) tt none head
-    line_head (Regs event) may above head none = on (Regs event) tt none head
-    line_head (Core (Serve answer)) may above head none = on (Core (Serve answer)) tt none head
     line_head (Core (Begin (did.Stored at place))) may above head none =
         inr (record {
           row = at;
@@ -202,10 +174,7 @@ module _ {n m : ℕ} (shape : BankShape) (pace : Pace) (e : ℕ) (now : List (Ti
           by_now = omega arith;
           none = none_at at place none;
         })
-    line_head (Core (Begin did.More)) may above head none = on (Core (Begin did.More)) tt none (line-begun (due_after shape (core zs)) (newest (core zs)) (queue shape (core zs)) line head)
-    line_head (Core (Begin (did.Moved step))) may above head none = on (Core (Begin (did.Moved step))) tt none (line-begun (due_after shape (core zs)) (newest (core zs)) (queue shape (core zs)) line head)
-    line_head (Core (Begin (did.Retired slot to))) may above head none = on (Core (Begin (did.Retired slot to))) tt none (line-begun (due_after shape (core zs)) (newest (core zs)) (queue shape (core zs)) line head)
-    line_head (Core (Begin did.Exhausted)) may above head none = on (Core (Begin did.Exhausted)) tt none (line-begun (due_after shape (core zs)) (newest (core zs)) (queue shape (core zs)) line head)
+    line_head (Core (Begin answer)) may above head none = on (Core (Begin answer)) tt none (line-begun (due_after shape (core zs)) (newest (core zs)) (queue shape (core zs)) line head)
     line_head (Core (Iterate (did.Stored at place))) may above head none =
         inr (record {
           row = at;
@@ -217,11 +186,7 @@ module _ {n m : ℕ} (shape : BankShape) (pace : Pace) (e : ℕ) (now : List (Ti
           by_now = omega arith;
           none = none_at at place none;
         })
-    line_head (Core (Iterate did.More)) may above head none = on (Core (Iterate did.More)) tt none head
-    line_head (Core (Iterate (did.Moved step))) may above head none = on (Core (Iterate (did.Moved step))) tt none head
-    line_head (Core (Iterate (did.Retired slot to))) may above head none = on (Core (Iterate (did.Retired slot to))) tt none head
-    line_head (Core (Iterate did.Exhausted)) may above head none = on (Core (Iterate did.Exhausted)) tt none head
-    line_head (Core (Cut tearing)) may above head none = on (Core (Cut tearing)) tt none head
+    line_head h may above head none = on h tt none head
 
     line_step : (h : Happens n) → MayCome shape pace e zs x h → (ends_action h ≡ true → t < x.tick) → last_tick zs ≤ x.tick → LineFirst shape now t line zs → LineFirstBy shape now t line zs x.tick h
     line_step h may above rises (inl there) = line_head h may above there.0 there.1
@@ -299,9 +264,4 @@ any_entry {n} {m} shape all p row line (y ∷ ys) hit a = by y.happens (λ k. an
         → list_any (write_of line) (items (standing p (written_by shape all h y.tick ++ written shape all ys))) ≡ true
     by (Core (Write at k bytes given answer)) go (inl is) = own (p at) _ (standing p (written shape all ys)) (subst (λ r. p r ≡ true) (sym is.0) hit) (eq-eqb k line is.1)
     by (Core (Write at k bytes given answer)) go (inr rest) = more (p at) _ (standing p (written shape all ys)) (go rest)
-    by (Core (Read at k answer)) go a = go a
-    by (Core (Serve answer)) go a = go a
-    by (Regs event) go a = go a
-    by (Core (Begin answer)) go a = go a
-    by (Core (Iterate answer)) go a = go a
-    by (Core (Cut tearing)) go a = go a
+    by _ go a = go a

@@ -5,7 +5,7 @@ use Rattle.masked_bytes.{specs.Entries.{or_this, newest_row, laid_on, merged, ha
 use Rattle.bank_shape.specs.declared.BankShape.{BankShape}
 use Rattle.bank_shape.specs.declared.answer.WriteAnswer.TheVariants as wrote
 use Rattle.bank_shape.specs.declared.answer.Step.TheVariants as did
-use Rattle.bank_model.specs.{Answers.{MayAll, head_busy_after}, Events.{BankEvent, Write, Read, Serve, Begin, Iterate, Cut, newest, RowsBelow}, History.{begun, queue, due_after}}
+use Rattle.bank_model.specs.{Answers.{MayAll, head_busy_after}, Events.{BankEvent, Write, Read, Begin, Iterate, newest, RowsBelow}, History.{begun, queue, due_after}}
 use Rattle.bank_laws.proofs.{Answering.newest_row-there, Lines.merged-candidate, Standing.stand_apart}
 use Rattle.queue_laws.specs.EntryLaws.{last_write, LastWriteLaw}
 
@@ -119,21 +119,12 @@ module _ {n : ℕ} (shape : BankShape) (line row : ℕ) where
       merged-last line row (at == line) at new (queue shape h) (merged old new bytes given (queue shape h)) (last_write h line) refl
       (newest-merged old new bytes given (queue shape h) at apart found)
       (λ off. newest-aside old new bytes given (queue shape h) at line apart found off) (queue-last most h new may.1 below.1) is
-  queue-last most (Write new at bytes given wrote.Full ∷ h) bound may below is = queue-last most h new may.1 below.1 is
-  queue-last most (Write new at bytes given wrote.Exhausted ∷ h) bound may below is = queue-last most h new may.1 below.1 is
+  queue-last most (Write new at bytes given _ ∷ h) bound may below is = queue-last most h new may.1 below.1 is
   queue-last most (Read new at answer ∷ h) bound may below is = queue-last most h new may.1 below.1 is
-  queue-last most (Serve answer ∷ h) bound may below is = queue-last most h bound may.1 below is
   queue-last most (Begin (did.Stored new place) ∷ h) bound may below is = queue-last most h bound may.1 below (newest-drop (queue shape h) line row is)
-  queue-last most (Begin did.More ∷ h) bound may below is = queue-last most h bound may.1 below (sym (newest-begun (due_after shape h) (newest h) (queue shape h) line) ∙ is)
-  queue-last most (Begin (did.Moved step) ∷ h) bound may below is = queue-last most h bound may.1 below (sym (newest-begun (due_after shape h) (newest h) (queue shape h) line) ∙ is)
-  queue-last most (Begin (did.Retired slot spare) ∷ h) bound may below is = queue-last most h bound may.1 below (sym (newest-begun (due_after shape h) (newest h) (queue shape h) line) ∙ is)
-  queue-last most (Begin did.Exhausted ∷ h) bound may below is = queue-last most h bound may.1 below (sym (newest-begun (due_after shape h) (newest h) (queue shape h) line) ∙ is)
+  queue-last most (Begin _ ∷ h) bound may below is = queue-last most h bound may.1 below (sym (newest-begun (due_after shape h) (newest h) (queue shape h) line) ∙ is)
   queue-last most (Iterate (did.Stored new place) ∷ h) bound may below is = queue-last most h bound may.1 below (newest-drop (queue shape h) line row is)
-  queue-last most (Iterate did.More ∷ h) bound may below is = queue-last most h bound may.1 below is
-  queue-last most (Iterate (did.Moved step) ∷ h) bound may below is = queue-last most h bound may.1 below is
-  queue-last most (Iterate (did.Retired slot spare) ∷ h) bound may below is = queue-last most h bound may.1 below is
-  queue-last most (Iterate did.Exhausted ∷ h) bound may below is = queue-last most h bound may.1 below is
-  queue-last most (Cut tearing ∷ h) bound may below is = queue-last most h bound may.1 below is
+  queue-last most (_ ∷ h) bound may below is = queue-last most h bound may.1 below is
 
 pub last_write_law : LastWriteLaw
 last_write_law n most bound line row shape h may below is = queue-last shape line row most h bound may below is

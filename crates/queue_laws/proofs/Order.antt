@@ -6,9 +6,9 @@ use Rattle.masked_bytes.proofs.Truth.{and_first, and_second, or_rest}
 use Rattle.bank_shape.specs.{Kinds.is_store, declared.BankShape.BankShape, declared.Work.TheVariants.Nothing, declared.answer.WriteAnswer.WriteAnswer, declared.pace.Pace.Pace}
 use Rattle.bank_shape.specs.declared.answer.WriteAnswer.TheVariants as wrote
 use Rattle.bank_shape.specs.declared.answer.Step.TheVariants as did
-use Rattle.bank_model.specs.{After.due_work, Answers.head_busy_after, Events.{BankEvent, Write, Read, Serve, Begin, Iterate, Cut, newest}}
+use Rattle.bank_model.specs.{After.due_work, Answers.head_busy_after, Events.{BankEvent, Write, Read, Begin, Iterate, Cut, newest}}
 use Rattle.bank_model.specs.{History.{begun, queue, due_after, has_exhausted, in_progress}, Lawful.{Lawful, MayCome}, Sensing.most_steps}
-use Rattle.bank_model.specs.{Timing.{Happens, Core, Regs, KeepBegin, KeepIterate, KeepCut, TimedEvent, core, core_of, last_tick}, Told.{tick_by, tick_of_row}}
+use Rattle.bank_model.specs.{Timing.{Happens, Core, Regs, KeepCut, TimedEvent, core, core_of, last_tick}, Told.{tick_by, tick_of_row}}
 use Rattle.bank_laws.{specs.Pairs.{has_line, ArePaired}, specs.Ticks.ends_action, proofs.Answering.{newest_row-there, merged-there}, proofs.Asked.{pushed-stands, merged-stands}}
 use Rattle.bank_laws.proofs.{Counting.{among, Falling}, Entries.{either, differ_back}, Lines.{Stands, stands-row, stands-line, newest-line, merged-candidate}}
 use Rattle.bank_laws.proofs.Pairs.{HeadFull, HasWork, KeepsPairs, keeps_pairs, busy-full, no_candidate-head, accepted-none}
@@ -166,12 +166,7 @@ module _ {n m : ℕ} (shape : BankShape) (pace : Pace) (e : ℕ) where
   tick_step : (zs : List (TimedEvent n m)) (x : TimedEvent n m) (h : Happens n) (row : ℕ) → MayCome shape pace e zs x h → among (writes_in zs) row ≡ true → tick_by row h x.tick (tick_of_row row zs) ≡ tick_of_row row zs
   tick_step zs x (Core (Write at line bytes given answer)) row may there =
       ap (λ b. cond b x.tick (tick_of_row row zs)) (differ_back row at (below_among (writes_in zs) at row (writes-fall zs at may.asked) there))
-  tick_step zs x (Core (Read at line answer)) row may there = refl
-  tick_step zs x (Core (Serve answer)) row may there = refl
-  tick_step zs x (Regs event) row may there = refl
-  tick_step zs x (Core (Begin answer)) row may there = refl
-  tick_step zs x (Core (Iterate answer)) row may there = refl
-  tick_step zs x (Core (Cut tearing)) row may there = refl
+  tick_step zs x _ row may there = refl
 
   pub tick_stays : (later zs : List (TimedEvent n m)) (row : ℕ) → Lawful shape pace e (later ++ zs) → among (writes_in zs) row ≡ true → tick_of_row row (later ++ zs) ≡ tick_of_row row zs
   tick_stays [] zs row l there = refl
@@ -186,12 +181,7 @@ module _ {n m : ℕ} (shape : BankShape) (pace : Pace) (e : ℕ) where
     where
       by : (h : Happens n) → tick_of_row row zs ≤ x.tick → tick_by row h x.tick (tick_of_row row zs) ≤ x.tick
       by (Core (Write at line bytes given answer)) le = pick_tick (eqb at row) x.tick (tick_of_row row zs) le
-      by (Core (Read at line answer)) le = le
-      by (Core (Serve answer)) le = le
-      by (Regs event) le = le
-      by (Core (Begin answer)) le = le
-      by (Core (Iterate answer)) le = le
-      by (Core (Cut tearing)) le = le
+      by _ le = le
 
   -- the entries of a line stand in order, and a busy head came before the last tick
   pub record InOrder (zs : List (TimedEvent n m)) : Type 0 where
@@ -303,21 +293,13 @@ module _ {n m : ℕ} (shape : BankShape) (pace : Pace) (e : ℕ) where
     step (Core (Write at line bytes given wrote.Full)) may lt = quiet (Core (Write at line bytes given wrote.Full)) may refl (still (Write at line bytes given wrote.Full ∷ core zs))
     step (Core (Write at line bytes given wrote.Exhausted)) may lt = quiet (Core (Write at line bytes given wrote.Exhausted)) may refl (still (Write at line bytes given wrote.Exhausted ∷ core zs))
     step (Core (Read at line answer)) may lt = quiet (Core (Read at line answer)) may refl (still (Read at line answer ∷ core zs))
-    step (Regs (KeepBegin answer)) may lt = ends (Regs (KeepBegin answer)) (λ row. refl) (lt refl) o.leads
-    step (Regs (KeepIterate answer)) may lt = ends (Regs (KeepIterate answer)) (λ row. refl) (lt refl) o.leads
-    step (Regs (KeepCut tearing)) may lt = quiet (Regs (KeepCut tearing)) may refl (λ b. b)
-    step (Core (Serve answer)) may lt = ends (Core (Serve answer)) (λ row. refl) (lt refl) o.leads
     step (Core (Begin (did.Stored at place))) may lt = ends (Core (Begin (did.Stored at place))) (λ row. refl) (lt refl) (leads-drop (λ row. tick_of_row row zs) (queue shape (core zs)) pairs.paired)
-    step (Core (Begin did.More)) may lt = ends (Core (Begin did.More)) (λ row. refl) (lt refl) (leads-begun (λ row. tick_of_row row zs) (due_after shape (core zs)) (newest (core zs)) (queue shape (core zs)) o.leads)
-    step (Core (Begin (did.Moved moved))) may lt = ends (Core (Begin (did.Moved moved))) (λ row. refl) (lt refl) (leads-begun (λ row. tick_of_row row zs) (due_after shape (core zs)) (newest (core zs)) (queue shape (core zs)) o.leads)
-    step (Core (Begin (did.Retired slot line))) may lt = ends (Core (Begin (did.Retired slot line))) (λ row. refl) (lt refl) (leads-begun (λ row. tick_of_row row zs) (due_after shape (core zs)) (newest (core zs)) (queue shape (core zs)) o.leads)
-    step (Core (Begin did.Exhausted)) may lt = ends (Core (Begin did.Exhausted)) (λ row. refl) (lt refl) (leads-begun (λ row. tick_of_row row zs) (due_after shape (core zs)) (newest (core zs)) (queue shape (core zs)) o.leads)
+    step (Core (Begin answer)) may lt =
+        ends (Core (Begin answer)) (λ row. refl) (lt refl) (leads-begun (λ row. tick_of_row row zs) (due_after shape (core zs)) (newest (core zs)) (queue shape (core zs)) o.leads)
     step (Core (Iterate (did.Stored at place))) may lt = ends (Core (Iterate (did.Stored at place))) (λ row. refl) (lt refl) (leads-drop (λ row. tick_of_row row zs) (queue shape (core zs)) pairs.paired)
-    step (Core (Iterate did.More)) may lt = ends (Core (Iterate did.More)) (λ row. refl) (lt refl) o.leads
-    step (Core (Iterate (did.Moved moved))) may lt = ends (Core (Iterate (did.Moved moved))) (λ row. refl) (lt refl) o.leads
-    step (Core (Iterate (did.Retired slot line))) may lt = ends (Core (Iterate (did.Retired slot line))) (λ row. refl) (lt refl) o.leads
-    step (Core (Iterate did.Exhausted)) may lt = ends (Core (Iterate did.Exhausted)) (λ row. refl) (lt refl) o.leads
     step (Core (Cut tearing)) may lt = quiet (Core (Cut tearing)) may refl (λ b. absurd (cc))
+    step (Regs (KeepCut tearing)) may lt = quiet (Regs (KeepCut tearing)) may refl (λ b. b)
+    step h may lt = ends h (λ row. refl) (lt refl) o.leads
 
   pub in_order : (zs : List (TimedEvent n m)) → 1 ≤ pace.read → 1 ≤ pace.iter → Lawful shape pace e zs → InOrder zs
   in_order [] r i l = record { leads = tt; busy = λ b. tt }

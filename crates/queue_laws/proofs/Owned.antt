@@ -7,7 +7,7 @@ use Rattle.masked_bytes.proofs.Truth.{neither_first, neither_second, and_second,
 use Rattle.bank_shape.specs.{declared.BankShape.BankShape, declared.Work.TheVariants.Nothing}
 use Rattle.bank_shape.specs.declared.answer.WriteAnswer.TheVariants as wrote
 use Rattle.bank_shape.specs.declared.answer.Step.TheVariants as did
-use Rattle.bank_model.specs.{After.{is_ready, due_work}, Answers.MayAll, Events.{BankEvent, Write, Read, Serve, Begin, Iterate, Cut, newest, RowsBelow}}
+use Rattle.bank_model.specs.{After.{is_ready, due_work}, Answers.MayAll, Events.{BankEvent, Write, Read, Begin, Iterate, newest, RowsBelow}}
 use Rattle.bank_model.{specs.History.{Awaited, begun, queue, waits, due_after, has_exhausted, in_progress}, proofs.Newest.length-newest}
 use Rattle.bank_laws.proofs.{Lines.{Stands, stands-row, merges-stands}, Pairs.gives_all-joined, Standing.stand_apart}
 use Rattle.queue_laws.specs.EntryLaws.{line_written, given_by, is_head_begun, Gives, EntryLineLaw, EntryBytesLaw}
@@ -235,21 +235,12 @@ module _ {n : ℕ} (shape : BankShape) where
     where
       one : (row == row) ≡ true
       one = eq-eqb row row refl
-  queue-own most (Write row line bytes given wrote.Full ∷ h) bound may below = queue-own most h row may.1 below.1
-  queue-own most (Write row line bytes given wrote.Exhausted ∷ h) bound may below = queue-own most h row may.1 below.1
+  queue-own most (Write row line bytes given _ ∷ h) bound may below = queue-own most h row may.1 below.1
   queue-own most (Read row line answer ∷ h) bound may below = queue-own most h row may.1 below.1
-  queue-own most (Serve answer ∷ h) bound may below = queue-own most h bound may.1 below
   queue-own most (Begin (did.Stored row place) ∷ h) bound may below = own-drop _ _ (is_head_begun shape h) (queue shape h) (queue-own most h bound may.1 below)
-  queue-own most (Begin did.More ∷ h) bound may below = begun-own h may.0.0 (queue-own most h bound may.1 below)
-  queue-own most (Begin (did.Moved step) ∷ h) bound may below = begun-own h may.0.0 (queue-own most h bound may.1 below)
-  queue-own most (Begin (did.Retired slot line) ∷ h) bound may below = begun-own h may.0.0 (queue-own most h bound may.1 below)
-  queue-own most (Begin did.Exhausted ∷ h) bound may below = begun-own h may.0.0 (queue-own most h bound may.1 below)
+  queue-own most (Begin _ ∷ h) bound may below = begun-own h may.0.0 (queue-own most h bound may.1 below)
   queue-own most (Iterate (did.Stored row place) ∷ h) bound may below = own-drop _ _ (is_head_begun shape h) (queue shape h) (queue-own most h bound may.1 below)
-  queue-own most (Iterate did.More ∷ h) bound may below = queue-own most h bound may.1 below
-  queue-own most (Iterate (did.Moved step) ∷ h) bound may below = queue-own most h bound may.1 below
-  queue-own most (Iterate (did.Retired slot line) ∷ h) bound may below = queue-own most h bound may.1 below
-  queue-own most (Iterate did.Exhausted ∷ h) bound may below = queue-own most h bound may.1 below
-  queue-own most (Cut tearing ∷ h) bound may below = queue-own most h bound may.1 below
+  queue-own most (_ ∷ h) bound may below = queue-own most h bound may.1 below
 
 module _ {n : ℕ} where
   -- the entry at a place

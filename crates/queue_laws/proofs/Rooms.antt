@@ -7,8 +7,8 @@ use Rattle.masked_bytes.{specs.Entries.{has_row, candidate}, specs.declared.entr
 use Rattle.row_rules.specs.{Answers.is_full, Queueing.{pending, waiting, has_room, pairs_few, is_refused}, Rows.write_of, declared.Row.Row}
 use Rattle.bank_shape.specs.{declared.BankShape.BankShape, declared.pace.Pace.Pace}
 use Rattle.bank_shape.specs.declared.answer.WriteAnswer.TheVariants as wrote
-use Rattle.bank_model.specs.{Answers.{head_busy_after, accept_answer, write_answer}, Events.{BankEvent, Write, Read, Serve, Begin, Iterate, Cut}}
-use Rattle.bank_model.specs.{History.{queue, waits, has_exhausted}, Lawful.{Lawful, MayCome}, Sensing.most_steps, Timing.{Happens, Core, Regs, TimedEvent, core, last_tick}}
+use Rattle.bank_model.specs.{Answers.{head_busy_after, accept_answer, write_answer}, Events.{BankEvent, Write, Read, Cut}}
+use Rattle.bank_model.specs.{History.{queue, waits, has_exhausted}, Lawful.{Lawful, MayCome}, Sensing.most_steps, Timing.{Happens, Core, TimedEvent, core, last_tick}}
 use Rattle.bank_model.specs.Told.{tick_of_row}
 use Rattle.right_runs.specs.Banks.{rules_of}
 use Rattle.bank_laws.{specs.Outcomes.{outcome_of, ended, row_with, rows_from}, specs.Room.RoomLaw, specs.Ticks.ends_action, proofs.Answering.IsHead}
@@ -90,12 +90,8 @@ module _ {n m : ℕ} (shape : BankShape) (pace : Pace) (e : ℕ) where
             → Passes finds_pairs_few (rows_from shape all ys) (row_with shape all h x.tick cancels) (rows_after shape all later)
         by (Core (Write row line bytes given answer)) cancels few = few refl
         by (Core (Read row line answer)) cancels few = few refl
-        by (Core (Serve answer)) cancels few = tt
-        by (Regs event) cancels few = tt
-        by (Core (Begin answer)) cancels few = tt
-        by (Core (Iterate answer)) cancels few = tt
-        by (Core (Cut tearing)) true few = tt
         by (Core (Cut tearing)) false few = few refl
+        by _ _ few = tt
 
   -- A refused write
 
@@ -144,12 +140,8 @@ module _ {n m : ℕ} (shape : BankShape) (pace : Pace) (e : ℕ) where
           let was : answer ≡ wrote.Full = full_outcome x.tick answer (ended x.tick (outcome_of shape all row)) (write_outcome shape pace e all ys x row line bytes given answer (opens shape pace e all l) may on) full in
           refuse refl line (full-none shape (core ys) line (sym was ∙ may.may.2)))
       by (Core (Read row line answer)) cancels may on refuse = refl
-      by (Core (Serve answer)) cancels may on refuse = tt
-      by (Regs event) cancels may on refuse = tt
-      by (Core (Begin answer)) cancels may on refuse = tt
-      by (Core (Iterate answer)) cancels may on refuse = tt
-      by (Core (Cut tearing)) true may on refuse = tt
       by (Core (Cut tearing)) false may on refuse = refl
+      by _ _ may on refuse = tt
 
 pub pairs_few_law : PairsFewLaw
 pairs_few_law n m e shape pace xs sized l idle = walk shape xs finds_pairs_few [] xs refl (λ later x ys same. pairs_pass shape pace e xs later x ys sized.read sized.iter l same)
@@ -174,11 +166,8 @@ all_last P (y ∷ front) x h = all_last P front x (All-tail P y (front ++ x ∷ 
 no_rows : {n m : ℕ} (shape : BankShape) (all : List (TimedEvent n m)) (h : Happens n) (tick : ℕ) (cancels : Bool) → ends_action h ≡ true → row_with shape all h tick cancels ≡ []
 no_rows shape all (Core (Write row line bytes given answer)) tick cancels is = absurd (cc)
 no_rows shape all (Core (Read row line answer)) tick cancels is = absurd (cc)
-no_rows shape all (Core (Serve answer)) tick cancels is = refl
-no_rows shape all (Regs event) tick cancels is = refl
-no_rows shape all (Core (Begin answer)) tick cancels is = refl
-no_rows shape all (Core (Iterate answer)) tick cancels is = refl
 no_rows shape all (Core (Cut tearing)) tick cancels is = absurd (cc)
+no_rows shape all _ tick cancels is = refl
 
 module _ {n m : ℕ} (shape : BankShape) (pace : Pace) (e : ℕ) where
   -- at the tick of the end of an action the bank is as behind it, and else as before it

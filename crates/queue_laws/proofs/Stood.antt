@@ -5,7 +5,7 @@ use Rattle.result_rows.specs.declared.Outcome.TheVariants as out
 use Rattle.masked_bytes.specs.Entries.{has_row}
 use Rattle.row_rules.specs.{Answers.accepts, Queueing.pending, Rows.accepted_of, declared.Row.Row}
 use Rattle.bank_shape.specs.{declared.BankShape.BankShape, declared.pace.Pace.Pace}
-use Rattle.bank_model.specs.{Events.{Write, Read, Serve, Begin, Iterate, Cut}, History.queue, Lawful.{Lawful, MayCome}, Timing.{Happens, Core, Regs, TimedEvent, core, last_tick}}
+use Rattle.bank_model.specs.{Events.{Write, Cut}, History.queue, Lawful.{Lawful, MayCome}, Timing.{Happens, Core, TimedEvent, core, last_tick}}
 use Rattle.bank_model.specs.Told.{tick_by, tick_of_row}
 use Rattle.bank_laws.{specs.Outcomes.{outcome_with, outcome_of, ended, row_with, rows_from}, proofs.Counting.among}
 use Rattle.bank_laws.proofs.{Ending.{Onwards, accepting, write_outcome, outcome-accepts}, Later.EndsAbove, Lines.Stands, Merging.{Fate, FateBy, fate, fate_new}}
@@ -96,13 +96,8 @@ module _ {n m : ℕ} (shape : BankShape) (pace : Pace) (e : ℕ) (all later now 
                     (refused ref) refl,
                 stands,
               ))
-      by (Core (Read at line answer)) cancels may on f g ticks ih each = (ih, each)
-      by (Core (Serve answer)) cancels may on f g ticks ih each = (ih, each)
-      by (Regs event) cancels may on f g ticks ih each = (ih, each)
-      by (Core (Begin answer)) cancels may on f g ticks ih each = (ih, each)
-      by (Core (Iterate answer)) cancels may on f g ticks ih each = (ih, each)
       by (Core (Cut tearing)) true may on f g ticks ih each = (ih, each)
-      by (Core (Cut tearing)) false may on f g ticks ih each = (ih, each)
+      by _ _ may on f g ticks ih each = (ih, each)
 
   pub pending_is : pending t [] (rows_from shape all now) ≡ items (stood now)
   pending_is = (are_stood [] now refl).0

@@ -3,7 +3,7 @@ use Rattle.std.proofs.Common.{◌≡◌, ℕ, ◌<◌, ◌≤◌, Bool, true, fa
 use Rattle.result_rows.specs.declared.Outcome.{Outcome}
 use Rattle.row_rules.specs.{declared.Asks.TheVariants.Writes, declared.Row.Row}
 use Rattle.bank_shape.specs.declared.BankShape.{BankShape}
-use Rattle.bank_model.specs.{Events.{Write, Read, Serve, Begin, Iterate, Cut, RowsBelow}, History.queue, Timing.{Happens, Core, Regs, TimedEvent, core, core_of}, Told.tick_of_row}
+use Rattle.bank_model.specs.{Events.{Write, Read, RowsBelow}, History.queue, Timing.{Happens, Core, TimedEvent, core, core_of}, Told.tick_of_row}
 use Rattle.bank_laws.{specs.Outcomes.{outcome_of, ended}, proofs.Counting.hits, proofs.Lines.Stands, proofs.Pending.{write_rows, writes_in}}
 
 -- a write with its row's number, as its row shows it
@@ -85,11 +85,7 @@ module _ {n m : ℕ} (shape : BankShape) (all : List (TimedEvent n m)) where
           → NumbersFall (standing p (written_by h y.tick ++ written ys)) bound
       by (Core (Write at line bytes given answer)) go b = cond_fall (p at) _ (standing p (written ys)) bound b.0 (go at b.1)
       by (Core (Read at line answer)) go b = numbers-more (standing p (written ys)) at bound (omega (arith, b.0)) (go at b.1)
-      by (Core (Serve answer)) go b = go bound b
-      by (Regs event) go b = go bound b
-      by (Core (Begin answer)) go b = go bound b
-      by (Core (Iterate answer)) go b = go bound b
-      by (Core (Cut tearing)) go b = go bound b
+      by _ go b = go bound b
 
   pub standing-count : (p : ℕ → Bool) (ys : List (TimedEvent n m)) → length (items (standing p (written ys))) ≡ hits p (writes_in ys)
   standing-count p [] = refl
@@ -97,9 +93,4 @@ module _ {n m : ℕ} (shape : BankShape) (all : List (TimedEvent n m)) where
     where
       by : (h : Happens n) → length (items (standing p (written ys))) ≡ hits p (writes_in ys) → length (items (standing p (written_by h y.tick ++ written ys))) ≡ hits p (write_rows h ++ writes_in ys)
       by (Core (Write at line bytes given answer)) go = cond_count (p at) _ (standing p (written ys)) (hits p (writes_in ys)) go
-      by (Core (Read at line answer)) go = go
-      by (Core (Serve answer)) go = go
-      by (Regs event) go = go
-      by (Core (Begin answer)) go = go
-      by (Core (Iterate answer)) go = go
-      by (Core (Cut tearing)) go = go
+      by _ go = go

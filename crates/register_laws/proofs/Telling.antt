@@ -41,13 +41,7 @@ module _ {n m e : ℕ} (shape : BankShape) (xs : List (TimedEvent n m)) where
   broken : (regs : RegsState n m e) (happens : Happens n) → AreTold shape xs regs → IsCutting happens → Tells happens (broken_off regs)
   broken regs (Core (Cut tearing)) t is = record { change = t.change; writing = refl; halted = t.halted; steps = tt }
   broken regs (Regs (KeepCut tearing)) t is = record { change = t.change; writing = refl; halted = t.halted; steps = tt }
-  broken regs (Core (Write row line bytes given answer)) t is = absurd is
-  broken regs (Core (Read row line answer)) t is = absurd is
-  broken regs (Core (Serve answer)) t is = absurd is
-  broken regs (Core (Begin answer)) t is = absurd is
-  broken regs (Core (Iterate answer)) t is = absurd is
-  broken regs (Regs (KeepBegin answer)) t is = absurd is
-  broken regs (Regs (KeepIterate answer)) t is = absurd is
+  broken regs _ t is = absurd is
 
   -- A step of the bank's line write
 
@@ -67,11 +61,7 @@ module _ {n m e : ℕ} (shape : BankShape) (xs : List (TimedEvent n m)) where
     halted = t.halted;
     steps = rw idle tt;
   }
-  stepped regs change (Core (Write row line bytes given did)) answer t is none idle changed = absurd is
-  stepped regs change (Core (Read row line did)) answer t is none idle changed = absurd is
-  stepped regs change (Core (Serve did)) answer t is none idle changed = absurd is
-  stepped regs change (Core (Cut tearing)) answer t is none idle changed = absurd is
-  stepped regs change (Regs event) answer t is none idle changed = absurd is
+  stepped regs change _ answer t is none idle changed = absurd is
 
   -- An arrival or a serve
 
@@ -79,10 +69,7 @@ module _ {n m e : ℕ} (shape : BankShape) (xs : List (TimedEvent n m)) where
   aside regs (Core (Write row line bytes given answer)) t is = record { change = t.change; writing = t.writing; halted = t.halted; steps = t.steps }
   aside regs (Core (Read row line answer)) t is = record { change = t.change; writing = t.writing; halted = t.halted; steps = t.steps }
   aside regs (Core (Serve answer)) t is = record { change = t.change; writing = t.writing; halted = t.halted; steps = t.steps }
-  aside regs (Core (Begin answer)) t is = absurd is
-  aside regs (Core (Iterate answer)) t is = absurd is
-  aside regs (Core (Cut tearing)) t is = absurd is
-  aside regs (Regs event) t is = absurd is
+  aside regs _ t is = absurd is
 
   -- The number of steps that are left
 

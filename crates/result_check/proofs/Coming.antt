@@ -99,16 +99,7 @@ module _ {n : ℕ} (banks : List ℕ) (rows : List (Row n)) where
       not_sooner : (o : Outcome n) (line : ℕ) (found : Option ℕ) → sooner line r o found ≡ found
       not_sooner (out.Stored u place) line None = ap (λ b. cond b (Some u) None) (none_of asks no_write line)
       not_sooner (out.Stored u place) line (Some v) = ap (λ b. cond b (Some (min u v)) (Some v)) (none_of asks no_write line)
-      not_sooner out.Unset line found = refl
-      not_sooner (out.Merged u) line found = refl
-      not_sooner (out.Queued u) line found = refl
-      not_sooner (out.Full u) line found = refl
-      not_sooner (out.Worn u) line found = refl
-      not_sooner (out.Read u place bytes) line found = refl
-      not_sooner (out.Forwarded u bytes) line found = refl
-      not_sooner (out.Busy u) line found = refl
-      not_sooner (out.Lost u) line found = refl
-      not_sooner (out.Cut u) line found = refl
+      not_sooner _ line found = refl
 
       pub outlook_other : (next soon worn : List (Option ℕ)) → IsOutlook banks rows next soon worn → IsOutlook banks (r ∷ rows) next soon worn
       outlook_other next soon worn h = record {
@@ -197,16 +188,7 @@ apart_of bank_of line (Writes at bytes given) differs = which (at == line) refl
 sooner_not : {n : ℕ} (line : ℕ) (q : Row n) → asks_write_of line q.asks ≡ false → (o : Outcome n) (found : Option ℕ) → sooner line q o found ≡ found
 sooner_not line q off (out.Stored u place) None = ap (λ b. cond b (Some u) None) off
 sooner_not line q off (out.Stored u place) (Some v) = ap (λ b. cond b (Some (min u v)) (Some v)) off
-sooner_not line q off out.Unset found = refl
-sooner_not line q off (out.Merged u) found = refl
-sooner_not line q off (out.Queued u) found = refl
-sooner_not line q off (out.Full u) found = refl
-sooner_not line q off (out.Worn u) found = refl
-sooner_not line q off (out.Read u place bytes) found = refl
-sooner_not line q off (out.Forwarded u bytes) found = refl
-sooner_not line q off (out.Busy u) found = refl
-sooner_not line q off (out.Lost u) found = refl
-sooner_not line q off (out.Cut u) found = refl
+sooner_not line q off _ found = refl
 
 next_beside : {n : ℕ} (bank_of : ℕ → ℕ) (line : ℕ) (rows : List (Row n)) → next_accepted line (of_bank bank_of (bank_of line) rows) ≡ next_accepted line rows
 next_beside bank_of line [] = refl

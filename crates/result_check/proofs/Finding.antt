@@ -38,16 +38,7 @@ module _ {n : ℕ} (bank_of : ℕ → ℕ) (q : Row n) (rows : List (Row n)) whe
       by : (b : Bool) → cond b (key (bank_of (line_of q.asks)) u ∷ store_keys bank_of rows) (store_keys bank_of rows) ≡ cond b (key (bank_of (line_of q.asks)) u ∷ []) [] ++ store_keys bank_of rows
       by true = refl
       by false = refl
-  store_front out.Unset = refl
-  store_front (out.Merged u) = refl
-  store_front (out.Queued u) = refl
-  store_front (out.Full u) = refl
-  store_front (out.Worn u) = refl
-  store_front (out.Read u place bytes) = refl
-  store_front (out.Forwarded u bytes) = refl
-  store_front (out.Busy u) = refl
-  store_front (out.Lost u) = refl
-  store_front (out.Cut u) = refl
+  store_front _ = refl
 
   read_front : (o : Outcome n) → read_key bank_of q o (read_keys bank_of rows) ≡ read_key bank_of q o [] ++ read_keys bank_of rows
   read_front (out.Read u place bytes) = by (asks_read q.asks)
@@ -55,16 +46,7 @@ module _ {n : ℕ} (bank_of : ℕ → ℕ) (q : Row n) (rows : List (Row n)) whe
       by : (b : Bool) → cond b (key (bank_of (line_of q.asks)) u ∷ read_keys bank_of rows) (read_keys bank_of rows) ≡ cond b (key (bank_of (line_of q.asks)) u ∷ []) [] ++ read_keys bank_of rows
       by true = refl
       by false = refl
-  read_front out.Unset = refl
-  read_front (out.Stored u place) = refl
-  read_front (out.Merged u) = refl
-  read_front (out.Queued u) = refl
-  read_front (out.Full u) = refl
-  read_front (out.Worn u) = refl
-  read_front (out.Forwarded u bytes) = refl
-  read_front (out.Busy u) = refl
-  read_front (out.Lost u) = refl
-  read_front (out.Cut u) = refl
+  read_front _ = refl
 
 cut_front : {n : ℕ} (q : Row n) (rows : List (Row n)) → cut_ticks (q ∷ rows) ≡ cut_ticks (q ∷ []) ++ cut_ticks rows
 cut_front q rows = by (is_cut q)

@@ -81,16 +81,7 @@ store_key_few {n} bank_of (q ∷ rows) = by q.outcome (store_key_few bank_of row
         one : (b : Bool) → length (cond b (key (bank_of (line_of q.asks)) u ∷ store_keys bank_of rows) (store_keys bank_of rows)) ≤ suc (length rows)
         one true = omega (arith, le)
         one false = omega (arith, le)
-    by out.Unset le = omega (arith, le)
-    by (out.Merged u) le = omega (arith, le)
-    by (out.Queued u) le = omega (arith, le)
-    by (out.Full u) le = omega (arith, le)
-    by (out.Worn u) le = omega (arith, le)
-    by (out.Read u place bytes) le = omega (arith, le)
-    by (out.Forwarded u bytes) le = omega (arith, le)
-    by (out.Busy u) le = omega (arith, le)
-    by (out.Lost u) le = omega (arith, le)
-    by (out.Cut u) le = omega (arith, le)
+    by _ le = omega (arith, le)
 
 read_key_few : {n : ℕ} (bank_of : ℕ → ℕ) (rows : List (Row n)) → length (read_keys bank_of rows) ≤ length rows
 read_key_few bank_of [] = omega arith
@@ -102,16 +93,7 @@ read_key_few {n} bank_of (q ∷ rows) = by q.outcome (read_key_few bank_of rows)
         one : (b : Bool) → length (cond b (key (bank_of (line_of q.asks)) u ∷ read_keys bank_of rows) (read_keys bank_of rows)) ≤ suc (length rows)
         one true = omega (arith, le)
         one false = omega (arith, le)
-    by out.Unset le = omega (arith, le)
-    by (out.Stored u place) le = omega (arith, le)
-    by (out.Merged u) le = omega (arith, le)
-    by (out.Queued u) le = omega (arith, le)
-    by (out.Full u) le = omega (arith, le)
-    by (out.Worn u) le = omega (arith, le)
-    by (out.Forwarded u bytes) le = omega (arith, le)
-    by (out.Busy u) le = omega (arith, le)
-    by (out.Lost u) le = omega (arith, le)
-    by (out.Cut u) le = omega (arith, le)
+    by _ le = omega (arith, le)
 
 pub cuts_few : {n : ℕ} (rows : List (Row n)) → length (cut_ticks rows) ≤ length rows
 cuts_few [] = omega arith

@@ -30,14 +30,7 @@ module _ {n : ℕ} (tick line : ℕ) (bytes : List ℕ) (given : List Bool) (row
       (line_joins_law n tick line (a_write tick line bytes given (out.Merged u)) rows old.newest old.unclosed old.runs.items k (ap (λ b. b && true) (eq-eqb line line refl))).1 (λ v place e. absurd (cc))
   joins (out.Queued u) is =
       (line_joins_law n tick line (a_write tick line bytes given (out.Queued u)) rows old.newest old.unclosed old.runs.items k (ap (λ b. b && true) (eq-eqb line line refl))).1 (λ v place e. absurd (cc))
-  joins out.Unset is = absurd (cc)
-  joins (out.Full u) is = absurd (cc)
-  joins (out.Worn u) is = absurd (cc)
-  joins (out.Read u place more) is = absurd (cc)
-  joins (out.Forwarded u more) is = absurd (cc)
-  joins (out.Busy u) is = absurd (cc)
-  joins (out.Lost u) is = absurd (cc)
-  joins (out.Cut u) is = absurd (cc)
+  joins _ is = absurd (cc)
 
   own_line : (o : Outcome n) (new : Line n) → IsLineBehind n tick bytes given o old new
       → KeptLine n tick line (a_write tick line bytes given o ∷ rows) new.newest new.unclosed new.runs.items

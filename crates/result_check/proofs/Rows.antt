@@ -25,15 +25,7 @@ one_of_every P (y ∷ ys) (suc i) x rest is h = one_of_every P ys i x rest is (A
 pub short_of_brief : {n : ℕ} (o : Outcome n) → is_brief o ≡ true → is_short o ≡ true
 short_of_brief (out.Stored u place) h = h
 short_of_brief (out.Read u place bytes) h = h
-short_of_brief out.Unset h = refl
-short_of_brief (out.Merged u) h = refl
-short_of_brief (out.Queued u) h = refl
-short_of_brief (out.Full u) h = refl
-short_of_brief (out.Worn u) h = refl
-short_of_brief (out.Forwarded u bytes) h = refl
-short_of_brief (out.Busy u) h = refl
-short_of_brief (out.Lost u) h = refl
-short_of_brief (out.Cut u) h = refl
+short_of_brief _ h = refl
 
 pub all_short_of_brief : {n : ℕ} (rows : List (Row n)) → all_brief rows ≡ true → all_short rows ≡ true
 all_short_of_brief [] h = refl

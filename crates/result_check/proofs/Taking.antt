@@ -44,11 +44,7 @@ pub record BreaksNone (served room fits wear timely : Bool) : Type 0 where
 
 none_broken : (served room fits wear timely : Bool) → first_broken served room fits wear timely ≡ None → BreaksNone served room fits wear timely
 none_broken true true true true true is = record { is_served = refl; has_room = refl; is_timely = refl }
-none_broken true true true true false is = absurd (cc)
-none_broken true true true false timely is = absurd (cc)
-none_broken true true false wear timely is = absurd (cc)
-none_broken true false fits wear timely is = absurd (cc)
-none_broken false room fits wear timely is = absurd (cc)
+none_broken _ _ _ _ _ is = absurd (cc)
 
 -- a row of a line comes
 module _ {n : ℕ} {rules : Rules} {banks : List ℕ} {keys : Keys} {before : List (Row n)} {r : Row n} {after : List (Row n)} {kept : List Facts} {joined : Option ℕ} {lines : List (Line n)} {room : Bool} {coming : Coming} {cuts : List ℕ}
@@ -104,15 +100,7 @@ write_ends : {n : ℕ} (tick line : ℕ) (bytes : List ℕ) (given : List Bool) 
     → may_have tick (Writes line bytes given) some o ≡ true → write_timely tick latest o ≡ true → ends_behind tick o ≡ true
 write_ends tick line bytes given some latest (out.Stored u place) served timely = and_first (nat_lt tick u) _ timely
 write_ends tick line bytes given some latest (out.Read u place more) served timely = absurd (cc)
-write_ends tick line bytes given some latest out.Unset served timely = refl
-write_ends tick line bytes given some latest (out.Merged u) served timely = refl
-write_ends tick line bytes given some latest (out.Queued u) served timely = refl
-write_ends tick line bytes given some latest (out.Full u) served timely = refl
-write_ends tick line bytes given some latest (out.Worn u) served timely = refl
-write_ends tick line bytes given some latest (out.Forwarded u more) served timely = refl
-write_ends tick line bytes given some latest (out.Busy u) served timely = refl
-write_ends tick line bytes given some latest (out.Lost u) served timely = refl
-write_ends tick line bytes given some latest (out.Cut u) served timely = refl
+write_ends tick line bytes given some latest _ served timely = refl
 
 -- and a read that is served, and read in time
 read_ends : {n : ℕ} (tick line read bound : ℕ) (cut : Option ℕ) (some : List ℕ) (o : Outcome n)
@@ -120,15 +108,7 @@ read_ends : {n : ℕ} (tick line read bound : ℕ) (cut : Option ℕ) (some : Li
 read_ends tick line read bound cut some (out.Read u place more) pos served timely =
     let a = leb-true (tick + read) u (and_first _ _ timely) in le-leb (suc tick) u (omega (arith, a, pos))
 read_ends tick line read bound cut some (out.Stored u place) pos served timely = absurd (cc)
-read_ends tick line read bound cut some out.Unset pos served timely = refl
-read_ends tick line read bound cut some (out.Merged u) pos served timely = refl
-read_ends tick line read bound cut some (out.Queued u) pos served timely = refl
-read_ends tick line read bound cut some (out.Full u) pos served timely = refl
-read_ends tick line read bound cut some (out.Worn u) pos served timely = refl
-read_ends tick line read bound cut some (out.Forwarded u more) pos served timely = refl
-read_ends tick line read bound cut some (out.Busy u) pos served timely = refl
-read_ends tick line read bound cut some (out.Lost u) pos served timely = refl
-read_ends tick line read bound cut some (out.Cut u) pos served timely = refl
+read_ends tick line read bound cut some _ pos served timely = refl
 
 -- a write: what the code finds, and what it leaves
 pub write_taken : {n : ℕ} (rules : Rules) (banks : List ℕ) (keys : Keys) (before : List (Row n)) (tick line : ℕ) (bytes : List ℕ) (given : List Bool) (o : Outcome n) (after : List (Row n))

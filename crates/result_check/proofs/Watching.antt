@@ -115,13 +115,7 @@ module _ (next : ℕ) (f : Facts) (none : NoneEndsBelow next f) (line : ℕ) (m 
   none_written (out.Merged u) = record { stores = joined_none; reads = sooner.reads }
   none_written (out.Queued u) = record { stores = joined_none; reads = sooner.reads }
   none_written (out.Worn u) = record { stores = sooner.stores; reads = sooner.reads }
-  none_written out.Unset = sooner
-  none_written (out.Full u) = sooner
-  none_written (out.Read u place bytes) = sooner
-  none_written (out.Forwarded u bytes) = sooner
-  none_written (out.Busy u) = sooner
-  none_written (out.Lost u) = sooner
-  none_written (out.Cut u) = sooner
+  none_written _ = sooner
 
 module _ {n : ℕ} (next : ℕ) (f : Facts) (none : NoneEndsBelow next f) where
   -- behind a read
@@ -130,15 +124,7 @@ module _ {n : ℕ} (next : ℕ) (f : Facts) (none : NoneEndsBelow next f) where
       let sooner = sooner_none next u f none in
       record { stores = sooner.stores; reads = all-last (λ v. nat_le (min next u) v) f.waits u sooner.reads (le-leb _ _ (min-le_right next u)) }
   none_read tick (out.Lost u) = let sooner = sooner_none next never f none in record { stores = sooner.stores; reads = sooner.reads }
-  none_read tick out.Unset = sooner_none next never f none
-  none_read tick (out.Stored u place) = sooner_none next never f none
-  none_read tick (out.Merged u) = sooner_none next never f none
-  none_read tick (out.Queued u) = sooner_none next never f none
-  none_read tick (out.Full u) = sooner_none next never f none
-  none_read tick (out.Worn u) = sooner_none next never f none
-  none_read tick (out.Forwarded u bytes) = sooner_none next never f none
-  none_read tick (out.Busy u) = sooner_none next never f none
-  none_read tick (out.Cut u) = sooner_none next never f none
+  none_read tick _ = sooner_none next never f none
 
 module _ {n : ℕ} (twins : ℕ) (f : Facts) (is : twins ≡ twins_in f.members) where
   -- behind a write whose line has members as many lines have members as before
@@ -158,14 +144,7 @@ module _ {n : ℕ} (twins : ℕ) (f : Facts) (is : twins ≡ twins_in f.members)
       by (out.Stored u place) = joins
       by (out.Merged u) = joins
       by (out.Queued u) = joins
-      by (out.Worn u) = omega (arith, is)
-      by out.Unset = omega (arith, is)
-      by (out.Full u) = omega (arith, is)
-      by (out.Read u place bytes) = omega (arith, is)
-      by (out.Forwarded u bytes) = omega (arith, is)
-      by (out.Busy u) = omega (arith, is)
-      by (out.Lost u) = omega (arith, is)
-      by (out.Cut u) = omega (arith, is)
+      by _ = omega (arith, is)
 
   -- and behind one whose line has none
   twins_apart : (line : ℕ) (m : Member) (o : Outcome n) → m.line ≡ line → list_any (is_of line) f.members ≡ false
@@ -183,28 +162,12 @@ module _ {n : ℕ} (twins : ℕ) (f : Facts) (is : twins ≡ twins_in f.members)
       by (out.Stored u place) = joins
       by (out.Merged u) = joins
       by (out.Queued u) = joins
-      by (out.Worn u) = is
-      by out.Unset = is
-      by (out.Full u) = is
-      by (out.Read u place bytes) = is
-      by (out.Forwarded u bytes) = is
-      by (out.Busy u) = is
-      by (out.Lost u) = is
-      by (out.Cut u) = is
+      by _ = is
 
   -- behind a read
   twins_read : (tick : ℕ) (o : Outcome n) → twins ≡ twins_in (after_read tick o f).members
-  twins_read tick (out.Read u place bytes) = is
-  twins_read tick (out.Lost u) = is
   twins_read tick out.Unset = is
-  twins_read tick (out.Stored u place) = is
-  twins_read tick (out.Merged u) = is
-  twins_read tick (out.Queued u) = is
-  twins_read tick (out.Full u) = is
-  twins_read tick (out.Worn u) = is
-  twins_read tick (out.Forwarded u bytes) = is
-  twins_read tick (out.Busy u) = is
-  twins_read tick (out.Cut u) = is
+  twins_read tick _ = is
 
 -- behind a write whose line has members, behind one whose line has none, and behind a read
 module _ {n : ℕ} (next twins : ℕ) (f g : Facts) (had : IsWatched next twins f) where

@@ -23,34 +23,12 @@ own_outcome tick (Writes line bytes given) newest (out.Merged at) h = refl
 own_outcome tick (Writes line bytes given) newest (out.Queued at) h = refl
 own_outcome tick (Writes line bytes given) newest (out.Full at) h = refl
 own_outcome tick (Writes line bytes given) newest (out.Worn at) h = refl
-own_outcome tick (Writes line bytes given) newest out.Unset h = absurd (cc)
-own_outcome tick (Writes line bytes given) newest (out.Read at place some) h = absurd (cc)
-own_outcome tick (Writes line bytes given) newest (out.Forwarded at some) h = absurd (cc)
-own_outcome tick (Writes line bytes given) newest (out.Busy at) h = absurd (cc)
-own_outcome tick (Writes line bytes given) newest (out.Lost at) h = absurd (cc)
-own_outcome tick (Writes line bytes given) newest (out.Cut at) h = absurd (cc)
 own_outcome tick (Reads line) newest (out.Read at place some) h = refl
 own_outcome tick (Reads line) newest (out.Forwarded at some) h = refl
 own_outcome tick (Reads line) newest (out.Busy at) h = refl
 own_outcome tick (Reads line) newest (out.Lost at) h = refl
-own_outcome tick (Reads line) newest out.Unset h = absurd (cc)
-own_outcome tick (Reads line) newest (out.Stored at place) h = absurd (cc)
-own_outcome tick (Reads line) newest (out.Merged at) h = absurd (cc)
-own_outcome tick (Reads line) newest (out.Queued at) h = absurd (cc)
-own_outcome tick (Reads line) newest (out.Full at) h = absurd (cc)
-own_outcome tick (Reads line) newest (out.Worn at) h = absurd (cc)
-own_outcome tick (Reads line) newest (out.Cut at) h = absurd (cc)
 own_outcome tick Cuts newest (out.Cut at) h = refl
-own_outcome tick Cuts newest out.Unset h = absurd (cc)
-own_outcome tick Cuts newest (out.Stored at place) h = absurd (cc)
-own_outcome tick Cuts newest (out.Merged at) h = absurd (cc)
-own_outcome tick Cuts newest (out.Queued at) h = absurd (cc)
-own_outcome tick Cuts newest (out.Full at) h = absurd (cc)
-own_outcome tick Cuts newest (out.Worn at) h = absurd (cc)
-own_outcome tick Cuts newest (out.Read at place some) h = absurd (cc)
-own_outcome tick Cuts newest (out.Forwarded at some) h = absurd (cc)
-own_outcome tick Cuts newest (out.Busy at) h = absurd (cc)
-own_outcome tick Cuts newest (out.Lost at) h = absurd (cc)
+own_outcome tick _ newest _ h = absurd (cc)
 
 -- ---- places
 
@@ -58,15 +36,7 @@ own_outcome tick Cuts newest (out.Lost at) h = absurd (cc)
 pub cut-nowhere : {n : ℕ} (o : Outcome n) → op_of o ≡ Some op.Cut → (place : ℕ) → place_of o ≡ Some place → ⊥
 cut-nowhere (out.Stored at place) own other is = absurd (cc own)
 cut-nowhere (out.Read at place bytes) own other is = absurd (cc own)
-cut-nowhere out.Unset own other is = absurd (cc is)
-cut-nowhere (out.Merged at) own other is = absurd (cc is)
-cut-nowhere (out.Queued at) own other is = absurd (cc is)
-cut-nowhere (out.Full at) own other is = absurd (cc is)
-cut-nowhere (out.Worn at) own other is = absurd (cc is)
-cut-nowhere (out.Forwarded at bytes) own other is = absurd (cc is)
-cut-nowhere (out.Busy at) own other is = absurd (cc is)
-cut-nowhere (out.Lost at) own other is = absurd (cc is)
-cut-nowhere (out.Cut at) own other is = absurd (cc is)
+cut-nowhere _ own other is = absurd (cc is)
 
 -- an array line of a bank
 pub record IsOfBank (shape : BankShape) (place : ℕ) : Type 0 where
@@ -102,15 +72,7 @@ placed-of_bank shape worn line all (out.Stored tick at) some of h =
     λ place is. subst (λ (p : ℕ). IsOfBank shape p) (cc is) (after-of_bank shape worn line at some of _ h)
 placed-of_bank shape worn line all (out.Read tick at bytes) some of h =
     λ place is. subst (λ (p : ℕ). IsOfBank shape p) (cc is) (about-of_bank shape worn line at some of _ h)
-placed-of_bank shape worn line all out.Unset some of h = λ place is. absurd (cc is)
-placed-of_bank shape worn line all (out.Merged tick) some of h = λ place is. absurd (cc is)
-placed-of_bank shape worn line all (out.Queued tick) some of h = λ place is. absurd (cc is)
-placed-of_bank shape worn line all (out.Full tick) some of h = λ place is. absurd (cc is)
-placed-of_bank shape worn line all (out.Worn tick) some of h = λ place is. absurd (cc is)
-placed-of_bank shape worn line all (out.Forwarded tick bytes) some of h = λ place is. absurd (cc is)
-placed-of_bank shape worn line all (out.Busy tick) some of h = λ place is. absurd (cc is)
-placed-of_bank shape worn line all (out.Lost tick) some of h = λ place is. absurd (cc is)
-placed-of_bank shape worn line all (out.Cut tick) some of h = λ place is. absurd (cc is)
+placed-of_bank shape worn line all _ some of h = λ place is. absurd (cc is)
 
 -- ---- lost reads
 
@@ -127,16 +89,7 @@ read-kept rules tick (out.Lost u) before after all h =
     let none = no_first_cut u after all in
     let some = and_first (first_cut_at u after) _ h in
     absurd (cc (none, some))
-read-kept rules tick out.Unset before after all h = refl
-read-kept rules tick (out.Stored at place) before after all h = refl
-read-kept rules tick (out.Merged at) before after all h = refl
-read-kept rules tick (out.Queued at) before after all h = refl
-read-kept rules tick (out.Full at) before after all h = refl
-read-kept rules tick (out.Worn at) before after all h = refl
-read-kept rules tick (out.Read at place bytes) before after all h = refl
-read-kept rules tick (out.Forwarded at bytes) before after all h = refl
-read-kept rules tick (out.Busy at) before after all h = refl
-read-kept rules tick (out.Cut at) before after all h = refl
+read-kept rules tick _ before after all h = refl
 
 -- a read isn't lost
 abbrev pub IsKept : {n : ℕ} → List (Row n) → Row n → Type 0
@@ -173,16 +126,7 @@ module _ {n : ℕ} (bank_of line_in : ℕ → ℕ) (bank : ℕ) where
 
 busy-alone : {n : ℕ} (o : Outcome n) → is_busy o ≡ true → (is_forwarded o ≡ false) × (is_answered o ≡ false) × (is_lost o ≡ false)
 busy-alone (out.Busy at) is = (refl, refl, refl)
-busy-alone out.Unset is = absurd (cc)
-busy-alone (out.Stored at place) is = absurd (cc)
-busy-alone (out.Merged at) is = absurd (cc)
-busy-alone (out.Queued at) is = absurd (cc)
-busy-alone (out.Full at) is = absurd (cc)
-busy-alone (out.Worn at) is = absurd (cc)
-busy-alone (out.Read at place bytes) is = absurd (cc)
-busy-alone (out.Forwarded at bytes) is = absurd (cc)
-busy-alone (out.Lost at) is = absurd (cc)
-busy-alone (out.Cut at) is = absurd (cc)
+busy-alone _ is = absurd (cc)
 
 busy-fits : (reads count : ℕ) (covered at_head full forwarded answered lost : Bool) → (count == reads) ≡ full → forwarded ≡ false → answered ≡ false → lost ≡ false
     → cond covered forwarded (cond forwarded at_head (cond full true (answered || lost))) ≡ true → count ≡ reads
@@ -212,62 +156,26 @@ busy-fair rules r Cuts ps before after h is busy = absurd (cc)
 
 pub taken-parts : (free leave takes queued : Bool) → free ≡ true → leave ≡ false → (not (free && not leave) || (takes && not queued)) ≡ true → (takes ≡ true) × (queued ≡ false)
 taken-parts true false true false f l h = (refl, refl)
-taken-parts true false true true f l h = absurd (cc)
-taken-parts true false false queued f l h = absurd (cc)
-taken-parts true true takes queued f l h = absurd (cc)
-taken-parts false leave takes queued f l h = absurd (cc)
+taken-parts _ _ _ _ f l h = absurd (cc)
 
 -- ---- outcomes that fall short
 
 pub write-unshort : {n : ℕ} (o : Outcome n) → accepts o ≡ true → is_queued o ≡ false → is_short o ≡ false
 write-unshort (out.Stored at place) takes left = refl
 write-unshort (out.Merged at) takes left = refl
-write-unshort (out.Queued at) takes left = absurd (cc)
-write-unshort out.Unset takes left = absurd (cc)
-write-unshort (out.Full at) takes left = absurd (cc)
-write-unshort (out.Worn at) takes left = absurd (cc)
-write-unshort (out.Read at place bytes) takes left = absurd (cc)
-write-unshort (out.Forwarded at bytes) takes left = absurd (cc)
-write-unshort (out.Busy at) takes left = absurd (cc)
-write-unshort (out.Lost at) takes left = absurd (cc)
-write-unshort (out.Cut at) takes left = absurd (cc)
+write-unshort _ takes left = absurd (cc)
 
 pub read-unshort : {n : ℕ} (o : Outcome n) → op_of o ≡ Some op.Read → is_lost o ≡ false → (is_busy o ≡ true → ⊥) → is_short o ≡ false
 read-unshort (out.Read at place bytes) own kept free = refl
 read-unshort (out.Forwarded at bytes) own kept free = refl
 read-unshort (out.Busy at) own kept free = absurd (free refl)
-read-unshort (out.Lost at) own kept free = absurd (cc)
-read-unshort out.Unset own kept free = absurd (cc)
-read-unshort (out.Stored at place) own kept free = absurd (cc)
-read-unshort (out.Merged at) own kept free = absurd (cc)
-read-unshort (out.Queued at) own kept free = absurd (cc)
-read-unshort (out.Full at) own kept free = absurd (cc)
-read-unshort (out.Worn at) own kept free = absurd (cc)
-read-unshort (out.Cut at) own kept free = absurd (cc)
+read-unshort _ own kept free = absurd (cc)
 
 pub cut-unshort : {n : ℕ} (o : Outcome n) → op_of o ≡ Some op.Cut → is_short o ≡ false
 cut-unshort (out.Cut at) own = refl
-cut-unshort out.Unset own = absurd (cc)
-cut-unshort (out.Stored at place) own = absurd (cc)
-cut-unshort (out.Merged at) own = absurd (cc)
-cut-unshort (out.Queued at) own = absurd (cc)
-cut-unshort (out.Full at) own = absurd (cc)
-cut-unshort (out.Worn at) own = absurd (cc)
-cut-unshort (out.Read at place bytes) own = absurd (cc)
-cut-unshort (out.Forwarded at bytes) own = absurd (cc)
-cut-unshort (out.Busy at) own = absurd (cc)
-cut-unshort (out.Lost at) own = absurd (cc)
+cut-unshort _ own = absurd (cc)
 
 -- an outcome of a write or a cut isn't that of a lost read
 pub unread-kept : {n : ℕ} (o : Outcome n) (asked : Op) → op_of o ≡ Some asked → (asked ≡ op.Read → ⊥) → is_lost o ≡ false
 unread-kept (out.Lost at) asked own other = absurd (other (cc own))
-unread-kept out.Unset asked own other = refl
-unread-kept (out.Stored at place) asked own other = refl
-unread-kept (out.Merged at) asked own other = refl
-unread-kept (out.Queued at) asked own other = refl
-unread-kept (out.Full at) asked own other = refl
-unread-kept (out.Worn at) asked own other = refl
-unread-kept (out.Read at place bytes) asked own other = refl
-unread-kept (out.Forwarded at bytes) asked own other = refl
-unread-kept (out.Busy at) asked own other = refl
-unread-kept (out.Cut at) asked own other = refl
+unread-kept _ asked own other = refl

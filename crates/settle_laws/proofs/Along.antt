@@ -15,35 +15,23 @@ module _ {n : ℕ} where
   pub events-both : (later before : List (Asked n)) → events_in (later ++ before) ≡ events_in later ++ events_in before
   events-both [] before = refl
   events-both (Happens event ∷ later) before = ap (λ events. event ∷ events) (events-both later before)
-  events-both (Settle tick ∷ later) before = events-both later before
-  events-both (Query tick ∷ later) before = events-both later before
-  events-both (Look tick ∷ later) before = events-both later before
-  events-both (Until until ∷ later) before = events-both later before
+  events-both (_ ∷ later) before = events-both later before
 
   -- a row that settles is no event
   pub events-same : (row : Asked n) (before : List (Asked n)) (tick : ℕ) → settled_at row ≡ Some tick → events_in (row ∷ before) ≡ events_in before
   events-same (Happens event) before tick is = absurd (cc is)
-  events-same (Settle at) before tick is = refl
-  events-same (Query at) before tick is = refl
-  events-same (Look at) before tick is = refl
-  events-same (Until until) before tick is = refl
+  events-same _ before tick is = refl
 
   -- its tick is the one that is reached by it
   pub reached-then : (row : Asked n) (before : List (Asked n)) (tick : ℕ) → settled_at row ≡ Some tick → tick_reached (row ∷ before) ≡ tick
   reached-then (Happens event) before tick is = absurd (cc is)
-  reached-then (Settle at) before tick is = cc
-  reached-then (Query at) before tick is = cc
-  reached-then (Look at) before tick is = cc
-  reached-then (Until until) before tick is = cc
+  reached-then _ before tick is = cc
 
   -- one event more that comes no sooner
   one-more : (tick : ℕ) (last : Asked n) (later before : List (Asked n)) → tick ≤ tick_reached (last ∷ before) → All (λ (event : Event n). tick ≤ event.tick) (events_in later)
       → All (λ (event : Event n). tick ≤ event.tick) (events_in (last ∷ later))
   one-more tick (Happens event) later before on late = All-cons (λ (event : Event n). tick ≤ event.tick) event (events_in later) on late
-  one-more tick (Settle at) later before on late = late
-  one-more tick (Query at) later before on late = late
-  one-more tick (Look at) later before on late = late
-  one-more tick (Until until) later before on late = late
+  one-more tick _ later before on late = late
 
 module _ {n m : ℕ} (e : ℕ) (raw : RawShape) (seed : ℕ) where
   -- each bank has come to it

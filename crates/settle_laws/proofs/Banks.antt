@@ -28,43 +28,18 @@ module _ {n : ℕ} where
 
   is-from : (tick : ℕ) (o : Outcome n) → IsSomeAnd (tick_of o) (λ at. tick ≤ at) → IsFrom tick o
   is-from tick out.Unset from = absurd from
-  is-from tick (out.Stored at place) from = from
-  is-from tick (out.Merged at) from = from
   is-from tick (out.Queued at) from = tt
-  is-from tick (out.Full at) from = from
-  is-from tick (out.Worn at) from = from
-  is-from tick (out.Read at place bytes) from = from
-  is-from tick (out.Forwarded at bytes) from = from
-  is-from tick (out.Busy at) from = from
-  is-from tick (out.Lost at) from = from
-  is-from tick (out.Cut at) from = from
+  is-from tick _ from = from
 
   -- a write that has an outcome has it in the end, and one that has none is queued
   ended-set : (came : ℕ) (o : Outcome n) → o ≢ out.Unset → ended came o ≡ o
   ended-set came out.Unset set = absurd (set refl)
-  ended-set came (out.Stored at place) set = refl
-  ended-set came (out.Merged at) set = refl
-  ended-set came (out.Queued at) set = refl
-  ended-set came (out.Full at) set = refl
-  ended-set came (out.Worn at) set = refl
-  ended-set came (out.Read at place bytes) set = refl
-  ended-set came (out.Forwarded at bytes) set = refl
-  ended-set came (out.Busy at) set = refl
-  ended-set came (out.Lost at) set = refl
-  ended-set came (out.Cut at) set = refl
+  ended-set came _ set = refl
 
   ended-from : (tick came : ℕ) (o : Outcome n) → (o ≢ out.Unset → IsFrom tick o) → IsFrom tick (ended came o)
   ended-from tick came out.Unset from = tt
-  ended-from tick came (out.Stored at place) from = from (λ is. cc is)
-  ended-from tick came (out.Merged at) from = from (λ is. cc is)
   ended-from tick came (out.Queued at) from = tt
-  ended-from tick came (out.Full at) from = from (λ is. cc is)
-  ended-from tick came (out.Worn at) from = from (λ is. cc is)
-  ended-from tick came (out.Read at place bytes) from = from (λ is. cc is)
-  ended-from tick came (out.Forwarded at bytes) from = from (λ is. cc is)
-  ended-from tick came (out.Busy at) from = from (λ is. cc is)
-  ended-from tick came (out.Lost at) from = from (λ is. cc is)
-  ended-from tick came (out.Cut at) from = from (λ is. cc is)
+  ended-from tick came _ from = from (λ is. cc is)
 
   right-ended : (tick came : ℕ) (o p : Outcome n) → IsRight tick o p → IsRight tick o (ended came p)
   right-ended tick came o p right = record {

@@ -5,7 +5,7 @@ use Rattle.cell_rows.specs.Device.{ArrayState}
 use Rattle.bank_shape.specs.{declared.BankShape.BankShape, declared.clock.Action.Action, declared.pace.Pace.Pace}
 use Rattle.bank_shape.specs.declared.answer.ReadAnswer.TheVariants as came
 use Rattle.bank_model.specs.{Events.{Write, Read, Serve, Begin, Iterate, Cut}, Lawful.{Lawful, MayCome}}
-use Rattle.bank_model.specs.{Timing.{Happens, Core, Regs, KeepBegin, KeepIterate, KeepCut, TimedEvent, ends}, Told.IsWhole}
+use Rattle.bank_model.specs.{Timing.{Happens, Core, Regs, KeepCut, TimedEvent, ends}, Told.IsWhole}
 use Rattle.bank_laws.{specs.Ticks.ends_action, proofs.Ticks.last_tick-rises}
 use Rattle.clock_laws.{specs.Draining.ticks_in, specs.Leads.Leads, specs.State.{ClockState, next_action}, proofs.Draining.{ends-at, no_gap_law}, proofs.Passing.ending_later_law}
 
@@ -33,14 +33,8 @@ module _ {n m : ℕ} (shape : BankShape) (pace : Pace) (e : ℕ) where
   read-behind x y ys lawful cancels = by x.happens lawful.0
     where
       by : (h : Happens n) → MayCome shape pace e (y ∷ ys) x h → (x.tick ≡ y.tick) × (is_row h x.cancels ≡ true)
-      by (Core (Write row line bytes given answer)) may = absurd (may.behind cancels)
       by (Core (Read row line came.Waiting)) may = (may.behind cancels, refl)
-      by (Core (Read row line came.Busy)) may = absurd (may.behind cancels)
-      by (Core (Read row line (came.Forwarded bytes))) may = absurd (may.behind cancels)
-      by (Core (Serve answer)) may = absurd (may.behind cancels)
-      by (Core (Begin answer)) may = absurd (may.behind cancels)
-      by (Core (Iterate answer)) may = absurd (may.behind cancels)
-      by (Core (Cut tearing)) may = absurd (may.behind cancels)
+      by (Core _) may = absurd (may.behind cancels)
       by (Regs event) may = absurd (cc (may.behind, cancels))
 
   -- and before it there is none
@@ -49,12 +43,8 @@ module _ {n m : ℕ} (shape : BankShape) (pace : Pace) (e : ℕ) where
   whole-before y (z ∷ zs) lawful cancels = by y.happens lawful.0
     where
       by : (h : Happens n) → MayCome shape pace e (z ∷ zs) y h → IsFalse z.cancels
-      by (Core (Write row line bytes given answer)) may = absurd (cc (may.on_time.1, cancels))
-      by (Core (Read row line answer)) may = absurd (cc (may.on_time.1, cancels))
-      by (Core (Serve answer)) may = absurd (cc (may.on_time.1, cancels))
-      by (Core (Begin answer)) may = absurd (cc (may.on_time.1, cancels))
-      by (Core (Iterate answer)) may = absurd (cc (may.on_time.1, cancels))
       by (Core (Cut tearing)) may = false_from_ne_true z.cancels (λ is. may.behind is)
+      by (Core _) may = absurd (cc (may.on_time.1, cancels))
       by (Regs event) may = may.behind
 
 module _ {n m e : ℕ} (xs : List (TimedEvent n m)) (clock : ClockState n m e) (array : ArrayState n m) (read : 1 ≤ clock.pace.read) (iter : 1 ≤ clock.pace.iter) (leads : Leads xs clock array) where
@@ -81,13 +71,9 @@ module _ {n m e : ℕ} (xs : List (TimedEvent n m)) (clock : ClockState n m e) (
           → clock.tick ≤ x.tick
       by (Core (Write row line bytes given answer)) may comes ends = comes refl
       by (Core (Read row line answer)) may comes ends = comes refl
-      by (Core (Serve answer)) may comes ends = let later : clock.tick < x.tick = ends refl in omega (arith, later)
-      by (Core (Begin answer)) may comes ends = let later : clock.tick < x.tick = ends refl in omega (arith, later)
-      by (Core (Iterate answer)) may comes ends = let later : clock.tick < x.tick = ends refl in omega (arith, later)
       by (Core (Cut tearing)) may comes ends = comes (ap not kept)
-      by (Regs (KeepBegin answer)) may comes ends = let later : clock.tick < x.tick = ends refl in omega (arith, later)
-      by (Regs (KeepIterate answer)) may comes ends = let later : clock.tick < x.tick = ends refl in omega (arith, later)
       by (Regs (KeepCut tearing)) may comes ends = absurd (cc (may.on_time.2, kept))
+      by _ may comes ends = let later : clock.tick < x.tick = ends refl in omega (arith, later)
 
   abbrev Row : TimedEvent n m → Type 0
   Row x = IsLateRow clock.tick x

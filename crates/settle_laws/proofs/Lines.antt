@@ -39,10 +39,7 @@ module _ {n : ℕ} where
   -- a row that settles is one more
   pub settles-more : (row : Asked n) (before : List (Asked n)) (tick : ℕ) → settled_at row ≡ Some tick → settles_in (row ∷ before) ≡ suc (settles_in before)
   settles-more (Happens event) before tick is = absurd (cc is)
-  settles-more (Settle at) before tick is = refl
-  settles-more (Query at) before tick is = refl
-  settles-more (Look at) before tick is = refl
-  settles-more (Until until) before tick is = refl
+  settles-more _ before tick is = refl
 
   -- lines of which the last is of a settle at a tick, and no other
   pub record EndsSettled (tick : ℕ) (lines : List (Told n)) : Type 0 where
@@ -61,14 +58,11 @@ module _ {n : ℕ} where
     -- each row that settles has one line of a settle, and another none
     pub lines-settle : (row : Asked n) (before : List (Asked n)) (module_ : ModuleState n m e) (array : ArrayState n m)
         → settles_in (row ∷ before) ≡ settles_in before + settled-lines (lines_of row module_ array)
-    lines-settle (Happens event) before module_ array = omega arith
-    lines-settle (Settle tick) before module_ array = omega arith
     lines-settle (Query tick) before module_ array =
         let none = banks-none module_ tick module_.shape.banks in
         let both = settled-both (banks_told module_ tick module_.shape.banks) (Settled tick ∷ []) in
         omega (arith, none, both)
-    lines-settle (Look tick) before module_ array = omega arith
-    lines-settle (Until until) before module_ array = omega arith
+    lines-settle _ before module_ array = omega arith
 
     -- and that stands last
     pub ends-settled : (row : Asked n) (tick : ℕ) (module_ : ModuleState n m e) (array : ArrayState n m) → settled_at row ≡ Some tick → EndsSettled tick (lines_of row module_ array)

@@ -7,7 +7,7 @@ use Rattle.bank_shape.specs.{declared.BankShape.BankShape, declared.answer.Step.
 use Rattle.bank_shape.specs.declared.answer.WriteAnswer.TheVariants as wrote
 use Rattle.bank_shape.specs.declared.answer.ReadAnswer.TheVariants as came
 use Rattle.bank_shape.specs.declared.answer.Step.TheVariants as did
-use Rattle.bank_model.specs.{Events.{Write, Read, Serve, Begin, Iterate, Cut}, History.waits, Timing.{Happens, Core, Regs, TimedEvent, core}}
+use Rattle.bank_model.specs.{Events.{Write, Read, Serve, Begin, Iterate, Cut}, History.waits, Timing.{Happens, Core, TimedEvent, core}}
 use Rattle.bank_laws.specs.Outcomes.{on_row, outcome_of, outcome_with, step_outcome}
 
 module _ {n : ℕ} (tick row : ℕ) (o : Outcome n) where
@@ -21,22 +21,16 @@ module _ {n : ℕ} (tick row : ℕ) (o : Outcome n) where
       by false is = absurd (cc is)
 
   step-tick : (answer : Step) → step_outcome answer tick row ≡ Some o → tick_of o ≡ Some tick
-  step-tick did.More is = absurd (cc is)
   step-tick (did.Stored at place) is = own-tick at (out.Stored tick place) refl is
-  step-tick (did.Moved step) is = absurd (cc is)
-  step-tick (did.Retired slot line) is = absurd (cc is)
-  step-tick did.Exhausted is = absurd (cc is)
+  step-tick _ is = absurd (cc is)
 
   -- an event tells an outcome with its own tick
   with-tick : {m : ℕ} (shape : BankShape) (xs : List (TimedEvent n m)) (h : Happens n) → outcome_with shape xs h tick row ≡ Some o → tick_of o ≡ Some tick
-  with-tick shape xs (Regs event) is = absurd (cc is)
-  with-tick shape xs (Core (Write at line bytes given wrote.Accepted)) is = absurd (cc is)
   with-tick shape xs (Core (Write at line bytes given (wrote.Merged old))) is = own-tick old (out.Merged tick) refl is
   with-tick shape xs (Core (Write at line bytes given wrote.Full)) is = own-tick at (out.Full tick) refl is
   with-tick shape xs (Core (Write at line bytes given wrote.Exhausted)) is = own-tick at (out.Worn tick) refl is
   with-tick shape xs (Core (Read at line (came.Forwarded bytes))) is = own-tick at (out.Forwarded tick bytes) refl is
   with-tick shape xs (Core (Read at line came.Busy)) is = own-tick at (out.Busy tick) refl is
-  with-tick shape xs (Core (Read at line came.Waiting)) is = absurd (cc is)
   with-tick shape xs (Core (Serve answer)) is = own-tick answer.row (out.Read tick answer.place answer.bytes) refl is
   with-tick shape xs (Core (Begin answer)) is = step-tick answer is
   with-tick shape xs (Core (Iterate answer)) is = step-tick answer is
@@ -47,6 +41,7 @@ module _ {n : ℕ} (tick row : ℕ) (o : Outcome n) where
           let same : out.Lost tick ≡ o = cc in
           ap tick_of (sym same)
       lost false is = absurd (cc is)
+  with-tick shape xs _ is = absurd (cc is)
 
 module _ {n m : ℕ} (shape : BankShape) (row : ℕ) (P : ℕ → Type 0) where
   abbrev Has : TimedEvent n m → Type 0

@@ -1,7 +1,7 @@
 -- What was asked of a bank behind a part of its history came with the events behind that part.
 use Rattle.std.proofs.Common.{◌≡◌, ℕ, suc, ◌≤◌, cond, Bool, true, false, List, [], ◌∷◌, ◌++◌, length, take, refl, sym, ap, subst, ◌∙◌, length-append, arith}
 use Rattle.std.{specs.Prelude.All, proofs.lemmas.List.take_at, proofs.lemmas.List.Elements.{All-head, All-tail, All-nil, All-cons}}
-use Rattle.bank_model.specs.{Events.{Write, Read, Serve, Begin, Iterate, Cut}, Timing.{Happens, Core, Regs, TimedEvent}}
+use Rattle.bank_model.specs.{Events.{Write, Read, Cut}, Timing.{Happens, Core, TimedEvent}}
 use Rattle.module_laws.specs.Asking.{Asked, AreAsked, IsAsked}
 use Rattle.settle_laws.proofs.Later.{IsLateRow, is_row}
 
@@ -34,13 +34,9 @@ module _ {n m : ℕ} where
       by (Core (Write row line bytes given answer)) cancels (a ∷ asked) is rec = ap suc (rec asked is.1)
       by (Core (Read row line answer)) cancels [] is rec = absurd is
       by (Core (Read row line answer)) cancels (a ∷ asked) is rec = ap suc (rec asked is.1)
-      by (Core (Serve answer)) cancels asked is rec = rec asked is
-      by (Core (Begin answer)) cancels asked is rec = rec asked is
-      by (Core (Iterate answer)) cancels asked is rec = rec asked is
-      by (Core (Cut tearing)) true asked is rec = rec asked is
       by (Core (Cut tearing)) false [] is rec = absurd is
       by (Core (Cut tearing)) false (a ∷ asked) is rec = ap suc (rec asked is.2)
-      by (Regs event) cancels asked is rec = rec asked is
+      by _ _ asked is rec = rec asked is
 
   module _ (tick : ℕ) where
     abbrev LateRow : TimedEvent n m → Type 0
@@ -93,13 +89,10 @@ module _ {n m : ℕ} where
             own (Core (Write row line bytes given answer)) cancels a asked (ap (λ (a : Asked n). a.tick) is.0) (rec asked is.1)
         by (Core (Read row line answer)) cancels [] is rec = absurd is
         by (Core (Read row line answer)) cancels (a ∷ asked) is rec = own (Core (Read row line answer)) cancels a asked (ap (λ (a : Asked n). a.tick) is.0) (rec asked is.1)
-        by (Core (Serve answer)) cancels asked is rec = none (Core (Serve answer)) cancels asked refl (rec asked is)
-        by (Core (Begin answer)) cancels asked is rec = none (Core (Begin answer)) cancels asked refl (rec asked is)
-        by (Core (Iterate answer)) cancels asked is rec = none (Core (Iterate answer)) cancels asked refl (rec asked is)
         by (Core (Cut tearing)) true asked is rec = none (Core (Cut tearing)) true asked refl (rec asked is)
         by (Core (Cut tearing)) false [] is rec = absurd is
         by (Core (Cut tearing)) false (a ∷ asked) is rec = own (Core (Cut tearing)) false a asked is.0 (rec asked is.2)
-        by (Regs event) cancels asked is rec = none (Regs event) cancels asked refl (rec asked is)
+        by h cancels asked is rec = none h cancels asked refl (rec asked is)
 
     -- where a history asked for these rows, the later ones came with the later events
     pub later-rows : (since xs : List (TimedEvent n m)) (later asked : List (Asked n)) → AreAsked (since ++ xs) (later ++ asked) → AreAsked xs asked → All (Late tick) later → All LateRow since

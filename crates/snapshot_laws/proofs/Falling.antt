@@ -7,7 +7,7 @@ use Rattle.module_shape.specs.declared.raw.RawShape.{RawShape}
 use Rattle.pcm_module.specs.{Asking.asked_for, State.ModuleState}
 use Rattle.row_printer.specs.{Printing.table_of, Snapshots.{AddsDue, takes_snapshots}, Telling.{became, outcomes_in, TellsOnce}, declared.snapshot.Snapshot.Snapshot}
 use Rattle.row_printer.specs.{declared.told.Shown.Shown, declared.told.Told.Told}
-use Rattle.trace_stream.specs.{Asked.events_in, declared.asked.Asked.Asked, declared.asked.Asked.TheVariants.{Happens, Settle, Query, Look, Until}}
+use Rattle.trace_stream.specs.{Asked.events_in, declared.asked.Asked.Asked, declared.asked.Asked.TheVariants.Look}
 use Rattle.row_stream.specs.{Asking.tick_reached, Ending.HasEnded, Looking.IsSnapshot, Serving.{AreKnown, SnapsAlong, TellsAlong, is_due_behind, lines_of}}
 use Rattle.snapshot_laws.specs.Rising.{EndedLaw, NeverFall, Rises, SoFarLaw}
 use Rattle.snapshot_laws.proofs.Standing.{IsLed, led-ended, led-served, rises-on, once-front, rises-stand, says, standing, standing-rises}
@@ -36,11 +36,8 @@ added true Is now before snapshots same never below is =
 -- ---- rows
 
 rows-grow : {n : ℕ} (row : Asked n) (before : List (Asked n)) → length (events_in before) ≤ length (events_in (row ∷ before))
-rows-grow (Happens event) before = omega arith
-rows-grow (Settle tick) before = omega arith
-rows-grow (Query tick) before = omega arith
 rows-grow (Look tick) before = omega arith
-rows-grow (Until until) before = omega arith
+rows-grow _ before = omega arith
 
 module _ {n m : ℕ} (e : ℕ) (raw : RawShape) (seed most : ℕ) (shown : Shown) where
   -- what stands behind the last of these rows; nothing does before the first

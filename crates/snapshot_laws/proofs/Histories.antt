@@ -5,8 +5,8 @@ use Rattle.cell_rows.specs.Device.{ArrayState, counted}
 use Rattle.cell_wear.specs.Told.{most}
 use Rattle.bank_shape.specs.declared.answer.Step.{Step}
 use Rattle.bank_shape.specs.declared.answer.Step.TheVariants as did
-use Rattle.bank_model.specs.{Events.{BankEvent, Write, Read, Serve, Begin, Iterate, Cut}, History.retired, Sensing.{is_at, pulses_of}}
-use Rattle.bank_model.specs.Timing.{Happens, Core, Regs, TimedEvent, core, core_of}
+use Rattle.bank_model.specs.{Events.{BankEvent, Begin, Iterate}, History.retired, Sensing.{is_at, pulses_of}}
+use Rattle.bank_model.specs.Timing.{Happens, Core, TimedEvent, core, core_of}
 use Rattle.run_text.specs.Pulses.{at_most_u64, pulses_of_first}
 use Rattle.wear_totals.specs.Wear.{mean_of}
 
@@ -22,27 +22,17 @@ least-few q cap = omega arith
 
 module _ {n : ℕ} where
   begun-retired : (answer : Step) (h : List (BankEvent n)) → length (retired h) ≤ length (retired (Begin answer ∷ h))
-  begun-retired did.More h = omega arith
-  begun-retired (did.Stored row place) h = omega arith
-  begun-retired (did.Moved step) h = omega arith
   begun-retired (did.Retired slot line) h = omega (arith, length-append (retired h) (slot ∷ []))
-  begun-retired did.Exhausted h = omega arith
+  begun-retired _ h = omega arith
 
   gone-retired : (answer : Step) (h : List (BankEvent n)) → length (retired h) ≤ length (retired (Iterate answer ∷ h))
-  gone-retired did.More h = omega arith
-  gone-retired (did.Stored row place) h = omega arith
-  gone-retired (did.Moved step) h = omega arith
   gone-retired (did.Retired slot line) h = omega (arith, length-append (retired h) (slot ∷ []))
-  gone-retired did.Exhausted h = omega arith
+  gone-retired _ h = omega arith
 
   one-retired : (happens : Happens n) (h : List (BankEvent n)) → length (retired h) ≤ length (retired (core_of happens h))
-  one-retired (Regs event) h = omega arith
-  one-retired (Core (Write row line bytes given answer)) h = omega arith
-  one-retired (Core (Read row line answer)) h = omega arith
-  one-retired (Core (Serve answer)) h = omega arith
   one-retired (Core (Begin answer)) h = begun-retired answer h
   one-retired (Core (Iterate answer)) h = gone-retired answer h
-  one-retired (Core (Cut tearing)) h = omega arith
+  one-retired _ h = omega arith
 
 -- ---- histories
 

@@ -6,7 +6,7 @@ use Rattle.bank_shape.specs.{declared.clock.Doing.Doing, declared.clock.Doing.Th
 use Rattle.bank_shape.specs.declared.answer.ReadAnswer.TheVariants as came
 use Rattle.bank_shape.specs.declared.answer.Step.TheVariants as did
 use Rattle.bank_shape.specs.declared.answer.Keep.TheVariants as keep
-use Rattle.bank_model.specs.{Changes.{change_after, change_by, keeping_after, keeping_by, rounds_after, rounds_by}, Events.{Write, Read, Serve, Begin, Iterate, Cut}}
+use Rattle.bank_model.specs.{Changes.{change_after, change_by, keeping_after, keeping_by, rounds_after, rounds_by}, Events.{Write, Read, Begin, Iterate, Cut}}
 use Rattle.bank_model.specs.{History.{Awaited, waits, in_progress, iterated}, Lawful.{Lawful, MayCome, IsEnd, would_cancel}}
 use Rattle.bank_model.specs.Running.{busy_by, made_by, busy_after, made_after, ready_after, drops_begin, started, left_by, running, running_at, chosen_after, cancels_after}
 use Rattle.bank_model.specs.{Sensing.most_steps, Timing.{Happens, Core, Regs, KeepBegin, KeepIterate, KeepCut, TimedEvent, is_empty, core, core_of, last_tick}}
@@ -113,13 +113,8 @@ module _ {n m : ℕ} (shape : BankShape) (pace : Pace) (e : ℕ) where
       by : (h : Happens n) → since (running_at shape pace xs x.tick) x.tick ≤ x.tick → since (left_by shape (core xs) (change_after shape xs) h (running_at shape pace xs x.tick)) x.tick ≤ x.tick
       by (Core (Write row line bytes given answer)) up = up
       by (Core (Read row line came.Waiting)) up = drop_or (drops_begin shape (core xs) (change_after shape xs) line (running_at shape pace xs x.tick)) _ up
-      by (Core (Read row line came.Busy)) up = up
-      by (Core (Read row line (came.Forwarded bytes))) up = up
-      by (Core (Serve answer)) up = omega arith
-      by (Regs event) up = omega arith
-      by (Core (Begin answer)) up = omega arith
-      by (Core (Iterate answer)) up = omega arith
-      by (Core (Cut tearing)) up = omega arith
+      by (Core (Read row line _)) up = up
+      by _ up = omega arith
 
   -- what runs never starts earlier than before
   pub since-rises : (xs : List (TimedEvent n m)) (x : TimedEvent n m) → 1 ≤ pace.read → 1 ≤ pace.iter → Lawful shape pace e (x ∷ xs) → since_of shape pace xs ≤ since_of shape pace (x ∷ xs)
@@ -139,13 +134,8 @@ module _ {n m : ℕ} (shape : BankShape) (pace : Pace) (e : ℕ) where
       by : (h : Happens n) → since_of shape pace xs ≤ since (running_at shape pace xs x.tick) x.tick → since_of shape pace xs ≤ since (left_by shape (core xs) (change_after shape xs) h (running_at shape pace xs x.tick)) x.tick
       by (Core (Write row line bytes given answer)) up = up
       by (Core (Read row line came.Waiting)) up = drop_or (drops_begin shape (core xs) (change_after shape xs) line (running_at shape pace xs x.tick)) _ up
-      by (Core (Read row line came.Busy)) up = up
-      by (Core (Read row line (came.Forwarded bytes))) up = up
-      by (Core (Serve answer)) up = top
-      by (Regs event) up = top
-      by (Core (Begin answer)) up = top
-      by (Core (Iterate answer)) up = top
-      by (Core (Cut tearing)) up = top
+      by (Core (Read row line _)) up = up
+      by _ up = top
 
   -- an action that ends lasted from there
   pub end-since : (xs : List (TimedEvent n m)) (x : TimedEvent n m) (doing : Doing) → IsEnd pace doing (running_at shape pace xs x.tick) x
@@ -179,13 +169,8 @@ module _ {n m : ℕ} (shape : BankShape) (pace : Pace) (e : ℕ) where
       by (Core (Read row line came.Waiting)) f =
           drop_or (drops_begin shape (core xs) (change_after shape xs) line (running_at shape pace xs x.tick)) _ (running_at shape pace xs x.tick)
           (more (running_at shape pace xs x.tick) _ (some-push (waits shape (core xs)) _) f)
-      by (Core (Read row line came.Busy)) f = f
-      by (Core (Read row line (came.Forwarded bytes))) f = f
-      by (Core (Serve answer)) f = tt
-      by (Regs event) f = tt
-      by (Core (Begin answer)) f = tt
-      by (Core (Iterate answer)) f = tt
-      by (Core (Cut tearing)) f = tt
+      by (Core (Read row line _)) f = f
+      by _ f = tt
 
   pub running_at-fits : (xs : List (TimedEvent n m)) (tick : ℕ) → FitsAll shape pace xs (running_at shape pace xs tick)
   running_at-fits xs tick =
@@ -216,25 +201,15 @@ module _ {n m : ℕ} (shape : BankShape) (pace : Pace) (e : ℕ) where
       kept (Some item) rounds count is lt = lt
 
       by : (h : Happens n) → MayCome shape pace e xs x h → (busy_after shape xs ≡ true → made_after shape xs < most_steps e) → Few h
-      by (Core (Write row line bytes given answer)) may go busy = go busy
-      by (Core (Read row line answer)) may go busy = go busy
-      by (Core (Serve answer)) may go busy = go busy
       by (Core (Begin did.More)) may go busy = went (change_after shape xs) _ _ may.on_time.2 (omega arith)
-      by (Core (Begin (did.Stored row place))) may go busy = stops _ _ busy
-      by (Core (Begin (did.Moved step))) may go busy = stops _ _ busy
-      by (Core (Begin (did.Retired slot line))) may go busy = stops _ _ busy
-      by (Core (Begin did.Exhausted)) may go busy = stops _ _ busy
+      by (Core (Begin _)) may go busy = stops _ _ busy
       by (Core (Iterate did.More)) may go busy = went (change_after shape xs) _ _ may.on_time.2 (may.may.3 refl)
-      by (Core (Iterate (did.Stored row place))) may go busy = stops _ _ busy
-      by (Core (Iterate (did.Moved step))) may go busy = stops _ _ busy
-      by (Core (Iterate (did.Retired slot line))) may go busy = stops _ _ busy
-      by (Core (Iterate did.Exhausted)) may go busy = stops _ _ busy
+      by (Core (Iterate _)) may go busy = stops _ _ busy
       by (Core (Cut tearing)) may go busy = stops _ _ busy
+      by (Core _) may go busy = go busy
       by (Regs (KeepBegin keep.More)) may go busy = kept (change_after shape xs) _ _ may.stands (omega arith)
-      by (Regs (KeepBegin keep.Done)) may go busy = let idle : in_progress (core xs) ≡ false = changed-idle shape pace e xs l.1 may.stands in absurd (cc)
       by (Regs (KeepBegin keep.Halted)) may go busy = absurd (may.may.2 refl)
       by (Regs (KeepIterate keep.More)) may go busy = kept (change_after shape xs) _ _ may.stands (may.may.2 refl)
-      by (Regs (KeepIterate keep.Done)) may go busy = let idle : in_progress (core xs) ≡ false = changed-idle shape pace e xs l.1 may.stands in absurd (cc)
       by (Regs (KeepIterate keep.Halted)) may go busy = ended (change_after shape xs) may.stands busy
         where
           ended : (change : Option ℕ) → is_some change ≡ true → busy_by change false (in_progress (core xs)) ≡ true → made_by change (rounds_after xs + 1) (iterated (core xs)) < most_steps e
@@ -245,20 +220,15 @@ module _ {n m : ℕ} (shape : BankShape) (pace : Pace) (e : ℕ) where
           ended : (change : Option ℕ) → is_some change ≡ true → busy_by change false (in_progress (core xs)) ≡ true → made_by change 0 (iterated (core xs)) < most_steps e
           ended None some busy = absurd (cc)
           ended (Some item) some busy = absurd (cc)
+      by (Regs _) may go busy = let idle : in_progress (core xs) ≡ false = changed-idle shape pace e xs l.1 may.stands in absurd (cc)
 
   -- where reads cancel nothing, no cut is a cancel
   pub not-cancelled : (xs : List (TimedEvent n m)) (x : TimedEvent n m) (h : Happens n) → is_cancelling pace.policy ≡ false → MayCome shape pace e xs x h → x.cancels ≡ false
-  not-cancelled xs x (Core (Write row line bytes given answer)) none may = may.on_time.1
-  not-cancelled xs x (Core (Read row line answer)) none may = may.on_time.1
-  not-cancelled xs x (Core (Serve answer)) none may = may.on_time.1
-  not-cancelled xs x (Regs (KeepBegin answer)) none may = may.on_time.1
-  not-cancelled xs x (Regs (KeepIterate answer)) none may = may.on_time.1
-  not-cancelled xs x (Regs (KeepCut tearing)) none may =
-      absurd (cc (none, and_first (is_cancelling pace.policy) _ may.on_time.3))
-  not-cancelled xs x (Core (Begin answer)) none may = may.on_time.1
-  not-cancelled xs x (Core (Iterate answer)) none may = may.on_time.1
   not-cancelled xs x (Core (Cut tearing)) none may = by x.cancels may.on_time.2
     where
       by : (b : Bool) → (b ≡ true → would_cancel shape (core xs) pace.policy (running_at shape pace xs x.tick) (cancels_after xs) ≡ true) → b ≡ false
       by true k = absurd (cc (none, and_first (is_cancelling pace.policy) _ (k refl)))
       by false k = refl
+  not-cancelled xs x (Regs (KeepCut tearing)) none may =
+      absurd (cc (none, and_first (is_cancelling pace.policy) _ may.on_time.3))
+  not-cancelled xs x _ none may = may.on_time.1

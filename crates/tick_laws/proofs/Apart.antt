@@ -80,7 +80,6 @@ module _ {n m : ℕ} (shape : BankShape) (pace : Pace) (e : ℕ) where
         same (Core (Read row line came.Busy)) rises (λ at. plain_on (outcome_of shape xs) row at (out.Busy x.tick) refl) inl (λ other. inl)
     step i (Core (Read row line (came.Forwarded bytes))) rises may =
         same (Core (Read row line (came.Forwarded bytes))) rises (λ at. plain_on (outcome_of shape xs) row at (out.Forwarded x.tick bytes) refl) inl (λ other. inl)
-    step i (Regs event) rises may = same (Regs event) rises (λ at. inl refl) inl (λ other. inl)
     step i (Core (Serve answer)) rises may =
         let b = above_all shape pace e xs l in
         at_serve answer (waits shape (core xs)) s (waits_rise shape (core xs) b.0 b.1) (served-first shape (core xs) (waits shape (core xs)) answer may.may) (end-since shape pace e xs x Serving may.on_time.0).1
@@ -90,18 +89,14 @@ module _ {n m : ℕ} (shape : BankShape) (pace : Pace) (e : ℕ) where
     step i (Core (Begin did.More)) rises may =
         let end : x.tick ≡ since_of shape pace xs + pace.read = (end-since shape pace e xs x Beginning may.on_time.0).1 in
         same (Core (Begin did.More)) rises (λ at. inl refl) (λ is. inr (omega (arith, end))) (λ other. inl)
-    step i (Core (Begin (did.Moved move))) rises may = same (Core (Begin (did.Moved move))) rises (λ at. inl refl) (λ is. absurd (cc)) (λ other. inl)
-    step i (Core (Begin (did.Retired slot line))) rises may = same (Core (Begin (did.Retired slot line))) rises (λ at. inl refl) (λ is. absurd (cc)) (λ other. inl)
-    step i (Core (Begin did.Exhausted)) rises may = same (Core (Begin did.Exhausted)) rises (λ at. inl refl) (λ is. absurd (cc)) (λ other. inl)
     step i (Core (Iterate (did.Stored row place))) rises may =
         let end : x.tick ≡ since_of shape pace xs + pace.iter = (end-since shape pace e xs x Iterating may.on_time.0).1 in
         stored pace.read (outcome_of shape xs) (since_of shape pace xs) (in_progress (core xs)) (waits shape (core xs)) s row x.tick place some (omega (arith, end, i)) (inr may.may.0)
     step i (Core (Iterate did.More)) rises may = same (Core (Iterate did.More)) rises (λ at. inl refl) (λ is. inl may.may.0) (λ other. inl)
-    step i (Core (Iterate (did.Moved move))) rises may = same (Core (Iterate (did.Moved move))) rises (λ at. inl refl) (λ is. absurd (cc)) (λ other. inl)
-    step i (Core (Iterate (did.Retired slot line))) rises may = same (Core (Iterate (did.Retired slot line))) rises (λ at. inl refl) (λ is. absurd (cc)) (λ other. inl)
-    step i (Core (Iterate did.Exhausted)) rises may = same (Core (Iterate did.Exhausted)) rises (λ at. inl refl) (λ is. absurd (cc)) (λ other. inl)
     step i (Core (Cut tearing)) rises may =
         same (Core (Cut tearing)) rises (λ at. plain_lost (outcome_of shape xs at) x.tick (has_wait (waits shape (core xs)) at)) (λ is. absurd (cc)) (λ other there. absurd (cc))
+    step i (Core event) rises may = same (Core event) rises (λ at. inl refl) (λ is. absurd (cc)) (λ other. inl)
+    step i (Regs event) rises may = same (Regs event) rises (λ at. inl refl) inl (λ other. inl)
 
   spaced : (xs : List (TimedEvent n m)) → 1 ≤ pace.read → 1 ≤ pace.iter → Lawful shape pace e xs → Spaced xs
   spaced [] r i l = record {
@@ -127,12 +122,8 @@ module _ {n m : ℕ} (shape : BankShape) (pace : Pace) (e : ℕ) where
       by (Core (Write row line bytes given answer)) cancels go b =
           and_from _ _ (ended-right pace.read z.tick o (outcome_of shape all row) (far row b.0)) (go row b.1 (λ lower lt. far lower (let up : row < bound = b.0 in omega (arith, lt, up))))
       by (Core (Read row line answer)) cancels go b = and_from _ _ (far row b.0) (go row b.1 (λ lower lt. far lower (let up : row < bound = b.0 in omega (arith, lt, up))))
-      by (Core (Serve answer)) cancels go b = go bound b far
-      by (Regs event) cancels go b = go bound b far
-      by (Core (Begin answer)) cancels go b = go bound b far
-      by (Core (Iterate answer)) cancels go b = go bound b far
-      by (Core (Cut tearing)) true go b = go bound b far
       by (Core (Cut tearing)) false go b = and_from _ _ (apart-right pace.read o (out.Cut z.tick) refl) (go bound b far)
+      by _ _ go b = go bound b far
 
   -- the row of each event stands apart
   pub apart_at : (all later : List (TimedEvent n m)) (x : TimedEvent n m) (ys : List (TimedEvent n m)) → 1 ≤ pace.read → 1 ≤ pace.iter → Lawful shape pace e all → all ≡ later ++ x ∷ ys
@@ -147,11 +138,6 @@ module _ {n m : ℕ} (shape : BankShape) (pace : Pace) (e : ℕ) where
       by (Core (Write row line bytes given answer)) cancels may =
           apart_rows all ys row (ended x.tick (outcome_of shape all row)) may.asked (λ lower lt. ended-left pace.read x.tick (outcome_of shape all row) (outcome_of shape all lower) (pairs lower row lt))
       by (Core (Read row line answer)) cancels may = apart_rows all ys row (outcome_of shape all row) may.asked (λ lower lt. pairs lower row lt)
-      by (Core (Serve answer)) cancels may = tt
-      by (Regs event) cancels may = tt
-      by (Core (Begin answer)) cancels may = tt
-      by (Core (Iterate answer)) cancels may = tt
-      by (Core (Cut tearing)) true may = tt
       by (Core (Cut tearing)) false may = all_cut ys
         where
           all_cut : (ys : List (TimedEvent n m)) → list_all (λ q. apart pace.read (out.Cut x.tick) q.outcome) (rows_from shape all ys) ≡ true
@@ -160,6 +146,7 @@ module _ {n m : ℕ} (shape : BankShape) (pace : Pace) (e : ℕ) where
               each : (rows : List (Row n)) → list_all (λ q. apart pace.read (out.Cut x.tick) q.outcome) rows ≡ true
               each [] = refl
               each (q ∷ rows) = each rows
+      by _ _ may = tt
 
 pub apart_law : ApartLaw
 apart_law n m e shape pace xs sized l =

@@ -74,13 +74,8 @@ module _ {n m : ℕ} (shape : BankShape) (pace : Pace) (e : ℕ) where
           let was = kept (drops_begin shape (core zs) (change_after shape zs) line (running_at shape pace zs z.tick)) (running_at shape pace zs z.tick) w in
           split (waits shape (core zs))
           (no_cancel (is_cancelling pace.policy) (is_writing (running_at shape pace zs z.tick)) (is_empty (waits shape (core zs))) (cancels_after zs) cancelling was (may.on_time.2 (λ f. f))) (go was)
-      by (Core (Read row line came.Busy)) may go w some = go w some
-      by (Core (Read row line (came.Forwarded bytes))) may go w some = go w some
-      by (Core (Serve answer)) may go w some = absurd (cc)
-      by (Regs event) may go w some = absurd (cc)
-      by (Core (Begin answer)) may go w some = absurd (cc)
-      by (Core (Iterate answer)) may go w some = absurd (cc)
-      by (Core (Cut tearing)) may go w some = absurd (cc)
+      by (Core (Read row line _)) may go w some = go w some
+      by _ may go w some = absurd (cc)
 
 -- the tick of the last store, or 0
 abbrev pub stored_at : {n m : ℕ} → List (TimedEvent n m) → ℕ
@@ -137,21 +132,12 @@ module _ {n : ℕ} where
   stored-append a most (x ∷ xs) ys f g = (f.0, stored-append a most xs ys f.1 g)
 
   up_to-most : (a most : ℕ) (o : Outcome n) (found : ℕ) → found ≤ most → ((t p : ℕ) → o ≡ out.Stored t p → t ≤ a → t ≤ most) → store_up_to a o found ≤ most
-  up_to-most a most out.Unset found le f = le
   up_to-most a most (out.Stored t p) found le f = by (nat_le t a) refl
     where
       by : (b : Bool) → nat_le t a ≡ b → cond b (max t found) found ≤ most
       by true is = let k : t ≤ most = f t p refl (leb-true t a is) in omega (arith, k, le)
       by false is = le
-  up_to-most a most (out.Merged at) found le f = le
-  up_to-most a most (out.Queued at) found le f = le
-  up_to-most a most (out.Full at) found le f = le
-  up_to-most a most (out.Worn at) found le f = le
-  up_to-most a most (out.Read at place bytes) found le f = le
-  up_to-most a most (out.Forwarded at bytes) found le f = le
-  up_to-most a most (out.Busy at) found le f = le
-  up_to-most a most (out.Lost at) found le f = le
-  up_to-most a most (out.Cut at) found le f = le
+  up_to-most a most _ found le f = le
 
   last-most : (a most : ℕ) (rows : List (Row n)) → StoredUpTo a most rows → last_store a rows ≤ most
   last-most a most [] f = omega arith
@@ -166,12 +152,8 @@ module _ {n m : ℕ} (shape : BankShape) (all : List (TimedEvent n m)) (a most :
   own_stored (Core (Write row line bytes given answer)) tick cancels =
       ((λ t p is. f row t p (ended_stored tick (outcome_of shape all row) t p is)), tt)
   own_stored (Core (Read row line answer)) tick cancels = (f row, tt)
-  own_stored (Core (Serve answer)) tick cancels = tt
-  own_stored (Regs event) tick cancels = tt
-  own_stored (Core (Begin answer)) tick cancels = tt
-  own_stored (Core (Iterate answer)) tick cancels = tt
-  own_stored (Core (Cut tearing)) tick true = tt
   own_stored (Core (Cut tearing)) tick false = ((λ t p is. absurd (cc)), tt)
+  own_stored _ tick _ = tt
 
   from_stored : (zs : List (TimedEvent n m)) → StoredUpTo a most (rows_from shape all zs)
   from_stored [] = tt
@@ -196,28 +178,16 @@ module _ {n m : ℕ} where
 
 module _ {n : ℕ} where
   came-settled : (owed : List ℕ) (o : Outcome n) → IsSettled owed o → (is_answered o || is_lost o) ≡ true
-  came-settled owed out.Unset h = absurd h
-  came-settled owed (out.Stored at place) h = absurd h
-  came-settled owed (out.Merged at) h = absurd h
-  came-settled owed (out.Queued at) h = absurd h
-  came-settled owed (out.Full at) h = absurd h
-  came-settled owed (out.Worn at) h = absurd h
   came-settled owed (out.Read at place bytes) h = refl
-  came-settled owed (out.Forwarded at bytes) h = absurd h
-  came-settled owed (out.Busy at) h = absurd h
   came-settled owed (out.Lost at) h = refl
-  came-settled owed (out.Cut at) h = absurd h
+  came-settled owed _ h = absurd h
 
 module _ {n m : ℕ} (shape : BankShape) (pace : Pace) (e : ℕ) where
   -- a cancel leaves nothing running
   cancel-drops : (zs : List (TimedEvent n m)) (z : TimedEvent n m) (h : Happens n) → MayCome shape pace e zs z h → z.cancels ≡ true → left_by shape (core zs) (change_after shape zs) h (running_at shape pace zs z.tick) ≡ None
   cancel-drops zs z (Core (Write row line bytes given answer)) may is = absurd (cc (may.on_time.1))
   cancel-drops zs z (Core (Read row line answer)) may is = absurd (cc (may.on_time.1))
-  cancel-drops zs z (Core (Serve answer)) may is = refl
-  cancel-drops zs z (Regs event) may is = refl
-  cancel-drops zs z (Core (Begin answer)) may is = refl
-  cancel-drops zs z (Core (Iterate answer)) may is = refl
-  cancel-drops zs z (Core (Cut tearing)) may is = refl
+  cancel-drops zs z _ may is = refl
 
   -- a read that waits comes behind no cancel, or finds nothing running behind its own
   cancelled_or : (ys : List (TimedEvent n m)) (tick row line : ℕ) → Lawful shape pace e ys → FollowsCancel shape pace ys tick (Read row line came.Waiting)
@@ -320,35 +290,19 @@ module _ {n m : ℕ} (shape : BankShape) (pace : Pace) (e : ℕ) where
             came-new (stored_at zs) (record { tick = z.tick; asks = Reads line; outcome = outcome_of shape all row }) (rows_from shape all zs)
             (and_from _ _ (le-leb (stored_at zs) z.tick up) (came-settled (newest (core zs) line) (outcome_of shape all row) set)) in
             omega (arith, ih, few, more)
-        by (Core (Read row line came.Busy)) cancels may on whole ih =
-            let none = no_pending shape pace zs z.tick (Read row line came.Busy) may.behind (λ f. f) in
-            let more = came-row (stored_at zs) (record { tick = z.tick; asks = Reads line; outcome = outcome_of shape all row }) (rows_from shape all zs) in
-            omega (arith, ih, none, more)
-        by (Core (Read row line (came.Forwarded bytes))) cancels may on whole ih =
-            let none = no_pending shape pace zs z.tick (Read row line (came.Forwarded bytes)) may.behind (λ f. f) in
+        by (Core (Read row line answer)) cancels may on whole ih =
+            let none = no_pending shape pace zs z.tick (Read row line answer) may.behind (λ f. f) in
             let more = came-row (stored_at zs) (record { tick = z.tick; asks = Reads line; outcome = outcome_of shape all row }) (rows_from shape all zs) in
             omega (arith, ih, none, more)
         by (Core (Serve answer)) cancels may on whole ih = let none = no_pending shape pace zs z.tick (Serve answer) may.behind (λ f. f) in omega (arith, ih, none)
+        by (Core (Begin did.More)) cancels may on whole ih = let none = no_pending shape pace zs z.tick (Begin did.More) may.behind (λ f. f) in omega (arith, ih, none)
+        by (Core (Iterate did.More)) cancels may on whole ih = let none = no_pending shape pace zs z.tick (Iterate did.More) may.behind (λ f. f) in omega (arith, ih, none)
+        by (Core (Cut tearing)) true may on whole ih = let none = no_pending shape pace zs z.tick (Cut tearing) may.behind (λ f. f) in omega (arith, ih, none)
         by (Regs (KeepBegin keep.More)) cancels may on whole ih = let none = unpending zs may.behind in omega (arith, ih, none)
-        by (Regs (KeepBegin keep.Done)) cancels may on whole ih = omega arith
-        by (Regs (KeepBegin keep.Halted)) cancels may on whole ih = omega arith
         by (Regs (KeepIterate keep.More)) cancels may on whole ih = let none = unpending zs may.behind in omega (arith, ih, none)
-        by (Regs (KeepIterate keep.Done)) cancels may on whole ih = omega arith
-        by (Regs (KeepIterate keep.Halted)) cancels may on whole ih = omega arith
         by (Regs (KeepCut tearing)) true may on whole ih = let none = unpending zs may.behind in omega (arith, ih, none)
         by (Regs (KeepCut tearing)) false may on whole ih = let k : false ≡ true = whole may.on_time.2 in absurd (cc)
-        by (Core (Begin did.More)) cancels may on whole ih = let none = no_pending shape pace zs z.tick (Begin did.More) may.behind (λ f. f) in omega (arith, ih, none)
-        by (Core (Begin (did.Stored row place))) cancels may on whole ih = omega arith
-        by (Core (Begin (did.Moved move))) cancels may on whole ih = omega arith
-        by (Core (Begin (did.Retired slot line))) cancels may on whole ih = omega arith
-        by (Core (Begin did.Exhausted)) cancels may on whole ih = omega arith
-        by (Core (Iterate did.More)) cancels may on whole ih = let none = no_pending shape pace zs z.tick (Iterate did.More) may.behind (λ f. f) in omega (arith, ih, none)
-        by (Core (Iterate (did.Stored row place))) cancels may on whole ih = omega arith
-        by (Core (Iterate (did.Moved move))) cancels may on whole ih = omega arith
-        by (Core (Iterate (did.Retired slot line))) cancels may on whole ih = omega arith
-        by (Core (Iterate did.Exhausted)) cancels may on whole ih = omega arith
-        by (Core (Cut tearing)) true may on whole ih = let none = no_pending shape pace zs z.tick (Cut tearing) may.behind (λ f. f) in omega (arith, ih, none)
-        by (Core (Cut tearing)) false may on whole ih = omega arith
+        by _ _ may on whole ih = omega arith
 
     module _ (later : List (TimedEvent n m)) (x : TimedEvent n m) (ys : List (TimedEvent n m)) (same : all ≡ later ++ x ∷ ys) where
       whole : Lawful shape pace e (later ++ x ∷ ys)

@@ -6,7 +6,7 @@ use Rattle.bank_shape.specs.{Pausing.{is_cancelling, most_cancels}, declared.Ban
 use Rattle.bank_shape.specs.declared.pace.Policy.TheVariants.{Pause, Plain, Cancel}
 use Rattle.bank_shape.specs.declared.answer.Keep.TheVariants as keep
 use Rattle.bank_shape.specs.declared.answer.Step.TheVariants as did
-use Rattle.bank_model.specs.{Changes.{halted_after, halted_by}, Events.{BankEvent, Write, Read, Serve, Begin, Iterate, Cut}, History.{waits, has_exhausted}}
+use Rattle.bank_model.specs.{Changes.{halted_after, halted_by}, Events.{BankEvent, Begin, Iterate, Cut}, History.{waits, has_exhausted}}
 use Rattle.bank_model.specs.{Lawful.{Lawful, MayCome, would_cancel}, Running.{running_at, cancels_with, cancels_after}}
 use Rattle.bank_model.specs.Timing.{Happens, Core, Regs, KeepBegin, KeepIterate, KeepCut, TimedEvent, is_writing, is_empty, core, core_of}
 use Rattle.tick_laws.proofs.{Actions.not-cancelled, Tallies.{stores_by, moves_by, others_by, cuts_by, cancelled_by, tally, tally_cuts}}
@@ -24,12 +24,8 @@ module _ {n : ℕ} where
   fine_before (Core event) xs fine = either (has_exhausted xs) (λ ex. absurd (cc (exhausted-more event xs ex, fine))) (λ is. is)
 
   pub runs_before : (h : Happens n) (old : Bool) → halted_by h old ≡ false → old ≡ false
-  runs_before (Core event) old runs = runs
-  runs_before (Regs (KeepBegin answer)) old runs = runs
-  runs_before (Regs (KeepIterate keep.More)) old runs = runs
-  runs_before (Regs (KeepIterate keep.Done)) old runs = runs
   runs_before (Regs (KeepIterate keep.Halted)) old runs = absurd (cc)
-  runs_before (Regs (KeepCut tearing)) old runs = runs
+  runs_before _ old runs = runs
 
 module _ {n m : ℕ} (shape : BankShape) (pace : Pace) (e : ℕ) where
   -- the present line write was cancelled at most as often as may be
@@ -45,29 +41,18 @@ module _ {n m : ℕ} (shape : BankShape) (pace : Pace) (e : ℕ) where
       cut tearing false would le = omega arith
 
       by : (h : Happens n) → MayCome shape pace e zs z h → cancels_after zs ≤ 4 → cancels_with h z.cancels (cancels_after zs) ≤ 4
-      by (Core (Write row line bytes given answer)) may le = le
-      by (Core (Read row line answer)) may le = le
-      by (Core (Serve answer)) may le = le
+      by (Core (Begin did.More)) may le = le
+      by (Core (Begin _)) may le = omega arith
+      by (Core (Iterate did.More)) may le = le
+      by (Core (Iterate _)) may le = omega arith
+      by (Core (Cut tearing)) may le = cut tearing z.cancels may.on_time.2 le
+      by (Core _) may le = le
       by (Regs (KeepBegin keep.More)) may le = le
-      by (Regs (KeepBegin keep.Done)) may le = omega arith
-      by (Regs (KeepBegin keep.Halted)) may le = omega arith
       by (Regs (KeepIterate keep.More)) may le = le
-      by (Regs (KeepIterate keep.Done)) may le = omega arith
-      by (Regs (KeepIterate keep.Halted)) may le = omega arith
       by (Regs (KeepCut tearing)) may le =
           let k : cancels_after zs < 4 = ltb-true (cancels_after zs) 4 (few_of (is_cancelling pace.policy) (is_writing (running_at shape pace zs z.tick)) (is_empty (waits shape (core zs))) (nat_lt (cancels_after zs) most_cancels) may.on_time.3) in
           omega (arith, k)
-      by (Core (Begin did.More)) may le = le
-      by (Core (Begin (did.Stored row place))) may le = omega arith
-      by (Core (Begin (did.Moved move))) may le = omega arith
-      by (Core (Begin (did.Retired slot line))) may le = omega arith
-      by (Core (Begin did.Exhausted)) may le = omega arith
-      by (Core (Iterate did.More)) may le = le
-      by (Core (Iterate (did.Stored row place))) may le = omega arith
-      by (Core (Iterate (did.Moved move))) may le = omega arith
-      by (Core (Iterate (did.Retired slot line))) may le = omega arith
-      by (Core (Iterate did.Exhausted)) may le = omega arith
-      by (Core (Cut tearing)) may le = cut tearing z.cancels may.on_time.2 le
+      by (Regs _) may le = omega arith
 
   -- four cancels at most come to each line write that ends, and to the present one
   cancels_few : (mid zs : List (TimedEvent n m)) → Lawful shape pace e (mid ++ zs) → has_exhausted (core (mid ++ zs)) ≡ false → halted_after (mid ++ zs) ≡ false
@@ -80,29 +65,14 @@ module _ {n m : ℕ} (shape : BankShape) (pace : Pace) (e : ℕ) where
           → tally_cuts cancelled_by mid ≤ 4 * (tally stores_by mid + tally moves_by mid + tally others_by mid + tally_cuts cuts_by mid) + cancels_after (mid ++ zs)
           → cancelled_by h cancels + tally_cuts cancelled_by mid
           ≤ 4 * ((stores_by h + tally stores_by mid) + (moves_by h + tally moves_by mid) + (others_by h + tally others_by mid) + (cuts_by h cancels + tally_cuts cuts_by mid)) + cancels_with h cancels (cancels_after (mid ++ zs))
-      by (Core (Write row line bytes given answer)) cancels may fine runs le ih = omega (arith, ih)
-      by (Core (Read row line answer)) cancels may fine runs le ih = omega (arith, ih)
-      by (Core (Serve answer)) cancels may fine runs le ih = omega (arith, ih)
-      by (Regs (KeepBegin keep.More)) cancels may fine runs le ih = omega (arith, ih)
-      by (Regs (KeepBegin keep.Done)) cancels may fine runs le ih = omega (arith, ih, le)
-      by (Regs (KeepBegin keep.Halted)) cancels may fine runs le ih = let k : ⊥ = may.may.2 refl in absurd k
-      by (Regs (KeepIterate keep.More)) cancels may fine runs le ih = omega (arith, ih)
-      by (Regs (KeepIterate keep.Done)) cancels may fine runs le ih = omega (arith, ih, le)
-      by (Regs (KeepIterate keep.Halted)) cancels may fine runs le ih = absurd (cc)
-      by (Regs (KeepCut tearing)) true may fine runs le ih = omega (arith, ih)
-      by (Regs (KeepCut tearing)) false may fine runs le ih = omega (arith, ih)
-      by (Core (Begin did.More)) cancels may fine runs le ih = omega (arith, ih)
-      by (Core (Begin (did.Stored row place))) cancels may fine runs le ih = omega (arith, ih, le)
-      by (Core (Begin (did.Moved move))) cancels may fine runs le ih = omega (arith, ih, le)
       by (Core (Begin (did.Retired slot line))) cancels may fine runs le ih = absurd may.may.1
       by (Core (Begin did.Exhausted)) cancels may fine runs le ih = absurd (cc)
-      by (Core (Iterate did.More)) cancels may fine runs le ih = omega (arith, ih)
-      by (Core (Iterate (did.Stored row place))) cancels may fine runs le ih = omega (arith, ih, le)
-      by (Core (Iterate (did.Moved move))) cancels may fine runs le ih = omega (arith, ih, le)
-      by (Core (Iterate (did.Retired slot line))) cancels may fine runs le ih = omega (arith, ih, le)
       by (Core (Iterate did.Exhausted)) cancels may fine runs le ih = absurd (cc)
       by (Core (Cut tearing)) true may fine runs le ih = omega (arith, ih)
-      by (Core (Cut tearing)) false may fine runs le ih = omega (arith, ih, le)
+      by (Regs (KeepBegin keep.Halted)) cancels may fine runs le ih = let k : ⊥ = may.may.2 refl in absurd k
+      by (Regs (KeepIterate keep.Halted)) cancels may fine runs le ih = absurd (cc)
+      by (Regs (KeepCut tearing)) true may fine runs le ih = omega (arith, ih)
+      by _ _ may fine runs le ih = omega (arith, ih, le)
 
   none_cancelled : (mid zs : List (TimedEvent n m)) → is_cancelling pace.policy ≡ false → Lawful shape pace e (mid ++ zs) → tally_cuts cancelled_by mid ≡ 0
   none_cancelled [] zs none l = refl
@@ -113,15 +83,9 @@ module _ {n m : ℕ} (shape : BankShape) (pace : Pace) (e : ℕ) where
     where
       by : (h : Happens n) (cancels : Bool) → cancels ≡ false → cancelled_by h cancels ≡ 0
       by h true whole = absurd (cc)
-      by (Core (Write row line bytes given answer)) false whole = refl
-      by (Core (Read row line answer)) false whole = refl
-      by (Core (Serve answer)) false whole = refl
-      by (Regs (KeepBegin answer)) false whole = refl
-      by (Regs (KeepIterate answer)) false whole = refl
       by (Regs (KeepCut tearing)) false whole = refl
-      by (Core (Begin answer)) false whole = refl
-      by (Core (Iterate answer)) false whole = refl
       by (Core (Cut tearing)) false whole = refl
+      by _ false whole = refl
 
   -- the attempts, with those that were cancelled, where the present line write was not
   pub tried_few : (mid zs : List (TimedEvent n m)) → Lawful shape pace e (mid ++ zs) → has_exhausted (core (mid ++ zs)) ≡ false → halted_after (mid ++ zs) ≡ false → cancels_after (mid ++ zs) ≡ 0

@@ -1,14 +1,14 @@
 -- Each store, move and retirement brings at most one change, and no change is written without one.
-use Rattle.std.proofs.Common.{◌≡◌, ℕ, ◌+◌, ◌*◌, ◌/◌, ◌≤◌, Bool, true, false, List, [], ◌∷◌, ◌++◌, length, Option, Some, None, refl, sym, ap, ◌∙◌, subst, arith}
+use Rattle.std.proofs.Common.{◌≡◌, ℕ, ◌+◌, ◌*◌, ◌≤◌, Bool, true, false, List, [], ◌∷◌, ◌++◌, Option, Some, None, refl, sym, ap, ◌∙◌, subst, arith}
 use Rattle.std.{specs.Prelude.{is_some, nat_lt}, proofs.lemmas.Bool.lt-ltb}
 use Rattle.row_rules.specs.Ticking.{writings}
 use Rattle.bank_shape.specs.{Shape.{controls_of, if_array}, declared.BankShape.BankShape, declared.Home.Home, declared.pace.Pace.Pace}
 use Rattle.bank_shape.specs.declared.Home.TheVariants as home
 use Rattle.bank_shape.specs.declared.answer.Step.TheVariants as did
 use Rattle.bank_shape.specs.declared.answer.Keep.TheVariants as keep
-use Rattle.bank_model.specs.{Changes.{change_after, change_by, halted_after, halted_by, item_if}, Events.{Write, Read, Serve, Begin, Iterate, Cut, line_of_row}}
-use Rattle.bank_model.specs.{History.{first_or, stores, retired, has_exhausted}, Lawful.{Lawful, MayCome}}
-use Rattle.bank_model.specs.Timing.{Happens, Core, Regs, KeepBegin, KeepIterate, KeepCut, TimedEvent, core, core_of}
+use Rattle.bank_model.specs.{Changes.{change_after, change_by, halted_after, halted_by, item_if}, Events.{Begin, Iterate}}
+use Rattle.bank_model.specs.{History.{has_exhausted}, Lawful.{Lawful, MayCome}}
+use Rattle.bank_model.specs.Timing.{Happens, Core, Regs, KeepBegin, KeepIterate, TimedEvent, core, core_of}
 use Rattle.bank_laws.proofs.Changing.{halted-stops}
 use Rattle.tick_laws.proofs.{Cancels.fine_before, Tallies.{stores_by, moves_by, retires_by, others_by, tally}}
 
@@ -37,27 +37,12 @@ module _ {n m : ℕ} (shape : BankShape) (pace : Pace) (e : ℕ) where
   -- what is written stood before, and what stands was brought
   one_more : (zs : List (TimedEvent n m)) (y : TimedEvent n m) (h : Happens n) → MayCome shape pace e zs y h → has_exhausted (core_of h (core zs)) ≡ false
       → others_by h + stands (change_by shape (core zs) h (change_after shape zs)) ≤ (retires_by h + stands (change_after shape zs)) + brought shape.home * (stores_by h + moves_by h + retires_by h)
-  one_more zs y (Core (Write row line bytes given answer)) may fine = omega arith
-  one_more zs y (Core (Read row line answer)) may fine = omega arith
-  one_more zs y (Core (Serve answer)) may fine = omega arith
-  one_more zs y (Core (Begin did.More)) may fine = omega arith
-  one_more zs y (Core (Begin (did.Stored row place))) may fine = let k = item-brought shape.home (line_of_row row (core zs) / shape.lines) in omega (arith, k)
-  one_more zs y (Core (Begin (did.Moved step))) may fine = let k = item-brought shape.home (first_or 0 (stores (core zs)) / shape.lines) in omega (arith, k)
   one_more zs y (Core (Begin (did.Retired slot line))) may fine = absurd may.may.1
   one_more zs y (Core (Begin did.Exhausted)) may fine = absurd (cc)
-  one_more zs y (Core (Iterate did.More)) may fine = omega arith
-  one_more zs y (Core (Iterate (did.Stored row place))) may fine = let k = item-brought shape.home (line_of_row row (core zs) / shape.lines) in omega (arith, k)
-  one_more zs y (Core (Iterate (did.Moved step))) may fine = let k = item-brought shape.home (first_or 0 (stores (core zs)) / shape.lines) in omega (arith, k)
-  one_more zs y (Core (Iterate (did.Retired slot line))) may fine = let k = item-brought shape.home (shape.regions + length (retired (core zs))) in omega (arith, k)
   one_more zs y (Core (Iterate did.Exhausted)) may fine = absurd (cc)
-  one_more zs y (Core (Cut tearing)) may fine = omega arith
-  one_more zs y (Regs (KeepBegin keep.More)) may fine = omega arith
   one_more zs y (Regs (KeepBegin keep.Done)) may fine = let k = stands-some (change_after shape zs) may.stands in omega (arith, k)
-  one_more zs y (Regs (KeepBegin keep.Halted)) may fine = omega arith
-  one_more zs y (Regs (KeepIterate keep.More)) may fine = omega arith
   one_more zs y (Regs (KeepIterate keep.Done)) may fine = let k = stands-some (change_after shape zs) may.stands in omega (arith, k)
-  one_more zs y (Regs (KeepIterate keep.Halted)) may fine = omega arith
-  one_more zs y (Regs (KeepCut tearing)) may fine = omega arith
+  one_more zs y _ may fine = omega (arith, item-brought)
 
   pub others_few : (mid zs : List (TimedEvent n m)) → Lawful shape pace e (mid ++ zs) → has_exhausted (core (mid ++ zs)) ≡ false
       → tally others_by mid + stands (change_after shape (mid ++ zs)) ≤ tally retires_by mid + stands (change_after shape zs) + brought shape.home * (tally stores_by mid + tally moves_by mid + tally retires_by mid)
@@ -73,27 +58,13 @@ module _ {n m : ℕ} (shape : BankShape) (pace : Pace) (e : ℕ) where
   stood (z ∷ zs) l = by z.happens l.0 (stood zs l.1)
     where
       by : (h : Happens n) → MayCome shape pace e zs z h → stands (change_after shape zs) ≤ brought shape.home → stands (change_by shape (core zs) h (change_after shape zs)) ≤ brought shape.home
-      by (Core (Write row line bytes given answer)) may le = le
-      by (Core (Read row line answer)) may le = le
-      by (Core (Serve answer)) may le = le
       by (Core (Begin did.More)) may le = le
-      by (Core (Begin (did.Stored row place))) may le = item-brought shape.home _
-      by (Core (Begin (did.Moved step))) may le = item-brought shape.home _
-      by (Core (Begin (did.Retired slot line))) may le = item-brought shape.home _
-      by (Core (Begin did.Exhausted)) may le = item-brought shape.home _
+      by (Core (Begin _)) may le = item-brought shape.home _
       by (Core (Iterate did.More)) may le = le
-      by (Core (Iterate (did.Stored row place))) may le = item-brought shape.home _
-      by (Core (Iterate (did.Moved step))) may le = item-brought shape.home _
-      by (Core (Iterate (did.Retired slot line))) may le = item-brought shape.home _
-      by (Core (Iterate did.Exhausted)) may le = item-brought shape.home _
-      by (Core (Cut tearing)) may le = le
-      by (Regs (KeepBegin keep.More)) may le = le
+      by (Core (Iterate _)) may le = item-brought shape.home _
       by (Regs (KeepBegin keep.Done)) may le = omega arith
-      by (Regs (KeepBegin keep.Halted)) may le = le
-      by (Regs (KeepIterate keep.More)) may le = le
       by (Regs (KeepIterate keep.Done)) may le = omega arith
-      by (Regs (KeepIterate keep.Halted)) may le = le
-      by (Regs (KeepCut tearing)) may le = le
+      by _ may le = le
 
   -- what has halted stands for good
   halted-some : (zs : List (TimedEvent n m)) → Lawful shape pace e zs → halted_after zs ≡ true → is_some (change_after shape zs) ≡ true
@@ -106,17 +77,12 @@ module _ {n m : ℕ} (shape : BankShape) (pace : Pace) (e : ℕ) where
 
       by : (h : Happens n) → MayCome shape pace e zs z h → (halted_after zs ≡ true → is_some (change_after shape zs) ≡ true) → halted_by h (halted_after zs) ≡ true
           → is_some (change_by shape (core zs) h (change_after shape zs)) ≡ true
-      by (Core (Write row line bytes given answer)) may ih is = ih is
-      by (Core (Read row line answer)) may ih is = ih is
-      by (Core (Serve answer)) may ih is = ih is
       by (Core (Begin answer)) may ih is = clash (change_after shape zs) may.on_time.2 (ih is)
       by (Core (Iterate answer)) may ih is = clash (change_after shape zs) may.on_time.2 (ih is)
-      by (Core (Cut tearing)) may ih is = ih is
       by (Regs (KeepBegin answer)) may ih is = absurd (cc (may.may.1, is))
-      by (Regs (KeepIterate keep.More)) may ih is = ih is
       by (Regs (KeepIterate keep.Done)) may ih is = absurd (cc (halted-stops shape pace e zs l.1 is, may.may.0))
       by (Regs (KeepIterate keep.Halted)) may ih is = may.stands
-      by (Regs (KeepCut tearing)) may ih is = ih is
+      by _ may ih is = ih is
 
   -- so where none stands none has halted
   pub written-runs : (zs : List (TimedEvent n m)) → Lawful shape pace e zs → change_after shape zs ≡ None → halted_after zs ≡ false

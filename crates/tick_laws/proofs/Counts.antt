@@ -6,7 +6,7 @@ use Rattle.result_rows.specs.declared.Outcome.{Outcome}
 use Rattle.result_rows.specs.declared.Outcome.TheVariants as out
 use Rattle.row_rules.specs.{Rows.{asks_read, asks_write}, Ticking.cuts_to, declared.Asks.TheVariants.{Reads, Writes, Cuts}, declared.Row.Row}
 use Rattle.bank_shape.specs.{declared.BankShape.BankShape, declared.pace.Pace.Pace}
-use Rattle.bank_model.specs.{Events.{Write, Read, Serve, Begin, Iterate, Cut}, Lawful.Lawful, Timing.{Happens, Core, Regs, TimedEvent, last_tick}}
+use Rattle.bank_model.specs.{Events.{Write, Read, Cut}, Lawful.Lawful, Timing.{Happens, Core, TimedEvent, last_tick}}
 use Rattle.bank_laws.{specs.Outcomes.{outcome_of, ended, row_with, rows_from}, proofs.Counting.{among, hits}, proofs.Pending.{write_rows, writes_in}}
 use Rattle.bank_laws.proofs.{Settling.{opens, step_stays, stays}, Ticks.last_tick-rises, Waiting.{read_rows, reads_in}, Walking.rows_after}
 use Rattle.tick_laws.proofs.Tallies.{cuts_by, tally, tally_cuts}
@@ -111,12 +111,8 @@ module _ {n m : ℕ} (shape : BankShape) (all : List (TimedEvent n m)) where
           → count_by (λ q. asks_write q.asks && p q.outcome) (row_with shape all h x.tick cancels ++ rows_from shape all xs) ≡ hits (λ row. p (outcome_of shape all row)) (write_rows h ++ writes_in xs)
       by (Core (Write row line bytes given answer)) cancels ih = count-cons _ (record { tick = x.tick; asks = Writes line bytes given; outcome = ended x.tick (outcome_of shape all row) }) (rows_from shape all xs) ∙ one (p (ended x.tick (outcome_of shape all row))) _ _ _ (same x.tick (outcome_of shape all row)) ih
       by (Core (Read row line answer)) cancels ih = count-skip _ (record { tick = x.tick; asks = Reads line; outcome = outcome_of shape all row }) (rows_from shape all xs) _ refl ih
-      by (Core (Serve answer)) cancels ih = ih
-      by (Regs event) cancels ih = ih
-      by (Core (Begin answer)) cancels ih = ih
-      by (Core (Iterate answer)) cancels ih = ih
-      by (Core (Cut tearing)) true ih = ih
       by (Core (Cut tearing)) false ih = count-skip _ (record { tick = x.tick; asks = Cuts; outcome = out.Cut x.tick }) (rows_from shape all xs) _ refl ih
+      by _ _ ih = ih
 
   pub reads-counted : (p : Outcome n → Bool) → (xs : List (TimedEvent n m))
       → count_by (λ q. asks_read q.asks && p q.outcome) (rows_from shape all xs) ≡ hits (λ row. p (outcome_of shape all row)) (reads_in xs)
@@ -131,12 +127,8 @@ module _ {n m : ℕ} (shape : BankShape) (all : List (TimedEvent n m)) where
           → count_by (λ q. asks_read q.asks && p q.outcome) (row_with shape all h x.tick cancels ++ rows_from shape all xs) ≡ hits (λ row. p (outcome_of shape all row)) (read_rows h ++ reads_in xs)
       by (Core (Write row line bytes given answer)) cancels ih = count-skip _ (record { tick = x.tick; asks = Writes line bytes given; outcome = ended x.tick (outcome_of shape all row) }) (rows_from shape all xs) _ refl ih
       by (Core (Read row line answer)) cancels ih = count-cons _ (record { tick = x.tick; asks = Reads line; outcome = outcome_of shape all row }) (rows_from shape all xs) ∙ one (p (outcome_of shape all row)) _ _ ih
-      by (Core (Serve answer)) cancels ih = ih
-      by (Regs event) cancels ih = ih
-      by (Core (Begin answer)) cancels ih = ih
-      by (Core (Iterate answer)) cancels ih = ih
-      by (Core (Cut tearing)) true ih = ih
       by (Core (Cut tearing)) false ih = count-skip _ (record { tick = x.tick; asks = Cuts; outcome = out.Cut x.tick }) (rows_from shape all xs) _ refl ih
+      by _ _ ih = ih
 
   -- the rows of a table are those behind an event and those before it
   pub rows-counted : (t : Row n → Bool) (later zs : List (TimedEvent n m)) → count_by t (rows_from shape all (later ++ zs)) ≡ count_by t (rows_after shape all later) + count_by t (rows_from shape all zs)
@@ -166,11 +158,5 @@ module _ {n m : ℕ} (shape : BankShape) (all : List (TimedEvent n m)) where
       one false is = absurd (cc)
 
       by : (h : Happens n) (cancels : Bool) → cuts_by h cancels ≤ cuts_to u (row_with shape all h y.tick cancels)
-      by (Core (Write row line bytes given answer)) cancels = omega arith
-      by (Core (Read row line answer)) cancels = omega arith
-      by (Core (Serve answer)) cancels = omega arith
-      by (Regs event) cancels = omega arith
-      by (Core (Begin answer)) cancels = omega arith
-      by (Core (Iterate answer)) cancels = omega arith
-      by (Core (Cut tearing)) true = omega arith
       by (Core (Cut tearing)) false = one (nat_le y.tick u) (le-leb y.tick u le)
+      by _ _ = omega arith

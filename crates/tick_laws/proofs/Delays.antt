@@ -247,16 +247,10 @@ module _ {n m : ℕ} (shape : BankShape) (pace : Pace) (e : ℕ) where
     kept_cut tearing false is h = absurd (cc)
 
     pub step : (h : Happens n) → MayCome shape pace e zs y h → has_exhausted (core_of h (core zs)) ≡ false → halted_by h (halted_after zs) ≡ false → DelayAt base zs y.tick → DelayBy h
-    step (Core (Write row line bytes given wrote.Accepted)) may fine run (inl h) = inl (omega (arith, h))
     step (Core (Write row line bytes given wrote.Accepted)) may fine run (inr h) =
         inr ((record { idle = h.0.0.idle; due = h.0.0.due; held = held-push (waits shape (core zs)) (queue shape (core zs)) _ h.0.0.held }, h.0.1), h.1, omega (arith, h.2))
-    step (Core (Write row line bytes given (wrote.Merged old))) may fine run (inl h) = inl (omega (arith, h))
     step (Core (Write row line bytes given (wrote.Merged old))) may fine run (inr h) =
         inr ((record { idle = h.0.0.idle; due = h.0.0.due; held = held-merged (waits shape (core zs)) (queue shape (core zs)) old row bytes given h.0.0.held }, h.0.1), h.1, omega (arith, h.2))
-    step (Core (Write row line bytes given wrote.Full)) may fine run (inl h) = inl (omega (arith, h))
-    step (Core (Write row line bytes given wrote.Full)) may fine run (inr h) = inr ((record { idle = h.0.0.idle; due = h.0.0.due; held = h.0.0.held }, h.0.1), h.1, omega (arith, h.2))
-    step (Core (Write row line bytes given wrote.Exhausted)) may fine run (inl h) = inl (omega (arith, h))
-    step (Core (Write row line bytes given wrote.Exhausted)) may fine run (inr h) = inr ((record { idle = h.0.0.idle; due = h.0.0.due; held = h.0.0.held }, h.0.1), h.1, omega (arith, h.2))
     step (Core (Read row line came.Waiting)) may fine run d =
         at_read row line (drops_begin shape (core zs) (change_after shape zs) line runs) runs (dropped (change_after shape zs)) may.on_time.0.2 (running_at-fits shape pace e zs y.tick) d
       where
@@ -264,19 +258,14 @@ module _ {n m : ℕ} (shape : BankShape) (pace : Pace) (e : ℕ) where
             → ((is_doing Beginning runs ≡ true) × (is_store_of line (work_after shape (core zs)) ≡ true)) × (change ≡ None)
         dropped None h = (and_parts (is_doing Beginning runs) (is_store_of line (work_after shape (core zs))) h, refl)
         dropped (Some item) h = absurd (cc)
-    step (Core (Read row line came.Busy)) may fine run (inl h) = inl (omega (arith, h))
-    step (Core (Read row line came.Busy)) may fine run (inr h) = inr ((record { idle = h.0.0.idle; due = h.0.0.due; held = h.0.0.held }, h.0.1), h.1, omega (arith, h.2))
-    step (Core (Read row line (came.Forwarded bytes))) may fine run (inl h) = inl (omega (arith, h))
-    step (Core (Read row line (came.Forwarded bytes))) may fine run (inr h) = inr ((record { idle = h.0.0.idle; due = h.0.0.due; held = h.0.0.held }, h.0.1), h.1, omega (arith, h.2))
     step (Core (Serve answer)) may fine run d = inl (at_serve may.on_time.0.1 (ending Serving may.on_time.0.0 d))
     step (Core (Begin did.More)) may fine run d =
         let h = bank_begins did.More may d in
         let k = goes _ _ 0 (busy-none (change_after shape zs) false true may.on_time.2) (made-none (change_after shape zs) 0 0 may.on_time.2) in
         inl (omega (arith, h, k))
-    step (Core (Begin (did.Stored row place))) may fine run d = let h = begin_end (bank_begins _ may d) in inl (omega (arith, h))
-    step (Core (Begin (did.Moved move))) may fine run d = let h = begin_end (bank_begins _ may d) in inl (omega (arith, h))
     step (Core (Begin (did.Retired slot line))) may fine run d = absurd may.may.1
     step (Core (Begin did.Exhausted)) may fine run d = absurd (cc)
+    step (Core (Begin _)) may fine run d = let h = begin_end (bank_begins _ may d) in inl (omega (arith, h))
     step (Core (Iterate did.More)) may fine run d =
         let h = iterates may.on_time.0.0 may.on_time.0.1 d in
         let j = spent-more pace.read pace.iter (busy_after shape zs) (made_after shape zs) (fits_ending Iterating may.on_time.0.0) in
@@ -285,9 +274,6 @@ module _ {n m : ℕ} (shape : BankShape) (pace : Pace) (e : ℕ) where
         goes _ _ (made_after shape zs + 1) (busy-none (change_after shape zs) false true may.on_time.2)
         (made-none (change_after shape zs) 0 (iterated (core zs) + 1) may.on_time.2 ∙ ap (λ k. k + 1) (sym its)) in
         inl (omega (arith, h, j, k))
-    step (Core (Iterate (did.Stored row place))) may fine run d = let h = iterate_end (fits_ending Iterating may.on_time.0.0) (iterates may.on_time.0.0 may.on_time.0.1 d) in inl (omega (arith, h))
-    step (Core (Iterate (did.Moved move))) may fine run d = let h = iterate_end (fits_ending Iterating may.on_time.0.0) (iterates may.on_time.0.0 may.on_time.0.1 d) in inl (omega (arith, h))
-    step (Core (Iterate (did.Retired slot line))) may fine run d = let h = iterate_end (fits_ending Iterating may.on_time.0.0) (iterates may.on_time.0.0 may.on_time.0.1 d) in inl (omega (arith, h))
     step (Core (Iterate did.Exhausted)) may fine run d = absurd (cc)
     step (Core (Cut tearing)) may fine run d =
         let h = cut_by tearing y.cancels may.on_time.0.2
@@ -307,27 +293,18 @@ module _ {n m : ℕ} (shape : BankShape) (pace : Pace) (e : ℕ) where
         goes _ _ (made_after shape zs + 1) (busy-some (change_after shape zs) true (in_progress (core zs)) may.stands)
         (made-some (change_after shape zs) (rounds_after zs + 1) (iterated (core zs)) may.stands ∙ ap (λ k. k + 1) (sym its)) in
         inl (omega (arith, h, j, k))
-    step (Regs (KeepIterate keep.Done)) may fine run d = let h = iterate_end (fits_ending Iterating may.on_time.0.0) (iterates may.on_time.0.0 may.on_time.0.1 d) in inl (omega (arith, h))
     step (Regs (KeepIterate keep.Halted)) may fine run d = absurd (cc)
     step (Regs (KeepCut tearing)) may fine run d =
         let h = kept_cut tearing y.cancels may.on_time.2
         (cancel_by may.on_time.0.2 (writing_of (is_cancelling pace.policy) (is_writing runs) (is_empty (waits shape (core zs))) (nat_lt (cancels_after zs) most_cancels) may.on_time.3) d) in
         inl (omega (arith, h))
+    step (Core (Iterate _)) may fine run d = let h = iterate_end (fits_ending Iterating may.on_time.0.0) (iterates may.on_time.0.0 may.on_time.0.1 d) in inl (omega (arith, h))
+    step (Regs (KeepIterate keep.Done)) may fine run d = let h = iterate_end (fits_ending Iterating may.on_time.0.0) (iterates may.on_time.0.0 may.on_time.0.1 d) in inl (omega (arith, h))
+    step _ may fine run (inl h) = inl (omega (arith, h))
+    step _ may fine run (inr h) = inr ((record { idle = h.0.0.idle; due = h.0.0.due; held = h.0.0.held }, h.0.1), h.1, omega (arith, h.2))
 
     -- a store is no later than an attempt
     pub store_tick : (h : Happens n) → MayCome shape pace e zs y h → stores_by h ≡ 1 → DelayAt base zs y.tick → y.tick ≤ gain pace.read (work_time pace e) h y.cancels + base
-    store_tick (Core (Write row line bytes given answer)) may one d = absurd (omega arith)
-    store_tick (Core (Read row line answer)) may one d = absurd (omega arith)
-    store_tick (Core (Serve answer)) may one d = absurd (omega arith)
-    store_tick (Regs event) may one d = absurd (omega arith)
     store_tick (Core (Begin (did.Stored row place))) may one d = let h = begin_end (bank_begins _ may d) in omega (arith, h)
-    store_tick (Core (Begin did.More)) may one d = absurd (omega arith)
-    store_tick (Core (Begin (did.Moved move))) may one d = absurd (omega arith)
-    store_tick (Core (Begin (did.Retired slot line))) may one d = absurd (omega arith)
-    store_tick (Core (Begin did.Exhausted)) may one d = absurd (omega arith)
     store_tick (Core (Iterate (did.Stored row place))) may one d = let h = iterate_end (fits_ending Iterating may.on_time.0.0) (iterates may.on_time.0.0 may.on_time.0.1 d) in omega (arith, h)
-    store_tick (Core (Iterate did.More)) may one d = absurd (omega arith)
-    store_tick (Core (Iterate (did.Moved move))) may one d = absurd (omega arith)
-    store_tick (Core (Iterate (did.Retired slot line))) may one d = absurd (omega arith)
-    store_tick (Core (Iterate did.Exhausted)) may one d = absurd (omega arith)
-    store_tick (Core (Cut tearing)) may one d = absurd (omega arith)
+    store_tick _ may one d = absurd (omega arith)

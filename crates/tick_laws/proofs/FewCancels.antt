@@ -7,8 +7,8 @@ use Rattle.row_rules.specs.{Ticking.first_cut_at, declared.Row.Row}
 use Rattle.masked_bytes.specs.Entries.{layer_of}
 use Rattle.bank_shape.specs.{Pausing.gives_way, declared.BankShape.BankShape, declared.clock.Action.Action, declared.pace.Pace.Pace}
 use Rattle.bank_shape.specs.declared.answer.ReadAnswer.TheVariants as came
-use Rattle.bank_model.specs.{Changes.change_after, Events.{Write, Read, Serve, Begin, Iterate, Cut, newest}, History.{awaited, queue, waits}, Lawful.{Lawful, MayCome}}
-use Rattle.bank_model.specs.{Running.{busy_after, made_after, drops_begin, left_by, running_at, cancels_after}, Timing.{Happens, Core, Regs, TimedEvent, is_writing, core, core_of}}
+use Rattle.bank_model.specs.{Changes.change_after, Events.{Read, newest}, History.{awaited, queue, waits}, Lawful.{Lawful, MayCome}}
+use Rattle.bank_model.specs.{Running.{busy_after, made_after, drops_begin, left_by, running_at, cancels_after}, Timing.{Happens, Core, TimedEvent, is_writing, core, core_of}}
 use Rattle.bank_laws.{specs.Outcomes.{outcome_of, row_with}, specs.Standing.has_wait, proofs.Fates.{Awaits, IsSettled, ReadFate, read_fate, awaits-has, awaits-new}}
 use Rattle.bank_laws.proofs.{Settling.{opens, lawful_before}, Standing.stand_apart, Waiting.settled_all, Walking.rows_after}
 use Rattle.tick_laws.specs.TickLaws.{FewCancelsLaw, FewCancelsNowLaw, FindsFewCancels, IsNow, by_reads, count_found, ends_by, ends_or_waits, rows_behind}
@@ -22,29 +22,13 @@ module _ {n : ℕ} where
       and_from (nat_le (a + read) u) _ (le-leb (a + read) u h.0)
       (and_from (nat_le u most) _ (le-leb u most h.1) h.2)
   ends-by read a most after owed (out.Lost u) s h = and_from (first_cut_at u after) _ h.0 (lt-ltb u most h.1)
-  ends-by read a most after owed out.Unset s h = absurd s
-  ends-by read a most after owed (out.Stored at place) s h = absurd s
-  ends-by read a most after owed (out.Merged at) s h = absurd s
-  ends-by read a most after owed (out.Queued at) s h = absurd s
-  ends-by read a most after owed (out.Full at) s h = absurd s
-  ends-by read a most after owed (out.Worn at) s h = absurd s
-  ends-by read a most after owed (out.Forwarded at bytes) s h = absurd s
-  ends-by read a most after owed (out.Busy at) s h = absurd s
-  ends-by read a most after owed (out.Cut at) s h = absurd s
+  ends-by read a most after owed _ s h = absurd s
 
   -- so it has at any tick
   ended-now : (t read a most : ℕ) (after : List (Row n)) (owed : List ℕ) (o : Outcome n) → IsSettled owed o → ends_by read a most o after ≡ true → ends_or_waits t read a most o after ≡ true
   ended-now t read a most after owed (out.Read u place bytes) s h = h
   ended-now t read a most after owed (out.Lost u) s h = h
-  ended-now t read a most after owed out.Unset s h = absurd s
-  ended-now t read a most after owed (out.Stored at place) s h = absurd s
-  ended-now t read a most after owed (out.Merged at) s h = absurd s
-  ended-now t read a most after owed (out.Queued at) s h = absurd s
-  ended-now t read a most after owed (out.Full at) s h = absurd s
-  ended-now t read a most after owed (out.Worn at) s h = absurd s
-  ended-now t read a most after owed (out.Forwarded at bytes) s h = absurd s
-  ended-now t read a most after owed (out.Busy at) s h = absurd s
-  ended-now t read a most after owed (out.Cut at) s h = absurd s
+  ended-now t read a most after owed _ s h = absurd s
 
 behind-is : {n m : ℕ} (shape : BankShape) (all later : List (TimedEvent n m)) → rows_behind shape all later ≡ rows_after shape all later
 behind-is shape all [] = refl
@@ -86,9 +70,6 @@ module _ {n m : ℕ} (shape : BankShape) (pace : Pace) (e : ℕ) (x : TimedEvent
           → since (left_by shape (core ys) (change_after shape ys) h runs) x.tick ≤ x.tick
           → ((owed : List ℕ) → Awaits (waits shape (core_of h (core ys))) row owed → TurnBy shape pace e x.tick (by_reads shape pace x ys) row ys x l h (left_by shape (core ys) (change_after shape ys) h runs) → HasFewTurn row)
           → HasFewTurn row
-      by (Core (Write at on bytes given answer)) is may top go = absurd (cc)
-      by (Core (Read at on (came.Forwarded bytes))) is may top go = absurd (cc)
-      by (Core (Read at on came.Busy)) is may top go = absurd (cc)
       by (Core (Read at on came.Waiting)) is may top go =
           let v = awaited at on (newest (core ys) on) (layer_of (queue shape (core ys)) on) in
           let drops = drops_begin shape (core ys) (change_after shape ys) on runs in
@@ -107,11 +88,7 @@ module _ {n m : ℕ} (shape : BankShape) (pace : Pace) (e : ℕ) (x : TimedEvent
                 (drop_or shape pace ys drops runs (running_at-fits shape pace e ys x.tick));
             high = sum_few _ _ _ x.tick ((length (waits shape (core ys)) + 1) * pace.read) _ top none (turn-new pace.read at (waits shape (core ys)) v new refl);
           }))
-      by (Core (Serve answer)) is may top go = absurd (cc)
-      by (Regs event) is may top go = absurd (cc)
-      by (Core (Begin answer)) is may top go = absurd (cc)
-      by (Core (Iterate answer)) is may top go = absurd (cc)
-      by (Core (Cut tearing)) is may top go = absurd (cc)
+      by _ is may top go = absurd (cc)
 
 module _ {n m : ℕ} (shape : BankShape) (pace : Pace) (e : ℕ) (later : List (TimedEvent n m)) (x : TimedEvent n m) (ys : List (TimedEvent n m)) (l : Lawful shape pace e (later ++ x ∷ ys)) (r : 1 ≤ pace.read) (i : 1 ≤ pace.iter) (row : ℕ) (finds : FindsFewCancels pace row x ys) where
   abbrev all : List (TimedEvent n m)

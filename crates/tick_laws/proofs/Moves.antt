@@ -4,9 +4,9 @@ use Rattle.std.{specs.Prelude.nat_le, proofs.Math.Nat.mul-le-mul_left, proofs.le
 use Rattle.masked_bytes.specs.declared.entry.Entry.{Entry}
 use Rattle.bank_shape.specs.{declared.BankShape.BankShape, declared.Work.TheVariants.Nothing, declared.pace.Pace.Pace}
 use Rattle.bank_shape.specs.declared.answer.Step.TheVariants as did
-use Rattle.bank_model.specs.{After.{work_after, due_work, due_moves}, Answers.IsDone, Events.{BankEvent, Write, Read, Serve, Begin, Iterate, Cut, line_of_row}}
+use Rattle.bank_model.specs.{After.{work_after, due_work, due_moves}, Answers.IsDone, Events.{BankEvent, Begin, Iterate, line_of_row}}
 use Rattle.bank_model.specs.{History.{first_or, stores, stored_in, moved_in, due_after, retired, queue, has_exhausted}, Lawful.{Lawful, MayCome}}
-use Rattle.bank_model.{specs.Timing.{Happens, Core, Regs, TimedEvent, core, core_of}, proofs.Within.due_moves-few}
+use Rattle.bank_model.{specs.Timing.{Happens, Core, TimedEvent, core, core_of}, proofs.Within.due_moves-few}
 use Rattle.tick_laws.proofs.Tallies.{stores_by, moves_by, retires_by, tally}
 
 module _ {n : ℕ} (shape : BankShape) (h : List (BankEvent n)) where
@@ -96,44 +96,22 @@ module _ {n m : ℕ} (shape : BankShape) (pace : Pace) (e : ℕ) where
   balanced (x ∷ xs) some l = by x.happens l.0 (balanced xs some l.1)
     where
       by : (h : Happens n) → MayCome shape pace e xs x h → Balanced shape (core xs) → Balanced shape (core_of h (core xs))
-      by (Core (Write row line bytes given answer)) may b = record { most = b.most; others = b.others }
-      by (Core (Read row line answer)) may b = record { most = b.most; others = b.others }
-      by (Core (Serve answer)) may b = record { most = b.most; others = b.others }
-      by (Regs event) may b = record { most = b.most; others = b.others }
       by (Core (Begin (did.Stored row place))) may b =
           let k = after_store _ _ _ _ b (line_of_row row (core xs) / shape.lines) (free shape (core xs) (done_store shape (core xs) row place may.may.1)) in record { most = k.most; others = k.others }
-      by (Core (Begin did.More)) may b = record { most = b.most; others = b.others }
       by (Core (Begin (did.Moved move))) may b = let k = after_move _ _ _ _ b in record { most = k.most; others = k.others }
-      by (Core (Begin (did.Retired slot line))) may b = record { most = b.most; others = b.others }
-      by (Core (Begin did.Exhausted)) may b = record { most = b.most; others = b.others }
       by (Core (Iterate (did.Stored row place))) may b =
           let k = after_store _ _ _ _ b (line_of_row row (core xs) / shape.lines) (free shape (core xs) (done_store shape (core xs) row place may.may.1)) in record { most = k.most; others = k.others }
-      by (Core (Iterate did.More)) may b = record { most = b.most; others = b.others }
       by (Core (Iterate (did.Moved move))) may b = let k = after_move _ _ _ _ b in record { most = k.most; others = k.others }
-      by (Core (Iterate (did.Retired slot line))) may b = record { most = b.most; others = b.others }
-      by (Core (Iterate did.Exhausted)) may b = record { most = b.most; others = b.others }
-      by (Core (Cut tearing)) may b = record { most = b.most; others = b.others }
+      by _ may b = record { most = b.most; others = b.others }
 
   -- a move takes away what was due, and only a store brings it
   moves_step : (xs : List (TimedEvent n m)) (x : TimedEvent n m) (h : Happens n) → 1 ≤ shape.psi → Balanced shape (core xs) → MayCome shape pace e xs x h
       → moves_by h + due_moves (due_after shape (core_of h (core xs))) ≤ stores_by h + due_moves (due_after shape (core xs))
-  moves_step xs x (Core (Write row line bytes given answer)) some b may = omega arith
-  moves_step xs x (Core (Read row line answer)) some b may = omega arith
-  moves_step xs x (Core (Serve answer)) some b may = omega arith
-  moves_step xs x (Regs event) some b may = omega arith
-  moves_step xs x (Core (Begin (did.Stored row place))) some b may = let k : due_moves (due_after shape (core_of (Core (Begin (did.Stored row place))) (core xs))) ≤ 1 = due_moves-few _ in omega (arith, k)
-  moves_step xs x (Core (Begin did.More)) some b may = omega arith
   moves_step xs x (Core (Begin (did.Moved move))) some b may =
       let was : due_moves (due_after shape (core xs)) ≡ 1 = done_move shape (core xs) move may.may.1 in let is = moved_flag shape (core xs) some b in omega (arith, was, is)
-  moves_step xs x (Core (Begin (did.Retired slot line))) some b may = omega arith
-  moves_step xs x (Core (Begin did.Exhausted)) some b may = omega arith
-  moves_step xs x (Core (Iterate (did.Stored row place))) some b may = let k : due_moves (due_after shape (core_of (Core (Iterate (did.Stored row place))) (core xs))) ≤ 1 = due_moves-few _ in omega (arith, k)
-  moves_step xs x (Core (Iterate did.More)) some b may = omega arith
   moves_step xs x (Core (Iterate (did.Moved move))) some b may =
       let was : due_moves (due_after shape (core xs)) ≡ 1 = done_move shape (core xs) move may.may.1 in let is = moved_flag shape (core xs) some b in omega (arith, was, is)
-  moves_step xs x (Core (Iterate (did.Retired slot line))) some b may = omega arith
-  moves_step xs x (Core (Iterate did.Exhausted)) some b may = omega arith
-  moves_step xs x (Core (Cut tearing)) some b may = omega arith
+  moves_step xs x _ some b may = omega (arith, due_moves-few)
 
   pub moves_few : (mid zs : List (TimedEvent n m)) → 1 ≤ shape.psi → Lawful shape pace e (mid ++ zs)
       → tally moves_by mid + due_moves (due_after shape (core (mid ++ zs))) ≤ tally stores_by mid + due_moves (due_after shape (core zs))
@@ -148,21 +126,9 @@ module _ {n m : ℕ} (shape : BankShape) (pace : Pace) (e : ℕ) where
       sums a b c d e f g h k = omega arith
 
   retires_step : (xs : List (TimedEvent n m)) (x : TimedEvent n m) (h : Happens n) → MayCome shape pace e xs x h → length (retired (core_of h (core xs))) ≡ retires_by h + length (retired (core xs))
-  retires_step xs x (Core (Write row line bytes given answer)) may = omega arith
-  retires_step xs x (Core (Read row line answer)) may = omega arith
-  retires_step xs x (Core (Serve answer)) may = omega arith
-  retires_step xs x (Regs event) may = omega arith
-  retires_step xs x (Core (Begin (did.Stored row place))) may = omega arith
-  retires_step xs x (Core (Begin did.More)) may = omega arith
-  retires_step xs x (Core (Begin (did.Moved move))) may = omega arith
   retires_step xs x (Core (Begin (did.Retired slot line))) may = absurd may.may.1
-  retires_step xs x (Core (Begin did.Exhausted)) may = omega arith
-  retires_step xs x (Core (Iterate (did.Stored row place))) may = omega arith
-  retires_step xs x (Core (Iterate did.More)) may = omega arith
-  retires_step xs x (Core (Iterate (did.Moved move))) may = omega arith
   retires_step xs x (Core (Iterate (did.Retired slot line))) may = let k : length (retired (core xs) ++ slot ∷ []) ≡ length (retired (core xs)) + 1 = length-append (retired (core xs)) (slot ∷ []) in omega (arith, k)
-  retires_step xs x (Core (Iterate did.Exhausted)) may = omega arith
-  retires_step xs x (Core (Cut tearing)) may = omega arith
+  retires_step xs x _ may = omega arith
 
   retired_few : (xs : List (TimedEvent n m)) → Lawful shape pace e xs → length (retired (core xs)) ≤ shape.spares
   retired_few [] l = omega arith
@@ -170,17 +136,9 @@ module _ {n m : ℕ} (shape : BankShape) (pace : Pace) (e : ℕ) where
     where
       by : (h : Happens n) → MayCome shape pace e xs x h → length (retired (core xs)) ≤ shape.spares → length (retired (core_of h (core xs))) ≡ retires_by h + length (retired (core xs))
           → length (retired (core_of h (core xs))) ≤ shape.spares
-      by (Core (Write row line bytes given answer)) may few is = few
-      by (Core (Read row line answer)) may few is = few
-      by (Core (Serve answer)) may few is = few
-      by (Regs event) may few is = few
       by (Core (Begin answer)) may few is = omega (arith, few, is)
-      by (Core (Iterate (did.Stored row place))) may few is = few
-      by (Core (Iterate did.More)) may few is = few
-      by (Core (Iterate (did.Moved move))) may few is = few
       by (Core (Iterate (did.Retired slot line))) may few is = let k : length (retired (core xs)) < shape.spares = may.may.1.2 in omega (arith, is, k)
-      by (Core (Iterate did.Exhausted)) may few is = few
-      by (Core (Cut tearing)) may few is = few
+      by _ may few is = few
 
   retires_sum : (mid zs : List (TimedEvent n m)) → Lawful shape pace e (mid ++ zs) → length (retired (core (mid ++ zs))) ≡ tally retires_by mid + length (retired (core zs))
   retires_sum [] zs l = omega arith

@@ -14,7 +14,7 @@ use Rattle.bank_shape.specs.declared.answer.ReadAnswer.TheVariants as came
 use Rattle.bank_shape.specs.declared.answer.Step.TheVariants as did
 use Rattle.bank_model.specs.{Changes.change_after, Events.{Write, Read, Serve, Begin, Iterate, Cut, newest}, History.{Awaited, awaited, queue, waits}}
 use Rattle.bank_model.specs.{Lawful.{Lawful, MayCome, would_cancel}, Running.{busy_after, made_after, drops_begin, left_by, running_at, cancels_after}}
-use Rattle.bank_model.specs.Timing.{Happens, Core, Regs, KeepBegin, KeepIterate, KeepCut, TimedEvent, is_writing, is_empty, core, core_of, last_tick}
+use Rattle.bank_model.specs.Timing.{Happens, Core, Regs, KeepCut, TimedEvent, is_writing, is_empty, core, core_of, last_tick}
 use Rattle.masked_bytes.specs.Entries.{layer_of}
 use Rattle.right_runs.specs.Banks.{rules_of}
 use Rattle.bank_laws.{specs.Outcomes.{outcome_with, outcome_of, row_with, rows_from}, specs.Standing.has_wait, specs.Ticks.ends_action, proofs.Answering.{IsFirst, served-first}}
@@ -35,21 +35,13 @@ module _ {n : ℕ} where
   InTime read a bound after _ = Unit {0}
 
   in_time : (rules : Rules) (a most : ℕ) (before after : List (Row n)) (o : Outcome n) → bound rules a before after ≡ most → InTime rules.read_ticks a most after o → read_in_time rules a o before after ≡ true
-  in_time rules a most before after out.Unset same h = refl
-  in_time rules a most before after (out.Stored at place) same h = refl
-  in_time rules a most before after (out.Merged at) same h = refl
-  in_time rules a most before after (out.Queued at) same h = refl
-  in_time rules a most before after (out.Full at) same h = refl
-  in_time rules a most before after (out.Worn at) same h = refl
   in_time rules a most before after (out.Read u place bytes) same h =
       and_from (nat_le (a + rules.read_ticks) u) _ (le-leb (a + rules.read_ticks) u h.0)
       (and_from (nat_le u (bound rules a before after)) _
       (subst (λ k. nat_le u k ≡ true) (sym same) (le-leb u most h.1)) h.2)
-  in_time rules a most before after (out.Forwarded at bytes) same h = refl
-  in_time rules a most before after (out.Busy at) same h = refl
   in_time rules a most before after (out.Lost u) same h =
       and_from (first_cut_at u after) _ h.0 (subst (λ k. nat_lt u k ≡ true) (sym same) (lt-ltb u most h.1))
-  in_time rules a most before after (out.Cut at) same h = refl
+  in_time rules a most before after _ same h = refl
 
   -- a line write holds up a read that comes no longer than is said
   delay-most : (rules : Rules) (p : Policy) (a : ℕ) (before after : List (Row n)) (busy : Bool) (r : Option Action)
@@ -90,19 +82,6 @@ ended_read {n} shape pace e all row owed idle fate un =
     subst (λ (o : Outcome n). IsSettled owed o) un (settled_all shape pace e all row owed idle fate)
 
 uncancelled : {n m : ℕ} (shape : BankShape) (pace : Pace) (e : ℕ) (zs : List (TimedEvent n m)) (s : TimedEvent n m) (h : Happens n) (row : ℕ) → MayCome shape pace e zs s h → has_wait (waits shape (core zs)) row ≡ true → s.cancels ≡ false
-uncancelled shape pace e zs s (Core (Write at line bytes given answer)) row may there = may.on_time.1
-uncancelled shape pace e zs s (Core (Read at line answer)) row may there = may.on_time.1
-uncancelled shape pace e zs s (Core (Serve answer)) row may there = may.on_time.1
-uncancelled shape pace e zs s (Core (Begin answer)) row may there = may.on_time.1
-uncancelled shape pace e zs s (Core (Iterate answer)) row may there = may.on_time.1
-uncancelled shape pace e zs s (Regs (KeepBegin answer)) row may there = may.on_time.1
-uncancelled shape pace e zs s (Regs (KeepIterate answer)) row may there = may.on_time.1
-uncancelled shape pace e zs s (Regs (KeepCut tearing)) row may there =
-    let none : is_empty (waits shape (core zs)) ≡ true =
-    cancels-none (is_cancelling pace.policy) (is_writing (running_at shape pace zs s.tick))
-    (is_empty (waits shape (core zs))) (nat_lt (cancels_after zs) most_cancels) may.on_time.3 in
-    let some : not (is_empty (waits shape (core zs))) ≡ true = some-reads (waits shape (core zs)) row there in
-    absurd (cc (ap not none, some))
 uncancelled shape pace e zs s (Core (Cut tearing)) row may there = by s.cancels may.on_time.2
   where
     by : (b : Bool) → (b ≡ true → would_cancel shape (core zs) pace.policy (running_at shape pace zs s.tick) (cancels_after zs) ≡ true) → b ≡ false
@@ -113,6 +92,13 @@ uncancelled shape pace e zs s (Core (Cut tearing)) row may there = by s.cancels 
         let some : not (is_empty (waits shape (core zs))) ≡ true = some-reads (waits shape (core zs)) row there in
         absurd (cc (ap not none, some))
     by false would = refl
+uncancelled shape pace e zs s (Regs (KeepCut tearing)) row may there =
+    let none : is_empty (waits shape (core zs)) ≡ true =
+    cancels-none (is_cancelling pace.policy) (is_writing (running_at shape pace zs s.tick))
+    (is_empty (waits shape (core zs))) (nat_lt (cancels_after zs) most_cancels) may.on_time.3 in
+    let some : not (is_empty (waits shape (core zs))) ≡ true = some-reads (waits shape (core zs)) row there in
+    absurd (cc (ap not none, some))
+uncancelled shape pace e zs s _ row may there = may.on_time.1
 
 module _ {n m : ℕ} (shape : BankShape) (pace : Pace) (e : ℕ) (all : List (TimedEvent n m)) where
   -- a read that waits is in time, and no cut came
@@ -134,13 +120,8 @@ module _ {n m : ℕ} (shape : BankShape) (pace : Pace) (e : ℕ) (all : List (Ti
       )
     where
       uncut : (h : Happens n) (cancels : Bool) → has_wait (waits shape (core_of h (core (mid ++ zs)))) row ≡ true → list_any is_cut (row_with shape all h y.tick cancels) ≡ false
-      uncut (Core (Write at line bytes given answer)) cancels still = refl
-      uncut (Core (Read at line answer)) cancels still = refl
-      uncut (Core (Serve answer)) cancels still = refl
-      uncut (Regs event) cancels still = refl
-      uncut (Core (Begin answer)) cancels still = refl
-      uncut (Core (Iterate answer)) cancels still = refl
       uncut (Core (Cut tearing)) cancels still = absurd (cc)
+      uncut _ cancels still = refl
 
   module _ (a most row : ℕ) (zs : List (TimedEvent n m)) (s : TimedEvent n m) (r : 1 ≤ pace.read) (i : 1 ≤ pace.iter) (l : Lawful shape pace e (s ∷ zs)) (mids lates : List (Row n)) where
     -- where the event of a read's outcome comes it comes in time
@@ -164,11 +145,9 @@ module _ {n m : ℕ} (shape : BankShape) (pace : Pace) (e : ℕ) (all : List (Ti
     at_event : (h : Happens n) (o : Outcome n) → MayCome shape pace e zs s h → s.cancels ≡ false → has_wait (waits shape (core zs)) row ≡ true → list_any is_cut mids ≡ false
         → no_cut_below s.tick lates ≡ true → TurnAt shape pace e a most row zs s.tick (running_at shape pace zs s.tick)
         → outcome_with shape zs h s.tick row ≡ Some o → InTime pace.read a most (Behind h) o
-    at_event (Core (Write at line bytes given wrote.Accepted)) o may whole there none late t is = absurd (cc)
     at_event (Core (Write at line bytes given (wrote.Merged old))) o may whole there none late t is = as_set (Core (Write at line bytes given (wrote.Merged old))) _ o (row_set old row _ o is).1 tt
     at_event (Core (Write at line bytes given wrote.Full)) o may whole there none late t is = as_set (Core (Write at line bytes given wrote.Full)) _ o (row_set at row _ o is).1 tt
     at_event (Core (Write at line bytes given wrote.Exhausted)) o may whole there none late t is = as_set (Core (Write at line bytes given wrote.Exhausted)) _ o (row_set at row _ o is).1 tt
-    at_event (Core (Read at line came.Waiting)) o may whole there none late t is = absurd (cc)
     at_event (Core (Read at line came.Busy)) o may whole there none late t is = as_set (Core (Read at line came.Busy)) _ o (row_set at row _ o is).1 tt
     at_event (Core (Read at line (came.Forwarded bytes))) o may whole there none late t is = as_set (Core (Read at line (came.Forwarded bytes))) _ o (row_set at row _ o is).1 tt
     at_event (Core (Serve answer)) o may whole there none late t is =
@@ -189,16 +168,7 @@ module _ {n m : ℕ} (shape : BankShape) (pace : Pace) (e : ℕ) (all : List (Ti
               ∙ and_from _ _ (none-below s.tick mids none) refl) late,
         )
     at_event (Core (Begin (did.Stored at place))) o may whole there none late t is = as_set (Core (Begin (did.Stored at place))) _ o (row_set at row _ o is).1 tt
-    at_event (Core (Begin did.More)) o may whole there none late t is = absurd (cc)
-    at_event (Core (Begin (did.Moved move))) o may whole there none late t is = absurd (cc)
-    at_event (Core (Begin (did.Retired slot line))) o may whole there none late t is = absurd (cc)
-    at_event (Core (Begin did.Exhausted)) o may whole there none late t is = absurd (cc)
     at_event (Core (Iterate (did.Stored at place))) o may whole there none late t is = as_set (Core (Iterate (did.Stored at place))) _ o (row_set at row _ o is).1 tt
-    at_event (Core (Iterate did.More)) o may whole there none late t is = absurd (cc)
-    at_event (Core (Iterate (did.Moved move))) o may whole there none late t is = absurd (cc)
-    at_event (Core (Iterate (did.Retired slot line))) o may whole there none late t is = absurd (cc)
-    at_event (Core (Iterate did.Exhausted)) o may whole there none late t is = absurd (cc)
-    at_event (Regs event) o may whole there none late t is = absurd (cc)
     at_event (Core (Cut tearing)) o may whole there none late t is =
         as_set (Core (Cut tearing)) (out.Lost s.tick) o (lost (has_wait (waits shape (core zs)) row) is) (
           ap (first_cut_at s.tick) (append_assoc mids (row_with shape all (Core (Cut tearing)) s.tick s.cancels) lates)
@@ -210,6 +180,7 @@ module _ {n m : ℕ} (shape : BankShape) (pace : Pace) (e : ℕ) (all : List (Ti
         lost : (b : Bool) → ◌≡◌ {A = Option (Outcome n)} (cond b (Some (out.Lost s.tick)) None) (Some o) → out.Lost s.tick ≡ o
         lost true is = cc
         lost false is = absurd (cc)
+    at_event _ o may whole there none late t is = absurd (cc)
 
   -- so a read that begins to wait is in time in the end
   pub in_end : (a most row : ℕ) (owed : List ℕ) (later zs : List (TimedEvent n m)) → 1 ≤ pace.read → 1 ≤ pace.iter → Lawful shape pace e (later ++ zs)
@@ -298,12 +269,8 @@ module _ {n m : ℕ} (shape : BankShape) (pace : Pace) (e : ℕ) (all : List (Ti
           })
           (ended_read shape pace e all row (newest (core ys) line) idle
           (on.reads row (newest (core ys) line) (inl waits_on))))
-      by (Core (Serve answer)) cancels may on count top free go = tt
-      by (Regs event) cancels may on count top free go = tt
-      by (Core (Begin answer)) cancels may on count top free go = tt
-      by (Core (Iterate answer)) cancels may on count top free go = tt
-      by (Core (Cut tearing)) true may on count top free go = tt
       by (Core (Cut tearing)) false may on count top free go = refl
+      by _ _ may on count top free go = tt
 
 pub read_time_law : ReadTimeLaw
 read_time_law n m e shape pace xs sized l still =

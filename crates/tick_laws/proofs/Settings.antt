@@ -12,16 +12,7 @@ use Rattle.bank_laws.proofs.{Fates.{IsLeft, IsSettled, Awaits, awaits-has, Write
 module _ {n : ℕ} where
   open_or_set : (o : Outcome n) → (o ≡ out.Unset) ⊎ (o ≢ out.Unset)
   open_or_set out.Unset = inl refl
-  open_or_set (out.Stored at place) = inr (λ is. absurd (cc))
-  open_or_set (out.Merged at) = inr (λ is. absurd (cc))
-  open_or_set (out.Queued at) = inr (λ is. absurd (cc))
-  open_or_set (out.Full at) = inr (λ is. absurd (cc))
-  open_or_set (out.Worn at) = inr (λ is. absurd (cc))
-  open_or_set (out.Read at place bytes) = inr (λ is. absurd (cc))
-  open_or_set (out.Forwarded at bytes) = inr (λ is. absurd (cc))
-  open_or_set (out.Busy at) = inr (λ is. absurd (cc))
-  open_or_set (out.Lost at) = inr (λ is. absurd (cc))
-  open_or_set (out.Cut at) = inr (λ is. absurd (cc))
+  open_or_set _ = inr (λ is. absurd (cc))
 
   set_by : (s : Option (Outcome n)) (o : Outcome n) → o ≢ out.Unset → unwrap_or s out.Unset ≡ o → s ≡ Some o
   set_by (Some t) o set is = ap Some is

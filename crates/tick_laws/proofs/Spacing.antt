@@ -6,7 +6,7 @@ use Rattle.result_rows.specs.declared.Outcome.TheVariants as out
 use Rattle.row_rules.specs.Ticking.{apart}
 use Rattle.bank_shape.specs.declared.BankShape.{BankShape}
 use Rattle.bank_shape.specs.declared.answer.ReadAnswer.TheVariants as came
-use Rattle.bank_model.specs.{Events.{BankEvent, Write, Read, Serve, Begin, Iterate, Cut, RowsBelow}, History.{Awaited, waits}}
+use Rattle.bank_model.specs.{Events.{BankEvent, Write, Read, Serve, Cut, RowsBelow}, History.{Awaited, waits}}
 use Rattle.bank_laws.{specs.Outcomes.{on_row, ended}, specs.Standing.has_wait, proofs.Entries.{either, no_wait-push}, proofs.Standing.stand_apart}
 
 -- each of these reads is above those before it
@@ -36,16 +36,14 @@ module _ {n : ℕ} where
       (λ other there. either (nat_le row other)
       (λ up. absurd (cc ((stand_apart shape h row b.1).waiting_below other (leb-true row other up), there)))
       (λ down. leb-false row other down))
-  waits_rise shape (Read row line came.Busy ∷ h) next b = waits_rise shape h row b.1
-  waits_rise shape (Read row line (came.Forwarded bytes) ∷ h) next b = waits_rise shape h row b.1
+  waits_rise shape (Read row line _ ∷ h) next b = waits_rise shape h row b.1
   waits_rise shape (Serve answer ∷ h) next b = rest (waits shape h) (waits_rise shape h next b)
     where
       rest : (ws : List Awaited) → Rising ws → Rising (drop 1 ws)
       rest [] r = tt
       rest (w ∷ ws) r = r.1
-  waits_rise shape (Begin answer ∷ h) next b = waits_rise shape h next b
-  waits_rise shape (Iterate answer ∷ h) next b = waits_rise shape h next b
   waits_rise shape (Cut tearing ∷ h) next b = tt
+  waits_rise shape (_ ∷ h) next b = waits_rise shape h next b
 
   -- an outcome that comes of the end of an action
   abbrev pub takes_time : Outcome n → Bool
@@ -55,109 +53,43 @@ module _ {n : ℕ} where
 
   module _ (read : ℕ) where
     pub apart-left : (o q : Outcome n) → takes_time o ≡ false → apart read o q ≡ true
-    apart-left out.Unset q h = refl
     apart-left (out.Stored at place) q h = absurd (cc)
-    apart-left (out.Merged at) q h = refl
-    apart-left (out.Queued at) q h = refl
-    apart-left (out.Full at) q h = refl
-    apart-left (out.Worn at) q h = refl
     apart-left (out.Read at place bytes) q h = absurd (cc)
-    apart-left (out.Forwarded at bytes) q h = refl
-    apart-left (out.Busy at) q h = refl
-    apart-left (out.Lost at) q h = refl
-    apart-left (out.Cut at) q h = refl
+    apart-left _ q h = refl
 
     -- an outcome beside a store or a read, by what it asks of their ticks
     stored-left : (t p : ℕ) (q : Outcome n) → ((u p : ℕ) → q ≡ out.Stored u p → u + read ≤ t) → ((u p : ℕ) (b : List ℕ) → q ≡ out.Read u p b → u < t) → apart read (out.Stored t p) q ≡ true
-    stored-left t p out.Unset s r = refl
     stored-left t p (out.Stored at place) s r = or_right (nat_le (t + read) at) _ (le-leb (at + read) t (s at place refl))
-    stored-left t p (out.Merged at) s r = refl
-    stored-left t p (out.Queued at) s r = refl
-    stored-left t p (out.Full at) s r = refl
-    stored-left t p (out.Worn at) s r = refl
     stored-left t p (out.Read at place bytes) s r = ap not (ne_eqb t at (λ same. let lt : at < t = r at place bytes refl in omega arith))
-    stored-left t p (out.Forwarded at bytes) s r = refl
-    stored-left t p (out.Busy at) s r = refl
-    stored-left t p (out.Lost at) s r = refl
-    stored-left t p (out.Cut at) s r = refl
+    stored-left t p _ s r = refl
 
     stored-right : (t p : ℕ) (q : Outcome n) → ((u p : ℕ) → q ≡ out.Stored u p → u + read ≤ t) → ((u p : ℕ) (b : List ℕ) → q ≡ out.Read u p b → u < t) → apart read q (out.Stored t p) ≡ true
-    stored-right t p out.Unset s r = refl
     stored-right t p (out.Stored at place) s r = or_left (nat_le (at + read) t) _ (le-leb (at + read) t (s at place refl))
-    stored-right t p (out.Merged at) s r = refl
-    stored-right t p (out.Queued at) s r = refl
-    stored-right t p (out.Full at) s r = refl
-    stored-right t p (out.Worn at) s r = refl
     stored-right t p (out.Read at place bytes) s r = ap not (ne_eqb at t (λ same. let lt : at < t = r at place bytes refl in omega arith))
-    stored-right t p (out.Forwarded at bytes) s r = refl
-    stored-right t p (out.Busy at) s r = refl
-    stored-right t p (out.Lost at) s r = refl
-    stored-right t p (out.Cut at) s r = refl
+    stored-right t p _ s r = refl
 
     read-left : (t p : ℕ) (b : List ℕ) (q : Outcome n) → ((u p : ℕ) → q ≡ out.Stored u p → u < t) → ((u p : ℕ) (b : List ℕ) → q ≡ out.Read u p b → u + read ≤ t) → apart read (out.Read t p b) q ≡ true
-    read-left t p b out.Unset s r = refl
     read-left t p b (out.Stored at place) s r = ap not (ne_eqb t at (λ same. let lt : at < t = s at place refl in omega arith))
-    read-left t p b (out.Merged at) s r = refl
-    read-left t p b (out.Queued at) s r = refl
-    read-left t p b (out.Full at) s r = refl
-    read-left t p b (out.Worn at) s r = refl
     read-left t p b (out.Read at place bytes) s r = le-leb (at + read) t (r at place bytes refl)
-    read-left t p b (out.Forwarded at bytes) s r = refl
-    read-left t p b (out.Busy at) s r = refl
-    read-left t p b (out.Lost at) s r = refl
-    read-left t p b (out.Cut at) s r = refl
+    read-left t p b _ s r = refl
 
     read-right : (t p : ℕ) (b : List ℕ) (q : Outcome n) → ((u p : ℕ) → q ≡ out.Stored u p → u < t) → ((u p : ℕ) (b : List ℕ) → q ≡ out.Read u p b → ⊥) → apart read q (out.Read t p b) ≡ true
-    read-right t p b out.Unset s r = refl
     read-right t p b (out.Stored at place) s r = ap not (ne_eqb at t (λ same. let lt : at < t = s at place refl in omega arith))
-    read-right t p b (out.Merged at) s r = refl
-    read-right t p b (out.Queued at) s r = refl
-    read-right t p b (out.Full at) s r = refl
-    read-right t p b (out.Worn at) s r = refl
     read-right t p b (out.Read at place bytes) s r = absurd (r at place bytes refl)
-    read-right t p b (out.Forwarded at bytes) s r = refl
-    read-right t p b (out.Busy at) s r = refl
-    read-right t p b (out.Lost at) s r = refl
-    read-right t p b (out.Cut at) s r = refl
+    read-right t p b _ s r = refl
 
     pub apart-right : (o q : Outcome n) → takes_time q ≡ false → apart read o q ≡ true
-    apart-right out.Unset q h = refl
     apart-right (out.Stored at place) q h = stored-left at place q (λ u p is. absurd (cc (h, ap takes_time is))) (λ u p b is. absurd (cc (h, ap takes_time is)))
-    apart-right (out.Merged at) q h = refl
-    apart-right (out.Queued at) q h = refl
-    apart-right (out.Full at) q h = refl
-    apart-right (out.Worn at) q h = refl
     apart-right (out.Read at place bytes) q h = read-left at place bytes q (λ u p is. absurd (cc (h, ap takes_time is))) (λ u p b is. absurd (cc (h, ap takes_time is)))
-    apart-right (out.Forwarded at bytes) q h = refl
-    apart-right (out.Busy at) q h = refl
-    apart-right (out.Lost at) q h = refl
-    apart-right (out.Cut at) q h = refl
+    apart-right _ q h = refl
 
     pub ended-left : (tick : ℕ) (o q : Outcome n) → apart read o q ≡ true → apart read (ended tick o) q ≡ true
     ended-left tick out.Unset q h = refl
-    ended-left tick (out.Stored at place) q h = h
-    ended-left tick (out.Merged at) q h = h
-    ended-left tick (out.Queued at) q h = h
-    ended-left tick (out.Full at) q h = h
-    ended-left tick (out.Worn at) q h = h
-    ended-left tick (out.Read at place bytes) q h = h
-    ended-left tick (out.Forwarded at bytes) q h = h
-    ended-left tick (out.Busy at) q h = h
-    ended-left tick (out.Lost at) q h = h
-    ended-left tick (out.Cut at) q h = h
+    ended-left tick _ q h = h
 
     pub ended-right : (tick : ℕ) (o q : Outcome n) → apart read o q ≡ true → apart read o (ended tick q) ≡ true
     ended-right tick o out.Unset h = apart-right o (out.Queued tick) refl
-    ended-right tick o (out.Stored at place) h = h
-    ended-right tick o (out.Merged at) h = h
-    ended-right tick o (out.Queued at) h = h
-    ended-right tick o (out.Full at) h = h
-    ended-right tick o (out.Worn at) h = h
-    ended-right tick o (out.Read at place bytes) h = h
-    ended-right tick o (out.Forwarded at bytes) h = h
-    ended-right tick o (out.Busy at) h = h
-    ended-right tick o (out.Lost at) h = h
-    ended-right tick o (out.Cut at) h = h
+    ended-right tick o _ h = h
 
 -- what some outcomes are to the reads that wait, to whether a line write is in progress, and to the first tick of what runs
 pub record AreSpaced {n : ℕ} (read : ℕ) (o : ℕ → Outcome n) (top : ℕ) (busy : Bool) (ws : List Awaited) : Type 0 where

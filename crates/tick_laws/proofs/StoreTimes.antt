@@ -12,7 +12,7 @@ use Rattle.bank_shape.specs.declared.answer.ReadAnswer.TheVariants as came
 use Rattle.bank_shape.specs.declared.answer.Step.TheVariants as did
 use Rattle.bank_model.specs.{After.{work_after, due_moves}, Answers.IsDone, Changes.{change_after, halted_after, halted_by}, Events.{Write, Read, Serve, Begin, Iterate, Cut}}
 use Rattle.bank_model.specs.{History.{queue, waits, due_after, has_exhausted}, Lawful.{Lawful, MayCome}, Running.{cancels_with, cancels_after}}
-use Rattle.bank_model.{specs.Timing.{Happens, Core, Regs, TimedEvent, core, core_of, last_tick}, proofs.Within.due_moves-few}
+use Rattle.bank_model.{specs.Timing.{Happens, Core, TimedEvent, core, core_of, last_tick}, proofs.Within.due_moves-few}
 use Rattle.right_runs.specs.Banks.{rules_of}
 use Rattle.bank_laws.specs.{Outcomes.{on_row, outcome_with, outcome_of, ended, row_with, rows_from}, Ticks.ends_action}
 use Rattle.bank_laws.proofs.{Answering.{head-there, first-there, stored-head, served-first}, Counting.{among, hits}, Ending.own_row, Entries.either, Later.last-later}
@@ -72,16 +72,7 @@ module _ {n : ℕ} where
 
   ended-within : (a u tick : ℕ) (o : Outcome n) → stored_within a u (ended tick o) ≡ stored_within a u o
   ended-within a u tick out.Unset = refl
-  ended-within a u tick (out.Stored at place) = refl
-  ended-within a u tick (out.Merged at) = refl
-  ended-within a u tick (out.Queued at) = refl
-  ended-within a u tick (out.Full at) = refl
-  ended-within a u tick (out.Worn at) = refl
-  ended-within a u tick (out.Read at place bytes) = refl
-  ended-within a u tick (out.Forwarded at bytes) = refl
-  ended-within a u tick (out.Busy at) = refl
-  ended-within a u tick (out.Lost at) = refl
-  ended-within a u tick (out.Cut at) = refl
+  ended-within a u tick _ = refl
 
 module _ {n m : ℕ} (shape : BankShape) (pace : Pace) (e : ℕ) where
   -- while a write stands the ticks are in time
@@ -124,14 +115,11 @@ module _ {n m : ℕ} (shape : BankShape) (pace : Pace) (e : ℕ) where
     of_store at place d = either (has_exhausted (core zs)) (λ ex. absurd (exhausted-stores_none shape (core zs) at place ex d)) (λ is. is)
 
     pub store_event : (h : Happens n) → MayCome shape pace e zs y h → outcome_with shape zs h y.tick row ≡ Some (out.Stored u p) → IsStore zs y h u
-    store_event (Core (Write at line bytes given wrote.Accepted)) may is = absurd (cc)
     store_event (Core (Write at line bytes given (wrote.Merged old))) may is = absurd (not_set old (out.Merged y.tick) (λ u p k. absurd (cc)) is)
     store_event (Core (Write at line bytes given wrote.Full)) may is = absurd (not_set at (out.Full y.tick) (λ u p k. absurd (cc)) is)
     store_event (Core (Write at line bytes given wrote.Exhausted)) may is = absurd (not_set at (out.Worn y.tick) (λ u p k. absurd (cc)) is)
-    store_event (Core (Read at line came.Waiting)) may is = absurd (cc)
     store_event (Core (Read at line came.Busy)) may is = absurd (not_set at (out.Busy y.tick) (λ u p k. absurd (cc)) is)
     store_event (Core (Read at line (came.Forwarded bytes))) may is = absurd (not_set at (out.Forwarded y.tick bytes) (λ u p k. absurd (cc)) is)
-    store_event (Regs event) may is = absurd (cc)
     store_event (Core (Serve answer)) may is = absurd (not_set answer.row (out.Read y.tick answer.place answer.bytes) (λ u p k. absurd (cc)) is)
     store_event (Core (Begin (did.Stored at place))) may is = record {
       at = stored_now at place is;
@@ -145,10 +133,6 @@ module _ {n m : ℕ} (shape : BankShape) (pace : Pace) (e : ℕ) where
       after = of_store at place may.may.1;
       resets = λ cancels count. refl;
     }
-    store_event (Core (Begin did.More)) may is = absurd (cc)
-    store_event (Core (Begin (did.Moved move))) may is = absurd (cc)
-    store_event (Core (Begin (did.Retired slot line))) may is = absurd (cc)
-    store_event (Core (Begin did.Exhausted)) may is = absurd (cc)
     store_event (Core (Iterate (did.Stored at place))) may is = record {
       at = stored_now at place is;
       fine = of_store at place may.may.1;
@@ -161,15 +145,12 @@ module _ {n m : ℕ} (shape : BankShape) (pace : Pace) (e : ℕ) where
       after = of_store at place may.may.1;
       resets = λ cancels count. refl;
     }
-    store_event (Core (Iterate did.More)) may is = absurd (cc)
-    store_event (Core (Iterate (did.Moved move))) may is = absurd (cc)
-    store_event (Core (Iterate (did.Retired slot line))) may is = absurd (cc)
-    store_event (Core (Iterate did.Exhausted)) may is = absurd (cc)
     store_event (Core (Cut tearing)) may is = by _ is
       where
         by : (b : Bool) → ◌≡◌ {A = Option (Outcome n)} (cond b (Some (out.Lost y.tick)) None) (Some (out.Stored u p)) → IsStore zs y (Core (Cut tearing)) u
         by true is = absurd (cc)
         by false is = absurd (cc)
+    store_event _ may is = absurd (cc)
 
 module _ {n m : ℕ} (shape : BankShape) (pace : Pace) (e : ℕ) (all : List (TimedEvent n m)) where
   module _ (a u : ℕ) (zs : List (TimedEvent n m)) (r : 1 ≤ pace.read) (i : 1 ≤ pace.iter) (up : a ≤ last_tick zs) where
@@ -212,21 +193,9 @@ module _ {n m : ℕ} (shape : BankShape) (pace : Pace) (e : ℕ) (all : List (Ti
             )
 
         by : (h : Happens n) → MayCome shape pace e (back ++ zs) y h → (ends_action h ≡ true → a < y.tick) → Goal h
-        by (Core (Write row line bytes given answer)) may lt = inl refl
-        by (Core (Read row line answer)) may lt = inl refl
-        by (Core (Serve answer)) may lt = inl refl
-        by (Regs event) may lt = inl refl
         by (Core (Begin (did.Stored at place))) may lt = inr (let k = own at place may.may.1 (lt refl) in (refl, k.0, k.1, k.2, k.3))
-        by (Core (Begin did.More)) may lt = inl refl
-        by (Core (Begin (did.Moved move))) may lt = inl refl
-        by (Core (Begin (did.Retired slot line))) may lt = inl refl
-        by (Core (Begin did.Exhausted)) may lt = inl refl
         by (Core (Iterate (did.Stored at place))) may lt = inr (let k = own at place may.may.1 (lt refl) in (refl, k.0, k.1, k.2, k.3))
-        by (Core (Iterate did.More)) may lt = inl refl
-        by (Core (Iterate (did.Moved move))) may lt = inl refl
-        by (Core (Iterate (did.Retired slot line))) may lt = inl refl
-        by (Core (Iterate did.Exhausted)) may lt = inl refl
-        by (Core (Cut tearing)) may lt = inl refl
+        by _ may lt = inl refl
 
     serves_set : (late back : List (TimedEvent n m)) (y : TimedEvent n m) → all ≡ late ++ y ∷ (back ++ zs) → Lawful shape pace e (y ∷ back ++ zs) → y.tick ≤ u
         → Sets shape pace e all serves_by (waiting.reads_in all) (read_within a u) y (back ++ zs)
@@ -239,8 +208,6 @@ module _ {n m : ℕ} (shape : BankShape) (pace : Pace) (e : ℕ) (all : List (Ti
             × (read_within a u (unwrap_or (outcome_with shape (back ++ zs) h y.tick c) (outcome_of shape (back ++ zs) c)) ≡ true))
 
         by : (h : Happens n) → MayCome shape pace e (back ++ zs) y h → (ends_action h ≡ true → a < y.tick) → Goal h
-        by (Core (Write row line bytes given answer)) may lt = inl refl
-        by (Core (Read row line answer)) may lt = inl refl
         by (Core (Serve answer)) may lt =
             let there = first-there (waits shape (core (back ++ zs))) answer.row (served-first shape (core (back ++ zs)) (waits shape (core (back ++ zs))) answer may.may) in
             inr (
@@ -250,10 +217,7 @@ module _ {n m : ℕ} (shape : BankShape) (pace : Pace) (e : ℕ) (all : List (Ti
               (opens shape pace e (back ++ zs) l.1).waiting answer.row there,
               ap (read_within a u) (own_row answer.row (out.Read y.tick answer.place answer.bytes) (outcome_of shape (back ++ zs) answer.row)) ∙ and_from _ _ (lt-ltb a y.tick (lt refl)) (le-leb y.tick u le),
             )
-        by (Regs event) may lt = inl refl
-        by (Core (Begin answer)) may lt = inl refl
-        by (Core (Iterate answer)) may lt = inl refl
-        by (Core (Cut tearing)) may lt = inl refl
+        by _ may lt = inl refl
 
   -- the rows of the table, around those of an event
   abbrev pub Table : (later : List (TimedEvent n m)) (x : TimedEvent n m) (ys : List (TimedEvent n m)) → Happens n → List (Row n)

@@ -7,7 +7,7 @@ use Rattle.masked_bytes.specs.Entries.{has_row}
 use Rattle.row_rules.specs.{Ticking.{store_in_time, is_in_time}, declared.Asks.TheVariants.Writes, declared.Row.Row}
 use Rattle.bank_shape.specs.{declared.BankShape.BankShape, declared.answer.WriteAnswer.WriteAnswer, declared.pace.Pace.Pace}
 use Rattle.bank_shape.specs.declared.answer.WriteAnswer.TheVariants as wrote
-use Rattle.bank_model.specs.{Events.{Write, Read, Serve, Begin, Iterate, Cut}, History.queue, Lawful.{Lawful, MayCome}, Timing.{Happens, Core, Regs, TimedEvent, core, core_of}}
+use Rattle.bank_model.specs.{Events.{Write, Read, Cut}, History.queue, Lawful.{Lawful, MayCome}, Timing.{Happens, Core, TimedEvent, core, core_of}}
 use Rattle.right_runs.specs.Banks.{rules_of}
 use Rattle.bank_laws.{specs.Outcomes.{outcome_of, ended, row_with, rows_from}, proofs.Answering.merged-there, proofs.Ending.{Onwards, own_answer}}
 use Rattle.bank_laws.proofs.{Fates.{new-push, new-merged}, Serves.{may_at, onwards_at}, Walking.{Passes, walk, rows_after}}
@@ -34,17 +34,8 @@ module _ {n m : ℕ} (shape : BankShape) (pace : Pace) (e : ℕ) (all : List (Ti
 
       in_time : (r : Row n) (before after : List (Row n)) (o : Outcome n) → ((u p : ℕ) → o ≡ out.Stored u p → IsInTime shape pace e all (rules_of e shape pace) r.tick u (before ++ r ∷ after) after)
           → store_in_time (rules_of e shape pace) r (ended x.tick o) before after ≡ true
-      in_time r before after out.Unset h = refl
       in_time r before after (out.Stored u p) h = let k = h u p refl in and_from _ _ (lt-ltb r.tick u k.late) (le-leb u _ k.soon)
-      in_time r before after (out.Merged at) h = refl
-      in_time r before after (out.Queued at) h = refl
-      in_time r before after (out.Full at) h = refl
-      in_time r before after (out.Worn at) h = refl
-      in_time r before after (out.Read at place bytes) h = refl
-      in_time r before after (out.Forwarded at bytes) h = refl
-      in_time r before after (out.Busy at) h = refl
-      in_time r before after (out.Lost at) h = refl
-      in_time r before after (out.Cut at) h = refl
+      in_time r before after _ h = refl
 
       by : (h : Happens n) (cancels : Bool) → MayCome shape pace e ys x h → Onwards shape all ys x.tick h
           → ((row u p : ℕ) → has_row (queue shape (core_of h (core ys))) row ≡ true → outcome_of shape all row ≡ out.Stored u p
@@ -54,12 +45,8 @@ module _ {n m : ℕ} (shape : BankShape) (pace : Pace) (e : ℕ) (all : List (Ti
           in_time (record { tick = x.tick; asks = Writes line bytes given; outcome = ended x.tick (outcome_of shape all row) }) (rows_from shape all ys) (rows_after shape all later) (outcome_of shape all row)
           (λ u p is. go row u p (stands row line bytes given answer may on u p is) is)
       by (Core (Read row line answer)) cancels may on go = refl
-      by (Core (Serve answer)) cancels may on go = tt
-      by (Regs event) cancels may on go = tt
-      by (Core (Begin answer)) cancels may on go = tt
-      by (Core (Iterate answer)) cancels may on go = tt
-      by (Core (Cut tearing)) true may on go = tt
       by (Core (Cut tearing)) false may on go = refl
+      by _ _ may on go = tt
 
   -- a row that passes the three tests is in time
   all_three : (h : Happens n) (tick : ℕ) (cancels : Bool) (before after : List (Row n)) → Passes (is_apart pace.read) before (row_with shape all h tick cancels) after
@@ -67,12 +54,8 @@ module _ {n m : ℕ} (shape : BankShape) (pace : Pace) (e : ℕ) (all : List (Ti
       → Passes (is_in_time (rules_of e shape pace)) before (row_with shape all h tick cancels) after
   all_three (Core (Write row line bytes given answer)) tick cancels before after far read store = and_from _ _ store far
   all_three (Core (Read row line answer)) tick cancels before after far read store = and_from _ _ read far
-  all_three (Core (Serve answer)) tick cancels before after far read store = tt
-  all_three (Regs event) tick cancels before after far read store = tt
-  all_three (Core (Begin answer)) tick cancels before after far read store = tt
-  all_three (Core (Iterate answer)) tick cancels before after far read store = tt
-  all_three (Core (Cut tearing)) tick true before after far read store = tt
   all_three (Core (Cut tearing)) tick false before after far read store = and_from _ _ refl far
+  all_three _ tick _ before after far read store = tt
 
 pub store_time_law : StoreTimeLaw
 store_time_law n m e shape pace xs sized l =

@@ -8,7 +8,7 @@ use Rattle.bank_shape.specs.declared.answer.ReadAnswer.TheVariants as came
 use Rattle.bank_shape.specs.declared.answer.Keep.TheVariants as keep
 use Rattle.bank_shape.specs.declared.answer.Step.TheVariants as did
 use Rattle.bank_model.specs.Changes.{change_after, change_by, keeping_after, keeping_by, rounds_after, rounds_by, changed_by, written_by, keeps_on}
-use Rattle.bank_model.specs.{Events.{Write, Read, Serve, Begin, Iterate, Cut}, History.{Awaited, waits, in_progress, iterated, goes_on}, Lawful.{Lawful, MayCome}}
+use Rattle.bank_model.specs.{Events.{Read, Serve, Begin, Iterate, Cut}, History.{Awaited, waits, in_progress, iterated, goes_on}, Lawful.{Lawful, MayCome}}
 use Rattle.bank_model.specs.{Running.{busy_by, made_by, busy_after, made_after, ready_after, drops_begin, started, left_by, running, running_at, chosen_after}, Sensing.most_steps}
 use Rattle.bank_model.specs.Timing.{Happens, Core, Regs, KeepBegin, KeepIterate, KeepCut, TimedEvent, ends, is_doing, is_writing, is_empty, core, core_of, last_tick}
 use Rattle.bank_laws.{specs.Standing.{has_wait, WaitsApart}, proofs.Changing.{busy-none, busy-some, made-none, made-some, changed-idle}, proofs.Settling.above_all}
@@ -195,17 +195,11 @@ module _ {n m : ℕ} (shape : BankShape) (pace : Pace) (e : ℕ) where
     -- a line write of the bank goes on exactly where its step says so, since no change stood
     bank_goes : (answer : Step) → change_after shape zs ≡ None → busy_by (changed_by shape (core zs) answer (change_after shape zs)) false (goes_on answer) ≡ goes_on answer
     bank_goes did.More is = busy-none (change_after shape zs) false true is
-    bank_goes (did.Stored at place) is = brings _
-    bank_goes (did.Moved move) is = brings _
-    bank_goes (did.Retired slot at) is = brings _
-    bank_goes did.Exhausted is = brings _
+    bank_goes _ is = brings _
 
     bank_made : (answer : Step) (count : ℕ) → change_after shape zs ≡ None → goes_on answer ≡ true → made_by (changed_by shape (core zs) answer (change_after shape zs)) 0 count ≡ count
     bank_made did.More count is go = made-none (change_after shape zs) 0 count is
-    bank_made (did.Stored at place) count is go = absurd (cc)
-    bank_made (did.Moved move) count is go = absurd (cc)
-    bank_made (did.Retired slot at) count is go = absurd (cc)
-    bank_made did.Exhausted count is go = absurd (cc)
+    bank_made _ count is go = absurd (cc)
 
     -- and that of a change, which held up the bank's
     change_goes : (answer : Keep) → is_some (change_after shape zs) ≡ true → busy_by (written_by answer (change_after shape zs)) (keeps_on answer) (in_progress (core zs)) ≡ keeps_on answer
@@ -220,7 +214,6 @@ module _ {n m : ℕ} (shape : BankShape) (pace : Pace) (e : ℕ) where
 
     pub step : (h : Happens n) → MayCome shape pace e zs y h → has_wait (waits shape (core zs)) row ≡ true → has_wait (waits shape (core_of h (core zs))) row ≡ true
         → TurnAt a bound row zs y.tick (running_at shape pace zs y.tick) → TurnBy h (left_by shape (core zs) (change_after shape zs) h (running_at shape pace zs y.tick))
-    step (Core (Write at line bytes given answer)) may there still t = record { low = t.low; high = t.high }
     step (Core (Read at line came.Waiting)) may there still t =
         at_read line (drops_begin shape (core zs) (change_after shape zs) line (running_at shape pace zs y.tick)) (running_at shape pace zs y.tick) _
         (begun (change_after shape zs)) may.on_time.0.2 (running_at-fits shape pace e zs y.tick) there t
@@ -228,8 +221,6 @@ module _ {n m : ℕ} (shape : BankShape) (pace : Pace) (e : ℕ) where
         begun : (change : Option ℕ) → drops_begin shape (core zs) change line (running_at shape pace zs y.tick) ≡ true → is_doing Beginning (running_at shape pace zs y.tick) ≡ true
         begun None h = and_first (is_doing Beginning (running_at shape pace zs y.tick)) _ h
         begun (Some item) h = absurd (cc)
-    step (Core (Read at line came.Busy)) may there still t = record { low = t.low; high = t.high }
-    step (Core (Read at line (came.Forwarded bytes))) may there still t = record { low = t.low; high = t.high }
     step (Core (Serve answer)) may there still t =
         let b = above_all shape pace e zs l.1 in
         record {
@@ -246,6 +237,8 @@ module _ {n m : ℕ} (shape : BankShape) (pace : Pace) (e : ℕ) where
         lands (y.first + pace.iter) (goes_on answer) _ (made_after shape zs + 1) _ may.on_time.0.1 (bank_goes answer may.on_time.2) (λ go. bank_made answer (iterated (core zs) + 1) may.on_time.2 go ∙ ap (λ k. k + 1) (sym its))
         (after_iterate pace.read pace.iter (work_time pace e) bound (gives_way pace.policy) (busy_after shape zs) (goes_on answer) (made_after shape zs) y.first (turn pace.read row (waits shape (core zs)))
         now (times_more (made_after shape zs) pace.iter) (few_times zs l.1 now) (ending Iterating may.on_time.0.0 t).high)
+    step (Core (Cut tearing)) may there still t = absurd (cc)
+    step (Core _) may there still t = record { low = t.low; high = t.high }
     step (Regs (KeepBegin answer)) may there still t =
         lands (y.first + pace.read) (keeps_on answer) _ 0 _ may.on_time.0.1 (change_goes answer may.stands) (change_made answer 0 may.stands)
         (after_begin pace.read pace.iter (work_time pace e) bound (gives_way pace.policy) (busy_after shape zs) (keeps_on answer) (made_after shape zs) y.first (turn pace.read row (waits shape (core zs)))
@@ -263,4 +256,3 @@ module _ {n m : ℕ} (shape : BankShape) (pace : Pace) (e : ℕ) where
         uncancelled_by true true false d h k = absurd (cc)
         uncancelled_by true false c d h k = absurd (cc)
         uncancelled_by false b c d h k = absurd (cc)
-    step (Core (Cut tearing)) may there still t = absurd (cc)
