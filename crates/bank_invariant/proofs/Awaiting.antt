@@ -10,8 +10,8 @@ use Rattle.bank_shape.specs.{Shape.slot_at, declared.BankShape.BankShape, declar
 use Rattle.bank_shape.specs.{declared.answer.ReadAnswer.ReadAnswer, declared.waiting.Waiting.Waiting}
 use Rattle.bank_shape.specs.declared.answer.ReadAnswer.TheVariants as came
 use Rattle.power_recovery.specs.Kept.{KeptState, array_line, stands_at}
-use Rattle.bank_model.specs.{Answers.{MayAll, IsServed}, Events.{BankEvent, Read, Serve, Cut, newest}, History.{Awaited, awaited, queue, waits, iterated}}
-use Rattle.bank_model.{specs.Touching.Touches, proofs.Newest.length-newest, proofs.Rising.RowsBelow-more}
+use Rattle.bank_model.specs.{Answers.{MayAll, IsServed}, Events.{BankEvent, Read, Serve, Cut, newest}, History.{Awaited, awaited, queue, waits, iterated}, Touching.Touches}
+use Rattle.bank_model.proofs.{Newest.length-newest, Rising.RowsBelow-more}
 use Rattle.bank_invariant.specs.{Holds.{Holds, waiting_of}, Serving.{kept_with, served_from, WaitingLaw, SensedLaw, MayReadLaw, MayServeLaw, ServedLaw}}
 use Rattle.bank_invariant.{specs.State.{BankState, Operation}, specs.Tied.{StandsAs, IsUnderWay, IsOf, IsRunning, AreSound, AreTied}, proofs.Agreeing.agree_law}
 

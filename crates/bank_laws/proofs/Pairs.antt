@@ -6,8 +6,8 @@ use Rattle.masked_bytes.proofs.{Layering.{length-joined, gives_all-all_given}, T
 use Rattle.bank_shape.specs.{Kinds.is_store, declared.BankShape.BankShape, declared.Work.TheVariants.Nothing}
 use Rattle.bank_shape.specs.declared.answer.WriteAnswer.TheVariants as wrote
 use Rattle.bank_shape.specs.declared.answer.Step.TheVariants as did
-use Rattle.bank_model.specs.{After.{is_ready, due_work}, Answers.{head_busy_after, accept_answer, write_answer, MayAll}}
-use Rattle.bank_model.specs.{Events.{BankEvent, Write, Begin, Iterate, Cut, newest}, History.{Awaited, begun, queue, waits, due_after, has_exhausted, in_progress}}
+use Rattle.bank_model.specs.{After.{is_ready, due_work}, Answers.{head_busy_after, accept_answer, write_answer, MayAll}, Events.{BankEvent, Write, Begin, Iterate, Cut, newest}}
+use Rattle.bank_model.specs.History.{Awaited, begun, queue, waits, due_after, has_exhausted, in_progress}
 use Rattle.bank_laws.{specs.Pairs.{has_line, LinesApart, ArePaired, PairLaw}, proofs.Entries.either}
 
 pub gives_all-joined : (given other : List Bool) → length given ≡ length other → gives_all other ≡ true → gives_all (joined given other) ≡ true

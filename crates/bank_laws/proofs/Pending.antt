@@ -9,8 +9,8 @@ use Rattle.bank_shape.specs.{declared.BankShape.BankShape, declared.answer.Write
 use Rattle.bank_shape.specs.declared.answer.WriteAnswer.TheVariants as wrote
 use Rattle.bank_shape.specs.declared.answer.Step.TheVariants as did
 use Rattle.bank_model.specs.{Answers.{head_busy_after, accept_answer, write_answer}, Events.{BankEvent, Write, Read, Begin, Iterate, Cut, RowsBelow, newest}}
-use Rattle.bank_model.specs.{History.{queue, due_after, has_exhausted}, Lawful.{Lawful, MayCome}, Sensing.most_steps}
-use Rattle.bank_model.{specs.Timing.{Happens, Core, TimedEvent, core, core_of, last_tick}, proofs.Begun.row-begun}
+use Rattle.bank_model.specs.{History.{queue, due_after, has_exhausted}, Lawful.{Lawful, MayCome}, Sensing.most_steps, Timing.{Happens, Core, TimedEvent, core, core_of, last_tick}}
+use Rattle.bank_model.proofs.Begun.{row-begun}
 use Rattle.bank_laws.specs.{Outcomes.{outcome_with, outcome_of, ended, row_with, rows_from}, RowLaws.{is_room_fair, QueueLaw}, Ticks.ends_action}
 use Rattle.bank_laws.proofs.{Counting.{among, Falling, falling-more, hits, entries-counted}, Ending.{Onwards, IsOutcome, accepting, own_row, write_outcome, outcome-accepts}}
 use Rattle.bank_laws.proofs.{Entries.either, Fates.{IsLeft, WriteFate, write_fate}, Holding.bound_law, Later.{EndsAbove, ends_at_row, stored_over}}

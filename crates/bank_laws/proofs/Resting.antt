@@ -2,8 +2,8 @@
 use Rattle.std.proofs.Common.{◌≡◌, ℕ, ◌&&◌, not, Bool, true, false, List, [], ◌∷◌, Option, Some, None, refl, ap, ◌∙◌, cond}
 use Rattle.bank_shape.specs.{Acting.{Choice, chosen_by}, Pausing.gives_way, declared.BankShape.BankShape, declared.pace.Pace.Pace}
 use Rattle.bank_shape.specs.declared.clock.Doing.TheVariants as doing
-use Rattle.bank_model.specs.{Changes.{change_after, keeping_after, change_by, keeping_by}, History.{waits, in_progress}, Lawful.IsIdle}
-use Rattle.bank_model.specs.{Running.{busy_by, choice_after}, Timing.{Happens, TimedEvent, core, core_of, is_empty}}
+use Rattle.bank_model.specs.{Changes.{change_after, keeping_after, change_by, keeping_by}, History.{waits, in_progress}, Lawful.IsIdle, Running.{busy_by, choice_after}}
+use Rattle.bank_model.specs.Timing.{Happens, TimedEvent, core, core_of, is_empty}
 use Rattle.bank_laws.{specs.Resting.{IsStill, IsCutOff, EndsIn}, proofs.Serves.idle-waits}
 
 none-busy : (way reads : Bool) (c : Choice) → chosen_by way reads c ≡ None → c.busy ≡ false

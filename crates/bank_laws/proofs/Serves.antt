@@ -11,8 +11,8 @@ use Rattle.bank_shape.specs.{declared.answer.WriteAnswer.WriteAnswer, declared.p
 use Rattle.bank_shape.specs.declared.answer.WriteAnswer.TheVariants as wrote
 use Rattle.bank_shape.specs.declared.answer.ReadAnswer.TheVariants as came
 use Rattle.bank_shape.specs.declared.clock.Doing.TheVariants as doing
-use Rattle.bank_model.specs.{Answers.read_answer, Events.{BankEvent, Write, Read, Cut, newest}, History.{Awaited, awaited, queue, waits}}
-use Rattle.bank_model.specs.{Lawful.{Lawful, IsIdle, MayCome}, Running.choice_after, Timing.{Happens, Core, TimedEvent, core, core_of, is_empty}}
+use Rattle.bank_model.specs.{Answers.read_answer, Events.{BankEvent, Write, Read, Cut, newest}, History.{Awaited, awaited, queue, waits}, Lawful.{Lawful, IsIdle, MayCome}}
+use Rattle.bank_model.specs.{Running.choice_after, Timing.{Happens, Core, TimedEvent, core, core_of, is_empty}}
 use Rattle.bank_laws.specs.{Outcomes.{outcome_of, ended, row_with, rows_from}, RowLaws.ServedLaw, Settling.AreOpen}
 use Rattle.bank_laws.proofs.{Ending.{Onwards, onwards, accepting, outcome-accepts, outcome-may, own_answer, write_outcome}, Fates.{Awaits, IsSettled, ReadFate, awaits-new}}
 use Rattle.bank_laws.proofs.{Settling.{opens, lawful_before}, Walking.{Passes, walk, rows_after}}

@@ -7,8 +7,8 @@ use Rattle.result_rows.specs.declared.Outcome.TheVariants as out
 use Rattle.row_rules.specs.{Answers.{is_lost, read_after}, Queueing.waiting, Rows.is_cut, declared.Row.Row}
 use Rattle.bank_shape.specs.{Pausing.{is_cancelling, most_cancels}, declared.BankShape.BankShape, declared.answer.ReadAnswer.ReadAnswer, declared.pace.Pace.Pace}
 use Rattle.bank_shape.specs.declared.answer.ReadAnswer.TheVariants as came
-use Rattle.bank_model.specs.{Answers.{read_answer, MayAll}, Events.{BankEvent, Write, Read, Serve, Cut, RowsBelow, newest}}
-use Rattle.bank_model.specs.{History.{Awaited, awaited, queue, waits}, Lawful.{Lawful, MayCome, would_cancel}, Running.{running_at, cancels_after}, Sensing.most_steps}
+use Rattle.bank_model.specs.{Answers.{read_answer, MayAll}, Events.{BankEvent, Write, Read, Serve, Cut, RowsBelow, newest}, History.{Awaited, awaited, queue, waits}}
+use Rattle.bank_model.specs.{Lawful.{Lawful, MayCome, would_cancel}, Running.{running_at, cancels_after}, Sensing.most_steps}
 use Rattle.bank_model.specs.Timing.{Happens, Core, Regs, TimedEvent, core, core_of, last_tick, is_empty, is_writing}
 use Rattle.bank_laws.specs.{Outcomes.{on_row, outcome_with, outcome_of, row_with, rows_from}, RowLaws.{waits_fit, is_wait_fair, WaitLaw}, Standing.has_wait, Ticks.ends_action}
 use Rattle.bank_laws.proofs.{Answering.{IsFirst, served-first}, Counting.{among, Falling, falling-more, hits, waits-counted}, Ending.{Onwards, own_row, own_answer}}

@@ -3,7 +3,8 @@ use Rattle.std.specs.Prelude.{◌≡◌, ◌≢◌, ℕ, ◌+◌, ◌^◌, true,
 use Rattle.cell_rows.specs.Device.{ArrayState}
 use Rattle.result_rows.specs.{Table.{HasRow, outcome_at}, declared.Outcome.Outcome, declared.Outcome.TheVariants.Unset}
 use Rattle.masked_bytes.specs.{Entries.has_row, declared.entry.Entry.Entry}
-use Rattle.bank_shape.specs.{Shape.{controls_of, controls_from}, declared.BankShape.BankShape, declared.clock.Action.Action, declared.pace.Pace.Pace, declared.waiting.Waiting.Waiting}
+use Rattle.bank_shape.specs.{Shape.{controls_of, controls_from}, declared.BankShape.BankShape, declared.clock.Action.Action, declared.pace.Pace.Pace}
+use Rattle.bank_shape.specs.declared.waiting.Waiting.{Waiting}
 use Rattle.bank_model.specs.{Adding.Adds, Events.BankEvent, Timing.{TimedEvent, ends}}
 use Rattle.reg_lines.specs.Regs.{RegsState}
 use Rattle.bank_laws.specs.Ticks.{ends_action}

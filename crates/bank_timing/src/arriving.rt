@@ -26,8 +26,7 @@ use bank_shape::clock::{Action, Doing};
 use cell_rows::CellArray;
 use masked_bytes::entry::Entry;
 use masked_bytes::layers::has_all;
-use result_rows::Outcome;
-use row_telling::Outcomes;
+use result_rows::{Outcome, Outcomes};
 
 impl<const B: usize, const M: usize, const E: usize> Timed<B, M, E> {
     /// A write of a bank line arrives now; the number of its row is above those of all before it.

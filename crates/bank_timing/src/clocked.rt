@@ -19,7 +19,7 @@ use bank_shape::{BankShape, Pace};
 use cell_rows::CellArray;
 use circular_buffer::HeapCircularBuffer;
 use reg_lines::regs::RegLines;
-use row_telling::Outcomes;
+use result_rows::Outcomes;
 use std::alloc::{AllocError, Global};
 use std::marker::Model;
 

@@ -17,8 +17,7 @@ use cell_rows::CellArray;
 use power_recovery::kept::Kept;
 use reg_lines::Change;
 use region_regs::Region;
-use result_rows::Outcome;
-use row_telling::Outcomes;
+use result_rows::{Outcome, Outcomes};
 use spare_pool::Remap;
 
 impl<const B: usize, const M: usize, const E: usize> Timed<B, M, E> {

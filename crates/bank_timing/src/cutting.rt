@@ -26,8 +26,7 @@ use crate::recovery::recover;
 use bank_shape::Home;
 use bank_shape::clock::{Action, Doing};
 use cell_rows::CellArray;
-use result_rows::Outcome;
-use row_telling::Outcomes;
+use result_rows::{Outcome, Outcomes};
 
 impl<const B: usize, const M: usize, const E: usize> Timed<B, M, E> {
     /// The power is cut now: an iteration that runs is torn, any other action is dropped, and each waiting read is lost.

@@ -17,8 +17,7 @@ use crate::clocked::Timed;
 use cell_rows::CellArray;
 use circular_buffer::HeapCircularBuffer;
 use power_recovery::kept::Kept;
-use result_rows::Outcome;
-use row_telling::Outcomes;
+use result_rows::{Outcome, Outcomes};
 use table_laws::{
     logs_keep_their_laws, places_keep_their_laws, reads_keep_their_law, tables_keep_their_laws,
 };

@@ -3,3 +3,4 @@ pub mod BlockLemmas
 pub mod WordLemmas
 pub mod RowLemmas
 pub mod LaneLemmas
+pub mod Most

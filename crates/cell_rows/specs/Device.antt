@@ -1,7 +1,7 @@
 -- What an array of cells is, and what a pulse, a tear and a sense may do to it.
 use Rattle.std.specs.Prelude.{ℕ, ◌≡◌, ◌≢◌, ◌+◌, ◌-◌, ◌^◌, ◌<◌, ◌≤◌, ◌⊎◌, min, Bool, true, false, List, [], ◌∷◌, ◌++◌, Option, Some}
-use Rattle.cell_rows.specs.{Energy.{no_energy, with_sense}, Rows.cell, declared.array.LineEnergy.LineEnergy, declared.array.Sense.Sense}
-use Rattle.cell_rows.specs.{declared.array.Wear.Wear, declared.row.Cells.Cells}
+use Rattle.cell_rows.specs.{Energy.{no_energy, with_sense}, Rows.cell, declared.array.LineEnergy.LineEnergy, declared.array.Sense.Sense, declared.array.Wear.Wear}
+use Rattle.cell_rows.specs.declared.row.Cells.{Cells}
 pub use Rattle.cell_rows.specs.Shape.{IsShape}
 pub use Rattle.cell_rows.specs.Pulse.{IsPulse}
 

@@ -3,3 +3,4 @@ pub mod Shape
 pub mod Pulse
 pub mod Energy
 pub mod Device
+pub mod Told

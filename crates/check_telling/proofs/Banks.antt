@@ -1,11 +1,8 @@
 -- The rows of a bank, with their numbers.
 use Rattle.std.proofs.Common.{◌≡◌, ℕ, zero, suc, ◌+◌, ◌-◌, ◌≤◌, Bool, true, false, List, [], ◌∷◌, ◌++◌, Some, length, drop, refl, sym, ap, ◌∙◌, cond, subst, append_assoc, append-nil, arith}
-use Rattle.std.specs.Prelude.{All, slice_get}
-use Rattle.std.proofs.lemmas.List.{map-append}
-use Rattle.std.proofs.lemmas.List.Elements.{All-nil, All-push, All-same}
+use Rattle.std.{specs.Prelude.{All, slice_get}, proofs.lemmas.List.map-append, proofs.lemmas.List.Elements.{All-nil, All-push, All-same}}
 use Rattle.row_rules.specs.{Table.{is_of, of_bank}, declared.Row.Row}
-use Rattle.check_telling.proofs.Folds.{none_left}
-use Rattle.check_telling.specs.{Standing.{row_of, rows_of, numbered, IsNumbered, AreNumbered, mates_of, with_mate}, declared.mates.Numbered.Numbered}
+use Rattle.check_telling.{specs.Standing.{row_of, rows_of, numbered, IsNumbered, AreNumbered, mates_of, with_mate}, specs.declared.mates.Numbered.Numbered, proofs.Folds.none_left}
 
 module _ {n : ℕ} (bank_of : ℕ → ℕ) (bank above : ℕ) where
   -- these rows, from an index on, come one after another

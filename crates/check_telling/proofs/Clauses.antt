@@ -1,14 +1,13 @@
 -- A rule is kept exactly where each of its clauses holds.
 use Rattle.std.proofs.Common.{◌≡◌, ℕ, ◌+◌, ◌&&◌, ◌||◌, ◌==◌, not, Bool, true, false, List, [], length, refl, sym, ap, cond}
 use Rattle.std.specs.{List.{list_all, list_any}, Prelude.{nat_le, nat_lt, filter}}
-use Rattle.masked_bytes.specs.Masked.{gives_all}
-use Rattle.masked_bytes.proofs.Truth.{and_true}
+use Rattle.masked_bytes.{specs.Masked.gives_all, proofs.Truth.and_true}
 use Rattle.result_rows.specs.declared.Outcome.{Outcome}
 use Rattle.result_rows.specs.declared.Outcome.TheVariants as out
 use Rattle.row_rules.specs.Answers.{is_full, is_forwarded, is_busy, is_answered, is_lost, is_worn}
-use Rattle.row_rules.specs.Queueing.{pending, waiting, cover, is_at_head, is_refused, merge_fits, has_room}
-use Rattle.row_rules.specs.{Rows.{asks_write, write_of, newest}, Serving.same_bytes, Ticking.{bound, no_cut_below, first_cut_at}, Wearing.{worn_row, store_fits}}
-use Rattle.row_rules.specs.{declared.Asks.Asks, declared.Asks.TheVariants.{Reads, Writes, Cuts}, declared.Row.Row, declared.Rules.Rules}
+use Rattle.row_rules.specs.{Queueing.{pending, waiting, cover, is_at_head, is_refused, merge_fits, has_room}, Rows.{asks_write, write_of, newest}, Serving.same_bytes}
+use Rattle.row_rules.specs.{Ticking.{bound, no_cut_below, first_cut_at}, Wearing.{worn_row, store_fits}, declared.Asks.Asks, declared.Asks.TheVariants.{Reads, Writes, Cuts}}
+use Rattle.row_rules.specs.{declared.Row.Row, declared.Rules.Rules}
 use Rattle.check_verdict.specs.{Judged.{a_row, beside}, Verdicts.{mates, all_have_room, keeps}, declared.Rule.Rule}
 use Rattle.check_verdict.specs.declared.Rule.TheVariants as rule
 use Rattle.check_telling.specs.Clauses.{holds, clauses_of, latest, lies_apart, ClauseLaw}

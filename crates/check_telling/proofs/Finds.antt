@@ -1,18 +1,18 @@
 -- What a read finds in its bank.
 use Rattle.std.proofs.Common.{◌≡◌, ℕ, suc, ◌+◌, ◌<◌, ◌≤◌, ◌^◌, ◌&&◌, ◌||◌, ◌==◌, ◌++◌, Bool, true, false, List, [], ◌∷◌, Option, Some, None, length, refl, sym, ap, ◌∙◌, cond, subst, arith}
-use Rattle.std.specs.{List.{list_all, list_any}, Prelude.{filter, nat_le, reverse, IfSome}}
-use Rattle.std.proofs.{lemmas.Bool.ltb-true, lemmas.List.{length-reverse, length-map}}
+use Rattle.std.{specs.List.{list_all, list_any}, specs.Prelude.{filter, nat_le, reverse, IfSome}, proofs.lemmas.Bool.ltb-true, proofs.lemmas.List.{length-reverse, length-map}}
 use Rattle.masked_bytes.{specs.Masked.gives_all, proofs.Truth.{and_first, and_second}}
 use Rattle.result_rows.specs.declared.Outcome.{Outcome}
 use Rattle.result_rows.specs.declared.Outcome.TheVariants as out
-use Rattle.row_rules.specs.{Queueing.{pending, waiting, awaits, cover, is_first, is_at_head, next_store}, Rows.{is_cut, write_of}, Ticking.{bound, delay}, declared.Row.Row, declared.Rules.Rules}
-use Rattle.check_judging.specs.{Cutting.cut_ticks, Distances.{last_read, ends_above, later_of}, Keys.reach}
-use Rattle.check_verdict.{specs.Fitting.{all_brief, is_brief}, specs.Timely.first_of_ticks, proofs.Apart.all-reverse, proofs.Fits.any-reverse}
-use Rattle.row_rules.specs.Table.{is_of, of_bank}
+use Rattle.row_rules.specs.{Queueing.{pending, waiting, awaits, cover, is_first, is_at_head, next_store}, Rows.{is_cut, write_of}, Table.{is_of, of_bank}, Ticking.{bound, delay}}
+use Rattle.row_rules.specs.{declared.Row.Row, declared.Rules.Rules}
 use Rattle.row_rules.specs.Rows as spec
-use Rattle.check_verdict.{specs.Judged.beside, specs.Verdicts.bank_in, proofs.Settles.filter-reverse}
-use Rattle.check_telling.specs.{Givers.givers, Grounds.{IsOfBank, TellsRead}, declared.grounds.Grounds.Grounds, declared.newest.Newest.Newest}
-use Rattle.check_telling.specs.{Right.{ReadGrounds, earliest, grounds_on}, Standing.{first_at, mates_of, row_at, row_of, rows_of, tick_at, AreNumbered}, Steps.{is_ahead, leaves_later}, declared.mates.Numbered.Numbered}
+use Rattle.check_judging.specs.{Cutting.cut_ticks, Distances.{last_read, ends_above, later_of}, Keys.reach}
+use Rattle.check_verdict.{specs.Fitting.{all_brief, is_brief}, specs.Judged.beside, specs.Timely.first_of_ticks, specs.Verdicts.bank_in, proofs.Apart.all-reverse}
+use Rattle.check_verdict.proofs.{Fits.any-reverse, Settles.filter-reverse}
+use Rattle.check_telling.specs.{Givers.givers, Grounds.{IsOfBank, TellsRead}, Right.{ReadGrounds, earliest, grounds_on}}
+use Rattle.check_telling.specs.{Standing.{first_at, mates_of, row_at, row_of, rows_of, tick_at, AreNumbered}, Steps.{is_ahead, leaves_later}, declared.grounds.Grounds.Grounds}
+use Rattle.check_telling.specs.{declared.mates.Numbered.Numbered, declared.newest.Newest.Newest}
 
 later_small : (u : ℕ) (found : Option ℕ) → u < reach → IfSome found (λ v. v < reach) → IfSome (later_of u found) (λ v. v < reach)
 later_small u None lt h = lt

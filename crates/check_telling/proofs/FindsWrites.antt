@@ -1,14 +1,14 @@
 -- What a write finds in its bank, told of a whole table.
 use Rattle.std.proofs.Common.{◌≡◌, ℕ, suc, ◌+◌, ◌&&◌, ◌||◌, not, Bool, true, false, List, [], ◌∷◌, Option, Some, None, length, refl, sym, ap, ◌∙◌, cond, subst, arith}
-use Rattle.std.specs.{List.{list_all, list_any}, Prelude.{filter, nat_lt, reverse}}
-use Rattle.std.proofs.lemmas.List.{length-reverse}
+use Rattle.std.{specs.List.{list_all, list_any}, specs.Prelude.{filter, nat_lt, reverse}, proofs.lemmas.List.length-reverse}
 use Rattle.masked_bytes.proofs.Truth.{and_true}
 use Rattle.result_rows.specs.declared.Outcome.{Outcome}
 use Rattle.result_rows.specs.declared.Outcome.TheVariants as out
 use Rattle.row_rules.specs.{Queueing.{is_refused, none_before}, Rows.{accepted_of, write_of}, Table.{is_of, of_bank}, Wearing.worn_row, declared.Row.Row, declared.Rules.Rules}
 use Rattle.check_verdict.{specs.Judged.beside, specs.Verdicts.bank_in, proofs.Apart.all-reverse, proofs.Settles.filter-reverse}
-use Rattle.check_telling.specs.{Standing.{first_at, mates_of, row_at, rows_of, AreNumbered}, Steps.{leave_of, leaves_later, is_stored_first, is_other_or_first, has_one}, WriteGrounds.{FindsWrite, IsWriteOfBank, TellsWrite}}
-use Rattle.check_telling.specs.{declared.facts.RowAt.RowAt, declared.mates.Numbered.Numbered, declared.writes.WriteGrounds.WriteGrounds}
+use Rattle.check_telling.specs.{Standing.{first_at, mates_of, row_at, rows_of, AreNumbered}, Steps.{leave_of, leaves_later, is_stored_first, is_other_or_first, has_one}}
+use Rattle.check_telling.specs.{WriteGrounds.{FindsWrite, IsWriteOfBank, TellsWrite}, declared.facts.RowAt.RowAt, declared.mates.Numbered.Numbered}
+use Rattle.check_telling.specs.declared.writes.WriteGrounds.{WriteGrounds}
 
 pub write_of_all : {n : ℕ} (rules : Rules) (banks : List ℕ) (tick line bank : ℕ) (before after : List (Row n)) (past later : List (Numbered n)) (g : WriteGrounds n)
     → bank ≡ bank_in banks line → rows_of past ≡ of_bank (bank_in banks) bank before → past ≡ mates_of (bank_in banks) bank 0 before

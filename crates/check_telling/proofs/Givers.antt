@@ -1,11 +1,9 @@
 -- Each of a line's newest bytes comes from the row that is told for it.
 use Rattle.std.proofs.Common.{◌≡◌, ◌≢◌, ℕ, zero, suc, ◌+◌, ◌-◌, ◌≤◌, ◌⊎◌, inl, inr, Bool, true, false, List, [], ◌∷◌, ◌++◌, Some, length, refl, sym, ap, ◌∙◌, cond, subst, arith}
-use Rattle.std.specs.{List.AllByRecursion, Prelude.{replicate, reverse, slice_get}}
-use Rattle.std.proofs.lemmas.{List.{reverse-append, length-reverse, length-replicate}}
-use Rattle.masked_bytes.specs.Masked.{laid}
-use Rattle.row_rules.specs.{Rows.{newest, accepted_of, asks_write, asks_write_of, bytes_of, given_of}, declared.Row.Row}
-use Rattle.row_rules.specs.{declared.Asks.Asks, declared.Asks.TheVariants.{Reads, Writes, Cuts}}
-use Rattle.masked_bytes.proofs.Truth.{and_first}
+use Rattle.std.{specs.List.AllByRecursion, specs.Prelude.{replicate, reverse, slice_get}, proofs.lemmas.List.{reverse-append, length-reverse, length-replicate}}
+use Rattle.masked_bytes.{specs.Masked.laid, proofs.Truth.and_first}
+use Rattle.row_rules.specs.{Rows.{newest, accepted_of, asks_write, asks_write_of, bytes_of, given_of}, declared.Asks.Asks, declared.Asks.TheVariants.{Reads, Writes, Cuts}}
+use Rattle.row_rules.specs.declared.Row.{Row}
 use Rattle.check_telling.specs.Givers.{givers, Gives, NoneGives, IsSized, GiverLaw}
 
 -- an item behind a list, and one of the list

@@ -1,13 +1,13 @@
 -- The answers that are right for a read.
 use Rattle.std.proofs.Common.{◌≡◌, ℕ, ◌+◌, ◌<◌, ◌≤◌, ◌&&◌, ◌||◌, ◌==◌, ◌⊎◌, inl, inr, not, Bool, true, false, List, [], ◌∷◌, Option, Some, None, length, refl, sym, ap, ◌∙◌, cond, arith}
-use Rattle.std.specs.{List.list_all, Prelude.{nat_le, nat_lt, max, reverse}}
-use Rattle.std.proofs.lemmas.Bool.{le-leb, lt-leb, lt-ltb, cases_lt}
+use Rattle.std.{specs.List.list_all, specs.Prelude.{nat_le, nat_lt, max, reverse}, proofs.lemmas.Bool.{le-leb, lt-leb, lt-ltb, cases_lt}}
 use Rattle.masked_bytes.{specs.Masked.gives_all, proofs.Truth.and_false}
 use Rattle.result_rows.specs.declared.Outcome.{Outcome}
 use Rattle.result_rows.specs.declared.Outcome.TheVariants as out
-use Rattle.row_rules.specs.{Queueing.{pending, waiting, cover, is_at_head, has_room}, Rows.newest, Serving.same_bytes, Ticking.{bound, apart, no_cut_below, first_cut_at}, declared.Row.Row, declared.Rules.Rules}
-use Rattle.check_judging.specs.{Cutting.{cut_ticks, first_from, first_is}, Distances.{last_read, ends_above, is_far_below}, Rising.rising}
-use Rattle.check_judging.proofs.{Apart.apart_law, Cuts.first_cut_law}
+use Rattle.row_rules.specs.{Queueing.{pending, waiting, cover, is_at_head, has_room}, Rows.newest, Serving.same_bytes, Ticking.{bound, apart, no_cut_below, first_cut_at}}
+use Rattle.row_rules.specs.{declared.Row.Row, declared.Rules.Rules}
+use Rattle.check_judging.{specs.Cutting.{cut_ticks, first_from, first_is}, specs.Distances.{last_read, ends_above, is_far_below}, specs.Rising.rising, proofs.Apart.apart_law}
+use Rattle.check_judging.proofs.Cuts.{first_cut_law}
 use Rattle.check_verdict.specs.{Judged.{beside, a_read}, Keeping.{before_cut, at_cut}, Timely.first_of_ticks, Verdicts.{all_have_room, keeps_all}}
 use Rattle.check_verdict.proofs.Apart.{all-reverse}
 use Rattle.check_telling.specs.Right.{earliest, find_room, read_grounds, is_right_read, RightReadLaw}

@@ -1,7 +1,6 @@
 -- The answers that are right for a write and for a cut.
 use Rattle.std.proofs.Common.{◌≡◌, ℕ, ◌&&◌, ◌||◌, ◌==◌, not, Bool, true, false, List, [], ◌∷◌, length, refl, sym, ap, ◌∙◌, arith}
-use Rattle.std.specs.{List.{list_all, list_any}, Prelude.{nat_le, nat_lt, filter}}
-use Rattle.std.proofs.lemmas.Bool.{le-leb}
+use Rattle.std.{specs.List.{list_all, list_any}, specs.Prelude.{nat_le, nat_lt, filter}, proofs.lemmas.Bool.le-leb}
 use Rattle.masked_bytes.proofs.Truth.{and_true, and_false}
 use Rattle.result_rows.specs.declared.Outcome.{Outcome}
 use Rattle.result_rows.specs.declared.Outcome.TheVariants as out

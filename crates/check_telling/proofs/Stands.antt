@@ -1,7 +1,6 @@
 -- Which of a bank's rows stand or wait, found the oldest first.
 use Rattle.std.proofs.Common.{◌≡◌, ℕ, Bool, true, false, List, [], ◌∷◌, ◌++◌, refl, sym, ap, ◌∙◌, cond}
-use Rattle.std.specs.Prelude.{All, filter, reverse}
-use Rattle.std.proofs.lemmas.List.{reverse-append, map-append, append-nil}
+use Rattle.std.{specs.Prelude.{All, filter, reverse}, proofs.lemmas.List.{reverse-append, map-append, append-nil}}
 use Rattle.std.proofs.lemmas.List.Elements.{All-filter, All-head, All-nil, All-push, All-same, All-tail}
 use Rattle.masked_bytes.proofs.Lists.{turned}
 use Rattle.row_rules.specs.{Queueing.{stands, pending, awaits, waiting}, declared.Row.Row}

@@ -4,12 +4,9 @@ use Rattle.masked_bytes.specs.Masked.{gives_all}
 use Rattle.result_rows.specs.declared.Outcome.{Outcome}
 use Rattle.result_rows.specs.declared.Outcome.TheVariants as out
 use Rattle.row_rules.specs.Answers.{is_full, is_forwarded, is_busy, is_answered, is_lost, is_worn}
-use Rattle.row_rules.specs.Queueing.{pending, waiting, cover, is_at_head, is_refused, merge_fits, has_room}
-use Rattle.row_rules.specs.Rows.{RowTest, asks_write, write_of}
-use Rattle.row_rules.specs.Serving.{same_bytes, owed}
-use Rattle.row_rules.specs.Ticking.{bound, longest, stores_in, reads_in, cuts_to, no_cut_below, first_cut_at, apart}
-use Rattle.row_rules.specs.Wearing.{worn_row, store_fits}
-use Rattle.row_rules.specs.{declared.Asks.Asks, declared.Asks.TheVariants.{Reads, Writes, Cuts}, declared.Row.Row, declared.Rules.Rules}
+use Rattle.row_rules.specs.{Queueing.{pending, waiting, cover, is_at_head, is_refused, merge_fits, has_room}, Rows.{RowTest, asks_write, write_of}, Serving.{same_bytes, owed}}
+use Rattle.row_rules.specs.{Ticking.{bound, longest, stores_in, reads_in, cuts_to, no_cut_below, first_cut_at, apart}, Wearing.{worn_row, store_fits}, declared.Asks.Asks}
+use Rattle.row_rules.specs.{declared.Asks.TheVariants.{Reads, Writes, Cuts}, declared.Row.Row, declared.Rules.Rules}
 use Rattle.check_verdict.specs.{Verdicts.{mates, all_have_room, keeps}, declared.Rule.Rule}
 use Rattle.check_verdict.specs.declared.Rule.TheVariants as rule
 use Rattle.check_telling.specs.declared.Clause.{Clause}

@@ -1,10 +1,10 @@
 -- What a row changes in what is found of those before it.
-use Rattle.std.specs.List.{list_any}
-use Rattle.std.specs.Prelude.{ℕ, ◌&&◌, ◌||◌, not, nat_le, nat_lt, Bool, true, ◌++◌, [], ◌∷◌, if◌then◌else◌, List, Option, Some, None}
+use Rattle.std.specs.{List.list_any, Prelude.{ℕ, ◌&&◌, ◌||◌, not, nat_le, nat_lt, Bool, true, ◌++◌, [], ◌∷◌, if◌then◌else◌, List, Option, Some, None}}
 use Rattle.masked_bytes.specs.Masked.{joined, none_given}
 use Rattle.result_rows.specs.declared.Outcome.{Outcome}
 use Rattle.result_rows.specs.declared.Outcome.TheVariants as out
-use Rattle.row_rules.specs.{Answers.{is_answered, is_lost, is_stored, stored_by, stored_before}, Queueing.none_before, Rows.{accepted_of, asks_read, given_of, write_of}, declared.Row.Row}
+use Rattle.row_rules.specs.{Answers.{is_answered, is_lost, is_stored, stored_by, stored_before}, Queueing.none_before, Rows.{accepted_of, asks_read, given_of, write_of}}
+use Rattle.row_rules.specs.declared.Row.{Row}
 use Rattle.check_telling.specs.declared.mates.Numbered.{Numbered}
 
 -- the bytes of a line that the queue gives at a tick

@@ -3,8 +3,8 @@ use Rattle.std.specs.Prelude.{◌≡◌, ℕ, ◌+◌, ◌*◌, ◌==◌, List, 
 use Rattle.row_rules.specs.{Queueing.{pending, is_refused}, Rows.{accepted_of, write_of}, Ticking.longest, Wearing.worn_row, declared.Row.Row, declared.Rules.Rules}
 use Rattle.check_judging.specs.Distances.{last_end, ends_above, waits_above}
 use Rattle.check_verdict.specs.{Judged.beside, Verdicts.bank_in}
-use Rattle.check_telling.specs.Standing.{first_at, mates_of, rows_of, AreNumbered}
-use Rattle.check_telling.specs.{declared.facts.StoreBound.StoreBound, declared.mates.Numbered.Numbered, declared.writes.WriteGrounds.WriteGrounds}
+use Rattle.check_telling.specs.{Standing.{first_at, mates_of, rows_of, AreNumbered}, declared.facts.StoreBound.StoreBound, declared.mates.Numbered.Numbered}
+use Rattle.check_telling.specs.declared.writes.WriteGrounds.{WriteGrounds}
 
 -- the longest time until a write is stored in which w further writes are stored, s reads are read and c cuts come
 abbrev pub by_bound : StoreBound → ℕ → ℕ → ℕ → ℕ

@@ -1,7 +1,6 @@
 -- What a bank did by a tick, counted.
 use Rattle.std.proofs.Common.{◌≡◌, ℕ, suc, ◌+◌, ◌&&◌, ◌<◌, ◌≤◌, ◌++◌, ◌∷◌, Bool, true, false, List, [], length, refl, sym, ap, ◌∙◌, cond, subst, arith}
-use Rattle.std.specs.Prelude.{count_by, nat_le, reverse}
-use Rattle.std.proofs.lemmas.Bool.{le-leb, lt-ltb}
+use Rattle.std.{specs.Prelude.{count_by, nat_le, reverse}, proofs.lemmas.Bool.{le-leb, lt-ltb}}
 use Rattle.masked_bytes.proofs.Counting.{count-append, count-cons}
 use Rattle.result_rows.specs.declared.Outcome.{Outcome}
 use Rattle.result_rows.specs.declared.Outcome.TheVariants as out

@@ -1,7 +1,6 @@
 -- A tick lies a distance or more below another.
 use Rattle.std.proofs.Common.{◌≡◌, ℕ, ◌+◌, ◌-◌, ◌≤◌, ◌<◌, ◌⊎◌, inl, inr, false, sym, ◌∙◌, arith}
-use Rattle.std.specs.Prelude.{nat_le}
-use Rattle.std.proofs.lemmas.Bool.{le-leb, lt-leb, cases_lt}
+use Rattle.std.{specs.Prelude.nat_le, proofs.lemmas.Bool.{le-leb, lt-leb, cases_lt}}
 
 pub far_below : (low distance high : ℕ) → low ≤ high → nat_le distance (high - low) ≡ nat_le (low + distance) high
 far_below low distance high le = by (cases_lt (high - low) distance)

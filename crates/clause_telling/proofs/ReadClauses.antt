@@ -4,17 +4,15 @@ use Rattle.std.specs.{List.list_all, Prelude.{nat_le, nat_lt}}
 use Rattle.masked_bytes.specs.Masked.{gives_all}
 use Rattle.result_rows.specs.declared.Outcome.{Outcome}
 use Rattle.result_rows.specs.declared.Outcome.TheVariants as out
-use Rattle.row_rules.specs.{Queueing.{pending, waiting, cover, is_at_head, has_room}, Rows.newest, Ticking.{bound, no_cut_below, first_cut_at}, declared.Row.Row, declared.Rules.Rules}
-use Rattle.row_rules.specs.declared.Asks.TheVariants.{Reads, Cuts}
-use Rattle.check_judging.specs.{Cutting.{cut_ticks, first_from, first_is}, Rising.rising}
-use Rattle.check_judging.proofs.Cuts.{first_cut_law}
-use Rattle.check_verdict.specs.{Judged.{beside, a_read, a_cut}, Keeping.{before_cut, at_cut}, Timely.first_of_ticks, Verdicts.{all_have_room}, declared.Rule.Rule}
+use Rattle.row_rules.specs.{Queueing.{pending, waiting, cover, is_at_head, has_room}, Rows.newest, Ticking.{bound, no_cut_below, first_cut_at}}
+use Rattle.row_rules.specs.{declared.Asks.TheVariants.{Reads, Cuts}, declared.Row.Row, declared.Rules.Rules}
+use Rattle.check_judging.{specs.Cutting.{cut_ticks, first_from, first_is}, specs.Rising.rising, proofs.Cuts.first_cut_law}
+use Rattle.check_verdict.specs.{Judged.{beside, a_read, a_cut}, Keeping.{before_cut, at_cut}, Timely.first_of_ticks, Verdicts.all_have_room, declared.Rule.Rule}
 use Rattle.check_verdict.specs.declared.Rule.TheVariants as rule
-use Rattle.check_telling.proofs.Clauses.{clause_law}
 use Rattle.check_telling.specs.{Clauses.{holds, clauses_of, has_own_tick, has_bytes, is_of_op, forwards, forwards_only, refuses, refuses_only, lies_apart}, declared.Clause.Clause}
+use Rattle.check_telling.proofs.Clauses.{clause_law}
 use Rattle.check_telling.specs.declared.Clause.TheVariants as clause
-use Rattle.clause_telling.specs.{Broken.{first_broken}, ByFinds.{ReadClauseLaw, CutClauseLaw, is_of_read, read_tick_clause}}
-use Rattle.clause_telling.proofs.Bools.{one, three, four, five}
+use Rattle.clause_telling.{specs.Broken.first_broken, specs.ByFinds.{ReadClauseLaw, CutClauseLaw, is_of_read, read_tick_clause}, proofs.Bools.{one, three, four, five}}
 
 before_first : (u : ℕ) (ticks : List ℕ) → first_from u ticks ≡ before_cut u (first_of_ticks ticks)
 before_first u [] = refl

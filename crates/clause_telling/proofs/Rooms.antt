@@ -1,15 +1,15 @@
 -- Whether the banks have room.
 use Rattle.std.proofs.Common.{◌≡◌, ℕ, zero, suc, ◌≤◌, ◌<◌, ◌&&◌, ◌||◌, ◌==◌, not, Bool, true, false, List, [], ◌∷◌, ◌++◌, Option, Some, None, length, refl, sym, ap, ◌∙◌, cond, subst, arith, append_assoc, append-nil}
-use Rattle.std.specs.{List.{list_all, list_any}, Prelude.{drop, filter, nat_le, nat_lt, reverse}}
-use Rattle.std.proofs.lemmas.{Bool.{eq-eqb, eqb-true, le-leb}, List.{length-map, length-reverse, reverse-append, reverse-reverse}}
+use Rattle.std.{specs.List.{list_all, list_any}, specs.Prelude.{drop, filter, nat_le, nat_lt, reverse}, proofs.lemmas.Bool.{eq-eqb, eqb-true, le-leb}}
+use Rattle.std.proofs.lemmas.List.{length-map, length-reverse, reverse-append, reverse-reverse}
 use Rattle.masked_bytes.proofs.{Lists.turned, Truth.{and_true, and_false, and_first, and_second, or_false}}
 use Rattle.result_rows.specs.declared.Outcome.{Outcome}
-use Rattle.row_rules.specs.{Answers.is_merged, Lines.IsOfLines, Queueing.{pending, waiting, has_few, has_room, is_older, pairs_few}, Rows.{accepted_of, line_of}, Table.{is_of, of_bank}}
-use Rattle.row_rules.specs.{declared.Asks.Asks, declared.Asks.TheVariants.{Reads, Writes, Cuts}, declared.Row.Row, declared.Rules.Rules}
+use Rattle.row_rules.specs.{Answers.is_merged, Lines.IsOfLines, Queueing.{pending, waiting, has_few, has_room, is_older, pairs_few}, Rows.{accepted_of, line_of}}
+use Rattle.row_rules.specs.{Table.{is_of, of_bank}, declared.Asks.Asks, declared.Asks.TheVariants.{Reads, Writes, Cuts}, declared.Row.Row, declared.Rules.Rules}
 use Rattle.check_judging.proofs.Sublists.{room_stays_law, room_behind_cut_law}
-use Rattle.check_verdict.{specs.Verdicts.{bank_in, mates}, specs.Judged.a_row, proofs.Settles.filter-reverse}
-use Rattle.check_telling.specs.{Standing.{row_at, rows_of, row_of}, declared.facts.RowAt.RowAt, declared.mates.Numbered.Numbered}
-use Rattle.check_telling.proofs.{Folds.done, FindsWrites.none_turned}
+use Rattle.check_verdict.{specs.Judged.a_row, specs.Verdicts.{bank_in, mates}, proofs.Settles.filter-reverse}
+use Rattle.check_telling.{specs.Standing.{row_at, rows_of, row_of}, specs.declared.facts.RowAt.RowAt, specs.declared.mates.Numbered.Numbered, proofs.FindsWrites.none_turned}
+use Rattle.check_telling.proofs.Folds.{done}
 use Rattle.clause_telling.specs.Rooms.{has_one, may_stand, first_crowded, none_newer, bank_asked, last_bank, IsRoomOf, IsRoomOfLast, TellsRoom, is_room, RoomLaw}
 use Rattle.clause_telling.specs.declared.room.Crowd.{Crowd}
 

@@ -3,15 +3,13 @@ use Rattle.std.proofs.Common.{◌≡◌, ℕ, ◌||◌, ◌==◌, not, Bool, tru
 use Rattle.std.specs.{List.{list_all, list_any}, Prelude.{nat_le, nat_lt, filter}}
 use Rattle.result_rows.specs.declared.Outcome.{Outcome}
 use Rattle.result_rows.specs.declared.Outcome.TheVariants as out
-use Rattle.row_rules.specs.{Answers.{is_full, is_worn}, Queueing.{pending, is_refused, merge_fits}, Rows.write_of, Wearing.{worn_row, store_fits}, declared.Row.Row, declared.Rules.Rules}
-use Rattle.row_rules.specs.declared.Asks.TheVariants.{Writes}
+use Rattle.row_rules.specs.{Answers.{is_full, is_worn}, Queueing.{pending, is_refused, merge_fits}, Rows.write_of, Wearing.{worn_row, store_fits}, declared.Asks.TheVariants.Writes}
+use Rattle.row_rules.specs.{declared.Row.Row, declared.Rules.Rules}
 use Rattle.check_verdict.specs.{Judged.{beside, a_write}, declared.Rule.Rule}
 use Rattle.check_verdict.specs.declared.Rule.TheVariants as rule
-use Rattle.check_telling.proofs.Clauses.{clause_law}
-use Rattle.check_telling.specs.{Clauses.{holds, clauses_of, has_own_tick, has_bytes, is_of_op, latest, lies_apart}, declared.Clause.Clause}
+use Rattle.check_telling.{specs.Clauses.{holds, clauses_of, has_own_tick, has_bytes, is_of_op, latest, lies_apart}, specs.declared.Clause.Clause, proofs.Clauses.clause_law}
 use Rattle.check_telling.specs.declared.Clause.TheVariants as clause
-use Rattle.clause_telling.specs.{Broken.{first_broken}, ByFinds.{WriteClauseLaw, is_of_write, write_tick_clause}}
-use Rattle.clause_telling.proofs.Bools.{one, two, three, four}
+use Rattle.clause_telling.{specs.Broken.first_broken, specs.ByFinds.{WriteClauseLaw, is_of_write, write_tick_clause}, proofs.Bools.{one, two, three, four}}
 
 of_write : {n : ℕ} (line : ℕ) (bytes : List ℕ) (given : List Bool) (o : Outcome n) → is_of_op (Writes line bytes given) o ≡ is_of_write o
 of_write line bytes given out.Unset = refl

@@ -2,8 +2,8 @@
 use Rattle.std.specs.{List.list_any, Prelude.{◌≡◌, ℕ, ◌+◌, ◌==◌, ◌||◌, not, Bool, false, if◌then◌else◌, IsTrue, List, [], Option, Some, nat_le, nat_lt, length, filter}}
 use Rattle.result_rows.specs.declared.Outcome.{Outcome}
 use Rattle.result_rows.specs.declared.Outcome.TheVariants as out
-use Rattle.row_rules.specs.{Answers.{is_full, is_worn}, Queueing.{pending, is_refused}, Rows.write_of, Wearing.worn_row, declared.Row.Row, declared.Rules.Rules}
-use Rattle.row_rules.specs.declared.Asks.TheVariants.{Reads, Writes, Cuts}
+use Rattle.row_rules.specs.{Answers.{is_full, is_worn}, Queueing.{pending, is_refused}, Rows.write_of, Wearing.worn_row, declared.Asks.TheVariants.{Reads, Writes, Cuts}}
+use Rattle.row_rules.specs.{declared.Row.Row, declared.Rules.Rules}
 use Rattle.check_judging.specs.Rising.{rising}
 use Rattle.check_verdict.specs.{Judged.{beside, a_read, a_write, a_cut}, Keeping.{before_cut, at_cut}, Verdicts.keeps, declared.Rule.Rule}
 use Rattle.check_verdict.specs.declared.Rule.TheVariants as rule

@@ -1,9 +1,8 @@
 -- Whether the banks have room as a row comes: that is told by the bank of the row before it.
-use Rattle.std.specs.{List.{list_any}, Prelude.{◌≡◌, ℕ, ◌≤◌, ◌||◌, not, Bool, true, false, if◌then◌else◌, IsTrue, List, [], ◌∷◌, ◌++◌, Option, Some, None, filter, length, reverse}}
-use Rattle.row_rules.specs.{Lines.IsOfLines, Queueing.{pending, waiting, has_few, has_room, is_older}, Rows.{accepted_of, line_of}}
-use Rattle.row_rules.specs.{declared.Asks.Asks, declared.Asks.TheVariants.{Reads, Writes, Cuts}, declared.Row.Row, declared.Rules.Rules}
+use Rattle.std.specs.{List.list_any, Prelude.{◌≡◌, ℕ, ◌≤◌, ◌||◌, not, Bool, true, false, if◌then◌else◌, IsTrue, List, [], ◌∷◌, ◌++◌, Option, Some, None, filter, length, reverse}}
+use Rattle.row_rules.specs.{Lines.IsOfLines, Queueing.{pending, waiting, has_few, has_room, is_older}, Rows.{accepted_of, line_of}, Table.of_bank, declared.Asks.Asks}
+use Rattle.row_rules.specs.{declared.Asks.TheVariants.{Reads, Writes, Cuts}, declared.Row.Row, declared.Rules.Rules}
 use Rattle.check_verdict.specs.Verdicts.{all_have_room, bank_in}
-use Rattle.row_rules.specs.Table.{of_bank}
 use Rattle.check_telling.specs.{Clauses.holds, Standing.{row_at, rows_of}, declared.facts.RowAt.RowAt, declared.mates.Numbered.Numbered}
 use Rattle.check_telling.specs.declared.Clause.TheVariants as clause
 use Rattle.clause_telling.specs.declared.room.Crowd.{Crowd}

@@ -5,8 +5,7 @@ use Rattle.cell_rows.specs.Device.{ArrayState}
 use Rattle.bank_shape.specs.{declared.BankShape.BankShape, declared.clock.Action.Action, declared.clock.Doing.Doing}
 use Rattle.bank_shape.specs.{declared.clock.Doing.TheVariants.{Serving, Beginning, Iterating}, declared.pace.Pace.Pace}
 use Rattle.bank_model.specs.{Changes.change_after, Events.{Write, Read, Serve, Begin, Iterate, Cut}, History.moved_in, Lawful.{Lawful, MayCome}}
-use Rattle.bank_model.specs.Running.{started, left_by, running, running_at, chosen_after}
-use Rattle.bank_model.specs.Timing.{Happens, Core, Regs, KeepBegin, KeepIterate, TimedEvent, ends, core, last_tick}
+use Rattle.bank_model.specs.{Running.{started, left_by, running, running_at, chosen_after}, Timing.{Happens, Core, Regs, KeepBegin, KeepIterate, TimedEvent, ends, core, last_tick}}
 use Rattle.bank_laws.{specs.Laws.IsSized, specs.Ticks.ends_action, proofs.Ticks.last-below}
 use Rattle.place_laws.proofs.Moved.{moved_law}
 use Rattle.clock_laws.{specs.Draining.{ticks_of, ticks_in, NoGapLaw, RestingRegistersLaw}, specs.Leads.Leads, specs.State.{ClockState, next_action}, proofs.Leaving.leaving_law}

@@ -3,8 +3,7 @@ use Rattle.std.proofs.Common.{◌≡◌, ◌⊎◌, inl, inr, ℕ, ◌+◌, ◌<
 use Rattle.std.specs.Prelude.{IfSome}
 use Rattle.cell_rows.specs.{Device.counted, declared.array.Sense.Sense}
 use Rattle.bank_shape.specs.{Shape.lines_in, declared.BankShape.BankShape}
-use Rattle.bank_model.specs.{Adding.{senses_of, pulses_on, torn_by, tears_on}, Events.{BankEvent, Cut}, Sensing.is_at}
-use Rattle.bank_model.specs.Timing.{Happens, Core, Regs, KeepCut, TimedEvent}
+use Rattle.bank_model.specs.{Adding.{senses_of, pulses_on, torn_by, tears_on}, Events.{BankEvent, Cut}, Sensing.is_at, Timing.{Happens, Core, Regs, KeepCut, TimedEvent}}
 use Rattle.clock_laws.{specs.Arriving.arrival, specs.Extending.{NothingAddedLaw, OneAddedLaw, ArrivalAddedLaw, BothAddedLaw, is_tear}, proofs.Arriving.untouched}
 
 pub nothing_added_law : NothingAddedLaw

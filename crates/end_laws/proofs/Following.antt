@@ -9,8 +9,8 @@ use Rattle.row_rules.specs.{Answers.stored_before, declared.Row.Row}
 use Rattle.bank_shape.specs.{Shape.{slots_of, slot_moved}, declared.BankShape.BankShape, declared.pace.Pace.Pace}
 use Rattle.bank_shape.specs.declared.answer.Step.TheVariants as did
 use Rattle.power_recovery.specs.Kept.{array_line}
-use Rattle.bank_model.specs.{After.{slot_after, array_line_after, stands_at_after}, Events.{BankEvent, Write, Read, Begin, Iterate, Cut}}
-use Rattle.bank_model.specs.{History.{retired, moved_in, stored_in}, Lawful.Lawful, Sensing.most_steps, Timing.{Happens, Core, Regs, TimedEvent, core, core_of}}
+use Rattle.bank_model.specs.{After.{slot_after, array_line_after, stands_at_after}, Events.{BankEvent, Write, Read, Begin, Iterate, Cut}, History.{retired, moved_in, stored_in}}
+use Rattle.bank_model.specs.{Lawful.Lawful, Sensing.most_steps, Timing.{Happens, Core, Regs, TimedEvent, core, core_of}}
 use Rattle.bank_laws.{specs.Laws.{IsSized, LeavesArray}, specs.Outcomes.{outcome_of, ended, row_with, rows_from}, proofs.Asked.{Asked, asked-within, wrote-asked, queue-wrote}}
 use Rattle.bank_laws.proofs.{Settling.{lawful_before, above_all}, Waiting.may_all, Walking.{Passes, walk, rows_after}}
 use Rattle.ecp_line.specs.ArrayLines.{is_worn_at}

@@ -6,8 +6,8 @@ use Rattle.cell_rows.specs.Device.{ArrayState}
 use Rattle.ecp_line.specs.ArrayLines.{is_worn_at}
 use Rattle.row_rules.specs.{Answers.is_worn, Wearing.worn_row}
 use Rattle.bank_shape.specs.{Shape.{controls_from, controls_of, control_line}, declared.BankShape.BankShape, declared.pace.Pace.Pace}
-use Rattle.bank_model.specs.{Changes.{change_after, halted_after}, Events.{Write, Cut}, History.has_exhausted, Lawful.{Lawful, MayCome}}
-use Rattle.bank_model.specs.{Running.{is_over, over_by}, Timing.{Happens, Core, TimedEvent, core}}
+use Rattle.bank_model.specs.{Changes.{change_after, halted_after}, Events.{Write, Cut}, History.has_exhausted, Lawful.{Lawful, MayCome}, Running.{is_over, over_by}}
+use Rattle.bank_model.specs.Timing.{Happens, Core, TimedEvent, core}
 use Rattle.bank_laws.{specs.Laws.{IsSized, LeavesArray}, specs.Outcomes.{outcome_of, ended, row_with, rows_from}, proofs.Ending.{Onwards, write_outcome}}
 use Rattle.bank_laws.proofs.{Serves.{may_at, onwards_at}, Settling.opens, Wears.{worn_outcome, refused-exhausted, exhausted_later}}
 use Rattle.place_laws.proofs.WornOut.{worn_control, change-within}

@@ -1,7 +1,6 @@
 -- Cell by cell, what is driven and what changes.
 use Rattle.std.proofs.Common.{◌≡◌, ◌≢◌, ℕ, zero, suc, ◌+◌, ◌*◌, ◌≤◌, ◌&&◌, ◌⊎◌, Bool, true, false, not, cond, inl, inr, refl, sym, ap, ◌∙◌, arith, true≢false}
-use Rattle.cell_rows.specs.Device.{CellBounds, CellPulsed, DeviceStep, LineState, TornStep}
-use Rattle.cell_rows.specs.{Rows.{cell, members}, declared.row.Cells.Cells}
+use Rattle.cell_rows.specs.{Device.{CellBounds, CellPulsed, DeviceStep, LineState, TornStep}, Rows.{cell, members}, declared.row.Cells.Cells}
 use Rattle.energy_laws.specs.Changes.{ChangedLaw, DrivenLaw, WrongLaw}
 
 abbrev as_one : Bool → ℕ

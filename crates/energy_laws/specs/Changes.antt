@@ -1,7 +1,6 @@
 -- How many cells of a line change, and how many are driven.
 use Rattle.std.specs.Prelude.{ℕ, ◌≡◌, ◌+◌, ◌*◌, ◌≤◌, ◌&&◌, ◌⊎◌, not, false}
-use Rattle.cell_rows.specs.Device.{CellBounds, DeviceStep, LineState, TornStep}
-use Rattle.cell_rows.specs.{Energy.{reset_cells, set_cells}, Pulse.IsPulse, Rows.{cell, members}, declared.row.Cells.Cells}
+use Rattle.cell_rows.specs.{Device.{CellBounds, DeviceStep, LineState, TornStep}, Energy.{reset_cells, set_cells}, Pulse.IsPulse, Rows.{cell, members}, declared.row.Cells.Cells}
 
 -- how many cells are 1 in a row that were 0 in another
 abbrev pub gone_up : {B M : ℕ} → Cells B M → Cells B M → ℕ

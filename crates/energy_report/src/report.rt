@@ -9,8 +9,7 @@ ghost use Rattle.energy_report.specs.EnergyText.{all_row, energy_report, energy_
 
 use crate::fields::push_energy;
 use crate::sums::sum_energy;
-use cell_rows::LineEnergy;
-use cell_wear::TellsCells;
+use cell_rows::{LineEnergy, TellsCells};
 use pcm_io::{Sink, Text, WriteFault};
 use run_text::{TEXT_ROOM, make_room, print_rest};
 

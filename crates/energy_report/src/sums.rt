@@ -2,8 +2,7 @@
 ghost use Rattle.std.specs.Prelude.{◌≡◌, ◌+◌, ◌≤◌};
 ghost use Rattle.energy_report.specs.Sums.{energy_of, together};
 
-use cell_rows::LineEnergy;
-use cell_wear::TellsCells;
+use cell_rows::{LineEnergy, TellsCells};
 
 fn together(sum: Option<LineEnergy>, more: Option<LineEnergy>) -> Option<LineEnergy>
     ensures { result ≡ together sum more }

@@ -5,8 +5,9 @@ use Rattle.std.proofs.lemmas.Bool.{leb-true, leb-false, le-leb, lt-leb, le-ltb, 
 use Rattle.masked_bytes.proofs.{Counting.{count-append, count-cons}, Truth.{and_first, and_second}}
 use Rattle.result_rows.specs.declared.Outcome.{Outcome}
 use Rattle.result_rows.specs.declared.Outcome.TheVariants as out
-use Rattle.row_rules.specs.{Answers.{stored_after, stored_by, read_after, read_by}, Queueing.{has_room, is_refused, merges_at, pending}, Rows.{accepted_of, asks_read, asks_write, write_of}, Table.{is_of, of_bank}}
-use Rattle.row_rules.specs.{Ticking.{apart, cuts_to, longest, reads_in, stores_in}, Wearing.{worn_by, worn_row}, declared.Row.Row, declared.Rules.Rules}
+use Rattle.row_rules.specs.{Answers.{stored_after, stored_by, read_after, read_by}, Queueing.{has_room, is_refused, merges_at, pending}}
+use Rattle.row_rules.specs.{Rows.{accepted_of, asks_read, asks_write, write_of}, Table.{is_of, of_bank}, Ticking.{apart, cuts_to, longest, reads_in, stores_in}}
+use Rattle.row_rules.specs.{Wearing.{worn_by, worn_row}, declared.Row.Row, declared.Rules.Rules}
 use Rattle.check_judging.{specs.Distances.{is_far_below, ends_above, waits_above}, specs.Rising.rising, proofs.Apart.apart_law}
 use Rattle.check_verdict.{specs.Judged.{a_write, beside}, specs.Verdicts.{all_have_room, bank_in}, proofs.Apart.all-reverse, proofs.Fits.any-reverse, proofs.Settles.filter-reverse}
 use Rattle.check_telling.specs.{Clauses.latest, RightWrites.{is_right_write, RightWriteLaw}, Standing.{first_at, mates_of, numbered, row_at, rows_of}, WriteGrounds.TellsWrite}

@@ -3,8 +3,8 @@ use Rattle.std.specs.Prelude.{◌≡◌, ◌≢◌, ◌≤◌, ℕ, false, Resul
 use Rattle.command_line.specs.declared.job.CheckJob.{CheckJob}
 use Rattle.program_calls.specs.Calls.{Gets, GetsPart, IsUntouched, Lent, SinkChange, SinkFails, SourceChange}
 use Rattle.pcm_top.specs.{Checking.{IsCheckFault, room_line}, Ends.{Ends as EndsBy, Reads}, FaultLines.status_of, Reading.trace_room}
-use Rattle.pcm_top.specs.{Running.{HasCause, IsTried, reads_source, room_of}, declared.fault.Fault.Fault}
-use Rattle.pcm_top.specs.{declared.fault.Fault.TheVariants.{Usage, Write, NoMemory}, declared.run.Done.Done}
+use Rattle.pcm_top.specs.{Running.{HasCause, IsTried, reads_source, room_of}, declared.fault.Fault.Fault, declared.fault.Fault.TheVariants.{Usage, Write, NoMemory}}
+use Rattle.pcm_top.specs.declared.run.Done.{Done}
 use Rattle.explain_top.specs.{Calls.{Call, as_check}, Explaining.{Does, DoesPart, TellsExplanation, TellsExplanationInPart}, FaultLines.fault_line}
 
 -- how a fault is told: this becomes of its line, and this status is answered

@@ -1,7 +1,7 @@
 -- What a call that didn't do its work says: check's line for the fault, but for words that ask for nothing.
 use Rattle.std.specs.Prelude.{ℕ, List, codes}
-use Rattle.pcm_top.specs.FaultLines as check
 use Rattle.pcm_top.specs.{declared.fault.Fault.Fault, declared.fault.Fault.TheVariants.{Usage, Trace, Results, Image, Read, Write, TooLong, NoMemory}}
+use Rattle.pcm_top.specs.FaultLines as check
 
 -- the options that there are
 abbrev pub usage_text : List ℕ

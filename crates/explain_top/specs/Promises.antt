@@ -2,9 +2,9 @@
 use Rattle.std.specs.Prelude.{◌≡◌, ◌≢◌, ◌⊎◌, ◌≤◌, ℕ, List, true, false, Some, Err}
 use Rattle.command_line.specs.declared.job.Refusal.TheVariants as refusal
 use Rattle.program_calls.specs.Calls.{Gets, GetsPart, IsUntouched, Lent, SinkChange, SinkFails}
-use Rattle.pcm_top.specs.{FaultLines.status_of, Reading.{OnOverflow, SourceFails}, Running.{HasCause, IsTried, reads_source, room_of, status_done}}
-use Rattle.pcm_top.specs.{Statuses.IsStatusFor, declared.fault.Fault.Fault, declared.fault.Fault.TheVariants.{Usage, Write, TooLong, NoMemory}}
-use Rattle.pcm_top.specs.{declared.run.Done.Done, declared.run.Done.TheVariants.Short}
+use Rattle.pcm_top.specs.{FaultLines.status_of, Reading.{OnOverflow, SourceFails}, Running.{HasCause, IsTried, reads_source, room_of, status_done}, Statuses.IsStatusFor}
+use Rattle.pcm_top.specs.{declared.fault.Fault.Fault, declared.fault.Fault.TheVariants.{Usage, Write, TooLong, NoMemory}, declared.run.Done.Done}
+use Rattle.pcm_top.specs.declared.run.Done.TheVariants.{Short}
 use Rattle.explain_top.specs.{Calls.{Call, as_check}, Explaining.{Does, DoesPart}, FaultLines.fault_line}
 
 -- of a call, the place where faults are told, and the status that was answered

@@ -1,6 +1,6 @@
 -- The rounds of the network keep the halves in range, and each undoes itself.
 use Rattle.std.proofs.Common.{◌≡◌, ℕ, ◌+◌, ◌*◌, ◌%◌, ◌^◌, ◌<◌, bit_xor, refl, sym, ◌∙◌, ap, arith}
-use Rattle.std.{specs.Int.Bits.{xor_self, xor_assoc, xor_zero_r}}
+use Rattle.std.specs.Int.Bits.{xor_self, xor_assoc, xor_zero_r}
 use Rattle.std.proofs.lemmas.Nat.{pow_pos, pow-add, xor_lt, shr_below, mod_below, mul-lt, mul-add-lt, div-mul-add, mod-mul-add, div-add-mod'}
 use Rattle.feistel_map.specs.Network.{Network, AreHalves, left_bits, right_bits, halves_of, joined, mixed, left_round, right_round, three_rounds, feistel, unfeistel}
 use Rattle.feistel_map.specs.declared.halves.Halves.{Halves}

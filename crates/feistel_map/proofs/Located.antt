@@ -1,6 +1,6 @@
 -- An address determines its number, and is in range.
 use Rattle.std.proofs.Common.{◌≡◌, ℕ, ◌+◌, ◌*◌, ◌/◌, ◌%◌, sym, ◌∙◌, ap}
-use Rattle.std.proofs.{Math.Nat.{div-div-eq-div-mul, mul_comm}, lemmas.Nat.{div-add-mod'}}
+use Rattle.std.proofs.{Math.Nat.{div-div-eq-div-mul, mul_comm}, lemmas.Nat.div-add-mod'}
 use Rattle.feistel_map.specs.Addresses.{address_of, number_at}
 
 pub number_at-address_of : (regions lines number : ℕ) → number_at regions lines (address_of regions lines number) ≡ number

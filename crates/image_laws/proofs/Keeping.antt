@@ -9,7 +9,8 @@ use Rattle.spare_pool.specs.Table.{line_by, line_from}
 use Rattle.bank_shape.specs.{Shape.slots_of, declared.BankShape.BankShape, declared.Home.Home}
 use Rattle.bank_shape.specs.declared.Home.TheVariants as home
 use Rattle.power_recovery.specs.Kept.{KeptState, IsKept, AllBelow, region_at, no_region as no_kept}
-use Rattle.module_shape.specs.{Addresses.{module_of, bank_shape}, Limits.{IsShape, IsSmall, is_power_between, large_limits, small_limits, total_of}, declared.raw.{RawShape.RawShape, SizeLimits.SizeLimits}}
+use Rattle.module_shape.specs.{Addresses.{module_of, bank_shape}, Limits.{IsShape, IsSmall, is_power_between, large_limits, small_limits, total_of}, declared.raw.RawShape.RawShape}
+use Rattle.module_shape.specs.declared.raw.SizeLimits.{SizeLimits}
 use Rattle.end_laws.specs.EndLaws.{IsEndOf}
 use Rattle.right_runs.specs.Ends.{BankEnd}
 use Rattle.pcm_image.specs.{Saved.{Head, IsHeadIn, IsSavedBank, IsSavedEntry, IsSavedRegion, lines_in, slots_in}, Standing.{rotation_of, table_of, no_region}}

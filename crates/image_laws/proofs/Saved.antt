@@ -11,15 +11,16 @@ use Rattle.bank_model.specs.Timing.{TimedEvent, core}
 use Rattle.bank_laws.{specs.Laws.{IsSized, LeavesArray}, specs.Outcomes.table_of, specs.Resting.EndsIn, proofs.Serves.newest_same, proofs.Settling.opens}
 use Rattle.right_runs.specs.{Banks.{bank_of_line, line_in_bank}, Ends.{is_moved_to, BankEnd}, Runs.RunsRightTo, Tables.table_in}
 use Rattle.bank_invariant.specs.{Bridge.{AgreeLaw, AgreesWith}, Holds.stands_for as kept_for}
-use Rattle.module_shape.specs.{Addresses.{module_of, bank_shape}, Limits.{IsShape, IsSmall, large_limits, small_limits, total_of}, declared.raw.{RawShape.RawShape, SizeLimits.SizeLimits}}
+use Rattle.module_shape.specs.{Addresses.{module_of, bank_shape}, Limits.{IsShape, IsSmall, large_limits, small_limits, total_of}, declared.raw.RawShape.RawShape}
+use Rattle.module_shape.specs.declared.raw.SizeLimits.{SizeLimits}
 use Rattle.module_laws.{specs.Asking.row_with, specs.Serves.BankTableLaw, proofs.Serving.newest_in_bank}
 use Rattle.clock_laws.specs.{Ending.LeavingLaw, Leads.Leads, State.ClockState}
 use Rattle.end_laws.specs.EndLaws.{IsEndOf}
 use Rattle.run_laws.{specs.FinishedLaws.LinesLaw, proofs.Finished.sized}
 use Rattle.pcm_image.specs.{Saved.{Saved, SavedBank, IsHeadIn, IsSaved, IsSavedIn, IsSavedBank, IsSavedRow}, Standing.{no_bank, own_bytes, stands_for}}
 use Rattle.right_images.specs.{SavedBanks.{SavesEnd, SavesMarkTo, SavesQueue}, SavesRun.{AreRows, SavesRunTo}, Saving.{head_of, saved_bank, saved_banks, saved_cells, saved_of}}
-use Rattle.image_laws.{specs.SavedRuns.{IsLeftTo, SavedToLaw}, proofs.Ended.saves-end, proofs.Keeping.{bank-right, head-large, head-right}, proofs.Marking.{saves-mark, saves-queue}}
-use Rattle.image_laws.proofs.Standing.{lines-same, own-saved}
+use Rattle.image_laws.{specs.SavedRuns.{IsLeftTo, SavedToLaw}, proofs.Ended.saves-end, proofs.Keeping.{bank-right, head-large, head-right}}
+use Rattle.image_laws.proofs.{Marking.{saves-mark, saves-queue}, Standing.{lines-same, own-saved}}
 
 -- what the image of a run follows from
 pub record ImageLaws : Type 0 where

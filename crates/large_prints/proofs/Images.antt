@@ -8,10 +8,10 @@ use Rattle.module_shape.specs.declared.raw.RawShape.{RawShape}
 use Rattle.pcm_image.specs.{Saved.Saved, Spelling.u32}
 use Rattle.large_image.specs.Spelling.{bank_bytes, end_mark, head_bytes, large_bytes, rows_bytes}
 use Rattle.right_images.specs.Saving.{head_of, saved_banks, saved_cells, saved_of}
-use Rattle.image_text.{specs.{Printing.{PrintsMore, PrintsPart}, Sensing.{SensesRows, SensesSome}}, proofs.{Prints.{part-of-1, part-of-2, part-same, part-then, prints-part, prints-whole}, Sensing.rows-after}}
+use Rattle.image_text.specs.{Printing.{PrintsMore, PrintsPart}, Sensing.{SensesRows, SensesSome}}
+use Rattle.image_text.proofs.{Prints.{part-of-1, part-of-2, part-same, part-then, prints-part, prints-whole}, Sensing.rows-after}
 use Rattle.run_text.specs.Gathering.{Printed}
-use Rattle.large_prints.specs.Rows.{PrintsLargeRows, WritesLargeRows, large_to, mark_behind}
-use Rattle.large_prints.proofs.{Whole.{all-pieces, head-pieces, to-pieces}, Rows.rows-part}
+use Rattle.large_prints.{specs.Rows.{PrintsLargeRows, WritesLargeRows, large_to, mark_behind}, proofs.Rows.rows-part, proofs.Whole.{all-pieces, head-pieces, to-pieces}}
 
 -- a module of these sizes, of which a text that was empty before is printed
 module _ (n : ℕ) {m : ℕ} (given raw : RawShape) (seed : ℕ) (keeps : ℕ → KeptState n) (array : ArrayState n m) (same : given ≡ raw) (a : Reserved) (t : Option (List ℕ)) (room : a ≡ reserved 65536) where

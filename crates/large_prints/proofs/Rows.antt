@@ -1,14 +1,13 @@
 -- The array lines of a large module, as they are printed one after the other.
 use Rattle.std.proofs.Common.{◌≡◌, ℕ, ◌+◌, ◌≤◌, inl, inr, arith, true, false, cond, List, Option, drop, ◌∷◌, [], ◌++◌, length, sym, ap, ◌∙◌, append_assoc}
-use Rattle.std.specs.Prelude.{Result, Ok, Err, OnOk}
-use Rattle.std.proofs.lemmas.{Bool.{cases_lt, le-leb, lt-leb}, List.{append-nil, take-append-drop}, List.FromFn.{length-map-range_with_len, map-range_with_len_more, take-map-range_with_len}}
+use Rattle.std.{specs.Prelude.{Result, Ok, Err, OnOk}, proofs.lemmas.Bool.{cases_lt, le-leb, lt-leb}, proofs.lemmas.List.{append-nil, take-append-drop}}
+use Rattle.std.proofs.lemmas.List.FromFn.{length-map-range_with_len, map-range_with_len_more, take-map-range_with_len}
 use Rattle.pcm_io.specs.Reserved.{Reserved}
 use Rattle.cell_rows.specs.{Device.{ArrayState, LineState}, declared.row.Cells.Cells}
 use Rattle.pcm_image.specs.Spelling.{cells_bytes, u32}
 use Rattle.large_image.specs.Spelling.{are_zero, end_mark, row_bytes, rows_bytes}
 use Rattle.right_images.specs.Saving.{saved_cells}
-use Rattle.image_text.specs.{Printing.PrintsPart, Sensing.SensesRows}
-use Rattle.image_text.proofs.{Prints.{part-first, part-same}, Sensing.rows-before}
+use Rattle.image_text.{specs.Printing.PrintsPart, specs.Sensing.SensesRows, proofs.Prints.{part-first, part-same}, proofs.Sensing.rows-before}
 use Rattle.large_prints.specs.Rows.{PrintsLargeRows, mark_behind}
 
 -- some lines, and those behind them

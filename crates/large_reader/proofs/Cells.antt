@@ -1,16 +1,13 @@
 -- The array lines of which a cell is 1: what is read is what was written, and what was written is read again.
 use Rattle.std.proofs.Common.{◌≡◌, ℕ, zero, suc, ◌+◌, ◌^◌, ◌≤◌, Bool, true, false, not, ◌&&◌, ◌==◌, List, [], ◌∷◌, ◌++◌, length, Ok, refl, sym, ap, subst, ◌∙◌, append_assoc, arith, inl, inr}
-use Rattle.std.{specs.Int.w32, specs.List.{AllByRecursion}, specs.Prelude.replicate, proofs.lemmas.Bool.{cases_Bool, eqb-true}}
-use Rattle.std.proofs.lemmas.List.{take_at, drop_at, take-append-drop, length-append, length-take, length-drop, length-replicate, Folds.list_all-append}
+use Rattle.std.{specs.Int.w32, specs.List.AllByRecursion, specs.Prelude.replicate, proofs.lemmas.Bool.{cases_Bool, eqb-true}}
+use Rattle.std.proofs.{lemmas.List.{take_at, drop_at, take-append-drop, length-append, length-take, length-drop, length-replicate}, lemmas.List.Folds.list_all-append}
 use Rattle.masked_bytes.proofs.Truth.{and_first, and_second}
 use Rattle.cell_rows.specs.{Rows.zero_row, declared.row.Cells.Cells}
-use Rattle.pcm_image.specs.Reading.{Cursor, any, number_at, row_of}
-use Rattle.pcm_image.specs.Spelling.{u32, cells_bytes}
-use Rattle.pcm_image.specs.declared.ImageKind.TheVariants.{Line}
+use Rattle.pcm_image.specs.{Reading.{Cursor, any, number_at, row_of}, Spelling.{u32, cells_bytes}, declared.ImageKind.TheVariants.Line}
 use Rattle.pcm_image.proofs.Pairs.{IsBytes, bound, ok_is, Takes, Takes-then, IsPair, IsField, field_pair, Passes, number_pair, wide32}
 use Rattle.large_image.specs.Spelling.{are_zero, rows_bytes, end_mark}
-use Rattle.large_reader.specs.Reading.{row_at, rows_at}
-use Rattle.large_reader.proofs.Listing.{not_below, is_same}
+use Rattle.large_reader.{specs.Reading.{row_at, rows_at}, proofs.Listing.{not_below, is_same}}
 
 abbrev pub RowFits : (B M : ℕ) → Cells B M → Type 0
 RowFits B M row = (length row.bits ≡ B) × (length row.meta ≡ M)

@@ -1,14 +1,11 @@
 -- The entries of a queue, which are spelled as those of a small module's image, and words for order.
 use Rattle.std.proofs.Common.{◌≡◌, ℕ, ◌/◌, ◌%◌, ◌^◌, ◌<◌, ◌≤◌, Bool, true, nat_le, nat_lt, List, [], ◌∷◌, ◌++◌, length, Ok, refl, ap, subst, ◌∙◌, append_assoc, arith}
-use Rattle.std.{specs.Int.{w32}, specs.List.AllByRecursion, proofs.lemmas.Bool.{and_from, Decides.nat_tests}}
+use Rattle.std.{specs.Int.w32, specs.List.AllByRecursion, proofs.lemmas.Bool.and_from, proofs.lemmas.Bool.Decides.nat_tests}
 use Rattle.masked_bytes.{specs.Masked.{gives_some, zero_elsewhere}, proofs.Truth.{and_first, and_second}}
-use Rattle.pcm_image.specs.Reading.{Cursor, ◌>>=◌, field, any, number_at, given_from, is_given, entry_at}
-use Rattle.pcm_image.specs.Saved.{Head, IsSavedEntry, lines_in}
-use Rattle.pcm_image.specs.Spelling.{u32, packed, entry_bytes}
-use Rattle.pcm_image.specs.declared.{EntryImage.EntryImage}
+use Rattle.pcm_image.specs.{Reading.{Cursor, ◌>>=◌, field, any, number_at, given_from, is_given, entry_at}, Saved.{Head, IsSavedEntry, lines_in}}
+use Rattle.pcm_image.{specs.Spelling.{u32, packed, entry_bytes}, specs.declared.EntryImage.EntryImage, proofs.Bits.{length-given_from, packed-given, given-packed}}
+use Rattle.pcm_image.proofs.{Loop.gives_on, Pairs.{IsBytes, bind_ok, ok_is, Takes, Takes-then, IsPair, IsField, field_pair, Passes, number_pair, wide32}}
 use Rattle.pcm_image.specs.declared.ImageKind.TheVariants as kind
-use Rattle.pcm_image.proofs.{Bits.{length-given_from, packed-given, given-packed}, Loop.gives_on}
-use Rattle.pcm_image.proofs.Pairs.{IsBytes, bind_ok, ok_is, Takes, Takes-then, IsPair, IsField, field_pair, Passes, number_pair, wide32}
 use Rattle.ecp_line.proofs.Bytes.{length-bytes_from}
 
 pub le_true : (a b : ℕ) → a ≤ b → nat_le a b ≡ true

@@ -3,7 +3,7 @@ use Rattle.std.proofs.Common.{◌≡◌, ℕ, ◌+◌, ◌*◌, ◌^◌, ◌≤�
 use Rattle.std.{specs.Int.is_power_of_two, proofs.lemmas.Bool.Decides.nat_tests}
 use Rattle.masked_bytes.proofs.Truth.{and_first, and_second}
 use Rattle.feistel_map.specs.Log2.{log2}
-use Rattle.module_shape.{specs.Limits.{is_between, is_power_between, large_limits, most_array_lines}, proofs.Powers.size_of_powers, proofs.Bounds.{bank-few, array_lines_few}}
+use Rattle.module_shape.{specs.Limits.{is_between, is_power_between, large_limits, most_array_lines}, proofs.Bounds.{bank-few, array_lines_few}, proofs.Powers.size_of_powers}
 use Rattle.pcm_image.specs.Saved.{Head, IsHeadIn, total_in, slots_in, controls_in, array_lines_in}
 
 le_of : (a b : ℕ) → nat_le a b ≡ true → a ≤ b

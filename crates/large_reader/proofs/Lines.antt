@@ -1,14 +1,11 @@
 -- The rows that are listed, read one by one, as a loop does, against the cells of every array line.
 use Rattle.std.proofs.Common.{◌≡◌, ℕ, zero, suc, ◌+◌, ◌-◌, ◌<◌, ◌≤◌, Bool, true, false, not, cond, ◌&&◌, ◌||◌, ◌==◌, ltb, nat_le, nat_lt, List, [], ◌∷◌, ◌++◌, length, take, drop, Ok, Err, refl, sym, ap, subst, ◌∙◌, append_assoc, arith, inl, inr}
-use Rattle.std.{specs.Int.{w32, from_le_bytes}, specs.Prelude.{IsFalse}, proofs.lemmas.List.append-nil, proofs.lemmas.Bool.{cases_Bool, Decides.nat_tests}}
+use Rattle.std.{specs.Int.{w32, from_le_bytes}, specs.Prelude.IsFalse, proofs.lemmas.Bool.cases_Bool, proofs.lemmas.Bool.Decides.nat_tests, proofs.lemmas.List.append-nil}
 use Rattle.masked_bytes.proofs.Truth.{and_first, and_second}
 use Rattle.cell_rows.specs.{Rows.zero_row, declared.row.Cells.Cells}
-use Rattle.pcm_image.specs.Giving.{Fails}
-use Rattle.pcm_image.specs.Reading.{Cursor, Got, ◌>>=◌, fault, any, number_at, row_of}
-use Rattle.pcm_image.specs.Spelling.{cells_bytes}
-use Rattle.pcm_image.specs.declared.{ImageFault.ImageFault, ImageKind.TheVariants.{Short, Line}, fields.ReadImage.ReadImage}
+use Rattle.pcm_image.specs.{Giving.Fails, Reading.{Cursor, Got, ◌>>=◌, fault, any, number_at, row_of}, Spelling.cells_bytes, declared.ImageFault.ImageFault}
+use Rattle.pcm_image.{specs.declared.ImageKind.TheVariants.{Short, Line}, specs.declared.fields.ReadImage.ReadImage, proofs.Loop.with_front, proofs.Pairs.{failed_not, passed}}
 use Rattle.pcm_image.specs.declared.fields.ReadImage.TheVariants as read
-use Rattle.pcm_image.proofs.{Loop.with_front, Pairs.{failed_not, passed}}
 use Rattle.large_image.specs.Spelling.{are_zero, end_mark}
 use Rattle.large_reader.specs.{Giving.{end_of, is_next}, Reading.{row_at, rows_at}, Rows.{AreListed, all_rows, listed}, declared.image.LargeRow.LargeRow}
 use Rattle.large_reader.proofs.Listing.{not_below, not_same, is_same, listed_past, listed_more, listed_within, pushed_same, all_pushed, all_more}

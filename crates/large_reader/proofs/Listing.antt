@@ -1,6 +1,7 @@
 -- The rows that are listed: which array lines they are of, in order, and what is found by the number of a line.
 use Rattle.std.proofs.Common.{◌≡◌, ℕ, zero, suc, ◌+◌, ◌<◌, ◌≤◌, true, false, cond, ◌==◌, List, [], ◌∷◌, ◌++◌, length, get_or, refl, ap, ◌∙◌, arith, inl, inr}
-use Rattle.std.{specs.Prelude.{IsFalse}, proofs.lemmas.Bool.{cases_lt, Decides.nat_tests}, proofs.lemmas.List.{get_or_default, FromFn.{map-range_with_len_more, get_or-map-range_with_len, length-map-range_with_len, fill_by_all}}}
+use Rattle.std.{specs.Prelude.IsFalse, proofs.lemmas.Bool.cases_lt, proofs.lemmas.Bool.Decides.nat_tests, proofs.lemmas.List.get_or_default}
+use Rattle.std.proofs.lemmas.List.FromFn.{map-range_with_len_more, get_or-map-range_with_len, length-map-range_with_len, fill_by_all}
 use Rattle.cell_rows.specs.{Rows.zero_row, declared.row.Cells.Cells}
 use Rattle.pcm_image.specs.Spelling.{cells_bytes}
 use Rattle.large_image.specs.Spelling.{are_zero}

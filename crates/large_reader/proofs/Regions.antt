@@ -1,6 +1,6 @@
 -- The registers of a saved region are those of a rotation.
 use Rattle.std.proofs.Common.{◌≡◌, ℕ, ◌<◌, List, length, get_or, All, sym, ap, subst, ◌∙◌, arith}
-use Rattle.std.{specs.Prelude.map, proofs.lemmas.List.{get_or-map, length-map, Elements.All-get_or}}
+use Rattle.std.{specs.Prelude.map, proofs.lemmas.List.{get_or-map, length-map}, proofs.lemmas.List.Elements.All-get_or}
 use Rattle.start_gap.specs.Rotation.{IsRotation}
 use Rattle.module_shape.specs.Limits.{large_limits}
 use Rattle.pcm_image.specs.{Saved.{Head, IsHeadIn, IsSavedRegion}, Standing.rotation_of}

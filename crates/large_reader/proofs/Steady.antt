@@ -2,11 +2,10 @@
 use Rattle.std.proofs.Common.{◌≡◌, ℕ, zero, suc, ◌+◌, ◌/◌, ◌≤◌, Bool, cond, ltb, nat_le, nat_lt, List, [], ◌∷◌, length, take, drop, Ok, sym, ap, ◌∙◌, arith}
 use Rattle.std.{specs.Int.{Width, w16, w32, w64, byte_len, from_le_bytes}, specs.Str.bytes_eq, proofs.lemmas.Bool.ltb-false, proofs.lemmas.List.length-drop}
 use Rattle.module_shape.specs.Limits.{is_power_between, large_limits}
-use Rattle.pcm_image.specs.Saved.{Head, SavedBank, is_lines_in, lines_in, slots_in}
 use Rattle.pcm_image.specs.Reading.{Cursor, Got, fault, field, first_byte, any, byte_at, number_at, times, is_size_of, entry_at, is_given, given_from}
-use Rattle.pcm_image.specs.declared.{EntryImage.EntryImage, RegionImage.RegionImage, ImageKind.ImageKind, ImageKind.TheVariants.Short}
+use Rattle.pcm_image.specs.{Saved.{Head, SavedBank, is_lines_in, lines_in, slots_in}, declared.EntryImage.EntryImage, declared.ImageKind.ImageKind}
+use Rattle.pcm_image.{specs.declared.ImageKind.TheVariants.Short, specs.declared.RegionImage.RegionImage, proofs.Pairs.{bound, failed_not, passed, ok_is}}
 use Rattle.pcm_image.specs.declared.ImageKind.TheVariants as kind
-use Rattle.pcm_image.proofs.Pairs.{bound, failed_not, passed, ok_is}
 use Rattle.large_image.specs.Spelling.{magic}
 use Rattle.large_reader.specs.{Giving.end_of, Reading.{size_at, head_at, region_at, bank_at}}
 

@@ -1,21 +1,19 @@
 -- The two laws: what is read is saved so, and what is saved so is read.
 use Rattle.std.proofs.Common.{◌≡◌, ℕ, ◌*◌, ◌%◌, ◌^◌, ◌<◌, ◌≤◌, Bool, true, ◌==◌, eqb, nat_le, nat_lt, List, [], ◌++◌, length, Result, Ok, Err, refl, sym, ap, subst, ◌∙◌, append_assoc, arith}
-use Rattle.std.{specs.Int.{w16, w32, w64}, specs.List.{flat_map, AllByRecursion}, specs.Prelude.{IfOk, OnOk, IsTrue}, specs.Str.bytes_eq, proofs.lemmas.Bool.{eqb-true, and_from, Decides.nat_tests}}
-use Rattle.std.proofs.{lemmas.List.{append-nil, nil_from_length, Elements.All-from_recursion}, lemmas.Slice.Eq.bytes_eq-Decides}
+use Rattle.std.{specs.Int.{w16, w32, w64}, specs.List.{flat_map, AllByRecursion}, specs.Prelude.{IfOk, OnOk, IsTrue}, specs.Str.bytes_eq, proofs.lemmas.Bool.{eqb-true, and_from}}
+use Rattle.std.proofs.{lemmas.Bool.Decides.nat_tests, lemmas.List.{append-nil, nil_from_length}, lemmas.List.Elements.All-from_recursion, lemmas.Slice.Eq.bytes_eq-Decides}
 use Rattle.masked_bytes.proofs.Truth.{and_first, and_second}
 use Rattle.module_shape.specs.Limits.{is_power_between, large_limits}
-use Rattle.pcm_image.specs.Giving.{Gives}
-use Rattle.pcm_image.specs.Reading.{Cursor, field, any, byte_at, number_at, times, is_size, is_size_of, entry_at}
+use Rattle.pcm_image.specs.{Giving.Gives, Reading.{Cursor, field, any, byte_at, number_at, times, is_size, is_size_of, entry_at}}
 use Rattle.pcm_image.specs.Saved.{Saved, SavedBank, Head, IsHeadIn, IsSavedIn, IsSavedBank, IsSavedEntry, IsSavedRegion, IsSavedRow, slots_in, array_lines_in, is_lines_in}
-use Rattle.pcm_image.specs.Spelling.{u8, u16, u32, u64, entry_bytes}
-use Rattle.pcm_image.specs.{declared.EntryImage.EntryImage, declared.RegionImage.RegionImage, declared.fields.ReadImage.ReadImage}
+use Rattle.pcm_image.specs.{Spelling.{u8, u16, u32, u64, entry_bytes}, declared.EntryImage.EntryImage, declared.RegionImage.RegionImage, declared.fields.ReadImage.ReadImage}
+use Rattle.pcm_image.proofs.Loop.{gives_on}
+use Rattle.pcm_image.proofs.Pairs.{IsBytes, bind_ok, bound, ok_is, passed, Takes, Takes-then, IsPair, IsField, field_pair, Passes, number_pair, byte_pair, wide16, wide32, wide64}
+use Rattle.pcm_image.proofs.{Pairs.{times_takes, times_again}, Whole.all_to}
 use Rattle.pcm_image.specs.declared.ImageKind.TheVariants as kind
-use Rattle.pcm_image.proofs.{Loop.gives_on, Whole.all_to}
-use Rattle.pcm_image.proofs.Pairs.{IsBytes, bind_ok, bound, ok_is, passed, Takes, Takes-then, IsPair, IsField, field_pair, Passes, number_pair, byte_pair, wide16, wide32, wide64, times_takes, times_again}
 use Rattle.large_image.specs.Spelling.{magic, head_bytes, region_bytes, bank_bytes, rows_bytes, end_mark, large_front, large_bytes}
-use Rattle.large_reader.specs.Reading.{size_at, size_of, head_at, region_at, bank_at, rows_at, large_of}
-use Rattle.large_reader.proofs.{Heads.{HeadFits, head-fits, slots-few, array_lines-few}, Cells.{RowFits, AreTaken, rows_takes, rows_again}}
-use Rattle.large_reader.proofs.Entries.{le_true, true_le, lt_true, true_lt, all_map, EntryFits, entry_pair, entry_saved}
+use Rattle.large_reader.{specs.Reading.{size_at, size_of, head_at, region_at, bank_at, rows_at, large_of}, proofs.Cells.{RowFits, AreTaken, rows_takes, rows_again}}
+use Rattle.large_reader.proofs.{Entries.{le_true, true_le, lt_true, true_lt, all_map, EntryFits, entry_pair, entry_saved}, Heads.{HeadFits, head-fits, slots-few, array_lines-few}}
 
 -- ---- a region
 

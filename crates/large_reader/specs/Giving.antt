@@ -2,7 +2,7 @@
 -- where none is.
 use Rattle.std.specs.Prelude.{ℕ, ◌+◌, ◌==◌, ◌&&◌, ◌||◌, nat_le, nat_lt, Bool, length}
 use Rattle.cell_rows.specs.Rows.{zero_row}
-use Rattle.pcm_image.specs.{Reading.Cursor}
+use Rattle.pcm_image.specs.Reading.{Cursor}
 use Rattle.large_image.specs.Spelling.{end_mark}
 use Rattle.large_reader.specs.declared.image.LargeRow.{LargeRow}
 

@@ -1,12 +1,10 @@
 -- The image of a large module read from left to right, field by field, up to the first that fails.
-use Rattle.std.specs.Int.{w16, w32, w64}
-use Rattle.std.specs.Prelude.{ℕ, zero, suc, ◌+◌, ◌*◌, ◌==◌, nat_lt, nat_le, Bool, not, if◌then◌else◌, List, [], ◌∷◌, length, Result, Ok}
-use Rattle.std.specs.Str.{bytes_eq}
+use Rattle.std.specs.{Int.{w16, w32, w64}, Prelude.{ℕ, zero, suc, ◌+◌, ◌*◌, ◌==◌, nat_lt, nat_le, Bool, not, if◌then◌else◌, List, [], ◌∷◌, length, Result, Ok}, Str.bytes_eq}
 use Rattle.cell_rows.specs.{Rows.zero_row, declared.row.Cells.Cells}
 use Rattle.module_shape.specs.Limits.{is_power_between, large_limits}
-use Rattle.pcm_image.specs.Saved.{Saved, SavedBank, Head, array_lines_in, is_lines_in, slots_in}
 use Rattle.pcm_image.specs.Reading.{Cursor, Got, fault, ◌>>=◌, field, byte_at, number_at, any, times, is_size, is_size_of, entry_at, row_of, only_size}
-use Rattle.pcm_image.specs.declared.{RegionImage.RegionImage, ImageFault.ImageFault, ImageKind.TheVariants.{Magic, Size, Shape, Bank, Line, Extra}}
+use Rattle.pcm_image.specs.{Saved.{Saved, SavedBank, Head, array_lines_in, is_lines_in, slots_in}, declared.ImageFault.ImageFault}
+use Rattle.pcm_image.specs.{declared.ImageKind.TheVariants.{Magic, Size, Shape, Bank, Line, Extra}, declared.RegionImage.RegionImage}
 use Rattle.large_image.specs.Spelling.{magic, are_zero, end_mark}
 
 -- the first two fields; the size of a line passes a test

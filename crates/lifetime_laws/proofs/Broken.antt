@@ -7,9 +7,9 @@ use Rattle.row_rules.specs.{Answers.is_stored, Rows.is_cut, Ticking.tries, decla
 use Rattle.bank_shape.specs.{Pausing.is_cancelling, declared.BankShape.BankShape, declared.pace.Pace.Pace, declared.pace.Policy.Policy}
 use Rattle.bank_shape.specs.declared.pace.Policy.TheVariants.{Pause, Plain, Cancel}
 use Rattle.bank_shape.specs.declared.answer.Step.TheVariants as did
-use Rattle.bank_model.specs.{After.target_after, Changes.{change_after, change_by}, Events.{BankEvent, Begin, Iterate, Cut}}
-use Rattle.bank_model.specs.{History.{in_progress, goes_on, moved_in, stored_in}, Lawful.{Lawful, MayCome}, Running.{cancels_after, cancels_with}, Sensing.most_steps}
-use Rattle.bank_model.specs.{Timing.{Happens, Core, Regs, TimedEvent, core, core_of}, Works.{tally, works_on}}
+use Rattle.bank_model.specs.{After.target_after, Changes.{change_after, change_by}, Events.{BankEvent, Begin, Iterate, Cut}, History.{in_progress, goes_on, moved_in, stored_in}}
+use Rattle.bank_model.specs.{Lawful.{Lawful, MayCome}, Running.{cancels_after, cancels_with}, Sensing.most_steps, Timing.{Happens, Core, Regs, TimedEvent, core, core_of}}
+use Rattle.bank_model.specs.Works.{tally, works_on}
 use Rattle.bank_laws.{specs.Outcomes.table_of, proofs.Targets.{WorkAfter, spares_work, working, target-same}, proofs.Waiting.may_all}
 use Rattle.right_runs.specs.{LineWrites.{stores_at, most_works}, Places.region_stores}
 use Rattle.place_laws.proofs.{Cancels.cancels-kept, Moves.keeps, Pulses.cuts-counted, Storing.{stored-counted, region-stored}, Tables.region-all, Trying.{cuts_in, cuts_power}}

@@ -7,9 +7,8 @@ use Rattle.bank_shape.specs.{Pausing.is_cancelling, Shape.{slots_of, control_lin
 use Rattle.bank_shape.specs.declared.Home.TheVariants as home
 use Rattle.bank_shape.specs.declared.answer.Step.TheVariants as did
 use Rattle.bank_model.specs.{After.work_after, Answers.MayAll, Changes.{item_if, change_after, keeping_after, rounds_after, halted_after, line_of_change}}
-use Rattle.bank_model.specs.Events.{BankEvent, Begin, Iterate, line_of_row}
-use Rattle.bank_model.specs.{History.{first_or, stores, stored_in, moved_in, retired, has_exhausted, in_progress}, Lawful.Lawful, Running.{busy_by, busy_after, cancels_after}}
-use Rattle.bank_model.specs.{Sensing.{is_at, most_steps, pulses_of}, Timing.{TimedEvent, core}, Works.{written_on, rounds_on}}
+use Rattle.bank_model.specs.{Events.{BankEvent, Begin, Iterate, line_of_row}, History.{first_or, stores, stored_in, moved_in, retired, has_exhausted, in_progress}, Lawful.Lawful}
+use Rattle.bank_model.specs.{Running.{busy_by, busy_after, cancels_after}, Sensing.{is_at, most_steps, pulses_of}, Timing.{TimedEvent, core}, Works.{written_on, rounds_on}}
 use Rattle.bank_laws.{specs.Laws.IsSized, specs.Outcomes.table_of, proofs.Waiting.may_all}
 use Rattle.right_runs.specs.{LineWrites.{most_changes, most_kept}, Places.region_stores}
 use Rattle.place_laws.proofs.{Cancels.cancels-kept, Moves.keeps, Pulses.{cuts-counted, bounded}, Slots.{begin-retires_none, begin-exhausts_none}}

@@ -6,9 +6,8 @@ use Rattle.spare_pool.{specs.Table.line_from, proofs.Lines.{only_own, line_from-
 use Rattle.bank_shape.specs.{Shape.{slots_of, slot_at}, declared.BankShape.BankShape, declared.Work.Work, declared.Work.TheVariants.{Nothing, Store, Copy}}
 use Rattle.bank_shape.specs.declared.answer.Step.{Step}
 use Rattle.bank_shape.specs.declared.answer.Step.TheVariants as did
-use Rattle.bank_model.specs.{After.{work_after, due_work, slot_of_work, array_line_after, target_after}, Answers.{IsDone, MayAll}}
-use Rattle.bank_model.specs.{Events.{BankEvent, Begin, Iterate, Cut}, History.{in_progress, retired, has_exhausted, moved_in, due_after, queue}}
-use Rattle.bank_model.specs.Works.{tally, works_on}
+use Rattle.bank_model.specs.{After.{work_after, due_work, slot_of_work, array_line_after, target_after}, Answers.{IsDone, MayAll}, Events.{BankEvent, Begin, Iterate, Cut}}
+use Rattle.bank_model.specs.{History.{in_progress, retired, has_exhausted, moved_in, due_after, queue}, Works.{tally, works_on}}
 use Rattle.place_laws.proofs.{Moves.{last_region, some-due}, Slots.{IsAway, away-more, begin-retires_none, begin-exhausts_none}, Working.done-move}
 use Rattle.bank_laws.proofs.Targets.{WorkAfter, working, unexhausted}
 use Rattle.lifetime_laws.{specs.Spread.passing, proofs.Counting.{passing-at, passing-within}, proofs.Landing.{any, stored_tally}}

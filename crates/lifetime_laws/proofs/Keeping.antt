@@ -8,8 +8,8 @@ use Rattle.bank_shape.specs.{declared.clock.Doing.TheVariants.Iterating, declare
 use Rattle.bank_shape.specs.declared.answer.Keep.TheVariants as keep
 use Rattle.bank_model.specs.After.{work_after, slot_of_work, target_after}
 use Rattle.bank_model.specs.Changes.{change_after, change_by, changed_by, keeping_after, keeping_by, rounds_after, rounds_by, halted_after, halted_by, line_of_change}
-use Rattle.bank_model.specs.{Events.{BankEvent, Begin, Iterate, Cut}, History.retired, Lawful.{Lawful, MayCome}}
-use Rattle.bank_model.specs.{Running.{running_at, cancels_after, cancels_with}, Sensing.{is_at, most_steps, pulses_of, pulsed_by, torn_control, kept_pulsed}}
+use Rattle.bank_model.specs.{Events.{BankEvent, Begin, Iterate, Cut}, History.retired, Lawful.{Lawful, MayCome}, Running.{running_at, cancels_after, cancels_with}}
+use Rattle.bank_model.specs.Sensing.{is_at, most_steps, pulses_of, pulsed_by, torn_control, kept_pulsed}
 use Rattle.bank_model.specs.{Timing.{Happens, Core, Regs, KeepBegin, KeepIterate, KeepCut, TimedEvent, is_doing, core, core_of}, Works.{ends_keeping, is_written, written_on}}
 use Rattle.bank_laws.{specs.Laws.IsSized, proofs.Changing.halted-stops, proofs.Settling.above_all, proofs.Waiting.may_all}
 use Rattle.place_laws.proofs.{Cancels.cancels-kept, Moves.next_product, Slots.retired-few, Trying.{cuts_in, cuts_power}}

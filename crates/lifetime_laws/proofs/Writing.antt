@@ -2,9 +2,9 @@
 use Rattle.std.proofs.Common.{◌≡◌, ℕ, ◌+◌, ◌*◌, ◌<◌, ◌≤◌, ◌==◌, ◌&&◌, not, Bool, true, false, List, [], ◌∷◌, Option, None, refl, ap, subst, arith, cond}
 use Rattle.cell_rows.specs.Device.{counted}
 use Rattle.bank_shape.specs.{Shape.controls_from, declared.BankShape.BankShape, declared.pace.Pace.Pace}
-use Rattle.bank_model.specs.{After.target_after, Changes.change_after, Events.{BankEvent, Begin, Iterate, Cut}, History.{goes_on, in_progress, iterated}}
-use Rattle.bank_model.specs.{Lawful.{Lawful, MayCome}, Running.running_at, Sensing.{is_at, most_steps, pulses_of, pulsed_by, torn_control}}
-use Rattle.bank_model.specs.{Timing.{Happens, Core, Regs, TimedEvent, core, core_of}, Works.{works_on, held_on}}
+use Rattle.bank_model.specs.{After.target_after, Changes.change_after, Events.{BankEvent, Begin, Iterate, Cut}, History.{goes_on, in_progress, iterated}, Lawful.{Lawful, MayCome}}
+use Rattle.bank_model.specs.{Running.running_at, Sensing.{is_at, most_steps, pulses_of, pulsed_by, torn_control}, Timing.{Happens, Core, Regs, TimedEvent, core, core_of}}
+use Rattle.bank_model.specs.Works.{works_on, held_on}
 use Rattle.bank_laws.proofs.{Targets.{WorkAfter, spares_work, working, target-same}, Waiting.may_all}
 use Rattle.bank_laws.proofs.Works.{counted-few, more-goes_on, tearing-going, zeros, kept-elsewhere, torn-elsewhere, idle-held, busy-held, held-same, going-held}
 use Rattle.place_laws.proofs.Pulsing.{begins-idle}

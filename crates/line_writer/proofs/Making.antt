@@ -3,8 +3,7 @@ use Rattle.std.proofs.Common.{◌≡◌, ℕ, ◌+◌, ◌-◌, ◌*◌, ◌<◌
 use Rattle.std.proofs.lemmas.Bool.{cases_eq, and_from, eq-eqb, ne_eqb, cond-true, cond-false}
 use Rattle.cell_rows.specs.{Rows.{bit_of, cell, xor}, declared.row.Cells.Cells}
 use Rattle.program_verify.specs.{Programming.IsGoing, declared.prog.Prog.Prog}
-use Rattle.ecp_line.specs.Layout.{source_below, pointer, is_pointer_cell, switch_cell, Prefix, IsLayout}
-use Rattle.ecp_line.proofs.Places.{full-lt, entry-order, activity-lt}
+use Rattle.ecp_line.{specs.Layout.{source_below, pointer, is_pointer_cell, switch_cell, Prefix, IsLayout}, proofs.Places.{full-lt, entry-order, activity-lt}}
 use Rattle.line_writer.{specs.Phases.{IsReady, IsPointing, IsSwitching}, proofs.Keeping.{switch-zero, switch-early, switch-last, early_or_last}}
 
 -- a programming that was made of these parts

@@ -1,7 +1,7 @@
 -- The report on array lines: a header, and one row for each array line, from 0 on.
 use Rattle.std.specs.{List.join_with_byte, Prelude.{ℕ, ◌+◌, List, [], ◌∷◌, ◌++◌, codes, decimal, Option, None, Some}}
-use Rattle.cell_wear.specs.declared.tells.CellWear.{CellWear}
-use Rattle.wear_report.specs.WearText.{role_text}
+use Rattle.cell_rows.specs.declared.tells.CellWear.{CellWear}
+use Rattle.run_text.specs.WearText.{role_text}
 use Rattle.bank_shape.specs.declared.Role.{Role}
 use Rattle.energy_report.specs.EnergyText.{energy_text}
 use Rattle.lines_report.specs.declared.row.LineCells.{LineCells}

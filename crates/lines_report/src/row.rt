@@ -9,12 +9,10 @@ ghost use Rattle.lines_report.specs.declared.row.LineCells.{LineCells as CellsOf
 ghost use Rattle.lines_report.specs.LinesText.{changes_text, lines_header_text, lines_row_text, lines_text, stuck_text};
 
 use bank_shape::Role;
-use cell_rows::LineEnergy;
-use cell_wear::CellWear;
+use cell_rows::{CellWear, LineEnergy};
 use energy_report::push_energy;
 use pcm_io::{Sink, Text, WriteFault};
-use run_text::{ROW_ROOM, TEXT_ROOM, make_room};
-use wear_report::push_role;
+use run_text::{ROW_ROOM, TEXT_ROOM, make_room, push_role};
 
 /// What the cells of an array line say of it.
 #[derive(Clone, Copy, Debug, Drop, PartialEq, Eq)]

@@ -4,8 +4,7 @@ use Rattle.masked_bytes.{specs.Entries.{newest_row, has_row}, specs.Masked.{join
 use Rattle.bank_shape.specs.declared.BankShape.{BankShape}
 use Rattle.bank_shape.specs.declared.answer.WriteAnswer.TheVariants as wrote
 use Rattle.bank_shape.specs.declared.answer.Step.TheVariants as did
-use Rattle.bank_model.specs.{Answers.{MayAll, head_busy_after}, Events.{BankEvent, Write, Read, Begin, Iterate, RowsBelow, line_of_row, newest}}
-use Rattle.bank_model.specs.History.{queue, due_after}
+use Rattle.bank_model.specs.{Answers.{MayAll, head_busy_after}, Events.{BankEvent, Write, Read, Begin, Iterate, RowsBelow, line_of_row, newest}, History.{queue, due_after}}
 use Rattle.bank_laws.proofs.{Answering.{IsHead, head-there, stored-head}, Entries.either, Lines.merged-candidate, Pairs.keeps_pairs, Standing.stand_apart}
 use Rattle.log_laws.proofs.Fitting.{out_with, out_with-not, Grows, Fits, fits-push, fits-push_other, fits-merged, fits-merged_other, fits-begun, fits-drop}
 use Rattle.log_laws.proofs.Naming.{Named, named-push, named-drop, named-begun, named-too, named-merged}

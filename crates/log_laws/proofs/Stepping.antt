@@ -9,9 +9,8 @@ use Rattle.bank_shape.specs.{declared.answer.Step.Step, declared.clock.Action.Ac
 use Rattle.bank_shape.specs.declared.answer.Keep.TheVariants as keep
 use Rattle.bank_model.specs.After.{target_after, sources_of, work_after}
 use Rattle.bank_model.specs.Changes.{change_after, change_by, written_by, keeping_after, keeping_by, halted_after, halted_by, line_of_change, all_controls}
-use Rattle.bank_model.specs.{Events.{BankEvent, Serve, Begin, Iterate, Cut}, History.{queue, due_after, has_exhausted, in_progress}}
-use Rattle.bank_model.specs.{Lawful.{Lawful, MayCome, IsNext, IsNextKept}, Running.{tears_bank, running, running_at, chosen_after, left, left_by}}
-use Rattle.bank_model.specs.Sensing.{is_at, most_steps, pulses_of, read_again, kept_sensed}
+use Rattle.bank_model.specs.{Events.{BankEvent, Serve, Begin, Iterate, Cut}, History.{queue, due_after, has_exhausted, in_progress}, Lawful.{Lawful, MayCome, IsNext, IsNextKept}}
+use Rattle.bank_model.specs.{Running.{tears_bank, running, running_at, chosen_after, left, left_by}, Sensing.{is_at, most_steps, pulses_of, read_again, kept_sensed}}
 use Rattle.bank_model.specs.Timing.{Happens, Core, Regs, Keeping, KeepBegin, KeepIterate, KeepCut, TimedEvent, is_doing, core, core_of, last_tick}
 use Rattle.bank_laws.{specs.Laws.IsSized, specs.Outcomes.rows_from, specs.Settling.AreOpen, specs.Ticks.ends_action, proofs.Changing.{changed-idle, halted-stops}}
 use Rattle.bank_laws.proofs.{Counted.{counted-cases, pulses-few}, Entries.either, Settling.lawful_before}

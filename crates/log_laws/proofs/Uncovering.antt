@@ -7,8 +7,7 @@ use Rattle.masked_bytes.specs.Masked.{joined, none_given, gives_all}
 use Rattle.row_rules.specs.{Answers.{accepts, is_stored, stored_by}, Queueing.{unstored, cover}, Rows.write_of, declared.Row.Row}
 use Rattle.bank_shape.specs.{declared.BankShape.BankShape, declared.answer.WriteAnswer.WriteAnswer, declared.pace.Pace.Pace}
 use Rattle.bank_shape.specs.declared.answer.WriteAnswer.TheVariants as wrote
-use Rattle.bank_model.specs.{Events.{Write, Cut}, History.queue, Lawful.{Lawful, MayCome}, Sensing.most_steps}
-use Rattle.bank_model.specs.Timing.{Happens, Core, TimedEvent, core, core_of, last_tick}
+use Rattle.bank_model.specs.{Events.{Write, Cut}, History.queue, Lawful.{Lawful, MayCome}, Sensing.most_steps, Timing.{Happens, Core, TimedEvent, core, core_of, last_tick}}
 use Rattle.bank_laws.specs.{Laws.IsSized, Outcomes.{outcome_of, ended, row_with, rows_from}, Settling.AreOpen, Ticks.ends_action}
 use Rattle.bank_laws.proofs.{Ending.{Onwards, write_outcome, outcome-accepts}, Entries.either, Given.given_of, Later.{last-later, stored_above}, Serves.{may_at, onwards_at}}
 use Rattle.bank_laws.proofs.{Settling.{opens, above_all, lawful_before, stays}, Ticks.last_tick-rises, Waiting.may_all, Walking.rows_after}

@@ -2,11 +2,10 @@
 use Rattle.std.specs.Prelude.{◌≡◌, ℕ, zero, suc, ◌+◌, List, [], ◌∷◌, ◌++◌, length, Option}
 use Rattle.cell_rows.specs.Device.{ArrayState}
 use Rattle.pcm_io.specs.Reserved.{Reserved}
-use Rattle.wear_report.specs.WearText.{wear_header_text, wear_row_text}
+use Rattle.run_text.specs.{Gathering.Printed, WearText.{wear_header_text, wear_row_text}}
 use Rattle.lines_report.specs.{LinesText.{lines_header_text, lines_row_text}, declared.row.LineCells.LineCells}
 use Rattle.bank_shape.specs.declared.Role.{Role}
 use Rattle.right_runs.specs.Ends.{BankEnd}
-use Rattle.run_text.specs.Gathering.{Printed}
 use Rattle.pcm_module.specs.State.{AreEndsOf, ModuleState}
 use Rattle.module_prints.specs.{WearReports.{HaveRoles, IsWearRow}, declared.pulsed.Report.Report, declared.pulsed.Report.TheVariants.{Wear, Lines}}
 

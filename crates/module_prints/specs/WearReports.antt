@@ -1,7 +1,6 @@
 -- What the wear report says of the array lines of a module.
 use Rattle.std.specs.Prelude.{◌≡◌, ℕ, ◌/◌, ◌<◌, List, length, IsSomeAnd, slice_get, Option}
-use Rattle.cell_rows.specs.{Device.ArrayState, Rows.cell}
-use Rattle.cell_wear.specs.Told.{wear_told}
+use Rattle.cell_rows.specs.{Device.ArrayState, Rows.cell, Told.wear_told}
 use Rattle.ecp_line.specs.Layout.{active}
 use Rattle.lines_report.specs.declared.row.LineCells.{LineCells}
 use Rattle.bank_shape.specs.declared.Role.{Role}

@@ -7,7 +7,7 @@ ghost use Rattle.pcm_io.specs.Reserved.{reserved};
 ghost use Rattle.energy_report.specs.EnergyText.{energy_report};
 ghost use Rattle.module_shape.specs.Addresses.{array_lines_of, module_of};
 
-use cell_wear::TellsCells;
+use cell_rows::TellsCells;
 use energy_report::print_energy_report;
 use pcm_io::{Sink, Text, WriteFault};
 use pcm_module::Module;

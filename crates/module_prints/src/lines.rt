@@ -12,7 +12,7 @@ ghost use Rattle.right_runs.specs.Ends.{BankEnd};
 ghost use Rattle.pcm_module.specs.State.{AreEndsOf};
 ghost use Rattle.module_prints.specs.WearReports.{HaveRoles, IsWearReport, cells_at};
 
-use cell_wear::TellsCells;
+use cell_rows::TellsCells;
 use ecp_line::Ecp;
 use lines_report::{LineCells, print_lines_header, print_lines_row};
 use pcm_io::{Sink, Text, WriteFault};

@@ -16,12 +16,11 @@ ghost use Rattle.module_prints.specs.PulsedLines.{PrintsNext, header_of, pulsed_
 
 use crate::lines::line_cells;
 use bank_shape::Role;
-use cell_wear::TellsCells;
+use cell_rows::TellsCells;
 use lines_report::{print_lines_header, push_row};
 use pcm_io::{Sink, Text, WriteFault};
 use pcm_module::Module;
-use run_text::{ROW_ROOM, TEXT_ROOM, make_room, print_rest, print_wear_header};
-use wear_report::print_role;
+use run_text::{ROW_ROOM, TEXT_ROOM, make_room, print_rest, print_role, print_wear_header};
 
 /// A report with a row for each array line.
 #[derive(Clone, Copy, Debug, Drop, PartialEq, Eq)]

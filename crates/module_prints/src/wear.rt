@@ -5,7 +5,7 @@ ghost use Rattle.pcm_io.specs.Faults.{Rose};
 ghost use Rattle.pcm_io.specs.Giving.{AppendsPrefix};
 ghost use Rattle.pcm_io.specs.Reserved.{reserved};
 ghost use Rattle.bank_shape.specs.declared.Role.{Role};
-ghost use Rattle.wear_report.specs.WearText.{wear_text};
+ghost use Rattle.run_text.specs.WearText.{wear_text};
 ghost use Rattle.module_shape.specs.Addresses.{array_lines_of, module_of};
 ghost use Rattle.right_runs.specs.Ends.{BankEnd};
 ghost use Rattle.pcm_module.specs.State.{AreEndsOf};

@@ -2,9 +2,10 @@
 use Rattle.std.proofs.Common.{◌≡◌, ℕ, ◌+◌, ◌*◌, ◌^◌, ◌<◌, ◌≤◌, Bool, true, false, ◌&&◌, nat_le, List, [], ◌∷◌, None, refl, ap, ◌∙◌, arith}
 use Rattle.std.{specs.Int.is_power_of_two, proofs.Math.Nat.{mul_assoc, mul_comm, mul-add}, proofs.lemmas.Bool.and_parts, proofs.lemmas.Bool.Decides.nat_tests}
 use Rattle.std.proofs.lemmas.Nat.{mul-le}
-use Rattle.module_shape.specs.{Addresses.{module_of, lines_of}, Limits.{is_between, total_of, limits, first_broken, is_small, large_limits, small_limits, most_array_lines, shape_fault, IsShape, IsSmall}, declared.raw.Field.Field}
+use Rattle.module_shape.specs.Addresses.{module_of, lines_of}
+use Rattle.module_shape.specs.Limits.{is_between, total_of, limits, first_broken, is_small, large_limits, small_limits, most_array_lines, shape_fault, IsShape, IsSmall}
+use Rattle.module_shape.{specs.declared.raw.Field.Field, specs.declared.raw.RawShape.RawShape, specs.declared.raw.SizeLimits.SizeLimits, proofs.Powers.size_of_powers}
 use Rattle.feistel_map.specs.Log2.{log2}
-use Rattle.module_shape.{specs.declared.raw.SizeLimits.SizeLimits, specs.declared.raw.RawShape.RawShape, proofs.Powers.size_of_powers}
 
 between : (least most n : ℕ) → is_between least most n ≡ true → (least ≤ n) × (n ≤ most)
 between least most n h =

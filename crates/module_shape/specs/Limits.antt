@@ -3,7 +3,8 @@ use Rattle.std.specs.{Int.is_power_of_two, Prelude.{◌≡◌, ℕ, ◌*◌, ◌
 use Rattle.feistel_map.specs.Log2.{log2}
 use Rattle.start_gap.specs.Rotation.{most_lines}
 use Rattle.module_shape.specs.{declared.raw.BadShape.BadShape, declared.raw.Field.Field}
-use Rattle.module_shape.specs.{declared.raw.Field.TheVariants.{Banks, Regions, Lines, Total, Spares, Writes, Reads, Psi, ReadTicks, IterTicks}, declared.raw.SizeLimits.SizeLimits, declared.raw.RawShape.RawShape}
+use Rattle.module_shape.specs.{declared.raw.Field.TheVariants.{Banks, Regions, Lines, Total, Spares, Writes, Reads, Psi, ReadTicks, IterTicks}, declared.raw.RawShape.RawShape}
+use Rattle.module_shape.specs.declared.raw.SizeLimits.{SizeLimits}
 
 -- whether a number lies between two others
 abbrev pub is_between : ℕ → ℕ → ℕ → Bool

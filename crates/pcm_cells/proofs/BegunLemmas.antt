@@ -1,7 +1,7 @@
 -- Young lines from their first pulse on.
 use Rattle.std.proofs.Common.{◌≡◌, ◌≢◌, ℕ, ◌<◌, Bool, List, length, refl, ◌∙◌, ap, arith, get_or-set_same, get_or-set_other, Option, Some, None}
 use Rattle.cell_rows.specs.{declared.array.Wear.Wear, declared.row.Cells.Cells}
-use Rattle.pcm_cells.specs.{Begun.{AgesLine, Starts}, PageTable.{AgesPage, page_at}, Tiers.{AgesYoung, young_or_blank}, Young.{MayAge}, declared.young.Young.Young}
+use Rattle.pcm_cells.specs.{Begun.{AgesLine, Starts}, PageTable.{AgesPage, page_at}, Tiers.{AgesYoung, young_or_blank}, Young.MayAge, declared.young.Young.Young}
 use Rattle.pcm_cells.proofs.YoungLemmas.{blank_begins, changes-none}
 
 -- ---- of cells that don't miss

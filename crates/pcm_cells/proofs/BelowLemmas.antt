@@ -3,8 +3,7 @@ use Rattle.std.proofs.Common.{◌≡◌, ℕ, ◌<◌, ◌≤◌, Bool, List, le
 use Rattle.std.proofs.lemmas.Option.{same_Some}
 use Rattle.cell_rows.specs.{declared.array.Wear.Wear, declared.row.Cells.Cells}
 use Rattle.pcm_cells.specs.{Begun.{AgesLine, pulses_before}, Below.AgesBelow, PageTable.{AgesPage, page_at}, Paged.AreYoung, Tiers.{by_first, by_later, tier_of}}
-use Rattle.pcm_cells.specs.{declared.first.First.First, declared.later.Later.Later, declared.young.Young.Young}
-use Rattle.pcm_cells.proofs.TierLemmas.{tier-first, tier-later}
+use Rattle.pcm_cells.{specs.declared.first.First.First, specs.declared.later.Later.Later, specs.declared.young.Young.Young, proofs.TierLemmas.{tier-first, tier-later}}
 
 -- a page is pulsed, by which its line is seen
 pub below_page : {X : Type 0} {B M : ℕ} (young : X → Young B M) (limit line : ℕ) (tearing : Bool) (mask want : Cells B M) (old new : List (Option X))

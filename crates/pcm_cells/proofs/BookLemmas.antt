@@ -1,8 +1,7 @@
 -- Where a page stands in chunks, and what one more page and a change of one make of them.
 use Rattle.std.proofs.Common.{◌≡◌, ℕ, zero, suc, ◌+◌, ◌-◌, ◌*◌, ◌/◌, ◌%◌, ◌<◌, ◌≤◌, min, List, [], ◌∷◌, ◌++◌, length, get_or, set, refl, sym, ◌∙◌, ap, subst, inl, inr, arith, length-append, Vec, vec_capacity}
-use Rattle.std.{specs.declared.alloc.Global.Global, proofs.Math.ListN.get_or-append, proofs.lemmas.Bool.cases_lt}
+use Rattle.std.{specs.declared.alloc.Global.Global, proofs.Math.ListN.get_or-append, proofs.Math.Seq.get_or-append_right, proofs.lemmas.Bool.cases_lt}
 use Rattle.std.proofs.lemmas.List.{append-nil, append_assoc, set-append_left, set-append_right}
-use Rattle.std.proofs.Math.Seq.{get_or-append_right}
 use Rattle.pcm_cells.specs.Book.{Hold, chunk_room, pages_in}
 
 -- ---- numbers

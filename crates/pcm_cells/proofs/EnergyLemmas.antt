@@ -1,10 +1,9 @@
 -- What a pulse drives, and what becomes of the counts.
 use Rattle.std.proofs.Common.{◌≡◌, ℕ, zero, suc, ◌+◌, ◌-◌, ◌*◌, ◌^◌, ◌<◌, ◌≤◌, bit_and, ◌&&◌, Bool, true, false, not, cond, List, [], length, length-set, set, replicate, refl, sym, ◌∙◌, ap, arith, Option, Some, None, get_or-set_same, get_or-set_other}
-use Rattle.std.proofs.lemmas.{List.{get_or-replicate, length-replicate}, Option.{none-some, same_Some}}
-use Rattle.std.specs.{Option.option_map, Prelude.{IfSome, is_some}}
-use Rattle.std.specs.Int.RustNames.{count_ones}
-use Rattle.cell_rows.proofs.{BlockLemmas.count_bits, ByteLemmas.digit_and, RowLemmas.{members_le, members-zero}}
+use Rattle.std.{specs.Int.RustNames.count_ones, specs.Option.option_map, specs.Prelude.{IfSome, is_some}, proofs.lemmas.List.{get_or-replicate, length-replicate}}
+use Rattle.std.proofs.lemmas.Option.{none-some, same_Some}
 use Rattle.cell_rows.specs.{Device.{ArrayState, EnergyChanges}, Energy.no_energy, Rows.{bit_in, members}, declared.array.LineEnergy.LineEnergy}
+use Rattle.cell_rows.proofs.{BlockLemmas.count_bits, ByteLemmas.digit_and, RowLemmas.{members_le, members-zero}}
 use Rattle.pcm_cells.specs.Energies.{energy_at, energy_or_none, energy_told}
 
 abbrev as_one : Bool → ℕ

@@ -1,11 +1,11 @@
 -- Lines and their pages.
 use Rattle.std.proofs.Common.{◌≡◌, ◌≢◌, ℕ, ◌<◌, Bool, cond, length, replicate, get_or, refl, sym, ◌∙◌, ap, subst, inl, inr, arith, Option, Some, None}
-use Rattle.std.{specs.Option.option_map, proofs.lemmas.{Bool.cases_lt, List.{get_or_past, length-replicate}, Option.{none-some, same_Some}}}
-use Rattle.std.proofs.lemmas.List.FromFn.{get_or-map-range_with_len, length-map-range_with_len}
+use Rattle.std.{specs.Option.option_map, proofs.lemmas.Bool.cases_lt, proofs.lemmas.List.{get_or_past, length-replicate}}
+use Rattle.std.proofs.{lemmas.List.FromFn.{get_or-map-range_with_len, length-map-range_with_len}, lemmas.Option.{none-some, same_Some}}
 use Rattle.cell_rows.specs.{Device.counted, Rows.cell, declared.array.Wear.Wear, declared.row.Cells.Cells}
-use Rattle.pcm_cells.specs.{Follows.Follows, PageTable.page_at, Paged.{AreYoung, line_seen}, Pages.drawn_line, Paging.{seen, lines_seen}, Young.grown_line, Youths.young_at}
-use Rattle.pcm_cells.specs.{Seeded.{LifeLine, SeededArray, IsDrawn, Wears, lifeless, seeded, seeded_cell, seeded_line}, declared.pages.Pages.Pages, declared.young.Young.Young}
-use Rattle.pcm_cells.proofs.{PageLemmas.drawn_is, TierLemmas.page-none}
+use Rattle.pcm_cells.specs.{Follows.Follows, PageTable.page_at, Paged.{AreYoung, line_seen}, Pages.drawn_line, Paging.{seen, lines_seen}}
+use Rattle.pcm_cells.specs.{Seeded.{LifeLine, SeededArray, IsDrawn, Wears, lifeless, seeded, seeded_cell, seeded_line}, Young.grown_line, Youths.young_at}
+use Rattle.pcm_cells.{specs.declared.pages.Pages.Pages, specs.declared.young.Young.Young, proofs.PageLemmas.drawn_is, proofs.TierLemmas.page-none}
 
 -- ---- what pages say
 

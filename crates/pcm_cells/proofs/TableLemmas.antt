@@ -1,9 +1,10 @@
 -- Numbers of lines by blocks, and pages by such numbers.
 use Rattle.std.proofs.Common.{◌≡◌, ◌≢◌, ℕ, zero, suc, ◌+◌, ◌*◌, ◌/◌, ◌%◌, ◌^◌, ◌<◌, ◌≤◌, List, [], ◌∷◌, ◌++◌, length, map, replicate, get_or, set, refl, sym, ◌∙◌, ap, subst, inl, inr, arith, slice_index, length-set, get_or-set_same, get_or-set_other, length-append, Option, Some, None, not, eqb, true}
-use Rattle.std.{specs.List.{sum_by}, specs.Prelude.{All, IsSome, MatchOption, is_some, option_to_list, slice_get}, proofs.Math.ListN.get_or-append, proofs.lemmas.Bool.{cases_eq, cases_lt, Decides.eqb_tells}}
-use Rattle.std.proofs.{Math.ListN.{get_or-map as read}, lemmas.List.{append-nil, ext_get_or, get_or_past, get_or_push, length-map, length-replicate, map-set, nil_from_length, set-get_or}}
+use Rattle.std.{specs.List.sum_by, specs.Prelude.{All, IsSome, MatchOption, is_some, option_to_list, slice_get}, proofs.Math.ListN.{get_or-append, get_or-map as read}}
+use Rattle.std.proofs.{lemmas.Bool.{cases_eq, cases_lt}, lemmas.Bool.Decides.eqb_tells, lemmas.Grind.get_or_default_zero}
+use Rattle.std.proofs.lemmas.List.{append-nil, ext_get_or, get_or_past, get_or_push, length-map, length-replicate, map-set, nil_from_length, set-get_or}
 use Rattle.std.proofs.{lemmas.List.Folds.sum_by-replicate, lemmas.List.FromFn.{get_or-map-range_with_len, length-map-range_with_len}, lemmas.List.Sums.{sum_by-le, sum_by-set}}
-use Rattle.std.proofs.lemmas.{Grind.get_or_default_zero, Option.{none-some, slice_get-get_or}}
+use Rattle.std.proofs.lemmas.Option.{none-some, slice_get-get_or}
 use Rattle.pcm_cells.specs.{PageTable.{page_at, page_of, pages_of}, Table.{AreBlocks, AreIdle, IsPaging, IsShelf, IsTable, block_lines, free, number_at, number_in, numbers_of}}
 
 zero_at : (k n : ℕ) → slice_index (replicate k 0) n ≡ 0

@@ -1,9 +1,9 @@
 -- The pages of young lines whose cells don't miss.
 use Rattle.std.proofs.Common.{◌≡◌, ◌≢◌, ℕ, ◌<◌, Bool, true, List, length, replicate, refl, sym, ◌∙◌, ap, subst, inl, inr, arith, get_or-set_same, get_or-set_other, Option, Some, None}
-use Rattle.std.{specs.Prelude.{IsSome, is_some}, proofs.lemmas.{Bool.cases_lt, List.{get_or_past, get_or-replicate, length-replicate}, Option.same_Some}}
+use Rattle.std.{specs.Prelude.{IsSome, is_some}, proofs.lemmas.Bool.cases_lt, proofs.lemmas.List.{get_or_past, get_or-replicate, length-replicate}, proofs.lemmas.Option.same_Some}
 use Rattle.cell_rows.specs.declared.row.Cells.{Cells}
-use Rattle.pcm_cells.specs.{PageTable.{AgesPage, page_at}, Tiers.{AgesYoung, by_first, by_later, first_or_blank, tier_of, young_or_blank}, Young.MayAge}
-use Rattle.pcm_cells.specs.{declared.first.First.First, declared.later.Later.Later, declared.young.Young.Young}
+use Rattle.pcm_cells.specs.{PageTable.{AgesPage, page_at}, Tiers.{AgesYoung, by_first, by_later, first_or_blank, tier_of, young_or_blank}, Young.MayAge, declared.first.First.First}
+use Rattle.pcm_cells.specs.{declared.later.Later.Later, declared.young.Young.Young}
 
 -- ---- what pages say
 

@@ -1,7 +1,7 @@
 -- How the cells of a line are worn.
 use Rattle.std.proofs.Common.{◌≡◌, ℕ, zero, suc, ◌+◌, ◌-◌, ◌*◌, ◌<◌, Bool, false, refl, sym, ◌∙◌, ap, arith, slice_index, Option, Some}
-use Rattle.cell_rows.{specs.Device.LineState, specs.Rows.{cell, members}, specs.declared.array.Wear.Wear, proofs.RowLemmas.cell-zeros}
-use Rattle.cell_wear.{specs.Told.{most, wear_told}, specs.declared.tells.CellWear.CellWear, proofs.Most.{most-none, most-same}}
+use Rattle.cell_rows.specs.{Device.LineState, Rows.{cell, members}, Told.{most, wear_told}, declared.array.Wear.Wear, declared.tells.CellWear.CellWear}
+use Rattle.cell_rows.proofs.{Most.{most-none, most-same}, RowLemmas.cell-zeros}
 use Rattle.pcm_cells.specs.{Pages.{HaveSameLife, changes_of, changes_with, drawn_line, word_of}, Planes.PlaneLine, Seeded.{LifeLine, endurance}}
 use Rattle.pcm_cells.{specs.declared.seeded.SeededCell.SeededCell, proofs.PageLemmas.drawn_is}
 

@@ -1,14 +1,14 @@
 -- Lines of which no cell can be near its end.
 use Rattle.std.proofs.Common.{◌≡◌, ℕ, ◌+◌, ◌-◌, ◌*◌, ◌%◌, ◌<◌, ◌≤◌, ◌&&◌, Bool, true, false, not, cond, eqb, length, get_or, refl, sym, ◌∙◌, ap, inl, inr, arith, slice_index}
-use Rattle.std.{specs.Prelude.{nat_le, nat_lt}, proofs.lemmas.Bool.{cases_lt, lt-leb, ltb-true}}
-use Rattle.std.proofs.{lemmas.List.{get_or_past}, lemmas.List.FromFn.{get_or-map-range_with_len, length-map-range_with_len}}
-use Rattle.cell_rows.{specs.Rows.{cell, members, zero_row}, specs.declared.array.Wear.Wear, specs.declared.row.Cells.Cells, proofs.RowLemmas.cell-zeros}
-use Rattle.cell_wear.{specs.Told.most, proofs.Most.most-same}
+use Rattle.std.{specs.Prelude.{nat_le, nat_lt}, proofs.lemmas.Bool.{cases_lt, lt-leb, ltb-true}, proofs.lemmas.List.get_or_past}
+use Rattle.std.proofs.lemmas.List.FromFn.{get_or-map-range_with_len, length-map-range_with_len}
+use Rattle.cell_rows.{specs.Rows.{cell, members, zero_row}, specs.Told.most, specs.declared.array.Wear.Wear, specs.declared.row.Cells.Cells, proofs.Most.most-same}
+use Rattle.cell_rows.proofs.RowLemmas.{cell-zeros}
 use Rattle.pcm_cells.specs.{Begun.IsBegun, Counts.count, Follows.Follows, Pages.{word_of, drawn_line, HaveSameLife, changes_of}, Planes.{PlaneLine, digit, zero_digits}}
 use Rattle.pcm_cells.specs.Seeded.{LifeLine, changed, left_of, endurance, miss_limit, stuck_value, pulsed, seeded, seeded_cell}
-use Rattle.pcm_cells.specs.Young.{YoungCell, IsYouth, IsYoung, MayAge, aging, blank_young, changes_in, grown_line, tried, young_cell}
-use Rattle.pcm_cells.specs.{declared.counts.Counts.Counts, declared.digits.Digits.Digits, declared.seeded.SeededCell.SeededCell, declared.young.Young.Young}
-use Rattle.pcm_cells.proofs.{PageLemmas.{digits_of-digit, row_of-cell}, PlaneLemmas.{digit-zeros}, SeededLemmas.{left_is, left_size}, WearLemmas.members-none}
+use Rattle.pcm_cells.specs.{Young.{YoungCell, IsYouth, IsYoung, MayAge, aging, blank_young, changes_in, grown_line, tried, young_cell}, declared.counts.Counts.Counts}
+use Rattle.pcm_cells.specs.{declared.digits.Digits.Digits, declared.seeded.SeededCell.SeededCell, declared.young.Young.Young}
+use Rattle.pcm_cells.proofs.{PageLemmas.{digits_of-digit, row_of-cell}, PlaneLemmas.digit-zeros, SeededLemmas.{left_is, left_size}, WearLemmas.members-none}
 
 pub changes-is : {B M : ℕ} (young : Young B M) (n : ℕ) → changes_in young n ≡ digit young.low n + 8 * digit young.middle n + 64 * digit young.high n
 unfolding changes_in

@@ -1,6 +1,5 @@
 -- A line whose life isn't drawn yet, seen as if it were.
-use Rattle.std.specs.List.{range_with_len}
-use Rattle.std.specs.Prelude.{ℕ, zero, suc, ◌≡◌, ◌+◌, ◌-◌, ◌*◌, Bool, cond, List, map, Option, None, Some, bit_xor, slice_index}
+use Rattle.std.specs.{List.range_with_len, Prelude.{ℕ, zero, suc, ◌≡◌, ◌+◌, ◌-◌, ◌*◌, Bool, cond, List, map, Option, None, Some, bit_xor, slice_index}}
 use Rattle.cell_rows.specs.{declared.array.Wear.Wear, declared.row.Cells.Cells}
 use Rattle.pcm_cells.specs.{Planes.{bit_in, blank_planes}, Seeded.{LifeLine, SeededArray, seeded_cell, seeded_line, endurance, miss_limit, stuck_value}}
 use Rattle.pcm_cells.specs.declared.digits.Digits.{Digits}

@@ -2,7 +2,8 @@
 use Rattle.std.specs.{Int.bit_at, List.range_with_len}
 use Rattle.std.specs.Prelude.{ℕ, ◌≡◌, ◌≢◌, ◌+◌, ◌≤◌, ◌-◌, ◌*◌, ◌/◌, ◌%◌, ◌^◌, ◌<◌, min, Bool, true, false, ◌&&◌, nat_eq, nat_lt, nat_le, bit_xor, if◌then◌else◌, List, [], length}
 use Rattle.std.specs.Prelude.{map, slice_index, slice_index_or, Option, None, Some}
-use Rattle.cell_rows.specs.{Device.{ArrayState, LineState, CellBounds, counted}, Rows.{cell, zero_row}, declared.array.LineEnergy.LineEnergy, declared.array.Wear.Wear, declared.row.Cells.Cells}
+use Rattle.cell_rows.specs.{Device.{ArrayState, LineState, CellBounds, counted}, Rows.{cell, zero_row}, declared.array.LineEnergy.LineEnergy, declared.array.Wear.Wear}
+use Rattle.cell_rows.specs.declared.row.Cells.{Cells}
 use Rattle.pcm_cells.specs.{Counts.count, Energies.energy_told, Follows.Follows, Planes.{PlaneLine, plane_cell, blank_planes, digit, zero_digits}, declared.calm.Moving.Moving}
 use Rattle.pcm_cells.specs.{declared.calm.Settled.Settled, declared.counts.Counts.Counts, declared.digits.Digits.Digits, declared.seeded.SeededCell.SeededCell}
 use Rattle.seeded_words.specs.Words.{xoshiro_of, word_at}

@@ -1,7 +1,8 @@
 -- The pages of young lines whose cells don't miss.
 use Rattle.std.specs.Prelude.{ℕ, ◌≡◌, ◌≢◌, ◌+◌, Bool, Option, None, Some}
 use Rattle.cell_rows.specs.{Rows.cell, declared.row.Cells.Cells}
-use Rattle.pcm_cells.specs.{Follows.Follows, Planes.zero_digits, Young.{aging, blank_young, young_cell}, declared.first.First.First, declared.later.Later.Later, declared.young.Young.Young}
+use Rattle.pcm_cells.specs.{Follows.Follows, Planes.zero_digits, Young.{aging, blank_young, young_cell}, declared.first.First.First, declared.later.Later.Later}
+use Rattle.pcm_cells.specs.declared.young.Young.{Young}
 
 -- what the page of a line of few pulses stands for
 abbrev pub by_first : {B M : ℕ} → First B M → Young B M

@@ -1,9 +1,7 @@
 -- The lines of an array that are young.
 use Rattle.std.specs.Prelude.{ℕ, ◌≡◌, Bool, true, false, length, Option, IsTrue}
 use Rattle.cell_rows.specs.declared.array.Wear.{Wear}
-use Rattle.pcm_cells.specs.{PageTable.page_at, Tiered.tier_at, declared.young.Young.Young}
-use Rattle.pcm_cells.specs.declared.youths.Youths.{Youths}
-use Rattle.pcm_cells.specs.declared.youths.Youths.TheVariants.{Missing, Sure}
+use Rattle.pcm_cells.specs.{PageTable.page_at, Tiered.tier_at, declared.young.Young.Young, declared.youths.Youths.Youths, declared.youths.Youths.TheVariants.{Missing, Sure}}
 
 -- the young page of the line with this number
 abbrev pub young_at : {B M : ℕ} → Youths B M → ℕ → Option (Young B M)

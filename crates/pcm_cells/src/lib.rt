@@ -24,8 +24,7 @@ mod tiers;
 mod young;
 mod youths;
 
-pub use cell_rows::{CellArray, Cells, Sense, Wear};
-pub use cell_wear::{CellWear, TellsCells};
+pub use cell_rows::{CellArray, CellWear, Cells, Sense, TellsCells, Wear};
 pub use line::CellState;
 pub use logged::LoggedArray;
 pub use script::{Act, Script, ScriptArray};

@@ -1,7 +1,7 @@
 // Lines that are kept from their first pulse on.
 ghost use Rattle.std.specs.Prelude.{◌≡◌, ◌≢◌, ℕ, ◌*◌, ◌+◌, ◌<◌, length, IfOk, IsTrue, IsFalse, IsSome, Some, None, replicate};
 ghost use Rattle.cell_rows.specs.Rows.{cell, members};
-ghost use Rattle.cell_wear.specs.Told.{most};
+ghost use Rattle.cell_rows.specs.Told.{most};
 ghost use Rattle.cell_rows.specs.Shape.{IsShape, IsWhole};
 ghost use Rattle.cell_rows.specs.Device.{IsWear, counted};
 ghost use Rattle.pcm_cells.specs.Follows.{Follows};
@@ -16,8 +16,7 @@ use crate::line::has_end;
 use crate::page_table::PageTable;
 use crate::seeded::SeededLine;
 use crate::youths::Youths;
-use cell_rows::{Cells, Wear};
-use cell_wear::CellWear;
+use cell_rows::{CellWear, Cells, Wear};
 use std::alloc::{AllocError, Global};
 
 /// The lines of an array. From its first pulse or tear on a line has a young page while none of its cells can be near its end, and

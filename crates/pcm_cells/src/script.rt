@@ -4,8 +4,7 @@ ghost use Rattle.std.specs.Prelude.{◌≡◌, ◌≢◌, ℕ, ◌+◌, ◌*◌,
 use crate::CellState;
 use crate::energies::Energies;
 use crate::line::{Line, has_end};
-use cell_rows::{CellArray, Cells, LineEnergy, Wear};
-use cell_wear::{CellWear, TellsCells};
+use cell_rows::{CellArray, CellWear, Cells, LineEnergy, TellsCells, Wear};
 use std::alloc::{AllocError, Global};
 use std::marker::Model;
 

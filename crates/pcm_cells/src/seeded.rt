@@ -10,8 +10,7 @@ use crate::line::has_end;
 use crate::pages::Pages;
 use crate::tally::Tally;
 use crate::young::Young;
-use cell_rows::{CellArray, Cells, LineEnergy, Wear};
-use cell_wear::{CellWear, TellsCells};
+use cell_rows::{CellArray, CellWear, Cells, LineEnergy, TellsCells, Wear};
 use rand_core::{Rng, SeedableRng};
 use rand_xoshiro::Xoshiro256PlusPlus;
 use std::alloc::{AllocError, Global};
@@ -83,7 +82,7 @@ impl<const B: usize, const M: usize> Model for SeededLine<B, M> {
 }
 
 ghost use Rattle.cell_rows.specs.Rows.{cell, members};
-ghost use Rattle.cell_wear.specs.Told.{most};
+ghost use Rattle.cell_rows.specs.Told.{most};
 ghost use Rattle.cell_rows.specs.Shape.{IsShape, IsWhole};
 ghost use Rattle.cell_rows.specs.Device.{EnergyChanges, counted};
 ghost use Rattle.pcm_cells.specs.Follows.{Follows, FollowsIn};

@@ -2,7 +2,7 @@
 ghost use Rattle.std.specs.Prelude.{◌≡◌, ℕ, ◌+◌, ◌-◌, ◌*◌, ◌<◌};
 ghost use Rattle.cell_rows.specs.Shape.{IsShape};
 ghost use Rattle.cell_rows.specs.Device.{IsWear};
-ghost use Rattle.cell_wear.specs.Told.{most};
+ghost use Rattle.cell_rows.specs.Told.{most};
 ghost use Rattle.pcm_cells.specs.Counts.{count};
 ghost use Rattle.pcm_cells.specs.Young.{changes_in};
 

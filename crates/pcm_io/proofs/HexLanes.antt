@@ -1,10 +1,7 @@
 -- What lanes make of bytes, and the digits that they write.
 use Rattle.std.proofs.Common.{◌≡◌, ℕ, ◌/◌, ◌%◌, ◌<◌, ◌==◌, true, List, [], ◌∷◌, ◌++◌, map, cond, length, replicate, get_or, slice_index, refl, sym, ap, ◌∙◌, subst, arith}
-use Rattle.std.proofs.lemmas.Bool.{agree_below, agree_below_at, eqb-true, ltb-true}
-use Rattle.std.proofs.lemmas.Simd.{pick_l_whole}
-use Rattle.std.proofs.lemmas.List.{ext_get_or, get_or-map, length-map}
-use lib.Dec.{ltb}
-use lib.Lanes.{pick_l, sel_l, top}
+use Rattle.std.proofs.{lemmas.Bool.{agree_below, agree_below_at, eqb-true, ltb-true}, lemmas.List.{ext_get_or, get_or-map, length-map}, lemmas.Simd.pick_l_whole}
+use lib.{Dec.ltb, Lanes.{pick_l, sel_l, top}}
 use Rattle.hex.specs.Hex.{encode_lower, encode_with, lower_digits}
 
 choice : (f : ℕ → ℕ) (a b : ℕ) (v : List ℕ) → sel_l (map (top 7) (map f v)) (replicate (length v) a) (replicate (length v) b) ≡ map (λ x. cond (top 7 (f x)) a b) v

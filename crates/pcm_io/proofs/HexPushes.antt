@@ -1,10 +1,7 @@
 -- Digits that are pushed piece by piece.
 use Rattle.std.proofs.Common.{◌≡◌, ℕ, zero, suc, ◌+◌, ◌*◌, ◌/◌, ◌%◌, ◌<◌, ◌≤◌, List, [], ◌∷◌, ◌++◌, length, take, drop, get_or, slice_index, refl, sym, ap, ◌∙◌, arith}
-use Rattle.std.proofs.Math.Seq.{take-add}
-use Rattle.std.proofs.lemmas.List.{append-nil, append_assoc, drop-drop, drop_more, get_or-drop, length-append, length-take-le}
-use Rattle.std.specs.Simd.{first_chunks}
-use Rattle.hex.specs.Hex.{encode_lower, encode_with, lower_digits}
-use Rattle.hex.proofs.HexLemmas.{length-encode_with}
+use Rattle.std.{specs.Simd.first_chunks, proofs.Math.Seq.take-add, proofs.lemmas.List.{append-nil, append_assoc, drop-drop, drop_more, get_or-drop, length-append, length-take-le}}
+use Rattle.hex.{specs.Hex.{encode_lower, encode_with, lower_digits}, proofs.HexLemmas.length-encode_with}
 use Rattle.pcm_io.specs.Reserved.{Reserved, appended, room_in}
 
 -- the digits of some bytes, and of others behind them

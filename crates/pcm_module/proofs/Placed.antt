@@ -1,7 +1,6 @@
 -- What an array line is used for, by who has it, and what a slot is, by the registers of its region.
 use Rattle.std.proofs.Common.{◌≡◌, ℕ, ◌+◌, ◌-◌, ◌*◌, ◌/◌, ◌%◌, ◌^◌, ◌<◌, ◌≤◌, sym, ap, subst, ◌∙◌, arith}
-use Rattle.std.proofs.Math.Nat.{mul-add}
-use Rattle.std.proofs.lemmas.Nat.{mul-add-lt, div_below, div-mul-add, mod-mul-add, div-add-mod'}
+use Rattle.std.proofs.{Math.Nat.mul-add, lemmas.Nat.{mul-add-lt, div_below, div-mul-add, mod-mul-add, div-add-mod'}}
 use Rattle.spare_pool.specs.Table.{IsOwner, line_by, used_by}
 use Rattle.spare_pool.specs.declared.Owner.TheVariants as owned
 use Rattle.bank_shape.specs.{Shape.{slots_of, slot_at, slot_moved, controls_from}, declared.Role.Role, declared.Role.TheVariants.{Line, Gap, Free, Retired}}

@@ -1,6 +1,7 @@
 -- The banks of a module are brought to a tick one after the other.
 use Rattle.std.proofs.Common.{◌≡◌, ℕ, ◌+◌, ◌<◌, ◌≤◌, false, List, [], ◌++◌, Option, Some, None, refl, sym, ap, subst, ◌∙◌, inl, inr, append_assoc, arith}
-use Rattle.std.{specs.Prelude.{All, IsSomeAnd, slice_get, slice_set}, proofs.Math.ListN.length-set, proofs.lemmas.Bool.cases_eq, proofs.lemmas.List.Elements.{All-append, All-nil, All-weaker}}
+use Rattle.std.{specs.Prelude.{All, IsSomeAnd, slice_get, slice_set}, proofs.Math.ListN.length-set, proofs.lemmas.Bool.cases_eq}
+use Rattle.std.proofs.lemmas.List.Elements.{All-append, All-nil, All-weaker}
 use Rattle.circular_buffer.proofs.Places.{slice_get-set_same, slice_get-set_other}
 use Rattle.cell_rows.specs.Device.{ArrayState}
 use Rattle.masked_bytes.specs.Entries.{has_row}

@@ -10,7 +10,7 @@ ghost use Rattle.pcm_module.specs.Stepping.{MayCome, MayArrive, IsAt, IsStep};
 use bank_timing::clocked::Timed;
 use cell_rows::CellArray;
 use masked_bytes::entry::Entry;
-use row_telling::Outcomes;
+use result_rows::Outcomes;
 
 /// A read of a bank line arrives at a tick.
 pub fn read_at<const B: usize, const M: usize, const E: usize, A: CellArray<B, M>, R: Outcomes<B>>(

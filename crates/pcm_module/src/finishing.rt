@@ -19,7 +19,7 @@ ghost use Rattle.cell_rows.specs.Device.{ArrayState};
 use crate::side_by_side::Module;
 use bank_timing::clocked::Timed;
 use cell_rows::CellArray;
-use row_telling::Outcomes;
+use result_rows::Outcomes;
 use run_laws::{finished_runs_are_right, stopped_runs_are_right};
 
 impl<const B: usize, const M: usize, const E: usize> Module<B, M, E> {

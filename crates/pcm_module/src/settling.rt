@@ -15,7 +15,7 @@ ghost use Rattle.pcm_module.specs.Settling.{IsAtTick, MaySettle, AreSettled};
 use crate::side_by_side::Module;
 use bank_timing::clocked::Timed;
 use cell_rows::CellArray;
-use row_telling::Outcomes;
+use result_rows::Outcomes;
 
 impl<const B: usize, const M: usize, const E: usize> Module<B, M, E> {
     /// Every bank is brought to a tick, in order, as a power cut brings it there, but nothing is cut: what ends by then is

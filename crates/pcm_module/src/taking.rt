@@ -10,8 +10,7 @@ use crate::bank::{cut_at, read_at, write_at};
 use crate::side_by_side::Module;
 use cell_rows::CellArray;
 use masked_bytes::entry::Entry;
-use result_rows::Outcome;
-use row_telling::Outcomes;
+use result_rows::{Outcome, Outcomes};
 use trace_reader::{Event, EventOp};
 
 impl<const B: usize, const M: usize, const E: usize> Module<B, M, E> {

@@ -3,7 +3,7 @@ use Rattle.std.proofs.Common.{◌≡◌, ℕ, List, refl, sym, subst}
 use Rattle.cell_rows.specs.Device.{ArrayState}
 use Rattle.trace_reader.specs.declared.event.Event.{Event}
 use Rattle.result_rows.specs.declared.Outcome.{Outcome}
-use Rattle.wear_report.specs.WearText.{wear_text}
+use Rattle.run_text.specs.WearText.{wear_text}
 use Rattle.bank_shape.specs.declared.Role.{Role}
 use Rattle.right_runs.specs.Ends.{BankEnd}
 use Rattle.pcm_module.specs.State.{AreEndsOf, ModuleState}

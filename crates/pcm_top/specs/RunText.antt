@@ -3,9 +3,8 @@ use Rattle.std.specs.Prelude.{◌≡◌, ℕ, List, length}
 use Rattle.cell_rows.specs.Device.{ArrayState}
 use Rattle.trace_reader.specs.declared.event.Event.{Event}
 use Rattle.result_rows.specs.declared.Outcome.{Outcome}
-use Rattle.wear_report.specs.WearText.{wear_text}
+use Rattle.run_text.specs.{Counting.counts_of, Pulses.pulses_in_all, ResultText.results_text, SummaryText.summary_text, WearText.wear_text}
 use Rattle.bank_shape.specs.declared.Role.{Role}
-use Rattle.run_text.specs.{Counting.counts_of, Pulses.pulses_in_all, ResultText.results_text, SummaryText.summary_text}
 use Rattle.module_shape.specs.{Limits.IsSmall, declared.raw.RawShape.RawShape}
 use Rattle.right_runs.specs.Ends.{BankEnd}
 use Rattle.pcm_image.specs.{Saved.Saved, Spelling.image_bytes}

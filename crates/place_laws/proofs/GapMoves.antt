@@ -5,8 +5,7 @@ use Rattle.masked_bytes.specs.declared.entry.Entry.{Entry}
 use Rattle.start_gap.{specs.Rotation.{move_after, moved_line, gap_after}, specs.Turn.Copies, specs.declared.Move.Move, proofs.FullTurn.has_each_pair_once}
 use Rattle.bank_shape.specs.{declared.BankShape.BankShape, declared.Work.TheVariants.Nothing}
 use Rattle.bank_shape.specs.declared.answer.Step.TheVariants as did
-use Rattle.bank_model.specs.{After.{work_after, due_work}, Answers.{IsDone, MayAll}, Events.{BankEvent, Begin, Iterate}}
-use Rattle.bank_model.specs.History.{queue, moved_in, due_after, has_exhausted}
+use Rattle.bank_model.specs.{After.{work_after, due_work}, Answers.{IsDone, MayAll}, Events.{BankEvent, Begin, Iterate}, History.{queue, moved_in, due_after, has_exhausted}}
 use Rattle.place_laws.{specs.GapMoves.{moves_of, first_moves, GapMovesLaw, copies_into, FullTurnLaw}, proofs.Moves.{last_region, some-due}}
 
 -- The moves of a history

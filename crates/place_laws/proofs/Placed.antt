@@ -7,8 +7,8 @@ use Rattle.cell_rows.specs.Device.{ArrayState}
 use Rattle.spare_pool.{specs.Table.{Table, line_from}, proofs.Lines.{line_from-cases, HasSpare, only_own}}
 use Rattle.row_rules.specs.{Answers.stored_before, Rows.{asks_write, line_of}, declared.Row.Row}
 use Rattle.bank_shape.specs.{Shape.slots_of, declared.BankShape.BankShape, declared.pace.Pace.Pace}
-use Rattle.bank_model.specs.{After.{slot_after, stands_at_after}, Events.{Write, Read, Cut}, History.{retired, moved_in, stored_in}, Lawful.Lawful}
-use Rattle.bank_model.specs.{Sensing.most_steps, Timing.{Happens, Core, TimedEvent, core, core_of}}
+use Rattle.bank_model.specs.{After.{slot_after, stands_at_after}, Events.{Write, Read, Cut}, History.{retired, moved_in, stored_in}, Lawful.Lawful, Sensing.most_steps}
+use Rattle.bank_model.specs.Timing.{Happens, Core, TimedEvent, core, core_of}
 use Rattle.bank_laws.specs.{Laws.{IsSized, LeavesArray}, Outcomes.{outcome_of, ended, row_with, rows_from, table_of}, Ticks.ends_action}
 use Rattle.bank_laws.proofs.{Asked.{Asked, asked-one, asked-within, wrote-asked, queue-wrote, waits-asked}, Settling.{lawful_before, above_all}, Waiting.may_all}
 use Rattle.bank_laws.proofs.Walking.{Passes, walk, rows_after}

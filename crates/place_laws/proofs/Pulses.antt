@@ -6,9 +6,9 @@ use Rattle.result_rows.specs.declared.Outcome.TheVariants as out
 use Rattle.bank_shape.specs.{Pausing.{is_cancelling, gives_way}, Shape.{is_array, if_array, controls_of, lines_in}, declared.BankShape.BankShape, declared.Home.Home}
 use Rattle.bank_shape.specs.{declared.pace.Pace.Pace, declared.pace.Policy.Policy, declared.pace.Policy.TheVariants.{Pause, Plain, Cancel}}
 use Rattle.bank_shape.specs.declared.Home.TheVariants as home
-use Rattle.bank_model.specs.{After.due_moves, Answers.MayAll, Changes.{change_after, halted_after}, Events.{Write, Read, Cut}}
-use Rattle.bank_model.specs.{History.{has_exhausted, retired, waits, due_after}, Lawful.Lawful, Running.{over_by, busy_after, made_after, is_over, choice_after, cancels_after}}
-use Rattle.bank_model.specs.{Sensing.{most_steps, pulses_of}, Timing.{Happens, Core, TimedEvent, core, is_empty}}
+use Rattle.bank_model.specs.{After.due_moves, Answers.MayAll, Changes.{change_after, halted_after}, Events.{Write, Read, Cut}, History.{has_exhausted, retired, waits, due_after}}
+use Rattle.bank_model.specs.{Lawful.Lawful, Running.{over_by, busy_after, made_after, is_over, choice_after, cancels_after}, Sensing.{most_steps, pulses_of}}
+use Rattle.bank_model.specs.Timing.{Happens, Core, TimedEvent, core, is_empty}
 use Rattle.bank_laws.{specs.Laws.IsSized, specs.Outcomes.{outcome_of, ended, row_with, rows_from, table_of}, specs.Resting.IsStill, proofs.Waiting.may_all}
 use Rattle.right_runs.specs.{Banks.rules_of, KeepsPlaces.{pulses_among, most_pulses}}
 use Rattle.place_laws.{specs.PlaceLaws.PulsesLaw, proofs.Cancels.cancels-kept, proofs.Moves.next_product}

@@ -9,8 +9,8 @@ use Rattle.row_rules.specs.{Answers.{accepts, is_worn, is_queued, is_full}, Queu
 use Rattle.row_rules.specs.{declared.Asks.TheVariants.{Reads, Writes, Cuts}, declared.Row.Row}
 use Rattle.bank_shape.specs.{Shape.{controls_of, control_line}, declared.BankShape.BankShape, declared.answer.WriteAnswer.WriteAnswer, declared.pace.Pace.Pace}
 use Rattle.bank_shape.specs.declared.answer.WriteAnswer.TheVariants as wrote
-use Rattle.bank_model.specs.{Changes.{change_after, halted_after}, Events.{Write, Read, Cut}, History.{queue, has_exhausted}}
-use Rattle.bank_model.specs.{Lawful.{Lawful, IsIdle, MayCome}, Running.{over_by, is_over}, Timing.{Happens, Core, TimedEvent, core}}
+use Rattle.bank_model.specs.{Changes.{change_after, halted_after}, Events.{Write, Read, Cut}, History.{queue, has_exhausted}, Lawful.{Lawful, IsIdle, MayCome}}
+use Rattle.bank_model.specs.{Running.{over_by, is_over}, Timing.{Happens, Core, TimedEvent, core}}
 use Rattle.bank_laws.specs.{Laws.{IsSized, LeavesArray}, Outcomes.{outcome_of, ended, row_with, rows_from, table_of}, Resting.EndsIn, RowLaws.is_room_fair}
 use Rattle.bank_laws.proofs.{Answering.merged-there, Ending.{Onwards, IsOutcome, write_outcome}, Fates.{IsLeft, WriteFate, new-push, new-merged}, Pending.queue_law}
 use Rattle.bank_laws.proofs.{Resting.ends-still, Serves.{may_at, onwards_at, served_law}, Settling.opens, Walking.{Passes, walk, rows_after}}

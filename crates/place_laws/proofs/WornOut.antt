@@ -12,8 +12,7 @@ use Rattle.bank_shape.specs.declared.answer.Keep.TheVariants as keep
 use Rattle.bank_shape.specs.declared.answer.Step.TheVariants as did
 use Rattle.bank_shape.specs.declared.clock.Doing.TheVariants as doing
 use Rattle.bank_model.specs.{After.{due_work, work_after, slot_of_work, is_ready, may_begin_after}, Answers.MayAll}
-use Rattle.bank_model.specs.Changes.{item_if, change_after, change_by, keeping_after, halted_after}
-use Rattle.bank_model.specs.Events.{BankEvent, Write, Read, Begin, Iterate, RowsBelow, line_of_row}
+use Rattle.bank_model.specs.{Changes.{item_if, change_after, change_by, keeping_after, halted_after}, Events.{BankEvent, Write, Read, Begin, Iterate, RowsBelow, line_of_row}}
 use Rattle.bank_model.specs.{History.{Awaited, first_or, stores, moved_in, retired, has_exhausted, due_after, queue, waits, in_progress}, Lawful.{Lawful, IsIdle, MayCome}}
 use Rattle.bank_model.specs.{Running.{busy_by, ready_by, over_by, busy_after, ready_after, is_over, choice_after}, Sensing.most_steps}
 use Rattle.bank_model.specs.Timing.{Happens, Core, Regs, KeepBegin, KeepIterate, TimedEvent, core, is_empty}

@@ -7,8 +7,8 @@ use Rattle.masked_bytes.specs.Masked.{joined, none_given}
 use Rattle.row_rules.specs.{Answers.{accepts, is_stored}, Queueing.{unstored, cover}, Rows.write_of, declared.Row.Row}
 use Rattle.row_rules.specs.Answers as answers
 use Rattle.bank_shape.specs.{declared.BankShape.BankShape, declared.pace.Pace.Pace}
-use Rattle.bank_model.specs.{Events.{Write, Read, Cut, RowsBelow}, Lawful.{Lawful, MayCome}}
-use Rattle.bank_model.{specs.Timing.{Happens, Core, TimedEvent, core, core_of, last_tick}, proofs.Rising.RowsBelow-more}
+use Rattle.bank_model.specs.{Events.{Write, Read, Cut, RowsBelow}, Lawful.{Lawful, MayCome}, Timing.{Happens, Core, TimedEvent, core, core_of, last_tick}}
+use Rattle.bank_model.proofs.Rising.{RowsBelow-more}
 use Rattle.bank_laws.{specs.Outcomes.{outcome_of, ended, row_with, rows_from}, proofs.Ending.{Onwards, accepting, write_outcome, outcome-accepts}}
 use Rattle.bank_laws.proofs.{Later.{EndsAbove, stored_over}, Serves.onwards_at, Settling.{opens, lawful_before, stays}, Walking.rows_after, Wears.stored_up_to}
 use Rattle.queue_laws.proofs.Floors.{since, floor_of, since-none, since-other, floor-bound, floor-skip, stored_case}

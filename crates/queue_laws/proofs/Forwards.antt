@@ -7,9 +7,8 @@ use Rattle.masked_bytes.specs.{Entries.{has_row, layer_of}, Masked.gives_all, de
 use Rattle.row_rules.specs.{Answers.is_forwarded, Queueing.{pending, waiting, cover, is_at_head, read_fits}, Rows.write_of, declared.Row.Row}
 use Rattle.bank_shape.specs.{declared.BankShape.BankShape, declared.answer.ReadAnswer.ReadAnswer, declared.pace.Pace.Pace}
 use Rattle.bank_shape.specs.declared.answer.ReadAnswer.TheVariants as came
-use Rattle.bank_model.specs.{Answers.read_answer, Events.{BankEvent, Write, Read, Cut, RowsBelow, newest}, History.{awaited, queue, waits}}
-use Rattle.bank_model.specs.{Lawful.{Lawful, MayCome}, Sensing.most_steps, Timing.{Happens, Core, TimedEvent, core, core_of, last_tick}}
-use Rattle.bank_model.proofs.Rising.{RowsBelow-more}
+use Rattle.bank_model.specs.{Answers.read_answer, Events.{BankEvent, Write, Read, Cut, RowsBelow, newest}, History.{awaited, queue, waits}, Lawful.{Lawful, MayCome}}
+use Rattle.bank_model.{specs.Sensing.most_steps, specs.Timing.{Happens, Core, TimedEvent, core, core_of, last_tick}, proofs.Rising.RowsBelow-more}
 use Rattle.bank_laws.{specs.Outcomes.{outcome_of, row_with, rows_from}, specs.RowLaws.waits_fit, specs.Ticks.ends_action, proofs.Asked.Wrote, proofs.Ending.{Onwards, own_answer}}
 use Rattle.bank_laws.proofs.{Fates.{IsSettled, awaits-new}, Given.given-layer, Later.{EndsAbove, ends_at_row}, Lines.{Stands, stands-row}, Pairs.{AllLong, keeps_pairs}}
 use Rattle.bank_laws.proofs.{Serves.{may_at, onwards_at, idle-waits}, Settling.lawful_before, Ticks.last_tick-rises}

@@ -7,9 +7,8 @@ use Rattle.masked_bytes.{specs.Entries.{has_row, candidate}, specs.declared.entr
 use Rattle.row_rules.specs.{Answers.is_full, Queueing.{pending, waiting, has_room, pairs_few, is_refused}, Rows.write_of, declared.Row.Row}
 use Rattle.bank_shape.specs.{declared.BankShape.BankShape, declared.pace.Pace.Pace}
 use Rattle.bank_shape.specs.declared.answer.WriteAnswer.TheVariants as wrote
-use Rattle.bank_model.specs.{Answers.{head_busy_after, accept_answer, write_answer}, Events.{BankEvent, Write, Read, Cut}}
-use Rattle.bank_model.specs.{History.{queue, waits, has_exhausted}, Lawful.{Lawful, MayCome}, Sensing.most_steps, Timing.{Happens, Core, TimedEvent, core, last_tick}}
-use Rattle.bank_model.specs.Told.{tick_of_row}
+use Rattle.bank_model.specs.{Answers.{head_busy_after, accept_answer, write_answer}, Events.{BankEvent, Write, Read, Cut}, History.{queue, waits, has_exhausted}}
+use Rattle.bank_model.specs.{Lawful.{Lawful, MayCome}, Sensing.most_steps, Timing.{Happens, Core, TimedEvent, core, last_tick}, Told.tick_of_row}
 use Rattle.right_runs.specs.Banks.{rules_of}
 use Rattle.bank_laws.{specs.Outcomes.{outcome_of, ended, row_with, rows_from}, specs.Room.RoomLaw, specs.Ticks.ends_action, proofs.Answering.IsHead}
 use Rattle.bank_laws.proofs.{Ending.{Onwards, write_outcome}, Holding.bound_law, Later.{EndsAbove, ends_later, ends_at_row, ends_push}, Lines.{Stands, Covered, stands-line}}

@@ -5,8 +5,7 @@ use Rattle.result_rows.specs.declared.Outcome.TheVariants as out
 use Rattle.masked_bytes.specs.Entries.{has_row}
 use Rattle.row_rules.specs.{Answers.accepts, Queueing.pending, Rows.accepted_of, declared.Row.Row}
 use Rattle.bank_shape.specs.{declared.BankShape.BankShape, declared.pace.Pace.Pace}
-use Rattle.bank_model.specs.{Events.{Write, Cut}, History.queue, Lawful.{Lawful, MayCome}, Timing.{Happens, Core, TimedEvent, core, last_tick}}
-use Rattle.bank_model.specs.Told.{tick_by, tick_of_row}
+use Rattle.bank_model.specs.{Events.{Write, Cut}, History.queue, Lawful.{Lawful, MayCome}, Timing.{Happens, Core, TimedEvent, core, last_tick}, Told.{tick_by, tick_of_row}}
 use Rattle.bank_laws.{specs.Outcomes.{outcome_with, outcome_of, ended, row_with, rows_from}, proofs.Counting.among}
 use Rattle.bank_laws.proofs.{Ending.{Onwards, accepting, write_outcome, outcome-accepts}, Later.EndsAbove, Lines.Stands, Merging.{Fate, FateBy, fate, fate_new}}
 use Rattle.bank_laws.proofs.{Pending.{stands_by, write_rows, writes_in, refused_set, gone, stands_same, stands_there, refused_same}, Serves.onwards_at}

@@ -1,10 +1,13 @@
 //! What became of each row of a trace, and the bytes that a run prints of it.
-//! `Results` holds one outcome for each row, and `print_row` appends a row's text to memory that was reserved before.
+//! `Results` holds one outcome for each row, `Outcomes` is what is told them as they become known, and `print_row` appends a row's
+//! text to memory that was reserved before.
 #![tactic(auto)]
 
+mod outcomes;
 mod print;
 mod results;
 
+pub use outcomes::Outcomes;
 pub use print::{header, print_outcome, print_row};
 pub use results::Results;
 

@@ -6,8 +6,8 @@ use Rattle.result_rows.specs.{Outcomes.op_of, Table.{HasRow, outcome_at, with_ou
 use Rattle.run_text.{specs.Counting.{counts_of, with_one}, specs.Gathering.Printed, specs.Laws.rows_counted, specs.declared.counts.Counts.Counts, proofs.Gathered.printed-more}
 use Rattle.row_printer.specs.{Printing.{Prints, stream_text, table_of}, Snapshots.{snapshot_line, snapshots_header, snapshots_text}}
 use Rattle.row_printer.specs.{Telling.{told_head, told_line, told_text, outcomes_in, recorded, TellsOnce}, declared.snapshot.Snapshot.Snapshot, declared.told.Shown.Shown}
-use Rattle.row_printer.specs.{declared.told.Shown.TheVariants.{Nothing, Rows, Snapshots}, declared.told.Told.Told, declared.told.Told.TheVariants.Became, declared.told.ToldShape.ToldShape}
-use Rattle.row_printer.proofs.{Counted.{counts-more, counted-below}, Once.{once-more, open-untold}}
+use Rattle.row_printer.specs.{declared.told.Shown.TheVariants.{Nothing, Rows, Snapshots}, declared.told.Told.Told, declared.told.Told.TheVariants.Became}
+use Rattle.row_printer.{specs.declared.told.ToldShape.ToldShape, proofs.Counted.{counts-more, counted-below}, proofs.Once.{once-more, open-untold}}
 use Rattle.row_printer.proofs.Telling.{told_text-more, snapshots_text-more, outcomes-more, recorded-more, length-recorded}
 
 -- a later count rose too

@@ -1,6 +1,6 @@
 -- How what waits in the banks is told.
 use Rattle.std.proofs.Common.{◌≡◌, ℕ, ◌+◌, List, [], ◌∷◌, ◌++◌, Some, append_assoc, add-one, sym, ap, ◌∙◌}
-use Rattle.std.{proofs.lemmas.List.append-nil, specs.Prelude.{slice_get, unwrap_or}}
+use Rattle.std.{specs.Prelude.{slice_get, unwrap_or}, proofs.lemmas.List.append-nil}
 use Rattle.clock_laws.specs.State.{ClockState}
 use Rattle.pcm_module.specs.State.{ModuleState, bank_at, first_bank}
 use Rattle.row_printer.specs.{declared.told.Backlog.Backlog, declared.told.Told.Told, declared.told.Told.TheVariants.Bank}

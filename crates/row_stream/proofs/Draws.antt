@@ -9,8 +9,8 @@ use Rattle.row_printer.specs.{Printing.table_of, Refusing.any_refused, declared.
 use Rattle.trace_reader.{specs.Events.{AreEventsFor, IsEventFor}, specs.declared.event.Event.Event, proofs.Lawful.lawful-first}
 use Rattle.trace_gen.specs.{Generated.{IsLongMix, generated}, Laws.IsGenerated, declared.mix.Mix.Mix}
 use Rattle.trace_stream.specs.{Asked.events_in, Laws.all_events, declared.asked.Asked.Asked, declared.asked.Asked.TheVariants.Happens}
-use Rattle.row_stream.specs.{Asking.{behind_of, behind_op}, Refusing.WentOn, Serving.{IsServing, told_before, told_so_far}, declared.stop.Behind.Behind, declared.stop.Behind.TheVariants.Nothing}
-use Rattle.row_stream.proofs.Refusals.{went-first, went-on}
+use Rattle.row_stream.specs.{Asking.{behind_of, behind_op}, Refusing.WentOn, Serving.{IsServing, told_before, told_so_far}, declared.stop.Behind.Behind}
+use Rattle.row_stream.{specs.declared.stop.Behind.TheVariants.Nothing, proofs.Refusals.{went-first, went-on}}
 
 -- a module has a line
 pub total-some : (raw : RawShape) → IsShape raw → 1 ≤ total_of raw

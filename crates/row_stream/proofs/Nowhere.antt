@@ -1,6 +1,7 @@
 -- Each row of a stream has its outcome, or stands in a bank; and the first tick behind which a row has one.
 use Rattle.std.proofs.Common.{◌≡◌, ◌≢◌, ◌⊎◌, ℕ, ◌+◌, ◌<◌, ◌≤◌, ◌==◌, min, Bool, true, false, cond, List, [], ◌∷◌, ◌++◌, length, map, Option, Some, None, inl, inr, refl, sym, ap, subst, ◌∙◌, eq-eqb, arith}
-use Rattle.std.{specs.Prelude.{All, IfSome, IsSomeAnd, filter, slice_get, unwrap_or}, proofs.lemmas.Bool.cases_eq, proofs.lemmas.List.Elements.{All-head, All-tail, All-nil, All-cons}}
+use Rattle.std.{specs.Prelude.{All, IfSome, IsSomeAnd, filter, slice_get, unwrap_or}, proofs.lemmas.Bool.cases_eq}
+use Rattle.std.proofs.lemmas.List.Elements.{All-head, All-tail, All-nil, All-cons}
 use Rattle.cell_rows.specs.Device.{ArrayState}
 use Rattle.trace_reader.specs.declared.event.Event.{Event}
 use Rattle.result_rows.specs.declared.Outcome.{Outcome}
@@ -14,7 +15,8 @@ use Rattle.clock_laws.{specs.State.{ClockState, next_action}, proofs.Passing.end
 use Rattle.bank_timing.specs.Extending.{IsQuiet, end_by, next_end, outcome_in}
 use Rattle.right_runs.specs.Banks.{bank_of_line, line_in_bank}
 use Rattle.run_laws.proofs.Mixing.{lines_law}
-use Rattle.pcm_module.specs.{Asking.{asked_by, asked_for}, Replaying.{Replays, ReplaysIn}, Settling.IsAtTick, State.{ModuleState, bank_at, first_bank}, Telling.{has_standing, rows_at}}
+use Rattle.pcm_module.specs.{Asking.{asked_by, asked_for}, Replaying.{Replays, ReplaysIn}, Settling.IsAtTick, State.{ModuleState, bank_at, first_bank}}
+use Rattle.pcm_module.specs.Telling.{has_standing, rows_at}
 use Rattle.row_stream.{specs.Reaching.IsUnsetOrAt, proofs.Ticks.{first-told, own-done}}
 
 -- the bank of a module that is there

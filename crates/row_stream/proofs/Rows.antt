@@ -1,6 +1,6 @@
 -- How the rows of a source are served.
-use Rattle.std.proofs.Common.{◌≡◌, ◌≢◌, ℕ, ◌<◌, ◌+◌, ◌-◌, ◌*◌, ◌^◌, ◌≤◌, Bool, true, false, List, [], ◌∷◌, ◌++◌, length, reverse, Option, Some, None, refl, sym, ap, ◌∙◌, subst, arith, inl, inr, length-append}
-use Rattle.std.{specs.Io.KnownBytes.IsAtEnd, proofs.{Common.append_assoc, lemmas.List.reverse-append}}
+use Rattle.std.proofs.Common.{◌≡◌, ◌≢◌, ℕ, ◌<◌, ◌+◌, ◌-◌, ◌*◌, ◌^◌, ◌≤◌, Bool, true, false, List, [], ◌∷◌, ◌++◌, length, reverse, Option, Some, None, refl, sym, ap, ◌∙◌, subst, arith, inl, inr, length-append, append_assoc}
+use Rattle.std.{specs.Io.KnownBytes.IsAtEnd, proofs.lemmas.List.reverse-append}
 use Prim.Native.Nat.{max}
 use prog.Memory.{up}
 use Rattle.cell_rows.specs.Device.{ArrayState}
@@ -11,13 +11,14 @@ use Rattle.row_printer.specs.{Printing.table_of, Refusing.any_refused, declared.
 use Rattle.trace_reader.specs.declared.fault.TraceFault.{TraceFault}
 use Rattle.trace_reader.specs.declared.fault.Kind.TheVariants as kind
 use Rattle.trace_stream.specs.{Arrived.StaysEnded, Asked.{IsAskedFor, IsUnreached, events_in, reached_at, rows_after, tick_asked, tick_named}, Kept.{LacksHeader, decides}}
-use Rattle.trace_stream.specs.{Stream.{AsksNext, HasFault, HasFront, IsOfText, Opens, Standing, asked_from, front_from, front_of, front_rows, records_left, stream_of}, declared.asked.Asked.Asked}
-use Rattle.trace_stream.specs.{declared.asked.Asked.TheVariants.{Happens, Settle, Query, Look, Until}, declared.fault.StreamFault.StreamFault}
+use Rattle.trace_stream.specs.Stream.{AsksNext, HasFault, HasFront, IsOfText, Opens, Standing, asked_from, front_from, front_of, front_rows, records_left, stream_of}
+use Rattle.trace_stream.specs.{declared.asked.Asked.Asked, declared.asked.Asked.TheVariants.{Happens, Settle, Query, Look, Until}, declared.fault.StreamFault.StreamFault}
 use Rattle.trace_stream.proofs.Runs.{HasAsked, asked-all, asked-faulty, asked-first, asked-front, asked-more}
 use Rattle.trace_stream.specs.declared.fault.StreamFault.TheVariants as fault
-use Rattle.row_stream.specs.{Asking.{behind_of, read_of, tick_reached}, Refusing.{GoesAsFar, WentOn}, Serving.{IsServing, told_before, told_so_far}, declared.stop.Behind.Behind}
-use Rattle.row_stream.specs.Sourcing.{Fronts, GivesNext, HasAllCome, HasCome, HasNoNext, HasStopped, IsFaulty, IsLate, IsRead, IsReadTo, StopsLate}
-use Rattle.row_stream.{specs.declared.stop.Behind.TheVariants.Nothing, specs.declared.stop.Stop.Stop, specs.declared.stop.Stop.TheVariants.{Input, Late, Endless, Output}, proofs.Alike.told-same, proofs.Refusals.{may-go-on, went-first, went-on}}
+use Rattle.row_stream.specs.{Asking.{behind_of, read_of, tick_reached}, Refusing.{GoesAsFar, WentOn}, Serving.{IsServing, told_before, told_so_far}}
+use Rattle.row_stream.specs.{Sourcing.{Fronts, GivesNext, HasAllCome, HasCome, HasNoNext, HasStopped, IsFaulty, IsLate, IsRead, IsReadTo, StopsLate}, declared.stop.Behind.Behind}
+use Rattle.row_stream.specs.{declared.stop.Behind.TheVariants.Nothing, declared.stop.Stop.Stop, declared.stop.Stop.TheVariants.{Input, Late, Endless, Output}}
+use Rattle.row_stream.proofs.{Alike.told-same, Refusals.{may-go-on, went-first, went-on}}
 
 -- of what a source gave, so many rows and settles were served, and the rest is still to read from here on
 pub record HasFed {n m e : ℕ} (stops : Bool) (raw : RawShape) (seed : ℕ) (module_ : ModuleState n m e) (array : ArrayState n m) (places : ℕ) (told : List (Told n)) (shown : Shown) (snaps : List Snapshot)

@@ -5,11 +5,13 @@ use Rattle.cell_rows.specs.Device.{ArrayState}
 use Rattle.pcm_io.specs.{Faults.Rose, Giving.AppendsPrefix}
 use Rattle.module_shape.specs.{Limits.total_of, declared.raw.RawShape.RawShape}
 use Rattle.pcm_module.specs.State.{ModuleState}
-use Rattle.row_printer.specs.{Printing.{IsPrinting, Printing, table_told, text_told}, Refusing.any_refused, declared.snapshot.Snapshot.Snapshot, declared.told.Shown.Shown, declared.told.Told.Told}
+use Rattle.row_printer.specs.{Printing.{IsPrinting, Printing, table_told, text_told}, Refusing.any_refused, declared.snapshot.Snapshot.Snapshot, declared.told.Shown.Shown}
+use Rattle.row_printer.specs.declared.told.Told.{Told}
 use Rattle.trace_stream.specs.{Asked.reached_at, Stream.Standing, declared.asked.Asked.Asked}
-use Rattle.row_stream.specs.{Asking.behind_of, Refusing.{EndsBehind, GoesAsFar}, Serving.{IsServing, MayServe, ServesOn, told_before, told_so_far}, Sourcing.{GivesNext, HasStopped, IsRead, IsReadTo}}
-use Rattle.row_stream.specs.{Stepping.{GoesOn, IsTaken, Rests, Steps, TakesRow, TellsNoMore, Writes}, declared.stop.Behind.Behind, declared.stop.Step.Step, declared.stop.Step.TheVariants.{Goes, Ends, Stops}}
-use Rattle.row_stream.{specs.declared.stop.Stop.Stop, specs.declared.stop.Stop.TheVariants.Output, proofs.Alike.told-same, proofs.Refusals.{ends-all, ends-there, still-none}}
+use Rattle.row_stream.specs.{Asking.behind_of, Refusing.{EndsBehind, GoesAsFar}, Serving.{IsServing, MayServe, ServesOn, told_before, told_so_far}}
+use Rattle.row_stream.specs.{Sourcing.{GivesNext, HasStopped, IsRead, IsReadTo}, Stepping.{GoesOn, IsTaken, Rests, Steps, TakesRow, TellsNoMore, Writes}}
+use Rattle.row_stream.specs.{declared.stop.Behind.Behind, declared.stop.Step.Step, declared.stop.Step.TheVariants.{Goes, Ends, Stops}, declared.stop.Stop.Stop}
+use Rattle.row_stream.{specs.declared.stop.Stop.TheVariants.Output, proofs.Alike.told-same, proofs.Refusals.{ends-all, ends-there, still-none}}
 use Rattle.row_stream.proofs.Rows.{HasFed, far-late, far-no-next, fed-come, fed-ended, fed-given, fed-late, fed-no-next, fed-same, fed-so-far, next-few}
 
 -- rows may be served, too, where a printer was told nothing more

@@ -1,7 +1,7 @@
 -- What a bank adds to its history until its next action ends, and what is known of a row that stands nowhere.
 use Rattle.std.proofs.Common.{◌≡◌, ◌≢◌, ◌⊎◌, ℕ, ◌+◌, ◌<◌, ◌≤◌, ◌||◌, ◌==◌, min, Bool, true, false, List, [], ◌∷◌, ◌++◌, Option, Some, None, inl, inr, refl, sym, ap, subst, ◌∙◌, eq-eqb, arith}
-use Rattle.std.{specs.List.list_any, specs.Prelude.{All, IsSomeAnd, if◌then◌else◌, unwrap_or}}
-use Rattle.std.proofs.{lemmas.Bool.{or_left, or_right}, lemmas.List.Elements.{All-head, All-tail, All-nil, All-cons, All-weaker}}
+use Rattle.std.{specs.List.list_any, specs.Prelude.{All, IsSomeAnd, if◌then◌else◌, unwrap_or}, proofs.lemmas.Bool.{or_left, or_right}}
+use Rattle.std.proofs.lemmas.List.Elements.{All-head, All-tail, All-nil, All-cons, All-weaker}
 use Rattle.cell_rows.specs.Device.{ArrayState}
 use Rattle.masked_bytes.specs.Entries.{has_row}
 use Rattle.result_rows.specs.{Outcomes.tick_of, declared.Outcome.Outcome}
@@ -17,7 +17,8 @@ use Rattle.clock_laws.specs.{Draining.ticks_in, Leads.Leads, Standing.{arrives_w
 use Rattle.clock_laws.proofs.{Draining.{ends-at, no_gap_law}, Settled.settled_law}
 use Rattle.module_laws.specs.Asking.{Asked, AreAsked, IsAsked}
 use Rattle.bank_timing.specs.Extending.{EndsAction, IsOpen, IsQuiet, end_by, next_end, outcome_in}
-use Rattle.pcm_module.{specs.Replaying.{BankReplays, outcome_so_far}, specs.Telling.has_standing, proofs.Moving.standing_named, proofs.Naming.{All-both, is_numbered, names, of_named}}
+use Rattle.pcm_module.{specs.Replaying.{BankReplays, outcome_so_far}, specs.Telling.has_standing, proofs.Moving.standing_named}
+use Rattle.pcm_module.proofs.Naming.{All-both, is_numbered, names, of_named}
 use Rattle.row_stream.specs.Reaching.{IsUnsetOrAt}
 
 -- an event tells an outcome with its own tick

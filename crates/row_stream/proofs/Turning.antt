@@ -1,6 +1,6 @@
 -- The banks of a module go on turn by turn, and then a settle until is served.
 use Rattle.std.proofs.Common.{◌≡◌, ℕ, suc, ◌<◌, ◌≤◌, false, List, [], ◌∷◌, ◌++◌, length, Option, refl, sym, ap, ◌∙◌, subst, arith, replicate, append_assoc}
-use Rattle.std.{proofs.lemmas.List.append-nil, specs.Prelude.{IsSomeAnd, slice_get}}
+use Rattle.std.{specs.Prelude.{IsSomeAnd, slice_get}, proofs.lemmas.List.append-nil}
 use Rattle.cell_rows.specs.Device.{ArrayState}
 use Rattle.trace_reader.specs.Rows.{latest_tick}
 use Rattle.result_rows.specs.declared.Outcome.{Outcome}
@@ -8,10 +8,10 @@ use Rattle.bank_model.specs.Timing.{TimedEvent}
 use Rattle.module_shape.specs.declared.raw.RawShape.{RawShape}
 use Rattle.module_laws.specs.Asking.{Asked as AskedRow}
 use Rattle.bank_timing.specs.Extending.{outcome_in}
-use Rattle.pcm_module.specs.{Asking.asked_for, Replaying.{Replays, ReplaysIn}, Settling.IsAtTick, State.ModuleState}
-use Rattle.pcm_module.{specs.Telling.{TellsByBanks, rows_at}, proofs.Asked.standing_asked}
-use Rattle.row_printer.{proofs.Telling.outcomes-same, specs.Printing.{Printing, PrintsOn, table_of, table_told}, specs.Telling.{became, outcomes_in, recorded, TellsOnce}}
-use Rattle.row_printer.specs.{declared.snapshot.Snapshot.Snapshot, declared.told.Shown.Shown, declared.told.Told.Told}
+use Rattle.pcm_module.specs.{Asking.asked_for, Replaying.{Replays, ReplaysIn}, Settling.IsAtTick, State.ModuleState, Telling.{TellsByBanks, rows_at}}
+use Rattle.pcm_module.proofs.Asked.{standing_asked}
+use Rattle.row_printer.specs.{Printing.{Printing, PrintsOn, table_of, table_told}, Telling.{became, outcomes_in, recorded, TellsOnce}, declared.snapshot.Snapshot.Snapshot}
+use Rattle.row_printer.{specs.declared.told.Shown.Shown, specs.declared.told.Told.Told, proofs.Telling.outcomes-same}
 use Rattle.trace_stream.specs.{Asked.events_in, declared.asked.Asked.Asked, declared.asked.Asked.TheVariants.Until, declared.asked.Until.Until as Waited}
 use Rattle.row_stream.specs.{Asking.tick_reached, Reaching.HasReached, Serving.{ComeByBanks, ComeByTurns, HasServed, IsServing, SnapsAlong, lines_of, told_before, told_so_far}}
 use Rattle.row_stream.proofs.{Growing.none, Order.{ToldSo, come-by-banks, told-both}}

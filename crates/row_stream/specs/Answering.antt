@@ -2,8 +2,8 @@
 use Rattle.std.specs.Prelude.{ℕ, zero, suc, Bool, true, false, List, [], ◌∷◌, ◌++◌, length}
 use Rattle.clock_laws.specs.State.{ClockState}
 use Rattle.pcm_module.specs.State.{ModuleState, bank_at}
-use Rattle.row_printer.specs.{declared.told.Backlog.Backlog, declared.told.Mark.Mark, declared.told.Mark.TheVariants.{Going, Exhausted, Halted}}
-use Rattle.row_printer.specs.{declared.told.Told.Told, declared.told.Told.TheVariants.Bank}
+use Rattle.row_printer.specs.{declared.told.Backlog.Backlog, declared.told.Mark.Mark, declared.told.Mark.TheVariants.{Going, Exhausted, Halted}, declared.told.Told.Told}
+use Rattle.row_printer.specs.declared.told.Told.TheVariants.{Bank}
 
 -- the mark of a bank, by whether it is exhausted and whether it has halted: of one that is both, that it is exhausted, as it refuses every write
 abbrev pub mark_of : Bool → Bool → Mark

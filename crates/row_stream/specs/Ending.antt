@@ -14,7 +14,9 @@ use Rattle.pcm_module.specs.{Asking.asked_for, State.{AreEndsOf, ModuleState, ba
 use Rattle.row_printer.specs.{Printing.table_of, Snapshots.{AddsDue, takes_snapshots}, Telling.became, declared.snapshot.Snapshot.Snapshot, declared.told.Shown.Shown}
 use Rattle.row_printer.specs.declared.told.Told.{Told}
 use Rattle.trace_stream.specs.{Asked.events_in, declared.asked.Asked.Asked}
-use Rattle.row_stream.specs.{declared.stop.Behind.Behind, declared.stop.Behind.TheVariants.{Nothing, Going, Off}, Asking.{behind_of, cut_at_end, cut_if, tick_reached, with_cut}, Looking.IsSnapshot, Serving.{ComeByBanks, SnapsAlong, Telling, TellsAlong, told_before}}
+use Rattle.row_stream.specs.{Asking.{behind_of, cut_at_end, cut_if, tick_reached, with_cut}, Looking.IsSnapshot}
+use Rattle.row_stream.specs.{Serving.{ComeByBanks, SnapsAlong, Telling, TellsAlong, told_before}, declared.stop.Behind.Behind}
+use Rattle.row_stream.specs.declared.stop.Behind.TheVariants.{Nothing, Going, Off}
 
 -- the table of events, the newest first, with the outcomes of the rows from the first on: the newest row first
 abbrev pub rows_of : {n : ℕ} → List (Event n) → List (Outcome n) → List (Row n)

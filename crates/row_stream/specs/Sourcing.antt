@@ -1,10 +1,12 @@
 -- What the rows that a source gave have to do with its bytes. What was asked stands with the newest first.
-use Rattle.std.specs.{Io.KnownBytes.{Consumes, IsAtEnd}, Prelude.{◌≡◌, ◌≢◌, ◌⊎◌, ℕ, ◌<◌, ◌≤◌, ◌^◌, ◌+◌, ◌-◌, Bool, true, false, List, [], ◌∷◌, ◌++◌, length, reverse, Option, IfSome, Ok}}
+use Rattle.std.specs.Io.KnownBytes.{Consumes, IsAtEnd}
+use Rattle.std.specs.Prelude.{◌≡◌, ◌≢◌, ◌⊎◌, ℕ, ◌<◌, ◌≤◌, ◌^◌, ◌+◌, ◌-◌, Bool, true, false, List, [], ◌∷◌, ◌++◌, length, reverse, Option, IfSome, Ok}
 use Rattle.pcm_io.specs.{Faults.Rose, Taking.Takes}
 use Rattle.trace_reader.specs.declared.fault.TraceFault.{TraceFault}
 use Rattle.trace_reader.specs.declared.fault.Kind.TheVariants as kind
 use Rattle.trace_stream.specs.{Arrived.{Comes, StaysEnded}, Asked.{IsAskedFor, IsUnreached, NamesRow, events_in, rows_after, tick_asked, tick_named}, Kept.{LacksHeader, decides}}
-use Rattle.trace_stream.specs.{Stream.{AsksNext, HasFault, HasFront, IsOfText, Standing, asked_from, front_from, front_of, most_streamed, stream_of}, declared.asked.Asked.Asked, declared.fault.StreamFault.StreamFault}
+use Rattle.trace_stream.specs.{Stream.{AsksNext, HasFault, HasFront, IsOfText, Standing, asked_from, front_from, front_of, most_streamed, stream_of}, declared.asked.Asked.Asked}
+use Rattle.trace_stream.specs.declared.fault.StreamFault.{StreamFault}
 use Rattle.trace_stream.specs.declared.fault.StreamFault.TheVariants as fault
 use Rattle.row_stream.specs.{Asking.{read_of, tick_reached}, declared.stop.Stop.Stop, declared.stop.Stop.TheVariants.{Input, Late, Endless, Output}}
 

@@ -5,8 +5,8 @@ use Rattle.pcm_io.specs.{Faults.Rose, Giving.AppendsPrefix}
 use Rattle.pcm_module.specs.State.{ModuleState}
 use Rattle.row_printer.specs.{Printing.{IsPrinting, Printing, table_told, text_told}, Refusing.any_refused}
 use Rattle.trace_stream.specs.{Asked.{reached_at, tick_named}, Stream.Standing, declared.asked.Asked.Asked}
-use Rattle.row_stream.specs.{Asking.behind_of, Serving.ServesOn, Sourcing.{GivesNext, HasNoNext, StopsLate}, declared.stop.Behind.Behind}
-use Rattle.row_stream.specs.{declared.stop.Step.Step, declared.stop.Step.TheVariants.{Goes, Ends, Stops}, declared.stop.Stop.Stop, declared.stop.Stop.TheVariants.Output}
+use Rattle.row_stream.specs.{Asking.behind_of, Serving.ServesOn, Sourcing.{GivesNext, HasNoNext, StopsLate}, declared.stop.Behind.Behind, declared.stop.Step.Step}
+use Rattle.row_stream.specs.{declared.stop.Step.TheVariants.{Goes, Ends, Stops}, declared.stop.Stop.Stop, declared.stop.Stop.TheVariants.Output}
 
 -- a printer was told nothing more
 pub record TellsNoMore {n : ℕ} {K : Type 0} (out now : Printing n K) : Type 0 where

@@ -3,9 +3,8 @@ use Rattle.std.proofs.Common.{◌≡◌, ℕ, ◌+◌, List, [], ◌∷◌, ◌+
 use Rattle.std.{specs.Io.KnownBytes.Appends, specs.Prelude.{Result, Ok, Err, OnOk, OnErr}, proofs.lemmas.List.append-nil}
 use Rattle.pcm_io.specs.{Giving.AppendsPrefix, Reserved.{Reserved, appended, reserved}}
 use Rattle.pcm_io.proofs.ByteLemmas.{Appends-Appends, Appends-nothing, Appends-AppendsPrefix, AppendsPrefix-longer}
-use Rattle.wear_report.{specs.WearText.{wear_header_text, wear_row_text, wear_rows_text, wear_text}, proofs.WearLemmas.wear_rows_text-append}
+use Rattle.run_text.{specs.Gathering.{Flushes, Printed}, specs.WearText.{wear_header_text, wear_row_text, wear_rows_text, wear_text}, proofs.WearLemmas.wear_rows_text-append}
 use Rattle.bank_shape.specs.declared.Role.{Role}
-use Rattle.run_text.specs.Gathering.{Flushes, Printed}
 
 -- an empty text that got these bytes
 pub printed-first : (a : Option (List ℕ)) (bytes : List ℕ) → Printed a a (appended (reserved 65536) bytes) bytes

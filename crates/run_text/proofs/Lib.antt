@@ -7,3 +7,4 @@ mod Counted
 mod SummaryLines
 mod Summed
 mod Worked
+pub mod WearLemmas

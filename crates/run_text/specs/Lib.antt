@@ -6,3 +6,4 @@ pub mod Pulses
 pub mod SummaryText
 pub mod Laws
 pub mod Shortfall
+pub mod WearText

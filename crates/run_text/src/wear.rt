@@ -4,13 +4,13 @@ ghost use Rattle.pcm_io.specs.Faults.{Rose};
 ghost use Rattle.pcm_io.specs.Giving.{AppendsPrefix};
 ghost use Rattle.pcm_io.specs.Reserved.{reserved, appended};
 ghost use Rattle.bank_shape.specs.declared.Role.{Role as RoleOf};
-ghost use Rattle.wear_report.specs.WearText.{wear_header_text, wear_text};
+ghost use Rattle.run_text.specs.WearText.{wear_header_text, wear_text};
 ghost use Rattle.run_text.specs.Gathering.{Printed};
 
+use crate::roles::{print_role, wear_header};
 use crate::room::{ROW_ROOM, TEXT_ROOM, make_room};
 use bank_shape::Role;
 use pcm_io::{Sink, Text, WriteFault};
-use wear_report::{header, print_role};
 
 /// Begins a wear report in an empty text.
 pub fn print_wear_header(text: &mut Text)
@@ -18,7 +18,7 @@ pub fn print_wear_header(text: &mut Text)
     ensures after { text.new ≡ appended text.old wear_header_text }
     ensures printed { (before : Option (List ℕ)) → Printed before before text.new (wear_text []) }
 {
-    text.push(header());
+    text.push(wear_header());
 }
 
 /// Adds the row of the next array line, and writes the text before where the row might not fit. Pulses count those that

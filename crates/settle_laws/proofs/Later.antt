@@ -4,8 +4,7 @@ use Rattle.std.{specs.Prelude.{All, IfSome, IsFalse, IsSomeAnd, IsTrue}, proofs.
 use Rattle.cell_rows.specs.Device.{ArrayState}
 use Rattle.bank_shape.specs.{declared.BankShape.BankShape, declared.clock.Action.Action, declared.pace.Pace.Pace}
 use Rattle.bank_shape.specs.declared.answer.ReadAnswer.TheVariants as came
-use Rattle.bank_model.specs.{Events.{Write, Read, Serve, Begin, Iterate, Cut}, Lawful.{Lawful, MayCome}}
-use Rattle.bank_model.specs.{Timing.{Happens, Core, Regs, KeepCut, TimedEvent, ends}, Told.IsWhole}
+use Rattle.bank_model.specs.{Events.{Write, Read, Serve, Begin, Iterate, Cut}, Lawful.{Lawful, MayCome}, Timing.{Happens, Core, Regs, KeepCut, TimedEvent, ends}, Told.IsWhole}
 use Rattle.bank_laws.{specs.Ticks.ends_action, proofs.Ticks.last_tick-rises}
 use Rattle.clock_laws.{specs.Draining.ticks_in, specs.Leads.Leads, specs.State.{ClockState, next_action}, proofs.Draining.{ends-at, no_gap_law}, proofs.Passing.ending_later_law}
 

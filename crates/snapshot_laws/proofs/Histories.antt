@@ -1,12 +1,10 @@
 -- That no line's pulses fall as a history goes on, nor the spares that were given, and what sums and maxima make of that.
 use Rattle.std.proofs.Common.{◌≡◌, ℕ, zero, suc, ◌+◌, ◌-◌, ◌*◌, ◌/◌, ◌%◌, ◌^◌, ◌<◌, ◌≤◌, ◌==◌, if◌then◌else◌, min, Bool, true, false, List, [], ◌∷◌, ◌++◌, length, length-append, arith}
 use Rattle.std.proofs.lemmas.Nat.{div-add-mod', le-div}
-use Rattle.cell_rows.specs.Device.{ArrayState, counted}
-use Rattle.cell_wear.specs.Told.{most}
+use Rattle.cell_rows.specs.{Device.{ArrayState, counted}, Told.most}
 use Rattle.bank_shape.specs.declared.answer.Step.{Step}
 use Rattle.bank_shape.specs.declared.answer.Step.TheVariants as did
-use Rattle.bank_model.specs.{Events.{BankEvent, Begin, Iterate}, History.retired, Sensing.{is_at, pulses_of}}
-use Rattle.bank_model.specs.Timing.{Happens, Core, TimedEvent, core, core_of}
+use Rattle.bank_model.specs.{Events.{BankEvent, Begin, Iterate}, History.retired, Sensing.{is_at, pulses_of}, Timing.{Happens, Core, TimedEvent, core, core_of}}
 use Rattle.run_text.specs.Pulses.{at_most_u64, pulses_of_first}
 use Rattle.wear_totals.specs.Wear.{mean_of}
 

@@ -1,9 +1,8 @@
 -- What a snapshot says, by the histories that led to the module and the array of which it tells.
 use Rattle.std.proofs.Common.{◌≡◌, ℕ, zero, suc, ◌+◌, ◌*◌, ◌/◌, ◌%◌, ◌<◌, ◌≤◌, Bool, List, [], ◌∷◌, ◌++◌, length, replicate, refl, sym, ap, subst, ◌∙◌, arith}
 use Rattle.std.{specs.Prelude.{IsSomeAnd, Option, None, Some, slice_get, unwrap_or}, proofs.lemmas.Nat.{div-add-mod', div_below, mod_below}}
-use Rattle.cell_rows.specs.Device.{ArrayState}
+use Rattle.cell_rows.specs.{Device.ArrayState, Told.most}
 use Rattle.trace_reader.specs.declared.event.Event.{Event}
-use Rattle.cell_wear.specs.Told.{most}
 use Rattle.result_rows.specs.{declared.Outcome.Outcome, declared.Outcome.TheVariants.Unset}
 use Rattle.spare_pool.specs.Table.{Table, used_by}
 use Rattle.bank_shape.specs.{Shape.lines_in, declared.BankShape.BankShape}

@@ -1,6 +1,6 @@
 -- The spares of a chain, the newest first, and the lists that hold a table.
 use Rattle.std.proofs.Common.{◌≡◌, ◌≢◌, ℕ, zero, suc, ◌+◌, ◌-◌, ◌%◌, ◌^◌, ◌<◌, ◌≤◌, ◌==◌, true, false, if◌then◌else◌, inl, inr, List, [], ◌∷◌, ◌++◌, length, map, slice_index, get_or, replicate, take, refl, sym, ◌∙◌, ap, subst, arith}
-use Rattle.std.proofs.{Math.ListN.{length-set, set}, Math.Seq.{take-set-le}, lemmas.Bool.{cases_eq}, lemmas.Bool.Decides.nat_tests, lemmas.Grind.get_or_default_zero}
+use Rattle.std.proofs.{Math.ListN.{length-set, set}, Math.Seq.take-set-le, lemmas.Bool.cases_eq, lemmas.Bool.Decides.nat_tests, lemmas.Grind.get_or_default_zero}
 use Rattle.std.proofs.lemmas.List.{get_or-set_same, get_or-set_other, get_or-take, get_or-replicate, length-map, length-take-le, map-append, take_more, take_more_set}
 use Rattle.spare_pool.specs.Table.{Table, line_from, line_by, used_by, retired_table, chain_of, newest_of, Stores, stored_table}
 use Rattle.spare_pool.proofs.Lines.{line_from-more, line_by-retired, IsTable-retired, only_given}

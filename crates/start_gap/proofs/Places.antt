@@ -1,7 +1,7 @@
 -- One move takes one line into the gap and leaves all others; the same in closed form, for every number of moves.
 use Rattle.std.proofs.Common.{◌≡◌, ◌≢◌, ℕ, Bool, true, false, cond, ◌+◌, ◌-◌, ◌*◌, ◌/◌, ◌%◌, ◌<◌, ◌≤◌, ◌==◌, if◌then◌else◌, nat_lt, inl, inr, sym, ◌∙◌, ap, arith}
 use Rattle.std.proofs.{Math.Nat.{div-add-mod, add-mod-mod, mul-le-mul_left}, lemmas.Bool.cases_eq, lemmas.Bool.Decides.nat_tests, lemmas.Nat.{mod_below, div_below}}
-use Rattle.start_gap.specs.{Rotation.{Rotation, IsRotation, StandsFor, most_lines, turn, place_after, gap_after, below_gap, place_by, move_by, advanced}}
+use Rattle.start_gap.specs.Rotation.{Rotation, IsRotation, StandsFor, most_lines, turn, place_after, gap_after, below_gap, place_by, move_by, advanced}
 use Rattle.start_gap.proofs.Turning.{remainder, advanced-end, advanced-further, gap-stands, place-stands, place_by-moved, place-apart, place-off_gap}
 
 -- ---- one move by the registers

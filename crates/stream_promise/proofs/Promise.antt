@@ -11,7 +11,8 @@ use Rattle.row_printer.specs.{Printing.table_of, Snapshots.{AddsDue, takes_snaps
 use Rattle.run_text.specs.{Counting.counts_of, Pulses.pulses_in_all, SummaryText.summary_text}
 use Rattle.stream_words.specs.declared.job.StreamJob.{StreamJob}
 use Rattle.trace_stream.specs.{Asked.events_in, Laws.all_events, declared.asked.Asked.Asked}
-use Rattle.row_stream.specs.{Asking.{BeginsWith, stays_off, tick_reached, with_cut}, Ending.{told_along, without_cut}, Looking.IsSnapshot, Serving.Telling, Sourcing.{IsRead, IsReadTo}}
+use Rattle.row_stream.specs.{Asking.{BeginsWith, stays_off, tick_reached, with_cut}, Ending.{told_along, without_cut}, Looking.IsSnapshot, Serving.Telling}
+use Rattle.row_stream.specs.Sourcing.{IsRead, IsReadTo}
 use Rattle.stream_top.specs.{Calls.LentSource, Promises.{Breaks, BreaksOn, Call, Does, DoesOn, KeepsPromises, Stops as StopsCall, StopsOn}}
 use Rattle.stream_top.specs.Streams.{BeginsInPart, BreaksOff, ComeFrom, GoesAsFarAs, IsServed, IsServedInPart, Streams, StreamsInPart, StreamsUpTo, done_by, is_off, shown_by}
 use Rattle.stream_top.specs.{Streams.{stops_at_refusal, told_in_part}, declared.done.Done.Done, declared.fault.Fault.Fault}

@@ -21,9 +21,9 @@ use Rattle.trace_gen.specs.Generated.{generated}
 use Rattle.trace_stream.specs.{Asked.events_in, Laws.all_events, declared.asked.Asked.Asked}
 use Rattle.row_stream.specs.{Asking.{BeginsWith, stays_off, tick_reached, with_cut}, Ending.rows_of, Laws.TellsEach, Looking.wear_of, Serving.ComeByBanks}
 use Rattle.row_stream.specs.Sourcing.{IsRead, IsReadTo}
-use Rattle.stream_top.specs.{Calls.LentSource, FaultLines.{fault_line, status_of}, Leaving.{IsClosing, WritesRowsOf, senses_for}, Promises.{Call, IsAsleep, IsUnread, OthersUntouched}}
-use Rattle.stream_top.specs.{Streams.{StopsBy, done_by, is_off, rows_told, shown_by, status_done, stops_at_refusal}, declared.done.Done.Done, declared.done.Done.TheVariants.Short}
-use Rattle.stream_top.specs.{declared.fault.Fault.Fault, declared.fault.Fault.TheVariants.{Usage, Write, NoMemory}}
+use Rattle.stream_top.specs.{Calls.LentSource, FaultLines.{fault_line, status_of}, Leaving.{IsClosing, WritesRowsOf, senses_for}}
+use Rattle.stream_top.specs.{Promises.{Call, IsAsleep, IsUnread, OthersUntouched}, Streams.{StopsBy, done_by, is_off, rows_told, shown_by, status_done, stops_at_refusal}}
+use Rattle.stream_top.specs.{declared.done.Done.Done, declared.done.Done.TheVariants.Short, declared.fault.Fault.Fault, declared.fault.Fault.TheVariants.{Usage, Write, NoMemory}}
 use Rattle.moment_laws.specs.Moments.{IsQueuedNow, so_far, stand_now}
 use Rattle.settle_laws.specs.Settles.{SettlesForGood, SettlesSoFar}
 use Rattle.snapshot_laws.specs.Rising.{NeverFall}

@@ -13,8 +13,7 @@ use Rattle.right_images.specs.Saving.{first_rows, saved_of}
 use Rattle.image_text.{specs.Sensing.SensesRows, proofs.Sensing.senses-none}
 use Rattle.pcm_module.specs.{Roles.spares_used, State.ModuleState}
 use Rattle.large_prints.specs.Rows.{large_to}
-use Rattle.module_prints.specs.{Images.kept_in, StandingMap.standing_map, WearReports.{HaveRoles, IsWearReport, cells_at}}
-use Rattle.module_prints.proofs.Wearing.{worn-goes_on, worn-none}
+use Rattle.module_prints.{specs.Images.kept_in, specs.StandingMap.standing_map, specs.WearReports.{HaveRoles, IsWearReport, cells_at}, proofs.Wearing.{worn-goes_on, worn-none}}
 use Rattle.program_calls.specs.Calls.{GetsPart, IsUntouched, Lent, SinkChange, SinkFails}
 use Rattle.row_printer.specs.{Printing.{stream_text, table_of}, Telling.{outcomes_in, TellsOnce}, declared.snapshot.Snapshot.Snapshot, declared.told.Shown.Shown}
 use Rattle.row_printer.specs.declared.told.Told.{Told}
@@ -22,7 +21,8 @@ use Rattle.row_stream.specs.{Asking.{stays_off, with_cut}, Ending.SnapsAll, Laws
 use Rattle.stream_words.specs.{Jobs.IsStreamJob, declared.job.StreamJob.StreamJob, declared.job.StreamPrint.StreamPrint}
 use Rattle.stream_words.specs.declared.job.StreamPrint.TheVariants.{Rows, Summary, Wear, Lines, Map, Energy, Image, Snapshots}
 use Rattle.trace_stream.specs.{Asked.events_in, declared.asked.Asked.Asked}
-use Rattle.stream_top.specs.{Calls.LentSource, FaultLines.{fault_line, status_of}, Leaving.{IsClosing, Leaves, LeavesLaw, WritesRowsBy, WritesRowsOf, lines_but, senses_for, spelled, wear_but}}
+use Rattle.stream_top.specs.{Calls.LentSource, FaultLines.{fault_line, status_of}}
+use Rattle.stream_top.specs.Leaving.{IsClosing, Leaves, LeavesLaw, WritesRowsBy, WritesRowsOf, lines_but, senses_for, spelled, wear_but}
 use Rattle.stream_top.specs.Promises.{Breaks, Call, EndsCall, IsAsleep, IsRefused, IsStatusOf, IsUnread, KeepsPromises, OthersOn, OthersUntouched, Stops}
 use Rattle.stream_top.specs.Streams.{BreaksOff, Closes, GoesAsFarAs, HasPlayed, IsServed, IsServedInPart, StopsBy, Streams, StreamsUpTo, done_by, has_stopped, is_off, rows_told}
 use Rattle.stream_top.specs.{Streams.{shown_by, status_done, told_of_rows}, declared.done.Done.Done, declared.done.Done.TheVariants.{Whole, Short}, declared.fault.Fault.Fault}

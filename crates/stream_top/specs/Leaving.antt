@@ -2,7 +2,7 @@
 use Rattle.std.specs.Prelude.{◌≡◌, ℕ, ◌^◌, ◌<◌, Bool, true, false, if◌then◌else◌, List, [], Option}
 use Rattle.cell_rows.specs.Device.{ArrayState}
 use Rattle.row_rules.specs.declared.Row.{Row}
-use Rattle.wear_report.specs.WearText.{wear_text}
+use Rattle.run_text.specs.{Pulses.pulses_in_all, SummaryText.summary_text, WearText.wear_text, declared.counts.Counts.Counts}
 use Rattle.bank_shape.specs.declared.Role.{Role}
 use Rattle.energy_report.specs.EnergyText.{energy_report}
 use Rattle.lines_report.specs.{LinesText.lines_text, declared.row.LineCells.LineCells}
@@ -13,7 +13,6 @@ use Rattle.large_image.specs.Spelling.{large_bytes}
 use Rattle.image_laws.specs.SavedRuns.{IsLeftTo}
 use Rattle.right_images.specs.{SavesRun.SavesRunTo, Saving.saved_of}
 use Rattle.image_text.specs.Sensing.{SensesRows}
-use Rattle.run_text.specs.{Pulses.pulses_in_all, SummaryText.summary_text, declared.counts.Counts.Counts}
 use Rattle.pcm_module.specs.{Roles.spares_used, State.ModuleState}
 use Rattle.module_prints.specs.{Images.{WritesRows, kept_in}, PulsedLines.pulsed_text, StandingMap.standing_map, WearReports.{HaveRoles, IsWearReport}}
 use Rattle.module_prints.specs.declared.pulsed.Report.TheVariants as of

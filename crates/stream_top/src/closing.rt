@@ -15,8 +15,7 @@ ghost use Rattle.module_prints.specs.Images.{HasImage, kept_in};
 ghost use Rattle.module_prints.specs.WearReports.{HaveRoles, cells_at};
 ghost use Rattle.stream_top.specs.Leaving.{IsClosing, WritesRowsOf, senses_for, spelled};
 
-use cell_rows::CellArray;
-use cell_wear::TellsCells;
+use cell_rows::{CellArray, TellsCells};
 use large_prints::print_large_image;
 use module_prints::{
     Report, print_energy, print_image, print_lines, print_map, print_pulsed, print_wear,

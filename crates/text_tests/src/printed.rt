@@ -2,20 +2,20 @@ ghost use Rattle.std.specs.Prelude.{◌≡◌, ◌≤◌, replicate, length, IfO
 ghost use Rattle.std.specs.Io.KnownBytes.{Appends};
 ghost use Rattle.pcm_io.specs.Giving.{AppendsPrefix};
 ghost use Rattle.pcm_io.specs.Reserved.{reserved};
-ghost use Rattle.wear_report.specs.WearText.{wear_text};
+ghost use Rattle.run_text.specs.WearText.{wear_text};
 ghost use Rattle.run_text.specs.ResultText.{ArePrintable};
 
 use bank_shape::Role;
 use pcm_io::{MemSink, Sink, Text, WriteFault};
 use result_rows::{Outcome, Results};
 use run_text::{
-    ROW_ROOM, TEXT_ROOM, print_counts, print_rest, print_results, print_wear_header, print_wear_row,
+    ROW_ROOM, TEXT_ROOM, print_counts, print_rest, print_results, print_wear_header,
+    print_wear_row, wear_header,
 };
 use std::alloc::{AllocError, Global};
 use std::process::Abort;
 use std::test::Fail;
 use trace_reader::{Event, EventOp, MOST_ROWS};
-use wear_report::header;
 
 // An empty text of so much room, and a sink whose call with this number fails.
 fn desk(alloc: Global, room: usize, fails: u32) -> Result<(Text, MemSink), AllocError>
@@ -120,7 +120,7 @@ fn a_summary_is_written_whole_or_not_at_all(rt: HostRuntime) {
 fn print_two(text: &mut Text, out: &mut MemSink) -> Result<(), WriteFault>
     requires { text.old ≡ reserved ROW_ROOM }
 {
-    text.push(header());
+    text.push(wear_header());
     print_wear_row(0, 0, 7, Role::Line(2), text, out)?;
     print_wear_row(1, 0, 1, Role::Retired, text, out)?;
     print_rest(text, out)

@@ -1,13 +1,13 @@
 use crate::expected::assert_made;
 use bank_shape::Role;
 use pcm_io::Text;
+use run_text::{print_role, wear_header};
 use std::alloc::{AllocError, Global};
-use wear_report::{header, print_role};
 
 // A row of each role, behind the header.
 fn roles(alloc: Global) -> Result<Text, AllocError> {
     let mut text = Text::new(alloc, 384)?;
-    text.push(header());
+    text.push(wear_header());
     print_role(3, 0, 67, Role::Retired, &mut text);
     print_role(4, 0, 0, Role::Gap, &mut text);
     print_role(5, 0, 1, Role::Line(0), &mut text);

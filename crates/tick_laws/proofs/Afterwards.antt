@@ -3,7 +3,7 @@ use Rattle.std.proofs.Common.{◌≡◌, ℕ, ◌≤◌, ◌==◌, ◌&&◌, ◌
 use Rattle.std.{specs.List.list_any, specs.Prelude.nat_le, proofs.lemmas.Bool.{le-leb, and_from}, proofs.lemmas.List.append-nil, proofs.lemmas.List.Folds.list_all-append}
 use Rattle.row_rules.specs.{Rows.is_cut, Ticking.{no_cut_below, first_cut_at}, declared.Row.Row}
 use Rattle.bank_shape.specs.{declared.BankShape.BankShape, declared.pace.Pace.Pace}
-use Rattle.bank_model.specs.{Events.{Cut}, Lawful.Lawful, Timing.{Happens, Core, TimedEvent, last_tick}}
+use Rattle.bank_model.specs.{Events.Cut, Lawful.Lawful, Timing.{Happens, Core, TimedEvent, last_tick}}
 use Rattle.bank_laws.{specs.Outcomes.row_with, proofs.Later.last-later, proofs.Ticks.last_tick-rises, proofs.Walking.rows_after}
 
 module _ {n : ℕ} where

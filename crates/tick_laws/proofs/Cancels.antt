@@ -6,8 +6,8 @@ use Rattle.bank_shape.specs.{Pausing.{is_cancelling, most_cancels}, declared.Ban
 use Rattle.bank_shape.specs.declared.pace.Policy.TheVariants.{Pause, Plain, Cancel}
 use Rattle.bank_shape.specs.declared.answer.Keep.TheVariants as keep
 use Rattle.bank_shape.specs.declared.answer.Step.TheVariants as did
-use Rattle.bank_model.specs.{Changes.{halted_after, halted_by}, Events.{BankEvent, Begin, Iterate, Cut}, History.{waits, has_exhausted}}
-use Rattle.bank_model.specs.{Lawful.{Lawful, MayCome, would_cancel}, Running.{running_at, cancels_with, cancels_after}}
+use Rattle.bank_model.specs.{Changes.{halted_after, halted_by}, Events.{BankEvent, Begin, Iterate, Cut}, History.{waits, has_exhausted}, Lawful.{Lawful, MayCome, would_cancel}}
+use Rattle.bank_model.specs.Running.{running_at, cancels_with, cancels_after}
 use Rattle.bank_model.specs.Timing.{Happens, Core, Regs, KeepBegin, KeepIterate, KeepCut, TimedEvent, is_writing, is_empty, core, core_of}
 use Rattle.tick_laws.proofs.{Actions.not-cancelled, Tallies.{stores_by, moves_by, others_by, cuts_by, cancelled_by, tally, tally_cuts}}
 use Rattle.bank_laws.proofs.{Entries.either, Wears.exhausted-more}

@@ -6,8 +6,7 @@ use Rattle.bank_shape.specs.{Shape.{controls_of, if_array}, declared.BankShape.B
 use Rattle.bank_shape.specs.declared.Home.TheVariants as home
 use Rattle.bank_shape.specs.declared.answer.Step.TheVariants as did
 use Rattle.bank_shape.specs.declared.answer.Keep.TheVariants as keep
-use Rattle.bank_model.specs.{Changes.{change_after, change_by, halted_after, halted_by, item_if}, Events.{Begin, Iterate}}
-use Rattle.bank_model.specs.{History.{has_exhausted}, Lawful.{Lawful, MayCome}}
+use Rattle.bank_model.specs.{Changes.{change_after, change_by, halted_after, halted_by, item_if}, Events.{Begin, Iterate}, History.has_exhausted, Lawful.{Lawful, MayCome}}
 use Rattle.bank_model.specs.Timing.{Happens, Core, Regs, KeepBegin, KeepIterate, TimedEvent, core, core_of}
 use Rattle.bank_laws.proofs.Changing.{halted-stops}
 use Rattle.tick_laws.proofs.{Cancels.fine_before, Tallies.{stores_by, moves_by, retires_by, others_by, tally}}

@@ -5,8 +5,8 @@ use Rattle.hex.{specs.Hex.{encode_lower, encode_with, lower_digits}, proofs.HexL
 use Rattle.trace_reader.specs.{Events.{AreEventsFor, IsEventFor, IsOpFor}, declared.event.Event.Event, declared.event.EventOp.EventOp}
 use Rattle.trace_reader.specs.declared.event.EventOp.TheVariants.{Read, Write, Mask, Cut}
 use Rattle.pcm_io.proofs.DigitLemmas.{five_digits}
-use Rattle.trace_gen.specs.{EventText.{data_text, event_row, event_rows, line_text, masked_text, op_letter, pair_text}, Generated.{generated, whole_lines}, Laws.{AllWithin, GeneratedSizeLaw}}
-use Rattle.trace_gen.proofs.Lawful.{generated_law, span-small}
+use Rattle.trace_gen.specs.{EventText.{data_text, event_row, event_rows, line_text, masked_text, op_letter, pair_text}, Generated.{generated, whole_lines}}
+use Rattle.trace_gen.{specs.Laws.{AllWithin, GeneratedSizeLaw}, proofs.Lawful.{generated_law, span-small}}
 
 letter-size : (n : ℕ) (op : EventOp n) → length (op_letter op) ≡ 1
 letter-size n (Read line) = refl

@@ -6,7 +6,8 @@ use Rattle.csv.specs.{Machine.next_record, Reading.default_config}
 use Rattle.csv.specs.declared.parser.State.TheVariants as st
 use Rattle.trace_reader.specs.{Events.{AreEventsFor, IsEventFor}, Rows.event_of, Trace.{most_rows, trace_of}, declared.event.Event.Event, declared.event.EventOp.EventOp}
 use Rattle.trace_reader.specs.declared.event.EventOp.TheVariants.{Read, Write, Mask, Cut}
-use Rattle.trace_gen.specs.{EventText.{event_fields, event_row, trace_text}, Generated.{IsLongMix, IsMix, bytes_of_words, generated, stream_lines, whole_lines, words_left}, declared.mix.Mix.Mix}
+use Rattle.trace_gen.specs.{EventText.{event_fields, event_row, trace_text}, Generated.{IsLongMix, IsMix, bytes_of_words, generated, stream_lines, whole_lines, words_left}}
+use Rattle.trace_gen.specs.declared.mix.Mix.{Mix}
 
 -- the line numbers of a trace have at most eight digits
 abbrev pub numbered_lines : ℕ

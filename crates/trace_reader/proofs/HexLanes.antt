@@ -1,12 +1,10 @@
 -- What lanes make of hexadecimal digits.
 use Rattle.std.proofs.Common.{◌≡◌, ℕ, zero, suc, ◌+◌, ◌-◌, ◌*◌, ◌%◌, ◌^◌, ◌<◌, ◌≤◌, ◌==◌, Bool, true, false, List, [], ◌∷◌, ◌++◌, map, cond, length, get_or, Fits, w8, refl, sym, ap, ◌∙◌, arith, min, leb, replicate, subst, inl, inr}
-use Rattle.std.proofs.lemmas.Bool.{agree_below, agree_below_at, cases_lt, eqb-true}
+use Rattle.std.proofs.{lemmas.Bool.{agree_below, agree_below_at, cases_lt, eqb-true}, lemmas.List.{get_or-map, get_or-replicate, get_or_append_left, length-map}}
 use Rattle.std.proofs.lemmas.Simd.{length-chunk, get_or-chunk, get_or-zip2, get_or-put_chunk_below, get_or-put_chunk_at, tops_compared, mask_l-mod, zip2_splat_left, length-zip2}
-use Rattle.std.proofs.lemmas.List.{get_or-map, get_or-replicate, get_or_append_left, length-map}
 use lib.Lanes.{chunk, zip2, sel_l, mask_l, pick_l, put_chunk, top}
 use Rattle.hex.specs.Hex.{hex_digit_value}
-use Rattle.trace_reader.specs.Payload.{Tells, value_of}
-use Rattle.trace_reader.proofs.{Table.{ReadsDigits, or_none, value_of_digit}}
+use Rattle.trace_reader.{specs.Payload.{Tells, value_of}, proofs.Table.{ReadsDigits, or_none, value_of_digit}}
 
 pub itself : (v : List ℕ) → v ≡ map (λ x. x) v
 itself [] = refl

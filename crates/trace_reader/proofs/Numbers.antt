@@ -1,8 +1,8 @@
 -- When a text is a number.
 use Rattle.std.proofs.Common.{Bool, if◌then◌else◌, ◌≡◌, ℕ, ◌+◌, ◌-◌, ◌*◌, ◌^◌, ◌<◌, ◌≤◌, List, length, get_or, take, true, false, ◌&&◌, Some, None, refl, sym, ap, ◌∙◌, arith, nat_lt, nat_le}
-use Rattle.std.{specs.Char.{is_ascii_digit, digit_value}, specs.List.list_all, specs.Str.Parse.digits_value, proofs.lemmas.Bool.Decides.nat_tests}
-use Rattle.std.proofs.{lemmas.Int.Digits.digits_value_more, lemmas.List.take_all, lemmas.List.Folds.{list_all_at, list_all_more}, lemmas.Str.digit_value_digit}
-use Rattle.std.proofs.{Math.Nat.pow-le-pow_right, lemmas.Nat.pow-add, lemmas.Str.Parse.digits_value-take-le}
+use Rattle.std.{specs.Char.{is_ascii_digit, digit_value}, specs.List.list_all, specs.Str.Parse.digits_value, proofs.Math.Nat.pow-le-pow_right, proofs.lemmas.Bool.Decides.nat_tests}
+use Rattle.std.proofs.{lemmas.Int.Digits.digits_value_more, lemmas.List.take_all, lemmas.List.Folds.{list_all_at, list_all_more}, lemmas.Nat.pow-add, lemmas.Str.digit_value_digit}
+use Rattle.std.proofs.lemmas.Str.Parse.{digits_value-take-le}
 use Rattle.trace_reader.specs.{Number.{is_number, number_of}, Rows.line_digits}
 
 -- a text that is too short or too long

@@ -1,10 +1,10 @@
 -- Rows of plain bytes as `csv` reads them.
 use Rattle.std.proofs.Common.{◌≡◌, ℕ, zero, suc, ◌+◌, ◌-◌, ◌≤◌, ◌==◌, ◌&&◌, List, [], ◌∷◌, ◌++◌, length, drop, get_or, Bool, true, false, Option, Some, None, refl, sym, ap, subst, ◌∙◌, arith, append_assoc}
-use Rattle.std.{specs.List.list_all, specs.Prelude.{if◌then◌else◌, codes}, specs.Str.bytes_eq, proofs.lemmas.Bool.Decides.nat_tests}
-use Rattle.std.proofs.{Math.Seq.drop-cons, lemmas.List.{append-nil, drop-drop, get_or-drop, get_or-take, length-drop, length-take-le, take-append-drop}}
-use Rattle.std.proofs.lemmas.List.{Sums.list_all-from_AllPass, Elements.All-from_get_or}
-use Rattle.csv.specs.{Machine.{Read, field_after, fields_after, is_end, next_record, step}, Reading.{default_config, records, records_from, records_next, strip_bom}, declared.parser.Action.Action, declared.parser.State.State}
-use Rattle.csv.specs.Records.{field_at}
+use Rattle.std.{specs.List.list_all, specs.Prelude.{if◌then◌else◌, codes}, specs.Str.bytes_eq, proofs.Math.Seq.drop-cons, proofs.lemmas.Bool.Decides.nat_tests}
+use Rattle.std.proofs.{lemmas.List.{append-nil, drop-drop, get_or-drop, get_or-take, length-drop, length-take-le, take-append-drop}, lemmas.List.Elements.All-from_get_or}
+use Rattle.std.proofs.lemmas.List.Sums.{list_all-from_AllPass}
+use Rattle.csv.specs.{Machine.{Read, field_after, fields_after, is_end, next_record, step}, Reading.{default_config, records, records_from, records_next, strip_bom}}
+use Rattle.csv.specs.{Records.field_at, declared.parser.Action.Action, declared.parser.State.State}
 use Rattle.csv.specs.declared.parser.State.TheVariants as st
 use Rattle.csv.specs.declared.parser.Action.TheVariants as act
 use Rattle.trace_reader.specs.{Plain.{IsField, IsPlainRow, fields_in, is_plain, piece}, Records.unended, Rows.{event_of, row_of}, Trace.is_header, declared.plain.PlainRow.PlainRow}

@@ -1,7 +1,7 @@
 -- How the digits of a payload are read by what `hex` says of each character.
 use Rattle.std.proofs.Common.{◌≡◌, ℕ, zero, suc, ◌+◌, ◌*◌, ◌/◌, ◌%◌, ◌<◌, ◌≤◌, ◌==◌, List, [], ◌∷◌, length, get_or, Bool, true, false, Option, Some, None, refl, sym, ap, ◌∙◌, arith, unwrap_or, max, inl, inr, ◌≢◌}
-use Rattle.std.{specs.Prelude.{option_map, if◌then◌else◌, Result, Ok, Err}, specs.Result.result_ok, proofs.Math.ListN.set}
-use Rattle.std.proofs.{lemmas.Bool.cases_lt, lemmas.Bool.Decides.nat_tests, lemmas.List.{get_or-set_same, get_or-set_other}}
+use Rattle.std.{specs.Prelude.{option_map, if◌then◌else◌, Result, Ok, Err}, specs.Result.result_ok, proofs.Math.ListN.set, proofs.lemmas.Bool.cases_lt}
+use Rattle.std.proofs.{lemmas.Bool.Decides.nat_tests, lemmas.List.{get_or-set_same, get_or-set_other}}
 use Rattle.hex.specs.{Hex.{decode_pairs, hex_digit_value, digit_or_error, ◌>>=◌}, declared.error.FromHexError.FromHexError}
 use Rattle.hex.specs.declared.error.FromHexError.TheVariants.{InvalidStringLength, OddLength}
 use Rattle.trace_reader.specs.Payload.{bytes_of, value_of}

@@ -6,12 +6,11 @@ use Rattle.trace_reader.specs.{Rows.{event_at, event_of, op_of, text_at, tick_of
 use Rattle.trace_reader.specs.{declared.event.Event.Event, declared.event.EventOp.EventOp, declared.fault.Kind.Kind, declared.fault.TraceFault.TraceFault}
 use Rattle.trace_reader.specs.declared.fault.Kind.TheVariants as kind
 use Rattle.trace_reader.specs.declared.fault.ParseFault.TheVariants as whole
-use Rattle.trace_stream.specs.Asked.{asked_event, asked_of, asked_settle, asked_settling, asked_until, events_in, is_look, is_query, is_settle, is_settle_word, is_until, rows_after, settle_of, tick_asked, until_of}
-use Rattle.trace_stream.specs.Laws.{BareLaw, FaultBackLaw, all_events, records_of}
+use Rattle.trace_stream.specs.Asked.{asked_event, asked_of, asked_settle, asked_settling, asked_until, events_in, is_look, is_query, is_settle, is_settle_word, is_until}
+use Rattle.trace_stream.specs.{Asked.{rows_after, settle_of, tick_asked, until_of}, Laws.{BareLaw, FaultBackLaw, all_events, records_of}}
 use Rattle.trace_stream.specs.{Stream.{and_then_asked, asked_before, is_past, stream_fault_at, stream_of, stream_records, stream_rows}, declared.asked.Asked.Asked}
-use Rattle.trace_stream.{specs.declared.asked.Asked.TheVariants.{Happens, Settle, Query, Look, Until}, specs.declared.asked.Until.Until as Waited, specs.declared.fault.StreamFault.StreamFault}
-use Rattle.trace_stream.proofs.Lawful.{settle-lawful, until-lawful}
-use Rattle.trace_stream.proofs.Traces.{asked-ok, event-four, row_by}
+use Rattle.trace_stream.specs.{declared.asked.Asked.TheVariants.{Happens, Settle, Query, Look, Until}, declared.asked.Until.Until as Waited, declared.fault.StreamFault.StreamFault}
+use Rattle.trace_stream.proofs.{Lawful.{settle-lawful, until-lawful}, Traces.{asked-ok, event-four, row_by}}
 use Rattle.trace_stream.specs.declared.fault.StreamFault.TheVariants as fault
 
 -- a row that happens does so behind any earlier tick

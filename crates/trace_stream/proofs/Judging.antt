@@ -8,8 +8,8 @@ use Rattle.trace_reader.specs.{Rows.{cut_of, event_at, event_of, latest_tick, li
 use Rattle.trace_reader.specs.{declared.event.Event.Event, declared.event.EventOp.EventOp, declared.event.EventOp.TheVariants.{Read, Write, Mask}, declared.fault.Kind.Kind}
 use Rattle.trace_reader.proofs.{Numbers.{line_digits-few, number_of-length}, Pairs.masked_of-length, Table.{bytes_of-odd, bytes_of-other}}
 use Rattle.trace_reader.specs.declared.fault.Kind.TheVariants as kind
-use Rattle.trace_stream.specs.declared.asked.Until.{Until as Waited}
 use Rattle.trace_stream.specs.{Asked.{asked_of, from_one, is_look, is_query, is_settle, is_settle_word, is_until, row_of, settle_of, until_of}, Kept.{kept_field, kept_fields}}
+use Rattle.trace_stream.specs.declared.asked.Until.{Until as Waited}
 
 -- a field is kept whole, or it is too long
 short-kept : (field : List ℕ) → length field ≤ 257 → kept_field field ≡ field

@@ -4,8 +4,9 @@ use Rattle.std.{specs.Prelude.{if◌then◌else◌, Result, Ok, Err}, proofs.lem
 use Rattle.trace_reader.specs.{Number.number_of, Rows.{event_of, latest_tick, or_fault, text_at, tick_of}, declared.event.Event.Event, declared.fault.Kind.Kind}
 use Rattle.trace_reader.proofs.{Lawful.{event_of-lawful, or_fault-ok}, Numbers.number_within}
 use Rattle.trace_reader.specs.declared.fault.Kind.TheVariants as kind
-use Rattle.trace_stream.specs.{Asked.{IsAskedFor, IsUnreached, NamesRow, asked_event, asked_of, asked_settle, asked_settling, asked_until, from_one, is_look, is_query, is_settle, is_until, row_of, settle_of, until_of}, declared.asked.Asked.Asked, declared.asked.Until.Until as Waited}
-use Rattle.trace_stream.specs.declared.asked.Asked.TheVariants.{Happens, Settle, Query, Look, Until}
+use Rattle.trace_stream.specs.Asked.{IsAskedFor, IsUnreached, NamesRow, asked_event, asked_of, asked_settle, asked_settling, asked_until, from_one, is_look, is_query, is_settle}
+use Rattle.trace_stream.specs.{Asked.{is_until, row_of, settle_of, until_of}, declared.asked.Asked.Asked, declared.asked.Asked.TheVariants.{Happens, Settle, Query, Look, Until}}
+use Rattle.trace_stream.specs.declared.asked.Until.{Until as Waited}
 
 pub settle-lawful : (before tick : ℕ) (fields : List (List ℕ)) → settle_of before fields ≡ Ok tick → (before ≤ tick) × (tick ≤ latest_tick)
 unfolding settle_of

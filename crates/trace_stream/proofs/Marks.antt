@@ -2,8 +2,7 @@
 use Rattle.std.proofs.Common.{◌≡◌, ◌≢◌, ℕ, ◌==◌, ◌&&◌, List, [], ◌∷◌, ◌++◌, ◌∙◌, Bool, true, false, refl, ap, arith}
 use Rattle.std.proofs.lemmas.Bool.Decides.{nat_tests}
 use Rattle.trace_stream.specs.{Arrived.{Arrived, Comes}, Kept.{LacksHeader, decides}}
-use Rattle.csv.specs.declared.parser.State.TheVariants.{StartRecord}
-use Rattle.csv.specs.Reading.{strip_bom}
+use Rattle.csv.specs.{Reading.strip_bom, declared.parser.State.TheVariants.StartRecord}
 
 neither : (p q : Bool) → (p && false && q) ≡ false
 neither true q = refl

@@ -1,17 +1,16 @@
 -- A row that has come whole, of plain bytes.
 use Rattle.std.proofs.Common.{◌≡◌, ℕ, zero, suc, ◌+◌, ◌-◌, ◌<◌, ◌≤◌, ◌==◌, List, [], ◌∷◌, ◌++◌, length, take, drop, get_or, Bool, true, false, Some, inl, refl, sym, ap, subst, ◌∙◌, arith}
 use Rattle.std.{specs.List.list_all, specs.Prelude.{option_map, codes, Ok, Err}, specs.Str.bytes_eq, proofs.lemmas.Bool.Decides.nat_tests}
-use Rattle.std.proofs.lemmas.List.{Sums.list_all-from_AllPass, Elements.All-from_get_or}
-use Rattle.std.proofs.lemmas.List.{append-nil, get_or-take, get_or_append_left, length-append, length-drop, length-take-le}
-use Rattle.std.proofs.lemmas.Slice.Eq.{bytes_eq-Decides}
-use Rattle.csv.specs.Records.{field_at}
-use Rattle.csv.specs.{Machine.next_record, Reading.default_config}
+use Rattle.std.proofs.{lemmas.List.{append-nil, get_or-take, get_or_append_left, length-append, length-drop, length-take-le}, lemmas.List.Elements.All-from_get_or}
+use Rattle.std.proofs.{lemmas.List.Sums.list_all-from_AllPass, lemmas.Slice.Eq.bytes_eq-Decides}
+use Rattle.csv.specs.{Machine.next_record, Reading.default_config, Records.field_at}
 use Rattle.csv.specs.declared.parser.State.TheVariants as st
-use Rattle.trace_reader.specs.{Plain.{IsField, IsPlainRow, fields_in, is_plain, piece}, Rows.event_of, declared.event.Event.Event, declared.fault.Kind.Kind, declared.plain.PlainRow.PlainRow}
-use Rattle.trace_reader.proofs.PlainRows.{plain-next}
-use Rattle.trace_stream.specs.{Arrived.{Arrived}, Asked.{IsAskedFor, asked_event, asked_of, is_event_word, is_settle, is_settle_word}, Kept.{FindsKept, kept_fields}}
-use Rattle.trace_stream.specs.{Stream.{AsksNext, HasFault, HasFront, IsPlainNext, Standing, asked_from, front_from, is_past, most_streamed}, declared.asked.Asked.TheVariants.Happens}
-use Rattle.trace_stream.proofs.{Judging.asked-kept, KeptRecords.{kept_read, next_kept-is}, Lawful.asked-lawful, Rows.{asks-faulty, asks-some, no-front}}
+use Rattle.trace_reader.specs.{Plain.{IsField, IsPlainRow, fields_in, is_plain, piece}, Rows.event_of, declared.event.Event.Event, declared.fault.Kind.Kind}
+use Rattle.trace_reader.{specs.declared.plain.PlainRow.PlainRow, proofs.PlainRows.plain-next}
+use Rattle.trace_stream.specs.{Arrived.Arrived, Asked.{IsAskedFor, asked_event, asked_of, is_event_word, is_settle, is_settle_word}, Kept.{FindsKept, kept_fields}}
+use Rattle.trace_stream.specs.Stream.{AsksNext, HasFault, HasFront, IsPlainNext, Standing, asked_from, front_from, is_past, most_streamed}
+use Rattle.trace_stream.{specs.declared.asked.Asked.TheVariants.Happens, proofs.Judging.asked-kept, proofs.KeptRecords.{kept_read, next_kept-is}, proofs.Lawful.asked-lawful}
+use Rattle.trace_stream.proofs.Rows.{asks-faulty, asks-some, no-front}
 use Rattle.trace_stream.specs.declared.fault.StreamFault.TheVariants as fault
 
 -- the first bytes, each of which passes

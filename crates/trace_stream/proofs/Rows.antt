@@ -6,13 +6,13 @@ use Rattle.csv.specs.declared.parser.State.TheVariants as st
 use Rattle.trace_reader.specs.{Records.unended, Rows.event_of, Trace.is_header, declared.fault.Kind.Kind}
 use Rattle.trace_reader.proofs.Reading.{records_from-none, records_from-some, shorter, unended-le}
 use Rattle.trace_reader.specs.declared.fault.Kind.TheVariants as kind
-use Rattle.trace_stream.specs.{Arrived.{Arrived, Comes, StaysEnded}, Asked.{asked_event, asked_of, asked_settle, asked_settling, asked_until, is_look, is_query, is_settle, is_until, rows_after, settle_of, tick_asked, until_of}}
-use Rattle.trace_stream.specs.Kept.{FindsKept, IsKeptOf, kept_fields, most_fields}
+use Rattle.trace_stream.specs.Arrived.{Arrived, Comes, StaysEnded}
+use Rattle.trace_stream.specs.Asked.{asked_event, asked_of, asked_settle, asked_settling, asked_until, is_look, is_query, is_settle, is_until, rows_after, settle_of, tick_asked}
+use Rattle.trace_stream.specs.{Asked.until_of, Kept.{FindsKept, IsKeptOf, kept_fields, most_fields}}
 use Rattle.trace_stream.specs.Stream.{AsksNext, HasFault, HasFront, Opens, Standing, asked_before, asked_from, front_from, front_of, front_records, front_rows, is_past}
 use Rattle.trace_stream.specs.{Stream.{most_streamed, records_left, stream_fault_at, stream_of, stream_records, stream_rows}, declared.asked.Asked.Asked}
-use Rattle.trace_stream.specs.declared.asked.Until.{Until as Waited}
-use Rattle.trace_stream.{specs.declared.asked.Asked.TheVariants.{Happens, Settle, Query, Look, Until}, proofs.Judging.{asked-kept, header-kept, is_settle-kept}}
-use Rattle.trace_stream.proofs.{KeptRecords.{kept_read, next_kept-is, none-kept, some-is, some-kept}, Steps.comes-back}
+use Rattle.trace_stream.specs.{declared.asked.Asked.TheVariants.{Happens, Settle, Query, Look, Until}, declared.asked.Until.Until as Waited}
+use Rattle.trace_stream.proofs.{Judging.{asked-kept, header-kept, is_settle-kept}, KeptRecords.{kept_read, next_kept-is, none-kept, some-is, some-kept}, Steps.comes-back}
 use Rattle.trace_stream.specs.declared.fault.StreamFault.TheVariants as fault
 
 -- the records of a text, however many are asked for

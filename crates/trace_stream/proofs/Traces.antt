@@ -7,7 +7,8 @@ use Rattle.trace_reader.specs.{Trace.{and_then_rows, event_before, events_of, fa
 use Rattle.trace_reader.specs.{declared.event.EventOp.EventOp, declared.fault.Kind.Kind, declared.fault.ParseFault.ParseFault, declared.fault.TraceFault.TraceFault}
 use Rattle.trace_reader.specs.declared.fault.Kind.TheVariants as kind
 use Rattle.trace_reader.specs.declared.fault.ParseFault.TheVariants as whole
-use Rattle.trace_stream.specs.{Asked.{asked_event, asked_of, asked_settle, asked_settling, asked_until, is_look, is_query, is_settle, is_settle_word, is_until, rows_after, settle_of, tick_asked, until_of}, Laws.{FaultLaw, StreamLaw, TraceLaw, all_events}}
+use Rattle.trace_stream.specs.Asked.{asked_event, asked_of, asked_settle, asked_settling, asked_until, is_look, is_query, is_settle, is_settle_word, is_until, rows_after}
+use Rattle.trace_stream.specs.{Asked.{settle_of, tick_asked, until_of}, Laws.{FaultLaw, StreamLaw, TraceLaw, all_events}}
 use Rattle.trace_stream.specs.{Stream.{and_then_asked, asked_before, is_past, most_streamed, stream_fault_at, stream_of, stream_records, stream_rows}, declared.asked.Asked.Asked}
 use Rattle.trace_stream.specs.{declared.asked.Asked.TheVariants.Happens, declared.asked.Until.Until as Waited, declared.fault.StreamFault.StreamFault}
 use Rattle.trace_stream.specs.declared.fault.StreamFault.TheVariants as fault

@@ -4,7 +4,8 @@ use Rattle.csv.specs.{Reading.{default_config, records_from, strip_bom}, declare
 use Rattle.csv.specs.declared.parser.State.TheVariants as st
 use Rattle.trace_reader.specs.{Plain.{IsPlainRow, piece}, Trace.is_header, declared.fault.Kind.Kind, declared.plain.PlainRow.PlainRow}
 use Rattle.trace_reader.specs.declared.fault.Kind.TheVariants as kind
-use Rattle.trace_stream.specs.{Arrived.{Arrived, Comes}, Asked.{asked_of, is_event_word, is_settle, rows_after, tick_asked}, declared.asked.Asked.Asked, declared.fault.StreamFault.StreamFault}
+use Rattle.trace_stream.specs.{Arrived.{Arrived, Comes}, Asked.{asked_of, is_event_word, is_settle, rows_after, tick_asked}, declared.asked.Asked.Asked}
+use Rattle.trace_stream.specs.declared.fault.StreamFault.{StreamFault}
 use Rattle.trace_stream.specs.declared.fault.StreamFault.TheVariants as fault
 
 -- a streamed trace has at most so many rows with a number, 2 to the power 32 less two

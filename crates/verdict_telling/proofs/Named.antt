@@ -1,7 +1,7 @@
 -- The row that a verdict names: those before it keep all rules, and ticks don't fall.
 use Rattle.std.proofs.Common.{◌≡◌, ℕ, ◌-◌, ◌^◌, ◌<◌, ◌≤◌, ◌&&◌, Bool, true, false, List, [], ◌∷◌, ◌++◌, Some, length, take, drop, refl, sym, ap, ◌∙◌, subst, cond, arith}
-use Rattle.std.specs.{List.list_all, Prelude.{All, reverse}}
-use Rattle.std.proofs.{Math.Seq.take-append_seam, lemmas.Bool.{le-leb, leb-true}, lemmas.List.reverse-reverse, lemmas.List.Elements.{All-same, All-take}}
+use Rattle.std.{specs.List.list_all, specs.Prelude.{All, reverse}, proofs.Math.Seq.take-append_seam, proofs.lemmas.Bool.{le-leb, leb-true}, proofs.lemmas.List.reverse-reverse}
+use Rattle.std.proofs.lemmas.List.Elements.{All-same, All-take}
 use Rattle.masked_bytes.proofs.{Lists.turned, Truth.{and_first, and_second}}
 use Rattle.result_rows.specs.declared.Outcome.{Outcome}
 use Rattle.row_rules.specs.{Lines.IsOfLines, Rows.each_row, declared.Row.Row, declared.Rules.Rules}
@@ -9,13 +9,11 @@ use Rattle.trace_reader.{specs.Events.AreEventsFor, specs.declared.event.Event.E
 use Rattle.trace_rows.{specs.Rows.rows_with, proofs.Lines.lines-exist}
 use Rattle.result_check.specs.Checkable.{IsCheckable}
 use Rattle.check_judging.specs.Rising.{rising}
-use Rattle.check_verdict.specs.{Fitting.all_brief, Verdicts.{all_rules, broken_by, keeps, keeps_all, verdict_of}, declared.Rule.Rule}
-use Rattle.check_verdict.specs.declared.Rule.TheVariants as rule
-use Rattle.check_verdict.specs.declared.Verdict.TheVariants.{No}
+use Rattle.check_verdict.specs.{Fitting.all_brief, Verdicts.{all_rules, broken_by, keeps, keeps_all, verdict_of}, declared.Rule.Rule, declared.Verdict.TheVariants.No}
 use Rattle.check_verdict.proofs.Lowest.{verdict_law}
+use Rattle.check_verdict.specs.declared.Rule.TheVariants as rule
 use Rattle.clause_telling.specs.Rooms.{HadRoom}
-use Rattle.verdict_telling.specs.Explained.{IsTold, MayTell}
-use Rattle.verdict_telling.proofs.Tables.{brief_front, brief_rows, one_of, parts_long, rest_of, rows_long, ticks_below}
+use Rattle.verdict_telling.{specs.Explained.{IsTold, MayTell}, proofs.Tables.{brief_front, brief_rows, one_of, parts_long, rest_of, rows_long, ticks_below}}
 
 pub rises_from : {n : ℕ} (lines before : ℕ) (events : List (Event n)) (outcomes : List (Outcome n)) → AreEventsFor lines before events → rising before (rows_with events outcomes) ≡ true
 rises_from lines before [] outcomes h = refl

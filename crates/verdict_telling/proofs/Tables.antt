@@ -1,9 +1,10 @@
 -- The rows of a table, one after another.
 use Rattle.std.proofs.Common.{◌≡◌, ℕ, zero, suc, ◌+◌, ◌-◌, ◌^◌, ◌<◌, ◌≤◌, ◌&&◌, true, List, [], ◌∷◌, ◌++◌, Some, length, take, drop, refl, sym, ap, ◌∙◌, subst, append_assoc, append-nil, arith}
-use Rattle.std.{specs.Prelude.{All, slice_get}, proofs.lemmas.Bool.lt-ltb, proofs.lemmas.List.length-append, proofs.lemmas.List.Elements.{All-cons, All-drop, All-head, All-same, All-tail}}
+use Rattle.std.{specs.Prelude.{All, slice_get}, proofs.lemmas.Bool.lt-ltb, proofs.lemmas.List.length-append}
+use Rattle.std.proofs.lemmas.List.Elements.{All-cons, All-drop, All-head, All-same, All-tail}
 use Rattle.result_rows.specs.{Table.outcome_at, declared.Outcome.Outcome}
-use Rattle.masked_bytes.proofs.{Queueing.some_same, Truth.{and_first, and_second}}
 use Rattle.result_rows.specs.declared.Outcome.TheVariants as out
+use Rattle.masked_bytes.proofs.{Queueing.some_same, Truth.{and_first, and_second}}
 use Rattle.trace_reader.{specs.Events.AreEventsFor, specs.declared.event.Event.Event, proofs.Lawful.lawful-first}
 use Rattle.check_judging.specs.Keys.{reach}
 use Rattle.check_verdict.specs.{Fitting.{is_brief, all_brief}, Verdicts.verdict_of, declared.Rule.Rule, declared.Verdict.TheVariants.No}

@@ -1,7 +1,7 @@
 -- The line of a fault, as it is written.
 use Rattle.std.proofs.Common.{◌≡◌, ◌≢◌, refl}
-use Rattle.pcm_top.specs.FaultLines as check
 use Rattle.pcm_top.specs.{declared.fault.Fault.Fault, declared.fault.Fault.TheVariants.{Usage, Trace, Results, Image, Read, Write, TooLong, NoMemory}}
+use Rattle.pcm_top.specs.FaultLines as check
 use Rattle.view_top.specs.FaultLines.{fault_line, usage_text}
 
 pub usage_line : (f : Fault) → f ≡ Usage → usage_text ≡ fault_line f

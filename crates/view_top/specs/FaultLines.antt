@@ -1,7 +1,7 @@
 -- What a call that didn't do its work says: the line of `pcm show` for the fault, but for words, of which there are none.
 use Rattle.std.specs.Prelude.{ℕ, List, codes}
-use Rattle.pcm_top.specs.FaultLines as show
 use Rattle.pcm_top.specs.{declared.fault.Fault.Fault, declared.fault.Fault.TheVariants.{Usage, Trace, Results, Image, Read, Write, TooLong, NoMemory}}
+use Rattle.pcm_top.specs.FaultLines as show
 
 -- there are no other options
 abbrev pub usage_text : List ℕ

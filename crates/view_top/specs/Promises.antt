@@ -1,8 +1,8 @@
 -- What every call of the program promises.
 use Rattle.std.specs.Prelude.{◌≡◌, ◌≢◌, ◌⊎◌, ◌≤◌, ℕ, List, [], Result, Err}
 use Rattle.program_calls.specs.Calls.{Gets, GetsPart, IsUntouched, Lent, SinkChange, SinkFails, SourceChange}
-use Rattle.pcm_top.specs.{Ends.{Ends, Reads}, FaultLines.status_of, Reading.{OnOverflow, trace_room}, Running.{IsTried, status_done}}
-use Rattle.pcm_top.specs.{declared.fault.Fault.Fault, declared.fault.Fault.TheVariants.{Usage, Write, TooLong, NoMemory}, declared.run.Done.TheVariants.Whole}
+use Rattle.pcm_top.specs.{Ends.{Ends, Reads}, FaultLines.status_of, Reading.{OnOverflow, trace_room}, Running.{IsTried, status_done}, declared.fault.Fault.Fault}
+use Rattle.pcm_top.specs.{declared.fault.Fault.TheVariants.{Usage, Write, TooLong, NoMemory}, declared.run.Done.TheVariants.Whole}
 use Rattle.view_top.specs.{FaultLines.fault_line, Showing.{IsShowFault, ShowsImage, ShowsImageInPart, room_line}}
 
 -- a call: the words behind the program's name, and what was lent to it, the source and the output

@@ -1,9 +1,9 @@
 -- Totals that are kept are those of what stands behind a pulse, a tear, a sense and a power-up.
 use Rattle.std.proofs.Common.{◌≡◌, ℕ, ◌+◌, ◌-◌, ◌*◌, ◌^◌, ◌<◌, ◌≤◌, max, Bool, true, false, zero, suc, Option, Result, Ok, Err, refl, sym, ap, subst, ◌∙◌, arith}
 use Rattle.std.specs.Prelude.{OnOk, OnErr}
-use Rattle.cell_rows.specs.{Device.{ArrayState, ChangesOnly, EnergyChanges, IsCellKept, IsFresh, LineState, Senses, counted}, Energy.{with_pulse, with_sense}, Rows.cell}
+use Rattle.cell_rows.specs.{Device.{ArrayState, ChangesOnly, EnergyChanges, IsCellKept, IsFresh, LineState, Senses, counted}, Energy.{with_pulse, with_sense}, Rows.cell, Told.most}
 use Rattle.cell_rows.specs.{declared.array.LineEnergy.LineEnergy, declared.array.Sense.Sense, declared.array.Wear.Wear, declared.row.Cells.Cells}
-use Rattle.cell_wear.{specs.Told.most, proofs.Most.{most-none, most-same}}
+use Rattle.cell_rows.proofs.Most.{most-none, most-same}
 use Rattle.ecp_line.{specs.Layout.{IsLayout, active, activity_cell, full_cell, width}, proofs.Activity.{active-kept, active-within}, proofs.Blank.active-blank}
 use Rattle.energy_report.specs.Sums.{energy_of}
 use Rattle.run_text.specs.Pulses.{at_most_u64, pulses_in_all, pulses_of_first}

@@ -1,8 +1,7 @@
 -- Sums over the lines of an array, line by line, and how they change with one line.
 use Rattle.std.proofs.Common.{◌≡◌, ◌≢◌, ℕ, zero, suc, ◌+◌, ◌*◌, ◌^◌, ◌<◌, ◌≤◌, inl, inr, max, refl, sym, ap, ◌∙◌, add-one, arith}
 use Rattle.std.proofs.lemmas.Bool.{cases_eq}
-use Rattle.cell_rows.specs.{Device.ArrayState, Rows.cell}
-use Rattle.cell_wear.{specs.Told.most, proofs.Most.{most-more, most-same}}
+use Rattle.cell_rows.{specs.Device.ArrayState, specs.Rows.cell, specs.Told.most, proofs.Most.{most-more, most-same}}
 use Rattle.ecp_line.specs.Layout.{active}
 use Rattle.run_text.specs.Pulses.{pulses_of_first}
 use Rattle.wear_totals.specs.Wear.{pointers_of_first}

@@ -1,7 +1,6 @@
 -- How worn an array is.
 use Rattle.std.specs.Prelude.{ℕ, zero, suc, ◌+◌, ◌/◌, ◌==◌, if◌then◌else◌}
-use Rattle.cell_rows.specs.{Device.ArrayState, Rows.cell}
-use Rattle.cell_wear.specs.Told.{most}
+use Rattle.cell_rows.specs.{Device.ArrayState, Rows.cell, Told.most}
 use Rattle.ecp_line.specs.Layout.{active}
 use Rattle.energy_report.specs.Sums.{energy_of}
 use Rattle.run_text.specs.Pulses.{pulses_in_all}

@@ -5,8 +5,7 @@ ghost use Rattle.cell_rows.specs.Shape.{IsShape};
 ghost use Rattle.ecp_line.specs.Layout.{IsLayout};
 ghost use Rattle.wear_totals.specs.Totals.{line_totals, pointers_at};
 
-use cell_rows::{Cells, LineEnergy};
-use cell_wear::TellsCells;
+use cell_rows::{Cells, LineEnergy, TellsCells};
 use ecp_line::Ecp;
 
 // What one line has; its pointers are left out where its check cells stay as they are.

@@ -1,7 +1,7 @@
 // Arrays that tell how worn they are.
 ghost use Rattle.std.specs.Prelude.{◌≡◌};
 
-use cell_wear::TellsCells;
+use cell_rows::TellsCells;
 use row_printer::ArrayWear;
 
 /// An array that tells how worn it is, where its lines have `E` pointers.

@@ -5,8 +5,7 @@ ghost use Rattle.wear_totals.specs.Totals.{AreBlank, IsTotalled, totals_of};
 ghost use Rattle.wear_totals.specs.Wear.{most_pulses, pointers_of_first};
 
 use crate::totals::Totals;
-use cell_rows::CellArray;
-use cell_wear::TellsCells;
+use cell_rows::{CellArray, TellsCells};
 use ecp_line::Ecp;
 use energy_report::sum_energy;
 use run_text::sum_pulses;

@@ -13,8 +13,8 @@ use Rattle.worked_tables.specs.Runs.{small, reading, misplaced, first_bank, seco
 use Rattle.worked_tables.specs.{Runs.{cut_short, emptied, queueing, first_byte, both_bytes}, TableExamples.whole}
 use Rattle.module_shape.specs.Addresses.{module_of, bank_shape}
 use Rattle.right_runs.specs.{Banks.{bank_of_line, line_in_bank, line_named, rules_in}, Ends.{is_moved, BankEnd, EndsWith, IsRemapped, QueueEndsTo, is_kept_line, place_by_table}}
-use Rattle.right_runs.specs.{KeepsLines.KeepsLines, KeepsLog.KeepsLog, KeepsPlaces.KeepsPlaces, Logs.is_line_fair, Queued.{QueueEntry, QueuedWrite, entries_by, first_again, queued_writes}}
-use Rattle.right_runs.specs.{Runs.{RunsRight, StopsRight}, Tables.{finds_room_in, table_in}}
+use Rattle.right_runs.specs.{KeepsLines.KeepsLines, KeepsLog.KeepsLog, KeepsPlaces.KeepsPlaces, Logs.is_line_fair}
+use Rattle.right_runs.specs.{Queued.{QueueEntry, QueuedWrite, entries_by, first_again, queued_writes}, Runs.{RunsRight, StopsRight}, Tables.{finds_room_in, table_in}}
 
 pub where_8_is : (bank_of_line small 0 8 ≡ 1) × (line_in_bank small 0 8 ≡ 5) × (line_named small 0 1 5 ≡ 8)
 unfolding next_u64 stream_of stream_after word_at

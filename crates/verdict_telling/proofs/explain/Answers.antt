@@ -1,8 +1,7 @@
 use Rattle.std.proofs.Common.{sym, ◌∙◌, subst}
 use Rattle.trace_reader.proofs.Sizes.{event_fits}
 use Rattle.check_telling.proofs.Sizes.{row_fits}
-use Rattle.verdict_telling.specs.Explained.{TellsOf}
-use Rattle.verdict_telling.proofs.{Named.is_told, Sizes.{explanation_fits, results_fit}, Telling.explains_it}
+use Rattle.verdict_telling.{specs.Explained.TellsOf, proofs.Named.is_told, proofs.Sizes.{explanation_fits, results_fit}, proofs.Telling.explains_it}
 use Rattle.verdict_telling.proofs.explain.Goals as goal
 
 pub table-requires : goal.table-requires

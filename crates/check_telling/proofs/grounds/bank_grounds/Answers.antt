@@ -1,11 +1,8 @@
 use Rattle.std.proofs.Common.{[], ℕ, ◌++◌, Option, List, ◌&&◌, ◌||◌, refl, arith, ap, ◌∙◌}
-use Rattle.std.specs.List.{list_all, list_any}
-use Rattle.std.specs.Prelude.{reverse}
-use Rattle.std.proofs.lemmas.List.{length-map, length-reverse}
+use Rattle.std.{specs.List.{list_all, list_any}, specs.Prelude.reverse, proofs.lemmas.List.{length-map, length-reverse}}
 use Rattle.row_rules.specs.{Queueing.{next_store, waiting}, Rows.write_of, declared.Row.Row}
 use Rattle.check_telling.specs.{Standing.{first_at, row_of, rows_of, tick_at}, Steps.{is_ahead, leaves_later}, declared.mates.Numbered.Numbered}
-use Rattle.check_telling.proofs.Sizes.{numbered_fits, vec_long}
-use Rattle.check_telling.proofs.Finds.{cut_at, last_below, waiting_few, told_long, grounds_found}
+use Rattle.check_telling.proofs.{Finds.{cut_at, last_below, waiting_few, told_long, grounds_found}, Sizes.{numbered_fits, vec_long}}
 use Rattle.check_telling.proofs.grounds.bank_grounds.Goals as goal
 
 pub earliest-from-requires-clause-last : goal.earliest-from-requires-clause-last

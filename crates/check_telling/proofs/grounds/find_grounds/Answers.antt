@@ -1,8 +1,8 @@
 use Rattle.std.proofs.Common.{List, arith, ap, ◌∙◌}
-use Rattle.std.proofs.lemmas.{List.Elements.All-same, Result.IfOk-weaker}
+use Rattle.std.proofs.{lemmas.List.Elements.All-same, lemmas.Result.IfOk-weaker}
 use Rattle.check_verdict.specs.Verdicts.{bank_in}
-use Rattle.check_telling.specs.{Standing.{rows_of, IsNumbered}, declared.mates.Numbered.Numbered}
-use Rattle.check_telling.proofs.{Finds.{past_brief, past_few, told_of_all}, Sizes.{grounds_fits, newest_fits, numbered_fits}}
+use Rattle.check_telling.{specs.Standing.{rows_of, IsNumbered}, specs.declared.mates.Numbered.Numbered, proofs.Finds.{past_brief, past_few, told_of_all}}
+use Rattle.check_telling.proofs.Sizes.{grounds_fits, newest_fits, numbered_fits}
 use Rattle.check_telling.proofs.grounds.find_grounds.Goals as goal
 
 pub bank_grounds-requires : goal.bank_grounds-requires

@@ -1,8 +1,7 @@
 use Rattle.std.proofs.Common.{arith}
 use Rattle.std.specs.Prelude.{reverse}
 use Rattle.check_judging.specs.Distances.{ends_above}
-use Rattle.check_telling.specs.Steps.{with_store}
-use Rattle.check_telling.proofs.{Folds.fold_all, Ends.stores_more}
+use Rattle.check_telling.{specs.Steps.with_store, proofs.Ends.stores_more, proofs.Folds.fold_all}
 use Rattle.check_telling.proofs.grounds.stores_above.Goals as goal
 
 pub returns : goal.returns

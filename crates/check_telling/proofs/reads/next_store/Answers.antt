@@ -1,7 +1,6 @@
 use Rattle.std.proofs.Common.{refl, arith}
 use Rattle.row_rules.specs.Queueing.{next_store, store_of}
-use Rattle.check_telling.specs.Standing.{rows_of}
-use Rattle.check_telling.proofs.Folds.{fold_done}
+use Rattle.check_telling.{specs.Standing.rows_of, proofs.Folds.fold_done}
 use Rattle.check_telling.proofs.reads.next_store.Goals as goal
 
 pub returns : goal.returns

@@ -1,8 +1,7 @@
 use Rattle.std.proofs.Common.{◌≡◌, ℕ, Option}
 use Rattle.std.specs.Prelude.{drop}
 use Rattle.row_rules.specs.Queueing.{next_store, store_of}
-use Rattle.check_telling.specs.{Standing.rows_of, declared.mates.Numbered.Numbered}
-use Rattle.check_telling.proofs.Folds.{fold_on}
+use Rattle.check_telling.{specs.Standing.rows_of, specs.declared.mates.Numbered.Numbered, proofs.Folds.fold_on}
 use Rattle.check_telling.proofs.reads.next_store.Given as goal
 
 abbrev pub invariant-loop-one : goal.invariant-loop-one

@@ -1,7 +1,6 @@
 use Rattle.std.proofs.Common.{refl, arith}
 use Rattle.row_rules.specs.{Answers.stored_by, Queueing.unstored}
-use Rattle.check_telling.specs.Steps.{with_given}
-use Rattle.check_telling.proofs.Folds.{fold_all}
+use Rattle.check_telling.{specs.Steps.with_given, proofs.Folds.fold_all}
 use Rattle.check_telling.proofs.reads.unstored.Goals as goal
 
 pub returns : goal.returns

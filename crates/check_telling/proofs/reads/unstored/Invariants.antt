@@ -1,8 +1,7 @@
 use Rattle.std.proofs.Common.{◌≡◌, List, Bool}
 use Rattle.std.specs.Prelude.{drop}
 use Rattle.masked_bytes.specs.Masked.{none_given}
-use Rattle.check_telling.specs.{Steps.with_given, declared.mates.Numbered.Numbered}
-use Rattle.check_telling.proofs.Folds.{fold_on}
+use Rattle.check_telling.{specs.Steps.with_given, specs.declared.mates.Numbered.Numbered, proofs.Folds.fold_on}
 use Rattle.check_telling.proofs.reads.unstored.Given as goal
 
 abbrev pub invariant-loop-one : goal.invariant-loop-one

@@ -1,6 +1,5 @@
 use Rattle.std.proofs.Common.{◌∙◌, sym, ap, cond}
-use Rattle.std.specs.Prelude.{nat_lt, reverse}
-use Rattle.std.proofs.lemmas.Bool.{lt-ltb, le-ltb}
+use Rattle.std.{specs.Prelude.{nat_lt, reverse}, proofs.lemmas.Bool.{lt-ltb, le-ltb}}
 use Rattle.row_rules.specs.Ticking as ticking
 use Rattle.check_telling.specs.Standing.{rows_of}
 use Rattle.check_telling.proofs.times.cancel_delay.Goals as goal

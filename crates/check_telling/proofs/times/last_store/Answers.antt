@@ -1,7 +1,6 @@
 use Rattle.std.proofs.Common.{refl, arith, cond}
 use Rattle.row_rules.specs.{Rows.asks_write, Ticking.{last_store, store_up_to}}
-use Rattle.check_telling.specs.Standing.{rows_of}
-use Rattle.check_telling.proofs.Folds.{fold_done}
+use Rattle.check_telling.{specs.Standing.rows_of, proofs.Folds.fold_done}
 use Rattle.check_telling.proofs.times.last_store.Goals as goal
 
 pub returns : goal.returns

@@ -1,8 +1,7 @@
 use Rattle.std.proofs.Common.{◌≡◌, ℕ, cond}
 use Rattle.std.specs.Prelude.{drop}
 use Rattle.row_rules.specs.{Rows.asks_write, Ticking.{last_store, store_up_to}}
-use Rattle.check_telling.specs.{Standing.rows_of, declared.mates.Numbered.Numbered}
-use Rattle.check_telling.proofs.Folds.{fold_on}
+use Rattle.check_telling.{specs.Standing.rows_of, specs.declared.mates.Numbered.Numbered, proofs.Folds.fold_on}
 use Rattle.check_telling.proofs.times.last_store.Given as goal
 
 abbrev pub invariant-loop-one : goal.invariant-loop-one

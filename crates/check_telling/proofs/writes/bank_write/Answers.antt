@@ -1,8 +1,7 @@
 use Rattle.std.proofs.Common.{◌==◌, ◌∙◌, List, [], ap}
 use Rattle.std.specs.Prelude.{filter, reverse}
 use Rattle.row_rules.specs.{Queueing.{pending, is_refused}, Rows.write_of}
-use Rattle.check_telling.specs.{Standing.rows_of, declared.mates.Numbered.Numbered}
-use Rattle.check_telling.proofs.{Sizes.vec_long, Finds.told_long, FindsWrites.alone_turned}
+use Rattle.check_telling.{specs.Standing.rows_of, specs.declared.mates.Numbered.Numbered, proofs.Finds.told_long, proofs.FindsWrites.alone_turned, proofs.Sizes.vec_long}
 use Rattle.check_telling.proofs.writes.bank_write.Goals as goal
 
 pub returns : goal.returns

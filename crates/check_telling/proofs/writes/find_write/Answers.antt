@@ -1,7 +1,6 @@
 use Rattle.std.proofs.Common.{List, ap, ◌∙◌}
-use Rattle.std.proofs.lemmas.{List.Elements.All-same, Result.IfOk-weaker}
-use Rattle.check_telling.specs.{Standing.{rows_of, IsNumbered}, declared.mates.Numbered.Numbered}
-use Rattle.check_telling.proofs.FindsWrites.{write_of_all}
+use Rattle.std.proofs.{lemmas.List.Elements.All-same, lemmas.Result.IfOk-weaker}
+use Rattle.check_telling.{specs.Standing.{rows_of, IsNumbered}, specs.declared.mates.Numbered.Numbered, proofs.FindsWrites.write_of_all}
 use Rattle.check_telling.proofs.writes.find_write.Goals as goal
 
 pub returns : goal.returns

@@ -1,6 +1,5 @@
 use Rattle.std.proofs.Common.{◌∙◌, sym}
-use Rattle.check_telling.specs.Standing.{rows_of}
-use Rattle.check_telling.proofs.FindsWrites.{alone_else, alone_then}
+use Rattle.check_telling.{specs.Standing.rows_of, proofs.FindsWrites.{alone_else, alone_then}}
 use Rattle.check_telling.proofs.writes.is_alone.Goals as goal
 
 pub returns-then-has_one : goal.returns-then-has_one

@@ -1,8 +1,7 @@
 use Rattle.std.proofs.Common.{◌≡◌, ℕ, Option, None}
 use Rattle.std.specs.Prelude.{drop}
 use Rattle.check_judging.specs.Distances.{end_to}
-use Rattle.check_telling.specs.declared.mates.Numbered.{Numbered}
-use Rattle.check_telling.proofs.Folds.{fold_on}
+use Rattle.check_telling.{specs.declared.mates.Numbered.Numbered, proofs.Folds.fold_on}
 use Rattle.check_telling.proofs.writes.last_end.Given as goal
 
 abbrev pub invariant-loop-one : goal.invariant-loop-one

@@ -1,8 +1,7 @@
 use Rattle.std.proofs.Common.{arith}
 use Rattle.std.specs.Prelude.{reverse}
 use Rattle.check_judging.specs.Distances.{waits_above}
-use Rattle.check_telling.specs.Steps.{with_read_at}
-use Rattle.check_telling.proofs.{Folds.fold_all, Ends.reads_more}
+use Rattle.check_telling.{specs.Steps.with_read_at, proofs.Ends.reads_more, proofs.Folds.fold_all}
 use Rattle.check_telling.proofs.writes.reads_above.Goals as goal
 
 pub returns : goal.returns

@@ -1,7 +1,6 @@
 use Rattle.std.proofs.Common.{◌≡◌, ℕ, List, []}
 use Rattle.std.specs.Prelude.{drop}
-use Rattle.check_telling.specs.{Steps.with_read_at, declared.mates.Numbered.Numbered}
-use Rattle.check_telling.proofs.Folds.{fold_on}
+use Rattle.check_telling.{specs.Steps.with_read_at, specs.declared.mates.Numbered.Numbered, proofs.Folds.fold_on}
 use Rattle.check_telling.proofs.writes.reads_above.Given as goal
 
 abbrev pub invariant-loop-one : goal.invariant-loop-one

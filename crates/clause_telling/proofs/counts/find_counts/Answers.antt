@@ -1,7 +1,6 @@
 use Rattle.std.proofs.Common.{List, length, ap, ◌+◌, ◌∙◌, arith}
 use Rattle.check_verdict.specs.Verdicts.{bank_in}
-use Rattle.check_telling.specs.{Standing.rows_of, declared.mates.Numbered.Numbered}
-use Rattle.check_telling.proofs.Sizes.{numbered_fits}
+use Rattle.check_telling.{specs.Standing.rows_of, specs.declared.mates.Numbered.Numbered, proofs.Sizes.numbered_fits}
 use Rattle.clause_telling.proofs.Counted.{counts_of, mates_few}
 use Rattle.clause_telling.proofs.counts.find_counts.Goals as goal
 

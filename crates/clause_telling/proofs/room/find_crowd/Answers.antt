@@ -1,7 +1,6 @@
 use Rattle.std.proofs.Common.{◌∙◌, refl, sym}
 use Rattle.std.specs.Prelude.{reverse}
-use Rattle.check_telling.specs.Standing.{rows_of}
-use Rattle.check_telling.proofs.Sizes.{vec_long}
+use Rattle.check_telling.{specs.Standing.rows_of, proofs.Sizes.vec_long}
 use Rattle.clause_telling.proofs.Rooms.{newer_of, room_is}
 use Rattle.clause_telling.proofs.room.find_crowd.Goals as goal
 

@@ -3,7 +3,7 @@ use Rattle.std.specs.Prelude.{codes, decimal}
 use Rattle.cell_rows.specs.declared.array.LineEnergy.{LineEnergy}
 use Rattle.pcm_io.specs.Reserved.{Reserved, appended}
 use Rattle.run_text.{specs.Gathering.Printed, proofs.Gathered.{on_err, on_err_any, on_ok, printed-first, printed-same}}
-use Rattle.energy_report.{specs.EnergyText.{all_row, energy_header, energy_row}, specs.Sums.energy_of}
+use Rattle.energy_report.specs.{EnergyText.{all_row, energy_header, energy_row}, Sums.energy_of}
 use Rattle.energy_report.proofs.EnergyLemmas.{bank-within, printed-all, printed-bank, report-part, rows-none, so_far}
 use Rattle.energy_report.proofs.report.print_energy_report.Goals as goal
 

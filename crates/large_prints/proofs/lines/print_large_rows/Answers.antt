@@ -3,7 +3,8 @@ use Rattle.pcm_image.specs.Spelling.{u32}
 use Rattle.large_image.specs.Spelling.{end_mark, row_bytes, rows_bytes}
 use Rattle.right_images.specs.Saving.{saved_cells}
 use Rattle.run_text.proofs.Gathered.{on_err, on_err_any, on_ok}
-use Rattle.image_text.{specs.{Printing.PrintsMore, Sensing.SensesRows}, proofs.Prints.{more-none, more-same, more-then, part-same, part-then}, proofs.Sensing.{senses-more, senses-none}}
+use Rattle.image_text.{specs.Printing.PrintsMore, specs.Sensing.SensesRows, proofs.Prints.{more-none, more-same, more-then, part-same, part-then}}
+use Rattle.image_text.proofs.Sensing.{senses-more, senses-none}
 use Rattle.large_prints.proofs.Rows.{on_ok_any, prints-mark, prints-rows, rows-sensed}
 use Rattle.large_prints.proofs.lines.print_large_rows.Goals as goal
 

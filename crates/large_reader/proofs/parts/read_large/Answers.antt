@@ -1,7 +1,6 @@
 use Rattle.std.proofs.Common.{ap, subst, ◌∙◌, arith}
 use Rattle.pcm_image.specs.Giving.{Gives}
-use Rattle.large_reader.specs.Reading.{large_of}
-use Rattle.large_reader.proofs.Whole.{is_found, is_sized, large_again}
+use Rattle.large_reader.{specs.Reading.large_of, proofs.Whole.{is_found, is_sized, large_again}}
 use Rattle.large_reader.proofs.parts.read_large.Goals as goal
 
 pub returns-clause-size : goal.returns-clause-size

@@ -1,6 +1,5 @@
 use Rattle.std.proofs.Common.{arith}
-use Rattle.std.proofs.lemmas.Result.{err_from_is_err_and}
-use Rattle.std.{specs.Prelude.map, proofs.lemmas.List.map_push}
+use Rattle.std.{specs.Prelude.map, proofs.lemmas.List.map_push, proofs.lemmas.Result.err_from_is_err_and}
 use Rattle.pcm_image.{specs.Giving.cursor, specs.Reading.times, proofs.Loop.{goes_on, ends, is_done}}
 use Rattle.large_image.specs.Views.{head_view, region_view}
 use Rattle.large_reader.specs.Reading.{region_at}

@@ -1,8 +1,7 @@
 use Rattle.std.proofs.Common.{◌≡◌, ◌∙◌, arith}
-use Rattle.pcm_image.{specs.Giving.cursor, specs.Reading.Cursor}
+use Rattle.pcm_image.specs.{Giving.cursor, Reading.Cursor}
 use Rattle.large_image.specs.Views.{head_view}
-use Rattle.large_reader.specs.{Giving.end_of, Reading.bank_at}
-use Rattle.large_reader.proofs.{Steady.{head_steady, times_steady, bank_steady}}
+use Rattle.large_reader.{specs.Giving.end_of, specs.Reading.bank_at, proofs.Steady.{head_steady, times_steady, bank_steady}}
 use Rattle.large_reader.proofs.parts.whole.Goals as goal
 
 pub rows_of-requires : goal.rows_of-requires

@@ -1,6 +1,5 @@
 use Rattle.std.proofs.Common.{◌<◌, ◌≡◌, ◌==◌, false, length, get_or, sym, ◌∙◌, arith}
-use Rattle.large_reader.specs.Giving.{no_row}
-use Rattle.large_reader.proofs.{Listing.{found, not_there, other_row, other_not}}
+use Rattle.large_reader.{specs.Giving.no_row, proofs.Listing.{found, not_there, other_row, other_not}}
 use Rattle.large_reader.proofs.rows.cells_of.Goals.{else-place-rows-via-then-place-rows+else-rows-place, else-place-rows-via-else-place-rows}
 use Rattle.large_reader.proofs.rows.cells_of.Goals as goal
 

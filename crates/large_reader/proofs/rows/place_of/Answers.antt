@@ -1,5 +1,5 @@
 use Rattle.std.proofs.Common.{◌+◌, ◌-◌, ◌/◌, ◌<◌, length, arith}
-use Rattle.large_reader.proofs.{Listing.{lower, upper}}
+use Rattle.large_reader.proofs.Listing.{lower, upper}
 use Rattle.large_reader.proofs.rows.place_of.Goals as goal
 
 pub loop-low-preserved-then-rows-middle : goal.loop-low-preserved-then-rows-middle

@@ -1,7 +1,7 @@
 use Rattle.std.proofs.Common.{arith}
 use Rattle.std.proofs.lemmas.Result.{err_from_is_err_and}
 use Rattle.pcm_image.specs.Giving.{cursor}
-use Rattle.large_reader.proofs.{Lines.{next, ends_at, line_fails, row_fails, are_listed}}
+use Rattle.large_reader.proofs.Lines.{next, ends_at, line_fails, row_fails, are_listed}
 use Rattle.large_reader.proofs.rows.rows_of.Goals as goal
 
 pub returns-in_err-line-clause-gives : goal.returns-in_err-line-clause-gives

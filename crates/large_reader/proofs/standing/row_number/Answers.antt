@@ -2,7 +2,7 @@ use Rattle.std.proofs.Common.{◌+◌, ◌*◌, ◌<◌, ◌≤◌, arith}
 use Rattle.module_shape.specs.Limits.{most_array_lines}
 use Rattle.pcm_image.{specs.Saved.array_lines_in, proofs.Heads.row_below}
 use Rattle.large_image.specs.Views.{head_view}
-use Rattle.large_reader.proofs.{Heads.array_lines-few}
+use Rattle.large_reader.proofs.Heads.{array_lines-few}
 use Rattle.large_reader.proofs.standing.row_number.Goals as goal
 
 pub overflow_mul-result : goal.overflow_mul-result

@@ -1,5 +1,5 @@
 use Rattle.std.proofs.Common.{◌≤◌}
-use Rattle.wear_report.specs.WearText.{wear_text}
+use Rattle.run_text.specs.WearText.{wear_text}
 use Rattle.module_prints.proofs.Wearing.{IsReported}
 use Rattle.module_prints.proofs.wear.print_wear.Given as goal
 

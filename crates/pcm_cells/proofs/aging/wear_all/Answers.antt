@@ -1,7 +1,6 @@
 use Rattle.std.proofs.Common.{ℕ, ◌+◌, ◌*◌, ◌/◌, ◌≤◌, ◌∙◌, ap, arith}
 use Rattle.cell_rows.specs.Rows.{cell}
-use Rattle.pcm_cells.specs.Young.{YoungCell, aging, young_cell}
-use Rattle.pcm_cells.proofs.{FollowsLemmas.followed_group}
+use Rattle.pcm_cells.{specs.Young.{YoungCell, aging, young_cell}, proofs.FollowsLemmas.followed_group}
 use Rattle.pcm_cells.proofs.SizeLemmas.{blocks_all, blocks_within, cells_first, data_first, data_within, from_first, groups_fit, row_fits}
 use Rattle.pcm_cells.proofs.aging.wear_all.Goals as goal
 

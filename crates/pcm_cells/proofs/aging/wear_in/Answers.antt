@@ -1,7 +1,6 @@
 use Rattle.std.proofs.Common.{◌≡◌, ◌+◌, ◌*◌, ◌∙◌, arith}
 use Rattle.cell_rows.specs.Rows.{cell}
-use Rattle.pcm_cells.specs.Young.{aging, young_cell}
-use Rattle.pcm_cells.proofs.{FollowsLemmas.{followed_group}}
+use Rattle.pcm_cells.{specs.Young.{aging, young_cell}, proofs.FollowsLemmas.followed_group}
 use Rattle.pcm_cells.proofs.aging.wear_in.Goals as goal
 
 pub loop-block-preserved : goal.loop-block-preserved

@@ -1,7 +1,6 @@
 use Rattle.std.proofs.Common.{◌+◌, ◌*◌, ◌∙◌, arith}
 use Rattle.cell_rows.specs.Rows.{cell}
-use Rattle.pcm_cells.specs.Young.{aging, young_cell}
-use Rattle.pcm_cells.proofs.{FollowsLemmas.followed_all, SizeLemmas.row_fits}
+use Rattle.pcm_cells.{specs.Young.{aging, young_cell}, proofs.FollowsLemmas.followed_all, proofs.SizeLemmas.row_fits}
 use Rattle.pcm_cells.proofs.aging.wear_page.Goals as goal
 
 pub wear_cells-requires : goal.wear_cells-requires

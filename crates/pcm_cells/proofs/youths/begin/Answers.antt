@@ -1,6 +1,6 @@
 use Rattle.std.proofs.Common.{◌≡◌, ◌∙◌, rules, refl, sym, ap, subst, true, length, length-set, get_or-set_same, get_or-set_other, Some, None}
 use Rattle.std.{specs.Prelude.is_some, proofs.lemmas.Option.same_Some}
-use Rattle.pcm_cells.{specs.Begun.{IsBegun}, specs.PageTable.page_at, proofs.BegunLemmas.starts_kept, proofs.TierLemmas.is-there}
+use Rattle.pcm_cells.{specs.Begun.IsBegun, specs.PageTable.page_at, proofs.BegunLemmas.starts_kept, proofs.TierLemmas.is-there}
 use Rattle.pcm_cells.proofs.youths.begin.Goals as goal
 
 pub returns-then-not-has-clause-page : goal.returns-then-not-has-clause-page

@@ -1,12 +1,12 @@
 use Rattle.std.proofs.Common.{◌≡◌, ◌∙◌, ◌&&◌, ℕ, Bool, List, ap, refl, sym, arith}
 use Rattle.row_printer.specs.{Printing.table_told, Refusing.any_refused, declared.snapshot.Snapshot.Snapshot, declared.told.Shown.Shown, declared.told.Told.Told}
-use Rattle.row_stream.proofs.Alike.{told-same}
+use Rattle.row_stream.{specs.Refusing.WentOn, specs.Serving.{IsServing, told_so_far}, proofs.Alike.told-same}
+use Rattle.row_stream.proofs.{Draws.{drawn-all, drawn-few, drawn-first, drawn-more, drawn-next, total-some}, Refusals.{ends-all, ends-there, none-first, still-none}}
+use Rattle.row_stream.proofs.drawing.serve_drawn.Goals as goal
 use Rattle.module_shape.specs.Limits.{total_of}
 use Rattle.trace_gen.specs.Generated.{generated}
 use Rattle.trace_stream.specs.Laws.{all_events}
 use Rattle.trace_reader.proofs.Sizes.{event_fits}
-use Rattle.row_stream.{specs.Refusing.WentOn, specs.Serving.{IsServing, told_so_far}, proofs.Draws.{drawn-all, drawn-few, drawn-first, drawn-more, drawn-next, total-some}, proofs.Refusals.{ends-all, ends-there, none-first, still-none}}
-use Rattle.row_stream.proofs.drawing.serve_drawn.Goals as goal
 
 pub rows-init : goal.rows-init
 rows-init g c = record {

@@ -1,6 +1,7 @@
 use Rattle.std.proofs.Common.{◌≡◌, ℕ, List, ◌∙◌, sym, subst}
 use Rattle.row_printer.specs.{Snapshots.{AddsDue, takes_snapshots}, declared.told.Shown.Shown, declared.told.Told.Told}
-use Rattle.row_stream.{specs.Asking.{stays_off, tick_reached, with_cut}, specs.Ending.{EndsShowing, told_along, without_cut}, specs.Serving.told_so_far, specs.Looking.IsSnapshot, proofs.Ends.cut-tick}
+use Rattle.row_stream.specs.{Asking.{stays_off, tick_reached, with_cut}, Ending.{EndsShowing, told_along, without_cut}, Looking.IsSnapshot, Serving.told_so_far}
+use Rattle.row_stream.proofs.Ends.{cut-tick}
 use Rattle.row_stream.proofs.ending.end.Goals as goal
 
 pub returns-clause-ended : goal.returns-clause-ended

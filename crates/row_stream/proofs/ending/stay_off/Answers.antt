@@ -1,5 +1,6 @@
 use Rattle.std.proofs.Common.{◌≡◌, ◌∙◌, ap, arith, refl, sym, subst}
-use Rattle.row_stream.specs.{Asking.{cut_at_end, cut_behind, cut_if, off_behind}, Ending.{IsLeft, told_along, without_cut_if}, Serving.{Telling, told_before, told_so_far}, declared.stop.Behind.Behind}
+use Rattle.row_stream.specs.{Asking.{cut_at_end, cut_behind, cut_if, off_behind}, Ending.{IsLeft, told_along, without_cut_if}, Serving.{Telling, told_before, told_so_far}}
+use Rattle.row_stream.specs.declared.stop.Behind.{Behind}
 use Rattle.row_stream.proofs.ending.stay_off.Goals as goal
 
 pub stop-requires : goal.stop-requires

@@ -2,8 +2,9 @@ use Rattle.std.proofs.Common.{◌≡◌, ◌∙◌, [], ℕ, Err, ap, sym, subst
 use Rattle.module_shape.specs.Limits.{total_of}
 use Rattle.trace_stream.specs.Stream.{Opens}
 use Rattle.trace_stream.specs.declared.fault.StreamFault.TheVariants as fault
-use Rattle.row_stream.{specs.Serving.{IsServing, told_so_far}, specs.declared.stop.Step.TheVariants.Stops, specs.declared.stop.Stop.TheVariants.Output, proofs.Refusals.{may-go-on, none-first, went-first}}
-use Rattle.row_stream.proofs.{Rows.{come-none, fed-come, fed-first, fed-same, next-few, open-stopped}, Steps.{step-ends, step-goes, step-stops}}
+use Rattle.row_stream.specs.{Serving.{IsServing, told_so_far}, declared.stop.Step.TheVariants.Stops, declared.stop.Stop.TheVariants.Output}
+use Rattle.row_stream.proofs.{Refusals.{may-go-on, none-first, went-first}, Rows.{come-none, fed-come, fed-first, fed-same, next-few, open-stopped}}
+use Rattle.row_stream.proofs.Steps.{step-ends, step-goes, step-stops}
 use Rattle.row_stream.proofs.reading.serve_source.Goals as goal
 
 pub returns-in_default-clause-stopped : goal.returns-in_default-clause-stopped

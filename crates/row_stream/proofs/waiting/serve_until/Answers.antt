@@ -2,12 +2,12 @@ use Rattle.std.proofs.Common.{◌≡◌, ◌≢◌, ◌⊎◌, ◌∙◌, ◌++�
 use Rattle.std.specs.Prelude.{IsSomeAnd, slice_get}
 use Rattle.result_rows.specs.declared.Outcome.TheVariants.{Unset}
 use Rattle.bank_model.specs.Timing.{TimedEvent}
-use Rattle.bank_timing.proofs.Sizes.{timed_fits}
-use Rattle.bank_timing.specs.Extending.{outcome_in}
+use Rattle.bank_timing.{specs.Extending.outcome_in, proofs.Sizes.timed_fits}
 use Rattle.pcm_module.specs.{Asking.asked_for, Settling.IsAtTick}
 use Rattle.row_printer.specs.Printing.{table_told}
 use Rattle.trace_stream.specs.{Asked.events_in, declared.asked.Until.Until as Waited}
-use Rattle.row_stream.{specs.Reaching.IsUnsetOrAt, proofs.Nowhere.{at-tick, first-nowhere, known-nowhere, next-later, next-within}, proofs.Turning.{gone-more, gone-none, serving-until, turn-order}}
+use Rattle.row_stream.{specs.Reaching.IsUnsetOrAt, proofs.Nowhere.{at-tick, first-nowhere, known-nowhere, next-later, next-within}}
+use Rattle.row_stream.proofs.Turning.{gone-more, gone-none, serving-until, turn-order}
 use Rattle.row_stream.proofs.waiting.serve_until.Goals as goal
 
 pub waits-init : goal.waits-init

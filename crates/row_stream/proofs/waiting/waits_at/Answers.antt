@@ -1,6 +1,6 @@
 use Rattle.std.proofs.Common.{◌≡◌, ◌∙◌, ℕ, false, inl, inr, sym, ap, subst, arith}
 use Rattle.std.proofs.lemmas.Bool.{cases_eq}
-use Rattle.module_shape.specs.{declared.raw.RawShape.RawShape}
+use Rattle.module_shape.specs.declared.raw.RawShape.{RawShape}
 use Rattle.pcm_module.specs.Telling.{rows_at}
 use Rattle.row_stream.proofs.waiting.waits_at.Goals as goal
 

@@ -1,5 +1,4 @@
-use Rattle.wear_report.specs.WearText.{wear_text}
-use Rattle.run_text.proofs.Gathered.{on_err_any, printed-wear_row, wear_text-part}
+use Rattle.run_text.{specs.WearText.wear_text, proofs.Gathered.{on_err_any, printed-wear_row, wear_text-part}}
 use Rattle.run_text.proofs.wear.print_wear_row.Goals as goal
 
 pub returns-in_err-make_room-clause-prefix : goal.returns-in_err-make_room-clause-prefix

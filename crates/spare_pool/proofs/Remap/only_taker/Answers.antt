@@ -1,5 +1,5 @@
 use Rattle.std.proofs.Common.{arith}
-use Rattle.spare_pool.proofs.{Lines.only_own, Chains.spare-only}
+use Rattle.spare_pool.proofs.{Chains.spare-only, Lines.only_own}
 use Rattle.spare_pool.proofs.Remap.only_taker.Goals as goal
 
 pub returns-then-line-self-clause-only : goal.returns-then-line-self-clause-only

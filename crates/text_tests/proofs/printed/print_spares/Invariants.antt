@@ -1,7 +1,6 @@
 use Rattle.std.proofs.Common.{replicate}
-use Rattle.wear_report.specs.WearText.{wear_text}
+use Rattle.run_text.specs.{Gathering.Printed, WearText.wear_text}
 use Rattle.bank_shape.specs.declared.Role.TheVariants.{Free}
-use Rattle.run_text.specs.Gathering.{Printed}
 use Rattle.text_tests.proofs.printed.print_spares.Given as goal
 
 -- the rows so far are printed

@@ -1,6 +1,5 @@
 use Rattle.std.proofs.Common.{◌≡◌, ◌∙◌, ◌<◌, ◌==◌, ℕ, false, leb, sym, subst, arith}
-use Rattle.std.proofs.lemmas.Bool.{eqb-true, leb-false, leb-true}
-use Rattle.std.proofs.lemmas.Bool.Decides.{nat_tests}
+use Rattle.std.proofs.{lemmas.Bool.{eqb-true, leb-false, leb-true}, lemmas.Bool.Decides.nat_tests}
 use Rattle.trace_reader.proofs.HexLanes.{none_of_mask, reach_mask, some_of_mask}
 use Rattle.trace_reader.proofs.digits.are_digits.Goals as goal
 

@@ -1,7 +1,7 @@
 use Rattle.std.proofs.Common.{refl}
 use Rattle.std.proofs.lemmas.Simd.{length-chunk, splat_is_map}
 use lib.Lanes.{chunk}
-use Rattle.trace_reader.proofs.{Lanes.joined, HexLanes.{chosen, itself, told}}
+use Rattle.trace_reader.proofs.{HexLanes.{chosen, itself, told}, Lanes.joined}
 use Rattle.trace_reader.proofs.digits.values_at.Goals as goal
 
 pub returns : goal.returns

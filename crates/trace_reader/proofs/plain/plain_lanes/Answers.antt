@@ -1,8 +1,7 @@
 use Rattle.std.proofs.Common.{arith, refl}
 use Rattle.std.proofs.lemmas.Simd.{length-chunk, zip2_splat}
 use lib.Lanes.{chunk}
-use Rattle.trace_reader.specs.Plain.{is_plain}
-use Rattle.trace_reader.proofs.Lanes.{few_in, passes_in}
+use Rattle.trace_reader.{specs.Plain.is_plain, proofs.Lanes.{few_in, passes_in}}
 use Rattle.trace_reader.proofs.plain.plain_lanes.Goals as goal
 
 pub returns-clause-few : goal.returns-clause-few

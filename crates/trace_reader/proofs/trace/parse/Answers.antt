@@ -1,6 +1,6 @@
 use Rattle.std.proofs.Common.{◌∙◌}
 use Rattle.std.proofs.lemmas.Result.{IfOk-weaker, MatchResult-weaker}
-use Rattle.trace_reader.proofs.{Lawful.trace_of-lawful}
+use Rattle.trace_reader.proofs.Lawful.{trace_of-lawful}
 use Rattle.trace_reader.proofs.trace.parse.Goals as goal
 
 pub returns-in-Some-clause-ok : goal.returns-in-Some-clause-ok

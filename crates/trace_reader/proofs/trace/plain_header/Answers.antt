@@ -1,8 +1,7 @@
 use Rattle.std.proofs.Common.{◌≡◌, ◌+◌, ◌-◌, ◌==◌, ◌∷◌, false, drop, sym, ap, ◌∙◌, arith, slice_index}
 use Rattle.std.proofs.lemmas.Bool.Decides.{nat_tests}
 use Rattle.csv.specs.Reading.{default_config, records, strip_bom}
-use Rattle.trace_reader.specs.Plain.{IsPlainRow, fields_in}
-use Rattle.trace_reader.proofs.{PlainRows.{records-plain, strip-none}, Traces.header-read}
+use Rattle.trace_reader.{specs.Plain.{IsPlainRow, fields_in}, proofs.PlainRows.{records-plain, strip-none}, proofs.Traces.header-read}
 use Rattle.trace_reader.proofs.trace.plain_header.Goals as goal
 
 pub returns-then-is_plain_header : goal.returns-then-is_plain_header

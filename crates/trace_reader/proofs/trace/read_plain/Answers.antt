@@ -1,7 +1,7 @@
 use Rattle.std.proofs.Common.{◌≡◌, [], ◌∷◌, ◌++◌, ◌+◌, ◌-◌, ◌<◌, ◌∙◌, drop, sym, ap, arith, rules, slice_index, vec_len}
 use Rattle.csv.specs.Reading.{default_config, records}
-use Rattle.trace_reader.specs.{Plain.{IsPlainRow, fields_in}, Trace.{after_events, rows_from}}
-use Rattle.trace_reader.proofs.{PlainRows.records-plain, Traces.{after_none, text-faulty, text-read}}
+use Rattle.trace_reader.{specs.Plain.{IsPlainRow, fields_in}, specs.Trace.{after_events, rows_from}, proofs.PlainRows.records-plain}
+use Rattle.trace_reader.proofs.Traces.{after_none, text-faulty, text-read}
 use Rattle.trace_reader.proofs.trace.read_plain.Goals as goal
 
 pub rows-init : goal.rows-init

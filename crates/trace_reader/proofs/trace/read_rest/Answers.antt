@@ -1,8 +1,7 @@
 use Rattle.std.proofs.Common.{◌∙◌, ap, subst}
 use Rattle.std.proofs.lemmas.Result.{IfOk-weaker, MatchResult-weaker}
 use Rattle.csv.specs.Reading.{default_config, records, strip_bom}
-use Rattle.trace_reader.specs.{Records.HasLeft}
-use Rattle.trace_reader.proofs.PlainRows.{records-feed, strip-feed}
+use Rattle.trace_reader.{specs.Records.HasLeft, proofs.PlainRows.{records-feed, strip-feed}}
 use Rattle.trace_reader.proofs.trace.read_rest.Goals as goal
 
 pub returns-clause-ok : goal.returns-clause-ok

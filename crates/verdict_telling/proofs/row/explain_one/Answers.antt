@@ -1,7 +1,6 @@
 use Rattle.std.proofs.Common.{refl, subst, sym}
 use Rattle.check_telling.proofs.Sizes.{row_fits}
-use Rattle.verdict_telling.specs.Explained.{IsWriteOf}
-use Rattle.verdict_telling.proofs.{Sizes.{crowd_fits, explanation_fits, few_before}, Telling.cut_tells}
+use Rattle.verdict_telling.{specs.Explained.IsWriteOf, proofs.Sizes.{crowd_fits, explanation_fits, few_before}, proofs.Telling.cut_tells}
 use Rattle.verdict_telling.proofs.row.explain_one.Goals as goal
 
 pub find_room-requires : goal.find_room-requires

@@ -1,5 +1,5 @@
 use Rattle.std.proofs.Common.{inl, inr, refl, ap, arith, rules, Err}
-use Rattle.pcm_top.{proofs.Deciding.is_write}
+use Rattle.pcm_top.proofs.Deciding.{is_write}
 use Rattle.view_top.proofs.program.view_run.Goals as goal
 
 pub returns-in-Ok : goal.returns-in-Ok

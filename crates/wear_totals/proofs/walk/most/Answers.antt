@@ -1,5 +1,5 @@
 use Rattle.std.proofs.Common.{sym}
-use Rattle.cell_wear.proofs.Most.{most-zero}
+use Rattle.cell_rows.proofs.Most.{most-zero}
 use Rattle.wear_totals.proofs.Sums.{most-on}
 use Rattle.wear_totals.proofs.walk.most.Goals as goal
 

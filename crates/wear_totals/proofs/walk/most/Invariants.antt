@@ -1,5 +1,5 @@
 use Rattle.std.proofs.Common.{◌≡◌}
-use Rattle.cell_wear.specs.Told.{most}
+use Rattle.cell_rows.specs.Told.{most}
 use Rattle.wear_totals.proofs.walk.most.Given as goal
 
 -- the lines so far are seen

@@ -1,12 +1,11 @@
 use Rattle.std.proofs.Common.{arith, ◌≡◌, ◌∙◌, refl, sym, ap, subst}
-use Rattle.bank_shape.specs.{declared.Home.TheVariants.{Array, Guarded}}
+use Rattle.bank_shape.specs.declared.Home.TheVariants.{Array, Guarded}
 use Rattle.power_recovery.specs.{Kept.KeptState, Restoring.stripped_kept}
 use Rattle.bank_invariant.specs.State.{BankState}
 use Rattle.bank_core.specs.Stepping.{with_kept}
 use Rattle.register_laws.specs.Recovering.{IsReadable}
 use Rattle.bank_timing.{specs.Clock.IsClock, proofs.Recovers.clock-back, proofs.Sensing.senses-none, proofs.Sizes.{bank_fits, regs_fits, kept_fits}}
-use Rattle.bank_timing.proofs.clocked.Timed.read_back.Given.{Over}
-use Rattle.bank_timing.proofs.clocked.Timed.read_back.Goals.{After-recover}
+use Rattle.bank_timing.proofs.{clocked.Timed.read_back.Given.Over, clocked.Timed.read_back.Goals.After-recover}
 use Rattle.bank_timing.proofs.clocked.Timed.read_back.Goals as goal
 
 pub kept-requires : goal.kept-requires

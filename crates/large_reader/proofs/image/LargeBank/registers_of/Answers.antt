@@ -1,7 +1,7 @@
 use Rattle.std.proofs.Common.{ap, sym, ◌∙◌, subst, length, All}
-use Rattle.pcm_image.specs.{Saved.IsSavedRegion}
+use Rattle.pcm_image.specs.Saved.{IsSavedRegion}
 use Rattle.large_image.specs.Views.{head_view}
-use Rattle.large_reader.proofs.{Regions.rotates}
+use Rattle.large_reader.proofs.Regions.{rotates}
 use Rattle.large_reader.proofs.image.LargeBank.registers_of.Goals as goal
 
 pub at-requires : goal.at-requires

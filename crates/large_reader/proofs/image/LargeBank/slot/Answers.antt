@@ -3,7 +3,7 @@ use Rattle.std.proofs.lemmas.Nat.{div_below}
 use Rattle.start_gap.specs.Rotation.{place_by}
 use Rattle.pcm_image.proofs.Heads.{slot_below}
 use Rattle.large_image.specs.Views.{head_view}
-use Rattle.large_reader.proofs.{Heads.{head-fits, slots-few}}
+use Rattle.large_reader.proofs.Heads.{head-fits, slots-few}
 use Rattle.large_reader.proofs.image.LargeBank.slot.Goals as goal
 
 pub overflow_add-result-2 : goal.overflow_add-result-2

@@ -1,7 +1,7 @@
 use Rattle.std.proofs.Common.{◌^◌, ap, refl, ◌∙◌, arith}
 use Rattle.feistel_map.{specs.Network.{network_of, feistel}, proofs.Powers.{bits_some, bits_large}}
 use Rattle.pcm_image.{specs.Saved.total_in, proofs.Heads.is_log}
-use Rattle.large_reader.proofs.{Heads.head-fits}
+use Rattle.large_reader.proofs.Heads.{head-fits}
 use Rattle.large_reader.proofs.image.LargeImage.mixed.Goals as goal
 
 pub new-requires-clause-some_bits : goal.new-requires-clause-some_bits

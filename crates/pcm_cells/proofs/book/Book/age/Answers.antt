@@ -1,6 +1,5 @@
 use Rattle.std.proofs.Common.{◌≡◌, ◌<◌, ◌/◌, ◌%◌, ◌∙◌, rules, sym, ap, subst, arith, length, length-set, get_or, set, List, vec_capacity, vec_len}
-use Rattle.pcm_cells.{specs.Book.{Kept, pages_in}, proofs.BookLemmas.{chunk-exists, hold-set, pages-count, stands}}
-use Rattle.pcm_cells.proofs.SizeLemmas.{row_fits}
+use Rattle.pcm_cells.{specs.Book.{Kept, pages_in}, proofs.BookLemmas.{chunk-exists, hold-set, pages-count, stands}, proofs.SizeLemmas.row_fits}
 use Rattle.pcm_cells.proofs.book.Book.age.Goals as goal
 
 pub index_mut-chunk-requires : goal.index_mut-chunk-requires

@@ -1,5 +1,5 @@
 use Rattle.std.proofs.Common.{◌<◌, ◌≤◌, ◌*◌, ap, arith, List}
-use Rattle.pcm_cells.{proofs.BookLemmas.{empty-all, empty-more, empty-none}}
+use Rattle.pcm_cells.proofs.BookLemmas.{empty-all, empty-more, empty-none}
 use Rattle.pcm_cells.proofs.book.Book.blank.Goals as goal
 
 pub loop-index-init : goal.loop-index-init

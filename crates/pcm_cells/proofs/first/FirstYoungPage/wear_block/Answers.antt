@@ -1,8 +1,7 @@
 use Rattle.std.proofs.Common.{◌≡◌, ℕ, ◌+◌, ◌*◌, ◌%◌, ◌&&◌, Bool, not, eqb, refl, ◌∙◌, arith, bit_and}
 use Rattle.cell_rows.{specs.Rows.cell, proofs.ByteLemmas.digit_and}
-use Rattle.pcm_cells.specs.{Planes.bit_in, Tiers.by_first, Young.{aging, young_cell}, declared.first.First.First}
-use Rattle.pcm_cells.proofs.{FollowsLemmas.followed_block, PlaneLemmas.digit-zeros, SeededLemmas.in_block, SizeLemmas.{digits_fit, row_fits}}
-use Rattle.pcm_cells.proofs.YoungLemmas.{ages_here, changes-is, changes_first, stays_here}
+use Rattle.pcm_cells.{specs.Planes.bit_in, specs.Tiers.by_first, specs.Young.{aging, young_cell}, specs.declared.first.First.First, proofs.FollowsLemmas.followed_block}
+use Rattle.pcm_cells.proofs.{PlaneLemmas.digit-zeros, SeededLemmas.in_block, SizeLemmas.{digits_fit, row_fits}, YoungLemmas.{ages_here, changes-is, changes_first, stays_here}}
 use Rattle.pcm_cells.proofs.first.FirstYoungPage.wear_block.Goals as goal
 
 pub returns-clause-cells : goal.returns-clause-cells

@@ -1,7 +1,7 @@
 use Rattle.std.proofs.Common.{◌≡◌, ℕ, ◌+◌, ◌*◌, ◌%◌, ◌&&◌, Bool, not, eqb, refl, ◌∙◌, arith, bit_and}
 use Rattle.cell_rows.{specs.Rows.cell, proofs.ByteLemmas.digit_and}
-use Rattle.pcm_cells.specs.{Planes.bit_in, Tiers.by_later, Young.{aging, young_cell}, declared.later.Later.Later}
-use Rattle.pcm_cells.proofs.{FollowsLemmas.followed_block, PlaneLemmas.digit-zeros, SeededLemmas.in_block, SizeLemmas.{digits_fit, row_fits}}
+use Rattle.pcm_cells.{specs.Planes.bit_in, specs.Tiers.by_later, specs.Young.{aging, young_cell}, specs.declared.later.Later.Later, proofs.FollowsLemmas.followed_block}
+use Rattle.pcm_cells.proofs.{PlaneLemmas.digit-zeros, SeededLemmas.in_block, SizeLemmas.{digits_fit, row_fits}}
 use Rattle.pcm_cells.proofs.YoungLemmas.{ages_here, changes-is, changes_more, no_over, stays_here}
 use Rattle.pcm_cells.proofs.later.LaterYoungPage.wear_block.Goals as goal
 

@@ -1,7 +1,7 @@
 use Rattle.std.proofs.Common.{◌≡◌, ◌+◌, ◌-◌, ◌<◌, ◌∙◌, sym, ap, arith, length, length-set, slice_index, get_or, set, Some, None, List, Option}
 use Rattle.std.proofs.lemmas.List.{get_or_default}
 use Rattle.cell_rows.specs.{Energy.no_energy, declared.array.LineEnergy.LineEnergy}
-use Rattle.pcm_cells.{specs.Counting.worked, specs.Energies.{energy_or_none}, specs.PageTable.page_at}
+use Rattle.pcm_cells.specs.{Counting.worked, Energies.energy_or_none, PageTable.page_at}
 use Rattle.pcm_cells.proofs.TableLemmas.{pages-count, pages-none, pages-some, pages-written, shelf_kept}
 use Rattle.pcm_cells.proofs.page_table.PageTable+LineEnergy.work.Goals as goal
 

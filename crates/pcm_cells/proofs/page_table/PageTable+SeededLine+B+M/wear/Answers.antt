@@ -1,6 +1,7 @@
 use Rattle.std.proofs.Common.{◌≡◌, ◌+◌, ◌-◌, ◌<◌, ◌∙◌, sym, ap, subst, arith, length, length-set, slice_index, set, Some, List, Option}
 use Rattle.std.specs.Prelude.{IsSome}
-use Rattle.pcm_cells.{specs.PageTable.page_at, specs.Seeded.LifeLine, proofs.TableLemmas.{pages-count, pages-some, pages-written, shelf_kept, some-entry}, proofs.SizeLemmas.{line_fits, row_fits}}
+use Rattle.pcm_cells.{specs.PageTable.page_at, specs.Seeded.LifeLine, proofs.SizeLemmas.{line_fits, row_fits}}
+use Rattle.pcm_cells.proofs.TableLemmas.{pages-count, pages-some, pages-written, shelf_kept, some-entry}
 use Rattle.pcm_cells.proofs.page_table.PageTable+SeededLine+B+M.wear.Goals as goal
 
 pub get-requires : goal.get-requires

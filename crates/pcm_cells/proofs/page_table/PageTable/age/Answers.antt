@@ -1,6 +1,6 @@
 use Rattle.std.proofs.Common.{◌≡◌, ◌+◌, ◌-◌, ◌<◌, ◌∙◌, sym, ap, subst, arith, length, length-set, slice_index, get_or, set, Some, List, Option}
 use Rattle.std.specs.Prelude.{IsSome}
-use Rattle.pcm_cells.{specs.PageTable.page_at, specs.Young.MayAge, proofs.TableLemmas.{pages-count, pages-some, pages-written, shelf_kept, some-entry}, proofs.SizeLemmas.{row_fits}}
+use Rattle.pcm_cells.{specs.PageTable.page_at, specs.Young.MayAge, proofs.SizeLemmas.row_fits, proofs.TableLemmas.{pages-count, pages-some, pages-written, shelf_kept, some-entry}}
 use Rattle.pcm_cells.proofs.page_table.PageTable.age.Goals as goal
 
 pub get-requires : goal.get-requires

@@ -1,7 +1,6 @@
-use Rattle.std.proofs.Common.{◌≡◌, ◌<◌, ◌∙◌, rules, ap, arith, length, set, Some, vec_len}
-use Rattle.pcm_cells.{specs.PageTable.page_at, proofs.TableLemmas.{idle_last, none-zero, pages-count, pages-more, pages-reused, paging_room, popped-none, popped-some, shelf_more, shelf_reused}}
-use Rattle.std.proofs.Common.{subst, List, ℕ}
-use Rattle.pcm_cells.specs.Table.{AreIdle, IsPaging}
+use Rattle.std.proofs.Common.{◌≡◌, ◌<◌, ◌∙◌, rules, ap, arith, length, set, Some, vec_len, subst, List, ℕ}
+use Rattle.pcm_cells.specs.{PageTable.page_at, Table.{AreIdle, IsPaging}}
+use Rattle.pcm_cells.proofs.TableLemmas.{idle_last, none-zero, pages-count, pages-more, pages-reused, paging_room, popped-none, popped-some, shelf_more, shelf_reused}
 use Rattle.pcm_cells.proofs.page_table.PageTable.insert.Goals as goal
 
 pub put-requires : goal.put-requires

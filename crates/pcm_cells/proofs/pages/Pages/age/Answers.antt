@@ -1,6 +1,5 @@
 use Rattle.std.proofs.Common.{◌∙◌, refl, arith}
-use Rattle.pcm_cells.specs.{Youths.young_at}
-use Rattle.pcm_cells.proofs.{AgeLemmas.{line_ages, may_age_there}, SizeLemmas.{row_fits}}
+use Rattle.pcm_cells.{specs.Youths.young_at, proofs.AgeLemmas.{line_ages, may_age_there}, proofs.SizeLemmas.row_fits}
 use Rattle.pcm_cells.proofs.pages.Pages.age.Goals as goal
 
 pub age-requires : goal.age-requires

@@ -1,6 +1,5 @@
 use Rattle.std.proofs.Common.{◌≡◌, ◌∙◌, Bool, true, false, refl, arith}
-use Rattle.pcm_cells.specs.{Youths.young_at}
-use Rattle.pcm_cells.proofs.{AgeLemmas.line_ages, BelowLemmas.{below_ages, young_same}, SizeLemmas.{row_fits}}
+use Rattle.pcm_cells.{specs.Youths.young_at, proofs.AgeLemmas.line_ages, proofs.BelowLemmas.{below_ages, young_same}, proofs.SizeLemmas.row_fits}
 use Rattle.pcm_cells.proofs.pages.Pages.age_below.Goals as goal
 
 either : {P : Type 0} (b : Bool) → (b ≡ true → P) → (b ≡ false → P) → P

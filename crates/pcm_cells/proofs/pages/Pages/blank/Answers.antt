@@ -1,6 +1,6 @@
 use Rattle.std.proofs.Common.{◌∙◌, sym, ap, length, None, Option}
 use Rattle.std.proofs.lemmas.List.{length-replicate}
-use Rattle.pcm_cells.{specs.Seeded.LifeLine, specs.Youths.young_at, proofs.PagingLemmas.{none_young}}
+use Rattle.pcm_cells.{specs.Seeded.LifeLine, specs.Youths.young_at, proofs.PagingLemmas.none_young}
 use Rattle.pcm_cells.proofs.pages.Pages.blank.Goals as goal
 
 pub invariant_of-result : goal.invariant_of-result

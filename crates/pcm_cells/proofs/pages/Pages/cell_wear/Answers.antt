@@ -1,8 +1,8 @@
 use Rattle.std.proofs.Common.{◌≡◌, ◌+◌, ◌*◌, ◌∙◌, sym, ap, arith, Some}
 use Rattle.std.specs.Prelude.{option_copied}
-use Rattle.cell_rows.specs.Rows.{cell, members}
-use Rattle.cell_wear.specs.Told.{most}
-use Rattle.pcm_cells.{specs.PageTable.page_at, specs.Pages.changes_of, specs.Seeded.LifeLine, specs.Youths.young_at, proofs.PagingLemmas.seen-grown, proofs.SizeLemmas.line_fits, proofs.WearLemmas.changes_since}
+use Rattle.cell_rows.specs.{Rows.{cell, members}, Told.most}
+use Rattle.pcm_cells.{specs.PageTable.page_at, specs.Pages.changes_of, specs.Seeded.LifeLine, specs.Youths.young_at, proofs.PagingLemmas.seen-grown, proofs.SizeLemmas.line_fits}
+use Rattle.pcm_cells.proofs.WearLemmas.{changes_since}
 use Rattle.pcm_cells.proofs.pages.Pages.cell_wear.Goals as goal
 
 pub returns-in-Some-clause-stuck : goal.returns-in-Some-clause-stuck

@@ -1,5 +1,5 @@
 use Rattle.std.proofs.Common.{◌≡◌, ◌∙◌, refl, sym, subst, Some, None}
-use Rattle.pcm_cells.{specs.Youths.young_at, specs.Pages.HaveSameLife, specs.Seeded.LifeLine, proofs.PagingLemmas.{seen-drawn, seen-young}}
+use Rattle.pcm_cells.{specs.Pages.HaveSameLife, specs.Seeded.LifeLine, specs.Youths.young_at, proofs.PagingLemmas.{seen-drawn, seen-young}}
 use Rattle.pcm_cells.proofs.pages.Pages.drawn.Goals as goal
 
 pub returns-in-Some : goal.returns-in-Some

@@ -1,7 +1,7 @@
 use Rattle.std.proofs.Common.{◌≡◌, ◌∙◌, sym, ap, Some, None}
 use Rattle.std.specs.Prelude.{option_copied}
-use Rattle.pcm_cells.specs.{PageTable.page_at, Seeded.LifeLine, Youths.young_at, declared.young.Young.Young}
-use Rattle.pcm_cells.proofs.{PageLemmas.drawn_is, PagingLemmas.{seen-drawn, seen-grown, seen-young, told-none, told-some}, YoungLemmas.grown_held}
+use Rattle.pcm_cells.{specs.PageTable.page_at, specs.Seeded.LifeLine, specs.Youths.young_at, specs.declared.young.Young.Young, proofs.PageLemmas.drawn_is}
+use Rattle.pcm_cells.proofs.{PagingLemmas.{seen-drawn, seen-grown, seen-young, told-none, told-some}, YoungLemmas.grown_held}
 use Rattle.pcm_cells.proofs.pages.Pages.held.Goals as goal
 
 pub returns-in-Some : goal.returns-in-Some

@@ -1,7 +1,6 @@
 use Rattle.std.proofs.Common.{◌≡◌, ◌<◌, ◌∙◌, sym, ap, arith}
 use Rattle.std.proofs.lemmas.Bool.{ltb-true}
-use Rattle.pcm_cells.specs.{Begun.pulses_before, Youths.young_at, declared.young.Young.Young}
-use Rattle.pcm_cells.proofs.PagingLemmas.{told-none, told-some}
+use Rattle.pcm_cells.{specs.Begun.pulses_before, specs.Youths.young_at, specs.declared.young.Young.Young, proofs.PagingLemmas.{told-none, told-some}}
 use Rattle.pcm_cells.proofs.pages.Pages.stays_young.Goals as goal
 
 pub returns-in-Some-pulses-clause-few : goal.returns-in-Some-pulses-clause-few

@@ -1,5 +1,6 @@
 use Rattle.std.proofs.Common.{◌≡◌, ◌∙◌, sym, Some, None}
-use Rattle.pcm_cells.{specs.PageTable.page_at, specs.Youths.young_at, proofs.PagingLemmas.{seen-drawn, seen-young}, proofs.WearLemmas.{drawn_changes, drawn_stuck}, proofs.YoungLemmas.{grown_changes, grown_stuck}}
+use Rattle.pcm_cells.{specs.PageTable.page_at, specs.Youths.young_at, proofs.PagingLemmas.{seen-drawn, seen-young}, proofs.WearLemmas.{drawn_changes, drawn_stuck}}
+use Rattle.pcm_cells.proofs.YoungLemmas.{grown_changes, grown_stuck}
 use Rattle.pcm_cells.proofs.pages.Pages.young_wear.Goals as goal
 
 pub returns-in-Some-clause-stuck : goal.returns-in-Some-clause-stuck

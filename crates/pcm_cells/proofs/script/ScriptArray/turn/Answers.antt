@@ -1,6 +1,6 @@
 use Rattle.std.proofs.Common.{◌≡◌, ◌<◌, ◌∙◌, length, set, refl, sym, ap, subst, arith, List, Option, Some}
 use Rattle.cell_rows.specs.{Energy.with_pulse, Rows.cell, declared.array.LineEnergy.LineEnergy}
-use Rattle.pcm_cells.{specs.Energies.energy_at, specs.Follows.Follows, specs.Scripted.{ScriptedArray, Turns, scripted, scripted_cell, scripted_lines, scripted_state}}
+use Rattle.pcm_cells.specs.{Energies.energy_at, Follows.Follows, Scripted.{ScriptedArray, Turns, scripted, scripted_cell, scripted_lines, scripted_state}}
 use Rattle.pcm_cells.proofs.{EnergyLemmas.energy-told, ScriptedLemmas.line_turned}
 use Rattle.pcm_cells.proofs.script.ScriptArray.turn.Goals as goal
 

@@ -1,6 +1,5 @@
 use Rattle.std.proofs.Common.{◌≡◌, ◌∙◌, sym, ap, arith, length}
-use Rattle.pcm_cells.specs.{Energies.energy_told, Paging.seeded_lines, Seeded.SeededArray}
-use Rattle.pcm_cells.proofs.EnergyLemmas.{counts-line}
+use Rattle.pcm_cells.{specs.Energies.energy_told, specs.Paging.seeded_lines, specs.Seeded.SeededArray, proofs.EnergyLemmas.counts-line}
 use Rattle.pcm_cells.proofs.seeded.MemArrayTellsCells.energy.Goals as goal
 
 pub at-requires : goal.at-requires

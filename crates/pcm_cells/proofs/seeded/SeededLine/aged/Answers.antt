@@ -1,6 +1,5 @@
 use Rattle.std.proofs.Common.{refl, subst, sym}
-use Rattle.pcm_cells.specs.{Pages.{HaveSameLife, drawn_line}, Seeded.{LifeLine, left_of}, Young.grown_line}
-use Rattle.pcm_cells.proofs.YoungLemmas.{aged_alike}
+use Rattle.pcm_cells.{specs.Pages.{HaveSameLife, drawn_line}, specs.Seeded.{LifeLine, left_of}, specs.Young.grown_line, proofs.YoungLemmas.aged_alike}
 use Rattle.pcm_cells.proofs.seeded.SeededLine.aged.Goals as goal
 
 pub returns : goal.returns

@@ -1,5 +1,5 @@
 use Rattle.std.proofs.Common.{◌≡◌, ◌+◌, ◌*◌, ◌∙◌, sym, ap, rules, max, arith}
-use Rattle.cell_wear.{specs.Told.most, proofs.Most.{most-zero, most-more}}
+use Rattle.cell_rows.{specs.Told.most, proofs.Most.{most-zero, most-more}}
 use Rattle.pcm_cells.proofs.SizeLemmas.{line_fits, row_fits}
 use Rattle.pcm_cells.proofs.seeded.SeededLine.cell_wear.Goals as goal
 use borrow.Author.Count.{falls}

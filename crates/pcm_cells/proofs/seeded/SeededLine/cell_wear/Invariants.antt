@@ -1,5 +1,5 @@
 use Rattle.std.proofs.Common.{◌≡◌, ◌-◌, slice_index}
-use Rattle.cell_wear.specs.Told.{most}
+use Rattle.cell_rows.specs.Told.{most}
 use Rattle.pcm_cells.proofs.seeded.SeededLine.cell_wear.Given as goal
 
 -- the greatest of the cells so far

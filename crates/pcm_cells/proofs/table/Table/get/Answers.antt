@@ -1,6 +1,5 @@
 use Rattle.std.proofs.Common.{◌≡◌, ◌+◌, ◌-◌, ◌/◌, ◌%◌, ◌<◌, ◌∙◌, sym, ap, arith, length, slice_index, rules, [], ℕ}
-use Rattle.std.specs.Prelude.{vec_len}
-use Rattle.std.proofs.lemmas.List.{get_or_default}
+use Rattle.std.{specs.Prelude.vec_len, proofs.lemmas.List.get_or_default}
 use Rattle.pcm_cells.proofs.TableLemmas.{covered, number-none, number-some, numbers-at, told}
 use Rattle.pcm_cells.proofs.table.Table.get.Goals as goal
 

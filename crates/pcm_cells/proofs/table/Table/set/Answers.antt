@@ -1,6 +1,5 @@
 use Rattle.std.proofs.Common.{◌≡◌, ◌/◌, ◌%◌, ◌<◌, ◌∙◌, ap, arith, length, length-set, rules, get_or, set, sym, []}
-use Rattle.std.specs.Prelude.{vec_len}
-use Rattle.std.proofs.lemmas.List.{get_or_default}
+use Rattle.std.{specs.Prelude.vec_len, proofs.lemmas.List.get_or_default}
 use Rattle.pcm_cells.proofs.TableLemmas.{blocks-written, covered, numbers-same, numbers-written}
 use Rattle.pcm_cells.proofs.table.Table.set.Goals as goal
 

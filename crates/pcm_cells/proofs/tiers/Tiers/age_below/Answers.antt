@@ -1,7 +1,7 @@
 use Rattle.std.proofs.Common.{◌≡◌, ◌<◌, rules, arith, false, length, None}
 use Rattle.std.specs.Prelude.{is_some}
-use Rattle.pcm_cells.specs.{PageTable.page_at, Tiers.{by_first, by_later}}
-use Rattle.pcm_cells.proofs.{AgeLemmas.none-of, BelowLemmas.{below_first, below_later, below_more}, SizeLemmas.row_fits, TierLemmas.{tier-first, tier-later}}
+use Rattle.pcm_cells.{specs.PageTable.page_at, specs.Tiers.{by_first, by_later}, proofs.AgeLemmas.none-of, proofs.BelowLemmas.{below_first, below_later, below_more}}
+use Rattle.pcm_cells.proofs.{SizeLemmas.row_fits, TierLemmas.{tier-first, tier-later}}
 use Rattle.pcm_cells.proofs.tiers.Tiers.age_below.Goals as goal
 
 pub age_below-requires : goal.age_below-requires

@@ -1,6 +1,6 @@
 use Rattle.std.proofs.Common.{◌≡◌, ◌<◌, ◌∙◌, List, Option, None, Some, refl, sym, ap, subst, arith, length, length-set}
-use Rattle.pcm_cells.specs.{PageTable.page_at, Tiers.{AgesYoung, tier_of}, declared.later.Later.Later}
-use Rattle.pcm_cells.proofs.{SizeLemmas.{row_fits}, TierLemmas.{ages_first, may_first}}
+use Rattle.pcm_cells.{specs.PageTable.page_at, specs.Tiers.{AgesYoung, tier_of}, specs.declared.later.Later.Later, proofs.SizeLemmas.row_fits}
+use Rattle.pcm_cells.proofs.TierLemmas.{ages_first, may_first}
 use Rattle.pcm_cells.proofs.tiers.Tiers.age_first.Goals as goal
 
 pub age-requires : goal.age-requires

@@ -1,6 +1,5 @@
 use Rattle.std.proofs.Common.{◌<◌, ◌∙◌, sym, ap, arith, length, length-set, Some}
-use Rattle.pcm_cells.specs.{PageTable.page_at, Tiered.tier_at}
-use Rattle.pcm_cells.proofs.{SizeLemmas.{row_fits}, TierLemmas.{ages_later, may_later}}
+use Rattle.pcm_cells.{specs.PageTable.page_at, specs.Tiered.tier_at, proofs.SizeLemmas.row_fits, proofs.TierLemmas.{ages_later, may_later}}
 use Rattle.pcm_cells.proofs.tiers.Tiers.age_later.Goals as goal
 
 pub age-requires : goal.age-requires

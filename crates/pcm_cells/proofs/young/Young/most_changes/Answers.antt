@@ -1,5 +1,5 @@
 use Rattle.std.proofs.Common.{◌≡◌, ◌∙◌, sym, rules, max}
-use Rattle.cell_wear.{proofs.Most.{most-zero, most-more}}
+use Rattle.cell_rows.proofs.Most.{most-zero, most-more}
 use Rattle.pcm_cells.proofs.young.Young.most_changes.Goals as goal
 
 pub loop-number-init : goal.loop-number-init

@@ -1,5 +1,5 @@
 use Rattle.std.proofs.Common.{◌≡◌}
-use Rattle.cell_wear.specs.Told.{most}
+use Rattle.cell_rows.specs.Told.{most}
 use Rattle.pcm_cells.specs.Young.{changes_in}
 use Rattle.pcm_cells.proofs.young.Young.most_changes.Given as goal
 

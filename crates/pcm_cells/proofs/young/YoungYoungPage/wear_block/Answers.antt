@@ -1,8 +1,8 @@
 use Rattle.std.proofs.Common.{◌≡◌, ℕ, ◌+◌, ◌*◌, ◌%◌, ◌&&◌, Bool, not, eqb, refl, sym, ◌∙◌, ap, arith, bit_and}
 use Rattle.std.specs.Prelude.{nat_lt}
 use Rattle.cell_rows.{specs.Rows.cell, proofs.ByteLemmas.digit_and}
-use Rattle.pcm_cells.specs.{Planes.{bit_in, digit}, Young.{aging, young_cell}, declared.young.Young.Young}
-use Rattle.pcm_cells.proofs.{FollowsLemmas.followed_block, PlaneLemmas.digit_few, SeededLemmas.in_block, SizeLemmas.{digits_fit, row_fits}}
+use Rattle.pcm_cells.{specs.Planes.{bit_in, digit}, specs.Young.{aging, young_cell}, specs.declared.young.Young.Young, proofs.FollowsLemmas.followed_block}
+use Rattle.pcm_cells.proofs.{PlaneLemmas.digit_few, SeededLemmas.in_block, SizeLemmas.{digits_fit, row_fits}}
 use Rattle.pcm_cells.proofs.YoungLemmas.{changes-is, changes_more, no_over, missing_few, stays_here, tries_here}
 use Rattle.pcm_cells.proofs.young.YoungYoungPage.wear_block.Goals as goal
 

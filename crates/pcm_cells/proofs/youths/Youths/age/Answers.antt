@@ -1,6 +1,5 @@
 use Rattle.std.proofs.Common.{◌<◌, ◌∙◌, refl, sym, ap, subst, arith}
-use Rattle.pcm_cells.specs.{Begun.AgesLine, Tiered.tier_at, Youths.{Suits, young_at, young_lines}, declared.youths.Youths.{Youths}}
-use Rattle.pcm_cells.specs.declared.youths.Youths.TheVariants.{Sure}
+use Rattle.pcm_cells.specs.{Begun.AgesLine, Tiered.tier_at, Youths.{Suits, young_at, young_lines}, declared.youths.Youths.Youths, declared.youths.Youths.TheVariants.Sure}
 use Rattle.pcm_cells.proofs.{BegunLemmas.{ages_sure, may_tier}, SizeLemmas.row_fits}
 use Rattle.pcm_cells.proofs.youths.Youths.age.Goals as goal
 

@@ -1,7 +1,6 @@
 use Rattle.std.proofs.Common.{◌≡◌, ◌++◌, length, take, decimal, ap, ◌∙◌, arith}
 use Rattle.std.proofs.lemmas.List.{with_items_is}
-use Rattle.pcm_io.specs.Reserved.{appended}
-use Rattle.pcm_io.proofs.Places.{put-behind, with-bytes}
+use Rattle.pcm_io.{specs.Reserved.appended, proofs.Places.{put-behind, with-bytes}}
 use Rattle.pcm_io.proofs.text.Text.push_number.Goals as goal
 
 pub returns-clause-after : goal.returns-clause-after

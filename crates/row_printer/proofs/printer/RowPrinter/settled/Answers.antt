@@ -1,7 +1,5 @@
 use Rattle.std.proofs.Common.{[], ◌∷◌, refl}
-use Rattle.ghost_list.specs.Items.{items}
-use Rattle.row_printer.specs.declared.told.Told.TheVariants.{Settled}
-use Rattle.row_printer.proofs.Telling.{outcomes-same}
+use Rattle.row_printer.{specs.Items.items, specs.declared.told.Told.TheVariants.Settled, proofs.Telling.outcomes-same}
 use Rattle.row_printer.proofs.printer.RowPrinter.settled.Goals as goal
 
 pub invariant_of-self : goal.invariant_of-self

@@ -1,4 +1,4 @@
-use Rattle.ghost_list.specs.Items.{items}
+use Rattle.row_printer.specs.Items.{items}
 use Rattle.row_printer.proofs.printer.RowPrinter.snapshot.Goals as goal
 
 pub returns-clause-printing : goal.returns-clause-printing

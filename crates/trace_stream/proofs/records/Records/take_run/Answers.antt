@@ -1,7 +1,7 @@
 use Rattle.std.proofs.Common.{◌≡◌, take, sym, ap, ◌∙◌, arith}
 use Rattle.std.proofs.lemmas.Grind.{common_steps}
 use Rattle.trace_reader.specs.Plain.{is_plain}
-use Rattle.trace_stream.{specs.Kept.{Kept, with_bytes}, proofs.{PlainNext.all_first, Steps.goes-run}}
+use Rattle.trace_stream.{specs.Kept.{Kept, with_bytes}, proofs.PlainNext.all_first, proofs.Steps.goes-run}
 use Rattle.trace_stream.proofs.records.Records.take_run.Goals as goal
 
 pub returns-then-run-gt0-clause-goes_on : goal.returns-then-run-gt0-clause-goes_on

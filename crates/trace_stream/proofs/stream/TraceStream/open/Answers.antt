@@ -1,6 +1,7 @@
 use Rattle.std.proofs.Common.{◌≡◌, ◌++◌, ◌∙◌, ap, refl, sym, arith}
 use Rattle.std.{specs.Prelude.Err, proofs.lemmas.List.length-append, proofs.lemmas.Result.err_from_is_err_and}
-use Rattle.trace_stream.{specs.Machine.state_of, specs.Stream.Standing, specs.declared.fault.StreamFault.TheVariants.{Endless, Read}, proofs.Marks.lacks-more, proofs.Rows.{opens, opens-none, opens-wrong}}
+use Rattle.trace_stream.{specs.Machine.state_of, specs.Stream.Standing, specs.declared.fault.StreamFault.TheVariants.{Endless, Read}, proofs.Marks.lacks-more}
+use Rattle.trace_stream.proofs.Rows.{opens, opens-none, opens-wrong}
 use Rattle.trace_stream.proofs.stream.TraceStream.open.Goals.{then-not-found-via-then-not-found, then-not-found-via-else-not-found+then-not-is_header_row}
 use Rattle.trace_stream.proofs.stream.TraceStream.open.Goals as goal
 use Rattle.pcm_io.proofs.ByteLemmas.{Takes-Takes}

@@ -1,7 +1,6 @@
 -- What an array tells of the cells of a line.
 use Rattle.std.specs.Prelude.{ℕ, zero, suc, ◌+◌, ◌*◌, max, Option, Some, None}
-use Rattle.cell_rows.specs.{Device.LineState, Rows.members}
-use Rattle.cell_wear.specs.declared.tells.CellWear.{CellWear}
+use Rattle.cell_rows.specs.{Device.LineState, Rows.members, declared.tells.CellWear.CellWear}
 
 -- the greatest of the first n of some numbers; 0 where n is 0
 unfoldable pub most : (ℕ → ℕ) → ℕ → ℕ

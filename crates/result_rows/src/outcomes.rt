@@ -4,7 +4,7 @@ ghost use Rattle.result_rows.specs.declared.Outcome.TheVariants.{Unset};
 ghost use Rattle.result_rows.specs.Outcomes.{op_of};
 ghost use Rattle.result_rows.specs.Table.{HasRow, outcome_at, with_outcome};
 
-use result_rows::{Outcome, Results};
+use crate::{Outcome, Results};
 
 /// What is told the outcomes of a run's rows, as they become known: each row's once. It may keep them, as a table does, or hand
 /// them on.

@@ -1,6 +1,6 @@
 -- The items of a list that contracts see.
 use Rattle.std.specs.Prelude.{List, [], ◌∷◌, ◌++◌}
-use Rattle.ghost_list.specs.declared.list.GhostList.{GhostList, Empty, Behind'}
+use Rattle.row_printer.specs.declared.list.GhostList.{GhostList, Empty, Behind'}
 
 -- the items, the first of them first
 abbrev pub items : {A : Type 0} → GhostList A → List A

@@ -1,5 +1,5 @@
 use Rattle.pcm_io.proofs.PrintLemmas.{pieces-row}
-use Rattle.wear_report.proofs.print_role.Goals as goal
+use Rattle.run_text.proofs.roles.print_role.Goals as goal
 
 pub returns-clause-after : goal.returns-clause-after
 returns-clause-after c = rw (

@@ -2,7 +2,7 @@
 use Rattle.std.proofs.Common.{ℕ, ◌+◌, ◌^◌, ◌<◌, ◌≤◌, ◌≡◌, List, [], ◌∷◌, ◌++◌, length, length-append, append_assoc, add-zero, suc, sym, refl, arith, lit≤}
 use Rattle.std.specs.Fmt.{decimal}
 use Rattle.pcm_io.proofs.DigitLemmas.{ten_digits, twenty_digits}
-use Rattle.wear_report.specs.WearText.{role_text, wear_row_text, wear_rows_text}
+use Rattle.run_text.specs.WearText.{role_text, wear_row_text, wear_rows_text}
 use Rattle.bank_shape.specs.{declared.Role.Role, declared.Role.TheVariants.{Line, Gap, Free, Retired, Control}}
 
 -- the rows of two lists

@@ -1,6 +1,6 @@
 -- The greatest of some numbers.
 use Rattle.std.proofs.Common.{◌≡◌, ℕ, zero, suc, ◌+◌, ◌<◌, max, refl, arith, add-one}
-use Rattle.cell_wear.specs.Told.{most}
+use Rattle.cell_rows.specs.Told.{most}
 
 pub most-zero : (number : ℕ → ℕ) → most number 0 ≡ 0
 unfolding most

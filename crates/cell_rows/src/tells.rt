@@ -1,7 +1,8 @@
 // Arrays that tell what became of their cells.
 ghost use Rattle.std.specs.Prelude.{◌≡◌, ◌<◌, ℕ, Option};
 
-use cell_rows::{CellArray, Cells, LineEnergy};
+use crate::array::{CellArray, LineEnergy};
+use crate::row::Cells;
 
 /// What an array tells of the cells of one line.
 #[derive(Clone, Copy, Debug, Drop, PartialEq, Eq)]
@@ -16,7 +17,7 @@ pub struct CellWear {
 /// `changes` has the changes that each cell of a line has spent, where the array counts them.
 pub trait TellsCells<const B: usize, const M: usize>: CellArray<B, M> {
     ghost use Rattle.cell_rows.specs.Shape.{IsShape};
-    ghost use Rattle.cell_wear.specs.Told.{wear_told};
+    ghost use Rattle.cell_rows.specs.Told.{wear_told};
 
     ghost changes: { Self → ℕ → Option (ℕ → ℕ) };
 

@@ -1,16 +1,13 @@
-//! The wear report: how often each array line was pulsed, and what it is used for.
-//! `print_role` appends one row of it to memory that was reserved before.
-#![tactic(auto)]
-
+// The rows of the wear report: how often each array line was pulsed, and what it is used for.
 ghost use Rattle.std.specs.Prelude.{◌≡◌, ◌+◌, ◌≤◌};
 ghost use Rattle.pcm_io.specs.Reserved.{room_in, appended};
-ghost use Rattle.wear_report.specs.WearText.{wear_header_text, role_text, wear_row_text};
+ghost use Rattle.run_text.specs.WearText.{wear_header_text, role_text, wear_row_text};
 
-pub use bank_shape::Role;
+use bank_shape::Role;
 use pcm_io::Text;
 
 /// The first line of the report, with its LF.
-pub fn header() -> &'static [u8]
+pub fn wear_header() -> &'static [u8]
     ensures { result.now ≡ wear_header_text }
 {
     b"array,bank,pulses,role\n"

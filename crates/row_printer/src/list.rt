@@ -1,6 +1,6 @@
 // A list for contracts alone.
 ghost use Rattle.std.specs.Prelude.{◌≡◌, [], ◌∷◌, ◌++◌};
-ghost use Rattle.ghost_list.specs.Items.{items};
+ghost use Rattle.row_printer.specs.Items.{items};
 
 use std::snapshot::Snapshot;
 

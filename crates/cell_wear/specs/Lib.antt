@@ -1,2 +1,0 @@
--- What the contracts of an array that tells of its cells cite.
-pub mod Told

@@ -1,2 +1,0 @@
--- The bytes of the wear report.
-pub mod WearText
