@@ -103,10 +103,10 @@ class Order:
 
 
 class Build:
-    """The crates below a program, what is proved of them, and what is being proved."""
+    """The crates below another, a program mostly, what is proved of them, and what is being proved; of a library it may be one of them."""
 
-    def __init__(self, program):
-        self.program, self.order, below = program, Order(program), crates.needed(program) - {program}
+    def __init__(self, program, itself=False):
+        self.program, self.order, below = program, Order(program), crates.needed(program) - (set() if itself else {program})
         self.sorter = graphlib.TopologicalSorter({it: crates.below(it) for it in below})
         self.sorter.prepare()
         self.waiting, self.running, self.making, self.elsewhere, self.spent = [], {}, {}, set(), {}

@@ -153,6 +153,14 @@ class Builds(unittest.TestCase):
         self.build("pcm_cli", "pcm_stream")
         self.assertEqual(self.room.called(), [])
 
+    def test_a_library_is_proved_with_those_below_it_and_kept(self):
+        self.build("second")
+        self.assertEqual(self.room.called(), ["first", "second"])
+        self.build("first", "second")
+        self.assertEqual(self.room.called(), [])
+        self.build("pcm_cli")
+        self.assertEqual(self.room.called(), ["pcm_cli"])
+
     def test_a_second_clone_builds_at_once(self):
         self.build("pcm_cli")
         self.room.called()
@@ -260,9 +268,10 @@ class Builds(unittest.TestCase):
 
     def test_words_of_a_build(self):
         self.assertIn("tools/build [PROGRAM ..]", self.build("--help").stdout)
-        done = self.room.run("tools/build", "first")
+        done = self.room.run("tools/build", "none")
         self.assertEqual(done.returncode, 1)
-        self.assertEqual(done.stderr, f"pcm: first is no program: tools/build takes {', '.join(PROGRAMS)}, --clean or --help\n")
+        takes = f"tools/build takes {', '.join(PROGRAMS)}, other crates of crates.txt, --clean or --help"
+        self.assertEqual(done.stderr, f"pcm: none is no crate: {takes}\n")
         self.build("pcm_stream")
         self.build("--clean")
         self.assertEqual(list((self.room.cache / "leqallqu").iterdir()), [])
