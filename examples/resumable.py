@@ -137,6 +137,7 @@ class Runs:
         self.unwritten = list(reversed(self.missing))
         self.failures = set()
         self.done = 0
+        self.under_way = {}
         self.is_stopped = False
         self.lock = threading.Lock()
         self.file = None
@@ -154,8 +155,15 @@ class Runs:
             print(words, file=sys.stderr)
         if self.done < len(self.missing):
             failed = f", {self.failed} failed" if self.failed else ""
-            share = self.done / len(self.missing)
+            share = (self.done + sum(self.under_way.values())) / len(self.missing)
             self.progress.tell(lambda: self.progress.line(self.done, share, f"of {len(self.missing):,} runs{failed}"))
+
+    def is_at(self, row, share):
+        """Of a run which share of it is done, where that is known. Where all was broken off it ends."""
+        if self.is_stopped:
+            raise Failure("broken off")
+        with self.lock:
+            self.under_way[row] = share
 
     def one(self, row):
         """Runs one row, unless all was broken off."""
@@ -166,6 +174,7 @@ class Runs:
         except Failure as why:
             found, words = None, f"{named(self.columns, self.numbers[row], row)}: {why}"
         with self.lock:
+            self.under_way.pop(row, None)
             if found is None and self.is_stopped:
                 return
             self.done += 1

@@ -563,6 +563,17 @@ class Words(unittest.TestCase):
             "check --all": "--all is no option of check, but of explain",
             "explain --lines 100": "--lines 100: it may be a power of two, 4 to 4096; nearest are 64 and 128",
             "view --lines 4": "--lines: view has no options",
+            "run --lines 8192": "--lines 8192: it may be a power of two, 4 to 4096 (stream takes it)",
+            "run --banks 64": "--banks 64: it may be 1, 2, 4, 8 or 16 (stream takes it)",
+            "run --banks 128": "--banks 128: it may be 1, 2, 4, 8 or 16",
+            "run --rows 500000": "--rows 500000: it may be 1 to 400000 (stream takes it)",
+            "run --banks 16 --regions 2 --lines 4096":
+                "banks x regions x lines are 131072: a module of run has at most 65536 lines (stream takes it)",
+            "gen --lines=8192": "--lines 8192: it may be a power of two, 4 to 4096 (stream --input drawn takes it)",
+            "map --lines 8192": "--lines 8192: it may be a power of two, 4 to 4096 (stream --print map takes it)",
+            "check --lines 8192": "--lines 8192: it may be a power of two, 4 to 4096",
+            "stream --banks 64 --regions 64 --lines 32768":
+                "banks x regions x lines are 134217728: a module of stream has at most 67108864 lines",
             "run": None,
             "stream --print snapshots --every 5 --rows=4000000000 --step 0 --input drawn": None,
             "stream --print wear --skip=unpulsed": None,

@@ -5,14 +5,14 @@ usage: python3 -m pcm differ TRACE ONE OTHER [options]
 TRACE is a trace, ONE and OTHER are files of results of it, as two simulators printed them; options are those of `./pcm check`. Both are
 checked first, and a line says of each whether it keeps the rules, or which row breaks one. Then come how many rows differ, the lowest of
 them, and the soonest, by the tick at which the difference shows: the lowest may differ since a later row was told otherwise sooner.
-Statuses: 0 where no row differs, 1 where one does, and those of `./pcm check` from 2 on."""
+A fault of a file is told with the file's name. Statuses: 0 where no row differs, 1 where one does, and those of `./pcm check` from 2 on."""
 import subprocess
 import sys
 from typing import List, NamedTuple, Sequence, Tuple
 
-from .errors import TraceError, UsageError, error_of
+from .errors import TraceError, UsageError
 from .program import Program, command
-from .runs import Source, arrivals_of, joined, opened
+from .runs import Source, arrivals_of, fault_of, joined, opened
 from .tables import answered
 from .words import RESULTS
 
@@ -74,11 +74,9 @@ def partings(trace: Source, one: Source, other: Source) -> List[Parting]:
 
 def _told(source: Source) -> List[Told]:
     """What a table says of each row."""
-    head, *lines = source.text.splitlines() or [""]
-    if head != RESULTS:
-        raise TraceError(3, f"{source.name}: its first line must be {RESULTS}")
+    _hold_header(source)
     found = []
-    for number, line in enumerate(lines, 1):
+    for number, line in enumerate(source.text.splitlines()[1:], 1):
         fields = line.split(",")
         if len(fields) != 7 or fields[0] != str(number) or not fields[4].isdecimal():
             raise TraceError(3, f"{source.name}: line {number + 1} isn't row {number} of results")
@@ -86,17 +84,25 @@ def _told(source: Source) -> List[Told]:
     return found
 
 
+def _hold_header(source: Source) -> None:
+    """A table begins with the header of results."""
+    if source.text.partition("\n")[0].rstrip("\r") != RESULTS:
+        raise TraceError(3, f"{source.name}: its first line must be {RESULTS}")
+
+
 def verdict(trace: Source, table: Source, options: Sequence[str], program: Program = None) -> str:
     """What `pcm check` says of a table: `ok`, or the first row that breaks a rule."""
     words = [*command("check", program), *options]
     done = subprocess.run(words, input=joined(trace, table), stdout=subprocess.PIPE, stderr=subprocess.PIPE, check=False)
     if done.returncode not in (0, 1):
-        raise error_of(done.returncode, done.stderr, ["check", *options])
+        raise fault_of(done.returncode, done.stderr, ["check", *options], trace, table)
     return done.stdout.decode().strip()
 
 
 def differ(trace: Source, one: Source, other: Source, options: Sequence[str], program: Program = None) -> Tuple[bool, str]:
     """Whether two tables differ, and the text that says so."""
+    for it in (one, other):
+        _hold_header(it)
     lines = [f"{it.name}: {_rules(verdict(trace, it, options, program))}" for it in (one, other)]
     found = partings(trace, one, other)
     if not found:

@@ -1,8 +1,8 @@
 """What may go wrong, by the program's statuses."""
 import re
-from typing import Optional, Sequence
+from typing import Iterable, Optional, Sequence
 
-from .words import explain
+from .words import Handed, explain, wrong_handed
 
 
 class PcmError(Exception):
@@ -23,7 +23,7 @@ class UsageError(PcmError):
 
 class TraceError(PcmError):
     """A row of the trace is faulty (status 3): `row` is its number, and `kind` a word of docs/FORMATS.md, as `order` or `payload`; `why`
-    tells the line of the file, where the trace is one, and what is wrong there."""
+    tells the line of the file, where the trace is one, or else the row, and what is wrong there."""
 
     def __init__(self, status: Optional[int], line: str, why: Optional[str] = None) -> None:
         super().__init__(status, line, why)
@@ -51,9 +51,13 @@ class OutOfMemory(PcmError, MemoryError):
 _BY_STATUS = {2: UsageError, 3: TraceError, 4: ReadFault, 5: WriteFault, 6: TooLong, 7: OutOfMemory}
 
 
-def error_of(status: Optional[int], said: bytes, words: Sequence[str] = (), trace: Optional[str] = None) -> PcmError:
+def error_of(
+    status: Optional[int], said: bytes, words: Sequence[str] = (), trace: Optional[str] = None, handed: Iterable[Handed] = ()
+) -> PcmError:
     """The exception for a status of the program and what it said on standard error, where it was started with these words (the command,
-    then its options) over this file."""
+    then its options) over this file, or was handed these rows."""
     line = said.decode(errors="replace").strip()
     why = explain(list(words), line, trace) if words and status in (2, 3) else None
+    if why is None and status == 3:
+        why = wrong_handed(words, line, handed)
     return _BY_STATUS.get(status if status is not None else -1, PcmError)(status, line, why)

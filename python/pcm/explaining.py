@@ -15,11 +15,11 @@ from typing import Dict, Iterable, List, NamedTuple, Optional, Sequence, Tuple, 
 
 from .bankwise import counted, firsts
 from .drawing import LIGHT, Picture
-from .errors import UsageError, WriteFault, error_of
+from .errors import PcmError, UsageError, WriteFault, error_of
 from .explanation import Explanation, read_explanation
 from .program import Program, command, words_of
 from .rows import Row, write_trace
-from .runs import DEFAULTS, Run, Source, arrivals_of, joined, opened, parted, results_of
+from .runs import DEFAULTS, Run, Source, arrivals_of, fault_of, joined, opened, parted, results_of
 from .tables import answered
 from .timeline import table_of, timeline
 from .whole import ResultRow
@@ -34,9 +34,8 @@ def explain(
     """Why results of a trace break a rule, by the first row that does; None where they keep all rules. The trace is rows, or the path of
     one; the results are rows, as `run` gives them, or the path of a file. A trace's file may have its results behind it, where none are
     given. Options are those of `pcm explain`, with `_` for `-`."""
-    given = _trace_of(trace)
-    table = given.data if results is None else joined(given, _results_of(results))
-    return read_explanation(said_of(table, words_of(options), program, None if given.kind == "rows" else given.name))
+    files = _files_of(trace, results)
+    return read_explanation(said_of(_whole(files), words_of(options), program, files))
 
 
 def explain_all(
@@ -45,28 +44,39 @@ def explain_all(
     """Why the first row of each bank that breaks a rule does, in the order of banks, and behind them that of the first cut with another tick
     than its own; nothing where all rows keep all rules. These don't follow from one another; most further rows of a bank follow from its
     first. It takes what `explain` takes."""
-    given = _trace_of(trace)
-    table = given.data if results is None else joined(given, _results_of(results))
-    words = words_of(options)
-    return _all_of(table, words, program, None if given.kind == "rows" else given.name)[1]
+    return _all_of(_files_of(trace, results), words_of(options), program)[1]
 
 
-def _all_of(table: bytes, words: Sequence[str], program: Program, path: Optional[str]) -> Tuple[str, List[Explanation]]:
-    """What the program says of a whole table, and of each bank that breaks a rule."""
-    text = said_of(table, words, program, path)
+def _all_of(files: Sequence[Source], words: Sequence[str], program: Program) -> Tuple[str, List[Explanation]]:
+    """What the program says of a whole table, in one file or in two, and of each bank that breaks a rule."""
+    text = said_of(_whole(files), words, program, files)
     if read_explanation(text) is None:
         return text, []
     options = {name[2:]: value for name, value in zip(words[::2], words[1::2])}
-    return text, firsts(table, options, lambda part: said_of(part, words, program), program)
+    return text, firsts(_whole(files), options, lambda part: said_of(part, words, program), program)
 
 
-def said_of(table: bytes, words: Sequence[str], program: Program = None, path: Optional[str] = None) -> str:
-    """What the program says of a trace with its results behind it, which may be a file's by its path."""
+def _whole(files: Sequence[Source]) -> bytes:
+    """A trace with its results behind it, in one file or in two."""
+    return files[0].data if len(files) == 1 else joined(*files)
+
+
+def said_of(table: bytes, words: Sequence[str], program: Program = None, files: Sequence[Source] = ()) -> str:
+    """What the program says of a trace with its results behind it, which may be those of one file or of two."""
     started = [*command("explain", program), *words]
     done = subprocess.run(started, input=table, stdout=subprocess.PIPE, stderr=subprocess.PIPE, check=False)
     if done.returncode not in (0, 1):
-        raise error_of(done.returncode, done.stderr, ["explain", *words], path)
+        raise _fault(done.returncode, done.stderr, ["explain", *words], files)
     return done.stdout.decode()
+
+
+def _fault(status: int, said: bytes, words: Sequence[str], files: Sequence[Source]) -> PcmError:
+    """The exception for what the program said: of files it has the line that is faulty, of two the name, too."""
+    if any(it.kind == "rows" for it in files):
+        return error_of(status, said, words)
+    if len(files) == 2:
+        return fault_of(status, said, words, *files)
+    return error_of(status, said, words, files[0].name if files else None)
 
 
 def drawn(told: Explanation, table: Source, options: Dict[str, str]) -> Picture:
@@ -81,6 +91,10 @@ def picture_of(told: Explanation, run: Run, colours: Dict[str, str] = LIGHT) -> 
     return timeline(told, table_of(run.arrivals or [], run.rows), run.bank_of_line, colours)
 
 
+def _files_of(trace: Union[Iterable[Row], Path], results: Union[Iterable[ResultRow], Path, None]) -> List[Source]:
+    return [_trace_of(trace)] if results is None else [_trace_of(trace), _results_of(results)]
+
+
 def _trace_of(trace: Union[Iterable[Row], Path]) -> Source:
     if isinstance(trace, (str, os.PathLike)):
         return opened("trace", os.fspath(trace))
@@ -92,7 +106,7 @@ def _trace_of(trace: Union[Iterable[Row], Path]) -> Source:
 def _results_of(results: Union[Iterable[ResultRow], Path]) -> Source:
     if isinstance(results, (str, os.PathLike)):
         return opened("results", os.fspath(results))
-    return Source("results", "rows", "".join([f"{RESULTS}\n", *(row.text() for row in results)]).encode())
+    return Source("rows", "rows", "".join([f"{RESULTS}\n", *(row.text() for row in results)]).encode())
 
 
 def main(words: Sequence[str]) -> int:
@@ -111,15 +125,14 @@ class Asked(NamedTuple):
 
 def _explain(words: Sequence[str]) -> int:
     asked = _parsed(words)
-    trace = opened("trace", asked.names[0])
-    table = trace if len(asked.names) == 1 else trace._replace(data=joined(trace, opened("results", asked.names[1])))
+    files = [opened(kind, name) for kind, name in zip(("trace", "results"), asked.names)]
+    table = files[0]._replace(data=_whole(files))
     more = [word for name, value in asked.options.items() for word in (f"--{name}", value)]
-    path = None if asked.names[0] == "-" else asked.names[0]
     if asked.all_banks:
-        text, found = _all_of(table.data, more, None, path)
+        text, found = _all_of(files, more, None)
         sys.stdout.write("".join([text.partition("\n")[0], "\n", *(it.text for it in found), counted(found, asked.options) if found else ""]))
         return 1 if found else 0
-    text = said_of(table.data, more, path=path)
+    text = said_of(table.data, more, files=files)
     sys.stdout.write(text)
     told = read_explanation(text)
     if told is not None and asked.output is not None:

@@ -86,7 +86,8 @@ def _explained(run: Run, by_kind: Dict[str, Source], program: Program) -> str:
     if not results.data.startswith(RESULTS.encode()):
         raise UsageError(2, f"--explain wants results as run prints them, whose first line is {RESULTS}: {results.name} has those of a stream")
     words = [word for name in COMMANDS["check"].options for word in (f"--{name}", run.options[name])]
-    return said_of(joined(by_kind["trace"], results), words, program)
+    files = [by_kind["trace"], results]
+    return said_of(joined(*files), words, program, files)
 
 
 def _read(asked: Asked, progress: Progress) -> List[Source]:

@@ -5,13 +5,14 @@ import selectors
 import subprocess
 import tempfile
 from types import TracebackType
-from typing import Deque, Iterator, List, Optional, Sequence, Type
+from typing import IO, Deque, Iterator, List, Optional, Sequence, Type
 
 from .errors import PcmError, UsageError, error_of
 from .outcomes import Backlog, Outcome, Settled, Shape, Wear, told_of
 from .program import Program, command, words_of
 from .progress import Progress
 from .rows import HEADER
+from .words import Handed
 
 # Rows are gathered up to so many bytes before they are handed to the pipe.
 _GATHERED = 1 << 16
@@ -28,9 +29,13 @@ class Module:
 
     Options are those of `pcm stream`, with `_` for `-`, as `banks=4`, `write_queue=8`, `policy="cancel"`, `end="off"`. `program` names
     the program (else the environment's PCM, or `./pcm` of the checkout). A call that waits for more than a second tells on standard error
-    how many rows have an outcome, and how many a second, where that is a terminal, or always with `progress=True`, or never with False."""
+    how many rows have an outcome, and how many a second, where that is a terminal, or always with `progress=True`, or never with False.
 
-    def __init__(self, *, program: Program = None, progress: Optional[bool] = None, **options: object) -> None:
+    `log` is a text file to which the header and each row with a number is written as it is handed in: a trace that plays the same again."""
+
+    def __init__(
+        self, *, program: Program = None, progress: Optional[bool] = None, log: Optional[IO[str]] = None, **options: object
+    ) -> None:
         if options.get("print") not in (None, "rows"):
             raise UsageError(2, "a Module tells the outcome of each row; for other prints there are run, snapshots, and the words of pcm.command('stream')")
         self._rows = self._answered = self.tick = 0
@@ -38,7 +43,10 @@ class Module:
         self._takes_rows = options.get("input") != "drawn"
         self._tail = b""
         self._out = bytearray(HEADER.encode())
+        self._log = log
         self._known: Deque[Outcome] = collections.deque()
+        # (rows that the program may not have read yet: one of them is told where it is faulty)
+        self._unread: Deque[Handed] = collections.deque()
         self._settled: Optional[int] = None
         self._backlogs: List[Backlog] = []
         self._wear: Optional[Wear] = None
@@ -60,6 +68,8 @@ class Module:
         self._poll = selectors.DefaultSelector()
         self._poll.register(self._from, selectors.EVENT_READ)
         self._writing = self._ended = False
+        if log is not None:
+            log.write(HEADER)
 
     @property
     def shape(self) -> Optional[Shape]:
@@ -166,6 +176,7 @@ class Module:
             if self._ended:
                 raise self._fail()
             self._pump(wait=True)
+        self._unread.clear()
         self.tick = self._settled
         self._progress.clear()
 
@@ -173,9 +184,12 @@ class Module:
         if not self._takes_rows:
             raise ValueError("no more rows are taken")
         self._out += text.encode()
+        self._unread.append(Handed(self._rows + 1, self.tick, text))
 
     def _hand(self, tick: int, text: str) -> int:
         self._gather(text)
+        if self._log is not None:
+            self._log.write(text)
         self._rows += 1
         self.tick = tick
         if len(self._out) >= _GATHERED:
@@ -245,6 +259,12 @@ class Module:
             elif told is not None:
                 self._known.append(told)
                 self._answered += 1
+                self._is_read(told.row)
+
+    def _is_read(self, row: int) -> None:
+        """The program has read the rows up to this one."""
+        while self._unread and self._unread[0].number <= row:
+            self._unread.popleft()
 
     def _close_input(self) -> None:
         if self._writing:
@@ -261,4 +281,4 @@ class Module:
         self._progress.clear()
         status = self._reap()
         self._said.seek(0)
-        return error_of(status, self._said.read(), ["stream", *self._options])
+        return error_of(status, self._said.read(), ["stream", *self._options], handed=self._unread)

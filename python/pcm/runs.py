@@ -9,11 +9,12 @@ import itertools
 import os
 import re
 import sys
+import tempfile
 from dataclasses import dataclass, field
-from typing import BinaryIO, Dict, Iterator, List, NamedTuple, Optional, Tuple
+from typing import BinaryIO, Dict, Iterator, List, NamedTuple, Optional, Sequence, Tuple
 
 from .devices import Units
-from .errors import PcmError, ReadFault
+from .errors import PcmError, ReadFault, error_of
 from .image import Image, ImageError
 from .progress import Progress
 from .randomiser import Randomiser
@@ -239,6 +240,28 @@ def parted(table: Source) -> Tuple[Source, Source]:
 def joined(trace: Source, results: Source) -> bytes:
     """A trace with results behind it, as `pcm check` reads them."""
     return (trace.data if trace.data.endswith(b"\n") else trace.data + b"\n") + results.data
+
+
+def fault_of(status: int, said: bytes, words: Sequence[str], trace: Source, results: Source) -> PcmError:
+    """The exception for what the program said, by its words, of a trace with results behind it: `why` begins with the name of the one that the
+    fault is about, and has the line of that one."""
+    with tempfile.NamedTemporaryFile() as whole:
+        whole.write(joined(trace, results))
+        whole.flush()
+        wrong = error_of(status, said, words, whole.name)
+    if wrong.line == "trace too long":
+        return type(wrong)(wrong.status, wrong.line, f"{trace.name} with {results.name} behind it")
+    if not re.match("(trace|results) row ", wrong.line):
+        return wrong
+    above = joined(trace, results._replace(data=b"")).count(b"\n")
+    why = wrong.why or ""
+    at = re.match(r"(line |the results end with line )(\d+)", why)
+    # (a trace that has no results behind it goes on into what stands there)
+    if wrong.line.startswith("trace ") and not (at and int(at[2]) > above):
+        return type(wrong)(wrong.status, wrong.line, f"{trace.name}: {why}" if why else trace.name)
+    if at:
+        why = f"{at[1]}{int(at[2]) - above}{why[at.end():]}"
+    return type(wrong)(wrong.status, wrong.line, f"{results.name}: {why}" if why else results.name)
 
 
 def are_snapshots(source: Source) -> bool:

@@ -11,7 +11,7 @@ import difflib
 import os
 import re
 import sys
-from typing import Dict, List, NamedTuple, Optional, Sequence, Tuple
+from typing import Dict, Iterable, List, NamedTuple, Optional, Sequence, Tuple
 
 LATEST_TICK = 2**40
 
@@ -228,9 +228,25 @@ def _no_option(command: Command, word: str) -> str:
     return f"--{name} is no option of {command.name}{other}"
 
 
-def _bad_value(option: Option, text: str) -> str:
+# What takes a module, or a drawn trace, that is too large for these commands.
+_LARGER = {"run": "stream takes it", "gen": "stream --input drawn takes it", "map": "stream --print map takes it"}
+
+
+def _larger(command: Command, given: Dict[str, str]) -> str:
+    """Where a stream takes these values, that it does, else nothing."""
+    value = {name: given.get(name, it.default) for name, it in COMMANDS["stream"].options.items()}
+    is_taken = all(name in value and COMMANDS["stream"].options[name].takes(value[name]) for name in given)
+    if command.name not in _LARGER or not is_taken or _together(COMMANDS["stream"], given):
+        return ""
+    return f" ({_LARGER[command.name]})"
+
+
+def _bad_value(command: Command, option: Option, text: str) -> str:
     """What to say of a value that an option doesn't take."""
     said = f"--{option.name} {text}" if text else f"--{option.name} ''"
+    larger = _larger(command, {option.name: text}) if re.fullmatch(r"[0-9]{1,20}", text) else ""
+    if larger:
+        return f"{said}: it may be {option.range()}{larger}"
     if option.choices:
         others = [it.name for it in COMMANDS.values() if option.name in it.options and text in it.options[option.name].choices]
         return f"{said}: it may be {option.range()}" + (f" ({text} is for {either(others)})" if others else near(text, option.choices))
@@ -254,7 +270,8 @@ def _together(command: Command, given: Dict[str, str]) -> Optional[str]:
         banks, regions, lines = (int(value[name]) for name in _SIZES)
         most = (LARGE if streams else SMALL).all_lines
         if banks * regions * lines > most:
-            return f"banks x regions x lines are {banks * regions * lines}: a module of {command.name} has at most {most} lines"
+            told = f"banks x regions x lines are {banks * regions * lines}: a module of {command.name} has at most {most} lines"
+            return told + ("" if streams else _larger(command, {name: value[name] for name in _SIZES}))
     if "cuts" in value and int(value["cuts"]) > int(value["rows"]):
         return f"--cuts {value['cuts']} are more than --rows {value['rows']}"
     if streams and int(value["rows"]) * int(value["step"]) > LATEST_TICK:
@@ -289,7 +306,7 @@ def wrong_word(words: Sequence[str]) -> Optional[str]:
             text = words[at]
             at += 1
         if not command.options[name].takes(text):
-            return _bad_value(command.options[name], text)
+            return _bad_value(command, command.options[name], text)
         given[name] = text
     return _together(command, given)
 
@@ -362,9 +379,11 @@ def _wrong_row_before(text: str, number: int) -> str:
     return f"the third field of U must be the number of {known}, and is {_shown(text)}"
 
 
-def _wrong_field(record: List[str], last: Tuple[int, int], shape: Tuple[int, int, bool], number: int) -> Optional[Tuple[str, str]]:
-    """The kind of a row's first fault and what is wrong with its field, None where it has none; `last` is the tick and line before, `number`
-    the row's own, or that of the next one."""
+def _wrong_field(
+    record: Sequence[str], last: Tuple[int, Optional[int]], shape: Tuple[int, int, bool], number: int
+) -> Optional[Tuple[str, str]]:
+    """The kind of a row's first fault and what is wrong with its field, None where it has none; `last` is the tick before, and the line of its
+    row, where that stands in a file; `number` the row's own, or that of the next one."""
     lines, size, streams = shape
     if len(record) != 4:
         return "fields", f"it has {len(record)} field{'s' * (len(record) != 1)}, and must have four: {','.join(HEADER)}"
@@ -372,7 +391,8 @@ def _wrong_field(record: List[str], last: Tuple[int, int], shape: Tuple[int, int
     if not re.fullmatch(r"[0-9]{1,13}", tick) or int(tick) > LATEST_TICK:
         return "tick", f"the first field must be a tick, 0 to {LATEST_TICK} in digits, and is {_shown(tick)}"
     if int(tick) < last[0]:
-        return "order", f"its tick {int(tick)} is below {last[0]}, the tick of the row before (line {last[1]})"
+        told = "at which the module stands" if last[1] is None else f"the tick of the row before (line {last[1]})"
+        return "order", f"its tick {int(tick)} is below {last[0]}, {told}"
     ops = ["R", "W", "M", "C", *[*SETTLING] * streams]
     if op not in ops:
         why = f" ({op}, {SETTLING[op]}, is a stream's alone)" if op in SETTLING else ""
@@ -421,6 +441,29 @@ def _faulty_row(path: str, row: int, kind: str, words: Sequence[str]) -> Optiona
     if row == 0 and number == 0:
         return "the file is empty: a trace begins with " + ",".join(HEADER)
     return below[0] if len(below) == 1 else None
+
+
+class Handed(NamedTuple):
+    """A row that was handed to a module: its number, of one that settles that of the next one; the tick at which the module stood before;
+    and its text."""
+
+    number: int
+    before: int
+    text: str
+
+
+def wrong_handed(words: Sequence[str], line: str, rows: Iterable[Handed]) -> Optional[str]:
+    """What is wrong with one of these rows, by the words of the program that it was handed to, and that one's line of it."""
+    found = re.fullmatch(r"trace row (\d+): (\w+)", line)
+    for row in rows if found else ():
+        if row.number != int(found[1]):
+            continue
+        record = row.text.rstrip("\n").split(",")
+        told = _wrong_field(record, (row.before, None), _shape_of(words), row.number)
+        if told and told[0] == found[2]:
+            settles = SETTLING.get(record[1]) if len(record) == 4 else None
+            return (f"{settles} before row {row.number}" if settles else f"row {row.number}") + f": {told[1]}"
+    return None
 
 
 # The outcomes of each operation, and which of them have a place and bytes.

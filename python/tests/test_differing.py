@@ -9,7 +9,7 @@ import unittest
 HERE = pathlib.Path(__file__).resolve().parent
 sys.path[:0] = [str(HERE.parent), str(HERE)]
 from leaks import setUpModule, tearDownModule  # noqa: E402, F401
-from pcm import PcmError, differing, tables  # noqa: E402
+from pcm import PcmError, differing, runs, tables  # noqa: E402
 
 SMALL = {"banks": 1, "regions": 1, "lines": 4, "spares": 2}
 WORDS = [word for name, value in SMALL.items() for word in (f"--{name}", str(value))]
@@ -75,6 +75,30 @@ class Partings(Room):
         self.assertEqual(2, self.differ(RIGHT, RIGHT, "--banks", "5")[0])
         self.assertEqual(2, told(differing.main, "one.csv")[0])
         self.assertEqual(4, told(differing.main, "/nowhere/1", "/nowhere/2", "/nowhere/3")[0])
+
+
+    def test_each_fault_of_a_file_names_it(self):
+        late = f"tick,op,arg,data\n5,W,0,{ONES}\n\n4,R,0,\n100,R,0,\n"
+        at = "the fourth field of R may be read, forwarded, busy or lost"
+        for trace, one, other, wrong, line, kind in (
+            (late, RIGHT, RIGHT, 0, "line 4: its tick 4 is below 5, the tick of the row before (line 2)", "trace row 2: order"),
+            (TRACE[:-1], RIGHT, RIGHT.replace("read", "red"), 2, f"line 4: {at} (did you mean read?)", "results row 3"),
+            (TRACE, RIGHT.replace("forwarded", "stored"), RIGHT, 1, f"line 3: {at} (stored is of W)", "results row 2"),
+            (TRACE, RIGHT, RIGHT[:-RIGHT.count(ONES)], 2, "line 4: ", "results row 3"),
+            (TRACE, RIGHT.partition("2,R")[0], RIGHT, 1, "the results end with line 2: a row of the trace lacks its own", "results row 2"),
+            (TRACE, RIGHT, RIGHT.replace("\n", "\r\n"), 2, "line 1: it has 7 fields", "trace row 4: fields"),
+            (TRACE, RIGHT, "row\n", 2, f"its first line must be {HEADER[:-1]}", None),
+        ):
+            files = [self.file(name, text) for name, text in (("trace.csv", trace), ("one.csv", one), ("other.csv", other))]
+            status, out, err = told(differing.main, *files, *WORDS)
+            self.assertEqual((3, ""), (status, out))
+            self.assertTrue(err.startswith(f"differ: {files[wrong]}: {line}"), err)
+            self.assertTrue(err.endswith(f" ({kind})\n" if kind else f"{line}\n"), err)
+
+    def test_a_fault_of_both_files_names_both(self):
+        wrong = runs.fault_of(6, b"trace too long\n", ["check"], source_of("trace", TRACE), source_of("results", RIGHT))
+        self.assertEqual("trace with results behind it (trace too long)", str(wrong))
+        self.assertIsNone(runs.fault_of(7, b"out of memory\n", ["check"], source_of("trace", TRACE), source_of("results", RIGHT)).why)
 
 
 class Ends(unittest.TestCase):

@@ -30,7 +30,7 @@ STANDIN = """import pathlib, sys
 table = sys.stdin.read()
 if sys.argv[2] != "explain": sys.exit("not asked for")
 if "--banks 5" in " ".join(sys.argv): sys.stderr.write("usage: pcm explain [options]\\n"); sys.exit(2)
-if "row,op" not in table: sys.stderr.write("results row 0: header\\n"); sys.exit(3)
+if "row,op" not in table: sys.stderr.write("results row 0\\n"); sys.exit(3)
 for file in pathlib.Path(sys.argv[1]).glob("*.csv"):
     if file.read_text() == table: print(file.with_suffix(".txt").read_text(), end=""); sys.exit(1)
 print("ok")
@@ -341,6 +341,13 @@ class Command(Room):
         one = ALL["room"]
         self.assertEqual((1, one.text, ""), self.told(*self.parts(one), "--lines=8"))
         self.assertEqual((1, one.text, ""), self.told("-", given=one.table.encode()))
+
+    def test_of_two_files_the_faulty_one_is_named(self):
+        trace = self.parts(ALL["room"])[0]
+        other = self.room / "other"
+        other.write_text("row\n", encoding="ascii")
+        said = f"explain: {other}: no line is exactly {RESULTS.strip()} (results row 0)\n"
+        self.assertEqual((3, "", said), self.told(trace, str(other)))
 
     def test_no_picture_where_the_results_are_right(self):
         right = self.room / "right"

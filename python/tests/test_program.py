@@ -131,6 +131,55 @@ class Faults(Rooms):
         self.assertEqual((2, "order"), (wrong.exception.row, wrong.exception.kind))
         self.assertRegex(str(wrong.exception), r"^line 4: .*\(trace row 2: order\)$")
 
+    def test_a_faulty_row_of_a_module_is_told(self):
+        def far(module):
+            module.write(3, 0, ONES)
+            module.read(3, 512)
+
+        def late(module):
+            module.settle_until(module.write(0, 0, ONES), 1000)
+            module.read(module.tick, 0)
+            module.cut(module.tick - 3)
+
+        def among_many(module):
+            for tick in range(3000):
+                module.read(tick, tick % 512)
+            list(module.outcomes())
+            module.write(3000, 5, ONES[:-1])
+            for tick in range(3000, 6000):
+                module.read(tick, tick % 512)
+
+        for hand_in, row, kind, why in (
+            (far, 2, "line", "row 2: the third field must be a line, 0 to 511 (banks x regions x lines are 512) in at most 5 digits, and is '512'"),
+            (late, 3, "order", "row 3: its tick 12 is below 15, at which the module stands"),
+            (among_many, 3001, "payload", "row 3001: the fourth field must have 128 hexadecimal digits, for lines of 64 bytes, and has 126"),
+            (lambda module: module.write_masked(0, 0, [None] * 64), 1, "payload", "row 1: the fourth field of M gives no byte"),
+            (lambda module: module.settle_until(2, 5), 1, "line",
+             "a settle until before row 1: the third field of U must be the number of a row that came before, and none did, and is '2'"),
+            (lambda module: module.banks(2**40 + 1), 1, "tick",
+             "a query before row 1: the first field must be a tick, 0 to 1099511627776 in digits, and is '1099511627777'"),
+        ):
+            with self.assertRaises(pcm.TraceError) as wrong, pcm.Module() as module:
+                hand_in(module)
+                module.finish()
+            self.assertEqual((row, kind, why), (wrong.exception.row, wrong.exception.kind, wrong.exception.why))
+            self.assertEqual(f"{why} (trace row {row}: {kind})", str(wrong.exception))
+
+    def test_a_log_plays_the_same_again(self):
+        log = io.StringIO()
+        with pcm.Module(log=log, misses=3) as module:
+            module.write(0, 0, ONES)
+            told = module.settle(5)
+            module.cut(7)
+            module.write_masked(9, 0, [None, 5] + [None] * 62)
+            module.banks(9)
+            module.wear()
+            told += module.settle_until(module.read(30, 0), 1000)
+            told += module.finish()
+        rows = list(pcm.read_trace(io.StringIO(log.getvalue(), newline="")))
+        self.assertEqual([pcm.Write, pcm.PowerCut, pcm.MaskedWrite, pcm.Read], [type(it) for it in rows])
+        self.assertEqual([it.outcome for it in pcm.run(rows, misses=3).rows], sorted(told, key=lambda it: it.row))
+
     def test_traces_are_taken_as_the_program_takes_them(self):
         path = self.room / "trace.csv"
         path.write_bytes(b'\xef\xbb\xbf"tick",op,arg,data\r\n\r\n0,"W",0,' + b"ff" * 64 + b'\n"9",R,"0",\n\n')
@@ -213,7 +262,7 @@ class Open(unittest.TestCase):
         done = subprocess.run([sys.executable, "-X", "dev", "-W", "error", "-c", LEAKS], env=around(), capture_output=True, text=True, check=True)
         before, behind, faults = done.stdout.split(maxsplit=2)
         self.assertEqual(("", before), (done.stderr, behind))
-        self.assertRegex(faults, r"^{'trace row 2: \w+'}\n$")
+        self.assertEqual("{'a settle before row 2: its tick 3 is below 5, at which the module stands (trace row 2: order)'}\n", faults)
 
 
 if __name__ == "__main__":
