@@ -3,6 +3,5 @@ mod Steady
 mod Regions
 mod Listing
 mod Lines
-mod Entries
 mod Cells
 pub mod Whole

@@ -2,12 +2,12 @@
 use Rattle.std.proofs.Common.{◌≡◌, ℕ, zero, suc, ◌+◌, ◌/◌, ◌≤◌, Bool, cond, ltb, nat_le, nat_lt, List, [], ◌∷◌, length, take, drop, Ok, sym, ap, ◌∙◌, arith}
 use Rattle.std.{specs.Int.{Width, w16, w32, w64, byte_len, from_le_bytes}, specs.Str.bytes_eq, proofs.lemmas.Bool.ltb-false, proofs.lemmas.List.length-drop}
 use Rattle.module_shape.specs.Limits.{is_power_between, large_limits}
-use Rattle.pcm_image.specs.Reading.{Cursor, Got, fault, field, first_byte, any, byte_at, number_at, times, is_size_of, entry_at, is_given, given_from}
+use Rattle.pcm_image.specs.Reading.{Cursor, Got, fault, field, first_byte, any, byte_at, number_at, times, is_size_of, size_at, entry_at, is_given, given_from}
 use Rattle.pcm_image.specs.{Saved.{Head, SavedBank, is_lines_in, lines_in, slots_in}, declared.EntryImage.EntryImage, declared.ImageKind.ImageKind}
 use Rattle.pcm_image.{specs.declared.ImageKind.TheVariants.Short, specs.declared.RegionImage.RegionImage, proofs.Pairs.{bound, failed_not, passed, ok_is}}
 use Rattle.pcm_image.specs.declared.ImageKind.TheVariants as kind
 use Rattle.large_image.specs.Spelling.{magic}
-use Rattle.large_reader.specs.{Giving.end_of, Reading.{size_at, head_at, region_at, bank_at}}
+use Rattle.large_reader.specs.{Giving.end_of, Reading.{head_at, region_at, bank_at}}
 
 abbrev pub IsSteady : {T : Type 0} → (Cursor → Got T) → Type 0
 IsSteady {T} one = (c : Cursor) (x : T × Cursor) → one c ≡ Ok x → end_of x.1 ≡ end_of c
@@ -33,7 +33,7 @@ times_steady {T} one h (suc n) c x e =
     bound _ _ x _ e (λ x0 e0 n0. bound _ _ x _ n0 (λ x1 e1 n1.
     ap (λ (y : List T × Cursor). end_of y.1) (sym (ok_is (x0.0 ∷ x1.0, x1.1) x n1)) ∙ times_steady one h n x0.1 x1 e1 ∙ h c x0 e0))
 
-size_steady : (test : ℕ → Bool) → IsSteady (size_at test)
+size_steady : (test : ℕ → Bool) → IsSteady (size_at magic test)
 unfolding size_at
 size_steady test c x e = bound _ _ x _ e (λ x0 e0 n0. byte_steady kind.Size test x0.1 x n0 ∙ field_steady 8 kind.Magic (λ bytes. bytes_eq bytes magic) any c x0 e0)
 

@@ -1,19 +1,20 @@
 -- The two laws: what is read is saved so, and what is saved so is read.
-use Rattle.std.proofs.Common.{◌≡◌, ℕ, ◌*◌, ◌%◌, ◌^◌, ◌<◌, ◌≤◌, Bool, true, ◌==◌, eqb, nat_le, nat_lt, List, [], ◌++◌, length, Result, Ok, Err, refl, sym, ap, subst, ◌∙◌, append_assoc, arith}
-use Rattle.std.{specs.Int.{w16, w32, w64}, specs.List.{flat_map, AllByRecursion}, specs.Prelude.{IfOk, OnOk, IsTrue}, specs.Str.bytes_eq, proofs.lemmas.Bool.{eqb-true, and_from}}
-use Rattle.std.proofs.{lemmas.Bool.Decides.nat_tests, lemmas.List.{append-nil, nil_from_length}, lemmas.List.Elements.All-from_recursion, lemmas.Slice.Eq.bytes_eq-Decides}
+use Rattle.std.proofs.Common.{◌≡◌, ℕ, ◌*◌, ◌%◌, ◌^◌, ◌<◌, ◌≤◌, true, ◌==◌, eqb, nat_le, nat_lt, List, [], ◌++◌, length, Result, Ok, Err, refl, sym, ap, subst, ◌∙◌, append_assoc, arith}
+use Rattle.std.{specs.Int.{w16, w32, w64}, specs.List.{flat_map, AllByRecursion}, specs.Prelude.{IfOk, OnOk, IsTrue}, proofs.lemmas.Bool.{eqb-true, and_from}}
+use Rattle.std.proofs.{lemmas.Bool.Decides.nat_tests, lemmas.List.{append-nil, nil_from_length}, lemmas.List.Elements.All-from_recursion}
 use Rattle.masked_bytes.proofs.Truth.{and_first, and_second}
 use Rattle.module_shape.specs.Limits.{is_power_between, large_limits}
-use Rattle.pcm_image.specs.{Giving.Gives, Reading.{Cursor, field, any, byte_at, number_at, times, is_size, is_size_of, entry_at}}
+use Rattle.pcm_image.specs.{Giving.Gives, Reading.{Cursor, any, byte_at, number_at, times, is_size, is_size_of, size_at, size_behind, entry_at}}
 use Rattle.pcm_image.specs.Saved.{Saved, SavedBank, Head, IsHeadIn, IsSavedIn, IsSavedBank, IsSavedEntry, IsSavedRegion, IsSavedRow, slots_in, array_lines_in, is_lines_in}
 use Rattle.pcm_image.specs.{Spelling.{u8, u16, u32, u64, entry_bytes}, declared.EntryImage.EntryImage, declared.RegionImage.RegionImage, declared.fields.ReadImage.ReadImage}
+use Rattle.pcm_image.proofs.Entries.{le_true, true_le, lt_true, true_lt, all_map, EntryFits, entry_pair, entry_saved, IsSlot, slot_pair, counted, size_takes, size_again, seven}
 use Rattle.pcm_image.proofs.Loop.{gives_on}
-use Rattle.pcm_image.proofs.Pairs.{IsBytes, bind_ok, bound, ok_is, passed, Takes, Takes-then, IsPair, IsField, field_pair, Passes, number_pair, byte_pair, wide16, wide32, wide64}
-use Rattle.pcm_image.proofs.{Pairs.{times_takes, times_again}, Whole.all_to}
+use Rattle.pcm_image.proofs.Pairs.{IsBytes, bound, ok_is, passed, Takes, Takes-then, IsPair, Passes, number_pair, byte_pair, wide16, wide32, wide64, times_takes, times_again}
+use Rattle.pcm_image.proofs.Whole.{all_to}
 use Rattle.pcm_image.specs.declared.ImageKind.TheVariants as kind
 use Rattle.large_image.specs.Spelling.{magic, head_bytes, region_bytes, bank_bytes, rows_bytes, end_mark, large_front, large_bytes}
-use Rattle.large_reader.{specs.Reading.{size_at, size_of, head_at, region_at, bank_at, rows_at, large_of}, proofs.Cells.{RowFits, AreTaken, rows_takes, rows_again}}
-use Rattle.large_reader.proofs.{Entries.{le_true, true_le, lt_true, true_lt, all_map, EntryFits, entry_pair, entry_saved}, Heads.{HeadFits, head-fits, slots-few, array_lines-few}}
+use Rattle.large_reader.{specs.Reading.{size_of, head_at, region_at, bank_at, rows_at, large_of}, proofs.Cells.{RowFits, AreTaken, rows_takes, rows_again}}
+use Rattle.large_reader.proofs.Heads.{HeadFits, head-fits, slots-few, array_lines-few}
 
 -- ---- a region
 
@@ -48,12 +49,6 @@ region_pair h = record { takes = region_takes h; again = region_again h }
 
 -- ---- a bank
 
-abbrev IsSlot : Head → ℕ → Type 0
-IsSlot h slot = Passes (2 ^ 32) (λ n. nat_lt n (slots_in h)) slot
-
-slot_pair : (h : Head) → IsPair (number_at w32 kind.Bank (λ n. nat_lt n (slots_in h))) u32 (IsSlot h)
-slot_pair h = number_pair w32 (2 ^ 32) kind.Bank (λ n. nat_lt n (slots_in h)) wide32
-
 record BankFits (B : ℕ) (h : Head) (b : SavedBank B) : Type 0 where
   pub mark : Passes 256 (λ n. nat_lt n 2) b.mark
   pub used : Passes (2 ^ 16) (λ n. nat_le n h.spares) (length b.replaced)
@@ -62,11 +57,6 @@ record BankFits (B : ℕ) (h : Head) (b : SavedBank B) : Type 0 where
   pub regions : AllByRecursion (RegionFits h) b.regions
   pub few : Passes (2 ^ 16) (λ n. nat_le n 256) (length b.entries)
   pub entries : AllByRecursion (EntryFits B h) b.entries
-
--- a number that was read is how many there are
-counted : (test : ℕ → Bool) (before after : Cursor) (n size : ℕ) → size ≡ n → Takes before (u16 n) after × Passes (2 ^ 16) test n
-    → Takes before (u16 size) after × Passes (2 ^ 16) test size
-counted test before after n size is t = subst (λ (k : ℕ). Takes before (u16 k) after × Passes (2 ^ 16) test k) (sym is) t
 
 -- the fields of a bank that were read, one behind another
 bank_joined : (B : ℕ) (h : Head) (b : SavedBank B) (used count : ℕ) (c c0 c1 c2 c3 c4 c5 : Cursor)
@@ -142,42 +132,6 @@ bank_pair B whole h = record { takes = bank_takes B whole h; again = bank_again 
 
 -- ---- the head
 
-magic-is : (bytes : List ℕ) → bytes_eq bytes magic ≡ true → magic ≡ bytes
-magic-is bytes h = sym ((bytes_eq-Decides bytes magic).0 h)
-
-size_takes : (test : ℕ → Bool) (c : Cursor) (x : ℕ × Cursor) → IsBytes c.left → size_at test c ≡ Ok x → Takes c (magic ++ u8 x.0) x.1 × Passes 256 test x.0
-unfolding size_at
-size_takes test c x small e =
-    let m = field_pair 8 kind.Magic (λ bytes. bytes_eq bytes magic) any (λ x. magic) (λ x. x ≡ true) magic_field in
-    let a = bind_ok (field 8 kind.Magic (λ bytes. bytes_eq bytes magic) any c) (λ m. byte_at kind.Size test m.1) x e in
-    let t0 = m.takes c a.0 small a.1 in
-    let t1 = (byte_pair kind.Size test).takes a.0.1 x t0.0.rest_fits a.2 in
-    (Takes-then c magic a.0.1 (u8 x.0) x.1 t0.0 t1.0, t1.1)
-  where
-    magic_field : IsField 8 (λ bytes. bytes_eq bytes magic) any (λ x. magic) (λ x. x ≡ true)
-    magic_field = record { back = λ bytes len small is. (magic-is bytes is, refl); len = λ x fit. refl; passes = λ x fit. refl; same = λ x fit. sym fit }
-
-size_again : (test : ℕ → Bool) (n : ℕ) (c : Cursor) (rest : List ℕ) → Passes 256 test n → c.left ≡ magic ++ (u8 n ++ rest) → (after : Cursor) × (size_at test c ≡ Ok (n, after)) × (after.left ≡ rest)
-unfolding size_at
-size_again test n c rest fit e =
-    let m = field_pair 8 kind.Magic (λ bytes. bytes_eq bytes magic) any (λ x. magic) (λ x. x ≡ true) magic_field in
-    let a = m.again true c (u8 n ++ rest) refl e in
-    let b = (byte_pair kind.Size test).again n a.0 rest fit a.2 in
-    (b.0, rw (a.1, b.1) refl, b.2)
-  where
-    magic_field : IsField 8 (λ bytes. bytes_eq bytes magic) any (λ x. magic) (λ x. x ≡ true)
-    magic_field = record { back = λ bytes len small is. (magic-is bytes is, refl); len = λ x fit. refl; passes = λ x fit. refl; same = λ x fit. sym fit }
-
-seven : (c c0 c1 c2 c3 c4 c5 c6 : Cursor) (x0 x1 x2 x3 x4 x5 x6 : List ℕ) → Takes c x0 c0 → Takes c0 x1 c1 → Takes c1 x2 c2 → Takes c2 x3 c3 → Takes c3 x4 c4 → Takes c4 x5 c5 → Takes c5 x6 c6
-    → Takes c (x0 ++ (x1 ++ (x2 ++ (x3 ++ (x4 ++ (x5 ++ x6)))))) c6
-seven c c0 c1 c2 c3 c4 c5 c6 x0 x1 x2 x3 x4 x5 x6 t0 t1 t2 t3 t4 t5 t6 =
-    Takes-then c x0 c0 (x1 ++ (x2 ++ (x3 ++ (x4 ++ (x5 ++ x6))))) c6 t0
-    (Takes-then c0 x1 c1 (x2 ++ (x3 ++ (x4 ++ (x5 ++ x6)))) c6 t1
-    (Takes-then c1 x2 c2 (x3 ++ (x4 ++ (x5 ++ x6))) c6 t2
-    (Takes-then c2 x3 c3 (x4 ++ (x5 ++ x6)) c6 t3
-    (Takes-then c3 x4 c4 (x5 ++ x6) c6 t4
-    (Takes-then c4 x5 c5 x6 c6 t5 t6)))))
-
 -- the fields of a head, one behind another
 head_joined : (B : ℕ) (h : Head) (size : ℕ) (c c0 c1 c2 c3 c4 c5 c6 : Cursor)
     → Takes c (magic ++ u8 size) c0 × Passes 256 (is_size_of B) size
@@ -200,7 +154,7 @@ head_takes : (B : ℕ) (c : Cursor) (x : Head × Cursor) → IsBytes c.left → 
 unfolding head_at
 head_takes B c x small e =
     bound _ _ x _ e (λ x0 e0 n0. bound _ _ x _ n0 (λ x1 e1 n1. bound _ _ x _ n1 (λ x2 e2 n2. bound _ _ x _ n2 (λ x3 e3 n3. bound _ _ x _ n3 (λ x4 e4 n4. bound _ _ x _ n4 (λ x5 e5 n5. bound _ _ x _ n5 (λ x6 e6 n6.
-    let t0 = size_takes (is_size_of B) c x0 small e0 in
+    let t0 = size_takes magic refl (is_size_of B) c x0 small e0 in
     let t1 = (byte_pair kind.Shape (is_power_between 1 64)).takes x0.1 x1 t0.0.rest_fits e1 in
     let t2 = (byte_pair kind.Shape (is_power_between 1 64)).takes x1.1 x2 t1.0.rest_fits e2 in
     let t3 = (number_pair w32 (2 ^ 32) kind.Shape (is_lines_in large_limits x1.0 x2.0) wide32).takes x2.1 x3 t2.0.rest_fits e3 in
@@ -211,7 +165,7 @@ head_takes B c x small e =
     (ok_is (record { banks = x1.0; regions = x2.0; lines = x3.0; spares = x4.0; seed = x5.0; home = x6.0 }, x6.1) x n6)
     (head_joined B (record { banks = x1.0; regions = x2.0; lines = x3.0; spares = x4.0; seed = x5.0; home = x6.0 }) x0.0 c x0.1 x1.1 x2.1 x3.1 x4.1 x5.1 x6.1 t0 t1 t2 t3 t4 t5 t6))))))))
 
-head_read : (B : ℕ) (h : Head) (c c0 c1 c2 c3 c4 c5 c6 : Cursor) → size_at (is_size_of B) c ≡ Ok (B, c0)
+head_read : (B : ℕ) (h : Head) (c c0 c1 c2 c3 c4 c5 c6 : Cursor) → size_at magic (is_size_of B) c ≡ Ok (B, c0)
     → byte_at kind.Shape (is_power_between 1 64) c0 ≡ Ok (h.banks, c1)
     → byte_at kind.Shape (is_power_between 1 64) c1 ≡ Ok (h.regions, c2)
     → number_at w32 kind.Shape (is_lines_in large_limits h.banks h.regions) c2 ≡ Ok (h.lines, c3)
@@ -231,7 +185,7 @@ head_again B few sized h c rest is e =
     let p4 = number_pair w16 (2 ^ 16) kind.Shape (λ n. nat_le n 1024) wide16 in
     let p5 = number_pair w64 (2 ^ 64) kind.Shape any wide64 in
     let p6 = byte_pair kind.Shape (λ n. nat_lt n 2) in
-    let a0 = size_again (is_size_of B) B c (u8 h.banks ++ (u8 h.regions ++ (u32 h.lines ++ (u16 h.spares ++ (u64 h.seed ++ (u8 h.home ++ rest)))))) (omega (arith, few), and_from (is_size B) (B == B) sized (same B)) e in
+    let a0 = size_again magic refl (is_size_of B) B c (u8 h.banks ++ (u8 h.regions ++ (u32 h.lines ++ (u16 h.spares ++ (u64 h.seed ++ (u8 h.home ++ rest)))))) (omega (arith, few), and_from (is_size B) (B == B) sized (same B)) e in
     let a1 = p1.again h.banks a0.0 (u8 h.regions ++ (u32 h.lines ++ (u16 h.spares ++ (u64 h.seed ++ (u8 h.home ++ rest))))) (omega (arith, fit.banks), is.banks) a0.2 in
     let a2 = p1.again h.regions a1.0 (u32 h.lines ++ (u16 h.spares ++ (u64 h.seed ++ (u8 h.home ++ rest)))) (omega (arith, fit.regions), is.regions) a1.2 in
     let a3 = p3.again h.lines a2.0 (u16 h.spares ++ (u64 h.seed ++ (u8 h.home ++ rest))) (omega (arith, fit.lines), is.lines) a2.2 in
@@ -351,10 +305,10 @@ is_sized bytes (Err e) whole small given = tt
 
 -- the first two fields of what is saved
 pub size-is : (B M : ℕ) (s : Saved B M) → is_size B ≡ true → B < 256 → size_of (large_bytes s) ≡ Ok B
-unfolding size_of large_front large_bytes
+unfolding size_behind large_front large_bytes
 size-is B M s is lt =
     let h = s.head in
     let rest = flat_map bank_bytes s.parts ++ rows_bytes 0 s.cells in
     let numbers = u8 h.banks ++ (u8 h.regions ++ (u32 h.lines ++ (u16 h.spares ++ (u64 h.seed ++ u8 h.home)))) in
-    let a = size_again is_size B (record { at = 0; left = large_bytes s }) ((numbers ++ rest) ++ u32 end_mark) (lt, is) refl in
+    let a = size_again magic refl is_size B (record { at = 0; left = large_bytes s }) ((numbers ++ rest) ++ u32 end_mark) (lt, is) refl in
     rw a.1 refl

@@ -1,21 +1,15 @@
 -- The image of a large module read from left to right, field by field, up to the first that fails.
-use Rattle.std.specs.{Int.{w16, w32, w64}, Prelude.{ℕ, zero, suc, ◌+◌, ◌*◌, ◌==◌, nat_lt, nat_le, Bool, not, if◌then◌else◌, List, [], ◌∷◌, length, Result, Ok}, Str.bytes_eq}
+use Rattle.std.specs.{Int.{w16, w32, w64}, Prelude.{ℕ, zero, suc, ◌+◌, ◌*◌, ◌==◌, nat_lt, nat_le, not, if◌then◌else◌, List, [], ◌∷◌, length, Result, Ok}}
 use Rattle.cell_rows.specs.{Rows.zero_row, declared.row.Cells.Cells}
 use Rattle.module_shape.specs.Limits.{is_power_between, large_limits}
-use Rattle.pcm_image.specs.Reading.{Cursor, Got, fault, ◌>>=◌, field, byte_at, number_at, any, times, is_size, is_size_of, entry_at, row_of, only_size}
+use Rattle.pcm_image.specs.Reading.{Cursor, Got, fault, ◌>>=◌, field, byte_at, number_at, any, times, is_size_of, size_at, size_behind, entry_at, row_of}
 use Rattle.pcm_image.specs.{Saved.{Saved, SavedBank, Head, array_lines_in, is_lines_in, slots_in}, declared.ImageFault.ImageFault}
-use Rattle.pcm_image.specs.{declared.ImageKind.TheVariants.{Magic, Size, Shape, Bank, Line, Extra}, declared.RegionImage.RegionImage}
+use Rattle.pcm_image.specs.{declared.ImageKind.TheVariants.{Shape, Bank, Line, Extra}, declared.RegionImage.RegionImage}
 use Rattle.large_image.specs.Spelling.{magic, are_zero, end_mark}
-
--- the first two fields; the size of a line passes a test
-unfoldable pub size_at : (ℕ → Bool) → Cursor → Got ℕ
-size_at test c = do
-  m ← field 8 Magic (λ bytes. bytes_eq bytes magic) any c
-  byte_at Size test m.1
 
 unfoldable pub head_at : ℕ → Cursor → Got Head
 head_at B c = do
-  size ← size_at (is_size_of B) c
+  size ← size_at magic (is_size_of B) c
   banks ← byte_at Shape (is_power_between 1 large_limits.banks) size.1
   regions ← byte_at Shape (is_power_between 1 large_limits.regions) banks.1
   lines ← number_at w32 Shape (is_lines_in large_limits banks.0 regions.0) regions.1
@@ -71,5 +65,5 @@ large_of B M bytes = do
   if length cells.1.left == 0 then Ok (record { head = head.0; parts = parts.0; cells = cells.0 }) else fault cells.1 Extra
 
 -- the size of a line, by the first nine bytes
-unfoldable pub size_of : List ℕ → Result ℕ ImageFault
-size_of bytes = size_at is_size (record { at = 0; left = bytes }) >>= only_size
+abbrev pub size_of : List ℕ → Result ℕ ImageFault
+size_of = size_behind magic

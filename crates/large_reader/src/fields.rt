@@ -4,13 +4,13 @@ ghost use Rattle.std.specs.Int.{w16, w32};
 ghost use Rattle.module_shape.specs.Limits.{is_power_between, large_limits};
 ghost use Rattle.pcm_image.specs.declared.ImageKind.TheVariants as kind;
 ghost use Rattle.pcm_image.specs.Saved.{IsHeadIn, is_lines_in};
-ghost use Rattle.pcm_image.specs.Reading.{byte_at, number_at, is_size_of};
+ghost use Rattle.pcm_image.specs.Reading.{byte_at, number_at};
 ghost use Rattle.pcm_image.specs.Giving.{Gives, cursor};
 ghost use Rattle.large_image.specs.Views.{head_view};
-ghost use Rattle.large_reader.specs.Reading.{size_at, head_at};
+ghost use Rattle.large_reader.specs.Reading.{head_at};
 
 use large_image::LargeHead;
-use pcm_image::fields::{Fields, bad, u8_at, u16_at, u32_at, u64_at};
+use pcm_image::fields::{Fields, bad, home_at, size_is, u8_at, u16_at, u32_at, u64_at};
 use pcm_image::{ImageKind, ReadImage};
 
 // Whether a number is a power of two between two others.
@@ -76,47 +76,6 @@ fn spares_at<'a>(fields: Fields<'a>) -> Result<(u16, Fields<'a>), ReadImage>
     Ok((number, rest))
 }
 
-// Where the registers are kept.
-fn home_at<'a>(fields: Fields<'a>) -> Result<(u8, Fields<'a>), ReadImage>
-    requires { fields.at < 2 ^ 31 }
-    ensures gives { Gives (λ x. (x.0, cursor x.1)) result
-        (byte_at kind.Shape (λ n. nat_lt n 2) (cursor fields.entry)) }
-    ensures at { IfOk result (λ x. x.1.at ≡ fields.entry.at + 1) }
-    ensures few { IfOk result (λ x. x.0 < 2) }
-{
-    let (number, rest) = u8_at(fields)?;
-    if number > 1 {
-        return Err(bad(&fields, ImageKind::Shape));
-    }
-    Ok((number, rest))
-}
-
-// The first two fields: an image's first eight bytes, and the size of its lines, which is 64 or 128 and the one that is asked for.
-#[tactic(auto, unfolding(crate::specs::Reading::size_at))]
-fn size_is<'a>(fields: Fields<'a>, size: usize) -> Result<(u8, Fields<'a>), ReadImage>
-    requires { fields.at < 2 ^ 31 - 8 }
-    ensures gives { Gives (λ x. (x.0, cursor x.1)) result
-        (size_at (is_size_of size) (cursor fields.entry)) }
-    ensures at { IfOk result (λ x. x.1.at ≡ fields.entry.at + 9) }
-{
-    if fields.left.len() < 8 {
-        return Err(bad(&fields, ImageKind::Short));
-    }
-    let (front, left) = fields.left.split_at(8);
-    if front != b"PCMIMG02".as_slice() {
-        return Err(bad(&fields, ImageKind::Magic));
-    }
-    let behind = Fields {
-        at: fields.at + 8,
-        left,
-    };
-    let (number, rest) = u8_at(behind)?;
-    if !matches!(number, 64 | 128) || number as usize != size {
-        return Err(bad(&behind, ImageKind::Size));
-    }
-    Ok((number, rest))
-}
-
 /// The numbers at the beginning of an image, over lines of so many bytes.
 #[tactic(auto, unfolding(crate::specs::Reading::head_at))]
 pub(crate) fn head<'a>(
@@ -129,7 +88,7 @@ pub(crate) fn head<'a>(
     ensures at { IfOk result (λ x. x.1.at ≡ 26) }
     ensures within { IfOk result (λ x. IsHeadIn large_limits (head_view x.0)) }
 {
-    let (_, rest) = size_is(fields, size)?;
+    let (_, rest) = size_is(fields, b"PCMIMG02", size)?;
     let (banks, rest) = few_at(rest)?;
     let (regions, rest) = few_at(rest)?;
     let (lines, rest) = lines_at(rest, banks, regions)?;

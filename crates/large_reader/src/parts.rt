@@ -16,7 +16,7 @@ use crate::rows::rows_of;
 use large_image::{LargeHead, LargeRegion};
 use pcm_image::fields::{Fields, bad, u32_at};
 use pcm_image::parts::{bytes_at, counter_at, entry_line, given_at, mark_at, slots_of, up_to};
-use pcm_image::{EntryImage, ImageFault, ImageKind, ReadImage};
+use pcm_image::{EntryImage, ImageFault, ImageKind, ReadImage, size_behind};
 use std::alloc::Global;
 
 // The register Start of a region of so many lines.
@@ -268,33 +268,8 @@ pub fn read_large<const B: usize, const M: usize>(
 }
 
 /// The size of a line, 64 or 128, by the first nine bytes.
-#[tactic(auto, unfolding(crate::specs::Reading::size_of, crate::specs::Reading::size_at))]
 pub fn size_of_large(bytes: &[u8]) -> Result<u8, ImageFault>
     ensures { MatchResult result (λ n. size_of bytes.now ≡ Ok n) (λ f. size_of bytes.now ≡ Err f) }
 {
-    if bytes.len() < 8 {
-        return Err(ImageFault {
-            at: 0,
-            kind: ImageKind::Short,
-        });
-    }
-    let (front, left) = bytes.split_at(8);
-    if front != b"PCMIMG02".as_slice() {
-        return Err(ImageFault {
-            at: 0,
-            kind: ImageKind::Magic,
-        });
-    }
-    match left {
-        [] => Err(ImageFault {
-            at: 8,
-            kind: ImageKind::Short,
-        }),
-        [64, ..] => Ok(64),
-        [128, ..] => Ok(128),
-        [_, ..] => Err(ImageFault {
-            at: 8,
-            kind: ImageKind::Size,
-        }),
-    }
+    size_behind(b"PCMIMG02", bytes)
 }

@@ -3,5 +3,6 @@ pub mod Pairs
 pub mod Bits
 pub mod Heads
 pub mod Steps
+pub mod Entries
 pub mod Whole
 pub mod Laying

@@ -1,34 +1,22 @@
 -- The two laws: what is read is saved so, and what is saved so is read.
-use Rattle.std.proofs.Common.{◌≡◌, ℕ, suc, ◌+◌, ◌*◌, ◌/◌, ◌%◌, ◌^◌, ◌<◌, ◌≤◌, Bool, true, ◌==◌, eqb, nat_le, nat_lt, List, [], ◌∷◌, ◌++◌, length, get_or, Result, Ok, Err, All, refl, sym, ap, subst, ◌∙◌, append_assoc, arith}
-use Rattle.std.{specs.Int.{w16, w32, w64}, specs.List.{flat_map, AllByRecursion}, specs.Prelude.{IfOk, OnOk, IsTrue}, specs.Str.bytes_eq, proofs.lemmas.Bool.{eqb-true, and_from}}
+use Rattle.std.proofs.Common.{◌≡◌, ℕ, suc, ◌+◌, ◌*◌, ◌%◌, ◌^◌, ◌<◌, ◌≤◌, true, ◌==◌, eqb, nat_le, nat_lt, List, [], ◌∷◌, ◌++◌, length, get_or, Result, Ok, Err, All, refl, sym, ap, subst, ◌∙◌, append_assoc, arith}
+use Rattle.std.{specs.Int.{w16, w32, w64}, specs.List.{flat_map, AllByRecursion}, specs.Prelude.{IfOk, OnOk, IsTrue}, proofs.lemmas.Bool.{eqb-true, and_from}}
 use Rattle.std.proofs.{lemmas.Bool.Decides.nat_tests, lemmas.List.{append-nil, nil_from_length, length-append, length-take, length-drop, take_at, drop_at, take-append-drop}}
-use Rattle.std.proofs.{lemmas.List.Elements.{All-from_recursion, All-get_or}, lemmas.Nat.mul-le, lemmas.Slice.Eq.bytes_eq-Decides}
-use Rattle.masked_bytes.{specs.Masked.{gives_some, zero_elsewhere}, proofs.Truth.{and_first, and_second}}
+use Rattle.std.proofs.{lemmas.List.Elements.{All-from_recursion, All-get_or}, lemmas.Nat.mul-le}
+use Rattle.masked_bytes.proofs.Truth.{and_first, and_second}
 use Rattle.cell_rows.specs.declared.row.Cells.{Cells}
 use Rattle.pcm_image.specs.Giving.{Gives}
-use Rattle.pcm_image.specs.Reading.{Cursor, ◌>>=◌, field, any, byte_at, number_at, times, is_size, is_size_of, size_at, size_of, head_at, region_at, given_from, is_given, entry_at}
-use Rattle.pcm_image.specs.Reading.{bank_at, row_of, cells_at, image_of}
+use Rattle.pcm_image.specs.Reading.{Cursor, ◌>>=◌, any, byte_at, number_at, times, is_size, is_size_of, size_at, size_of, size_behind, head_at, region_at, entry_at, bank_at}
+use Rattle.pcm_image.specs.Reading.{row_of, cells_at, image_of}
 use Rattle.pcm_image.specs.Saved.{Saved, SavedBank, Head, IsHead, IsSaved, IsSavedBank, IsSavedEntry, IsSavedRegion, IsSavedRow, slots_in, lines_in, array_lines_in, is_lines}
-use Rattle.pcm_image.specs.Spelling.{u8, u16, u32, u64, magic, packed, head_bytes, region_bytes, entry_bytes, bank_bytes, cells_bytes, image_bytes}
-use Rattle.pcm_image.specs.{declared.EntryImage.EntryImage, declared.RegionImage.RegionImage, declared.fields.ReadImage.ReadImage}
-use Rattle.pcm_image.proofs.{Bits.{length-given_from, packed-given, given-packed}, Heads.{HeadFits, head-fits}, Loop.gives_on}
-use Rattle.pcm_image.proofs.Pairs.{IsBytes, bind_ok, bound, ok_is, passed, Takes, Takes-then, IsPair, IsField, field_pair, Passes, number_pair, byte_pair, wide16, wide32, wide64}
+use Rattle.pcm_image.specs.{Spelling.{u8, u16, u32, u64, magic, head_bytes, region_bytes, entry_bytes, bank_bytes, cells_bytes, image_bytes}, declared.EntryImage.EntryImage}
+use Rattle.pcm_image.specs.{declared.RegionImage.RegionImage, declared.fields.ReadImage.ReadImage}
+use Rattle.pcm_image.proofs.Entries.{le_true, true_le, lt_true, true_lt, all_map, EntryFits, entry_pair, entry_saved, IsSlot, slot_pair, counted, size_takes, size_again, seven}
+use Rattle.pcm_image.proofs.{Heads.{HeadFits, head-fits}, Loop.gives_on}
+use Rattle.pcm_image.proofs.Pairs.{IsBytes, bind_ok, bound, ok_is, passed, Takes, Takes-then, IsPair, IsField, field_pair, Passes, number_pair, byte_pair, wide16, wide64}
 use Rattle.pcm_image.proofs.Pairs.{times_takes, times_again}
 use Rattle.pcm_image.specs.declared.ImageKind.TheVariants as kind
 use Rattle.module_shape.specs.Limits.{is_power_between}
-use Rattle.ecp_line.proofs.Bytes.{length-bytes_from}
-
-le_true : (a b : ℕ) → a ≤ b → nat_le a b ≡ true
-le_true a b h = grind (arith, nat_tests)
-
-true_le : (a b : ℕ) → nat_le a b ≡ true → a ≤ b
-true_le a b h = grind (arith, nat_tests)
-
-lt_true : (a b : ℕ) → a < b → nat_lt a b ≡ true
-lt_true a b h = grind (arith, nat_tests)
-
-true_lt : (a b : ℕ) → nat_lt a b ≡ true → a < b
-true_lt a b h = grind (arith, nat_tests)
 
 -- a fact of each, by index and by recursion
 all_at : {X : Type 0} (P : X → Type 0) (xs : List X) (d : X) → ((i : ℕ) → i < length xs → P (get_or xs i d)) → AllByRecursion P xs
@@ -38,15 +26,6 @@ all_at P (x ∷ xs) d h = (h 0 (omega arith), all_at P xs d (λ i lt. h (suc i) 
 pub all_to : {X : Type 0} (P : X → Type 0) (xs : List X) → All P xs → AllByRecursion P xs
 all_to P [] h = tt
 all_to P (x ∷ xs) h = all_at P (x ∷ xs) x (λ i lt. All-get_or P (x ∷ xs) i x lt h)
-
-all_map : {X : Type 0} (P Q : X → Type 0) (xs : List X) → ((x : X) → P x → Q x) → AllByRecursion P xs → AllByRecursion Q xs
-all_map P Q [] f h = tt
-all_map P Q (x ∷ xs) f h = (f x h.0, all_map P Q xs f h.1)
-
--- ---- the head
-
-magic-is : (bytes : List ℕ) → bytes_eq bytes magic ≡ true → magic ≡ bytes
-magic-is bytes h = sym ((bytes_eq-Decides bytes magic).0 h)
 
 -- ---- a region
 
@@ -90,70 +69,7 @@ region_again h r c rest fit e =
 pub region_pair : (h : Head) → IsPair (region_at h) region_bytes (RegionFits h)
 region_pair h = record { takes = region_takes h; again = region_again h }
 
--- ---- an entry
-
-bytes_field : (B : ℕ) → IsField B any (λ bytes. bytes) (λ bytes. bytes) (λ bytes. length bytes ≡ B)
-bytes_field B = record { back = λ bytes len small is. (refl, len); len = λ x fit. fit; passes = λ x fit. refl; same = λ x fit. refl }
-
-abbrev GivenFits : ℕ → List ℕ → List Bool → Type 0
-GivenFits B bytes given = (length given ≡ B) × ((gives_some given ≡ true) × (zero_elsewhere bytes given ≡ true))
-
-given_field : (B : ℕ) (bytes : List ℕ) → B % 8 ≡ 0 → IsField (B / 8) (is_given B bytes) (λ bits. given_from bits 0 B) (packed B) (GivenFits B bytes)
-given_field B bytes whole = record {
-  back = λ bits len small is. (packed-given B bits whole len small, (length-given_from bits 0 B, (and_first (gives_some (given_from bits 0 B)) (zero_elsewhere bytes (given_from bits 0 B)) is, and_second (gives_some (given_from bits 0 B)) (zero_elsewhere bytes (given_from bits 0 B)) is)));
-  len = λ g fit. length-bytes_from _ 0 (B / 8);
-  passes = λ g fit. rw (given-packed B g whole fit.0) (and_from (gives_some g) (zero_elsewhere bytes g) fit.1.0 fit.1.1);
-  same = λ g fit. given-packed B g whole fit.0;
-}
-
-abbrev EntryFits : (B : ℕ) → Head → EntryImage B → Type 0
-EntryFits B h e = Passes (2 ^ 32) (λ n. nat_lt n (lines_in h)) e.line × ((length e.bytes ≡ B) × GivenFits B e.bytes e.given)
-
-entry_takes : (B : ℕ) → B % 8 ≡ 0 → (h : Head) (c : Cursor) (x : EntryImage B × Cursor) → IsBytes c.left → entry_at B h c ≡ Ok x → Takes c (entry_bytes x.0) x.1 × EntryFits B h x.0
-unfolding entry_at
-entry_takes B whole h c x small e =
-    let one = number_pair w32 (2 ^ 32) kind.Entry (λ n. nat_lt n (lines_in h)) wide32 in
-    let two = field_pair B kind.Entry any (λ bytes. bytes) (λ bytes. bytes) (λ bytes. length bytes ≡ B) (bytes_field B) in
-    let a = bind_ok (number_at w32 kind.Entry (λ n. nat_lt n (lines_in h)) c) (λ line. field B kind.Entry any (λ bytes. bytes) line.1 >>= λ bytes. field (B / 8) kind.Entry (is_given B bytes.0) (λ bits. given_from bits 0 B) bytes.1 >>= λ given. Ok (record { line = line.0; bytes = bytes.0; given = given.0 }, given.1)) x e in
-    let b = bind_ok (field B kind.Entry any (λ bytes. bytes) a.0.1) (λ bytes. field (B / 8) kind.Entry (is_given B bytes.0) (λ bits. given_from bits 0 B) bytes.1 >>= λ given. Ok (record { line = a.0.0; bytes = bytes.0; given = given.0 }, given.1)) x a.2 in
-    let d = bind_ok (field (B / 8) kind.Entry (is_given B b.0.0) (λ bits. given_from bits 0 B) b.0.1) (λ given. Ok (record { line = a.0.0; bytes = b.0.0; given = given.0 }, given.1)) x b.2 in
-    let three = field_pair (B / 8) kind.Entry (is_given B b.0.0) (λ bits. given_from bits 0 B) (packed B) (GivenFits B b.0.0) (given_field B b.0.0 whole) in
-    let t0 = one.takes c a.0 small a.1 in
-    let t1 = two.takes a.0.1 b.0 t0.0.rest_fits b.1 in
-    let t2 = three.takes b.0.1 d.0 t1.0.rest_fits d.1 in
-    let e12 = Takes-then a.0.1 b.0.0 b.0.1 (packed B d.0.0) d.0.1 t1.0 t2.0 in
-    let e02 = Takes-then c (u32 a.0.0) a.0.1 (b.0.0 ++ packed B d.0.0) d.0.1 t0.0 e12 in
-    let made : EntryImage B × Cursor = (record { line = a.0.0; bytes = b.0.0; given = d.0.0 }, d.0.1) in
-    subst (λ (y : EntryImage B × Cursor). Takes c (entry_bytes y.0) y.1 × EntryFits B h y.0) {x = made} (ok_is made x d.2) (e02, (t0.1, (t1.1, t2.1)))
-
--- the fields of an entry, one behind another
-entry_read : (B : ℕ) (h : Head) (r : EntryImage B) (c c0 c1 c2 : Cursor) → number_at w32 kind.Entry (λ n. nat_lt n (lines_in h)) c ≡ Ok (r.line, c0)
-    → field B kind.Entry any (λ bytes. bytes) c0 ≡ Ok (r.bytes, c1) → field (B / 8) kind.Entry (is_given B r.bytes) (λ bits. given_from bits 0 B) c1 ≡ Ok (r.given, c2)
-    → entry_at B h c ≡ Ok (r, c2)
-unfolding entry_at
-entry_read B h r c c0 c1 c2 p0 p1 p2 = gives_on _ _ _ _ p0 (gives_on _ _ _ _ p1 (gives_on _ _ _ _ p2 refl))
-
-entry_again : (B : ℕ) → B % 8 ≡ 0 → (h : Head) (r : EntryImage B) (c : Cursor) (rest : List ℕ) → EntryFits B h r → c.left ≡ entry_bytes r ++ rest → (after : Cursor) × (entry_at B h c ≡ Ok (r, after)) × (after.left ≡ rest)
-unfolding entry_at
-entry_again B whole h r c rest fit e =
-    let one = number_pair w32 (2 ^ 32) kind.Entry (λ n. nat_lt n (lines_in h)) wide32 in
-    let two = field_pair B kind.Entry any (λ bytes. bytes) (λ bytes. bytes) (λ bytes. length bytes ≡ B) (bytes_field B) in
-    let three = field_pair (B / 8) kind.Entry (is_given B r.bytes) (λ bits. given_from bits 0 B) (packed B) (GivenFits B r.bytes) (given_field B r.bytes whole) in
-    let a = one.again r.line c (r.bytes ++ (packed B r.given ++ rest)) fit.0 (e ∙ append_assoc (u32 r.line) (r.bytes ++ packed B r.given) rest ∙ ap (λ t. u32 r.line ++ t) (append_assoc r.bytes (packed B r.given) rest)) in
-    let b = two.again r.bytes a.0 (packed B r.given ++ rest) fit.1.0 a.2 in
-    let d = three.again r.given b.0 rest fit.1.1 b.2 in
-    (d.0, entry_read B h r c a.0 b.0 d.0 a.1 b.1 d.1, d.2)
-
-entry_pair : (B : ℕ) → B % 8 ≡ 0 → (h : Head) → IsPair (entry_at B h) entry_bytes (EntryFits B h)
-entry_pair B whole h = record { takes = entry_takes B whole h; again = entry_again B whole h }
-
 -- ---- a bank
-
-abbrev IsSlot : Head → ℕ → Type 0
-IsSlot h slot = Passes (2 ^ 32) (λ n. nat_lt n (slots_in h)) slot
-
-slot_pair : (h : Head) → IsPair (number_at w32 kind.Bank (λ n. nat_lt n (slots_in h))) u32 (IsSlot h)
-slot_pair h = number_pair w32 (2 ^ 32) kind.Bank (λ n. nat_lt n (slots_in h)) wide32
 
 record BankFits (B : ℕ) (h : Head) (b : SavedBank B) : Type 0 where
   pub mark : Passes 256 (λ n. nat_lt n 2) b.mark
@@ -163,11 +79,6 @@ record BankFits (B : ℕ) (h : Head) (b : SavedBank B) : Type 0 where
   pub regions : AllByRecursion (RegionFits h) b.regions
   pub few : Passes (2 ^ 16) (λ n. nat_le n 256) (length b.entries)
   pub entries : AllByRecursion (EntryFits B h) b.entries
-
--- a number that was read is how many there are
-counted : (test : ℕ → Bool) (before after : Cursor) (n size : ℕ) → size ≡ n → Takes before (u16 n) after × Passes (2 ^ 16) test n
-    → Takes before (u16 size) after × Passes (2 ^ 16) test size
-counted test before after n size is t = subst (λ (k : ℕ). Takes before (u16 k) after × Passes (2 ^ 16) test k) (sym is) t
 
 -- the fields of a bank that were read, one behind another
 bank_joined : (B : ℕ) (h : Head) (b : SavedBank B) (used count : ℕ) (c c0 c1 c2 c3 c4 c5 : Cursor)
@@ -260,39 +171,6 @@ cells_pair B M = field_pair (B + M) kind.Short any (row_of B M) cells_bytes (Row
 
 -- ---- the head
 
-size_takes : (test : ℕ → Bool) (c : Cursor) (x : ℕ × Cursor) → IsBytes c.left → size_at test c ≡ Ok x → Takes c (magic ++ u8 x.0) x.1 × Passes 256 test x.0
-unfolding size_at
-size_takes test c x small e =
-    let m = field_pair 8 kind.Magic (λ bytes. bytes_eq bytes magic) any (λ x. magic) (λ x. x ≡ true) magic_field in
-    let a = bind_ok (field 8 kind.Magic (λ bytes. bytes_eq bytes magic) any c) (λ m. byte_at kind.Size test m.1) x e in
-    let t0 = m.takes c a.0 small a.1 in
-    let t1 = (byte_pair kind.Size test).takes a.0.1 x t0.0.rest_fits a.2 in
-    (Takes-then c magic a.0.1 (u8 x.0) x.1 t0.0 t1.0, t1.1)
-  where
-    magic_field : IsField 8 (λ bytes. bytes_eq bytes magic) any (λ x. magic) (λ x. x ≡ true)
-    magic_field = record { back = λ bytes len small is. (magic-is bytes is, refl); len = λ x fit. refl; passes = λ x fit. refl; same = λ x fit. sym fit }
-
-pub size_again : (test : ℕ → Bool) (n : ℕ) (c : Cursor) (rest : List ℕ) → Passes 256 test n → c.left ≡ magic ++ (u8 n ++ rest) → (after : Cursor) × (size_at test c ≡ Ok (n, after)) × (after.left ≡ rest)
-unfolding size_at
-size_again test n c rest fit e =
-    let m = field_pair 8 kind.Magic (λ bytes. bytes_eq bytes magic) any (λ x. magic) (λ x. x ≡ true) magic_field in
-    let a = m.again true c (u8 n ++ rest) refl e in
-    let b = (byte_pair kind.Size test).again n a.0 rest fit a.2 in
-    (b.0, rw (a.1, b.1) refl, b.2)
-  where
-    magic_field : IsField 8 (λ bytes. bytes_eq bytes magic) any (λ x. magic) (λ x. x ≡ true)
-    magic_field = record { back = λ bytes len small is. (magic-is bytes is, refl); len = λ x fit. refl; passes = λ x fit. refl; same = λ x fit. sym fit }
-
-seven : (c c0 c1 c2 c3 c4 c5 c6 : Cursor) (x0 x1 x2 x3 x4 x5 x6 : List ℕ) → Takes c x0 c0 → Takes c0 x1 c1 → Takes c1 x2 c2 → Takes c2 x3 c3 → Takes c3 x4 c4 → Takes c4 x5 c5 → Takes c5 x6 c6
-    → Takes c (x0 ++ (x1 ++ (x2 ++ (x3 ++ (x4 ++ (x5 ++ x6)))))) c6
-seven c c0 c1 c2 c3 c4 c5 c6 x0 x1 x2 x3 x4 x5 x6 t0 t1 t2 t3 t4 t5 t6 =
-    Takes-then c x0 c0 (x1 ++ (x2 ++ (x3 ++ (x4 ++ (x5 ++ x6))))) c6 t0
-    (Takes-then c0 x1 c1 (x2 ++ (x3 ++ (x4 ++ (x5 ++ x6)))) c6 t1
-    (Takes-then c1 x2 c2 (x3 ++ (x4 ++ (x5 ++ x6))) c6 t2
-    (Takes-then c2 x3 c3 (x4 ++ (x5 ++ x6)) c6 t3
-    (Takes-then c3 x4 c4 (x5 ++ x6) c6 t4
-    (Takes-then c4 x5 c5 x6 c6 t5 t6)))))
-
 -- the fields of a head, one behind another
 head_joined : (B : ℕ) (h : Head) (size : ℕ) (c c0 c1 c2 c3 c4 c5 c6 : Cursor)
     → Takes c (magic ++ u8 size) c0 × Passes 256 (is_size_of B) size
@@ -315,7 +193,7 @@ head_takes : (B : ℕ) (c : Cursor) (x : Head × Cursor) → IsBytes c.left → 
 unfolding head_at
 head_takes B c x small e =
     bound _ _ x _ e (λ x0 e0 n0. bound _ _ x _ n0 (λ x1 e1 n1. bound _ _ x _ n1 (λ x2 e2 n2. bound _ _ x _ n2 (λ x3 e3 n3. bound _ _ x _ n3 (λ x4 e4 n4. bound _ _ x _ n4 (λ x5 e5 n5. bound _ _ x _ n5 (λ x6 e6 n6.
-    let t0 = size_takes (is_size_of B) c x0 small e0 in
+    let t0 = size_takes magic refl (is_size_of B) c x0 small e0 in
     let t1 = (byte_pair kind.Shape (is_power_between 1 16)).takes x0.1 x1 t0.0.rest_fits e1 in
     let t2 = (byte_pair kind.Shape (is_power_between 1 16)).takes x1.1 x2 t1.0.rest_fits e2 in
     let t3 = (number_pair w16 (2 ^ 16) kind.Shape (is_lines x1.0 x2.0) wide16).takes x2.1 x3 t2.0.rest_fits e3 in
@@ -326,7 +204,7 @@ head_takes B c x small e =
     (ok_is (record { banks = x1.0; regions = x2.0; lines = x3.0; spares = x4.0; seed = x5.0; home = x6.0 }, x6.1) x n6)
     (head_joined B (record { banks = x1.0; regions = x2.0; lines = x3.0; spares = x4.0; seed = x5.0; home = x6.0 }) x0.0 c x0.1 x1.1 x2.1 x3.1 x4.1 x5.1 x6.1 t0 t1 t2 t3 t4 t5 t6))))))))
 
-head_read : (B : ℕ) (h : Head) (c c0 c1 c2 c3 c4 c5 c6 : Cursor) → size_at (is_size_of B) c ≡ Ok (B, c0)
+head_read : (B : ℕ) (h : Head) (c c0 c1 c2 c3 c4 c5 c6 : Cursor) → size_at magic (is_size_of B) c ≡ Ok (B, c0)
     → byte_at kind.Shape (is_power_between 1 16) c0 ≡ Ok (h.banks, c1)
     → byte_at kind.Shape (is_power_between 1 16) c1 ≡ Ok (h.regions, c2)
     → number_at w16 kind.Shape (is_lines h.banks h.regions) c2 ≡ Ok (h.lines, c3)
@@ -346,7 +224,7 @@ head_again B few sized h c rest is e =
     let p4 = number_pair w16 (2 ^ 16) kind.Shape (λ n. nat_le n 1024) wide16 in
     let p5 = number_pair w64 (2 ^ 64) kind.Shape any wide64 in
     let p6 = byte_pair kind.Shape (λ n. nat_lt n 2) in
-    let a0 = size_again (is_size_of B) B c (u8 h.banks ++ (u8 h.regions ++ (u16 h.lines ++ (u16 h.spares ++ (u64 h.seed ++ (u8 h.home ++ rest)))))) (omega (arith, few), and_from (is_size B) (B == B) sized (same B)) e in
+    let a0 = size_again magic refl (is_size_of B) B c (u8 h.banks ++ (u8 h.regions ++ (u16 h.lines ++ (u16 h.spares ++ (u64 h.seed ++ (u8 h.home ++ rest)))))) (omega (arith, few), and_from (is_size B) (B == B) sized (same B)) e in
     let a1 = p1.again h.banks a0.0 (u8 h.regions ++ (u16 h.lines ++ (u16 h.spares ++ (u64 h.seed ++ (u8 h.home ++ rest))))) (omega (arith, fit.banks), is.banks) a0.2 in
     let a2 = p1.again h.regions a1.0 (u16 h.lines ++ (u16 h.spares ++ (u64 h.seed ++ (u8 h.home ++ rest)))) (omega (arith, fit.regions), is.regions) a1.2 in
     let a3 = p3.again h.lines a2.0 (u16 h.spares ++ (u64 h.seed ++ (u8 h.home ++ rest))) (omega (arith, fit.lines), is.lines) a2.2 in
@@ -362,9 +240,6 @@ head_again B few sized h c rest is e =
 
 region_saved : (h : Head) (r : RegionImage) → RegionFits h r → IsSavedRegion h r
 region_saved h r fit = record { start = true_lt _ _ fit.0.1; gap = true_le _ _ fit.1.0.1; counter = fit.1.1.0 }
-
-entry_saved : (B : ℕ) (h : Head) (e : EntryImage B) → EntryFits B h e → IsSavedEntry h e
-entry_saved B h e fit = record { line = true_lt _ _ fit.0.1; masked = record { bytes_len = fit.1.0; given_len = fit.1.1.0; some = fit.1.1.1.0; others = fit.1.1.1.1 } }
 
 bank_saved : (B : ℕ) (h : Head) (b : SavedBank B) → BankFits B h b → IsSavedBank h b
 bank_saved B h b fit = record {
@@ -467,9 +342,9 @@ is_sized bytes (Err e) whole small given = tt
 
 -- the first two fields of what is saved
 pub size-is : (B M : ℕ) (s : Saved B M) → is_size B ≡ true → B < 256 → size_of (image_bytes s) ≡ Ok B
-unfolding size_of image_bytes
+unfolding size_behind image_bytes
 size-is B M s is lt =
     let h = s.head in
     let c : Cursor = record { at = 0; left = head_bytes B h ++ (flat_map bank_bytes s.parts ++ flat_map cells_bytes s.cells) } in
-    let a = size_again is_size B c (u8 h.banks ++ (u8 h.regions ++ (u16 h.lines ++ (u16 h.spares ++ (u64 h.seed ++ (u8 h.home ++ (flat_map bank_bytes s.parts ++ flat_map cells_bytes s.cells))))))) (lt, is) refl in
+    let a = size_again magic refl is_size B c (u8 h.banks ++ (u8 h.regions ++ (u16 h.lines ++ (u16 h.spares ++ (u64 h.seed ++ (u8 h.home ++ (flat_map bank_bytes s.parts ++ flat_map cells_bytes s.cells))))))) (lt, is) refl in
     rw (a.1) refl

@@ -54,10 +54,10 @@ times (suc n) read c = do
   others ← times n read first.1
   Ok (first.0 ∷ others.0, others.1)
 
--- the first two fields; the size of a line passes a test
-unfoldable pub size_at : (ℕ → Bool) → Cursor → Got ℕ
-size_at test c = do
-  m ← field 8 Magic (λ bytes. bytes_eq bytes magic) any c
+-- the first two fields of a format whose images begin with these eight bytes; the size of a line passes a test
+unfoldable pub size_at : List ℕ → (ℕ → Bool) → Cursor → Got ℕ
+size_at front test c = do
+  m ← field 8 Magic (λ bytes. bytes_eq bytes front) any c
   byte_at Size test m.1
 
 -- the size is 64 or 128
@@ -70,7 +70,7 @@ is_size_of B n = is_size n && n == B
 
 unfoldable pub head_at : ℕ → Cursor → Got Head
 head_at B c = do
-  size ← size_at (is_size_of B) c
+  size ← size_at magic (is_size_of B) c
   banks ← byte_at Shape (is_power_between 1 16) size.1
   regions ← byte_at Shape (is_power_between 1 16) banks.1
   lines ← number_at w16 Shape (is_lines banks.0 regions.0) regions.1
@@ -130,5 +130,8 @@ image_of B M bytes = do
 abbrev pub only_size : ℕ × Cursor → Result ℕ ImageFault
 only_size size = Ok size.0
 
-unfoldable pub size_of : List ℕ → Result ℕ ImageFault
-size_of bytes = size_at is_size (record { at = 0; left = bytes }) >>= only_size
+unfoldable pub size_behind : List ℕ → List ℕ → Result ℕ ImageFault
+size_behind front bytes = size_at front is_size (record { at = 0; left = bytes }) >>= only_size
+
+abbrev pub size_of : List ℕ → Result ℕ ImageFault
+size_of = size_behind magic

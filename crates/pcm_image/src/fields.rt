@@ -196,12 +196,13 @@ fn lines_at<'a>(fields: Fields<'a>, banks: u8, regions: u8) -> Result<(u16, Fiel
     Ok((number, rest))
 }
 
-// Where the registers are kept.
-fn home_at<'a>(fields: Fields<'a>) -> Result<(u8, Fields<'a>), ReadImage>
+/// Where the registers are kept.
+pub fn home_at<'a>(fields: Fields<'a>) -> Result<(u8, Fields<'a>), ReadImage>
     requires { fields.at < 2 ^ 31 }
     ensures gives { Gives (λ x. (x.0, cursor x.1)) result
         (byte_at kind.Shape (λ n. nat_lt n 2) (cursor fields.entry)) }
     ensures at { IfOk result (λ x. x.1.at ≡ fields.entry.at + 1) }
+    ensures few { IfOk result (λ x. x.0 < 2) }
 {
     let (number, rest) = u8_at(fields)?;
     if number > 1 {
@@ -210,19 +211,24 @@ fn home_at<'a>(fields: Fields<'a>) -> Result<(u8, Fields<'a>), ReadImage>
     Ok((number, rest))
 }
 
-// The first two fields: an image's first eight bytes, and the size of its lines, which is 64 or 128 and the one that is asked for.
+/// The first two fields: the eight bytes with which images of a format begin, and the size of their lines, which is 64 or 128 and the one
+/// that is asked for.
 #[tactic(auto, unfolding(crate::specs::Reading::size_at))]
-fn size_is<'a>(fields: Fields<'a>, size: usize) -> Result<(u8, Fields<'a>), ReadImage>
+pub fn size_is<'a>(
+    fields: Fields<'a>,
+    front: &[u8],
+    size: usize,
+) -> Result<(u8, Fields<'a>), ReadImage>
     requires { fields.at < 2 ^ 31 - 8 }
     ensures gives { Gives (λ x. (x.0, cursor x.1)) result
-        (size_at (is_size_of size) (cursor fields.entry)) }
+        (size_at front.now (is_size_of size) (cursor fields.entry)) }
     ensures at { IfOk result (λ x. x.1.at ≡ fields.entry.at + 9) }
 {
     if fields.left.len() < 8 {
         return Err(bad(&fields, ImageKind::Short));
     }
-    let (front, left) = fields.left.split_at(8);
-    if front != b"PCMIMG01".as_slice() {
+    let (first, left) = fields.left.split_at(8);
+    if first != front {
         return Err(bad(&fields, ImageKind::Magic));
     }
     let behind = Fields {
@@ -245,7 +251,7 @@ pub fn head<'a>(fields: Fields<'a>, size: usize) -> Result<(HeadImage, Fields<'a
     ensures at { IfOk result (λ x. x.1.at ≡ 24) }
     ensures small { IfOk result (λ x. IsSmall (head_view x.0)) }
 {
-    let (_, rest) = size_is(fields, size)?;
+    let (_, rest) = size_is(fields, b"PCMIMG01", size)?;
     let (banks, rest) = few_at(rest)?;
     let (regions, rest) = few_at(rest)?;
     let (lines, rest) = lines_at(rest, banks, regions)?;

@@ -10,7 +10,7 @@ mod writing;
 
 pub use fields::{HeadImage, ReadImage};
 pub use image::{BankImage, Image};
-pub use parts::{read_image, size_of_line};
+pub use parts::{read_image, size_behind, size_of_line};
 pub use writing::{
     write_bank, write_cells, write_count, write_entry, write_head, write_region, write_slot,
 };

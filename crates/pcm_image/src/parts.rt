@@ -6,7 +6,7 @@ ghost use Rattle.cell_rows.specs.Rows.{bit_of};
 ghost use Rattle.pcm_image.specs.declared.ImageKind.TheVariants as kind;
 ghost use Rattle.pcm_image.specs.Saved.{Saved, IsSaved, IsSize, slots_in, lines_in, array_lines_in};
 ghost use Rattle.pcm_image.specs.Spelling.{image_bytes};
-ghost use Rattle.pcm_image.specs.Reading.{any, byte_at, number_at, field, times, region_at, given_from, is_given, entry_at, bank_at, cells_at, image_of, is_size, size_of};
+ghost use Rattle.pcm_image.specs.Reading.{any, byte_at, number_at, field, times, region_at, given_from, is_given, entry_at, bank_at, cells_at, image_of, is_size, size_behind, size_of};
 ghost use Rattle.pcm_image.specs.Giving.{Gives, IsSmall, cursor, head_view};
 
 use crate::fields::{Fields, HeadImage, ReadImage, bad, head, u8_at, u16_at, u32_at};
@@ -492,10 +492,11 @@ pub fn read_image<const B: usize, const M: usize>(
     whole(alloc, bytes)
 }
 
-/// The size of a line, 64 or 128, by the first nine bytes.
-#[tactic(auto, unfolding(crate::specs::Reading::size_of, crate::specs::Reading::size_at))]
-pub fn size_of_line(bytes: &[u8]) -> Result<u8, ImageFault>
-    ensures { MatchResult result (λ n. size_of bytes.now ≡ Ok n) (λ f. size_of bytes.now ≡ Err f) }
+/// The size of a line, 64 or 128, by the first nine bytes of an image whose format begins with these eight.
+#[tactic(auto, unfolding(crate::specs::Reading::size_behind, crate::specs::Reading::size_at))]
+pub fn size_behind(front: &[u8], bytes: &[u8]) -> Result<u8, ImageFault>
+    ensures { MatchResult result (λ n. size_behind front.now bytes.now ≡ Ok n)
+        (λ f. size_behind front.now bytes.now ≡ Err f) }
 {
     if bytes.len() < 8 {
         return Err(ImageFault {
@@ -503,8 +504,8 @@ pub fn size_of_line(bytes: &[u8]) -> Result<u8, ImageFault>
             kind: ImageKind::Short,
         });
     }
-    let (front, left) = bytes.split_at(8);
-    if front != b"PCMIMG01".as_slice() {
+    let (first, left) = bytes.split_at(8);
+    if first != front {
         return Err(ImageFault {
             at: 0,
             kind: ImageKind::Magic,
@@ -522,4 +523,11 @@ pub fn size_of_line(bytes: &[u8]) -> Result<u8, ImageFault>
             kind: ImageKind::Size,
         }),
     }
+}
+
+/// The size of a line, 64 or 128, by the first nine bytes.
+pub fn size_of_line(bytes: &[u8]) -> Result<u8, ImageFault>
+    ensures { MatchResult result (λ n. size_of bytes.now ≡ Ok n) (λ f. size_of bytes.now ≡ Err f) }
+{
+    size_behind(b"PCMIMG01", bytes)
 }

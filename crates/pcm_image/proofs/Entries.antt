@@ -1,10 +1,11 @@
--- The entries of a queue, which are spelled as those of a small module's image, and words for order.
-use Rattle.std.proofs.Common.{◌≡◌, ℕ, ◌/◌, ◌%◌, ◌^◌, ◌<◌, ◌≤◌, Bool, true, nat_le, nat_lt, List, [], ◌∷◌, ◌++◌, length, Ok, refl, ap, subst, ◌∙◌, append_assoc, arith}
-use Rattle.std.{specs.Int.w32, specs.List.AllByRecursion, proofs.lemmas.Bool.and_from, proofs.lemmas.Bool.Decides.nat_tests}
+-- What images of small and of large modules spell alike: the entries of a queue, slots, counts, and the size of a line; and words for order.
+use Rattle.std.proofs.Common.{◌≡◌, ℕ, ◌/◌, ◌%◌, ◌^◌, ◌<◌, ◌≤◌, Bool, true, nat_le, nat_lt, List, [], ◌∷◌, ◌++◌, length, Ok, refl, sym, ap, subst, ◌∙◌, append_assoc, arith}
+use Rattle.std.{specs.Int.w32, specs.List.AllByRecursion, specs.Str.bytes_eq, proofs.lemmas.Bool.and_from, proofs.lemmas.Bool.Decides.nat_tests}
+use Rattle.std.proofs.lemmas.Slice.Eq.{bytes_eq-Decides}
 use Rattle.masked_bytes.{specs.Masked.{gives_some, zero_elsewhere}, proofs.Truth.{and_first, and_second}}
-use Rattle.pcm_image.specs.{Reading.{Cursor, ◌>>=◌, field, any, number_at, given_from, is_given, entry_at}, Saved.{Head, IsSavedEntry, lines_in}}
-use Rattle.pcm_image.{specs.Spelling.{u32, packed, entry_bytes}, specs.declared.EntryImage.EntryImage, proofs.Bits.{length-given_from, packed-given, given-packed}}
-use Rattle.pcm_image.proofs.{Loop.gives_on, Pairs.{IsBytes, bind_ok, ok_is, Takes, Takes-then, IsPair, IsField, field_pair, Passes, number_pair, wide32}}
+use Rattle.pcm_image.specs.{Reading.{Cursor, ◌>>=◌, field, any, byte_at, number_at, size_at, given_from, is_given, entry_at}, Saved.{Head, IsSavedEntry, lines_in, slots_in}}
+use Rattle.pcm_image.{specs.Spelling.{u8, u16, u32, packed, entry_bytes}, specs.declared.EntryImage.EntryImage, proofs.Bits.{length-given_from, packed-given, given-packed}}
+use Rattle.pcm_image.proofs.{Loop.gives_on, Pairs.{IsBytes, bind_ok, ok_is, Takes, Takes-then, IsPair, IsField, field_pair, Passes, number_pair, byte_pair, wide32}}
 use Rattle.pcm_image.specs.declared.ImageKind.TheVariants as kind
 use Rattle.ecp_line.proofs.Bytes.{length-bytes_from}
 
@@ -83,3 +84,51 @@ entry_pair B whole h = record { takes = entry_takes B whole h; again = entry_aga
 
 pub entry_saved : (B : ℕ) (h : Head) (e : EntryImage B) → EntryFits B h e → IsSavedEntry h e
 entry_saved B h e fit = record { line = true_lt _ _ fit.0.1; masked = record { bytes_len = fit.1.0; given_len = fit.1.1.0; some = fit.1.1.1.0; others = fit.1.1.1.1 } }
+
+-- ---- slots and counts
+
+abbrev pub IsSlot : Head → ℕ → Type 0
+IsSlot h slot = Passes (2 ^ 32) (λ n. nat_lt n (slots_in h)) slot
+
+pub slot_pair : (h : Head) → IsPair (number_at w32 kind.Bank (λ n. nat_lt n (slots_in h))) u32 (IsSlot h)
+slot_pair h = number_pair w32 (2 ^ 32) kind.Bank (λ n. nat_lt n (slots_in h)) wide32
+
+-- a number that was read is how many there are
+pub counted : (test : ℕ → Bool) (before after : Cursor) (n size : ℕ) → size ≡ n → Takes before (u16 n) after × Passes (2 ^ 16) test n
+    → Takes before (u16 size) after × Passes (2 ^ 16) test size
+counted test before after n size is t = subst (λ (k : ℕ). Takes before (u16 k) after × Passes (2 ^ 16) test k) (sym is) t
+
+-- ---- the size of a line
+
+-- the first two fields, of a format whose images begin with these eight bytes
+module _ (front : List ℕ) (eight : length front ≡ 8) where
+  front_field : IsField 8 (λ bytes. bytes_eq bytes front) any (λ x. front) (λ x. x ≡ true)
+  front_field = record { back = λ bytes len small is. (sym ((bytes_eq-Decides bytes front).0 is), refl); len = λ x fit. eight; passes = λ x fit. (bytes_eq-Decides front front).1 refl; same = λ x fit. sym fit }
+
+  pub size_takes : (test : ℕ → Bool) (c : Cursor) (x : ℕ × Cursor) → IsBytes c.left → size_at front test c ≡ Ok x → Takes c (front ++ u8 x.0) x.1 × Passes 256 test x.0
+  unfolding size_at
+  size_takes test c x small e =
+      let m = field_pair 8 kind.Magic (λ bytes. bytes_eq bytes front) any (λ x. front) (λ x. x ≡ true) front_field in
+      let a = bind_ok (field 8 kind.Magic (λ bytes. bytes_eq bytes front) any c) (λ m. byte_at kind.Size test m.1) x e in
+      let t0 = m.takes c a.0 small a.1 in
+      let t1 = (byte_pair kind.Size test).takes a.0.1 x t0.0.rest_fits a.2 in
+      (Takes-then c front a.0.1 (u8 x.0) x.1 t0.0 t1.0, t1.1)
+
+  pub size_again : (test : ℕ → Bool) (n : ℕ) (c : Cursor) (rest : List ℕ) → Passes 256 test n → c.left ≡ front ++ (u8 n ++ rest) → (after : Cursor) × (size_at front test c ≡ Ok (n, after)) × (after.left ≡ rest)
+  unfolding size_at
+  size_again test n c rest fit e =
+      let m = field_pair 8 kind.Magic (λ bytes. bytes_eq bytes front) any (λ x. front) (λ x. x ≡ true) front_field in
+      let a = m.again true c (u8 n ++ rest) refl e in
+      let b = (byte_pair kind.Size test).again n a.0 rest fit a.2 in
+      (b.0, rw (a.1, b.1) refl, b.2)
+
+-- seven parts, one behind another
+pub seven : (c c0 c1 c2 c3 c4 c5 c6 : Cursor) (x0 x1 x2 x3 x4 x5 x6 : List ℕ) → Takes c x0 c0 → Takes c0 x1 c1 → Takes c1 x2 c2 → Takes c2 x3 c3 → Takes c3 x4 c4 → Takes c4 x5 c5 → Takes c5 x6 c6
+    → Takes c (x0 ++ (x1 ++ (x2 ++ (x3 ++ (x4 ++ (x5 ++ x6)))))) c6
+seven c c0 c1 c2 c3 c4 c5 c6 x0 x1 x2 x3 x4 x5 x6 t0 t1 t2 t3 t4 t5 t6 =
+    Takes-then c x0 c0 (x1 ++ (x2 ++ (x3 ++ (x4 ++ (x5 ++ x6))))) c6 t0
+    (Takes-then c0 x1 c1 (x2 ++ (x3 ++ (x4 ++ (x5 ++ x6)))) c6 t1
+    (Takes-then c1 x2 c2 (x3 ++ (x4 ++ (x5 ++ x6))) c6 t2
+    (Takes-then c2 x3 c3 (x4 ++ (x5 ++ x6)) c6 t3
+    (Takes-then c3 x4 c4 (x5 ++ x6) c6 t4
+    (Takes-then c4 x5 c5 x6 c6 t5 t6)))))
