@@ -1,5 +1,5 @@
 -- Which rows an event answers: they stand in the queue or wait.
-use Rattle.std.proofs.Common.{◌≡◌, ℕ, ◌==◌, ◌&&◌, not, Bool, true, false, List, [], ◌∷◌, Option, Some, None, drop, length, refl, sym, ap, ◌∙◌, subst, cond, eqb}
+use Rattle.std.proofs.Common.{arith, ◌≡◌, ℕ, ◌==◌, ◌&&◌, not, Bool, true, false, List, [], ◌∷◌, Option, Some, None, drop, length, refl, sym, ap, ◌∙◌, subst, cond, eqb}
 use Rattle.std.proofs.lemmas.Bool.{eq-eqb, or_left, or_right}
 use Rattle.masked_bytes.specs.{Entries.{has_row, RowsApart, newest_row, candidate, or_this, head_row}, declared.entry.Entry.Entry}
 use Rattle.bank_shape.specs.{declared.BankShape.BankShape, declared.Work.TheVariants.Nothing, declared.answer.Served.Served}
@@ -62,8 +62,7 @@ module _ {n : ℕ} (shape : BankShape) (h : List (BankEvent n)) where
   merged-there line old m = by (has_exhausted h) (candidate (head_busy_after shape h) (queue shape h) line) refl m
     where
       full : (b : Bool) → wrote.Merged old ≡ cond b wrote.Full wrote.Accepted → has_row (queue shape h) old ≡ true
-      full true m = absurd (cc)
-      full false m = absurd (cc)
+      full b m = grind arith
 
       by : (b : Bool) (c : Option ℕ) → candidate (head_busy_after shape h) (queue shape h) line ≡ c
           → wrote.Merged old ≡ cond b wrote.Exhausted (accept_answer shape h c) → has_row (queue shape h) old ≡ true
@@ -77,12 +76,9 @@ module _ {n : ℕ} (shape : BankShape) (h : List (BankEvent n)) where
     where
       by : (b : Bool) (due : Option ℕ) (q : List (Entry n)) → q ≡ queue shape h
           → IsDone shape h (cond b Nothing (due_work shape h due q)) (did.Stored row place) → IsHead (queue shape h) row
-      by true due q is d = absurd d
-      by false (Some region) q is d = absurd d
-      by false None [] is d = absurd d
       by false None (e ∷ es) is d = subst (λ (q : List (Entry n)). row ≡ head_row q → IsHead q row) is (λ r. r) d.0
+      by _ _ _ is d = absurd d
 
   -- a serve answers the first read that waits
   pub served-first : (ws : List Awaited) (answer : Served n) → IsServed shape h ws answer → IsFirst ws answer.row
-  served-first [] answer s = absurd s
-  served-first (w ∷ ws) answer s = s.0
+  served-first ws answer s = grind arith

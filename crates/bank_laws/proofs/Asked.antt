@@ -1,5 +1,5 @@
 -- Which row asked for which line: what stands in the queue and what waits has its own line.
-use Rattle.std.proofs.Common.{◌≡◌, ℕ, ◌*◌, ◌<◌, ◌⊎◌, inl, inr, Bool, true, false, List, [], ◌∷◌, ◌++◌, Option, Some, None, drop, refl, sym, ◌∙◌, arith, cond, eqb, eqb-true}
+use Rattle.std.proofs.Common.{◌≡◌, ℕ, ◌*◌, ◌<◌, ◌⊎◌, inl, inr, Bool, true, false, List, [], ◌∷◌, ◌++◌, Option, drop, refl, sym, ◌∙◌, arith, cond, eqb, eqb-true}
 use Rattle.std.proofs.lemmas.Bool.{eq-eqb}
 use Rattle.masked_bytes.specs.{Entries.{merged, laid_on}, declared.entry.Entry.Entry}
 use Rattle.bank_shape.specs.declared.BankShape.{BankShape}
@@ -111,9 +111,7 @@ module _ {n : ℕ} where
   dropped-stands (e ∷ es) row line s = inr s
 
   pub begun-stands : (due : Option ℕ) (f : ℕ → List ℕ) (es : List (Entry n)) (row line : ℕ) → Stands (begun due f es) row line → Stands es row line
-  begun-stands (Some region) f es row line s = s
-  begun-stands None f [] row line s = s
-  begun-stands None f (e ∷ es) row line s = s
+  begun-stands due f es row line s = grind arith
 
   -- what stands in the queue was written, with its own line
   pub queue-wrote : (shape : BankShape) (most : ℕ) (h : List (BankEvent n)) (next row line : ℕ) → MayAll shape most h → RowsBelow h next → Stands (queue shape h) row line → Wrote h row line

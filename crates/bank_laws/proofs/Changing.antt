@@ -1,5 +1,5 @@
 -- While a change stands the bank's own line write rests, and one that has halted is written no more.
-use Rattle.std.proofs.Common.{◌≡◌, ℕ, Bool, true, false, List, [], ◌∷◌, Option, Some, None, refl}
+use Rattle.std.proofs.Common.{arith, ◌≡◌, ℕ, Bool, true, false, List, [], ◌∷◌, Option, None, refl}
 use Rattle.std.specs.Prelude.{is_some}
 use Rattle.bank_shape.specs.{declared.BankShape.BankShape, declared.pace.Pace.Pace}
 use Rattle.bank_shape.specs.declared.answer.Step.TheVariants as did
@@ -9,20 +9,16 @@ use Rattle.bank_model.specs.{History.in_progress, Lawful.{Lawful, MayCome}, Runn
 use Rattle.bank_model.specs.Timing.{Happens, Core, Regs, KeepBegin, KeepIterate, TimedEvent, core, core_of}
 
 pub busy-none : (change : Option ℕ) (keeping busy : Bool) → change ≡ None → busy_by change keeping busy ≡ busy
-busy-none None keeping busy is = refl
-busy-none (Some item) keeping busy is = absurd (cc)
+busy-none change keeping busy is = grind arith
 
 pub made-none : (change : Option ℕ) (rounds count : ℕ) → change ≡ None → made_by change rounds count ≡ count
-made-none None rounds count is = refl
-made-none (Some item) rounds count is = absurd (cc)
+made-none change rounds count is = grind arith
 
 pub busy-some : (change : Option ℕ) (keeping busy : Bool) → is_some change ≡ true → busy_by change keeping busy ≡ keeping
-busy-some None keeping busy is = absurd (cc)
-busy-some (Some item) keeping busy is = refl
+busy-some change keeping busy is = grind arith
 
 pub made-some : (change : Option ℕ) (rounds count : ℕ) → is_some change ≡ true → made_by change rounds count ≡ rounds
-made-some None rounds count is = absurd (cc)
-made-some (Some item) rounds count is = refl
+made-some change rounds count is = grind arith
 
 module _ {n m : ℕ} (shape : BankShape) (pace : Pace) (e : ℕ) where
   -- a change comes with the end of a line write, and then none of the bank is in progress
@@ -31,8 +27,7 @@ module _ {n m : ℕ} (shape : BankShape) (pace : Pace) (e : ℕ) where
   changed-idle (x ∷ xs) l some = by x.happens l.0 (changed-idle xs l.1) some
     where
       more : (change : Option ℕ) → change ≡ None → is_some change ≡ true → true ≡ false
-      more None is some = absurd (cc)
-      more (Some item) is some = absurd (cc)
+      more change is some = grind arith
 
       by : (h : Happens n) → MayCome shape pace e xs x h → (is_some (change_after shape xs) ≡ true → in_progress (core xs) ≡ false)
           → is_some (change_by shape (core xs) h (change_after shape xs)) ≡ true → in_progress (core_of h (core xs)) ≡ false

@@ -39,8 +39,7 @@ hits-one [] bound r f there = absurd (cc)
 hits-one (x ∷ xs) bound r f there = by (eqb r x) refl (λ k. hits-one xs x r f.1 k)
   where
     rest : (b : Bool) → b ≡ false → (b || among xs r) ≡ true → among xs r ≡ true
-    rest true ne k = absurd (cc)
-    rest false ne k = k
+    rest b ne k = grind arith
 
     by : (b : Bool) → eqb r x ≡ b → (among xs r ≡ true → hits (λ x. r == x) xs ≡ 1) → cond b (suc (hits (λ x. r == x) xs)) (hits (λ x. r == x) xs) ≡ 1
     by true is go = let same : r ≡ x = eqb-true r x is in ap suc (hits-above xs x r f.1 (omega (arith, same)))
@@ -58,9 +57,8 @@ hits-split a rs (x ∷ xs) apart = by (eqb a x) (among rs x) refl refl (hits-spl
         → cond (b || c) (suc (hits (λ x. a == x || among rs x) xs)) (hits (λ x. a == x || among rs x) xs)
         ≡ cond b (suc (hits (λ x. a == x) xs)) (hits (λ x. a == x) xs) + cond c (suc (hits (λ x. among rs x) xs)) (hits (λ x. among rs x) xs)
     by true true is there ih = absurd (cc (subst (λ r. among rs r ≡ false) (eqb-true a x is) apart, there))
-    by true false is there ih = omega (arith, ih)
-    by false true is there ih = omega (arith, ih)
     by false false is there ih = ih
+    by _ _ is there ih = omega (arith, ih)
 
 -- as many of the rows are among these as there are of these
 pub hits-all : (rs xs : List ℕ) (bound : ℕ) → Apart rs → Falling xs bound → ((r : ℕ) → among rs r ≡ true → among xs r ≡ true) → hits (λ x. among rs x) xs ≡ length rs

@@ -1,5 +1,5 @@
 -- Which outcome a row has in the end, by the answer of its event.
-use Rattle.std.proofs.Common.{◌≡◌, ◌≢◌, ℕ, ◌⊎◌, inl, inr, Bool, true, false, List, [], ◌∷◌, ◌++◌, Option, Some, None, refl, sym, ap, ◌∙◌, subst, cond, eq-eqb}
+use Rattle.std.proofs.Common.{arith, ◌≡◌, ◌≢◌, ℕ, ◌⊎◌, inl, inr, Bool, true, false, List, [], ◌∷◌, ◌++◌, Option, Some, None, refl, sym, ap, ◌∙◌, subst, cond, eq-eqb}
 use Rattle.std.specs.Prelude.{unwrap_or}
 use Rattle.result_rows.specs.declared.Outcome.{Outcome}
 use Rattle.result_rows.specs.declared.Outcome.TheVariants as out
@@ -44,19 +44,13 @@ module _ {n : ℕ} where
   own_row row t o = subst (λ b. unwrap_or (cond b (Some t) None) o ≡ t) (sym (eq-eqb row row refl)) refl
 
   left-ended : (tick : ℕ) (o : Outcome n) → IsLeft o → ended tick o ≡ o
-  left-ended tick (out.Stored at place) l = refl
-  left-ended tick (out.Merged at) l = refl
-  left-ended tick _ l = absurd l
+  left-ended tick o l = grind arith
 
   left-accepts : (o : Outcome n) → IsLeft o → accepts o ≡ true
-  left-accepts (out.Stored at place) l = refl
-  left-accepts (out.Merged at) l = refl
-  left-accepts _ l = absurd l
+  left-accepts o l = grind arith
 
   left-may : (tick line : ℕ) (bytes : List ℕ) (given : List Bool) (o : Outcome n) → IsLeft o → may_have tick (Writes line bytes given) [] o ≡ true
-  left-may tick line bytes given (out.Stored at place) l = refl
-  left-may tick line bytes given (out.Merged at) l = refl
-  left-may tick line bytes given _ l = absurd l
+  left-may tick line bytes given o l = grind arith
 
   -- the rows and the events agree on which writes are accepted
   pub outcome-accepts : (tick : ℕ) (answer : WriteAnswer) (o : Outcome n) → IsOutcome tick answer o → accepts o ≡ accepting answer
@@ -64,8 +58,7 @@ module _ {n : ℕ} where
   outcome-accepts tick wrote.Accepted o (inr is) = ap accepts is
   outcome-accepts tick (wrote.Merged old) o (inl l) = left-accepts o l
   outcome-accepts tick (wrote.Merged old) o (inr is) = ap accepts is
-  outcome-accepts tick wrote.Full o is = ap accepts is
-  outcome-accepts tick wrote.Exhausted o is = ap accepts is
+  outcome-accepts tick _ o is = ap accepts is
 
   -- a write's outcome is one of a write
   pub outcome-may : (tick line : ℕ) (bytes : List ℕ) (given : List Bool) (answer : WriteAnswer) (o : Outcome n) → IsOutcome tick answer o
@@ -74,8 +67,7 @@ module _ {n : ℕ} where
   outcome-may tick line bytes given wrote.Accepted o (inr is) = ap (may_have tick (Writes line bytes given) []) is ∙ eq-eqb tick tick refl
   outcome-may tick line bytes given (wrote.Merged old) o (inl l) = left-may tick line bytes given o l
   outcome-may tick line bytes given (wrote.Merged old) o (inr is) = ap (may_have tick (Writes line bytes given) []) is ∙ eq-eqb tick tick refl
-  outcome-may tick line bytes given wrote.Full o is = ap (may_have tick (Writes line bytes given) []) is ∙ eq-eqb tick tick refl
-  outcome-may tick line bytes given wrote.Exhausted o is = ap (may_have tick (Writes line bytes given) []) is ∙ eq-eqb tick tick refl
+  outcome-may tick line bytes given _ o is = ap (may_have tick (Writes line bytes given) []) is ∙ eq-eqb tick tick refl
 
 module _ {n m : ℕ} (shape : BankShape) (pace : Pace) (e : ℕ) (all ys : List (TimedEvent n m)) (x : TimedEvent n m) where
   fate_outcome : (tick row : ℕ) → AreOpen shape all → WriteFate shape all row → IsLeft (ended tick (outcome_of shape all row)) ⊎ (ended tick (outcome_of shape all row) ≡ out.Queued tick)

@@ -7,8 +7,7 @@ use Rattle.bank_laws.specs.Standing.{has_wait, WaitsApart}
 
 -- by the two values of a test
 pub either : {A : Type 0} (b : Bool) → (b ≡ true → A) → (b ≡ false → A) → A
-either true f g = f refl
-either false f g = g refl
+either b f g = grind arith
 
 pub differ : (a b : ℕ) → a < b → (a == b) ≡ false
 differ a b lt = ne_eqb a b (λ e. omega arith)
@@ -32,5 +31,4 @@ waits_apart-push (v ∷ ws) w a h = (
 )
 
 pub waits_apart-drop : (ws : List Awaited) → WaitsApart ws → WaitsApart (drop 1 ws)
-waits_apart-drop [] a = tt
-waits_apart-drop (w ∷ ws) a = a.1
+waits_apart-drop ws a = grind arith

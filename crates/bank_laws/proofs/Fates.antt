@@ -1,5 +1,5 @@
 -- What becomes of a row: an accepted write leaves the queue or stays there, and a read that waits is answered or lost.
-use Rattle.std.proofs.Common.{◌≡◌, ◌≢◌, ℕ, ◌==◌, ◌||◌, ◌⊎◌, inl, inr, Bool, true, false, List, [], ◌∷◌, ◌++◌, Some, None, drop, refl, sym, ◌∙◌, subst, cond, eqb, eqb-true}
+use Rattle.std.proofs.Common.{arith, ◌≡◌, ◌≢◌, ℕ, ◌==◌, ◌||◌, ◌⊎◌, inl, inr, Bool, true, false, List, [], ◌∷◌, ◌++◌, Some, None, drop, refl, sym, ◌∙◌, subst, cond, eqb, eqb-true}
 use Rattle.std.{specs.Prelude.unwrap_or, proofs.lemmas.Bool.{eq-eqb, or_left, or_right}}
 use Rattle.result_rows.specs.declared.Outcome.{Outcome}
 use Rattle.result_rows.specs.declared.Outcome.TheVariants as out
@@ -26,16 +26,10 @@ module _ {n : ℕ} where
   IsSettled owed _ = ⊥
 
   left-set : (o : Outcome n) → IsLeft o → o ≢ out.Unset
-  left-set out.Unset l e = l
-  left-set (out.Stored tick place) l e = absurd (cc)
-  left-set (out.Merged tick) l e = absurd (cc)
-  left-set _ l e = absurd l
+  left-set x0 l e = grind arith
 
   settled-set : (owed : List ℕ) (o : Outcome n) → IsSettled owed o → o ≢ out.Unset
-  settled-set owed out.Unset l e = l
-  settled-set owed (out.Read tick place bytes) l e = absurd (cc)
-  settled-set owed (out.Lost tick) l e = absurd (cc)
-  settled-set owed _ l e = absurd l
+  settled-set owed x1 l e = grind arith
 
   there-push : (es : List (Entry n)) (x : Entry n) (r : ℕ) → has_row es r ≡ true → has_row (es ++ x ∷ []) r ≡ true
   there-push [] x r h = absurd (cc)
@@ -60,8 +54,7 @@ module _ {n : ℕ} where
       ] refl
     where
       rest : (b : Bool) → b ≡ false → (b || has_row es r) ≡ true → has_row es r ≡ true
-      rest true ne h = absurd (cc)
-      rest false ne h = h
+      rest b ne h = grind arith
 
       more : (b : Bool) → (has_row es r ≡ true → has_row (merged old row bytes given es) r ≡ true) → (b || has_row es r) ≡ true → (b || has_row (merged old row bytes given es) r) ≡ true
       more true go h = refl
@@ -126,8 +119,7 @@ module _ {n m : ℕ} (shape : BankShape) (pace : Pace) (e : ℕ) where
   stored_fate zs tick at place row (f ∷ es) head h = by (eqb at row) refl
     where
       rest : (b : Bool) → b ≡ false → (b || has_row es row) ≡ true → has_row es row ≡ true
-      rest true ne h = absurd (cc)
-      rest false ne h = h
+      rest b ne h = grind arith
 
       by : (b : Bool) → eqb at row ≡ b → (has_row es row ≡ true) ⊎ IsLeft (unwrap_or (cond b (Some (out.Stored tick place)) None) (outcome_of shape zs row))
       by true is = inr tt
@@ -153,8 +145,7 @@ module _ {n m : ℕ} (shape : BankShape) (pace : Pace) (e : ℕ) where
 
   lost_fate : (zs : List (TimedEvent n m)) (tick row : ℕ) (owed : List ℕ) (b : Bool) → b ≡ true
       → IsSettled owed (unwrap_or (cond b (Some (out.Lost tick)) None) (outcome_of shape zs row))
-  lost_fate zs tick row owed true is = tt
-  lost_fate zs tick row owed false is = absurd (cc)
+  lost_fate zs tick row owed b is = grind arith
 
   waiting_fate : (zs : List (TimedEvent n m)) (x : TimedEvent n m) (h : Happens n) (row : ℕ) (owed : List ℕ) → MayCome shape pace e zs x h
       → Awaits (waits shape (core zs)) row owed → ReadFateBy shape zs x.tick h row owed

@@ -1,5 +1,5 @@
 -- The queue and the waiting reads are never longer than they may be.
-use Rattle.std.proofs.Common.{◌≡◌, ℕ, ◌+◌, suc, ◌≤◌, Bool, true, false, List, [], ◌∷◌, ◌++◌, Option, Some, None, drop, length, refl, sym, ap, subst, arith, cond, eqb, length-append}
+use Rattle.std.proofs.Common.{◌≡◌, ℕ, ◌+◌, suc, ◌≤◌, Bool, true, false, List, [], ◌∷◌, ◌++◌, Option, None, drop, length, refl, sym, ap, subst, arith, cond, eqb, length-append}
 use Rattle.std.proofs.lemmas.Bool.{eqb-false}
 use Rattle.masked_bytes.specs.{Entries.{merged, laid_on, candidate, layer_of}, Masked.gives_all, declared.entry.Entry.Entry}
 use Rattle.bank_shape.specs.{declared.BankShape.BankShape, declared.answer.ReadAnswer.ReadAnswer}
@@ -14,8 +14,7 @@ length-push : {X : Type 0} (xs : List X) (x : X) → length (xs ++ x ∷ []) ≡
 length-push xs x = length-append xs (x ∷ [])
 
 length-drop_one : {X : Type 0} (xs : List X) (most : ℕ) → length xs ≤ most → length (drop 1 xs) ≤ most
-length-drop_one [] most le = le
-length-drop_one (x ∷ xs) most le = omega arith
+length-drop_one xs most le = grind arith
 
 module _ {n : ℕ} where
   pub length-merged : (old row : ℕ) (bytes : List ℕ) (given : List Bool) (es : List (Entry n)) → length (merged old row bytes given es) ≡ length es
@@ -27,9 +26,7 @@ module _ {n : ℕ} where
       ]
 
   length-begun : (due : Option ℕ) (f : ℕ → List ℕ) (es : List (Entry n)) → length (begun due f es) ≡ length es
-  length-begun (Some region) f es = refl
-  length-begun None f [] = refl
-  length-begun None f (e ∷ es) = refl
+  length-begun due f es = grind arith
 
   -- a write is accepted as a new entry only where there is room, and a read waits only where there is
   accepted-room : (shape : BankShape) (h : List (BankEvent n)) (line : ℕ) → wrote.Accepted ≡ write_answer shape h line → length (queue shape h) ≡ shape.writes → ⊥
@@ -40,18 +37,16 @@ module _ {n : ℕ} where
       room false is a = eqb-false (length (queue shape h)) shape.writes is
 
       by : (b : Bool) (c : Option ℕ) → wrote.Accepted ≡ cond b wrote.Exhausted (accept_answer shape h c) → length (queue shape h) ≡ shape.writes → ⊥
-      by true c a = absurd (cc)
-      by false (Some at) a = absurd (cc)
       by false None a = room (eqb (length (queue shape h)) shape.writes) refl a
+      by _ _ a = absurd (cc)
 
   waiting-room : (shape : BankShape) (h : List (BankEvent n)) (line : ℕ) → ◌≡◌ {A = ReadAnswer n} came.Waiting (read_answer shape h line) → length (waits shape h) ≡ shape.reads → ⊥
   waiting-room shape h line a = by (gives_all ((layer_of (queue shape h) line).given)) (eqb (length (waits shape h)) shape.reads) refl a
     where
       by : (b c : Bool) → eqb (length (waits shape h)) shape.reads ≡ c → ◌≡◌ {A = ReadAnswer n} came.Waiting (cond b (came.Forwarded (newest h line)) (cond c came.Busy came.Waiting))
           → length (waits shape h) ≡ shape.reads → ⊥
-      by true c is a = absurd (cc)
-      by false true is a = absurd (cc)
       by false false is a = eqb-false (length (waits shape h)) shape.reads is
+      by _ _ is a = absurd (cc)
 
   holds_few : (shape : BankShape) (most : ℕ) (h : List (BankEvent n)) → MayAll shape most h → HoldsFew shape h
   holds_few shape most [] m = record { writes = omega arith; reads = omega arith }

@@ -1,5 +1,5 @@
 -- The entry of a row, with its line, and whether one of that line stands behind it.
-use Rattle.std.proofs.Common.{◌≡◌, ℕ, ◌==◌, ◌||◌, ◌&&◌, ◌⊎◌, inl, inr, not, Bool, true, false, List, [], ◌∷◌, ◌++◌, Option, Some, None, refl, sym, ap, ◌∙◌, subst, cond, eqb, eqb-true}
+use Rattle.std.proofs.Common.{arith, ◌≡◌, ℕ, ◌==◌, ◌||◌, ◌&&◌, ◌⊎◌, inl, inr, not, Bool, true, false, List, [], ◌∷◌, ◌++◌, Option, Some, None, refl, sym, ap, ◌∙◌, subst, cond, eqb, eqb-true}
 use Rattle.std.{specs.Prelude.length, proofs.lemmas.Bool.{eq-eqb, or_left, or_right}}
 use Rattle.masked_bytes.specs.{Entries.{has_row, RowsApart, merged, laid_on, newest_row, candidate, or_this}, declared.entry.Entry.Entry}
 use Rattle.bank_shape.specs.declared.BankShape.{BankShape}
@@ -76,14 +76,10 @@ module _ {n : ℕ} where
   -- Begun entries
 
   pub stands-begun : (due : Option ℕ) (f : ℕ → List ℕ) (es : List (Entry n)) (row line : ℕ) → Stands es row line → Stands (begun due f es) row line
-  stands-begun (Some region) f es row line s = s
-  stands-begun None f [] row line s = s
-  stands-begun None f (e ∷ es) row line s = s
+  stands-begun due f es row line s = grind arith
 
   pub covered-begun : (due : Option ℕ) (f : ℕ → List ℕ) (es : List (Entry n)) (row line : ℕ) → Covered es row line → Covered (begun due f es) row line
-  covered-begun (Some region) f es row line s = s
-  covered-begun None f [] row line s = s
-  covered-begun None f (e ∷ es) row line s = s
+  covered-begun due f es row line s = grind arith
 
   -- The head goes
 
@@ -153,9 +149,8 @@ module _ {n : ℕ} where
   candidate-stands busy (e ∷ es) line at h = by (newest_row es line) refl h
     where
       own : (busy b : Bool) → eqb e.line line ≡ b → cond (not busy && b) (Some e.row) None ≡ Some at → Stands (e ∷ es) at line
-      own true b is h = absurd (cc)
       own false true is h = let same : e.row ≡ at = cc in inl (same, eqb-true e.line line is)
-      own false false is h = absurd (cc)
+      own _ _ is h = absurd (cc)
 
       by : (r : Option ℕ) → newest_row es line ≡ r → or_this r (cond (not busy && eqb e.line line) (Some e.row) None) ≡ Some at → Stands (e ∷ es) at line
       by (Some row) is h = inr (newest-stands es line at (is ∙ h))
@@ -222,8 +217,7 @@ module _ {n : ℕ} where
   merged-candidate shape h line old m = by (has_exhausted h) (candidate (head_busy_after shape h) (queue shape h) line) m
     where
       full : (b : Bool) (c : Option ℕ) → wrote.Merged old ≡ cond b wrote.Full wrote.Accepted → c ≡ Some old
-      full true c m = absurd (cc)
-      full false c m = absurd (cc)
+      full b c m = grind arith
 
       by : (b : Bool) (c : Option ℕ) → wrote.Merged old ≡ cond b wrote.Exhausted (accept_answer shape h c) → c ≡ Some old
       by true c m = absurd (cc)

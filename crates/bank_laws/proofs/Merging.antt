@@ -253,14 +253,12 @@ module _ {n m : ℕ} (shape : BankShape) (pace : Pace) (e : ℕ) where
     fate_new ys x at line bytes given (wrote.Merged old) l may acc =
         let b = above_all shape pace e ys l in
         merged-new old at bytes given (queue shape (core ys)) line (stand_apart shape (core ys) b.0 b.1).queued_apart (merges-stands shape (core ys) line old may.may.2)
-    fate_new ys x at line bytes given wrote.Full l may acc = absurd (cc)
-    fate_new ys x at line bytes given wrote.Exhausted l may acc = absurd (cc)
+    fate_new ys x at line bytes given _ l may acc = absurd (cc)
 
     refused_fits : (tick line : ℕ) (answer : WriteAnswer) (o : Outcome n) (after : List (Row n)) → accepting answer ≡ false → IsOutcome tick answer o → merge_fits line o after ≡ true
-    refused_fits tick line wrote.Accepted o after ref is = absurd (cc)
-    refused_fits tick line (wrote.Merged old) o after ref is = absurd (cc)
     refused_fits tick line wrote.Full o after ref is = ap (λ (o : Outcome n). merge_fits line o after) is
     refused_fits tick line wrote.Exhausted o after ref is = ap (λ (o : Outcome n). merge_fits line o after) is
+    refused_fits tick line _ o after ref is = absurd (cc)
 
     merged_at : Lawful shape pace e all → AreOpen shape all → (later : List (TimedEvent n m)) (x : TimedEvent n m) (ys : List (TimedEvent n m)) → all ≡ later ++ x ∷ ys
         → Passes is_merge_fair (rows_from shape all ys) (row_with shape all x.happens x.tick x.cancels) (rows_after shape all later)

@@ -68,9 +68,7 @@ module _ {n : ℕ} where
   no_candidate-head busy e es line h is = by (newest_row es line) h
     where
       own : (b busy : Bool) → b ≡ true → cond (not busy && b) (Some e.row) None ≡ None → busy ≡ true
-      own true true same h = refl
-      own true false same h = absurd (cc)
-      own false busy same h = absurd (cc)
+      own b busy same h = grind arith
 
       same : (e.line == line) ≡ true
       same = subst (λ l. (e.line == l) ≡ true) (sym (eqb-true line e.line is)) (eq-eqb e.line e.line refl)
@@ -136,21 +134,16 @@ module _ {n : ℕ} where
   work-merged false None old row bytes given es g l w = full-merged old row bytes given es g l w
 
   work-push : (b : Bool) (due : Option ℕ) (es : List (Entry n)) (x : Entry n) → HasWork b due es → HasWork b due (es ++ x ∷ [])
-  work-push true due es x w = absurd w
-  work-push false (Some region) es x w = tt
-  work-push false None [] x w = absurd w
-  work-push false None (e ∷ es) x w = w
+  work-push b due es x w = grind arith
 
   -- Stored and begun entries
 
   paired-drop : (es : List (Entry n)) → ArePaired es → ArePaired (drop 1 es)
-  paired-drop [] a = tt
-  paired-drop (e ∷ []) a = tt
   paired-drop (e ∷ f ∷ es) a = (a.0.1, λ h. absurd (cc (a.0.0, h)))
+  paired-drop _ a = tt
 
   long-drop : (es : List (Entry n)) → AllLong es → AllLong (drop 1 es)
-  long-drop [] l = tt
-  long-drop (e ∷ es) l = l.1
+  long-drop es l = grind arith
 
   paired-begun : (due : Option ℕ) (f : ℕ → List ℕ) (es : List (Entry n)) → ArePaired es → ArePaired (begun due f es)
   paired-begun (Some region) f es a = a
@@ -172,25 +165,20 @@ module _ {n : ℕ} (shape : BankShape) where
   -- a work that may be begun is there once its head is completed
   work-begun : (h : List (BankEvent n)) (b : Bool) (due : Option ℕ) (es : List (Entry n)) (ws : List Awaited) (f : ℕ → List ℕ)
       → is_ready ws (cond b Nothing (due_work shape h due es)) ≡ true → HasWork b due (begun due f es)
-  work-begun h true due es ws f r = absurd (cc)
   work-begun h false (Some region) es ws f r = tt
-  work-begun h false None [] ws f r = absurd (cc)
   work-begun h false None (e ∷ es) ws f r = gives_all-all_given n
+  work-begun h _ _ _ ws f r = absurd (cc)
 
   -- a busy head gives all bytes
   pub busy-full : (h : List (BankEvent n)) (b : Bool) (due : Option ℕ) (es : List (Entry n)) → HasWork b due es → is_store (cond b Nothing (due_work shape h due es)) ≡ true → HeadFull es
-  busy-full h true due es w s = absurd w
-  busy-full h false (Some region) es w s = absurd (cc)
-  busy-full h false None es w s = w
+  busy-full h b due es w s = grind arith
 
   -- a write that is accepted as a new entry merges into none
   pub accepted-none : (h : List (BankEvent n)) (line : ℕ) → wrote.Accepted ≡ write_answer shape h line → candidate (head_busy_after shape h) (queue shape h) line ≡ None
   accepted-none h line a = by (has_exhausted h) (candidate (head_busy_after shape h) (queue shape h) line) a
     where
       by : (b : Bool) (c : Option ℕ) → wrote.Accepted ≡ cond b wrote.Exhausted (accept_answer shape h c) → c ≡ None
-      by true c a = absurd (cc)
-      by false (Some at) a = absurd (cc)
-      by false None a = refl
+      by b c a = grind arith
 
   new_entry : (h : List (BankEvent n)) (line : ℕ) → KeepsPairs h → candidate (head_busy_after shape h) (queue shape h) line ≡ None
       → (e : Entry n) (rest : List (Entry n)) → queue shape h ≡ e ∷ rest → (has_line rest line ≡ false) × ((line == e.line) ≡ true → gives_all e.given ≡ true)

@@ -1,5 +1,5 @@
 -- The writes that stand in the queue, by the rows and by the events.
-use Rattle.std.proofs.Common.{◌≡◌, ◌≢◌, ℕ, ◌<◌, ◌≤◌, ◌==◌, ◌&&◌, ◌||◌, ◌⊎◌, inl, inr, not, Bool, true, false, List, [], ◌∷◌, ◌++◌, Option, Some, None, drop, length, refl, sym, ap, ◌∙◌, subst, arith, cond, eqb, append_assoc}
+use Rattle.std.proofs.Common.{◌≡◌, ◌≢◌, ℕ, ◌<◌, ◌≤◌, ◌==◌, ◌&&◌, ◌||◌, ◌⊎◌, inl, inr, not, Bool, true, false, List, [], ◌∷◌, ◌++◌, Option, None, drop, length, refl, sym, ap, ◌∙◌, subst, arith, cond, eqb, append_assoc}
 use Rattle.std.{specs.List.list_any, specs.Prelude.{unwrap_or, nat_lt, nat_le}, proofs.lemmas.Bool.{lt-ltb, le-ltb, le-leb, or_left, or_right, and_from}}
 use Rattle.result_rows.specs.declared.Outcome.{Outcome}
 use Rattle.result_rows.specs.declared.Outcome.TheVariants as out
@@ -35,34 +35,17 @@ module _ {n : ℕ} where
       by false go h = go h
 
   pub full_outcome : (tick : ℕ) (answer : WriteAnswer) (o : Outcome n) → IsOutcome tick answer o → is_full o ≡ true → answer ≡ wrote.Full
-  full_outcome tick answer out.Unset is f = absurd (cc)
-  full_outcome tick answer (out.Stored at place) is f = absurd (cc)
-  full_outcome tick answer (out.Merged at) is f = absurd (cc)
-  full_outcome tick answer (out.Queued at) is f = absurd (cc)
-  full_outcome tick wrote.Accepted (out.Full at) (inl left) f = absurd left
-  full_outcome tick wrote.Accepted (out.Full at) (inr is) f = absurd (cc)
-  full_outcome tick (wrote.Merged old) (out.Full at) (inl left) f = absurd left
-  full_outcome tick (wrote.Merged old) (out.Full at) (inr is) f = absurd (cc)
-  full_outcome tick wrote.Full (out.Full at) is f = refl
-  full_outcome tick wrote.Exhausted (out.Full at) is f = absurd (cc)
-  full_outcome tick answer (out.Worn at) is f = absurd (cc)
-  full_outcome tick answer (out.Read at place bytes) is f = absurd (cc)
-  full_outcome tick answer (out.Forwarded at bytes) is f = absurd (cc)
-  full_outcome tick answer (out.Busy at) is f = absurd (cc)
-  full_outcome tick answer (out.Lost at) is f = absurd (cc)
-  full_outcome tick answer (out.Cut at) is f = absurd (cc)
+  full_outcome tick answer o is f = grind arith
 
   full-room : (shape : BankShape) (h : List (BankEvent n)) (line : ℕ) → wrote.Full ≡ write_answer shape h line → (length (queue shape h) == shape.writes) ≡ true
   full-room shape h line a = by (has_exhausted h) (candidate (head_busy_after shape h) (queue shape h) line) a
     where
       room : (b : Bool) → wrote.Full ≡ cond b wrote.Full wrote.Accepted → b ≡ true
-      room true a = refl
-      room false a = absurd (cc)
+      room b a = grind arith
 
       by : (b : Bool) (c : Option ℕ) → wrote.Full ≡ cond b wrote.Exhausted (accept_answer shape h c) → eqb (length (queue shape h)) shape.writes ≡ true
-      by true c a = absurd (cc)
-      by false (Some at) a = absurd (cc)
       by false None a = room (eqb (length (queue shape h)) shape.writes) a
+      by _ _ a = absurd (cc)
 
 pub by_stored_later : (n t tick : ℕ) (any : Bool) (u p : ℕ) → t < u → stands_by {n = n} t tick any (out.Stored u p) ≡ true
 by_stored_later n t tick any u p lt = or_left (nat_lt t u) false (lt-ltb t u lt)

@@ -40,13 +40,11 @@ module _ {n : ℕ} (shape : BankShape) (h : List (BankEvent n)) where
     where
       by : (b ex : Bool) (due : Option ℕ) (es : List (Entry n)) → ex ≡ false → due ≡ None → es ≡ []
           → (not b && is_ready (waits shape h) (cond ex Nothing (due_work shape h due es))) ≡ true → ⊥
-      by false false None [] fine none empty m = absurd (cc)
-      by _ _ _ _ fine none empty m = absurd (cc)
+      by b ex due es fine none empty m = grind arith
 
 module _ {n : ℕ} where
   pub ended_stored : (tick : ℕ) (o : Outcome n) (u p : ℕ) → ended tick o ≡ out.Stored u p → o ≡ out.Stored u p
-  ended_stored tick out.Unset u p s = absurd (cc)
-  ended_stored tick _ u p s = s
+  ended_stored tick o u p s = grind arith
 
 module _ {n m : ℕ} (shape : BankShape) (pace : Pace) (e : ℕ) (all : List (TimedEvent n m)) where
   -- where no row is an accepted write the bank is quiet
@@ -58,10 +56,9 @@ module _ {n m : ℕ} (shape : BankShape) (pace : Pace) (e : ℕ) (all : List (Ti
       (λ none. quiet (later ++ x ∷ []) ys some l o (same ∙ sym (append_assoc later (x ∷ []) ys)) none) none
     where
       refused : (row line : ℕ) (bytes : List ℕ) (given : List Bool) (answer : WriteAnswer) → accepting answer ≡ false → IsQuiet shape (core ys) → IsQuiet shape (Write row line bytes given answer ∷ core ys)
-      refused row line bytes given wrote.Accepted isnt q = absurd (cc)
-      refused row line bytes given (wrote.Merged old) isnt q = absurd (cc)
       refused row line bytes given wrote.Full isnt q = record { queue = q.queue; stored = q.stored; exhausted = q.exhausted; idle = q.idle }
       refused row line bytes given wrote.Exhausted isnt q = record { queue = q.queue; stored = q.stored; exhausted = q.exhausted; idle = q.idle }
+      refused row line bytes given _ isnt q = absurd (cc)
 
       by : (h : Happens n) (cancels : Bool) → MayCome shape pace e ys x h → Onwards shape all ys x.tick h → (list_any accepted (rows_from shape all ys) ≡ false → IsQuiet shape (core ys))
           → list_any accepted (row_with shape all h x.tick cancels ++ rows_from shape all ys) ≡ false → IsQuiet shape (core_of h (core ys))
@@ -79,16 +76,12 @@ module _ {n m : ℕ} (shape : BankShape) (pace : Pace) (e : ℕ) (all : List (Ti
   stores_fit (out.Stored at place) before after h = let f = h at place refl in by (worn_by at before) (worn_by at after) f.0 f.1
     where
       by : (a b : Bool) → a ≡ false → b ≡ false → (not a && not b) ≡ true
-      by true b h k = absurd (cc)
-      by false true h k = absurd (cc)
-      by false false h k = refl
+      by a b h k = grind arith
   stores_fit _ before after h = refl
 
   worn-is_worn : (tick : ℕ) (answer : WriteAnswer) (o : Outcome n) → IsOutcome tick answer o → answer ≡ wrote.Exhausted → is_worn o ≡ true
-  worn-is_worn tick wrote.Accepted o is ex = absurd (cc)
-  worn-is_worn tick (wrote.Merged old) o is ex = absurd (cc)
-  worn-is_worn tick wrote.Full o is ex = absurd (cc)
   worn-is_worn tick wrote.Exhausted o is ex = ap is_worn is
+  worn-is_worn tick _ o is ex = absurd (cc)
 
   final_at : 1 ≤ pace.read → 1 ≤ pace.iter → Lawful shape pace e all → AreOpen shape all → (later : List (TimedEvent n m)) (x : TimedEvent n m) (ys : List (TimedEvent n m)) → all ≡ later ++ x ∷ ys
       → Passes is_wear_final (rows_from shape all ys) (row_with shape all x.happens x.tick x.cancels) (rows_after shape all later)

@@ -1,5 +1,5 @@
 -- A bank with nothing left to do is still, and so is one behind a power cut.
-use Rattle.std.proofs.Common.{◌≡◌, ℕ, ◌&&◌, not, Bool, true, false, List, [], ◌∷◌, Option, Some, None, refl, ap, ◌∙◌, cond}
+use Rattle.std.proofs.Common.{arith, ◌≡◌, ℕ, ◌&&◌, not, Bool, true, false, List, [], ◌∷◌, Option, Some, None, ap, ◌∙◌, cond}
 use Rattle.bank_shape.specs.{Acting.{Choice, chosen_by}, Pausing.gives_way, declared.BankShape.BankShape, declared.pace.Pace.Pace}
 use Rattle.bank_shape.specs.declared.clock.Doing.TheVariants as doing
 use Rattle.bank_model.specs.{Changes.{change_after, keeping_after, change_by, keeping_by}, History.{waits, in_progress}, Lawful.IsIdle, Running.{busy_by, choice_after}}
@@ -10,15 +10,10 @@ none-busy : (way reads : Bool) (c : Choice) → chosen_by way reads c ≡ None �
 none-busy way reads c is = by way reads c.busy c.ready is
   where
     by : (way reads busy ready : Bool) → cond (way && reads) (Some doing.Serving) (cond busy (Some c.going_on) (cond reads (Some doing.Serving) (cond ready (Some c.beginning) None))) ≡ None → busy ≡ false
-    by true true busy ready is = absurd (cc)
-    by true false true ready is = absurd (cc)
-    by true false false ready is = refl
-    by false reads true ready is = absurd (cc)
-    by false reads false ready is = refl
+    by way reads busy ready is = grind arith
 
 none-goes : (change : Option ℕ) → busy_by change false false ≡ false
-none-goes None = refl
-none-goes (Some item) = refl
+none-goes change = grind arith
 
 module _ {n m : ℕ} (shape : BankShape) where
   pub idle-still : (pace : Pace) (xs : List (TimedEvent n m)) → IsIdle shape pace xs → IsStill shape xs

@@ -1,5 +1,5 @@
 -- The rows and the events agree on the newest bytes, and every row of a bank's table is served as it should be.
-use Rattle.std.proofs.Common.{◌≡◌, ℕ, ◌==◌, ◌&&◌, not, inl, inr, Bool, true, false, List, [], ◌∷◌, ◌++◌, Some, None, length, refl, sym, ap, ◌∙◌, subst, cond, eqb, append_assoc, eq-eqb}
+use Rattle.std.proofs.Common.{arith, ◌≡◌, ℕ, ◌==◌, ◌&&◌, not, inl, inr, Bool, true, false, List, [], ◌∷◌, ◌++◌, Some, None, length, refl, sym, ap, ◌∙◌, subst, cond, eqb, append_assoc, eq-eqb}
 use Rattle.std.proofs.lemmas.Bool.{and_from}
 use Rattle.result_rows.specs.declared.Outcome.{Outcome}
 use Rattle.result_rows.specs.declared.Outcome.TheVariants as out
@@ -31,25 +31,19 @@ none-waits true true c is = absurd (cc)
 none-waits false true c is = by c.busy is
   where
     by : (b : Bool) → cond b (Some c.going_on) (Some doing.Serving) ≡ None → true ≡ false
-    by true is = absurd (cc)
-    by false is = absurd (cc)
+    by b is = grind arith
 
 empty-waits : (ws : List Awaited) → not (is_empty ws) ≡ false → ws ≡ []
-empty-waits [] h = refl
-empty-waits (w ∷ ws) h = absurd (cc)
+empty-waits ws h = grind arith
 
 pub idle-waits : {n m : ℕ} (shape : BankShape) (pace : Pace) (xs : List (TimedEvent n m)) → IsIdle shape pace xs → waits shape (core xs) ≡ []
 idle-waits shape pace xs idle = empty-waits (waits shape (core xs)) (none-waits (gives_way pace.policy) (not (is_empty (waits shape (core xs)))) (choice_after shape pace xs) idle.chosen)
 
 lay_taken : (a b : Bool) (xs ys : List ℕ) → b ≡ true → cond (a && b) xs ys ≡ cond a xs ys
-lay_taken true true xs ys h = refl
-lay_taken true false xs ys h = absurd (cc)
-lay_taken false b xs ys h = refl
+lay_taken a b xs ys h = grind arith
 
 lay_left : (a b : Bool) (xs ys : List ℕ) → b ≡ false → cond (a && b) xs ys ≡ ys
-lay_left true true xs ys h = absurd (cc)
-lay_left true false xs ys h = refl
-lay_left false b xs ys h = refl
+lay_left a b xs ys h = grind arith
 
 module _ {n : ℕ} where
   -- the bytes of a forwarded answer are the newest
@@ -57,9 +51,7 @@ module _ {n : ℕ} where
   forwarded-newest shape h line bytes f = by (gives_all ((layer_of (queue shape h) line).given)) (eqb (length (waits shape h)) shape.reads) f
     where
       by : (b c : Bool) → ◌≡◌ {A = ReadAnswer n} (came.Forwarded bytes) (cond b (came.Forwarded (newest h line)) (cond c came.Busy came.Waiting)) → bytes ≡ newest h line
-      by true c f = cc
-      by false true f = absurd (cc)
-      by false false f = absurd (cc)
+      by b c f = grind arith
 
 module _ {n m : ℕ} (shape : BankShape) (pace : Pace) (e : ℕ) (all : List (TimedEvent n m)) where
   -- of each split of a lawful history: its event was allowed, and what it leaves stands in the end
@@ -74,10 +66,9 @@ module _ {n m : ℕ} (shape : BankShape) (pace : Pace) (e : ℕ) (all : List (Ti
       → accepts (ended x.tick (outcome_of shape all row)) ≡ accepting answer → rows.newest (rows_from shape all ys) line ≡ newest (core ys) line
       → cond (eqb at line && accepts (ended x.tick (outcome_of shape all row))) (laid bytes given (rows.newest (rows_from shape all ys) line)) (rows.newest (rows_from shape all ys) line)
       ≡ newest (Write row at bytes given answer ∷ core ys) line
-  newest_write ys x at row line bytes given wrote.Accepted acc ih = lay_taken (eqb at line) _ _ _ acc ∙ ap (λ under. cond (eqb at line) (laid bytes given under) under) ih
-  newest_write ys x at row line bytes given (wrote.Merged old) acc ih = lay_taken (eqb at line) _ _ _ acc ∙ ap (λ under. cond (eqb at line) (laid bytes given under) under) ih
   newest_write ys x at row line bytes given wrote.Full acc ih = lay_left (eqb at line) _ _ _ acc ∙ ih
   newest_write ys x at row line bytes given wrote.Exhausted acc ih = lay_left (eqb at line) _ _ _ acc ∙ ih
+  newest_write ys x at row line bytes given _ acc ih = lay_taken (eqb at line) _ _ _ acc ∙ ap (λ under. cond (eqb at line) (laid bytes given under) under) ih
 
   -- the newest bytes by the rows are those by the events
   pub newest_same : (later ys : List (TimedEvent n m)) (line : ℕ) → Lawful shape pace e all → AreOpen shape all → all ≡ later ++ ys → rows.newest (rows_from shape all ys) line ≡ newest (core ys) line

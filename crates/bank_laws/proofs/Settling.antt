@@ -27,8 +27,7 @@ module _ {n : ℕ} where
   kept at row t o ne is = subst (λ b. unwrap_or (cond b (Some t) None) o ≡ out.Unset) (sym ne) is
 
   kept_lost : (b : Bool) (t o : Outcome n) → b ≡ false → o ≡ out.Unset → unwrap_or (cond b (Some t) None) o ≡ out.Unset
-  kept_lost true t o ne is = absurd (cc)
-  kept_lost false t o ne is = is
+  kept_lost b t o ne is = grind arith
 
   -- an event answers no row that has an outcome
   settled : (o : ℕ → Outcome n) (at row : ℕ) (t : Outcome n) → o at ≡ out.Unset → o row ≢ out.Unset → unwrap_or (on_row at row t) (o row) ≡ o row

@@ -1,5 +1,5 @@
 -- The array line that a line write has as its target stays so until the write ends.
-use Rattle.std.proofs.Common.{◌≡◌, ℕ, ◌&&◌, not, Bool, true, false, List, [], ◌∷◌, ◌++◌, Option, Some, None, refl, ap, ◌∙◌, cond, eqb}
+use Rattle.std.proofs.Common.{arith, ◌≡◌, ℕ, ◌&&◌, not, Bool, true, false, List, [], ◌∷◌, ◌++◌, Option, Some, None, refl, ap, ◌∙◌, cond, eqb}
 use Rattle.masked_bytes.{specs.Entries.{merged, laid_on}, specs.declared.entry.Entry.Entry, proofs.Truth.and_second}
 use Rattle.bank_shape.specs.{declared.BankShape.BankShape, declared.Work.TheVariants.Nothing}
 use Rattle.bank_shape.specs.declared.answer.WriteAnswer.TheVariants as wrote
@@ -17,10 +17,7 @@ WorkOf false None [] = ⊥
 WorkOf false None (e ∷ es) = Unit {0}
 
 work-push : {n : ℕ} (b : Bool) (due : Option ℕ) (es : List (Entry n)) (x : Entry n) → WorkOf b due es → WorkOf b due (es ++ x ∷ [])
-work-push true due es x w = w
-work-push false (Some region) es x w = tt
-work-push false None [] x w = tt
-work-push false None (e ∷ es) x w = tt
+work-push b due es x w = grind arith
 
 work-merged : {n : ℕ} (b : Bool) (due : Option ℕ) (old row : ℕ) (bytes : List ℕ) (given : List Bool) (es : List (Entry n)) → WorkOf b due es → WorkOf b due (merged old row bytes given es)
 work-merged true due old row bytes given es w = w
@@ -30,39 +27,25 @@ work-merged false None old row bytes given (e ∷ es) w =
     elim (eqb e.row old) as (λ b. WorkOf false None (cond b (laid_on row bytes given e ∷ es) (e ∷ merged old row bytes given es))) [ true ↦ tt | false ↦ tt ]
 
 work-begun : {n : ℕ} (b : Bool) (due by : Option ℕ) (f : ℕ → List ℕ) (es : List (Entry n)) → WorkOf b due es → WorkOf b due (begun by f es)
-work-begun true due by f es w = w
-work-begun false (Some region) by f es w = tt
-work-begun false None (Some region) f es w = w
-work-begun false None None f [] w = w
-work-begun false None None f (e ∷ es) w = tt
+work-begun b due by f es w = grind arith
 
 work-full : {n : ℕ} (b : Bool) (due : Option ℕ) (es : List (Entry n)) → HasWork b due es → WorkOf b due es
-work-full true due es w = w
-work-full false (Some region) es w = tt
-work-full false None [] w = absurd w
-work-full false None (e ∷ es) w = tt
+work-full b due es w = grind arith
 
 pub unexhausted : {n : ℕ} (b : Bool) (due : Option ℕ) (es : List (Entry n)) → WorkOf b due es → b ≡ false
-unexhausted true due es w = absurd w
-unexhausted false due es w = refl
+unexhausted b due es w = grind arith
 
 module _ {n : ℕ} (shape : BankShape) (h : List (BankEvent n)) where
   due-push : (due : Option ℕ) (es : List (Entry n)) (x : Entry n) → WorkOf false due es → due_work shape h due (es ++ x ∷ []) ≡ due_work shape h due es
-  due-push (Some region) es x w = refl
-  due-push None [] x w = absurd w
-  due-push None (e ∷ es) x w = refl
+  due-push due es x w = grind arith
 
   due-merged : (due : Option ℕ) (old row : ℕ) (bytes : List ℕ) (given : List Bool) (es : List (Entry n)) → due_work shape h due (merged old row bytes given es) ≡ due_work shape h due es
-  due-merged (Some region) old row bytes given es = refl
-  due-merged None old row bytes given [] = refl
   due-merged None old row bytes given (e ∷ es) =
       elim (eqb e.row old) as (λ b. due_work shape h None (cond b (laid_on row bytes given e ∷ es) (e ∷ merged old row bytes given es)) ≡ due_work shape h None (e ∷ es)) [ true ↦ refl | false ↦ refl ]
+  due-merged _ old row bytes given _ = refl
 
   due-begun : (due by : Option ℕ) (f : ℕ → List ℕ) (es : List (Entry n)) → due_work shape h due (begun by f es) ≡ due_work shape h due es
-  due-begun (Some region) by f es = refl
-  due-begun None (Some region) f es = refl
-  due-begun None None f [] = refl
-  due-begun None None f (e ∷ es) = refl
+  due-begun due by f es = grind arith
 
   target-by : (b : Bool) (due : Option ℕ) (new es : List (Entry n)) → (b ≡ false → due_work shape h due new ≡ due_work shape h due es)
       → array_line_after shape h (slot_of_work shape h (cond b Nothing (due_work shape h due new))) ≡ array_line_after shape h (slot_of_work shape h (cond b Nothing (due_work shape h due es)))
@@ -75,17 +58,11 @@ module _ {n : ℕ} (shape : BankShape) (h : List (BankEvent n)) where
 
   -- a work that is there is ready where no read waits
   pub ready : (b : Bool) (due : Option ℕ) (es : List (Entry n)) → WorkOf b due es → is_ready [] (cond b Nothing (due_work shape h due es)) ≡ true
-  ready true due es w = absurd w
-  ready false (Some region) es w = refl
-  ready false None [] w = absurd w
-  ready false None (e ∷ es) w = refl
+  ready b due es w = grind arith
 
   -- and one that may be begun is there
   pub ready-work : (ws : List Awaited) (b : Bool) (due : Option ℕ) (es : List (Entry n)) → is_ready ws (cond b Nothing (due_work shape h due es)) ≡ true → WorkOf b due es
-  ready-work ws true due es r = absurd (cc)
-  ready-work ws false (Some region) es r = tt
-  ready-work ws false None [] r = absurd (cc)
-  ready-work ws false None (e ∷ es) r = tt
+  ready-work ws b due es r = grind arith
 
 -- an event that doesn't end a line write
 abbrev pub spares_work : {n : ℕ} → BankEvent n → Bool

@@ -10,9 +10,7 @@ use Rattle.bank_model.specs.Timing.{Happens, Core, Regs, KeepBegin, KeepIterate,
 use Rattle.bank_laws.specs.Ticks.{ends_action, TickLaw}
 
 pub lasts_some : (read iter : ℕ) (doing : Doing) → 1 ≤ read → 1 ≤ iter → 1 ≤ lasts read iter doing
-lasts_some read iter Serving r i = r
-lasts_some read iter Beginning r i = r
-lasts_some read iter Iterating r i = i
+lasts_some read iter doing r i = grind arith
 
 -- an action that is chosen at a tick ends above it
 started-above : (pace : Pace) (r : Option Action) (d : Option Doing) (last tick : ℕ) (a : Action) → 1 ≤ pace.read → 1 ≤ pace.iter
@@ -36,8 +34,7 @@ module _ {n m : ℕ} (shape : BankShape) (pace : Pace) (e : ℕ) where
   running-above (x ∷ xs) l = by x.happens l.0
     where
       left : (b : Bool) (action : Option Action) → IfSome action (λ a. x.tick < ends pace a) → IfSome (cond b None action) (λ a. x.tick < ends pace a)
-      left true action h = tt
-      left false action h = h
+      left b action h = grind arith
 
       by : (h : Happens n) → MayCome shape pace e xs x h → IfSome (left_by shape (core xs) (change_after shape xs) h (running_at shape pace xs x.tick)) (λ a. x.tick < ends pace a)
       by (Core (Write row line bytes given answer)) may = may.on_time.0.2

@@ -18,20 +18,14 @@ use Rattle.bank_laws.proofs.Walking.{Passes, walk, rows_after, rows_after-more}
 use Rattle.masked_bytes.specs.{Entries.layer_of, Masked.gives_all}
 
 not_and : (a b : Bool) → b ≡ true → (a && not b) ≡ false
-not_and true true h = refl
-not_and true false h = absurd (cc)
-not_and false b h = refl
+not_and a b h = grind arith
 
 -- a read that would cancel finds no read that waits
 pub cancels-none : (a b c d : Bool) → (a && (b && (c && d))) ≡ true → c ≡ true
-cancels-none true true true d h = refl
-cancels-none true true false d h = absurd (cc)
-cancels-none true false c d h = absurd (cc)
-cancels-none false b c d h = absurd (cc)
+cancels-none a b c d h = grind arith
 
 empty-lacks : (ws : List Awaited) (row : ℕ) → is_empty ws ≡ true → has_wait ws row ≡ false
-empty-lacks [] row h = refl
-empty-lacks (w ∷ ws) row h = absurd (cc)
+empty-lacks ws row h = grind arith
 
 pub wait-push : (ws : List Awaited) (w : Awaited) (row : ℕ) → has_wait ws row ≡ true → has_wait (ws ++ w ∷ []) row ≡ true
 wait-push [] w row h = absurd (cc)
@@ -65,8 +59,7 @@ module _ {n m : ℕ} (shape : BankShape) (pace : Pace) (e : ℕ) (all : List (Ti
       by (w ∷ ws) first there = own (eqb answer.row row) refl
         where
           rest : (b : Bool) → b ≡ false → (b || has_wait ws row) ≡ true → has_wait ws row ≡ true
-          rest true ne k = absurd (cc)
-          rest false ne k = k
+          rest b ne k = grind arith
 
           own : (b : Bool) → eqb answer.row row ≡ b
               → ((has_wait ws row ≡ true) × (false ≡ false))
@@ -77,8 +70,7 @@ module _ {n m : ℕ} (shape : BankShape) (pace : Pace) (e : ℕ) (all : List (Ti
   wait_step zs x (Core (Cut tearing)) row may there = by x.cancels may.on_time.2
     where
       lost : (b : Bool) → b ≡ true → unwrap_or (cond b (Some (out.Lost x.tick)) None) (outcome_of shape zs row) ≡ out.Lost x.tick
-      lost true is = refl
-      lost false is = absurd (cc)
+      lost b is = grind arith
 
       by : (b : Bool) → (b ≡ true → would_cancel shape (core zs) pace.policy (running_at shape pace zs x.tick) (cancels_after zs) ≡ true)
           → ((false ≡ true) × (list_any is_cut (row_with shape all (Core (Cut tearing)) x.tick b) ≡ false))
@@ -164,10 +156,7 @@ module _ {n m : ℕ} (shape : BankShape) (pace : Pace) (e : ℕ) (all : List (Ti
       onward_step t (later ++ zs) x x.happens row l.1 l.0 above.0 (onward t later zs row above.1 l.1 o)
 
   comb_true : (a b c : Bool) → (a || b) ≡ true → c ≡ false → (a || (b && not c)) ≡ true
-  comb_true true b c h k = refl
-  comb_true false true true h k = absurd (cc)
-  comb_true false true false h k = refl
-  comb_true false false c h k = absurd (cc)
+  comb_true a b c h k = grind arith
 
   -- a read awaits its answer by the rows exactly where it waits by the events, at any tick up to the next end
   -- of an action
@@ -252,10 +241,7 @@ may_all {n} {m} shape pace e (z ∷ zs) l = by z.happens l.0 (may_all shape pace
     by (Regs event) may rest = rest
 
 pub cond_length : {X : Type 0} (a b : Bool) (q : X) (xs : List X) (k : ℕ) → a ≡ b → length xs ≡ k → length (cond a (q ∷ xs) xs) ≡ cond b (suc k) k
-cond_length true true q xs k is same = ap suc same
-cond_length true false q xs k is same = absurd (cc)
-cond_length false true q xs k is same = absurd (cc)
-cond_length false false q xs k is same = same
+cond_length a b q xs k is same = grind arith
 
 module _ {n m : ℕ} (shape : BankShape) (pace : Pace) (e : ℕ) (all : List (TimedEvent n m)) where
   -- how the read of an event begins

@@ -26,8 +26,7 @@ module _ {n : ℕ} where
       by false s = s
 
   pub lost_not_stored : (b : Bool) (tick : ℕ) (o : Outcome n) (u p : ℕ) → unwrap_or (cond b (Some (out.Lost tick)) None) o ≡ out.Stored u p → o ≡ out.Stored u p
-  lost_not_stored true tick o u p s = absurd (cc)
-  lost_not_stored false tick o u p s = s
+  lost_not_stored b tick o u p s = grind arith
 
   pub stored_tick : (at row tick place : ℕ) (o : Outcome n) (u p : ℕ) → unwrap_or (on_row at row (out.Stored tick place)) o ≡ out.Stored u p → ((true ≡ true) × (u ≡ tick)) ⊎ (o ≡ out.Stored u p)
   stored_tick at row tick place o u p s = by (eqb at row) s
@@ -38,36 +37,30 @@ module _ {n : ℕ} where
 
   -- an accepted outcome is not worn
   accepted_not_worn : (o : Outcome n) → accepts o ≡ true → is_worn o ≡ false
-  accepted_not_worn (out.Worn at) a = absurd (cc)
-  accepted_not_worn _ a = refl
+  accepted_not_worn o a = grind arith
 
   -- a worn outcome comes of a bank that is exhausted
   pub worn_outcome : (tick : ℕ) (answer : WriteAnswer) (o : Outcome n) → IsOutcome tick answer o → is_worn o ≡ true → answer ≡ wrote.Exhausted
-  worn_outcome tick wrote.Accepted o is w = absurd (cc (accepted_not_worn o (outcome-accepts tick wrote.Accepted o is)))
-  worn_outcome tick (wrote.Merged old) o is w = absurd (cc (accepted_not_worn o (outcome-accepts tick (wrote.Merged old) o is)))
   worn_outcome tick wrote.Full o is w = absurd (cc (ap is_worn is))
   worn_outcome tick wrote.Exhausted o is w = refl
+  worn_outcome tick answer o is w = absurd (cc (accepted_not_worn o (outcome-accepts tick answer o is)))
 
   -- an exhausted bank stores nothing
   pub exhausted-stores_none : (shape : BankShape) (h : List (BankEvent n)) (row place : ℕ) → has_exhausted h ≡ true → IsDone shape h (work_after shape h) (did.Stored row place) → ⊥
   exhausted-stores_none shape h row place ex d = by (has_exhausted h) ex d
     where
       by : (b : Bool) → b ≡ true → IsDone shape h (cond b Nothing (due_work shape h (due_after shape h) (queue shape h))) (did.Stored row place) → ⊥
-      by true ex d = d
-      by false ex d = absurd (cc)
+      by b ex d = grind arith
 
   pub exhausted-more : (event : BankEvent n) (h : List (BankEvent n)) → has_exhausted h ≡ true → has_exhausted (event ∷ h) ≡ true
-  exhausted-more (Begin did.Exhausted) h ex = refl
-  exhausted-more (Iterate did.Exhausted) h ex = refl
-  exhausted-more _ h ex = ex
+  exhausted-more event h ex = grind arith
 
   -- a write is refused as worn exactly where the bank is exhausted
   pub refused-exhausted : (shape : BankShape) (h : List (BankEvent n)) (line : ℕ) → wrote.Exhausted ≡ write_answer shape h line → has_exhausted h ≡ true
   refused-exhausted shape h line a = by (has_exhausted h) (candidate (head_busy_after shape h) (queue shape h) line) a
     where
       full : (b : Bool) → wrote.Exhausted ≡ cond b wrote.Full wrote.Accepted → false ≡ true
-      full true a = absurd (cc)
-      full false a = absurd (cc)
+      full b a = grind arith
 
       by : (b : Bool) (c : Option ℕ) → wrote.Exhausted ≡ cond b wrote.Exhausted (accept_answer shape h c) → b ≡ true
       by true c a = refl

@@ -13,18 +13,13 @@ pub counted-few : (k : ℕ) → counted k ≤ k + 1
 counted-few k = min-le_left (k + 1) _
 
 pub more-goes_on : (answer : Step) → goes_on answer ≡ true → answer ≡ did.More
-more-goes_on did.More is = refl
-more-goes_on _ is = absurd (cc)
+more-goes_on answer is = grind arith
 
 pub tearing-going : (tearing busy : Bool) → (not tearing || busy) ≡ true → tearing ≡ true → busy ≡ true
-tearing-going true busy may is = may
-tearing-going false busy may is = absurd (cc)
+tearing-going tearing busy may is = grind arith
 
 pub zeros : (a b : Bool) → cond a zero zero ≡ cond b zero zero
-zeros true true = refl
-zeros true false = refl
-zeros false true = refl
-zeros false false = refl
+zeros a b = grind arith
 
 -- a control line is none of the lines before it
 module _ (shape : BankShape) (at : ℕ) (low : at < controls_from shape) where

@@ -1,5 +1,5 @@
 -- Blocks of 64 cells as the bits of a number.
-use Rattle.std.proofs.Common.{◌≡◌, ℕ, zero, suc, ◌+◌, ◌-◌, ◌*◌, ◌/◌, ◌%◌, ◌^◌, ◌<◌, ◌≤◌, Bool, true, false, cond, eqb, List, [], ◌∷◌, length, get_or, refl, sym, ◌∙◌, ap, inl, inr, arith, add-zero, add-one, subst, w8, Fits}
+use Rattle.std.proofs.Common.{◌≡◌, ℕ, zero, suc, ◌+◌, ◌-◌, ◌*◌, ◌/◌, ◌%◌, ◌^◌, ◌<◌, ◌≤◌, Bool, true, false, cond, eqb, List, [], ◌∷◌, length, get_or, sym, ◌∙◌, ap, inl, inr, arith, add-zero, add-one, subst, w8, Fits}
 use Rattle.std.{specs.Int.RustNames.count_ones, specs.Simd.Lanes.{Each1, chunk, number_l}, proofs.lemmas.Bool.cases_lt, proofs.lemmas.List.get_or_past}
 use Rattle.std.proofs.{lemmas.Nat.{shr_split, shr_below, ones-le}, lemmas.Nat.Bits.{bit_at-zero, bit_at-suc, bit_at_lowest, bit_at_cat_low, bit_at_cat_high}}
 use Rattle.std.proofs.lemmas.Simd.{chunk-fits, get_or-chunk, length-chunk, Each1-get_or}
@@ -18,8 +18,7 @@ shifted_high byte k i high some =
     ap (λ x. bit_in x i) e ∙ ap (λ x. eqb x 1) (bit_at_cat_high byte k 0 i some high)
 
 pub or_none : (b : Bool) → cond b true false ≡ b
-or_none true = refl
-or_none false = refl
+or_none b = grind arith
 
 -- bit by bit, a number spelt by bytes is those bytes
 number_bit : (bytes : List ℕ) → ((k : ℕ) → get_or bytes k 0 < 2 ^ 8) → (j i : ℕ) → i < 8 → bit_in (number_l 256 bytes) (8 * j + i) ≡ bit_in (get_or bytes j 0) i
@@ -62,9 +61,7 @@ word_read bytes block i room fits low =
     ∙ ap (bit_of bytes) number
 
 one_digit : (n : ℕ) → n < 2 → cond (eqb n 1) 1 0 ≡ n
-one_digit zero small = refl
-one_digit (suc zero) small = refl
-one_digit (suc (suc n)) small = absurd (omega arith)
+one_digit n small = grind arith
 
 -- as many bits of a number are 1 as the numbers with the property that they tell
 pub count_bits : (has : ℕ → Bool) (k n word : ℕ) → word < 2 ^ k → ((i : ℕ) → i < k → bit_in word i ≡ has (n + i))

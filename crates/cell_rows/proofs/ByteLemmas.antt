@@ -216,14 +216,7 @@ pub digit_or : (a b i : ℕ) → bit_in (bit_or a b) i ≡ cond (bit_in a i) tru
 digit_or a b i = ap (λ x. eqb x 1) (bit_at_or a b i) ∙ one_or _ _ (bit_at-lt a i) (bit_at-lt b i)
 
 pick : (o w m : Bool) → xor o (xor o w && m) ≡ cond m w o
-pick true true true = refl
-pick true true false = refl
-pick true false true = refl
-pick true false false = refl
-pick false true true = refl
-pick false true false = refl
-pick false false true = refl
-pick false false false = refl
+pick o w m = grind arith
 
 -- a choice between two bytes, bit by bit
 pub digit_choice : (byte mask want i : ℕ) → bit_in (bit_xor byte (bit_and (bit_xor byte want) mask)) i ≡ cond (bit_in mask i) (bit_in want i) (bit_in byte i)
@@ -233,10 +226,7 @@ digit_choice byte mask want i =
     ∙ pick (bit_in byte i) (bit_in want i) (bit_in mask i)
 
 lacking : (b o : Bool) → xor b (b && o) ≡ not o && b
-lacking true true = refl
-lacking true false = refl
-lacking false true = refl
-lacking false false = refl
+lacking b o = grind arith
 
 pub digit_without : (byte other i : ℕ) → bit_in (bit_xor byte (bit_and byte other)) i ≡ not (bit_in other i) && bit_in byte i
 digit_without byte other i =
@@ -244,10 +234,7 @@ digit_without byte other i =
 
 -- both, the other first
 pub swapped : (a b : Bool) → a && b ≡ b && a
-swapped true true = refl
-swapped true false = refl
-swapped false true = refl
-swapped false false = refl
+swapped a b = grind arith
 
 -- bit i of byte k
 pub bit_of_byte : (bytes : List ℕ) (k i : ℕ) → i < 8 → bit_of bytes (8 * k + i) ≡ bit_in (get_or bytes k 0) i

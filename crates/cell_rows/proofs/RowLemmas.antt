@@ -123,8 +123,7 @@ unfolding members
 members-suc has n = rw add-one refl
 
 one_le : (b : Bool) → cond b 1 0 ≤ 1
-one_le true = omega arith
-one_le false = omega arith
+one_le b = grind arith
 
 pub members_le : (has : ℕ → Bool) (n : ℕ) → members has n ≤ n
 unfolding members

@@ -1,5 +1,5 @@
 -- Rows that stand nowhere: a row comes into a bank by its own event alone.
-use Rattle.std.proofs.Common.{◌≡◌, ℕ, false, List, [], ◌∷◌, Option, Some, None, refl}
+use Rattle.std.proofs.Common.{arith, ◌≡◌, ℕ, false, List, [], ◌∷◌, Option, refl}
 use Rattle.masked_bytes.{specs.Entries.has_row, specs.declared.entry.Entry.Entry, proofs.Rows.{lacks-push, lacks-drop, lacks-merged}}
 use Rattle.bank_shape.specs.declared.BankShape.{BankShape}
 use Rattle.bank_shape.specs.declared.answer.WriteAnswer.TheVariants as wrote
@@ -11,9 +11,7 @@ use Rattle.clock_laws.specs.Standing.{is_arrival_of}
 
 module _ {n : ℕ} where
   lacks-begun : (due : Option ℕ) (newest_of : ℕ → List ℕ) (es : List (Entry n)) (row : ℕ) → has_row es row ≡ false → has_row (begun due newest_of es) row ≡ false
-  lacks-begun (Some region) newest_of es row none = none
-  lacks-begun None newest_of [] row none = none
-  lacks-begun None newest_of (e ∷ es) row none = none
+  lacks-begun due newest_of es row none = grind arith
 
   -- a row comes into the queue by its own write alone, and begins to wait by its own read alone
   module _ (shape : BankShape) (h : List (BankEvent n)) (row : ℕ) where

@@ -152,29 +152,13 @@ module _ {n m : ℕ} (shape : BankShape) (pace : Pace) (e at : ℕ) (low : at < 
   stepped : (going here : Bool) (k : ℕ) (o : Option ℕ) → x.pulsed ≡ o → is_at o at ≡ here → held_on shape at (core xs) ≡ cond here k 0
       → (is_at x.pulsed at ≡ true → ((c : ℕ) → old.stuck c ≡ false) → Strikes bounds k false old new)
       → IsAged bounds (cond (not going && here) 1 0 + works) (cond (going && here) (k + 1) 0) new
-  stepped true true k o is on held strikes =
-      let hit : is_at x.pulsed at ≡ true = ap (λ o. is_at o at) is ∙ on in
-      same-works (k + 1) (struck-going bounds old new works k false (sticks hit) (strikes hit) (subst (λ (k : ℕ). IsAged bounds works k old) held aged) refl)
-  stepped false true k o is on held strikes =
-      let hit : is_at x.pulsed at ≡ true = ap (λ o. is_at o at) is ∙ on in
-      more-works (struck-ended bounds old new works k false (sticks hit) (strikes hit) (subst (λ (k : ℕ). IsAged bounds works k old) held aged))
-  stepped true false k o is off held strikes = untouched o is off (0 + works) 0 (idle-ended false held)
-  stepped false false k o is off held strikes = untouched o is off (0 + works) 0 (idle-ended false held)
+  stepped going here k o is on held strikes = grind arith
 
   -- a cut
   broken : (busy tearing here : Bool) (k : ℕ) (o : Option ℕ) → x.pulsed ≡ o → is_at o at ≡ (tearing && here) → held_on shape at (core xs) ≡ cond (busy && here) k 0
       → (tearing ≡ true → busy ≡ true) → (is_at x.pulsed at ≡ true → ((c : ℕ) → old.stuck c ≡ false) → Strikes bounds k true old new)
       → IsAged bounds (cond (busy && here) 1 0 + works) 0 new
-  broken true true true k o is on held tears strikes =
-      let hit : is_at x.pulsed at ≡ true = ap (λ o. is_at o at) is ∙ on in
-      more-works (struck-ended bounds old new works k true (sticks hit) (strikes hit) (subst (λ (k : ℕ). IsAged bounds works k old) held aged))
-  broken true false true k o is off held tears strikes =
-      untouched o is off (1 + works) 0 (aged-ended bounds works (held_on shape at (core xs)) old aged (1 + works) (omega arith))
-  broken true true false k o is off held tears strikes = untouched o is off (0 + works) 0 (idle-ended false held)
-  broken true false false k o is off held tears strikes = untouched o is off (0 + works) 0 (idle-ended false held)
-  broken false true here k o is on held tears strikes = absurd (cc (tears refl))
-  broken false false true k o is off held tears strikes = untouched o is off (0 + works) 0 (idle-ended false held)
-  broken false false false k o is off held tears strikes = untouched o is off (0 + works) 0 (idle-ended false held)
+  broken busy tearing here k o is on held tears strikes = grind arith
 
   pub ages-next : (h : Happens n) → MayCome shape pace e xs x h → IsStruck h
       → IsAged bounds (works_on shape at (core_of h (core xs))) (held_on shape at (core_of h (core xs))) new
@@ -184,8 +168,7 @@ module _ {n m : ℕ} (shape : BankShape) (pace : Pace) (e at : ℕ) (low : at < 
       (idle-ended (not (goes_on answer) && (target_after shape (core xs) == at)) (idle-held shape at (core xs) (begins-idle shape (core xs) may.may.0))))
     where
       none_held : (b : Bool) → cond {A = ℕ} b 0 0 ≡ 0
-      none_held true = refl
-      none_held false = refl
+      none_held b = grind arith
   ages-next (Core (Iterate answer)) may strikes =
       let busy : in_progress (core xs) ≡ true = may.may.0 in
       let work : WorkAfter shape (core xs) = working shape (most_steps e) (core xs) past busy in

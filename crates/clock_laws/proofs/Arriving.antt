@@ -146,9 +146,8 @@ drops-same xs clock array line action leads = by clock.regs.change (change_after
   where
     by : (change : Option Change) (item : Option ℕ) → item_of change ≡ item → drops clock.bank.kept change line action ≡ drops_begin clock.bank.kept.shape (core xs) item line action
     by None None is = ap (λ work. is_doing Beginning action && is_store_of line work) (agrees xs clock array leads).work
-    by None (Some item) is = absurd (cc)
-    by (Some change) None is = absurd (cc)
     by (Some change) (Some item) is = refl
+    by _ _ is = absurd (cc)
 
 read-left : {n m e : ℕ} (xs : List (TimedEvent n m)) (clock : ClockState n m e) (array : ArrayState n m) (row line : ℕ) (answer : ReadAnswer n) → Leads xs clock array
     → action_after_read clock.bank.kept clock.regs.change line answer clock.action
@@ -156,37 +155,30 @@ read-left : {n m e : ℕ} (xs : List (TimedEvent n m)) (clock : ClockState n m e
 read-left xs clock array row line came.Waiting leads =
     ap (λ b. cond b None clock.action) (drops-same xs clock array line clock.action leads)
     ∙ ap (λ runs. cond (drops_begin clock.bank.kept.shape (core xs) (change_after clock.bank.kept.shape xs) line runs) None runs) leads.told.runs
-read-left xs clock array row line came.Busy leads = leads.told.runs
-read-left xs clock array row line (came.Forwarded bytes) leads = leads.told.runs
+read-left xs clock array row line _ leads = leads.told.runs
 
 pub read-to_come : {n : ℕ} (kept : KeptState n) (change : Option Change) (line : ℕ) (answer : ReadAnswer n) (action : Option Action) (P : Action → Type 0) → IfSome action P
     → IfSome (action_after_read kept change line answer action) P
 read-to_come kept change line came.Waiting action P own = by (drops kept change line action)
   where
     by : (b : Bool) → IfSome (cond b None action) P
-    by true = tt
-    by false = own
+    by b = grind arith
 read-to_come kept change line came.Busy action P own = own
 read-to_come kept change line (came.Forwarded bytes) action P own = own
 
 -- Whether a read would cancel
 
 off_without : (a b c d g : Bool) → (a && (b && (c && (d && not g)))) ≡ false → g ≡ false → (a && (b && (c && d))) ≡ false
-off_without true true true true false h k = absurd (cc)
-off_without true true true true true h k = absurd (cc)
-off_without _ _ _ _ g h k = refl
+off_without a b c d g h k = grind arith
 
 on_with : (a b c d g : Bool) → (a && (b && (c && (d && g)))) ≡ true → (a && (b && (c && d))) ≡ true
-on_with true true true true g h = refl
-on_with _ _ _ _ g h = absurd (cc)
+on_with a b c d g h = grind arith
 
 pub off_idle : (a c : Bool) → (a && (false && c)) ≡ false
-off_idle true c = refl
-off_idle false c = refl
+off_idle a c = grind arith
 
 twice_not : (a : Bool) → not (not a) ≡ a
-twice_not true = refl
-twice_not false = refl
+twice_not a = grind arith
 
 module _ {n m e : ℕ} (xs : List (TimedEvent n m)) (clock : ClockState n m e) (array : ArrayState n m) (leads : Leads xs clock array) where
   -- what the bank and its clock say of it is what the history says
@@ -215,11 +207,7 @@ answered_not : {n m e : ℕ} (bank : BankState n m e) (line : ℕ) (answer : Rea
 answered_not {n = n} bank line answer is off = by (gives_all (layer_of bank.kept.entries line).given) refl
   where
     by : (b : Bool) → gives_all (layer_of bank.kept.entries line).given ≡ b → b ≡ false
-    by false same = refl
-    by true same =
-        let forwarded : answer ≡ came.Forwarded (layer_of bank.kept.entries line).bytes =
-        is ∙ ap (λ b. cond b (came.Forwarded (layer_of bank.kept.entries line).bytes) (if length bank.waiting == bank.kept.shape.reads then came.Busy else came.Waiting)) same in
-        absurd (off (subst (λ (a : ReadAnswer n). IsForwarded a) (sym forwarded) tt))
+    by b same = grind arith
 
 pub write_law : WriteLaw
 write_law n m e row line index bytes given answer xs clock bank array leads below keeps holds is_index =

@@ -1,16 +1,14 @@
 -- An action that ends.
-use Rattle.std.proofs.Common.{◌≡◌, ℕ, ◌<◌, Bool, true, false, List, [], ◌∷◌, map, drop, Option, Some, None, refl, sym, ap, subst, ◌∙◌, arith}
-use Rattle.std.{specs.Prelude.{IfSome, IsSomeAnd}, proofs.lemmas.Bool.ne_eqb, proofs.lemmas.List.drop-map}
+use Rattle.std.proofs.Common.{◌≡◌, ℕ, ◌<◌, Bool, false, List, [], ◌∷◌, map, Option, Some, None, refl, sym, ap, subst, ◌∙◌, arith}
+use Rattle.std.specs.Prelude.{IfSome, IsSomeAnd}
 use Rattle.masked_bytes.specs.declared.entry.Entry.{Entry}
 use Rattle.cell_rows.specs.{Device.ArrayState, declared.array.Sense.Sense}
 use Rattle.ecp_line.specs.Reading.{decode}
-use Rattle.bank_shape.specs.{Shape.{controls_of, control_line}, declared.BankShape.BankShape, declared.clock.Action.Action, declared.clock.Doing.Doing}
-use Rattle.bank_shape.specs.{declared.clock.Doing.TheVariants.{Serving, Beginning, Iterating}, declared.pace.Pace.Pace}
+use Rattle.bank_shape.specs.{Shape.controls_of, declared.BankShape.BankShape, declared.clock.Action.Action, declared.clock.Doing.Doing, declared.pace.Pace.Pace}
 use Rattle.bank_shape.specs.declared.answer.Step.TheVariants as did
-use Rattle.bank_model.specs.{Changes.{change_after, line_of_change}, Events.{BankEvent, Serve, Begin, Iterate, newest}, History.{queue, begun, due_after}}
-use Rattle.bank_model.specs.{Lawful.{IsAsked, IsOnTime, IsKeptOnTime}, Running.{left, cancels_by, cancels_with, running_at}}
-use Rattle.bank_model.specs.Sensing.{is_at, sensed_by, pulsed_by, read_again, kept_sensed, kept_pulsed, copied, begun_with}
-use Rattle.bank_model.specs.{Timing.{TimedEvent, Happens, Core, Regs, Keeping, KeepBegin, KeepIterate, KeepCut, ends, core}, Told.tick_of_row, Touching.{Touches, shown}}
+use Rattle.bank_model.specs.{Changes.{change_after, line_of_change}, Events.BankEvent, History.{queue, begun}, Lawful.{IsAsked, IsOnTime, IsKeptOnTime}}
+use Rattle.bank_model.specs.{Running.{left, cancels_by, cancels_with, running_at}, Sensing.{is_at, sensed_by, pulsed_by, read_again, kept_sensed, kept_pulsed, copied, begun_with}}
+use Rattle.bank_model.specs.{Timing.{TimedEvent, Happens, Core, Regs, Keeping, ends, core}, Told.tick_of_row, Touching.{Touches, shown}}
 use Rattle.reg_lines.specs.declared.Change.{Change}
 use Rattle.register_laws.specs.Telling.{item_of}
 use Rattle.bank_invariant.specs.{Holds.Holds, State.Operation}
@@ -20,10 +18,7 @@ use Rattle.clock_laws.proofs.{Stepping.{follows, uncancelled, leads-reaches, rea
 
 -- no event that ends an action has a row of its own
 ends-asked : {n : ℕ} (h : List (BankEvent n)) (event : BankEvent n) (doing : Doing) → EndsDoing event doing → IsAsked h event
-ends-asked h (Serve answer) doing is = tt
-ends-asked h (Begin answer) doing is = tt
-ends-asked h (Iterate answer) doing is = tt
-ends-asked h _ doing is = absurd is
+ends-asked h event doing is = grind arith
 
 -- it comes as the action ends
 doing_is : (pace : Pace) (action : Action) (doing : Doing) (runs : Option Action) → action.doing ≡ doing → runs ≡ Some action
@@ -35,38 +30,24 @@ doing_is pace action doing runs is run =
 ends-on_time : {n m : ℕ} (shape : BankShape) (pace : Pace) (xs : List (TimedEvent n m)) (event : BankEvent n) (action : Action) (runs : Option Action) (senses : List (Sense n m)) (pulsed : Option ℕ)
     → EndsDoing event action.doing → (change : Option Change) → IsAlone event change → item_of change ≡ change_after shape xs → runs ≡ Some action
     → IsOnTime shape pace runs xs (completion action.first (ends pace action) (Core event) senses pulsed) event
-ends-on_time shape pace xs (Serve answer) action runs senses pulsed is change alone told run = (doing_is pace action Serving runs is run, refl)
-ends-on_time shape pace xs (Begin answer) action runs senses pulsed is change alone told run = (doing_is pace action Beginning runs is run, refl, sym told ∙ ap item_of alone)
-ends-on_time shape pace xs (Iterate answer) action runs senses pulsed is change alone told run = (doing_is pace action Iterating runs is run, refl, sym told ∙ ap item_of alone)
-ends-on_time shape pace xs _ action runs senses pulsed is change alone told run = absurd is
+ends-on_time shape pace xs event action runs senses pulsed is change alone told run = grind arith
 
 -- it looks at no control line
 pub ends-senses : {n : ℕ} (shape : BankShape) (h : List (BankEvent n)) (controls : List ℕ) (event : BankEvent n) (doing : Doing) → EndsDoing event doing → sensed_by shape h [] event ≡ sensed_by shape h controls event
-ends-senses shape h controls (Serve answer) doing is = refl
-ends-senses shape h controls (Begin answer) doing is = refl
-ends-senses shape h controls (Iterate answer) doing is = refl
-ends-senses shape h controls _ doing is = absurd is
+ends-senses shape h controls event doing is = grind arith
 
 pub ends-pulses : {n : ℕ} (shape : BankShape) (h : List (BankEvent n)) (torn : Option ℕ) (event : BankEvent n) (doing : Doing) → EndsDoing event doing → pulsed_by shape h None event ≡ pulsed_by shape h torn event
-ends-pulses shape h torn (Serve answer) doing is = refl
-ends-pulses shape h torn (Begin answer) doing is = refl
-ends-pulses shape h torn (Iterate answer) doing is = refl
-ends-pulses shape h torn _ doing is = absurd is
+ends-pulses shape h torn event doing is = grind arith
 
 -- no action runs behind it
 ends-left : {n : ℕ} (shape : BankShape) (h : List (BankEvent n)) (change : Option ℕ) (event : BankEvent n) (doing : Doing) (runs : Option Action) → EndsDoing event doing → None ≡ left shape h change event runs
-ends-left shape h change (Serve answer) doing runs is = refl
-ends-left shape h change (Begin answer) doing runs is = refl
-ends-left shape h change (Iterate answer) doing runs is = refl
-ends-left shape h change _ doing runs is = absurd is
+ends-left shape h change event doing runs is = grind arith
 
 -- Arrival ticks
 
 -- completing the head leaves the rows
 ticks-begun : {n : ℕ} (ticks : ℕ → ℕ) (due : Option ℕ) (newest_of : ℕ → List ℕ) (es : List (Entry n)) → map (λ entry. ticks entry.row) (begun due newest_of es) ≡ map (λ entry. ticks entry.row) es
-ticks-begun ticks (Some region) newest_of es = refl
-ticks-begun ticks None newest_of [] = refl
-ticks-begun ticks None newest_of (entry ∷ es) = refl
+ticks-begun ticks due newest_of es = grind arith
 
 module _ {n m : ℕ} (shape : BankShape) (xs : List (TimedEvent n m)) where
   abbrev tick_at : Entry n → ℕ
@@ -75,13 +56,7 @@ module _ {n m : ℕ} (shape : BankShape) (xs : List (TimedEvent n m)) where
   ends-arrived : (event : BankEvent n) (doing : Doing) (first tick : ℕ) (senses : List (Sense n m)) (pulsed : Option ℕ) (arrivals : List ℕ) → EndsDoing event doing
       → arrivals ≡ map tick_at (queue shape (core xs))
       → arrivals_with event arrivals ≡ map (λ entry. tick_of_row entry.row (completion first tick (Core event) senses pulsed ∷ xs)) (queue shape (event ∷ core xs))
-  ends-arrived (Serve answer) doing first tick senses pulsed arrivals is before = before
-  ends-arrived (Begin (did.Stored row place)) doing first tick senses pulsed arrivals is before = ap (λ ticks. drop 1 ticks) before ∙ drop-map tick_at 1 (queue shape (core xs))
-  ends-arrived (Begin _) doing first tick senses pulsed arrivals is before =
-      before ∙ sym (ticks-begun (λ row. tick_of_row row xs) (due_after shape (core xs)) (newest (core xs)) (queue shape (core xs)))
-  ends-arrived (Iterate (did.Stored row place)) doing first tick senses pulsed arrivals is before = ap (λ ticks. drop 1 ticks) before ∙ drop-map tick_at 1 (queue shape (core xs))
-  ends-arrived (Iterate _) doing first tick senses pulsed arrivals is before = before
-  ends-arrived _ doing first tick senses pulsed arrivals is before = absurd is
+  ends-arrived event doing first tick senses pulsed arrivals is before = grind arith
 
 pub completion_law : CompletionLaw
 completion_law n m e event action xs clock bank regs old new leads next is later alone holds shape taken touches struck right copies told control goes =
@@ -119,9 +94,7 @@ completion_law n m e event action xs clock bank regs old new leads next is later
 -- it comes as the action ends
 keeps-on_time : {n m : ℕ} (shape : BankShape) (pace : Pace) (xs : List (TimedEvent n m)) (event : Keeping) (action : Action) (runs : Option Action) (senses : List (Sense n m)) (pulsed : Option ℕ)
     → EndsKeeping event action.doing → runs ≡ Some action → IsKeptOnTime shape pace runs xs (completion action.first (ends pace action) (Regs event) senses pulsed) event
-keeps-on_time shape pace xs (KeepBegin answer) action runs senses pulsed is run = (doing_is pace action Beginning runs is run, refl)
-keeps-on_time shape pace xs (KeepIterate answer) action runs senses pulsed is run = (doing_is pace action Iterating runs is run, refl)
-keeps-on_time shape pace xs (KeepCut tearing) action runs senses pulsed is run = absurd is
+keeps-on_time shape pace xs event action runs senses pulsed is run = grind arith
 
 -- a copy's source was sensed before
 pub copies-kept : {n m e : ℕ} (xs : List (TimedEvent n m)) (x : TimedEvent n m) (event : Keeping) (running : Option (Operation n m e)) → x.happens ≡ Regs event → IfSome running (CopiesWhatItSensed xs) → IfSome running (CopiesWhatItSensed (x ∷ xs))
@@ -131,12 +104,7 @@ copies-kept {n} {m} {e} xs x event (Some op) is own = λ copies. subst (λ (h : 
 -- an event of a change touches no line of a slot or a spare
 pub kept-apart : (shape : BankShape) (change : Option ℕ) (event : Keeping) (line : ℕ) → IfSome change (λ item. item < controls_of shape) → IsSlotOrSpare shape line
     → is_at (kept_pulsed (line_of_change shape change) event) line ≡ false
-kept-apart shape change (KeepBegin answer) line known own = refl
-kept-apart shape None (KeepIterate answer) line known own = refl
-kept-apart shape (Some item) (KeepIterate answer) line known own = ne_eqb (control_line shape item) line (λ same. omega (arith, own.1, same))
-kept-apart shape change (KeepCut false) line known own = refl
-kept-apart shape None (KeepCut true) line known own = refl
-kept-apart shape (Some item) (KeepCut true) line known own = ne_eqb (control_line shape item) line (λ same. omega (arith, own.1, same))
+kept-apart shape change event line known own = grind arith
 
 -- so the bank holds over the array that it leaves
 pub kept-holds : {n m e : ℕ} (xs : List (TimedEvent n m)) (clock : ClockState n m e) (event : Keeping) (tick : ℕ) (sensed : List ℕ) (tearing : Bool) (old new : ArrayState n m) → Reaches xs clock old

@@ -1,5 +1,5 @@
 -- The control lines and the change that stands, over arrays and banks that differ elsewhere.
-use Rattle.std.proofs.Common.{◌≡◌, ℕ, ◌+◌, ◌<◌, ◌≤◌, Option, Some, None, sym, ap, subst, ◌∙◌}
+use Rattle.std.proofs.Common.{arith, ◌≡◌, ℕ, ◌+◌, ◌<◌, ◌≤◌, Option, Some, None, sym, ap, subst, ◌∙◌}
 use Rattle.std.specs.Prelude.{IfSome, IsSomeAnd, IsTrue}
 use Rattle.cell_rows.specs.{Device.{ArrayState, LineState}, Rows.cell}
 use Rattle.ecp_line.specs.{Layout.Sound, Reading.{decode, is_worn_line}}
@@ -41,9 +41,7 @@ module _ {n m e : ℕ} (regs : RegsState n m e) (old new : ArrayState n m) (many
       writes : (writer : Option (LineWriter n m e)) (change : Option Change) → IfSome change (λ change. change.item < regs.items)
           → IfSome writer (λ writer. IsSomeAnd change (λ change. IsWritingOf writer (old.line (regs.base + change.item)) change))
           → IfSome writer (λ writer. IsSomeAnd change (λ change. IsWritingOf writer (new.line (regs.base + change.item)) change))
-      writes None change known own = tt
-      writes (Some writer) None known own = own
-      writes (Some writer) (Some change) known own = subst (λ (l : LineState n m). IsWritingOf writer l change) (sym (same change.item known)) own
+      writes writer change known own = grind arith
 
       worn : (change : Option Change) → IfSome change (λ change. change.item < regs.items)
           → IsSomeAnd change (λ change. IsTrue (is_worn_line e (old.line (regs.base + change.item)).held (old.line (regs.base + change.item)).stuck))
@@ -52,8 +50,7 @@ module _ {n m e : ℕ} (regs : RegsState n m e) (old new : ArrayState n m) (many
       worn (Some change) known own = subst (λ (l : LineState n m). IsTrue (is_worn_line e l.held l.stuck)) (sym (same change.item known)) own
 
 item-known : (change : Option Change) (count : ℕ) → IfSome (item_of change) (λ item. item < count) → IfSome change (λ change. change.item < count)
-item-known None count known = tt
-item-known (Some change) count known = known
+item-known change count known = grind arith
 
 -- another array whose control lines are the same
 pub control-elsewhere : {n m e : ℕ} (kept : KeptState n) (regs : RegsState n m e) (old new : ArrayState n m) → new.lines ≡ old.lines → Control kept regs old

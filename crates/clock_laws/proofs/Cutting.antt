@@ -1,8 +1,8 @@
 -- A power cut, and a cancel with its read.
-use Rattle.std.proofs.Common.{◌≡◌, ℕ, ◌+◌, ◌<◌, ◌&&◌, nat_lt, Bool, true, false, cond, List, [], ◌∷◌, Option, Some, None, refl, sym, ap, subst, ◌∙◌}
+use Rattle.std.proofs.Common.{arith, ◌≡◌, ℕ, ◌+◌, ◌<◌, ◌&&◌, nat_lt, Bool, true, false, cond, List, [], ◌∷◌, Option, Some, None, refl, sym, ap, subst, ◌∙◌}
 use Rattle.std.specs.Prelude.{IfSome, is_some}
 use Rattle.bank_shape.specs.{Pausing.{is_cancelling, most_cancels}, declared.BankShape.BankShape, declared.clock.Action.Action, declared.clock.Doing.Doing}
-use Rattle.bank_shape.specs.declared.clock.Doing.TheVariants.{Serving, Beginning, Iterating}
+use Rattle.bank_shape.specs.declared.clock.Doing.TheVariants.{Iterating}
 use Rattle.bank_shape.specs.declared.answer.ReadAnswer.TheVariants as came
 use Rattle.bank_model.specs.{Changes.{change_after, change_by, keeping_after, keeping_by, halted_after, halted_by, line_of_change, all_controls}, Events.{BankEvent, Read, Cut}}
 use Rattle.bank_model.specs.{History.waits, Lawful.would_cancel, Running.{busy_by, drops_begin, running_at, tears_bank, cancels_after}}
@@ -26,13 +26,10 @@ iterates shape bank regs None fit is some = absurd (cc)
 iterates {n} {m} {e} shape bank regs (Some action) fit is some = by action.doing fit is
   where
     own : (change : Option Change) (writing busy : Bool) → busy_by (item_of change) writing busy ≡ true → is_some (line_of_change shape (item_of change)) ≡ true → writing ≡ true
-    own None writing busy fit some = absurd (cc)
-    own (Some change) writing busy fit some = fit
+    own change writing busy fit some = grind arith
 
     by : (doing : Doing) → Fits bank regs doing → same_doing Iterating doing ≡ true → is_some regs.writer ≡ true
-    by Serving fit is = absurd (cc)
-    by Beginning fit is = absurd (cc)
-    by Iterating fit is = own regs.change (is_some regs.writer) (is_some bank.running) fit some
+    by doing fit is = grind arith
 
 torn-keeps : {n m e : ℕ} (shape : BankShape) (bank : BankState n m e) (regs : RegsState n m e) (action : Option Action) → IsFit bank regs action
     → is_some (torn_control shape (item_of regs.change) action) ≡ true → is_some regs.writer ≡ true
@@ -46,8 +43,7 @@ none-torn : (shape : BankShape) (change : Option ℕ) (action : Option Action) �
 none-torn shape None action none = by (is_doing Iterating action)
   where
     by : (b : Bool) → cond b (line_of_change shape None) None ≡ None
-    by true = refl
-    by false = refl
+    by b = grind arith
 none-torn shape (Some item) action none = absurd (cc)
 
 -- a change stays, and is written no more, after a cut
@@ -180,12 +176,10 @@ keep_cancel_law n m e line xs clock old new leads would stands fit control touch
     })
   where
     none_sensed : (line : Option ℕ) (tearing : Bool) → [] ≡ kept_sensed line (KeepCut tearing)
-    none_sensed None tearing = refl
-    none_sensed (Some line) tearing = refl
+    none_sensed line tearing = grind arith
 
     some : (change : Option Change) → is_some change ≡ true → is_some (line_of_change clock.bank.kept.shape (item_of change)) ≡ true
-    some None is = absurd (cc)
-    some (Some change) is = refl
+    some change is = grind arith
 
 pub cancelled_read_law : CancelledReadLaw
 cancelled_read_law n m e row line y xs clock bank array r none at below keeps holds =

@@ -1,11 +1,10 @@
 -- A bank to which nothing comes runs on without a gap, and rests with registers that its stores give.
-use Rattle.std.proofs.Common.{◌≡◌, ℕ, ◌+◌, ◌<◌, ◌≤◌, nat_lt, Bool, true, false, cond, List, [], ◌∷◌, ◌++◌, Option, Some, None, refl, sym, ap, subst, ◌∙◌, arith, ltb-false}
+use Rattle.std.proofs.Common.{◌≡◌, ℕ, ◌+◌, ◌<◌, ◌≤◌, nat_lt, Bool, true, false, cond, List, [], ◌∷◌, ◌++◌, Option, Some, None, sym, ap, subst, ◌∙◌, arith, ltb-false}
 use Rattle.std.{specs.Prelude.{IsTrue, IfSome, IsSomeAnd, All}, proofs.lemmas.List.Elements.{All-head, All-tail}}
 use Rattle.cell_rows.specs.Device.{ArrayState}
-use Rattle.bank_shape.specs.{declared.BankShape.BankShape, declared.clock.Action.Action, declared.clock.Doing.Doing}
-use Rattle.bank_shape.specs.{declared.clock.Doing.TheVariants.{Serving, Beginning, Iterating}, declared.pace.Pace.Pace}
-use Rattle.bank_model.specs.{Changes.change_after, Events.{Write, Read, Serve, Begin, Iterate, Cut}, History.moved_in, Lawful.{Lawful, MayCome}}
-use Rattle.bank_model.specs.{Running.{started, left_by, running, running_at, chosen_after}, Timing.{Happens, Core, Regs, KeepBegin, KeepIterate, TimedEvent, ends, core, last_tick}}
+use Rattle.bank_shape.specs.{declared.BankShape.BankShape, declared.clock.Action.Action, declared.clock.Doing.Doing, declared.pace.Pace.Pace}
+use Rattle.bank_model.specs.{Changes.change_after, History.moved_in, Lawful.{Lawful, MayCome}, Running.{started, left_by, running, running_at, chosen_after}}
+use Rattle.bank_model.specs.Timing.{Happens, TimedEvent, ends, core, last_tick}
 use Rattle.bank_laws.{specs.Laws.IsSized, specs.Ticks.ends_action, proofs.Ticks.last-below}
 use Rattle.place_laws.proofs.Moved.{moved_law}
 use Rattle.clock_laws.{specs.Draining.{ticks_of, ticks_in, NoGapLaw, RestingRegistersLaw}, specs.Leads.Leads, specs.State.{ClockState, next_action}, proofs.Leaving.leaving_law}
@@ -39,12 +38,7 @@ ends-behind pace None (Some doing) last now tick a before later to_come is at = 
 
     by : (b : Bool) → (b ≡ false → now ≤ last) → IfSome (cond b (Some begun) None) (λ a. now < ends pace a) → (c : Bool)
         → cond c (Some begun) None ≡ Some a → now < tick
-    by true none to_come true is =
-        let same : begun ≡ a = cc in
-        let below : now < ends pace a = subst (λ (a : Action). now < ends pace a) same to_come in
-        omega (arith, below, at)
-    by true none to_come false is = absurd (cc)
-    by false none to_come c is = let le : now ≤ last = none refl in omega (arith, le, later)
+    by b none to_come c is = grind arith
 
 module _ {n m : ℕ} (shape : BankShape) (pace : Pace) (e : ℕ) where
   -- an event that ends an action: that action ran until its tick, and lasted so long
@@ -56,20 +50,12 @@ module _ {n m : ℕ} (shape : BankShape) (pace : Pace) (e : ℕ) where
 
   an-end : (xs : List (TimedEvent n m)) (x : TimedEvent n m) (h : Happens n) → MayCome shape pace e xs x h → IsTrue (ends_action h)
       → IsAnEnd xs x (ticks_of pace h)
-  an-end xs x (Core (Serve answer)) may is = record { doing = Serving; runs = may.on_time.0.0; at = may.on_time.0.1; long = may.on_time.0.1 }
-  an-end xs x (Core (Begin answer)) may is = record { doing = Beginning; runs = may.on_time.0.0; at = may.on_time.0.1; long = may.on_time.0.1 }
-  an-end xs x (Core (Iterate answer)) may is = record { doing = Iterating; runs = may.on_time.0.0; at = may.on_time.0.1; long = may.on_time.0.1 }
-  an-end xs x (Regs (KeepBegin answer)) may is = record { doing = Beginning; runs = may.on_time.0.0; at = may.on_time.0.1; long = may.on_time.0.1 }
-  an-end xs x (Regs (KeepIterate answer)) may is = record { doing = Iterating; runs = may.on_time.0.0; at = may.on_time.0.1; long = may.on_time.0.1 }
-  an-end xs x _ may is = absurd (cc)
+  an-end xs x h may is = grind arith
 
   -- no action runs behind it
   none-runs : (y : TimedEvent n m) (ys : List (TimedEvent n m)) (h : Happens n) → IsTrue (ends_action h)
       → left_by shape (core ys) (change_after shape ys) h (running_at shape pace ys y.tick) ≡ None
-  none-runs y ys (Core (Write row line bytes given answer)) is = absurd (cc)
-  none-runs y ys (Core (Read row line answer)) is = absurd (cc)
-  none-runs y ys (Core (Cut tearing)) is = absurd (cc)
-  none-runs y ys _ is = refl
+  none-runs y ys h is = grind arith
 
   -- the next one begins at its tick
   next-begun : (y : TimedEvent n m) (ys : List (TimedEvent n m)) (x : TimedEvent n m) (ticks : ℕ) → IsTrue (ends_action y.happens)

@@ -5,7 +5,7 @@ use Rattle.masked_bytes.specs.{Entries.{Layer, layer_of}, Masked.laid}
 use Rattle.cell_rows.specs.Device.{ArrayState, LineState}
 use Rattle.ecp_line.specs.{ArrayLines.decoded, Reading.{decode, IsSoundLine, IsWornLine}}
 use Rattle.line_writer.{specs.Orderly.IsLive, proofs.Orderly.AreOrderly-same, proofs.Untouched.AreUntouched-same}
-use Rattle.bank_shape.specs.{Shape.{slots_of, slot_at, control_line}, declared.Work.Work, declared.Work.TheVariants.{Nothing, Store, Copy}, declared.waiting.Waiting.Waiting}
+use Rattle.bank_shape.specs.{Shape.{slots_of, slot_at, control_line}, declared.Work.Work, declared.Work.TheVariants.Copy, declared.waiting.Waiting.Waiting}
 use Rattle.power_recovery.specs.{Kept.{KeptState, IsKept, array_line, stands_at, due_region, due_work}, Slots.bank_lines}
 use Rattle.bank_model.specs.{Events.BankEvent, History.{Awaited, waits, iterated}, Timing.core}
 use Rattle.bank_invariant.specs.{Holds.Holds, State.{BankState, Operation, target_of}, Tied.{IsUnderWay, IsOf, IsRunning, AreSound, AreTied}}
@@ -19,10 +19,9 @@ module _ {n m : ℕ} (e : ℕ) (kept : KeptState n) (range : IsKept kept) (old n
   decoded-same line is = ap (λ (l : LineState n m). decode e l.held) (same line is)
 
   of-same : (waiting : List (Waiting n)) (bytes : List ℕ) (work : Work) → HasSource kept range work → IsOf e kept old waiting bytes work → IsOf e kept new waiting bytes work
-  of-same waiting bytes Nothing has own = own
-  of-same waiting bytes (Store line slot) has own = own
   of-same waiting bytes (Copy region step) has own =
       own ∙ sym (decoded-same (array_line kept (slot_at kept.shape region step.from)) (array_line-in kept range (slot_at kept.shape region step.from) has))
+  of-same waiting bytes _ has own = own
 
   op-in : (op : Operation n m e) (waiting : List (Waiting n)) → IsRunning kept old waiting op → IsSlotOrSpare kept.shape op.target
   op-in op waiting own = subst (λ (line : ℕ). IsSlotOrSpare kept.shape line) (sym (own.target ∙ ap (λ work. target_of kept work) own.next)) (target-in kept range)

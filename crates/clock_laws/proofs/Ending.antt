@@ -5,8 +5,8 @@ use Rattle.masked_bytes.specs.{Entries.{layer_of, head_row, head_line}, Masked.l
 use Rattle.cell_rows.specs.Device.{ArrayState, LineState}
 use Rattle.ecp_line.{specs.ArrayLines.decoded, specs.Reading.decode, proofs.Bytes.length-decode}
 use Rattle.start_gap.specs.declared.Move.{Move}
-use Rattle.bank_shape.specs.{Kinds.is_copy, Shape.slot_at, declared.BankShape.BankShape, declared.Work.Work, declared.Work.TheVariants.{Nothing, Store, Copy}}
-use Rattle.bank_shape.specs.{declared.answer.Step.Step, declared.clock.Action.Action, declared.clock.Doing.Doing, declared.waiting.Waiting.Waiting}
+use Rattle.bank_shape.specs.{Kinds.is_copy, Shape.slot_at, declared.BankShape.BankShape, declared.Work.Work, declared.Work.TheVariants.{Store, Copy}, declared.answer.Step.Step}
+use Rattle.bank_shape.specs.{declared.clock.Action.Action, declared.clock.Doing.Doing, declared.waiting.Waiting.Waiting}
 use Rattle.bank_shape.specs.declared.answer.Step.TheVariants as did
 use Rattle.power_recovery.{specs.Kept.{KeptState, slot_of, array_line, stands_at, due_region, next_work}, specs.Slots.bank_lines, proofs.Bundle.head-known}
 use Rattle.bank_model.specs.{After.{work_after, sources_of, stands_at_after, target_after}, Answers.{IsDone, IsIterated, MayAll, MayHappen}}
@@ -27,9 +27,7 @@ use Rattle.clock_laws.proofs.{Ranges.pulsed-in, Ties.agrees}
 
 module _ {n m e : ℕ} (xs : List (TimedEvent n m)) (clock : ClockState n m e) (array : ArrayState n m) (leads : Leads xs clock array) where
   same_sources : (work : Work) → sources_of clock.bank.kept.shape (core xs) work ≡ sources clock.bank.kept work
-  same_sources Nothing = refl
-  same_sources (Store line slot) = refl
-  same_sources (Copy region step) = ap (λ line. line ∷ []) (sym ((agrees xs clock array leads).lines (slot_at clock.bank.kept.shape region step.from)))
+  same_sources work = grind arith
 
   begin-senses : (answer : Step) (work : Work) → next_work clock.bank.kept ≡ work → lines_sensed clock.bank.kept work ≡ sensed_by clock.bank.kept.shape (core xs) [] (Begin answer)
   begin-senses answer work is =
@@ -66,10 +64,7 @@ module _ {n m e : ℕ} (xs : List (TimedEvent n m)) (clock : ClockState n m e) (
 -- One event
 
 no_tear : {n : ℕ} (event : BankEvent n) (pulsed : Option ℕ) (doing : Doing) → EndsDoing event doing → false ≡ is_tear (Core event) pulsed
-no_tear (Serve answer) pulsed doing is = refl
-no_tear (Begin answer) pulsed doing is = refl
-no_tear (Iterate answer) pulsed doing is = refl
-no_tear _ pulsed doing is = absurd is
+no_tear event pulsed doing is = grind arith
 
 module _ {n m e : ℕ} (xs : List (TimedEvent n m)) (clock : ClockState n m e) (bank : BankState n m e) (regs : RegsState n m e) (event : BankEvent n) (action : Action) (sensed : List ℕ) (pulsed : Option ℕ) (old new : ArrayState n m)
     (leads : Leads xs clock old) (end : IsCompletion xs clock bank regs event action sensed pulsed old new) where
@@ -82,10 +77,7 @@ module _ {n m e : ℕ} (xs : List (TimedEvent n m)) (clock : ClockState n m e) (
   -- a serve leaves the writing of the change that stands
   aside : (event : BankEvent n) (doing : Doing) (tick : ℕ) (pulsed : Option ℕ) → EndsDoing event doing → regs ≡ put_if (item_with clock.bank.kept event) bank.kept clock.regs
       → GoesOnWriting tick clock.regs regs (Core event) pulsed old new
-  aside (Serve answer) doing tick pulsed is put = put
-  aside (Begin answer) doing tick pulsed is put = tt
-  aside (Iterate answer) doing tick pulsed is put = tt
-  aside _ doing tick pulsed is put = absurd is
+  aside event doing tick pulsed is put = grind arith
 
   -- where it senses and pulses what the history says, and reads it right
   finish : sensed ≡ sensed_by clock.bank.kept.shape (core xs) [] event → pulsed ≡ pulsed_by clock.bank.kept.shape (core xs) None event
@@ -136,8 +128,7 @@ serve_ends_law n m e answer action w ws xs clock bank regs old new leads first e
     (still bank.running (subst (λ (r : Option (Operation n m e)). IfSome r (CopiesWhatItSensed xs)) (sym running) leads.copying))
   where
     still : (r : Option (Operation n m e)) → IfSome r (CopiesWhatItSensed xs) → IfSome r (CopiesWhatItSensed (completed xs clock action (Serve answer) new ∷ xs))
-    still None own = tt
-    still (Some op) own = own
+    still r own = grind arith
 
 -- Stores
 
@@ -165,17 +156,14 @@ module _ {n m e : ℕ} (xs : List (TimedEvent n m)) (clock : ClockState n m e) (
 
   -- a store that is done is of the head
   stored-row : (work : Work) (row place : ℕ) → IsDone clock.bank.kept.shape (core xs) work (did.Stored row place) → row ≡ head_row (queue clock.bank.kept.shape (core xs))
-  stored-row Nothing row place done = absurd done
-  stored-row (Store line slot) row place done = done.0
-  stored-row (Copy region step) row place done = absurd done
+  stored-row work row place done = grind arith
 
   -- the bytes that a store writes
   written-bytes : (work : Work) (row place : ℕ) (bytes : List ℕ) → IsDone clock.bank.kept.shape (core xs) work (did.Stored row place)
       → IsOf e clock.bank.kept old clock.bank.waiting bytes work → bytes ≡ newest (up_to row (core xs)) (line_of_row row (core xs))
-  written-bytes Nothing row place bytes done of = absurd done
   written-bytes (Store line slot) row place bytes done of =
       head-bytes (core xs) clock.bank.kept.entries bytes line entries-fresh of.0 ∙ head-row row done.0 (some-head clock.bank.kept.entries _ of.0)
-  written-bytes (Copy region step) row place bytes done of = absurd done
+  written-bytes _ row place bytes done of = absurd done
 
   -- what a target that already reads as the head is read as
   under-bytes : (line slot row : ℕ) → next_work clock.bank.kept ≡ Store line slot → row ≡ head_row (queue clock.bank.kept.shape (core xs))
@@ -201,11 +189,7 @@ module _ {n m e : ℕ} (action : Action) (xs : List (TimedEvent n m)) (clock : C
   copies-begun : (work : Work) (bytes : List ℕ) (sensed : List ℕ) (tick : ℕ) → lines_sensed clock.bank.kept work ≡ sensed → ((line : ℕ) → decoded e new line ≡ decoded e old line)
       → WritesCopy e clock.bank.kept old bytes work → IsTrue (is_copy work)
       → IsSomeAnd (begun_with (Core (Begin did.More)) (shown tick sensed new) (copied xs)) (λ source. bytes ≡ decode e source)
-  copies-begun Nothing bytes sensed tick lines same writes copies = absurd (cc)
-  copies-begun (Store line slot) bytes sensed tick lines same writes copies = absurd (cc)
-  copies-begun (Copy region step) bytes sensed tick lines same writes copies =
-      let source : ℕ = array_line clock.bank.kept (slot_at clock.bank.kept.shape region step.from) in
-      subst (λ (sensed : List ℕ). IsSomeAnd (begun_with (Core (Begin did.More)) (shown tick sensed new) (copied xs)) (λ source. bytes ≡ decode e source)) lines (writes ∙ sym (same source))
+  copies-begun work bytes sensed tick lines same writes copies = grind arith
 
   begun-more : (work : Work) → next_work clock.bank.kept ≡ work
       → IsCompletion xs clock bank regs (Begin did.More) action (lines_sensed clock.bank.kept work) None old new
@@ -233,8 +217,6 @@ module _ {n m e : ℕ} (action : Action) (xs : List (TimedEvent n m)) (clock : C
   begun-stored : (row place : ℕ) (work : Work) → next_work clock.bank.kept ≡ work
       → IsCompletion xs clock bank regs (Begin (did.Stored row place)) action (lines_sensed clock.bank.kept work) None old new
       → bank.running ≡ None → ReadsAsHead e clock.bank.kept old work → GoesOn xs clock bank regs (Begin (did.Stored row place)) action old new
-  begun-stored row place Nothing next end none reads =
-      let done : ⊥ = begun-done (did.Stored row place) Nothing (lines_sensed clock.bank.kept Nothing) next end in absurd done
   begun-stored row place (Store line slot) next end none reads =
       let done = begun-done (did.Stored row place) (Store line slot) (lines_sensed clock.bank.kept (Store line slot)) next end in
       let target : ℕ = array_line clock.bank.kept slot in
@@ -243,16 +225,11 @@ module _ {n m e : ℕ} (action : Action) (xs : List (TimedEvent n m)) (clock : C
       (same-read xs clock bank regs (Begin (did.Stored row place)) action (target ∷ []) None old new leads end target refl
       ∙ under-bytes xs clock old leads line slot row next done.0 reads)
       (none-copies xs clock bank regs (Begin (did.Stored row place)) action (target ∷ []) None old new leads end (completed xs clock action (Begin (did.Stored row place)) new) none)
-  begun-stored row place (Copy region step) next end none reads =
-      let done : ⊥ = begun-done (did.Stored row place) (Copy region step) (lines_sensed clock.bank.kept (Copy region step)) next end in absurd done
+  begun-stored row place event next end none reads = let done : ⊥ = begun-done (did.Stored row place) event (lines_sensed clock.bank.kept event) next end in absurd done
 
   begun-moved : (moved : Move) (work : Work) → next_work clock.bank.kept ≡ work
       → IsCompletion xs clock bank regs (Begin (did.Moved moved)) action (lines_sensed clock.bank.kept work) None old new
       → bank.running ≡ None → WritesCopy e clock.bank.kept old (decoded e old (target_of clock.bank.kept work)) work → GoesOn xs clock bank regs (Begin (did.Moved moved)) action old new
-  begun-moved moved Nothing next end none writes =
-      let done : ⊥ = begun-done (did.Moved moved) Nothing (lines_sensed clock.bank.kept Nothing) next end in absurd done
-  begun-moved moved (Store line slot) next end none writes =
-      let done : ⊥ = begun-done (did.Moved moved) (Store line slot) (lines_sensed clock.bank.kept (Store line slot)) next end in absurd done
   begun-moved moved (Copy region step) next end none writes =
       let source : ℕ = array_line clock.bank.kept (slot_at clock.bank.kept.shape region step.from) in
       let target : ℕ = target_of clock.bank.kept (Copy region step) in
@@ -261,6 +238,7 @@ module _ {n m e : ℕ} (action : Action) (xs : List (TimedEvent n m)) (clock : C
       (same-read xs clock bank regs (Begin (did.Moved moved)) action (source ∷ target ∷ []) None old new leads end target refl ∙ writes
       ∙ sym (same-read xs clock bank regs (Begin (did.Moved moved)) action (source ∷ target ∷ []) None old new leads end source refl))
       (none-copies xs clock bank regs (Begin (did.Moved moved)) action (source ∷ target ∷ []) None old new leads end (completed xs clock action (Begin (did.Moved moved)) new) none)
+  begun-moved moved event next end none writes = let done : ⊥ = begun-done (did.Moved moved) event (lines_sensed clock.bank.kept event) next end in absurd done
 
 pub begin_ends_law : BeginEndsLaw
 begin_ends_law n m e did.More action work xs clock bank regs old new leads next end leaves = begun-more action xs clock bank regs old new leads work next end leaves
@@ -268,8 +246,7 @@ begin_ends_law n m e (did.Stored row place) action work xs clock bank regs old n
     begun-stored action xs clock bank regs old new leads row place work next end leaves.0 leaves.1
 begin_ends_law n m e (did.Moved moved) action work xs clock bank regs old new leads next end leaves =
     begun-moved action xs clock bank regs old new leads moved work next end leaves.0 leaves.1
-begin_ends_law n m e (did.Retired slot line) action work xs clock bank regs old new leads next end leaves = absurd leaves
-begin_ends_law n m e did.Exhausted action work xs clock bank regs old new leads next end leaves = absurd leaves
+begin_ends_law n m e _ action work xs clock bank regs old new leads next end leaves = absurd leaves
 
 -- Iterations
 
@@ -310,9 +287,7 @@ module _ {n m e : ℕ} (action : Action) (op : Operation n m e) (xs : List (Time
 
   -- a gap move that is done is a copy
   moves-copy : (work : Work) (moved : Move) → IsDone clock.bank.kept.shape (core xs) work (did.Moved moved) → IsTrue (is_copy work)
-  moves-copy Nothing moved done = absurd done
-  moves-copy (Store line slot) moved done = absurd done
-  moves-copy (Copy region step) moved done = refl
+  moves-copy work moved done = grind arith
 
 pub iterate_ends_law : IterateEndsLaw
 iterate_ends_law n m e did.More action op xs clock bank regs old new leads is end leaves = iterated-more action op xs clock bank regs old new leads is end leaves
@@ -325,7 +300,4 @@ iterate_ends_law n m e (did.Moved moved) action op xs clock bank regs old new le
     (subst (λ (bytes : List ℕ). IsSomeAnd (copied xs) (λ source. bytes ≡ decode e source)) (sym leaves.1)
     (own-copies action op xs clock bank regs old new leads is
     (moves-copy action op xs clock bank regs old new leads is op.work moved (iterated-may action op xs clock bank regs old new leads is (did.Moved moved) end))))
-iterate_ends_law n m e (did.Retired slot line) action op xs clock bank regs old new leads is end leaves =
-    iterated-none action op xs clock bank regs old new leads is (did.Retired slot line) end leaves tt
-iterate_ends_law n m e did.Exhausted action op xs clock bank regs old new leads is end leaves =
-    iterated-none action op xs clock bank regs old new leads is did.Exhausted end leaves tt
+iterate_ends_law n m e answer action op xs clock bank regs old new leads is end leaves = iterated-none action op xs clock bank regs old new leads is answer end leaves tt

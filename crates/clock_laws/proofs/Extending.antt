@@ -1,9 +1,9 @@
 -- How the events of several calls add up, and what a bank does not touch.
-use Rattle.std.proofs.Common.{◌≡◌, ◌⊎◌, inl, inr, ℕ, ◌+◌, ◌<◌, ◌≤◌, ◌==◌, Bool, true, false, cond, List, [], ◌∷◌, ◌++◌, Option, Some, None, refl, sym, ap, ◌∙◌, arith, eqb-true, append-nil, append_assoc}
+use Rattle.std.proofs.Common.{◌≡◌, ◌⊎◌, ℕ, ◌+◌, ◌<◌, ◌≤◌, ◌==◌, Bool, true, false, cond, List, [], ◌∷◌, ◌++◌, Option, Some, None, refl, sym, ap, ◌∙◌, arith, eqb-true, append-nil, append_assoc}
 use Rattle.std.specs.Prelude.{IfSome}
 use Rattle.cell_rows.specs.{Device.counted, declared.array.Sense.Sense}
 use Rattle.bank_shape.specs.{Shape.lines_in, declared.BankShape.BankShape}
-use Rattle.bank_model.specs.{Adding.{senses_of, pulses_on, torn_by, tears_on}, Events.{BankEvent, Cut}, Sensing.is_at, Timing.{Happens, Core, Regs, KeepCut, TimedEvent}}
+use Rattle.bank_model.specs.{Adding.{senses_of, pulses_on, torn_by, tears_on}, Events.BankEvent, Sensing.is_at, Timing.{Happens, Core, TimedEvent}}
 use Rattle.clock_laws.{specs.Arriving.arrival, specs.Extending.{NothingAddedLaw, OneAddedLaw, ArrivalAddedLaw, BothAddedLaw, is_tear}, proofs.Arriving.untouched}
 
 pub nothing_added_law : NothingAddedLaw
@@ -25,14 +25,10 @@ off-pulsed shape None line within off = refl
 off-pulsed shape (Some at) line within off = by (at == line) (eqb-true at line) off
   where
     by : (b : Bool) → (b ≡ true → at ≡ line) → ((line < shape.base) ⊎ (shape.base + lines_in shape ≤ line)) → b ≡ false
-    by false is off = refl
-    by true is (inl before) = absurd (omega (arith, is refl, before, within.0, within.1))
-    by true is (inr behind) = absurd (omega (arith, is refl, behind, within.0, within.1))
+    by b is off = grind arith
 
 tears-one : {n : ℕ} (happens : Happens n) (pulsed : Option ℕ) (tears : ℕ) → cond (is_tear happens pulsed) (counted tears) tears ≡ torn_by happens pulsed tears
-tears-one (Core (Cut tearing)) None tears = refl
-tears-one (Regs (KeepCut tearing)) None tears = refl
-tears-one _ _ tears = refl
+tears-one happens pulsed tears = grind arith
 
 pub one_added_law : OneAddedLaw
 one_added_law n m shape x sensed tearing old new senses within is touches = record {
@@ -54,8 +50,7 @@ one_added_law n m shape x sensed tearing old new senses within is touches = reco
 
 -- nothing is torn where nothing is pulsed
 none-torn : {n : ℕ} (event : BankEvent n) → false ≡ is_tear (Core event) None
-none-torn (Cut tearing) = refl
-none-torn _ = refl
+none-torn event = grind arith
 
 pub arrival_added_law : ArrivalAddedLaw
 arrival_added_law n m tick shape event array =

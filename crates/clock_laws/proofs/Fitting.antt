@@ -1,13 +1,10 @@
 -- What an action needs of its bank.
-use Rattle.std.proofs.Common.{◌≡◌, inl, inr, ℕ, ◌<◌, ◌==◌, ◌||◌, ◌&&◌, not, nat_lt, if◌then◌else◌, Bool, true, false, List, [], ◌∷◌, ◌++◌, length, Option, Some, None, is_some, refl, sym, ap, subst, ◌∙◌, arith, ltb-true, lt-ltb}
-use Rattle.std.{specs.List.list_any, specs.Prelude.IfSome, proofs.lemmas.Bool.{and_from, not-true, not-false, or_parts}, proofs.lemmas.List.length-append}
-use Rattle.masked_bytes.{specs.Entries.layer_of, specs.declared.entry.Entry.Entry, proofs.Truth.{and_first, and_second, differ_sym, or_rest}}
-use Rattle.protected_queue.specs.Queue.{accepted}
-use Rattle.bank_shape.specs.{Acting.{choice, chosen_by}, Kinds.{is_store, is_copy}, Pausing.gives_way, declared.Work.Work, declared.Work.TheVariants.{Nothing, Store, Copy}}
-use Rattle.bank_shape.specs.{declared.clock.Action.Action, declared.clock.Doing.Doing, declared.clock.Doing.TheVariants.{Serving, Beginning, Iterating}}
-use Rattle.bank_shape.specs.declared.waiting.Waiting.{Waiting}
-use Rattle.power_recovery.{specs.Events.accepted_kept, specs.Kept.{KeptState, next_work}, proofs.Bundle.{next_work-store, next_work-copy}}
-use Rattle.power_recovery.proofs.Frames.{next_work-accepted, next_work-due}
+use Rattle.std.proofs.Common.{◌≡◌, ℕ, ◌<◌, ◌==◌, ◌||◌, ◌&&◌, not, nat_lt, if◌then◌else◌, Bool, true, false, List, [], ◌∷◌, ◌++◌, length, Option, Some, None, is_some, refl, sym, ap, subst, ◌∙◌, arith, ltb-true, lt-ltb}
+use Rattle.std.{specs.List.list_any, specs.Prelude.IfSome, proofs.lemmas.Bool.{and_from, not-true, or_parts}, proofs.lemmas.List.length-append}
+use Rattle.masked_bytes.{specs.Entries.layer_of, specs.declared.entry.Entry.Entry, proofs.Truth.{and_first, and_second, differ_sym}}
+use Rattle.bank_shape.specs.{Acting.{choice, chosen_by}, Pausing.gives_way, declared.Work.Work, declared.Work.TheVariants.{Nothing, Store, Copy}, declared.clock.Action.Action}
+use Rattle.bank_shape.specs.{declared.clock.Doing.Doing, declared.clock.Doing.TheVariants.{Serving, Beginning, Iterating}, declared.waiting.Waiting.Waiting}
+use Rattle.power_recovery.specs.{Events.accepted_kept, Kept.{KeptState, next_work}}
 use Rattle.bank_model.specs.{After.is_store_of, Running.{busy_by, ready_by}}
 use Rattle.reg_lines.specs.{Regs.RegsState, declared.Change.Change}
 use Rattle.register_laws.specs.Telling.{item_of}
@@ -25,18 +22,10 @@ chosen_law n m e clock fit =
   where
     which : (gives reads busy ready : Bool) → (reads ≡ true → 0 < length clock.bank.waiting) → (busy ≡ true → is_busy clock.bank clock.regs ≡ true) → (ready ≡ true → may_start clock.bank clock.regs ≡ true)
         → IfSome (chosen_by gives reads (choice busy ready)) (λ doing. Fits clock.bank clock.regs doing)
-    which true true busy ready waits runs may = waits refl
-    which true false true ready waits runs may = runs refl
-    which true false false true waits runs may = may refl
-    which true false false false waits runs may = tt
-    which false reads true ready waits runs may = runs refl
-    which false true false ready waits runs may = waits refl
-    which false false false true waits runs may = may refl
-    which false false false false waits runs may = tt
+    which gives reads busy ready waits runs may = grind arith
 
     later : (d : Option Doing) → IfSome d (λ doing. Fits clock.bank clock.regs doing) → IsFit clock.bank clock.regs (started_at clock.tick d)
-    later None own = tt
-    later (Some doing) own = own
+    later d own = grind arith
 
     by : (r : Option Action) → IsFit clock.bank clock.regs r → IfSome (chosen clock) (λ doing. Fits clock.bank clock.regs doing) → IsFit clock.bank clock.regs (or_else r (started_at clock.tick (chosen clock)))
     by (Some action) own next = own
@@ -46,8 +35,7 @@ chosen_law n m e clock fit =
 
 -- what isn't some is none
 pub no_one : {A : Type 0} (o : Option A) → is_some o ≡ false → o ≡ None
-no_one None none = refl
-no_one (Some x) none = absurd (cc)
+no_one o none = grind arith
 
 pub needs_law : NeedsLaw
 needs_law n m e bank regs = record {
@@ -61,47 +49,32 @@ needs_law n m e bank regs = record {
 }
   where
     by : (change : Option Change) (stopped ready : Bool) → change ≡ None → ready_by (item_of change) stopped ready ≡ true → ready ≡ true
-    by None stopped ready none own = own
-    by (Some change) stopped ready none own = absurd (cc)
+    by change stopped ready none own = grind arith
 
     of_bank : (change : Option Change) (keeping busy : Bool) → change ≡ None → busy_by (item_of change) keeping busy ≡ true → busy ≡ true
-    of_bank None keeping busy none own = own
-    of_bank (Some change) keeping busy none own = absurd (cc)
+    of_bank change keeping busy none own = grind arith
 
     of_change : (change : Option Change) (stopped ready : Bool) → is_some change ≡ true → ready_by (item_of change) stopped ready ≡ true → not stopped ≡ true
-    of_change None stopped ready some own = absurd (cc)
-    of_change (Some change) stopped ready some own = own
+    of_change change stopped ready some own = grind arith
 
     writes : (change : Option Change) (keeping busy : Bool) → is_some change ≡ true → busy_by (item_of change) keeping busy ≡ true → keeping ≡ true
-    writes None keeping busy some own = absurd (cc)
-    writes (Some change) keeping busy some own = own
+    writes change keeping busy some own = grind arith
 
 -- Rest
 
 -- where nothing is chosen, there is nothing to choose
 none-by : (gives reads busy ready : Bool) → chosen_by gives reads (choice busy ready) ≡ None → (reads ≡ false) × (busy ≡ false) × (ready ≡ false)
-none-by true true busy ready none = cc
-none-by true false true ready none = cc
-none-by true false false true none = cc
-none-by true false false false none = (refl, refl, refl)
-none-by false reads true ready none = cc
-none-by false true false ready none = cc
-none-by false false false true none = cc
-none-by false false false false none = (refl, refl, refl)
+none-by gives reads busy ready none = grind arith
 
 none-else : (r : Option Action) (d : Option Doing) (now : ℕ) → or_else r (started_at now d) ≡ None → (r ≡ None) × (d ≡ None)
-none-else (Some action) d now none = cc
-none-else None (Some doing) now none = cc
-none-else None None now none = (refl, refl)
+none-else r d now none = grind arith
 
 none-waits : {n : ℕ} (ws : List (Waiting n)) → nat_lt 0 (length ws) ≡ false → ws ≡ []
 none-waits [] none = refl
 none-waits (w ∷ ws) none = let some : nat_lt 0 (length (w ∷ ws)) ≡ true = lt-ltb 0 (length (w ∷ ws)) (omega arith) in cc
 
 none-free : (n : ℕ) (work : Work) → is_free {n = n} [] work ≡ false → work ≡ Nothing
-none-free n Nothing none = refl
-none-free n (Store line slot) none = cc
-none-free n (Copy region step) none = cc
+none-free n work none = grind arith
 
 pub rest_law : RestLaw
 rest_law n m e clock none =
@@ -113,17 +86,7 @@ rest_law n m e clock none =
     ended : (change : Option Change) → clock.regs.change ≡ change → clock.bank.waiting ≡ []
         → busy_by (item_of change) (is_some clock.regs.writer) (is_some clock.bank.running) ≡ false
         → ready_by (item_of change) (is_some clock.regs.writer || clock.regs.halted) (may_begin clock.bank) ≡ false → HasEnded clock.bank clock.regs
-    ended None is reads busy ready =
-        let free : is_free {n = n} [] (next_work clock.bank.kept) ≡ false =
-        ap (λ (ws : List (Waiting n)). is_free ws (next_work clock.bank.kept)) (sym reads)
-        ∙ ap (λ b. not b && is_free clock.bank.waiting (next_work clock.bank.kept)) (sym busy) ∙ ready in
-        inl (is, no_one clock.bank.running busy, none-free n (next_work clock.bank.kept) free)
-    ended (Some change) is reads busy ready =
-        inr (
-          ap (λ (change : Option Change). is_some change) is,
-          or_rest (is_some clock.regs.writer) clock.regs.halted busy (not-false _ ready),
-          no_one clock.regs.writer busy,
-        )
+    ended change is reads busy ready = grind arith
 
 -- Writes
 
@@ -131,10 +94,7 @@ module _ {n : ℕ} where
   -- the work that may be begun stays the next
   next-stays : (kept : KeptState n) (busy : Bool) (entry : Entry n) (ws : List (Waiting n)) (work : Work) → next_work kept ≡ work → is_free ws work ≡ true
       → next_work (accepted_kept busy entry kept) ≡ next_work kept
-  next-stays kept busy entry ws Nothing is free = cc
-  next-stays kept busy entry ws (Store line slot) is free = let store = next_work-store kept (ap is_store is) in next_work-accepted kept busy entry store.2
-  next-stays kept busy entry ws (Copy region step) is free =
-      let copy = next_work-copy kept (ap is_copy is) in next_work-due kept (accepted kept.shape.writes busy entry kept.entries) copy.1.0 copy.1.1
+  next-stays kept busy entry ws work is free = grind arith
 
 module _ {n m e : ℕ} where
   begin-taken : (bank : BankState n m e) (busy : Bool) (entry : Entry n) → may_begin bank ≡ true → may_begin (taken busy entry bank) ≡ true
@@ -185,8 +145,7 @@ fit-waits bank regs row line first Serving own = by (drops bank.kept regs.change
 fit-waits bank regs row line first Iterating own = by (drops bank.kept regs.change line (Some (record { doing = Iterating; first = first })))
   where
     by : (b : Bool) → IsFit (waits_too bank row line) regs (if b then None else Some (record { doing = Iterating; first = first }))
-    by true = tt
-    by false = own
+    by b = grind arith
 fit-waits {n} {m} {e} bank regs row line first Beginning own = by regs.change own refl
   where
     first_action : Action
@@ -200,9 +159,7 @@ fit-waits {n} {m} {e} bank regs row line first Beginning own = by regs.change ow
 
     fits : (b : Bool) → (regs.change ≡ None) → IfSome (if b then None else Some first_action) (λ a. may_begin (waits_too bank row line) ≡ true)
         → IsFit (waits_too bank row line) regs (if b then None else Some first_action)
-    fits true none own = tt
-    fits false none own =
-        ap (λ (change : Option Change). ready_by (item_of change) (is_some regs.writer || regs.halted) (may_begin (waits_too bank row line))) none ∙ own
+    fits b none own = grind arith
 
     by : (change : Option Change) → ready_by (item_of change) (is_some regs.writer || regs.halted) (may_begin bank) ≡ true → regs.change ≡ change
         → IsFit (waits_too bank row line) regs (if drops bank.kept regs.change line (Some first_action) then None else Some first_action)

@@ -1,6 +1,6 @@
 -- Each entry of a history's queue gives the newest bytes of its line as of its own write.
 use Rattle.std.proofs.Common.{◌≡◌, ℕ, ◌==◌, ◌||◌, Bool, true, false, cond, if◌then◌else◌, List, [], ◌∷◌, ◌++◌, length, drop, slice_get, Option, Some, None, refl, sym, ap, subst, ◌∙◌, arith, eqb-true, eq-eqb}
-use Rattle.std.{specs.Prelude.{IsTrue, IsSomeAnd}, proofs.lemmas.Bool.{or_from, or_right}, proofs.lemmas.List.length-replicate}
+use Rattle.std.{specs.Prelude.{IsTrue, IsSomeAnd}, proofs.lemmas.Bool.or_from, proofs.lemmas.List.length-replicate}
 use Rattle.masked_bytes.specs.Entries.{Layer, no_layer, stacked, layer_by, layer_of, head_row, head_line, AllMasked, or_this, newest_row, candidate, laid_on, merged, has_row}
 use Rattle.masked_bytes.specs.{Entries.RowsApart, Masked.{laid, joined, gives_all, IsMasked}, declared.entry.Entry.Entry}
 use Rattle.masked_bytes.proofs.Layering.{length-laid, laid-again, laid-between, length-joined, laid-all_given, laid-none_given, all_given-gives_all, laid-laid}
@@ -119,11 +119,7 @@ module _ {n : ℕ} where
       where
         by : (rest : Option ℕ) → (rest ≡ Some old → (has_row es old ≡ true) × (has_line es line ≡ true)) → (b : Bool) → (e.line == line) ≡ b
             → or_this rest (cond b (Some e.row) None) ≡ Some old → (has_row (e ∷ es) old ≡ true) × (has_line (e ∷ es) line ≡ true)
-        by (Some row) there b at is = let rest = there is in (or_right (e.row == old) (has_row es old) rest.0, or_right (e.line == line) (has_line es line) rest.1)
-        by None there true at is =
-            let same : e.row ≡ old = cc in
-            (ap (λ b. b || has_row es old) (eq-eqb e.row old same), ap (λ b. b || has_line es line) at)
-        by None there false at is = cc
+        by rest there b at is = grind arith
 
     line-merged : (old at : ℕ) (es : List (Entry n)) → has_line (merged old row bytes given es) at ≡ has_line es at
     line-merged old at [] = refl
@@ -177,8 +173,7 @@ module _ {n : ℕ} where
   -- Begins and stores
 
   fresh-drop : (was : ℕ → ℕ → List ℕ) (now : ℕ → List ℕ) (es : List (Entry n)) → AreFresh was now es → AreFresh was now (drop 1 es)
-  fresh-drop was now [] fresh = tt
-  fresh-drop was now (e ∷ es) fresh = fresh.1
+  fresh-drop was now es fresh = grind arith
 
   -- an entry that gives every byte gives just what was newest as of its write
   whole-bytes : (was now : List ℕ) (behind : Bool) (e : Entry n) → IsFresh was now behind e → gives_all e.given ≡ true → length was ≡ n → e.bytes ≡ was
@@ -232,8 +227,7 @@ module _ {n : ℕ} where
   }
 
   newest_of-if : (b : Bool) (first other : List (BankEvent n)) (at : ℕ) → newest (if b then first else other) at ≡ (if b then newest first at else newest other at)
-  newest_of-if true first other at = refl
-  newest_of-if false first other at = refl
+  newest_of-if b first other at = grind arith
 
   module _ (shape : BankShape) (most : ℕ) where
     begun-fresh : (h : List (BankEvent n)) → MayAll shape most h → AreFresh (newest_at h) (newest h) (queue shape h)

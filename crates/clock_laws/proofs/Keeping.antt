@@ -5,8 +5,8 @@ use Rattle.cell_rows.specs.Device.{ArrayState}
 use Rattle.bank_shape.specs.{Shape.{controls_from, IsIn}, declared.answer.Keep.Keep, declared.clock.Action.Action, declared.clock.Doing.Doing}
 use Rattle.bank_shape.specs.declared.answer.Keep.TheVariants as keep
 use Rattle.bank_model.specs.Changes.{change_by, change_after, written_by, keeps_on, keeping_by, keeping_after, halted_by, halted_after, rounds_by, rounds_after, line_of_change}
-use Rattle.bank_model.specs.{Lawful.MayKeep, Sensing.{most_steps, kept_sensed, kept_pulsed}}
-use Rattle.bank_model.specs.{Timing.{Happens, Regs, Keeping, KeepBegin, KeepIterate, KeepCut, TimedEvent, core, ends}, Touching.Touches}
+use Rattle.bank_model.specs.{Lawful.MayKeep, Sensing.{most_steps, kept_sensed, kept_pulsed}, Timing.{Happens, Regs, Keeping, KeepBegin, KeepIterate, TimedEvent, core, ends}}
+use Rattle.bank_model.specs.Touching.{Touches}
 use Rattle.line_writer.specs.{Writing.steps_left, declared.writer.LineWriter.LineWriter}
 use Rattle.reg_lines.specs.{Keeping.kept_on, Regs.{RegsState, AreHeld, IsWritingOf}, declared.Change.Change}
 use Rattle.reg_lines.specs.Keeping as writing
@@ -68,8 +68,7 @@ module _ {n m e : ℕ} (xs : List (TimedEvent n m)) (clock : ClockState n m e) (
       }
     where
       never : (event : Keeping) (doing : Doing) → EndsKeeping event doing → false ≡ is_tear {n = n} (Regs event) (kept_pulsed (line_kept clock) event)
-      never (KeepCut tearing) doing is = absurd is
-      never _ doing is = refl
+      never event doing is = grind arith
 
   -- what a step leaves is told by the history
   kept-told : (x : TimedEvent n m) (event : Keeping) (answer : Keep) (writer : LineWriter n m e) (count : ℕ) → x.happens ≡ Regs event
@@ -93,24 +92,7 @@ module _ {n m e : ℕ} (xs : List (TimedEvent n m)) (clock : ClockState n m e) (
 
       by : (answer : Keep) → changes (Regs event) ≡ written_by answer (change_after clock.bank.kept.shape xs) → keeps (Regs event) ≡ keeps_on answer → halts (Regs event) ≡ halts_by answer (halted_after xs)
           → (answer ≡ keep.More → count + steps_left writer ≤ most_steps e) → AreTold clock.bank.kept.shape (x ∷ xs) (kept_on answer writer clock.regs)
-      by keep.More change keeping halted few = record {
-        change = leads.regs.change ∙ sym change ∙ ap changes (sym is);
-        writing = sym keeping ∙ ap keeps (sym is);
-        halted = leads.regs.halted ∙ sym halted ∙ ap halts (sym is);
-        steps = subst (λ (made : ℕ). made + steps_left writer ≤ most_steps e) (sym rounds ∙ ap makes (sym is)) (few refl);
-      }
-      by keep.Done change keeping halted few = record {
-        change = sym change ∙ ap changes (sym is);
-        writing = sym keeping ∙ ap keeps (sym is);
-        halted = leads.regs.halted ∙ sym halted ∙ ap halts (sym is);
-        steps = tt;
-      }
-      by keep.Halted change keeping halted few = record {
-        change = leads.regs.change ∙ sym change ∙ ap changes (sym is);
-        writing = sym keeping ∙ ap keeps (sym is);
-        halted = sym halted ∙ ap halts (sym is);
-        steps = tt;
-      }
+      by answer change keeping halted few = grind arith
 
 -- what is being written has a step left
 some_steps : {n m e : ℕ} (regs : RegsState n m e) (array : ArrayState n m) (writer : LineWriter n m e) → AreHeld regs array → regs.writer ≡ Some writer → 0 < steps_left writer
@@ -132,14 +114,11 @@ keep_begin_ends_law n m e answer action writer xs clock regs old new leads idle 
     (begin_line xs clock old leads clock.regs.change answer clock.regs.base leads.control.own.base) refl (sensed clock.regs.change step.touches) told step.control tt
   where
     stays : (answer : Keep) → answer ≢ keep.Halted → halted_after xs ≡ halts_by answer (halted_after xs)
-    stays keep.More not = refl
-    stays keep.Done not = refl
-    stays keep.Halted not = absurd (not refl)
+    stays answer not = grind arith
 
     sensed : (change : Option Change) → Touches (ends clock.pace action) (writing.line_of clock.regs change) None false old new
         → Touches (ends clock.pace action) (lines_by clock.regs.base change) None false old new
-    sensed None touches = touches
-    sensed (Some change) touches = touches
+    sensed change touches = grind arith
 
 pub keep_iterate_ends_law : KeepIterateEndsLaw
 keep_iterate_ends_law n m e answer action xs clock regs old new leads iteration step =
@@ -161,16 +140,11 @@ keep_iterate_ends_law n m e answer action xs clock regs old new leads iteration 
     (line_is xs clock old leads clock.regs.change clock.regs.base leads.control.own.base) (sensed clock.regs.change step.touches) told step.control iteration
   where
     halts : (answer : Keep) → halted_by {n = n} (Regs (KeepIterate answer)) (halted_after xs) ≡ halts_by answer (halted_after xs)
-    halts keep.More = refl
-    halts keep.Done = refl
-    halts keep.Halted = refl
+    halts answer = grind arith
 
     writes : (answer : Keep) → answer ≡ keep.More → regs ≡ kept_on answer iteration.now clock.regs → regs.writer ≡ Some iteration.now
-    writes keep.More more leaves = ap (λ (regs : RegsState n m e). regs.writer) leaves
-    writes keep.Done more leaves = absurd (cc)
-    writes keep.Halted more leaves = absurd (cc)
+    writes answer more leaves = grind arith
 
     sensed : (change : Option Change) → Touches (ends clock.pace action) (writing.line_of clock.regs change) (writing.target_of clock.regs change) false old new
         → Touches (ends clock.pace action) (lines_by clock.regs.base change) (line_by clock.regs.base change) false old new
-    sensed None touches = touches
-    sensed (Some change) touches = touches
+    sensed change touches = grind arith

@@ -1,5 +1,5 @@
 -- What a history leaves of the array.
-use Rattle.std.proofs.Common.{◌≡◌, ℕ, ◌+◌, Option, Some, None, sym, ap, subst, ◌∙◌, arith}
+use Rattle.std.proofs.Common.{◌≡◌, ℕ, ◌+◌, Option, sym, ap, subst, ◌∙◌, arith}
 use Rattle.std.specs.Prelude.{IsTrue, IfSome, IsSomeAnd}
 use Rattle.ecp_line.specs.{ArrayLines.is_worn_at, Reading.is_worn_line}
 use Rattle.bank_shape.specs.Shape.{control_line}
@@ -27,9 +27,4 @@ leaving_law n m e xs clock array leads =
     worn : (change : Option Change) (item : Option ℕ) → item_of change ≡ item
         → IsSomeAnd change (λ change. IsTrue (is_worn_line e (array.line (clock.regs.base + change.item)).held (array.line (clock.regs.base + change.item)).stuck))
         → IfSome item (λ item. IsTrue (is_worn_at e array (control_line clock.bank.kept.shape item)))
-    worn change None is own = tt
-    worn None (Some item) is own = absurd own
-    worn (Some change) (Some item) is own =
-        let same : change.item ≡ item = cc in
-        let there : clock.regs.base + change.item ≡ control_line clock.bank.kept.shape item = ap (λ base. base + change.item) leads.control.own.base ∙ ap (λ item. control_line clock.bank.kept.shape item) same in
-        subst (λ (line : ℕ). IsTrue (is_worn_at e array line)) there own
+    worn change item is own = grind arith

@@ -1,7 +1,7 @@
 -- The rows that stand, and that no other outcome is touched.
-use Rattle.std.proofs.Common.{◌≡◌, ℕ, ◌==◌, ◌||◌, Bool, true, false, cond, if◌then◌else◌, List, [], ◌∷◌, ◌++◌, map, Option, Some, None, refl, sym, ap, subst, ◌∙◌, eqb-true}
+use Rattle.std.proofs.Common.{arith, ◌≡◌, ℕ, ◌==◌, ◌||◌, Bool, true, false, cond, if◌then◌else◌, List, [], ◌∷◌, ◌++◌, map, Option, Some, None, refl, sym, ap, subst, ◌∙◌, eqb-true}
 use Rattle.std.specs.Prelude.{unwrap_or}
-use Rattle.masked_bytes.{specs.Entries.{candidate, has_row, head_row}, specs.declared.entry.Entry.Entry, proofs.Truth.{neither_first, neither_second}}
+use Rattle.masked_bytes.{specs.Entries.{candidate, has_row}, specs.declared.entry.Entry.Entry, proofs.Truth.{neither_first, neither_second}}
 use Rattle.result_rows.specs.declared.Outcome.{Outcome}
 use Rattle.result_rows.specs.declared.Outcome.TheVariants as out
 use Rattle.bank_shape.specs.{declared.BankShape.BankShape, declared.Work.TheVariants.Nothing, declared.answer.Served.Served, declared.pace.Pace.Pace}
@@ -64,13 +64,7 @@ module _ {n : ℕ} where
     -- the write that is stored is the head
     stored-other : (mark : Bool) (due : Option ℕ) (es : List (Entry n)) (at place : ℕ) → queue shape h ≡ es
         → IsDone shape h (if mark then Nothing else due_work shape h due es) (did.Stored at place) → (at == row) ≡ false
-    stored-other true due es at place is done = absurd done
-    stored-other false (Some region) es at place is done = absurd done
-    stored-other false None [] at place is done = absurd done
-    stored-other false None (e ∷ es) at place is done =
-        let same : at ≡ e.row = done.0 ∙ ap (λ es. head_row es) is in
-        let lacks : has_row (e ∷ es) row ≡ false = ap (λ es. has_row es row) (sym is) ∙ none in
-        ap (λ r. r == row) same ∙ neither_first (e.row == row) (has_row es row) lacks
+    stored-other mark due es at place is done = grind arith
 
     served-other : (ws : List Awaited) (answer : Served n) → has_wait ws row ≡ false → IsServed shape h ws answer → (answer.row == row) ≡ false
     served-other [] answer lacks is = absurd is

@@ -1,12 +1,11 @@
 -- The control lines are told by the history after each event.
-use Rattle.std.proofs.Common.{◌≡◌, ℕ, ◌+◌, ◌/◌, ◌<◌, ◌≤◌, Bool, true, false, cond, List, ◌∷◌, length, Option, Some, None, is_some, refl, sym, ap, subst, ◌∙◌}
+use Rattle.std.proofs.Common.{arith, ◌≡◌, ℕ, ◌+◌, ◌/◌, ◌<◌, ◌≤◌, Bool, true, false, cond, List, ◌∷◌, length, Option, Some, None, is_some, refl, sym, ap, subst, ◌∙◌}
 use Rattle.std.specs.Prelude.{IfSome, IsSomeAnd}
 use Rattle.masked_bytes.specs.{Entries.{head_row, head_line}, declared.entry.Entry.Entry}
 use Rattle.cell_rows.specs.Device.{ArrayState}
 use Rattle.spare_pool.specs.Table.{Table, used_by}
 use Rattle.line_writer.specs.{Writing.{steps_left, most_steps}, declared.writer.LineWriter.LineWriter}
-use Rattle.bank_shape.specs.{Kinds.{is_store, is_copy}, declared.BankShape.BankShape, declared.Home.Home, declared.Work.Work, declared.Work.TheVariants.{Nothing, Store, Copy}}
-use Rattle.bank_shape.specs.declared.answer.Step.{Step}
+use Rattle.bank_shape.specs.{Kinds.{is_store, is_copy}, declared.BankShape.BankShape, declared.Home.Home, declared.Work.Work, declared.answer.Step.Step}
 use Rattle.bank_shape.specs.declared.Home.TheVariants as home
 use Rattle.bank_shape.specs.declared.answer.Step.TheVariants as did
 use Rattle.start_gap.specs.declared.Move.{Move}
@@ -27,38 +26,29 @@ module _ {n m e : ℕ} (kept : KeptState n) (regs : RegsState n m e) where
   put-item home.Array item none = refl
 
   pub put-writer : (item : Option ℕ) → (put_if item kept regs).writer ≡ regs.writer
-  put-writer None = refl
-  put-writer (Some item) = refl
+  put-writer item = grind arith
 
   put-halted : (item : Option ℕ) → (put_if item kept regs).halted ≡ regs.halted
-  put-halted None = refl
-  put-halted (Some item) = refl
+  put-halted item = grind arith
 
 -- no line write goes on where no change stands
 pub no_writer : {n m e : ℕ} (regs : RegsState n m e) (P : LineWriter n m e → Change → Type 0) → IfSome regs.writer (λ writer. IsSomeAnd regs.change (λ change. P writer change)) → regs.change ≡ None → regs.writer ≡ None
 no_writer {n} {m} {e} regs P writes none = by regs.writer regs.change writes none
   where
     by : (writer : Option (LineWriter n m e)) (change : Option Change) → IfSome writer (λ writer. IsSomeAnd change (λ change. P writer change)) → change ≡ None → writer ≡ None
-    by None change writes none = refl
-    by (Some writer) None writes none = absurd writes
-    by (Some writer) (Some change) writes none = absurd (cc)
+    by writer change writes none = grind arith
 
 -- The items
 
 due_is : (b : Bool) (at region : ℕ) → cond b (Some at) None ≡ Some region → at ≡ region
-due_is true at region is = cc
-due_is false at region is = absurd (cc)
+due_is b at region is = grind arith
 
 module _ {n m e : ℕ} (xs : List (TimedEvent n m)) (clock : ClockState n m e) (array : ArrayState n m) (leads : Leads xs clock array) where
   done_store : (work : Work) (row place : ℕ) → IsDone clock.bank.kept.shape (core xs) work (did.Stored row place) → (is_store work ≡ true) × (row ≡ head_row (queue clock.bank.kept.shape (core xs)))
-  done_store Nothing row place done = absurd done
-  done_store (Store line slot) row place done = (refl, done.0)
-  done_store (Copy region step) row place done = absurd done
+  done_store work row place done = grind arith
 
   done_copy : (work : Work) (move : Move) → IsDone clock.bank.kept.shape (core xs) work (did.Moved move) → is_copy work ≡ true
-  done_copy Nothing move done = absurd done
-  done_copy (Store line slot) move done = absurd done
-  done_copy (Copy region step) move done = refl
+  done_copy work move done = grind arith
 
   -- the line of the head is that of its row
   stored_line : (row place : ℕ) → IsDone clock.bank.kept.shape (core xs) (work_after clock.bank.kept.shape (core xs)) (did.Stored row place)
@@ -93,20 +83,17 @@ module _ {n m e : ℕ} (xs : List (TimedEvent n m)) (clock : ClockState n m e) (
   item-same (did.Retired slot line) done none kept = absurd (no_retirement (work_after clock.bank.kept.shape (core xs)) done)
     where
       no_retirement : (work : Work) → IsDone clock.bank.kept.shape (core xs) work (did.Retired slot line) → ⊥
-      no_retirement Nothing done = done
-      no_retirement (Store line slot) done = done
-      no_retirement (Copy region step) done = done
+      no_retirement work done = grind arith
   item-same did.Exhausted done none kept = put-item kept clock.regs clock.bank.kept.shape.home (clock.bank.kept.shape.regions + clock.bank.kept.shape.spares) none
 
   item-iterated : (answer : Step) → MayHappen clock.bank.kept.shape (core xs) (most_steps e) (Iterate answer) → clock.regs.change ≡ None → (kept : KeptState n)
       → item_of (put_if (item_by clock.bank.kept answer) kept clock.regs).change ≡ changed_by clock.bank.kept.shape (core xs) answer (change_after clock.bank.kept.shape xs)
   item-iterated did.More may none kept = leads.regs.change
-  item-iterated (did.Stored row place) may none kept = item-same (did.Stored row place) may.1 none kept
-  item-iterated (did.Moved move) may none kept = item-same (did.Moved move) may.1 none kept
   item-iterated (did.Retired slot line) may none kept =
       put-item kept clock.regs clock.bank.kept.shape.home (clock.bank.kept.shape.regions + used_by clock.bank.kept.table) none
       ∙ ap (λ (t : Table). item_if clock.bank.kept.shape.home (clock.bank.kept.shape.regions + used_by t)) leads.holds.table
   item-iterated did.Exhausted may none kept = put-item kept clock.regs clock.bank.kept.shape.home (clock.bank.kept.shape.regions + clock.bank.kept.shape.spares) none
+  item-iterated answer may none kept = item-same answer may.1 none kept
 
   -- What the history says of the control lines
 

@@ -12,7 +12,7 @@ use Rattle.power_recovery.specs.{Kept.{KeptState, IsKept, AllBelow, region_at, s
 use Rattle.power_recovery.proofs.{Bundle.due_region-Some, Placing.slot_of-within}
 use Rattle.bank_model.specs.{After.{work_after, target_after, sources_of}, Changes.{line_of_change, numbers_from}, Events.{BankEvent, Serve, Begin, Iterate, Cut}}
 use Rattle.bank_model.specs.{History.{Awaited, waits}, Sensing.{is_at, pulses_of, stand_of, sensed_by, pulsed_by, read_again, torn_control, kept_sensed, kept_pulsed}}
-use Rattle.bank_model.specs.{Timing.{TimedEvent, Keeping, KeepIterate, KeepCut, is_doing}, Touching.{Touches, shown}}
+use Rattle.bank_model.specs.{Timing.{TimedEvent, Keeping, is_doing}, Touching.{Touches, shown}}
 use Rattle.bank_invariant.{specs.Bridge.AgreesWith, specs.Holds.Holds, specs.State.{BankState, target_of}, proofs.Agreeing.agree_law, proofs.Awaiting.waits-known}
 
 -- one that is no control line
@@ -63,8 +63,6 @@ module _ {n : ℕ} (kept : KeptState n) (range : IsKept kept) where
 
   next_by : (mark : Bool) (due : Option ℕ) (es : List (Entry n)) → (due ≡ due_region kept) → AllBelow es (bank_lines kept.shape)
       → IsSlot (target_slot kept (cond mark Nothing (due_work due kept es))) × HasSource (cond mark Nothing (due_work due kept es))
-  next_by true due es is known = (some_slots, tt)
-  next_by false None [] is known = (some_slots, tt)
   next_by false None (entry ∷ es) is known = (slot_of-within kept range entry.line known.0, tt)
   next_by false (Some region) es is known =
       let due = due_region-Some kept region range (sym is) in
@@ -74,6 +72,7 @@ module _ {n : ℕ} (kept : KeptState n) (range : IsKept kept) where
         slot_at-within kept.shape region rotation.gap due.0 (omega (arith, own.rotates, own.in_range.rotates.gap_within)),
         slot_at-within kept.shape region (below_gap rotation.lines rotation.gap) due.0 (omega (arith, own.rotates, less)),
       )
+  next_by _ _ _ is known = (some_slots, tt)
 
   pub target-in : IsSlotOrSpare kept.shape (target_of kept (next_work kept))
   target-in = array_line-in (target_slot kept (next_work kept)) (next_by kept.exhausted (due_region kept) kept.entries refl range.known).0
@@ -96,10 +95,9 @@ module _ {n m e : ℕ} (h : List (BankEvent n)) (bank : BankState n m e) (array 
       (subst (λ (at : ℕ). IsIn bank.kept.shape at) (agreeing.stands w.line own) (slot-in bank.kept.shape _ (stands_at-in bank.kept holds.kept w.line own)), tt)
 
   sources-in : (work : Work) → HasSource bank.kept holds.kept work → AreIn bank.kept.shape (sources_of bank.kept.shape h work)
-  sources-in Nothing has = tt
-  sources-in (Store line slot) has = tt
   sources-in (Copy region step) has =
       (subst (λ (at : ℕ). IsIn bank.kept.shape at) (agreeing.lines (slot_at bank.kept.shape region step.from)) (slot-in bank.kept.shape _ (array_line-in bank.kept holds.kept _ has)), tt)
+  sources-in _ has = tt
 
   pub target_after-in : IsIn bank.kept.shape (target_after bank.kept.shape h)
   target_after-in = subst (λ (at : ℕ). IsIn bank.kept.shape at) agreeing.target (slot-in bank.kept.shape _ (target-in bank.kept holds.kept))
@@ -151,14 +149,10 @@ torn-in shape change action below = by (is_doing Iterating action)
 
 -- what a step of its writing senses and pulses
 pub kept-sensed-in : (shape : BankShape) (line : Option ℕ) (event : Keeping) → IfSome line (IsIn shape) → AreIn shape (kept_sensed line event)
-kept-sensed-in shape None event own = tt
-kept-sensed-in shape (Some line) (KeepCut tearing) own = tt
-kept-sensed-in shape (Some line) _ own = (own, tt)
+kept-sensed-in shape line event own = grind arith
 
 pub kept-pulsed-in : (shape : BankShape) (line : Option ℕ) (event : Keeping) → IfSome line (IsIn shape) → IfSome (kept_pulsed line event) (IsIn shape)
-kept-pulsed-in shape line (KeepIterate answer) own = own
-kept-pulsed-in shape line (KeepCut true) own = own
-kept-pulsed-in shape line _ own = tt
+kept-pulsed-in shape line event own = grind arith
 
 -- Pulses
 

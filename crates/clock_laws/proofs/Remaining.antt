@@ -19,12 +19,10 @@ use Rattle.clock_laws.{specs.Remaining.{last_attempts, attempts_left, attempt_le
 use Rattle.clock_laws.proofs.Stepping.{some_item}
 
 length-rest : {n : ℕ} (es : List (Entry n)) → 0 < length es → length (drop 1 es) + 1 ≡ length es
-length-rest [] some = grind arith
-length-rest (e ∷ es) some = omega arith
+length-rest es some = grind arith
 
 length-completed : {n : ℕ} (under : List ℕ) (es : List (Entry n)) → length (completed under es) ≡ length es
-length-completed under [] = refl
-length-completed under (e ∷ es) = refl
+length-completed under es = grind arith
 
 module _ {n : ℕ} (kept : KeptState n) where
   stored-fewer : is_store (next_work kept) ≡ true → attempts_left (stored_kept kept) < attempts_left kept
@@ -82,16 +80,12 @@ both-fewer waiting most after before left now less few =
 
 module _ {n m e : ℕ} (bank : BankState n m e) (regs : RegsState n m e) where
   fewer-waiting : (ws : List (Waiting n)) → 0 < length ws → length (drop 1 ws) < length ws
-  fewer-waiting [] some = grind arith
-  fewer-waiting (w ∷ ws) some = omega arith
+  fewer-waiting ws some = grind arith
 
   -- what is left where nothing is in progress
   idle-left : (item : Option ℕ) (halted : Bool) (writer : Option (LineWriter n m e)) (running : Option (Operation n m e)) → writer ≡ None → running ≡ None
       → present_left item halted writer running ≤ most_steps e + 2 + (most_steps e + 1)
-  idle-left None halted writer running none idle = let left : attempt_left running ≡ most_steps e + 1 = ap (λ (r : Option (Operation n m e)). attempt_left r) idle in omega (arith, left)
-  idle-left (Some item) true writer running none idle = omega arith
-  idle-left (Some item) false None running none idle = omega arith
-  idle-left (Some item) false (Some writer) running none idle = absurd (cc)
+  idle-left item halted writer running none idle = grind arith
 
   fewer-ended : (kept : KeptState n) (later : RegsState n m e) → later.writer ≡ None → attempts_left kept < attempts_left bank.kept → actions_left (ended bank kept) later < actions_left bank regs
   fewer-ended kept later none less =
@@ -126,13 +120,10 @@ module _ {n m e : ℕ} (bank : BankState n m e) (regs : RegsState n m e) where
 
   kept-left : (change : Option Change) (halted : Bool) (writer : Option (LineWriter n m e)) → IsTrue (is_some change) → halted ≡ false
       → present_left (item_of change) halted writer bank.running ≡ most_steps e + 2 + keeping_left writer
-  kept-left None halted writer some going = absurd (cc)
-  kept-left (Some change) true writer some going = absurd (cc)
-  kept-left (Some change) false writer some going = refl
+  kept-left change halted writer some going = grind arith
 
   halted-left : (change : Option Change) (writer : Option (LineWriter n m e)) → IsTrue (is_some change) → present_left (item_of change) true writer bank.running ≡ 0
-  halted-left None writer some = absurd (cc)
-  halted-left (Some change) writer some = refl
+  halted-left change writer some = grind arith
 
 pub falling_law : FallingLaw
 falling_law n m e bank regs = record {

@@ -1,11 +1,10 @@
 -- Each row that came has its outcome, unless it stands or waits.
 use Rattle.std.proofs.Common.{◌≡◌, ◌≢◌, ◌⊎◌, inl, inr, ℕ, ◌<◌, ◌==◌, ◌||◌, Bool, true, false, cond, if◌then◌else◌, List, [], ◌∷◌, ◌++◌, drop, Option, Some, None, refl, sym, ap, subst, ◌∙◌, arith, eqb-true, eq-eqb}
-use Rattle.std.{specs.Prelude.unwrap_or, proofs.lemmas.Bool.{ne_eqb, or_left, or_right}}
+use Rattle.std.{specs.Prelude.unwrap_or, proofs.lemmas.Bool.{or_left, or_right}}
 use Rattle.result_rows.specs.declared.Outcome.{Outcome}
 use Rattle.result_rows.specs.declared.Outcome.TheVariants as out
 use Rattle.masked_bytes.{specs.Entries.{candidate, laid_on, merged, has_row, head_row}, specs.declared.entry.Entry.Entry, proofs.Truth.or_rest}
-use Rattle.bank_shape.specs.{declared.BankShape.BankShape, declared.Work.Work, declared.Work.TheVariants.{Nothing, Store, Copy}, declared.answer.Served.Served}
-use Rattle.bank_shape.specs.{declared.answer.WriteAnswer.WriteAnswer, declared.pace.Pace.Pace}
+use Rattle.bank_shape.specs.{declared.BankShape.BankShape, declared.Work.Work, declared.answer.Served.Served, declared.answer.WriteAnswer.WriteAnswer, declared.pace.Pace.Pace}
 use Rattle.bank_shape.specs.declared.answer.WriteAnswer.TheVariants as wrote
 use Rattle.bank_shape.specs.declared.answer.ReadAnswer.TheVariants as came
 use Rattle.bank_shape.specs.declared.answer.Step.TheVariants as did
@@ -34,9 +33,7 @@ there-new [] x row h = or_left (x.row == row) false h
 there-new (e ∷ es) x row h = or_right (e.row == row) _ (there-new es x row h)
 
 there-begun : {n : ℕ} (due : Option ℕ) (newest_of : ℕ → List ℕ) (es : List (Entry n)) (row : ℕ) → has_row es row ≡ true → has_row (begun due newest_of es) row ≡ true
-there-begun (Some region) newest_of es row h = h
-there-begun None newest_of [] row h = h
-there-begun None newest_of (e ∷ es) row h = h
+there-begun due newest_of es row h = grind arith
 
 module _ {n : ℕ} (old at : ℕ) (bytes : List ℕ) (given : List Bool) where
   -- other entries stay at a merge
@@ -50,10 +47,7 @@ module _ {n : ℕ} (old at : ℕ) (bytes : List ℕ) (given : List Bool) where
 
       by : (b : Bool) → (b ≡ true → e.row ≡ old) → (has_row es row ≡ true → has_row (merged old at bytes given es) row ≡ true)
           → has_row (if b then laid_on at bytes given e ∷ es else e ∷ merged old at bytes given es) row ≡ true
-      by true is rest =
-          let not-first : (e.row == row) ≡ false = ap (λ r. r == row) (is refl) ∙ off in
-          or_right (at == row) _ (or_rest (e.row == row) _ not-first h)
-      by false is rest = own (e.row == row) h rest
+      by b is rest = grind arith
 
   -- and the entry that was merged into has the new row
   merged-new : (es : List (Entry n)) → has_row es old ≡ true → has_row (merged old at bytes given es) at ≡ true
@@ -80,22 +74,15 @@ module _ {n : ℕ} (shape : BankShape) (h : List (BankEvent n)) (row tick : ℕ)
   on-own at outcome es ws set h = by (at == row) refl h
     where
       by : (b : Bool) → (at == row) ≡ b → ((at == row) ≡ true) ⊎ Stands es ws before → Stands es ws (unwrap_or (if b then Some outcome else None) before)
-      by true is h = inr (inr set)
-      by false is (inl own) = absurd (cc)
-      by false is (inr stands) = stands
+      by b is h = grind arith
 
   kept-by : (b : Bool) (outcome : Outcome n) (es fs : List (Entry n)) (ws vs : List Awaited) → is_set outcome ≡ true
       → (b ≡ false → has_row es row ≡ true → has_row fs row ≡ true) → (b ≡ false → has_wait ws row ≡ true → has_wait vs row ≡ true)
       → Stands es ws before → Stands fs vs (unwrap_or (if b then Some outcome else None) before)
-  kept-by true outcome es fs ws vs set rows reads stands = inr (inr set)
-  kept-by false outcome es fs ws vs set rows reads (inl there) = inl (rows refl there)
-  kept-by false outcome es fs ws vs set rows reads (inr (inl waiting)) = inr (inl (reads refl waiting))
-  kept-by false outcome es fs ws vs set rows reads (inr (inr done)) = inr (inr done)
+  kept-by b outcome es fs ws vs set rows reads stands = grind arith
 
   stored-head : (work : Work) (at place : ℕ) → IsDone shape h work (did.Stored at place) → at ≡ head_row (queue shape h)
-  stored-head Nothing at place done = absurd done
-  stored-head (Store line slot) at place done = done.0
-  stored-head (Copy region step) at place done = absurd done
+  stored-head work at place done = grind arith
 
   there-drop : (es : List (Entry n)) (at : ℕ) → at ≡ head_row es → (at == row) ≡ false → has_row es row ≡ true → has_row (drop 1 es) row ≡ true
   there-drop [] at is off h = h
@@ -202,12 +189,7 @@ module _ {n m : ℕ} where
       by : (h : Happens n) → RowsBelow (core_of h (core (later ++ x ∷ xs))) bound
           → ((at : ℕ) → RowsBelow (core (later ++ x ∷ xs)) at → (row < at) × (tick_of_row row (later ++ x ∷ xs) ≡ x.tick))
           → (row < bound) × (tick_by row h y.tick (tick_of_row row (later ++ x ∷ xs)) ≡ x.tick)
-      by (Core (Write at own some gives reply)) below rest =
-          let under = rest at below.1 in
-          let off : (at == row) ≡ false = ne_eqb at row (λ same. omega (arith, same, under.0)) in
-          (omega (arith, under.0, below.0), ap (λ b. cond b y.tick (tick_of_row row (later ++ x ∷ xs))) off ∙ under.1)
-      by (Core (Read at own reply)) below rest = let under = rest at below.1 in (omega (arith, under.0, below.0), under.1)
-      by _ below rest = rest bound below
+      by h below rest = grind arith
 
 pub arrival_tick_law : ArrivalTickLaw
 arrival_tick_law n m row line bound bytes given answer later xs x below is = (came-below row line bytes given answer later xs x bound below is).1

@@ -1,5 +1,5 @@
 -- One more event.
-use Rattle.std.proofs.Common.{◌≡◌, ℕ, ◌<◌, Bool, true, false, List, [], ◌∷◌, map, Option, Some, None, is_some, refl, sym, ap, subst, ◌∙◌, arith}
+use Rattle.std.proofs.Common.{◌≡◌, ℕ, ◌<◌, Bool, true, false, List, [], ◌∷◌, map, Option, is_some, refl, sym, ap, subst, ◌∙◌, arith}
 use Rattle.std.specs.Prelude.{All, IfSome, IsTrue}
 use Rattle.cell_rows.specs.Device.{ArrayState}
 use Rattle.bank_shape.specs.{Shape.controls_of, declared.BankShape.BankShape, declared.clock.Action.Action, declared.pace.Pace.Pace}
@@ -21,8 +21,7 @@ follows shape pace [] tick event whole = tt
 follows shape pace (x ∷ xs) tick event whole = λ is. absurd (cc)
 
 pub uncancelled : {n m : ℕ} (shape : BankShape) (pace : Pace) (xs : List (TimedEvent n m)) → IsWhole xs → IsUncancelled shape pace xs
-uncancelled shape pace [] whole = tt
-uncancelled shape pace (x ∷ xs) whole = whole
+uncancelled shape pace xs whole = grind arith
 
 -- what happens, with the lines that it sensed and pulsed
 abbrev pub stepped_as : {n m : ℕ} → Bool → Happens n → ℕ → ℕ → List ℕ → Option ℕ → ArrayState n m → TimedEvent n m
@@ -42,8 +41,7 @@ senses-all shape xs x sensed array own pulses =
 
 -- a change that stands is of an item
 pub some_item : (change : Option Change) → is_some change ≡ true → is_some (item_of change) ≡ true
-some_item None is = absurd (cc)
-some_item (Some change) is = refl
+some_item change is = grind arith
 
 module _ {n m e : ℕ} where
   -- the clock after it, with this bank and these control lines

@@ -1,9 +1,8 @@
 -- A power cut and a cancel, told by what the bank and the control lines keep.
-use Rattle.std.proofs.Common.{◌≡◌, ◌⊎◌, inl, inr, ℕ, ◌+◌, ◌<◌, ◌||◌, not, is_some, Bool, true, false, cond, List, [], ◌∷◌, Option, Some, None, refl, sym, ap, subst, ◌∙◌}
+use Rattle.std.proofs.Common.{arith, ◌≡◌, ◌⊎◌, inl, inr, ℕ, ◌+◌, ◌<◌, ◌||◌, not, is_some, Bool, true, false, cond, List, [], ◌∷◌, Option, Some, None, refl, sym, ap, subst, ◌∙◌}
 use Rattle.std.specs.Prelude.{IsTrue, IfSome}
 use Rattle.cell_rows.specs.Device.{ArrayState}
-use Rattle.bank_shape.specs.{declared.BankShape.BankShape, declared.clock.Action.Action, declared.clock.Doing.Doing}
-use Rattle.bank_shape.specs.declared.clock.Doing.TheVariants.{Serving, Beginning, Iterating}
+use Rattle.bank_shape.specs.{declared.BankShape.BankShape, declared.clock.Action.Action, declared.clock.Doing.Doing, declared.clock.Doing.TheVariants.Iterating}
 use Rattle.bank_model.specs.{Answers.{MayAll, MayHappen}, Changes.{line_of_change, all_controls}, Events.{BankEvent, Cut}, History.in_progress, Running.{busy_by, tears_bank}}
 use Rattle.bank_model.specs.{Sensing.{is_at, most_steps, pulsed_by, torn_control, kept_pulsed}, Timing.{KeepCut, TimedEvent, core, same_doing, is_doing}}
 use Rattle.bank_model.specs.Touching.{Touches, AreStruck}
@@ -27,9 +26,7 @@ fits_some bank regs (Some action) fit is = by action.doing fit is
     own (Some change) busy = inl refl
 
     by : (doing : Doing) → Fits bank regs doing → same_doing Iterating doing ≡ true → (is_some regs.change ≡ true) ⊎ (is_some bank.running ≡ true)
-    by Serving fit is = absurd (cc)
-    by Beginning fit is = absurd (cc)
-    by Iterating fit is = own regs.change fit
+    by doing fit is = grind arith
 
 -- Cuts
 
@@ -57,8 +54,7 @@ module _ {n m e : ℕ} (xs : List (TimedEvent n m)) (clock : ClockState n m e) (
       ∙ ap (λ torn. pulsed_by clock.bank.kept.shape (core xs) torn (Cut (is_doing Iterating clock.action))) (sym (none_torn (is_doing Iterating clock.action)))
     where
       none_torn : (b : Bool) → cond b (line_of_change clock.bank.kept.shape None) None ≡ None
-      none_torn true = refl
-      none_torn false = refl
+      none_torn b = grind arith
   torn_by_change (Some change) is may = by (is_doing Iterating clock.action)
     where
       by : (b : Bool) → torn_line b clock.regs (Some change) clock.bank.running ≡ cond b (line_of_change clock.bank.kept.shape (item_of (Some change))) None
@@ -73,8 +69,7 @@ torn_some true regs None (Some op) some = refl
 torn_some true regs None None some = absurd (by (some refl))
   where
     by : (false ≡ true) ⊎ (false ≡ true) → ⊥
-    by (inl is) = cc
-    by (inr is) = cc
+    by x0 = grind arith
 torn_some false regs change r some = refl
 
 pub cut_ends_law : CutEndsLaw
@@ -119,8 +114,7 @@ cancel_ends_law n m e line tearing xs clock bank old new leads would none tears 
     }
   where
     by : (b : Bool) → b ≡ is_some (pulsed_by clock.bank.kept.shape (core xs) None (Cut b))
-    by true = refl
-    by false = refl
+    by b = grind arith
 
 pub keep_cancel_ends_law : KeepCancelEndsLaw
 keep_cancel_ends_law n m e line tearing xs clock old new leads would stands fit tears control touches tears_control =
@@ -144,9 +138,7 @@ keep_cancel_ends_law n m e line tearing xs clock old new leads would stands fit 
     torn_so (Some change) is = torn_change xs clock old leads tearing change clock.bank.running
 
     by : (b : Bool) (change : Option Change) → is_some change ≡ true → b ≡ is_some (kept_pulsed (line_of_change clock.bank.kept.shape (item_of change)) (KeepCut b))
-    by b None is = absurd (cc)
-    by true (Some change) is = refl
-    by false (Some change) is = refl
+    by b change is = grind arith
 
 -- where the calls of a cut tear the control line of the change that stands as its writing does, the cut does
 pub tears-control : {n m e : ℕ} (tearing : Bool) (regs : RegsState n m e) (running : Option (Operation n m e)) (old before behind new : ArrayState n m)

@@ -1,21 +1,18 @@
 -- What a bank with its clock and its history say of each other.
 use Rattle.std.proofs.Common.{◌≡◌, ℕ, ◌<◌, ◌≤◌, ◌||◌, not, nat_lt, Bool, true, false, cond, List, [], ◌∷◌, length, map, Option, Some, None, is_some, refl, sym, ap, ◌∙◌, arith, lt-ltb, ltb-false}
-use Rattle.std.{specs.Prelude.IfSome, proofs.lemmas.Bool.le-ltb}
+use Rattle.std.specs.Prelude.{IfSome}
 use Rattle.cell_rows.specs.Device.{ArrayState}
 use Rattle.bank_shape.specs.{Acting.{choice, chosen_by}, Pausing.gives_way, declared.clock.Action.Action, declared.clock.Doing.Doing}
 use Rattle.bank_model.specs.{Changes.{change_after, keeping_after, halted_after}, History.{Awaited, waits}}
 use Rattle.bank_model.specs.{Running.{busy_by, ready_by, busy_after, ready_after, started, chosen_after, running, running_at}, Timing.{TimedEvent, ends, core, is_empty, last_tick}}
 use Rattle.bank_invariant.{specs.Bridge.AgreesWith, specs.Holds.waiting_of, specs.State.may_begin, proofs.Agreeing.agree_law}
-use Rattle.bank_laws.proofs.Ticks.{lasts_some}
 use Rattle.clock_laws.specs.{Leads.Leads, State.{ClockState, is_busy, may_start, started_at, or_else, chosen, next_action}}
 
 -- Ticks
 
 -- no action is chosen at a tick before its events
 pub started-same : (r : Option Action) (d : Option Doing) (tick : ℕ) → started r d tick tick ≡ r
-started-same (Some action) d tick = refl
-started-same None None tick = refl
-started-same None (Some doing) tick = ap (λ b. cond b (Some (record { doing = doing; first = tick })) None) (le-ltb tick tick (omega arith))
+started-same r d tick = grind arith
 
 -- the action that runs from now on is the one that runs at each later tick
 next-started : (r : Option Action) (d : Option Doing) (last now to : ℕ) → last ≤ now → now < to
@@ -38,8 +35,7 @@ none-started None None last now none = (refl, refl)
 none-started None (Some doing) last now none = absurd (by (nat_lt last now) none)
   where
     by : (b : Bool) → or_else (cond b (Some (record { doing = doing; first = last })) None) (Some (record { doing = doing; first = now })) ≡ None → ⊥
-    by true none = cc
-    by false none = cc
+    by b none = grind arith
 
 -- What is chosen
 
@@ -102,6 +98,4 @@ pub ends-later : {n m e : ℕ} (clock : ClockState n m e) → IfSome clock.actio
 ends-later clock above some some_iter = by clock.action (chosen clock) above
   where
     by : (r : Option Action) (d : Option Doing) → IfSome r (λ a. clock.tick < ends clock.pace a) → IfSome (or_else r (started_at clock.tick d)) (λ a. clock.tick < ends clock.pace a)
-    by (Some action) d above = above
-    by None None above = tt
-    by None (Some doing) above = omega (arith, lasts_some clock.pace.read clock.pace.iter doing some some_iter)
+    by r d above = grind arith

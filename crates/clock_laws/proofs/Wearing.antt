@@ -28,17 +28,14 @@ is_broken happens = true
 
 -- nothing, whether a test holds or not
 none-cond : (b : Bool) → ◌≡◌ {A = ℕ} (cond b 0 0) 0
-none-cond true = refl
-none-cond false = refl
+none-cond b = grind arith
 
 off-cond : (a b : Bool) (k : ℕ) → b ≡ false → ◌≡◌ {A = ℕ} (cond (a && b) k 0) 0
 off-cond true b k off = ap (λ b. cond b k 0) off
 off-cond false b k off = refl
 
 more-progress : (p : Progress) → keep.More ≡ keep_from p → p ≡ progress.More
-more-progress progress.More is = refl
-more-progress progress.Stored is = absurd (cc (is))
-more-progress (progress.Worn cause) is = absurd (cc (is))
+more-progress p is = grind arith
 
 module _ {n m e : ℕ} (xs : List (TimedEvent n m)) (clock : ClockState n m e) (x : TimedEvent n m) (now : RegsState n m e) (sensed : List ℕ) (tearing : Bool) (old new : ArrayState n m)
     (r : Reaches xs clock old) (touches : Touches x.tick sensed x.pulsed tearing old new) where
@@ -150,9 +147,7 @@ module _ {n m e : ℕ} (xs : List (TimedEvent n m)) (clock : ClockState n m e) (
     -- a cut tears it where an iteration of its writing runs
     torn-off : (b : Bool) (change : Option ℕ) → is_at (cond b (line_of_change shape change) None) at ≡ true
         → (is_at (line_of_change shape change) at ≡ true) × (is_some (cond b (line_of_change shape change) None) ≡ true)
-    torn-off true None is = absurd (cc (is))
-    torn-off true (Some item) is = (is, refl)
-    torn-off false change is = absurd (cc (is))
+    torn-off b change is = grind arith
 
     hits : (h : Happens n) → MayCome shape clock.pace e xs x h → GoesOnWriting x.tick regs now h x.pulsed old new → is_at x.pulsed at ≡ true → Hits h
     hits (Core (Iterate answer)) may goes hit = absurd (not-hit (Some (target_after shape (core xs))) may.pulsed target-off hit)
@@ -258,8 +253,7 @@ module _ {n m e : ℕ} (xs : List (TimedEvent n m)) (clock : ClockState n m e) (
         by false true written on =
             subst (λ (k : ℕ). IsAged old.bounds k 0 (new.line at)) turned
             (struck-ended old.bounds (old.line at) (new.line at) works (rounds_after xs) false (touches.sticks at on) (hit on).0 (own written))
-        by true false written off = rests false off (none written)
-        by false false written off = rests false off (none written)
+        by _ _ written off = rests false off (none written)
 
     abbrev Next : Happens n → Type 0
     Next h =
@@ -328,10 +322,7 @@ module _ {n m e : ℕ} (xs : List (TimedEvent n m)) (clock : ClockState n m e) (
       let alike : step.change ≡ change = cc (stands, step.stands) in
       subst (λ (w : LineWriter n m e). rounds_after xs + 1 ≤ w.prog.rounds) same
       (made-more step (subst (λ (c : Change). IsLive (new.line (regs.base + c.item))) (sym alike) live)))
-  made-iterated keep.Done step =
-      subst (λ (g : RegsState n m e). Made g (rounds_after xs + 1)) (sym step.leaves) (λ writer change runs stands live. absurd (cc (runs)))
-  made-iterated keep.Halted step =
-      subst (λ (g : RegsState n m e). Made g (rounds_after xs + 1)) (sym step.leaves) (λ writer change runs stands live. absurd (cc (runs)))
+  made-iterated _ step = subst (λ (g : RegsState n m e). Made g (rounds_after xs + 1)) (sym step.leaves) (λ writer change runs stands live. absurd (cc (runs)))
 
   made-next : (h : Happens n) → MayCome shape clock.pace e xs x h → GoesOnWriting x.tick regs now h x.pulsed old new → Made now (rounds_by h (rounds_after xs))
   made-next (Core (Write row line bytes given answer)) may goes = made-stays may.pulsed goes

@@ -4,8 +4,7 @@ use Rattle.std.proofs.lemmas.Bool.{cases_order, cases_Bool, cond-true, cond-fals
 use Rattle.ecp_line.specs.Layout.{leading, active, activity_cell, full_cell}
 
 within-step : (b : Bool) (n m : ℕ) → m ≤ n → cond b (1 + m) 0 ≤ suc n
-within-step true n m h = omega arith
-within-step false n m h = omega arith
+within-step b n m h = grind arith
 
 pub leading-within : (f : ℕ → Bool) (from n : ℕ) → leading f from n ≤ n
 unfolding leading

@@ -4,9 +4,8 @@ use Rattle.std.proofs.lemmas.Bool.{cases_eq, false≢true}
 use Rattle.cell_rows.specs.Rows.{members}
 
 counted-more : (a b : Bool) → (a ≡ true → b ≡ true) → cond a 1 0 ≤ cond b 1 0
-counted-more false b h = omega arith
-counted-more true true h = omega arith
 counted-more true false h = absurd (false≢true (h refl))
+counted-more _ _ h = omega arith
 
 -- what has one property has the other
 pub members-more : (p q : ℕ → Bool) (n : ℕ) → ((i : ℕ) → p i ≡ true → q i ≡ true) → members p n ≤ members q n

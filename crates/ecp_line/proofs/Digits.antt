@@ -12,8 +12,7 @@ number-same f g from (suc n) h =
     let c = ap (λ b. cond b (2 ^ n) 0) (h (from + n) (omega arith) (omega arith)) in omega arith
 
 digit-le : (b : Bool) (n : ℕ) → cond b (2 ^ n) 0 ≤ 2 ^ n
-digit-le true n = omega arith
-digit-le false n = omega arith
+digit-le b n = grind arith
 
 -- n cells give a number of n digits
 pub number-lt : (f : ℕ → Bool) (from n : ℕ) → number f from n < 2 ^ n

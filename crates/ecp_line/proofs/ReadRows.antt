@@ -1,5 +1,5 @@
 -- Rows that are made of the data bytes of one value and the check bytes of another.
-use Rattle.std.proofs.Common.{◌≡◌, ℕ, ◌+◌, ◌*◌, ◌/◌, ◌%◌, ◌<◌, ◌≤◌, Bool, true, false, List, Option, Some, None, replicate, eqb, refl, sym, ap, ◌∙◌, inl, inr, arith}
+use Rattle.std.proofs.Common.{◌≡◌, ℕ, ◌+◌, ◌*◌, ◌/◌, ◌%◌, ◌<◌, ◌≤◌, Bool, true, false, List, Option, Some, None, replicate, eqb, sym, ap, ◌∙◌, inl, inr, arith}
 use Rattle.std.{specs.Int.bit_at, specs.Prelude.IfSome, proofs.lemmas.Bool.{cases_lt, both_ways}, proofs.lemmas.List.{get_or-replicate, length-replicate}}
 use Rattle.std.proofs.lemmas.Nat.Bits.{bit_at_ones}
 use Rattle.cell_rows.{specs.Rows.{bit_of, cell, xor}, proofs.RowLemmas.{cell-bits, cell-meta, cell-zeros}}
@@ -25,8 +25,7 @@ wanted-start B M f want bytes front behind =
     wanted-none B f bytes want _ (λ n low. (data-mask B M n low, front n low)) (λ n high. (check-mask B M n high, behind n high))
 
 xor-self : (b : Bool) → xor b b ≡ false
-xor-self true = refl
-xor-self false = refl
+xor-self b = grind arith
 
 -- the lowest cell in which two rows with the same check cells differ is a data cell
 pub lowest-wrong : (B M : ℕ) (read given diff bit : ℕ → Bool) (bytes : List ℕ) (n : ℕ) → ((n : ℕ) → n < 8 * B → given n ≡ bit_of bytes n) → ((n : ℕ) → 8 * B ≤ n → given n ≡ read n)

@@ -1,8 +1,8 @@
 -- Cells that are wanted one after the other.
-use Rattle.std.proofs.Common.{◌≡◌, ◌≢◌, ℕ, zero, suc, ◌+◌, ◌*◌, ◌/◌, ◌%◌, ◌^◌, ◌<◌, ◌≤◌, ◌⊎◌, ◌&&◌, Bool, true, false, cond, sym, ap, ◌∙◌, inl, inr, arith, eqb, ltb, leb, bit_and}
+use Rattle.std.proofs.Common.{◌≡◌, ◌≢◌, ℕ, zero, suc, ◌+◌, ◌*◌, ◌/◌, ◌%◌, ◌^◌, ◌<◌, ◌&&◌, Bool, true, false, cond, sym, ap, ◌∙◌, inl, inr, arith, eqb, ltb, leb, bit_and}
 use Rattle.std.{specs.Int.bit_at, proofs.Math.Arith.mod-mul, proofs.Math.Nat.{pow-succ', mod-eq_of_lt}, proofs.lemmas.Bool.{eqb-true, eqb-false, cases_eq, cases_Bool, both_ways}}
 use Rattle.std.proofs.{lemmas.Bool.Decides.nat_tests, lemmas.Nat.pow_pos, lemmas.Nat.Bits.{shr_and_one, bit_at-lt}}
-use Rattle.ecp_line.{specs.Layout.{number, WantsZeros}, proofs.Correcting.{set-same, set-other}, proofs.Digits.{number-same, number-none, number-one, number-zero}}
+use Rattle.ecp_line.{specs.Layout.number, proofs.Correcting.{set-same, set-other}, proofs.Digits.{number-same, number-none, number-one, number-zero}}
 
 run-test : (from size q n : ℕ) → q ≡ from + size → cond (eqb n q) true (leb from n && ltb n (from + size)) ≡ (leb from n && ltb n (from + (size + 1)))
 run-test from size q n at = grind (arith, nat_tests)

@@ -26,10 +26,8 @@ switch-going {B} {M} E w prog line programs phase going =
 
 phase-going : {B M : ℕ} (E w : ℕ) (bytes : List ℕ) (phase : Phase) (prog : Prog B M) (line : LineState B M) → Programs prog line → IsGoing prog
     → IsAfterRound E w bytes phase prog (cell line.held) line.stuck → IsInPhase E w bytes phase prog (cell line.held) line.stuck
-phase-going E w bytes Clear prog line programs going h = h
-phase-going E w bytes Fill prog line programs going h = h
-phase-going E w bytes Point prog line programs going h = h
 phase-going E w bytes Switch prog line programs going h = switch-going E w prog line programs h going
+phase-going E w bytes _ prog line programs going h = h
 
 -- a phase that has a round left goes on
 pub writing-going : {B M E : ℕ} (writer : LineWriter B M E) (line : LineState B M) → HasRound writer line → IsGoing writer.prog → IsWriting writer line

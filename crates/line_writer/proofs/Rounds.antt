@@ -120,10 +120,9 @@ sound-after {B} {M} E w bytes Switch prog f s h before =
     ]
 
 sound-in : {B M : ℕ} (E w : ℕ) (bytes : List ℕ) (phase : Phase) (prog : Prog B M) (f s : ℕ → Bool) → IsInPhase E w bytes phase prog f s → Prefix B M f s w → Sound B M E f s
-sound-in E w bytes Clear prog f s h before j le = let e = h.entries in before j (omega arith)
-sound-in E w bytes Fill prog f s h before j le = let e = h.entries in before j (omega arith)
 sound-in E w bytes Point prog f s h before j le = let e = h.ready.most in before j (omega arith)
 sound-in E w bytes Switch prog f s h before j le = let e = h.ready.most in before j (omega arith)
+sound-in E w bytes _ prog f s h before j le = let e = h.entries in before j (omega arith)
 
 -- a line that is being written is sound
 pub sound-writing : {B M E : ℕ} (writer : LineWriter B M E) (line : LineState B M) → IsWriting writer line → Sound B M E (cell line.held) line.stuck
@@ -190,7 +189,4 @@ writing-with writer line answer h = record { prog = h.prog; most = h.most; charg
 
 pub progress-with : {B M E : ℕ} (writer : LineWriter B M E) (line : LineState B M) (answer progress : Progress) → IsProgress writer line progress
     → IsProgress {B = B} {M = M} {E = E} (record writer { progress = answer }) line progress
-progress-with writer line answer More h = h
-progress-with writer line answer Stored h = h
-progress-with writer line answer (Worn TooMany) h = h
-progress-with writer line answer (Worn (Activity c)) h = h
+progress-with writer line answer progress h = grind arith

@@ -1,12 +1,10 @@
 -- What a phase has settled when no round of it is left.
-use Rattle.std.proofs.Common.{◌≡◌, ℕ, zero, suc, ◌+◌, ◌-◌, ◌*◌, ◌<◌, ◌≤◌, ◌⊎◌, ◌&&◌, Bool, true, false, List, refl, sym, ap, ◌∙◌, inl, inr, arith}
-use Rattle.std.proofs.lemmas.Bool.{cases_Bool, both_ways, and_from, and_left, lt-ltb, eq-eqb, ne_eqb, le-leb, false_from_ne_true}
+use Rattle.std.proofs.Common.{◌≡◌, ℕ, zero, suc, ◌+◌, ◌-◌, ◌*◌, ◌<◌, ◌≤◌, ◌⊎◌, ◌&&◌, Bool, true, false, List, sym, ap, ◌∙◌, inl, inr, arith}
+use Rattle.std.proofs.lemmas.Bool.{cases_Bool, both_ways, and_from, lt-ltb, le-leb, false_from_ne_true}
 use Rattle.cell_rows.{specs.Rows.{bit_of, xor, members}, proofs.ByteLemmas.xor_false}
-use Rattle.ecp_line.specs.Layout.{active, is_later, source_below, pointer, number, width, pointer_cell, replacement_cell, full_cell, activity_cell, switch_cell, Prefix, IsLayout}
-use Rattle.ecp_line.{specs.Layout.IsLowest, proofs.Activity.active-full, proofs.Digits.{number-none, number-one, number-zero}, proofs.Inert.{Prefix-more, too_many}}
-use Rattle.ecp_line.proofs.Places.{full-lt, pointer-lt, entry-order}
-use Rattle.line_writer.specs.Phases.{IsCleared, IsReady, IsClearing, IsFilling, IsPointing, IsSwitching, IsStuckActivity}
-use Rattle.line_writer.proofs.Keeping.{clearing-within, switch-zero, switch-early, switch-last, early_or_last}
+use Rattle.ecp_line.specs.Layout.{active, is_later, source_below, pointer, number, width, pointer_cell, replacement_cell, full_cell, activity_cell, Prefix, IsLayout}
+use Rattle.ecp_line.proofs.{Activity.active-full, Digits.{number-none, number-one, number-zero}, Inert.{Prefix-more, too_many}, Places.{full-lt, pointer-lt, entry-order}}
+use Rattle.line_writer.{specs.Phases.{IsCleared, IsReady, IsClearing, IsFilling, IsPointing, IsStuckActivity}, proofs.Keeping.clearing-within}
 
 -- a cell of the mask that isn't wrong is as wanted
 pub right : (which want f : ℕ → Bool) (n : ℕ) → which n ≡ true → (which n && xor (f n) (want n)) ≡ false → f n ≡ want n

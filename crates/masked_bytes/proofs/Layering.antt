@@ -7,10 +7,8 @@ use Rattle.masked_bytes.{specs.Masked.{laid, joined, none_given, all_given, give
 -- Lengths
 
 pub length-laid : (bytes : List ℕ) (given : List Bool) (under : List ℕ) → length (laid bytes given under) ≡ length under
-length-laid [] given under = refl
-length-laid (b ∷ bytes) [] under = refl
-length-laid (b ∷ bytes) (g ∷ given) [] = refl
 length-laid (b ∷ bytes) (g ∷ given) (u ∷ under) = ap suc (length-laid bytes given under)
+length-laid _ _ _ = refl
 
 pub length-joined : (given other : List Bool) → length given ≡ length other → length (joined given other) ≡ length other
 length-joined [] other e = refl
@@ -31,10 +29,9 @@ get_or-laid (b ∷ bytes) (g ∷ given) (u ∷ under) (suc i) e h = get_or-laid 
 
 pub get_or-joined : (given other : List Bool) (i : ℕ) → length other ≡ length given
     → get_or (joined given other) i false ≡ (get_or given i false || get_or other i false)
-get_or-joined [] other i e = refl
 get_or-joined (g ∷ given) [] i e = grind arith
-get_or-joined (g ∷ given) (o ∷ other) zero e = refl
 get_or-joined (g ∷ given) (o ∷ other) (suc i) e = get_or-joined given other i (omega arith)
+get_or-joined _ _ _ e = refl
 
 -- All bytes given, and none
 
@@ -69,10 +66,9 @@ gives_all-all_given (suc n) = gives_all-all_given n
 -- a set that gives every byte is the whole set
 pub all_given-gives_all : (n : ℕ) (given : List Bool) → length given ≡ n → gives_all given ≡ true → given ≡ all_given n
 all_given-gives_all zero [] e h = refl
-all_given-gives_all (suc n) [] e h = grind arith
-all_given-gives_all zero (g ∷ given) e h = grind arith
 all_given-gives_all (suc n) (true ∷ given) e h = ap (λ xs. true ∷ xs) (all_given-gives_all n given (omega arith) h)
 all_given-gives_all (suc n) (false ∷ given) e h = cc
+all_given-gives_all _ _ e h = grind arith
 
 -- Several layers
 
@@ -175,12 +171,10 @@ IsMasked-all_given (suc n) bytes some e =
 pub laid-take_next : (bytes : List ℕ) (given : List Bool) (under : List ℕ) (i : ℕ) → length given ≡ length bytes → length under ≡ length bytes → i < length bytes
     → slice_set (laid (take i bytes) (take i given) under) i (if get_or given i false then get_or bytes i 0 else get_or (laid (take i bytes) (take i given) under) i 0)
     ≡ laid (take (suc i) bytes) (take (suc i) given) under
-laid-take_next [] given under i e h k = grind arith
-laid-take_next (b ∷ bytes) [] under i e h k = grind arith
-laid-take_next (b ∷ bytes) (g ∷ given) [] i e h k = grind arith
 laid-take_next (b ∷ bytes) (g ∷ given) (u ∷ under) zero e h k = refl
 laid-take_next (b ∷ bytes) (g ∷ given) (u ∷ under) (suc i) e h k =
     ap (λ xs. (if g then b else u) ∷ xs) (laid-take_next bytes given under i (omega arith) (omega arith) (omega arith))
+laid-take_next _ _ _ i e h k = grind arith
 
 -- the same of joined sets
 pub joined-take_next : (given other : List Bool) (i : ℕ) → length other ≡ length given → i < length given
@@ -206,10 +200,9 @@ picked true above below bit one none h k =
 
 -- bytes laid over themselves are those
 pub laid-self : (bytes : List ℕ) (given : List Bool) → laid bytes given bytes ≡ bytes
-laid-self [] given = refl
-laid-self (b ∷ bytes) [] = refl
 laid-self (b ∷ bytes) (true ∷ given) = ap (λ rest. b ∷ rest) (laid-self bytes given)
 laid-self (b ∷ bytes) (false ∷ given) = ap (λ rest. b ∷ rest) (laid-self bytes given)
+laid-self _ _ = refl
 
 -- what was made by laying bytes over others, laid over those, is the same
 pub laid-over : (bytes : List ℕ) (given : List Bool) (under : List ℕ) → laid (laid bytes given under) given under ≡ laid bytes given under

@@ -1,5 +1,5 @@
 -- What the entries of a queue stand for, before and after each change of the queue.
-use Rattle.std.proofs.Common.{◌≡◌, ℕ, ◌<◌, List, [], ◌∷◌, ◌++◌, Bool, true, false, ◌||◌, ◌&&◌, ◌==◌, not, if◌then◌else◌, zero, suc, length, replicate, refl, sym, subst, ap, ◌∙◌, arith, slice_get, slice_set, Option, Some, None, eq-eqb, eqb-true}
+use Rattle.std.proofs.Common.{◌≡◌, ℕ, ◌<◌, List, [], ◌∷◌, ◌++◌, Bool, true, false, ◌||◌, ◌&&◌, ◌==◌, not, if◌then◌else◌, zero, suc, length, replicate, refl, sym, ap, ◌∙◌, arith, slice_get, slice_set, Option, Some, None, eq-eqb, eqb-true}
 use Rattle.std.proofs.lemmas.List.{length-replicate}
 use Rattle.masked_bytes.specs.Entries.{Layer, no_layer, stacked, or_this, one_further, layer_by, layer_of, newest_row, newest_index, candidate, candidate_index, laid_on, merged}
 use Rattle.masked_bytes.specs.{Entries.{merged_at, row_at, has_row, RowsApart, AllMasked}, Masked.IsMasked, declared.entry.Entry.Entry}
@@ -80,9 +80,7 @@ module _ {n : ℕ} where
     where
       by : (p : Option ℕ) (b : Bool) → (p ≡ None → layer_of es line ≡ no_layer n)
           → or_this (one_further p) (if b then Some 0 else None) ≡ None → (if b then stacked (layer_of es line) (layer_by e) else layer_of es line) ≡ no_layer n
-      by (Some i) b ih h = cc
-      by None true ih h = cc
-      by None false ih h = ih refl
+      by p b ih h = grind arith
 
   -- Indices
 
@@ -93,9 +91,7 @@ module _ {n : ℕ} where
     where
       by : (p : Option ℕ) (b : Bool) (i : ℕ) → ((j : ℕ) → p ≡ Some j → j < length es)
           → or_this (one_further p) (if b then Some 0 else None) ≡ Some i → i < suc (length es)
-      by (Some j) b i ih h = let step : suc j ≡ i = some_same (suc j) i h in omega (arith, ih j refl)
-      by None true i ih h = let step : 0 ≡ i = some_same 0 i h in omega arith
-      by None false i ih h = cc
+      by p b i ih h = grind arith
 
   -- the candidate is the newest entry of its line
   pub candidate_index-newest : (busy : Bool) (es : List (Entry n)) (line i : ℕ) → candidate_index busy es line ≡ Some i → newest_index es line ≡ Some i
@@ -104,9 +100,7 @@ module _ {n : ℕ} where
     where
       by : (busy : Bool) (p : Option ℕ) (b : Bool)
           → or_this (one_further p) (if not busy && b then Some 0 else None) ≡ Some i → or_this (one_further p) (if b then Some 0 else None) ≡ Some i
-      by busy (Some j) b h = h
-      by true None b h = cc
-      by false None b h = h
+      by busy p b h = grind arith
 
   -- a busy head is no candidate
   pub candidate_index-busy : (es : List (Entry n)) (line i : ℕ) → candidate_index true es line ≡ Some i → 0 < i
@@ -119,13 +113,7 @@ module _ {n : ℕ} where
 
   newest_row-step : (e : Entry n) (es : List (Entry n)) (p q : Option ℕ) (b : Bool) (i : ℕ) → ((j : ℕ) → p ≡ Some j → q ≡ Some (row_at es j)) → (p ≡ None → q ≡ None)
       → or_this (one_further p) (if b then Some 0 else None) ≡ Some i → or_this q (if b then Some e.row else None) ≡ Some (row_at (e ∷ es) i)
-  newest_row-step e es (Some j) q b i some none h =
-      let step : suc j ≡ i = some_same (suc j) i h in
-      rw (some j refl) (subst (λ (k : ℕ). Some (row_at es j) ≡ Some (row_at (e ∷ es) k)) step refl)
-  newest_row-step e es None q true i some none h =
-      let step : 0 ≡ i = some_same 0 i h in
-      rw (none refl) (subst (λ (k : ℕ). Some e.row ≡ Some (row_at (e ∷ es) k)) step refl)
-  newest_row-step e es None q false i some none h = cc
+  newest_row-step e es p q b i some none h = grind arith
 
   pub newest_row-none : (es : List (Entry n)) (line : ℕ) → newest_index es line ≡ None → newest_row es line ≡ None
   newest_row-none [] line h = refl
@@ -133,9 +121,7 @@ module _ {n : ℕ} where
     where
       by : (p q : Option ℕ) (b : Bool) → (p ≡ None → q ≡ None)
           → or_this (one_further p) (if b then Some 0 else None) ≡ None → or_this q (if b then Some e.row else None) ≡ None
-      by (Some j) q b none h = cc
-      by None q true none h = cc
-      by None q false none h = rw (none refl)
+      by p q b none h = grind arith
 
   pub newest_row-index : (es : List (Entry n)) (line i : ℕ) → newest_index es line ≡ Some i → newest_row es line ≡ Some (row_at es i)
   newest_row-index [] line i h = cc
@@ -154,9 +140,7 @@ module _ {n : ℕ} where
     where
       by : (rest : Option ℕ) (busy at : Bool) → or_this rest (if not busy && at then Some e.row else None) ≡ Some old
           → or_this rest (if at then Some e.row else None) ≡ Some old
-      by (Some row) busy at is = is
-      by None true at is = cc
-      by None false at is = is
+      by rest busy at is = grind arith
 
   pub candidate-none : (busy : Bool) (es : List (Entry n)) (line : ℕ) → candidate_index busy es line ≡ None → candidate busy es line ≡ None
   candidate-none busy [] line h = refl
@@ -164,9 +148,7 @@ module _ {n : ℕ} where
     where
       by : (p q : Option ℕ) (b : Bool) → (p ≡ None → q ≡ None)
           → or_this (one_further p) (if b then Some 0 else None) ≡ None → or_this q (if b then Some e.row else None) ≡ None
-      by (Some j) q b none h = cc
-      by None q true none h = cc
-      by None q false none h = rw (none refl)
+      by p q b none h = grind arith
 
   pub row_at-slice_get : (es : List (Entry n)) (i : ℕ) (e : Entry n) → slice_get es i ≡ Some e → row_at es i ≡ e.row
   row_at-slice_get [] i e h = cc
@@ -176,9 +158,8 @@ module _ {n : ℕ} where
   -- Merging
 
   pub length-merged_at : (es : List (Entry n)) (i row : ℕ) (bytes : List ℕ) (given : List Bool) → length (merged_at i row bytes given es) ≡ length es
-  length-merged_at [] i row bytes given = refl
-  length-merged_at (e ∷ es) zero row bytes given = refl
   length-merged_at (e ∷ es) (suc i) row bytes given = ap suc (length-merged_at es i row bytes given)
+  length-merged_at _ _ row bytes given = refl
 
   -- an entry is written at its index
   pub merged_at-slice_set : (es : List (Entry n)) (i row : ℕ) (bytes : List ℕ) (given : List Bool) (e : Entry n) → slice_get es i ≡ Some e
@@ -193,8 +174,7 @@ module _ {n : ℕ} where
   has_row-row_at (e ∷ es) (suc i) h = by (e.row == row_at es i) (has_row-row_at es i (omega arith))
     where
       by : (b : Bool) → has_row es (row_at es i) ≡ true → (b || has_row es (row_at es i)) ≡ true
-      by true h = refl
-      by false h = h
+      by b h = grind arith
 
   not_row : (es : List (Entry n)) (row i : ℕ) → has_row es row ≡ false → i < length es → (row == row_at es i) ≡ false
   not_row es row i none within = by (row == row_at es i) (eqb-true row (row_at es i))

@@ -1,5 +1,5 @@
 -- The rows of entries, as they come, merge and go.
-use Rattle.std.proofs.Common.{◌≡◌, ℕ, ◌==◌, Bool, true, false, List, [], ◌∷◌, ◌++◌, drop, refl, subst, cond, eqb, eqb-true}
+use Rattle.std.proofs.Common.{arith, ◌≡◌, ℕ, ◌==◌, Bool, true, false, List, [], ◌∷◌, ◌++◌, drop, refl, subst, cond, eqb, eqb-true}
 use Rattle.std.proofs.lemmas.Bool.{or_from}
 use Rattle.masked_bytes.{specs.Entries.{has_row, RowsApart, merged, laid_on}, specs.declared.entry.Entry.Entry, proofs.Truth.{neither_first, neither_second, differ_sym}}
 
@@ -31,8 +31,7 @@ module _ {n : ℕ} where
   )
 
   pub apart-drop : (es : List (Entry n)) → RowsApart es → RowsApart (drop 1 es)
-  apart-drop [] a = tt
-  apart-drop (e ∷ es) a = a.1
+  apart-drop es a = grind arith
 
   pub apart-merged : (old row : ℕ) (bytes : List ℕ) (given : List Bool) (es : List (Entry n))
       → RowsApart es → has_row es row ≡ false → RowsApart (merged old row bytes given es)

@@ -1,5 +1,5 @@
 -- What each change of a queue leaves of what its entries stand for.
-use Rattle.std.proofs.Common.{◌≡◌, ℕ, ◌<◌, List, [], ◌∷◌, ◌++◌, Bool, true, false, ◌==◌, if◌then◌else◌, zero, suc, length, refl, sym, subst, ap, ◌∙◌, arith, Option, Some, None, eq-eqb, eqb-true}
+use Rattle.std.proofs.Common.{◌≡◌, ℕ, ◌<◌, List, [], ◌∷◌, ◌++◌, Bool, true, false, ◌==◌, if◌then◌else◌, zero, suc, length, refl, sym, subst, ap, ◌∙◌, arith, Option, Some, None, eq-eqb}
 use Rattle.std.proofs.lemmas.List.{length-replicate}
 use Rattle.masked_bytes.specs.Entries.{Layer, no_layer, stacked, or_this, one_further, layer_by, layer_of, newest_index, laid_on, merged_at, completed, head_line, AllMasked}
 use Rattle.masked_bytes.specs.{Masked.{laid, all_given, IsMasked}, declared.entry.Entry.Entry}
@@ -53,22 +53,12 @@ module _ {n : ℕ} where
   other_head : (e : Entry n) (es : List (Entry n)) (line other i row : ℕ) (bytes : List ℕ) (given : List Bool) (b : Bool)
       → (line == other) ≡ false → (e.line == line) ≡ b → (if b then Some 0 else None) ≡ Some i
       → layer_of (merged_at i row bytes given (e ∷ es)) other ≡ layer_of (e ∷ es) other
-  other_head e es line other i row bytes given false apart same h = cc
-  other_head e es line other (suc i) row bytes given true apart same h = let step : 0 ≡ suc i = some_same 0 (suc i) h in grind arith
-  other_head e es line other zero row bytes given true apart same h =
-      let is : e.line ≡ line = eqb-true e.line line same in
-      let is_other : (e.line == other) ≡ false = rw is apart in
-      rw is_other
+  other_head e es line other i row bytes given b apart same h = grind arith
 
   other_behind : (e : Entry n) (es : List (Entry n)) (other j i row : ℕ) (bytes : List ℕ) (given : List Bool) → suc j ≡ i
       → layer_of (merged_at j row bytes given es) other ≡ layer_of es other
       → layer_of (merged_at i row bytes given (e ∷ es)) other ≡ layer_of (e ∷ es) other
-  other_behind e es other j zero row bytes given step rest = grind arith
-  other_behind e es other j (suc i) row bytes given step rest =
-      let same : j ≡ i = omega arith in
-      let there : layer_of (merged_at i row bytes given es) other ≡ layer_of es other =
-      subst (λ (p : ℕ). layer_of (merged_at p row bytes given es) other ≡ layer_of es other) same rest in
-      rw there
+  other_behind e es other j i row bytes given step rest = grind arith
 
   -- a merge leaves the other lines
   pub layer_of-merged_other : (es : List (Entry n)) (line other i row : ℕ) (bytes : List ℕ) (given : List Bool)

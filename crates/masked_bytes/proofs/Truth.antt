@@ -1,6 +1,6 @@
 -- Tests: the parts of a conjunction that is true and of a disjunction that is false, both with a part that is known, and numbers that
 -- differ; for the crates above too.
-use Rattle.std.proofs.Common.{◌≡◌, ℕ, ◌==◌, refl, sym, not, Bool, true, false, ◌&&◌, ◌||◌}
+use Rattle.std.proofs.Common.{arith, ◌≡◌, ℕ, ◌==◌, sym, not, Bool, true, false, ◌&&◌, ◌||◌}
 use Rattle.std.proofs.lemmas.Bool.{and_parts, or_parts, ne_eqb, eqb-false}
 
 pub and_first : (a b : Bool) → (a && b) ≡ true → a ≡ true
@@ -16,24 +16,19 @@ pub neither_second : (a b : Bool) → (a || b) ≡ false → b ≡ false
 neither_second a b neither = (or_parts a b neither).1
 
 pub or_rest : (a b : Bool) → a ≡ false → (a || b) ≡ true → b ≡ true
-or_rest true b none either = absurd (cc)
-or_rest false b none either = either
+or_rest a b none either = grind arith
 
 pub implied : (a b : Bool) → (a ≡ true → b ≡ true) → (not a || b) ≡ true
-implied true b so = so refl
-implied false b so = refl
+implied a b so = grind arith
 
 pub and_true : (a : Bool) → (a && true) ≡ a
-and_true true = refl
-and_true false = refl
+and_true a = grind arith
 
 pub and_false : (a : Bool) → (a && false) ≡ false
-and_false true = refl
-and_false false = refl
+and_false a = grind arith
 
 pub or_false : (a : Bool) → (a || false) ≡ a
-or_false true = refl
-or_false false = refl
+or_false a = grind arith
 
 -- two numbers that differ, the other way round
 pub differ_sym : (a b : ℕ) → (a == b) ≡ false → (b == a) ≡ false

@@ -26,20 +26,16 @@ module _ {n : ℕ} where
   AllBelow-merged_at (e ∷ es) (suc i) row bytes given lines h = (h.0, AllBelow-merged_at es i row bytes given lines h.1)
 
   AllBelow-completed : (es : List (Entry n)) (below : List ℕ) (lines : ℕ) → AllBelow es lines → AllBelow (completed below es) lines
-  AllBelow-completed [] below lines h = tt
-  AllBelow-completed (e ∷ es) below lines h = h
+  AllBelow-completed es below lines h = grind arith
 
   AllBelow-drop : (es : List (Entry n)) (lines : ℕ) → AllBelow es lines → AllBelow (drop 1 es) lines
-  AllBelow-drop [] lines h = tt
-  AllBelow-drop (e ∷ es) lines h = h.1
+  AllBelow-drop es lines h = grind arith
 
   AllMasked-drop : (es : List (Entry n)) → AllMasked es → AllMasked (drop 1 es)
-  AllMasked-drop [] h = tt
-  AllMasked-drop (e ∷ es) h = h.1
+  AllMasked-drop es h = grind arith
 
   length-drop_one : (es : List (Entry n)) → length (drop 1 es) ≤ length es
-  length-drop_one [] = omega arith
-  length-drop_one (e ∷ es) = omega arith
+  length-drop_one es = grind arith
 
   -- what is true of the entries of a bundle
   record AreEntries (cap lines : ℕ) (es : List (Entry n)) : Type 0 where
@@ -97,8 +93,7 @@ module _ {n : ℕ} where
       })
     where
       few : (es : List (Entry n)) → length es ≤ kept.shape.writes → length (completed below es) ≤ kept.shape.writes
-      few [] p = p
-      few (e ∷ es) p = p
+      few es p = grind arith
 
 -- Regions
 
@@ -261,10 +256,8 @@ module _ {n : ℕ} where
 
   store_by : (kept : KeptState n) (mark : Bool) (due : Option ℕ) (es : List (Entry n)) → is_store (cond mark Nothing (due_work due kept es)) ≡ true
       → (mark ≡ false) × (due ≡ None) × (0 < length es)
-  store_by kept true due es h = cc
-  store_by kept false (Some region) es h = cc
-  store_by kept false None [] h = cc
   store_by kept false None (e ∷ es) h = (refl, refl, omega arith)
+  store_by kept _ _ _ h = cc
 
   -- a store comes next only where no region is due, and a write waits
   pub next_work-store : (kept : KeptState n) → is_store (next_work kept) ≡ true → (kept.exhausted ≡ false) × (due_region kept ≡ None) × (0 < length kept.entries)
@@ -272,10 +265,9 @@ module _ {n : ℕ} where
 
   copy_by : (kept : KeptState n) (mark : Bool) (due : Option ℕ) (es : List (Entry n)) → is_copy (cond mark Nothing (due_work due kept es)) ≡ true
       → (mark ≡ false) × ((region : ℕ) × (due ≡ Some region))
-  copy_by kept true due es h = cc
   copy_by kept false (Some region) es h = (refl, (region, refl))
   copy_by kept false None [] h = cc
-  copy_by kept false None (e ∷ es) h = cc
+  copy_by kept _ _ _ h = cc
 
   -- a move comes next only where a region is due
   pub next_work-copy : (kept : KeptState n) → is_copy (next_work kept) ≡ true → (kept.exhausted ≡ false) × ((region : ℕ) × (due_region kept ≡ Some region))
@@ -284,8 +276,7 @@ module _ {n : ℕ} where
   -- Stores and moves
 
   pub head-known : (es : List (Entry n)) (lines : ℕ) → AllBelow es lines → 0 < length es → head_line es < lines
-  head-known [] lines h k = omega arith
-  head-known (e ∷ es) lines h k = h.0
+  head-known es lines h k = grind arith
 
   head_dropped : (kept : KeptState n) → IsKept kept → IsKept (with_entries kept (drop 1 kept.entries))
   head_dropped kept range = with_entries-kept kept (drop 1 kept.entries) range (record {

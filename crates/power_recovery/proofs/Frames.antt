@@ -90,11 +90,9 @@ place_by-advanced_other r line range other =
 
 -- a store leaves the registers
 rotation-store : (rs : List RegionState) (i j : ℕ) → (get_or (slice_set rs i (after_store (get_or rs i no_region))) j no_region).rotation ≡ (get_or rs j no_region).rotation
-rotation-store [] i j = refl
 rotation-store (r ∷ rs) zero zero = refl
-rotation-store (r ∷ rs) zero (suc j) = refl
-rotation-store (r ∷ rs) (suc i) zero = refl
 rotation-store (r ∷ rs) (suc i) (suc j) = rotation-store rs i j
+rotation-store _ _ _ = refl
 
 module _ {n : ℕ} where
   -- The head, while it is written
@@ -104,9 +102,8 @@ module _ {n : ℕ} where
     where
       by : (p : Option ℕ) (room : Bool) → ((i : ℕ) → p ≡ Some i → 0 < i) → slice_get (accepted_by p room e (f ∷ es)) 0 ≡ Some f
       by (Some zero) room behind = let bad : 0 < 0 = behind 0 refl in grind arith
-      by (Some (suc i)) room behind = refl
       by None true behind = refl
-      by None false behind = refl
+      by _ _ behind = refl
 
   -- a write leaves the line of the head
   pub head_line-accepted : (cap : ℕ) (busy : Bool) (e : Entry n) (es : List (Entry n)) → 0 < length es
@@ -116,19 +113,16 @@ module _ {n : ℕ} where
     where
       by : (p : Option ℕ) (room : Bool) → (head_line (accepted_by p room e (f ∷ es)) ≡ f.line) × (0 < length (accepted_by p room e (f ∷ es)))
       by (Some zero) room = (refl, omega arith)
-      by (Some (suc i)) room = (refl, omega arith)
       by None true = (refl, omega arith)
-      by None false = (refl, omega arith)
+      by _ _ = (refl, omega arith)
 
   -- The next work
 
   work-same_head : (kept : KeptState n) (mark : Bool) (due : Option ℕ) (es fs : List (Entry n)) → head_line es ≡ head_line fs → 0 < length es → 0 < length fs
       → cond mark Nothing (due_work due (with_entries kept es) es) ≡ cond mark Nothing (due_work due kept fs)
-  work-same_head kept true due es fs e h k = refl
-  work-same_head kept false (Some region) es fs e h k = refl
-  work-same_head kept false None [] fs e h k = grind arith
-  work-same_head kept false None (x ∷ es) [] e h k = grind arith
   work-same_head kept false None (x ∷ es) (y ∷ fs) e h k = ap (λ line. Store line (slot_of kept line)) e
+  work-same_head kept false None _ _ e h k = grind arith
+  work-same_head kept _ _ es fs e h k = refl
 
   -- it is the same while the head is of the same line
   pub next_work-same_head : (kept : KeptState n) (es : List (Entry n)) → head_line es ≡ head_line kept.entries → 0 < length es → 0 < length kept.entries
@@ -144,19 +138,14 @@ module _ {n : ℕ} where
   next_work-completed kept below = by kept.exhausted (due_region kept) kept.entries
     where
       by : (mark : Bool) (due : Option ℕ) (es : List (Entry n)) → cond mark Nothing (due_work due (completed_kept below kept) (completed below es)) ≡ cond mark Nothing (due_work due kept es)
-      by true due es = refl
-      by false (Some region) es = refl
-      by false None [] = refl
-      by false None (e ∷ es) = refl
+      by mark due es = grind arith
 
   -- and a move that is due stays due whatever is written
   pub next_work-due : (kept : KeptState n) (es : List (Entry n)) (region : ℕ) → due_region kept ≡ Some region → next_work (with_entries kept es) ≡ next_work kept
   next_work-due kept es region h = by kept.exhausted (due_region kept) h
     where
       by : (mark : Bool) (due : Option ℕ) → due ≡ Some region → cond mark Nothing (due_work due (with_entries kept es) es) ≡ cond mark Nothing (due_work due kept kept.entries)
-      by true due h = refl
-      by false (Some at) h = refl
-      by false None h = cc
+      by mark due h = grind arith
 
   -- Slots
 
@@ -221,5 +210,4 @@ module _ {n : ℕ} where
     where
       by : (b : Bool) → kept.shape.base + (if b then kept.table.slots + used_by kept.table else line_by kept.table other)
           ≡ (if b then kept.shape.base + (kept.table.slots + used_by kept.table) else array_line kept other)
-      by true = refl
-      by false = refl
+      by b = grind arith

@@ -1,8 +1,8 @@
 -- That stripping and restoring leave a bundle in range.
-use Rattle.std.proofs.Common.{◌≡◌, ◌≢◌, ℕ, ◌+◌, ◌<◌, ◌≤◌, inl, inr, List, length, get_or, replicate, slice_set, refl, sym, subst, ap, ◌∙◌, arith, get_or-set_other, ext_get_or}
+use Rattle.std.proofs.Common.{◌≡◌, ℕ, ◌+◌, ◌<◌, inl, inr, List, length, get_or, replicate, slice_set, sym, ◌∙◌, arith, get_or-set_other, ext_get_or}
 use Rattle.std.proofs.{lemmas.Bool.cases_eq, lemmas.Grind.get_or-set_at, lemmas.List.{length-set, length-replicate, get_or-replicate}}
-use Rattle.region_regs.specs.Region.{RegionState, first_region}
-use Rattle.power_recovery.specs.Kept.{KeptState, no_region}
+use Rattle.region_regs.specs.Region.{RegionState}
+use Rattle.power_recovery.specs.Kept.{no_region}
 
 -- one region more is as at first
 pub first-set : (rs : List RegionState) (i : ℕ) (r : RegionState) → i < length rs → ((k : ℕ) → k < i → get_or rs k no_region ≡ r)

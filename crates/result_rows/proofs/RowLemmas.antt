@@ -22,23 +22,12 @@ pieces-outcome t d e f g = simp append_assoc
 
 -- the letter of an operation is one byte
 pub length-op_letter : (asked : Op) → length (op_letter asked) ≡ 1
-length-op_letter op.Read = refl
-length-op_letter op.Write = refl
-length-op_letter op.Cut = refl
+length-op_letter asked = grind arith
 
 -- the word of an outcome is at most nine bytes
 pub length-outcome_word-le : {n : ℕ} (outcome : Outcome n) → length (outcome_word outcome) ≤ 9
 length-outcome_word-le out.Unset = lit≤ tt
-length-outcome_word-le (out.Stored tick place) = lit≤ tt
-length-outcome_word-le (out.Merged tick) = lit≤ tt
-length-outcome_word-le (out.Queued tick) = lit≤ tt
-length-outcome_word-le (out.Full tick) = lit≤ tt
-length-outcome_word-le (out.Worn tick) = lit≤ tt
-length-outcome_word-le (out.Read tick place bytes) = lit≤ tt
-length-outcome_word-le (out.Forwarded tick bytes) = lit≤ tt
-length-outcome_word-le (out.Busy tick) = lit≤ tt
-length-outcome_word-le (out.Lost tick) = lit≤ tt
-length-outcome_word-le (out.Cut tick) = lit≤ tt
+length-outcome_word-le _ = lit≤ tt
 
 -- a number that has at most so many digits, or nothing
 pub length-decimal_or_empty-le : (number : Option ℕ) (most : ℕ) → ForSome number (λ n. length (decimal n) ≤ most) → length (decimal_or_empty number) ≤ most
@@ -47,9 +36,8 @@ length-decimal_or_empty-le (Some n) most short = short n refl
 
 -- a line's number, or nothing for a cut
 pub length-line-le : (asked : Op) (line : ℕ) → line ≤ 65535 → length (decimal_or_empty (line_of asked line)) ≤ 5
-length-line-le op.Read line fits = five_digits line (omega arith)
-length-line-le op.Write line fits = five_digits line (omega arith)
 length-line-le op.Cut line fits = omega arith
+length-line-le _ line fits = five_digits line (omega arith)
 
 -- two digits for each byte, or nothing
 pub length-hex_or_empty-le : (bytes : Option (List ℕ)) (most : ℕ) → ForSome bytes (λ bs. length bs ≤ most) → length (hex_or_empty bytes) ≤ 2 * most

@@ -1,5 +1,5 @@
 -- What one outcome more makes of the counts of a table in which its row was open.
-use Rattle.std.proofs.Common.{◌≡◌, ℕ, zero, suc, ◌+◌, ◌-◌, ◌<◌, ◌≤◌, Bool, true, false, cond, List, [], ◌∷◌, ◌++◌, length, set, slice_get, Some, refl, sym, ap, ◌∙◌, arith}
+use Rattle.std.proofs.Common.{◌≡◌, ℕ, zero, suc, ◌+◌, ◌-◌, ◌<◌, ◌≤◌, Bool, false, cond, List, [], ◌∷◌, ◌++◌, length, set, slice_get, Some, refl, sym, ap, ◌∙◌, arith}
 use Rattle.std.specs.List.{count_by}
 use Rattle.masked_bytes.proofs.Counting.{count-cons, count-append, one_if}
 use Rattle.result_rows.specs.{Table.{outcome_at, with_outcome}, declared.Outcome.Outcome}
@@ -9,12 +9,10 @@ use Rattle.run_text.{specs.Counting.{is_cut, counts_of, with_one}, specs.Laws.{i
 
 -- a count, where one that failed a test becomes another
 one-more : (b : Bool) (count : ℕ) → cond b 1 0 + count ≡ cond b (count + 1) count
-one-more true count = omega arith
-one-more false count = omega arith
+one-more b count = grind arith
 
 step-over : (b c : Bool) (count : ℕ) → cond c 1 0 + cond b (count + 1) count ≡ cond b ((cond c 1 0 + count) + 1) (cond c 1 0 + count)
-step-over true c count = omega arith
-step-over false c count = refl
+step-over b c count = grind arith
 
 count-set : {X : Type 0} (p : X → Bool) (xs : List X) (i : ℕ) (was now : X) → slice_get xs i ≡ Some was → p was ≡ false
     → count_by p (set xs i now) ≡ cond (p now) (count_by p xs + 1) (count_by p xs)

@@ -12,11 +12,7 @@ some-or true rest = sym (lt-ltb 0 (1 + rest) (omega arith))
 some-or false rest = ap (λ m. nat_lt 0 m) (sym (zero-add rest))
 
 regrouped : (a b c d : Bool) → ((a || b) || (c || d)) ≡ ((a || c) || (b || d))
-regrouped true b c d = refl
-regrouped false true true d = refl
-regrouped false true false d = refl
-regrouped false false true d = refl
-regrouped false false false d = refl
+regrouped a b c d = grind arith
 
 one-refused : {n : ℕ} (x : Outcome n) (xs : List (Outcome n)) (p : Outcome n → Bool) → (p x || nat_lt 0 (count_by p xs)) ≡ nat_lt 0 (count_by p (x ∷ xs))
 one-refused x xs p = some-or (p x) (count_by p xs) ∙ ap (λ m. nat_lt 0 m) (sym (count-cons p x xs))

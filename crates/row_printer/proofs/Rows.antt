@@ -6,8 +6,8 @@ use Rattle.result_rows.specs.{Outcomes.op_of, Table.{HasRow, outcome_at, with_ou
 use Rattle.run_text.{specs.Counting.{counts_of, with_one}, specs.Gathering.Printed, specs.Laws.rows_counted, specs.declared.counts.Counts.Counts, proofs.Gathered.printed-more}
 use Rattle.row_printer.specs.{Printing.{Prints, stream_text, table_of}, Snapshots.{snapshot_line, snapshots_header, snapshots_text}}
 use Rattle.row_printer.specs.{Telling.{told_head, told_line, told_text, outcomes_in, recorded, TellsOnce}, declared.snapshot.Snapshot.Snapshot, declared.told.Shown.Shown}
-use Rattle.row_printer.specs.{declared.told.Shown.TheVariants.{Nothing, Rows, Snapshots}, declared.told.Told.Told, declared.told.Told.TheVariants.Became}
-use Rattle.row_printer.{specs.declared.told.ToldShape.ToldShape, proofs.Counted.{counts-more, counted-below}, proofs.Once.{once-more, open-untold}}
+use Rattle.row_printer.specs.{declared.told.Shown.TheVariants.{Rows, Snapshots}, declared.told.Told.Told, declared.told.Told.TheVariants.Became, declared.told.ToldShape.ToldShape}
+use Rattle.row_printer.proofs.{Counted.{counts-more, counted-below}, Once.{once-more, open-untold}}
 use Rattle.row_printer.proofs.Telling.{told_text-more, snapshots_text-more, outcomes-more, recorded-more, length-recorded}
 
 -- a later count rose too
@@ -75,10 +75,9 @@ module _ {n : ℕ} (told : List (Told n)) (line : Told n) (snapshots : List Snap
   pub rows-broken : (before : Option (List ℕ)) (first : ℕ) (prints : Shown) (written : Option (List ℕ)) (faults : ℕ) (text : Reserved)
       → Prints before first written faults text (stream_text prints told snapshots) true
       → Prints before first written faults text (stream_text prints (told ++ line ∷ []) snapshots) true
-  rows-broken before first Nothing written faults text h = h
   rows-broken before first (Rows shape) written faults text h =
       more-broken before first (stream_text (Rows shape) told snapshots) (stream_text (Rows shape) (told ++ line ∷ []) snapshots) (told_line line) (rows-more shape) written faults text h
-  rows-broken before first (Snapshots every) written faults text h = h
+  rows-broken before first _ written faults text h = h
 
 module _ {n : ℕ} (told : List (Told n)) (snapshots : List Snapshot) (one : Snapshot) where
   -- the text of one that took one snapshot more
@@ -90,10 +89,9 @@ module _ {n : ℕ} (told : List (Told n)) (snapshots : List Snapshot) (one : Sna
   pub snapshots-broken : (before : Option (List ℕ)) (first : ℕ) (prints : Shown) (written : Option (List ℕ)) (faults : ℕ) (text : Reserved)
       → Prints before first written faults text (stream_text prints told snapshots) true
       → Prints before first written faults text (stream_text prints told (snapshots ++ one ∷ [])) true
-  snapshots-broken before first Nothing written faults text h = h
-  snapshots-broken before first (Rows shape) written faults text h = h
   snapshots-broken before first (Snapshots every) written faults text h =
       more-broken before first (stream_text (Snapshots every) told snapshots) (stream_text (Snapshots every) told (snapshots ++ one ∷ [])) (snapshot_line one) (snapshots-more every) written faults text h
+  snapshots-broken before first _ written faults text h = h
 
 -- a row that was open is told once
 pub tells-next : {n : ℕ} (most : ℕ) (outcomes : List (ℕ × Outcome n)) (row : ℕ) (outcome : Outcome n) → TellsOnce most outcomes → HasRow (recorded outcomes (replicate most Unset)) row

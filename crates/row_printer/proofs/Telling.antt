@@ -3,7 +3,7 @@ use Rattle.std.proofs.Common.{◌≡◌, ℕ, List, [], ◌∷◌, ◌++◌, len
 use Rattle.std.proofs.lemmas.List.{append-nil}
 use Rattle.result_rows.{specs.Table.with_outcome, specs.declared.Outcome.Outcome, proofs.TableLemmas.length-with_outcome}
 use Rattle.row_printer.specs.{Snapshots.{snapshot_line, snapshots_text}, Telling.{told_line, told_text, outcomes_in, recorded}, declared.snapshot.Snapshot.Snapshot}
-use Rattle.row_printer.specs.{declared.told.Told.Told, declared.told.Told.TheVariants.{Became, Bank, Looked, Settled}}
+use Rattle.row_printer.specs.{declared.told.Told.Told, declared.told.Told.TheVariants.Became}
 
 -- the text of snapshots has the last line at the end
 pub snapshots_text-more : (snapshots : List Snapshot) (one : Snapshot) → snapshots_text (snapshots ++ one ∷ []) ≡ snapshots_text snapshots ++ snapshot_line one
@@ -24,17 +24,13 @@ module _ {n : ℕ} where
   pub outcomes-more : (told : List (Told n)) (row : ℕ) (outcome : Outcome n) → outcomes_in (told ++ Became row outcome ∷ []) ≡ outcomes_in told ++ (row, outcome) ∷ []
   outcomes-more [] row outcome = refl
   outcomes-more (Became at one ∷ told) row outcome = ap (λ (rest : List (ℕ × Outcome n)). (at, one) ∷ rest) (outcomes-more told row outcome)
-  outcomes-more (Bank at backlog ∷ told) row outcome = outcomes-more told row outcome
-  outcomes-more (Looked tick wear ∷ told) row outcome = outcomes-more told row outcome
-  outcomes-more (Settled tick ∷ told) row outcome = outcomes-more told row outcome
+  outcomes-more (_ ∷ told) row outcome = outcomes-more told row outcome
 
   -- and none more where they tell none
   pub outcomes-same : (told lines : List (Told n)) → outcomes_in lines ≡ [] → outcomes_in (told ++ lines) ≡ outcomes_in told
   outcomes-same [] lines none = none
   outcomes-same (Became at one ∷ told) lines none = ap (λ (rest : List (ℕ × Outcome n)). (at, one) ∷ rest) (outcomes-same told lines none)
-  outcomes-same (Bank at backlog ∷ told) lines none = outcomes-same told lines none
-  outcomes-same (Looked tick wear ∷ told) lines none = outcomes-same told lines none
-  outcomes-same (Settled now ∷ told) lines none = outcomes-same told lines none
+  outcomes-same (_ ∷ told) lines none = outcomes-same told lines none
 
   -- the table has its outcome
   pub recorded-more : (outcomes : List (ℕ × Outcome n)) (table : List (Outcome n)) (row : ℕ) (outcome : Outcome n)

@@ -41,8 +41,7 @@ started-more None None last tick le = le
 started-more None (Some doing) last tick le = by (nat_lt last tick)
   where
     by : (b : Bool) → last ≤ since (cond b (Some (record { doing = doing; first = last })) None) tick
-    by true = omega arith
-    by false = le
+    by b = grind arith
 
 started-up : (r : Option Action) (d : Option Doing) (last tick : ℕ) → last ≤ tick → since r last ≤ last → since (started r d last tick) tick ≤ tick
 started-up (Some action) d last tick le up = omega (arith, le, up)
@@ -50,8 +49,7 @@ started-up None None last tick le up = omega arith
 started-up None (Some doing) last tick le up = by (nat_lt last tick)
   where
     by : (b : Bool) → since (cond b (Some (record { doing = doing; first = last })) None) tick ≤ tick
-    by true = le
-    by false = omega arith
+    by b = grind arith
 
 -- an action fits: reads wait for a serve, and where a line write doesn't give way none is in progress; none is in progress as one is begun
 abbrev pub Fits : Bool → Bool → Bool → Doing → Type 0
@@ -76,13 +74,11 @@ started-fits way busy reads None None last tick f g = tt
 started-fits way busy reads None (Some doing) last tick f g = by (nat_lt last tick)
   where
     by : (b : Bool) → IfSome (cond b (Some (record { doing = doing; first = last })) None) (λ (a : Action). Fits way busy reads a.doing)
-    by true = g
-    by false = tt
+    by b = grind arith
 
 fits-reads : (way busy reads : Bool) (d : Doing) → Fits way busy reads d → Fits way busy true d
 fits-reads way busy reads Serving f = (refl, f.1)
-fits-reads way busy reads Beginning f = f
-fits-reads way busy reads Iterating f = f
+fits-reads way busy reads _ f = f
 
 pub some-push : (ws : List Awaited) (w : Awaited) → not (is_empty (ws ++ w ∷ [])) ≡ true
 some-push [] w = refl
@@ -107,8 +103,7 @@ module _ {n m : ℕ} (shape : BankShape) (pace : Pace) (e : ℕ) where
       by x.happens (started-up (running shape pace xs) (chosen_after shape pace xs) (last_tick xs) x.tick (last_tick-rises shape pace e xs x r i l) (since-up xs r i l.1))
     where
       drop_or : (b : Bool) (action : Option Action) → since action x.tick ≤ x.tick → since (cond b None action) x.tick ≤ x.tick
-      drop_or true action up = omega arith
-      drop_or false action up = up
+      drop_or b action up = grind arith
 
       by : (h : Happens n) → since (running_at shape pace xs x.tick) x.tick ≤ x.tick → since (left_by shape (core xs) (change_after shape xs) h (running_at shape pace xs x.tick)) x.tick ≤ x.tick
       by (Core (Write row line bytes given answer)) up = up
@@ -160,8 +155,7 @@ module _ {n m : ℕ} (shape : BankShape) (pace : Pace) (e : ℕ) where
       more (Some a) false is f = absurd (cc)
 
       drop_or : (b : Bool) (reads : Bool) (r : Option Action) → Fit reads r → Fit reads (cond b None r)
-      drop_or true reads r f = tt
-      drop_or false reads r f = f
+      drop_or b reads r f = grind arith
 
       by : (h : Happens n) → Fit (reads_of shape pace xs) (running_at shape pace xs x.tick)
           → IfSome (left_by shape (core xs) (change_after shape xs) h (running_at shape pace xs x.tick)) (λ a. Fits (gives_way pace.policy) (busy_by (change_by shape (core xs) h (change_after shape xs)) (keeping_by h (keeping_after xs)) (in_progress (core_of h (core xs)))) (not (is_empty (waits shape (core_of h (core xs))))) a.doing)
@@ -189,16 +183,13 @@ module _ {n m : ℕ} (shape : BankShape) (pace : Pace) (e : ℕ) where
 
       -- the bank's line write ended or was dropped
       stops : (change : Option ℕ) (made : ℕ) → busy_by change false false ≡ true → made < most_steps e
-      stops None made busy = absurd (cc)
-      stops (Some item) made busy = absurd (cc)
+      stops change made busy = grind arith
 
       went : (change : Option ℕ) (rounds count : ℕ) → change ≡ None → count < most_steps e → made_by change rounds count < most_steps e
-      went None rounds count is lt = lt
-      went (Some item) rounds count is lt = absurd (cc)
+      went change rounds count is lt = grind arith
 
       kept : (change : Option ℕ) (rounds count : ℕ) → is_some change ≡ true → rounds < most_steps e → made_by change rounds count < most_steps e
-      kept None rounds count is lt = absurd (cc)
-      kept (Some item) rounds count is lt = lt
+      kept change rounds count is lt = grind arith
 
       by : (h : Happens n) → MayCome shape pace e xs x h → (busy_after shape xs ≡ true → made_after shape xs < most_steps e) → Few h
       by (Core (Begin did.More)) may go busy = went (change_after shape xs) _ _ may.on_time.2 (omega arith)
@@ -213,13 +204,11 @@ module _ {n m : ℕ} (shape : BankShape) (pace : Pace) (e : ℕ) where
       by (Regs (KeepIterate keep.Halted)) may go busy = ended (change_after shape xs) may.stands busy
         where
           ended : (change : Option ℕ) → is_some change ≡ true → busy_by change false (in_progress (core xs)) ≡ true → made_by change (rounds_after xs + 1) (iterated (core xs)) < most_steps e
-          ended None some busy = absurd (cc)
-          ended (Some item) some busy = absurd (cc)
+          ended change some busy = grind arith
       by (Regs (KeepCut tearing)) may go busy = ended (change_after shape xs) may.stands busy
         where
           ended : (change : Option ℕ) → is_some change ≡ true → busy_by change false (in_progress (core xs)) ≡ true → made_by change 0 (iterated (core xs)) < most_steps e
-          ended None some busy = absurd (cc)
-          ended (Some item) some busy = absurd (cc)
+          ended change some busy = grind arith
       by (Regs _) may go busy = let idle : in_progress (core xs) ≡ false = changed-idle shape pace e xs l.1 may.stands in absurd (cc)
 
   -- where reads cancel nothing, no cut is a cancel

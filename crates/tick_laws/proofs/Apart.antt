@@ -24,8 +24,7 @@ module _ {n : ℕ} where
       by false = inl refl
 
   plain_lost : (o : Outcome n) (tick : ℕ) (b : Bool) → (unwrap_or (cond b (Some (out.Lost tick)) None) o ≡ o) ⊎ (takes_time (unwrap_or (cond b (Some (out.Lost tick)) None) o) ≡ false)
-  plain_lost o tick true = inr refl
-  plain_lost o tick false = inl refl
+  plain_lost o tick b = grind arith
 
 module _ {n m : ℕ} (shape : BankShape) (pace : Pace) (e : ℕ) where
   abbrev Spaced : List (TimedEvent n m) → Type 0

@@ -9,7 +9,6 @@ use Rattle.row_rules.specs.declared.Row.{Row}
 use Rattle.masked_bytes.{specs.Entries.layer_of, proofs.Counting.count-cons}
 use Rattle.bank_shape.specs.{Acting.{choice, chosen_by}, Pausing.{is_cancelling, most_cancels, gives_way}, declared.BankShape.BankShape, declared.clock.Action.Action}
 use Rattle.bank_shape.specs.{declared.clock.Doing.Doing, declared.clock.Doing.TheVariants.Serving, declared.pace.Pace.Pace, declared.pace.Policy.Policy}
-use Rattle.bank_shape.specs.declared.pace.Policy.TheVariants.{Pause, Plain, Cancel}
 use Rattle.bank_shape.specs.declared.answer.ReadAnswer.TheVariants as came
 use Rattle.bank_shape.specs.declared.answer.Keep.TheVariants as keep
 use Rattle.bank_shape.specs.declared.answer.Step.TheVariants as did
@@ -23,17 +22,14 @@ use Rattle.tick_laws.proofs.{Actions.reads_of, StoreTimes.store_event, Tallies.s
 
 -- what gives way to reads lets none of its line writes start while they wait
 pub gives : (p : Policy) → is_cancelling p ≡ true → gives_way p ≡ true
-gives Pause is = refl
-gives Plain is = absurd (cc)
-gives Cancel is = refl
+gives p is = grind arith
 
 started-writing : (way reads busy ready : Bool) (r : Option Action) (last tick : ℕ) → way ≡ true → reads ≡ true → is_writing (started r (chosen_by way reads (choice busy ready)) last tick) ≡ true → is_writing r ≡ true
 started-writing way reads busy ready (Some action) last tick gw some h = h
 started-writing true true busy ready None last tick gw some h = absurd (by (nat_lt last tick) h)
   where
     by : (b : Bool) → is_writing (cond b (Some (record { doing = Serving; first = last })) None) ≡ true → ⊥
-    by true h = absurd (cc)
-    by false h = absurd (cc)
+    by b h = grind arith
 started-writing true false busy ready None last tick gw some h = absurd (cc)
 started-writing false reads busy ready None last tick gw some h = absurd (cc)
 
@@ -41,8 +37,7 @@ started-writing false reads busy ready None last tick gw some h = absurd (cc)
 no_cancel : (a b c : Bool) (count : ℕ) → a ≡ true → b ≡ true → (a && (b && (c && nat_lt count most_cancels))) ≡ false → (c ≡ false) ⊎ (4 ≤ count)
 no_cancel true true true count p q h = inr (ltb-false count 4 h)
 no_cancel true true false count p q h = inl refl
-no_cancel true false c count p q h = absurd (cc)
-no_cancel false b c count p q h = absurd (cc)
+no_cancel _ _ c count p q h = absurd (cc)
 
 started-now : (d : Option Doing) (last tick : ℕ) → tick ≡ last → started None d last tick ≡ None
 started-now None last tick is = refl
@@ -60,8 +55,7 @@ module _ {n m : ℕ} (shape : BankShape) (pace : Pace) (e : ℕ) where
       writes waits_some
     where
       kept : (b : Bool) (r : Option Action) → is_writing (cond b None r) ≡ true → is_writing r ≡ true
-      kept true r h = absurd (cc)
-      kept false r h = h
+      kept b r h = grind arith
 
       split : (ws : List Awaited) → (is_empty ws ≡ false) ⊎ (4 ≤ cancels_after zs) → (not (is_empty ws) ≡ true → 4 ≤ cancels_after zs) → 4 ≤ cancels_after zs
       split ws (inl some) go = go (ap not some)
@@ -97,9 +91,7 @@ count-more p q (x ∷ xs) more =
     omega (arith, before, left, right, own)
   where
     by : (a b : Bool) → (a ≡ true → b ≡ true) → cond a 1 0 ≤ cond b 1 0
-    by true true more = omega arith
-    by true false more = let k : false ≡ true = more refl in absurd (cc)
-    by false b more = omega arith
+    by a b more = grind arith
 
 module _ {n : ℕ} where
   -- as many came since an earlier tick
@@ -108,10 +100,7 @@ module _ {n : ℕ} where
       count-more _ _ rows (λ q h. by (asks_read q.asks) (nat_le u q.tick) (nat_le v q.tick) (is_answered q.outcome || is_lost q.outcome) (λ up. le-leb v q.tick (let k : u ≤ q.tick = leb-true u q.tick up in omega (arith, k, le))) h)
     where
       by : (a b c d : Bool) → (b ≡ true → c ≡ true) → (a && (b && d)) ≡ true → (a && (c && d)) ≡ true
-      by true true true d more h = h
-      by true true false d more h = let k : false ≡ true = more refl in absurd (cc)
-      by true false c d more h = absurd (cc)
-      by false b c d more h = h
+      by a b c d more h = grind arith
 
   came-row : (v : ℕ) (q : Row n) (rows : List (Row n)) → came_since v rows ≤ came_since v (q ∷ rows)
   came-row v q rows = let k : came_since v (q ∷ rows) ≡ cond (asks_read q.asks && (nat_le v q.tick && (is_answered q.outcome || is_lost q.outcome))) 1 0 + came_since v rows = count-cons _ q rows in omega (arith, k)
@@ -178,9 +167,7 @@ module _ {n m : ℕ} where
 
 module _ {n : ℕ} where
   came-settled : (owed : List ℕ) (o : Outcome n) → IsSettled owed o → (is_answered o || is_lost o) ≡ true
-  came-settled owed (out.Read at place bytes) h = refl
-  came-settled owed (out.Lost at) h = refl
-  came-settled owed _ h = absurd h
+  came-settled owed o h = grind arith
 
 module _ {n m : ℕ} (shape : BankShape) (pace : Pace) (e : ℕ) where
   -- a cancel leaves nothing running
@@ -210,8 +197,7 @@ module _ {n m : ℕ} (shape : BankShape) (pace : Pace) (e : ℕ) where
       omega (arith, up, rises))
     where
       by : (b : Bool) → stored_at zs ≤ z.tick → cond b z.tick (stored_at zs) ≤ z.tick
-      by true up = omega arith
-      by false up = up
+      by b up = grind arith
 
   -- what is stored is stored by then
   stored_to : (zs : List (TimedEvent n m)) (row t p : ℕ) → 1 ≤ pace.read → 1 ≤ pace.iter → Lawful shape pace e zs → outcome_of shape zs row ≡ out.Stored t p → t ≤ stored_at zs

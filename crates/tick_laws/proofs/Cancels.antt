@@ -3,7 +3,7 @@ use Rattle.std.proofs.Common.{◌≡◌, ℕ, ◌+◌, ◌*◌, ◌<◌, ◌≤�
 use Rattle.std.{specs.Prelude.nat_lt, proofs.lemmas.Bool.ltb-true}
 use Rattle.row_rules.specs.Ticking.{tries}
 use Rattle.bank_shape.specs.{Pausing.{is_cancelling, most_cancels}, declared.BankShape.BankShape, declared.pace.Pace.Pace, declared.pace.Policy.Policy}
-use Rattle.bank_shape.specs.declared.pace.Policy.TheVariants.{Pause, Plain, Cancel}
+use Rattle.bank_shape.specs.declared.pace.Policy.TheVariants.{Cancel}
 use Rattle.bank_shape.specs.declared.answer.Keep.TheVariants as keep
 use Rattle.bank_shape.specs.declared.answer.Step.TheVariants as did
 use Rattle.bank_model.specs.{Changes.{halted_after, halted_by}, Events.{BankEvent, Begin, Iterate, Cut}, History.{waits, has_exhausted}, Lawful.{Lawful, MayCome, would_cancel}}
@@ -13,10 +13,7 @@ use Rattle.tick_laws.proofs.{Actions.not-cancelled, Tallies.{stores_by, moves_by
 use Rattle.bank_laws.proofs.{Entries.either, Wears.exhausted-more}
 
 few_of : (a b c d : Bool) → (a && (b && (c && d))) ≡ true → d ≡ true
-few_of true true true d h = h
-few_of true true false d h = absurd (cc)
-few_of true false c d h = absurd (cc)
-few_of false b c d h = absurd (cc)
+few_of a b c d h = grind arith
 
 module _ {n : ℕ} where
   pub fine_before : (h : Happens n) (xs : List (BankEvent n)) → has_exhausted (core_of h xs) ≡ false → has_exhausted xs ≡ false
@@ -24,8 +21,7 @@ module _ {n : ℕ} where
   fine_before (Core event) xs fine = either (has_exhausted xs) (λ ex. absurd (cc (exhausted-more event xs ex, fine))) (λ is. is)
 
   pub runs_before : (h : Happens n) (old : Bool) → halted_by h old ≡ false → old ≡ false
-  runs_before (Regs (KeepIterate keep.Halted)) old runs = absurd (cc)
-  runs_before _ old runs = runs
+  runs_before h old runs = grind arith
 
 module _ {n m : ℕ} (shape : BankShape) (pace : Pace) (e : ℕ) where
   -- the present line write was cancelled at most as often as may be
@@ -82,10 +78,7 @@ module _ {n m : ℕ} (shape : BankShape) (pace : Pace) (e : ℕ) where
       omega (arith, before, own)
     where
       by : (h : Happens n) (cancels : Bool) → cancels ≡ false → cancelled_by h cancels ≡ 0
-      by h true whole = absurd (cc)
-      by (Regs (KeepCut tearing)) false whole = refl
-      by (Core (Cut tearing)) false whole = refl
-      by _ false whole = refl
+      by h cancels whole = grind arith
 
   -- the attempts, with those that were cancelled, where the present line write was not
   pub tried_few : (mid zs : List (TimedEvent n m)) → Lawful shape pace e (mid ++ zs) → has_exhausted (core (mid ++ zs)) ≡ false → halted_after (mid ++ zs) ≡ false → cancels_after (mid ++ zs) ≡ 0
@@ -98,6 +91,5 @@ module _ {n m : ℕ} (shape : BankShape) (pace : Pace) (e : ℕ) where
 
       by : (p : Policy) → (is_cancelling p ≡ false → tally_cuts cancelled_by mid ≡ 0) → (tally stores_by mid + tally moves_by mid + tally others_by mid + tally_cuts cuts_by mid) + tally_cuts cancelled_by mid
           ≤ tries p * (tally stores_by mid + tally moves_by mid + tally others_by mid + tally_cuts cuts_by mid)
-      by Pause none = let k : tally_cuts cancelled_by mid ≡ 0 = none refl in omega (arith, k)
-      by Plain none = let k : tally_cuts cancelled_by mid ≡ 0 = none refl in omega (arith, k)
       by Cancel none = omega (arith, few, whole)
+      by _ none = let k : tally_cuts cancelled_by mid ≡ 0 = none refl in omega (arith, k)

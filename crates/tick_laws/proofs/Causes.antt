@@ -21,12 +21,10 @@ brought home.Guarded = 0
 brought home.Array = 1
 
 item-brought : (at : Home) (item : ℕ) → stands (item_if at item) ≤ brought at
-item-brought home.Guarded item = omega arith
-item-brought home.Array item = omega arith
+item-brought at item = grind arith
 
 stands-some : (change : Option ℕ) → is_some change ≡ true → 1 ≤ stands change
-stands-some None some = absurd (cc)
-stands-some (Some item) some = omega arith
+stands-some change some = grind arith
 
 sums : (g o a b p q r : ℕ) (s m t ss mm tt : ℕ) → o + a ≤ (t + b) + g * (s + m + t) → p + b ≤ q + r + g * (ss + mm + tt)
     → (o + p) + a ≤ (t + q) + r + g * ((s + ss) + (m + mm) + (t + tt))
@@ -71,8 +69,7 @@ module _ {n m : ℕ} (shape : BankShape) (pace : Pace) (e : ℕ) where
   halted-some (z ∷ zs) l is = by z.happens l.0 (halted-some zs l.1) is
     where
       clash : (change : Option ℕ) → change ≡ None → is_some change ≡ true → {goal : Bool} → goal ≡ true
-      clash None is some = absurd (cc)
-      clash (Some item) is some = absurd (cc)
+      clash change is some = grind arith
 
       by : (h : Happens n) → MayCome shape pace e zs z h → (halted_after zs ≡ true → is_some (change_after shape zs) ≡ true) → halted_by h (halted_after zs) ≡ true
           → is_some (change_by shape (core zs) h (change_after shape zs)) ≡ true

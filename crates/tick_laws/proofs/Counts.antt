@@ -16,25 +16,17 @@ hits-more p q [] more = omega arith
 hits-more p q (x ∷ xs) more = by (p x) (q x) (more x) (hits-more p q xs more)
   where
     by : (a b : Bool) → (a ≡ true → b ≡ true) → hits p xs ≤ hits q xs → cond a (suc (hits p xs)) (hits p xs) ≤ cond b (suc (hits q xs)) (hits q xs)
-    by true true more h = omega arith
-    by true false more h = let k : false ≡ true = more refl in absurd (cc)
-    by false true more h = omega arith
-    by false false more h = h
+    by a b more h = grind arith
 
 hits-new : (p q : ℕ → Bool) (xs : List ℕ) (c : ℕ) → ((x : ℕ) → p x ≡ true → q x ≡ true) → p c ≡ false → q c ≡ true → among xs c ≡ true → hits p xs + 1 ≤ hits q xs
 hits-new p q [] c more old new there = absurd (cc)
 hits-new p q (x ∷ xs) c more old new there = by (eqb x c) refl there (λ k. hits-new p q xs c more old new k)
   where
     rest : (a b : Bool) → (a ≡ true → b ≡ true) → hits p xs + 1 ≤ hits q xs → cond a (suc (hits p xs)) (hits p xs) + 1 ≤ cond b (suc (hits q xs)) (hits q xs)
-    rest true true more h = omega arith
-    rest true false more h = let k : false ≡ true = more refl in absurd (cc)
-    rest false true more h = omega arith
-    rest false false more h = h
+    rest a b more h = grind arith
 
     own : (a b : Bool) → a ≡ false → b ≡ true → hits p xs ≤ hits q xs → cond a (suc (hits p xs)) (hits p xs) + 1 ≤ cond b (suc (hits q xs)) (hits q xs)
-    own true b is js h = absurd (cc)
-    own false true is js h = omega arith
-    own false false is js h = absurd (cc)
+    own a b is js h = grind arith
 
     by : (b : Bool) → eqb x c ≡ b → (b || among xs c) ≡ true → (among xs c ≡ true → hits p xs + 1 ≤ hits q xs) → cond (p x) (suc (hits p xs)) (hits p xs) + 1 ≤ cond (q x) (suc (hits q xs)) (hits q xs)
     by true is there go = let same : x ≡ c = eqb-true x c is in own (p x) (q x) (ap p same ∙ old) (ap q same ∙ new) (hits-more p q xs more)
@@ -102,10 +94,7 @@ module _ {n m : ℕ} (shape : BankShape) (all : List (TimedEvent n m)) where
   writes-counted p same (x ∷ xs) = by x.happens x.cancels (writes-counted p same xs)
     where
       one : (a b : Bool) (c d : ℕ) → a ≡ b → c ≡ d → cond a 1 0 + c ≡ cond b (suc d) d
-      one true true c d is k = omega arith
-      one true false c d is k = absurd (cc)
-      one false true c d is k = absurd (cc)
-      one false false c d is k = omega arith
+      one a b c d is k = grind arith
 
       by : (h : Happens n) (cancels : Bool) → count_by (λ q. asks_write q.asks && p q.outcome) (rows_from shape all xs) ≡ hits (λ row. p (outcome_of shape all row)) (writes_in xs)
           → count_by (λ q. asks_write q.asks && p q.outcome) (row_with shape all h x.tick cancels ++ rows_from shape all xs) ≡ hits (λ row. p (outcome_of shape all row)) (write_rows h ++ writes_in xs)
@@ -120,8 +109,7 @@ module _ {n m : ℕ} (shape : BankShape) (all : List (TimedEvent n m)) where
   reads-counted p (x ∷ xs) = by x.happens x.cancels (reads-counted p xs)
     where
       one : (a : Bool) (c d : ℕ) → c ≡ d → cond a 1 0 + c ≡ cond a (suc d) d
-      one true c d k = omega arith
-      one false c d k = omega arith
+      one a c d k = grind arith
 
       by : (h : Happens n) (cancels : Bool) → count_by (λ q. asks_read q.asks && p q.outcome) (rows_from shape all xs) ≡ hits (λ row. p (outcome_of shape all row)) (reads_in xs)
           → count_by (λ q. asks_read q.asks && p q.outcome) (row_with shape all h x.tick cancels ++ rows_from shape all xs) ≡ hits (λ row. p (outcome_of shape all row)) (read_rows h ++ reads_in xs)
@@ -154,8 +142,7 @@ module _ {n m : ℕ} (shape : BankShape) (all : List (TimedEvent n m)) where
       omega (arith, before, back, own)
     where
       one : (b : Bool) → b ≡ true → 1 ≤ 0 + cond b 1 0
-      one true is = omega arith
-      one false is = absurd (cc)
+      one b is = grind arith
 
       by : (h : Happens n) (cancels : Bool) → cuts_by h cancels ≤ cuts_to u (row_with shape all h y.tick cancels)
       by (Core (Cut tearing)) false = one (nat_le y.tick u) (le-leb y.tick u le)

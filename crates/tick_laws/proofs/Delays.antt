@@ -40,16 +40,14 @@ spent-most read iter work true count few = let k : count * iter + iter ≤ work 
 spent-most read iter work false count few = omega arith
 
 spent-iterated : (read iter work : ℕ) (busy : Bool) (count : ℕ) → busy ≡ true → count * iter + iter ≤ work → spent read iter busy count + iter ≤ read + work
-spent-iterated read iter work true count is few = omega arith
-spent-iterated read iter work false count is few = absurd (cc)
+spent-iterated read iter work busy count is few = grind arith
 
 spent-more : (read iter : ℕ) (busy : Bool) (count : ℕ) → busy ≡ true → spent read iter busy count + iter ≡ read + (count + 1) * iter
 spent-more read iter true count is = let k : (count + 1) * iter ≡ count * iter + iter = times_more count iter in omega (arith, k)
 spent-more read iter false count is = absurd (cc)
 
 spent-idle : (read iter : ℕ) (busy : Bool) (count : ℕ) → busy ≡ false → spent read iter busy count ≡ 0
-spent-idle read iter true count is = absurd (cc)
-spent-idle read iter false count is = refl
+spent-idle read iter busy count is = grind arith
 
 -- a cut comes at most an attempt and a sense later
 at_cut : (read iter work base : ℕ) (way busy reads : Bool) (count tick : ℕ) (r : Option Action) → (busy ≡ true → count * iter + iter ≤ work) → IfSome r (λ a. Fits way busy reads a.doing)
@@ -61,12 +59,11 @@ at_cut read iter work base way busy reads count tick (Some action) few f end h =
   where
     by : (doing : Doing) → Fits way busy reads doing → tick < action.first + lasts read iter doing → (action.first ≤ base + spent read iter busy count) ⊎ ((busy ≡ false) × (action.first ≤ base + read))
         → tick ≤ ((read + work) * 1 + read * 1) + base
-    by Serving f end (inl h) = let k : spent read iter busy count ≤ read + work = spent-most read iter work busy count few in omega arith
     by Serving f end (inr h) = omega (arith, h.1)
-    by Beginning f end (inl h) = let k : spent read iter busy count ≤ read + work = spent-most read iter work busy count few in omega arith
     by Beginning f end (inr h) = omega (arith, h.1)
     by Iterating f end (inl h) = let k : spent read iter busy count + iter ≤ read + work = spent-iterated read iter work busy count f (few f) in omega arith
     by Iterating f end (inr h) = let k : true ≡ false = sym f ∙ h.0 in absurd (cc)
+    by _ f end _ = let k : spent read iter busy count ≤ read + work = spent-most read iter work busy count few in omega arith
 
 -- and at most an attempt later where it is a cancel, for then a line write runs
 at_cancel : (read iter work base : ℕ) (way busy reads : Bool) (count tick : ℕ) (r : Option Action) → (busy ≡ true → count * iter + iter ≤ work) → IfSome r (λ a. Fits way busy reads a.doing)
@@ -85,9 +82,7 @@ at_cancel read iter work base way busy reads count tick (Some action) few f end 
     by Iterating f end writes (inr h) = let k : true ≡ false = sym f ∙ h.0 in absurd (cc)
 
 writing_of : (a b c d : Bool) → (a && (b && (c && d))) ≡ true → b ≡ true
-writing_of true true c d h = refl
-writing_of true false c d h = absurd (cc)
-writing_of false b c d h = absurd (cc)
+writing_of a b c d h = grind arith
 
 module _ {n m : ℕ} (shape : BankShape) (pace : Pace) (e : ℕ) where
   abbrev pub In : ℕ → List (TimedEvent n m) → Option Action → ℕ → Type 0
@@ -168,14 +163,13 @@ module _ {n m : ℕ} (shape : BankShape) (pace : Pace) (e : ℕ) where
             → Fits (gives_way pace.policy) (busy_after shape zs) (reads_of shape pace zs) doing
             → InTime shape pace.read pace.iter (gain {n = n} pace.read (work_time pace e) (Core (Read row line came.Waiting)) y.cancels + base) (change_after shape zs) (busy_after shape zs) (made_after shape zs)
             (Read row line came.Waiting ∷ core zs) None y.tick
-        by Serving d end f = absurd (cc)
-        by Iterating d end f = absurd (cc)
         by Beginning d end f =
             let v = awaited row line (newest (core zs) line) (layer_of (queue shape (core zs)) line) in
             let held = store-held shape (core zs) line v refl (drops refl).0.1 in
             let none : spent pace.read pace.iter (busy_after shape zs) (made_after shape zs) ≡ 0 = spent-idle pace.read pace.iter (busy_after shape zs) (made_after shape zs) f in
             let idle : in_progress (core zs) ≡ false = sym (busy-none (change_after shape zs) (keeping_after zs) (in_progress (core zs)) (drops refl).1) ∙ f in
             inr ((record { idle = idle; due = held.0; held = held.1 }, (drops refl).1), refl, omega (arith, h, end, none))
+        by _ d end f = absurd (cc)
 
     begin_by : (Held → ⊥) → busy_after shape zs ≡ false → y.tick ≡ y.first + pace.read → In base zs (Some (record { doing = Beginning; first = y.first })) y.first → y.tick ≤ base + pace.read
     begin_by free idle end (inr h) = absurd (free h.0)
@@ -243,8 +237,7 @@ module _ {n m : ℕ} (shape : BankShape) (pace : Pace) (e : ℕ) where
         by (inr h) = inr (held-idle h.0, h.2)
 
     kept_cut : (tearing cancels : Bool) → cancels ≡ true → y.tick ≤ ((pace.read + work_time pace e) * 1 + pace.read * 0) + base → y.tick ≤ gain {n = n} pace.read (work_time pace e) (Regs (KeepCut tearing)) cancels + base
-    kept_cut tearing true is h = h
-    kept_cut tearing false is h = absurd (cc)
+    kept_cut tearing cancels is h = grind arith
 
     pub step : (h : Happens n) → MayCome shape pace e zs y h → has_exhausted (core_of h (core zs)) ≡ false → halted_by h (halted_after zs) ≡ false → DelayAt base zs y.tick → DelayBy h
     step (Core (Write row line bytes given wrote.Accepted)) may fine run (inr h) =

@@ -26,9 +26,7 @@ module _ {n : ℕ} where
 
   -- so it has at any tick
   ended-now : (t read a most : ℕ) (after : List (Row n)) (owed : List ℕ) (o : Outcome n) → IsSettled owed o → ends_by read a most o after ≡ true → ends_or_waits t read a most o after ≡ true
-  ended-now t read a most after owed (out.Read u place bytes) s h = h
-  ended-now t read a most after owed (out.Lost u) s h = h
-  ended-now t read a most after owed _ s h = absurd s
+  ended-now t read a most after owed o s h = grind arith
 
 behind-is : {n m : ℕ} (shape : BankShape) (all later : List (TimedEvent n m)) → rows_behind shape all later ≡ rows_after shape all later
 behind-is shape all [] = refl

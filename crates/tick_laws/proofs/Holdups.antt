@@ -1,5 +1,5 @@
 -- When a begin is held up by a read that waits, and when something is chosen.
-use Rattle.std.proofs.Common.{◌≡◌, ℕ, ◌==◌, ◌&&◌, ◌||◌, not, Bool, true, false, List, [], ◌∷◌, ◌++◌, Option, Some, None, refl, sym, ◌∙◌, cond, eqb, eqb-true}
+use Rattle.std.proofs.Common.{arith, ◌≡◌, ℕ, ◌==◌, ◌&&◌, ◌||◌, not, Bool, true, false, List, [], ◌∷◌, ◌++◌, Option, Some, None, refl, sym, ◌∙◌, cond, eqb, eqb-true}
 use Rattle.std.{specs.List.list_any, specs.Prelude.nat_lt, proofs.lemmas.Bool.{eq-eqb, or_left, or_right}, proofs.lemmas.List.Folds.list_any-append}
 use Rattle.masked_bytes.specs.{Entries.{has_row, merged, laid_on}, declared.entry.Entry.Entry}
 use Rattle.bank_shape.specs.{Acting.{choice, chosen_by}, declared.BankShape.BankShape, declared.Work.TheVariants.Nothing, declared.clock.Action.Action, declared.clock.Doing.Doing}
@@ -31,17 +31,14 @@ chosen-some false false false false h = let k : false ≡ true = h refl refl in 
 
 module _ {n : ℕ} where
   pub held-reads : (ws : List Awaited) (es : List (Entry n)) → HeldUp ws es → not (is_empty ws) ≡ true
-  held-reads ws [] h = absurd h
-  held-reads [] (e ∷ es) h = absurd (cc)
-  held-reads (w ∷ ws) (e ∷ es) h = refl
+  held-reads ws es h = grind arith
 
   pub held-wait : (ws : List Awaited) (v : Awaited) (es : List (Entry n)) → HeldUp ws es → HeldUp (ws ++ v ∷ []) es
   held-wait ws v [] h = absurd h
   held-wait ws v (e ∷ es) h = list_any-append (λ (w : Awaited). w.line == e.line) ws (v ∷ []) ∙ or_left _ _ h
 
   pub held-push : (ws : List Awaited) (es : List (Entry n)) (x : Entry n) → HeldUp ws es → HeldUp ws (es ++ x ∷ [])
-  held-push ws [] x h = absurd h
-  held-push ws (e ∷ es) x h = h
+  held-push ws es x h = grind arith
 
   pub held-merged : (ws : List Awaited) (es : List (Entry n)) (old row : ℕ) (bytes : List ℕ) (given : List Bool) → HeldUp ws es → HeldUp ws (merged old row bytes given es)
   held-merged ws [] old row bytes given h = absurd h
@@ -54,30 +51,25 @@ module _ {n : ℕ} where
   store-held shape h line v own is = by (has_exhausted h) (due_after shape h) (queue shape h) is
     where
       by : (b : Bool) (due : Option ℕ) (es : List (Entry n)) → is_store_of line (cond b Nothing (due_work shape h due es)) ≡ true → (due ≡ None) × HeldUp (waits shape h ++ v ∷ []) es
-      by true due es is = absurd (cc)
-      by false (Some region) es is = absurd (cc)
-      by false None [] is = absurd (cc)
       by false None (e ∷ es) is = (
         refl,
         list_any-append (λ (w : Awaited). w.line == e.line) (waits shape h) (v ∷ [])
             ∙ or_right _ _ (or_left (v.line == e.line) false (eq-eqb v.line e.line (own ∙ sym (eqb-true e.line line is)))),
       )
+      by _ _ _ is = absurd (cc)
 
   -- where the next store is held up nothing is begun
   pub held-begins_none : (shape : BankShape) (h : List (BankEvent n)) → IsHeld shape h → may_begin_after shape h ≡ true → ⊥
   held-begins_none shape h k may = by (in_progress h) (has_exhausted h) (due_after shape h) (queue shape h) k.due k.held may
     where
       clash : (b : Bool) → b ≡ true → not b ≡ true → ⊥
-      clash true h k = absurd (cc)
-      clash false h k = absurd (cc)
+      clash b h k = grind arith
 
       by : (busy b : Bool) (due : Option ℕ) (es : List (Entry n)) → due ≡ None → HeldUp (waits shape h) es
           → (not busy && is_ready (waits shape h) (cond b Nothing (due_work shape h due es))) ≡ true → ⊥
-      by true b due es none held may = absurd (cc)
-      by false true due es none held may = absurd (cc)
-      by false false (Some region) es none held may = absurd (cc)
       by false false None [] none held may = held
       by false false None (e ∷ es) none held may = clash (list_any (λ w. w.line == e.line) (waits shape h)) held may
+      by _ _ _ es none held may = absurd (cc)
 
   -- where a write stands, and a spare was found for every worn line, a line write is in progress, a read waits, or one may be begun
   may-begin : (shape : BankShape) (h : List (BankEvent n)) (row : ℕ) → has_row (queue shape h) row ≡ true → has_exhausted h ≡ false → in_progress h ≡ false → not (is_empty (waits shape h)) ≡ false
@@ -86,12 +78,7 @@ module _ {n : ℕ} where
     where
       by : (busy b : Bool) (due : Option ℕ) (es : List (Entry n)) (ws : List Awaited) → has_row es row ≡ true → b ≡ false → busy ≡ false → not (is_empty ws) ≡ false
           → (not busy && is_ready ws (cond b Nothing (due_work shape h due es))) ≡ true
-      by true b due es ws there fine idle none = absurd (cc)
-      by false true due es ws there fine idle none = absurd (cc)
-      by false false due es (w ∷ ws) there fine idle none = absurd (cc)
-      by false false (Some region) es [] there fine idle none = refl
-      by false false None [] [] there fine idle none = absurd (cc)
-      by false false None (e ∷ es) [] there fine idle none = refl
+      by busy b due es ws there fine idle none = grind arith
 
   pub works : (way : Bool) (shape : BankShape) (h : List (BankEvent n)) (change : Option ℕ) (keeping halted : Bool) (row : ℕ) → has_row (queue shape h) row ≡ true → has_exhausted h ≡ false → halted ≡ false
       → (d : Doing)
@@ -102,9 +89,7 @@ module _ {n : ℕ} where
       chosen-some way (not (is_empty (waits shape h))) keeping (not (keeping || halted)) (λ idle none. by keeping halted idle runs)
     where
       by : (keeping halted : Bool) → keeping ≡ false → halted ≡ false → not (keeping || halted) ≡ true
-      by false false idle runs = refl
-      by false true idle runs = absurd (cc)
-      by true halted idle runs = absurd (cc)
+      by keeping halted idle runs = grind arith
 
 -- what isn't a begin
 started-not_begun : (d : Doing) (r : Option Action) (last tick : ℕ) → same_doing Beginning d ≡ false → is_doing Beginning r ≡ false → is_doing Beginning (started r (Some d) last tick) ≡ false
@@ -116,6 +101,4 @@ pub not_begun-next : (way busy : Bool) (r : Option Action) (last tick : ℕ) →
 not_begun-next way busy r last tick h = started-not_begun (cond way Serving (cond busy Iterating Serving)) r last tick (by way busy) h
   where
     by : (way busy : Bool) → same_doing Beginning (cond way Serving (cond busy Iterating Serving)) ≡ false
-    by true busy = refl
-    by false true = refl
-    by false false = refl
+    by way busy = grind arith

@@ -15,19 +15,13 @@ module _ {n : ℕ} (shape : BankShape) (h : List (BankEvent n)) where
   done_store row place d = by (has_exhausted h) (due_after shape h) (queue shape h) d
     where
       by : (b : Bool) (due : Option ℕ) (q : List (Entry n)) → IsDone shape h (cond b Nothing (due_work shape h due q)) (did.Stored row place) → due ≡ None
-      by true due q d = absurd d
-      by false (Some region) q d = absurd d
-      by false None [] d = absurd d
-      by false None (e ∷ es) d = refl
+      by b due q d = grind arith
 
   done_move : (move : _) → IsDone shape h (work_after shape h) (did.Moved move) → due_moves (due_after shape h) ≡ 1
   done_move move d = by (has_exhausted h) (due_after shape h) (queue shape h) d
     where
       by : (b : Bool) (due : Option ℕ) (q : List (Entry n)) → IsDone shape h (cond b Nothing (due_work shape h due q)) (did.Moved move) → due_moves due ≡ 1
-      by true due q d = absurd d
-      by false (Some region) q d = refl
-      by false None [] d = absurd d
-      by false None (e ∷ es) d = absurd d
+      by b due q d = grind arith
 
 -- a region has at most psi stores more than its moves account for, and only that of the last store has as many
 record AreBalanced (psi : ℕ) (stored moved : ℕ → ℕ) (last : ℕ) : Type 0 where
@@ -74,8 +68,7 @@ module _ (psi : ℕ) (stored moved : ℕ → ℕ) (last : ℕ) (b : AreBalanced 
       next psi k s some le = let step : psi * ((1 + k) + 1) ≡ psi * (k + 1) + psi = grind arith in omega (arith, some, le, step)
 
 none_flag : (b : Bool) (region : ℕ) → cond b (Some region) None ≡ None → b ≡ false
-none_flag true region is = absurd (cc)
-none_flag false region is = refl
+none_flag b region is = grind arith
 
 module _ {n : ℕ} (shape : BankShape) where
   abbrev Balanced : List (BankEvent n) → Type 0

@@ -7,7 +7,7 @@ use Rattle.result_rows.specs.declared.Outcome.TheVariants as out
 use Rattle.row_rules.specs.{Queueing.waiting, Rows.is_cut, Ticking.{delay, bound, last_store, came_since, no_cut_below, first_cut_at, read_in_time}, declared.Row.Row}
 use Rattle.row_rules.specs.declared.Rules.{Rules}
 use Rattle.bank_shape.specs.{Pausing.{is_cancelling, most_cancels, gives_way}, declared.BankShape.BankShape, declared.clock.Action.Action, declared.clock.Doing.Doing}
-use Rattle.bank_shape.specs.{declared.clock.Doing.TheVariants.{Serving, Beginning, Iterating}, declared.pace.Pace.Pace, declared.pace.Policy.Policy}
+use Rattle.bank_shape.specs.{declared.clock.Doing.TheVariants.Serving, declared.pace.Pace.Pace, declared.pace.Policy.Policy}
 use Rattle.bank_shape.specs.declared.pace.Policy.TheVariants.{Pause, Plain, Cancel}
 use Rattle.bank_shape.specs.declared.answer.WriteAnswer.TheVariants as wrote
 use Rattle.bank_shape.specs.declared.answer.ReadAnswer.TheVariants as came
@@ -61,17 +61,14 @@ owes-idle read iter work busy false None h = refl
 owes-idle read iter work busy false (Some action) h = by action.doing h
   where
     by : (doing : Doing) → is_writing (Some (record { doing = doing; first = action.first })) ≡ false → owes read iter work true busy (Some (record { doing = doing; first = action.first })) ≡ 0
-    by Serving h = refl
-    by Beginning h = absurd (cc)
-    by Iterating h = absurd (cc)
+    by doing h = grind arith
 
 -- where a read that came drops the action that runs, none is left, which fits
 pub drop_or : {n m : ℕ} (shape : BankShape) (pace : Pace) (ys : List (TimedEvent n m)) (b : Bool)
     (runs : Option Action)
     → FitsAll shape pace ys runs
     → FitsAll shape pace ys (cond b None runs)
-drop_or shape pace ys true runs f = tt
-drop_or shape pace ys false runs f = f
+drop_or shape pace ys b runs f = grind arith
 
 -- a read has an outcome where none waits in the end
 ended_read : {n m : ℕ} (shape : BankShape) (pace : Pace) (e : ℕ) (all : List (TimedEvent n m)) (row : ℕ)
@@ -120,8 +117,7 @@ module _ {n m : ℕ} (shape : BankShape) (pace : Pace) (e : ℕ) (all : List (Ti
       )
     where
       uncut : (h : Happens n) (cancels : Bool) → has_wait (waits shape (core_of h (core (mid ++ zs)))) row ≡ true → list_any is_cut (row_with shape all h y.tick cancels) ≡ false
-      uncut (Core (Cut tearing)) cancels still = absurd (cc)
-      uncut _ cancels still = refl
+      uncut h cancels still = grind arith
 
   module _ (a most row : ℕ) (zs : List (TimedEvent n m)) (s : TimedEvent n m) (r : 1 ≤ pace.read) (i : 1 ≤ pace.iter) (l : Lawful shape pace e (s ∷ zs)) (mids lates : List (Row n)) where
     -- where the event of a read's outcome comes it comes in time
@@ -178,8 +174,7 @@ module _ {n m : ℕ} (shape : BankShape) (pace : Pace) (e : ℕ) (all : List (Ti
         )
       where
         lost : (b : Bool) → ◌≡◌ {A = Option (Outcome n)} (cond b (Some (out.Lost s.tick)) None) (Some o) → out.Lost s.tick ≡ o
-        lost true is = cc
-        lost false is = absurd (cc)
+        lost b is = grind arith
     at_event _ o may whole there none late t is = absurd (cc)
 
   -- so a read that begins to wait is in time in the end

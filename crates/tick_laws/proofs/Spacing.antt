@@ -40,8 +40,7 @@ module _ {n : ℕ} where
   waits_rise shape (Serve answer ∷ h) next b = rest (waits shape h) (waits_rise shape h next b)
     where
       rest : (ws : List Awaited) → Rising ws → Rising (drop 1 ws)
-      rest [] r = tt
-      rest (w ∷ ws) r = r.1
+      rest ws r = grind arith
   waits_rise shape (Cut tearing ∷ h) next b = tt
   waits_rise shape (_ ∷ h) next b = waits_rise shape h next b
 
@@ -53,9 +52,7 @@ module _ {n : ℕ} where
 
   module _ (read : ℕ) where
     pub apart-left : (o q : Outcome n) → takes_time o ≡ false → apart read o q ≡ true
-    apart-left (out.Stored at place) q h = absurd (cc)
-    apart-left (out.Read at place bytes) q h = absurd (cc)
-    apart-left _ q h = refl
+    apart-left o q h = grind arith
 
     -- an outcome beside a store or a read, by what it asks of their ticks
     stored-left : (t p : ℕ) (q : Outcome n) → ((u p : ℕ) → q ≡ out.Stored u p → u + read ≤ t) → ((u p : ℕ) (b : List ℕ) → q ≡ out.Read u p b → u < t) → apart read (out.Stored t p) q ≡ true
@@ -84,8 +81,7 @@ module _ {n : ℕ} where
     apart-right _ q h = refl
 
     pub ended-left : (tick : ℕ) (o q : Outcome n) → apart read o q ≡ true → apart read (ended tick o) q ≡ true
-    ended-left tick out.Unset q h = refl
-    ended-left tick _ q h = h
+    ended-left tick o q h = grind arith
 
     pub ended-right : (tick : ℕ) (o q : Outcome n) → apart read o q ≡ true → apart read o (ended tick q) ≡ true
     ended-right tick o out.Unset h = apart-right o (out.Queued tick) refl
@@ -154,8 +150,7 @@ module _ {n : ℕ} (read : ℕ) (o : ℕ → Outcome n) (top : ℕ) (busy : Bool
       was_stored row u p false is = let h : u ≤ top = s.stores row u p is in omega (arith, h, late)
 
       was_read : (row u p : ℕ) (b : List ℕ) (c : Bool) → unwrap_or (cond c (Some (out.Stored tick place)) None) (o row) ≡ out.Read u p b → o row ≡ out.Read u p b
-      was_read row u p b true is = absurd (cc)
-      was_read row u p b false is = is
+      was_read row u p b c is = grind arith
 
       far : (row u p : ℕ) → o row ≡ out.Stored u p → u + read ≤ tick
       far row u p is = by how
@@ -186,8 +181,7 @@ served {n} read o top busy w ws s at tick place bytes some first end rising = re
 }
   where
     was_stored : (row u p : ℕ) (c : Bool) → unwrap_or (cond c (Some (out.Read tick place bytes)) None) (o row) ≡ out.Stored u p → o row ≡ out.Stored u p
-    was_stored row u p true is = absurd (cc)
-    was_stored row u p false is = is
+    was_stored row u p c is = grind arith
 
     was_read : (row u p : ℕ) (b : List ℕ) (c : Bool) → unwrap_or (cond c (Some (out.Read tick place bytes)) None) (o row) ≡ out.Read u p b → u ≤ tick
     was_read row u p b true is = let same : tick ≡ u = cc in omega (arith, same)

@@ -71,8 +71,7 @@ module _ {n : ℕ} where
   read_within a u o = read_after a o && read_by u o
 
   ended-within : (a u tick : ℕ) (o : Outcome n) → stored_within a u (ended tick o) ≡ stored_within a u o
-  ended-within a u tick out.Unset = refl
-  ended-within a u tick _ = refl
+  ended-within a u tick o = grind arith
 
 module _ {n m : ℕ} (shape : BankShape) (pace : Pace) (e : ℕ) where
   -- while a write stands the ticks are in time
@@ -148,8 +147,7 @@ module _ {n m : ℕ} (shape : BankShape) (pace : Pace) (e : ℕ) where
     store_event (Core (Cut tearing)) may is = by _ is
       where
         by : (b : Bool) → ◌≡◌ {A = Option (Outcome n)} (cond b (Some (out.Lost y.tick)) None) (Some (out.Stored u p)) → IsStore zs y (Core (Cut tearing)) u
-        by true is = absurd (cc)
-        by false is = absurd (cc)
+        by b is = grind arith
     store_event _ may is = absurd (cc)
 
 module _ {n m : ℕ} (shape : BankShape) (pace : Pace) (e : ℕ) (all : List (TimedEvent n m)) where

@@ -21,8 +21,7 @@ turn-some read row [] there = absurd (cc)
 turn-some read row (w ∷ ws) there = by (w.row == row)
   where
     by : (b : Bool) → read ≤ cond b read (read + turn read row ws)
-    by true = omega arith
-    by false = omega arith
+    by b = grind arith
 
 pub turn-push : (read row : ℕ) (ws : List Awaited) (v : Awaited) → has_wait ws row ≡ true → turn read row (ws ++ v ∷ []) ≡ turn read row ws
 turn-push read row [] v there = absurd (cc)
@@ -75,9 +74,7 @@ paid iter false true count = count * iter
 paid iter false false count = 0
 
 pub chosen-reads : (way busy ready : Bool) → chosen_by way true (choice busy ready) ≡ Some (cond way Serving (cond busy Iterating Serving))
-chosen-reads true busy ready = refl
-chosen-reads false true ready = refl
-chosen-reads false false ready = refl
+chosen-reads way busy ready = grind arith
 
 pub owes-started : (read iter work : ℕ) (way busy : Bool) (r : Option Action) (last tick : ℕ)
     → owes read iter work way busy (started r (Some (cond way Serving (cond busy Iterating Serving))) last tick) ≡ owes read iter work way busy r
@@ -101,12 +98,7 @@ owes-most read iter work false false None = omega arith
 owes-most read iter work way busy (Some action) = by way action.doing
   where
     by : (way : Bool) (doing : Doing) → owed_by read iter work way doing ≤ hold_up read iter work way
-    by true Serving = omega arith
-    by false Serving = omega arith
-    by true Beginning = omega arith
-    by false Beginning = omega arith
-    by true Iterating = omega arith
-    by false Iterating = omega arith
+    by way doing = grind arith
 
 -- a read that isn't the first, or whose serve hasn't begun, or began no earlier than it came
 abbrev pub NotEarly : ℕ → ℕ → List Awaited → Option Action → Type 0
@@ -120,8 +112,7 @@ started-not_early a row ws None (Some doing) last tick up k =
     elim (nat_lt last tick) as (λ b. NotEarly a row ws (cond b (Some (record { doing = doing; first = last })) None)) [ true ↦ inl up | false ↦ tt ]
 
 not_first-push : (ws : List Awaited) (v : Awaited) (row : ℕ) → NotFirst ws row → NotFirst (ws ++ v ∷ []) row
-not_first-push [] v row k = absurd k
-not_first-push (w ∷ ws) v row k = k
+not_first-push ws v row k = grind arith
 
 pub not_early-push : (a row : ℕ) (ws : List Awaited) (v : Awaited) (r : Option Action) → NotEarly a row ws r → NotEarly a row (ws ++ v ∷ []) r
 not_early-push a row ws v None k = tt
@@ -140,10 +131,8 @@ not_early-new a row way busy ws v (Some action) lacks f = inr (by action.doing f
     behind (w ∷ ws) lacks some = left (w.row == row) lacks
       where
         left : (b : Bool) → (b || has_wait ws row) ≡ false → b ≡ false
-        left true lacks = absurd (cc)
-        left false lacks = refl
+        left b lacks = grind arith
 
     by : (doing : Doing) → Fits way busy (not (is_empty ws)) doing → (same_doing Serving doing ≡ false) ⊎ NotFirst (ws ++ v ∷ []) row
     by Serving f = inr (behind ws lacks f.0)
-    by Beginning f = inl refl
-    by Iterating f = inl refl
+    by _ f = inl refl

@@ -20,34 +20,22 @@ use Rattle.masked_bytes.proofs.Truth.{and_first}
 module _ (read iter work bound : ℕ) where
   after_begin : (way busy next : Bool) (count first t : ℕ) → busy ≡ false → first + owed_by read iter work way Beginning + t ≤ bound + paid iter way busy count
       → (first + read) + owes read iter work way next None + t ≤ bound + paid iter way next 0
-  after_begin way true next count first t idle h = absurd (cc)
-  after_begin true false next count first t idle h = omega arith
-  after_begin false false true count first t idle h = omega arith
-  after_begin false false false count first t idle h = omega arith
+  after_begin way busy next count first t idle h = grind arith
 
   after_iterate : (way busy next : Bool) (count first t : ℕ) → busy ≡ true → (count + 1) * iter ≡ count * iter + iter → count * iter + iter ≤ work
       → first + owed_by read iter work way Iterating + t ≤ bound + paid iter way busy count → (first + iter) + owes read iter work way next None + t ≤ bound + paid iter way next (count + 1)
-  after_iterate way false next count first t busy more few h = absurd (cc)
-  after_iterate true true next count first t busy more few h = omega arith
-  after_iterate false true true count first t busy more few h = omega arith
-  after_iterate false true false count first t busy more few h = omega arith
+  after_iterate way busy next count first t busy6 more few h = grind arith
 
   after_serve : (way busy : Bool) (count first t : ℕ) → (way ≡ false → busy ≡ false) → first + 0 + (read + t) ≤ bound + paid iter way busy count
       → (first + read) + owes read iter work way busy None + t ≤ bound + paid iter way busy count
-  after_serve true busy count first t idle h = omega arith
-  after_serve false true count first t idle h = let k : true ≡ false = idle refl in absurd (cc)
-  after_serve false false count first t idle h = omega arith
+  after_serve way busy count first t idle h = grind arith
 
   after_drop : (way busy : Bool) (count first tick t : ℕ) → busy ≡ false → tick < first + read → first + owed_by read iter work way Beginning + t ≤ bound + paid iter way busy count
       → tick + owes read iter work way busy None + t ≤ bound + paid iter way busy count
-  after_drop way true count first tick t idle lt h = absurd (cc)
-  after_drop true false count first tick t idle lt h = omega arith
-  after_drop false false count first tick t idle lt h = omega arith
+  after_drop way busy count first tick t idle lt h = grind arith
 
   pub at_end : (way busy : Bool) (count first t : ℕ) → (way ≡ false → busy ≡ false) → read ≤ t → first + 0 + t ≤ bound + paid iter way busy count → first + read ≤ bound
-  at_end true busy count first t idle some h = omega arith
-  at_end false true count first t idle some h = let k : true ≡ false = idle refl in absurd (cc)
-  at_end false false count first t idle some h = omega arith
+  at_end way busy count first t idle some h = grind arith
 
   -- a cut comes below the bound, where a read waits
   pub at_cut : (way busy reads : Bool) (count tick t : ℕ) (r : Option Action) → 1 ≤ read → read ≤ t → (busy ≡ true → count * iter + iter ≤ work) → IfSome r (λ a. Fits way busy reads a.doing)
@@ -76,8 +64,7 @@ pub record HasTurn (read iter work : ℕ) (way : Bool) (a bound row top : ℕ) (
   pub high : top + owes read iter work way busy r + turn read row ws ≤ bound + paid iter way busy count
 
 pub some-reads : (ws : List Awaited) (row : ℕ) → has_wait ws row ≡ true → not (is_empty ws) ≡ true
-some-reads [] row there = absurd (cc)
-some-reads (w ∷ ws) row there = refl
+some-reads ws row there = grind arith
 
 pub times_more : (k x : ℕ) → (k + 1) * x ≡ k * x + x
 times_more k x = grind arith
@@ -91,8 +78,7 @@ work_time pace e = most_steps e * pace.iter
 
 -- a new change isn't being written yet
 brings : (change : Option ℕ) → busy_by change false false ≡ false
-brings None = refl
-brings (Some item) = refl
+brings change = grind arith
 
 module _ {n m : ℕ} (shape : BankShape) (pace : Pace) (e : ℕ) where
   abbrev pub Turn : ℕ → ℕ → ℕ → List (TimedEvent n m) → Type 0
@@ -160,10 +146,9 @@ module _ {n m : ℕ} (shape : BankShape) (pace : Pace) (e : ℕ) where
             → action.first + owed_by pace.read pace.iter (work_time pace e) (gives_way pace.policy) doing + turn pace.read row (waits shape (core zs)) ≤ bound + paid pace.iter (gives_way pace.policy) (busy_after shape zs) (made_after shape zs)
             → y.tick + owes pace.read pace.iter (work_time pace e) (gives_way pace.policy) (busy_after shape zs) None + turn pace.read row (waits shape (core zs))
             ≤ bound + paid pace.iter (gives_way pace.policy) (busy_after shape zs) (made_after shape zs)
-        by Serving d end f h = absurd (cc)
         by Beginning d end f h =
             after_drop pace.read pace.iter (work_time pace e) bound (gives_way pace.policy) (busy_after shape zs) (made_after shape zs) action.first y.tick (turn pace.read row (waits shape (core zs))) f end h
-        by Iterating d end f h = absurd (cc)
+        by _ d end f h = absurd (cc)
 
     at_serve : (ws : List Awaited) (first : ℕ) → y.tick ≡ first + pace.read → (gives_way pace.policy ≡ false → busy_after shape zs ≡ false) → WaitsApart ws → has_wait (drop 1 ws) row ≡ true
         → first + 0 + turn pace.read row ws ≤ bound + paid pace.iter (gives_way pace.policy) (busy_after shape zs) (made_after shape zs)
@@ -189,8 +174,7 @@ module _ {n m : ℕ} (shape : BankShape) (pace : Pace) (e : ℕ) where
       where
         none : (way : Bool) → tick + owes pace.read pace.iter (work_time pace e) way false None + turn pace.read row (waits shape (core zs)) ≤ bound + paid pace.iter way false c
             → tick + owes pace.read pace.iter (work_time pace e) way false None + turn pace.read row (waits shape (core zs)) ≤ bound + paid pace.iter way false count
-        none true w = w
-        none false w = w
+        none way w = grind arith
 
     -- a line write of the bank goes on exactly where its step says so, since no change stood
     bank_goes : (answer : Step) → change_after shape zs ≡ None → busy_by (changed_by shape (core zs) answer (change_after shape zs)) false (goes_on answer) ≡ goes_on answer
@@ -209,8 +193,7 @@ module _ {n m : ℕ} (shape : BankShape) (pace : Pace) (e : ℕ) where
 
     change_made : (answer : Keep) (count : ℕ) → is_some (change_after shape zs) ≡ true → keeps_on answer ≡ true → made_by (written_by answer (change_after shape zs)) count (iterated (core zs)) ≡ count
     change_made keep.More count some go = made-some (change_after shape zs) count (iterated (core zs)) some
-    change_made keep.Done count some go = absurd (cc)
-    change_made keep.Halted count some go = absurd (cc)
+    change_made _ count some go = absurd (cc)
 
     pub step : (h : Happens n) → MayCome shape pace e zs y h → has_wait (waits shape (core zs)) row ≡ true → has_wait (waits shape (core_of h (core zs))) row ≡ true
         → TurnAt a bound row zs y.tick (running_at shape pace zs y.tick) → TurnBy h (left_by shape (core zs) (change_after shape zs) h (running_at shape pace zs y.tick))
@@ -252,7 +235,4 @@ module _ {n m : ℕ} (shape : BankShape) (pace : Pace) (e : ℕ) where
     step (Regs (KeepCut tearing)) may there still t = absurd (uncancelled_by (is_cancelling pace.policy) (is_writing (running_at shape pace zs y.tick)) (is_empty (waits shape (core zs))) _ may.on_time.3 (some-reads (waits shape (core zs)) row there))
       where
         uncancelled_by : (a b c d : Bool) → (a && (b && (c && d))) ≡ true → not c ≡ true → ⊥
-        uncancelled_by true true true d h k = absurd (cc)
-        uncancelled_by true true false d h k = absurd (cc)
-        uncancelled_by true false c d h k = absurd (cc)
-        uncancelled_by false b c d h k = absurd (cc)
+        uncancelled_by a b c d h k = grind arith

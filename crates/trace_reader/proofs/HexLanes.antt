@@ -45,8 +45,7 @@ none_of_mask p [] e k low = absurd (omega arith)
 none_of_mask p (x ∷ xs) e zero low = first (p x) (mask_l (map p xs)) e
   where
     first : (b : Bool) (m : ℕ) → cond b 1 0 + 2 * m ≡ 0 → b ≡ false
-    first true m e = absurd (omega arith)
-    first false m e = refl
+    first b m e = grind arith
 none_of_mask p (x ∷ xs) e (suc k) low = none_of_mask p xs (omega arith) k (omega arith)
 
 -- a lane is in a mask that isn't

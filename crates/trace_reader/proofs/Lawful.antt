@@ -63,8 +63,7 @@ or_fault-ok None fault next u h = cc h
 or_fault-ok (Some x) fault next u h = (x, refl, h)
 
 if-ok : {U : Type 0} (b : Bool) (r : Result U Kind) (fault : Kind) (u : U) → (if b then r else Err fault) ≡ Ok u → r ≡ Ok u
-if-ok true r fault u h = h
-if-ok false r fault u h = cc h
+if-ok b r fault u h = grind arith
 
 line-below : (lines line : ℕ) (text : List ℕ) → 1 ≤ lines → line_of lines text ≡ Some line → line < lines
 line-below lines line text some h =
@@ -101,11 +100,10 @@ unfolding cut_of
 cut-lawful n lines line payload op h = by (not (length line == 0)) (not (length payload == 0)) h
   where
     by : (a b : Bool) → (if a then Err kind.Line else if b then Err kind.Payload else Ok Cut) ≡ Ok op → IsOpFor lines op
-    by true b q = cc q
-    by false true q = cc q
     by false false q =
         let same : Cut ≡ op = cc in
         rw (← same) tt
+    by _ _ q = cc q
 
 op-lawful : (n lines : ℕ) (op line payload : List ℕ) (found : EventOp n) → 1 ≤ lines → op_of n lines op line payload ≡ Ok found → IsOpFor lines found
 unfolding op_of

@@ -101,5 +101,4 @@ pub line_digits-few : (lines : ℕ) → line_digits lines ≤ 8
 line_digits-few lines = by (nat_le lines 100000)
   where
     by : (b : Bool) → (if b then 5 else 8) ≤ 8
-    by true = omega arith
-    by false = omega arith
+    by b = grind arith

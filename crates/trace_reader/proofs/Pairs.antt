@@ -13,8 +13,7 @@ abbrev pub pairs_before : List (Option ℕ) → Option (List (Option ℕ)) → O
 pairs_before pairs rest = option_map (λ more. pairs ++ more) rest
 
 pairs_before-nil : (o : Option (List (Option ℕ))) → o ≡ pairs_before [] o
-pairs_before-nil None = refl
-pairs_before-nil (Some x) = refl
+pairs_before-nil o = grind arith
 
 pairs_before-pair : (pairs : List (Option ℕ)) (pair : Option ℕ) (o : Option (List (Option ℕ))) → pairs_before pairs (pair_before (Some pair) o) ≡ pairs_before (pairs ++ (pair ∷ [])) o
 pairs_before-pair pairs pair None = refl
@@ -24,12 +23,11 @@ pairs_before-pair pairs pair (Some x) = ap Some (sym (append_assoc pairs (pair �
 pairs-length-go : (first : Option (Option ℕ)) (rest : Option (List (Option ℕ))) (size : ℕ) (pairs : List (Option ℕ))
     → ((more : List (Option ℕ)) → rest ≡ Some more → size ≡ 2 * length more)
     → pair_before first rest ≡ Some pairs → suc (suc size) ≡ 2 * length pairs
-pairs-length-go None rest size pairs sized h = cc h
-pairs-length-go (Some pair) None size pairs sized h = cc h
 pairs-length-go (Some pair) (Some more) size pairs sized h =
     let e : pair ∷ more ≡ pairs = cc in
     let s : size ≡ 2 * length more = sized more refl in
     rw (← e) (omega arith)
+pairs-length-go _ _ size pairs sized h = cc h
 
 pub pairs_of-length : (text : List ℕ) (pairs : List (Option ℕ)) → pairs_of text ≡ Some pairs → length text ≡ 2 * length pairs
 unfolding pairs_of

@@ -34,11 +34,7 @@ plain-step s byte takes plain =
     by st.StartRecord t a b c d = rw (a, b, c, d) refl
     by st.StartField t a b c d = rw (a, b, c, d) refl
     by st.InField t a b c d = rw (b, c, d) refl
-    by st.AfterCr t a b c d = cc t
-    by st.InQuoted t a b c d = cc t
-    by st.AfterQuote t a b c d = cc t
-    by st.InEscape t a b c d = cc t
-    by st.InComment t a b c d = cc t
+    by _ t a b c d = cc t
 
 step-is : (s : State) (fields : List (List ℕ)) (field : List ℕ) (byte : ℕ) (rest : List ℕ) (s2 : State) (a : Action) → (s2, a) ≡ step default_config s byte
     → next_record default_config s fields field (byte ∷ rest)
@@ -50,23 +46,14 @@ step-is s fields field byte rest s2 a e =
     rw (first, second) refl
 
 and-first : (p q : Bool) → (p && q) ≡ true → p ≡ true
-and-first true q h = refl
-and-first false q h = cc h
+and-first p q h = grind arith
 
 and-second : (p q : Bool) → (p && q) ≡ true → q ≡ true
-and-second true q h = h
-and-second false q h = cc h
+and-second p q h = grind arith
 
 -- a comma ends a field
 comma-step : (s : State) → joins s ≡ true → (st.StartField, act.EndField) ≡ step default_config s 44
-comma-step st.StartRecord t = refl
-comma-step st.StartField t = refl
-comma-step st.InField t = refl
-comma-step st.AfterCr t = cc t
-comma-step st.InQuoted t = cc t
-comma-step st.AfterQuote t = cc t
-comma-step st.InEscape t = cc t
-comma-step st.InComment t = cc t
+comma-step s t = grind arith
 
 -- plain bytes and a comma
 field-ends : (s : State) (fields : List (List ℕ)) (field run tail : List ℕ) → joins s ≡ true → list_all is_plain run ≡ true

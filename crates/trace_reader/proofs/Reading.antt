@@ -13,10 +13,7 @@ abbrev EndsClean : State × Action → Type 0
 EndsClean r = is_end r.1 ≡ true → unended r.0 ≡ 0
 
 in_field-clean : (a b d : Bool) → EndsClean (if a then (st.StartField, act.EndField) else if b then (if d then st.AfterCr else st.StartRecord, act.EndRecord) else (st.InField, act.Copy))
-in_field-clean true b d h = cc h
-in_field-clean false true true h = refl
-in_field-clean false true false h = refl
-in_field-clean false false d h = cc h
+in_field-clean x0 b d h = grind arith
 
 skip-clean : (q : Bool) (s : State) (r : State × Action) → EndsClean r → EndsClean (if q then (s, act.Skip) else r)
 skip-clean true s r clean h = cc h
@@ -59,8 +56,7 @@ pub unended-le : (s : State) → unended s ≤ 1
 unended-le s = le-one (ends_at_end s)
   where
     le-one : (b : Bool) → (if b then 1 else 0) ≤ 1
-    le-one true = omega arith
-    le-one false = omega arith
+    le-one b = grind arith
 
 -- each record takes a byte, or the end of the text
 pub shorter : (s : State) (fields : List (List ℕ)) (field text : List ℕ) (p : Read) → next_record default_config s fields field text ≡ Some p

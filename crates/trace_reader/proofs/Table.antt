@@ -19,8 +19,7 @@ unfolding value_of
 value_of_digit c = go (hex_digit_value c)
   where
     go : (found : Option ℕ) → unwrap_or (result_ok (digit_or_error c 1 found >>= (λ l. Ok (0 * 16 + l)))) 255 ≡ or_none found
-    go (Some v) = omega arith
-    go None = refl
+    go found = grind arith
 
 -- a byte in front of bytes
 abbrev byte_before : ℕ → Option (List ℕ) → Option (List ℕ)
@@ -31,21 +30,17 @@ pair-read : (high low i : ℕ) (a b : Option ℕ) (rest : Result (List ℕ) From
     → ((v : ℕ) → a ≡ Some v → v < 16) → ((v : ℕ) → b ≡ Some v → v < 16) → or_none a < 16 → or_none b < 16
     → result_ok ((digit_or_error high i a >>= (λ h. digit_or_error low (i + 1) b >>= (λ l. Ok (h * 16 + l)))) >>= (λ byte. rest >>= (λ bytes. Ok (byte ∷ bytes))))
     ≡ byte_before (or_none a * 16 + or_none b) (result_ok rest)
-pair-read high low i None b rest f g p q = absurd (omega arith)
-pair-read high low i (Some v) None rest f g p q = absurd (omega arith)
-pair-read high low i (Some v) (Some w) (Ok bytes) f g p q = refl
-pair-read high low i (Some v) (Some w) (Err e) f g p q = refl
+pair-read high low i a b rest f g p q = grind arith
 
 pair-bad : (high low i : ℕ) (a b : Option ℕ) (rest : Result (List ℕ) FromHexError)
     → ((v : ℕ) → a ≡ Some v → v < 16) → ((v : ℕ) → b ≡ Some v → v < 16) → 16 ≤ max (or_none a) (or_none b)
     → result_ok ((digit_or_error high i a >>= (λ h. digit_or_error low (i + 1) b >>= (λ l. Ok (h * 16 + l)))) >>= (λ byte. rest >>= (λ bytes. Ok (byte ∷ bytes))))
     ≡ None
-pair-bad high low i None b rest f g p = refl
-pair-bad high low i (Some v) None rest f g p = refl
 pair-bad high low i (Some v) (Some w) rest f g p =
     let small : v < 16 = f v refl in
     let less : w < 16 = g w refl in
     absurd (omega arith)
+pair-bad high low i _ _ rest f g p = refl
 
 abbrev pub read_from : ℕ → List ℕ → Option (List ℕ)
 read_from i text = result_ok (decode_pairs i text)
@@ -147,9 +142,7 @@ bytes_of-other n text other =
   where
     go : (odd same : Bool) → same ≡ false
         → result_ok (if odd then (Err OddLength) else (if same then decode_pairs 0 text else (Err InvalidStringLength))) ≡ None
-    go true same e = refl
-    go false false e = refl
-    go false true e = cc
+    go odd same e = grind arith
 
 -- all pairs were read
 sized_text : (n : ℕ) (text : List ℕ) → length text ≡ 2 * n → bytes_of n text ≡ read_from 0 text

@@ -8,8 +8,7 @@ use Rattle.trace_reader.specs.declared.fault.Kind.TheVariants as kind
 use Rattle.trace_reader.specs.declared.fault.ParseFault.TheVariants as fault
 
 pub after_events-nil : {n : ℕ} (r : Result (List (Event n)) ParseFault) → r ≡ after_events [] r
-after_events-nil (Ok behind) = refl
-after_events-nil (Err fault) = refl
+after_events-nil r = grind arith
 
 -- where no events are in front
 pub after_none : (n : ℕ) (events : List (Event n)) (r : Result (List (Event n)) ParseFault) → events ≡ [] → r ≡ after_events events r

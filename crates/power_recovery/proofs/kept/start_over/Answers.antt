@@ -1,4 +1,4 @@
-use Rattle.std.proofs.Common.{◌≡◌, ℕ, ◌<◌, length, get_or, arith, ◌∙◌}
+use Rattle.std.proofs.Common.{length, arith, ◌∙◌}
 use Rattle.region_regs.specs.Region.{first_region}
 use Rattle.power_recovery.proofs.Restoring.{first-set, all-first}
 use Rattle.power_recovery.proofs.kept.start_over.Goals as goal
