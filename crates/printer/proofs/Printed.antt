@@ -1,7 +1,7 @@
 -- How printed pieces follow one another.
-use Rattle.std.proofs.Common.{◌≡◌, inl, inr, arith, Bool, true, false, ℕ, ◌+◌, ◌<◌, ◌≤◌, List, [], ◌∷◌, ◌++◌, length, get_or, take, Option, refl, sym, ap, subst, ◌∙◌, append_assoc}
+use Rattle.std.proofs.Common.{◌≡◌, inl, inr, arith, Bool, true, false, ℕ, ◌+◌, ◌<◌, ◌≤◌, List, [], ◌∷◌, ◌++◌, length, get_or, take, drop, Option, refl, sym, ap, subst, ◌∙◌, append_assoc, true≢false}
 use Rattle.std.{specs.Io.KnownBytes.Appends, specs.List.flat_map, specs.Prelude.Err, proofs.lemmas.Bool.cases_Bool, proofs.lemmas.Grind.flat_map-append}
-use Rattle.std.proofs.lemmas.List.{append-nil, take_all, take_more}
+use Rattle.std.proofs.lemmas.List.{append-nil, take_all, take_more, take-append-drop}
 use Rattle.pcm_io.specs.{Faults.Rose, Giving.AppendsPrefix, Reserved.{appended, reserved}}
 use Rattle.pcm_io.proofs.ByteLemmas.{Appends-Appends, Appends-AppendsPrefix, AppendsPrefix-longer}
 use Rattle.printer.specs.{Printing.{Ends, Holds, Prints, Sends}, declared.printer.Printer.Printer}
@@ -37,30 +37,46 @@ module _ {K : Type 0} (written : K → Option (List ℕ)) (faults : K → ℕ) w
     out = ap (λ o. o.ghost_name) out;
     limit = ap (λ t. t.limit) put;
     more = λ before since whole had. record {
-      gone = had.gone;
-      is = ap (λ t. had.gone ++ t.bytes) put ∙ sym (append_assoc had.gone b.text.now.bytes piece) ∙ ap (λ x. x ++ piece) had.is;
-      sent = λ none. rw out (had.sent (sym failed ∙ none));
-      part = rw out had.part;
+      sent = λ none.
+          let h = had.sent (sym failed ∙ none) in
+          (h.0, rw out h.1, ap (λ t. h.0 ++ t.bytes) put ∙ sym (append_assoc h.0 b.text.now.bytes piece) ∙ ap (λ x. x ++ piece) h.2);
+      part = λ some. AppendsPrefix-longer before (written c.out.now) whole piece (rw out (had.part (sym failed ∙ some)));
       fault = λ some. rw out (had.fault (sym failed ∙ some));
       never_falls = rw out had.never_falls;
     };
   })
+
+  -- after a fault whatever would still come
+  pub prints-stopped : (a b : Printer K) (p q : List ℕ) → b.failed ≡ true → Prints written faults a b p → Prints written faults a b (p ++ q)
+  prints-stopped a b p q failed had = record {
+    text = had.text;
+    out = had.out;
+    limit = had.limit;
+    more = λ before since whole h.
+        let now = had.more before since whole h in
+        subst (λ x. Holds written faults before since b x) (append_assoc whole p q) (record {
+          sent = λ none. absurd (true≢false (sym failed ∙ none));
+          part = λ some. AppendsPrefix-longer before (written b.out.now) (whole ++ p) q (now.part some);
+          fault = now.fault;
+          never_falls = now.never_falls;
+        });
+  }
 
   -- what a sink has once the text went to it: all that was printed, or first bytes of it
   module _ (before : Option (List ℕ)) (since : ℕ) (a : Printer K) (whole : List ℕ) (had : Holds written faults before since a whole) (fails : Bool) (out : K)
       (sends : Sends written faults a.failed a.out.now a.text.now.bytes fails out) where
     pub all-sent : fails ≡ false → Appends before (written out) whole
     all-sent none =
-        subst (λ x. Appends before (written out) x) had.is
-        (Appends-Appends before (written a.out.now) (written out) had.gone a.text.now.bytes (had.sent (sends.first none)) (sends.sent none))
+        let h = had.sent (sends.first none) in
+        subst (λ x. Appends before (written out) x) h.2 (Appends-Appends before (written a.out.now) (written out) h.0 a.text.now.bytes h.1 (sends.sent none))
 
     pub part-sent : AppendsPrefix before (written out) whole
-    part-sent =
-        subst (λ x. AppendsPrefix before (written out) x) had.is
-        (elim (cases_Bool a.failed) [
-          | inl some ↦ rw (sends.kept some) (AppendsPrefix-longer before (written a.out.now) had.gone a.text.now.bytes had.part)
-          | inr none ↦ Appends-AppendsPrefix before (written a.out.now) (written out) had.gone a.text.now.bytes (had.sent none) (sends.part none)
-        ])
+    part-sent = elim (cases_Bool a.failed) as (λ _. AppendsPrefix before (written out) whole) [
+      | inl some ↦ rw (sends.kept some) (had.part some)
+      | inr none ↦
+          let h = had.sent none in
+          subst (λ x. AppendsPrefix before (written out) x) h.2 (Appends-AppendsPrefix before (written a.out.now) (written out) h.0 a.text.now.bytes h.1 (sends.part none))
+    ]
 
     pub fault-sent : fails ≡ true → Rose since (faults out)
     fault-sent fault = elim (cases_Bool a.failed) [
@@ -78,10 +94,8 @@ module _ {K : Type 0} (written : K → Option (List ℕ)) (faults : K → ℕ) w
     out = out;
     limit = ap (λ t. t.limit) empty;
     more = λ before since whole had. record {
-      gone = whole;
-      is = ap (λ t. whole ++ t.bytes) empty;
-      sent = all-sent before since a whole had b.failed b.out.now sends;
-      part = part-sent before since a whole had b.failed b.out.now sends;
+      sent = λ none. (whole, all-sent before since a whole had b.failed b.out.now sends none, ap (λ t. whole ++ t.bytes) empty);
+      part = λ some. AppendsPrefix-longer before (written b.out.now) whole [] (part-sent before since a whole had b.failed b.out.now sends);
       fault = fault-sent before since a whole had b.failed b.out.now sends;
       never_falls = falls-sent before since a whole had b.failed b.out.now sends;
     };
@@ -110,3 +124,9 @@ module _ {K : Type 0} (written : K → Option (List ℕ)) (faults : K → ℕ) w
 
     pub prints-all : (a b : Printer K) (i : ℕ) → length xs ≤ i → Prints written faults a b (flat_map f (take i xs)) → Prints written faults a b (flat_map f xs)
     prints-all a b i all had = prints-same a b (flat_map f (take i xs)) (flat_map f xs) (ap (flat_map f) (take_all i xs all)) had
+
+    -- after a fault all of them
+    pub prints-rest : (a b : Printer K) (i : ℕ) → b.failed ≡ true → Prints written faults a b (flat_map f (take i xs)) → Prints written faults a b (flat_map f xs)
+    prints-rest a b i failed had =
+        prints-same a b _ (flat_map f xs) (sym (flat_map-append f (take i xs) (drop i xs)) ∙ ap (flat_map f) (take-append-drop i xs))
+        (prints-stopped a b (flat_map f (take i xs)) (flat_map f (drop i xs)) failed had)

@@ -4,13 +4,11 @@ use Rattle.pcm_io.specs.{Faults.Rose, Giving.AppendsPrefix}
 use Rattle.printer.specs.declared.printer.Printer.{Printer}
 
 module _ {K : Type 0} (written : K → Option (List ℕ)) (faults : K → ℕ) where
-  -- since a sink had these bytes and so many faults, these bytes are printed: what went to it, and behind it what the text still holds. The
-  -- sink has all that went to it where no write failed, and first bytes of it in any case.
+  -- since a sink had these bytes and so many faults, these bytes are printed: what went to it, and behind it what the text still holds; after a
+  -- fault the sink has first bytes of them
   pub record Holds (before : Option (List ℕ)) (since : ℕ) (printer : Printer K) (whole : List ℕ) : Type 0 where
-    pub gone : List ℕ
-    pub is : gone ++ printer.text.now.bytes ≡ whole
-    pub sent : printer.failed ≡ false → Appends before (written printer.out.now) gone
-    pub part : AppendsPrefix before (written printer.out.now) gone
+    pub sent : printer.failed ≡ false → (gone : List ℕ) × Appends before (written printer.out.now) gone × (gone ++ printer.text.now.bytes ≡ whole)
+    pub part : printer.failed ≡ true → AppendsPrefix before (written printer.out.now) whole
     pub fault : printer.failed ≡ true → Rose since (faults printer.out.now)
     pub never_falls : since ≤ faults printer.out.now
 

@@ -1,5 +1,5 @@
 // A text and the sink that it goes to.
-ghost use Rattle.std.specs.Prelude.{◌≡◌, ◌≤◌, []};
+ghost use Rattle.std.specs.Prelude.{◌≡◌, ◌≤◌, [], length};
 ghost use Rattle.pcm_io.specs.Reserved.{reserved, room_in};
 ghost use Rattle.printer.specs.Printing.{Ends, Holds, Prints, Sends};
 
@@ -55,6 +55,16 @@ impl<'t, 'o, K: Sink> Printer<'t, 'o, K> {
         if self.text.room() < ROW_ROOM {
             self.flush();
         }
+    }
+
+    /// Adds these bytes.
+    pub fn push(&mut self, bytes: &[u8])
+        requires limit { ROW_ROOM ≤ self.old.text.now.limit }
+        requires short { length bytes.now ≤ ROW_ROOM }
+        ensures { Prints K.written K.faults self.old self.new bytes.now }
+    {
+        self.make_room();
+        self.text.push(bytes);
     }
 
     /// Writes what is left in the text, at the end, and tells whether all that was printed is written.
