@@ -1,5 +1,5 @@
 -- An array that is sensed line by line.
-use Rattle.std.proofs.Common.{◌≡◌, ◌≢◌, ℕ, ◌+◌, ◌≤◌, inl, inr, arith, Bool, cond, List, Option, take, ◌∷◌, [], ◌++◌, refl, sym, ap, subst, ◌∙◌, append_assoc}
+use Rattle.std.proofs.Common.{◌≡◌, ◌≢◌, ℕ, ◌+◌, inl, inr, arith, Bool, cond, Option, ◌∷◌, [], ◌++◌, refl, sym, ap, subst, ◌∙◌, append_assoc}
 use Rattle.std.{specs.Prelude.nat_lt, proofs.lemmas.Bool.{cases_eq, cases_lt, le-ltb, lt-ltb}, proofs.lemmas.List.append-nil, proofs.lemmas.List.FromFn.map-range_with_len_more}
 use Rattle.cell_rows.specs.{Device.{ArrayState, Senses, sense_of}, Energy.with_sense, declared.array.LineEnergy.LineEnergy, declared.array.Sense.Sense, declared.row.Cells.Cells}
 use Rattle.pcm_image.specs.Saved.{IsSavedRow}
