@@ -5,13 +5,15 @@ ghost use Rattle.pcm_io.specs.Faults.{Rose};
 ghost use Rattle.pcm_io.specs.Giving.{AppendsPrefix};
 ghost use Rattle.pcm_io.specs.Reserved.{appended, reserved, room_in};
 ghost use Rattle.std.specs.Prelude.{decimal};
-ghost use Rattle.energy_report.specs.EnergyText.{all_row, energy_report, energy_row};
+ghost use Rattle.printer.specs.Printing.{Prints};
+ghost use Rattle.energy_report.specs.EnergyText.{all_row, bank_rows, energy_report, energy_row};
 
 use crate::fields::push_energy;
 use crate::sums::sum_energy;
 use cell_rows::{LineEnergy, TellsCells};
 use pcm_io::{Sink, Text, WriteFault};
-use run_text::{TEXT_ROOM, make_room, print_rest};
+use printer::Printer;
+use run_text::{ROW_ROOM, TEXT_ROOM};
 
 #[tactic(auto, using(pcm_io::proofs::DigitLemmas::ten_digits))]
 fn push_bank(bank: u32, energy: Option<LineEnergy>, text: &mut Text)
@@ -32,6 +34,42 @@ fn push_all(energy: Option<LineEnergy>, text: &mut Text)
     text.push(b"\n");
 }
 
+// Adds the row of a bank.
+fn print_bank<K: Sink>(bank: u32, energy: Option<LineEnergy>, printer: &mut Printer<K>)
+    requires { ROW_ROOM ≤ printer.old.text.now.limit }
+    ensures { Prints K.written K.faults printer.old printer.new (energy_row (decimal bank) energy) }
+{
+    printer.make_room();
+    push_bank(bank, energy, printer.text);
+}
+
+// Adds the row of all lines.
+fn print_all<K: Sink>(energy: Option<LineEnergy>, printer: &mut Printer<K>)
+    requires { ROW_ROOM ≤ printer.old.text.now.limit }
+    ensures { Prints K.written K.faults printer.old printer.new (all_row energy) }
+{
+    printer.make_room();
+    push_all(energy, printer.text);
+}
+
+// Adds the rows of the banks.
+fn print_banks<A: TellsCells<B, M>, const B: usize, const M: usize, K: Sink>(
+    array: &A,
+    banks: u32,
+    lines: u32,
+    printer: &mut Printer<K>,
+)
+    requires limit { ROW_ROOM ≤ printer.old.text.now.limit }
+    requires size { (A.state array.now).lines ≡ banks * lines }
+    requires fit { banks * lines ≤ 4294967295 }
+    ensures { Prints K.written K.faults printer.old printer.new
+        (bank_rows (A.state array.now).energy lines banks) }
+{
+    for bank in 0..banks {
+        print_bank(bank, sum_energy(array, bank * lines, lines), printer);
+    }
+}
+
 /// Writes a row for each of an array's banks, which have so many lines each, and one for all lines.
 pub fn print_energy_report<A: TellsCells<B, M>, const B: usize, const M: usize, K: Sink>(
     array: &A,
@@ -50,13 +88,9 @@ pub fn print_energy_report<A: TellsCells<B, M>, const B: usize, const M: usize, 
     ensures never_falls { K.faults out.old ≤ K.faults out.new }
 {
     let all = array.lines();
-    text.push(b"bank,senses,set,reset\n");
-    for bank in 0..banks {
-        let energy = sum_energy(array, bank * lines, lines);
-        make_room(text, out)?;
-        push_bank(bank, energy, text);
-    }
-    make_room(text, out)?;
-    push_all(sum_energy(array, 0, all), text);
-    print_rest(text, out)
+    let mut printer = Printer::new(text, out);
+    printer.push(b"bank,senses,set,reset\n");
+    print_banks(array, banks, lines, &mut printer);
+    print_all(sum_energy(array, 0, all), &mut printer);
+    printer.finish()
 }

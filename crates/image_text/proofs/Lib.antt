@@ -1,3 +1,3 @@
-pub mod Prints
+mod Cells
 pub mod Sensing
 pub mod Whole

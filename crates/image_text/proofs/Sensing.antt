@@ -1,12 +1,10 @@
 -- An array that is sensed line by line.
-use Rattle.std.proofs.Common.{◌≡◌, ◌≢◌, ℕ, ◌+◌, ◌≤◌, inl, inr, arith, Bool, cond, List, Option, take, ◌∷◌, [], ◌++◌, refl, sym, ap, subst, ◌∙◌, append_assoc}
-use Rattle.std.{specs.List.flat_map, specs.Prelude.nat_lt, proofs.lemmas.Bool.{cases_eq, cases_lt, le-ltb, lt-ltb}, proofs.lemmas.List.append-nil}
-use Rattle.std.proofs.lemmas.List.FromFn.{map-range_with_len_more, take-map-range_with_len}
-use Rattle.pcm_io.specs.Reserved.{Reserved}
+use Rattle.std.proofs.Common.{◌≡◌, ◌≢◌, ℕ, ◌+◌, inl, inr, arith, Bool, cond, Option, ◌∷◌, [], ◌++◌, refl, sym, ap, subst, ◌∙◌, append_assoc}
+use Rattle.std.{specs.Prelude.nat_lt, proofs.lemmas.Bool.{cases_eq, cases_lt, le-ltb, lt-ltb}, proofs.lemmas.List.append-nil, proofs.lemmas.List.FromFn.map-range_with_len_more}
 use Rattle.cell_rows.specs.{Device.{ArrayState, Senses, sense_of}, Energy.with_sense, declared.array.LineEnergy.LineEnergy, declared.array.Sense.Sense, declared.row.Cells.Cells}
-use Rattle.pcm_image.specs.{Saved.IsSavedRow, Spelling.cells_bytes}
-use Rattle.right_images.specs.{SavesRun.AreRowsTo, Saving.saved_cells, SensedSince.{SensedSince, first_senses}}
-use Rattle.image_text.{specs.Printing.PrintsPart, specs.Sensing.{PrintsRows, SensesRows, SensesSome}, proofs.Prints.{part-all, part-same}}
+use Rattle.pcm_image.specs.Saved.{IsSavedRow}
+use Rattle.right_images.specs.SensedSince.{SensedSince, first_senses}
+use Rattle.image_text.specs.Sensing.{SensesRows}
 
 -- what is told of a line's energy where it was sensed, or was not
 abbrev counted : Bool → Option LineEnergy → Option LineEnergy
@@ -75,31 +73,3 @@ senses-more {n} {m} first old new count row is fits had senses = record {
         | inr other ↦ had.rows line (omega arith)
       ]);
 }
-
--- the rows of lines that were sensed were such before
-pub rows-before : {n m : ℕ} (count : ℕ) (first last : ArrayState n m) → SensesRows count first last → AreRowsTo count first
-rows-before {n} {m} count first last senses = λ line lt. subst (λ l. IsSavedRow n m l.held) (senses.since.line line) (senses.rows line lt)
-
--- and rows that were such before are such after a few lines were sensed
-pub rows-after : {n m : ℕ} (most count : ℕ) (first last : ArrayState n m) → SensesSome most first last → AreRowsTo count first → AreRowsTo count last
-rows-after {n} {m} most count first last senses had = λ line lt. subst (λ l. IsSavedRow n m l.held) (sym (senses.2.since.line line)) (had line lt)
-
--- the cells of the first lines are the first of those of all
-cells-to : {n m : ℕ} (array : ArrayState n m) (count : ℕ) → count ≤ array.lines → take count (saved_cells array array.lines) ≡ saved_cells array count
-cells-to array count le = take-map-range_with_len (λ line. (array.line line).held) 0 array.lines count le
-
--- what was printed of the lines up to one that was sensed
-pub prints-rows : {n m : ℕ} (first last : ArrayState n m) (count : ℕ) (a : Reserved) (u w : Option (List ℕ)) → count ≤ first.lines → SensesRows count first last
-    → PrintsPart a u w (flat_map cells_bytes (take count (saved_cells first first.lines))) → PrintsRows first a u w
-prints-rows first last count a u w exist senses part = record {
-  count = count;
-  exist = exist;
-  rows = rows-before count first last senses;
-  part = part-same a u w _ _ (ap (λ cells. flat_map cells_bytes cells) (cells-to first count exist)) part;
-}
-
--- so first bytes of all lines were printed
-pub rows-part : {n m : ℕ} (array : ArrayState n m) (a : Reserved) (u w : Option (List ℕ)) → PrintsRows array a u w → PrintsPart a u w (flat_map cells_bytes (saved_cells array array.lines))
-rows-part array a u w prints =
-    part-all cells_bytes (saved_cells array array.lines) a u w prints.count
-    (part-same a u w _ _ (ap (λ cells. flat_map cells_bytes cells) (sym (cells-to array prints.count prints.exist))) prints.part)

@@ -1,10 +1,9 @@
--- What the printing of an image does to an array, and how much of it is printed where that fails.
-use Rattle.std.specs.{List.flat_map, Prelude.{ℕ, ◌≤◌, List, Option}}
-use Rattle.pcm_io.specs.Reserved.{Reserved}
+-- What the printing of an image does to an array, and how much of the array is printed.
+use Rattle.std.specs.{List.flat_map, Prelude.{◌≡◌, ℕ, ◌≤◌, List, Option, false}}
 use Rattle.cell_rows.specs.Device.{ArrayState}
 use Rattle.pcm_image.specs.Spelling.{cells_bytes}
 use Rattle.right_images.specs.{SavesRun.AreRowsTo, Saving.saved_cells, SensedSince.SensedSince}
-use Rattle.image_text.specs.Printing.{PrintsPart}
+use Rattle.printer.specs.{Printing.Prints, declared.printer.Printer.Printer}
 
 -- the first lines of an array were sensed, so many, each once and in their order, and each has the bytes of a line
 pub record SensesRows {n m : ℕ} (count : ℕ) (before after : ArrayState n m) : Type 0 where
@@ -15,9 +14,10 @@ pub record SensesRows {n m : ℕ} (count : ℕ) (before after : ArrayState n m) 
 abbrev pub SensesSome : {n m : ℕ} → ℕ → ArrayState n m → ArrayState n m → Type 0
 SensesSome most before after = (count : ℕ) × (count ≤ most) × SensesRows count before after
 
--- first bytes were printed of the cells of some of an array's first lines, each of which has the bytes of a line
-pub record PrintsRows {n m : ℕ} (array : ArrayState n m) (old : Reserved) (was now : Option (List ℕ)) : Type 0 where
+-- the cells of some of an array's first lines are printed, which were sensed for it; of all lines, where there was no fault
+pub record PrintsRows {K : Type 0} (written : K → Option (List ℕ)) (faults : K → ℕ) {n m : ℕ} (before after : ArrayState n m) (old new : Printer K) : Type 0 where
   pub count : ℕ
-  pub exist : count ≤ array.lines
-  pub rows : AreRowsTo count array
-  pub part : PrintsPart old was now (flat_map cells_bytes (saved_cells array count))
+  pub exist : count ≤ before.lines
+  pub senses : SensesRows count before after
+  pub prints : Prints written faults old new (flat_map cells_bytes (saved_cells before count))
+  pub all : new.failed ≡ false → count ≡ before.lines

@@ -1,4 +1,2 @@
 mod Rows
 mod Whole
-mod Clocks
-mod Images

@@ -1,14 +1,14 @@
 -- The array lines of a large module, as they are printed one after the other.
-use Rattle.std.proofs.Common.{◌≡◌, ℕ, ◌+◌, ◌≤◌, inl, inr, arith, true, false, cond, List, Option, drop, ◌∷◌, [], ◌++◌, length, sym, ap, ◌∙◌, append_assoc}
-use Rattle.std.{specs.Prelude.{Result, Ok, Err, OnOk}, proofs.lemmas.Bool.{cases_lt, le-leb, lt-leb}, proofs.lemmas.List.{append-nil, take-append-drop}}
+use Rattle.std.proofs.Common.{◌≡◌, ℕ, ◌+◌, ◌<◌, ◌≤◌, inl, inr, arith, true, false, cond, List, Option, drop, ◌∷◌, [], ◌++◌, length, sym, ap, ◌∙◌, append_assoc}
+use Rattle.std.proofs.{lemmas.Bool.{cases_lt, le-leb, lt-leb, true≢false}, lemmas.List.{append-nil, take-append-drop}}
 use Rattle.std.proofs.lemmas.List.FromFn.{length-map-range_with_len, map-range_with_len_more, take-map-range_with_len}
-use Rattle.pcm_io.specs.Reserved.{Reserved}
 use Rattle.cell_rows.specs.{Device.{ArrayState, LineState}, declared.row.Cells.Cells}
 use Rattle.pcm_image.specs.Spelling.{cells_bytes, u32}
 use Rattle.large_image.specs.Spelling.{are_zero, end_mark, row_bytes, rows_bytes}
 use Rattle.right_images.specs.Saving.{saved_cells}
-use Rattle.image_text.{specs.Printing.PrintsPart, specs.Sensing.SensesRows, proofs.Prints.{part-first, part-same}, proofs.Sensing.rows-before}
-use Rattle.large_prints.specs.Rows.{PrintsLargeRows, mark_behind}
+use Rattle.image_text.specs.Sensing.{SensesRows}
+use Rattle.large_prints.specs.Rows.{mark_behind, PrintsLargeRows}
+use Rattle.printer.{specs.Printing.Prints, specs.declared.printer.Printer.Printer, proofs.Printed.{prints-same, prints-then}}
 
 -- some lines, and those behind them
 rows-append : {n m : ℕ} (line : ℕ) (xs ys : List (Cells n m)) → rows_bytes line (xs ++ ys) ≡ rows_bytes line xs ++ rows_bytes (line + length xs) ys
@@ -58,45 +58,45 @@ row-zero line row is = ap (λ b. cond b [] (u32 line ++ cells_bytes row)) (sym i
 pub row-some : {n m : ℕ} (line : ℕ) (row : Cells n m) → are_zero (cells_bytes row) ≡ false → u32 line ++ cells_bytes row ≡ row_bytes line row
 row-some line row is = ap (λ b. cond b [] (u32 line ++ cells_bytes row)) (sym is)
 
--- a fact that holds anyway holds of an answer
-pub on_ok_any : {T E : Type 0} (r : Result T E) (P : Type 0) → P → OnOk r P
-on_ok_any (Ok x) P h = h
-on_ok_any (Err e) P h = tt
-
--- what was printed of the lines up to one that was sensed
-pub prints-rows : {n m : ℕ} (first last : ArrayState n m) (count : ℕ) (a : Reserved) (u w : Option (List ℕ)) → count ≤ first.lines → SensesRows count first last
-    → PrintsPart a u w (rows_bytes 0 (saved_cells first count)) → PrintsLargeRows first a u w
-prints-rows first last count a u w exist senses part = record {
-  count = count;
-  exist = exist;
-  rows = rows-before count first last senses;
-  part = part-first a u w (rows_bytes 0 (saved_cells first count)) (mark_behind first.lines count) part;
-}
-
--- and of all lines and the end mark
-pub prints-mark : {n m : ℕ} (first last : ArrayState n m) (a : Reserved) (u w : Option (List ℕ)) → SensesRows first.lines first last
-    → PrintsPart a u w (rows_bytes 0 (saved_cells first first.lines) ++ u32 end_mark) → PrintsLargeRows first a u w
-prints-mark first last a u w senses part = record {
-  count = first.lines;
-  exist = omega arith;
-  rows = rows-before first.lines first last senses;
-  part = part-same a u w _ _ (ap (λ t. rows_bytes 0 (saved_cells first first.lines) ++ t) (mark-behind-all first.lines)) part;
-}
-
--- so first bytes of all lines and the end mark were printed
-pub rows-part : {n m : ℕ} (array : ArrayState n m) (a : Reserved) (u w : Option (List ℕ)) → PrintsLargeRows array a u w
-    → PrintsPart a u w (rows_bytes 0 (saved_cells array array.lines) ++ u32 end_mark)
-rows-part array a u w prints =
-    let bytes = rows_bytes 0 (saved_cells array prints.count) in
+-- what is printed of the first lines is first bytes of what is printed of all lines and the end mark
+pub lines-rest : {n m : ℕ} (array : ArrayState n m) (count : ℕ) → count ≤ array.lines
+    → (rest : List ℕ) × ((rows_bytes 0 (saved_cells array count) ++ mark_behind array.lines count) ++ rest ≡ rows_bytes 0 (saved_cells array array.lines) ++ u32 end_mark)
+lines-rest array count exist =
+    let bytes = rows_bytes 0 (saved_cells array count) in
     let all = rows_bytes 0 (saved_cells array array.lines) in
-    elim (cases_lt prints.count array.lines) as (λ _. PrintsPart a u w (all ++ u32 end_mark)) [
+    elim (cases_lt count array.lines) as (λ _. (rest : List ℕ) × ((bytes ++ mark_behind array.lines count) ++ rest ≡ all ++ u32 end_mark)) [
       | inl fewer ↦
-          let none : bytes ++ mark_behind array.lines prints.count ≡ bytes = ap (λ b. bytes ++ cond b (u32 end_mark) []) (lt-leb array.lines prints.count fewer) ∙ append-nil bytes in
-          let rest = rows-rest array prints.count prints.exist in
-          part-first a u w all (u32 end_mark)
-          (part-same a u w (bytes ++ rest.0) all rest.1 (part-first a u w bytes rest.0 (part-same a u w _ bytes none prints.part)))
+          let none : bytes ++ mark_behind array.lines count ≡ bytes = ap (λ b. bytes ++ cond b (u32 end_mark) []) (lt-leb array.lines count fewer) ∙ append-nil bytes in
+          let rest = rows-rest array count exist in
+          (rest.0 ++ u32 end_mark, ap (λ t. t ++ (rest.0 ++ u32 end_mark)) none ∙ sym (append_assoc bytes rest.0 (u32 end_mark)) ∙ ap (λ t. t ++ u32 end_mark) rest.1)
       | inr more ↦
-          let whole : prints.count ≡ array.lines = omega (arith, more, prints.exist) in
-          part-same a u w _ _
-          (ap (λ k. rows_bytes 0 (saved_cells array k) ++ mark_behind array.lines k) whole ∙ ap (λ t. all ++ t) (sym (mark-behind-all array.lines))) prints.part
+          let whole : count ≡ array.lines = omega (arith, more, exist) in (
+            [],
+            append-nil (bytes ++ mark_behind array.lines count)
+                ∙ ap (λ k. rows_bytes 0 (saved_cells array k) ++ mark_behind array.lines k) whole ∙ ap (λ t. all ++ t) (sym (mark-behind-all array.lines)),
+          )
     ]
+
+-- what is printed of the first lines, and behind it nothing, or the end mark where these are all
+module _ {K : Type 0} (written : K → Option (List ℕ)) (faults : K → ℕ) {n m : ℕ} (before after : ArrayState n m) (count : ℕ) (old now : Printer K) (senses : SensesRows count before after)
+    (had : Prints written faults old now (rows_bytes 0 (saved_cells before count))) where
+  -- a fault before the last line
+  pub lines-some : count < before.lines → now.failed ≡ true → PrintsLargeRows written faults before after old now
+  lines-some fewer failed = record {
+    count = count;
+    exist = omega (arith, fewer);
+    senses = senses;
+    prints = prints-same written faults old now _ _
+        (sym (append-nil (rows_bytes 0 (saved_cells before count))) ∙ ap (λ b. rows_bytes 0 (saved_cells before count) ++ cond b (u32 end_mark) []) (sym (lt-leb before.lines count fewer))) had;
+    all = λ none. absurd (true≢false (sym failed ∙ none));
+  }
+
+  -- and all of them
+  pub lines-all : (new : Printer K) → count ≡ before.lines → Prints written faults now new (u32 end_mark) → PrintsLargeRows written faults before after old new
+  lines-all new all mark = record {
+    count = count;
+    exist = omega (arith, all);
+    senses = senses;
+    prints = prints-then written faults old now new _ _ had (prints-same written faults now new _ _ (mark-behind-all before.lines ∙ ap (λ k. mark_behind before.lines k) (sym all)) mark);
+    all = λ none. all;
+  }

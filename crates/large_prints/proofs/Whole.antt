@@ -1,5 +1,5 @@
 -- The pieces of the image of a large module are the image.
-use Rattle.std.proofs.Common.{◌≡◌, ℕ, ◌≤◌, Bool, List, ◌++◌, length, sym, ap, ◌∙◌, append_assoc, arith}
+use Rattle.std.proofs.Common.{◌≡◌, ℕ, ◌≤◌, Bool, List, [], ◌++◌, Option, length, sym, ap, subst, ◌∙◌, append_assoc, arith}
 use Rattle.std.{specs.List.flat_map, specs.Prelude.{if◌then◌else◌, map}, proofs.lemmas.List.length-map}
 use Rattle.std.proofs.lemmas.List.FromFn.{length-map-range_with_len, take-map-range_with_len}
 use Rattle.cell_rows.specs.Device.{ArrayState}
@@ -9,10 +9,12 @@ use Rattle.module_shape.specs.declared.raw.RawShape.{RawShape}
 use Rattle.pcm_image.specs.Spelling.{entry_bytes, u8, u16, u32}
 use Rattle.large_image.specs.Spelling.{bank_bytes, end_mark, head_bytes, large_bytes, large_front, region_bytes, rows_bytes}
 use Rattle.right_images.specs.Saving.{first_rows, head_of, saved_bank, saved_banks, saved_cells, saved_entry, saved_of, saved_region}
-use Rattle.large_prints.{specs.Rows.{large_to, mark_behind}, proofs.Rows.mark-behind-all}
+use Rattle.large_prints.{specs.Rows.{large_to, mark_behind}, proofs.Rows.{lines-rest, mark-behind-all}}
+use Rattle.printer.{specs.Printing.{Holds, Prints}, specs.declared.printer.Printer.Printer, proofs.Printed.prints-then}
 
 -- the pieces of a bank
-pub whole-bank : {n : ℕ} (kept : KeptState n) (table : Table) (exhausted : Bool) (mark used count : ℕ) → table ≡ kept.table → exhausted ≡ kept.exhausted → mark ≡ (if exhausted then 1 else 0) → used ≡ length table.replaced → count ≡ length kept.entries
+pub whole-bank : {n : ℕ} (kept : KeptState n) (table : Table) (exhausted : Bool) (mark used count : ℕ) → table ≡ kept.table → exhausted ≡ kept.exhausted → mark ≡ (if exhausted then 1 else 0) → used ≡ length table.replaced
+    → count ≡ length kept.entries
     → (u8 mark ++ u16 used) ++ (flat_map u32 table.replaced ++ (flat_map region_bytes (map saved_region kept.regions) ++ (u16 count ++ flat_map entry_bytes (map saved_entry kept.entries))))
     ≡ bank_bytes (saved_bank kept)
 whole-bank kept table exhausted mark used count same worn p q r =
@@ -61,9 +63,29 @@ module _ (n : ℕ) {m : ℕ} (given raw : RawShape) (seed : ℕ) (keeps : ℕ �
       ∙ ap (λ r. front r array.lines ++ u32 end_mark) same
 
   -- an image to the end of all its lines is whole
-  pub all-pieces : given ≡ raw
-      → head_bytes n (head_of given seed) ++ (banks ++ (rows_bytes 0 (saved_cells array array.lines) ++ u32 end_mark))
-      ≡ large_to array.lines (saved_of raw seed keeps array)
-  all-pieces same =
-      ap (λ t. head_bytes n (head_of given seed) ++ (banks ++ (rows_bytes 0 (saved_cells array array.lines) ++ t))) (mark-behind-all array.lines)
-      ∙ to-pieces array.lines (omega arith) same
+  pub image-all : (count : ℕ) → count ≡ array.lines → given ≡ raw → large_to count (saved_of raw seed keeps array) ≡ large_bytes (saved_of raw seed keeps array)
+  image-all count all same =
+      let pieces = head_bytes n (head_of given seed) in
+      rw all (sym (to-pieces array.lines (omega arith) same)
+      ∙ ap (λ t. pieces ++ (banks ++ (rows_bytes 0 (saved_cells array array.lines) ++ t))) (sym (mark-behind-all array.lines)) ∙ head-pieces same)
+
+  -- and one to the end of some of them is first bytes of it
+  pub image-rest : (count : ℕ) → count ≤ array.lines → given ≡ raw
+      → (rest : List ℕ) × (large_to count (saved_of raw seed keeps array) ++ rest ≡ large_bytes (saved_of raw seed keeps array))
+  image-rest count exist same =
+      let head = head_bytes n (head_of given seed) in
+      let lines = rows_bytes 0 (saved_cells array count) ++ mark_behind array.lines count in
+      let rest = lines-rest array count exist in (
+        rest.0,
+        ap (λ x. x ++ rest.0) (sym (to-pieces count exist same)) ∙ append_assoc head (banks ++ lines) rest.0
+            ∙ ap (λ x. head ++ x) (append_assoc banks lines rest.0 ∙ ap (λ x. banks ++ x) rest.1) ∙ head-pieces same,
+      )
+
+  -- what is printed once its pieces are
+  pub image-printed : {K : Type 0} (written : K → Option (List ℕ)) (faults : K → ℕ) (a b c d : Printer K) (was : Option (List ℕ)) (since count : ℕ) → count ≤ array.lines → given ≡ raw
+      → Holds written faults was since a [] → Prints written faults a b (head_bytes n (head_of given seed)) → Prints written faults b c banks
+      → Prints written faults c d (rows_bytes 0 (saved_cells array count) ++ mark_behind array.lines count)
+      → Holds written faults was since d (large_to count (saved_of raw seed keeps array))
+  image-printed written faults a b c d was since count exist same had first second third =
+      subst (λ x. Holds written faults was since d x) (to-pieces count exist same)
+      ((prints-then written faults a b d _ _ first (prints-then written faults b c d _ _ second third)).more was since [] had)

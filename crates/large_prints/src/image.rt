@@ -8,10 +8,10 @@ ghost use Rattle.pcm_io.specs.Reserved.{reserved};
 ghost use Rattle.ecp_line.specs.Layout.{IsLayout};
 ghost use Rattle.large_image.specs.Spelling.{bank_bytes, large_bytes};
 ghost use Rattle.right_images.specs.Saving.{saved_banks, saved_of};
-ghost use Rattle.image_text.specs.Printing.{PrintsMore, PrintsPart};
 ghost use Rattle.image_text.specs.Sensing.{SensesRows, SensesSome};
 ghost use Rattle.module_prints.specs.Images.{kept_in};
 ghost use Rattle.large_prints.specs.Rows.{WritesLargeRows};
+ghost use Rattle.printer.specs.Printing.{Prints};
 
 use crate::bank::print_large_bank;
 use crate::lines::print_large_rows;
@@ -19,30 +19,23 @@ use crate::pieces::print_head;
 use cell_rows::CellArray;
 use pcm_io::{Sink, Text, WriteFault};
 use pcm_module::Module;
-use run_text::{ROW_ROOM, TEXT_ROOM, print_rest};
+use printer::Printer;
+use run_text::{ROW_ROOM, TEXT_ROOM};
 
 // What the banks of a module keep, in order.
 fn print_banks<const B: usize, const M: usize, const E: usize, K: Sink>(
     pcm: &Module<B, M, E>,
-    text: &mut Text,
-    out: &mut K,
-) -> Result<(), WriteFault>
+    printer: &mut Printer<K>,
+)
     requires layout { IsLayout B M E }
-    requires limit { ROW_ROOM ≤ text.old.limit }
+    requires limit { ROW_ROOM ≤ printer.old.text.now.limit }
     requires small { B ≤ 128 }
-    ensures printed { OnOk result (PrintsMore text.old text.new (K.written out.old)
-        (K.written out.new)
-        (flat_map bank_bytes (saved_banks (kept_in pcm.now) pcm.now.shape.banks))) }
-    ensures part { OnErr result (PrintsPart text.old (K.written out.old) (K.written out.new)
-        (flat_map bank_bytes (saved_banks (kept_in pcm.now) pcm.now.shape.banks))) }
-    ensures limit { text.new.limit ≡ text.old.limit }
-    ensures fault { OnErr result (Rose (K.faults out.old) (K.faults out.new)) }
-    ensures never_falls { K.faults out.old ≤ K.faults out.new }
+    ensures { Prints K.written K.faults printer.old printer.new
+        (flat_map bank_bytes (saved_banks (kept_in pcm.now) pcm.now.shape.banks)) }
 {
     for bank in 0..pcm.shape().banks() {
-        print_large_bank(pcm.timed(bank).bank().kept(), text, out)?;
+        print_large_bank(pcm.timed(bank).bank().kept(), printer);
     }
-    Ok(())
 }
 
 /// Writes the image of a module of any sizes with this seed over its array, as that of a large module is spelled. Each array line is
@@ -78,8 +71,9 @@ pub fn print_large_image<
     ensures fault { OnErr result (Rose (K.faults out.old) (K.faults out.new)) }
     ensures never_falls { K.faults out.old ≤ K.faults out.new }
 {
-    print_head(B as u8, pcm.shape(), seed, text, out)?;
-    print_banks(pcm, text, out)?;
-    print_large_rows(array, text, out)?;
-    print_rest(text, out)
+    let mut printer = Printer::new(text, out);
+    print_head(B as u8, pcm.shape(), seed, &mut printer);
+    print_banks(pcm, &mut printer);
+    print_large_rows(array, &mut printer);
+    printer.finish()
 }

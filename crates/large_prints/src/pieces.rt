@@ -1,18 +1,18 @@
 // The pieces of an image that a large module spells otherwise than a small one, each printed behind what was printed before.
-ghost use Rattle.std.specs.Prelude.{◌≡◌, ◌≤◌, OnOk, OnErr};
-ghost use Rattle.pcm_io.specs.Faults.{Rose};
+ghost use Rattle.std.specs.Prelude.{◌≡◌, ◌≤◌};
 ghost use Rattle.pcm_io.specs.Reserved.{appended, room_in};
 ghost use Rattle.pcm_image.specs.Spelling.{u32};
 ghost use Rattle.large_image.specs.Spelling.{head_bytes, region_bytes};
 ghost use Rattle.large_image.specs.Views.{region_view};
 ghost use Rattle.right_images.specs.Saving.{head_of};
-ghost use Rattle.image_text.specs.Printing.{PrintsMore, PrintsPart};
+ghost use Rattle.printer.specs.Printing.{Prints};
 
 use image_text::pieces::number_of_home;
 use large_image::{LargeHead, LargeRegion, write_head, write_line, write_region};
 use module_shape::Shape;
-use pcm_io::{Sink, Text, WriteFault};
-use run_text::{ROW_ROOM, make_room};
+use pcm_io::{Sink, Text};
+use printer::Printer;
+use run_text::ROW_ROOM;
 
 // The numbers of a module of these sizes, with lines of so many bytes, put at the end of a text.
 fn push_head(size: u8, shape: &Shape, seed: u64, text: &mut Text)
@@ -32,59 +32,30 @@ fn push_head(size: u8, shape: &Shape, seed: u64, text: &mut Text)
 }
 
 /// Writes the numbers of a module of these sizes, with lines of so many bytes.
-pub(crate) fn print_head<K: Sink>(
-    size: u8,
-    shape: &Shape,
-    seed: u64,
-    text: &mut Text,
-    out: &mut K,
-) -> Result<(), WriteFault>
-    requires { ROW_ROOM ≤ text.old.limit }
-    ensures printed { OnOk result (PrintsMore text.old text.new (K.written out.old)
-        (K.written out.new) (head_bytes size (head_of shape.now seed))) }
-    ensures part { OnErr result (PrintsPart text.old (K.written out.old) (K.written out.new)
-        (head_bytes size (head_of shape.now seed))) }
-    ensures limit { text.new.limit ≡ text.old.limit }
-    ensures fault { OnErr result (Rose (K.faults out.old) (K.faults out.new)) }
-    ensures never_falls { K.faults out.old ≤ K.faults out.new }
+pub(crate) fn print_head<K: Sink>(size: u8, shape: &Shape, seed: u64, printer: &mut Printer<K>)
+    requires { ROW_ROOM ≤ printer.old.text.now.limit }
+    ensures { Prints K.written K.faults printer.old printer.new
+        (head_bytes size (head_of shape.now seed)) }
 {
-    make_room(text, out)?;
-    push_head(size, shape, seed, text);
-    Ok(())
+    printer.make_room();
+    push_head(size, shape, seed, printer.text);
 }
 
 /// Writes the registers of a region.
-pub(crate) fn print_region<K: Sink>(
-    region: &LargeRegion,
-    text: &mut Text,
-    out: &mut K,
-) -> Result<(), WriteFault>
-    requires { ROW_ROOM ≤ text.old.limit }
-    ensures printed { OnOk result (PrintsMore text.old text.new (K.written out.old)
-        (K.written out.new) (region_bytes (region_view region.now))) }
-    ensures part { OnErr result (PrintsPart text.old (K.written out.old) (K.written out.new)
-        (region_bytes (region_view region.now))) }
-    ensures limit { text.new.limit ≡ text.old.limit }
-    ensures fault { OnErr result (Rose (K.faults out.old) (K.faults out.new)) }
-    ensures never_falls { K.faults out.old ≤ K.faults out.new }
+pub(crate) fn print_region<K: Sink>(region: &LargeRegion, printer: &mut Printer<K>)
+    requires { ROW_ROOM ≤ printer.old.text.now.limit }
+    ensures { Prints K.written K.faults printer.old printer.new
+        (region_bytes (region_view region.now)) }
 {
-    make_room(text, out)?;
-    write_region(text, region);
-    Ok(())
+    printer.make_room();
+    write_region(printer.text, region);
 }
 
 /// Writes the number of an array line, or the mark behind the last one.
-pub(crate) fn print_line<K: Sink>(line: u32, text: &mut Text, out: &mut K) -> Result<(), WriteFault>
-    requires { ROW_ROOM ≤ text.old.limit }
-    ensures printed { OnOk result (PrintsMore text.old text.new (K.written out.old)
-        (K.written out.new) (u32 line)) }
-    ensures part { OnErr result (PrintsPart text.old (K.written out.old) (K.written out.new)
-        (u32 line)) }
-    ensures limit { text.new.limit ≡ text.old.limit }
-    ensures fault { OnErr result (Rose (K.faults out.old) (K.faults out.new)) }
-    ensures never_falls { K.faults out.old ≤ K.faults out.new }
+pub(crate) fn print_line<K: Sink>(line: u32, printer: &mut Printer<K>)
+    requires { ROW_ROOM ≤ printer.old.text.now.limit }
+    ensures { Prints K.written K.faults printer.old printer.new (u32 line) }
 {
-    make_room(text, out)?;
-    write_line(text, line);
-    Ok(())
+    printer.make_room();
+    write_line(printer.text, line);
 }

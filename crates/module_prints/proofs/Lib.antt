@@ -1,5 +1,6 @@
 pub mod Wearing
-mod Clocks
+pub mod Clocks
+mod Whole
 mod Pulsing
 mod Mapping
 mod MapsAlike

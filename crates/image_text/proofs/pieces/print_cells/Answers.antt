@@ -1,12 +1,6 @@
-use Rattle.pcm_image.specs.Spelling.{cells_bytes}
-use Rattle.run_text.proofs.Gathered.{on_err_any}
-use Rattle.image_text.proofs.Prints.{piece-part, piece-printed}
+use Rattle.std.proofs.Common.{refl}
+use Rattle.printer.proofs.Printed.{prints-put}
 use Rattle.image_text.proofs.pieces.print_cells.Goals as goal
 
-pub returns-in_err-make_room-clause-part : goal.returns-in_err-make_room-clause-part
-returns-in_err-make_room-clause-part g c =
-    on_err_any c.from_residual.result _ (piece-part c.args.text.now (g.K.Sink.written c.args.out.now) (g.K.Sink.written c.make_room.new.out) (cells_bytes c.args.cells.now) c.in_err-make_room.ensures.part)
-
-pub returns-clause-printed : goal.returns-clause-printed
-returns-clause-printed g c =
-    piece-printed c.args.text.now c.make_room.new.text c.write_cells.new.text (g.K.Sink.written c.args.out.now) (g.K.Sink.written c.make_room.new.out) (cells_bytes c.args.cells.now) c.in_ok-make_room.ensures.printed c.write_cells.ensures.after
+pub returns : goal.returns
+returns g c = prints-put g.K.Sink.written g.K.Sink.faults _ _ _ _ c.make_room.ensures.printed refl refl refl c.write_cells.ensures.after

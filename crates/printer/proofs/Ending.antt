@@ -1,0 +1,30 @@
+-- What the end of printing says of bytes that are printed as far as there was no fault.
+use Rattle.std.proofs.Common.{◌≡◌, ℕ, List, ◌++◌, Option, false, subst}
+use Rattle.std.specs.{Io.KnownBytes.Appends, Prelude.{Result, Ok, Err, OnOk, OnErr}}
+use Rattle.pcm_io.{specs.Giving.AppendsPrefix, proofs.ByteLemmas.AppendsPrefix-longer}
+use Rattle.printer.specs.{Printing.{Ends, Holds}, declared.printer.Printer.Printer}
+
+-- a fact that follows from what holds of an answer holds of it
+pub on_ok : {T E : Type 0} (r : Result T E) (P Q : Type 0) → OnOk r P → (P → Q) → OnOk r Q
+on_ok (Ok x) P Q h f = f h
+on_ok (Err e) P Q h f = tt
+
+pub on_err : {T E : Type 0} (r : Result T E) (P Q : Type 0) → OnErr r P → (P → Q) → OnErr r Q
+on_err (Ok x) P Q h f = tt
+on_err (Err e) P Q h f = f h
+
+-- so does one that follows from two of them
+on_both : {T E : Type 0} (r : Result T E) (P Q R : Type 0) → OnOk r P → OnOk r Q → (P → Q → R) → OnOk r R
+on_both (Ok x) P Q R p q f = f p q
+on_both (Err e) P Q R p q f = tt
+
+module _ {K : Type 0} (written : K → Option (List ℕ)) (faults : K → ℕ) {T E : Type 0} (a : Printer K) (out : K) (result : Result T E) (ends : Ends written faults a out result)
+    (was : Option (List ℕ)) (since : ℕ) (some whole : List ℕ) (had : Holds written faults was since a some) where
+  -- the whole, where what is printed without a fault is the whole
+  pub whole-ok : (a.failed ≡ false → some ≡ whole) → OnOk result (Appends was (written out) whole)
+  whole-ok same = on_both result _ _ _ ends.first (ends.all was since some had) (λ first sent. subst (λ x. Appends was (written out) x) (same first) sent)
+
+  -- first bytes of the whole, of which what is printed are first bytes
+  pub whole-part : (rest : List ℕ) → some ++ rest ≡ whole → OnErr result (AppendsPrefix was (written out) whole)
+  whole-part rest is =
+      on_err result _ _ (ends.part was since some had) (λ part. subst (λ x. AppendsPrefix was (written out) x) is (AppendsPrefix-longer was (written out) some rest part))
