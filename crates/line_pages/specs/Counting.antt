@@ -1,5 +1,5 @@
 -- What is done to a line, as its energy is counted.
-use Rattle.std.specs.Prelude.{ℕ, List, [], Option, None, Some, slice_index_or}
+use Rattle.std.specs.Prelude.{ℕ, List, Option, None, Some, slice_index_or}
 use Rattle.cell_rows.specs.{Energy.{counted_on, no_energy}, declared.array.LineEnergy.LineEnergy}
 use Rattle.line_pages.specs.{declared.work.Work.Work, declared.work.Work.TheVariants.{Drives, Sense}}
 

@@ -1,5 +1,5 @@
 -- The array whose cells wear out as a seed says.
-use Rattle.std.specs.Prelude.{ℕ, ◌≡◌, ◌≢◌, ◌+◌, ◌-◌, ◌*◌, Bool, nat_lt, if◌then◌else◌, List, [], length, slice_index, slice_index_or, Option, None, Some}
+use Rattle.std.specs.Prelude.{ℕ, ◌≡◌, ◌≢◌, ◌+◌, ◌-◌, ◌*◌, Bool, nat_lt, if◌then◌else◌, List, length, slice_index, slice_index_or, Option, None, Some}
 use Rattle.cell_rows.specs.{Device.{ArrayState, LineState, CellBounds, counted}, Rows.cell, declared.array.LineEnergy.LineEnergy, declared.array.Wear.Wear}
 use Rattle.cell_rows.specs.declared.row.Cells.{Cells}
 use Rattle.pcm_cells.specs.Energies.{energy_told}
