@@ -2,9 +2,8 @@
 use Rattle.std.proofs.Common.{◌≡◌, ℕ, ◌+◌, ◌-◌, ◌*◌, ◌%◌, ◌^◌, ◌<◌, ◌≤◌, ◌&&◌, min, Bool, true, false, List, [], length, get_or, refl, sym, subst, arith, cond, inl, inr, true≢false, ◌∙◌, Some}
 use Rattle.std.{specs.Prelude.{nat_lt, nat_le, nat_eq, IsFalse}, proofs.lemmas.Bool.{leb-true, leb-false, ltb-true, cases_eq, cases_lt}}
 use Rattle.cell_rows.specs.{Device.{CellBounds, counted}, Rows.cell, declared.array.Wear.Wear, declared.row.Cells.Cells}
-use Rattle.pcm_cells.specs.Endurance.{IsBounded, AreBounded}
-use Rattle.pcm_cells.specs.Seeded.{LifeLine, SeededArray, IsDrawn, Wears, bounds_of, changed, life_state, lifeless, pulsed, seeded, seeded_cell, seeded_line}
-use Rattle.pcm_cells.{specs.declared.seeded.SeededCell.SeededCell, proofs.LineLemmas.KeepsTo}
+use Rattle.pcm_cells.{specs.Endurance.{IsBounded, AreBounded}, specs.Seeded.{SeededArray, Wears, bounds_of, life_state, seeded_line}, proofs.LineLemmas.KeepsTo}
+use Rattle.seeded_lines.specs.{Seeded.{LifeLine, IsDrawn, changed, lifeless, pulsed, seeded, seeded_cell}, declared.seeded.SeededCell.SeededCell}
 
 -- one more pulse, up to the greatest count
 more-pulses : (lo p top : ℕ) → lo ≤ p → lo ≤ top → lo ≤ min (p + 1) top

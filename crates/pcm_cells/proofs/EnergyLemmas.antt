@@ -4,7 +4,8 @@ use Rattle.std.{specs.Int.RustNames.count_ones, specs.Option.option_map, specs.P
 use Rattle.std.proofs.lemmas.Option.{none-some, same_Some}
 use Rattle.cell_rows.specs.{Device.{ArrayState, EnergyChanges}, Energy.no_energy, Rows.{bit_in, members}, declared.array.LineEnergy.LineEnergy}
 use Rattle.cell_rows.proofs.{BlockLemmas.count_bits, ByteLemmas.digit_and, RowLemmas.{members_le, members-zero}}
-use Rattle.pcm_cells.specs.Energies.{energy_at, energy_or_none, energy_told}
+use Rattle.line_pages.specs.Counting.{energy_at, energy_or_none}
+use Rattle.pcm_cells.specs.Energies.{energy_told}
 
 abbrev as_one : Bool → ℕ
 as_one b = cond b 1 0

@@ -3,7 +3,8 @@ use Rattle.std.proofs.Common.{◌≡◌, ℕ, ◌+◌, ◌*◌, ◌<◌, ◌≤�
 use Rattle.std.proofs.{lemmas.Bool.cases_lt, lemmas.List.{get_or-replicate, get_or_past, length-replicate}}
 use Rattle.cell_rows.specs.{Device.{LineState, CellBounds, CellPulsed, CellTorn, DeviceStep, TornStep, IsCellKept, IsBlank, counted}, Rows.cell, declared.row.Cells.Cells}
 use Rattle.cell_rows.proofs.RowLemmas.{cell-zeros}
-use Rattle.pcm_cells.specs.{Cell.{line_state, cell_state, blank_line}, declared.line.CellState.CellState}
+use Rattle.pcm_cells.specs.Cell.{line_state, cell_state, blank_line}
+use Rattle.seeded_lines.specs.declared.cell.CellState.{CellState}
 
 -- a live cell after a pulse, with the changes that it had spent before and has after, where cells endure so many: it took the wanted value,
 -- it missed, or it stuck

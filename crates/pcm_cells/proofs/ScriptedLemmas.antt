@@ -2,10 +2,11 @@
 use Rattle.std.proofs.Common.{◌≡◌, ℕ, ◌+◌, ◌<◌, ◌≤◌, Bool, true, false, cond, List, length, get_or, set, length-set, get_or-set_same, get_or-set_other, slice_index, refl, ◌∙◌, ap, inl, inr, arith, Option, Some, None}
 use Rattle.std.{specs.Prelude.nat_lt, proofs.lemmas.List.get_or_default}
 use Rattle.cell_rows.specs.{Device.{DeviceStep, TornStep, counted}, Rows.cell, declared.array.LineEnergy.LineEnergy, declared.row.Cells.Cells}
-use Rattle.pcm_cells.specs.{Cell.{line_state, cell_state}, Follows.Follows}
+use Rattle.pcm_cells.specs.Cell.{line_state, cell_state}
 use Rattle.pcm_cells.specs.Scripted.{scripted_bounds, act_at, acted, next_turn, ScriptedCell, ScriptedLine, ScriptedArray, Turns, blank_scripted, scripted, scripted_cell}
-use Rattle.pcm_cells.specs.{Scripted.scripted_line, declared.line.CellState.CellState, declared.script.Act.Act, declared.script.Act.TheVariants.{Miss, Stick}}
-use Rattle.pcm_cells.{specs.declared.script.Script.Script, proofs.LineLemmas.{IsPulsed, IsTorn, device_step, torn_step}}
+use Rattle.pcm_cells.specs.{Scripted.scripted_line, declared.script.Act.Act, declared.script.Act.TheVariants.{Miss, Stick}, declared.script.Script.Script}
+use Rattle.pcm_cells.proofs.LineLemmas.{IsPulsed, IsTorn, device_step, torn_step}
+use Rattle.seeded_lines.specs.{Follows.Follows, declared.cell.CellState.CellState}
 
 missed_pulsed : (few want : Bool) (old new : CellState) → old.stuck ≡ false
     → new ≡ cond few (record old { misses = old.misses + 1 }) (record { value = want; stuck = false; misses = 0 }) → IsPulsed want 0 old new 0 0

@@ -1,7 +1,7 @@
 -- One cell of a line, and a line as it is kept.
 use Rattle.std.specs.Prelude.{ℕ, ◌≡◌, ◌≢◌, ◌+◌, ◌*◌, List, replicate, slice_index}
 use Rattle.cell_rows.specs.{Device.LineState, Rows.{cell, zero_row}, declared.row.Cells.Cells}
-use Rattle.pcm_cells.specs.declared.line.CellState.{CellState}
+use Rattle.seeded_lines.specs.declared.cell.CellState.{CellState}
 
 -- what the cell with this number holds, whether it is stuck, and its misses since its last change
 abbrev pub cell_state : {B M : ℕ} → LineState B M → ℕ → CellState

@@ -1,6 +1,6 @@
 -- Cells that stick only after many pulses of their line, and miss only so often.
 use Rattle.std.specs.Prelude.{ℕ, ◌+◌, ◌*◌, ◌^◌, ◌<◌, ◌≤◌, List, length, slice_index_or, IsTrue, IsFalse}
-use Rattle.pcm_cells.specs.{Seeded.{LifeLine, seeded_cell, lifeless}, declared.seeded.SeededCell.SeededCell}
+use Rattle.seeded_lines.specs.{Seeded.{LifeLine, seeded_cell, lifeless}, declared.seeded.SeededCell.SeededCell}
 use Rattle.cell_rows.specs.Device.{CellBounds}
 
 -- a cell whose line had so many pulses: a live one has enough changes left, and a stuck one's line had enough; it has missed no more often

@@ -1,15 +1,12 @@
 -- The counts of an array's energy, line by line.
-use Rattle.std.specs.Prelude.{ℕ, List, Option, None, Some, slice_index_or}
-use Rattle.cell_rows.specs.{Energy.no_energy, declared.array.LineEnergy.LineEnergy}
+use Rattle.std.specs.Prelude.{ℕ, List, [], Option, None, Some}
+use Rattle.cell_rows.specs.declared.array.LineEnergy.{LineEnergy}
+use Rattle.line_pages.specs.{Counting.energy_at, declared.page_table.PageTable.PageTable}
 
--- the counts of a line; one that was never pulsed, torn or sensed has none kept
-abbrev pub energy_or_none : Option LineEnergy → LineEnergy
-energy_or_none None = no_energy
-energy_or_none (Some energy) = energy
-
--- the counts of the line with this number
-abbrev pub energy_at : List (Option LineEnergy) → ℕ → LineEnergy
-energy_at energies line = energy_or_none (slice_index_or energies line None)
+-- the kept counts of an array, of which there are none before it is powered up
+abbrev pub energies_of : Option (PageTable LineEnergy) → List (Option LineEnergy)
+energies_of None = []
+energies_of (Some energies) = energies
 
 -- what an array tells of the energy of a line: nothing, where it keeps no counts
 abbrev pub energy_told : Option (List (Option LineEnergy)) → ℕ → Option LineEnergy

@@ -2,8 +2,10 @@
 use Rattle.std.specs.Prelude.{ℕ, ◌≡◌, ◌≢◌, ◌+◌, ◌-◌, ◌*◌, ◌^◌, min, Bool, true, false, ◌&&◌, nat_eq, nat_lt, if◌then◌else◌, List, [], ◌∷◌, length, replicate, slice_index}
 use Rattle.std.specs.{Prelude.{slice_index_or, Option, Some, None, Vec}, declared.alloc.Global.Global}
 use Rattle.cell_rows.specs.{Device.{ArrayState, CellBounds, counted}, Rows.cell, declared.array.LineEnergy.LineEnergy, declared.array.Wear.Wear, declared.row.Cells.Cells}
-use Rattle.pcm_cells.specs.{Cell.{CellLine, line_state, cell_state, blank_line}, Energies.energy_at, Follows.Follows, declared.line.CellState.CellState, declared.script.Act.Act}
-use Rattle.pcm_cells.specs.{declared.script.Act.TheVariants.{Miss, Stick}, declared.script.Script.Script}
+use Rattle.pcm_cells.specs.{Cell.{CellLine, line_state, cell_state, blank_line}, declared.script.Act.Act, declared.script.Act.TheVariants.{Miss, Stick}}
+use Rattle.pcm_cells.specs.declared.script.Script.{Script}
+use Rattle.line_pages.specs.Counting.{energy_at}
+use Rattle.seeded_lines.specs.{Follows.Follows, declared.cell.CellState.CellState}
 
 -- what the script says of a cell at a turn: the first item that names them
 abbrev pub act_at : List Script → ℕ → ℕ → ℕ → Option Act

@@ -1,43 +1,15 @@
 // How many cells of each line were driven to 1 and to 0, and how often it was sensed.
-ghost use Rattle.std.specs.Prelude.{◌≡◌, ◌<◌, ◌≤◌, ◌+◌, ◌*◌, ◌&&◌, ℕ, length, slice_set, replicate, Some, None, [], IfOk};
+ghost use Rattle.std.specs.Prelude.{◌≡◌, ◌<◌, ◌≤◌, ◌+◌, ◌*◌, ◌&&◌, length, slice_set, replicate, Some, None, [], IfOk};
 ghost use Rattle.cell_rows.specs.Energy.{reset_cells, set_cells, with_pulse, with_sense};
 ghost use Rattle.cell_rows.specs.Rows.{cell, members};
 ghost use Rattle.cell_rows.specs.Shape.{IsShape, IsWhole};
-ghost use Rattle.pcm_cells.specs.declared.energies.Work.TheVariants.{Drives};
-ghost use Rattle.pcm_cells.specs.Counting.{worked};
-ghost use Rattle.pcm_cells.specs.Energies.{energy_at};
+ghost use Rattle.line_pages.specs.declared.work.Work.TheVariants.{Drives};
+ghost use Rattle.line_pages.specs.Counting.{worked, energy_at};
 
-use crate::page_table::PageTable;
 use cell_rows::{Cells, LineEnergy};
+use line_pages::{PageTable, Work};
 use std::alloc::{AllocError, Global};
 use std::marker::Model;
-
-/// What is done to a line.
-#[derive(Clone, Copy, Drop)]
-pub(crate) enum Work {
-    /// A pulse or a tear drives so many cells to 1 and so many to 0.
-    Drives { set: u32, reset: u32 },
-    Sense,
-}
-
-/// The counts of a line, after this was done to it.
-#[inline(always)]
-pub(crate) fn worked(work: Work, energy: LineEnergy) -> LineEnergy
-    ensures { result ≡ worked work energy }
-{
-    match work {
-        Work::Drives { set, reset } => LineEnergy {
-            set: energy.set.saturating_add(set as u64),
-            reset: energy.reset.saturating_add(reset as u64),
-            senses: energy.senses,
-        },
-        Work::Sense => LineEnergy {
-            set: energy.set,
-            reset: energy.reset,
-            senses: energy.senses.saturating_add(1),
-        },
-    }
-}
 
 // Of some blocks: how many cells are in the mask, and how many of these are to be 1.
 #[inline(always)]
@@ -107,7 +79,7 @@ pub(crate) struct Energies {
 impl Model for Energies {
     ghost use Rattle.std.specs.Prelude.{List, Option};
     ghost use Rattle.cell_rows.specs.declared.array.LineEnergy.{LineEnergy};
-    ghost use Rattle.pcm_cells.specs.Counting.{energies_of};
+    ghost use Rattle.pcm_cells.specs.Energies.{energies_of};
 
     ghost Value = { List (Option LineEnergy) };
 

@@ -1,29 +1,14 @@
 // One line of cells that may miss and stick.
-ghost use Rattle.std.specs.Prelude.{◌≡◌, ℕ, ◌+◌, ◌*◌, ◌<◌, ◌≤◌, false, IfOk, slice_index};
+ghost use Rattle.std.specs.Prelude.{◌≡◌, ℕ, ◌+◌, ◌*◌, ◌<◌, ◌≤◌, IfOk, slice_index};
 ghost use Rattle.cell_rows.specs.Rows.{cell};
 ghost use Rattle.pcm_cells.specs.Cell.{cell_state, line_state, blank_line, SetsCell};
 ghost use Rattle.cell_rows.specs.Device.{counted};
 ghost use Rattle.cell_rows.specs.Shape.{IsShape};
 
 use cell_rows::Cells;
+use seeded_lines::CellState;
 use std::alloc::{AllocError, Global};
 use std::marker::Model;
-
-// Past its end a mask has no cell.
-pub(crate) fn has_end<const B: usize, const M: usize>(mask: &Cells<B, M>)
-    ensures { (n : ℕ) → 8 * (B + M) ≤ n → cell mask.now n ≡ false }
-{
-    let (_bits, _meta) = (&mask.bits[..], &mask.meta[..]);
-}
-
-/// One cell: what it holds, whether it is stuck at that, and how often it missed
-/// since it last changed, 0 to 7.
-#[derive(Clone, Copy, Drop)]
-pub struct CellState {
-    pub value: bool,
-    pub stuck: bool,
-    pub misses: u8,
-}
 
 /// The cells of one line, and how often it was pulsed or torn. Contracts see it as a `CellLine`.
 #[derive(Drop)]

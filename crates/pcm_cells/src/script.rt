@@ -1,10 +1,10 @@
 // The array whose cells miss and stick as a script says.
 ghost use Rattle.std.specs.Prelude.{◌≡◌, ◌≢◌, ℕ, ◌+◌, ◌*◌, ◌<◌, ◌≤◌, true, false, [], length, replicate, IfOk, OnOk, OnErr, slice_index};
 
-use crate::CellState;
 use crate::energies::Energies;
-use crate::line::{Line, has_end};
+use crate::line::Line;
 use cell_rows::{CellArray, CellWear, Cells, LineEnergy, TellsCells, Wear};
+use seeded_lines::{CellState, has_end};
 use std::alloc::{AllocError, Global};
 use std::marker::Model;
 
@@ -91,7 +91,7 @@ ghost use Rattle.pcm_cells.specs.Cell.{cell_state, line_state, SetsCell};
 ghost use Rattle.cell_rows.specs.Rows.{cell};
 ghost use Rattle.cell_rows.specs.Shape.{IsShape};
 ghost use Rattle.cell_rows.specs.Device.{EnergyChanges, counted};
-ghost use Rattle.pcm_cells.specs.Follows.{Follows, FollowsIn};
+ghost use Rattle.seeded_lines.specs.Follows.{Follows, FollowsIn};
 ghost use Rattle.pcm_cells.specs.Scripted.{scripted, scripted_cell, blank_scripted};
 
 impl<const B: usize, const M: usize> ScriptLine<B, M> {
@@ -228,7 +228,7 @@ impl<const B: usize, const M: usize> Model for ScriptArray<B, M> {
 
 ghost use Rattle.std.specs.Prelude.{slice_set, Some, None};
 ghost use Rattle.cell_rows.specs.Energy.{with_pulse, with_sense};
-ghost use Rattle.pcm_cells.specs.Energies.{energy_at};
+ghost use Rattle.line_pages.specs.Counting.{energy_at};
 ghost use Rattle.pcm_cells.specs.Scripted.{scripted_line, scripted_state, Turns};
 
 impl<const B: usize, const M: usize> ScriptArray<B, M> {

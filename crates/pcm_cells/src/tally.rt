@@ -3,7 +3,8 @@ ghost use Rattle.std.specs.Prelude.{◌≡◌, ◌<◌, length, slice_set, repli
 ghost use Rattle.std.specs.Option.{option_map};
 ghost use Rattle.cell_rows.specs.Energy.{with_pulse, with_sense};
 ghost use Rattle.cell_rows.specs.Shape.{IsShape};
-ghost use Rattle.pcm_cells.specs.Energies.{energy_at, energy_told};
+ghost use Rattle.line_pages.specs.Counting.{energy_at};
+ghost use Rattle.pcm_cells.specs.Energies.{energy_told};
 
 use crate::energies::Energies;
 use cell_rows::{Cells, LineEnergy};

@@ -1,6 +1,7 @@
 use Rattle.std.proofs.Common.{◌≡◌, ◌+◌, ◌-◌, ◌*◌, ◌∙◌, ◌&&◌, ap, arith, ℕ}
 use Rattle.cell_rows.specs.{Energy.{reset_cells, set_cells}, Rows.cell}
-use Rattle.pcm_cells.{specs.declared.energies.Work.TheVariants.Drives, proofs.EnergyLemmas.{members-as, members-both}}
+use Rattle.line_pages.specs.declared.work.Work.TheVariants.{Drives}
+use Rattle.pcm_cells.proofs.EnergyLemmas.{members-as, members-both}
 use Rattle.pcm_cells.proofs.energies.drives.Goals as goal
 
 pub overflow_sub-result : goal.overflow_sub-result

@@ -1,7 +1,9 @@
 use Rattle.std.proofs.Common.{◌≡◌, ◌<◌, ◌∙◌, length, set, refl, sym, ap, subst, arith, List, Option, Some}
 use Rattle.cell_rows.specs.{Energy.with_pulse, Rows.cell, declared.array.LineEnergy.LineEnergy}
-use Rattle.pcm_cells.specs.{Energies.energy_at, Follows.Follows, Scripted.{ScriptedArray, Turns, scripted, scripted_cell, scripted_lines, scripted_state}}
-use Rattle.pcm_cells.proofs.{EnergyLemmas.energy-told, ScriptedLemmas.line_turned}
+use Rattle.line_pages.specs.Counting.{energy_at}
+use Rattle.seeded_lines.specs.Follows.{Follows}
+use Rattle.pcm_cells.{specs.Scripted.{ScriptedArray, Turns, scripted, scripted_cell, scripted_lines, scripted_state}, proofs.EnergyLemmas.energy-told}
+use Rattle.pcm_cells.proofs.ScriptedLemmas.{line_turned}
 use Rattle.pcm_cells.proofs.script.ScriptArray.turn.Goals as goal
 
 pub unreachable-requires : goal.unreachable-requires

@@ -1,6 +1,7 @@
 use Rattle.std.proofs.Common.{◌*◌, ◌∙◌, ap, arith}
-use Rattle.pcm_cells.{specs.Scripted.{scripted, scripted_cell}, proofs.FollowsLemmas.followed_all}
+use Rattle.pcm_cells.specs.Scripted.{scripted, scripted_cell}
 use Rattle.pcm_cells.proofs.script.ScriptLine.turn.Goals as goal
+use Rattle.seeded_lines.proofs.FollowsLemmas.{followed_all}
 use Rattle.cell_rows.specs.Rows.{cell}
 
 pub returns-clause-cells : goal.returns-clause-cells

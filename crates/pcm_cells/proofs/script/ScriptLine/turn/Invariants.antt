@@ -1,6 +1,7 @@
 use Rattle.std.proofs.Common.{◌≡◌, ◌*◌}
 use Rattle.cell_rows.specs.Rows.{cell}
-use Rattle.pcm_cells.specs.{Follows.FollowsIn, Scripted.{scripted, scripted_cell}}
+use Rattle.seeded_lines.specs.Follows.{FollowsIn}
+use Rattle.pcm_cells.specs.Scripted.{scripted, scripted_cell}
 use Rattle.pcm_cells.proofs.script.ScriptLine.turn.Given as goal
 
 -- the groups so far have followed the script

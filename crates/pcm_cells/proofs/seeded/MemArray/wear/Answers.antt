@@ -1,9 +1,10 @@
 use Rattle.std.proofs.Common.{◌≡◌, ◌<◌, ◌≤◌, ◌∙◌, rules, sym, subst, ap, arith, length, set, refl, List, Option, Some}
 use Rattle.std.specs.{Option.option_map, Prelude.IfSome}
 use Rattle.cell_rows.specs.{Energy.with_pulse, declared.array.LineEnergy.LineEnergy, declared.array.Wear.Wear}
-use Rattle.pcm_cells.specs.{Endurance.{AreBounded, IsInRange}, Energies.energy_at, Paging.{seeded_lines, seeded_wear, lines_seen}, Seeded.{SeededArray, bounds_of, seeded_state}}
-use Rattle.pcm_cells.proofs.{EnduranceLemmas.bounded_kept, EnergyLemmas.{counts-line, counts-written, energy-changed}, PagingLemmas.{lines_size, wears_lines}}
+use Rattle.pcm_cells.{specs.Endurance.{AreBounded, IsInRange}, specs.Seeded.{SeededArray, bounds_of, seeded_state}, proofs.EnduranceLemmas.bounded_kept}
+use Rattle.pcm_cells.proofs.{EnergyLemmas.{counts-line, counts-written, energy-changed}, SeededLemmas.wears_lines}
 use Rattle.pcm_cells.proofs.seeded.MemArray.wear.Goals as goal
+use Rattle.line_pages.{specs.Counting.energy_at, specs.Paging.{seeded_lines, seeded_wear, lines_seen}, proofs.PagingLemmas.lines_size}
 
 pub unreachable-requires : goal.unreachable-requires
 unreachable-requires g c =

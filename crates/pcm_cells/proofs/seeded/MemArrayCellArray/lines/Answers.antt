@@ -1,5 +1,5 @@
 use Rattle.std.proofs.Common.{◌∙◌, sym, ap, length}
-use Rattle.pcm_cells.{specs.Paging.seeded_lines, proofs.PagingLemmas.lines_size}
+use Rattle.line_pages.{specs.Paging.seeded_lines, proofs.PagingLemmas.lines_size}
 use Rattle.pcm_cells.proofs.seeded.MemArrayCellArray.lines.Goals as goal
 
 pub returns-in-Some : goal.returns-in-Some

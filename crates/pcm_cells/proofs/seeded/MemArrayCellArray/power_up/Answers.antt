@@ -1,9 +1,11 @@
 use Rattle.std.proofs.Common.{◌≡◌, ◌≤◌, arith, ◌∙◌, refl, sym, ap, subst, length, Option, Some, None}
 use Rattle.std.{specs.Prelude.{IfSome, is_some}, proofs.lemmas.List.length-replicate}
 use Rattle.cell_rows.specs.declared.array.Wear.{Wear}
-use Rattle.pcm_cells.{specs.Endurance.IsInRange, specs.Paging.lines_seen, specs.Seeded.{LifeLine, SeededArray, bounds_of}, proofs.EnduranceLemmas.{bounded_none, bounded_new}}
-use Rattle.pcm_cells.proofs.{EnergyLemmas.{counts-as, counts-cleared, counts-renewed, renewed-none}, PagingLemmas.{lines_size, blank_drawn}, SeededLemmas.drawn_is_blank}
+use Rattle.pcm_cells.{specs.Endurance.IsInRange, specs.Seeded.{SeededArray, bounds_of}, proofs.EnduranceLemmas.{bounded_none, bounded_new}}
+use Rattle.pcm_cells.proofs.{EnergyLemmas.{counts-as, counts-cleared, counts-renewed, renewed-none}, SeededLemmas.drawn_is_blank}
 use Rattle.pcm_cells.proofs.seeded.MemArrayCellArray.power_up.Goals as goal
+use Rattle.line_pages.{specs.Paging.lines_seen, proofs.PagingLemmas.{lines_size, blank_drawn}}
+use Rattle.seeded_lines.specs.Seeded.{LifeLine}
 
 pub returns-clause-ok : goal.returns-clause-ok
 returns-clause-ok g c =

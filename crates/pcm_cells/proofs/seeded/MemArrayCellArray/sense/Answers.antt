@@ -1,9 +1,10 @@
 use Rattle.std.proofs.Common.{◌≡◌, ◌<◌, ◌≤◌, ◌∙◌, rules, refl, sym, ap, subst, arith, length, get_or, set, List, Option, Some}
 use Rattle.std.{specs.Option.option_map, specs.Prelude.IfSome, proofs.lemmas.Option.none-some}
 use Rattle.cell_rows.specs.{Energy.with_sense, declared.array.LineEnergy.LineEnergy}
-use Rattle.pcm_cells.specs.{Energies.energy_at, Paging.seeded_lines, Seeded.{SeededArray, bounds_of, lifeless, life_state, seeded_line, seeded_state}}
-use Rattle.pcm_cells.proofs.{EnergyLemmas.{counts-line, counts-written, energy-changed}, PagingLemmas.{lines_size, lines_at}}
+use Rattle.line_pages.{specs.Counting.energy_at, specs.Paging.seeded_lines, proofs.PagingLemmas.{lines_size, lines_at}}
+use Rattle.pcm_cells.{specs.Seeded.{SeededArray, bounds_of, life_state, seeded_line, seeded_state}, proofs.EnergyLemmas.{counts-line, counts-written, energy-changed}}
 use Rattle.pcm_cells.proofs.seeded.MemArrayCellArray.sense.Goals as goal
+use Rattle.seeded_lines.specs.Seeded.{lifeless}
 
 pub held-requires : goal.held-requires
 held-requires g c =

@@ -1,7 +1,8 @@
 use Rattle.std.proofs.Common.{◌≡◌, ◌<◌, ◌≤◌, ◌∙◌, rules, refl, sym, ap, arith, length, get_or, Some}
-use Rattle.pcm_cells.{specs.Paging.{seeded_lines, seeded_wear, seen}, specs.Seeded.{bounds_of, lifeless, life_state, seeded_line}, proofs.PagingLemmas.{lines_size, lines_at}}
-use Rattle.pcm_cells.proofs.WearLemmas.{told_wear}
+use Rattle.line_pages.{specs.Paging.{seeded_lines, seeded_wear, seen}, proofs.PagingLemmas.{lines_size, lines_at}}
+use Rattle.pcm_cells.specs.Seeded.{bounds_of, life_state, seeded_line}
 use Rattle.pcm_cells.proofs.seeded.MemArrayTellsCells.cell_wear.Goals as goal
+use Rattle.seeded_lines.{specs.Seeded.lifeless, proofs.WearLemmas.told_wear}
 
 pub cell_wear-requires : goal.cell_wear-requires
 cell_wear-requires g c =

@@ -1,6 +1,7 @@
 use Rattle.std.proofs.Common.{◌≡◌, ◌∙◌, sym, ap, arith, length}
-use Rattle.pcm_cells.{specs.Energies.energy_told, specs.Paging.seeded_lines, specs.Seeded.SeededArray, proofs.EnergyLemmas.counts-line}
+use Rattle.pcm_cells.{specs.Energies.energy_told, specs.Seeded.SeededArray, proofs.EnergyLemmas.counts-line}
 use Rattle.pcm_cells.proofs.seeded.MemArrayTellsCells.energy.Goals as goal
+use Rattle.line_pages.specs.Paging.{seeded_lines}
 
 pub at-requires : goal.at-requires
 at-requires g c =

@@ -1,5 +1,6 @@
 use Rattle.std.proofs.Common.{◌≡◌, ◌<◌, ◌≤◌, ◌∙◌, rules, sym, ap, arith, length, get_or}
-use Rattle.pcm_cells.{specs.Paging.seeded_lines, specs.Seeded.lifeless, proofs.PagingLemmas.{lines_size, lines_at}}
+use Rattle.line_pages.{specs.Paging.seeded_lines, proofs.PagingLemmas.{lines_size, lines_at}}
+use Rattle.seeded_lines.specs.Seeded.{lifeless}
 use Rattle.pcm_cells.proofs.seeded.MemArrayTellsCells.held.Goals as goal
 
 pub held-requires : goal.held-requires

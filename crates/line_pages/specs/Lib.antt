@@ -1,0 +1,11 @@
+pub mod Tiers
+pub mod Table
+pub mod PageTable
+pub mod Counting
+pub mod Begun
+pub mod Tiered
+pub mod Below
+pub mod Youths
+pub mod Paged
+pub mod Paging
+pub mod Book

@@ -1,5 +1,0 @@
-use Rattle.pcm_cells.proofs.BookLemmas.{AreEmpty}
-use Rattle.pcm_cells.proofs.book.Book.blank.Given as goal
-
-abbrev pub invariant-loop-index : goal.invariant-loop-index
-invariant-loop-index g l = AreEmpty l.index l.initial.room l.chunks.items

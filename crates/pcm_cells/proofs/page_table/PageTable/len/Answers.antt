@@ -1,6 +1,0 @@
-use Rattle.std.proofs.Common.{◌∙◌, sym, ap, length}
-use Rattle.pcm_cells.proofs.TableLemmas.{pages-count}
-use Rattle.pcm_cells.proofs.page_table.PageTable.len.Goals as goal
-
-pub returns : goal.returns
-returns g c = c.len.ensures ∙ sym (pages-count c.self.inside.pages.pages c.self.inside.table) ∙ ap length c.self.view_is

@@ -1,8 +1,0 @@
-use Rattle.std.proofs.Common.{◌≡◌}
-use Rattle.cell_rows.specs.Told.{most}
-use Rattle.pcm_cells.specs.Young.{changes_in}
-use Rattle.pcm_cells.proofs.young.Young.most_changes.Given as goal
-
--- the greatest of the cells so far
-abbrev pub invariant-loop-number : goal.invariant-loop-number
-invariant-loop-number g l = l.changes ≡ most (changes_in l.self) l.number

@@ -1,6 +1,0 @@
-use Rattle.std.proofs.Common.{◌+◌}
-use Rattle.pcm_cells.proofs.YoungLemmas.{pulsed_same}
-use Rattle.pcm_cells.proofs.young.YoungYoungPage.count_pulse.Goals as goal
-
-pub returns-clause-cells : goal.returns-clause-cells
-returns-clause-cells g c n = pulsed_same c.args.self.now (c.args.self.now.pulses + 1) n

@@ -1,0 +1,12 @@
+pub mod BlockLemmas
+pub mod SizeLemmas
+pub mod FollowsLemmas
+pub mod PlaneLemmas
+pub mod CountLemmas
+pub mod LevelLemmas
+pub mod LifeLemmas
+pub mod WearLemmas
+pub mod SeededLemmas
+pub mod CalmLemmas
+pub mod DrawnLemmas
+pub mod YoungLemmas
