@@ -35,8 +35,7 @@ rounds-more a b d some le =
 
 fewer : (a b c : Bool) → one_if (a && (b && c)) ≤ one_if (a && b)
 fewer true true c = one-few c
-fewer true false c = omega arith
-fewer false b c = omega arith
+fewer _ _ c = omega arith
 
 module _ {n : ℕ} (shape : BankShape) (rows : List (Row n)) (some : 1 ≤ shape.lines) (each : 1 ≤ shape.psi) where
   stores-few : (region : ℕ) → region_stores is_stored shape region rows ≤ asked_writes shape region rows
@@ -47,8 +46,7 @@ module _ {n : ℕ} (shape : BankShape) (rows : List (Row n)) (some : 1 ≤ shape
 
   unhot : (a b c d : Bool) → one_if (a && (b && (c && d))) ≤ one_if (a && (b && c))
   unhot true true c d = fewer true c d
-  unhot true false c d = omega arith
-  unhot false b c d = omega arith
+  unhot _ _ c d = omega arith
 
   works-few : (region : ℕ) (hot : List ℕ) → most_hot_works shape region hot rows ≤ most_asked_works shape region hot rows
   works-few region hot =

@@ -20,8 +20,7 @@ use Rattle.masked_bytes.proofs.Counting.{one_if}
 
 -- a change is of this item, or of another
 some-item : (where_ : Home) (other item : ℕ) → one_if (is_item item (item_if where_ other)) ≤ one_if (other == item)
-some-item home.Guarded other item = omega arith
-some-item home.Array other item = omega arith
+some-item where_ other item = grind arith
 
 other-item : (where_ : Home) (other item : ℕ) → (other ≡ item → ⊥) → one_if (is_item item (item_if where_ other)) ≡ 0
 other-item where_ other item isnt =
@@ -102,8 +101,7 @@ module _ {n : ℕ} (shape : BankShape) (some : 1 ≤ shape.regions) (lines : 1 �
       ]
     where
       at_most : (b : Bool) → one_if b ≤ 1
-      at_most true = omega arith
-      at_most false = omega arith
+      at_most b = grind arith
 
       more : length (retired h ++ slot ∷ []) ≡ length (retired h) + 1 → (item < shape.regions + length (retired h)) ⊎ (has_exhausted h ≡ true)
           → (item < shape.regions + length (retired h ++ slot ∷ [])) ⊎ (has_exhausted h ≡ true)
@@ -122,8 +120,7 @@ module _ {n : ℕ} (shape : BankShape) (some : 1 ≤ shape.regions) (lines : 1 �
       ]
     where
       at_most : (b : Bool) → one_if b ≤ 1
-      at_most true = omega arith
-      at_most false = omega arith
+      at_most b = grind arith
   once-only most (_ ∷ h) may = same-once _ h refl refl refl (once-only most h may.1)
 
 module _ {n m : ℕ} (shape : BankShape) (pace : Pace) (e item : ℕ) (sized : IsSized shape pace) (xs : List (TimedEvent n m)) (l : Lawful shape pace e xs) where

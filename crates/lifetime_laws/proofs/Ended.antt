@@ -3,8 +3,7 @@ use Rattle.std.proofs.Common.{◌≡◌, ◌⊎◌, inl, inr, ℕ, zero, suc, �
 use Rattle.std.proofs.{lemmas.Bool.{eqb-true, eq-eqb}, lemmas.Nat.div-mul-add}
 use Rattle.start_gap.specs.{Rotation.{gap_after, move_after}, declared.Move.Move}
 use Rattle.spare_pool.{specs.Table.line_from, proofs.Lines.{only_own, line_from-more}}
-use Rattle.bank_shape.specs.{Shape.{slots_of, slot_at}, declared.BankShape.BankShape, declared.Work.Work, declared.Work.TheVariants.{Nothing, Store, Copy}}
-use Rattle.bank_shape.specs.declared.answer.Step.{Step}
+use Rattle.bank_shape.specs.{Shape.{slots_of, slot_at}, declared.BankShape.BankShape, declared.Work.Work, declared.Work.TheVariants.{Nothing, Copy}, declared.answer.Step.Step}
 use Rattle.bank_shape.specs.declared.answer.Step.TheVariants as did
 use Rattle.bank_model.specs.{After.{work_after, due_work, slot_of_work, array_line_after, target_after}, Answers.{IsDone, MayAll}, Events.{BankEvent, Begin, Iterate, Cut}}
 use Rattle.bank_model.specs.{History.{in_progress, retired, has_exhausted, moved_in, due_after, queue}, Works.{tally, works_on}}
@@ -38,9 +37,7 @@ module _ {n : ℕ} (shape : BankShape) (at : ℕ) where
 
   -- a store is done at its target
   done-place : (h : List (BankEvent n)) (work : Work) (row place : ℕ) → IsDone shape h work (did.Stored row place) → place ≡ array_line_after shape h (slot_of_work shape h work)
-  done-place h Nothing row place d = absurd d
-  done-place h (Store line slot) row place d = d.1
-  done-place h (Copy region step) row place d = absurd d
+  done-place h work row place d = grind arith
 
   -- each is one of these
   pub works-split : (most : ℕ) (h : List (BankEvent n)) → MayAll shape most h → works_on shape at h ≡ stored_tally any at h + moved_tally h + gave_tally h + cut_tally h

@@ -1,5 +1,5 @@
 -- A line with no cell stuck isn't worn.
-use Rattle.std.proofs.Common.{◌≡◌, ℕ, zero, suc, ◌+◌, ◌*◌, ◌-◌, ◌<◌, ◌≤◌, ◌&&◌, ◌||◌, not, Bool, true, false, refl, ap, ◌∙◌, arith}
+use Rattle.std.proofs.Common.{◌≡◌, ℕ, zero, suc, ◌+◌, ◌*◌, ◌-◌, ◌<◌, ◌≤◌, ◌&&◌, ◌||◌, not, Bool, false, refl, ap, ◌∙◌, arith}
 use Rattle.std.{specs.Prelude.nat_lt, proofs.lemmas.Bool.{false_from_ne_true, le-ltb, or_from}}
 use Rattle.cell_rows.specs.{Rows.{cell, members}, declared.row.Cells.Cells}
 use Rattle.ecp_line.specs.{Layout.{IsLayout, width, some_below, full_cell, activity_cell}, Reading.is_worn_line}
@@ -29,10 +29,7 @@ live-line {B} {M} e row stuck l none =
     by (nat_lt e (members stuck (8 * (B + M)))) (stuck (full_cell B e)) (not (cell row (full_cell B e))) (some_below (λ i. stuck (activity_cell B e + i)) (e - 1)) few full active
   where
     by : (a b c d : Bool) → a ≡ false → b ≡ false → d ≡ false → (a || (b || (c && d))) ≡ false
-    by true b c d h k i = h
-    by false true c d h k i = k
-    by false false true d h k i = i
-    by false false false d h k i = refl
+    by a b c d h k i = grind arith
 
     within : (k : ℕ) → k < e - 1 → activity_cell B e + k < 8 * (B + M)
     within k lt =

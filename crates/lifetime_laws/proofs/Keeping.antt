@@ -47,12 +47,10 @@ off-cond true b r off = absurd (cc (off))
 off-cond false b r off = refl
 
 pub stops-cond : (a : Bool) (r : ℕ) → cond (a && false) r 0 ≡ 0
-stops-cond true r = refl
-stops-cond false r = refl
+stops-cond a r = grind arith
 
 pub none-cond : (b : Bool) → ◌≡◌ {A = ℕ} (cond b 0 0) 0
-none-cond true = refl
-none-cond false = refl
+none-cond b = grind arith
 
 fewer-cond : (b c : Bool) → cond (b && c) 1 0 ≤ one_if b
 fewer-cond true c = one-few c
@@ -182,8 +180,7 @@ module _ (w p r c q n : ℕ) (here keeping halted cancelling : Bool) (k : IsKept
       }
     where
       grown : (b : Bool) → cond (b && true) r 0 + one_if b ≡ cond (b && true) (r + 1) 0
-      grown true = refl
-      grown false = refl
+      grown b = grind arith
 
   -- what a line write of this control line has taken as it ends
   spent-begin : (new : ℕ) → new ≤ p → keeping ≡ false → new ≤ w * (k.ended + k.broken) + cond here w 0

@@ -30,12 +30,10 @@ abbrev pub any : ℕ → Bool
 any line = true
 
 and-true : (b : Bool) → one_if (b && true) ≡ one_if b
-and-true true = refl
-and-true false = refl
+and-true b = grind arith
 
 and-none : (b : Bool) → one_if (b && false) ≡ 0
-and-none true = refl
-and-none false = refl
+and-none b = grind arith
 
 module _ {n : ℕ} (on : ℕ) where
   other_kept : (at row : ℕ) (t : Outcome n) (f : ℕ → Outcome n) → is_stored_on on t ≡ false → f at ≡ out.Unset → is_stored_on on (unwrap_or (on_row at row t) (f row)) ≡ is_stored_on on (f row)
@@ -50,8 +48,7 @@ module _ {n : ℕ} (on : ℕ) where
   lost_kept false tick o unset = refl
 
   ended-on : (tick : ℕ) (o : Outcome n) → is_stored_on on (ended tick o) ≡ is_stored_on on o
-  ended-on tick out.Unset = refl
-  ended-on tick _ = refl
+  ended-on tick o = grind arith
 
 module _ {n m : ℕ} (shape : BankShape) (pace : Pace) (e : ℕ) (keep : ℕ → Bool) (on : ℕ) where
   abbrev landed : List (TimedEvent n m) → ℕ

@@ -1,5 +1,5 @@
 -- A bank whose hot lines are few, over cells that endure.
-use Rattle.std.proofs.Common.{◌≡◌, inl, inr, ℕ, ◌+◌, ◌*◌, ◌/◌, ◌%◌, ◌<◌, ◌≤◌, ◌==◌, ◌&&◌, ◌||◌, not, Bool, true, false, List, [], ◌∷◌, Option, Some, None, length, refl, sym, ap, ◌∙◌, subst, arith}
+use Rattle.std.proofs.Common.{◌≡◌, inl, inr, ℕ, ◌+◌, ◌*◌, ◌/◌, ◌%◌, ◌<◌, ◌≤◌, ◌==◌, ◌&&◌, ◌||◌, not, Bool, true, false, List, [], ◌∷◌, Option, length, refl, sym, ap, ◌∙◌, subst, arith}
 use Rattle.std.{specs.List.list_any, specs.Prelude.{count_by, is_some}, proofs.Math.Nat.mul-le-mul_left}
 use Rattle.std.proofs.{lemmas.Bool.{eqb-true, eq-eqb, false_from_ne_true, cases_eq, ne_eqb}, lemmas.Nat.{div-mul-add, div_below, mod_below}}
 use Rattle.result_rows.specs.declared.Outcome.{Outcome}
@@ -22,8 +22,7 @@ use Rattle.masked_bytes.proofs.Counting.{one_if, count-cons}
 
 -- a bank that rests has no line write of its own in progress: while a change stands none is
 core-rests : (change : Option ℕ) (keeping busy : Bool) → (is_some change ≡ true → busy ≡ false) → busy_by change keeping busy ≡ false → busy ≡ false
-core-rests None keeping busy changed rests = rests
-core-rests (Some item) keeping busy changed rests = changed refl
+core-rests change keeping busy changed rests = grind arith
 
 -- so no line has had an iteration of one
 rests-held : {n m : ℕ} (e : ℕ) (shape : BankShape) (pace : Pace) (xs : List (TimedEvent n m)) (at : ℕ) → Lawful shape pace e xs → IsStill shape xs → held_on shape at (core xs) ≡ 0
@@ -177,14 +176,12 @@ one-split : (a b c d : Bool) → (a ≡ true → b ≡ true) → one_if (b && d)
 one-split true true c d h = by d
   where
     by : (d : Bool) → one_if (true && d) ≡ one_if (true && d) + one_if (true && (not (true || false) && d))
-    by true = refl
-    by false = refl
+    by d = grind arith
 one-split true false c d h = absurd (cc (h refl))
 one-split false true c d h = by d
   where
     by : (d : Bool) → one_if (true && d) ≡ one_if (false && d) + one_if (true && (not (false || false) && d))
-    by true = refl
-    by false = refl
+    by d = grind arith
 one-split false false c d h = refl
 
 own-split : {n : ℕ} (shape : BankShape) (line : ℕ) (rows : List (Row n))

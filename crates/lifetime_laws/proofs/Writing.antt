@@ -35,26 +35,22 @@ Room w h = in_progress h ≡ true → iterated h + 1 ≤ w
 module _ (w works pulses new : ℕ) where
   begin-step : (going here : Bool) → pulses ≤ w * works + 0 → new ≤ pulses + 0 → new ≤ w * (one_if (not going && here) + works) + cond (going && here) 0 0
   begin-step true true few more = let same : w * (0 + works) ≡ w * works = omega arith in omega (arith, few, more, same)
-  begin-step true false few more = let same : w * (0 + works) ≡ w * works = omega arith in omega (arith, few, more, same)
   begin-step false true few more = omega (arith, few, more, next-work w works)
-  begin-step false false few more = let same : w * (0 + works) ≡ w * works = omega arith in omega (arith, few, more, same)
+  begin-step _ _ few more = let same : w * (0 + works) ≡ w * works = omega arith in omega (arith, few, more, same)
 
   iterate-step : (going here : Bool) (k : ℕ) → pulses ≤ w * works + cond here k 0 → new ≤ pulses + one_if here → k < w
       → new ≤ w * (one_if (not going && here) + works) + cond (going && here) (k + 1) 0
   iterate-step true true k few more lt = let same : w * (0 + works) ≡ w * works = omega arith in omega (arith, few, more, same)
-  iterate-step true false k few more lt = let same : w * (0 + works) ≡ w * works = omega arith in omega (arith, few, more, same)
   iterate-step false true k few more lt = omega (arith, few, more, next-work w works, lt)
-  iterate-step false false k few more lt = let same : w * (0 + works) ≡ w * works = omega arith in omega (arith, few, more, same)
+  iterate-step _ _ k few more lt = let same : w * (0 + works) ≡ w * works = omega arith in omega (arith, few, more, same)
 
   cut-step : (busy tearing here : Bool) (k : ℕ) → pulses ≤ w * works + cond (busy && here) k 0 → new ≤ pulses + one_if (tearing && here) → (busy ≡ true → k + 1 ≤ w) → (tearing ≡ true → busy ≡ true)
       → new ≤ w * (one_if (busy && here) + works) + 0
   cut-step true true true k few more room tears = omega (arith, few, more, next-work w works, room refl)
   cut-step true false true k few more room tears = omega (arith, few, more, next-work w works, room refl)
-  cut-step true true false k few more room tears = let same : w * (0 + works) ≡ w * works = omega arith in omega (arith, few, more, same)
-  cut-step true false false k few more room tears = let same : w * (0 + works) ≡ w * works = omega arith in omega (arith, few, more, same)
   cut-step false true here k few more room tears = absurd (cc (tears refl))
   cut-step false false true k few more room tears = let same : w * (0 + works) ≡ w * works = omega arith in omega (arith, few, more, same)
-  cut-step false false false k few more room tears = let same : w * (0 + works) ≡ w * works = omega arith in omega (arith, few, more, same)
+  cut-step _ _ _ k few more room tears = let same : w * (0 + works) ≡ w * works = omega arith in omega (arith, few, more, same)
 
 module _ {n m : ℕ} (shape : BankShape) (pace : Pace) (e at : ℕ) (low : at < controls_from shape) where
   abbrev Few : List (TimedEvent n m) → Type 0

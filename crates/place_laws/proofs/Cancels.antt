@@ -13,9 +13,7 @@ use Rattle.place_laws.proofs.{Pulsing.{ends_work, cancels_work, ends_in, cancels
 -- a read that would cancel finds a policy that cancels, a line write that runs, and few cancels
 cancels-when : (p w empty : Bool) (count : ℕ) → (p && (w && (empty && nat_lt count most_cancels))) ≡ true → (p ≡ true) × (w ≡ true) × (count < most_cancels)
 cancels-when true true true count h = (refl, refl, ltb-true count most_cancels h)
-cancels-when true true false count h = absurd (cc)
-cancels-when true false empty count h = absurd (cc)
-cancels-when false w empty count h = absurd (cc)
+cancels-when _ _ _ count h = absurd (cc)
 
 -- after each line write that ended at most four were cancelled, and so for the present one; none once the bank is exhausted, and
 -- none where reads don't cancel

@@ -7,10 +7,7 @@ use Rattle.bank_model.{specs.Events.{BankEvent, Write, Read, Begin, Iterate, Row
 use Rattle.bank_laws.proofs.Asked.{Wrote, wrote-asked, asked-below}
 
 one-counted : (k b c : Bool) → b ≡ false → c ≡ true → one_if (k && c) ≡ one_if (k && b) + one_if k
-one-counted true true c off on = absurd (cc)
-one-counted true false true off on = refl
-one-counted true false false off on = absurd (cc)
-one-counted false b c off on = refl
+one-counted k b c off on = grind arith
 
 module _ {n : ℕ} where
   -- how many writes of these events have such a line and such a row

@@ -30,11 +30,10 @@ module _ {n : ℕ} (shape : BankShape) where
       by : (ex : Bool) (due : Option ℕ) (q : List (Entry n)) → due_after shape h ≡ due
           → IsDone shape h (cond ex Nothing (due_work shape h due q)) (did.Moved step)
           → step ≡ move_after shape.lines (moved_in shape.lines h (last_region shape h))
-      by true due q is d = absurd d
       by false (Some region) q is d =
           d ∙ ap (λ r. move_after shape.lines (moved_in shape.lines h r)) (sym (some-due shape h region is).own)
       by false None [] is d = absurd d
-      by false None (e ∷ es) is d = absurd d
+      by _ _ _ is d = absurd d
 
   moved-more : (h : List (BankEvent n)) (region : ℕ) (step : Move) → IsDone shape h (work_after shape h) (did.Moved step)
       → moves_of shape.lines h region ≡ first_moves shape.lines (moved_in shape.lines h region)
@@ -73,8 +72,7 @@ copies-by lines line place t is = by (eqb (moved_line lines t) line) (eqb (gap_a
   where
     by : (a b : Bool) → eqb (moved_line lines t) line ≡ a → eqb (gap_after lines t) place ≡ b → (a && b) ≡ true → Copies lines line place t
     by true true copied into is = record { copied = eqb-true _ _ copied; into = eqb-true _ _ into }
-    by true false copied into is = absurd (cc)
-    by false b copied into is = absurd (cc)
+    by _ _ copied into is = absurd (cc)
 
 copies-so : (lines line place t : ℕ) → Copies lines line place t → copies_into line place (move_after lines t) ≡ true
 copies-so lines line place t c = and_from _ _ (eq-eqb _ _ c.copied) (eq-eqb _ _ c.into)

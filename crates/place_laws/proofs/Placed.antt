@@ -166,10 +166,7 @@ module _ {n m : ℕ} (shape : BankShape) (pace : Pace) (e : ℕ) (all : List (Ti
       by _ is = refl
 
   ended-placed : (tick line : ℕ) (rows : List (Row n)) (o : Outcome n) → outcome_placed shape (is_worn_at e array) line rows o ≡ true → outcome_placed shape (is_worn_at e array) line rows (ended tick o) ≡ true
-  ended-placed tick line rows out.Unset is = refl
-  ended-placed tick line rows (out.Stored u p) is = is
-  ended-placed tick line rows (out.Read u p bytes) is = is
-  ended-placed tick line rows _ is = refl
+  ended-placed tick line rows o is = grind arith
 
   placed_at : (later : List (TimedEvent n m)) (x : TimedEvent n m) (ys : List (TimedEvent n m)) → all ≡ later ++ x ∷ ys
       → Passes (is_placed shape (is_worn_at e array)) (rows_from shape all ys) (row_with shape all x.happens x.tick x.cancels) (rows_after shape all later)

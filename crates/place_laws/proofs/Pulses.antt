@@ -1,19 +1,19 @@
 -- All pulses of a bank, by its rows.
-use Rattle.std.proofs.Common.{◌≡◌, ℕ, zero, suc, ◌+◌, ◌*◌, ◌<◌, ◌≤◌, ◌&&◌, not, Bool, true, false, List, [], ◌∷◌, ◌++◌, Option, Some, None, refl, sym, ap, ◌∙◌, subst, arith, sum_by, length}
+use Rattle.std.proofs.Common.{◌≡◌, ℕ, zero, suc, ◌+◌, ◌*◌, ◌<◌, ◌≤◌, ◌&&◌, Bool, true, false, List, [], ◌∷◌, ◌++◌, Option, Some, None, refl, sym, ap, ◌∙◌, subst, arith, sum_by, length}
 use Rattle.std.{specs.Prelude.nat_lt, proofs.Math.Nat.mul-le-mul_left, proofs.lemmas.Bool.lt-ltb, proofs.lemmas.List.Sums.sum_by-cons}
 use Rattle.row_rules.specs.{Answers.is_stored, Rows.{asks_write, is_cut}, Ticking.{tries, writings}, declared.Asks.TheVariants.{Reads, Writes, Cuts}, declared.Row.Row}
 use Rattle.result_rows.specs.declared.Outcome.TheVariants as out
-use Rattle.bank_shape.specs.{Pausing.{is_cancelling, gives_way}, Shape.{is_array, if_array, controls_of, lines_in}, declared.BankShape.BankShape, declared.Home.Home}
-use Rattle.bank_shape.specs.{declared.pace.Pace.Pace, declared.pace.Policy.Policy, declared.pace.Policy.TheVariants.{Pause, Plain, Cancel}}
+use Rattle.bank_shape.specs.{Pausing.is_cancelling, Shape.{is_array, if_array, controls_of, lines_in}, declared.BankShape.BankShape, declared.Home.Home, declared.pace.Pace.Pace}
+use Rattle.bank_shape.specs.{declared.pace.Policy.Policy, declared.pace.Policy.TheVariants.{Pause, Plain, Cancel}}
 use Rattle.bank_shape.specs.declared.Home.TheVariants as home
-use Rattle.bank_model.specs.{After.due_moves, Answers.MayAll, Changes.{change_after, halted_after}, Events.{Write, Read, Cut}, History.{has_exhausted, retired, waits, due_after}}
-use Rattle.bank_model.specs.{Lawful.Lawful, Running.{over_by, busy_after, made_after, is_over, choice_after, cancels_after}, Sensing.{most_steps, pulses_of}}
-use Rattle.bank_model.specs.Timing.{Happens, Core, TimedEvent, core, is_empty}
+use Rattle.bank_model.specs.{After.due_moves, Answers.MayAll, Changes.{change_after, halted_after}, Events.{Write, Read, Cut}, History.{has_exhausted, retired, due_after}}
+use Rattle.bank_model.specs.{Lawful.Lawful, Running.{over_by, busy_after, made_after, is_over, cancels_after}, Sensing.{most_steps, pulses_of}}
+use Rattle.bank_model.specs.Timing.{Happens, Core, TimedEvent, core}
 use Rattle.bank_laws.{specs.Laws.IsSized, specs.Outcomes.{outcome_of, ended, row_with, rows_from, table_of}, specs.Resting.IsStill, proofs.Waiting.may_all}
 use Rattle.right_runs.specs.{Banks.rules_of, KeepsPlaces.{pulses_among, most_pulses}}
 use Rattle.place_laws.{specs.PlaceLaws.PulsesLaw, proofs.Cancels.cancels-kept, proofs.Moves.next_product}
 use Rattle.place_laws.proofs.{Pulsing.{ends_in, cancels_in, pulses_in, pulses-kept, held_by, held-idle}, Slots.retired-few, Storing.stored-counted, Tables.all-counted}
-use Rattle.place_laws.proofs.{Trying.{all_stores, all_moves, cuts_power, cuts_in, moves-few, causes, unwritten, each, ends-few}, WornOut.none-ready}
+use Rattle.place_laws.proofs.Trying.{all_stores, all_moves, cuts_power, cuts_in, moves-few, causes, unwritten, each, ends-few}
 use Rattle.masked_bytes.proofs.Counting.{one_if}
 
 -- the same pulses of lines counted from a base
@@ -91,8 +91,7 @@ module _ {n m : ℕ} (shape : BankShape) (pace : Pace) (e : ℕ) (all : List (Ti
       spares = retired-few shape (most_steps e) (core all) may
 
       at_most : (ex : Bool) → one_if ex ≤ 1
-      at_most true = omega arith
-      at_most false = omega arith
+      at_most ex = grind arith
 
       within : each shape * causes (core all) ≤ each shape * (2 * stores_by_rows + shape.spares + 1)
       within = mul-le-mul_left (each shape) (omega (arith, stores, moves, spares, at_most (has_exhausted (core all))))
@@ -101,8 +100,7 @@ module _ {n m : ℕ} (shape : BankShape) (pace : Pace) (e : ℕ) (all : List (Ti
       one_each = by (is_array shape.home)
         where
           by : (b : Bool) → 1 ≤ writings b
-          by true = omega arith
-          by false = omega arith
+          by b = grind arith
 
       room : is_over shape all ≡ false → ends_in all + 1 ≤ each shape * (2 * stores_by_rows + shape.spares + 1) + cuts_by_rows
       room going = by (change_after shape all) (halted_after all) going few

@@ -79,12 +79,10 @@ pub begins-idle : {n : ℕ} (shape : BankShape) (h : List (BankEvent n)) → may
 begins-idle shape h may = not-true (in_progress h) (and_first (not (in_progress h)) _ may)
 
 pub held-idle : (busy : Bool) (made : ℕ) → busy ≡ false → held_by busy made ≡ 0
-held-idle true made is = absurd (cc)
-held-idle false made is = refl
+held-idle busy made is = grind arith
 
 held-going : (busy : Bool) (made : ℕ) → busy ≡ true → held_by busy made ≡ made
-held-going true made is = refl
-held-going false made is = absurd (cc)
+held-going busy made is = grind arith
 
 -- what a line write in progress may still have
 going_room : (busy : Bool) (k w : ℕ) → (busy ≡ true → k + 1 ≤ w) → cond busy k 0 ≤ w
@@ -133,8 +131,7 @@ torn-busy shape (Some item) keeping busy action true going is torn h = absurd (c
 torn-busy shape None keeping busy action false going is torn h = by (is_doing doing.Iterating action)
   where
     by : (b : Bool) → (pulse_of (cond b (line_of_change shape None) None) ≡ 0) ⊎ ((pulse_of (cond b (line_of_change shape None) None) ≡ 1) × (busy ≡ true))
-    by true = inl refl
-    by false = inl refl
+    by b = grind arith
 torn-busy shape (Some item) keeping busy action false going is torn h = by (is_doing doing.Iterating action) torn
   where
     by : (b : Bool) → (is_some (cond b (line_of_change shape (Some item)) None) ≡ true → keeping ≡ true)
@@ -215,9 +212,6 @@ module _ {n m : ℕ} (shape : BankShape) (pace : Pace) (e from count : ℕ) wher
 
       by : (h : Happens n) (cancels : Bool) → MayCome shape pace e xs x h → Before → pulses_in (x ∷ xs) ≤ pulses_in xs + pulse_of x.pulsed
           → KeepsAt xs x h (pulses_in (x ∷ xs)) (one_if (ends_work h cancels) + ends_in xs + (one_if (cancels_work h cancels) + cancels_in xs))
-      by (Core (Write row line bytes given answer)) cancels may k more = same k (none None may.pulsed more)
-      by (Core (Read row line answer)) cancels may k more = same k (none None may.pulsed more)
-      by (Core (Serve answer)) cancels may k more = same k (none None may.pulsed more)
       by (Core (Begin answer)) cancels may k more = began answer (begins (goes_on answer) k idle (none None may.pulsed more)) may.on_time.2
         where
           idle : busy_after shape xs ≡ false
@@ -252,6 +246,7 @@ module _ {n m : ℕ} (shape : BankShape) (pace : Pace) (e from count : ℕ) wher
               → pulses_in (x ∷ xs) ≤ w * (one_if (not cancels) + ends_in xs + (one_if cancels + cancels_in xs)) + 0
           cut (inl z) = cuts false cancels k (λ is. absurd (cc)) (omega (arith, last, z))
           cut (inr o) = cuts true cancels k (λ is. o.1) (omega (arith, last, o.0))
+      by (Core _) cancels may k more = same k (none None may.pulsed more)
       by (Regs (KeepBegin answer)) cancels may k more = began answer (begins (keeps_on answer) k idle (none None may.pulsed more))
         where
           idle : busy_after shape xs ≡ false
@@ -271,8 +266,7 @@ module _ {n m : ℕ} (shape : BankShape) (pace : Pace) (e from count : ℕ) wher
           few = iterates (keeps_on answer) k (busy-some (change_after shape xs) (keeping_after xs) (in_progress (core xs)) may.stands ∙ may.may.0) (omega (arith, made, may.may.1)) (pulsed_one (change_after shape xs) may.stands (none _ may.pulsed more))
             where
               pulsed_one : (change : Option ℕ) → is_some change ≡ true → pulses_in (x ∷ xs) ≤ pulses_in xs + pulse_of (line_of_change shape change) → pulses_in (x ∷ xs) ≤ pulses_in xs + 1
-              pulsed_one None some le = absurd (cc)
-              pulsed_one (Some item) some le = le
+              pulsed_one change some le = grind arith
 
           went : (answer : Keep) → pulses_in (x ∷ xs) ≤ w * (one_if (not (keeps_on answer)) + ends_in xs + (0 + cancels_in xs)) + held_by (keeps_on answer) (rounds_after xs + 1)
               → (answer ≡ keep.More → rounds_after xs + 1 < w)
@@ -285,6 +279,4 @@ module _ {n m : ℕ} (shape : BankShape) (pace : Pace) (e from count : ℕ) wher
           (torn_once tearing (change_after shape xs) may.stands (none _ may.pulsed more)))
         where
           torn_once : (tearing : Bool) (change : Option ℕ) → is_some change ≡ true → pulses_in (x ∷ xs) ≤ pulses_in xs + pulse_of (cond tearing (line_of_change shape change) None) → pulses_in (x ∷ xs) ≤ pulses_in xs + one_if tearing
-          torn_once true None some le = absurd (cc)
-          torn_once true (Some item) some le = le
-          torn_once false change some le = le
+          torn_once tearing change some le = grind arith

@@ -1,8 +1,7 @@
 -- The slots of a bank's lines and moves are the bank's, and a slot that was given a spare keeps one.
-use Rattle.std.proofs.Common.{ℕ, ◌+◌, ◌*◌, ◌/◌, ◌%◌, ◌<◌, ◌≤◌, ◌==◌, Bool, true, false, List, [], ◌∷◌, ◌++◌, length, length-append, sym, subst, arith, cond}
+use Rattle.std.proofs.Common.{ℕ, ◌+◌, ◌*◌, ◌/◌, ◌%◌, ◌<◌, ◌≤◌, ◌==◌, Bool, List, [], ◌∷◌, ◌++◌, length, length-append, sym, subst, arith, cond}
 use Rattle.std.proofs.lemmas.Nat.{mod_below, div_below}
-use Rattle.bank_shape.specs.{Shape.{slots_of, slot_moved}, declared.BankShape.BankShape, declared.Work.Work, declared.Work.TheVariants.{Nothing, Store, Copy}}
-use Rattle.bank_shape.proofs.Sizes.{slot_at-within}
+use Rattle.bank_shape.{specs.Shape.{slots_of, slot_moved}, specs.declared.BankShape.BankShape, specs.declared.Work.Work, proofs.Sizes.slot_at-within}
 use Rattle.bank_shape.specs.declared.answer.Step.TheVariants as did
 use Rattle.start_gap.specs.Rotation.{place_after, gap_after}
 use Rattle.spare_pool.{specs.Table.line_from, proofs.Lines.line_from-more}
@@ -19,14 +18,10 @@ gap-within n t = omega arith
 
 -- no begin retires or exhausts
 pub begin-retires_none : {n : ℕ} (shape : BankShape) (h : List (BankEvent n)) (work : Work) (slot line : ℕ) → IsDone shape h work (did.Retired slot line) → ⊥
-begin-retires_none shape h Nothing slot line d = d
-begin-retires_none shape h (Store at of) slot line d = d
-begin-retires_none shape h (Copy region step) slot line d = d
+begin-retires_none shape h work slot line d = grind arith
 
 pub begin-exhausts_none : {n : ℕ} (shape : BankShape) (h : List (BankEvent n)) (work : Work) → IsDone shape h work did.Exhausted → ⊥
-begin-exhausts_none shape h Nothing d = d
-begin-exhausts_none shape h (Store at of) d = d
-begin-exhausts_none shape h (Copy region step) d = d
+begin-exhausts_none shape h work d = grind arith
 
 module _ {n : ℕ} (shape : BankShape) where
   -- no more retirements than spares
@@ -44,8 +39,7 @@ module _ {n : ℕ} (shape : BankShape) where
   away-retired h at slot away = subst (λ k. slots_of shape ≤ k) (sym (line_from-more (slots_of shape) slot (retired h) at slot)) (by (at == slot))
     where
       by : (b : Bool) → slots_of shape ≤ cond b (slots_of shape + length (retired h)) (line_from (slots_of shape) slot (retired h) slot)
-      by true = omega arith
-      by false = away
+      by b = grind arith
 
   pub away-more : (event : BankEvent n) (h : List (BankEvent n)) (slot : ℕ) → IsAway h slot → IsAway (event ∷ h) slot
   away-more (Begin (did.Retired at line)) h slot away = away-retired h at slot away

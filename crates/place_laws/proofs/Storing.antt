@@ -18,8 +18,7 @@ use Rattle.masked_bytes.proofs.Counting.{one_if}
 
 pub none_first : (k b : Bool) (rest all : ℕ) → b ≡ false → rest ≡ all → one_if (k && b) + rest ≡ all
 none_first true true rest all isnt is = absurd (cc)
-none_first true false rest all isnt is = omega (arith, is)
-none_first false b rest all isnt is = omega (arith, is)
+none_first _ _ rest all isnt is = omega (arith, is)
 
 module _ {n : ℕ} where
   -- another answer than a store, to a row that is not stored

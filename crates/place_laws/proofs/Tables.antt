@@ -11,13 +11,10 @@ use Rattle.place_laws.proofs.Counts.{writes_with}
 use Rattle.masked_bytes.proofs.Counting.{one_if}
 
 ended-stored : {n : ℕ} (tick : ℕ) (o : Outcome n) → is_stored (ended tick o) ≡ is_stored o
-ended-stored tick out.Unset = refl
-ended-stored tick _ = refl
+ended-stored tick o = grind arith
 
 ended-before : {n : ℕ} (t tick : ℕ) (o : Outcome n) → stored_before t (ended tick o) ≡ stored_before t o
-ended-before t tick out.Unset = refl
-ended-before t tick (out.Stored at place) = refl
-ended-before t tick _ = refl
+ended-before t tick o = grind arith
 
 module _ {n m : ℕ} (shape : BankShape) (all : List (TimedEvent n m)) where
   -- a test of the writes of some lines by their outcomes

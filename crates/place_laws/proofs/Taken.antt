@@ -6,7 +6,7 @@ use Rattle.result_rows.specs.declared.Outcome.{Outcome}
 use Rattle.result_rows.specs.declared.Outcome.TheVariants as out
 use Rattle.cell_rows.specs.Device.{ArrayState}
 use Rattle.row_rules.specs.{Answers.{accepts, is_worn, is_queued, is_full}, Queueing.pending, Rows.{RowTest, each_row}, Serving.{may_have, is_served}, declared.Asks.Asks}
-use Rattle.row_rules.specs.{declared.Asks.TheVariants.{Reads, Writes, Cuts}, declared.Row.Row}
+use Rattle.row_rules.specs.{declared.Asks.TheVariants.Writes, declared.Row.Row}
 use Rattle.bank_shape.specs.{Shape.{controls_of, control_line}, declared.BankShape.BankShape, declared.answer.WriteAnswer.WriteAnswer, declared.pace.Pace.Pace}
 use Rattle.bank_shape.specs.declared.answer.WriteAnswer.TheVariants as wrote
 use Rattle.bank_model.specs.{Changes.{change_after, halted_after}, Events.{Write, Read, Cut}, History.{queue, has_exhausted}, Lawful.{Lawful, IsIdle, MayCome}}
@@ -23,15 +23,12 @@ taken_if : (writes count : ℕ) (left fine : Bool) → (left ≡ false → count
 taken_if writes count left fine h = by (nat_lt count writes) left refl refl
   where
     by : (b c : Bool) → nat_lt count writes ≡ b → left ≡ c → (not (b && not c) || fine) ≡ true
-    by true true lt is = refl
     by true false lt is = h is (ltb-true count writes lt)
-    by false c lt is = refl
+    by _ _ lt is = refl
 
 module _ {n : ℕ} where
   left-not_queued : (tick : ℕ) (o : Outcome n) → IsLeft o → is_queued (ended tick o) ≡ false
-  left-not_queued tick (out.Stored at place) l = refl
-  left-not_queued tick (out.Merged at) l = refl
-  left-not_queued tick _ l = absurd l
+  left-not_queued tick o l = grind arith
 
   -- three tests that every row passes make a fourth
   each-of : (one two three test : RowTest n)
@@ -69,8 +66,7 @@ module _ {n m : ℕ} (shape : BankShape) (pace : Pace) (e : ℕ) (all : List (Ti
       fate_true x.tick row (on.writes row (inl (new-push (queue shape (core ys)) (record { row = row; line = line; bytes = bytes; given = given })))) queued
   queued_true ys x row line bytes given (wrote.Merged old) may on is queued =
       fate_true x.tick row (on.writes row (inl (new-merged old row bytes given (queue shape (core ys)) (merged-there shape (core ys) line old may.may.2)))) queued
-  queued_true ys x row line bytes given wrote.Full may on is queued = absurd (cc (ap is_queued is))
-  queued_true ys x row line bytes given wrote.Exhausted may on is queued = absurd (cc (ap is_queued is))
+  queued_true ys x row line bytes given _ may on is queued = absurd (cc (ap is_queued is))
 
   wear_at : (later : List (TimedEvent n m)) (x : TimedEvent n m) (ys : List (TimedEvent n m)) → all ≡ later ++ x ∷ ys
       → Passes (is_wear_true_to off shape (is_worn_at e array)) (rows_from shape all ys) (row_with shape all x.happens x.tick x.cancels) (rows_after shape all later)
@@ -96,8 +92,7 @@ worn_law off n m e shape pace xs array sized l ends leaves =
     walk shape xs (is_wear_true_to off shape (is_worn_at e array)) [] xs refl (wear_at shape pace e xs array sized l leaves off ends)
 
 or-true : (off : Bool) → (off || true) ≡ true
-or-true true = refl
-or-true false = refl
+or-true off = grind arith
 
 module _ {n : ℕ} (shape : BankShape) (worn : ℕ → Bool) where
   -- a write that finds room in a bank that is not worn out, by its outcome
@@ -121,12 +116,11 @@ module _ {n : ℕ} (off : Bool) (e : ℕ) (shape : BankShape) (pace : Pace) (wor
   taken_row : (tick : ℕ) (asks : Asks n) (o : Outcome n) (before after : List (Row n)) → is_served before (record { tick = tick; asks = asks; outcome = o }) after ≡ true
       → is_room_fair shape.writes before (record { tick = tick; asks = asks; outcome = o }) after ≡ true → is_wear_true_to off shape worn before (record { tick = tick; asks = asks; outcome = o }) after ≡ true
       → is_taken_to off (rules_of e shape pace) shape worn before (record { tick = tick; asks = asks; outcome = o }) after ≡ true
-  taken_row tick (Reads line) o before after served room wear = refl
-  taken_row tick Cuts o before after served room wear = refl
   taken_row tick (Writes line bytes given) o before after served room wear =
       taken_if shape.writes (length (pending tick [] before)) (may_leave shape worn) (accepts o && (off || not (is_queued o)))
       (taken_outcome shape worn off tick line bytes given (length (pending tick [] before)) (is_worn_out shape worn) (may_leave shape worn) o served (and_second _ _ room) (and_first _ _ wear) (and_second _ _ wear)
       (λ is. or_left _ _ is))
+  taken_row tick _ o before after served room wear = refl
 
 pub taken_law : TakenLaw
 taken_law off n m e shape pace xs array sized l ends leaves =

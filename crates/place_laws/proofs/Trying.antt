@@ -47,9 +47,7 @@ module _ {n : ℕ} (shape : BankShape) where
   exhausted-begins_none h ex = by (in_progress h) (has_exhausted h) ex
     where
       by : (b ex : Bool) → ex ≡ true → (not b && is_ready (waits shape h) (cond ex Nothing (due_work shape h (due_after shape h) (queue shape h)))) ≡ false
-      by true ex is = refl
-      by false true is = refl
-      by false false is = absurd (cc)
+      by b ex is = grind arith
 
   begun_idle : (h : List (BankEvent n)) (busy : Bool) → has_exhausted h ≡ true → may_begin_after shape h ≡ true → busy ≡ false
   begun_idle h busy ex may = absurd (cc (exhausted-begins_none h ex, may))
@@ -97,17 +95,10 @@ module _ {n : ℕ} (shape : BankShape) where
 
 -- what may be done once nothing is in progress and nothing may be begun
 chosen-serves : (way reads busy ready : Bool) (d : Doing) → busy ≡ false → ready ≡ false → chosen_by way reads (choice busy ready) ≡ Some d → d ≡ doing.Serving
-chosen-serves way reads true ready d idle none is = absurd (cc)
-chosen-serves way reads false true d idle none is = absurd (cc)
-chosen-serves true true false false d idle none is = cc
-chosen-serves true false false false d idle none is = absurd (cc)
-chosen-serves false true false false d idle none is = cc
-chosen-serves false false false false d idle none is = absurd (cc)
+chosen-serves way reads busy ready d idle none is = grind arith
 
 serving-still : (d : Doing) (first : ℕ) → d ≡ doing.Serving → is_writing (Some (record { doing = d; first = first })) ≡ false
-serving-still doing.Serving first is = refl
-serving-still doing.Beginning first is = absurd (cc)
-serving-still doing.Iterating first is = absurd (cc)
+serving-still d first is = grind arith
 
 started-still : (r : Option Action) (d : Option Doing) (last tick : ℕ) → is_writing r ≡ false → ((a : Doing) → d ≡ Some a → a ≡ doing.Serving) → is_writing (started r d last tick) ≡ false
 started-still (Some action) d last tick still serves = still
@@ -119,8 +110,7 @@ started-still None (Some d) last tick still serves = by (nat_lt last tick)
     by false = refl
 
 dropped-still : (b : Bool) (r : Option Action) → is_writing r ≡ false → is_writing (cond b None r) ≡ false
-dropped-still true r still = refl
-dropped-still false r still = still
+dropped-still b r still = grind arith
 
 -- each line write of the bank that ends is a store, a move, a retirement, or the one that finds no spare
 abbrev pub causes : {n : ℕ} → List (BankEvent n) → ℕ
@@ -139,18 +129,13 @@ new_change : (shape : BankShape) (item : ℕ) (halted : Bool) → 1 + unwritten 
 new_change shape item halted = by shape.home halted
   where
     by : (where_ : Home) (halted : Bool) → 1 + unwritten (item_if where_ item) halted ≤ writings (is_array where_)
-    by home.Guarded halted = omega arith
-    by home.Array true = omega arith
-    by home.Array false = omega arith
+    by where_ halted = grind arith
 
 no_change : (change : Option ℕ) (halted : Bool) → change ≡ None → unwritten change halted ≡ 0
-no_change None halted is = refl
-no_change (Some item) halted is = absurd (cc)
+no_change change halted is = grind arith
 
 some_change : (change : Option ℕ) (halted : Bool) → is_some change ≡ true → halted ≡ false → unwritten change halted ≡ 1
-some_change None halted is off = absurd (cc)
-some_change (Some item) true is off = absurd (cc)
-some_change (Some item) false is off = refl
+some_change change halted is off = grind arith
 
 one_more : (k c s : ℕ) → k ≡ c + 1 → s * k ≡ s * c + s
 one_more k c s is = ap (λ k. s * k) is ∙ next_product s c
@@ -161,9 +146,7 @@ module _ {n m : ℕ} (shape : BankShape) (pace : Pace) (e : ℕ) where
   over-rests xs l over = by (change_after shape xs) over
     where
       stopped : (keeping halted : Bool) → keeping ≡ false → halted ≡ true → not (keeping || halted) ≡ false
-      stopped true halted off on = absurd (cc)
-      stopped false true off on = refl
-      stopped false false off on = absurd (cc)
+      stopped keeping halted off on = grind arith
 
       by : (change : Option ℕ) → over_by change (halted_after xs) (has_exhausted (core xs)) ≡ true
           → (busy_by change (keeping_after xs) (in_progress (core xs)) ≡ false) × (ready_by change (keeping_after xs || halted_after xs) (may_begin_after shape (core xs)) ≡ false)
@@ -237,6 +220,5 @@ module _ {n m : ℕ} (shape : BankShape) (pace : Pace) (e : ℕ) where
           omega (arith, ih, one, none)
         where
           gone : (change : Option ℕ) → unwritten change true ≡ 0
-          gone None = refl
-          gone (Some item) = refl
+          gone change = grind arith
       by _ _ may ih idle = omega (arith, ih)

@@ -1,5 +1,5 @@
 -- What a line write that ends says of the bank's work.
-use Rattle.std.proofs.Common.{◌≡◌, ℕ, inl, Bool, true, false, List, [], ◌∷◌, Option, Some, None, refl, sym, ap, ◌∙◌, subst, cond}
+use Rattle.std.proofs.Common.{◌≡◌, ℕ, inl, Bool, false, List, [], ◌∷◌, Option, Some, None, refl, sym, ap, ◌∙◌, subst, cond}
 use Rattle.masked_bytes.specs.{Entries.head_row, declared.entry.Entry.Entry}
 use Rattle.bank_shape.specs.{declared.BankShape.BankShape, declared.Work.TheVariants.Nothing}
 use Rattle.bank_shape.specs.declared.answer.Step.TheVariants as did
@@ -21,9 +21,6 @@ module _ {n : ℕ} (shape : BankShape) (h : List (BankEvent n)) where
     where
       by : (ex : Bool) (due : Option ℕ) (q : List (Entry n)) → has_exhausted h ≡ ex → due_after shape h ≡ due → queue shape h ≡ q
           → IsDone shape h (cond ex Nothing (due_work shape h due q)) (did.Stored row place) → IsStoreOf row place
-      by true due q fine none is d = absurd d
-      by false (Some region) q fine none is d = absurd d
-      by false None [] fine none is d = absurd d
       by false None (e ∷ es) fine none is d = record {
         line = e.line;
         stands = subst (λ (q : List (Entry n)). Stands q row e.line) (sym is) (inl (sym (d.0 ∙ ap head_row is), refl));
@@ -31,6 +28,7 @@ module _ {n : ℕ} (shape : BankShape) (h : List (BankEvent n)) where
         fine = fine;
         place_is = d.1;
       }
+      by _ _ _ fine none is d = absurd d
 
   -- a move is of the region that is due
   pub record IsMoveOf : Type 0 where
@@ -43,7 +41,6 @@ module _ {n : ℕ} (shape : BankShape) (h : List (BankEvent n)) where
     where
       by : (ex : Bool) (due : Option ℕ) (q : List (Entry n)) → has_exhausted h ≡ ex → due_after shape h ≡ due
           → IsDone shape h (cond ex Nothing (due_work shape h due q)) (did.Moved step) → IsMoveOf
-      by true due q fine is d = absurd d
       by false (Some region) q fine is d = record { region = region; due = is; fine = fine }
       by false None [] fine is d = absurd d
-      by false None (e ∷ es) fine is d = absurd d
+      by _ _ _ fine is d = absurd d

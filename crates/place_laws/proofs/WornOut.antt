@@ -74,14 +74,7 @@ pub none-ready : (way reads : Bool) (c : Choice) → chosen_by way reads c ≡ N
 none-ready way reads c is = by way reads c.busy c.ready is
   where
     by : (way reads busy ready : Bool) → cond (way && reads) (Some doing.Serving) (cond busy (Some c.going_on) (cond reads (Some doing.Serving) (cond ready (Some c.beginning) None))) ≡ None → (busy ≡ false) × (ready ≡ false)
-    by true true busy ready is = absurd (cc)
-    by true false true ready is = absurd (cc)
-    by true false false true is = absurd (cc)
-    by true false false false is = (refl, refl)
-    by false reads true ready is = absurd (cc)
-    by false true false ready is = absurd (cc)
-    by false false false true is = absurd (cc)
-    by false false false false is = (refl, refl)
+    by way reads busy ready is = grind arith
 
 -- a bank without work in which something is left to do begins no line write any more: it is exhausted, or the writing of a change has halted
 idle-over : {n m : ℕ} (shape : BankShape) (xs : List (TimedEvent n m)) → busy_after shape xs ≡ false → ready_after shape xs ≡ false
@@ -110,9 +103,7 @@ idle-queued {n} shape pace xs row idle there =
   where
     by : (busy ex : Bool) (due : Option ℕ) (es : List (Entry n)) (ws : List Awaited) → busy ≡ false → ws ≡ []
         → (not busy && is_ready ws (cond ex Nothing (due_work shape (core xs) due es))) ≡ false → has_row es row ≡ true → ex ≡ true
-    by false true due es ws idle empty ready there = refl
-    by false false None (e ∷ es) [] idle empty ready there = absurd (cc)
-    by _ _ _ _ _ idle empty ready there = absurd (cc)
+    by busy ex due es ws idle empty ready there = grind arith
 
 -- and so is one where a move is due
 pub idle-due : {n m : ℕ} (shape : BankShape) (pace : Pace) (xs : List (TimedEvent n m)) (region : ℕ) → IsIdle shape pace xs → due_after shape (core xs) ≡ Some region → is_over shape xs ≡ true
@@ -121,10 +112,7 @@ idle-due {n} shape pace xs region idle due =
     by (in_progress (core xs)) (has_exhausted (core xs)) (due_after shape (core xs)) still due never)
   where
     by : (busy ex : Bool) (due : Option ℕ) → busy ≡ false → due ≡ Some region → (not busy && is_ready (waits shape (core xs)) (cond ex Nothing (due_work shape (core xs) due (queue shape (core xs))))) ≡ false → ex ≡ true
-    by true ex due idle is ready = absurd (cc)
-    by false true due idle is ready = refl
-    by false false None idle is ready = absurd (cc)
-    by false false (Some at) idle is ready = absurd (cc)
+    by busy ex due idle is ready = grind arith
 
 module _ {n m : ℕ} (shape : BankShape) (pace : Pace) (e : ℕ) (all : List (TimedEvent n m)) (array : ArrayState n m) (sized : IsSized shape pace) (l : Lawful shape pace e all) (leaves : LeavesArray e shape all array) where
   -- an exhausted bank is worn out
@@ -207,8 +195,7 @@ change-within {n} shape pace e (x ∷ xs) r l law = by x.happens law.0 (change-w
     there item lt = own shape.home refl
       where
         own : (where_ : Home) → where_ ≡ shape.home → IfSome (item_if where_ item) (λ item. item < if_array where_ (shape.regions + shape.spares + 1))
-        own home.Guarded is = tt
-        own home.Array is = lt
+        own where_ is = grind arith
 
     stored : (row place : ℕ) → IsStoreOf shape (core xs) row place → Within (item_if shape.home (line_of_row row (core xs) / shape.lines))
     stored row place store =

@@ -10,14 +10,13 @@ use Rattle.bank_shape.specs.{declared.BankShape.BankShape, declared.answer.Step.
 use Rattle.bank_shape.specs.declared.answer.WriteAnswer.TheVariants as wrote
 use Rattle.bank_shape.specs.declared.answer.ReadAnswer.TheVariants as came
 use Rattle.bank_shape.specs.declared.answer.Step.TheVariants as did
-use Rattle.bank_model.specs.{Answers.head_busy_after, Events.{Write, Read, Serve, Begin, Iterate, Cut, RowsBelow, newest}}
-use Rattle.bank_model.specs.{History.{begun, queue, waits, due_after, has_exhausted, in_progress}, Lawful.{Lawful, MayCome}, Sensing.most_steps}
-use Rattle.bank_model.specs.{Timing.{Happens, Core, TimedEvent, core, core_of}, Told.tick_of_row}
-use Rattle.bank_laws.{specs.Outcomes.{on_row, outcome_with, outcome_of}, specs.Pairs.ArePaired, specs.Standing.has_wait, proofs.Answering.{IsHead, stored-head}}
+use Rattle.bank_model.specs.{Answers.head_busy_after, Events.{Write, Begin, Iterate, RowsBelow, newest}, History.{begun, queue, due_after, has_exhausted, in_progress}}
+use Rattle.bank_model.specs.{Lawful.{Lawful, MayCome}, Sensing.most_steps, Timing.{Happens, Core, TimedEvent, core, core_of}, Told.tick_of_row}
+use Rattle.bank_laws.{specs.Outcomes.{on_row, outcome_with, outcome_of}, specs.Pairs.ArePaired, proofs.Answering.{IsHead, stored-head}}
 use Rattle.bank_laws.proofs.{Asked.{Wrote, wrote-one, pushed-stands, merged-stands, begun-stands}, Ending.accepting, Entries.{either, differ}}
 use Rattle.bank_laws.proofs.Lines.{Stands, stands-one, merged-candidate, merges-stands}
 use Rattle.bank_laws.proofs.{Pairs.{AllLong, HeadFull, KeepsPairs, keeps_pairs, busy-full, no_candidate-head, accepted-none}, Pending.{queue-asked, writes_in, writes-fall}}
-use Rattle.bank_laws.proofs.{Settling.{opens, above_all, step_stays}, Standing.stand_apart, Waiting.may_all, Wears.{not_stored, lost_not_stored}}
+use Rattle.bank_laws.proofs.{Settling.{opens, above_all, step_stays}, Standing.stand_apart, Waiting.may_all}
 use Rattle.queue_laws.proofs.Floors.{since, floor_of, since-none, since-joins, since-other, floor-bound, floor-agree, floor-above, floor-own, floor-new, stored-agree}
 use Rattle.queue_laws.proofs.Order.{Leads, InOrder, in_order, below_among}
 use Rattle.queue_laws.proofs.Showing.{Front, Tails, front-same, tails-same, front-push, tails-push, front-merged, tails-merged, front-push_other, tails-push_other}
@@ -46,16 +45,7 @@ module _ {n m : ℕ} (shape : BankShape) where
 
 module _ {n m : ℕ} (shape : BankShape) (pace : Pace) (e : ℕ) where
   pub none_new : (zs : List (TimedEvent n m)) (x : TimedEvent n m) (h : Happens n) (row u p : ℕ) → Storeless h → unwrap_or (outcome_with shape zs h x.tick row) (outcome_of shape zs row) ≡ out.Stored u p → outcome_of shape zs row ≡ out.Stored u p
-  none_new zs x (Core (Write at line bytes given (wrote.Merged old))) row u p less s = not_stored old row (out.Merged x.tick) (outcome_of shape zs row) u p (λ is. absurd (cc)) s
-  none_new zs x (Core (Write at line bytes given wrote.Full)) row u p less s = not_stored at row (out.Full x.tick) (outcome_of shape zs row) u p (λ is. absurd (cc)) s
-  none_new zs x (Core (Write at line bytes given wrote.Exhausted)) row u p less s = not_stored at row (out.Worn x.tick) (outcome_of shape zs row) u p (λ is. absurd (cc)) s
-  none_new zs x (Core (Read at line came.Busy)) row u p less s = not_stored at row (out.Busy x.tick) (outcome_of shape zs row) u p (λ is. absurd (cc)) s
-  none_new zs x (Core (Read at line (came.Forwarded bytes))) row u p less s = not_stored at row (out.Forwarded x.tick bytes) (outcome_of shape zs row) u p (λ is. absurd (cc)) s
-  none_new zs x (Core (Serve answer)) row u p less s = not_stored answer.row row (out.Read x.tick answer.place answer.bytes) (outcome_of shape zs row) u p (λ is. absurd (cc)) s
-  none_new zs x (Core (Begin (did.Stored at place))) row u p less s = absurd less
-  none_new zs x (Core (Iterate (did.Stored at place))) row u p less s = absurd less
-  none_new zs x (Core (Cut tearing)) row u p less s = lost_not_stored (has_wait (waits shape (core zs)) row) x.tick (outcome_of shape zs row) u p s
-  none_new zs x _ row u p less s = s
+  none_new zs x h row u p less s = grind arith
 
   module _ (zs : List (TimedEvent n m)) (x : TimedEvent n m) (r : 1 ≤ pace.read) (i : 1 ≤ pace.iter) (l : Lawful shape pace e zs) (c : IsCovered shape zs) where
     pairs : KeepsPairs shape (core zs)

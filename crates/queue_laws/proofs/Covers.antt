@@ -19,14 +19,10 @@ module _ {n : ℕ} where
   later_stored t tick _ h = refl
 
 three_true : (a b c : Bool) → b ≡ true → c ≡ true → (a && (b && c)) ≡ a
-three_true true true true h k = refl
-three_true true true false h k = absurd (cc)
-three_true true false c h k = absurd (cc)
-three_true false b c h k = refl
+three_true a b c h k = grind arith
 
 one_true : (a b : Bool) → a ≡ true → (a && b) ≡ b
-one_true true b h = refl
-one_true false b h = absurd (cc)
+one_true a b h = grind arith
 
 rows_before : {n m : ℕ} (mid now : List (TimedEvent n m)) (bound : ℕ) → RowsBelow (core (mid ++ now)) bound → RowsBelow (core now) bound
 rows_before [] now bound b = b

@@ -17,8 +17,7 @@ pub filtered : {A : Type 0} (p : A → Bool) (x : A) (xs : List A) (P : List A �
 filtered {A} p x xs P pass fail = by (p x) pass fail
   where
     by : (b : Bool) → (b ≡ true → P (x ∷ filter p xs)) → (b ≡ false → P (filter p xs)) → P (cond b (x ∷ filter p xs) (filter p xs))
-    by true pass fail = pass refl
-    by false pass fail = fail refl
+    by b pass fail = grind arith
 
 module _ {n : ℕ} where
   apart_one : (es : List (Entry n)) (a b line : ℕ) → LinesApart es → Stands es a line → Stands es b line → a ≡ b

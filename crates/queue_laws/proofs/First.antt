@@ -15,13 +15,10 @@ use Rattle.bank_laws.proofs.{Settling.{opens, step_stays}, Ticks.last_tick-rises
 
 module _ {n : ℕ} where
   head-pushed : (es : List (Entry n)) (x : Entry n) (row : ℕ) → IsHead es row → IsHead (es ++ x ∷ []) row
-  head-pushed [] x row h = absurd h
-  head-pushed (e ∷ es) x row h = h
+  head-pushed es x row h = grind arith
 
   head-begun : (due : Option ℕ) (fill : ℕ → List ℕ) (es : List (Entry n)) (row : ℕ) → IsHead es row → IsHead (begun due fill es) row
-  head-begun (Some region) fill es row h = h
-  head-begun None fill [] row h = absurd h
-  head-begun None fill (e ∷ es) row h = h
+  head-begun due fill es row h = grind arith
 
   head-kept : (old new : ℕ) (bytes : List ℕ) (given : List Bool) (es : List (Entry n)) (row : ℕ) → (old == row) ≡ false → IsHead es row → IsHead (merged old new bytes given es) row
   head-kept old new bytes given [] row ne h = absurd h

@@ -9,22 +9,17 @@ use Rattle.bank_model.specs.Events.{BankEvent, Write, Read, RowsBelow}
 use Rattle.bank_laws.proofs.{Asked.{Wrote, wrote-below}, Ending.accepting}
 
 since-skip : (b : Bool) (given rest : List Bool) → b ≡ false → cond b (joined given rest) rest ≡ rest
-since-skip true given rest h = absurd (cc)
-since-skip false given rest h = refl
+since-skip b given rest h = grind arith
 
 pub floor-skip : (b : Bool) (row rest : ℕ) → b ≡ false → cond b (suc row) rest ≡ rest
-floor-skip true row rest h = absurd (cc)
-floor-skip false row rest h = refl
+floor-skip b row rest h = grind arith
 
 -- a write of the line adds its bytes, where its row is not below the floor
 pub since-joins : (given rest : List Bool) (answer : Bool) (at row line floor : ℕ) → answer ≡ true → (at == line) ≡ true → floor ≤ row → cond (answer && (at == line && nat_le floor row)) (joined given rest) rest ≡ joined given rest
 since-joins given rest answer at row line floor acc is le = by answer (eqb at line) (nat_le floor row) acc is (le-leb floor row le)
   where
     by : (a b c : Bool) → a ≡ true → b ≡ true → c ≡ true → cond (a && (b && c)) (joined given rest) rest ≡ joined given rest
-    by true true true a b c = refl
-    by true true false a b c = absurd (cc)
-    by true false c a b k = absurd (cc)
-    by false b c a k j = absurd (cc)
+    by a b c a3 b4 c5 = grind arith
 
 -- and one of another line adds none
 pub since-other : (given rest : List Bool) (answer : Bool) (at row line floor : ℕ) → (at == line) ≡ false → cond (answer && (at == line && nat_le floor row)) (joined given rest) rest ≡ rest
@@ -124,6 +119,4 @@ module _ {n : ℕ} where
   stored-agree o q back on = by (stored_case q) (stored_case o)
     where
       by : ((u : ℕ) × (p : ℕ) × (q ≡ out.Stored u p)) ⊎ (is_stored q ≡ false) → ((u : ℕ) × (p : ℕ) × (o ≡ out.Stored u p)) ⊎ (is_stored o ≡ false) → is_stored q ≡ is_stored o
-      by (inl is) k = ap is_stored is.2 ∙ sym (ap is_stored (back is.0 is.1 is.2))
-      by (inr none) (inl is) = ap is_stored (on is.0 is.1 is.2) ∙ sym (ap is_stored is.2)
-      by (inr none) (inr also) = none ∙ sym also
+      by x0 k = grind arith

@@ -11,7 +11,7 @@ use Rattle.bank_model.specs.{Answers.read_answer, Events.{BankEvent, Write, Read
 use Rattle.bank_model.{specs.Sensing.most_steps, specs.Timing.{Happens, Core, TimedEvent, core, core_of, last_tick}, proofs.Rising.RowsBelow-more}
 use Rattle.bank_laws.{specs.Outcomes.{outcome_of, row_with, rows_from}, specs.RowLaws.waits_fit, specs.Ticks.ends_action, proofs.Asked.Wrote, proofs.Ending.{Onwards, own_answer}}
 use Rattle.bank_laws.proofs.{Fates.{IsSettled, awaits-new}, Given.given-layer, Later.{EndsAbove, ends_at_row}, Lines.{Stands, stands-row}, Pairs.{AllLong, keeps_pairs}}
-use Rattle.bank_laws.proofs.{Serves.{may_at, onwards_at, idle-waits}, Settling.lawful_before, Ticks.last_tick-rises}
+use Rattle.bank_laws.proofs.{Serves.{may_at, onwards_at}, Settling.lawful_before, Ticks.last_tick-rises}
 use Rattle.bank_laws.proofs.{Waiting.{may_all, awaiting_length, read_room, fits_busy, fits_waiting, settled_all}, Walking.{Passes, walk, rows_after}}
 use Rattle.queue_laws.{specs.QueueLaws.{is_forward_fair, ForwardLaw}, proofs.Covering.is_covered, proofs.Covers.cover_is, proofs.Floors.{since, floor_of}}
 use Rattle.queue_laws.proofs.Heads.{HasStore, store-left, store-right, store-from, store-after, LineFirst, IsStoredFirst, line_first, line_is_first, any_entry}
@@ -27,9 +27,7 @@ module _ {n : ℕ} where
   forwarded-gives shape h line bytes f = by (gives_all ((layer_of (queue shape h) line).given)) (eqb (length (waits shape h)) shape.reads) f
     where
       by : (b c : Bool) → ◌≡◌ {A = ReadAnswer n} (came.Forwarded bytes) (cond b (came.Forwarded (newest h line)) (cond c came.Busy came.Waiting)) → b ≡ true
-      by true c f = refl
-      by false true f = absurd (cc)
-      by false false f = absurd (cc)
+      by b c f = grind arith
 
   -- an answer by which a read is not forwarded
   abbrev NotForwarded : ReadAnswer n → Type 0
@@ -50,20 +48,16 @@ module _ {n : ℕ} where
   fits_other reads count false at_head o no_cover not_forwarded w = by (is_forwarded o) _ not_forwarded w
     where
       by : (b other : Bool) → b ≡ false → (b || other) ≡ true → cond b at_head other ≡ true
-      by true other f w = absurd (cc)
-      by false other f w = w
+      by b other f w = grind arith
 
   fits_forwarded : (reads count tick : ℕ) (bytes : List ℕ) (covered at_head : Bool) (o : Outcome n) → o ≡ out.Forwarded tick bytes → (covered ≡ false → at_head ≡ true) → read_fits reads count covered at_head o ≡ true
   fits_forwarded reads count tick bytes covered at_head o is head = ap (λ (o : Outcome n). read_fits reads count covered at_head o) is ∙ by covered head
     where
       by : (b : Bool) → (b ≡ false → at_head ≡ true) → cond b true at_head ≡ true
-      by true h = refl
-      by false h = h refl
+      by b h = grind arith
 
   settled-not_forwarded : (owed : List ℕ) (o : Outcome n) → IsSettled owed o → is_forwarded o ≡ false
-  settled-not_forwarded owed (out.Read at place bytes) s = refl
-  settled-not_forwarded owed (out.Lost at) s = refl
-  settled-not_forwarded owed _ s = absurd s
+  settled-not_forwarded owed o s = grind arith
 
 one_down : {n m : ℕ} (x : TimedEvent n m) (ys : List (TimedEvent n m)) (bound : ℕ) → RowsBelow (core (x ∷ ys)) bound → RowsBelow (core ys) bound
 one_down {n} x ys bound b = by x.happens b

@@ -8,7 +8,7 @@ use Rattle.row_rules.specs.{Answers.{is_stored, stored_before}, Queueing.{least,
 use Rattle.bank_shape.specs.{declared.BankShape.BankShape, declared.pace.Pace.Pace}
 use Rattle.bank_shape.specs.declared.answer.WriteAnswer.TheVariants as wrote
 use Rattle.bank_shape.specs.declared.answer.Step.TheVariants as did
-use Rattle.bank_model.specs.{Events.{Write, Read, Begin, Iterate, Cut, newest}, History.{begun, queue, due_after}, Lawful.{Lawful, MayCome}}
+use Rattle.bank_model.specs.{Events.{Write, Begin, Iterate, newest}, History.{begun, queue, due_after}, Lawful.{Lawful, MayCome}}
 use Rattle.bank_model.specs.Timing.{Happens, Core, TimedEvent, core, core_of, last_tick}
 use Rattle.bank_laws.{specs.Outcomes.{on_row, outcome_with, outcome_of, ended, row_with, rows_from}, specs.Ticks.ends_action, proofs.Answering.{IsHead, stored-head}}
 use Rattle.bank_laws.proofs.{Asked.Wrote, Later.EndsAbove, Lines.Stands, Settling.{opens, step_stays}, Ticks.last_tick-rises, Walking.rows_after, Wears.{stored_by, stored_tick}}
@@ -25,21 +25,17 @@ least-own (Some v) u = (min v u, refl, omega arith)
 
 module _ {n : ℕ} where
   line-pushed : (es : List (Entry n)) (x : Entry n) (line : ℕ) → HasHead line es → HasHead line (es ++ x ∷ [])
-  line-pushed [] x line h = absurd h
-  line-pushed (e ∷ es) x line h = h
+  line-pushed es x line h = grind arith
 
   line-merged : (old row : ℕ) (bytes : List ℕ) (given : List Bool) (es : List (Entry n)) (line : ℕ) → HasHead line es → HasHead line (merged old row bytes given es)
   line-merged old row bytes given [] line h = h
   line-merged old row bytes given (e ∷ es) line h = by (eqb e.row old)
     where
       by : (b : Bool) → HasHead line (cond b (laid_on row bytes given e ∷ es) (e ∷ merged old row bytes given es))
-      by true = h
-      by false = h
+      by b = grind arith
 
   line-begun : (due : Option ℕ) (fill : ℕ → List ℕ) (es : List (Entry n)) (line : ℕ) → HasHead line es → HasHead line (begun due fill es)
-  line-begun (Some region) fill es line h = h
-  line-begun None fill [] line h = h
-  line-begun None fill (e ∷ es) line h = h
+  line-begun due fill es line h = grind arith
 
   line-stands : (es : List (Entry n)) (row line : ℕ) → IsHead es row → HasHead line es → Stands es row line
   line-stands [] row line head h = absurd h
@@ -87,11 +83,7 @@ module _ {n m : ℕ} (shape : BankShape) (all : List (TimedEvent n m)) (row line
   store-from (y ∷ ys) a = by y.happens y.cancels (λ k. store-from ys k) a
     where
       by : (h : Happens n) (cancels : Bool) → (Wrote (core ys) row line → HasStore line u (rows_from shape all ys)) → Wrote (core_of h (core ys)) row line → HasStore line u (row_with shape all h y.tick cancels ++ rows_from shape all ys)
-      by (Core (Write at k bytes given answer)) cancels go (inl own) = inl (store-own y.tick at k own.0 own.1)
-      by (Core (Write at k bytes given answer)) cancels go (inr rest) = inr (go rest)
-      by (Core (Read at k answer)) cancels go a = inr (go a)
-      by (Core (Cut tearing)) false go a = inr (go a)
-      by _ _ go a = go a
+      by h cancels go a = grind arith
 
   pub store-after : (mid zs : List (TimedEvent n m)) → Wrote (core (mid ++ zs)) row line → HasStore line u (rows_after shape all mid) ⊎ Wrote (core zs) row line
   store-after [] zs a = inr a
@@ -219,8 +211,6 @@ module _ {n m : ℕ} (shape : BankShape) (pace : Pace) (e : ℕ) (now : List (Ti
 module _ {n m : ℕ} (shape : BankShape) (all now : List (TimedEvent n m)) (k : StandsWell shape all now) (line : ℕ) where
   -- where none is stored before a line's next store, or at all, the line is first
   line_before : (found : Option ℕ) (ws : List (Written n)) → Each (λ w. IsEntry shape all now w) ws → NoneStored shape now (outcome_of shape all) → is_first line found (items ws) ≡ true
-  line_before None [] each none = refl
-  line_before (Some v) [] each none = refl
   line_before None (w ∷ ws) each none =
       and_from (w.line == line || not (is_stored w.outcome)) _
       (or_right (w.line == line) _ (ap (λ (o : Outcome n). not (is_stored o)) each.0.fate ∙ not_stored_ended w.tick (outcome_of shape all w.row) (λ u p s. none w.row u p (entry_unset shape all now k w each.0) s)))
@@ -230,6 +220,7 @@ module _ {n m : ℕ} (shape : BankShape) (all now : List (TimedEvent n m)) (k : 
       (or_right (w.line == line) _
       (ap (λ (o : Outcome n). not (stored_before v o)) each.0.fate ∙ not_before_ended w.tick v (outcome_of shape all w.row) (λ u p s. absurd (none w.row u p (entry_unset shape all now k w each.0) s))))
       (line_before (Some v) ws each.1 none)
+  line_before _ _ each none = refl
 
   line_until : (v at : ℕ) (ws : List (Written n)) → Each (λ w. IsEntry shape all now w) ws → v ≤ at → NoneBelow shape now at (outcome_of shape all) → is_first line (Some v) (items ws) ≡ true
   line_until v at [] each le none = refl
@@ -262,6 +253,4 @@ any_entry {n} {m} shape all p row line (y ∷ ys) hit a = by y.happens (λ k. an
 
     by : (h : Happens n) → (Wrote (core ys) row line → list_any (write_of line) (items (standing p (written shape all ys))) ≡ true) → Wrote (core_of h (core ys)) row line
         → list_any (write_of line) (items (standing p (written_by shape all h y.tick ++ written shape all ys))) ≡ true
-    by (Core (Write at k bytes given answer)) go (inl is) = own (p at) _ (standing p (written shape all ys)) (subst (λ r. p r ≡ true) (sym is.0) hit) (eq-eqb k line is.1)
-    by (Core (Write at k bytes given answer)) go (inr rest) = more (p at) _ (standing p (written shape all ys)) (go rest)
-    by _ go a = go a
+    by h go a = grind arith

@@ -1,6 +1,5 @@
 -- The newest entry of a line in a history's queue is that of the line's last write.
-use Rattle.std.proofs.Common.{◌≡◌, ℕ, ◌==◌, ◌||◌, Bool, true, false, List, [], ◌∷◌, ◌++◌, drop, Option, Some, None, refl, sym, ap, subst, ◌∙◌, cond, eqb, eqb-true}
-use Rattle.std.proofs.lemmas.Bool.{eq-eqb}
+use Rattle.std.proofs.Common.{arith, ◌≡◌, ℕ, ◌==◌, ◌||◌, Bool, true, false, List, [], ◌∷◌, ◌++◌, drop, Option, Some, None, refl, sym, ap, subst, ◌∙◌, cond, eqb, eqb-true}
 use Rattle.masked_bytes.{specs.Entries.{or_this, newest_row, laid_on, merged, has_row, RowsApart}, specs.declared.entry.Entry.Entry, proofs.Queueing.candidate-newest}
 use Rattle.bank_shape.specs.declared.BankShape.{BankShape}
 use Rattle.bank_shape.specs.declared.answer.WriteAnswer.TheVariants as wrote
@@ -18,17 +17,14 @@ module _ {n : ℕ} where
     where
       by : (b : Bool)
           → or_this (cond b (Some x.row) (newest_row es line)) (cond (e.line == line) (Some e.row) None) ≡ cond b (Some x.row) (newest_row (e ∷ es) line)
-      by true = refl
-      by false = refl
+      by b = grind arith
 
   newest-drop : (es : List (Entry n)) (line row : ℕ) → newest_row (drop 1 es) line ≡ Some row → newest_row es line ≡ Some row
   newest-drop [] line row is = is
   newest-drop (e ∷ es) line row is = ap (λ r. or_this r (cond (e.line == line) (Some e.row) None)) is
 
   newest-begun : (due : Option ℕ) (f : ℕ → List ℕ) (es : List (Entry n)) (line : ℕ) → newest_row (begun due f es) line ≡ newest_row es line
-  newest-begun (Some region) f es line = refl
-  newest-begun None f [] line = refl
-  newest-begun None f (e ∷ es) line = refl
+  newest-begun due f es line = grind arith
 
   module _ (old row : ℕ) (bytes : List ℕ) (given : List Bool) where
     -- no entry of the old row, none that changes
@@ -49,10 +45,7 @@ module _ {n : ℕ} where
       where
         own : (b c : Bool) → eqb e.line line ≡ b → eqb e.row old ≡ c → newest_row es line ≡ None → cond b (Some e.row) None ≡ Some old
             → newest_row (cond c (laid_on row bytes given e ∷ es) (e ∷ merged old row bytes given es)) line ≡ Some row
-        own true true at same none is =
-            ap (λ r. or_this r (cond (eqb e.line line) (Some row) None)) none ∙ ap (λ b. cond b (Some row) None) at
-        own true false at other none is = let same : e.row ≡ old = cc in absurd (cc (other, eq-eqb e.row old same))
-        own false c at same none is = absurd (cc)
+        own b c at same none is = grind arith
 
         there : (c : Bool) → eqb e.row old ≡ c → newest_row es line ≡ Some old → newest_row (merged old row bytes given es) line ≡ Some row
             → newest_row (cond c (laid_on row bytes given e ∷ es) (e ∷ merged old row bytes given es)) line ≡ Some row
@@ -74,11 +67,7 @@ module _ {n : ℕ} where
       where
         own : (b c : Bool) → eqb e.line line ≡ b → eqb e.row old ≡ c → cond b (Some e.row) None ≡ Some old
             → newest_row (cond c (laid_on row bytes given e ∷ es) (e ∷ merged old row bytes given es)) at ≡ newest_row (e ∷ es) at
-        own true true here same is =
-            let away : (e.line == at) ≡ false = ap (λ l. l == at) (eqb-true e.line line here) ∙ off in
-            ap (λ b. or_this (newest_row es at) (cond b (Some row) None)) away ∙ sym (ap (λ b. or_this (newest_row es at) (cond b (Some e.row) None)) away)
-        own true false here other is = let same : e.row ≡ old = cc in absurd (cc (other, eq-eqb e.row old same))
-        own false c here same is = absurd (cc)
+        own b c here same is = grind arith
 
         there : (c : Bool) → eqb e.row old ≡ c → newest_row es line ≡ Some old
             → newest_row (merged old row bytes given es) at ≡ newest_row es at

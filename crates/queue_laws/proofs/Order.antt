@@ -68,9 +68,7 @@ module _ {n : ℕ} where
   merges_into busy e es line old c = by (newest_row es line) refl c
     where
       own : (busy b : Bool) → newest_row es line ≡ None → eqb e.line line ≡ b → cond (not busy && b) (Some e.row) None ≡ Some old → MergesInto busy e es line old
-      own true b none is h = absurd (cc)
-      own false true none is h = let same : e.row ≡ old = cc in inr (none, same, eqb-true e.line line is, refl)
-      own false false none is h = absurd (cc)
+      own busy b none is h = grind arith
 
       by : (r : Option ℕ) → newest_row es line ≡ r → or_this r (cond (not busy && eqb e.line line) (Some e.row) None) ≡ Some old → MergesInto busy e es line old
       by (Some row) is h = inl (is ∙ h)
@@ -86,11 +84,7 @@ module _ {n : ℕ} where
   leads-merged f busy old new line bytes given (e ∷ es) apart c lt le l = by (merges_into busy e es line old c)
     where
       rest : (row : ℕ) → Stands es row e.line ⊎ ((new ≡ row) × Stands es old e.line) → (e.row < row) × (f e.row < f row)
-      rest row (inl s) = l row s
-      rest row (inr s) =
-          let k = l old s.1 in
-          let P : ℕ → Type 0 = λ r. (e.row < r) × (f e.row < f r) in
-          subst P s.0 (omega (arith, k.0, lt), omega (arith, k.1, le))
+      rest row x1 = grind arith
 
       by : MergesInto busy e es line old → Leads f (merged old new bytes given (e ∷ es))
       by (inl new_is) =
@@ -111,14 +105,11 @@ module _ {n : ℕ} where
   -- Begun and stored entries
 
   leads-begun : (f : ℕ → ℕ) (due : Option ℕ) (fill : ℕ → List ℕ) (es : List (Entry n)) → Leads f es → Leads f (begun due fill es)
-  leads-begun f (Some region) fill es l = l
-  leads-begun f None fill [] l = tt
-  leads-begun f None fill (e ∷ es) l = l
+  leads-begun f due fill es l = grind arith
 
   leads-drop : (f : ℕ → ℕ) (es : List (Entry n)) → ArePaired es → Leads f (drop 1 es)
-  leads-drop f [] p = tt
-  leads-drop f (e ∷ []) p = tt
   leads-drop f (e ∷ g ∷ es) p = λ row s. absurd (cc (p.0.0, stands-line es row g.line s))
+  leads-drop f _ p = tt
 
   -- The head's number
 
@@ -127,39 +118,26 @@ module _ {n : ℕ} where
   head-all f bound (e ∷ es) h = h e.row
 
   head-more : (f g : ℕ → ℕ) (a b : ℕ) (es : List (Entry n)) → a ≤ b → ((row : ℕ) → has_row es row ≡ true → f row ≡ g row) → HeadBefore g a es → HeadBefore f b es
-  head-more f g a b [] le same h = tt
-  head-more f g a b (e ∷ es) le same h =
-      let own : f e.row ≡ g e.row = same e.row (or_left (e.row == e.row) _ (eq-eqb e.row e.row refl)) in omega (arith, own, le, h)
+  head-more f g a b es le same h = grind arith
 
   head-push : (f : ℕ → ℕ) (bound : ℕ) (es : List (Entry n)) (x : Entry n) → HeadFull es → HeadBefore f bound es → HeadBefore f bound (es ++ x ∷ [])
-  head-push f bound [] x full h = absurd full
-  head-push f bound (e ∷ es) x full h = h
+  head-push f bound es x full h = grind arith
 
   -- a store is in progress after a new entry or a merged one only where it was before
   store-push : (shape : BankShape) (h k : List (BankEvent n)) (b : Bool) (due : Option ℕ) (es : List (Entry n)) (x : Entry n) → HasWork b due es
       → is_store (cond b Nothing (due_work shape h due (es ++ x ∷ []))) ≡ true → is_store (cond b Nothing (due_work shape k due es)) ≡ true
-  store-push shape h k true due es x w s = absurd w
-  store-push shape h k false (Some region) es x w s = absurd (cc)
-  store-push shape h k false None [] x w s = absurd w
-  store-push shape h k false None (e ∷ es) x w s = refl
+  store-push shape h k b due es x w s = grind arith
 
   store-merged : (shape : BankShape) (h k : List (BankEvent n)) (b : Bool) (due : Option ℕ) (old new : ℕ) (bytes : List ℕ) (given : List Bool) (es : List (Entry n))
       → is_store (cond b Nothing (due_work shape h due (merged old new bytes given es))) ≡ true → is_store (cond b Nothing (due_work shape k due es)) ≡ true
-  store-merged shape h k true due old new bytes given es s = absurd (cc)
-  store-merged shape h k false (Some region) old new bytes given es s = absurd (cc)
-  store-merged shape h k false None old new bytes given [] s = absurd (cc)
-  store-merged shape h k false None old new bytes given (e ∷ es) s = refl
+  store-merged shape h k b due old new bytes given es s = grind arith
 
   store-same : (shape : BankShape) (h k : List (BankEvent n)) (b : Bool) (due : Option ℕ) (es : List (Entry n))
       → is_store (cond b Nothing (due_work shape h due es)) ≡ true → is_store (cond b Nothing (due_work shape k due es)) ≡ true
-  store-same shape h k true due es s = absurd (cc)
-  store-same shape h k false (Some region) es s = absurd (cc)
-  store-same shape h k false None [] s = absurd (cc)
-  store-same shape h k false None (e ∷ es) s = refl
+  store-same shape h k b due es s = grind arith
 
 pick_tick : (b : Bool) (tick old : ℕ) → old ≤ tick → cond b tick old ≤ tick
-pick_tick true tick old le = omega arith
-pick_tick false tick old le = le
+pick_tick b tick old le = grind arith
 
 module _ {n m : ℕ} (shape : BankShape) (pace : Pace) (e : ℕ) where
   -- the tick of a write that came stays

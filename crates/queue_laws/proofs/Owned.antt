@@ -89,8 +89,7 @@ module _ {n : ℕ} where
   AreOwn lines own whole (e ∷ es) = IsOwn (lines e.row) (own e.row) whole e × EachOwn lines own es
 
   each-own : (lines : ℕ → Option ℕ) (own : ℕ → Layer) (es : List (Entry n)) → EachOwn lines own es → AreOwn lines own false es
-  each-own lines own [] are = refl
-  each-own lines own (e ∷ es) are = are
+  each-own lines own es are = grind arith
 
   own-drop : (lines : ℕ → Option ℕ) (own : ℕ → Layer) (whole : Bool) (es : List (Entry n)) → AreOwn lines own whole es
       → AreOwn lines own false (drop 1 es)
@@ -188,11 +187,7 @@ module _ {n : ℕ} (shape : BankShape) where
   ready-head : (h : List (BankEvent n)) (b : Bool) (due : Option ℕ) (q : List (Entry n)) (ws : List Awaited)
       → is_ready ws (cond b Nothing (due_work shape h due q)) ≡ true
       → due ≡ None → q ≡ [] → ⊥
-  ready-head h true due q ws r none empty = absurd (cc)
-  ready-head h false due q ws r none empty =
-      let no : is_ready ws (due_work shape h None []) ≡ true =
-      subst (λ (d : Option ℕ). is_ready ws (due_work shape h d []) ≡ true) none (subst (λ (es : List (Entry n)). is_ready ws (due_work shape h due es) ≡ true) empty r) in
-      absurd (cc)
+  ready-head h b due q ws r none empty = grind arith
 
   begun-own : (h : List (BankEvent n))
       → (not (in_progress h) && is_ready (waits shape h) (cond (has_exhausted h) Nothing (due_work shape h (due_after shape h) (queue shape h)))) ≡ true

@@ -1,5 +1,5 @@
 -- What a bank holds at a row, and at any tick between two of its events.
-use Rattle.std.proofs.Common.{◌≡◌, ℕ, ◌<◌, ◌≤◌, ◌⊎◌, inl, inr, Bool, true, false, List, [], ◌∷◌, ◌++◌, Option, Some, None, length, refl, sym, ap, ◌∙◌, subst, arith, cond, append_assoc}
+use Rattle.std.proofs.Common.{◌≡◌, ℕ, ◌<◌, ◌≤◌, ◌⊎◌, inl, inr, Bool, true, false, List, [], ◌∷◌, ◌++◌, Option, None, length, refl, sym, ap, ◌∙◌, subst, arith, cond, append_assoc}
 use Rattle.std.{specs.Prelude.{nat_le, filter, All}, proofs.Math.Nat.eq-or-lt_of_le, proofs.lemmas.Bool.{eq-eqb, le-leb, and_from}}
 use Rattle.std.proofs.lemmas.List.Elements.{All-head, All-tail}
 use Rattle.result_rows.specs.declared.Outcome.TheVariants as out
@@ -12,7 +12,7 @@ use Rattle.bank_model.specs.{Lawful.{Lawful, MayCome}, Sensing.most_steps, Timin
 use Rattle.right_runs.specs.Banks.{rules_of}
 use Rattle.bank_laws.{specs.Outcomes.{outcome_of, ended, row_with, rows_from}, specs.Room.RoomLaw, specs.Ticks.ends_action, proofs.Answering.IsHead}
 use Rattle.bank_laws.proofs.{Ending.{Onwards, write_outcome}, Holding.bound_law, Later.{EndsAbove, ends_later, ends_at_row, ends_push}, Lines.{Stands, Covered, stands-line}}
-use Rattle.bank_laws.proofs.{Pairs.{keeps_pairs, no_candidate-head, no_candidate-rest}, Pending.{full_outcome, covered_on, queue_length}, Serves.{may_at, onwards_at, idle-waits}}
+use Rattle.bank_laws.proofs.{Pairs.{keeps_pairs, no_candidate-head, no_candidate-rest}, Pending.{full_outcome, covered_on, queue_length}, Serves.{may_at, onwards_at}}
 use Rattle.bank_laws.proofs.{Settling.{opens, lawful_before}, Ticks.last_tick-rises, Waiting.{may_all, awaiting_length}, Walking.{Passes, walk, rows_after}}
 use Rattle.queue_laws.{specs.QueueLaws.{finds_pairs_few, is_refusal_fair, PairsFewLaw, RefusalLaw}, proofs.Few.{StandsWell, pairs_are_few, refusal, HeadAlone}}
 use Rattle.queue_laws.proofs.{First.{First, first, first_now}, Order.{HeadBefore, in_order}, Stood.{stood_each, stood_fall, pending_is}, Written.{standing, written}}
@@ -23,9 +23,7 @@ module _ {n : ℕ} (shape : BankShape) where
   full-none h line a = by (has_exhausted h) (candidate (head_busy_after shape h) (queue shape h) line) a
     where
       by : (b : Bool) (c : Option ℕ) → wrote.Full ≡ cond b wrote.Exhausted (accept_answer shape h c) → c ≡ None
-      by true c a = absurd (cc)
-      by false (Some at) a = absurd (cc)
-      by false None a = refl
+      by b c a = grind arith
 
 module _ {n m : ℕ} (shape : BankShape) (pace : Pace) (e : ℕ) where
   -- What stands
@@ -87,10 +85,7 @@ module _ {n m : ℕ} (shape : BankShape) (pace : Pace) (e : ℕ) where
       where
         by : (h : Happens n) (cancels : Bool) → (ends_action h ≡ false → pairs_few (pending x.tick [] (rows_from shape all ys)) (pending x.tick [] (rows_from shape all ys)) ≡ true)
             → Passes finds_pairs_few (rows_from shape all ys) (row_with shape all h x.tick cancels) (rows_after shape all later)
-        by (Core (Write row line bytes given answer)) cancels few = few refl
-        by (Core (Read row line answer)) cancels few = few refl
-        by (Core (Cut tearing)) false few = few refl
-        by _ _ few = tt
+        by h cancels few = grind arith
 
   -- A refused write
 
@@ -163,10 +158,7 @@ all_last P [] x h = All-head P x [] h
 all_last P (y ∷ front) x h = all_last P front x (All-tail P y (front ++ x ∷ []) h)
 
 no_rows : {n m : ℕ} (shape : BankShape) (all : List (TimedEvent n m)) (h : Happens n) (tick : ℕ) (cancels : Bool) → ends_action h ≡ true → row_with shape all h tick cancels ≡ []
-no_rows shape all (Core (Write row line bytes given answer)) tick cancels is = absurd (cc)
-no_rows shape all (Core (Read row line answer)) tick cancels is = absurd (cc)
-no_rows shape all (Core (Cut tearing)) tick cancels is = absurd (cc)
-no_rows shape all _ tick cancels is = refl
+no_rows shape all h tick cancels is = grind arith
 
 module _ {n m : ℕ} (shape : BankShape) (pace : Pace) (e : ℕ) where
   -- at the tick of the end of an action the bank is as behind it, and else as before it

@@ -143,14 +143,11 @@ module _ {n : ℕ} where
     -- A begun head, and a stored one
 
     pub front-begun : (floor : ℕ) (due : Option ℕ) (fill : ℕ → List ℕ) (es : List (Entry n)) → Front s floor line es → Front s floor line (begun due fill es)
-    front-begun floor (Some region) fill es f = f
-    front-begun floor None fill [] f = f
     front-begun floor None fill (e ∷ es) f = (f.0, λ own. inr (gives_all-all_given n))
+    front-begun floor _ fill _ f = f
 
     pub tails-begun : (due : Option ℕ) (fill : ℕ → List ℕ) (es : List (Entry n)) → Tails s line es → Tails s line (begun due fill es)
-    tails-begun (Some region) fill es f = f
-    tails-begun None fill [] f = f
-    tails-begun None fill (e ∷ es) f = f
+    tails-begun due fill es f = grind arith
 
     front-of : (floor : ℕ) (es : List (Entry n)) → AllLong es → LinesApart es → given_of es line ≡ s floor → Front s floor line es
     front-of floor [] l apart is = sym is

@@ -1,10 +1,10 @@
 -- All that the rows show of the queue and of the waiting reads, together.
-use Rattle.std.proofs.Common.{◌≡◌, ℕ, ◌==◌, ◌&&◌, ◌||◌, not, Bool, true, false, List, [], ◌∷◌, length}
+use Rattle.std.proofs.Common.{arith, ◌≡◌, ℕ, ◌==◌, ◌&&◌, ◌||◌, not, Bool, true, false, List, [], ◌∷◌, length}
 use Rattle.std.{specs.Prelude.{nat_le, filter}, proofs.lemmas.Bool.and_from}
 use Rattle.masked_bytes.{specs.Masked.gives_all, proofs.Truth.{and_first, and_second}}
 use Rattle.row_rules.specs.{Answers.is_full, Queueing.{pending, waiting, cover, is_refused, is_at_head, read_fits, merge_fits, queue_fits, is_queue_fair}}
-use Rattle.row_rules.specs.{Rows.{RowTest, each_row, asks_read, asks_write, line_of, write_of}, declared.Asks.Asks, declared.Asks.TheVariants.{Reads, Writes, Cuts}}
-use Rattle.row_rules.{specs.declared.Row.Row, specs.declared.Rules.Rules, proofs.Passing.passes_both}
+use Rattle.row_rules.specs.{Rows.{RowTest, each_row, asks_read, asks_write, line_of, write_of}, declared.Asks.Asks, declared.Row.Row, declared.Rules.Rules}
+use Rattle.row_rules.proofs.Passing.{passes_both}
 use Rattle.right_runs.specs.Banks.{rules_of}
 use Rattle.bank_laws.{specs.Outcomes.table_of, specs.RowLaws.{is_room_fair, is_wait_fair, is_merge_fair}, proofs.Merging.merge_law, proofs.Pending.queue_law}
 use Rattle.bank_laws.proofs.Waiting.{wait_law}
@@ -25,10 +25,7 @@ module _ {n : ℕ} where
       → (not (asks_write asks && is_full r.outcome) || is_refused r.tick ps (filter (write_of (line_of asks)) ps)) ≡ true → (not (asks_write asks) || merge_fits (line_of asks) r.outcome after) ≡ true
       → (not (asks_read asks) || read_fits rules.reads (length ws) (gives_all (cover r.tick (line_of asks) before after)) (is_at_head r.tick (line_of asks) ps before after) r.outcome) ≡ true
       → queue_fits rules ps ws r asks before after ≡ true
-  fits rules ps ws r (Writes line bytes given) before after room refused merge read =
-      and_from _ _ (either_way (is_full r.outcome) (length ps == rules.writes) (is_refused r.tick ps (filter (write_of line) ps)) room refused) merge
-  fits rules ps ws r (Reads line) before after room refused merge read = read
-  fits rules ps ws r Cuts before after room refused merge read = merge
+  fits rules ps ws r asks before after room refused merge read = grind arith
 
   -- the tests of a row, one by one
   abbrev all_tests : Rules → RowTest n

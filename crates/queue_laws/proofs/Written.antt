@@ -1,5 +1,5 @@
 -- The writes of a history with their rows' numbers, and which of them stand in the queue.
-use Rattle.std.proofs.Common.{◌≡◌, ℕ, ◌<◌, ◌≤◌, Bool, true, false, suc, List, [], ◌∷◌, ◌++◌, length, refl, ap, arith, cond}
+use Rattle.std.proofs.Common.{◌≡◌, ℕ, ◌<◌, ◌≤◌, Bool, true, false, suc, List, [], ◌∷◌, ◌++◌, length, refl, arith, cond}
 use Rattle.result_rows.specs.declared.Outcome.{Outcome}
 use Rattle.row_rules.specs.{declared.Asks.TheVariants.Writes, declared.Row.Row}
 use Rattle.bank_shape.specs.declared.BankShape.{BankShape}
@@ -43,10 +43,7 @@ module _ {n : ℕ} where
   numbers-more (w ∷ ws) a b le f = (omega (arith, f.0, le), f.1)
 
   pub cond_items : (a b : Bool) (w : Written n) (xs : List (Row n)) (ys : List (Written n)) → a ≡ b → xs ≡ items ys → cond a (item_of w ∷ xs) xs ≡ items (cond b (w ∷ ys) ys)
-  cond_items true true w xs ys is same = ap (λ rows. item_of w ∷ rows) same
-  cond_items true false w xs ys is same = absurd (cc)
-  cond_items false true w xs ys is same = absurd (cc)
-  cond_items false false w xs ys is same = same
+  cond_items a b w xs ys is same = grind arith
 
   pub cond_each : (P : Written n → Type 0) (b : Bool) (w : Written n) (ys : List (Written n)) → (b ≡ true → P w) → Each P ys → Each P (cond b (w ∷ ys) ys)
   cond_each P true w ys own rest = (own refl, rest)
@@ -57,8 +54,7 @@ module _ {n : ℕ} where
   cond_fall false w ys bound lt f = numbers-more ys w.row bound (omega (arith, lt)) f
 
   cond_count : (b : Bool) (w : Written n) (ys : List (Written n)) (k : ℕ) → length (items ys) ≡ k → length (items (cond b (w ∷ ys) ys)) ≡ cond b (suc k) k
-  cond_count true w ys k is = ap suc is
-  cond_count false w ys k is = is
+  cond_count b w ys k is = grind arith
 
 module _ {n m : ℕ} (shape : BankShape) (all : List (TimedEvent n m)) where
   -- the writes of these events, where `all` is the whole history
