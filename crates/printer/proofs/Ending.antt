@@ -13,7 +13,12 @@ pub on_err : {T E : Type 0} (r : Result T E) (P Q : Type 0) → OnErr r P → (P
 on_err (Ok x) P Q h f = tt
 on_err (Err e) P Q h f = f h
 
--- so does one that follows from two of them
+-- one that holds anyway does
+pub on_err_any : {T E : Type 0} (r : Result T E) (P : Type 0) → P → OnErr r P
+on_err_any (Ok x) P h = tt
+on_err_any (Err e) P h = h
+
+-- and so does one that follows from two of them
 on_both : {T E : Type 0} (r : Result T E) (P Q R : Type 0) → OnOk r P → OnOk r Q → (P → Q → R) → OnOk r R
 on_both (Ok x) P Q R p q f = f p q
 on_both (Err e) P Q R p q f = tt

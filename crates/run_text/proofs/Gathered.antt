@@ -69,19 +69,3 @@ printed-wear_row a b old new rows array_line bank pulses role is count h =
 pub wear_text-part : (a b : Option (List ℕ)) (rows later : List (ℕ × ℕ × Role)) → AppendsPrefix a b (wear_text rows) → AppendsPrefix a b (wear_text (rows ++ later))
 wear_text-part a b rows later part =
     subst (λ (xs : List ℕ). AppendsPrefix a b xs) (sym (wear_text-append rows later)) (AppendsPrefix-longer a b (wear_text rows) (wear_rows_text (length rows) later) part)
-
--- ---- answers
-
--- a fact that holds anyway holds of an error
-pub on_err_any : {T E : Type 0} (r : Result T E) (P : Type 0) → P → OnErr r P
-on_err_any (Ok x) P h = tt
-on_err_any (Err e) P h = h
-
--- a fact that follows from what holds of an answer holds of it
-pub on_ok : {T E : Type 0} (r : Result T E) (P Q : Type 0) → OnOk r P → (P → Q) → OnOk r Q
-on_ok (Ok x) P Q h f = f h
-on_ok (Err e) P Q h f = tt
-
-pub on_err : {T E : Type 0} (r : Result T E) (P Q : Type 0) → OnErr r P → (P → Q) → OnErr r Q
-on_err (Ok x) P Q h f = tt
-on_err (Err e) P Q h f = f h

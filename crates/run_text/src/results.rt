@@ -6,8 +6,9 @@ ghost use Rattle.pcm_io.specs.Giving.{AppendsPrefix};
 ghost use Rattle.pcm_io.specs.Reserved.{reserved};
 ghost use Rattle.run_text.specs.ResultText.{ArePrintable, asked, named_line, results_text};
 
-use crate::room::{TEXT_ROOM, make_room, print_rest};
+use crate::room::{make_room, print_rest};
 use pcm_io::{Sink, Text, WriteFault};
+use printer::TEXT_ROOM;
 use result_rows::{Op, Results, header, print_row};
 use trace_reader::{Event, EventOp, MOST_ROWS};
 

@@ -1,8 +1,9 @@
 use Rattle.std.proofs.Common.{rules, ◌≡◌, ◌≤◌, ◌+◌, ◌-◌, ◌*◌, Some, arith}
 use Rattle.std.{specs.Prelude.slice_get, proofs.lemmas.Result.{on_err_weaker, on_ok_weaker}}
 use Rattle.pcm_io.specs.Reserved.{room_in}
-use Rattle.run_text.{specs.ResultText.{IsPrintable, results_text}, proofs.Gathered.on_err_any, proofs.Rows.{rows-all, rows-flushed, rows-more, rows-none, rows-part}}
+use Rattle.run_text.{specs.ResultText.{IsPrintable, results_text}, proofs.Rows.{rows-all, rows-flushed, rows-more, rows-none, rows-part}}
 use Rattle.run_text.proofs.results.print_results.Goals as goal
+use Rattle.printer.proofs.Ending.{on_err_any}
 use Rattle.masked_bytes.proofs.Lists.{item-at}
 
 pub loop-i-init : goal.loop-i-init
