@@ -1,9 +1,9 @@
 -- What a sink got and what a text holds: how both together grow, and what is written in the end.
 use Rattle.std.proofs.Common.{◌≡◌, ℕ, ◌+◌, List, [], ◌∷◌, ◌++◌, length, Option, refl, sym, ap, subst, ◌∙◌, arith, append_assoc}
-use Rattle.std.{specs.Io.KnownBytes.Appends, specs.Prelude.{Result, Ok, Err, OnOk, OnErr}, proofs.lemmas.List.append-nil}
+use Rattle.std.{specs.Io.KnownBytes.Appends, proofs.lemmas.List.append-nil}
 use Rattle.pcm_io.specs.{Giving.AppendsPrefix, Reserved.{Reserved, appended, reserved}}
 use Rattle.pcm_io.proofs.ByteLemmas.{Appends-Appends, Appends-nothing, Appends-AppendsPrefix, AppendsPrefix-longer}
-use Rattle.run_text.{specs.Gathering.{Flushes, Printed}, specs.WearText.{wear_header_text, wear_row_text, wear_rows_text, wear_text}, proofs.WearLemmas.wear_rows_text-append}
+use Rattle.run_text.{specs.Gathering.Printed, specs.WearText.{wear_header_text, wear_row_text, wear_rows_text, wear_text}, proofs.WearLemmas.wear_rows_text-append}
 use Rattle.bank_shape.specs.declared.Role.{Role}
 
 -- an empty text that got these bytes
