@@ -12,8 +12,7 @@ use crate::fields::push_energy;
 use crate::sums::sum_energy;
 use cell_rows::{LineEnergy, TellsCells};
 use pcm_io::{Sink, Text, WriteFault};
-use printer::Printer;
-use run_text::{ROW_ROOM, TEXT_ROOM};
+use printer::{Printer, ROW_ROOM, TEXT_ROOM};
 
 #[tactic(auto, using(pcm_io::proofs::DigitLemmas::ten_digits))]
 fn push_bank(bank: u32, energy: Option<LineEnergy>, text: &mut Text)

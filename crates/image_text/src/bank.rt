@@ -12,9 +12,8 @@ use masked_bytes::entry::Entry;
 use pcm_image::{EntryImage, RegionImage};
 use pcm_io::Sink;
 use power_recovery::kept::Kept;
-use printer::Printer;
+use printer::{Printer, ROW_ROOM};
 use region_regs::Region;
-use run_text::ROW_ROOM;
 use spare_pool::Remap;
 
 // The registers of a region as an image has them.

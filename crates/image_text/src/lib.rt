@@ -1,5 +1,5 @@
-//! The parts of a module's image as they are printed: its numbers, what a bank keeps, and the cells of the array lines. The text is
-//! gathered in memory that was reserved before, and written whenever the next piece might not fit.
+//! The parts of a module's image as they are printed: its numbers, what a bank keeps, and the cells of the array lines, each put behind what
+//! a [printer](../printer) printed before.
 #![tactic(auto)]
 
 pub mod bank;

@@ -13,8 +13,7 @@ use pcm_image::{
     write_head, write_region, write_slot,
 };
 use pcm_io::{Sink, Text};
-use printer::Printer;
-use run_text::ROW_ROOM;
+use printer::{Printer, ROW_ROOM};
 
 /// The number by which an image says where registers are kept.
 pub fn number_of_home(home: Home) -> u8

@@ -13,9 +13,8 @@ use image_text::pieces::{print_count, print_mark};
 use large_image::LargeRegion;
 use pcm_io::Sink;
 use power_recovery::kept::Kept;
-use printer::Printer;
+use printer::{Printer, ROW_ROOM};
 use region_regs::Region;
-use run_text::ROW_ROOM;
 
 // The registers of a region as an image has them.
 fn region_image(region: &Region) -> LargeRegion

@@ -19,8 +19,7 @@ use crate::pieces::print_head;
 use cell_rows::CellArray;
 use pcm_io::{Sink, Text, WriteFault};
 use pcm_module::Module;
-use printer::Printer;
-use run_text::{ROW_ROOM, TEXT_ROOM};
+use printer::{Printer, ROW_ROOM, TEXT_ROOM};
 
 // What the banks of a module keep, in order.
 fn print_banks<const B: usize, const M: usize, const E: usize, K: Sink>(

@@ -11,8 +11,7 @@ use cell_rows::{CellArray, Cells};
 use image_text::pieces::print_cells;
 use large_image::{END_MARK, are_zero};
 use pcm_io::Sink;
-use printer::Printer;
-use run_text::ROW_ROOM;
+use printer::{Printer, ROW_ROOM};
 
 // Whether no cell of an array line is 1.
 fn is_blank<const B: usize, const M: usize>(cells: &Cells<B, M>) -> bool

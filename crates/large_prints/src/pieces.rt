@@ -11,8 +11,7 @@ use image_text::pieces::number_of_home;
 use large_image::{LargeHead, LargeRegion, write_head, write_line, write_region};
 use module_shape::Shape;
 use pcm_io::{Sink, Text};
-use printer::Printer;
-use run_text::ROW_ROOM;
+use printer::{Printer, ROW_ROOM};
 
 // The numbers of a module of these sizes, with lines of so many bytes, put at the end of a text.
 fn push_head(size: u8, shape: &Shape, seed: u64, text: &mut Text)

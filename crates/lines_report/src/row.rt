@@ -12,7 +12,8 @@ use bank_shape::Role;
 use cell_rows::{CellWear, LineEnergy};
 use energy_report::push_energy;
 use pcm_io::{Sink, Text, WriteFault};
-use run_text::{ROW_ROOM, TEXT_ROOM, make_room, push_role};
+use printer::{ROW_ROOM, TEXT_ROOM};
+use run_text::{make_room, push_role};
 
 /// What the cells of an array line say of it.
 #[derive(Clone, Copy, Debug, Drop, PartialEq, Eq)]

@@ -17,7 +17,8 @@ use ecp_line::Ecp;
 use lines_report::{LineCells, print_lines_header, print_lines_row};
 use pcm_io::{Sink, Text, WriteFault};
 use pcm_module::Module;
-use run_text::{TEXT_ROOM, print_rest};
+use printer::TEXT_ROOM;
+use run_text::print_rest;
 
 // What the cells of an array line say of it.
 pub(crate) fn line_cells<const B: usize, const M: usize, const E: usize, A: TellsCells<B, M>>(

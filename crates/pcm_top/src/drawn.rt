@@ -11,7 +11,8 @@ ghost use Rattle.pcm_top.specs.Ends.{EndsText};
 use crate::fault::Fault;
 use command_line::{GenJob, LineSize};
 use pcm_io::{Sink, Text, WriteFault, write_all};
-use run_text::{TEXT_ROOM, make_room};
+use printer::TEXT_ROOM;
+use run_text::make_room;
 use std::alloc::Global;
 use trace_gen::{Generator, Mix, header, print_event};
 

@@ -8,8 +8,8 @@ use cell_rows::CellArray;
 use command_line::RunJob;
 use pcm_io::Text;
 use pcm_module::Module;
+use printer::TEXT_ROOM;
 use result_rows::Results;
-use run_text::TEXT_ROOM;
 use std::alloc::{AllocError, Global};
 
 /// Takes all the memory of a run of so many rows: that of the array, of the module, of the table of outcomes

@@ -16,7 +16,8 @@ use crate::fault::Fault;
 use crate::input::TRACE_ROOM;
 use pcm_image::{Image, read_image, size_of_line};
 use pcm_io::{Sink, Source, Text, WriteFault, read_all, write_all};
-use run_text::{TEXT_ROOM, make_room};
+use printer::TEXT_ROOM;
+use run_text::make_room;
 use std::alloc::Global;
 
 // Appends the row of a line.

@@ -1,8 +1,8 @@
 -- What the end of printing says of bytes that are printed as far as there was no fault.
-use Rattle.std.proofs.Common.{◌≡◌, ℕ, List, ◌++◌, Option, false, subst}
+use Rattle.std.proofs.Common.{◌≡◌, ℕ, ◌≤◌, List, [], ◌++◌, Option, false, subst}
 use Rattle.std.specs.{Io.KnownBytes.Appends, Prelude.{Result, Ok, Err, OnOk, OnErr}}
-use Rattle.pcm_io.{specs.Giving.AppendsPrefix, proofs.ByteLemmas.AppendsPrefix-longer}
-use Rattle.printer.specs.{Printing.{Ends, Holds}, declared.printer.Printer.Printer}
+use Rattle.pcm_io.{specs.Faults.Rose, specs.Giving.AppendsPrefix, proofs.ByteLemmas.AppendsPrefix-longer}
+use Rattle.printer.specs.{Printing.{Ends, Holds, Prints}, declared.printer.Printer.Printer}
 
 -- a fact that follows from what holds of an answer holds of it
 pub on_ok : {T E : Type 0} (r : Result T E) (P Q : Type 0) → OnOk r P → (P → Q) → OnOk r Q
@@ -13,7 +13,12 @@ pub on_err : {T E : Type 0} (r : Result T E) (P Q : Type 0) → OnErr r P → (P
 on_err (Ok x) P Q h f = tt
 on_err (Err e) P Q h f = f h
 
--- so does one that follows from two of them
+-- one that holds anyway does
+pub on_err_any : {T E : Type 0} (r : Result T E) (P : Type 0) → P → OnErr r P
+on_err_any (Ok x) P h = tt
+on_err_any (Err e) P h = h
+
+-- and so does one that follows from two of them
 on_both : {T E : Type 0} (r : Result T E) (P Q R : Type 0) → OnOk r P → OnOk r Q → (P → Q → R) → OnOk r R
 on_both (Ok x) P Q R p q f = f p q
 on_both (Err e) P Q R p q f = tt
@@ -28,3 +33,21 @@ module _ {K : Type 0} (written : K → Option (List ℕ)) (faults : K → ℕ) {
   pub whole-part : (rest : List ℕ) → some ++ rest ≡ whole → OnErr result (AppendsPrefix was (written out) whole)
   whole-part rest is =
       on_err result _ _ (ends.part was since some had) (λ part. subst (λ x. AppendsPrefix was (written out) x) is (AppendsPrefix-longer was (written out) some rest part))
+
+-- what is told at the end of bytes that were all printed
+pub tells-whole : {K : Type 0} (written : K → Option (List ℕ)) (faults : K → ℕ) {T E : Type 0} (first last : Printer K) (out now : K) (result : Result T E) (was : Option (List ℕ)) (since : ℕ) (whole : List ℕ)
+    → Holds written faults was since first [] → Prints written faults first last whole → Ends written faults last out result → out ≡ now
+    → record {
+      ok : OnOk result (Appends was (written now) whole);
+      prefix : OnErr result (AppendsPrefix was (written now) whole);
+      fault : OnErr result (Rose since (faults now));
+      never_falls : since ≤ faults now;
+    }
+tells-whole written faults first last out now result was since whole none printed ends same =
+    let had = printed.more was since [] none in
+    rw (← same) (record {
+      ok = ends.all was since whole had;
+      prefix = ends.part was since whole had;
+      fault = ends.fault was since whole had;
+      never_falls = ends.never_falls was since whole had;
+    })

@@ -1,7 +1,7 @@
 -- How printed pieces follow one another.
-use Rattle.std.proofs.Common.{◌≡◌, inl, inr, arith, Bool, true, false, ℕ, ◌+◌, ◌<◌, ◌≤◌, List, [], ◌∷◌, ◌++◌, length, get_or, take, drop, Option, refl, sym, ap, subst, ◌∙◌, append_assoc, true≢false}
+use Rattle.std.proofs.Common.{◌≡◌, inl, inr, arith, Bool, true, false, ℕ, ◌+◌, ◌<◌, ◌≤◌, List, [], ◌∷◌, ◌++◌, length, get_or, take, Option, refl, sym, ap, subst, ◌∙◌, append_assoc, true≢false}
 use Rattle.std.{specs.Io.KnownBytes.Appends, specs.List.flat_map, specs.Prelude.Err, proofs.lemmas.Bool.cases_Bool, proofs.lemmas.Grind.flat_map-append}
-use Rattle.std.proofs.lemmas.List.{append-nil, take_all, take_more, take-append-drop}
+use Rattle.std.proofs.lemmas.List.{append-nil, take_all, take_more}
 use Rattle.pcm_io.specs.{Faults.Rose, Giving.AppendsPrefix, Reserved.{appended, reserved}}
 use Rattle.pcm_io.proofs.ByteLemmas.{Appends-Appends, Appends-AppendsPrefix, AppendsPrefix-longer}
 use Rattle.printer.specs.{Printing.{Ends, Holds, Prints, Sends}, declared.printer.Printer.Printer}
@@ -124,9 +124,3 @@ module _ {K : Type 0} (written : K → Option (List ℕ)) (faults : K → ℕ) w
 
     pub prints-all : (a b : Printer K) (i : ℕ) → length xs ≤ i → Prints written faults a b (flat_map f (take i xs)) → Prints written faults a b (flat_map f xs)
     prints-all a b i all had = prints-same a b (flat_map f (take i xs)) (flat_map f xs) (ap (flat_map f) (take_all i xs all)) had
-
-    -- after a fault all of them
-    pub prints-rest : (a b : Printer K) (i : ℕ) → b.failed ≡ true → Prints written faults a b (flat_map f (take i xs)) → Prints written faults a b (flat_map f xs)
-    prints-rest a b i failed had =
-        prints-same a b _ (flat_map f xs) (sym (flat_map-append f (take i xs) (drop i xs)) ∙ ap (flat_map f) (take-append-drop i xs))
-        (prints-stopped a b (flat_map f (take i xs)) (flat_map f (drop i xs)) failed had)

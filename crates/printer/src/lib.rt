@@ -3,5 +3,7 @@
 #![tactic(auto)]
 
 mod printer;
+mod room;
 
 pub use printer::Printer;
+pub use room::{ROW_ROOM, TEXT_ROOM};

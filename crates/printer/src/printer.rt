@@ -3,8 +3,8 @@ ghost use Rattle.std.specs.Prelude.{◌≡◌, ◌≤◌, [], length};
 ghost use Rattle.pcm_io.specs.Reserved.{reserved, room_in};
 ghost use Rattle.printer.specs.Printing.{Ends, Holds, Prints, Sends};
 
+use crate::room::{ROW_ROOM, TEXT_ROOM};
 use pcm_io::{Sink, Text, WriteFault, write_all};
-use run_text::{ROW_ROOM, TEXT_ROOM};
 
 /// A text and the sink that it goes to, piece after piece. The text is there to have pieces put behind it, once there is room.
 pub struct Printer<'t, 'o, K: Sink> {

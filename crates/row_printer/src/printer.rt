@@ -22,8 +22,9 @@ use crate::snapshot::{Snapshot, print_snapshot, snapshots_header};
 use crate::text::{print_head, print_told};
 use crate::told::{ArrayWear, Backlog, Shown, Told};
 use pcm_io::{Sink, Text, WriteFault};
+use printer::TEXT_ROOM;
 use result_rows::{Outcome, Outcomes};
-use run_text::{Counts, TEXT_ROOM, make_room, print_rest, short_rows_are_counted};
+use run_text::{Counts, make_room, print_rest, short_rows_are_counted};
 use std::marker::Model;
 
 /// Prints a line for each outcome that it is told, behind a header and in the order in which they are told, and counts them; it

@@ -1,9 +1,9 @@
 -- What a sink got and what a text holds: how both together grow, and what is written in the end.
 use Rattle.std.proofs.Common.{◌≡◌, ℕ, ◌+◌, List, [], ◌∷◌, ◌++◌, length, Option, refl, sym, ap, subst, ◌∙◌, arith, append_assoc}
-use Rattle.std.{specs.Io.KnownBytes.Appends, specs.Prelude.{Result, Ok, Err, OnOk, OnErr}, proofs.lemmas.List.append-nil}
+use Rattle.std.{specs.Io.KnownBytes.Appends, proofs.lemmas.List.append-nil}
 use Rattle.pcm_io.specs.{Giving.AppendsPrefix, Reserved.{Reserved, appended, reserved}}
 use Rattle.pcm_io.proofs.ByteLemmas.{Appends-Appends, Appends-nothing, Appends-AppendsPrefix, AppendsPrefix-longer}
-use Rattle.run_text.{specs.Gathering.{Flushes, Printed}, specs.WearText.{wear_header_text, wear_row_text, wear_rows_text, wear_text}, proofs.WearLemmas.wear_rows_text-append}
+use Rattle.run_text.{specs.Gathering.Printed, specs.WearText.{wear_header_text, wear_row_text, wear_rows_text, wear_text}, proofs.WearLemmas.wear_rows_text-append}
 use Rattle.bank_shape.specs.declared.Role.{Role}
 
 -- an empty text that got these bytes
@@ -69,19 +69,3 @@ printed-wear_row a b old new rows array_line bank pulses role is count h =
 pub wear_text-part : (a b : Option (List ℕ)) (rows later : List (ℕ × ℕ × Role)) → AppendsPrefix a b (wear_text rows) → AppendsPrefix a b (wear_text (rows ++ later))
 wear_text-part a b rows later part =
     subst (λ (xs : List ℕ). AppendsPrefix a b xs) (sym (wear_text-append rows later)) (AppendsPrefix-longer a b (wear_text rows) (wear_rows_text (length rows) later) part)
-
--- ---- answers
-
--- a fact that holds anyway holds of an error
-pub on_err_any : {T E : Type 0} (r : Result T E) (P : Type 0) → P → OnErr r P
-on_err_any (Ok x) P h = tt
-on_err_any (Err e) P h = h
-
--- a fact that follows from what holds of an answer holds of it
-pub on_ok : {T E : Type 0} (r : Result T E) (P Q : Type 0) → OnOk r P → (P → Q) → OnOk r Q
-on_ok (Ok x) P Q h f = f h
-on_ok (Err e) P Q h f = tt
-
-pub on_err : {T E : Type 0} (r : Result T E) (P Q : Type 0) → OnErr r P → (P → Q) → OnErr r Q
-on_err (Ok x) P Q h f = tt
-on_err (Err e) P Q h f = f h

@@ -1,9 +1,7 @@
 -- How long the rows of the wear report are.
-use Rattle.std.proofs.Common.{ℕ, ◌+◌, ◌^◌, ◌<◌, ◌≤◌, ◌≡◌, List, [], ◌∷◌, ◌++◌, length, length-append, append_assoc, add-zero, suc, sym, refl, arith, lit≤}
-use Rattle.std.specs.Fmt.{decimal}
-use Rattle.pcm_io.proofs.DigitLemmas.{ten_digits, twenty_digits}
-use Rattle.run_text.specs.WearText.{role_text, wear_row_text, wear_rows_text}
-use Rattle.bank_shape.specs.{declared.Role.Role, declared.Role.TheVariants.{Line, Gap, Free, Retired, Control}}
+use Rattle.std.proofs.Common.{ℕ, ◌+◌, ◌≡◌, List, [], ◌∷◌, ◌++◌, length, append_assoc, add-zero, suc, sym, refl, arith}
+use Rattle.run_text.specs.WearText.{wear_row_text, wear_rows_text}
+use Rattle.bank_shape.specs.declared.Role.{Role}
 
 -- the rows of two lists
 pub wear_rows_text-append : (array_line : ℕ) (first second : List (ℕ × ℕ × Role)) → wear_rows_text array_line (first ++ second) ≡ wear_rows_text array_line first ++ wear_rows_text (array_line + length first) second

@@ -18,7 +18,7 @@ pub use laws::{each_row_is_counted_once, short_rows_are_counted};
 pub use pulses::{add_pulses, sum_pulses};
 pub use results::print_results;
 pub use roles::{print_role, push_role, wear_header};
-pub use room::{ROW_ROOM, TEXT_ROOM, make_room, print_rest};
+pub use room::{make_room, print_rest};
 pub use shortfall::{any_short, is_short};
 pub use summary::{print_counts, print_summary};
 pub use wear::{print_wear_header, print_wear_row};

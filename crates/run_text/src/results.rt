@@ -4,11 +4,13 @@ ghost use Rattle.std.specs.Io.KnownBytes.{Appends};
 ghost use Rattle.pcm_io.specs.Faults.{Rose};
 ghost use Rattle.pcm_io.specs.Giving.{AppendsPrefix};
 ghost use Rattle.pcm_io.specs.Reserved.{reserved};
-ghost use Rattle.run_text.specs.ResultText.{ArePrintable, asked, named_line, results_text};
+ghost use Rattle.printer.specs.Printing.{Prints};
+ghost use Rattle.result_rows.specs.RowText.{row_text};
+ghost use Rattle.run_text.specs.ResultText.{ArePrintable, IsPrintable, asked, named_line, results_text, rows_text};
 
-use crate::room::{TEXT_ROOM, make_room, print_rest};
 use pcm_io::{Sink, Text, WriteFault};
-use result_rows::{Op, Results, header, print_row};
+use printer::{Printer, ROW_ROOM, TEXT_ROOM};
+use result_rows::{Op, Outcome, Results, header, print_row};
 use trace_reader::{Event, EventOp, MOST_ROWS};
 
 // What a row asks for, as its result shows it.
@@ -32,6 +34,47 @@ fn line_named_by<const B: usize>(op: &EventOp<B>) -> u32
     }
 }
 
+// Adds the row of an event.
+fn print_event<const B: usize, K: Sink>(
+    row: u32,
+    event: &Event<B>,
+    outcome: &Outcome<B>,
+    printer: &mut Printer<K>,
+)
+    requires limit { ROW_ROOM ≤ printer.old.text.now.limit }
+    requires size { B ≤ 128 }
+    requires printable { IsPrintable event.now outcome.now }
+    ensures { Prints K.written K.faults printer.old printer.new
+        (row_text row (asked event.now.op) (named_line event.now.op) outcome.now) }
+{
+    printer.make_room();
+    let op = asked_by(&event.op);
+    let line = line_named_by(&event.op);
+    print_row(row, op, line, outcome, printer.text);
+}
+
+// Adds a row for each event.
+fn print_events<const B: usize, K: Sink>(
+    events: &[Event<B>],
+    results: &Results<B>,
+    printer: &mut Printer<K>,
+)
+    requires limit { ROW_ROOM ≤ printer.old.text.now.limit }
+    requires size { B ≤ 128 }
+    requires rows { length events.now ≤ MOST_ROWS }
+    requires printable { ArePrintable events.now results.now }
+    ensures { Prints K.written K.faults printer.old printer.new
+        (rows_text 1 events.now results.now) }
+{
+    for (i, event) in events.iter().enumerate() {
+        if printer.failed() {
+            return;
+        }
+        let row = i as u32 + 1;
+        print_event(row, event, results.get(row), printer);
+    }
+}
+
 /// Writes the header of the results and one row for each event. The text is empty at first.
 pub fn print_results<const B: usize, K: Sink>(
     events: &[Event<B>],
@@ -50,13 +93,8 @@ pub fn print_results<const B: usize, K: Sink>(
     ensures fault { OnErr result (Rose (K.faults out.old) (K.faults out.new)) }
     ensures never_falls { K.faults out.old ≤ K.faults out.new }
 {
-    text.push(header());
-    for (i, event) in events.iter().enumerate() {
-        make_room(text, out)?;
-        let row = i as u32 + 1;
-        let op = asked_by(&event.op);
-        let line = line_named_by(&event.op);
-        print_row(row, op, line, results.get(row), text);
-    }
-    print_rest(text, out)
+    let mut printer = Printer::new(text, out);
+    printer.push(header());
+    print_events(events, results, &mut printer);
+    printer.finish()
 }

@@ -6,12 +6,7 @@ ghost use Rattle.pcm_io.specs.Giving.{AppendsPrefix};
 ghost use Rattle.run_text.specs.Gathering.{Flushes, Printed};
 
 use pcm_io::{Sink, Text, WriteFault, write_all};
-
-/// Bytes of text that are gathered before they are written.
-pub const TEXT_ROOM: usize = 65_536;
-
-/// Bytes that a row takes at most: one of the results, over lines of 128 bytes.
-pub const ROW_ROOM: usize = 320;
+use printer::ROW_ROOM;
 
 /// Writes the text if the next row might not fit.
 pub fn make_room<K: Sink>(text: &mut Text, out: &mut K) -> Result<(), WriteFault>

@@ -8,9 +8,10 @@ ghost use Rattle.run_text.specs.WearText.{wear_header_text, wear_text};
 ghost use Rattle.run_text.specs.Gathering.{Printed};
 
 use crate::roles::{print_role, wear_header};
-use crate::room::{ROW_ROOM, TEXT_ROOM, make_room};
+use crate::room::make_room;
 use bank_shape::Role;
 use pcm_io::{Sink, Text, WriteFault};
+use printer::{ROW_ROOM, TEXT_ROOM};
 
 /// Begins a wear report in an empty text.
 pub fn print_wear_header(text: &mut Text)

@@ -22,7 +22,8 @@ use module_prints::{
 };
 use pcm_io::{Sink, Text, WriteFault};
 use pcm_module::Module;
-use run_text::{Counts, TEXT_ROOM, print_rest, print_summary, sum_pulses};
+use printer::TEXT_ROOM;
+use run_text::{Counts, print_rest, print_summary, sum_pulses};
 use stream_words::{Skip, StreamJob, StreamPrint};
 
 // Writes the image of a module with this seed over its array, as one of its sizes is spelled. Each array line is sensed once for it, in order,

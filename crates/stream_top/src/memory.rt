@@ -7,7 +7,7 @@ ghost use Rattle.stream_top.specs.Taking.{HasTaken};
 use cell_rows::CellArray;
 use pcm_io::Text;
 use pcm_module::Module;
-use run_text::TEXT_ROOM;
+use printer::TEXT_ROOM;
 use std::alloc::{AllocError, Global};
 use stream_words::StreamJob;
 

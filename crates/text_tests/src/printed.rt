@@ -7,10 +7,10 @@ ghost use Rattle.run_text.specs.ResultText.{ArePrintable};
 
 use bank_shape::Role;
 use pcm_io::{MemSink, Sink, Text, WriteFault};
+use printer::{ROW_ROOM, TEXT_ROOM};
 use result_rows::{Outcome, Results};
 use run_text::{
-    ROW_ROOM, TEXT_ROOM, print_counts, print_rest, print_results, print_wear_header,
-    print_wear_row, wear_header,
+    print_counts, print_rest, print_results, print_wear_header, print_wear_row, wear_header,
 };
 use std::alloc::{AllocError, Global};
 use std::process::Abort;

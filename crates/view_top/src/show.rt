@@ -18,7 +18,8 @@ use large_image::are_zero;
 use large_reader::{LargeImage, read_large, size_of_large};
 use pcm_io::{Sink, Source, Text, WriteFault, read_all, write_all};
 use pcm_top::{Fault, TRACE_ROOM};
-use run_text::{TEXT_ROOM, make_room};
+use printer::TEXT_ROOM;
+use run_text::make_room;
 use std::alloc::Global;
 
 // Appends the row of a line.
