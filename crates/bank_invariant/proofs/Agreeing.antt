@@ -30,9 +30,8 @@ any_waiting n line [] = refl
 any_waiting n line (w ∷ ws) = ap (λ rest. (w.line == line) || rest) (any_waiting n line ws)
 
 same_ready : (n : ℕ) (work : Work) (ws : List Awaited) → is_free (map (waiting_of {n = n}) ws) work ≡ is_ready ws work
-same_ready n Nothing ws = refl
 same_ready n (Store line slot) ws = ap (λ b. not b) (any_waiting n line ws)
-same_ready n (Copy region step) ws = refl
+same_ready n _ ws = refl
 
 module _ {n m e : ℕ} (h : List (BankEvent n)) (bank : BankState n m e) (array : ArrayState n m) (holds : Holds h bank array) where
   agree_slots : (line : ℕ) → line < bank.kept.shape.regions * bank.kept.shape.lines → slot_of bank.kept line ≡ slot_after bank.kept.shape h line
@@ -102,9 +101,7 @@ module _ {n m e : ℕ} (h : List (BankEvent n)) (bank : BankState n m e) (array 
       ∙ ap (λ es. cond (has_exhausted h) Nothing (after.due_work bank.kept.shape h (due_after bank.kept.shape h) es)) holds.entries
 
   same_target : (work : Work) → target_slot bank.kept work ≡ slot_of_work bank.kept.shape h work
-  same_target Nothing = refl
-  same_target (Store line slot) = refl
-  same_target (Copy region step) = refl
+  same_target work = grind arith
 
   agree_target : target_of bank.kept (next_work bank.kept) ≡ target_after bank.kept.shape h
   agree_target =

@@ -1,6 +1,6 @@
 -- A head that isn't complete is the only entry of its line: entries of one line merge, except into a head that is being stored, and
 -- such a head is complete.
-use Rattle.std.proofs.Common.{◌≡◌, ℕ, ◌==◌, ◌&&◌, not, if◌then◌else◌, inl, inr, ◌⊎◌, Bool, true, false, List, [], ◌∷◌, ◌++◌, drop, Option, Some, None, refl, ap, ◌∙◌}
+use Rattle.std.proofs.Common.{arith, ◌≡◌, ℕ, ◌==◌, ◌&&◌, not, if◌then◌else◌, inl, inr, ◌⊎◌, Bool, true, false, List, [], ◌∷◌, ◌++◌, drop, Option, Some, None, refl, ap, ◌∙◌}
 use Rattle.std.specs.Prelude.{IsTrue}
 use Rattle.masked_bytes.specs.{Entries.{or_this, newest_row, candidate, laid_on, merged, no_layer, layer_of}, Masked.{joined, gives_all, all_given, IsMasked}}
 use Rattle.masked_bytes.{specs.declared.entry.Entry.Entry, proofs.Layering.{joined-all_given, gives_all-all_given}, proofs.Truth.{and_first, and_second, differ_sym}}
@@ -18,24 +18,19 @@ IsHeadAlone {n} (head ∷ rest) = IsTrue (gives_all head.given) ⊎ (layer_of re
 
 -- neither of two is there
 neither_first : (p q : Option ℕ) → or_this p q ≡ None → p ≡ None
-neither_first (Some x) q h = cc
-neither_first None q h = refl
+neither_first p q h = grind arith
 
 neither_other : (p q : Option ℕ) → or_this p q ≡ None → q ≡ None
-neither_other (Some x) q h = cc
-neither_other None q h = h
+neither_other p q h = grind arith
 
 neither : (p q : Option ℕ) → p ≡ None → q ≡ None → or_this p q ≡ None
-neither (Some x) q h k = cc
-neither None q h k = k
+neither p q h k = grind arith
 
 not_there : (b : Bool) (row : ℕ) → (if b then Some row else None) ≡ None → b ≡ false
-not_there true row h = cc
-not_there false row h = refl
+not_there b row h = grind arith
 
 absent : (b : Bool) (row : ℕ) → b ≡ false → (if b then Some row else None) ≡ None
-absent true row h = cc
-absent false row h = refl
+absent b row h = grind arith
 
 module _ {n : ℕ} where
   -- no two of these entries are of one line
@@ -81,8 +76,7 @@ module _ {n : ℕ} where
           inr (row-append es x e.line alone (differ_sym e.line x.line (not_there (e.line == x.line) e.row (neither_other (newest_row es x.line) _ none))))
 
   IsComplete-append : (es : List (Entry n)) (x : Entry n) → IsComplete es → IsComplete (es ++ x ∷ [])
-  IsComplete-append [] x whole = absurd whole
-  IsComplete-append (e ∷ es) x whole = whole
+  IsComplete-append es x whole = grind arith
 
   -- A merge
 
@@ -148,10 +142,7 @@ module _ {n : ℕ} where
     -- a store that begins completes the head
     begins_complete : (h : List (BankEvent n)) (ws : List Awaited) (mark : Bool) (due : Option ℕ) (newest_of : ℕ → List ℕ) (es : List (Entry n))
         → is_ready ws (if mark then Nothing else due_work shape h due es) ≡ true → due ≡ None → IsComplete (begun due newest_of es)
-    begins_complete h ws true due newest_of es ready none = cc
-    begins_complete h ws false (Some region) newest_of es ready none = cc
-    begins_complete h ws false None newest_of [] ready none = cc
-    begins_complete h ws false None newest_of (e ∷ es) ready none = refl
+    begins_complete h ws mark due newest_of es ready none = grind arith
 
     -- while a store is in progress its head is complete
     complete_in : (h : List (BankEvent n)) → MayAll shape most h → in_progress h ≡ true → due_after shape h ≡ None → IsComplete (queue shape h)
@@ -168,9 +159,7 @@ module _ {n : ℕ} where
     complete_in _ may busy none = cc
 
     store_due : (h : List (BankEvent n)) (mark : Bool) (due : Option ℕ) (es : List (Entry n)) → is_store (if mark then Nothing else due_work shape h due es) ≡ true → due ≡ None
-    store_due h true due es store = cc
-    store_due h false (Some region) es store = cc
-    store_due h false None es store = refl
+    store_due h mark due es store = grind arith
 
     complete_busy : (h : List (BankEvent n)) → MayAll shape most h → head_busy_after shape h ≡ true → IsComplete (queue shape h)
     complete_busy h may busy =

@@ -45,9 +45,7 @@ refusal_law n m e line h bank array holds worn =
     ap (λ b. if b then wrote.Exhausted else accept_answer bank.kept.shape h (candidate (head_busy_after bank.kept.shape h) (queue bank.kept.shape h) line)) (sym yes)
 
 full_by : {n : ℕ} (es : List (Entry n)) (index : Option ℕ) (room : Bool) → taking.answer_by index room es ≡ took.Full → (index ≡ None) × (room ≡ false)
-full_by es (Some i) room e = cc
-full_by es None true e = cc
-full_by es None false e = (refl, refl)
+full_by es index room e = grind arith
 
 -- a full queue leaves what the bank keeps
 pub kept-full : {n : ℕ} (busy : Bool) (entry : Entry n) (kept : KeptState n)

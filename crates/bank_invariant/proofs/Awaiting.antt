@@ -6,8 +6,8 @@ use Rattle.masked_bytes.proofs.{Layering.{length-laid, laid-all_given, joined-al
 use Rattle.cell_rows.specs.{Device.{ArrayState, LineState, Senses}, declared.array.Sense.Sense}
 use Rattle.ecp_line.specs.{ArrayLines.decoded, Reading.{decode, IsSoundLine, IsWornLine}}
 use Rattle.line_writer.{specs.Orderly.IsLive, proofs.Orderly.AreOrderly-same, proofs.Untouched.AreUntouched-same}
-use Rattle.bank_shape.specs.{Shape.slot_at, declared.BankShape.BankShape, declared.Work.Work, declared.Work.TheVariants.{Nothing, Store, Copy}}
-use Rattle.bank_shape.specs.{declared.answer.ReadAnswer.ReadAnswer, declared.waiting.Waiting.Waiting}
+use Rattle.bank_shape.specs.{Shape.slot_at, declared.BankShape.BankShape, declared.Work.Work, declared.Work.TheVariants.{Store, Copy}, declared.answer.ReadAnswer.ReadAnswer}
+use Rattle.bank_shape.specs.declared.waiting.Waiting.{Waiting}
 use Rattle.bank_shape.specs.declared.answer.ReadAnswer.TheVariants as came
 use Rattle.power_recovery.specs.Kept.{KeptState, array_line, stands_at}
 use Rattle.bank_model.specs.{Answers.{MayAll, IsServed}, Events.{BankEvent, Read, Serve, Cut, newest}, History.{Awaited, awaited, queue, waits, iterated}, Touching.Touches}
@@ -31,9 +31,8 @@ module _ {n m : ℕ} (e : ℕ) (old new : ArrayState n m) (stands : StandsAs old
   same_decoded line = ap (λ (l : LineState n m). decode e l.held) (stands.line line)
 
   of_sensed : (kept : KeptState n) (waiting : List (Waiting n)) (bytes : List ℕ) (work : Work) → IsOf e kept old waiting bytes work → IsOf e kept new waiting bytes work
-  of_sensed kept waiting bytes Nothing own = own
-  of_sensed kept waiting bytes (Store line slot) own = own
   of_sensed kept waiting bytes (Copy region step) own = own ∙ sym (same_decoded (array_line kept (slot_at kept.shape region step.from)))
+  of_sensed kept waiting bytes _ own = own
 
   running_sensed : (kept : KeptState n) (waiting : List (Waiting n)) (running : Option (Operation n m e))
       → IfSome running (IsRunning kept old waiting) → IfSome running (IsRunning kept new waiting)
@@ -110,9 +109,8 @@ AreOff ws line = All (λ w. w.line ≢ line) ws
 module _ {n m : ℕ} (e : ℕ) (kept : KeptState n) (array : ArrayState n m) where
   of_waiting : (ws xs : List (Waiting n)) (bytes : List ℕ) (work : Work) → ((line : ℕ) → IsWholeHead kept line bytes → AreOff ws line → AreOff xs line)
       → IsOf e kept array ws bytes work → IsOf e kept array xs bytes work
-  of_waiting ws xs bytes Nothing off own = own
   of_waiting ws xs bytes (Store line slot) off own = (own.0, off line own.0 own.1)
-  of_waiting ws xs bytes (Copy region step) off own = own
+  of_waiting ws xs bytes _ off own = own
 
   running_waiting : (running : Option (Operation n m e)) (ws xs : List (Waiting n)) → ((line : ℕ) (bytes : List ℕ) → IsWholeHead kept line bytes → AreOff ws line → AreOff xs line)
       → IfSome running (IsRunning kept array ws) → IfSome running (IsRunning kept array xs)
@@ -185,9 +183,7 @@ may_read_law n m e row line h bank array holds below =
 -- a read waits only where the queue doesn't give every byte and not as many wait as may
 waits_where : {n : ℕ} (all full : Bool) (bytes : List ℕ) → ◌≡◌ {A = ReadAnswer n} came.Waiting (cond all (came.Forwarded bytes) (cond full came.Busy came.Waiting))
     → (all ≡ false) × (full ≡ false)
-waits_where true full bytes e = cc
-waits_where false true bytes e = cc
-waits_where false false bytes e = (refl, refl)
+waits_where all full bytes e = grind arith
 
 pub waiting_law : WaitingLaw
 waiting_law n m e row line h bank array holds above may =
@@ -277,5 +273,4 @@ served_law n m e h bank old new answer holds may stands =
     }
   where
     fewer : (ws : List (Waiting n)) → length (drop 1 ws) ≤ length ws
-    fewer [] = omega arith
-    fewer (w ∷ ws) = omega arith
+    fewer ws = grind arith

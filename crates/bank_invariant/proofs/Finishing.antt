@@ -7,7 +7,7 @@ use Rattle.cell_rows.specs.Device.{ArrayState, LineState}
 use Rattle.ecp_line.{specs.ArrayLines.decoded, specs.Reading.decode, proofs.Bytes.length-decode}
 use Rattle.region_regs.specs.Region.{RegionState, after_store}
 use Rattle.line_writer.specs.Writing.{steps_left, most_steps}
-use Rattle.bank_shape.specs.{Kinds.is_store, Shape.slots_of, declared.Work.Work, declared.Work.TheVariants.{Nothing, Store, Copy}}
+use Rattle.bank_shape.specs.{Kinds.is_store, Shape.slots_of, declared.Work.Work, declared.Work.TheVariants.{Nothing, Store}}
 use Rattle.bank_shape.specs.declared.answer.Step.TheVariants as did
 use Rattle.power_recovery.specs.Events.{with_entries, with_regions, completed_kept, stored_kept}
 use Rattle.power_recovery.specs.{Kept.{KeptState, no_region, region_at, slot_of, array_line, stands_at, due_region, due_work, next_work, target_slot}, Slots.bank_lines}
@@ -43,10 +43,8 @@ module _ {n : ℕ} where
   -- a store that comes next is of the line of the head
   pub next_store-line : (kept : KeptState n) (line slot : ℕ) (mark : Bool) (due : Option ℕ) (es : List (Entry n))
       → Store line slot ≡ cond mark Nothing (due_work due kept es) → head_line es ≡ line
-  next_store-line kept line slot true due es e = cc
-  next_store-line kept line slot false (Some region) es e = cc
-  next_store-line kept line slot false None [] e = cc
   next_store-line kept line slot false None (x ∷ es) e = let at : line ≡ x.line = cc in sym at
+  next_store-line kept line slot _ _ _ e = cc
 
   -- what the entries behind the head give, over the head, is what all of them give
   dropped-own : (es : List (Entry n)) (head : Entry n) (line : ℕ) (under : List ℕ) → AllMasked es → slice_get es 0 ≡ Some head → head.line ≡ line → length under ≡ n
@@ -70,12 +68,10 @@ module _ {n : ℕ} where
       (same_line kept.entries)
     where
       same_rest : (es : List (Entry n)) → drop 1 es ≡ drop 1 (completed under es)
-      same_rest [] = refl
-      same_rest (e ∷ es) = refl
+      same_rest es = grind arith
 
       same_line : (es : List (Entry n)) → head_line es ≡ head_line (completed under es)
-      same_line [] = refl
-      same_line (e ∷ es) = refl
+      same_line es = grind arith
 
 -- The end of a store: it is of the next work, and its line reads as the head does over what it read before
 record IsEnd {n m : ℕ} (e line slot : ℕ) (kept : KeptState n) (old new : ArrayState n m) (head : Entry n) : Type 0 where
@@ -191,9 +187,7 @@ module _ {n m e : ℕ} (line slot : ℕ) (h : List (BankEvent n)) (bank : BankSt
   iterated_stored place is = by (work_after bank.kept.shape h) (done_stored place is)
     where
       by : (work : Work) → IsDone bank.kept.shape h work (did.Stored (head_row bank.kept.entries) place) → IsIterated bank.kept.shape h work (did.Stored (head_row bank.kept.entries) place)
-      by Nothing done = done
-      by (Store at there) done = done
-      by (Copy region step) done = done
+      by work done = grind arith
 
   exhausted_stored : IsTrue bank.kept.exhausted → ⊥
   exhausted_stored mark =

@@ -7,7 +7,7 @@ use Rattle.cell_rows.specs.Device.{ArrayState, LineState}
 use Rattle.start_gap.specs.Rotation.{Rotation, IsRotation, below_gap, move_by}
 use Rattle.line_writer.specs.{Orderly.{IsLive, IsOrderly}, Writing.{IsProgress, steps_left, most_steps}, declared.writer.LineWriter.LineWriter, declared.writer.Progress.Progress}
 use Rattle.line_writer.proofs.Orderly.{plain}
-use Rattle.bank_shape.specs.{Shape.slot_at, declared.BankShape.BankShape, declared.Work.Work, declared.Work.TheVariants.{Nothing, Store, Copy}, declared.waiting.Waiting.Waiting}
+use Rattle.bank_shape.specs.{Shape.slot_at, declared.BankShape.BankShape, declared.Work.Work, declared.Work.TheVariants.Copy, declared.waiting.Waiting.Waiting}
 use Rattle.bank_shape.proofs.Sizes.{slot_at-within}
 use Rattle.bank_shape.specs.declared.answer.ReadAnswer.TheVariants as came
 use Rattle.power_recovery.specs.{Kept.{KeptState, IsKept, region_at, slot_of, array_line, stands_at, target_slot, due_region, next_work}, Slots.bank_lines}
@@ -62,8 +62,6 @@ module _ {n m : ℕ} where
   pub IsOf-differs : (e : ℕ) (kept : KeptState n) (waiting : List (Waiting n)) (bytes : List ℕ) (work : Work) (old new : ArrayState n m)
       → IsKept kept → AreSound e kept old → work ≡ next_work kept → DiffersAt e (target_of kept work) old new
       → IsOf e kept old waiting bytes work → IsOf e kept new waiting bytes work
-  IsOf-differs e kept waiting bytes Nothing old new range sound next differs of = of
-  IsOf-differs e kept waiting bytes (Store line slot) old new range sound next differs of = of
   IsOf-differs e kept waiting bytes (Copy region step) old new range sound next differs of =
       let moves = next_copy-region kept region step kept.exhausted (due_region kept) kept.entries next in
       let due = due_region-Some kept region range moves.0 in
@@ -78,6 +76,7 @@ module _ {n m : ℕ} where
       of ∙ sym (decoded-other e (array_line kept (slot_at kept.shape region step.to)) (array_line kept (slot_at kept.shape region step.from)) old new differs
       (λ same. apart (sound.apart (slot_at kept.shape region step.from) (slot_at kept.shape region step.to)
       (slot_at-within kept.shape region step.from due.0 from_within) (slot_at-within kept.shape region step.to due.0 to_within) same)))
+  IsOf-differs e kept waiting bytes _ old new range sound next differs of = of
 
 module _ {n m e : ℕ} where
   -- each read that waits is of a line that stands in another slot

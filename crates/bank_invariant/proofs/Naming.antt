@@ -50,9 +50,7 @@ module _ {n : ℕ} where
 
   AreNamed-begun : (line_of : ℕ → ℕ) (bound : ℕ) (due : Option ℕ) (newest_of : ℕ → List ℕ) (es : List (Entry n)) → AreNamed line_of bound es
       → AreNamed line_of bound (begun due newest_of es)
-  AreNamed-begun line_of bound (Some region) newest_of es named = named
-  AreNamed-begun line_of bound None newest_of [] named = named
-  AreNamed-begun line_of bound None newest_of (e ∷ es) named = named
+  AreNamed-begun line_of bound due newest_of es named = grind arith
 
   -- a merged entry gets the new row, and keeps its line
   AreNamed-merged : (line_of : ℕ → ℕ) (old row line bound : ℕ) (bytes : List ℕ) (given : List Bool) (es : List (Entry n)) → row < bound → line_of old ≡ line
@@ -118,8 +116,7 @@ module _ {n : ℕ} where
 
   -- so has the head
   pub head-named : (line_of : ℕ → ℕ) (bound : ℕ) (es : List (Entry n)) → 0 < length es → AreNamed line_of bound es → line_of (head_row es) ≡ head_line es
-  head-named line_of bound [] some named = grind arith
-  head-named line_of bound (e ∷ es) some named = named.1
+  head-named line_of bound es some named = grind arith
 
   -- Rows apart
 

@@ -1,5 +1,5 @@
 -- Iterations that find their line worn.
-use Rattle.std.proofs.Common.{◌≡◌, ◌≢◌, ℕ, ◌+◌, ◌<◌, ◌≤◌, cond, if◌then◌else◌, inl, inr, List, [], ◌∷◌, length, length-append, get_or, refl, Option, Some, None, Bool, true, false, sym, ap, ◌∙◌, subst, arith}
+use Rattle.std.proofs.Common.{◌≡◌, ◌≢◌, ℕ, ◌+◌, ◌<◌, ◌≤◌, cond, if◌then◌else◌, inl, inr, List, [], ◌∷◌, length, length-append, get_or, refl, Option, Some, Bool, true, false, sym, ap, ◌∙◌, subst, arith}
 use Rattle.std.{specs.Prelude.{IfSome, IsTrue}, proofs.lemmas.Bool.{cases_eq, ne_eqb, eq-eqb}}
 use Rattle.masked_bytes.specs.{Entries.layer_of, Masked.laid, declared.entry.Entry.Entry}
 use Rattle.cell_rows.specs.Device.{ArrayState}
@@ -25,9 +25,7 @@ module _ {n : ℕ} where
   -- the mark leaves the line that what is due would write
   pub marked-target : (kept : KeptState n) (due : Option ℕ) (es : List (Entry n))
       → target_of (exhausted_kept kept) (due_work due (exhausted_kept kept) es) ≡ target_of kept (due_work due kept es)
-  marked-target kept (Some region) es = refl
-  marked-target kept None [] = refl
-  marked-target kept None (x ∷ es) = refl
+  marked-target kept due es = grind arith
 
 module _ {n m e : ℕ} where
   -- the line write in progress may be iterated once more

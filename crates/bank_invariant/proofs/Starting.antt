@@ -22,20 +22,17 @@ module _ {n : ℕ} where
   off_by line (w ∷ ws) none zero d few = λ same. let on : (w.line == line) ≡ true = eq-eqb w.line line same in first (w.line == line) on none
     where
       first : (b : Bool) → b ≡ true → (b || list_any (λ w. w.line == line) ws) ≡ false → ⊥
-      first true on none = cc
-      first false on none = cc
+      first b on none = grind arith
   off_by line (w ∷ ws) none (suc k) d few = off_by line ws (rest (w.line == line) none) k d (omega (arith, few))
     where
       rest : (b : Bool) → (b || list_any (λ w. w.line == line) ws) ≡ false → list_any (λ w. w.line == line) ws ≡ false
-      rest true none = cc
-      rest false none = none
+      rest b none = grind arith
 
   pub free-off : (line slot : ℕ) (ws : List (Waiting n)) → is_free ws (Store line slot) ≡ true → All (λ w. w.line ≢ line) ws
   free-off line slot ws free = off_by line ws (by (list_any (λ w. w.line == line) ws) free)
     where
       by : (b : Bool) → not b ≡ true → b ≡ false
-      by true h = cc
-      by false h = refl
+      by b h = grind arith
 
   -- a completed head gives each byte
   pub whole-completed : (es : List (Entry n)) (line : ℕ) (under bytes : List ℕ) → head_line es ≡ line

@@ -39,8 +39,7 @@ answer_accepted shape h false (Some old) e = cc
 answer_accepted shape h false None e = (refl, refl, by (length (queue shape h) == shape.writes) e)
   where
     by : (full : Bool) → wrote.Accepted ≡ (if full then wrote.Full else wrote.Accepted) → full ≡ false
-    by true e = cc
-    by false e = refl
+    by full e = grind arith
 
 pub answer_merged : {n : ℕ} (shape : BankShape) (h : List (BankEvent n)) (worn : Bool) (found : Option ℕ) (old : ℕ)
     → wrote.Merged old ≡ (if worn then wrote.Exhausted else accept_answer shape h found) → (worn ≡ false) × (found ≡ Some old)
@@ -49,8 +48,7 @@ answer_merged shape h false (Some row) old e = let same : old ≡ row = cc in (r
 answer_merged shape h false None old e = by (length (queue shape h) == shape.writes) e
   where
     by : (full : Bool) → wrote.Merged old ≡ (if full then wrote.Full else wrote.Accepted) → (false ≡ false) × (None ≡ Some old)
-    by true e = absurd cc
-    by false e = absurd cc
+    by full e = grind arith
 
 -- a write of a line lies over its entries, and leaves those of the others
 record LiesOver {n : ℕ} (line : ℕ) (bytes : List ℕ) (given : List Bool) (es after : List (Entry n)) : Type 0 where
@@ -144,9 +142,7 @@ module _ {n : ℕ} where
 
 -- the array line that a work writes stays
 target-taken : {n : ℕ} (kept : KeptState n) (busy : Bool) (entry : Entry n) (work : Work) → target_of (accepted_kept busy entry kept) work ≡ target_of kept work
-target-taken kept busy entry Nothing = refl
-target-taken kept busy entry (Store line slot) = refl
-target-taken kept busy entry (Copy region step) = refl
+target-taken kept busy entry work = grind arith
 
 module _ {n m : ℕ} where
   -- the next work stays

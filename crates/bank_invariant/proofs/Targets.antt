@@ -1,5 +1,5 @@
 -- What stays while an array differs at most at the line that is being written, and that line is sound.
-use Rattle.std.proofs.Common.{◌≡◌, ◌≢◌, ℕ, ◌+◌, ◌<◌, ◌≤◌, inl, inr, Bool, true, false, cond, List, [], ◌∷◌, length, slice_get, get_or, Option, Some, None, sym, ap, subst, ◌∙◌, arith}
+use Rattle.std.proofs.Common.{◌≡◌, ◌≢◌, ℕ, ◌+◌, ◌<◌, ◌≤◌, inl, inr, Bool, false, cond, List, [], ◌∷◌, length, slice_get, get_or, Option, Some, None, sym, ap, subst, ◌∙◌, arith}
 use Rattle.std.{specs.Prelude.{IsTrue, IsSomeAnd, All}, proofs.lemmas.Bool.cases_eq, proofs.lemmas.List.Elements.All-weaker}
 use Rattle.masked_bytes.specs.{Entries.{layer_of, AllMasked}, Masked.{laid, gives_all, all_given}, declared.entry.Entry.Entry}
 use Rattle.masked_bytes.proofs.{Layering.{laid-all_given, all_given-gives_all}, Standing.layer_of-head}
@@ -45,23 +45,20 @@ module _ {n : ℕ} where
 
   pub next_store-slot : (kept : KeptState n) (line slot : ℕ) (mark : Bool) (due : Option ℕ) (es : List (Entry n))
       → Store line slot ≡ cond mark Nothing (due_work due kept es) → slot ≡ slot_of kept line
-  next_store-slot kept line slot true due es e = cc
-  next_store-slot kept line slot false (Some region) es e = cc
-  next_store-slot kept line slot false None [] e = cc
   next_store-slot kept line slot false None (x ∷ es) e =
       let at : line ≡ x.line = cc in
       let place : slot ≡ slot_of kept x.line = cc in
       place ∙ ap (λ l. slot_of kept l) (sym at)
+  next_store-slot kept line slot _ _ _ e = cc
 
   pub next_copy-region : (kept : KeptState n) (region : ℕ) (step : Move) (mark : Bool) (due : Option ℕ) (es : List (Entry n))
       → Copy region step ≡ cond mark Nothing (due_work due kept es) → (due ≡ Some region) × (step ≡ move_by (region_at kept region).rotation)
-  next_copy-region kept region step true due es e = cc
   next_copy-region kept region step false (Some at) es e =
       let same : region ≡ at = cc in
       let moves : step ≡ move_by (region_at kept at).rotation = cc in
       (ap (λ r. Some r) (sym same), moves ∙ ap (λ r. move_by (region_at kept r).rotation) (sym same))
   next_copy-region kept region step false None [] e = cc
-  next_copy-region kept region step false None (x ∷ es) e = cc
+  next_copy-region kept region step _ _ _ e = cc
 
   head-known : (es : List (Entry n)) (lines line : ℕ) → AllBelow es lines → IsGivenWhole es line → line < lines
   head-known [] lines line known given = absurd given

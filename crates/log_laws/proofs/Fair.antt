@@ -20,8 +20,7 @@ none-begins : (way reads : Bool) (c : Choice) → chosen_by way reads c ≡ None
 none-begins way reads c is = by (way && reads) c.busy reads c.ready is
   where
     by : (a b r k : Bool) → cond a (Some Serving) (cond b (Some c.going_on) (cond r (Some Serving) (cond k (Some c.beginning) None))) ≡ None → k ≡ false
-    by false false false false is = refl
-    by _ _ _ _ is = absurd (cc)
+    by a b r k is = grind arith
 
 -- behind a history that ends with a power cut stands a cut at its last tick
 cut-row : {n m : ℕ} (shape : BankShape) (all : List (TimedEvent n m)) → IsCutOff all → (k : ℕ) → k ≤ last_tick all → list_any (λ r. is_cut r && nat_le k r.tick) (rows_from shape all all) ≡ true
@@ -55,10 +54,7 @@ module _ {n m : ℕ} (e : ℕ) (shape : BankShape) (pace : Pace) (wears : Bool) 
   mended idle s t = absurd (cc (open_now t.due, none-begins (gives_way pace.policy) (not (is_empty (waits shape (core all)))) (choice_after shape pace all) idle.chosen))
     where
       ready-some : (change : Option ℕ) (keeping halted ready : Bool) → line_of_change shape change ≡ Some line → keeping ≡ false → halted ≡ false → ready_by change (keeping || halted) ready ≡ true
-      ready-some None keeping halted ready is k h = absurd (cc)
-      ready-some (Some item) false false ready is k h = refl
-      ready-some (Some item) true halted ready is k h = absurd (cc)
-      ready-some (Some item) false true ready is k h = absurd (cc)
+      ready-some change keeping halted ready is k h = grind arith
 
       open_now : Due shape pace (rules_of e shape pace) (rows_from shape all all) wears line all all → ready_after shape all ≡ true
       open_now (inl k) =

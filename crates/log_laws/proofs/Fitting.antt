@@ -1,5 +1,5 @@
 -- The queue's entries give of a line what its accepted writes give, down to the last that is out.
-use Rattle.std.proofs.Common.{◌≡◌, ℕ, ◌==◌, ◌||◌, ◌⊎◌, inl, inr, Bool, true, false, List, [], ◌∷◌, ◌++◌, Option, Some, None, length, sym, ap, ◌∙◌, subst, cond, eqb, eqb-true, eq-eqb, refl}
+use Rattle.std.proofs.Common.{arith, ◌≡◌, ℕ, ◌==◌, ◌||◌, ◌⊎◌, inl, inr, Bool, true, false, List, [], ◌∷◌, ◌++◌, Option, Some, None, length, sym, ap, ◌∙◌, subst, cond, eqb, eqb-true, eq-eqb, refl}
 use Rattle.std.proofs.lemmas.Bool.{or_from, or_left, or_right}
 use Rattle.masked_bytes.specs.{Entries.{newest_row, merged, laid_on, has_row, RowsApart}, Masked.{joined, none_given, all_given, gives_all}, declared.entry.Entry.Entry}
 use Rattle.masked_bytes.proofs.{Layering.{joined-all_given, gives_all-all_given}, Truth.{neither_first, neither_second}}
@@ -214,5 +214,4 @@ module _ {n : ℕ} where
   fits-given u out line (e ∷ es) some t = by t.0
     where
       by : (gives_all (given_of (e ∷ es) line) ≡ true) ⊎ (given_of (e ∷ es) line ≡ u out) → given_of (e ∷ es) line ≡ u out
-      by (inl all) = absurd (cc)
-      by (inr same) = same
+      by x0 = grind arith

@@ -1,5 +1,5 @@
 -- The row of each of the queue's entries is that of a write of its line.
-use Rattle.std.proofs.Common.{◌≡◌, ℕ, ◌<◌, ◌≤◌, ◌==◌, inl, inr, Bool, false, List, [], ◌∷◌, ◌++◌, Option, Some, None, drop, sym, ap, ◌∙◌, subst, arith, cond, eqb, eqb-true, eq-eqb, refl}
+use Rattle.std.proofs.Common.{◌≡◌, ℕ, ◌<◌, ◌≤◌, ◌==◌, inl, inr, Bool, false, List, [], ◌∷◌, ◌++◌, Option, Some, drop, sym, ap, ◌∙◌, subst, arith, cond, eqb, eqb-true, eq-eqb, refl}
 use Rattle.masked_bytes.specs.{Entries.{newest_row, merged, laid_on, has_row, RowsApart}, declared.entry.Entry.Entry}
 use Rattle.masked_bytes.proofs.Truth.{neither_first, neither_second, differ_sym}
 use Rattle.bank_shape.specs.declared.answer.WriteAnswer.{WriteAnswer}
@@ -17,13 +17,10 @@ module _ {n : ℕ} where
   named-push f (e ∷ es) x k is = (k.0, named-push f es x k.1 is)
 
   pub named-drop : (f : ℕ → ℕ) (es : List (Entry n)) → Named f es → Named f (drop 1 es)
-  named-drop f [] k = tt
-  named-drop f (e ∷ es) k = k.1
+  named-drop f es k = grind arith
 
   pub named-begun : (f : ℕ → ℕ) (due : Option ℕ) (g : ℕ → List ℕ) (es : List (Entry n)) → Named f es → Named f (begun due g es)
-  named-begun f (Some region) g es k = k
-  named-begun f None g [] k = tt
-  named-begun f None g (e ∷ es) k = k
+  named-begun f due g es k = grind arith
 
   -- a write of another row leaves them so
   pub named-too : (f : ℕ → ℕ) (row line : ℕ) (es : List (Entry n)) → has_row es row ≡ false → Named f es → Named (λ r. cond (row == r) line (f r)) es

@@ -34,12 +34,10 @@ module _ {n : ℕ} where
   on_row-not at row t o none was = by (eqb at row)
     where
       by : (b : Bool) → is_stored (unwrap_or (cond b (Some t) None) o) ≡ false
-      by true = none
-      by false = was
+      by b = grind arith
 
   lost-not : (b : Bool) (tick : ℕ) (o : Outcome n) → is_stored o ≡ false → is_stored (unwrap_or (cond b (Some (out.Lost tick)) None) o) ≡ false
-  lost-not true tick o was = refl
-  lost-not false tick o was = was
+  lost-not b tick o was = grind arith
 
   -- and a store stores its row
   on_row-out : (line : ℕ) (h : List (BankEvent n)) (at row tick place : ℕ) (o : Outcome n) → line_of_row row h ≡ line → is_stored o ≡ false → out_in line h row ≡ false

@@ -27,8 +27,7 @@ only-push mine w [] k new = (new, tt)
 only-push mine w (v ∷ ws) k new = (k.0, only-push mine w ws k.1 new)
 
 only-drop : (mine : Awaited) (ws : List Awaited) → OnlyOne mine ws → OnlyOne mine (drop 1 ws)
-only-drop mine [] k = tt
-only-drop mine (w ∷ ws) k = k.1
+only-drop mine ws k = grind arith
 
 only-lacks : (mine : Awaited) (ws : List Awaited) → has_wait ws mine.row ≡ false → OnlyOne mine ws
 only-lacks mine [] lacks = tt
@@ -47,8 +46,7 @@ module _ {n : ℕ} where
       by false s = s
 
   lost_not_read : (b : Bool) (tick : ℕ) (o : Outcome n) (u p : ℕ) (bytes : List ℕ) → unwrap_or (cond b (Some (out.Lost tick)) None) o ≡ out.Read u p bytes → o ≡ out.Read u p bytes
-  lost_not_read true tick o u p bytes s = absurd (cc)
-  lost_not_read false tick o u p bytes s = s
+  lost_not_read b tick o u p bytes s = grind arith
 
   read_now : (at row tick place : ℕ) (some : List ℕ) (o : Outcome n) (u p : ℕ) (bytes : List ℕ) → unwrap_or (on_row at row (out.Read tick place some)) o ≡ out.Read u p bytes
       → ((at ≡ row) × (tick ≡ u) × (place ≡ p) × (some ≡ bytes)) ⊎ (o ≡ out.Read u p bytes)

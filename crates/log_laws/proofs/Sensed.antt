@@ -14,7 +14,7 @@ use Rattle.bank_shape.specs.{Shape.lines_in, declared.BankShape.BankShape, decla
 use Rattle.bank_shape.specs.declared.answer.ReadAnswer.TheVariants as came
 use Rattle.bank_laws.specs.{Laws.{IsSized, log_of}, Outcomes.{outcome_of, ended, row_with, rows_from}, Settling.AreOpen, Ticks.ends_action}
 use Rattle.bank_laws.proofs.{Ending.{Onwards, own_answer, outcome-may, write_outcome}, Fates.{IsSettled, awaits-new}, Given.{given_of, given-layer}}
-use Rattle.bank_laws.proofs.{Serves.{idle-waits, may_at, newest_same, onwards_at}, Settling.opens, Waiting.settled_all, Walking.{Passes, walk, rows_after}}
+use Rattle.bank_laws.proofs.{Serves.{may_at, newest_same, onwards_at}, Settling.opens, Waiting.settled_all, Walking.{Passes, walk, rows_after}}
 use Rattle.right_runs.specs.Logs.{is_sensed, outcome_sensed, has_sense}
 use Rattle.log_laws.{specs.Laws.SensedLaw, proofs.Reading.read-sensed, proofs.Storing.stored-sensed, proofs.Uncovering.cover-same}
 

@@ -23,20 +23,15 @@ use Rattle.log_laws.proofs.Unworn.{worn_below, unworn}
 
 -- what goes on after an event was spared by it
 goes-spares : {n : ℕ} (event : BankEvent n) (h : List (BankEvent n)) → in_progress (event ∷ h) ≡ true → spares_work event ≡ true
-goes-spares (Begin answer) h p = p
-goes-spares (Iterate answer) h p = p
-goes-spares _ h p = refl
+goes-spares event h p = grind arith
 
 -- what stands is no change that doesn't
 clash : (shape : BankShape) (line : ℕ) (change : Option ℕ) → change ≡ None → line_of_change shape change ≡ Some line → ⊥
-clash shape line None is some = absurd (cc)
-clash shape line (Some item) is some = absurd (cc)
+clash shape line change is some = grind arith
 
 -- a change that is written takes nothing's place
 written-line : (shape : BankShape) (line : ℕ) (answer : Keep) (change : Option ℕ) → line_of_change shape (written_by answer change) ≡ Some line → line_of_change shape change ≡ Some line
-written-line shape line keep.More change is = is
-written-line shape line keep.Done change is = absurd (cc)
-written-line shape line keep.Halted change is = is
+written-line shape line answer change is = grind arith
 
 at-some : (l : Option ℕ) (line : ℕ) → is_at l line ≡ true → l ≡ Some line
 at-some None line h = absurd (cc)
@@ -50,13 +45,11 @@ some-at (Some at) line h = eq-eqb at line (by h)
     by h = cc
 
 if-at : (b : Bool) (l : Option ℕ) (line : ℕ) → is_at (cond b l None) line ≡ true → (b ≡ true) × (l ≡ Some line) × (is_some (cond b l None) ≡ true)
-if-at true None line h = absurd (cc)
 if-at true (Some at) line h = (refl, at-some (Some at) line h, refl)
-if-at false l line h = absurd (cc)
+if-at _ _ line h = absurd (cc)
 
 tears-none : (change : Option ℕ) (action : Option Action) → true ≡ tears_bank change action → change ≡ None
-tears-none None action is = refl
-tears-none (Some item) action is = absurd (cc)
+tears-none change action is = grind arith
 
 module _ {n m : ℕ} (e : ℕ) (shape : BankShape) (pace : Pace) (wears : Bool) (line : ℕ) (wears_is : wears ≡ nat_lt line (controls_from shape)) (all : List (TimedEvent n m)) (sized : IsSized shape pace) (lawful : Lawful shape pace e all) (open_rows : AreOpen shape all) (pre : List (TimedEvent n m)) (x : TimedEvent n m) (xs : List (TimedEvent n m)) (same : all ≡ pre ++ x ∷ xs) where
   abbrev Known : List (TimedEvent n m) → Type 0
@@ -502,8 +495,7 @@ module _ {n m : ℕ} (e : ℕ) (shape : BankShape) (pace : Pace) (wears : Bool) 
   among_iterate (Some at) answer = or_false (at == line)
 
   among_cut : (l : Option ℕ) (tearing : Bool) → among line (kept_sensed l (KeepCut tearing)) ≡ false
-  among_cut None tearing = refl
-  among_cut (Some at) tearing = refl
+  among_cut l tearing = grind arith
 
   keep_begins : (answer : Keep) → x.happens ≡ Regs (KeepBegin answer) → Known xs → Known (x ∷ xs)
   keep_begins answer is known = either (is_at (line_of_change shape (change_after shape xs)) line) own_line other

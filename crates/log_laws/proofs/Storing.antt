@@ -1,5 +1,5 @@
 -- A row that was stored has a sense of its place at its tick, which reads as the newest bytes of its line.
-use Rattle.std.proofs.Common.{◌≡◌, ℕ, ◌==◌, ◌⊎◌, inl, inr, Bool, true, false, List, [], ◌∷◌, ◌++◌, Some, None, refl, sym, ap, ◌∙◌, subst, cond, eqb, eq-eqb, eqb-true}
+use Rattle.std.proofs.Common.{arith, ◌≡◌, ℕ, ◌==◌, ◌⊎◌, inl, inr, Bool, true, false, List, [], ◌∷◌, ◌++◌, Some, None, refl, sym, ap, ◌∙◌, subst, cond, eqb, eq-eqb, eqb-true}
 use Rattle.std.{specs.Prelude.{All, map, unwrap_or}, proofs.lemmas.Bool.{and_from, or_left, or_right}, proofs.lemmas.List.Elements.All-head}
 use Rattle.std.proofs.lemmas.List.Folds.{list_any-append}
 use Rattle.cell_rows.specs.{declared.array.Sense.Sense, declared.row.Cells.Cells}
@@ -7,8 +7,7 @@ use Rattle.ecp_line.specs.Reading.{decode}
 use Rattle.result_rows.specs.declared.Outcome.{Outcome}
 use Rattle.result_rows.specs.declared.Outcome.TheVariants as out
 use Rattle.row_rules.specs.{Answers.is_stored, Serving.same_bytes}
-use Rattle.bank_shape.specs.{declared.BankShape.BankShape, declared.Work.Work, declared.Work.TheVariants.{Nothing, Store, Copy}, declared.answer.WriteAnswer.WriteAnswer}
-use Rattle.bank_shape.specs.declared.pace.Pace.{Pace}
+use Rattle.bank_shape.specs.{declared.BankShape.BankShape, declared.Work.Work, declared.Work.TheVariants.Store, declared.answer.WriteAnswer.WriteAnswer, declared.pace.Pace.Pace}
 use Rattle.bank_shape.specs.declared.answer.WriteAnswer.TheVariants as wrote
 use Rattle.bank_shape.specs.declared.answer.ReadAnswer.TheVariants as came
 use Rattle.bank_shape.specs.declared.answer.Step.TheVariants as did
@@ -21,9 +20,8 @@ use Rattle.log_laws.proofs.Outing.{line-in, up_to-in, unstored-first}
 
 -- the senses of one line are one sense
 pub one_sense : {n m : ℕ} (ss : List (Sense n m)) (at : ℕ) → map (λ s. s.line) ss ≡ at ∷ [] → (s : Sense n m) × (ss ≡ s ∷ []) × (s.line ≡ at)
-one_sense [] at is = absurd (cc)
 one_sense (s ∷ []) at is = (s, refl, cc)
-one_sense (s ∷ t ∷ ss) at is = absurd (cc)
+one_sense _ at is = absurd (cc)
 
 -- a sense that the last event made
 pub now-sensed : {n m : ℕ} (read_as : Cells n m → List ℕ) (xs : List (TimedEvent n m)) (y : TimedEvent n m) (s : Sense n m) (place tick : ℕ) (gives : List ℕ → Bool) → y.senses ≡ s ∷ [] → s.line ≡ place → s.tick ≡ tick → gives (read_as s.cells) ≡ true
@@ -42,9 +40,8 @@ older-sensed read_as xs y place tick gives there = list_any-append _ (senses_of 
 module _ {n : ℕ} (shape : BankShape) (h : List (BankEvent n)) where
   -- a line write that ends with a store was a store, and has its target as place
   done-target : (work : Work) (row place : ℕ) → IsDone shape h work (did.Stored row place) → (sources_of shape h work ≡ []) × (place ≡ array_line_after shape h (slot_of_work shape h work))
-  done-target Nothing row place d = absurd d
   done-target (Store line slot) row place d = (refl, d.1)
-  done-target (Copy region step) row place d = absurd d
+  done-target _ row place d = absurd d
 
 -- a store of a row, or an older outcome
 stored_now : {n : ℕ} (at row tick place : ℕ) (o : Outcome n) (u p : ℕ) → unwrap_or (on_row at row (out.Stored tick place)) o ≡ out.Stored u p
@@ -112,9 +109,7 @@ module _ {n m : ℕ} (shape : BankShape) (pace : Pace) (e : ℕ) where
   stored-sense zs y _ row u p may s = absurd s
 
   stored-tick : (zs : List (TimedEvent n m)) (y : TimedEvent n m) (h : Happens n) (row u p : ℕ) → StoresNow shape zs y h row u p → y.tick ≡ u
-  stored-tick zs y (Core (Begin (did.Stored at place))) row u p s = s.1
-  stored-tick zs y (Core (Iterate (did.Stored at place))) row u p s = s.1
-  stored-tick zs y _ row u p s = absurd s
+  stored-tick zs y h row u p s = grind arith
 
   -- a write that was stored has its sense
   pub stored-sensed : (mid : List (TimedEvent n m)) (x : TimedEvent n m) (ys : List (TimedEvent n m)) (row line : ℕ) (bytes : List ℕ) (given : List Bool) (answer : WriteAnswer) → x.happens ≡ Core (Write row line bytes given answer)

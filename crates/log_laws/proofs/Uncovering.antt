@@ -16,13 +16,11 @@ use Rattle.log_laws.proofs.{Covering.{uncovered, uncovered_by, out_in, fits-afte
 
 module _ {n : ℕ} where
   stored-ended : (t tick : ℕ) (o : Outcome n) → stored_by t (ended tick o) ≡ stored_by t o
-  stored-ended t tick out.Unset = refl
-  stored-ended t tick _ = refl
+  stored-ended t tick o = grind arith
 
   -- what isn't accepted isn't stored
   refused-unstored : (t : ℕ) (o : Outcome n) → accepts o ≡ false → stored_by t o ≡ false
-  refused-unstored t (out.Stored at place) k = absurd (cc)
-  refused-unstored t _ k = refl
+  refused-unstored t o k = grind arith
 
   -- a store above a tick isn't one by it
   above-unstored : (t : ℕ) (o : Outcome n) → ((u p : ℕ) → o ≡ out.Stored u p → t < u) → stored_by t o ≡ false
@@ -43,10 +41,7 @@ accepted_row n true isout true o given before rest out is same = ap (λ b. cond 
 
 refused_row : (n : ℕ) (own isout acc : Bool) (given before rest : List Bool) → isout ≡ false → acc ≡ false → before ≡ rest
     → cond (own && isout) (none_given n) (cond (own && acc) (joined given before) before) ≡ rest
-refused_row n false isout acc given before rest out is same = same
-refused_row n true true acc given before rest out is same = absurd (cc)
-refused_row n true false true given before rest out is same = absurd (cc)
-refused_row n true false false given before rest out is same = same
+refused_row n own isout acc given before rest out is same = grind arith
 
 module _ {n m : ℕ} (shape : BankShape) (pace : Pace) (e : ℕ) (all : List (TimedEvent n m)) (sized : IsSized shape pace) (l : Lawful shape pace e all) (o : AreOpen shape all) where
   -- what isn't stored after some events isn't stored by a tick up to which they come

@@ -3,7 +3,7 @@ use Rattle.std.proofs.Common.{◌≡◌, ℕ, ◌≤◌, ◌&&◌, ◌||◌, Boo
 use Rattle.std.{specs.List.list_any, specs.Prelude.{IsTrue, nat_lt}, proofs.lemmas.Bool.{le-ltb, and_right, or_from}, proofs.lemmas.List.Folds.list_any-append}
 use Rattle.row_rules.specs.{Answers.is_worn, Wearing.worn_row, declared.Row.Row}
 use Rattle.bank_shape.specs.{declared.BankShape.BankShape, declared.pace.Pace.Pace}
-use Rattle.bank_model.specs.{Events.{Write, Read, Cut}, History.has_exhausted, Lawful.Lawful, Timing.{Happens, Core, TimedEvent, core, last_tick}}
+use Rattle.bank_model.specs.{Events.{Write, Cut}, History.has_exhausted, Lawful.Lawful, Timing.{Happens, Core, TimedEvent, core, last_tick}}
 use Rattle.bank_laws.{specs.Outcomes.{outcome_of, ended, row_with, rows_from}, specs.Settling.AreOpen, specs.Ticks.ends_action, proofs.Entries.either, proofs.Later.last-later}
 use Rattle.bank_laws.proofs.{Ticks.last_tick-rises, Wears.worn_rows-exhausted}
 
@@ -27,10 +27,7 @@ module _ {n m : ℕ} (shape : BankShape) (pace : Pace) (e : ℕ) where
   row_late all t tick _ _ late = refl
 
   row_none : (all : List (TimedEvent n m)) (t tick : ℕ) (h : Happens n) (cancels : Bool) → IsTrue (ends_action h) → worn_below t (row_with shape all h tick cancels) ≡ false
-  row_none all t tick (Core (Write row line bytes given answer)) cancels is = absurd (cc)
-  row_none all t tick (Core (Read row line answer)) cancels is = absurd (cc)
-  row_none all t tick (Core (Cut tearing)) cancels is = absurd (cc)
-  row_none all t tick _ cancels is = refl
+  row_none all t tick h cancels is = grind arith
 
   unworn-on : (all pre : List (TimedEvent n m)) (x : TimedEvent n m) (xs : List (TimedEvent n m)) → 1 ≤ pace.read → 1 ≤ pace.iter → Lawful shape pace e (pre ++ x ∷ xs)
       → worn_below x.tick (rows_from shape all (x ∷ xs)) ≡ false → worn_below x.tick (rows_from shape all (pre ++ x ∷ xs)) ≡ false

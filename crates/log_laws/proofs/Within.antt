@@ -48,7 +48,6 @@ module _ {n : ℕ} (shape : BankShape) (r : 1 ≤ shape.regions) (l : 1 ≤ shap
         first = some_product shape.regions (shape.lines + 1) r (omega arith)
 
         by : (ex : Bool) (due : Option ℕ) (es : List (Entry n)) → due_after shape h ≡ due → queue shape h ≡ es → IsOwn (cond ex Nothing (due_work shape h due es))
-        by true due es is q = (first, All-nil (IsIn shape))
         by false (Some region) es is q =
             let own : first_or 0 (stores h) / shape.lines ≡ region = (some-due shape h region is).own in
             let last : first_or 0 (stores h) / shape.lines < shape.regions = div_below (first_or 0 (stores h)) shape.lines shape.regions (omega (arith, l)) (last-within h may) in
@@ -57,13 +56,13 @@ module _ {n : ℕ} (shape : BankShape) (r : 1 ≤ shape.regions) (l : 1 ≤ shap
             let gap = gap-within shape.lines moves in
             let from = slot_at-within shape region (move_after shape.lines moves).from exists (below_gap-within shape.lines (gap_after shape.lines moves) gap) in
             (slot_at-within shape region (move_after shape.lines moves).to exists gap, All-cons (IsIn shape) _ [] (array_line-in _ from) (All-nil (IsIn shape)))
-        by false None [] is q = (first, All-nil (IsIn shape))
         by false None (e ∷ es) is q =
             let stands = subst (λ (q : List (Entry n)). Stands q e.row e.line) (sym q) (inl (refl, refl)) in (
               slot_moved-within shape e.line (moved_in shape.lines h (e.line / shape.lines)) l
                   (asked-within shape most h e.row e.line may (wrote-asked h e.row e.line (queue-wrote shape most h next e.row e.line may b stands))),
               All-nil (IsIn shape),
             )
+        by _ _ _ is q = (first, All-nil (IsIn shape))
 
     -- the line of the first read that waits stands in a slot of the bank
     stand-in : (ws : List Awaited) → waits shape h ≡ ws → All (IsIn shape) (stand_of shape h ws)
