@@ -5,14 +5,14 @@ ghost use Rattle.pcm_io.specs.Faults.{Rose};
 ghost use Rattle.pcm_io.specs.Giving.{AppendsPrefix};
 ghost use Rattle.pcm_io.specs.Reserved.{appended, reserved, room_in};
 ghost use Rattle.std.specs.Prelude.{decimal};
-ghost use Rattle.printer.specs.Printing.{Prints};
+ghost use Rattle.text_printer.specs.Printing.{Prints};
 ghost use Rattle.energy_report.specs.EnergyText.{all_row, bank_rows, energy_report, energy_row};
 
 use crate::fields::push_energy;
 use crate::sums::sum_energy;
 use cell_rows::{LineEnergy, TellsCells};
 use pcm_io::{Sink, Text, WriteFault};
-use printer::{Printer, ROW_ROOM, TEXT_ROOM};
+use text_printer::{Printer, ROW_ROOM, TEXT_ROOM};
 
 #[tactic(auto, using(pcm_io::proofs::DigitLemmas::ten_digits))]
 fn push_bank(bank: u32, energy: Option<LineEnergy>, text: &mut Text)

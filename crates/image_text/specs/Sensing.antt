@@ -3,7 +3,7 @@ use Rattle.std.specs.{List.flat_map, Prelude.{◌≡◌, ℕ, ◌≤◌, List, O
 use Rattle.cell_rows.specs.Device.{ArrayState}
 use Rattle.pcm_image.specs.Spelling.{cells_bytes}
 use Rattle.right_images.specs.{SavesRun.AreRowsTo, Saving.saved_cells, SensedSince.SensedSince}
-use Rattle.printer.specs.{Printing.Prints, declared.printer.Printer.Printer}
+use Rattle.text_printer.specs.{Printing.Prints, declared.printer.Printer.Printer}
 
 -- the first lines of an array were sensed, so many, each once and in their order, and each has the bytes of a line
 pub record SensesRows {n m : ℕ} (count : ℕ) (before after : ArrayState n m) : Type 0 where

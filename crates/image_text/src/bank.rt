@@ -5,16 +5,16 @@ ghost use Rattle.power_recovery.specs.Kept.{IsKept};
 ghost use Rattle.module_shape.specs.Limits.{small_limits};
 ghost use Rattle.pcm_image.specs.Spelling.{u32, bank_bytes, entry_bytes, region_bytes};
 ghost use Rattle.right_images.specs.Saving.{saved_bank, saved_entry, saved_region};
-ghost use Rattle.printer.specs.Printing.{Prints};
+ghost use Rattle.text_printer.specs.Printing.{Prints};
 
 use crate::pieces::{print_count, print_entry, print_mark, print_region, print_slot};
 use masked_bytes::entry::Entry;
 use pcm_image::{EntryImage, RegionImage};
 use pcm_io::Sink;
 use power_recovery::kept::Kept;
-use printer::{Printer, ROW_ROOM};
 use region_regs::Region;
 use spare_pool::Remap;
+use text_printer::{Printer, ROW_ROOM};
 
 // The registers of a region as an image has them.
 fn region_image(region: &Region) -> RegionImage

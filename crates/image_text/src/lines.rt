@@ -6,7 +6,7 @@ ghost use Rattle.image_text.specs.Sensing.{PrintsRows};
 use crate::pieces::print_cells;
 use cell_rows::CellArray;
 use pcm_io::Sink;
-use printer::{Printer, ROW_ROOM};
+use text_printer::{Printer, ROW_ROOM};
 
 /// Writes the cells of the array lines, in order. Each line is sensed once for it, in order, at tick 0; after a fault no line is
 /// sensed any more.

@@ -4,7 +4,7 @@ ghost use Rattle.pcm_io.specs.Reserved.{appended, room_in};
 ghost use Rattle.module_shape.specs.Limits.{IsSmall};
 ghost use Rattle.pcm_image.specs.Spelling.{u8, u16, u32, head_bytes, region_bytes, entry_bytes, cells_bytes};
 ghost use Rattle.right_images.specs.Saving.{head_of, home_number};
-ghost use Rattle.printer.specs.Printing.{Prints};
+ghost use Rattle.text_printer.specs.Printing.{Prints};
 
 use cell_rows::Cells;
 use module_shape::{Home, Shape};
@@ -13,7 +13,7 @@ use pcm_image::{
     write_head, write_region, write_slot,
 };
 use pcm_io::{Sink, Text};
-use printer::{Printer, ROW_ROOM};
+use text_printer::{Printer, ROW_ROOM};
 
 /// The number by which an image says where registers are kept.
 pub fn number_of_home(home: Home) -> u8

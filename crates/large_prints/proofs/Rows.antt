@@ -8,7 +8,7 @@ use Rattle.large_image.specs.Spelling.{are_zero, end_mark, row_bytes, rows_bytes
 use Rattle.right_images.specs.Saving.{saved_cells}
 use Rattle.image_text.specs.Sensing.{SensesRows}
 use Rattle.large_prints.specs.Rows.{mark_behind, PrintsLargeRows}
-use Rattle.printer.{specs.Printing.Prints, specs.declared.printer.Printer.Printer, proofs.Printed.{prints-same, prints-then}}
+use Rattle.text_printer.{specs.Printing.Prints, specs.declared.printer.Printer.Printer, proofs.Printed.{prints-same, prints-then}}
 
 -- some lines, and those behind them
 rows-append : {n m : ℕ} (line : ℕ) (xs ys : List (Cells n m)) → rows_bytes line (xs ++ ys) ≡ rows_bytes line xs ++ rows_bytes (line + length xs) ys

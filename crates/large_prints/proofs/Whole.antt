@@ -10,7 +10,7 @@ use Rattle.pcm_image.specs.Spelling.{entry_bytes, u8, u16, u32}
 use Rattle.large_image.specs.Spelling.{bank_bytes, end_mark, head_bytes, large_bytes, large_front, region_bytes, rows_bytes}
 use Rattle.right_images.specs.Saving.{first_rows, head_of, saved_bank, saved_banks, saved_cells, saved_entry, saved_of, saved_region}
 use Rattle.large_prints.{specs.Rows.{large_to, mark_behind}, proofs.Rows.{lines-rest, mark-behind-all}}
-use Rattle.printer.{specs.Printing.{Holds, Prints}, specs.declared.printer.Printer.Printer, proofs.Printed.prints-then}
+use Rattle.text_printer.{specs.Printing.{Holds, Prints}, specs.declared.printer.Printer.Printer, proofs.Printed.prints-then}
 
 -- the pieces of a bank
 pub whole-bank : {n : ℕ} (kept : KeptState n) (table : Table) (exhausted : Bool) (mark used count : ℕ) → table ≡ kept.table → exhausted ≡ kept.exhausted → mark ≡ (if exhausted then 1 else 0) → used ≡ length table.replaced

@@ -6,7 +6,7 @@ use Rattle.pcm_image.specs.{Saved.Saved, Spelling.u32}
 use Rattle.large_image.specs.Spelling.{end_mark, large_front, rows_bytes}
 use Rattle.right_images.specs.{SavesRun.AreRowsTo, Saving.{first_rows, saved_cells}}
 use Rattle.image_text.specs.Sensing.{SensesRows}
-use Rattle.printer.specs.{Printing.Prints, declared.printer.Printer.Printer}
+use Rattle.text_printer.specs.{Printing.Prints, declared.printer.Printer.Printer}
 
 -- what stands behind the first array lines, so many: the end mark where there are no more, and else nothing of its own
 abbrev pub mark_behind : ℕ → ℕ → List ℕ

@@ -5,7 +5,7 @@ ghost use Rattle.power_recovery.specs.Kept.{IsKept};
 ghost use Rattle.large_image.specs.Spelling.{bank_bytes, region_bytes};
 ghost use Rattle.large_image.specs.Views.{region_view};
 ghost use Rattle.right_images.specs.Saving.{saved_bank, saved_region};
-ghost use Rattle.printer.specs.Printing.{Prints};
+ghost use Rattle.text_printer.specs.Printing.{Prints};
 
 use crate::pieces::print_region;
 use image_text::bank::{mark_of, print_entries, print_slots};
@@ -13,8 +13,8 @@ use image_text::pieces::{print_count, print_mark};
 use large_image::LargeRegion;
 use pcm_io::Sink;
 use power_recovery::kept::Kept;
-use printer::{Printer, ROW_ROOM};
 use region_regs::Region;
+use text_printer::{Printer, ROW_ROOM};
 
 // The registers of a region as an image has them.
 fn region_image(region: &Region) -> LargeRegion

@@ -11,7 +11,7 @@ ghost use Rattle.right_images.specs.Saving.{saved_banks, saved_of};
 ghost use Rattle.image_text.specs.Sensing.{SensesRows, SensesSome};
 ghost use Rattle.module_prints.specs.Images.{kept_in};
 ghost use Rattle.large_prints.specs.Rows.{WritesLargeRows};
-ghost use Rattle.printer.specs.Printing.{Prints};
+ghost use Rattle.text_printer.specs.Printing.{Prints};
 
 use crate::bank::print_large_bank;
 use crate::lines::print_large_rows;
@@ -19,7 +19,7 @@ use crate::pieces::print_head;
 use cell_rows::CellArray;
 use pcm_io::{Sink, Text, WriteFault};
 use pcm_module::Module;
-use printer::{Printer, ROW_ROOM, TEXT_ROOM};
+use text_printer::{Printer, ROW_ROOM, TEXT_ROOM};
 
 // What the banks of a module keep, in order.
 fn print_banks<const B: usize, const M: usize, const E: usize, K: Sink>(

@@ -3,7 +3,7 @@ ghost use Rattle.std.specs.Prelude.{◌≡◌, ◌≤◌, ◌++◌};
 ghost use Rattle.cell_rows.specs.Shape.{IsShape};
 ghost use Rattle.pcm_image.specs.Spelling.{u32, cells_bytes};
 ghost use Rattle.large_image.specs.Spelling.{are_zero, row_bytes};
-ghost use Rattle.printer.specs.Printing.{Prints};
+ghost use Rattle.text_printer.specs.Printing.{Prints};
 ghost use Rattle.large_prints.specs.Rows.{PrintsLargeRows};
 
 use crate::pieces::print_line;
@@ -11,7 +11,7 @@ use cell_rows::{CellArray, Cells};
 use image_text::pieces::print_cells;
 use large_image::{END_MARK, are_zero};
 use pcm_io::Sink;
-use printer::{Printer, ROW_ROOM};
+use text_printer::{Printer, ROW_ROOM};
 
 // Whether no cell of an array line is 1.
 fn is_blank<const B: usize, const M: usize>(cells: &Cells<B, M>) -> bool

@@ -5,13 +5,13 @@ ghost use Rattle.pcm_image.specs.Spelling.{u32};
 ghost use Rattle.large_image.specs.Spelling.{head_bytes, region_bytes};
 ghost use Rattle.large_image.specs.Views.{region_view};
 ghost use Rattle.right_images.specs.Saving.{head_of};
-ghost use Rattle.printer.specs.Printing.{Prints};
+ghost use Rattle.text_printer.specs.Printing.{Prints};
 
 use image_text::pieces::number_of_home;
 use large_image::{LargeHead, LargeRegion, write_head, write_line, write_region};
 use module_shape::Shape;
 use pcm_io::{Sink, Text};
-use printer::{Printer, ROW_ROOM};
+use text_printer::{Printer, ROW_ROOM};
 
 // The numbers of a module of these sizes, with lines of so many bytes, put at the end of a text.
 fn push_head(size: u8, shape: &Shape, seed: u64, text: &mut Text)

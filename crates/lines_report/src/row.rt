@@ -12,8 +12,8 @@ use bank_shape::Role;
 use cell_rows::{CellWear, LineEnergy};
 use energy_report::push_energy;
 use pcm_io::{Sink, Text, WriteFault};
-use printer::{ROW_ROOM, TEXT_ROOM};
 use run_text::{make_room, push_role};
+use text_printer::{ROW_ROOM, TEXT_ROOM};
 
 /// What the cells of an array line say of it.
 #[derive(Clone, Copy, Debug, Drop, PartialEq, Eq)]

@@ -7,7 +7,7 @@ use Rattle.module_shape.specs.declared.raw.RawShape.{RawShape}
 use Rattle.pcm_image.specs.{Saved.Saved, Spelling.{bank_bytes, cells_bytes, head_bytes, image_bytes}}
 use Rattle.right_images.specs.Saving.{first_rows, head_of, saved_banks, saved_cells, saved_of}
 use Rattle.image_text.proofs.Whole.{head-pieces, rows-pieces}
-use Rattle.printer.{specs.Printing.{Holds, Prints}, specs.declared.printer.Printer.Printer, proofs.Printed.prints-then}
+use Rattle.text_printer.{specs.Printing.{Holds, Prints}, specs.declared.printer.Printer.Printer, proofs.Printed.prints-then}
 
 -- the rest of the cells behind those of the first lines
 abbrev pub rest_of : {n m : ℕ} → ArrayState n m → ℕ → List ℕ

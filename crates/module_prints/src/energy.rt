@@ -11,7 +11,7 @@ use cell_rows::TellsCells;
 use energy_report::print_energy_report;
 use pcm_io::{Sink, Text, WriteFault};
 use pcm_module::Module;
-use printer::TEXT_ROOM;
+use text_printer::TEXT_ROOM;
 
 /// Writes a row for each bank, and one for the module: how often their array lines were sensed, and how many cells were driven to 1 and to 0.
 /// No line is sensed for it.

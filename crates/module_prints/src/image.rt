@@ -10,13 +10,13 @@ ghost use Rattle.pcm_image.specs.Spelling.{bank_bytes, image_bytes};
 ghost use Rattle.right_images.specs.Saving.{saved_banks, saved_of};
 ghost use Rattle.image_text.specs.Sensing.{SensesRows, SensesSome};
 ghost use Rattle.module_prints.specs.Images.{HasImage, WritesRows, kept_in};
-ghost use Rattle.printer.specs.Printing.{Prints};
+ghost use Rattle.text_printer.specs.Printing.{Prints};
 
 use cell_rows::CellArray;
 use image_text::{print_bank, print_head, print_rows};
 use pcm_io::{Sink, Text, WriteFault};
 use pcm_module::Module;
-use printer::{Printer, ROW_ROOM, TEXT_ROOM};
+use text_printer::{Printer, ROW_ROOM, TEXT_ROOM};
 
 // What the banks of a module keep, in order.
 fn print_banks<const B: usize, const M: usize, const E: usize, K: Sink>(

@@ -17,8 +17,8 @@ use ecp_line::Ecp;
 use lines_report::{LineCells, print_lines_header, print_lines_row};
 use pcm_io::{Sink, Text, WriteFault};
 use pcm_module::Module;
-use printer::TEXT_ROOM;
 use run_text::print_rest;
+use text_printer::TEXT_ROOM;
 
 // What the cells of an array line say of it.
 pub(crate) fn line_cells<const B: usize, const M: usize, const E: usize, A: TellsCells<B, M>>(

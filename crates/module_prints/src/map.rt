@@ -10,9 +10,9 @@ ghost use Rattle.module_prints.specs.StandingMap.{standing_map};
 
 use pcm_io::{Sink, Text, WriteFault};
 use pcm_module::Module;
-use printer::TEXT_ROOM;
 use rotation_reports::{print_map_header, push_standing};
 use run_text::{make_room, print_rest};
+use text_printer::TEXT_ROOM;
 
 /// Writes a row for each line of the module: where it stands now, by the registers and the remap tables of the banks.
 pub fn print_map<const B: usize, const M: usize, const E: usize, K: Sink>(

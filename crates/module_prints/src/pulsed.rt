@@ -20,8 +20,8 @@ use cell_rows::TellsCells;
 use lines_report::{print_lines_header, push_row};
 use pcm_io::{Sink, Text, WriteFault};
 use pcm_module::Module;
-use printer::{ROW_ROOM, TEXT_ROOM};
 use run_text::{make_room, print_rest, print_role, print_wear_header};
+use text_printer::{ROW_ROOM, TEXT_ROOM};
 
 /// A report with a row for each array line.
 #[derive(Clone, Copy, Debug, Drop, PartialEq, Eq)]

@@ -14,8 +14,8 @@ ghost use Rattle.module_prints.specs.WearReports.{HaveRoles, IsWearReport};
 use cell_rows::CellArray;
 use pcm_io::{Sink, Text, WriteFault};
 use pcm_module::Module;
-use printer::TEXT_ROOM;
 use run_text::{print_rest, print_wear_header, print_wear_row};
+use text_printer::TEXT_ROOM;
 
 /// Writes a row for each array line: its bank, its pulses and its role.
 pub fn print_wear<const B: usize, const M: usize, const E: usize, A: CellArray<B, M>, K: Sink>(

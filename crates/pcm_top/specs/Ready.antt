@@ -3,7 +3,7 @@ use Rattle.std.specs.Prelude.{◌≡◌, ◌≤◌, ℕ, false, List, [], Some, 
 use Rattle.pcm_io.specs.Reserved.{Reserved, reserved}
 use Rattle.trace_reader.specs.{Events.AreEventsFor, declared.event.Event.Event, declared.trace.TheConstants.MOST_ROWS}
 use Rattle.command_line.specs.{Jobs.IsRun, declared.job.RunJob.RunJob}
-use Rattle.printer.specs.declared.room.TheConstants.{TEXT_ROOM}
+use Rattle.text_printer.specs.declared.room.TheConstants.{TEXT_ROOM}
 use Rattle.cell_rows.specs.Device.{ArrayState}
 use Rattle.result_rows.specs.{declared.Outcome.Outcome, declared.Outcome.TheVariants.Unset}
 use Rattle.module_shape.specs.{Limits.total_of, declared.raw.RawShape.RawShape}

@@ -11,9 +11,9 @@ ghost use Rattle.pcm_top.specs.Ends.{EndsText};
 use crate::fault::Fault;
 use command_line::{GenJob, LineSize};
 use pcm_io::{Sink, Text, WriteFault, write_all};
-use printer::TEXT_ROOM;
 use run_text::make_room;
 use std::alloc::Global;
+use text_printer::TEXT_ROOM;
 use trace_gen::{Generator, Mix, header, print_event};
 
 // Writes the trace of a seed for so many lines of `B` bytes.

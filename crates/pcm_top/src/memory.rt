@@ -8,9 +8,9 @@ use cell_rows::CellArray;
 use command_line::RunJob;
 use pcm_io::Text;
 use pcm_module::Module;
-use printer::TEXT_ROOM;
 use result_rows::Results;
 use std::alloc::{AllocError, Global};
+use text_printer::TEXT_ROOM;
 
 /// Takes all the memory of a run of so many rows: that of the array, of the module, of the table of outcomes
 /// and of the text that is written. Neither the run nor the printing takes memory afterwards. A line has room

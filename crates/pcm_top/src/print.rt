@@ -23,9 +23,9 @@ use image_laws::images_are_of_their_runs;
 use module_prints::{print_image, print_wear};
 use pcm_io::{Sink, Text, WriteFault};
 use pcm_module::Module;
-use printer::TEXT_ROOM;
 use result_rows::Results;
 use run_text::{print_counts, print_results, sum_pulses};
+use text_printer::TEXT_ROOM;
 use trace_reader::{Event, MOST_ROWS};
 
 /// Writes what is asked for of a run that was made: its results, its summary, its wear report or its image.

@@ -13,10 +13,10 @@ ghost use Rattle.pcm_top.specs.Ends.{EndsText};
 use crate::fault::Fault;
 use command_line::{MapJob, MovesJob};
 use pcm_io::{Sink, Text, WriteFault, write_all};
-use printer::TEXT_ROOM;
 use rotation_reports::{Map, MapOptions, print_map_header, print_move_row, print_moves_header};
 use run_text::make_room;
 use std::alloc::Global;
+use text_printer::TEXT_ROOM;
 
 // What a map is told of.
 fn options_of(job: &MapJob) -> MapOptions

@@ -16,9 +16,9 @@ use crate::fault::Fault;
 use crate::input::TRACE_ROOM;
 use pcm_image::{Image, read_image, size_of_line};
 use pcm_io::{Sink, Source, Text, WriteFault, read_all, write_all};
-use printer::TEXT_ROOM;
 use run_text::make_room;
 use std::alloc::Global;
+use text_printer::TEXT_ROOM;
 
 // Appends the row of a line.
 #[tactic(auto, using(pcm_io::proofs::DigitLemmas::five_digits))]

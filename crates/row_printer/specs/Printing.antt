@@ -2,7 +2,7 @@
 use Rattle.std.specs.Prelude.{◌≡◌, ℕ, ◌≤◌, Bool, true, false, List, [], ◌++◌, Option, replicate}
 use Rattle.pcm_io.specs.{Faults.Rose, Giving.AppendsPrefix, Reserved.Reserved}
 use Rattle.result_rows.specs.{declared.Outcome.Outcome, declared.Outcome.TheVariants.Unset}
-use Rattle.printer.specs.declared.room.TheConstants.{TEXT_ROOM}
+use Rattle.text_printer.specs.declared.room.TheConstants.{TEXT_ROOM}
 use Rattle.run_text.specs.{Counting.counts_of, Gathering.Printed, declared.counts.Counts.Counts}
 use Rattle.row_printer.specs.{Snapshots.{IsShown, snapshots_header, snapshots_text}, Telling.{told_head, told_text, outcomes_in, became, recorded, TellsOnce}}
 use Rattle.row_printer.specs.{declared.snapshot.Snapshot.Snapshot, declared.told.Shown.Shown, declared.told.Shown.TheVariants.{Nothing, Rows, Snapshots}, declared.told.Told.Told}

@@ -7,7 +7,7 @@ mod snapshot;
 mod text;
 mod told;
 
-pub use crate::printer::RowPrinter;
+pub use printer::RowPrinter;
 pub use snapshot::{Snapshot, print_snapshot, snapshots_header};
 pub use text::{print_head, print_told, stream_header};
 pub use told::{ArrayWear, Backlog, Mark, Shown, Told, ToldShape};

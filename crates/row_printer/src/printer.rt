@@ -22,10 +22,10 @@ use crate::snapshot::{Snapshot, print_snapshot, snapshots_header};
 use crate::text::{print_head, print_told};
 use crate::told::{ArrayWear, Backlog, Shown, Told};
 use pcm_io::{Sink, Text, WriteFault};
-use printer::TEXT_ROOM;
 use result_rows::{Outcome, Outcomes};
 use run_text::{Counts, make_room, print_rest, short_rows_are_counted};
 use std::marker::Model;
+use text_printer::TEXT_ROOM;
 
 /// Prints a line for each outcome that it is told, behind a header and in the order in which they are told, and counts them; it
 /// keeps none. Or it prints snapshots, or nothing, and only counts. A text of 65,536 bytes is gathered and then written. After a fault of the

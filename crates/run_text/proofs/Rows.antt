@@ -3,7 +3,7 @@ use Rattle.std.proofs.Common.{◌≡◌, ℕ, suc, ◌+◌, ◌≤◌, List, [],
 use Rattle.std.{specs.Prelude.slice_get, proofs.Math.Seq.drop-cons, proofs.lemmas.List.{append-nil, drop_all}, proofs.lemmas.Option.{get_or_from_slice_get, slice_get_within}}
 use Rattle.trace_reader.specs.declared.event.Event.{Event}
 use Rattle.result_rows.specs.{RowText.{header_text, row_text}, declared.Outcome.Outcome}
-use Rattle.printer.{specs.Printing.Prints, specs.declared.printer.Printer.Printer, proofs.Printed.{prints-none, prints-same, prints-stopped, prints-then}}
+use Rattle.text_printer.{specs.Printing.Prints, specs.declared.printer.Printer.Printer, proofs.Printed.{prints-none, prints-same, prints-stopped, prints-then}}
 use Rattle.run_text.specs.ResultText.{asked, named_line, results_text, rows_text}
 
 module _ {n : ℕ} (events : List (Event n)) (outcomes : List (Outcome n)) where

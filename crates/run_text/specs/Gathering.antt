@@ -1,7 +1,7 @@
 -- A text that is gathered in memory and written to a sink piece after piece.
 use Rattle.std.specs.{Io.KnownBytes.Appends, Prelude.{◌≡◌, ℕ, ◌≤◌, List, ◌++◌, Option}}
 use Rattle.pcm_io.specs.Reserved.{Reserved, room_in}
-use Rattle.printer.specs.declared.room.TheConstants.{TEXT_ROOM}
+use Rattle.text_printer.specs.declared.room.TheConstants.{TEXT_ROOM}
 
 -- some first bytes of the text went to a sink, all of them or none, and so many more fit now
 pub record Flushes (room : ℕ) (old new : Reserved) (before now : Option (List ℕ)) : Type 0 where

@@ -4,13 +4,13 @@ ghost use Rattle.std.specs.Io.KnownBytes.{Appends};
 ghost use Rattle.pcm_io.specs.Faults.{Rose};
 ghost use Rattle.pcm_io.specs.Giving.{AppendsPrefix};
 ghost use Rattle.pcm_io.specs.Reserved.{reserved};
-ghost use Rattle.printer.specs.Printing.{Prints};
+ghost use Rattle.text_printer.specs.Printing.{Prints};
 ghost use Rattle.result_rows.specs.RowText.{row_text};
 ghost use Rattle.run_text.specs.ResultText.{ArePrintable, IsPrintable, asked, named_line, results_text, rows_text};
 
 use pcm_io::{Sink, Text, WriteFault};
-use printer::{Printer, ROW_ROOM, TEXT_ROOM};
 use result_rows::{Op, Outcome, Results, header, print_row};
+use text_printer::{Printer, ROW_ROOM, TEXT_ROOM};
 use trace_reader::{Event, EventOp, MOST_ROWS};
 
 // What a row asks for, as its result shows it.

@@ -6,7 +6,7 @@ ghost use Rattle.pcm_io.specs.Giving.{AppendsPrefix};
 ghost use Rattle.run_text.specs.Gathering.{Flushes, Printed};
 
 use pcm_io::{Sink, Text, WriteFault, write_all};
-use printer::ROW_ROOM;
+use text_printer::ROW_ROOM;
 
 /// Writes the text if the next row might not fit.
 pub fn make_room<K: Sink>(text: &mut Text, out: &mut K) -> Result<(), WriteFault>

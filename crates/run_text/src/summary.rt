@@ -10,8 +10,8 @@ ghost use Rattle.run_text.specs.SummaryText.{line_text, summary_text};
 use crate::counts::Counts;
 use crate::room::print_rest;
 use pcm_io::{Sink, Text, WriteFault};
-use printer::TEXT_ROOM;
 use result_rows::Results;
+use text_printer::TEXT_ROOM;
 
 /// Appends the summary of a run: its rows and how many had each outcome, the spares in use, and the pulses of all array
 /// lines.

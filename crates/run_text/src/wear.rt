@@ -11,7 +11,7 @@ use crate::roles::{print_role, wear_header};
 use crate::room::make_room;
 use bank_shape::Role;
 use pcm_io::{Sink, Text, WriteFault};
-use printer::{ROW_ROOM, TEXT_ROOM};
+use text_printer::{ROW_ROOM, TEXT_ROOM};
 
 /// Begins a wear report in an empty text.
 pub fn print_wear_header(text: &mut Text)

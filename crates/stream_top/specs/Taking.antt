@@ -2,7 +2,7 @@
 use Rattle.std.specs.Prelude.{◌≡◌, ◌<◌, ◌^◌, ℕ, [], Some}
 use Rattle.pcm_io.specs.Reserved.{Reserved, reserved}
 use Rattle.cell_rows.specs.Device.{ArrayState}
-use Rattle.printer.specs.declared.room.TheConstants.{TEXT_ROOM}
+use Rattle.text_printer.specs.declared.room.TheConstants.{TEXT_ROOM}
 use Rattle.pcm_module.specs.State.{ModuleState}
 use Rattle.row_printer.specs.declared.told.Shown.{Shown}
 use Rattle.row_stream.specs.Serving.{IsServing}

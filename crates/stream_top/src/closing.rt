@@ -22,9 +22,9 @@ use module_prints::{
 };
 use pcm_io::{Sink, Text, WriteFault};
 use pcm_module::Module;
-use printer::TEXT_ROOM;
 use run_text::{Counts, print_rest, print_summary, sum_pulses};
 use stream_words::{Skip, StreamJob, StreamPrint};
+use text_printer::TEXT_ROOM;
 
 // Writes the image of a module with this seed over its array, as one of its sizes is spelled. Each array line is sensed once for it, in order,
 // at tick 0, and nothing else happens to the array; after a fault no line is sensed any more.

@@ -7,9 +7,9 @@ ghost use Rattle.stream_top.specs.Taking.{HasTaken};
 use cell_rows::CellArray;
 use pcm_io::Text;
 use pcm_module::Module;
-use printer::TEXT_ROOM;
 use std::alloc::{AllocError, Global};
 use stream_words::StreamJob;
+use text_printer::TEXT_ROOM;
 
 /// Takes the memory of a stream: that of the array, which is powered up, of the module, and of the text that is gathered. What comes after
 /// takes memory for the row at hand alone.

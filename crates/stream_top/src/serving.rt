@@ -26,11 +26,11 @@ use command_line::Input;
 use module_shape::RawShape;
 use pcm_io::{Sink, Source};
 use pcm_module::Module;
-use printer::TEXT_ROOM;
 use row_printer::{RowPrinter, Shown, ToldShape};
 use row_stream::{Behind, Stop, each_row_is_told, end, serve_drawn, serve_source};
 use std::alloc::Global;
 use stream_words::{End, StreamJob, StreamPrint, Tell, Until};
+use text_printer::TEXT_ROOM;
 use trace_stream::StreamFault;
 use wear_totals::TellsWear;
 

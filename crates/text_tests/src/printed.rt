@@ -7,7 +7,6 @@ ghost use Rattle.run_text.specs.ResultText.{ArePrintable};
 
 use bank_shape::Role;
 use pcm_io::{MemSink, Sink, Text, WriteFault};
-use printer::{ROW_ROOM, TEXT_ROOM};
 use result_rows::{Outcome, Results};
 use run_text::{
     print_counts, print_rest, print_results, print_wear_header, print_wear_row, wear_header,
@@ -15,6 +14,7 @@ use run_text::{
 use std::alloc::{AllocError, Global};
 use std::process::Abort;
 use std::test::Fail;
+use text_printer::{ROW_ROOM, TEXT_ROOM};
 use trace_reader::{Event, EventOp, MOST_ROWS};
 
 // An empty text of so much room, and a sink whose call with this number fails.

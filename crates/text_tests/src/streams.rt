@@ -3,12 +3,12 @@ ghost use Rattle.row_printer.specs.Snapshots.{IsShown};
 use crate::expected::{assert_text, compare};
 use cell_rows::LineEnergy;
 use pcm_io::{MemSink, MemSource, NeverFailSource, Text};
-use printer::TEXT_ROOM;
 use result_rows::{Outcome, Outcomes};
 use row_printer::{ArrayWear, Backlog, Mark, RowPrinter, Shown, Snapshot, ToldShape};
 use std::alloc::{AllocError, Global};
 use std::process::Abort;
 use std::test::Fail;
+use text_printer::TEXT_ROOM;
 use trace_reader::{Event, EventOp, Kind, TraceFault};
 use trace_stream::{Asked, StreamFault, TraceStream, Until, read_stream};
 

@@ -18,9 +18,9 @@ use large_image::are_zero;
 use large_reader::{LargeImage, read_large, size_of_large};
 use pcm_io::{Sink, Source, Text, WriteFault, read_all, write_all};
 use pcm_top::{Fault, TRACE_ROOM};
-use printer::TEXT_ROOM;
 use run_text::make_room;
 use std::alloc::Global;
+use text_printer::TEXT_ROOM;
 
 // Appends the row of a line.
 #[tactic(auto, using(pcm_io::proofs::DigitLemmas::ten_digits))]

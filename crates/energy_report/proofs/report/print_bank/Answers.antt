@@ -1,5 +1,5 @@
 use Rattle.std.proofs.Common.{refl}
-use Rattle.printer.proofs.Printed.{prints-put}
+use Rattle.text_printer.proofs.Printed.{prints-put}
 use Rattle.energy_report.proofs.report.print_bank.Goals as goal
 
 pub returns : goal.returns

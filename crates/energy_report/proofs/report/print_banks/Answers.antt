@@ -1,6 +1,6 @@
 use Rattle.std.proofs.Common.{◌≡◌, ◌++◌, ◌∙◌, ap, arith}
 use Rattle.std.specs.Prelude.{decimal}
-use Rattle.printer.proofs.Printed.{prints-none, prints-same, prints-then}
+use Rattle.text_printer.proofs.Printed.{prints-none, prints-same, prints-then}
 use Rattle.energy_report.{specs.EnergyText.{bank_rows, energy_row}, proofs.EnergyLemmas.{bank-within, rows-more, rows-none}}
 use Rattle.energy_report.proofs.report.print_banks.Goals as goal
 

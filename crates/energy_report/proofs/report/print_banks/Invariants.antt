@@ -1,5 +1,5 @@
 use Rattle.std.proofs.Common.{◌≤◌}
-use Rattle.printer.specs.Printing.{Prints}
+use Rattle.text_printer.specs.Printing.{Prints}
 use Rattle.energy_report.specs.EnergyText.{bank_rows}
 use Rattle.energy_report.proofs.report.print_banks.Given as goal
 

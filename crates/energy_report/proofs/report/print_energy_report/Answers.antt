@@ -1,5 +1,5 @@
 use Rattle.std.proofs.Common.{◌∙◌, ap, rules}
-use Rattle.printer.proofs.{Ending.tells-whole, Printed.{prints-same, prints-then}}
+use Rattle.text_printer.proofs.{Ending.tells-whole, Printed.{prints-same, prints-then}}
 use Rattle.energy_report.specs.{EnergyText.all_row, Sums.energy_of}
 use Rattle.energy_report.proofs.report.print_energy_report.Goals as goal
 

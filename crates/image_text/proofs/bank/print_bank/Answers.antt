@@ -1,6 +1,6 @@
 use Rattle.image_text.proofs.Whole.{whole-bank}
 use Rattle.image_text.proofs.bank.print_bank.Goals as goal
-use Rattle.printer.proofs.Printed.{prints-same, prints-then}
+use Rattle.text_printer.proofs.Printed.{prints-same, prints-then}
 
 pub returns : goal.returns
 returns g c =

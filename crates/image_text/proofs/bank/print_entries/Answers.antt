@@ -2,7 +2,7 @@ use Rattle.std.proofs.Common.{◌<◌, ◌∙◌, length, map, sym, ap, arith}
 use Rattle.std.{specs.Prelude.option_copied, proofs.Math.ListN.get_or-map, proofs.lemmas.List.length-map, proofs.lemmas.Option.get_or_from_slice_get}
 use Rattle.pcm_image.specs.Spelling.{entry_bytes}
 use Rattle.right_images.specs.Saving.{saved_entry}
-use Rattle.printer.proofs.Printed.{prints-all, prints-next, prints-none}
+use Rattle.text_printer.proofs.Printed.{prints-all, prints-next, prints-none}
 use Rattle.image_text.proofs.bank.print_entries.Goals as goal
 
 pub loop-index-init : goal.loop-index-init

@@ -1,6 +1,6 @@
 use Rattle.std.proofs.Common.{ap, arith}
 use Rattle.pcm_image.specs.Spelling.{u32}
-use Rattle.printer.proofs.Printed.{prints-all, prints-next, prints-none}
+use Rattle.text_printer.proofs.Printed.{prints-all, prints-next, prints-none}
 use Rattle.image_text.proofs.bank.print_slots.Goals as goal
 
 pub loop-spare-init : goal.loop-spare-init

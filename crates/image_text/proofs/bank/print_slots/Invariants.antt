@@ -1,7 +1,7 @@
 use Rattle.std.proofs.Common.{◌≤◌, length, take}
 use Rattle.std.specs.List.{flat_map}
 use Rattle.pcm_image.specs.Spelling.{u32}
-use Rattle.printer.specs.Printing.{Prints}
+use Rattle.text_printer.specs.Printing.{Prints}
 use Rattle.image_text.proofs.bank.print_slots.Given as goal
 
 -- those so far are printed

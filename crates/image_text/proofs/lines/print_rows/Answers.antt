@@ -1,7 +1,7 @@
 use Rattle.std.proofs.Common.{arith, rules}
 use Rattle.image_text.proofs.{Cells.cells-sensed, Sensing.{senses-more, senses-none}}
 use Rattle.image_text.proofs.lines.print_rows.Goals as goal
-use Rattle.printer.proofs.Printed.{prints-none, prints-same, prints-then}
+use Rattle.text_printer.proofs.Printed.{prints-none, prints-same, prints-then}
 
 pub loop-line-init : goal.loop-line-init
 loop-line-init g c = (prints-none g.K.Sink.written g.K.Sink.faults _, omega arith, senses-none _)

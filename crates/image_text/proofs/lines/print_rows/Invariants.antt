@@ -4,7 +4,7 @@ use Rattle.pcm_image.specs.Spelling.{cells_bytes}
 use Rattle.right_images.specs.Saving.{saved_cells}
 use Rattle.image_text.specs.Sensing.{SensesRows}
 use Rattle.image_text.proofs.lines.print_rows.Given as goal
-use Rattle.printer.specs.Printing.{Prints}
+use Rattle.text_printer.specs.Printing.{Prints}
 
 -- those so far are printed, and were sensed; each of them has the bytes of a line
 abbrev pub invariant-loop-line : goal.invariant-loop-line

@@ -1,5 +1,5 @@
 use Rattle.std.proofs.Common.{refl}
-use Rattle.printer.proofs.Printed.{prints-put}
+use Rattle.text_printer.proofs.Printed.{prints-put}
 use Rattle.image_text.proofs.pieces.print_head.Goals as goal
 
 pub returns : goal.returns

@@ -1,6 +1,6 @@
 use Rattle.large_prints.proofs.Whole.{whole-bank}
 use Rattle.large_prints.proofs.bank.print_large_bank.Goals as goal
-use Rattle.printer.proofs.Printed.{prints-same, prints-then}
+use Rattle.text_printer.proofs.Printed.{prints-same, prints-then}
 
 pub returns : goal.returns
 returns g c =

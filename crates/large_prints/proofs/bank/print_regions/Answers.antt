@@ -4,7 +4,7 @@ use Rattle.bank_shape.specs.declared.BankShape.{BankShape}
 use Rattle.power_recovery.specs.Kept.{no_region}
 use Rattle.large_image.specs.Spelling.{region_bytes}
 use Rattle.right_images.specs.Saving.{saved_region}
-use Rattle.printer.proofs.Printed.{prints-all, prints-next, prints-none}
+use Rattle.text_printer.proofs.Printed.{prints-all, prints-next, prints-none}
 use Rattle.large_prints.proofs.bank.print_regions.Goals as goal
 
 pub loop-region-init : goal.loop-region-init

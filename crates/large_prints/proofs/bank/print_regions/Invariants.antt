@@ -2,7 +2,7 @@ use Rattle.std.proofs.Common.{◌≤◌, length, take, map}
 use Rattle.std.specs.List.{flat_map}
 use Rattle.large_image.specs.Spelling.{region_bytes}
 use Rattle.right_images.specs.Saving.{saved_region}
-use Rattle.printer.specs.Printing.{Prints}
+use Rattle.text_printer.specs.Printing.{Prints}
 use Rattle.large_prints.proofs.bank.print_regions.Given as goal
 
 -- those so far are printed

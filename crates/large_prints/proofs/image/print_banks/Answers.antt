@@ -5,7 +5,7 @@ use Rattle.bank_timing.proofs.Sizes.{timed_fits, bank_fits}
 use Rattle.large_image.specs.Spelling.{bank_bytes}
 use Rattle.right_images.specs.Saving.{saved_bank, saved_banks}
 use Rattle.module_prints.{specs.Images.kept_in, proofs.Clocks.clock-is}
-use Rattle.printer.proofs.Printed.{prints-all, prints-next, prints-none}
+use Rattle.text_printer.proofs.Printed.{prints-all, prints-next, prints-none}
 use Rattle.large_prints.proofs.image.print_banks.Goals as goal
 
 pub loop-bank-init : goal.loop-bank-init

@@ -3,7 +3,7 @@ use Rattle.std.specs.List.{flat_map}
 use Rattle.large_image.specs.Spelling.{bank_bytes}
 use Rattle.right_images.specs.Saving.{saved_banks}
 use Rattle.module_prints.specs.Images.{kept_in}
-use Rattle.printer.specs.Printing.{Prints}
+use Rattle.text_printer.specs.Printing.{Prints}
 use Rattle.large_prints.proofs.image.print_banks.Given as goal
 
 -- those so far are printed

@@ -5,7 +5,7 @@ use Rattle.right_images.specs.Saving.{saved_of}
 use Rattle.large_prints.{specs.Rows.large_to, proofs.Whole.{image-all, image-printed, image-rest}}
 use Rattle.large_prints.proofs.image.print_large_image.Goals as goal
 use Rattle.module_prints.specs.Images.{kept_in}
-use Rattle.printer.proofs.Ending.{on_err, on_ok, whole-ok, whole-part}
+use Rattle.text_printer.proofs.Ending.{on_err, on_ok, whole-ok, whole-part}
 
 pub returns : goal.returns
 returns g c =

@@ -1,6 +1,6 @@
 use Rattle.std.proofs.Common.{◌≡◌, ◌∙◌, sym, arith, rules}
 use Rattle.image_text.proofs.Sensing.{senses-more, senses-none}
-use Rattle.printer.proofs.Printed.{prints-none, prints-same, prints-then}
+use Rattle.text_printer.proofs.Printed.{prints-none, prints-same, prints-then}
 use Rattle.large_prints.proofs.Rows.{lines-all, lines-some, rows-sensed}
 use Rattle.large_prints.proofs.lines.print_large_rows.Goals as goal
 

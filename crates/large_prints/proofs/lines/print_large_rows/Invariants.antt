@@ -2,7 +2,7 @@ use Rattle.std.proofs.Common.{◌≤◌}
 use Rattle.large_image.specs.Spelling.{rows_bytes}
 use Rattle.right_images.specs.Saving.{saved_cells}
 use Rattle.image_text.specs.Sensing.{SensesRows}
-use Rattle.printer.specs.Printing.{Prints}
+use Rattle.text_printer.specs.Printing.{Prints}
 use Rattle.large_prints.proofs.lines.print_large_rows.Given as goal
 
 -- those so far are printed, and were sensed; each of them has the bytes of a line

@@ -1,4 +1,4 @@
-use Rattle.printer.proofs.Printed.{prints-then}
+use Rattle.text_printer.proofs.Printed.{prints-then}
 use Rattle.large_prints.proofs.lines.print_numbered.Goals as goal
 
 pub returns : goal.returns

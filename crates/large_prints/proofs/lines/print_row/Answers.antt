@@ -1,5 +1,5 @@
 use Rattle.std.proofs.Common.{◌∙◌, sym}
-use Rattle.printer.proofs.Printed.{prints-none, prints-same}
+use Rattle.text_printer.proofs.Printed.{prints-none, prints-same}
 use Rattle.large_prints.proofs.Rows.{row-some, row-zero}
 use Rattle.large_prints.proofs.lines.print_row.Goals as goal
 

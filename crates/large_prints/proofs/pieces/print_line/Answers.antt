@@ -1,5 +1,5 @@
 use Rattle.std.proofs.Common.{refl}
-use Rattle.printer.proofs.Printed.{prints-put}
+use Rattle.text_printer.proofs.Printed.{prints-put}
 use Rattle.large_prints.proofs.pieces.print_line.Goals as goal
 
 pub returns : goal.returns

@@ -1,6 +1,6 @@
 use Rattle.lines_report.{specs.LinesText.lines_text, proofs.LinesLemmas.{printed-row, text-part}}
 use Rattle.lines_report.proofs.row.print_lines_row.Goals as goal
-use Rattle.printer.proofs.Ending.{on_err_any}
+use Rattle.text_printer.proofs.Ending.{on_err_any}
 
 pub returns-in_err-make_room-clause-prefix : goal.returns-in_err-make_room-clause-prefix
 returns-in_err-make_room-clause-prefix g c =

@@ -6,7 +6,7 @@ use Rattle.pcm_image.specs.Spelling.{bank_bytes}
 use Rattle.right_images.specs.Saving.{saved_bank, saved_banks}
 use Rattle.module_prints.{specs.Images.kept_in, proofs.Clocks.clock-is}
 use Rattle.module_prints.proofs.image.print_banks.Goals as goal
-use Rattle.printer.proofs.Printed.{prints-all, prints-next, prints-none}
+use Rattle.text_printer.proofs.Printed.{prints-all, prints-next, prints-none}
 
 pub loop-bank-init : goal.loop-bank-init
 loop-bank-init g c = (prints-none g.K.Sink.written g.K.Sink.faults _, omega arith)

@@ -4,7 +4,7 @@ use Rattle.pcm_image.specs.Spelling.{bank_bytes}
 use Rattle.right_images.specs.Saving.{saved_banks}
 use Rattle.module_prints.specs.Images.{kept_in}
 use Rattle.module_prints.proofs.image.print_banks.Given as goal
-use Rattle.printer.specs.Printing.{Prints}
+use Rattle.text_printer.specs.Printing.{Prints}
 
 -- those so far are printed
 abbrev pub invariant-loop-bank : goal.invariant-loop-bank

@@ -2,7 +2,7 @@ use Rattle.std.proofs.Common.{◌≡◌, ◌∙◌, subst, rules}
 use Rattle.image_text.specs.Sensing.{SensesRows}
 use Rattle.pcm_image.specs.Spelling.{image_bytes}
 use Rattle.right_images.specs.Saving.{first_rows, saved_of}
-use Rattle.printer.proofs.Ending.{on_err, on_ok, whole-ok, whole-part}
+use Rattle.text_printer.proofs.Ending.{on_err, on_ok, whole-ok, whole-part}
 use Rattle.module_prints.{specs.Images.kept_in, proofs.Whole.{image-all, image-printed, image-rest, rest_of}}
 use Rattle.module_prints.proofs.image.print_image.Goals as goal
 

@@ -3,7 +3,7 @@ use Rattle.lines_report.specs.LinesText.{lines_text}
 use Rattle.module_shape.specs.Addresses.{array_lines_of, module_of}
 use Rattle.module_prints.{specs.WearReports.{bank_with, cells_at}, proofs.Wearing.{lines-of-bank, reported-last, reported-more, reported-none, reported-part, reported-whole}}
 use Rattle.module_prints.proofs.lines.print_lines.Goals as goal
-use Rattle.printer.proofs.Ending.{on_err, on_err_any, on_ok}
+use Rattle.text_printer.proofs.Ending.{on_err, on_err_any, on_ok}
 
 pub loop-line-init : goal.loop-line-init
 loop-line-init g c =

@@ -1,5 +1,5 @@
 use Rattle.std.proofs.Common.{◌≡◌, ◌≤◌, ◌∙◌, ℕ, sym, ap, subst, arith}
-use Rattle.printer.proofs.Ending.{on_err, on_err_any, on_ok}
+use Rattle.text_printer.proofs.Ending.{on_err, on_err_any, on_ok}
 use Rattle.pcm_io.specs.Reserved.{Reserved, appended}
 use Rattle.rotation_reports.specs.MapText.{map_header, standing_row}
 use Rattle.module_shape.specs.Limits.{total_of}

@@ -1,5 +1,5 @@
 use Rattle.std.proofs.Common.{◌≡◌, ◌/◌, ◌∙◌, ap, arith, sym}
-use Rattle.printer.proofs.Ending.{on_err_any}
+use Rattle.text_printer.proofs.Ending.{on_err_any}
 use Rattle.module_prints.{specs.PulsedLines.pulsed_text, specs.WearReports.cells_at, proofs.Pulsing.{next-none, next-some, pulsed-part}}
 use Rattle.module_prints.proofs.pulsed.print_next.Goals as goal
 

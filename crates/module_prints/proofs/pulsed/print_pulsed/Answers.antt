@@ -1,7 +1,7 @@
 use Rattle.std.proofs.Common.{◌≡◌, ◌/◌, ◌∙◌, ap, arith}
 use Rattle.std.specs.Io.KnownBytes.{Appends}
 use Rattle.run_text.proofs.Gathered.{printed-first}
-use Rattle.printer.proofs.Ending.{on_err, on_err_any, on_ok}
+use Rattle.text_printer.proofs.Ending.{on_err, on_err_any, on_ok}
 use Rattle.pcm_io.specs.Giving.{AppendsPrefix}
 use Rattle.module_shape.specs.Addresses.{array_lines_of, module_of}
 use Rattle.module_prints.{specs.PulsedLines.header_of, specs.WearReports.cells_at, proofs.Pulsing.{pulsed-broken, pulsed-more, pulsed-none, pulsed-whole}}

@@ -1,6 +1,6 @@
 use Rattle.std.proofs.Common.{◌≡◌, ◌/◌, ap, arith}
 use Rattle.run_text.specs.WearText.{wear_text}
-use Rattle.printer.proofs.Ending.{on_err, on_err_any, on_ok}
+use Rattle.text_printer.proofs.Ending.{on_err, on_err_any, on_ok}
 use Rattle.module_shape.specs.Addresses.{array_lines_of, module_of}
 use Rattle.module_prints.{specs.WearReports.bank_with, proofs.Wearing.{lines-of-bank, reported-last, reported-more, reported-none, reported-part, reported-whole}}
 use Rattle.module_prints.proofs.wear.print_wear.Goals as goal

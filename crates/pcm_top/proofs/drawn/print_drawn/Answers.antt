@@ -1,7 +1,7 @@
 use Rattle.std.proofs.Common.{◌∷◌, arith, rules}
 use Rattle.std.proofs.lemmas.Grind.{common_steps}
 use Rattle.trace_gen.specs.Generated.{generated}
-use Rattle.printer.proofs.Ending.{on_err, on_err_any, on_ok}
+use Rattle.text_printer.proofs.Ending.{on_err, on_err_any, on_ok}
 use Rattle.pcm_top.proofs.Drawing.{drawn-flushed, drawn-header, drawn-last, drawn-part, drawn-row}
 use Rattle.pcm_top.proofs.drawn.print_drawn.Goals as goal
 

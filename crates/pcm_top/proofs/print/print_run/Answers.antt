@@ -1,6 +1,6 @@
 use Rattle.std.proofs.Common.{refl, sym, ap, ◌∙◌, subst, arith}
 use Rattle.std.specs.Prelude.{OnOk}
-use Rattle.printer.proofs.Ending.{on_err, on_ok}
+use Rattle.text_printer.proofs.Ending.{on_err, on_ok}
 use Rattle.image_text.{specs.Sensing.{SensesRows, SensesSome}, proofs.Sensing.senses-none}
 use Rattle.right_images.specs.Saving.{saved_of}
 use Rattle.module_prints.specs.Images.{WritesRows, kept_in}

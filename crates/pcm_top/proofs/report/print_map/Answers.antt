@@ -1,7 +1,7 @@
 use Rattle.std.proofs.Common.{◌≡◌, ◌+◌, arith, rules}
 use Rattle.std.proofs.lemmas.Grind.{common_steps}
 use Rattle.rotation_reports.specs.MapText.{lines_of, map_header, map_row}
-use Rattle.printer.proofs.Ending.{on_err, on_err_any, on_ok}
+use Rattle.text_printer.proofs.Ending.{on_err, on_err_any, on_ok}
 use Rattle.pcm_top.proofs.Reporting.{reported-flushed, reported-last, reported-part, reported-row}
 use Rattle.pcm_top.proofs.report.print_map.Goals as goal
 

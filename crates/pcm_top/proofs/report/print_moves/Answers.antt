@@ -2,7 +2,7 @@ use Rattle.std.proofs.Common.{◌≡◌, arith, rules}
 use Rattle.std.proofs.lemmas.Grind.{common_steps}
 use Rattle.start_gap.specs.Rotation.{turn}
 use Rattle.rotation_reports.specs.MovesText.{move_row, moves_header}
-use Rattle.printer.proofs.Ending.{on_err, on_err_any, on_ok}
+use Rattle.text_printer.proofs.Ending.{on_err, on_err_any, on_ok}
 use Rattle.pcm_top.proofs.Reporting.{reported-flushed, reported-last, reported-part, reported-row}
 use Rattle.pcm_top.proofs.report.print_moves.Goals as goal
 

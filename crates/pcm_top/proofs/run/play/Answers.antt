@@ -1,6 +1,6 @@
 use Rattle.std.proofs.Common.{◌≡◌, ◌≤◌, refl, sym, ap, ◌∙◌, subst, arith, rules}
 use Rattle.module_shape.specs.Limits.{IsShape, IsSmall}
-use Rattle.printer.proofs.Ending.{on_err_any}
+use Rattle.text_printer.proofs.Ending.{on_err_any}
 use Rattle.trace_reader.proofs.Sizes.{event_fits}
 use Rattle.pcm_top.{specs.Images.senses_for, proofs.Making.{can-print, ready-itself, run-part, run-written}, proofs.Saving.{has-image, leaves-with, right-now}}
 use Rattle.pcm_top.proofs.run.play.Goals as goal

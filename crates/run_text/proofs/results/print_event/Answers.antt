@@ -1,5 +1,5 @@
 use Rattle.std.proofs.Common.{refl}
-use Rattle.printer.proofs.Printed.{prints-put}
+use Rattle.text_printer.proofs.Printed.{prints-put}
 use Rattle.run_text.proofs.results.print_event.Goals as goal
 
 pub returns : goal.returns

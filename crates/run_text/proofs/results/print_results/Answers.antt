@@ -1,5 +1,5 @@
 use Rattle.std.proofs.Common.{◌++◌, ◌∙◌, ap, rules}
-use Rattle.printer.proofs.{Ending.tells-whole, Printed.{prints-same, prints-then}}
+use Rattle.text_printer.proofs.{Ending.tells-whole, Printed.{prints-same, prints-then}}
 use Rattle.run_text.{specs.ResultText.rows_text, proofs.Rows.rows-whole}
 use Rattle.run_text.proofs.results.print_results.Goals as goal
 

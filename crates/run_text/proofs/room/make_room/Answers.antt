@@ -1,6 +1,6 @@
 use Rattle.run_text.proofs.Gathered.{printed-cleared, printed-part}
 use Rattle.run_text.proofs.room.make_room.Goals as goal
-use Rattle.printer.proofs.Ending.{on_err_any}
+use Rattle.text_printer.proofs.Ending.{on_err_any}
 
 pub returns-in_err-write_all-clause-part : goal.returns-in_err-write_all-clause-part
 returns-in_err-write_all-clause-part g c =

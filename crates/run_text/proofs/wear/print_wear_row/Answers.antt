@@ -1,6 +1,6 @@
 use Rattle.run_text.{specs.WearText.wear_text, proofs.Gathered.{printed-wear_row, wear_text-part}}
 use Rattle.run_text.proofs.wear.print_wear_row.Goals as goal
-use Rattle.printer.proofs.Ending.{on_err_any}
+use Rattle.text_printer.proofs.Ending.{on_err_any}
 
 pub returns-in_err-make_room-clause-prefix : goal.returns-in_err-make_room-clause-prefix
 returns-in_err-make_room-clause-prefix g c =

@@ -1,7 +1,7 @@
 use Rattle.std.proofs.Common.{◌∙◌, refl, sym, ap, subst, arith}
 use Rattle.std.specs.{Io.KnownBytes.Appends, Prelude.OnOk}
 use Rattle.pcm_io.{specs.Giving.AppendsPrefix, proofs.ByteLemmas.Appends-nothing}
-use Rattle.printer.proofs.Ending.{on_err, on_ok}
+use Rattle.text_printer.proofs.Ending.{on_err, on_ok}
 use Rattle.right_images.specs.Saving.{saved_of}
 use Rattle.image_text.{specs.Sensing.{SensesRows, SensesSome}, proofs.Sensing.senses-none}
 use Rattle.module_prints.specs.{Images.kept_in, WearReports.cells_at}

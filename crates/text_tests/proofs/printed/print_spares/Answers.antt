@@ -1,7 +1,7 @@
 use Rattle.std.proofs.Common.{◌≡◌, ℕ, ◌+◌, ◌-◌, replicate, sym, ap, ◌∙◌, arith}
 use Rattle.std.proofs.{lemmas.Grind.replicate_next, lemmas.List.{length-replicate, replicate-append-replicate}, lemmas.Result.on_err_weaker}
 use Rattle.run_text.{specs.WearText.wear_text, proofs.Gathered.{part-same, printed-same}}
-use Rattle.printer.proofs.Ending.{on_err_any}
+use Rattle.text_printer.proofs.Ending.{on_err_any}
 use Rattle.bank_shape.specs.{declared.Role.Role, declared.Role.TheVariants.Free}
 use Rattle.text_tests.proofs.printed.print_spares.Goals as goal
 

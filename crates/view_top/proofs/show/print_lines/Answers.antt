@@ -4,7 +4,7 @@ use Rattle.pcm_image.specs.{Saved.total_in, Standing.stands_for}
 use Rattle.pcm_top.{specs.Showing.shown_header, proofs.Reporting.{reported-flushed, reported-last, reported-part, reported-row}}
 use Rattle.view_top.specs.Showing.{touched_row}
 use Rattle.view_top.proofs.show.print_lines.Goals as goal
-use Rattle.printer.proofs.Ending.{on_err, on_err_any, on_ok}
+use Rattle.text_printer.proofs.Ending.{on_err, on_err_any, on_ok}
 
 pub returns-in_err-make_room : goal.returns-in_err-make_room
 returns-in_err-make_room g c = record {

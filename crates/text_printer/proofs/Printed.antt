@@ -4,7 +4,7 @@ use Rattle.std.{specs.Io.KnownBytes.Appends, specs.List.flat_map, specs.Prelude.
 use Rattle.std.proofs.lemmas.List.{append-nil, take_all, take_more}
 use Rattle.pcm_io.specs.{Faults.Rose, Giving.AppendsPrefix, Reserved.{appended, reserved}}
 use Rattle.pcm_io.proofs.ByteLemmas.{Appends-Appends, Appends-AppendsPrefix, AppendsPrefix-longer}
-use Rattle.printer.specs.{Printing.{Ends, Holds, Prints, Sends}, declared.printer.Printer.Printer}
+use Rattle.text_printer.specs.{Printing.{Ends, Holds, Prints, Sends}, declared.printer.Printer.Printer}
 
 module _ {K : Type 0} (written : K → Option (List ℕ)) (faults : K → ℕ) where
   -- the same bytes, told otherwise

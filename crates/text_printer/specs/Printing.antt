@@ -1,7 +1,7 @@
 -- What printing does to a printer.
 use Rattle.std.specs.{Io.KnownBytes.Appends, Prelude.{◌≡◌, ℕ, ◌≤◌, List, ◌++◌, Option, Bool, true, false, Result, OnOk, OnErr}}
 use Rattle.pcm_io.specs.{Faults.Rose, Giving.AppendsPrefix}
-use Rattle.printer.specs.declared.printer.Printer.{Printer}
+use Rattle.text_printer.specs.declared.printer.Printer.{Printer}
 
 module _ {K : Type 0} (written : K → Option (List ℕ)) (faults : K → ℕ) where
   -- since a sink had these bytes and so many faults, these bytes are printed: what went to it, and behind it what the text still holds; after a

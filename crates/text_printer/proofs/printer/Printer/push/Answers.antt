@@ -1,6 +1,6 @@
 use Rattle.std.proofs.Common.{refl}
-use Rattle.printer.proofs.Printed.{prints-put}
-use Rattle.printer.proofs.printer.Printer.push.Goals as goal
+use Rattle.text_printer.proofs.Printed.{prints-put}
+use Rattle.text_printer.proofs.printer.Printer.push.Goals as goal
 
 pub returns : goal.returns
 returns g c = prints-put g.K.Sink.written g.K.Sink.faults _ _ _ _ c.make_room.ensures.printed refl refl refl c.push.ensures.after

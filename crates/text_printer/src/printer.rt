@@ -1,7 +1,7 @@
 // A text and the sink that it goes to.
 ghost use Rattle.std.specs.Prelude.{◌≡◌, ◌≤◌, [], length};
 ghost use Rattle.pcm_io.specs.Reserved.{reserved, room_in};
-ghost use Rattle.printer.specs.Printing.{Ends, Holds, Prints, Sends};
+ghost use Rattle.text_printer.specs.Printing.{Ends, Holds, Prints, Sends};
 
 use crate::room::{ROW_ROOM, TEXT_ROOM};
 use pcm_io::{Sink, Text, WriteFault, write_all};

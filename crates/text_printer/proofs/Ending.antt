@@ -2,7 +2,7 @@
 use Rattle.std.proofs.Common.{◌≡◌, ℕ, ◌≤◌, List, [], ◌++◌, Option, false, subst}
 use Rattle.std.specs.{Io.KnownBytes.Appends, Prelude.{Result, Ok, Err, OnOk, OnErr}}
 use Rattle.pcm_io.{specs.Faults.Rose, specs.Giving.AppendsPrefix, proofs.ByteLemmas.AppendsPrefix-longer}
-use Rattle.printer.specs.{Printing.{Ends, Holds, Prints}, declared.printer.Printer.Printer}
+use Rattle.text_printer.specs.{Printing.{Ends, Holds, Prints}, declared.printer.Printer.Printer}
 
 -- a fact that follows from what holds of an answer holds of it
 pub on_ok : {T E : Type 0} (r : Result T E) (P Q : Type 0) → OnOk r P → (P → Q) → OnOk r Q
