@@ -586,6 +586,8 @@ class Words(unittest.TestCase):
         head, line = "tick,op,arg,data\n", "ab" * 64
         wanted = [
             (f"{head}0,R,0,\n\n5,R,0,,\n", "run", "trace row 2: fields", "line 4: it has 5 fields, and must have four: tick,op,arg,data"),
+            (f"{head}0,R,0,row,op,line,outcome,tick,place,data\n1,R,0,read,5,3,{line}\n", "check", "trace row 1: fields",
+             "line 2: the header of results stands in it: the trace's last line must be ended before them"),
             (f"{head}0,R,0,\n5,S,,\n6,X,0,\n", "stream", "trace row 2: op", "line 4: the second field must be R, W, M, C, S, Q, U or L, and is 'X'"),
             (f"{head}0,R,0,\n5,U,1,\n", "run", "trace row 2: op",
              "line 3: the second field must be R, W, M or C, and is 'U' (U, a settle until, is a stream's alone)"),

@@ -3,8 +3,8 @@
 usage: python3 -m pcm differ TRACE ONE OTHER [options]
 
 TRACE is a trace, ONE and OTHER are files of results of it, as two simulators printed them; options are those of `./pcm check`. Both are
-checked first, and a line says of each whether it keeps the rules, or which row breaks one. Then come how many rows differ, the lowest of
-them, and the soonest, by the tick at which the difference shows: the lowest may differ since a later row was told otherwise sooner.
+checked first, and a line says of each whether it keeps the rules, or which row breaks one. Then come how many rows differ in an outcome, its
+tick or its data (places are not compared), the lowest of them, and the soonest, by the tick at which the difference shows: the lowest may differ since a later row was told otherwise sooner.
 A fault of a file is told with the file's name. Statuses: 0 where no row differs, 1 where one does, and those of `./pcm check` from 2 on."""
 import subprocess
 import sys
@@ -106,7 +106,7 @@ def differ(trace: Source, one: Source, other: Source, options: Sequence[str], pr
     lines = [f"{it.name}: {_rules(verdict(trace, it, options, program))}" for it in (one, other)]
     found = partings(trace, one, other)
     if not found:
-        return False, "\n".join([*lines, "no row differs", ""])
+        return False, "\n".join([*lines, "no row differs (places are not compared)", ""])
     soonest = min(found, key=lambda it: (it.shows(), it.row))
     lines.append(f"{len(found)} row{'s' * (len(found) != 1)} differ{'s' * (len(found) == 1)}")
     lines += [f"lowest   {found[0].words()}", f"soonest  {soonest.words()}"]

@@ -385,6 +385,8 @@ def _wrong_field(
     """The kind of a row's first fault and what is wrong with its field, None where it has none; `last` is the tick before, and the line of its
     row, where that stands in a file; `number` the row's own, or that of the next one."""
     lines, size, streams = shape
+    if ",".join(record[3:]).endswith(RESULTS):
+        return "fields", "the header of results stands in it: the trace's last line must be ended before them"
     if len(record) != 4:
         return "fields", f"it has {len(record)} field{'s' * (len(record) != 1)}, and must have four: {','.join(HEADER)}"
     tick, op, arg, data = record

@@ -63,7 +63,7 @@ class Partings(Room):
         self.assertEqual(2, min(found, key=lambda it: it.shows()).row)
 
     def test_places_tell_nothing(self):
-        self.assertEqual("no row differs", self.differ(RIGHT, RIGHT.replace(",3,", ",2,"))[1].splitlines()[-1])
+        self.assertEqual("no row differs (places are not compared)", self.differ(RIGHT, RIGHT.replace(",3,", ",2,"))[1].splitlines()[-1])
 
     def test_the_first_other_byte_is_told(self):
         other = RIGHT.replace(f"105,3,{ONES}", f"105,3,ff00{ONES[4:]}")
