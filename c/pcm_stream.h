@@ -153,9 +153,9 @@ struct pcm {
 /* Starts the program: words[0] is its path or a name on the search path, and the last of them is NULL; they are only lent. What it says of
    faults goes to the caller's standard error. PCM_FAILED where it can't be started (under valgrind, which posix_spawn can't tell errors to,
    it starts and ends with status 127): the module is closed then, so each call is refused. Whatever it answers, pcm_close frees what it took.
-   Words that the program refuses show at the first settle, by PCM_ENDED, and then by status 2 of pcm_close; where the environment has
-   PCM_EXPLAIN=1, `./pcm` says which word it is. A command that isn't `stream` never answers a settle, which then waits for ever; pcm_learn,
-   with `--tell shape` among the words, finds that out. */
+   Words that the program refuses show at the first settle, whose answer is PCM_ENDED, and by status 2 of pcm_close; where the environment has
+   PCM_EXPLAIN=1, `./pcm` says which word it is. A command that reads all before it prints, as `run`, never answers a settle, so that this waits for
+   ever; pcm_learn, with `--tell shape` among the words, finds that out. */
 static inline enum pcm_result pcm_open(struct pcm *pcm, const char *const words[]);
 /* The same with a process group of the program's own: what a terminal sends (Ctrl-C, a hang-up) reaches the caller alone, and the program
    ends once the caller has closed it or has ended. */
@@ -203,7 +203,7 @@ static inline enum pcm_result pcm_finish(struct pcm *pcm);
 /* Closes all, waits for the program, and answers its status; -1 where the system tells none, as where it was killed. Behind pcm_finish the answers
    that are left are taken and dropped, and the status is that of all rows: 0, or 1 where some row fell short; 2 where the words are wrong, 3
    where a row is, 6 where there are too many, 7 where memory ran out. Without pcm_finish rows that wait to be sent are dropped, and nobody takes
-   what the program still says: that makes 5, with `write fault` on standard error, of any status, as the program's time has it. */
+   what the program still says: if it says anything, the status may be 5, with `write fault` on standard error. */
 static inline int pcm_close(struct pcm *pcm);
 
 /* From here on: how. */

@@ -436,6 +436,21 @@ static void a_shape_that_is_none(void)
     check(pcm_open(&pcm, ended) == PCM_OK && pcm_learn(&pcm, NULL) == PCM_ENDED && pcm_close(&pcm) == 1, "nor is it told by what has ended");
 }
 
+/* Words that the program refuses show at the first settle, and what is no command of streams by pcm_learn. */
+static void wrong_words_are_found_out(const char *const words[], int count)
+{
+    static struct pcm pcm;
+    const char *wrong[22] = {0}, *other[22] = {0};
+    for (int i = 0; i < count; i++) {
+        wrong[i] = words[i];
+        other[i] = strcmp(words[i], "stream") == 0 ? "run" : words[i];
+    }
+    wrong[count] = "--polcy=pause";
+    other[count] = "--tell=shape";
+    check(pcm_open(&pcm, wrong) == PCM_OK && pcm_settle_all(&pcm, 0, NULL, NULL) == PCM_ENDED && pcm_close(&pcm) == 2, "a word that is none");
+    check(pcm_open(&pcm, other) == PCM_OK && pcm_learn(&pcm, NULL) == PCM_ENDED && pcm_close(&pcm) == 2, "a command that isn't of streams");
+}
+
 static void a_bank_without_a_spare_is_exhausted(const char *const words[], int count)
 {
     static struct pcm pcm;
@@ -573,6 +588,7 @@ int main(int count, char **words)
     wear_is_told(all);
     what_the_module_is_is_told(all, n);
     a_shape_that_is_none();
+    wrong_words_are_found_out(all, n);
     a_bank_without_a_spare_is_exhausted(all, n);
     digits_are_put_and_read();
     full_has_its_bound(all);

@@ -60,7 +60,7 @@ class Module:
         self._tells_shape = options.get("tell") == "shape"
         self._lines = LARGE.all_lines
         # (the program refuses all other sizes)
-        self.line_size: Optional[int] = 128 if str(options.get("line")) == "128" else 64
+        self.line_size: Optional[int] = {"None": 64, "64": 64, "128": 128}.get(str(options.get("line")))
         self.status: Optional[int] = None
         self._options = words_of(options)
         words = [*command("stream", program), *self._options]

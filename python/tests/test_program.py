@@ -206,6 +206,9 @@ class Faults(Rooms):
                     module.write(0, 0, bytes(192 - size))
                 self.assertEqual(1, module.write(0, 0, bytes(size)))
                 self.assertEqual(size, module.shape.line if module.shape else size)
+        with pcm.Module(line=65) as module, self.assertRaisesRegex(pcm.UsageError, "--line 65: .* 64 or 128"):
+            self.assertEqual(1, module.write(0, 0, bytes(65)))
+            module.settle(0)
 
     def test_the_size_of_a_line_may_be_what_the_caller_says_or_the_module_tells(self):
         script = self.script("wide", f"#!/bin/sh\nexec {shlex.join(pcm.command('stream'))} --line 128 --tell shape\n")
