@@ -219,22 +219,6 @@ static int check_files(void)
     return 0;
 }
 
-static int plugin_config_complete(void)
-{
-    struct pcm_disk_shape given = {(uint32_t)value_of("banks"), (uint32_t)value_of("regions"), (uint32_t)value_of("lines"),
-                                   (uint32_t)value_of("line"), (uint32_t)value_of("spares"), (uint32_t)value_of("write-queue"),
-                                   (uint32_t)value_of("read-queue"), (uint32_t)value_of("read-ticks"), (uint32_t)value_of("iter-ticks"),
-                                   (uint32_t)strtoul(parameter("atomic")->text, NULL, 10), (uint32_t)value_of("straight"), value_of("seed")};
-    shape = given;
-    cuts = value_of("cuts");
-    cut_state = value_of("cut-seed");
-    cut_ticks = parameter("cut-ticks")->text;
-    tick_ns = value_of("tick-ns");
-    row_ticks = value_of("row-ticks");
-    rides = (int)value_of("on-cut");
-    return check_together() == 0 && check_cut_ticks(cut_ticks) == 0 ? check_files() : -1;
-}
-
 /* ---- Power cuts */
 
 /* The next cut: the next tick of the list, or one drawn by a word of SplitMix64. (At most one comes in a request; a tick of the list that has
@@ -305,6 +289,31 @@ static int check_args(void)
     return -1;
 }
 
+/* Refuses a log, by its first line, that isn't one, or that was written with other options. (Where that line isn't whole, the log begins anew.) */
+static int check_header(const char *line)
+{
+    if (strncmp(line, HEADER, strlen(line)) != 0) {
+        nbdkit_error("%s is no log: it doesn't begin with the header of a trace", log_name);
+        return -1;
+    }
+    return strchr(line, '\n') == NULL ? 0 : check_args();
+}
+
+/* The same, of a log that may not be there yet, before a server goes to the background: from then on nobody hears it. (The log is looked at again
+   as it is opened for this server alone.) */
+static int check_log(void)
+{
+    char line[PCM_MOST_ROW];
+    FILE *log = log_name == NULL ? NULL : fopen(log_name, "re");
+    int fault = 0;
+    if (log == NULL)
+        return 0;
+    if (fgets(line, sizeof line, log) != NULL)
+        fault = check_header(line);
+    fclose(log);
+    return fault;
+}
+
 static int write_args(void)
 {
     char text[1024];
@@ -356,14 +365,10 @@ static int play_log(void)
     off_t at = 0;
     for (; fgets(row, sizeof row, log_file) != NULL; at += (off_t)strlen(row), number++) {
         int is_whole = strchr(row, '\n') != NULL, fault = 0;
-        if (number == 0 && strncmp(row, HEADER, strlen(row)) != 0) {
-            nbdkit_error("%s is no log: it doesn't begin with the header of a trace", log_name);
+        if (number == 0 && check_header(row) != 0)
             return -1;
-        }
         if (!is_whole && strlen(row) < sizeof row - 1)
             break;
-        if (number == 0 && check_args() != 0)
-            return -1;
         if (number > 0)
             fault = pcm_disk_replay(&disk, row);
         if (fault != 0) {
@@ -391,6 +396,22 @@ static int play_log(void)
 }
 
 /* ---- The server's life */
+
+static int plugin_config_complete(void)
+{
+    struct pcm_disk_shape given = {(uint32_t)value_of("banks"), (uint32_t)value_of("regions"), (uint32_t)value_of("lines"),
+                                   (uint32_t)value_of("line"), (uint32_t)value_of("spares"), (uint32_t)value_of("write-queue"),
+                                   (uint32_t)value_of("read-queue"), (uint32_t)value_of("read-ticks"), (uint32_t)value_of("iter-ticks"),
+                                   (uint32_t)strtoul(parameter("atomic")->text, NULL, 10), (uint32_t)value_of("straight"), value_of("seed")};
+    shape = given;
+    cuts = value_of("cuts");
+    cut_state = value_of("cut-seed");
+    cut_ticks = parameter("cut-ticks")->text;
+    tick_ns = value_of("tick-ns");
+    row_ticks = value_of("row-ticks");
+    rides = (int)value_of("on-cut");
+    return check_together() == 0 && check_cut_ticks(cut_ticks) == 0 && check_files() == 0 ? check_log() : -1;
+}
 
 /* The module's options beside the shape, as words. */
 static const char *const *option_words(void)

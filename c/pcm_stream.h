@@ -15,7 +15,7 @@
        if (pcm_write_sure(&pcm, 1000, 8, bytes, NULL, 64, NULL, NULL) == PCM_OK) ..   // it is accepted, so durable
        pcm_settle_until(&pcm, pcm.rows, 9000, NULL, NULL);   // the array has it; pcm.tick is the tick at which it came there
        pcm_finish(&pcm);                           // no more rows; pcm_next then gives the rest, and PCM_ENDED behind the last
-       int status = pcm_close(&pcm);
+       int status = pcm_close(&pcm);               // the program's: 0, or 1 where some row fell short
 
    Ticks are the simulation's own unit of time, from 0 to 2^40, and never fall. A line is a line of the module, from 0. What an option, a row
    or an outcome means is told by the repository's docs (USING.md, FORMATS.md).
@@ -68,8 +68,8 @@ enum pcm_result {
     PCM_ENDED,    /* the program has ended, and there is no outcome left; pcm_close tells its status */
     PCM_FULL,     /* answers have to be taken first (pcm_next), before another row can be sent */
     PCM_FAILED,   /* a call of the system failed; errno tells why */
-    PCM_REFUSED,  /* an argument is out of range: a tick, a row, a line (where the shape is known), a mask that gives nothing, a closed
-                     module; nothing was sent */
+    PCM_REFUSED,  /* an argument is out of range: a tick, a row, a line (where the shape is known), a mask that gives nothing; or the module
+                     is closed; nothing was sent */
     PCM_GARBLED,  /* the program sent a line that isn't one of a stream */
     PCM_SIZE,     /* the bytes aren't as many as a line has; nothing was sent */
     PCM_DECLINED, /* the module refused the write: it isn't accepted */
@@ -152,7 +152,10 @@ struct pcm {
 
 /* Starts the program: words[0] is its path or a name on the search path, and the last of them is NULL; they are only lent. What it says of
    faults goes to the caller's standard error. PCM_FAILED where it can't be started (under valgrind, which posix_spawn can't tell errors to,
-   it starts and ends with status 127). Whatever it answers, pcm_close frees what it took. */
+   it starts and ends with status 127): the module is closed then, so each call is refused. Whatever it answers, pcm_close frees what it took.
+   Words that the program refuses show at the first settle, whose answer is PCM_ENDED, and by status 2 of pcm_close; where the environment has
+   PCM_EXPLAIN=1, `./pcm` says which word it is. A command that reads all before it prints, as `run`, never answers a settle, so that this waits for
+   ever; pcm_learn, with `--tell shape` among the words, finds that out. */
 static inline enum pcm_result pcm_open(struct pcm *pcm, const char *const words[]);
 /* The same with a process group of the program's own: what a terminal sends (Ctrl-C, a hang-up) reaches the caller alone, and the program
    ends once the caller has closed it or has ended. */
@@ -195,9 +198,12 @@ static inline enum pcm_result pcm_write_sure(struct pcm *pcm, uint64_t tick, uin
 static inline enum pcm_result pcm_flush(struct pcm *pcm);
 /* The next outcome. It waits for one: so call it only where one is to come, behind a settle or behind pcm_finish. */
 static inline enum pcm_result pcm_next(struct pcm *pcm, struct pcm_outcome *outcome);
-/* No more rows come: the banks drain. */
+/* No more rows come: the banks drain. PCM_FULL where the program waits for its answers to be taken; rows may still come then. */
 static inline enum pcm_result pcm_finish(struct pcm *pcm);
-/* Closes all, waits for the program, and answers its status: 0, or 1 where some row fell short; -1 where the system tells none. */
+/* Closes all, waits for the program, and answers its status; -1 where the system tells none, as where it was killed. Behind pcm_finish the answers
+   that are left are taken and dropped, and the status is that of all rows: 0, or 1 where some row fell short; 2 where the words are wrong, 3
+   where a row is, 6 where there are too many, 7 where memory ran out. Without pcm_finish rows that wait to be sent are dropped, and nobody takes
+   what the program still says: if it says anything, the status may be 5, with `write fault` on standard error. */
 static inline int pcm_close(struct pcm *pcm);
 
 /* From here on: how. */
@@ -275,6 +281,18 @@ static inline int pcm__has(const char *const words[], const char *option, const 
     return 0;
 }
 
+/* Closes the caller's ends of the streams; errno stays. */
+static inline void pcm__shut(struct pcm *pcm)
+{
+    int fault = errno;
+    if (pcm->to >= 0)
+        close(pcm->to);
+    if (pcm->from >= 0)
+        close(pcm->from);
+    pcm->to = pcm->from = -1;
+    errno = fault;
+}
+
 static inline enum pcm_result pcm__open(struct pcm *pcm, const char *const words[], int is_apart)
 {
     int to[2], from[2];
@@ -298,10 +316,11 @@ static inline enum pcm_result pcm__open(struct pcm *pcm, const char *const words
     if (fault != 0) {
         pcm->process = -1;
         errno = fault;
+    }
+    if (fault != 0 || fcntl(pcm->to, F_SETFL, O_NONBLOCK) != 0) {
+        pcm__shut(pcm);
         return PCM_FAILED;
     }
-    if (fcntl(pcm->to, F_SETFL, O_NONBLOCK) != 0)
-        return PCM_FAILED;
     memcpy(pcm->out, "tick,op,arg,data\n", 17);
     pcm->held = 17;
     return PCM_OK;
@@ -339,6 +358,8 @@ static inline enum pcm_result pcm_flush(struct pcm *pcm)
 {
     size_t sent = 0;
     enum pcm_result result = PCM_OK;
+    if (pcm->from < 0)
+        return PCM_REFUSED;
     while (sent < pcm->held && result == PCM_OK) {
         ssize_t put = send(pcm->to, pcm->out + sent, pcm->held - sent, MSG_NOSIGNAL);
         if (put >= 0) {
@@ -756,7 +777,7 @@ static inline enum pcm_result pcm__next(struct pcm *pcm, struct pcm_outcome *out
 {
     enum pcm_result result = pcm_flush(pcm);
     const char *line;
-    if (result == PCM_FAILED)
+    if (result == PCM_FAILED || result == PCM_REFUSED)
         return result;
     do {
         if ((line = pcm__line(pcm, &result)) == NULL)
@@ -807,7 +828,7 @@ static inline enum pcm_result pcm_learn(struct pcm *pcm, const struct pcm_shape 
 static inline enum pcm_result pcm_finish(struct pcm *pcm)
 {
     enum pcm_result result = pcm_flush(pcm);
-    if (result == PCM_FULL || result == PCM_FAILED)
+    if (result != PCM_OK && result != PCM_ENDED)
         return result;
     if (pcm->to >= 0)
         close(pcm->to);
@@ -819,11 +840,11 @@ static inline enum pcm_result pcm_finish(struct pcm *pcm)
 static inline int pcm_close(struct pcm *pcm)
 {
     int status = 0;
-    if (pcm->to >= 0)
-        close(pcm->to);
-    if (pcm->from >= 0)
-        close(pcm->from);
-    pcm->to = pcm->from = -1;
+    ssize_t got = 1;
+    /* (behind pcm_finish the program goes on to its end, as long as somebody takes what it says) */
+    while (pcm->to < 0 && pcm->from >= 0 && (got > 0 || (got < 0 && errno == EINTR)))
+        got = read(pcm->from, pcm->in, sizeof pcm->in);
+    pcm__shut(pcm);
     pid_t ended = -1;
     while (pcm->process > 0 && (ended = waitpid(pcm->process, &status, 0)) < 0 && errno == EINTR)
         ;

@@ -335,7 +335,8 @@ static void misuse(void)
 {
     const char *wrong[] = {"--psi", "0", NULL}, *none[] = {"/nowhere/pcm", NULL};
     struct pcm_disk_shape odd = small;
-    check(pcm_disk_open(&disk, none, &small, NULL) == ENOENT && pcm_disk_close(&disk) == -1, "no program");
+    check(pcm_disk_open(&disk, none, &small, NULL) == ENOENT && pcm_disk_write(&disk, bytes, 64, 0) == EIO, "no program");
+    check(pcm_disk_read(&disk, got, 64, 0) == EIO && disk.pcm.rows == 0 && pcm_disk_close(&disk) == -1, "takes no request");
     check(pcm_disk_open(&disk, program, &small, wrong) == EPIPE && pcm_disk_close(&disk) == 2, "an option out of range");
     const struct pcm_disk_shape shapes[] = {
         {3, 2, 16, 64, 4, 8, 4, 5, 10, 0, 0, 0}, {128, 2, 16, 64, 4, 8, 4, 5, 10, 0, 0, 0},   {4, 0, 16, 64, 4, 8, 4, 5, 10, 0, 0, 0},

@@ -92,16 +92,61 @@ static void settles_with_answers_taken_late(const char *const words[])
     check(pcm_close(&pcm) == 0, "status 0");
 }
 
+/* Each call of a closed module is refused. */
+static int is_refused(struct pcm *pcm)
+{
+    struct pcm_outcome outcome;
+    uint8_t bytes[64] = {1};
+    uint32_t rows = pcm->rows;
+    int refused = pcm_write(pcm, pcm->tick, 0, bytes, 64) == PCM_REFUSED && pcm_read(pcm, pcm->tick, 0) == PCM_REFUSED;
+    refused &= pcm_settle(pcm, pcm->tick) == PCM_REFUSED && pcm_settle_all(pcm, pcm->tick, NULL, NULL) == PCM_REFUSED;
+    refused &= pcm_flush(pcm) == PCM_REFUSED && pcm_next(pcm, &outcome) == PCM_REFUSED && pcm_finish(pcm) == PCM_REFUSED;
+    return refused && pcm_learn(pcm, NULL) == PCM_REFUSED && pcm->rows == rows && pcm->to == -1 && pcm->from == -1;
+}
+
 static void what_cannot_start_is_told(void)
 {
     static struct pcm pcm;
     const char *none[] = {"/nowhere/pcm", NULL}, *folder[] = {"/", NULL}, *ends[] = {"false", NULL};
     struct pcm_outcome outcome = {PCM_CUT, 0, 0, 0, 0, {0}};
-    check(pcm_open(&pcm, none) == PCM_FAILED && errno == ENOENT && pcm_close(&pcm) == -1, "what isn't there doesn't start");
-    check(pcm_open(&pcm, folder) == PCM_FAILED && errno == EACCES && pcm_close(&pcm) == -1, "nor what is no program");
-    check(pcm_write(&pcm, 0, 0, outcome.bytes, 64) == PCM_REFUSED && pcm_read(&pcm, 0, 0) == PCM_REFUSED, "nothing is sent to it");
+    check(pcm_open(&pcm, none) == PCM_FAILED && errno == ENOENT && is_refused(&pcm) && pcm_close(&pcm) == -1, "what isn't there doesn't start");
+    check(pcm_open_apart(&pcm, folder) == PCM_FAILED && errno == EACCES && is_refused(&pcm) && pcm_close(&pcm) == -1, "nor what is no program");
+    check(is_refused(&pcm), "nothing is sent to it");
     check(pcm_open(&pcm, ends) == PCM_OK && pcm_finish(&pcm) == PCM_OK, "what ends at once starts");
     check(pcm_next(&pcm, &outcome) == PCM_ENDED && pcm_close(&pcm) == 1, "and tells its status");
+}
+
+/* The status of a close is the program's: behind a finish, whatever was taken before; without one, where nobody waits for an answer. */
+static void a_close_takes_what_is_left(const char *const words[], int count)
+{
+    static struct pcm pcm;
+    struct pcm_outcome outcome;
+    const char *late[] = {"sh", "-c", "cat >/dev/null; sleep 0.1; echo row,outcome,tick,place,data && echo 1,cut,0,,", NULL};
+    const char *narrow[20] = {0};
+    uint8_t bytes[64] = {1};
+    int right = 0;
+    for (int i = 0; i < count; i++)
+        narrow[i] = words[i];
+    narrow[count] = "--write-queue=2";
+    for (int i = 0; i < 20; i++) {
+        int sent = pcm_open(&pcm, words) == PCM_OK;
+        for (uint32_t line = 0; line < 3; line++)
+            sent &= pcm_write_sure(&pcm, 0, line, bytes, NULL, 64, NULL, NULL) == PCM_OK;
+        right += sent && pcm_finish(&pcm) == PCM_OK && pcm_close(&pcm) == 0 && is_refused(&pcm);
+    }
+    check(right == 20, "three writes, a finish and a close");
+    check(pcm_open(&pcm, narrow) == PCM_OK, "a queue of two writes");
+    for (uint32_t line = 0; line < 3; line++)
+        check(pcm_write(&pcm, 0, line, bytes, 64) == PCM_OK, "a write");
+    check(pcm_finish(&pcm) == PCM_OK && pcm_close(&pcm) == 1, "one of three falls short");
+    check(pcm_open(&pcm, words) == PCM_OK && pcm_read(&pcm, 0, 99999) == PCM_OK && pcm_finish(&pcm) == PCM_OK && pcm_close(&pcm) == 3, "a faulty row");
+    check(pcm_open(&pcm, words) == PCM_OK, "more answers than a pipe holds");
+    for (right = 0; right < 1200 && pcm_read(&pcm, 10 * (uint64_t)right, 0) == PCM_OK;)
+        right++;
+    check(right == 1200 && pcm_finish(&pcm) == PCM_OK && pcm_next(&pcm, &outcome) == PCM_OK && pcm_close(&pcm) == 0, "one of them is taken");
+    check(pcm_open(&pcm, late) == PCM_OK && pcm_finish(&pcm) == PCM_OK && pcm_close(&pcm) == 0, "answers that come late");
+    check(pcm_open(&pcm, words) == PCM_OK && pcm_settle_all(&pcm, 9, NULL, NULL) == PCM_OK && pcm_close(&pcm) == 0, "no finish, and nothing to be said");
+    check(pcm_write_sure(&pcm, 9, 0, bytes, NULL, 64, NULL, NULL) == PCM_REFUSED && is_refused(&pcm), "no call behind it is taken");
 }
 
 static void faults_are_told(const char *const words[])
@@ -391,6 +436,21 @@ static void a_shape_that_is_none(void)
     check(pcm_open(&pcm, ended) == PCM_OK && pcm_learn(&pcm, NULL) == PCM_ENDED && pcm_close(&pcm) == 1, "nor is it told by what has ended");
 }
 
+/* Words that the program refuses show at the first settle, and what is no command of streams by pcm_learn. */
+static void wrong_words_are_found_out(const char *const words[], int count)
+{
+    static struct pcm pcm;
+    const char *wrong[22] = {0}, *other[22] = {0};
+    for (int i = 0; i < count; i++) {
+        wrong[i] = words[i];
+        other[i] = strcmp(words[i], "stream") == 0 ? "run" : words[i];
+    }
+    wrong[count] = "--polcy=pause";
+    other[count] = "--tell=shape";
+    check(pcm_open(&pcm, wrong) == PCM_OK && pcm_settle_all(&pcm, 0, NULL, NULL) == PCM_ENDED && pcm_close(&pcm) == 2, "a word that is none");
+    check(pcm_open(&pcm, other) == PCM_OK && pcm_learn(&pcm, NULL) == PCM_ENDED && pcm_close(&pcm) == 2, "a command that isn't of streams");
+}
+
 static void a_bank_without_a_spare_is_exhausted(const char *const words[], int count)
 {
     static struct pcm pcm;
@@ -517,6 +577,7 @@ int main(int count, char **words)
         all[n++] = options[i];
     answers_come_as_they_are_known(all);
     what_cannot_start_is_told();
+    a_close_takes_what_is_left(all, n);
     faults_are_told(all);
     arguments_are_looked_at(all, n);
     writes_are_answered_at_once(all, n);
@@ -527,6 +588,7 @@ int main(int count, char **words)
     wear_is_told(all);
     what_the_module_is_is_told(all, n);
     a_shape_that_is_none();
+    wrong_words_are_found_out(all, n);
     a_bank_without_a_spare_is_exhausted(all, n);
     digits_are_put_and_read();
     full_has_its_bound(all);

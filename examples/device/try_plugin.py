@@ -216,6 +216,35 @@ def refused(what, *parameters):
         check(it.process.poll() == 1 and what in said(), f"{parameters} is refused: {said()}")
 
 
+def the_disk_as_a_cut_left_it(log):
+    cut = ROOM / "cut.csv"
+    with server(*SMALL, f"log={log}", "misses=1") as it:
+        disk = it.connect()
+        shadow = bytearray(disk.pread(disk.get_size(), 0))
+        disk.pwrite(b"a" * 640, 64)
+        shadow[64:704] = b"a" * 640
+        it.control("cut")
+        it.connect().pwrite(b"b" * 640, 64)
+        it.end()
+    rows, _, ops = log_of(log)
+    row = len(ops) - ops[::-1].index("C")
+    cut.write_text("".join(f"{it}\n" for it in rows[:row + 1]))
+    shutil.copy(f"{log}.args", f"{cut}.args")
+    with server(*SMALL, f"log={cut}", "misses=1") as it:
+        check(it.connect().pread(len(shadow), 0) == shadow, "the first rows of a log are the disk as a cut left it")
+    return log
+
+
+def a_server_in_the_background_tells_of_a_wrong_log(log):
+    """It does so before it goes there."""
+    notes, pid = ROOM / "notes", ROOM / "background.pid"
+    notes.write_text("my notes\n")
+    for file, parameter, what in ((log, "misses=2", "has 1 behind --misses, this server 2"), (notes, "misses=1", "is no log")):
+        words = ["nbdkit", "-U", ROOM / "background", "-P", pid, PLUGIN, f"pcm={PCM}", *SMALL, f"log={file}", parameter]
+        done = subprocess.run(words, stdin=subprocess.DEVNULL, capture_output=True, text=True, timeout=30)
+        check(done.returncode == 1 and what in done.stderr and not pid.exists(), f"a wrong log: {done}")
+
+
 def other_logs_are_refused(log):
     before = log.read_bytes()
     refused("has 1 behind --misses, this server 2", *SMALL, "misses=2", f"log={log}")
@@ -323,7 +352,9 @@ def main():
         sectors_are_whole()
         cuts_are_drawn_or_named()
         a_module_that_forgets_is_found_out()
-        other_logs_are_refused(a_disk_goes_on_from_its_log())
+        log = the_disk_as_a_cut_left_it(a_disk_goes_on_from_its_log())
+        a_server_in_the_background_tells_of_a_wrong_log(log)
+        other_logs_are_refused(log)
         the_control_export()
         wrong_parameters()
         a_program_that_ends()

@@ -1,5 +1,5 @@
 /* Drives a module up to a power cut, and prints the rows that it handed in as a trace: of that one `./pcm stream --end off --print image`
-   makes the image of what the cut leaves where the power stays off.
+   makes the image of what the cut leaves where the power stays off (with status 1, since the write stays queued).
    cc -std=c11 -I c -o torn examples/live/torn.c && ./torn > driven.csv && ./pcm stream --end off --print image < driven.csv > torn.image */
 #include "pcm_stream.h"
 

@@ -7,7 +7,8 @@ from .words import Handed, explain, wrong_handed
 
 class PcmError(Exception):
     """The program ended otherwise than with a whole run. `status` is its status, `line` what it said on standard error, and `why`, where it
-    is known, what was wrong with the words or the trace."""
+    is known, what was wrong with the words or the trace. Where a `Module` refuses a row, its program goes on: `status` is None, and `line` what
+    the program would have said."""
 
     def __init__(self, status: Optional[int], line: str, why: Optional[str] = None) -> None:
         said = line or f"pcm ended with status {status}"
@@ -22,8 +23,8 @@ class UsageError(PcmError):
 
 
 class TraceError(PcmError):
-    """A row of the trace is faulty (status 3): `row` is its number, and `kind` a word of docs/FORMATS.md, as `order` or `payload`; `why`
-    tells the line of the file, where the trace is one, or else the row, and what is wrong there."""
+    """A row of the trace is faulty (status 3; None where a `Module` refuses it): `row` is its number, and `kind` a word of docs/FORMATS.md, as
+    `order` or `payload`; `why` tells the line of the file, where the trace is one, or else the row, and what is wrong there."""
 
     def __init__(self, status: Optional[int], line: str, why: Optional[str] = None) -> None:
         super().__init__(status, line, why)

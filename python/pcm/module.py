@@ -7,12 +7,12 @@ import tempfile
 from types import TracebackType
 from typing import IO, Deque, Iterator, List, Optional, Sequence, Type
 
-from .errors import PcmError, UsageError, error_of
+from .errors import PcmError, TraceError, UsageError, error_of
 from .outcomes import Backlog, Outcome, Settled, Shape, Wear, told_of
 from .program import Program, command, words_of
 from .progress import Progress
-from .rows import HEADER
-from .words import Handed
+from .rows import HEADER, masked
+from .words import LARGE, LATEST_TICK, Handed, wrong_row
 
 # Rows are gathered up to so many bytes before they are handed to the pipe.
 _GATHERED = 1 << 16
@@ -26,6 +26,12 @@ class Module:
     answers taken at any time: what the pipes don't hold is kept here, so neither side ever waits for the other. Behind `finish` or
     `close`, and where the program draws the rows, none is taken (`ValueError`). `tick` is that of the last row or settle; behind
     `settle_until` the one that was reached. A `Module` isn't to be used by two threads at once.
+
+    A row that can't be one is refused as it is handed in, by a `TraceError` whose `status` is None: it isn't sent, nor written to the log,
+    and the module goes on. Such are a tick that falls, is beyond 2**40 or is no whole number, a write of another size than a line has, one
+    that gives no byte, a settle until of a row that wasn't handed in and, once the `shape` is known, a line that the module hasn't; where it
+    isn't known, the program finds such a line, and ends. `line_size` is how many bytes a line has, by the option `line` or by the shape;
+    where the program was told so otherwise, the caller sets it (None: any).
 
     Options are those of `pcm stream`, with `_` for `-`, as `banks=4`, `write_queue=8`, `policy="cancel"`, `end="off"`. `program` names
     the program (else the environment's PCM, or `./pcm` of the checkout). A call that waits for more than a second tells on standard error
@@ -52,6 +58,9 @@ class Module:
         self._wear: Optional[Wear] = None
         self._shape: Optional[Shape] = None
         self._tells_shape = options.get("tell") == "shape"
+        self._lines = LARGE.all_lines
+        # (the program refuses all other sizes)
+        self.line_size: Optional[int] = {"None": 64, "64": 64, "128": 128}.get(str(options.get("line")))
         self.status: Optional[int] = None
         self._options = words_of(options)
         words = [*command("stream", program), *self._options]
@@ -83,15 +92,18 @@ class Module:
 
     def write(self, tick: int, line: int, data: bytes) -> int:
         """A write of a whole line arrives at a tick. Answers the row's number."""
-        return self._hand(tick, f"{tick},W,{line},{memoryview(data).hex()}\n")
+        digits = memoryview(data).hex()
+        return self._hand(tick, f"{tick},W,{line},{digits}\n", line, self._is_line(digits))
 
     def write_masked(self, tick: int, line: int, data: Sequence[Optional[int]]) -> int:
-        """A write that gives some bytes of a line arrives at a tick; `None` stands for each byte that stays. Answers the row's number."""
-        return self._hand(tick, f"{tick},M,{line},{''.join('..' if byte is None else f'{byte:02x}' for byte in data)}\n")
+        """A write that gives some bytes of a line arrives at a tick; `None` stands for each byte that stays. Answers the row's number. `ValueError`
+        where a byte is none, 0 to 255."""
+        digits = masked(data)
+        return self._hand(tick, f"{tick},M,{line},{digits}\n", line, self._is_line(digits) and digits.strip(".") != "")
 
     def read(self, tick: int, line: int) -> int:
         """A read of a line arrives at a tick. Answers the row's number."""
-        return self._hand(tick, f"{tick},R,{line},\n")
+        return self._hand(tick, f"{tick},R,{line},\n", line)
 
     def cut(self, tick: int) -> int:
         """The power is cut at a tick, and is there again at once. Answers the row's number."""
@@ -99,28 +111,29 @@ class Module:
 
     def settle(self, tick: int) -> List[Outcome]:
         """Every bank goes on to a tick. Answers all outcomes known by then that weren't answered before."""
-        self._settle(f"{tick},S,,\n")
+        self._settle(tick, f"{tick},S,,\n")
         return self._take()
 
     def settle_until(self, row: int, tick: int) -> List[Outcome]:
         """The module goes on until a row that was handed in, by its number, has its outcome: from the tick at which it stands to the first one
         behind which that is known, and to `tick` where it isn't by then, as of a write that stays queued. The reached tick is `self.tick`, from
         which the next row may go on. Answers as `settle`."""
-        self._settle(f"{tick},U,{row},\n")
+        self._settle(tick, f"{tick},U,{row},\n", type(row) is int and 0 < row <= self._rows)
         return self._take()
 
     def banks(self, tick: int) -> List[Backlog]:
         """Every bank goes on to a tick. Answers what waits in each then, in order, and whether it goes on; outcomes known by then come from the
         next `settle`, `outcomes` or `finish`."""
         self._backlogs = []
-        self._settle(f"{tick},Q,,\n")
+        self._settle(tick, f"{tick},Q,,\n")
         return self._backlogs
 
     def wear(self, tick: Optional[int] = None) -> Wear:
         """Every bank goes on to a tick (None: that at which the module stands). Answers how worn the module is then; it goes over all array lines.
         Outcomes known by then come from the next `settle`, `outcomes` or `finish`."""
         self._wear = None
-        self._settle(f"{self.tick if tick is None else tick},L,,\n")
+        tick = self.tick if tick is None else tick
+        self._settle(tick, f"{tick},L,,\n")
         assert self._wear is not None
         return self._wear
 
@@ -168,8 +181,9 @@ class Module:
         finally:
             self.close()
 
-    def _settle(self, text: str) -> None:
+    def _settle(self, tick: int, text: str, is_right: bool = True) -> None:
         """Hands a row that settles in, and waits for its answer."""
+        self._check(tick, text, 0, is_right)
         self._gather(text)
         self._settled = None
         while self._settled is None:
@@ -180,18 +194,32 @@ class Module:
         self.tick = self._settled
         self._progress.clear()
 
-    def _gather(self, text: str) -> None:
+    def _is_line(self, digits: str) -> bool:
+        return self.line_size is None or len(digits) == 2 * self.line_size
+
+    def _check(self, tick: int, text: str, line: int, is_right: bool) -> None:
+        """Refuses a row that can't be one: by its tick and line, and by whether the rest is right."""
         if not self._takes_rows:
             raise ValueError("no more rows are taken")
+        if is_right and type(tick) is int and self.tick <= tick <= LATEST_TICK and type(line) is int and 0 <= line < self._lines:
+            return
+        # (a number of another type may be right: its text tells)
+        row, digits = Handed(self._rows + 1, self.tick, text), len(text.rpartition(",")[2]) - 1
+        told = wrong_row(row, (self._lines, self.line_size or digits // 2, True))
+        if told:
+            raise TraceError(None, f"trace row {row.number}: {told[0]}", told[1])
+
+    def _gather(self, text: str) -> None:
         self._out += text.encode()
         self._unread.append(Handed(self._rows + 1, self.tick, text))
 
-    def _hand(self, tick: int, text: str) -> int:
+    def _hand(self, tick: int, text: str, line: int = 0, is_right: bool = True) -> int:
+        self._check(tick, text, line, is_right)
         self._gather(text)
         if self._log is not None:
             self._log.write(text)
         self._rows += 1
-        self.tick = tick
+        self.tick = int(tick)
         if len(self._out) >= _GATHERED:
             self._pump(wait=False)
             if self._ended:
@@ -255,7 +283,8 @@ class Module:
             elif isinstance(told, Wear):
                 self._wear = told
             elif isinstance(told, Shape):
-                self._shape = told
+                self._shape, self.line_size = told, told.line
+                self._lines = told.banks * told.regions * told.lines
             elif told is not None:
                 self._known.append(told)
                 self._answered += 1

@@ -7,6 +7,11 @@ from typing import IO, Iterable, Iterator, Optional, Sequence, Union
 HEADER = "tick,op,arg,data\n"
 
 
+def masked(data: Sequence[Optional[int]]) -> str:
+    """The digits of bytes, two dots for each that is to stay. `ValueError` where one is no byte, 0 to 255."""
+    return "".join(".." if byte is None else bytes((byte,)).hex() for byte in data)
+
+
 @dataclass(frozen=True)
 class Read:
     """A read of a line arrives at a tick."""
@@ -39,7 +44,7 @@ class MaskedWrite:
     data: Sequence[Optional[int]]
 
     def text(self) -> str:
-        return f"{self.tick},M,{self.line},{''.join('..' if byte is None else f'{byte:02x}' for byte in self.data)}\n"
+        return f"{self.tick},M,{self.line},{masked(self.data)}\n"
 
 
 @dataclass(frozen=True)

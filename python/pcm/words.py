@@ -407,7 +407,8 @@ def _wrong_field(
         return ("payload", _wrong_payload(op, data, size)) if data else None
     digits = 8 if lines > FIVE_DIGITS else 5
     if not re.fullmatch(rf"[0-9]{{1,{digits}}}", arg) or int(arg) >= lines:
-        named = f"0 to {lines - 1} (banks x regions x lines are {lines}) in at most {digits} digits"
+        product = "a module has at most" if lines == LARGE.all_lines else "banks x regions x lines are"
+        named = f"0 to {lines - 1} ({product} {lines}) in at most {digits} digits"
         return "line", f"the third field must be a line, {named}, and is {_shown(arg)}"
     pattern = {"R": "", "W": f"[0-9a-fA-F]{{{2 * size}}}", "M": rf"(?!\.*$)(?:[0-9a-fA-F]{{2}}|\.\.){{{size}}}"}[op]
     return None if re.fullmatch(pattern, data) else ("payload", _wrong_payload(op, data, size))
@@ -458,14 +459,21 @@ def wrong_handed(words: Sequence[str], line: str, rows: Iterable[Handed]) -> Opt
     """What is wrong with one of these rows, by the words of the program that it was handed to, and that one's line of it."""
     found = re.fullmatch(r"trace row (\d+): (\w+)", line)
     for row in rows if found else ():
-        if row.number != int(found[1]):
-            continue
-        record = row.text.rstrip("\n").split(",")
-        told = _wrong_field(record, (row.before, None), _shape_of(words), row.number)
+        told = wrong_row(row, _shape_of(words)) if row.number == int(found[1]) else None
         if told and told[0] == found[2]:
-            settles = SETTLING.get(record[1]) if len(record) == 4 else None
-            return (f"{settles} before row {row.number}" if settles else f"row {row.number}") + f": {told[1]}"
+            return told[1]
     return None
+
+
+def wrong_row(row: Handed, shape: Tuple[int, int, bool]) -> Optional[Tuple[str, str]]:
+    """The kind of a row's first fault and what is wrong there, None where it has none, by the lines of the module (the most that there may be, where
+    they aren't known), the bytes of a line, and whether rows come in a stream."""
+    record = row.text.rstrip("\n").split(",")
+    told = _wrong_field(record, (row.before, None), shape, row.number)
+    if told is None:
+        return None
+    settles = SETTLING.get(record[1]) if len(record) == 4 else None
+    return told[0], (f"{settles} before row {row.number}" if settles else f"row {row.number}") + f": {told[1]}"
 
 
 # The outcomes of each operation, and which of them have a place and bytes.

@@ -3,6 +3,7 @@ import contextlib
 import io
 import os
 import pathlib
+import shlex
 import signal
 import subprocess
 import sys
@@ -149,21 +150,86 @@ class Faults(Rooms):
             for tick in range(3000, 6000):
                 module.read(tick, tick % 512)
 
-        for hand_in, row, kind, why in (
-            (far, 2, "line", "row 2: the third field must be a line, 0 to 511 (banks x regions x lines are 512) in at most 5 digits, and is '512'"),
-            (late, 3, "order", "row 3: its tick 12 is below 15, at which the module stands"),
-            (among_many, 3001, "payload", "row 3001: the fourth field must have 128 hexadecimal digits, for lines of 64 bytes, and has 126"),
-            (lambda module: module.write_masked(0, 0, [None] * 64), 1, "payload", "row 1: the fourth field of M gives no byte"),
-            (lambda module: module.settle_until(2, 5), 1, "line",
+        for status, hand_in, row, kind, why in (
+            (3, far, 2, "line", "row 2: the third field must be a line, 0 to 511 (banks x regions x lines are 512) in at most 5 digits, and is '512'"),
+            (None, late, 3, "order", "row 3: its tick 12 is below 15, at which the module stands"),
+            (None, among_many, 3001, "payload", "row 3001: the fourth field must have 128 hexadecimal digits, for lines of 64 bytes, and has 126"),
+            (None, lambda module: module.write_masked(0, 0, [None] * 64), 1, "payload", "row 1: the fourth field of M gives no byte"),
+            (None, lambda module: module.settle_until(2, 5), 1, "line",
              "a settle until before row 1: the third field of U must be the number of a row that came before, and none did, and is '2'"),
-            (lambda module: module.banks(2**40 + 1), 1, "tick",
+            (None, lambda module: module.banks(2**40 + 1), 1, "tick",
              "a query before row 1: the first field must be a tick, 0 to 1099511627776 in digits, and is '1099511627777'"),
+            (None, lambda module: module.settle(1.5), 1, "tick",
+             "a settle before row 1: the first field must be a tick, 0 to 1099511627776 in digits, and is '1.5'"),
+            (None, lambda module: module.read(0, -1), 1, "line",
+             "row 1: the third field must be a line, 0 to 67108863 (a module has at most 67108864) in at most 8 digits, and is '-1'"),
         ):
             with self.assertRaises(pcm.TraceError) as wrong, pcm.Module() as module:
                 hand_in(module)
                 module.finish()
-            self.assertEqual((row, kind, why), (wrong.exception.row, wrong.exception.kind, wrong.exception.why))
+            self.assertEqual((status, row, kind, why), (wrong.exception.status, wrong.exception.row, wrong.exception.kind, wrong.exception.why))
             self.assertEqual(f"{why} (trace row {row}: {kind})", str(wrong.exception))
+
+    def test_a_row_of_a_module_that_is_none_is_refused_before_it_is_sent(self):
+        log, mask = io.StringIO(), [None, 5] + [None] * 62
+        with pcm.Module(log=log) as module:
+            module.write(7, 0, ONES)
+            for hand_in in (
+                lambda: module.write(6, 0, ONES), lambda: module.write(2**40 + 1, 0, ONES), lambda: module.write(7.0, 0, ONES),
+                lambda: module.write(True, 0, ONES), lambda: module.write("8,", 0, ONES), lambda: module.write(7, -1, ONES),
+                lambda: module.write(7, 1 << 26, ONES), lambda: module.write(7, 0.0, ONES), lambda: module.write(7, 0, ONES[1:]),
+                lambda: module.write(7, 0, 2 * ONES), lambda: module.write(7, 0, b""), lambda: module.write_masked(7, 0, [None] * 64),
+                lambda: module.write_masked(7, 0, mask[1:]), lambda: module.write_masked(6, 0, mask), lambda: module.read(6, 0),
+                lambda: module.read(-1, 0), lambda: module.read(None, 0), lambda: module.cut(6), lambda: module.settle(6), lambda: module.banks(6),
+                lambda: module.wear(6), lambda: module.settle_until(1, 6), lambda: module.settle_until(0, 9), lambda: module.settle_until(2, 9),
+            ):
+                with self.assertRaises(pcm.TraceError) as wrong:
+                    hand_in()
+                self.assertIsNone(wrong.exception.status)
+                self.assertEqual((2, 7), (wrong.exception.row, module.tick))
+            for byte in (0x1234, 256, -1):
+                with self.assertRaises(ValueError):
+                    module.write_masked(7, 0, [byte] + [None] * 62)
+                with self.assertRaises(ValueError):
+                    pcm.run([pcm.MaskedWrite(7, 0, [byte] + [None] * 62)])
+            with self.assertRaises(TypeError):
+                module.write_masked(7, 0, ["12"] + [None] * 63)
+            self.assertEqual((2, 3), (module.write_masked(7, 0, mask), module.read(2**40, 511)))
+            self.assertEqual([1, 2, 3], sorted(it.row for it in module.finish()))
+        self.assertEqual(["tick", "7", "7", str(2**40)], [row.split(",")[0] for row in log.getvalue().splitlines()])
+
+    def test_the_size_of_a_line_is_known(self):
+        for options, size in (({}, 64), ({"line": None}, 64), ({"line": 64}, 64), ({"line": 128}, 128), ({"line": "128", "tell": "shape"}, 128)):
+            with pcm.Module(**options) as module:
+                self.assertEqual(size, module.line_size)
+                with self.assertRaisesRegex(pcm.TraceError, f"must have {2 * size} hexadecimal digits, for lines of {size} bytes, and has"):
+                    module.write(0, 0, bytes(192 - size))
+                self.assertEqual(1, module.write(0, 0, bytes(size)))
+                self.assertEqual(size, module.shape.line if module.shape else size)
+        with pcm.Module(line=65) as module, self.assertRaisesRegex(pcm.UsageError, "--line 65: .* 64 or 128"):
+            self.assertEqual(1, module.write(0, 0, bytes(65)))
+            module.settle(0)
+
+    def test_the_size_of_a_line_may_be_what_the_caller_says_or_the_module_tells(self):
+        script = self.script("wide", f"#!/bin/sh\nexec {shlex.join(pcm.command('stream'))} --line 128 --tell shape\n")
+        with pcm.Module(program=script) as module:
+            module.line_size = None
+            self.assertEqual(1, module.write(0, 0, bytes(128)))
+            with self.assertRaises(pcm.TraceError):
+                module.write_masked(0, 0, [None] * 128)
+            self.assertEqual([], module.settle(0))
+            self.assertEqual(128, module.line_size)
+            with self.assertRaises(pcm.TraceError):
+                module.write(0, 0, bytes(64))
+
+    def test_whole_numbers_of_other_types_are_taken(self):
+        class Whole(int):
+            pass
+
+        with pcm.Module() as module:
+            self.assertEqual(1, module.write(Whole(3), Whole(5), ONES))
+            self.assertEqual([pcm.Stored], [type(it) for it in module.settle_until(Whole(1), Whole(1000))])
+            self.assertEqual((int, 18), (type(module.tick), module.tick))
 
     def test_a_log_plays_the_same_again(self):
         log = io.StringIO()

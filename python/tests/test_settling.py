@@ -56,10 +56,10 @@ class Waiting:
     def test_a_row_may_not_come_before_what_was_reached(self):
         with pcm.Module(**SMALL) as module:
             module.settle_until(module.write(0, 0, ONES), 1000)
-            module.read(14, 0)
             with self.assertRaises(pcm.TraceError) as wrong:
-                module.settle(20)
-        self.assertEqual((2, "order"), (wrong.exception.row, wrong.exception.kind))
+                module.read(14, 0)
+            self.assertEqual((2, "order", None), (wrong.exception.row, wrong.exception.kind, wrong.exception.status))
+            self.assertEqual((2, 15), (module.read(15, 0), module.tick))
 
 
 class Looking:
@@ -95,6 +95,15 @@ class Telling:
             self.assertEqual([(1, "read", 5)], told(module.settle(5)))
             self.assertEqual(64, module.shape.line)
 
+    def test_a_line_that_there_is_not_is_refused_once_it_is_known(self):
+        with pcm.Module(tell="shape", **SMALL) as module:
+            self.assertEqual(4, module.shape.lines)
+            for hand_in in (lambda: module.read(0, 4), lambda: module.write(0, 4, ONES), lambda: module.write_masked(0, 4, [1] + [None] * 63)):
+                with self.assertRaisesRegex(pcm.TraceError, r"row 1: .* a line, 0 to 3 .*'4' \(trace row 1: line\)$"):
+                    hand_in()
+            module.read(0, 3)
+            self.assertEqual([(1, "read", 5)], told(module.finish()))
+
     def test_who_does_not_ask_is_not_told(self):
         with pcm.Module(**SMALL) as module:
             self.assertIsNone(module.shape)
@@ -112,7 +121,8 @@ class OverTheProgram(Waiting, Looking, Telling, unittest.TestCase):
                 module.write(0, 0, ONES)
                 with self.assertRaises(pcm.TraceError) as wrong:
                     module.settle_until(row, 1000)
-            self.assertEqual((2, "line"), (wrong.exception.row, wrong.exception.kind))
+                self.assertEqual((2, "line", None), (wrong.exception.row, wrong.exception.kind, wrong.exception.status))
+                self.assertEqual([(1, "stored", 15)], told(module.settle_until(1, 1000)))
 
     def test_a_write_that_stays_queued_is_waited_for_in_vain(self):
         with pcm.Module(**{**SMALL, "spares": 0, "lo": 1, "hi": 1}) as module:
