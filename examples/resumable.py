@@ -1,10 +1,12 @@
 """Tables of results that can be broken off: what examples/sweep and examples/every_cut share.
 
 A table of results has some columns that name a run, and behind them what was found. Rows that stand in its file aren't run again, rows
-that don't are added as their runs end, and in the end all stand in the asked order. On standard output they stand in that order at once."""
+that don't are added as their runs end, and in the end all stand in the asked order. On standard output they stand in that order at once.
+What follows from the other cells of a row by words that may change (units, a target) is told anew of the rows that stand there."""
 
 import concurrent.futures
 import csv
+import functools
 import io
 import os
 import signal
@@ -12,6 +14,7 @@ import stat
 import subprocess
 import sys
 import threading
+import zlib
 
 # (until `begin` a script is broken off without a word)
 if signal.getsignal(signal.SIGINT) is signal.default_int_handler:
@@ -48,6 +51,19 @@ def csv_row(cells):
 def named(columns, number, row):
     """A row as it is named in messages."""
     return f"row {number} ({', '.join(name + '=' + cell for name, cell in zip(columns, row) if cell != '')})"
+
+
+@functools.cache
+def checksum(path):
+    """The size of a file and the CRC-32 of its bytes, by which it is seen that these are others now; nothing of what can't be read, or not
+    twice."""
+    if not os.path.isfile(path) or not os.access(path, os.R_OK):
+        return ""
+    found = 0
+    with open(path, "rb") as file:
+        while part := file.read(1 << 20):
+            found = zlib.crc32(part, found)
+        return f"{file.tell()}-{found:08x}"
 
 
 class Program:
@@ -126,12 +142,14 @@ class Runs:
     """Runs under way: what is found, what failed, and the file to which each result is added as it comes, or, where there is no path,
     standard output, on which results wait for those of the rows before them.
 
-    `rows` are the rows to run, a cell for each of `columns`; `run` gives a row's results, a cell for each of `found`, or a `Failure`."""
+    `rows` are the rows to run, a cell for each of `columns`; `run` gives a row's results, a cell for each of `found`, or a `Failure`; `again`
+    gives of a row and the results that stand there those of now, or None where they are no longer its results."""
 
-    def __init__(self, path, columns, found, rows, run, progress=None):
+    def __init__(self, path, columns, found, rows, run, progress=None, again=lambda _, stands: stands):
         self.path = None if path is None else os.path.realpath(path)
         self.columns, self.found, self.run = columns, found, run
-        self.results = results_there(path, columns, found)
+        there = {row: again(row, stands) for row, stands in results_there(path, columns, found).items()}
+        self.results = {row: stands for row, stands in there.items() if stands is not None}
         self.numbers = {row: number for number, row in reversed(list(enumerate(rows, 1)))}
         self.missing = [row for row in dict.fromkeys(rows) if row not in self.results]
         self.unwritten = list(reversed(self.missing))

@@ -3,6 +3,7 @@ import re
 from typing import Dict, Iterable, NamedTuple, Optional
 
 from .errors import UsageError
+from .words import COMMANDS
 
 
 class Device(NamedTuple):
@@ -53,13 +54,24 @@ def units_of(device: Optional[str], **given: Optional[str]) -> Units:
     return Units(**numbers)
 
 
-def other_times(device: Optional[str], runs: Iterable[Dict[str, str]]) -> str:
-    """A line for a table's foot where runs by these options haven't the times of a device that was named."""
-    times = dict(re.findall(r"--(\w+-ticks) (\d+)", DEVICES[device].options)) if device is not None else {}
-    if all(options.get(name) == ticks for options in runs for name, ticks in times.items()):
+def other_times(device: Optional[str], tick_ns: "Optional[str | float]", runs: Iterable[Dict[str, str]]) -> str:
+    """A line for a table's foot where runs by these options haven't the times of the device whose tick is taken: of the one that was named,
+    or else, where no tick is given, of the default."""
+    if device is None and tick_ns is not None:
+        return ""
+    known = DEVICES[device or DEFAULT]
+    times = dict(re.findall(r"--(\w+-ticks) (\d+)", known.options))
+    own = known.tick_ns if tick_ns is None else float(tick_ns)
+
+    def has(options: Dict[str, str], name: str) -> bool:
+        option = COMMANDS["stream"].options[name]
+        value = options.get(name, option.default)
+        return option.takes(value) and int(value) * own == int(times[name]) * known.tick_ns
+
+    if all(has(options, name) for options in runs for name in times):
         return ""
     words = " ".join(f"--{name} {ticks}" for name, ticks in times.items())
-    return f"(a module with the times of {device} has {words}: not every run here)\n"
+    return f"(a module with the times of {device or DEFAULT} has {words}, a tick of {known.tick_ns:g} ns: not every run here)\n"
 
 
 def positive(option: str, text: str) -> float:

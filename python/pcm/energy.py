@@ -8,7 +8,7 @@ usage: python3 -m pcm energy FILE.. [options]               of what `./pcm strea
                     nanoseconds of a tick; picojoules of a cell driven to 1, of one driven to 0, and of a bit that is sensed
   --device NAME     those of a published device, but for what is given: lee2009, the default
   --rate MB         megabytes a second (10^6 bytes) that are to be written: the years that the accepted writes last, which are the life of
-                    a stream with --until refused
+                    a stream with --until refused; each write counts as a whole line, masked ones too, as in MB/s
   --csv             commas in the place of columns
   --progress        standard error tells how far it is, also where that isn't a terminal
 
@@ -202,4 +202,5 @@ def told(given: argparse.Namespace) -> str:
                 raise FileFault(f"{source.name} row 0: header: neither of --print snapshots nor of --print energy")
     text += in_columns(named, given.csv) if named else ""
     source = DEVICES[given.device or "lee2009"].source
-    return text + ("" if given.csv else f"by {units.words()}\n(defaults: {source})\n" + other_times(given.device, made if given.run else []))
+    remark = other_times(given.device, given.tick_ns, made) if given.run else ""
+    return text + ("" if given.csv else f"by {units.words()}\n(defaults: {source})\n{remark}")

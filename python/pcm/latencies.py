@@ -336,7 +336,8 @@ def told(given: argparse.Namespace) -> str:
             rows.append([name, kind, one.rows, *(_scaled(number, tick_ns) for number in numbers)])
     by = " and ".join(sorted({passed.by for _, passed in passes}))
     by += "" if tick_ns is None else f", a tick being {tick_ns:g} ns"
-    return table(head, rows, given.csv) + ("" if given.csv else f"counted in {by}\n" + other_times(given.device, made if given.run else []))
+    remark = "" if tick_ns is None or not given.run else other_times(given.device, given.tick_ns, made)
+    return table(head, rows, given.csv) + ("" if given.csv else f"counted in {by}\n{remark}")
 
 
 def _scaled(number: "int | float | None", tick_ns: Optional[float]) -> "int | float | None":

@@ -42,7 +42,7 @@ def page(runs: Sequence[Run], title: str, version: str) -> str:
 
 def _tick(runs: Sequence[Run]) -> str:
     """What a tick stands for, where that was told."""
-    return "" if runs[0].tick_ns is None else f" Nanoseconds are ticks times {runs[0].tick_ns:g}, as was given."
+    return "" if runs[0].tick_ns is None else f" Nanoseconds are ticks times {runs[0].tick_ns:g}, as was given. {escaped(runs[0].remark)}".rstrip()
 
 
 def _ran(runs: Sequence[Run], version: str) -> Section:
@@ -152,10 +152,10 @@ def _energy(runs: Sequence[Run]) -> Section:
     rows = [(" / ".join(dict.fromkeys(one.name for one in each)), *(_rounded(one.value) for one in each), each[0].unit, each[0].formula) for each in zip(*found)]
     look = (
         f"Counts of the array, turned into energy and time by {told[0].units.words()}. Look at the energy of a stored write beside the cells that "
-        "it drives: misses, cuts and gap moves drive cells again. The energy of queues, buses and idle time isn't counted."
+        f"it drives: misses, cuts and gap moves drive cells again. The energy of queues, buses and idle time isn't counted. {told[0].remark}"
     )
     table = tabled("Figures", ["", *(run.name for run in told), "unit", "formula"], rows, "energy")
-    return "energy", "Energy, power and rates", looked(look) + table
+    return "energy", "Energy, power and rates", looked(look.rstrip()) + table
 
 
 def _rounded(number: "Optional[float | int]") -> Cell:

@@ -33,7 +33,7 @@ import shlex
 import sys
 from typing import Dict, List, Optional, Sequence
 
-from .devices import Units, positive, units_of
+from .devices import Units, other_times, positive, units_of
 from .errors import UsageError, WriteFault
 from .gathered import Asked, gather, known_options
 from .page import page
@@ -50,17 +50,19 @@ _ALONE = ("run", "explain", "progress")
 
 def report(
     asked: Sequence[Asked], title: str = "Report of pcm", program: Program = None, tick_ns: Optional[float] = None,
-    progress: Optional[bool] = False, units: Units = Units(), rate: Optional[float] = None,
+    progress: Optional[bool] = False, units: Units = Units(), rate: Optional[float] = None, device: Optional[str] = None,
 ) -> str:
     """The page of some runs; `tick_ns` are the nanoseconds of a tick, `units` those of energy, `rate` the megabytes a second for which a life
-    is told, and `progress` as with `snapshots`."""
+    is told, `device` the published device that these are of, and `progress` as with `snapshots`."""
     from . import __version__
 
     watched = Progress(progress)
     try:
         runs = [gather(one, program, watched) for one in asked]
+        own = tick_ns if tick_ns is not None or units.tick_ns == Units().tick_ns else units.tick_ns
+        remark = other_times(device, own, [run.options for run in runs]).strip()
         for run in runs:
-            run.tick_ns, run.units, run.rate = tick_ns, units, rate
+            run.tick_ns, run.units, run.rate, run.remark = tick_ns, units, rate, remark
         watched.tell(lambda: "making the page")
         return page(runs, title, __version__)
     finally:
@@ -78,7 +80,8 @@ def _make(words: Sequence[str]) -> int:
     units = units_of(last["device"], **{name.replace("-", "_"): last[name] for name in ("tick-ns", "set-pj", "reset-pj", "sense-pj")})
     tick_ns = None if last["tick-ns"] is None and last["device"] is None else units.tick_ns
     rate = None if last["rate"] is None else positive("--rate", last["rate"])
-    text = report(_asked(given), title, tick_ns=tick_ns, progress=True if given["progress"] else None, units=units, rate=rate)
+    watched = True if given["progress"] else None
+    text = report(_asked(given), title, tick_ns=tick_ns, progress=watched, units=units, rate=rate, device=last["device"])
     _write(text, (given["output"] or [None])[-1])
     return 0
 

@@ -115,8 +115,8 @@ class Source(NamedTuple):
 @dataclass
 class Run:
     """A run: its name, its options and where each is known from, its files, what became of each row of its trace (none of them, where
-    snapshots alone are known), what else is known of it, how many nanoseconds a tick stands for, where that was told, the units of its energy, and
-    the rate, in megabytes a second, for which its life is told."""
+    snapshots alone are known), what else is known of it, how many nanoseconds a tick stands for, where that was told, the units of its energy, the
+    rate, in megabytes a second, for which its life is told, and what is remarked where its times aren't those of the device."""
 
     name: str
     options: Dict[str, str]
@@ -132,6 +132,7 @@ class Run:
     tick_ns: Optional[float] = None
     units: Units = Units()
     rate: Optional[float] = None
+    remark: str = ""
 
     @property
     def has_rows(self) -> bool:

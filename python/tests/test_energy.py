@@ -15,7 +15,7 @@ HERE = pathlib.Path(__file__).resolve().parent
 sys.path[:0] = [str(HERE.parent), str(HERE)]
 import pcm  # noqa: E402
 from leaks import setUpModule, tearDownModule  # noqa: E402, F401
-from pcm import energy, latencies, tallies  # noqa: E402
+from pcm import energy, latencies, report, tallies  # noqa: E402
 from pcm.devices import Units, other_times, units_of  # noqa: E402
 
 HEADER = ",".join(pcm.Snapshot._fields)
@@ -129,9 +129,29 @@ class Energy(Room):
 
     def test_runs_with_other_times_than_a_device_are_told(self):
         of_device = {"read-ticks": "11", "iter-ticks": "41", "psi": "3"}
-        self.assertEqual(other_times("lee2009", [of_device]), "")
-        self.assertEqual(other_times(None, [{}]), "")
-        self.assertIn("--read-ticks 11 --iter-ticks 41", other_times("lee2009", [of_device, {"read-ticks": "11"}]))
+        others = "(a module with the times of lee2009 has --read-ticks 11 --iter-ticks 41, a tick of 5 ns: not every run here)\n"
+        finer = {"read-ticks": "22", "iter-ticks": "82"}
+        for wanted, device, tick_ns, runs in (
+            ("", "lee2009", None, [of_device]), (others, "lee2009", None, [of_device, {"read-ticks": "11"}]), (others, None, None, [{}]),
+            ("", "lee2009", "2.5", [finer]), (others, "lee2009", "2.5", [of_device]), ("", None, "5", [{}]),
+            (others, "lee2009", "5", [{"read-ticks": "x"}]), ("", "lee2009", None, []),
+        ):
+            self.assertEqual(wanted, other_times(device, tick_ns, runs), (device, tick_ns, runs))
+
+    def test_every_command_tells_of_other_times(self):
+        same, words = DRAWN + " --read-ticks 11 --iter-ticks 41", "--read-ticks 11 --iter-ticks 41, a tick of 5 ns"
+        for command, options, more, is_told in (
+            (energy, DRAWN, (), True), (energy, DRAWN, ("--device", "lee2009"), True), (energy, same, (), False),
+            (energy, DRAWN, ("--tick-ns", "5"), False), (latencies, DRAWN, (), False), (latencies, DRAWN, ("--device", "lee2009"), True),
+            (latencies, same, ("--device", "lee2009"), False), (report, DRAWN, (), False), (report, DRAWN, ("--device", "lee2009"), True),
+            (report, same, ("--device", "lee2009"), False), (report, DRAWN, ("--every", "1000"), True),
+            (report, DRAWN, ("--every", "1000", "--tick-ns", "5"), False),
+        ):
+            with self.subTest(command=command.__name__, options=options, more=more):
+                page = ("--output", str(self.folder / "page")) if command is report else ()
+                status, out, err = self.told(command, "--run", "--options", options, *more, *page)
+                told = (self.folder / "page").read_text() if page else out
+                self.assertEqual((0, "", is_told), (status, err, words in told))
 
     def test_a_report_tells_energy(self):
         text = subprocess.run(
