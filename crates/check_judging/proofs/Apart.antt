@@ -9,8 +9,7 @@ use Rattle.check_judging.specs.Distances.{later_of, is_far_below, end_above, end
 use Rattle.check_judging.specs.Distances.{ApartLaw}
 
 or_false : (a b : Bool) → a ≡ false → (a || b) ≡ b
-or_false true b h = absurd (cc)
-or_false false b h = refl
+or_false a b h = grind arith
 
 -- behind the greater of two is behind both
 pub far_later : (read u v : ℕ) (found : Option ℕ) → is_far_below read u (later_of v found) ≡ (nat_le (v + read) u && is_far_below read u found)
@@ -29,8 +28,7 @@ far_later read u v (Some w) = by (cases_lt w v)
         order (inl k) = last (nat_le (v + read) u) (nat_le (w + read) u) (lt-leb (w + read) u k)
           where
             last : (a b : Bool) → b ≡ false → b ≡ (a && b)
-            last true b h = refl
-            last false b h = h
+            last a b h = grind arith
         order (inr k) = sym (ap (λ b. b && nat_le (w + read) u) (le-leb (v + read) u (omega (arith, k, le))))
 
 module _ {n : ℕ} (read t : ℕ) where

@@ -93,8 +93,7 @@ module _ {n : ℕ} (line : ℕ) (next : Option ℕ) where
       some u _ = refl
 
       none : (o : Outcome n) → not (is_stored o) ≡ at_end (λ e. false) o
-      none out.Unset = refl
-      none _ = refl
+      none o = grind arith
 
       all_some : (u : ℕ) (ps : List (Row n)) → list_all (λ q. write_of line q || not (stored_before u q.outcome)) ps ≡ list_all (λ q. write_of line q || at_end (λ e. nat_le u e) q.outcome) ps
       all_some u [] = refl

@@ -5,7 +5,7 @@ use Rattle.masked_bytes.{specs.Masked.{joined, none_given}, proofs.Layering.{len
 use Rattle.result_rows.specs.declared.Outcome.{Outcome}
 use Rattle.result_rows.specs.declared.Outcome.TheVariants as out
 use Rattle.row_rules.specs.{Answers.{accepts, is_stored, stored_by}, Queueing.unstored, Rows.{asks_write, asks_write_of, accepted_of, given_of}, declared.Asks.Asks}
-use Rattle.row_rules.specs.{declared.Asks.TheVariants.{Reads, Writes, Cuts}, declared.Row.Row}
+use Rattle.row_rules.specs.declared.Row.{Row}
 use Rattle.check_judging.specs.Runs.{run, held, GivesSized, CoverLaw}
 
 none_long : (n : ℕ) → length (none_given n) ≡ n
@@ -33,16 +33,13 @@ module _ {n : ℕ} where
   step t _ _ given r h u g rl hl is = is
 
   cond_long : (b : Bool) (x y : List Bool) → (b ≡ true → length x ≡ n) → length y ≡ n → length (cond b x y) ≡ n
-  cond_long true x y f g = f refl
-  cond_long false x y f g = g
+  cond_long b x y f g = grind arith
 
   given_long : (line : ℕ) (q : Row n) → GivesSized q → asks_write_of line q.asks ≡ true → length (given_of q.asks) ≡ n
   given_long line q sized own = by q.asks sized own
     where
       by : (asks : Asks n) → (asks_write asks ≡ true → length (given_of asks) ≡ n) → asks_write_of line asks ≡ true → length (given_of asks) ≡ n
-      by (Reads at) s own = absurd (cc)
-      by (Writes at bytes given) s own = s refl
-      by Cuts s own = absurd (cc)
+      by asks s own = grind arith
 
   run_long : (line : ℕ) (rows : List (Row n)) → All (λ r. GivesSized r) rows → length (run line rows) ≡ n
   run_long line [] all = none_long n

@@ -2,8 +2,7 @@
 use Rattle.std.proofs.Common.{◌≡◌, ℕ, ◌+◌, ◌≤◌, ◌==◌, ◌&&◌, ◌||◌, Bool, true, false, List, [], ◌∷◌, refl, sym, ap, ◌∙◌, cond, arith}
 use Rattle.std.{specs.Prelude.{nat_le, not, count_by}, proofs.lemmas.Bool.{le-leb, leb-true, and_from, or_right}}
 use Rattle.masked_bytes.proofs.{Counting.count-cons, Truth.{and_first, and_second}}
-use Rattle.row_rules.specs.{Rows.{asks_cut, is_cut}, Table.{is_of, of_bank}, Ticking.{no_cut_below, first_cut_at, cuts_to}, declared.Asks.Asks}
-use Rattle.row_rules.specs.{declared.Asks.TheVariants.{Reads, Writes, Cuts}, declared.Row.Row}
+use Rattle.row_rules.specs.{Rows.{asks_cut, is_cut}, Table.{is_of, of_bank}, Ticking.{no_cut_below, first_cut_at, cuts_to}, declared.Asks.Asks, declared.Row.Row}
 use Rattle.check_judging.specs.{Cutting.{cut_ticks, first_from, first_is, FirstCutLaw, CutsOfBankLaw}, Rising.rising}
 
 module _ {n : ℕ} where
@@ -22,8 +21,7 @@ module _ {n : ℕ} where
       by (is_cut q) (nat_le u q.tick) (λ k. none_below q.tick u (leb-true u q.tick k) rows rest) (below q.tick u rows rest) refl
     where
       late : (c : Bool) → (c ≡ true → no_cut_below u rows ≡ true) → (c && no_cut_below u rows) ≡ c
-      late true f = f refl
-      late false f = refl
+      late c f = grind arith
 
       by : (b c : Bool) → (c ≡ true → no_cut_below u rows ≡ true) → no_cut_below u rows ≡ first_from u (cut_ticks rows)
           → c ≡ nat_le u q.tick
@@ -36,8 +34,7 @@ module _ {n : ℕ} where
   at u (q ∷ rows) = by (is_cut q) (at u rows)
     where
       by : (b : Bool) → first_cut_at u rows ≡ first_is u (cut_ticks rows) → cond b (q.tick == u) (first_cut_at u rows) ≡ first_is u (cond b (q.tick ∷ cut_ticks rows) (cut_ticks rows))
-      by true ih = refl
-      by false ih = ih
+      by b ih = grind arith
 
   number : (u : ℕ) (rows : List (Row n)) → cuts_to u rows ≡ count_by (λ c. nat_le c u) (cut_ticks rows)
   number u [] = refl
@@ -53,9 +50,7 @@ module _ {n : ℕ} where
   of bank_of bank (q ∷ rows) = by (is_of bank_of bank q.asks) (is_cut q) refl (kept q.asks) (of bank_of bank rows)
     where
       kept : (asks : Asks n) → asks_cut asks ≡ true → is_of bank_of bank asks ≡ true
-      kept (Reads line) h = absurd (cc)
-      kept (Writes line bytes given) h = absurd (cc)
-      kept Cuts h = refl
+      kept asks h = grind arith
 
       by : (b c : Bool) → c ≡ is_cut q → (c ≡ true → b ≡ true) → cut_ticks (of_bank bank_of bank rows) ≡ cut_ticks rows
           → cut_ticks (cond b (q ∷ of_bank bank_of bank rows) (of_bank bank_of bank rows)) ≡ cond c (q.tick ∷ cut_ticks rows) (cut_ticks rows)

@@ -8,8 +8,7 @@ use Rattle.row_rules.specs.{Answers.is_worn, Rows.asks_write, Wearing.{worn_row,
 use Rattle.check_judging.specs.{Rising.rising, Worn.{first_worn_by, store_precedes, WornLaw}}
 
 plain : (b : Bool) → ((not b || false) && true) ≡ (not b && true)
-plain true = refl
-plain false = refl
+plain b = grind arith
 
 module _ {n : ℕ} where
   -- none came by a tick below all
@@ -53,8 +52,7 @@ module _ {n : ℕ} where
   fits t before after (out.Worn u) h = by (list_any worn_row before)
     where
       by : (b : Bool) → ((not b || true) && true) ≡ true
-      by true = refl
-      by false = refl
+      by b = grind arith
   fits t before after _ h = plain (list_any worn_row before)
 
 pub worn_law : WornLaw

@@ -28,8 +28,7 @@ module _ {n : ℕ} where
       by true true true is ih = let k = count-cons (λ c. nat_le v c) q.tick (came rows) in let j : one_if (nat_le v q.tick) ≡ 1 = ap one_if (sym is) in omega (arith, k, j, ih)
       by true true false is ih = let k = count-cons (λ c. nat_le v c) q.tick (came rows) in let j : one_if (nat_le v q.tick) ≡ 0 = ap one_if (sym is) in omega (arith, k, j, ih)
       by true false true is ih = omega (arith, ih)
-      by true false false is ih = omega (arith, ih)
-      by false b c is ih = omega (arith, ih)
+      by _ _ _ is ih = omega (arith, ih)
 
   sunk : (t : ℕ) (rows : List (Row n)) → falling t rows ≡ true → sinking t (came rows) ≡ true
   sunk t [] h = refl
@@ -54,8 +53,7 @@ none_from v t (a ∷ more) low h =
     omega (arith, i, j, r)
 
 one_most : (b : Bool) → cond b 1 0 ≤ 1
-one_most true = omega arith
-one_most false = omega arith
+one_most b = grind arith
 
 -- one below v ends the count
 stops : (v a : ℕ) (more : List ℕ) → nat_le v a ≡ false → sinking a more ≡ true → count_by (λ c. nat_le v c) (a ∷ more) ≡ 0

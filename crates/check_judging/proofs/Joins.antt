@@ -32,8 +32,7 @@ module _ {n : ℕ} where
       or_from (stored_by u q.outcome) _ (one q.outcome (and_first (not (is_stored q.outcome)) _ h)) (none_at_all u ps (and_second (not (is_stored q.outcome)) _ h))
     where
       one : (o : Outcome n) → not (is_stored o) ≡ true → stored_by u o ≡ false
-      one (out.Stored tick place) k = absurd (cc)
-      one _ k = refl
+      one o k = grind arith
 
   -- what is stored by v is stored by u above it
   some_by : (u v : ℕ) → v ≤ u → (ps : List (Row n)) → list_any (λ q. stored_by v q.outcome) ps ≡ true → list_any (λ q. stored_by u q.outcome) ps ≡ true
@@ -85,8 +84,7 @@ module _ {n : ℕ} where
     alone true b = by b
       where
         by : (b : Bool) → (not b || true) ≡ true
-        by true = refl
-        by false = refl
+        by b = grind arith
     alone false b = refl
 
     -- the older of a pair that is in order
@@ -113,8 +111,7 @@ module _ {n : ℕ} where
     any-filter f (x ∷ xs) = by (f x) (any-filter f xs)
       where
         by : (b : Bool) → list_any f xs ≡ list_any (λ q. true) (filter f xs) → (b || list_any f xs) ≡ list_any (λ q. true) (cond b (x ∷ filter f xs) (filter f xs))
-        by true ih = refl
-        by false ih = ih
+        by b ih = grind arith
 
     pairs_by : (xs : List (Row n)) → All (λ q. IsIn q) xs → pairs_few ps xs ≡ true → pairs_few (new ∷ ps) xs ≡ (not (has_pair xs) || comes_behind new.outcome ps)
     pairs_by [] all h = refl

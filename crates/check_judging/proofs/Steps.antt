@@ -23,12 +23,10 @@ over t u v le = by (cases_lt u v)
 
 -- neither, and not the one nor the other
 not_either : (a b : Bool) → not (a || b) ≡ (not a && not b)
-not_either true b = refl
-not_either false b = refl
+not_either a b = grind arith
 
 or_group : (a b c m : Bool) → m ≡ (b || c) → (a || m) ≡ ((a || b) || c)
-or_group true b c m is = refl
-or_group false b c m is = is
+or_group a b c m is = grind arith
 
 module _ {n : ℕ} where
   stands_later : (t u : ℕ) → t ≤ u → (a m : Bool) (o : Outcome n)

@@ -6,8 +6,7 @@ use Rattle.result_rows.specs.declared.Outcome.{Outcome}
 use Rattle.result_rows.specs.declared.Outcome.TheVariants as out
 use Rattle.row_rules.specs.Answers.{accepts, stored_after, read_after, is_merged, is_queued, is_lost, is_stored, stored_before}
 use Rattle.row_rules.specs.Queueing.{stands, pending, awaits, waiting, none_before, is_older, has_few, pairs_few}
-use Rattle.row_rules.specs.{Rows.{accepted, accepted_of, line_of, asks_read, asks_write, asks_write_of, asks_cut, is_cut}, declared.Asks.Asks}
-use Rattle.row_rules.specs.{declared.Asks.TheVariants.{Reads, Writes, Cuts}, declared.Row.Row}
+use Rattle.row_rules.specs.{Rows.{accepted, accepted_of, line_of, asks_read, asks_write, asks_write_of, asks_cut, is_cut}, declared.Asks.Asks, declared.Row.Row}
 use Rattle.check_judging.specs.Staying.{RoomStaysLaw, RoomBehindCutLaw}
 
 -- the second list is the first one with some left out
@@ -16,10 +15,7 @@ Sub [] qs = qs ≡ []
 Sub {A} (p ∷ ps) qs = Sub ps qs ⊎ ((rest : List A) × (qs ≡ p ∷ rest) × Sub ps rest)
 
 or_weaker : (a b c : Bool) → (a ≡ true → b ≡ true) → (a || c) ≡ true → (b || c) ≡ true
-or_weaker true true c up h = refl
-or_weaker true false c up h = let k : false ≡ true = up refl in absurd (cc)
-or_weaker false true c up h = refl
-or_weaker false false c up h = h
+or_weaker a b c up h = grind arith
 
 and_weaker : (a b c : Bool) → (b ≡ true → c ≡ true) → (a && b) ≡ true → (a && c) ≡ true
 and_weaker true b c up h = up h
@@ -30,9 +26,7 @@ or_more true b c up h = refl
 or_more false b c up h = up h
 
 not_more : (a b : Bool) → (a ≡ true → b ≡ true) → not b ≡ true → not a ≡ true
-not_more true true up h = h
-not_more true false up h = let k : false ≡ true = up refl in absurd (cc)
-not_more false b up h = refl
+not_more a b up h = grind arith
 
 -- one element more in front: kept by and_from, by the first, or by none
 sub-step : {A : Type 0} (a b : Bool) (q : A) (ps qs : List A) → (b ≡ true → a ≡ true) → Sub ps qs → Sub (cond a (q ∷ ps) ps) (cond b (q ∷ qs) qs)
@@ -139,25 +133,19 @@ module _ {n : ℕ} where
   cut_accepts line r cut = by r.asks cut
     where
       by : (asks : Asks n) → asks_cut asks ≡ true → (asks_write_of line asks && accepts r.outcome) ≡ false
-      by (Reads at) c = absurd (cc)
-      by (Writes at bytes given) c = absurd (cc)
-      by Cuts c = refl
+      by asks c = grind arith
 
   pub cut_stands : (t : ℕ) (r : Row n) → is_cut r ≡ true → stands t [] r ≡ false
   cut_stands t r cut = by r.asks cut
     where
       by : (asks : Asks n) → asks_cut asks ≡ true → ((asks_write asks && accepts r.outcome) && (stored_after t r.outcome || (is_queued r.outcome || (is_merged r.outcome && true)))) ≡ false
-      by (Reads at) c = absurd (cc)
-      by (Writes at bytes given) c = absurd (cc)
-      by Cuts c = refl
+      by asks c = grind arith
 
   cut_awaits : (t : ℕ) (r : Row n) → is_cut r ≡ true → awaits t [] r ≡ false
   cut_awaits t r cut = by r.asks cut
     where
       by : (asks : Asks n) → asks_cut asks ≡ true → (asks_read asks && (read_after t r.outcome || (is_lost r.outcome && true))) ≡ false
-      by (Reads at) c = absurd (cc)
-      by (Writes at bytes given) c = absurd (cc)
-      by Cuts c = refl
+      by asks c = grind arith
 
   -- what stands goes by the accepted writes between alone
   pending-same : (t : ℕ) (some other rows : List (Row n)) → ((line : ℕ) → list_any (accepted_of line) some ≡ list_any (accepted_of line) other)
@@ -171,9 +159,8 @@ module _ {n : ℕ} where
       by : (a b : Bool) → a ≡ b → pending t (q ∷ some) rows ≡ pending t (q ∷ other) rows
           → cond a (q ∷ pending t (q ∷ some) rows) (pending t (q ∷ some) rows) ≡ cond b (q ∷ pending t (q ∷ other) rows) (pending t (q ∷ other) rows)
       by true true e ih = ap (λ ps. q ∷ ps) ih
-      by true false e ih = absurd (cc)
-      by false true e ih = absurd (cc)
       by false false e ih = ih
+      by _ _ e ih = absurd (cc)
 
   -- more cuts between leave fewer reads that wait
   waiting-cut : (t : ℕ) (some other rows : List (Row n)) → (list_any is_cut some ≡ true → list_any is_cut other ≡ true)
