@@ -7,6 +7,7 @@
 #   failed WHAT [WHY]       or failed,
 #   skipped WHAT WHY        or couldn't be tried here
 #   counted WHAT COMMAND..  a check of its own, which ends as this one will: what it counts is counted here
+#   tested WHAT COMMAND..   tests of Python's unittest, which the command runs with -v: each that passes, fails or is skipped is counted
 #   ended                   prints 'N passed, M failed', and ', K skipped' behind it where some were; the status is 1 where something failed
 #
 # shellcheck shell=sh disable=SC3043  # (`local` is known to dash and busybox, too)
@@ -65,6 +66,31 @@ counted() {
         if [ -n "$printed" ]; then printf '%s\n' "$printed"; fi
         failed "$what" "broken off, status $status"
     fi
+}
+
+tested() {
+    local what="$1" status ran bad reason
+    shift
+    "$@" >"$room/said" 2>&1
+    status=$?
+    ran=$(sed -n 's/^Ran \([0-9]*\) tests\{0,1\} in .*/\1/p' "$room/said" | tail -n 1)
+    bad=$(sed -n 's/^FAILED (\(.*\))$/\1/p' "$room/said" | tail -n 1 | tr ',' '\n' | sed -n 's/^ *\(failures\|errors\|unexpected successes\)=//p')
+    # (a sum; a test with parts may fail in several)
+    # shellcheck disable=SC2086  # (one by one)
+    bad=$(($(printf '%s+' $bad)0))
+    if [ "$bad" -gt "${ran:=0}" ]; then bad=$ran; fi
+    if [ "$status" != 0 ]; then
+        cat "$room/said"
+        failed "$what"
+        failures=$((failures + (bad > 0 ? bad - 1 : 0)))
+    fi
+    passes=$((passes + ran - bad))
+    # (what a test skips is told behind its name, or behind the line that says what it shows)
+    sed -n "s/^.*\.\.\. skipped '\(.*\)'$/\1/p; s/^.*\.\.\. skipped \"\(.*\)\"$/\1/p" "$room/said" >"$room/skipped"
+    while read -r reason; do
+        skipped "$what" "$reason"
+        passes=$((passes - 1))
+    done <"$room/skipped"
 }
 
 ended() {

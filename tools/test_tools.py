@@ -716,6 +716,38 @@ class Counting(unittest.TestCase):
         self.says("passed\ncounted one printf 'why\\n2 passed, 1 failed, 3 skipped\\n'\ncounted two echo '5 passed, 0 failed'", "why",
                   "8 passed, 1 failed, 3 skipped", status=1)
 
+    TESTS = """import unittest
+class Some(unittest.TestCase):
+    def test_right(self):
+        '''What this shows.'''
+    def test_parts(self):
+        for part in range(3):
+            with self.subTest(part):
+                self.assertLess(part, {most})
+    def test_tool(self):
+        '''What this would show.'''
+        self.skipTest("there isn't a tool")
+    @unittest.skip('no "tool" here')
+    def test_other(self):
+        pass
+unittest.main()
+"""
+
+    def test_tests_of_unittest_are_counted_one_by_one(self):
+        (self.room / "tests.py").write_text(self.TESTS.format(most=3))
+        self.says(f"passed\ntested tests '{sys.executable}' '{self.room}/tests.py' -v", 'examples/some: tests: skipped: no "tool" here',
+                  "examples/some: tests: skipped: there isn't a tool", "3 passed, 0 failed, 2 skipped", status=0)
+
+    def test_tests_of_unittest_that_fail_are_counted(self):
+        (self.room / "tests.py").write_text(self.TESTS.format(most=1))
+        for shell in self.SHELLS:
+            with self.subTest(shell):
+                done = self.check(shell, f"passed\ntested tests '{sys.executable}' '{self.room}/tests.py' -v\ntested none '{sys.executable}' -c 'x'")
+                said = done.communicate()[0].splitlines()
+                self.assertEqual(done.returncode, 1)
+                self.assertIn("examples/some: tests: failed", said)
+                self.assertEqual(said[-2:], ["examples/some: none: failed", "1 passed, 3 failed, 2 skipped"])
+
     def test_a_check_that_breaks_off_fails(self):
         self.says("counted one sh -c 'echo 1 passed, 0 failed; exit 3'\ncounted two echo 5 passed\ncounted three false",
                   "examples/some: one: status 3, though nothing failed", "5 passed", "examples/some: two: broken off, status 0",
