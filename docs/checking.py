@@ -10,6 +10,7 @@ import tempfile
 
 TOP = pathlib.Path(__file__).resolve().parent.parent
 sys.path.insert(0, str(TOP / "tools"))
+import bodies
 import crates
 import definitions
 import pages
@@ -68,19 +69,17 @@ def check_layers():
 
 def misfits(crate):
     """The wrong bodies of a crate whose old text doesn't stand once in the file that they change."""
-    for edit in sorted(crate.glob("must-fail/*.edit")):
-        file = None
-        for key, text in re.findall(r"^(file|old): ?(.*)$", edit.read_text(encoding="utf-8"), re.M):
-            if key == "file":
-                file = crate / text
-            elif not file or not file.is_file() or file.read_text(encoding="utf-8").count(text) != 1:
-                yield edit.name
+    for edit in bodies.bodies(crate):
+        try:
+            bodies.changed(crate, edit)
+        except bodies.Misfit:
+            yield f"{edit.parent.name}/{edit.name}"
 
 
 def check_edits():
     """(`rt ci` passes over a wrong body that can't be made)"""
     for crate in crates.listed().values():
-        yield from (f"crates/{crate.name}/must-fail/{name}: what it changes doesn't stand once in its file" for name in misfits(crate.folder))
+        yield from (f"crates/{crate.name}/{name}: what it changes doesn't stand once in its file" for name in misfits(crate.folder))
     yield None
 
 
@@ -260,7 +259,7 @@ def words_of(paths):
 @functools.cache
 def vocabulary():
     """All words of code, definitions, proofs, wrong bodies and scripts, and the names of files and libraries."""
-    own = [file for crate in crates.listed().values() for file in crate.files(*crates.PARTS, "must-fail")]
+    own = [file for crate in crates.listed().values() for file in crate.files(*crates.PARTS, bodies.GATE, bodies.LATER)]
     scripts = [*TOP.glob("tools/*"), *TOP.glob("bench/*"), *TOP.glob("docs/**/*.py"), TOP / "docs" / "check", TOP / "pcm", TOP / ".ci" / "run"]
     examples = [it for folder in ("examples", "python", "c") for it in TOP.glob(f"{folder}/**/*") if it.is_file()]
     texts = [it for it in (*own, *scripts, *examples) if it.is_file() and it.suffix in ("", ".rt", ".antt", ".edit", ".py", ".sh", ".awk", ".c", ".h", ".cpp")]
@@ -352,7 +351,7 @@ def declared(crate):
         text = re.sub(r"(?m)(?://|--).*$", "", file.read_text(encoding="utf-8"))
         found |= set(re.findall(r'\bname: "(\w+)"', text))
         found |= names_by(IN_CODE if file.suffix == ".rt" else IN_DEFINITIONS, text) | {file.stem, file.parent.name}
-    found |= {it.stem for it in crates.named(crate).files("must-fail")}
+    found |= {it.stem for it in crates.named(crate).files(bodies.GATE, bodies.LATER)}
     stored = crates.named(crate).folder / "stdin"
     return found | (set(re.findall(r"(?m)^case (\w+)$", stored.read_text(encoding="utf-8", errors="replace"))) if stored.is_file() else set())
 

@@ -212,12 +212,13 @@ class Crates(unittest.TestCase):
         self.assertEqual([it for it in checking.check_edits() if it], [])
         with tempfile.TemporaryDirectory() as room:
             crate = pathlib.Path(room)
-            for name in ("src", "must-fail"):
+            for name in ("src", "must-fail", "wrong"):
                 (crate / name).mkdir()
             (crate / "src" / "lib.rt").write_text("a = 1;\nb = 1;\n")
             for name, file, old in (("one", "src/lib.rt", "a = 1"), ("two", "src/lib.rt", "= 1"), ("none", "src/lib.rt", "c"), ("gone", "src/it.rt", "a")):
                 (crate / "must-fail" / f"{name}.edit").write_text(f"file: {file}\nold: {old}\nnew: x\n")
-            self.assertEqual(list(checking.misfits(crate)), ["gone.edit", "none.edit", "two.edit"])
+            (crate / "wrong" / "late.edit").write_text("file: src/lib.rt\nold: a\nnew: b\nold: a\nnew: c\n")
+            self.assertEqual(list(checking.misfits(crate)), ["must-fail/gone.edit", "must-fail/none.edit", "must-fail/two.edit", "wrong/late.edit"])
 
     def test_a_stale_list_is_named(self):
         with tempfile.TemporaryDirectory() as room:

@@ -1,6 +1,6 @@
 """Proves the crates that a program stands on, those that don't stand on each other side by side, and tells how far it is.
 
-Used by tools/build, tools/libraries and tools/times. What was proved is kept by tools/keeping.py, and with it the processor seconds that
+Used by tools/build, tools/libraries, tools/times and tools/wrong. What was proved is kept by tools/keeping.py, and with it the processor seconds that
 each proof took, by which the next build is ordered."""
 import contextlib
 import fcntl

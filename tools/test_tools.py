@@ -30,7 +30,11 @@ while [ $# -gt 0 ]; do
 done
 echo "$name" >>"$kit/called"
 if [ -f "$kit/slow" ]; then sleep "$(cat "$kit/slow")"; fi
-if grep -q wrong "$root"; then echo "error: no proof"; exit 1; fi
+if grep -q wrong "$root"; then
+    echo "$root:1:1: no proof"
+    echo "logic=not-proved functions=1"
+    exit 1
+fi
 case $out in
     *.rlib) mkdir -p "$out/interface/lang/src" && cp "$root" "$out/interface/lang/src/lib.rt" ;;
     *) cp "$root" "$out" ;;
@@ -500,6 +504,39 @@ class Installed(unittest.TestCase):
         proved = (tree / "PROVED").read_text()
         for crate in ("first", "second", *PROGRAMS):
             self.assertIn(f"\n{crate}: logic=proved functions=1\n", proved)
+
+
+class WrongBodies(unittest.TestCase):
+    """What tools/wrong tries: over the kit that refuses each text with the word 'wrong'."""
+
+    def setUp(self):
+        self.room = Room()
+        self.addCleanup(shutil.rmtree, self.room.folder, ignore_errors=True)
+        for folder, crate, name, new in (
+            ("wrong", "second", "one", "wrong"), ("must-fail", "second", "two", "wrong"), ("wrong", "first", "three", "wrong"), ("wrong", "pcm_cli", "let", "right"),
+        ):
+            path = self.room.top / "crates" / crate / folder
+            path.mkdir(exist_ok=True)
+            root = "main" if crate == "pcm_cli" else "lib"
+            (path / f"{name}.edit").write_text(f"file: src/{root}.rt\nold: -- {crate}\nnew: -- {new}\n")
+
+    def says(self, status, *lines, words=()):
+        done = self.room.run("tools/wrong", *words)
+        self.assertEqual((done.returncode, done.stdout.splitlines()), (status, list(lines)), done.stderr)
+
+    def test_those_that_the_gate_leaves_out_are_tried(self):
+        told = "refused: src/lib.rt:1:1: no proof"
+        self.says(0, f"first/three: {told}", f"second/one: {told}", "2 passed, 0 failed", words=("first", "second"))
+        self.says(0, f"second/two: {told}", f"second/one: {told}", "2 passed, 0 failed", words=("--all", "second"))
+
+    def test_one_that_is_proved_fails_and_so_does_one_that_fits_nowhere(self):
+        (self.room.top / "crates" / "pcm_cli" / "wrong" / "misfit.edit").write_text("file: src/main.rt\nold: nothing\nnew: wrong\n")
+        self.says(1, "pcm_cli/let: NOT REFUSED: the crate is still proved",
+                  "pcm_cli/misfit: NOT TRIED: what it changes doesn't stand once in its file", "0 passed, 2 failed", words=("pcm_cli",))
+
+    def test_a_crate_that_is_not_proved_as_it_stands_is_told(self):
+        (self.room.top / "crates" / "second" / "src" / "lib.rt").write_text("-- second\n-- wrong\n")
+        self.says(1, "second: its check as it stands ended with status 1: logic=not-proved functions=1", "0 passed, 1 failed", words=("second",))
 
 
 class Pages(unittest.TestCase):
