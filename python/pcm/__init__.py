@@ -60,7 +60,7 @@ from .rows import Look, MaskedWrite, PowerCut, Query, Read, Settle, SettleUntil,
 from .snapshots import Snapshot, SnapshotError, read_snapshots, snapshots
 from .whole import Result, ResultRow, WearLine, run
 
-__version__ = "1.12.0"
+__version__ = "2.0.0"
 __all__ = [
     "Answer", "Asks", "Backlog", "Bank", "BankFact", "Busy", "BytesFact", "Cut", "Entry", "Explanation", "ExplanationError", "Fact",
     "Forwarded", "Full", "Image", "ImageError", "Look", "Lost", "MaskedWrite", "Merged", "Module", "OutOfMemory", "Outcome", "PcmError",
