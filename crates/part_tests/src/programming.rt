@@ -47,10 +47,10 @@ fn settled<const B: usize, const M: usize>(
     Ok((steps, wrong, array.pulses(0)))
 }
 
-// Cell 3 misses seven times: the steps and the pulses, and whether nothing is wrong.
+// Cell 3 is to miss eight times, and does seven: the steps and the pulses, and whether nothing is wrong.
 fn missed(alloc: Global) -> Result<(u32, u64, bool), AllocError> {
     let mut script = Vec::new(alloc);
-    for turn in 1..8 {
+    for turn in 1..9 {
         script.push(Script {
             line: 0,
             cell: 3,
@@ -83,6 +83,34 @@ fn stuck(alloc: Global) -> Result<(u32, bool, u32), AllocError> {
 #[test]
 fn a_stuck_cell_is_left_wrong(rt: HostRuntime) {
     compare(&rt, stuck(rt.alloc()), Ok((8, true, 1)));
+}
+
+// Cell 5 would stick at 1 in its first pulse.
+const WAITING: [Script; 1] = [Script {
+    line: 0,
+    cell: 5,
+    turn: 1,
+    act: Act::Stick(true),
+}];
+
+// A new line, programmed so that cell 3 is set and cell 5 stays as it is: how many cells are wrong behind the first step.
+fn spared(alloc: Global) -> Result<u32, AllocError> {
+    let mut array: ScriptArray<64, 8> = ScriptArray::new(Vec::from_array(alloc, WAITING)?);
+    array.power_up(alloc, 1, WEAR)?;
+    let mut want = Cells::zero();
+    want.set(3, true);
+    let mut which = want;
+    which.set(5, true);
+    let mut prog = Prog::new(array.sense(0, 0), want, which);
+    if let Turn::Going = prog.status() {
+        let _ = prog.step(&mut array, 0, 0);
+    }
+    Ok(array.sense(0, 1).differ(&want).count())
+}
+
+#[test]
+fn a_cell_that_is_right_is_not_pulsed(rt: HostRuntime) {
+    compare(&rt, spared(rt.alloc()), Ok(0));
 }
 
 // A new line, a torn pulse of whose cell 3 is its first: whether nothing was seen before, whether the cell is set then, and the pulses.
