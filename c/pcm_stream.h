@@ -203,10 +203,10 @@ static inline enum pcm_result pcm_look(struct pcm *pcm, uint64_t tick, struct pc
    never answers PCM_FULL. */
 static inline enum pcm_result pcm_write_sure(struct pcm *pcm, uint64_t tick, uint32_t line, const uint8_t *bytes, const uint8_t *given, size_t size,
                                              pcm_taker take, void *context);
-/* A row of a trace, its end among its text, is sent, as `log` was handed it of an earlier module: where that one had the same options, all its
-   rows, and pcm_settle_all at the last tick, let this one stand as that did. The trace's header, and rows that settle, are passed over. Answers
-   that must be taken first are handed to `take` (NULL: they are dropped). PCM_REFUSED where it is no row of a trace, or one that can't come now;
-   PCM_SIZE where its bytes aren't as many as a line has. It never answers PCM_FULL. The text is only lent. */
+/* A row of a trace is sent, a string with its LF, as fgets reads it of what `log` kept of an earlier module: where that one had the same options,
+   all its rows, and pcm_settle_all at the last tick, let this one stand as that did. The trace's header, and rows that settle, are passed over.
+   Answers that must be taken first are handed to `take` (NULL: they are dropped). PCM_REFUSED where it is no row of a trace, or one that can't
+   come now; PCM_SIZE where its bytes aren't as many as a line has. It never answers PCM_FULL. The string is only lent. */
 static inline enum pcm_result pcm_replay(struct pcm *pcm, const char *row, pcm_taker take, void *context);
 /* Hands all rows to the program. PCM_FULL where it waits for its answers to be taken. */
 static inline enum pcm_result pcm_flush(struct pcm *pcm);

@@ -715,6 +715,33 @@ static void full_has_its_bound(const char *const words[])
     check(pcm_close(&pcm) == 0, "status 0");
 }
 
+/* The numbers of the header's example: reads and writes wait in all four banks, and 200 reads, or 740 writes, come behind them. */
+static void the_example_of_full_holds(const char *const words[], int count)
+{
+    static struct pcm pcm;
+    struct pcm_bank banks[4];
+    const char *four[20] = {0};
+    uint8_t bytes[64] = {0};
+    int n = 0, right = 0;
+    for (int i = 0; i < count && (i == 0 || strcmp(words[i - 1], "stream") != 0); i++)
+        four[n++] = words[i];
+    check(pcm_open(&pcm, four) == PCM_OK, "four banks");
+    for (uint64_t round = 1; round <= 20; round++) {
+        uint64_t tick = 1000000 * round;
+        bytes[0] = (uint8_t)round;
+        for (uint32_t i = 0; i < 256; i++)
+            right += pcm_write(&pcm, tick, i, bytes, 64) == PCM_OK && pcm_read(&pcm, tick, 256 + i) == PCM_OK;
+        right += pcm_ask(&pcm, tick, banks, 4, NULL, NULL) == PCM_OK;
+        for (int i = 0; i < 4; i++)
+            right += banks[i].waiting_writes == 32 && banks[i].waiting_reads == 32;
+        for (uint32_t i = 0; i < (round % 2 ? 200 : 740); i++)
+            right += round % 2 ? pcm_read(&pcm, tick + 1000 + 10 * i, 256 + i % 256) == PCM_OK : pcm_write(&pcm, tick + 1000 + 10 * i, i % 512, bytes, 64) == PCM_OK;
+        right += pcm_settle_all(&pcm, pcm.tick, NULL, NULL) == PCM_OK;
+    }
+    check(right == 20 * (256 + 1 + 4 + 1) + 10 * (200 + 740), "its rows never meet PCM_FULL");
+    check(pcm_finish(&pcm) == PCM_OK && pcm_close(&pcm) == 1, "the end");
+}
+
 /* Reads that waited at the settle before count, too. */
 static void what_waits_counts_towards_full(const char *const words[], int count)
 {
@@ -723,7 +750,7 @@ static void what_waits_counts_towards_full(const char *const words[], int count)
     const char *more[] = {"--banks=64", "--regions=2", "--lines=64", "--line=128", "--read-queue=256"};
     uint8_t bytes[128] = {0};
     int n = 0, right = 0;
-    for (int i = 0; i < count && (i == 0 || strncmp(words[i - 1], "stream", 6) != 0); i++)
+    for (int i = 0; i < count && (i == 0 || strcmp(words[i - 1], "stream") != 0); i++)
         wide[n++] = words[i];
     for (int i = 0; i < 5; i++)
         wide[n++] = more[i];
@@ -797,6 +824,7 @@ int main(int count, char **words)
     a_bank_without_a_spare_is_exhausted(all, n);
     digits_are_put_and_read();
     full_has_its_bound(all);
+    the_example_of_full_holds(all, n);
     what_waits_counts_towards_full(all, n);
     a_group_of_its_own();
     standard_descriptors_may_be_closed(all);
