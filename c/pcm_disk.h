@@ -96,8 +96,8 @@ struct pcm_disk {
 };
 
 /* Starts a program of streams, `program` being its first words, with the shape and with other options of the module (`options`: words, NULL
-   behind them; or NULL). All words are only lent. Its module is new: all bytes are 0. EINVAL where there is no such shape, or the module doesn't
-   tell that it has it; EPIPE where the program refuses its options; what the system says where it can't be started. Whatever it answers,
+   behind them; or NULL). All words are only lent. Its module is new: all bytes are 0. EINVAL where there is no such shape, the module doesn't
+   tell that it has it, or the options print anything but rows; EPIPE where the program refuses its options; what the system says where it can't be started. Whatever it answers,
    pcm_disk_close frees what it took. */
 static inline int pcm_disk_open(struct pcm_disk *disk, const char *const program[], const struct pcm_disk_shape *shape,
                                 const char *const options[]);
@@ -570,7 +570,7 @@ static inline int pcm_disk_write(struct pcm_disk *disk, const void *from, size_t
 static inline int pcm_disk_read(struct pcm_disk *disk, void *to, size_t size, uint64_t offset)
 {
     int fault = pcm_disk__bad(disk, size, offset);
-    if (fault != 0)
+    if (fault != 0 || size == 0)
         return fault;
     return disk->shape.atomic != 0 ? pcm_disk__get_sectors(disk, (uint8_t *)to, size, offset) : pcm_disk__get(disk, (uint8_t *)to, size, offset);
 }
@@ -580,51 +580,25 @@ static inline int pcm_disk_go_on(struct pcm_disk *disk, uint64_t tick)
     return tick >= disk->now ? pcm_disk__to(disk, tick, 1) : 0;
 }
 
-/* Reads a number of a row, of at most so many digits, and its comma; NULL where there is none. */
-static inline const char *pcm_disk__field(const char *at, uint64_t *number, int most)
-{
-    const char *begin = at;
-    for (*number = 0; *at >= '0' && *at <= '9' && at - begin < most; at++)
-        *number = 10 * *number + (uint64_t)(*at - '0');
-    return at > begin && *at == ',' ? at + 1 : NULL;
-}
-
-/* Reads the bytes of a row that writes, and answers where they end; NULL where they are none. */
-static inline const char *pcm_disk__bytes(const char *at, char op, uint8_t *bytes, uint8_t *given, uint32_t size)
-{
-    for (uint32_t i = 0; i < size; i++, at += 2) {
-        int high = pcm__digit(at[0]), low = high < 0 ? -1 : pcm__digit(at[1]);
-        given[i] = low >= 0;
-        bytes[i] = low >= 0 ? (uint8_t)(high << 4 | low) : 0;
-        if (low < 0 && (op == 'W' || at[0] != '.' || at[1] != '.'))
-            return NULL;
-    }
-    return at;
-}
-
 static inline int pcm_disk_replay(struct pcm_disk *disk, const char *row)
 {
-    uint8_t bytes[PCM_MOST_BYTES], given[PCM_MOST_BYTES];
-    uint64_t tick = 0, line = 0;
-    const char *at = pcm_disk__field(row, &tick, 13);
-    char op = at != NULL ? *at : 0;
-    if (op == 0 || strchr("RWMC", op) == NULL || at[1] != ',' || tick < disk->now || tick > PCM_LAST_TICK)
+    struct pcm__traced it;
+    int is_write;
+    if (!pcm__get_row(row, &it) || strchr("RWMC", it.op) == NULL || it.tick < disk->now || it.tick > PCM_LAST_TICK || it.line >= pcm_disk__all_lines(disk))
         return EINVAL;
-    at = op != 'C' ? pcm_disk__field(at + 2, &line, 8) : at[2] == ',' ? at + 3 : NULL;
-    if (at != NULL && (op == 'W' || op == 'M'))
-        at = pcm_disk__bytes(at, op, bytes, given, disk->shape.line);
-    if (at == NULL || strcmp(at, "\n") != 0 || line >= pcm_disk__all_lines(disk) || (op == 'M' && memchr(given, 1, disk->shape.line) == NULL))
+    is_write = it.op == 'W' || it.op == 'M';
+    if (is_write && (it.size != disk->shape.line || memchr(it.given, 1, it.size) == NULL))
         return EINVAL;
-    disk->now = tick;
+    disk->now = it.tick;
     /* (the queue of a write's bank has room by now, as it had then) */
-    const uint32_t *writes = &disk->writes[pcm_disk_bank(disk, (uint32_t)line)];
+    const uint32_t *writes = &disk->writes[pcm_disk_bank(disk, (uint32_t)it.line)];
     int fault = 0;
-    if ((op == 'W' || op == 'M') && *writes == disk->shape.write_queue) {
-        fault = pcm_disk__settle(disk, tick);
+    if (is_write && *writes == disk->shape.write_queue) {
+        fault = pcm_disk__settle(disk, it.tick);
         if (fault == 0 && *writes == disk->shape.write_queue)
             fault = EINVAL;
     }
-    return fault == 0 ? pcm_disk__send(disk, op, (uint32_t)line, bytes, given) : fault;
+    return fault == 0 ? pcm_disk__send(disk, it.op, (uint32_t)it.line, it.bytes, it.given) : fault;
 }
 
 static inline int pcm_disk_resume(struct pcm_disk *disk)
@@ -713,7 +687,8 @@ static inline int pcm_disk_open(struct pcm_disk *disk, const char *const program
         words[n++] = options[i];
     }
     words[n++] = "--tell=shape";
-    int fault = pcm_disk__fault(pcm_open_apart(&disk->pcm, words));
+    enum pcm_result opened = pcm_open_apart(&disk->pcm, words);
+    int fault = opened == PCM_REFUSED ? EINVAL : pcm_disk__fault(opened);
     if (fault == 0)
         fault = pcm_disk__settle(disk, 0); /* (words that are refused show here, and the shape has come then, where it comes) */
     return fault != 0 ? fault : disk->pcm.shape.version == 0 ? EINVAL : pcm_disk__fault(pcm_learn(&disk->pcm, &wanted));
@@ -722,7 +697,7 @@ static inline int pcm_disk_open(struct pcm_disk *disk, const char *const program
 static inline int pcm_disk_close(struct pcm_disk *disk)
 {
     struct pcm_outcome it;
-    if (disk->pcm.from >= 0 && pcm_finish(&disk->pcm) == PCM_OK)
+    if (disk->pcm.from > 0 && pcm_finish(&disk->pcm) == PCM_OK)
         while (pcm_next(&disk->pcm, &it) == PCM_OK)
             pcm_disk__note(disk, &it);
     return pcm_close(&disk->pcm);

@@ -21,12 +21,12 @@
    or an outcome means is told by the repository's docs (USING.md, FORMATS.md).
 
    A struct pcm is the caller's: it holds two descriptors, a process, and two buffers (some 80 KiB together), and must not be moved while it is
-   open. It isn't to be used by two threads at once.
+   open. One that is all zero, as a static one is, counts as closed. It isn't to be used by two threads at once.
 
    PCM_FULL comes only where answers of more than PCM_MOST_WAITING bytes wait to be taken. An answer has at most 48 bytes, that of a read two
-   more for each byte of its line. So who takes all answers behind each settle never meets it, as long as 48 for each row since the settle
-   before and for each write that then waited, and 2 for each byte that was asked for, are no more: with 4 banks, queues of 32 and lines
-   of 64 bytes 330 reads, or 1,200 writes, between two settles. */
+   more for each byte of its line. So who takes all answers behind each settle never meets it, as long as these are no more, of all rows since
+   the settle before and of all writes and reads that waited then: with 4 banks, queues of 32 writes and of 32 reads, all of them full, and
+   lines of 64 bytes 200 reads, or 740 writes, between two settles. */
 #ifndef PCM_STREAM_H
 #define PCM_STREAM_H
 
@@ -65,7 +65,8 @@ extern "C" {
 /* What a call answers. */
 enum pcm_result {
     PCM_OK,       /* it is done */
-    PCM_ENDED,    /* the program has ended, and there is no outcome left; pcm_close tells its status */
+    PCM_ENDED,    /* the program has ended; pcm_close tells its status. Of pcm_next, and of calls that hand outcomes to `take`, it says that none
+                     is left, too; behind any other call pcm_next gives those that are */
     PCM_FULL,     /* answers have to be taken first (pcm_next), before another row can be sent */
     PCM_FAILED,   /* a call of the system failed; errno tells why */
     PCM_REFUSED,  /* an argument is out of range: a tick, a row, a line (where the shape is known), a mask that gives nothing; or the module
@@ -128,15 +129,21 @@ struct pcm_outcome {
 };
 
 /* The caller's own: what takes a row's text, its end among its `size` bytes, as it is sent: `op` is R, W, M or C, or S, Q, U or L of a row that
-   settles. The first four, behind the header `tick,op,arg,data`, are a trace that plays the same again. The text is only lent. */
+   settles. The first four, behind the header `tick,op,arg,data`, are a trace that plays the same again by the same options (pcm_replay); but with
+   `--end off`, where a settle came last, its cut comes at the tick of the trace's last row, unless the caller ends with pcm_cut. The text is only
+   lent. */
 typedef void (*pcm_logger)(void *context, char op, const char *row, size_t size);
 /* The caller's own: what takes an outcome, which is only lent. It calls nothing of this header. */
 typedef void (*pcm_taker)(void *context, const struct pcm_outcome *outcome);
 
 struct pcm {
-    pid_t process;
-    int to, from;          /* -1 where closed */
-    uint32_t rows;         /* how many rows were sent: the number of the last one */
+    pid_t process;         /* the program's. Of `./pcm` it is that of a shell around the program where PCM_EXPLAIN is 1, or standard error is a
+                              terminal (and PCM_EXPLAIN isn't 0): to kill that leaves the program. What `./pcm path stream` prints is the
+                              program's own path, by which there is no shell */
+    int to, from;          /* -1 or 0 where closed */
+    uint32_t rows;         /* how many rows were sent: the number of the last one. With `--end off` the program adds a cut at the end, unless the
+                              last row is one and no settle came behind it: it has the next number (with `--until refused` the one behind the
+                              refused row) */
     uint32_t line_size;    /* the bytes of a line, by the words of pcm_open, or by the shape. Where the program was told so otherwise, the caller
                               sets it; 0: any */
     int tells_shape;       /* whether the words of pcm_open have `--tell shape`. Where the program was told so otherwise, the caller sets it */
@@ -153,9 +160,10 @@ struct pcm {
 /* Starts the program: words[0] is its path or a name on the search path, and the last of them is NULL; they are only lent. What it says of
    faults goes to the caller's standard error. PCM_FAILED where it can't be started (under valgrind, which posix_spawn can't tell errors to,
    it starts and ends with status 127): the module is closed then, so each call is refused. Whatever it answers, pcm_close frees what it took.
-   Words that the program refuses show at the first settle, whose answer is PCM_ENDED, and by status 2 of pcm_close; where the environment has
-   PCM_EXPLAIN=1, `./pcm` says which word it is. A command that reads all before it prints, as `run`, never answers a settle, so that this waits for
-   ever; pcm_learn, with `--tell shape` among the words, finds that out. */
+   PCM_REFUSED, with EINVAL, where the words have `--print` with anything but rows, whose outcomes nobody would tell: nothing is started then.
+   Words that the program refuses show behind the first settle, by PCM_ENDED of pcm_settle_all and its like, or of pcm_next behind pcm_settle, and
+   by status 2 of pcm_close; where the environment has PCM_EXPLAIN=1, `./pcm` says which word it is. A command that reads all before it prints,
+   as `run`, never answers a settle, so that this waits for ever; pcm_learn, with `--tell shape` among the words, finds that out. */
 static inline enum pcm_result pcm_open(struct pcm *pcm, const char *const words[]);
 /* The same with a process group of the program's own: what a terminal sends (Ctrl-C, a hang-up) reaches the caller alone, and the program
    ends once the caller has closed it or has ended. */
@@ -190,10 +198,16 @@ static inline enum pcm_result pcm_settle_until(struct pcm *pcm, uint32_t row, ui
    time. */
 static inline enum pcm_result pcm_look(struct pcm *pcm, uint64_t tick, struct pcm_wear *wear, pcm_taker take, void *context);
 /* A write arrives (of a whole line where `given` is NULL), and is answered at once, by a settle at its tick: PCM_OK where it is accepted, so
-   that it outlives every power cut; PCM_DECLINED where its bank's queue is full or the bank is worn. Every outcome that became known,
-   a refusal of this write too, is handed to `take`, as by pcm_settle_all. It never answers PCM_FULL. */
+   that it outlives every power cut; PCM_DECLINED where its bank's queue is full or the bank is worn (with `--until refused` the program has ended
+   then, as the next call says). Every outcome that became known, a refusal of this write too, is handed to `take`, as by pcm_settle_all. It
+   never answers PCM_FULL. */
 static inline enum pcm_result pcm_write_sure(struct pcm *pcm, uint64_t tick, uint32_t line, const uint8_t *bytes, const uint8_t *given, size_t size,
                                              pcm_taker take, void *context);
+/* A row of a trace is sent, a string with its LF, as fgets reads it of what `log` kept of an earlier module: where that one had the same options,
+   all its rows, and pcm_settle_all at the last tick, let this one stand as that did. The trace's header, and rows that settle, are passed over.
+   Answers that must be taken first are handed to `take` (NULL: they are dropped). PCM_REFUSED where it is no row of a trace, or one that can't
+   come now; PCM_SIZE where its bytes aren't as many as a line has. It never answers PCM_FULL. The string is only lent. */
+static inline enum pcm_result pcm_replay(struct pcm *pcm, const char *row, pcm_taker take, void *context);
 /* Hands all rows to the program. PCM_FULL where it waits for its answers to be taken. */
 static inline enum pcm_result pcm_flush(struct pcm *pcm);
 /* The next outcome. It waits for one: so call it only where one is to come, behind a settle or behind pcm_finish. */
@@ -261,33 +275,36 @@ static inline int pcm__start(struct pcm *pcm, const char *const words[], int is_
             fault = posix_spawnattr_setpgroup(&how, 0);
         if (fault == 0 && is_apart)
             fault = posix_spawnattr_setflags(&how, POSIX_SPAWN_SETPGROUP);
+        /* (its words are only read, but its type doesn't say so) */
+        char *const *lent;
+        memcpy(&lent, &words, sizeof lent);
         if (fault == 0)
-            fault = posix_spawnp(&pcm->process, words[0], &actions, &how, (char *const *)words, environ);
+            fault = posix_spawnp(&pcm->process, words[0], &actions, &how, lent, environ);
         posix_spawnattr_destroy(&how);
     }
     posix_spawn_file_actions_destroy(&actions);
     return fault;
 }
 
-/* Whether the words of the program give an option (`--line`, in one word or in two) this value. */
-static inline int pcm__has(const char *const words[], const char *option, const char *value)
+/* The value that the words of the program give an option (`--line`, in one word or in two), or else this one. */
+static inline const char *pcm__value(const char *const words[], const char *option, const char *otherwise)
 {
     size_t size = strlen(option);
     for (int i = 1; words[0] != NULL && words[i] != NULL; i++)
         if (strncmp(words[i], option, size) == 0 && (words[i][size] == '=' || words[i][size] == 0)) {
             const char *given = words[i][size] == '=' ? words[i] + size + 1 : words[i + 1];
-            return given != NULL && strcmp(given, value) == 0;
+            return given != NULL ? given : otherwise;
         }
-    return 0;
+    return otherwise;
 }
 
 /* Closes the caller's ends of the streams; errno stays. */
 static inline void pcm__shut(struct pcm *pcm)
 {
     int fault = errno;
-    if (pcm->to >= 0)
+    if (pcm->to > 0)
         close(pcm->to);
-    if (pcm->from >= 0)
+    if (pcm->from > 0)
         close(pcm->from);
     pcm->to = pcm->from = -1;
     errno = fault;
@@ -299,8 +316,12 @@ static inline enum pcm_result pcm__open(struct pcm *pcm, const char *const words
     memset(pcm, 0, offsetof(struct pcm, out));
     pcm->to = pcm->from = -1;
     pcm->process = -1;
-    pcm->line_size = pcm__has(words, "--line", "128") ? 128 : 64; /* (the program refuses all other values) */
-    pcm->tells_shape = pcm__has(words, "--tell", "shape");
+    pcm->line_size = strcmp(pcm__value(words, "--line", "64"), "128") == 0 ? 128 : 64; /* (the program refuses all other values) */
+    pcm->tells_shape = strcmp(pcm__value(words, "--tell", "nothing"), "shape") == 0;
+    if (strcmp(pcm__value(words, "--print", "rows"), "rows") != 0) {
+        errno = EINVAL;
+        return PCM_REFUSED;
+    }
     if (pcm__pair(to, 0) != 0)
         return PCM_FAILED;
     if (pcm__pair(from, 1) != 0) {
@@ -358,7 +379,7 @@ static inline enum pcm_result pcm_flush(struct pcm *pcm)
 {
     size_t sent = 0;
     enum pcm_result result = PCM_OK;
-    if (pcm->from < 0)
+    if (pcm->from <= 0)
         return PCM_REFUSED;
     while (sent < pcm->held && result == PCM_OK) {
         ssize_t put = send(pcm->to, pcm->out + sent, pcm->held - sent, MSG_NOSIGNAL);
@@ -451,7 +472,7 @@ static inline enum pcm_result pcm__row(struct pcm *pcm, uint64_t tick, char op, 
                                        size_t size)
 {
     int settles = strchr("SQUL", op) != NULL, is_bare = op != 'U' && (settles || op == 'C');
-    if (pcm->to < 0 || tick < pcm->tick || tick > PCM_LAST_TICK || (!settles && pcm->rows >= PCM_LAST_ROW) || !pcm__is_known(pcm, op, number))
+    if (pcm->to <= 0 || tick < pcm->tick || tick > PCM_LAST_TICK || (!settles && pcm->rows >= PCM_LAST_ROW) || !pcm__is_known(pcm, op, number))
         return PCM_REFUSED;
     if (sizeof pcm->out - pcm->held < PCM_MOST_ROW) {
         enum pcm_result result = pcm_flush(pcm);
@@ -539,14 +560,34 @@ static inline enum pcm_result pcm_settle(struct pcm *pcm, uint64_t tick)
 
 static inline enum pcm_result pcm__next(struct pcm *pcm, struct pcm_outcome *outcome, const struct pcm__asks *asks);
 
+/* The next outcome is handed to `take`. */
+static inline enum pcm_result pcm__hand(struct pcm *pcm, pcm_taker take, void *context)
+{
+    struct pcm_outcome outcome;
+    enum pcm_result result = pcm_next(pcm, &outcome);
+    if (result == PCM_OK && take != NULL)
+        take(context, &outcome);
+    return result;
+}
+
+/* Behind PCM_ENDED of a row: what the program told before its end is handed to `take`. Answers PCM_ENDED behind the last outcome. */
+static inline enum pcm_result pcm__rest(struct pcm *pcm, pcm_taker take, void *context)
+{
+    enum pcm_result result;
+    while ((result = pcm__hand(pcm, take, context)) == PCM_OK)
+        ;
+    return result;
+}
+
 /* Settles, and takes all that is known then. The module stands then at the tick of the row, or at the one that was reached. */
 static inline enum pcm_result pcm__settle_all(struct pcm *pcm, uint64_t tick, const struct pcm__asks *asks, pcm_taker take, void *context)
 {
     struct pcm_outcome outcome;
     enum pcm_result result;
-    while ((result = pcm__settle(pcm, tick, asks)) == PCM_FULL && (result = pcm_next(pcm, &outcome)) == PCM_OK)
-        if (take != NULL)
-            take(context, &outcome);
+    while ((result = pcm__settle(pcm, tick, asks)) == PCM_FULL && (result = pcm__hand(pcm, take, context)) == PCM_OK)
+        ;
+    if (result == PCM_ENDED)
+        return pcm__rest(pcm, take, context);
     while (result == PCM_OK && (result = pcm__next(pcm, &outcome, asks)) == PCM_OK) {
         if (outcome.kind == PCM_SETTLED && pcm->settles == 0) {
             if (outcome.tick < pcm->tick || outcome.tick > tick)
@@ -603,17 +644,17 @@ static inline void pcm__see(void *context, const struct pcm_outcome *outcome)
 static inline enum pcm_result pcm_write_sure(struct pcm *pcm, uint64_t tick, uint32_t line, const uint8_t *bytes, const uint8_t *given, size_t size,
                                              pcm_taker take, void *context)
 {
-    struct pcm_outcome outcome;
     enum pcm_result result;
     while ((result = given == NULL ? pcm_write(pcm, tick, line, bytes, size) : pcm_write_masked(pcm, tick, line, bytes, given, size)) == PCM_FULL
-           && (result = pcm_next(pcm, &outcome)) == PCM_OK)
-        if (take != NULL)
-            take(context, &outcome);
+           && (result = pcm__hand(pcm, take, context)) == PCM_OK)
+        ;
+    if (result == PCM_ENDED)
+        return pcm__rest(pcm, take, context);
     if (result != PCM_OK)
         return result;
     struct pcm__watch watch = {pcm->rows, 0, take, context};
     result = pcm_settle_all(pcm, tick, pcm__see, &watch);
-    return result == PCM_OK && watch.is_declined ? PCM_DECLINED : result;
+    return (result == PCM_OK || result == PCM_ENDED) && watch.is_declined ? PCM_DECLINED : result;
 }
 
 /* The next line of the stream, whose end is set to 0; NULL where `result` says why there is none. */
@@ -795,6 +836,82 @@ static inline enum pcm_result pcm_next(struct pcm *pcm, struct pcm_outcome *outc
     return pcm__next(pcm, outcome, NULL);
 }
 
+/* A row of a trace by its text. */
+struct pcm__traced {
+    uint64_t tick, line; /* the line is 0 of a cut */
+    char op;             /* R, W, M or C, or a row's that settles, of which no more is read */
+    size_t size;         /* of W and M: how many bytes; of which `given` has those that it gives */
+    uint8_t bytes[PCM_MOST_BYTES], given[PCM_MOST_BYTES];
+};
+
+/* Reads a number of a row, of at most so many digits, and its comma; NULL where there is none. */
+static inline const char *pcm__field(const char *at, uint64_t *number, int most)
+{
+    const char *begin = at;
+    for (*number = 0; *at >= '0' && *at <= '9' && at - begin < most; at++)
+        *number = 10 * *number + (uint64_t)(*at - '0');
+    return at > begin && *at == ',' ? at + 1 : NULL;
+}
+
+/* The value of a digit of a trace, which may be an upper-case one; -1 where it is none. */
+static inline int pcm__any_digit(char c)
+{
+    return pcm__digit(c >= 'A' && c <= 'F' ? (char)(c - 'A' + 'a') : c);
+}
+
+/* Reads the bytes of a row that writes, and answers where they end: behind the last one that is a byte. */
+static inline const char *pcm__get_given(const char *at, struct pcm__traced *it)
+{
+    for (it->size = 0; it->size < PCM_MOST_BYTES; it->size++, at += 2) {
+        int high = pcm__any_digit(at[0]), low = high < 0 ? -1 : pcm__any_digit(at[1]);
+        if (low < 0 && (it->op == 'W' || at[0] != '.' || at[1] != '.'))
+            break;
+        it->given[it->size] = low >= 0;
+        it->bytes[it->size] = (uint8_t)(low >= 0 ? high << 4 | low : 0);
+    }
+    return at;
+}
+
+/* Reads a row of a trace with its end; whether it is one. */
+static inline int pcm__get_row(const char *row, struct pcm__traced *it)
+{
+    const char *at = pcm__field(row, &it->tick, 13);
+    it->op = at != NULL ? *at : '?';
+    it->line = it->size = 0;
+    if (at == NULL || it->op == 0 || strchr("RWMCSQUL", it->op) == NULL || at[1] != ',')
+        return 0;
+    if (strchr("SQUL", it->op) != NULL)
+        return 1;
+    at = it->op != 'C' ? pcm__field(at + 2, &it->line, 8) : at[2] == ',' ? at + 3 : NULL;
+    if (at != NULL && (it->op == 'W' || it->op == 'M'))
+        at = pcm__get_given(at, it);
+    return at != NULL && strcmp(at, "\n") == 0;
+}
+
+/* Sends a row of a trace. */
+static inline enum pcm_result pcm__send(struct pcm *pcm, const struct pcm__traced *it)
+{
+    uint32_t line = (uint32_t)it->line; /* (at most eight digits) */
+    return it->op == 'W'   ? pcm_write(pcm, it->tick, line, it->bytes, it->size)
+           : it->op == 'M' ? pcm_write_masked(pcm, it->tick, line, it->bytes, it->given, it->size)
+           : it->op == 'R' ? pcm_read(pcm, it->tick, line)
+                           : pcm_cut(pcm, it->tick);
+}
+
+static inline enum pcm_result pcm_replay(struct pcm *pcm, const char *row, pcm_taker take, void *context)
+{
+    struct pcm__traced it;
+    enum pcm_result result;
+    int is_header = strcmp(row, "tick,op,arg,data\n") == 0;
+    if (pcm->to <= 0 || (!is_header && !pcm__get_row(row, &it)))
+        return PCM_REFUSED;
+    if (is_header || strchr("SQUL", it.op) != NULL)
+        return PCM_OK;
+    while ((result = pcm__send(pcm, &it)) == PCM_FULL && (result = pcm__hand(pcm, take, context)) == PCM_OK)
+        ;
+    return result == PCM_ENDED ? pcm__rest(pcm, take, context) : result;
+}
+
 static inline int pcm__is(uint32_t told, uint32_t wanted)
 {
     return wanted == 0 || told == wanted;
@@ -811,7 +928,7 @@ static inline int pcm__is_wanted(const struct pcm_shape *told, const struct pcm_
 static inline enum pcm_result pcm_learn(struct pcm *pcm, const struct pcm_shape *wanted)
 {
     enum pcm_result result = PCM_OK;
-    if (pcm->shape.version == 0 && (pcm->from < 0 || !pcm->tells_shape))
+    if (pcm->shape.version == 0 && (pcm->from <= 0 || !pcm->tells_shape))
         return PCM_REFUSED;
     if (pcm->shape.version == 0 && (result = pcm_flush(pcm)) == PCM_FAILED)
         return result;
@@ -830,7 +947,7 @@ static inline enum pcm_result pcm_finish(struct pcm *pcm)
     enum pcm_result result = pcm_flush(pcm);
     if (result != PCM_OK && result != PCM_ENDED)
         return result;
-    if (pcm->to >= 0)
+    if (pcm->to > 0)
         close(pcm->to);
     pcm->to = -1;
     pcm->held = 0;
@@ -842,7 +959,7 @@ static inline int pcm_close(struct pcm *pcm)
     int status = 0;
     ssize_t got = 1;
     /* (behind pcm_finish the program goes on to its end, as long as somebody takes what it says) */
-    while (pcm->to < 0 && pcm->from >= 0 && (got > 0 || (got < 0 && errno == EINTR)))
+    while (pcm->to <= 0 && pcm->from > 0 && (got > 0 || (got < 0 && errno == EINTR)))
         got = read(pcm->from, pcm->in, sizeof pcm->in);
     pcm__shut(pcm);
     pid_t ended = -1;

@@ -354,6 +354,14 @@ static void misuse(void)
     check(pcm_disk_go_on(&disk, 69) == 0 && disk.now == 69, "before a cut");
     check(pcm_disk_go_on(&disk, 100) == ESHUTDOWN && disk.now == 70 && disk.pcm.rows == 1, "the cut at its tick");
     check(pcm_disk_go_on(&disk, 100) == 0 && disk.now == 100, "behind it");
+    static struct pcm_disk zero, other;
+    const char *image[] = {"--print", "image", NULL};
+    int was_open = fcntl(0, F_GETFD) >= 0 || open("/dev/null", O_RDONLY) == 0;
+    check(pcm_disk_close(&other) == -1 && pcm_disk_close(&other) == -1 && was_open && fcntl(0, F_GETFD) >= 0, "one that was never opened is closed");
+    check(pcm_disk_read(&zero, got, 0, 0) == 0 && pcm_disk_read(&zero, got, 1, 0) == EINVAL && pcm_disk_write(&zero, got, 1, 0) == EINVAL, "it has no bytes");
+    check(pcm_disk_go_on(&zero, 9) == EIO && pcm_disk_replay(&zero, "0,C,,\n") == EINVAL && pcm_disk_resume(&zero) == EIO, "nor time");
+    check(pcm_disk_close(&zero) == -1 && fcntl(0, F_GETFD) >= 0, "standard input stays the caller's");
+    check(pcm_disk_open(&other, program, &small, image) == EINVAL && pcm_disk_close(&other) == -1, "an image isn't asked for");
     check(pcm_disk_read(&disk, got, 2, 8191) == EINVAL && pcm_disk_write(&disk, got, 1, UINT64_MAX) == EINVAL, "beyond its end");
     check(pcm_disk_read(&disk, got, 0, 8192) == 0 && pcm_disk_write(&disk, got, 0, 8192) == 0 && disk.pcm.rows == 1, "nothing at its end");
     check(pcm_disk_go_on(&disk, PCM_LAST_TICK) == 0 && pcm_disk_read(&disk, got, 1, 0) == EIO, "at the end of time");

@@ -101,7 +101,35 @@ static int is_refused(struct pcm *pcm)
     int refused = pcm_write(pcm, pcm->tick, 0, bytes, 64) == PCM_REFUSED && pcm_read(pcm, pcm->tick, 0) == PCM_REFUSED;
     refused &= pcm_settle(pcm, pcm->tick) == PCM_REFUSED && pcm_settle_all(pcm, pcm->tick, NULL, NULL) == PCM_REFUSED;
     refused &= pcm_flush(pcm) == PCM_REFUSED && pcm_next(pcm, &outcome) == PCM_REFUSED && pcm_finish(pcm) == PCM_REFUSED;
-    return refused && pcm_learn(pcm, NULL) == PCM_REFUSED && pcm->rows == rows && pcm->to == -1 && pcm->from == -1;
+    refused &= pcm_replay(pcm, "0,R,0,\n", NULL, NULL) == PCM_REFUSED && pcm_write_sure(pcm, pcm->tick, 0, bytes, NULL, 64, NULL, NULL) == PCM_REFUSED;
+    return refused && pcm_learn(pcm, NULL) == PCM_REFUSED && pcm->rows == rows && pcm->to <= 0 && pcm->from <= 0;
+}
+
+/* What was never opened is closed, and standard input stays the caller's. */
+static void what_is_all_zero_is_closed(void)
+{
+    static struct pcm pcm, other;
+    int was_open = fcntl(0, F_GETFD) >= 0 || open("/dev/null", O_RDONLY) == 0;
+    check(pcm_close(&other) == -1 && was_open && fcntl(0, F_GETFD) >= 0, "a close of it closes nothing");
+    check(other.to == -1 && is_refused(&other) && pcm_close(&other) == -1, "nor does another");
+    check(is_refused(&pcm) && fcntl(0, F_GETFD) >= 0 && pcm_close(&pcm) == -1, "each call of it is refused");
+}
+
+/* Words that print anything but outcomes. */
+static void what_prints_no_rows_is_refused(const char *const words[], int count)
+{
+    static struct pcm pcm;
+    const char *one[20] = {0}, *two[20] = {0}, *rows[20] = {0};
+    for (int i = 0; i < count; i++)
+        one[i] = two[i] = rows[i] = words[i];
+    one[count] = "--print=summary";
+    two[count] = "--print";
+    two[count + 1] = "image";
+    rows[count] = "--print=rows";
+    errno = 0;
+    check(pcm_open(&pcm, one) == PCM_REFUSED && errno == EINVAL && is_refused(&pcm) && pcm_close(&pcm) == -1, "a summary");
+    check(pcm_open_apart(&pcm, two) == PCM_REFUSED && is_refused(&pcm) && pcm_close(&pcm) == -1, "an image");
+    check(pcm_open(&pcm, rows) == PCM_OK && pcm_settle_all(&pcm, 0, NULL, NULL) == PCM_OK && pcm_finish(&pcm) == PCM_OK && pcm_close(&pcm) == 0, "rows");
 }
 
 static void what_cannot_start_is_told(void)
@@ -253,6 +281,141 @@ static void writes_are_answered_at_once(const char *const words[], int count)
     check(strstr(logged, "\n100,R,2,\n") != NULL && strchr(logged, 'S') == NULL, "all of them, in order");
     check(pcm_open(&pcm, narrow) == PCM_OK && pcm_read(&pcm, 0, 99999) == PCM_OK, "a fault");
     check(pcm_write_sure(&pcm, 0, 0, bytes, NULL, 64, take, &taken) == PCM_ENDED && pcm_close(&pcm) == 3, "is told by the next answer");
+}
+
+/* Opens a module whose program has ended at a fault, behind three rows that it told of; whether it could be. */
+static int has_ended(struct pcm *pcm, const char *const words[])
+{
+    uint8_t bytes[64] = {1};
+    memset(&taken, 0, sizeof taken);
+    int sent = pcm_open(pcm, words) == PCM_OK && pcm_write(pcm, 0, 0, bytes, 64) == PCM_OK && pcm_read(pcm, 100, 0) == PCM_OK;
+    sent &= pcm_read(pcm, 200, 0) == PCM_OK && pcm_settle(pcm, 300) == PCM_OK && pcm_read(pcm, 300, 99999) == PCM_OK && pcm_flush(pcm) == PCM_OK;
+    struct pollfd it = {pcm->to, 0, 0};
+    return sent && poll(&it, 1, 60000) == 1;
+}
+
+static int told_all(void)
+{
+    return taken.count == 4 && taken.rows[0] == 1 && taken.rows[1] == 2 && taken.rows[2] == 3 && taken.settled == 1;
+}
+
+static void what_was_told_before_an_end_is_handed_on(const char *const words[])
+{
+    static struct pcm pcm;
+    struct pcm_outcome outcome;
+    struct pcm_bank bank;
+    uint8_t bytes[64] = {1};
+    int sent = 0;
+    check(has_ended(&pcm, words) && pcm_settle_all(&pcm, 400, take, &taken) == PCM_ENDED && told_all(), "to the call that settles");
+    check(pcm_next(&pcm, &outcome) == PCM_ENDED && pcm_close(&pcm) == 3, "none is left");
+    check(has_ended(&pcm, words) && pcm_ask(&pcm, 400, &bank, 1, take, &taken) == PCM_ENDED && told_all() && pcm_close(&pcm) == 3, "to a question");
+    check(has_ended(&pcm, words) && pcm_settle_until(&pcm, 1, 400, take, &taken) == PCM_ENDED && told_all() && pcm_close(&pcm) == 3, "to a settle until");
+    check(has_ended(&pcm, words) && pcm_write_sure(&pcm, 400, 1, bytes, NULL, 64, take, &taken) == PCM_ENDED && told_all(), "to a write");
+    check(pcm_next(&pcm, &outcome) == PCM_ENDED && pcm_close(&pcm) == 3, "status 3");
+    for (int i = 0; i < 2; i++) {
+        check(has_ended(&pcm, words), "a program that has ended");
+        while (sizeof pcm.out - pcm.held >= PCM_MOST_ROW && pcm_read(&pcm, 300, 0) == PCM_OK)
+            sent++;
+        check(i == 0 ? pcm_write_sure(&pcm, 400, 1, bytes, NULL, 64, take, &taken) == PCM_ENDED : pcm_replay(&pcm, "400,R,0,\n", take, &taken) == PCM_ENDED,
+              "a row for which there is no room");
+        check(told_all() && pcm_next(&pcm, &outcome) == PCM_ENDED && pcm_close(&pcm) == 3, "takes what is left, too");
+    }
+    check(sent > 1000 && has_ended(&pcm, words) && pcm_settle(&pcm, 400) == PCM_ENDED, "a settle that takes nothing");
+    for (sent = 0; pcm_next(&pcm, &outcome) == PCM_OK;)
+        sent++;
+    check(sent == 4 && pcm_close(&pcm) == 3, "leaves it");
+}
+
+static void a_stream_that_ends_with_a_refusal(const char *const words[], int count)
+{
+    static struct pcm pcm;
+    const char *until[20] = {0};
+    uint8_t bytes[64] = {1};
+    for (int i = 0; i < count; i++)
+        until[i] = words[i];
+    until[count] = "--until=refused";
+    until[count + 1] = "--write-queue=1";
+    memset(&taken, 0, sizeof taken);
+    check(pcm_open(&pcm, until) == PCM_OK && pcm_write_sure(&pcm, 0, 0, bytes, NULL, 64, take, &taken) == PCM_OK, "a write is accepted");
+    check(pcm_write_sure(&pcm, 0, 1, bytes, NULL, 64, take, &taken) == PCM_DECLINED, "the next one is declined");
+    check(taken.count == 2 && taken.rows[0] == 2 && taken.kinds[0] == PCM_FULL_QUEUE && taken.rows[1] == 1, "which is told, and what its end makes known");
+    check(pcm_write_sure(&pcm, 0, 2, bytes, NULL, 64, take, &taken) == PCM_ENDED && taken.count == 2, "the stream has ended");
+    check(pcm_finish(&pcm) == PCM_OK && pcm_close(&pcm) == 0, "status 0");
+}
+
+/* A trace of a driver, by its log, and what became of each of its rows. */
+static char trace[65536];
+static void keep_all(void *context, char op, const char *row, size_t size)
+{
+    size_t at = strlen((char *)context);
+    (void)op;
+    memcpy((char *)context + at, row, size);
+    ((char *)context)[at + size] = 0;
+}
+static struct pcm_outcome became[1024];
+static void note(void *context, const struct pcm_outcome *outcome)
+{
+    if (outcome->kind != PCM_SETTLED)
+        ((struct pcm_outcome *)context)[outcome->row] = *outcome;
+}
+
+static void a_log_is_replayed(const char *const words[])
+{
+    static struct pcm pcm;
+    static struct pcm_outcome again[1024];
+    struct pcm_wear wear, wear_again;
+    uint8_t bytes[64], given[64] = {1};
+    char row[PCM_MOST_ROW];
+    int right = 0, rows = 0;
+    memset(became, 0, sizeof became);
+    memset(again, 0, sizeof again);
+    strcpy(trace, "tick,op,arg,data\n");
+    check(pcm_open(&pcm, words) == PCM_OK, "a module that is driven");
+    pcm.log = keep_all;
+    pcm.context = trace;
+    for (uint32_t i = 0; i < 100; i++) {
+        memset(bytes, (int)i, 64);
+        right += pcm_write(&pcm, 20 * i, i % 4, bytes, 64) == PCM_OK && pcm_write_masked(&pcm, 20 * i, i % 3, bytes, given, 64) == PCM_OK;
+        right += pcm_read(&pcm, 20 * i + 1, i % 4) == PCM_OK && pcm_settle_until(&pcm, pcm.rows, 20 * i + 20, note, became) == PCM_OK;
+    }
+    check(right == 200 && pcm_cut(&pcm, pcm.tick) == PCM_OK && pcm_look(&pcm, pcm.tick, &wear, note, became) == PCM_OK, "up to a cut");
+    uint64_t tick = pcm.tick;
+    check(pcm.rows == 301 && pcm_finish(&pcm) == PCM_OK && pcm_close(&pcm) >= 0, "it isn't needed any more");
+    check(pcm_open(&pcm, words) == PCM_OK, "another one");
+    for (const char *at = trace; *at != 0; at += strlen(row), rows++) {
+        size_t size = (size_t)(strchr(at, '\n') + 1 - at);
+        memcpy(row, at, size);
+        row[size] = 0;
+        right -= pcm_replay(&pcm, row, note, again) != PCM_OK;
+    }
+    check(right == 200 && rows == 403 && pcm.rows == 301 && pcm.tick == tick, "takes its rows, and passes over the others");
+    check(pcm_look(&pcm, tick, &wear_again, note, again) == PCM_OK && memcmp(&wear, &wear_again, sizeof wear) == 0, "it is as worn");
+    right = 0;
+    for (int i = 1; i <= 301; i++)
+        right += again[i].row == became[i].row && again[i].kind == became[i].kind && again[i].tick == became[i].tick && again[i].size == became[i].size
+                 && memcmp(again[i].bytes, became[i].bytes, became[i].size) == 0;
+    check(right == 301 && became[300].row == 300 && became[1].row == 1, "and each row became the same");
+    const char *none[] = {"", "\n", "9000", "9000,", "9000,R,0,", "9000,R,0,\r\n", "9000,R,0\n", "9000,R,,\n", "9000,R,0,00\n", "9000,X,0,\n", ",R,0,\n",
+                          "9000,C,0,\n", "9000,R,123456789,\n", "-1,R,0,\n", "0,R,0,\n", "12345678901234,R,0,\n", "9999999999999,R,0,\n", "tick,op,arg,data"};
+    for (int i = 0; i < 18; i++)
+        check(pcm_replay(&pcm, none[i], NULL, NULL) == PCM_REFUSED && pcm.rows == 301, "what is no row is refused");
+    const char *short_ones[] = {"9000,W,0,\n", "9000,W,0,00\n", "9000,M,0,00..\n"};
+    for (int i = 0; i < 3; i++)
+        check(pcm_replay(&pcm, short_ones[i], NULL, NULL) == PCM_SIZE, "what isn't of a line's size, too");
+    check(pcm_replay(&pcm, "9000,W,0,0x\n", NULL, NULL) == PCM_REFUSED && pcm_replay(&pcm, "9000,W,0,..\n", NULL, NULL) == PCM_REFUSED, "nor digits");
+    snprintf(row, sizeof row, "9000,W,3,%0128d\n", 0);
+    memcpy(row + 9, "aBCdEf", 6);
+    check(pcm_replay(&pcm, row, NULL, NULL) == PCM_OK && pcm_replay(&pcm, "9000,R,3,\n", NULL, NULL) == PCM_OK, "digits of either case are taken");
+    check(pcm_settle_all(&pcm, 9000, note, again) == PCM_OK && memcmp(again[303].bytes, "\xab\xcd\xef\0", 4) == 0, "with their values");
+    memset(&taken, 0, sizeof taken);
+    for (right = 0; right < 40000; right++) {
+        snprintf(row, sizeof row, "%d,R,3,\n", 10000 + 10 * right);
+        if (pcm_replay(&pcm, row, take, &taken) != PCM_OK)
+            break;
+    }
+    check(right == 40000 && taken.count > 1000, "answers that must be taken are handed on");
+    check(pcm_settle_all(&pcm, 500000, take, &taken) == PCM_OK && taken.count == 40001, "each once");
+    check(pcm_finish(&pcm) == PCM_OK && pcm_replay(&pcm, "9000,R,3,\n", NULL, NULL) == PCM_REFUSED && pcm_close(&pcm) >= 0, "the end");
 }
 
 /* Takes what is left behind pcm_finish. */
@@ -537,8 +700,72 @@ static void full_has_its_bound(const char *const words[])
             result = PCM_ENDED;
     }
     check(result == PCM_FULL, "and 330 reads between two settles never meet it");
+    /* (32 that waited and 334 have 366 answers of 176 bytes) */
+    for (int i = 0; i < 100 && result != PCM_ENDED; i++) {
+        for (int n = 0; n < 334; n++)
+            if (pcm_read(&pcm, pcm.tick + (n < 1 ? 1000 : n < 303 ? 5 : 0), 0) != PCM_OK)
+                result = PCM_ENDED;
+        if (pcm_settle_all(&pcm, pcm.tick, NULL, NULL) != PCM_OK)
+            result = PCM_ENDED;
+    }
+    struct pcm_bank bank;
+    check(result == PCM_FULL && pcm_ask(&pcm, pcm.tick, &bank, 1, NULL, NULL) == PCM_OK && bank.waiting_reads == 32, "nor 334 behind 32 that waited");
+    check(pcm_settle_all(&pcm, pcm.tick + 1000, NULL, NULL) == PCM_OK && pcm_read(&pcm, pcm.tick, 0) == PCM_OK, "one read more");
     check(pcm_finish(&pcm) == PCM_OK && pcm_next(&pcm, &outcome) == PCM_OK && pcm_next(&pcm, &outcome) == PCM_ENDED, "the last read");
     check(pcm_close(&pcm) == 0, "status 0");
+}
+
+/* The numbers of the header's example: reads and writes wait in all four banks, and 200 reads, or 740 writes, come behind them. */
+static void the_example_of_full_holds(const char *const words[], int count)
+{
+    static struct pcm pcm;
+    struct pcm_bank banks[4];
+    const char *four[20] = {0};
+    uint8_t bytes[64] = {0};
+    int n = 0, right = 0;
+    for (int i = 0; i < count && (i == 0 || strcmp(words[i - 1], "stream") != 0); i++)
+        four[n++] = words[i];
+    check(pcm_open(&pcm, four) == PCM_OK, "four banks");
+    for (uint64_t round = 1; round <= 20; round++) {
+        uint64_t tick = 1000000 * round;
+        bytes[0] = (uint8_t)round;
+        for (uint32_t i = 0; i < 256; i++)
+            right += pcm_write(&pcm, tick, i, bytes, 64) == PCM_OK && pcm_read(&pcm, tick, 256 + i) == PCM_OK;
+        right += pcm_ask(&pcm, tick, banks, 4, NULL, NULL) == PCM_OK;
+        for (int i = 0; i < 4; i++)
+            right += banks[i].waiting_writes == 32 && banks[i].waiting_reads == 32;
+        for (uint32_t i = 0; i < (round % 2 ? 200 : 740); i++)
+            right += round % 2 ? pcm_read(&pcm, tick + 1000 + 10 * i, 256 + i % 256) == PCM_OK : pcm_write(&pcm, tick + 1000 + 10 * i, i % 512, bytes, 64) == PCM_OK;
+        right += pcm_settle_all(&pcm, pcm.tick, NULL, NULL) == PCM_OK;
+    }
+    check(right == 20 * (256 + 1 + 4 + 1) + 10 * (200 + 740), "its rows never meet PCM_FULL");
+    check(pcm_finish(&pcm) == PCM_OK && pcm_close(&pcm) == 1, "the end");
+}
+
+/* Reads that waited at the settle before count, too. */
+static void what_waits_counts_towards_full(const char *const words[], int count)
+{
+    static struct pcm pcm;
+    const char *wide[20] = {0};
+    const char *more[] = {"--banks=64", "--regions=2", "--lines=64", "--line=128", "--read-queue=256"};
+    uint8_t bytes[128] = {0};
+    int n = 0, right = 0;
+    for (int i = 0; i < count && (i == 0 || strcmp(words[i - 1], "stream") != 0); i++)
+        wide[n++] = words[i];
+    for (int i = 0; i < 5; i++)
+        wide[n++] = more[i];
+    check(pcm_open(&pcm, wide) == PCM_OK, "64 banks");
+    for (uint32_t i = 0; i < 80; i++) {
+        for (uint32_t j = 0; j < 200; j++)
+            right += pcm_read(&pcm, 0, (200 * i + j) % 8192) == PCM_OK;
+        right += pcm_settle_all(&pcm, 0, NULL, NULL) == PCM_OK;
+    }
+    check(right == 80 * 201, "most of 16,000 reads wait");
+    enum pcm_result result = PCM_OK;
+    for (uint32_t i = 0; i < 1344 && result == PCM_OK; i++)
+        result = pcm_write(&pcm, 100000, i, bytes, 128);
+    check(result == PCM_FULL && pcm_settle_all(&pcm, 100000, NULL, NULL) == PCM_OK, "their answers leave no room");
+    check(pcm_finish(&pcm) == PCM_OK && pcm_close(&pcm) >= 0, "the end");
 }
 
 /* (The fifth field of /proc/PID/stat is its process group.) */
@@ -576,11 +803,16 @@ int main(int count, char **words)
     for (int i = 0; i < 7; i++)
         all[n++] = options[i];
     answers_come_as_they_are_known(all);
+    what_is_all_zero_is_closed();
     what_cannot_start_is_told();
+    what_prints_no_rows_is_refused(all, n);
     a_close_takes_what_is_left(all, n);
     faults_are_told(all);
     arguments_are_looked_at(all, n);
     writes_are_answered_at_once(all, n);
+    what_was_told_before_an_end_is_handed_on(all);
+    a_stream_that_ends_with_a_refusal(all, n);
+    a_log_is_replayed(all);
     what_waits_in_each_bank_is_told(all, n);
     a_settle_until_stops_where_its_row_has_its_outcome(all);
     a_tick_that_was_not_asked_for();
@@ -592,6 +824,8 @@ int main(int count, char **words)
     a_bank_without_a_spare_is_exhausted(all, n);
     digits_are_put_and_read();
     full_has_its_bound(all);
+    the_example_of_full_holds(all, n);
+    what_waits_counts_towards_full(all, n);
     a_group_of_its_own();
     standard_descriptors_may_be_closed(all);
     many_rows_with_answers_taken_late(all);

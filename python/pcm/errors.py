@@ -56,9 +56,9 @@ def error_of(
     status: Optional[int], said: bytes, words: Sequence[str] = (), trace: Optional[str] = None, handed: Iterable[Handed] = ()
 ) -> PcmError:
     """The exception for a status of the program and what it said on standard error, where it was started with these words (the command,
-    then its options) over this file, or was handed these rows."""
+    then its options) over this file, or was handed these rows, one by one or as a trace."""
     line = said.decode(errors="replace").strip()
-    why = explain(list(words), line, trace) if words and status in (2, 3) else None
+    why = explain(list(words), line, trace) if words and status in (2, 3, 6) else None
     if why is None and status == 3:
         why = wrong_handed(words, line, handed)
     return _BY_STATUS.get(status if status is not None else -1, PcmError)(status, line, why)

@@ -5,13 +5,13 @@ import selectors
 import subprocess
 import tempfile
 from types import TracebackType
-from typing import IO, Deque, Iterator, List, Optional, Sequence, Type
+from typing import IO, Deque, Iterable, Iterator, List, Optional, Sequence, Type
 
 from .errors import PcmError, TraceError, UsageError, error_of
 from .outcomes import Backlog, Outcome, Settled, Shape, Wear, told_of
 from .program import Program, command, words_of
 from .progress import Progress
-from .rows import HEADER, masked
+from .rows import HEADER, MaskedWrite, PowerCut, Read, Row, Write, masked, numbered
 from .words import LARGE, LATEST_TICK, Handed, wrong_row
 
 # Rows are gathered up to so many bytes before they are handed to the pipe.
@@ -27,6 +27,9 @@ class Module:
     `close`, and where the program draws the rows, none is taken (`ValueError`). `tick` is that of the last row or settle; behind
     `settle_until` the one that was reached. A `Module` isn't to be used by two threads at once.
 
+    With `end="off"` the program adds a cut at the end, unless the last row is one and no settle came behind it: its outcome has the next number,
+    which no call has answered (with `until="refused"` the one behind the refused row).
+
     A row that can't be one is refused as it is handed in, by a `TraceError` whose `status` is None: it isn't sent, nor written to the log,
     and the module goes on. Such are a tick that falls, is beyond 2**40 or is no whole number, a write of another size than a line has, one
     that gives no byte, a settle until of a row that wasn't handed in and, once the `shape` is known, a line that the module hasn't; where it
@@ -37,7 +40,11 @@ class Module:
     the program (else the environment's PCM, or `./pcm` of the checkout). A call that waits for more than a second tells on standard error
     how many rows have an outcome, and how many a second, where that is a terminal, or always with `progress=True`, or never with False.
 
-    `log` is a text file to which the header and each row with a number is written as it is handed in: a trace that plays the same again."""
+    `log` is a text file to which the header is written, and each row with a number before it is sent: a trace that plays the same again by the
+    same options, also into another `Module` (`play`); but with `end="off"`, where a settle came last, its cut comes at the tick of the log's
+    last row, unless you end with a `cut` of your own. Where the file's `write` fails, its exception is the call's: the row isn't sent and has
+    no number, and the module goes on. Whether such a row stands in the file all the same, as a buffered one may write it later, is the
+    file's to know. The caller closes the file."""
 
     def __init__(
         self, *, program: Program = None, progress: Optional[bool] = None, log: Optional[IO[str]] = None, **options: object
@@ -64,25 +71,36 @@ class Module:
         self.status: Optional[int] = None
         self._options = words_of(options)
         words = [*command("stream", program), *self._options]
-        self._said = tempfile.TemporaryFile()
+        # (whether it waits to hand rows out, whether the program's end was seen, and whether it was closed)
+        self._writing = self._ended = self._closed = False
+        self._heard = b""
+        self._said, self._poll = tempfile.TemporaryFile(), selectors.DefaultSelector()
         try:
             self._process = subprocess.Popen(words, stdin=subprocess.PIPE, stdout=subprocess.PIPE, stderr=self._said)
-        except OSError:
+        except BaseException:
             self._said.close()
+            self._poll.close()
             raise
+        try:
+            self._begin()
+        except BaseException:
+            self.close()
+            raise
+
+    def _begin(self) -> None:
+        """The pipes are waited for, and the log has its header."""
         assert self._process.stdin is not None and self._process.stdout is not None
         self._to, self._from = self._process.stdin.fileno(), self._process.stdout.fileno()
         os.set_blocking(self._to, False)
         os.set_blocking(self._from, False)
-        self._poll = selectors.DefaultSelector()
         self._poll.register(self._from, selectors.EVENT_READ)
-        self._writing = self._ended = False
-        if log is not None:
-            log.write(HEADER)
+        if self._log is not None:
+            self._log.write(HEADER)
 
     @property
     def shape(self) -> Optional[Shape]:
-        """What the module is, as it tells by `tell="shape"`; it waits for that. None where it isn't told."""
+        """What the module is, as it tells by `tell="shape"`; it waits for that. None where it isn't told. `ValueError` where the module was closed
+        before it was known."""
         while self._tells_shape and self._shape is None:
             if self._ended:
                 raise self._fail()
@@ -108,6 +126,23 @@ class Module:
     def cut(self, tick: int) -> int:
         """The power is cut at a tick, and is there again at once. Answers the row's number."""
         return self._hand(tick, f"{tick},C,,\n")
+
+    def play(self, rows: Iterable[Row]) -> List[Outcome]:
+        """Hands the rows of a trace in, as `read_trace` reads them of a `log`, and settles at the tick of the last one: where that was kept of a
+        module with the same options, this one stands as that did. Rows that settle are passed over. Answers as `settle`; a log that is long
+        may come piece by piece."""
+        for row in numbered(rows):
+            if isinstance(row, Write):
+                self.write(row.tick, row.line, row.data)
+            elif isinstance(row, MaskedWrite):
+                self.write_masked(row.tick, row.line, row.data)
+            elif isinstance(row, Read):
+                self.read(row.tick, row.line)
+            elif isinstance(row, PowerCut):
+                self.cut(row.tick)
+            else:
+                raise TypeError(f"no row of a trace: {row!r}")
+        return self.settle(self.tick)
 
     def settle(self, tick: int) -> List[Outcome]:
         """Every bank goes on to a tick. Answers all outcomes known by then that weren't answered before."""
@@ -138,14 +173,16 @@ class Module:
         return self._wear
 
     def outcomes(self) -> Iterator[Outcome]:
-        """The outcomes that have come by now and weren't answered before. It doesn't wait."""
-        self._pump(wait=False)
+        """The outcomes that have come by now and weren't answered before. It doesn't wait. Behind `close` they are those that had come by then."""
+        if not self._closed:
+            self._pump(wait=False)
         while self._known:
             yield self._known.popleft()
 
     def finish(self) -> List[Outcome]:
         """No more rows come: the banks drain (or, with `end="off"`, the power stays off). Answers all outcomes that weren't answered
-        before; `status` is then 0, or 1 where some row fell short of what it asked for."""
+        before; `status` is then 0, or 1 where some row fell short of what it asked for. Once the program's end was seen, further calls answer as
+        that was, behind `close` too; `ValueError` where the module was closed before."""
         self._takes_rows = False
         while self._out and not self._ended:
             self._pump(wait=True)
@@ -158,9 +195,12 @@ class Module:
         return self._take()
 
     def close(self) -> None:
-        """Ends the program, whatever it does, and frees what it held."""
-        self._takes_rows = False
+        """Ends the program, whatever it does, and frees what it held. It may be called again, and behind anything. Behind it `outcomes` answers what
+        was known by then, and so do `shape`, where it was, and `finish`, where the program's end was seen; all other calls are a `ValueError`."""
+        self._takes_rows = self._writing = False
+        self._closed = True
         self._progress.clear()
+        self._poll.close()
         self._close_input()
         if self._process.returncode is None:
             if not self._ended:
@@ -168,7 +208,7 @@ class Module:
             self._process.wait()
         if self._process.stdout is not None:
             self._process.stdout.close()
-        self._poll.close()
+        self._hear()
         self._said.close()
 
     def __enter__(self) -> "Module":
@@ -200,7 +240,7 @@ class Module:
     def _check(self, tick: int, text: str, line: int, is_right: bool) -> None:
         """Refuses a row that can't be one: by its tick and line, and by whether the rest is right."""
         if not self._takes_rows:
-            raise ValueError("no more rows are taken")
+            raise ValueError("the module is closed" if self._closed else "no more rows are taken")
         if is_right and type(tick) is int and self.tick <= tick <= LATEST_TICK and type(line) is int and 0 <= line < self._lines:
             return
         # (a number of another type may be right: its text tells)
@@ -214,10 +254,11 @@ class Module:
         self._unread.append(Handed(self._rows + 1, self.tick, text))
 
     def _hand(self, tick: int, text: str, line: int = 0, is_right: bool = True) -> int:
+        """Hands a row with a number in: it is refused, or isn't written to the log, or else it is sent and counted."""
         self._check(tick, text, line, is_right)
-        self._gather(text)
         if self._log is not None:
             self._log.write(text)
+        self._gather(text)
         self._rows += 1
         self.tick = int(tick)
         if len(self._out) >= _GATHERED:
@@ -236,6 +277,8 @@ class Module:
         time to tell of progress."""
         if self._ended:
             return
+        if self._closed:
+            raise ValueError("the module is closed")
         if wait:
             self._progress.rows(self._answered)
         if bool(self._out) != self._writing:
@@ -306,8 +349,14 @@ class Module:
         self.status = self._process.wait()
         return self.status
 
-    def _fail(self) -> Exception:
+    def _fail(self) -> PcmError:
+        """What went wrong, by the program's status and what it said."""
         self._progress.clear()
-        status = self._reap()
-        self._said.seek(0)
-        return error_of(status, self._said.read(), ["stream", *self._options], handed=self._unread)
+        return error_of(self._reap(), self._hear(), ["stream", *self._options], handed=self._unread)
+
+    def _hear(self) -> bytes:
+        """What the program has said of faults."""
+        if not self._said.closed:
+            self._said.seek(0)
+            self._heard = self._said.read()
+        return self._heard

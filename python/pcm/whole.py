@@ -3,13 +3,14 @@ import io
 import os
 import subprocess
 from dataclasses import dataclass, field
-from typing import Dict, Iterable, List, Optional, Union
+from typing import Dict, Iterable, Iterator, List, Optional, Union
 
 from .errors import error_of
 from .image import Image
 from .outcomes import Outcome, outcome_of
 from .program import Program, command, words_of
 from .rows import Row, write_trace
+from .words import Handed
 
 
 @dataclass(frozen=True)
@@ -54,18 +55,28 @@ def run(trace: Union[Iterable[Row], str, "os.PathLike[str]", None] = None, /, *,
     """Replays a whole trace: rows, or the path of a trace, or none with `input="drawn"`. Options are those of `pcm run`, with `_` for `-`,
     as `banks=4`, `print="wear"`. At most 400,000 rows; `Module` takes any number."""
     more = words_of(options)
-    words, path = [*command("run", program), *more], None
+    words, path, text = [*command("run", program), *more], None, io.StringIO()
     if trace is None or isinstance(trace, (str, os.PathLike)):
         path = None if trace is None else os.fspath(trace)
         with open(path or os.devnull, "rb") as given:
             done = subprocess.run(words, stdin=given, stdout=subprocess.PIPE, stderr=subprocess.PIPE, check=False)
     else:
-        text = io.StringIO()
         write_trace(trace, text)
         done = subprocess.run(words, input=text.getvalue().encode(), stdout=subprocess.PIPE, stderr=subprocess.PIPE, check=False)
     if done.returncode not in (0, 1):
-        raise error_of(done.returncode, done.stderr, ["run", *more], path)
+        # (a pipe has been read by now)
+        regular = path if path is not None and os.path.isfile(path) else None
+        raise error_of(done.returncode, done.stderr, ["run", *more], regular, _handed(text))
     return result_of(done.returncode, done.stdout, str(options.get("print", "results")))
+
+
+def _handed(trace: io.StringIO) -> Iterator[Handed]:
+    """The rows of a trace that was written, as they are told of: each with the tick of the one before."""
+    before = 0
+    for number, line in enumerate(trace.getvalue().splitlines(keepends=True)[1:], 1):
+        yield Handed(number, before, line)
+        tick = line.partition(",")[0]
+        before = int(tick) if tick.isdecimal() else before
 
 
 def result_of(status: int, printed: bytes, what: str) -> Result:

@@ -393,7 +393,7 @@ def _wrong_field(
     if not re.fullmatch(r"[0-9]{1,13}", tick) or int(tick) > LATEST_TICK:
         return "tick", f"the first field must be a tick, 0 to {LATEST_TICK} in digits, and is {_shown(tick)}"
     if int(tick) < last[0]:
-        told = "at which the module stands" if last[1] is None else f"the tick of the row before (line {last[1]})"
+        told = f"the tick of the row before (line {last[1]})" if last[1] else "at which the module stands" if streams else "the tick of the row before"
         return "order", f"its tick {int(tick)} is below {last[0]}, {told}"
     ops = ["R", "W", "M", "C", *[*SETTLING] * streams]
     if op not in ops:
@@ -472,7 +472,7 @@ def wrong_row(row: Handed, shape: Tuple[int, int, bool]) -> Optional[Tuple[str, 
     told = _wrong_field(record, (row.before, None), shape, row.number)
     if told is None:
         return None
-    settles = SETTLING.get(record[1]) if len(record) == 4 else None
+    settles = SETTLING.get(record[1]) if shape[2] and len(record) == 4 else None
     return told[0], (f"{settles} before row {row.number}" if settles else f"row {row.number}") + f": {told[1]}"
 
 

@@ -226,6 +226,55 @@ class Streams(unittest.TestCase):
             module.close()
             self.assertIsNotNone(module._process.returncode)
 
+    def closed(self, *, known=0, **options):
+        """A module that was closed before its end, when so many outcomes were known that nobody had taken."""
+        module = pcm.Module(**SMALL, **options)
+        for tick in range(known):
+            module.cut(tick)
+        module.banks(known)
+        module.cut(known)
+        module.close()
+        return module
+
+    def test_a_closed_module_tells_what_is_known_or_that_it_is_closed(self):
+        for known in (0, 3):
+            module = self.closed(known=known)
+            for call in (
+                module.finish, lambda: module.settle(9), lambda: module.banks(9), module.wear, lambda: module.read(9, 0), lambda: module.play([]),
+            ):
+                with self.assertRaisesRegex(ValueError, "^the module is closed$"):
+                    call()
+                module.close()
+            self.assertEqual(list(range(1, known + 1)), [it.row for it in module.outcomes()])
+            self.assertEqual((None, None), (module.status, module.shape))
+        module = self.closed(tell="shape")
+        self.assertEqual(4, module.shape.lines)
+        module = pcm.Module(tell="shape", **SMALL)
+        module.close()
+        with self.assertRaisesRegex(ValueError, "^the module is closed$"):
+            self.assertIsNone(module.shape)
+        with pcm.Module(**SMALL) as module:
+            module.read(0, 0)
+            module.close()
+            self.assertEqual([], list(module.outcomes()))
+
+    def test_what_has_ended_is_told_behind_a_close(self):
+        ended, faulty, killed = (pcm.Module(**SMALL) for _ in range(3))
+        ended.cut(3)
+        self.assertEqual([1], [it.row for it in ended.finish()])
+        ended.close()
+        self.assertEqual(([], 0), (ended.finish(), ended.status))
+        faulty.read(100, 9)
+        killed._process.kill()
+        for module, kind in ((faulty, pcm.TraceError), (killed, pcm.PcmError)):
+            texts = set()
+            for call in (lambda module=module: module.settle(100), module.finish, module.close, module.finish, module.close, module.finish):
+                try:
+                    call()
+                except kind as wrong:
+                    texts.add(str(wrong))
+            self.assertEqual(1, len(texts))
+
 
 class Packages(unittest.TestCase):
     def installed(self, folder, *words):

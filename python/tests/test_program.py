@@ -26,9 +26,13 @@ path) echo "building {room}" >&2; case $2 in stream) echo {room}/streams ;; expl
 *) echo "not asked for" >&2; exit 70 ;;
 esac
 """
-# Twenty modules of faulty rows, whose exceptions are kept; prints how many descriptors are open before and behind them.
+# Twenty modules of faulty rows, whose exceptions are kept, and of logs that can't be written; prints how many descriptors are open before and
+# behind them, and how many programs still run.
 LEAKS = """
-import os, pcm
+import io, os, pcm
+class Full(io.StringIO):
+    def write(self, text):
+        raise OSError(28, "no room")
 def faulty():
     try:
         with pcm.Module() as module:
@@ -44,7 +48,17 @@ for _ in range(20):
         pcm.Module(program="/nowhere/pcm")
     except FileNotFoundError as fault:
         faults.append(fault)
-print(opened, len(os.listdir("/proc/self/fd")), {str(fault) for fault in faults if isinstance(fault, pcm.TraceError)})
+    for log in (Full(), open(os.devnull)):
+        try:
+            pcm.Module(log=log)
+        except OSError as fault:
+            faults.append(fault)
+        log.close()
+try:
+    left = os.waitpid(-1, os.WNOHANG)
+except ChildProcessError:
+    left = None
+print(opened, len(os.listdir("/proc/self/fd")), left, len(faults), {str(fault) for fault in faults if isinstance(fault, pcm.TraceError)})
 """
 SLOW = """#!/bin/sh
 echo rows,tick,stored,merged,queued,full,worn,read,forwarded,busy,lost,cut,retired,pulses,most,mean,pointers,senses,set,reset
@@ -131,6 +145,33 @@ class Faults(Rooms):
             pcm.run(path)
         self.assertEqual((2, "order"), (wrong.exception.row, wrong.exception.kind))
         self.assertRegex(str(wrong.exception), r"^line 4: .*\(trace row 2: order\)$")
+
+    def test_a_faulty_row_of_rows_is_told(self):
+        for rows, options, kind, why in (
+            ([pcm.Read(5, 0), pcm.Read(4, 0)], {}, "order", "row 2: its tick 4 is below 5, the tick of the row before"),
+            ([pcm.Read(0, 0), pcm.Read(0, 8)], {"banks": 1, "regions": 1, "lines": 8}, "line",
+             "row 2: the third field must be a line, 0 to 7 (banks x regions x lines are 8) in at most 5 digits, and is '8'"),
+            (iter([pcm.Read(0, 0), pcm.Write(0, 0, ONES[1:])]), {}, "payload",
+             "row 2: the fourth field must have 128 hexadecimal digits, for lines of 64 bytes, and has 126"),
+            ([pcm.Read(0, 0), pcm.Settle(3)], {}, "op", "row 2: the second field must be R, W, M or C, and is 'S' (S, a settle, is a stream's alone)"),
+        ):
+            with self.assertRaises(pcm.TraceError) as wrong:
+                pcm.run(rows, **options)
+            self.assertEqual((3, 2, kind, why), (wrong.exception.status, wrong.exception.row, wrong.exception.kind, wrong.exception.why))
+
+    def test_too_many_rows_are_told(self):
+        with self.assertRaises(pcm.TooLong) as wrong:
+            pcm.run(pcm.PowerCut(0) for _ in range(400_001))
+        self.assertIn("stream has no such bound", wrong.exception.why)
+
+    def test_a_pipe_is_not_read_again(self):
+        pipe = self.room / "pipe"
+        os.mkfifo(pipe)
+        code = f"import pcm\ntry: pcm.run({str(pipe)!r})\nexcept pcm.TraceError as wrong: print(wrong.kind, wrong.why)"
+        with subprocess.Popen([sys.executable, "-c", code], env=around(), stdout=subprocess.PIPE) as it:
+            self.addCleanup(it.kill)
+            pipe.write_bytes(b"x\n")
+            self.assertEqual(b"header None\n", it.communicate(timeout=20)[0])
 
     def test_a_faulty_row_of_a_module_is_told(self):
         def far(module):
@@ -246,6 +287,62 @@ class Faults(Rooms):
         self.assertEqual([pcm.Write, pcm.PowerCut, pcm.MaskedWrite, pcm.Read], [type(it) for it in rows])
         self.assertEqual([it.outcome for it in pcm.run(rows, misses=3).rows], sorted(told, key=lambda it: it.row))
 
+    def test_a_row_that_the_log_does_not_take_is_not_sent(self):
+        class Once(io.StringIO):
+            """A file on a disk that is full for one write."""
+
+            def write(self, text):
+                if text.startswith("50,W,1,"):
+                    raise OSError(28, "no room")
+                return super().write(text)
+
+        log = Once()
+        with pcm.Module(log=log, banks=1, write_queue=1) as module:
+            self.assertEqual(1, module.write(0, 0, ONES))
+            with self.assertRaisesRegex(OSError, "no room"):
+                module.write(50, 1, ONES)
+            self.assertEqual(0, module.tick)
+            self.assertEqual((2, 3), (module.write(50, 2, ONES), module.write(50, 3, ONES)))
+            self.assertEqual([(1, "stored"), (3, "full")], [(it.row, it.word) for it in module.settle(50)])
+            self.assertEqual([(2, "stored", 65)], [(it.row, it.word, it.tick) for it in module.settle_until(2, 5000)])
+        self.assertEqual(["0,W,0", "50,W,2", "50,W,3"], [line.rpartition(",")[0] for line in log.getvalue().splitlines()[1:]])
+
+    def test_a_log_is_played_into_another_module(self):
+        options, log, again = {"misses": 3, "write_queue": 2}, io.StringIO(), io.StringIO()
+        with pcm.Module(log=log, **options) as module:
+            told = []
+            for tick in range(0, 400, 8):
+                module.write(tick, tick % 7, bytes([tick % 256]) * 64)
+                module.write_masked(tick, tick % 5, [tick % 256] + [None] * 63)
+                told += module.settle_until(module.read(tick, 3), tick + 5)
+            module.cut(module.tick)
+            told += module.settle(module.tick)
+            wear = module.wear()
+        rows = list(pcm.read_trace(io.StringIO(log.getvalue(), newline="")))
+        with pcm.Module(log=again, **options) as module:
+            self.assertEqual(sorted(told, key=lambda it: it.row), sorted(module.play(rows[:70]) + module.play(rows[70:]), key=lambda it: it.row))
+            self.assertEqual((rows[-1].tick, wear), (module.tick, module.wear()))
+            self.assertEqual([], module.play([pcm.Settle(0), pcm.SettleUntil(0, 1)]))
+            self.assertEqual(152, module.read(module.tick, 0))
+            with self.assertRaisesRegex(TypeError, "no row of a trace: '0,R,0,'"):
+                module.play(["0,R,0,"])
+        self.assertTrue(again.getvalue().startswith(log.getvalue()))
+
+    def test_a_log_with_the_power_off_ends_as_its_cut(self):
+        for is_cut in (False, True):
+            log = io.StringIO()
+            with pcm.Module(log=log, end="off") as module:
+                told = module.settle_until(module.write(0, 0, ONES), 1000)
+                if is_cut:
+                    module.cut(module.tick)
+                told += module.finish()
+            with pcm.Module(end="off") as module:
+                for row in pcm.read_trace(io.StringIO(log.getvalue(), newline="")):
+                    module._hand(row.tick, row.text())
+                again = module.finish()
+            self.assertEqual([(1, "stored", 15), (2, "cut", 15)], [(it.row, it.word, it.tick) for it in told])
+            self.assertEqual((is_cut, [2, 1] if not is_cut else [1, 2]), (again == told, [it.row for it in again]))
+
     def test_traces_are_taken_as_the_program_takes_them(self):
         path = self.room / "trace.csv"
         path.write_bytes(b'\xef\xbb\xbf"tick",op,arg,data\r\n\r\n0,"W",0,' + b"ff" * 64 + b'\n"9",R,"0",\n\n')
@@ -326,8 +423,8 @@ class Open(unittest.TestCase):
     @unittest.skipUnless(pathlib.Path("/proc/self/fd").exists(), "open descriptors are told by /proc")
     def test_a_module_leaves_nothing_open_whatever_ends_it(self):
         done = subprocess.run([sys.executable, "-X", "dev", "-W", "error", "-c", LEAKS], env=around(), capture_output=True, text=True, check=True)
-        before, behind, faults = done.stdout.split(maxsplit=2)
-        self.assertEqual(("", before), (done.stderr, behind))
+        before, behind, left, count, faults = done.stdout.split(maxsplit=4)
+        self.assertEqual(("", before, "None", "80"), (done.stderr, behind, left, count))
         self.assertEqual("{'a settle before row 2: its tick 3 is below 5, at which the module stands (trace row 2: order)'}\n", faults)
 
 
