@@ -1,7 +1,9 @@
 #!/usr/bin/env python3
 """Tests of tools/build and of ./pcm, over a small repository and a kit that proves nothing: what is built and when, what is kept and where,
-what is said, and that nothing is left where the gate refuses it; and of what the examples' checks count. They need no kit and take
-seconds."""
+what is said, and that nothing is left where the gate refuses it; of what the examples' checks count, and of what bench/refuse-calls
+notices. They need no kit and take seconds."""
+import contextlib
+import io
 import os
 import pathlib
 import shutil
@@ -14,9 +16,11 @@ import time
 import unittest
 
 sys.dont_write_bytecode = True
-import pages
-
 TOP = pathlib.Path(__file__).resolve().parent.parent
+sys.path.append(str(TOP / "bench"))
+import pages
+import refusing
+
 # A compiler that notes for which crate it was called, waits as long as the file `slow` says, and makes what a compiler makes.
 COMPILER = """#!/bin/sh
 kit={kit}
@@ -812,6 +816,61 @@ unittest.main()
     def test_no_other_script_counts(self):
         scripts = [it for it in (TOP / "examples").rglob("*") if it.is_file() and it.read_bytes()[:20].partition(b"\n")[0].endswith(b"sh")]
         self.assertEqual([it for it in scripts if " passed, " in it.read_text()], [])
+
+
+@unittest.skipUnless(shutil.which("cc"), "there is no C compiler")
+class Refused(unittest.TestCase):
+    """What is noticed of a program that prints what it reads, where its calls fail."""
+
+    PROGRAM = """
+#include <string.h>
+#include <unistd.h>
+static char bytes[64];
+static int fault(int status, const char *line) { return write(2, line, strlen(line)) < 0 ? 5 : status; }
+int main(void) {
+    ssize_t held = 0, done = 0, count;
+    while ((count = read(0, bytes + held, sizeof bytes - held)) != 0) {
+        if (count < 0) READ_FAILED;
+        held += count;
+    }
+    for (; done < held; done += count) {
+        count = write(1, bytes + done, held - done);
+        if (count < 0) WRITE_FAILED;
+    }
+    return 0;
+}
+"""
+    TELLS = {"READ_FAILED": 'return fault(4, "read fault\\n")', "WRITE_FAILED": 'return fault(5, "write fault\\n")'}
+
+    def setUp(self):
+        self.room = pathlib.Path(tempfile.mkdtemp(prefix="pcm tools "))
+        self.addCleanup(shutil.rmtree, self.room)
+
+    def noticed(self, **does):
+        """What is noticed of its reads and of its writes, each by the calls that are refused."""
+        defined = [f"-D{name}={text}" for name, text in {**self.TELLS, **does}.items()]
+        subprocess.run(["cc", *defined, "-x", "c", "-", "-o", self.room / "program"], input=self.PROGRAM, text=True, check=True)
+        run = refusing.Run(str(self.room / "program"), "it", "", b"one\ntwo\n")
+        library = refusing.Refusing(self.room, "cc")
+        for kind in (refusing.Reads, refusing.Writes):
+            with contextlib.redirect_stderr(io.StringIO()) as said:
+                trial = kind(library, run, 100)
+            self.assertGreater(trial.tried, 10)
+            self.assertEqual(trial.wrong(), len(said.getvalue().splitlines()))
+            yield said.getvalue()
+
+    def test_faults_that_are_told_pass(self):
+        self.assertEqual(list(self.noticed()), ["", ""])
+
+    def test_a_failed_read_that_is_swallowed_is_noticed(self):
+        reads, writes = self.noticed(READ_FAILED="break")
+        self.assertIn("it: reads: REFUSE=1: status 0, 0 bytes", reads)
+        self.assertEqual(writes, "")
+
+    def test_a_failed_write_that_counts_as_done_is_noticed(self):
+        reads, writes = self.noticed(WRITE_FAILED="return 0")
+        self.assertEqual(reads, "")
+        self.assertIn("it: writes: REFUSE=1: status 0, 0 bytes", writes)
 
 
 if __name__ == "__main__":
