@@ -252,6 +252,34 @@ class Latencies(Room):
         self.assertEqual(3, status)
         self.assertIn("the second field must be R, W, M, C, S, Q, U or L", err)
 
+    def test_rows_that_are_cut_off_and_rows_without_an_outcome(self):
+        trace, _, _, told = self.both(DRAWN)
+        lines = told.splitlines(keepends=True)
+        odd, few = self.file("odd", told[:2000]), self.file("few", b"".join(lines[:11]))
+        ended = told[:2000].count(b"\n")
+        rest = len(lines) - 1 - sum(it[:1] != b"," for it in lines[1:11])
+        for more in ((), ("--python",)):
+            said = "the line isn't ended, so the rows are cut off"
+            self.refused(3, f"latencies: row {ended}: {said}", latencies, odd, "--trace", trace, *more)
+            with open(odd, "rb") as source, mock.patch("sys.stdin", mock.Mock(buffer=source)):
+                status, out, err = self.told(latencies, "-", "--trace", trace, *more)
+                self.assertEqual((3, ""), (status, out))
+                self.assertRegex(err, rf"^latencies: (the last row|row {ended}): {said}\n$")
+            status, out, err = self.told(latencies, few, "--trace", trace, *more)
+            self.assertEqual((0, ""), (status, err))
+            self.assertRegex(out.splitlines()[-1], rf"^counted in (C|Python); {rest:,} rows of the trace without an outcome$")
+            status, out, err = self.told(latencies, few, "--trace", trace, "--csv", *more)
+            self.assertEqual((0, f"latencies: {rest:,} rows of the trace without an outcome\n"), (status, err))
+            self.refused(3, "latencies: row 0: not the header of a stream's rows", latencies, os.devnull, "--trace", trace, *more)
+
+    def test_a_row_has_the_outcome_of_its_operation(self):
+        trace, _, _, told = self.both(DRAWN)
+        for old, new in ((b",read,", b",stored,"), (b",stored,", b",forwarded,"), (b",read,", b",cut,")):
+            at = told[: told.index(old)].count(b"\n")
+            other = self.file("other", told.replace(old, new, 1))
+            for more in ((), ("--python",)):
+                self.refused(3, f"latencies: row {at}: not an outcome of a row of this trace", latencies, other, "--trace", trace, *more)
+
     def test_no_compiler_is_no_hindrance(self):
         with mock.patch("shutil.which", lambda name: None), latencies.compiled() as built:
             self.assertIsNone(built)
