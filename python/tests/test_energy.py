@@ -161,6 +161,20 @@ class Energy(Room):
         self.assertIn('<th scope="row">energy of sets</th><td>61.00</td>', text)
         self.assertIn("accepted writes last", text)
 
+    def test_what_tells_of_energy_is_refused_where_none_is_told(self):
+        rows = self.file("rows", "row,outcome,tick,place,data\n1,full,0,,\n")
+        for words in (("--set-pj", "3"), ("--sense-pj", "3"), ("--rate", "5")):
+            self.refused(2, f"report: {words[0]} is told of snapshots that count energy alone, and there are none", report, rows, *words)
+            line = f"report: {words[0]} is told of snapshots alone: give --every N, too"
+            self.refused(2, line, report, "--run", "--input", "drawn", *words)
+        page = str(self.folder / "page")
+        self.assertEqual((0, "", ""), self.told(report, rows, "--device", "lee2009", "--output", page))
+        text = pathlib.Path(page).read_text()
+        self.assertIn("Left out: maps of wear, for which a wear report is wanted", text)
+        self.assertIn("; energy, for which snapshots are wanted", text)
+        self.assertEqual((0, "", ""), self.told(report, "--run", "--input", "drawn", "--every", "100", "--rate", "5", "--output", page))
+        self.assertNotIn("Left out", pathlib.Path(page).read_text())
+
 
 class Latencies(Room):
     def test_spreads_are_exact(self):
