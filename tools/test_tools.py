@@ -725,6 +725,17 @@ class Watching(unittest.TestCase):
         done = self.watch("echo header; echo 5000,1; sleep 1.4", "--input=drawn", "--rows=4")
         self.assertRegex(done.stderr, "^1 rows, .* a second, 25%, about")
 
+    def test_of_what_prints_in_the_end_it_tells_the_time(self):
+        done = self.watch("sleep 1.4; echo rows 5", "--print", "summary", stdin=subprocess.DEVNULL)
+        self.assertEqual(done.stdout, "rows 5\n")
+        self.assertRegex(done.stderr, r"^1 s\n$")
+        with tempfile.TemporaryFile() as trace:
+            trace.write(bytes(1000))
+            trace.flush()
+            trace.seek(0)
+            done = self.watch("head -c 500 >/dev/null; sleep 1.4", "--print", "summary", stdin=trace)
+        self.assertRegex(done.stderr, r"^1 s, (50|100)%")
+
 
 class Counting(unittest.TestCase):
     """What the checks of examples/ count, in each shell that is here."""
