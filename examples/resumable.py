@@ -21,7 +21,7 @@ if signal.getsignal(signal.SIGINT) is signal.default_int_handler:
     signal.signal(signal.SIGINT, signal.SIG_DFL)
 sys.dont_write_bytecode = True
 sys.path[1:1] = [os.path.join(os.path.dirname(os.path.dirname(os.path.realpath(__file__))), "python")]
-from pcm import PcmError, command  # noqa: E402
+from pcm import PcmError, UsageError, command  # noqa: E402
 from pcm.progress import Progress  # noqa: E402
 from pcm.words import explain  # noqa: E402
 
@@ -263,7 +263,7 @@ class Runs:
 
 
 def begin(main, words):
-    """The status of a script whose `main` takes these words: 1 where it refuses, 130 where it is broken off."""
+    """The status of a script whose `main` takes these words: 1 where it refuses, 2 where words are wrong, 130 where it is broken off."""
     if signal.getsignal(signal.SIGINT) is signal.SIG_DFL:
         signal.signal(signal.SIGINT, signal.default_int_handler)
     for stream in (sys.stdout, sys.stderr):
@@ -280,6 +280,10 @@ def begin(main, words):
         leave_output()
         print(why, file=sys.stderr)
         return 1
+    except PcmError as why:
+        leave_output()
+        print(why, file=sys.stderr)
+        return 2 if isinstance(why, UsageError) else 1
     except KeyboardInterrupt:
         leave_output()
         print("broken off; what was written is kept", file=sys.stderr)
@@ -294,9 +298,9 @@ def leave_output():
         os.dup2(os.open(os.devnull, os.O_WRONLY), sys.stdout.fileno())
 
 
-def add_words(parser, here):
-    """The words that all such scripts have."""
-    parser.add_argument("--jobs", type=int, default=1, metavar="N", help="how many runs go on at a time (1)")
+def add_words(parser, here, jobs=1, told="1"):
+    """The words that all such scripts have; so many runs, told so, go on at a time where none says it."""
+    parser.add_argument("--jobs", type=int, default=jobs, metavar="N", help=f"how many runs go on at a time ({told})")
     parser.add_argument("--pcm", default=os.path.join(here, "..", "pcm"), metavar="PROGRAM", help="the program (pcm beside examples)")
     parser.add_argument(
         "--progress", action="store_true", default=None, help="tell how far it is, also where standard error isn't a terminal",

@@ -429,6 +429,23 @@ class Wrapper(unittest.TestCase):
         self.assertEqual(done.returncode, 3)
         self.assertEqual(done.stderr, "trace row 2: order\npcm: line 4: its tick 3 is below 5, the tick of the row before (line 3)\n")
 
+    def test_progress_is_told_of_runs_and_streams_and_their_words_go_on(self):
+        self.assertEqual(self.room.run("pcm", "run", "--progress", "--psi", "5").stdout, "pcm_cli run --psi 5\n")
+        self.assertEqual(self.room.run("pcm", "run", "--psi", "5 5", "--progress").stdout, "pcm_cli run --psi 5 5\n")
+        self.assertEqual(self.room.run("pcm", "stream", "--progress", "--psi", "5").stdout, "pcm_stream --psi 5\n")
+        done = self.room.run("pcm", "run", "--psi", "0", "--progress", PCM_EXPLAIN="1")
+        said = ["usage: pcm run|gen|map|moves|show|check [options]", "pcm: --psi 0: it may be 1 to 65535"]
+        self.assertEqual((done.returncode, done.stderr.splitlines()), (2, said))
+
+    def test_a_closed_output_is_the_programs_to_tell(self):
+        ended = []
+        for told in "01":
+            words, around = ["sh", "-c", f"'{self.room.top}/pcm' map >&-"], {**self.room.around, "PCM_EXPLAIN": told}
+            done = subprocess.run(words, env=around, capture_output=True, text=True, timeout=20)
+            ended.append((done.returncode, done.stderr))
+        self.assertEqual(ended[0], ended[1])
+        self.assertNotIn("/pcm: ", ended[1][1])
+
     def test_a_pipe_that_is_closed_ends_it(self):
         words = f"'{self.room.top}/pcm' map | head -c 0; exit ${{PIPESTATUS[0]}}"
         done = subprocess.run(["bash", "-c", words], env={**self.room.around, "PCM_EXPLAIN": "1"}, capture_output=True, timeout=20)
@@ -711,6 +728,17 @@ class Watching(unittest.TestCase):
         self.assertRegex(done.stderr, r"^5,000 rows, [0-9,]+ a second\n")
         done = self.watch("echo header; echo 5000,1; sleep 1.4", "--input=drawn", "--rows=4")
         self.assertRegex(done.stderr, "^1 rows, .* a second, 25%, about")
+
+    def test_of_what_prints_in_the_end_it_tells_the_time(self):
+        done = self.watch("sleep 1.4; echo rows 5", "--print", "summary", stdin=subprocess.DEVNULL)
+        self.assertEqual(done.stdout, "rows 5\n")
+        self.assertRegex(done.stderr, r"^1 s\n$")
+        with tempfile.TemporaryFile() as trace:
+            trace.write(bytes(1000))
+            trace.flush()
+            trace.seek(0)
+            done = self.watch("head -c 500 >/dev/null; sleep 1.4", "--print", "summary", stdin=trace)
+        self.assertRegex(done.stderr, r"^1 s, (50|100)%")
 
 
 class Counting(unittest.TestCase):

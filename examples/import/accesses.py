@@ -39,6 +39,10 @@ class Refusal(Exception):
     """Why the input isn't taken."""
 
 
+class WrongWords(Refusal):
+    """Why the options aren't taken."""
+
+
 class Access(NamedTuple):
     """One access of a trace. `data` has its `size` bytes, where the format tells them."""
 
@@ -96,9 +100,9 @@ class Cache:
 
     def __init__(self, options: argparse.Namespace):
         if options.cache % options.ways:
-            raise Refusal(f"--cache {options.cache} isn't a multiple of --ways {options.ways}")
+            raise WrongWords(f"--cache {options.cache} isn't a multiple of --ways {options.ways}")
         if options.data == "trace":
-            raise Refusal("a cache has no bytes of the trace: --data zero, address or seed")
+            raise WrongWords("a cache has no bytes of the trace: --data zero, address or seed")
         self.size, self.ways = options.size, options.ways
         # (of each set its lines, the least recently used first, and whether each was written to)
         self.sets = [{} for _ in range(options.cache // options.ways)]
@@ -238,14 +242,22 @@ def stream(importer: Importer, options: argparse.Namespace, source, out) -> None
 
 def write_whole(importer: Importer, options: argparse.Namespace, source, out) -> None:
     """Writes one trace or numbered pieces, once all of the input is read."""
-    beside = None if options.pieces is None else os.path.dirname(options.pieces) or "."
-    with tempfile.TemporaryDirectory(prefix="pcm-import-", dir=beside) as folder:
+    with room_for(options.pieces) as folder:
         pieces = Pieces(folder, options)
         try:
             gather(importer, options, source, pieces.add)
         finally:
             pieces.close()
         hand_out(pieces, options, out)
+
+
+def room_for(pieces: Optional[str]) -> "tempfile.TemporaryDirectory[str]":
+    """A folder for what is gathered, beside the pieces where these are named."""
+    beside = None if pieces is None else os.path.dirname(pieces) or "."
+    try:
+        return tempfile.TemporaryDirectory(prefix="pcm-import-", dir=beside)
+    except OSError as why:
+        raise Refusal(f"{why.filename if pieces is None else pieces}: {why.strerror}") from None
 
 
 def hand_out(pieces: Pieces, options: argparse.Namespace, out) -> None:
@@ -270,17 +282,26 @@ def ranged(least: int, most: int) -> Callable[[str], int]:
     return number
 
 
+def module_lines(text: str) -> int:
+    """Reads the lines of a module."""
+    lines = ranged(4, MOST_LINES)(text)
+    if lines & (lines - 1):
+        raise argparse.ArgumentTypeError(f"{text} isn't a power of two, as the lines of a module are")
+    return lines
+
+
 def parser_of(importer: Importer) -> argparse.ArgumentParser:
     """The options that every importer has, and this one's own."""
     parser = argparse.ArgumentParser(description=importer.head, formatter_class=argparse.RawDescriptionHelpFormatter, allow_abbrev=False)
     rules = ["zero", "address", "seed"] + ["trace"] * importer.has_data
     parser.add_argument("--size", type=int, choices=[64, 128], default=64, help="bytes of a line, as run's --line (64)")
-    parser.add_argument("--lines", type=ranged(1, MOST_LINES), default=512, metavar="N", help="lines of the module: banks*regions*lines (512); those of "
+    parser.add_argument("--lines", type=module_lines, default=512, metavar="N", help="lines of the module: banks*regions*lines (512); those of "
                         "run have at most 65536, of streams 67108864")
     parser.add_argument("--fold", action="store_true", help="take lines modulo --lines; else one beyond them is refused")
     parser.add_argument("--per-tick", type=ranged(1, 10**12), default=1, metavar="CYCLES", help="cycles of the trace in a tick (1)")
     parser.add_argument("--data", choices=rules, default=rules[-1], help="the bytes of writes: all 0; in each eight bytes their own "
-                        "address, lowest byte first; words of SplitMix64, new ones for each row; or those of the trace (%(default)s)")
+                        f"address, lowest byte first; {'' if importer.has_data else 'or '}words of SplitMix64, new ones for each row"
+                        f"{'; or those of the trace' if importer.has_data else ''} (%(default)s)")
     parser.add_argument("--seed", type=ranged(0, 2**64 - 1), default=0, help="seed of the words (0)")
     parser.add_argument("--cache", type=ranged(1, 2**24), metavar="N", help="lines of a write-back cache in front of the memory (none)")
     parser.add_argument("--ways", type=ranged(1, 2**24), default=4, metavar="N", help="lines of a set of the cache (4)")
@@ -293,8 +314,15 @@ def parser_of(importer: Importer) -> argparse.ArgumentParser:
 
 
 def main(importer: Importer, words, source, out, told) -> int:
-    """Runs an importer; its status is 0, 1 where the input is refused or the output isn't taken, or 130 where it is broken off."""
-    options = parser_of(importer).parse_args(words)
+    """Runs an importer; its status is 0, 1 where the input is refused or the output isn't taken, or 130 where it is broken off. Of wrong
+    words the parser tells, and ends the process with status 2."""
+    parser = parser_of(importer)
+    options = parser.parse_args(words)
+    try:
+        importer.reader(options)
+        Rows(options)
+    except WrongWords as why:
+        parser.error(str(why))
     write = stream if options.stream else write_whole
     try:
         write(importer, options, source, out)

@@ -54,14 +54,14 @@ TOO_LARGE = {
 
 
 def run(tool, text, *words):
-    """What an importer prints for a text: its status, standard output and standard error."""
+    """What an importer prints for a text: its status, standard output and standard error, of wrong words what is said of them."""
     out, told = io.BytesIO(), io.StringIO()
     source = io.BytesIO(text.encode("latin-1"))
     try:
         with contextlib.redirect_stderr(told):
             status = accesses.main(tool.IMPORTER, list(words), source, out, told)
     except SystemExit as stop:
-        return stop.code, out.getvalue().decode(), "usage"
+        return stop.code, out.getvalue().decode(), told.getvalue().rpartition(": error: ")[2]
     return status, out.getvalue().decode(), told.getvalue()
 
 
@@ -91,7 +91,7 @@ def answers_of_all():
         status, printed, told = run(tool, TOO_LARGE[tool], "--fold")
         why = "an address beyond 2^64" if tool is gem5 else "not of the form " + FORMS[tool]
         yield same(name + ", 2^64", (status, printed, told), (1, "", f"line 1: {why}\n"))
-        yield same(name + ", bad option", run(tool, line, "--size", "32"), (2, "", "usage"))
+        yield same(name + ", bad option", run(tool, line, "--size", "32")[:2], (2, ""))
 
 
 def answers_of_options():
@@ -105,7 +105,12 @@ def answers_of_options():
     two = "7,M,0," + ".." * 63 + "00\n7,M,1,00" + ".." * 63 + "\n"
     yield same("two lines", run(gem5, "w,63,2,0,70\n", "--data", "zero", "--per-tick", "10"), (0, HEADER + two, ""))
     yield same("lines of 128", run(gem5, "r,192,64,0,70\n", "--size", "128"), (0, HEADER + "70,R,1,\n", ""))
-    yield same("lines and fold", run(gem5, "r,192,64,0,70\n", "--lines", "2", "--fold"), (0, HEADER + "70,R,1,\n", ""))
+    yield same("lines and fold", run(gem5, "r,320,64,0,70\n", "--lines", "4", "--fold"), (0, HEADER + "70,R,1,\n", ""))
+    for lines, why in (("1000", "1000 isn't a power of two, as the lines of a module are"), ("2", "2 isn't a number from 4 to 67108864")):
+        yield same(f"{lines} lines", run(gem5, "", "--lines", lines), (2, "", f"argument --lines: {why}\n"))
+    for tool in GOOD:
+        told = " ".join(accesses.parser_of(tool.IMPORTER).format_help().split())
+        yield same(f"{tool.__name__}, help of --data", "or those of the trace" in told, tool is nvmain)
     falls = (1, "", "line 2: cycle 69 comes behind cycle 70\n")
     yield same("cycles fall", run(gem5, "r,0,64,0,70\nr,0,64,0,69\n"), falls)
     yield same("tick 2^40", run(gem5, f"r,0,64,0,{2**40}\n"), (0, HEADER + f"{2**40},R,0,\n", ""))
@@ -172,6 +177,9 @@ def answers_of_columns():
     for name, text, words, why in (
         ("few fields", "70,r,192\n", plain, "line 1: 3 fields, where column 4 is read"),
         ("a bad time", "1e3,r,192,64\n", plain, "line 1: the time is '1e3', not a decimal number"),
+        ("a late time", f"{'9' * 23},r,192,64\n", plain, f"line 1: the time is '{'9' * 23}', which is too large"),
+        ("a late fraction", f"{'9' * 23}.5,r,192,64\n", plain, f"line 1: the time is '{'9' * 23}.5', which is too large"),
+        ("a far address", f"70,r,{'9' * 23},64\n", plain, f"line 1: the address is '{'9' * 23}', which is too large"),
         ("a bad address", "70,r,c0,64\n", plain, "line 1: the address is 'c0', not a decimal number; see --hex"),
         ("no address", "70,r,,64\n", plain, "line 1: the address is '', not a whole number"),
         ("a bad size", "70,r,192,-1\n", plain, "line 1: the number of bytes is '-1', not a whole number"),
@@ -180,16 +188,20 @@ def answers_of_columns():
         ("open quotes", '70,"r,192,64\n', plain, "line 1: quotes that aren't closed, or with text behind them"),
         ("no such column", "at,does,where\n", names, "line 1: the column 'long' isn't in the first line: at, does, where"),
         ("a column twice", "at,does,where,long,at\n", names, "line 1: the column 'at' stands twice in the first line: at, does, where, long, at"),
-        ("column 0", "", ("--op", "0", "--address", "1"), "columns are numbered from 1"),
-        ("no operations", "", ("--address", "1"), "--op names the column of operations, or --all tells what all of them are"),
-        ("a separator", "", (*plain, "--separator", ",,"), "--separator is one character, tab, comma, semicolon or blanks"),
-        ("a unit", "", (*plain, "--time-unit", "0"), "--time-unit is a number above 0, as 1000 or 0.5, not 0"),
         ("a bad payload", "70,w,192,0\n", payload, "line 1: the payload isn't of hexadecimal digits, two a byte"),
         ("another length", "70,w,192,0102,3\n", (*payload, "--bytes", "5"), "line 1: 2 bytes of payload, where the access has 3"),
         ("times fall", "70,r,192,64\n69,r,192,64\n", plain, "line 2: cycle 69 comes behind cycle 70"),
         ("beyond", "70,r,32768,64\n", plain, "line 1: line 512 is beyond the module's 512 lines; see --lines and --fold"),
     ):
         yield same(f"columns, {name}", run(columns, text, *words), (1, "", why + "\n"))
+    for name, words, why in (
+        ("column 0", ("--op", "0", "--address", "1"), "columns are numbered from 1"),
+        ("no operations", ("--address", "1"), "--op names the column of operations, or --all tells what all of them are"),
+        ("operations twice", (*plain, "--all", "read"), "--all tells what all accesses are, where no --op names the column of operations"),
+        ("a separator", (*plain, "--separator", ",,"), "--separator is one character, tab, comma, semicolon or blanks"),
+        ("a unit", (*plain, "--time-unit", "0"), "--time-unit is a number above 0, as 1000 or 0.5, not 0"),
+    ):
+        yield same(f"columns, {name}", run(columns, "", *words), (2, "", why + "\n"))
 
 
 def answers_of_caches():
@@ -213,9 +225,9 @@ def answers_of_caches():
     yield same("two sets", run(gem5, through(*sets), "--cache", "2", "--ways", "1", *words), wanted)
     falls = (1, "", "line 2: cycle 69 comes behind cycle 70\n")
     yield same("a hit that falls", run(gem5, "r,0,64,0,70\nr,0,64,0,69\n", *one_set), falls)
-    uneven = (1, "", "--cache 6 isn't a multiple of --ways 4\n")
+    uneven = (2, "", "--cache 6 isn't a multiple of --ways 4\n")
     yield same("an uneven cache", run(gem5, "", "--cache", "6"), uneven)
-    yield same("bytes of the trace", run(nvmain, "", "--cache", "8"), (1, "", "a cache has no bytes of the trace: --data zero, address or seed\n"))
+    yield same("bytes of the trace", run(nvmain, "", "--cache", "8"), (2, "", "a cache has no bytes of the trace: --data zero, address or seed\n"))
 
 
 def pieces_of(folder, rows, most):
@@ -241,6 +253,7 @@ def answers_of_pieces():
     whole = [("part-001.csv", HEADER + "1,R,0,\n2,R,1,\n3,R,2,\n")]
     with tempfile.TemporaryDirectory() as folder:
         yield same("one piece", pieces_of(folder, rows, 3), whole)
+    yield same("pieces nowhere", run(gem5, rows, "--pieces", "/nowhere/x"), (1, "", "/nowhere/x: No such file or directory\n"))
     with tempfile.TemporaryDirectory() as folder:
         refused = ("line 4: not of the form " + FORMS[gem5] + "\n", [])
         yield same("pieces of a bad line", pieces_of(folder, rows + "x\n", 2), refused)
@@ -253,7 +266,7 @@ def answers_of_streams():
     yield same("a stream", run(gem5, rows, "--stream", "--most-rows", "2"), (0, told, ""))
     refused = "line 4: not of the form " + FORMS[gem5] + "\n"
     yield same("a stream with a bad line", run(gem5, rows + "x\n" + rows, "--stream"), (1, told, refused))
-    yield same("a stream and pieces", run(gem5, rows, "--stream", "--pieces", "x"), (2, "", "usage"))
+    yield same("a stream and pieces", run(gem5, rows, "--stream", "--pieces", "x")[:2], (2, ""))
 
 
 def main():

@@ -33,10 +33,16 @@ MOST = 2**30
 
 def number(text, name):
     """A whole number of an address or a size."""
-    found = re.fullmatch("[0-9]{1,20}", text)
-    if found is None:
+    if not re.fullmatch("[0-9]+", text):
         raise accesses.Refusal(f"the {name} is '{text}', not a whole number")
-    return int(text)
+    return within(text, text, name)
+
+
+def within(digits, text, name):
+    """The number of some digits of a field, which are at most 20."""
+    if len(digits) > 20:
+        raise accesses.Refusal(f"the {name} is '{text}', which is too large")
+    return int(digits)
 
 
 def address_of(text, is_hex):
@@ -51,8 +57,9 @@ def address_of(text, is_hex):
 
 def cycle_of(text, unit):
     """The cycle of a time."""
-    if not re.fullmatch(r"[0-9]{1,20}(\.[0-9]{0,20})?", text):
+    if not re.fullmatch(r"[0-9]+(\.[0-9]{0,20})?", text):
         raise accesses.Refusal(f"the time is '{text}', not a decimal number")
+    within(text.partition(".")[0], text, "time")
     return int(fractions.Fraction(text.rstrip(".")) * unit)
 
 
@@ -70,7 +77,7 @@ class Columns:
         """The places of columns by their numbers."""
         places = {name: int(column) - 1 for name, column in asked.items()}
         if min(places.values()) < 0:
-            raise accesses.Refusal("columns are numbered from 1")
+            raise accesses.WrongWords("columns are numbered from 1")
         return places
 
     def name(self, fields):
@@ -177,12 +184,14 @@ class Table:
 def reader(options):
     """How a line is read."""
     if options.op is None and options.all is None:
-        raise accesses.Refusal("--op names the column of operations, or --all tells what all of them are")
+        raise accesses.WrongWords("--op names the column of operations, or --all tells what all of them are")
+    if options.op is not None and options.all is not None:
+        raise accesses.WrongWords("--all tells what all accesses are, where no --op names the column of operations")
     separator = {"tab": "\t", "comma": ",", "semicolon": ";", "blanks": ","}.get(options.separator, options.separator)
     if len(separator) != 1 or separator in '"\r\n':
-        raise accesses.Refusal("--separator is one character, tab, comma, semicolon or blanks")
+        raise accesses.WrongWords("--separator is one character, tab, comma, semicolon or blanks")
     if not re.fullmatch(r"[0-9]{1,15}(\.[0-9]{1,15})?", options.time_unit) or not float(options.time_unit):
-        raise accesses.Refusal(f"--time-unit is a number above 0, as 1000 or 0.5, not {options.time_unit}")
+        raise accesses.WrongWords(f"--time-unit is a number above 0, as 1000 or 0.5, not {options.time_unit}")
     return Table(options).read
 
 

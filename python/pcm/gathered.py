@@ -62,7 +62,8 @@ def gather(asked: Asked, program: Program = None, progress: Optional[Progress] =
     if options["input"] == "drawn":
         options = {**options, **{name: value for name, value in DRAWN.items() if name not in options}}
     files = [source for source in sources if not asked.runs or source.kind in ("trace", "results", "snapshots")]
-    rows = results_of(by_kind["results"], progress) if "results" in by_kind else []
+    line_bytes = int(asked.options["line"]) if "line" in asked.options else None
+    rows = results_of(by_kind["results"], progress, line_bytes) if "results" in by_kind else []
     run = Run(asked.name or asked.results or asked.trace or "drawn", options, origins, files, rows)
     for kind, read in (
         ("trace", functools.partial(_add_trace, progress=progress)), ("wear report", functools.partial(_add_wear, progress=progress)),

@@ -3,8 +3,9 @@
    usage: latencies TRACE ROWS                                        ROWS is a file, or - for standard input
           latencies --drawn SEED,ROWS,PERCENT,CUTS,STEP,HOT,LINES,BYTES ROWS
 
-   It prints `OUTCOME TICKS COUNT` for each outcome and number of ticks that came, in any order. Status 3: a row isn't of the plain form
-   that it reads fast (quotes, CR, blank lines, a mark): the pass in Python reads those, and says what is wrong where something is. */
+   It prints `OUTCOME TICKS COUNT` for each outcome and number of ticks that came, in any order, and last `without COUNT`, rows of the trace
+   that have no outcome. Status 3: a row isn't of the plain form that it reads fast (quotes, CR, blank lines, a mark): the pass in Python
+   reads those, and says what is wrong where something is. Standard error has a line then where the last of ROWS isn't ended. */
 #include <fcntl.h>
 #include <inttypes.h>
 #include <stdio.h>
@@ -96,13 +97,14 @@ static int map_take(struct map *map, uint64_t key, uint64_t *value)
 
 /* The lines of a file. */
 struct lines {
-    int fd, ended;
+    int fd, ended, whole; /* (whole: its last line has its end) */
     char *text;
     size_t from, until, room;
 };
 
-static void lines_open(struct lines *lines, const char *name)
+static void lines_open(struct lines *lines, const char *name, int whole)
 {
+    lines->whole = whole;
     lines->fd = strcmp(name, "-") ? open(name, O_RDONLY) : 0;
     if (lines->fd < 0) {
         perror(name);
@@ -139,9 +141,12 @@ static char *lines_next(struct lines *lines)
         if (got < 0)
             leave(4, "reading failed");
         lines->ended = got == 0;
-        /* (a trace's last line may lack its end; a row of a stream that isn't whole wasn't told) */
-        if (got == 0 && lines->until > 0 && lines->fd != 0)
+        /* (a trace's last line may lack its end; where a row of a stream does, those behind it are missing) */
+        if (got == 0 && lines->until > 0) {
+            if (lines->whole)
+                leave(3, "the last line isn't ended");
             lines->text[lines->until++] = '\n';
+        }
         lines->until += (size_t)got;
         lines->text[lines->until] = 0;
     }
@@ -196,13 +201,15 @@ static uint64_t drawn[8]; /* seed, rows, percent, cuts, step, hot, lines, bytes 
 static int is_drawn;
 static uint64_t arrived, now;
 static struct map waiting;
+enum { READ, WRITE, CUT };
 
-/* The next row arrives; whether there was one. */
-static int arrive(void)
+/* The next row comes at `now`; what it is, or -1 where there is none. */
+static int come(void)
 {
+    int op = CUT;
     if (is_drawn) {
         if (arrived == drawn[1])
-            return 0;
+            return -1;
         uint64_t part = drawn[1] / (drawn[3] + 1);
         if (part == 0)
             part = 1;
@@ -210,7 +217,8 @@ static int arrive(void)
         now += word() % (drawn[4] + 1);
         if (arrived % part != 0 || arrived / part > drawn[3]) {
             uint64_t which = word();
-            if ((which >> 32) % 100 < drawn[2])
+            op = (which >> 32) % 100 < drawn[2] ? WRITE : READ;
+            if (op == WRITE)
                 for (uint64_t i = 0; i < drawn[7] / 8; i++)
                     word();
         }
@@ -219,18 +227,28 @@ static int arrive(void)
         do {
             line = lines_next(&trace);
             if (!line)
-                return 0;
+                return -1;
             now = number(&line);
             if (!strchr("RWMCSQUL", *line) || line[1] != ',')
                 leave(3, NULL);
         } while (strchr("SQUL", *line));
+        op = *line == 'R' ? READ : *line == 'C' ? CUT : WRITE;
         arrived++;
     }
-    *map_at(&waiting, arrived) = now;
-    return 1;
+    return op;
+}
+
+/* The next row arrives; whether there was one. */
+static int arrive(void)
+{
+    int op = come();
+    if (op >= 0)
+        *map_at(&waiting, arrived) = now * 4 + (uint64_t)op;
+    return op >= 0;
 }
 
 static const char *const OUTCOMES[] = {"stored", "merged", "queued", "full", "worn", "read", "forwarded", "busy", "lost", "cut"};
+static const int OPS[] = {WRITE, WRITE, WRITE, WRITE, WRITE, READ, READ, READ, READ, CUT};
 enum { KINDS = 10, NEAR = 1 << 14 };
 static uint64_t near[KINDS][NEAR];
 static struct map far;
@@ -258,8 +276,9 @@ static void told(char *line)
                 return;
             leave(3, NULL);
         }
-    if (!map_take(&waiting, row, &came) || tick < came)
+    if (!map_take(&waiting, row, &came) || tick < came / 4 || came % 4 != (uint64_t)OPS[kind])
         leave(3, NULL);
+    came /= 4;
     if (tick - came < NEAR)
         near[kind][tick - came]++;
     else
@@ -280,17 +299,20 @@ int main(int count, char **words)
             drawn[i] = strtoull(at, &at, 10);
         seeded(drawn[0]);
     } else {
-        lines_open(&trace, words[1]);
+        lines_open(&trace, words[1], 0);
         char *head = lines_next(&trace);
         if (!head || strncmp(head, "tick,op,arg,data\n", 17))
             leave(3, NULL);
     }
-    lines_open(&rows, words[count - 1]);
+    lines_open(&rows, words[count - 1], 1);
     char *line = lines_next(&rows);
-    if (line && strncmp(line, "row,outcome,tick,place,data\n", 28))
+    if (!line || strncmp(line, "row,outcome,tick,place,data\n", 28))
         leave(3, NULL);
     while ((line = lines_next(&rows)))
         told(line);
+    uint64_t without = waiting.used;
+    while (come() >= 0)
+        without++;
     for (int kind = 0; kind < KINDS; kind++)
         for (uint64_t ticks = 0; ticks < NEAR; ticks++)
             if (near[kind][ticks])
@@ -298,5 +320,6 @@ int main(int count, char **words)
     for (size_t at = 0; at <= far.mask; at++)
         if (far.keys[at])
             printf("%s %" PRIu64 " %" PRIu64 "\n", OUTCOMES[(far.keys[at] - 1) % 16], (far.keys[at] - 1) / 16, far.values[at]);
+    printf("without %" PRIu64 "\n", without);
     return fflush(stdout) || ferror(stdout) ? 5 : 0;
 }

@@ -15,7 +15,7 @@ A row for each run and kind: reads that were answered (`reads`: by the array or 
 that were `stored`, and `writes`, stored or merged: how many, the mean of their ticks from arrival to outcome, the least number that 50,
 90, 99 and 99.9 of 100 don't exceed, and the most. No row is sampled or rounded. The text is passed over once, in memory that grows with
 the rows that wait, by a program in C that cc builds, which takes less time than the stream, or, where there is no cc, in Python, which
-takes more; the last line says which."""
+takes more; the last line says which, and how many rows of the trace have no outcome, where some have none."""
 import argparse
 import contextlib
 import os
@@ -30,8 +30,8 @@ from .drawn import Draw, draw_of, drawn
 from .errors import PcmError, ReadFault, UsageError, error_of
 from .program import Program, command
 from .progress import Progress
-from .rows import numbered, read_trace
-from .runs import DRAWN, OUTCOMES, FileFault
+from .rows import PowerCut, Read, Row, numbered, read_trace
+from .runs import DRAWN, OPERATIONS, OUTCOMES, FileFault
 from .tables import Parser, answered, names_of, parsed_options, table
 from .words import COMMANDS, TOLD, wrong_word
 
@@ -42,6 +42,10 @@ KINDS: "Dict[str, Tuple[str, ...]]" = {
     "reads": ("read", "forwarded"), "read": ("read",), "writes": ("stored", "merged"), "stored": ("stored",),
 }
 _HERE = os.path.dirname(os.path.abspath(__file__))
+
+
+# What is said of a last line that isn't whole: the rows behind it are missing.
+UNENDED = "the line isn't ended, so the rows are cut off"
 
 
 class RowsFault(FileFault):
@@ -75,34 +79,41 @@ def spread(histograms: Iterable[Histogram]) -> Spread:
     return Spread(rows, sum(ticks * count for ticks, count in whole.items()) / rows, tuple(found), max(whole))
 
 
+class Counted(NamedTuple):
+    """The histograms of outcomes, and how many rows of the trace have none."""
+
+    found: Dict[str, Histogram]
+    without: int
+
+
 # Arrivals.
 
 
-def _of_file(path: str) -> Iterator[int]:
-    """The ticks of a trace's numbered rows."""
+def _of_file(path: str) -> Iterator[Row]:
+    """A trace's numbered rows."""
     with open(path, encoding="latin-1", newline="") as file:
         try:
             # (a byte order mark, in this encoding)
             mark = file.read(3)
             if mark != "\xef\xbb\xbf":
                 file.seek(0)
-            yield from (row.tick for row in numbered(read_trace(file)))
+            yield from numbered(read_trace(file))
         except ValueError as wrong:
             raise RowsFault(f"{path} {wrong}") from None
 
 
-def in_python(arrivals: Iterator[int], rows: Iterable[bytes]) -> Dict[str, Histogram]:
-    """The histograms of outcomes, by the ticks at which rows arrive and the lines that a stream prints."""
+def in_python(arrivals: Iterator[Row], rows: Iterable[bytes]) -> "Counted":
+    """What is counted by the rows of a trace and the lines that a stream prints."""
     found: Dict[str, Histogram] = {word: {} for word in OUTCOMES}
-    waiting: Dict[int, int] = {}
+    waiting: Dict[int, Tuple[int, str]] = {}
     arrived = 0
     lines = iter(rows)
-    if next(lines, b"").rstrip(b"\n") != TOLD.encode():
+    if next(lines, b"") != TOLD.encode() + b"\n":
         raise RowsFault("row 0: not the header of a stream's rows")
     for at, line in enumerate(lines, 1):
         fields = line.split(b",", 4)
         if not line.endswith(b"\n"):
-            break
+            raise RowsFault(f"row {at}: {UNENDED}")
         if fields[0] == b"":
             continue
         try:
@@ -115,12 +126,14 @@ def in_python(arrivals: Iterator[int], rows: Iterable[bytes]) -> Dict[str, Histo
             if came is None:
                 break
             arrived += 1
-            waiting[arrived] = came
-        ticks = tick - waiting.pop(row, tick if word == "cut" else tick + 1)
-        if ticks < 0:
+            waiting[arrived] = came.tick, "R" if isinstance(came, Read) else "C" if isinstance(came, PowerCut) else "W"
+        if word == "cut" and row == arrived + 1:
+            continue  # (the cut that is added where the power stays off)
+        since, op = waiting.pop(row, (tick + 1, ""))
+        if tick < since or op != OPERATIONS[word]:
             raise RowsFault(f"row {at}: not an outcome of a row of this trace")
-        histogram[ticks] = histogram.get(ticks, 0) + 1
-    return found
+        histogram[tick - since] = histogram.get(tick - since, 0) + 1
+    return Counted(found, len(waiting) + sum(1 for _ in arrivals))
 
 
 # The pass.
@@ -141,10 +154,11 @@ def compiled(wanted: bool = True) -> "Iterator[Optional[str]]":
 
 
 class Passed(NamedTuple):
-    """The histograms of a run's outcomes, and what counted them: `C` or `Python`."""
+    """The histograms of a run's outcomes, what counted them, `C` or `Python`, and how many rows of the trace have no outcome."""
 
     found: Dict[str, Histogram]
     by: str
+    without: int = 0
 
     def spreads(self) -> Dict[str, Spread]:
         """The spread of each kind."""
@@ -171,10 +185,11 @@ def of_files(rows: str, trace: Optional[str], draw: Optional[Draw] = None, built
             if built is not None and rows != "-":
                 found = _by_program([built, *_source(trace, draw), rows])
                 if found is not None:
-                    return Passed(found, "C")
+                    return Passed(found.found, "C", found.without)
             elif built is not None:
                 return _of_pipe(file, trace, draw, built)
-            return Passed(in_python(_arrivals(trace, draw), file), "Python")
+            found = in_python(_arrivals(trace, draw), file)
+            return Passed(found.found, "Python", found.without)
     except OSError as wrong:
         raise ReadFault(4, f"{wrong.filename}: {wrong.strerror}") from None
 
@@ -183,12 +198,14 @@ def _of_pipe(file, trace: Optional[str], draw: Optional[Draw], built: str) -> Pa
     """Those of a pipe, which can't be read twice: a pass in C that gives up ends it."""
     done = subprocess.run([built, *_source(trace, draw), "-"], stdin=file, stdout=subprocess.PIPE, stderr=subprocess.PIPE, check=False)
     if done.returncode == 3:
-        raise RowsFault("the rows, or the trace, aren't of the plain form that is read fast (or not of each other); --python reads any")
-    return Passed(_counted(done), "C")
+        plain = "the rows, or the trace, aren't of the plain form that is read fast (or not of each other); --python reads any"
+        raise RowsFault("the last row: " + UNENDED if done.stderr else plain)
+    found = _counted(done)
+    return Passed(found.found, "C", found.without)
 
 
-def _arrivals(trace: Optional[str], draw: Optional[Draw]) -> Iterator[int]:
-    return _of_file(trace or os.devnull) if draw is None else (row.tick for row in drawn(draw))
+def _arrivals(trace: Optional[str], draw: Optional[Draw]) -> Iterator[Row]:
+    return _of_file(trace or os.devnull) if draw is None else drawn(draw)
 
 
 def _source(trace: Optional[str], draw: Optional[Draw]) -> List[str]:
@@ -196,20 +213,21 @@ def _source(trace: Optional[str], draw: Optional[Draw]) -> List[str]:
     return [trace or os.devnull] if draw is None else ["--drawn", ",".join(map(str, draw))]
 
 
-def _by_program(words: List[str]) -> Optional[Dict[str, Histogram]]:
-    """The histograms by the pass in C; None where it leaves that to Python."""
+def _by_program(words: List[str]) -> Optional[Counted]:
+    """What the pass in C counts; None where it leaves that to Python."""
     done = subprocess.run(words, stdin=subprocess.DEVNULL, stdout=subprocess.PIPE, stderr=subprocess.PIPE, check=False)
     return None if done.returncode == 3 else _counted(done)
 
 
-def _counted(done: "subprocess.CompletedProcess[bytes]") -> Dict[str, Histogram]:
+def _counted(done: "subprocess.CompletedProcess[bytes]") -> Counted:
     if done.returncode != 0:
         raise ReadFault(4, done.stderr.decode(errors="replace").strip() or f"the pass in C ended with status {done.returncode}")
     found: Dict[str, Histogram] = {word: {} for word in OUTCOMES}
-    for line in done.stdout.decode().splitlines():
+    *lines, last = done.stdout.decode().splitlines()
+    for line in lines:
         word, ticks, count = line.split(" ")
         found[word][int(ticks)] = int(count)
-    return found
+    return Counted(found, int(last.split(" ")[1]))
 
 
 def of_run(
@@ -250,13 +268,13 @@ def of_run(
     if found is None:
         # (what the pass in C leaves to Python is run once more)
         return of_run(trace, options, program, None, progress, running)
-    return Passed(found, "Python" if built is None else "C")
+    return Passed(found.found, "Python" if built is None else "C", found.without)
 
 
 def _found(
     process: "subprocess.Popen[bytes]", built: str, words: List[str], given: BinaryIO, trace: Optional[str], progress: Optional[Progress],
-) -> Optional[Dict[str, Histogram]]:
-    """The histograms of a process's rows by the pass in C; None where it leaves them to Python."""
+) -> Optional[Counted]:
+    """What the pass in C counts of a process's rows; None where it leaves them to Python."""
     with subprocess.Popen([built, *words], stdin=process.stdout, stdout=subprocess.PIPE, stderr=subprocess.PIPE) as counting:
         try:
             process.stdout.close()
@@ -336,8 +354,18 @@ def told(given: argparse.Namespace) -> str:
             rows.append([name, kind, one.rows, *(_scaled(number, tick_ns) for number in numbers)])
     by = " and ".join(sorted({passed.by for _, passed in passes}))
     by += "" if tick_ns is None else f", a tick being {tick_ns:g} ns"
+    without = "".join(_without(name if len(passes) > 1 else "", passed.without) for name, passed in passes)
+    if given.csv and without:
+        print(f"latencies: {without[2:]}", file=sys.stderr)
+    by += without
     remark = "" if tick_ns is None or not given.run else other_times(given.device, given.tick_ns, made)
     return table(head, rows, given.csv) + ("" if given.csv else f"counted in {by}\n{remark}")
+
+
+def _without(name: str, count: int) -> str:
+    """How many rows of a run's trace have no outcome, where some have none."""
+    of = f" ({name})" if name else ""
+    return f"; {count:,} row{'s' * (count != 1)} of the trace{of} without an outcome" if count else ""
 
 
 def _scaled(number: "int | float | None", tick_ns: Optional[float]) -> "int | float | None":

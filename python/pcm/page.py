@@ -60,7 +60,7 @@ def _ran(runs: Sequence[Run], version: str) -> Section:
     )
     columns = "".join(f'<th scope="col" class="words">{word}</th>' for word in ("run", "what", "file", "SHA-256"))
     text += f'<div class="wide"><table class="files"><thead><tr>{columns}</tr></thead><tbody>{listed}</tbody></table></div>'
-    return "ran", "What ran", text + f'<p class="soft">pcm {escaped(version)}</p>'
+    return "ran", "What ran", text + f'{_left_out(runs)}<p class="soft">pcm {escaped(version)}</p>'
 
 
 def _values(runs: Sequence[Run], name: str) -> str:
@@ -143,9 +143,24 @@ def _glance(runs: Sequence[Run]) -> str:
     return tabled("Main numbers", ["", *(run.name for run in runs)], rows, "glance")
 
 
+def tells_energy(run: Run) -> bool:
+    """Whether a run's snapshots tell its energy."""
+    return bool(run.snapshots) and run.snapshots[-1].senses is not None
+
+
+def _left_out(runs: Sequence[Run]) -> str:
+    """What the page doesn't tell, and what would tell it."""
+    wants = []
+    if not any(run.wear for run in runs):
+        wants.append("maps of wear, for which a wear report is wanted (--wear FILE; with --run it comes of at most 4,194,304 lines)")
+    if not any(tells_energy(run) for run in runs):
+        wants.append("energy, for which snapshots are wanted (--snapshots FILE, or with --run --every N)")
+    return f"<p>Left out: {escaped('; '.join(wants))}.</p>" if wants else ""
+
+
 def _energy(runs: Sequence[Run]) -> Section:
     """What the runs whose snapshots tell energy cost, figure by figure."""
-    told = [run for run in runs if run.snapshots and run.snapshots[-1].senses is not None]
+    told = [run for run in runs if tells_energy(run)]
     if not told:
         return None
     found = [figures(run.snapshots[-1], line_bytes_of(run.options), run.units, run.rate) for run in told]

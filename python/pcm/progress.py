@@ -45,11 +45,11 @@ class Progress:
     def line(self, done: int, share: Optional[float] = None, what: str = "rows") -> str:
         """The words for so many rows."""
         passed = max(self._clock() - self._begun, 1e-9)
-        words = f"{done:,} {what}, {rate(done / passed)} a second"
-        if share is None:
-            return words
-        words += f", {100 * min(share, 1.0):.0f}%"
-        return words + (f", about {lasting(passed * (1 - share) / share)} more" if 0.0 < share < 1.0 else "")
+        return f"{done:,} {what}, {rate(done / passed)} a second" + _done(share, passed)
+
+    def time(self, share: Optional[float] = None) -> None:
+        """Tells how long work has taken of which no row is known, and where it is known which share of all is done."""
+        self.tell(lambda: f"{lasting(self._clock() - self._begun)}{_done(share, self._clock() - self._begun)}")
 
     def clear(self) -> None:
         """Takes a terminal's line away, so that other words may be written there."""
@@ -57,6 +57,14 @@ class Progress:
             sys.stderr.write("\r\033[K")
             sys.stderr.flush()
             self._stands = False
+
+
+def _done(share: Optional[float], passed: float) -> str:
+    """Which share of work is done, and how long the rest takes if it goes on so; nothing where that isn't known."""
+    if share is None:
+        return ""
+    more = f", about {lasting(passed * (1 - share) / share)} more" if 0.0 < share < 1.0 else ""
+    return f", {100 * min(share, 1.0):.0f}%{more}"
 
 
 def rate(number: float) -> str:

@@ -36,7 +36,7 @@ from typing import Dict, List, Optional, Sequence
 from .devices import Units, other_times, positive, units_of
 from .errors import UsageError, WriteFault
 from .gathered import Asked, gather, known_options
-from .page import page
+from .page import page, tells_energy
 from .program import Program
 from .progress import Progress
 from .runs import DEFAULTS, DRAWN, STREAMS
@@ -46,19 +46,25 @@ from .words import near
 _OF_RUNS = ("trace", "wear", "image", "summary", "snapshots", "options", "name")
 _OF_ALL = ("every", "tick-ns", "set-pj", "reset-pj", "sense-pj", "device", "rate", "title", "output")
 _ALONE = ("run", "explain", "progress")
+# Those that tell of energy alone, which snapshots count.
+_OF_ENERGY = ("set-pj", "reset-pj", "sense-pj", "rate")
 
 
 def report(
     asked: Sequence[Asked], title: str = "Report of pcm", program: Program = None, tick_ns: Optional[float] = None,
     progress: Optional[bool] = False, units: Units = Units(), rate: Optional[float] = None, device: Optional[str] = None,
+    of_energy: Sequence[str] = (),
 ) -> str:
     """The page of some runs; `tick_ns` are the nanoseconds of a tick, `units` those of energy, `rate` the megabytes a second for which a life
-    is told, `device` the published device that these are of, and `progress` as with `snapshots`."""
+    is told, `device` the published device that these are of, `progress` as with `snapshots`, and `of_energy` the words that are refused where
+    no run's snapshots tell energy."""
     from . import __version__
 
     watched = Progress(progress)
     try:
         runs = [gather(one, program, watched) for one in asked]
+        if of_energy and not any(tells_energy(run) for run in runs):
+            raise UsageError(2, f"{of_energy[0]} is told of snapshots that count energy alone, and there are none")
         own = tick_ns if tick_ns is not None or units.tick_ns == Units().tick_ns else units.tick_ns
         remark = other_times(device, own, [run.options for run in runs]).strip()
         for run in runs:
@@ -81,7 +87,11 @@ def _make(words: Sequence[str]) -> int:
     tick_ns = None if last["tick-ns"] is None and last["device"] is None else units.tick_ns
     rate = None if last["rate"] is None else positive("--rate", last["rate"])
     watched = True if given["progress"] else None
-    text = report(_asked(given), title, tick_ns=tick_ns, progress=watched, units=units, rate=rate, device=last["device"])
+    of_energy = [f"--{name}" for name in _OF_ENERGY if given[name]]
+    asked = _asked(given)
+    if of_energy and given["run"] and not given["every"]:
+        raise UsageError(2, f"{of_energy[0]} is told of snapshots alone: give --every N, too")
+    text = report(asked, title, tick_ns=tick_ns, progress=watched, units=units, rate=rate, device=last["device"], of_energy=of_energy)
     _write(text, (given["output"] or [None])[-1])
     return 0
 

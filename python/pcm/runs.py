@@ -39,6 +39,7 @@ STREAMS: Dict[str, str] = {"end": "drain", "until": "end"}
 _TOLD_EACH = 1 << 12
 # The digits of the greatest number.
 _MOST_DIGITS = 20
+_HEXADECIMAL = re.compile("[0-9a-fA-F]+")
 _ROLE = re.compile(rf"{ROLES[0]} [0-9]{{1,10}}|{'|'.join(ROLES[1:])}")
 
 
@@ -219,14 +220,14 @@ def _pieces(file: BinaryIO, progress: Optional[Progress]) -> Iterator[bytes]:
         yield piece
 
 
-def results_of(source: Source, progress: Optional[Progress] = None) -> List[Known]:
-    """The rows of results, or those of a stream in the order of their numbers."""
+def results_of(source: Source, progress: Optional[Progress] = None, line_bytes: Optional[int] = None) -> List[Known]:
+    """The rows of results, or those of a stream in the order of their numbers; of lines of so many bytes, where that is known."""
     records = _records(source, progress)
     header = next(records, (0, []))[1]
     if header == RESULTS.split(","):
-        return [_result(source, at, record) for at, record in records]
+        return [_result(source, at, record) for at, record in _whole(source, records, 7, line_bytes)]
     if header == TOLD.split(","):
-        return _streamed(source, records)
+        return _streamed(source, _whole(source, records, 5, line_bytes))
     raise FileFault(f"{source.name} row 0: header")
 
 
@@ -421,6 +422,23 @@ def _natural(source: Source, at: int, name: str, text: str, most: Optional[int] 
     if not (text.isascii() and text.isdigit() and len(text) <= _MOST_DIGITS and (most is None or int(text) <= most)):
         raise FileFault(f"{source.name} row {at}: {name}")
     return int(text)
+
+
+def _whole(
+    source: Source, records: Iterator[Tuple[int, List[str]]], columns: int, line_bytes: Optional[int]
+) -> Iterator[Tuple[int, List[str]]]:
+    """Records of so many fields, of which the last is data, and that with the outcome three before it: a line's digits where a read is
+    answered, as many in each, else none."""
+    sizes: Tuple[int, ...] = (128, 256) if line_bytes is None else (2 * line_bytes,)
+    for at, record in records:
+        word, data = _fields(source, at, record, columns)[-4], record[-1]
+        if word in ("read", "forwarded"):
+            if len(data) not in sizes or not _HEXADECIMAL.fullmatch(data):
+                raise FileFault(f"{source.name} row {at}: data")
+            sizes = (len(data),)
+        elif data and word in OPERATIONS:
+            raise FileFault(f"{source.name} row {at}: data")
+        yield at, record
 
 
 def _result(source: Source, at: int, record: List[str]) -> Known:

@@ -49,6 +49,8 @@ def parsed_options(words: str) -> Dict[str, str]:
     for name, value in zip(pairs[::2], pairs[1::2]):
         if not name.startswith("--") or name in ("--print", "--every"):
             raise UsageError(2, f"--options: {name} can't stand there: options of a stream but --print and --every")
+        if name[2:] in found:
+            raise UsageError(2, f"--options: {name} stands twice")
         found[name[2:]] = value
     return found
 

@@ -3,7 +3,8 @@
     python3 watching.py PROGRAM COMMAND WORD ..     COMMAND is run or stream, and --progress is taken away
 
 What the program prints goes through unchanged, and its status is this one's. How far it is: the rows that it printed, how many a second,
-and which share of a file it read, or of its drawn rows it printed. Behind its own line it says what is wrong, as the wrapper does."""
+and which share of a file it read, or of its drawn rows it printed; where it prints no row before its end, the time that passed and the
+share. Behind its own line it says what is wrong, as the wrapper does."""
 import contextlib
 import os
 import re
@@ -76,7 +77,10 @@ class Watched:
     def _tell(self) -> None:
         if self._progress.due:
             rows = self._rows()
-            self._progress.rows(rows, rows / self._drawn if self._drawn and rows else share_read(self._process.pid))
+            if rows:
+                self._progress.rows(rows, rows / self._drawn if self._drawn else share_read(self._process.pid))
+            else:
+                self._progress.time(share_read(self._process.pid))
 
     def _pass_on(self, piece: bytes) -> bool:
         """Hands a piece on to standard output; False where that takes no more, as where its reader is gone."""

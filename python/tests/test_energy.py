@@ -161,6 +161,20 @@ class Energy(Room):
         self.assertIn('<th scope="row">energy of sets</th><td>61.00</td>', text)
         self.assertIn("accepted writes last", text)
 
+    def test_what_tells_of_energy_is_refused_where_none_is_told(self):
+        rows = self.file("rows", "row,outcome,tick,place,data\n1,full,0,,\n")
+        for words in (("--set-pj", "3"), ("--sense-pj", "3"), ("--rate", "5")):
+            self.refused(2, f"report: {words[0]} is told of snapshots that count energy alone, and there are none", report, rows, *words)
+            line = f"report: {words[0]} is told of snapshots alone: give --every N, too"
+            self.refused(2, line, report, "--run", "--input", "drawn", *words)
+        page = str(self.folder / "page")
+        self.assertEqual((0, "", ""), self.told(report, rows, "--device", "lee2009", "--output", page))
+        text = pathlib.Path(page).read_text()
+        self.assertIn("Left out: maps of wear, for which a wear report is wanted", text)
+        self.assertIn("; energy, for which snapshots are wanted", text)
+        self.assertEqual((0, "", ""), self.told(report, "--run", "--input", "drawn", "--every", "100", "--rate", "5", "--output", page))
+        self.assertNotIn("Left out", pathlib.Path(page).read_text())
+
 
 class Latencies(Room):
     def test_spreads_are_exact(self):
@@ -251,6 +265,34 @@ class Latencies(Room):
         status, _, err = self.told(latencies, "--run", faulty)
         self.assertEqual(3, status)
         self.assertIn("the second field must be R, W, M, C, S, Q, U or L", err)
+
+    def test_rows_that_are_cut_off_and_rows_without_an_outcome(self):
+        trace, _, _, told = self.both(DRAWN)
+        lines = told.splitlines(keepends=True)
+        odd, few = self.file("odd", told[:2000]), self.file("few", b"".join(lines[:11]))
+        ended = told[:2000].count(b"\n")
+        rest = len(lines) - 1 - sum(it[:1] != b"," for it in lines[1:11])
+        for more in ((), ("--python",)):
+            said = "the line isn't ended, so the rows are cut off"
+            self.refused(3, f"latencies: row {ended}: {said}", latencies, odd, "--trace", trace, *more)
+            with open(odd, "rb") as source, mock.patch("sys.stdin", mock.Mock(buffer=source)):
+                status, out, err = self.told(latencies, "-", "--trace", trace, *more)
+                self.assertEqual((3, ""), (status, out))
+                self.assertRegex(err, rf"^latencies: (the last row|row {ended}): {said}\n$")
+            status, out, err = self.told(latencies, few, "--trace", trace, *more)
+            self.assertEqual((0, ""), (status, err))
+            self.assertRegex(out.splitlines()[-1], rf"^counted in (C|Python); {rest:,} rows of the trace without an outcome$")
+            status, out, err = self.told(latencies, few, "--trace", trace, "--csv", *more)
+            self.assertEqual((0, f"latencies: {rest:,} rows of the trace without an outcome\n"), (status, err))
+            self.refused(3, "latencies: row 0: not the header of a stream's rows", latencies, os.devnull, "--trace", trace, *more)
+
+    def test_a_row_has_the_outcome_of_its_operation(self):
+        trace, _, _, told = self.both(DRAWN)
+        for old, new in ((b",read,", b",stored,"), (b",stored,", b",forwarded,"), (b",read,", b",cut,")):
+            at = told[: told.index(old)].count(b"\n")
+            other = self.file("other", told.replace(old, new, 1))
+            for more in ((), ("--python",)):
+                self.refused(3, f"latencies: row {at}: not an outcome of a row of this trace", latencies, other, "--trace", trace, *more)
 
     def test_no_compiler_is_no_hindrance(self):
         with mock.patch("shutil.which", lambda name: None), latencies.compiled() as built:

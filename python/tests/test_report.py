@@ -416,6 +416,21 @@ class WrongFiles(Room):
         self.refused(3, "row 2 is missing", self.file("row,outcome,tick,place,data\n1,full,0,,\n3,full,0,,\n"))
         self.refused(3, "row 1 comes twice", self.file("row,outcome,tick,place,data\n1,full,0,,\n1,full,0,,\n"))
 
+    def test_results_that_are_cut_off(self):
+        for kind, command in (("results", "run"), ("rows", "stream")):
+            told = printed(command, *shape_of(self.words), given=pathlib.Path(self.good["trace"]).read_bytes())
+            lines = told.splitlines()
+            lines = lines[: max(at for at, line in enumerate(lines, 1) if len(line.rpartition(b",")[2]) == 128)]
+            head, comma, digits = lines[-1].rpartition(b",")
+            for left in (126, 2, 0):
+                cut = b"\n".join([*lines[:-1], head + comma + digits[:left]])
+                self.refused(3, f"row {len(lines) - 1}: data$", self.file(cut), "--options", self.words)
+            whole = self.file(b"\n".join(lines))
+            self.refused(3, r"row \d+: data$", whole, "--options", self.words, "--line", "128")
+        self.refused(3, "row 1: data$", self.file("row,outcome,tick,place,data\n1,full,0,,ff\n"))
+        both = f"row,outcome,tick,place,data\n1,forwarded,0,,{'f' * 256}\n2,forwarded,0,,{'f' * 128}\n"
+        self.refused(3, "row 2: data$", self.file(both))
+
     def test_other_files_that_are_none(self):
         base = [self.good["results"], "--options", self.words]
         self.refused(3, "row 2: op", *base, "--trace", self.altered("trace", r"(?<=\n)(.*\n\d+),\w,", r"\1,Z,"))
