@@ -35,7 +35,7 @@ done
 echo "$name" >>"$kit/called"
 if [ -f "$kit/slow" ]; then sleep "$(cat "$kit/slow")"; fi
 if grep -q wrong "$root"; then
-    echo "$root:1:1: no proof"
+    echo "$root:1:1: error: no proof"
     echo "logic=not-proved functions=1"
     exit 1
 fi
@@ -546,7 +546,7 @@ class WrongBodies(unittest.TestCase):
         self.assertEqual((done.returncode, done.stdout.splitlines()), (status, list(lines)), done.stderr)
 
     def test_those_that_the_gate_leaves_out_are_tried(self):
-        told = "refused: src/lib.rt:1:1: no proof"
+        told = "refused: src/lib.rt:1:1: error: no proof"
         self.says(0, f"first/three: {told}", f"second/one: {told}", "2 passed, 0 failed", words=("first", "second"))
         self.says(0, f"second/two: {told}", f"second/one: {told}", "2 passed, 0 failed", words=("--all", "second"))
 
