@@ -1,10 +1,11 @@
 /* nbdkit_pcm.c: a phase-change memory module as a network block device, a plugin of nbdkit (1.32 or later).
 
-       make -C c                      # or: cc -std=c11 -O2 -fPIC -shared -o nbdkit-pcm-plugin.so c/nbdkit_pcm.c
-       nbdkit -U - c/nbdkit-pcm-plugin.so pcm=./pcm misses=3 --run 'nbdcopy disk.img $uri'
+       make -C c                      # or: cc -std=c11 -O2 -fPIC -shared -o c/out/nbdkit-pcm-plugin.so c/nbdkit_pcm.c
+       nbdkit -U - c/out/nbdkit-pcm-plugin.so pcm=./pcm misses=3 --run 'nbdcopy disk.img $uri'
 
    The export "" is the disk. The export "control" is 4096 bytes of text: read, it tells the disk's clock and what became of its rows; written
-   at its first byte, `cut` cuts the power there, `cut N` in N ticks whatever the disk does then, and `wait N` lets N ticks pass.
+   at its first byte, `cut` cuts the power there, `cut N` in N ticks whatever the disk does then, and `wait N` lets N ticks pass, through each
+   cut that is due in them.
    docs/USING.md ('Use a module as a disk') has what is promised, examples/device/README.md the parameters. */
 #define _GNU_SOURCE /* (so answers come through a pipe: pcm_stream.h) */
 #define NBDKIT_API_VERSION 2
@@ -18,6 +19,7 @@
 #define THREAD_MODEL NBDKIT_THREAD_MODEL_SERIALIZE_ALL_REQUESTS
 #define CONTROL_SIZE 4096
 #define HEADER "tick,op,arg,data\n"
+#define SWITCHED 64 /* cuts of the control export that may be to come */
 
 struct connection {
     int is_control;
@@ -30,8 +32,11 @@ static struct pcm_disk_shape shape;
 static char *program, *log_name, *args_name, *report_name;
 static const char *cut_ticks = "";  /* cuts that are still to come, by their ticks: a list with commas */
 static FILE *log_file;
-static int log_failed, rides;
+static int log_failed, rides;       /* log_failed: why, a number of errno.h */
 static uint64_t cuts, cut_state, tick_ns, row_ticks;
+static uint64_t due;                /* the tick of the next cut that is listed or drawn, or PCM_DISK_NEVER */
+static uint64_t switched[SWITCHED]; /* those of the control export that are to come, the earliest first */
+static int switches;
 static struct timespec begun;
 
 /* ---- Parameters: each is a number within its range, or one of some words. */
@@ -221,13 +226,19 @@ static int check_files(void)
 
 /* ---- Power cuts */
 
-/* The next cut: the next tick of the list, or one drawn by a word of SplitMix64. (At most one comes in a request; a tick of the list that has
-   passed meanwhile comes in the next one.) */
+/* The disk's next cut: the earliest of the switch's and the one that is listed or drawn. */
+static void set_cut(void)
+{
+    disk.cut_at = switches > 0 && switched[0] < due ? switched[0] : due;
+}
+
+/* The next cut beside the switch's: the next tick of the list, or one drawn by a word of SplitMix64. (At most one comes in a request; a tick of
+   the list that has passed meanwhile comes in the next one.) */
 static void next_cut(void)
 {
-    disk.cut_at = PCM_DISK_NEVER;
+    due = PCM_DISK_NEVER;
     if (*cut_ticks != 0) {
-        disk.cut_at = strtoull(cut_ticks, NULL, 10);
+        due = strtoull(cut_ticks, NULL, 10);
         cut_ticks += strcspn(cut_ticks, ",");
         cut_ticks += *cut_ticks == ',';
     }
@@ -236,8 +247,37 @@ static void next_cut(void)
         word = (word ^ word >> 30) * UINT64_C(0xbf58476d1ce4e5b9);
         word = (word ^ word >> 27) * UINT64_C(0x94d049bb133111eb);
         word ^= word >> 31;
-        disk.cut_at = disk.now + 1 + word % (2 * cuts);
+        due = disk.now + 1 + word % (2 * cuts);
     }
+    set_cut();
+}
+
+/* The next cut, where there were so many before: the disk's cut has come, which was the switch's or the other one. */
+static void note_cut(uint64_t before)
+{
+    if (disk.count[PCM_CUT] == before)
+        return;
+    if (switches == 0 || switched[0] >= due) {
+        next_cut();
+        return;
+    }
+    switches--;
+    memmove(switched, switched + 1, (size_t)switches * sizeof *switched);
+    set_cut();
+}
+
+/* The switch's cut at a tick; whether there was room for it. */
+static int add_cut(uint64_t tick)
+{
+    int at = switches;
+    if (switches == SWITCHED)
+        return 0;
+    for (; at > 0 && switched[at - 1] > tick; at--)
+        switched[at] = switched[at - 1];
+    switched[at] = tick;
+    switches++;
+    set_cut();
+    return 1;
 }
 
 /* ---- The log: a trace of the disk's rows. Beside it, FILE.args has the words of its module in one line, and the disk's own in a second. */
@@ -245,8 +285,8 @@ static void next_cut(void)
 static void keep_row(void *context, char op, const char *row, size_t size)
 {
     (void)context;
-    if (strchr("RWMC", op) != NULL && fwrite(row, 1, size, log_file) != size)
-        log_failed = 1;
+    if (strchr("RWMC", op) != NULL && fwrite(row, 1, size, log_file) != size && log_failed == 0)
+        log_failed = errno;
 }
 
 static void args_text(char *to, size_t size)
@@ -299,21 +339,6 @@ static int check_header(const char *line)
     return strchr(line, '\n') == NULL ? 0 : check_args();
 }
 
-/* The same, of a log that may not be there yet, before a server goes to the background: from then on nobody hears it. (The log is looked at again
-   as it is opened for this server alone.) */
-static int check_log(void)
-{
-    char line[PCM_MOST_ROW];
-    FILE *log = log_name == NULL ? NULL : fopen(log_name, "re");
-    int fault = 0;
-    if (log == NULL)
-        return 0;
-    if (fgets(line, sizeof line, log) != NULL)
-        fault = check_header(line);
-    fclose(log);
-    return fault;
-}
-
 static int write_args(void)
 {
     char text[1024];
@@ -333,7 +358,13 @@ static int write_args(void)
 static int open_log(void)
 {
     struct flock whole = {.l_type = F_WRLCK, .l_whence = SEEK_SET};
-    int file = open(log_name, O_RDWR | O_CREAT | O_APPEND | O_CLOEXEC, 0666);
+    struct stat is;
+    int file = open(log_name, O_RDWR | O_CREAT | O_APPEND | O_CLOEXEC | O_NONBLOCK, 0666); /* (a pipe isn't waited for) */
+    if (file >= 0 && fstat(file, &is) == 0 && !S_ISREG(is.st_mode)) {
+        nbdkit_error("%s is no log: it isn't a regular file", log_name);
+        close(file);
+        return -1;
+    }
     if (file < 0 || (log_file = fdopen(file, "a+")) == NULL || fseeko(log_file, 0, SEEK_SET) != 0) {
         nbdkit_error("%s: %m", log_name);
         return -1;
@@ -350,15 +381,25 @@ static int flush_log(int is_synced)
 {
     if (log_file == NULL)
         return 0;
-    if (fflush(log_file) != 0 || (is_synced && fdatasync(fileno(log_file)) != 0))
-        log_failed = 1;
-    if (log_failed)
-        nbdkit_error("%s can't be written: %m", log_name);
-    return log_failed ? EIO : 0;
+    if ((fflush(log_file) != 0 || (is_synced && fdatasync(fileno(log_file)) != 0)) && log_failed == 0)
+        log_failed = errno;
+    if (log_failed != 0)
+        nbdkit_error("%s can't be written: %s", log_name, strerror(log_failed));
+    return log_failed != 0 ? EIO : 0;
 }
 
-/* Plays the rows of the log. One without its end was never answered (its server was ended while it wrote), and is taken away. */
-static int play_log(void)
+/* Whether a row is one of such a disk, which the disk isn't sent. 0, or EINVAL. */
+static int look_at(const char *row)
+{
+    struct pcm__traced it;
+    if (!pcm_disk__get_row(&disk, row, &it))
+        return EINVAL;
+    disk.now = it.tick;
+    return 0;
+}
+
+/* Goes over the rows of the log, and puts where they end. One without its end was never answered (its server was ended while it wrote). */
+static int each_row(int (*act)(const char *), off_t *end)
 {
     char row[PCM_MOST_ROW];
     unsigned long long number = 0;
@@ -370,13 +411,32 @@ static int play_log(void)
         if (!is_whole && strlen(row) < sizeof row - 1)
             break;
         if (number > 0)
-            fault = pcm_disk_replay(&disk, row);
+            fault = act(row);
         if (fault != 0) {
             nbdkit_error("%s, row %llu: %s", log_name, number, fault == EINVAL ? "it isn't a row of such a disk" : strerror(fault));
             return -1;
         }
     }
-    if (ferror(log_file) || ftruncate(fileno(log_file), at) != 0 || fseeko(log_file, 0, SEEK_END) != 0) {
+    *end = at;
+    if (ferror(log_file)) {
+        nbdkit_error("%s: %m", log_name);
+        return -1;
+    }
+    return 0;
+}
+
+static int replay(const char *row)
+{
+    return pcm_disk_replay(&disk, row);
+}
+
+/* Plays the rows of the log. What is behind the last one's end is taken away. */
+static int play_log(void)
+{
+    off_t at;
+    if (each_row(replay, &at) != 0)
+        return -1;
+    if (ftruncate(fileno(log_file), at) != 0 || fseeko(log_file, 0, SEEK_END) != 0) {
         nbdkit_error("%s: %m", log_name);
         return -1;
     }
@@ -384,7 +444,8 @@ static int play_log(void)
     if (at == 0) {
         if (write_args() != 0)
             return -1;
-        log_failed = fputs(HEADER, log_file) < 0;
+        if (fputs(HEADER, log_file) < 0)
+            log_failed = errno;
     } else {
         int fault = pcm_disk_resume(&disk);
         if (fault != 0) {
@@ -410,7 +471,7 @@ static int plugin_config_complete(void)
     tick_ns = value_of("tick-ns");
     row_ticks = value_of("row-ticks");
     rides = (int)value_of("on-cut");
-    return check_together() == 0 && check_cut_ticks(cut_ticks) == 0 && check_files() == 0 ? check_log() : -1;
+    return check_together() == 0 && check_cut_ticks(cut_ticks) == 0 ? check_files() : -1;
 }
 
 /* The module's options beside the shape, as words. */
@@ -429,26 +490,45 @@ static const char *const *option_words(void)
     return words;
 }
 
-/* The program is started here, behind the fork of a server that goes to the background. */
-static int plugin_after_fork(void)
+/* Starts the program. */
+static int start(void)
 {
     const char *words[] = {program, "stream", NULL};
-    int fault;
-    if (log_name != NULL && open_log() != 0)
+    int fault = pcm_disk_open(&disk, words, &shape, option_words());
+    if (fault == 0)
+        return 0;
+    nbdkit_error("%s stream: %s", program, fault == EPIPE ? "it has ended: it isn't the program of streams, or not one of such modules"
+        : fault == EINVAL ? "it doesn't tell that its module is such a one" : strerror(fault));
+    return -1;
+}
+
+/* What can go wrong is tried before the fork of a server that goes to the background, or whose command --run starts: from then on nobody hears
+   of it, and the command would wait for ever. The program is started and ended again, the log locked and looked over. */
+static int plugin_get_ready(void)
+{
+    off_t end;
+    int fault = start();
+    pcm_disk_close(&disk);
+    if (fault == 0 && log_name != NULL)
+        fault = open_log() == 0 ? each_row(look_at, &end) : -1;
+    if (log_file != NULL)
+        fclose(log_file);
+    log_file = NULL;
+    return fault;
+}
+
+/* The program that serves is started here, behind that fork. */
+static int plugin_after_fork(void)
+{
+    if ((log_name != NULL && open_log() != 0) || start() != 0)
         return -1;
-    fault = pcm_disk_open(&disk, words, &shape, option_words());
-    if (fault != 0) {
-        nbdkit_error("%s stream: %s", program, fault == EPIPE ? "it has ended: it isn't the program of streams, or not one of such modules"
-            : fault == EINVAL ? "it doesn't tell that its module is such a one" : strerror(fault));
-        return -1;
-    }
     if (log_name != NULL && play_log() != 0)
         return -1;
     disk.rides = rides;
     disk.row_ticks = (uint32_t)row_ticks;
     do /* (those of an earlier life are over) */
         next_cut();
-    while (disk.cut_at <= disk.now && cuts == 0);
+    while (due <= disk.now && cuts == 0);
     clock_gettime(CLOCK_MONOTONIC, &begun);
     begun.tv_sec -= (time_t)(disk.now * tick_ns / 1000000000);
     return 0;
@@ -589,8 +669,7 @@ static int transfer(struct connection *it, void *to, const void *from, uint32_t 
         fault = from != NULL ? pcm_disk_write(&disk, from, size, offset) : pcm_disk_read(&disk, to, size, offset);
     if (fault == 0)
         fault = real_time(1);
-    if (disk.count[PCM_CUT] != before)
-        next_cut();
+    note_cut(before);
     if (flush_log(is_synced) != 0 && fault == 0)
         fault = EIO;
     return fault == 0 ? 0 : failed(it, fault, from != NULL ? "write" : "read", size, offset);
@@ -610,11 +689,26 @@ static int plugin_pread(void *handle, void *to, uint32_t size, uint64_t offset, 
     return transfer(it, to, NULL, size, offset, 0);
 }
 
+/* Time passes up to a tick, through each cut that is due by then. */
+static int wait_until(uint64_t tick)
+{
+    int fault = 0, is_cut = 1;
+    while (fault == 0 && is_cut) {
+        uint64_t before = disk.count[PCM_CUT];
+        is_cut = disk.cut_at <= tick;
+        fault = pcm_disk_go_on(&disk, !is_cut ? tick : disk.cut_at < disk.now ? disk.now : disk.cut_at);
+        if (fault == ESHUTDOWN) /* (the connections to the disk notice it) */
+            fault = 0;
+        note_cut(before);
+    }
+    return fault;
+}
+
 /* A word for the power switch or the clock. */
 static int command(const char *from, uint32_t size, uint64_t offset)
 {
     char text[40] = "";
-    uint64_t ticks = 0, before = disk.count[PCM_CUT];
+    uint64_t ticks = 0;
     int is_cut, is_wait, fault = 0;
     memcpy(text, from, size < sizeof text ? size : sizeof text - 1);
     text[strcspn(text, "\n")] = 0;
@@ -624,15 +718,15 @@ static int command(const char *from, uint32_t size, uint64_t offset)
         nbdkit_error("control takes 'cut', 'cut N' and 'wait N', N ticks up to 2^40 in all");
         return EINVAL;
     }
-    if (is_cut)
-        disk.cut_at = disk.now + ticks;
+    if (is_cut && !add_cut(disk.now + ticks)) {
+        nbdkit_error("of cuts that were asked for at most %d may be to come", SWITCHED);
+        return EINVAL;
+    }
     if (is_wait || ticks == 0)
-        fault = pcm_disk_go_on(&disk, disk.now + (is_wait ? ticks : 0));
-    if (disk.count[PCM_CUT] != before)
-        next_cut();
+        fault = wait_until(disk.now + (is_wait ? ticks : 0));
     if (flush_log(0) != 0)
         fault = EIO;
-    return fault == ESHUTDOWN ? 0 : fault; /* (that is what was asked for) */
+    return fault;
 }
 
 static int plugin_pwrite(void *handle, const void *from, uint32_t size, uint64_t offset, uint32_t flags)
@@ -679,6 +773,7 @@ static struct nbdkit_plugin plugin = {
     .unload = plugin_unload,
     .config = plugin_config,
     .config_complete = plugin_config_complete,
+    .get_ready = plugin_get_ready,
     .after_fork = plugin_after_fork,
     .cleanup = plugin_cleanup,
     .open = plugin_open,

@@ -26,8 +26,8 @@
    each line's bank (FORMATS.md, 'The randomiser's words') and the order of its queue, and never sends a bank more writes than that holds, nor
    more reads than it lets wait: no row is `full` or `busy`.
 
-   Wear. Where a bank has found no spare, or has halted at a worn control line, the disk only reads from then on: writes answer EROFS,
-   and all that was accepted is read as before.
+   Wear. Where a bank has found no spare, or has halted at a worn control line, and a write shows it, the disk only reads from then on, also
+   behind a cut or pcm_disk_resume, which asks the banks: writes answer EROFS, and all that was accepted is read as before.
 
    Logs. disk.pcm.log and disk.pcm.context (pcm_stream.h) are the caller's behind pcm_disk_open: the rows that are handed to it, R, W, M and C
    alone, behind a header, are a trace of the disk's life, which pcm_disk_replay plays again. */
@@ -97,14 +97,16 @@ struct pcm_disk {
 
 /* Starts a program of streams, `program` being its first words, with the shape and with other options of the module (`options`: words, NULL
    behind them; or NULL). All words are only lent. Its module is new: all bytes are 0. EINVAL where there is no such shape, the module doesn't
-   tell that it has it, or the options print anything but rows; EPIPE where the program refuses its options; what the system says where it can't be started. Whatever it answers,
-   pcm_disk_close frees what it took. */
+   tell that it has it, the options print anything but rows, or both have more than 41 words: the disk has no bytes then, so no request is taken.
+   EPIPE where the program refuses its options; what the system says where it can't be started. Whatever it answers, pcm_disk_close frees what it
+   took. */
 static inline int pcm_disk_open(struct pcm_disk *disk, const char *const program[], const struct pcm_disk_shape *shape,
                                 const char *const options[]);
 /* A row of an earlier life of the disk, with its LF, is sent again: before the first request, and behind the rows before it. EINVAL where it
    is none, or its tick falls. What it does to the module is what it did then; nobody is answered. */
 static inline int pcm_disk_replay(struct pcm_disk *disk, const char *row);
-/* Behind the last replayed row: the power was off since. All writes that were acknowledged then are there. */
+/* Behind the last replayed row: the power was off since. All writes that were acknowledged then are there. Where a bank takes no writes any
+   more, the disk only reads. */
 static inline int pcm_disk_resume(struct pcm_disk *disk);
 /* How many bytes it has. With `atomic` they are somewhat fewer than the module's: a block and a map of four bytes a sector are set aside. */
 static inline uint64_t pcm_disk_size(const struct pcm_disk *disk);
@@ -117,10 +119,12 @@ static inline int pcm_disk_read(struct pcm_disk *disk, void *to, size_t size, ui
    takes no writes any more (then a line between may be missing, too); else as a read. */
 static inline int pcm_disk_write(struct pcm_disk *disk, const void *from, size_t size, uint64_t offset);
 /* Time passes up to a tick, where it isn't there yet: waiting writes are stored. ESHUTDOWN where a cut comes and the disk doesn't ride through
-   it: its clock stands at the cut then, and nothing that was acknowledged is lost. */
+   it: its clock stands at the cut then, and nothing that was acknowledged is lost. One cut comes at most, so who rides through a next one at its
+   own tick asks for that tick first. */
 static inline int pcm_disk_go_on(struct pcm_disk *disk, uint64_t tick);
 /* No more rows come: the module ends as the option --end says. Counts all outcomes that are left, and answers the program's status: 0; 1 where
-   a write was refused, or a cut lost reads; another where it had a fault, and -1 where it was killed. */
+   a write was refused, or stays queued (with `--end off`, or where a bank has stopped), or a cut lost reads; another where it had a fault, and -1
+   where it was killed. */
 static inline int pcm_disk_close(struct pcm_disk *disk);
 /* The bank of a line of the module, and the line of the module that is a line of the disk. */
 static inline uint32_t pcm_disk_bank(const struct pcm_disk *disk, uint32_t line);
@@ -328,17 +332,16 @@ static inline int pcm_disk__until(struct pcm_disk *disk, uint32_t row, uint64_t 
 }
 
 /* EROFS where a bank takes no writes any more: the module is asked. */
-static inline int pcm_disk__has_stopped(struct pcm_disk *disk, uint32_t bank)
+static inline int pcm_disk__has_stopped(struct pcm_disk *disk)
 {
     struct pcm_bank banks[PCM_DISK_BANKS];
     memset(banks, 0, sizeof banks);
     disk->settles++;
     int fault = pcm_disk__fault(pcm_ask(&disk->pcm, disk->now, banks, disk->shape.banks, pcm_disk__take, disk));
-    if (fault == 0 && banks[bank].mark != PCM_GOING) {
-        disk->worn = 1;
-        fault = EROFS;
-    }
-    return fault;
+    for (uint32_t bank = 0; fault == 0 && bank < disk->shape.banks; bank++)
+        if (banks[bank].mark != PCM_GOING)
+            disk->worn = 1;
+    return fault == 0 && disk->worn ? EROFS : fault;
 }
 
 /* Lets time pass until a bank takes one more write; where it holds all that it may, until it takes `wanted` more, if so many are stored
@@ -356,7 +359,7 @@ static inline int pcm_disk__room(struct pcm_disk *disk, uint32_t bank, uint32_t 
         uint64_t most = disk->now + patience;
         fault = pcm_disk__until(disk, disk->queue[bank][disk->writes[bank] + least - disk->shape.write_queue - 1].row, most);
         if (fault == 0 && disk->now >= most && disk->writes[bank] + least > disk->shape.write_queue) {
-            fault = pcm_disk__has_stopped(disk, bank);
+            fault = pcm_disk__has_stopped(disk);
             patience *= 2;
         }
     }
@@ -577,22 +580,27 @@ static inline int pcm_disk_read(struct pcm_disk *disk, void *to, size_t size, ui
 
 static inline int pcm_disk_go_on(struct pcm_disk *disk, uint64_t tick)
 {
-    return tick >= disk->now ? pcm_disk__to(disk, tick, 1) : 0;
+    return disk->shape.banks == 0 ? EIO : tick >= disk->now ? pcm_disk__to(disk, tick, 1) : 0;
+}
+
+/* Reads a row of such a disk, which may come at its tick; whether it is one. */
+static inline int pcm_disk__get_row(const struct pcm_disk *disk, const char *row, struct pcm__traced *it)
+{
+    if (!pcm__get_row(row, it) || strchr("RWMC", it->op) == NULL || it->tick < disk->now || it->tick > PCM_LAST_TICK
+        || it->line >= pcm_disk__all_lines(disk))
+        return 0;
+    return it->op == 'R' || it->op == 'C' || (it->size == disk->shape.line && memchr(it->given, 1, it->size) != NULL);
 }
 
 static inline int pcm_disk_replay(struct pcm_disk *disk, const char *row)
 {
     struct pcm__traced it;
-    int is_write;
-    if (!pcm__get_row(row, &it) || strchr("RWMC", it.op) == NULL || it.tick < disk->now || it.tick > PCM_LAST_TICK || it.line >= pcm_disk__all_lines(disk))
-        return EINVAL;
-    is_write = it.op == 'W' || it.op == 'M';
-    if (is_write && (it.size != disk->shape.line || memchr(it.given, 1, it.size) == NULL))
+    if (!pcm_disk__get_row(disk, row, &it))
         return EINVAL;
     disk->now = it.tick;
     /* (the queue of a write's bank has room by now, as it had then) */
     const uint32_t *writes = &disk->writes[pcm_disk_bank(disk, (uint32_t)it.line)];
-    int fault = 0;
+    int fault = 0, is_write = it.op == 'W' || it.op == 'M';
     if (is_write && *writes == disk->shape.write_queue) {
         fault = pcm_disk__settle(disk, it.tick);
         if (fault == 0 && *writes == disk->shape.write_queue)
@@ -603,9 +611,11 @@ static inline int pcm_disk_replay(struct pcm_disk *disk, const char *row)
 
 static inline int pcm_disk_resume(struct pcm_disk *disk)
 {
-    int fault = pcm_disk__send(disk, 'C', 0, NULL, NULL);
+    int fault = disk->shape.banks == 0 ? EIO : pcm_disk__send(disk, 'C', 0, NULL, NULL);
     if (fault == 0)
-        fault = pcm_disk__settle(disk, disk->now);
+        fault = pcm_disk__has_stopped(disk);
+    if (fault == EROFS) /* (it is read all the same) */
+        fault = 0;
     return fault == 0 && disk->shape.atomic != 0 ? pcm_disk__find_free(disk) : fault;
 }
 
@@ -655,8 +665,9 @@ static inline int pcm_disk__shape(struct pcm_disk *disk, const struct pcm_disk_s
     return 0;
 }
 
-static inline int pcm_disk_open(struct pcm_disk *disk, const char *const program[], const struct pcm_disk_shape *shape,
-                                const char *const options[])
+/* Starts the program with its words and the shape's, and learns whether its module is such a one. */
+static inline int pcm_disk__start(struct pcm_disk *disk, const char *const program[], const struct pcm_disk_shape *shape,
+                                  const char *const options[])
 {
     const uint64_t numbers[] = {shape->banks,       shape->regions,    shape->lines,      shape->line,       shape->spares,
                                 shape->write_queue, shape->read_queue, shape->read_ticks, shape->iter_ticks, shape->seed};
@@ -666,25 +677,21 @@ static inline int pcm_disk_open(struct pcm_disk *disk, const char *const program
                                      shape->line, shape->write_queue, shape->read_queue};
     char texts[10][21];
     const char *words[64] = {NULL};
-    int n = 0;
-    memset(disk, 0, offsetof(struct pcm_disk, pcm));
-    disk->pcm.to = disk->pcm.from = -1;
-    disk->pcm.process = -1;
-    disk->cut_at = PCM_DISK_NEVER;
-    disk->row_ticks = 1;
-    if (pcm_disk__shape(disk, shape) != 0)
-        return EINVAL;
-    for (int i = 0; program[i] != NULL && n < 8; i++)
-        words[n++] = program[i];
+    int n = 0, room = 41; /* (the words' own, beside the shape's, --tell=shape and NULL) */
+    for (; *program != NULL; program++) {
+        if (room-- == 0)
+            return EINVAL;
+        words[n++] = *program;
+    }
     for (int i = 0; i < 10; i++) {
         *pcm__put_number(texts[i], numbers[i]) = 0;
         words[n++] = names[i];
         words[n++] = texts[i];
     }
-    for (int i = 0; options != NULL && options[i] != NULL; i++) {
-        if (n == 62)
+    for (; options != NULL && *options != NULL; options++) {
+        if (room-- == 0)
             return EINVAL;
-        words[n++] = options[i];
+        words[n++] = *options;
     }
     words[n++] = "--tell=shape";
     enum pcm_result opened = pcm_open_apart(&disk->pcm, words);
@@ -692,6 +699,24 @@ static inline int pcm_disk_open(struct pcm_disk *disk, const char *const program
     if (fault == 0)
         fault = pcm_disk__settle(disk, 0); /* (words that are refused show here, and the shape has come then, where it comes) */
     return fault != 0 ? fault : disk->pcm.shape.version == 0 ? EINVAL : pcm_disk__fault(pcm_learn(&disk->pcm, &wanted));
+}
+
+static inline int pcm_disk_open(struct pcm_disk *disk, const char *const program[], const struct pcm_disk_shape *shape,
+                                const char *const options[])
+{
+    memset(disk, 0, offsetof(struct pcm_disk, pcm));
+    disk->pcm.to = disk->pcm.from = -1;
+    disk->pcm.process = -1;
+    disk->cut_at = PCM_DISK_NEVER;
+    disk->row_ticks = 1;
+    int fault = pcm_disk__shape(disk, shape);
+    if (fault == 0)
+        fault = pcm_disk__start(disk, program, shape, options);
+    if (fault == EINVAL) { /* (a disk of another shape has no bytes, as one that was never opened) */
+        memset(&disk->shape, 0, sizeof disk->shape);
+        disk->sectors = 0;
+    }
+    return fault;
 }
 
 static inline int pcm_disk_close(struct pcm_disk *disk)

@@ -564,6 +564,7 @@ static inline enum pcm_result pcm__next(struct pcm *pcm, struct pcm_outcome *out
 static inline enum pcm_result pcm__hand(struct pcm *pcm, pcm_taker take, void *context)
 {
     struct pcm_outcome outcome;
+    outcome.kind = PCM_SETTLED; /* (pcm_next sets it, which gcc with sanitizers doesn't see) */
     enum pcm_result result = pcm_next(pcm, &outcome);
     if (result == PCM_OK && take != NULL)
         take(context, &outcome);
@@ -705,7 +706,7 @@ static inline int pcm__get_bytes(const char *at, uint8_t *bytes)
         int high = pcm__digit(at[i]), low = pcm__digit(at[i + 1]);
         if (high < 0 || low < 0)
             return -1;
-        bytes[i / 2] = (uint8_t)(high << 4 | low);
+        bytes[i / 2] = (uint8_t)(16 * high + low);
     }
     return (int)(digits / 2);
 }
@@ -867,7 +868,9 @@ static inline const char *pcm__get_given(const char *at, struct pcm__traced *it)
         if (low < 0 && (it->op == 'W' || at[0] != '.' || at[1] != '.'))
             break;
         it->given[it->size] = low >= 0;
-        it->bytes[it->size] = (uint8_t)(low >= 0 ? high << 4 | low : 0);
+        it->bytes[it->size] = 0;
+        if (low >= 0)
+            it->bytes[it->size] = (uint8_t)(16 * high + low);
     }
     return at;
 }

@@ -156,10 +156,10 @@ static int cuts_at_every_tick(const struct pcm_disk_shape *shape, uint32_t secto
     return torn;
 }
 
-static int play(FILE *log, const struct pcm_disk_shape *shape)
+static int play(FILE *log, const struct pcm_disk_shape *shape, const char *const options[])
 {
     char row[PCM_MOST_ROW];
-    int fault = pcm_disk_open(&disk, program, shape, NULL);
+    int fault = pcm_disk_open(&disk, program, shape, options);
     rewind(log);
     while (fault == 0 && fgets(row, sizeof row, log) != NULL)
         fault = pcm_disk_replay(&disk, row);
@@ -175,7 +175,7 @@ static void logs(const struct pcm_disk_shape *shape)
     FILE *log = tmpfile();
     requests(shape, NULL, 0, log);
     for (int again = 0; again < 3; again++) {
-        check(play(log, shape) == 0, "a log is replayed");
+        check(play(log, shape, NULL) == 0, "a log is replayed");
         check(reads_as_it_should(), "it is read as it was");
         shadow[1] ^= 1;
         check(pcm_disk_write(&disk, shadow + 1, 1, 1) == 0, "it is written");
@@ -257,7 +257,7 @@ static void large(uint32_t count, uint32_t regions, uint32_t lines, uint32_t str
     check(pcm_disk_close(&disk) == 0, "status 0");
 }
 
-/* Cells wear out: writes then answer EROFS, no request waits for ever, and all that was answered is read. */
+/* Cells wear out: writes then answer EROFS, no request waits for ever, and all that was answered is read; so behind a cut, and from its log. */
 static void worn(const char *registers, uint64_t idle, uint32_t atomic)
 {
     const char *options[] = {"--lo", "20", "--hi", "60", "--registers", registers, NULL};
@@ -266,7 +266,10 @@ static void worn(const char *registers, uint64_t idle, uint32_t atomic)
     int right = 1, written = 0;
     shape.atomic = atomic;
     memset(shadow, 0, sizeof shadow);
+    FILE *log = tmpfile();
     check(pcm_disk_open(&disk, program, &shape, options) == 0, "a disk of few changes is opened");
+    disk.pcm.log = keep;
+    disk.pcm.context = log;
     for (int i = 0; i < 100000 && !disk.worn; i++) {
         uint64_t offset = unit * draw(pcm_disk_size(&disk) / unit);
         int fault;
@@ -283,8 +286,15 @@ static void worn(const char *registers, uint64_t idle, uint32_t atomic)
     check(reads_as_it_should(), "and is read as it was");
     disk.cut_at = disk.now;
     check(pcm_disk_go_on(&disk, disk.now) == ESHUTDOWN, "the power is cut");
-    check(reads_as_it_should(), "and it is read so behind it");
+    check(reads_as_it_should() && pcm_disk_write(&disk, bytes, unit, 0) == EROFS, "and it only reads behind it");
+    disk.cut_at = PCM_DISK_NEVER;
     check(pcm_disk_close(&disk) == 1, "status 1");
+    for (int again = 0; again < 2; again++) {
+        check(play(log, &shape, options) == 0 && disk.worn, "a worn disk's log is replayed: it only reads");
+        check(pcm_disk_write(&disk, bytes, unit, 0) == EROFS && reads_as_it_should(), "what it had");
+        check(pcm_disk_close(&disk) == 1, "status 1");
+    }
+    fclose(log);
 }
 
 /* A request ends as its last line is answered, or as there is room for it, by one settle for each wait. */
@@ -316,7 +326,8 @@ static void other_programs(void)
     const char *early[] = {"sh", "-c", answers, "1", "going", NULL}, *late[] = {"sh", "-c", answers, "-1", "going", NULL};
     const char *idle[] = {"sh", "-c", answers, "0", "going", NULL}, *halted[] = {"sh", "-c", answers, "0", "halted", NULL};
     int fault = 0;
-    check(pcm_disk_open(&disk, other, &small, NULL) == EINVAL && pcm_disk_close(&disk) == 0, "a module of another shape");
+    check(pcm_disk_open(&disk, other, &small, NULL) == EINVAL && pcm_disk_size(&disk) == 0, "a module of another shape has no bytes");
+    check(pcm_disk_go_on(&disk, 9) == EIO && pcm_disk_resume(&disk) == EIO && pcm_disk_close(&disk) == 0, "nor time");
     check(pcm_disk_open(&disk, silent, &small, NULL) == EINVAL && pcm_disk_close(&disk) == 0, "one that doesn't tell it");
     check(pcm_disk_open(&disk, early, &small, NULL) == 0 && pcm_disk_read(&disk, got, 1, 0) == EIO && pcm_disk_close(&disk) == 0, "no answer");
     check(pcm_disk_open(&disk, late, &small, NULL) == 0 && pcm_disk_read(&disk, got, 1, 0) == EIO && pcm_disk_close(&disk) == 0, "a tick too late");
@@ -344,8 +355,19 @@ static void misuse(void)
         {4, 2, 16, 64, 4, 8, 4, 5, 10, 1024, 0, 0}, {64, 64, 32768, 64, 4, 8, 4, 5, 10, 0, 0, 0}, {1, 1, 4, 64, 4, 8, 4, 5, 10, 512, 0, 0},
         {4, 2, 16, 64, 4, 0, 4, 5, 10, 0, 0, 0}, {4, 2, 16, 64, 4, 257, 4, 5, 10, 0, 0, 0},   {4, 2, 16, 64, 4, 8, 257, 5, 10, 0, 0, 0},
     };
-    for (int i = 0; i < 12; i++)
-        check(pcm_disk_open(&disk, program, &shapes[i], NULL) == EINVAL && pcm_disk_close(&disk) == -1, "a shape that there isn't");
+    for (int i = 0; i < 12; i++) {
+        check(pcm_disk_open(&disk, program, &shapes[i], NULL) == EINVAL && pcm_disk_size(&disk) == 0, "a shape that there isn't has no bytes");
+        check(pcm_disk_write(&disk, bytes, 64, 0) == EINVAL && pcm_disk_read(&disk, got, 1, 700) == EINVAL, "and takes no request");
+        check(pcm_disk_go_on(&disk, 9) == EIO && pcm_disk_replay(&disk, "0,R,0,\n") == EINVAL && pcm_disk_resume(&disk) == EIO, "nor time");
+        check(pcm_disk_close(&disk) == -1, "it is closed");
+    }
+    const char *behind[] = {"env", "A=1", "B=2", "C=3", "D=4", "E=5", "F=6", "G=7", "H=8", program[0], "stream", NULL}, *many[43];
+    for (int i = 0; i < 42; i++)
+        many[i] = i < 40 ? behind[i < 2 ? 0 : 1] : i == 40 ? program[0] : "stream";
+    many[42] = NULL;
+    check(pcm_disk_open(&disk, behind, &small, NULL) == 0 && pcm_disk_close(&disk) == 0, "a program of eleven words");
+    check(pcm_disk_open(&disk, many + 1, &small, NULL) == 0 && pcm_disk_close(&disk) == 0, "one of 41");
+    check(pcm_disk_open(&disk, many, &small, NULL) == EINVAL && pcm_disk_close(&disk) == -1, "and no more");
     odd.spares = 5000;
     check(pcm_disk_open(&disk, program, &odd, NULL) == EPIPE && pcm_disk_close(&disk) == 2, "too many spares");
     check(pcm_disk_open(&disk, program, &small, NULL) == 0, "a disk");

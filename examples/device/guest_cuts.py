@@ -129,7 +129,7 @@ def main():
         def when_ready(found):
             print(f"boot {cycle} at {time.time() - begun:.0f} s: whole, {found} rows, {before} were committed", flush=True)
             if cycle < words.cycles:
-                disk.control(f"cut {draw.randrange(1, words.most_ticks)}")
+                disk.control(f"cut {draw.randrange(1, words.most_ticks + 1)}")
             return cycle == words.cycles
 
         qemu = boot(disk, kernel, words.accel)

@@ -9,7 +9,7 @@ import random
 import subprocess
 import sys
 
-from servers import Server, asking
+from servers import Server, asking, whole
 
 
 def pulses_of(pcm, log):
@@ -39,7 +39,7 @@ def measure(words, atomic, size):
 
 def main():
     ask = asking(__doc__)
-    ask.add_argument("--writes", type=int, default=2000)
+    ask.add_argument("--writes", type=whole(1), default=2000)
     words = ask.parse_intermixed_args()
     print("atomic,size,writes,rows_a_write,ticks_a_write,settles_a_write,pulses_a_write,most_pulses,mean_pulses")
     for size in (512, 4096):

@@ -33,11 +33,20 @@ def need(tools):
         sys.exit(77)
 
 
+def whole(least, most=2**40):
+    """The type of a number that a script takes."""
+    def read(text):
+        if not (text.isascii() and text.isdigit() and least <= int(text) <= most):
+            raise argparse.ArgumentTypeError(f"{text}: it is a number from {least} to {most}")
+        return int(text)
+    return read
+
+
 def asking(about):
     """The words that each script takes: the program, the module's and the disk's parameters, and a plugin that was built before."""
     ask = argparse.ArgumentParser(description=about, formatter_class=argparse.RawDescriptionHelpFormatter)
     ask.add_argument("pcm")
-    ask.add_argument("parameters", nargs="*", metavar="KEY=VALUE")
+    ask.add_argument("parameters", nargs="*", default=[], metavar="KEY=VALUE")
     ask.add_argument("--plugin")
     return ask
 
@@ -45,11 +54,11 @@ def asking(about):
 def asking_of_cuts(about, cycles):
     """Also those of scripts that cut the power under a database, again and again."""
     ask = asking(about)
-    ask.add_argument("--cycles", type=int, default=cycles)
+    ask.add_argument("--cycles", type=whole(1), default=cycles)
     ask.add_argument("--seed", type=int, default=1)
     ask.add_argument("--mode", choices=("delete", "wal"), default="delete")
     ask.add_argument("--sync", choices=("full", "extra"), default="extra")
-    ask.add_argument("--most-ticks", type=int, default=400000, help="until a cut, at most")
+    ask.add_argument("--most-ticks", type=whole(1), default=400000, help="until a cut, at most")
     return ask
 
 

@@ -1,5 +1,5 @@
 # Functions for the scripts of this folder. `need TOOL PACKAGE ..` ends the script with status 77 where a tool isn't there; `serve KEY=VALUE ..`
-# starts a server of the disk, `unserve` ends it and prints its report in one line. $pcm is the program; $dir is a folder that goes away with
+# starts a server of the disk, `unserve` ends it and prints its report in one line, `fails` ends the script with what the server said. $pcm is the program; $dir is a folder that goes away with
 # the shell, and with it all that was started.
 here=$(cd "$(dirname "${BASH_SOURCE[0]}")" && pwd)
 top=$(cd "$here/../.." && pwd)
@@ -46,6 +46,11 @@ serve() {
     server=
     cat "$dir/err" >&2
     return 1
+}
+
+fails() {
+    cat "$dir/err" >&2
+    exit 1
 }
 
 unserve() {

@@ -10,7 +10,7 @@ import os
 import pathlib
 import random
 
-from servers import Server
+from servers import Server, whole
 
 TICK = os.sysconf("SC_CLK_TCK")
 
@@ -41,14 +41,17 @@ def measure(server, words, kind, act):
 def main():
     ask = argparse.ArgumentParser(description=__doc__, formatter_class=argparse.RawDescriptionHelpFormatter)
     ask.add_argument("pcm")
-    ask.add_argument("parameters", nargs="*", metavar="KEY=VALUE")
-    ask.add_argument("--requests", type=int, default=10000)
-    ask.add_argument("--size", type=int, default=4096)
+    ask.add_argument("parameters", nargs="*", default=[], metavar="KEY=VALUE")
+    ask.add_argument("--requests", type=whole(1), default=10000)
+    ask.add_argument("--size", type=whole(1, 2**25), default=4096)
     ask.add_argument("--plugin")
     words = ask.parse_intermixed_args()
     with Server(words.pcm, words.parameters, words.plugin) as server:
         disk, draw = server.must_run().connect(), random.Random(1)
-        blocks, data = disk.get_size() // words.size, [draw.randbytes(words.size) for _ in range(64)]
+        blocks = disk.get_size() // words.size
+        if blocks == 0:
+            ask.error(f"--size {words.size}: the disk has {disk.get_size()} bytes")
+        data = [draw.randbytes(words.size) for _ in range(64)]
         print("request,bytes,requests,us_nbdkit,us_program,us,rows,ticks,waits")
         measure(server, words, "write", lambda: disk.pwrite(draw.choice(data), words.size * draw.randrange(blocks)))
         measure(server, words, "read", lambda: disk.pread(words.size, words.size * draw.randrange(blocks)))

@@ -8,14 +8,15 @@ disk is attached and mounted, and transactions run until the cut, which is due i
 taken down and attached again. The kernel replays ext4's journal, `e2fsck -fn` must find nothing behind it, and the data base must be whole, with
 all transactions that were committed and at most the one under way besides. (With a rollback journal and --sync full SQLite promises less:
 the last transaction may be undone.) The numbers that it reports: cuts, committed transactions, how often the one under way came through
-or didn't, and what the module's counts are."""
+or didn't, and what the module's counts are. Its status is 1 where something is wrong, and 3 where it can't go on, since transactions end
+without a cut (a disk that is too small, say) or since the module is worn out."""
 import os
 import random
 import sqlite3
 import sys
 
 from disks import Disk
-from servers import asking_of_cuts, run
+from servers import asking_of_cuts, run, whole
 
 
 class Base:
@@ -27,11 +28,24 @@ class Base:
         self.rows, self.earlier, self.begun, self.number = {}, {}, None, 0
         self.counts = dict(cuts=0, committed=0, forward=0, back=0, undone=0, in_recovery=0)
 
+    def ends_without_a_cut(self, cycle, before, error):
+        """Whatever ended it: where no cut came, nothing is tried. Where one did, how many came."""
+        told = self.disk.control()
+        if told["read_only"]:
+            why = "the module is worn out, and the disk only reads"
+        elif told["cut"] == before:
+            why = "no power cut came, but this"
+        else:
+            return told["cut"] - before
+        print(f"cycle {cycle}: {why}: {error} ({self.number} transactions were committed)", file=sys.stderr)
+        self.disk.leave()
+        sys.exit(3)
+
     def recover(self, is_first):
         """The disk attached and mounted, and the data base opened: its integrity, rows and number."""
         self.disk.attach()
         if not is_first and self.words.recovery_ticks and self.draw.random() < 0.7:
-            self.disk.control(f"cut {self.draw.randrange(1, self.words.recovery_ticks)}")
+            self.disk.control(f"cut {self.draw.randrange(1, self.words.recovery_ticks + 1)}")
         # the kernel replays its journal: nothing may be left to mend behind it
         run("mount", "-t", "ext4", self.disk.loop, self.disk.mount)
         run("umount", self.disk.mount)
@@ -58,7 +72,10 @@ class Base:
             try:
                 return self.recover(cycle == 0)
             except (RuntimeError, sqlite3.Error, OSError) as error:
-                if self.disk.control()["cut"] == before:
+                told = self.disk.control()
+                if told["read_only"]:
+                    self.ends_without_a_cut(cycle, before, error)
+                if told["cut"] == before:
                     # no cut came in between: the file system, or the data base, isn't what it was
                     sys.exit(f"cycle {cycle}: {error}")
                 self.counts["in_recovery"] += 1
@@ -97,14 +114,15 @@ class Base:
         self.earlier, self.rows, self.number = self.rows, self.begun, self.number + 1
         self.counts["committed"] += 1
 
-    def work_until_a_cut(self):
-        self.disk.control(f"cut {self.draw.randrange(1, self.words.most_ticks)}")
+    def work_until_a_cut(self, cycle):
+        before = self.disk.control()["cut"]
+        self.disk.control(f"cut {self.draw.randrange(1, self.words.most_ticks + 1)}")
         try:
             while True:
                 self.one_transaction()
         except (sqlite3.Error, OSError) as error:
             last = error
-        self.counts["cuts"] += 1
+        self.counts["cuts"] += self.ends_without_a_cut(cycle, before, last)
         self.close()
         self.disk.detach()
         return last
@@ -113,21 +131,26 @@ class Base:
 def main():
     ask = asking_of_cuts(__doc__, cycles=10)
     ask.add_argument("--log", help="keep the disk's log in this file")
-    ask.add_argument("--recovery-ticks", type=int, default=0, help="cut the power also while it recovers, in so many ticks at most")
+    ask.add_argument("--recovery-ticks", type=whole(0), default=0, help="cut the power also while it recovers, in so many ticks at most")
     ask.add_argument("--block", default="1024", help="of ext4")
     words = ask.parse_intermixed_args()
     disk = Disk(words.pcm, words.parameters, words.plugin, words.log)
-    run("mkfs.ext4", "-q", "-b", words.block, disk.attach())
+    try:
+        run("mkfs.ext4", "-q", "-b", words.block, disk.attach())
+    except RuntimeError as error:
+        print(error, file=sys.stderr)
+        sys.exit(3)
     disk.detach()
     base = Base(disk, words)
     for cycle in range(words.cycles + 1):
         base.judge(cycle, *base.recover_through_cuts(cycle))
         if cycle < words.cycles:
-            last = base.work_until_a_cut()
+            last = base.work_until_a_cut(cycle)
             if cycle % 10 == 0:
                 print(f"cycle {cycle}: {base.number} committed, ended by {last}", flush=True)
     base.close()
     disk.detach()
+    disk.control(f"wait {max(words.most_ticks, words.recovery_ticks)}")  # (cuts that are still due come while nobody is there)
     disk.attach()
     fsck = run("e2fsck", "-fn", disk.loop)
     disk.detach()

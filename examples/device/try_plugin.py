@@ -9,6 +9,7 @@ import errno
 import os
 import pathlib
 import random
+import resource
 import shutil
 import signal
 import subprocess
@@ -115,7 +116,7 @@ def sectors_are_whole():
                 disk.pwrite(data, 8192)
                 whole += 1
                 before = data
-                it.control("cut")
+                it.control(f"wait {at}")
             except nbd.Error:
                 disk = it.connect()
                 found = disk.pread(4096, 8192)
@@ -145,6 +146,61 @@ def clients_ride_through(*parameters):
 def cuts_are_drawn_or_named():
     check(clients_ride_through("cuts=100") > 10, "cuts are drawn")
     check(clients_ride_through("cut-ticks=10,500,501,900") == 4, "cuts are named")
+
+
+def cuts_of_control_come_beside_the_others():
+    with server(*SMALL, "cut-ticks=500,900", "on-cut=ride") as it:
+        it.control("cut 5000")
+        told = it.control("wait 1000")
+        check(told["cut"] == 2 and told["tick"] == 1000, f"listed cuts come before one that was asked for: {told}")
+        it.control("cut 3000")
+        told = it.control("wait 2000")
+        check(told["cut"] == 2 and told["tick"] == 3000, f"none comes before its tick: {told}")
+        told = it.control("wait 3000")
+        check(told["cut"] == 4 and told["tick"] == 6000, f"both that were asked for come: {told}")
+        control = it.connect("control")
+        for _ in range(64):
+            control.pwrite(b"cut 9", 0)
+        check(fails(lambda: control.pwrite(b"cut 9", 0), errno.EINVAL) and it.control("wait 9")["cut"] == 68, "of 64 at one tick each comes")
+    with server(*SMALL, "cut-ticks=500") as it:
+        disk = it.connect()
+        told = it.control("wait 1000")
+        check(told["cut"] == 1 and told["tick"] == 1000, f"a wait goes on behind a cut: {told}")
+        check(fails(lambda: disk.pread(1, 0), errno.EIO) and it.connect().pread(1, 0) == b"\0", "which connections notice")
+    with server(*SMALL, "cuts=100", "on-cut=ride") as it:
+        told = [it.control("wait 20000"), it.control("cut"), it.control("wait 20000")]
+        check(150 < told[0]["cut"] < 270 and told[1]["cut"] == told[0]["cut"] + 1 and told[2]["cut"] > 300, f"drawn cuts come while it waits: {told}")
+
+
+def a_command_never_waits_for_a_server_that_cannot_start(log):
+    """`--run`: nbdkit ends with the error."""
+    other, pipe = ROOM / "faulty.csv", ROOM / "pipe"
+    other.write_text(log.read_text() + "1,C,,\n")
+    shutil.copy(f"{log}.args", f"{other}.args")
+    os.mkfifo(pipe)
+    with server(*SMALL, "misses=1", f"log={log}"):
+        for parameters, what in (
+                (["pcm=/bin/false"], "it has ended"), (["pcm=/etc/passwd"], "Permission denied"), ([f"log={log}"], "another server has it open"),
+                ([f"log={other}"], "it isn't a row of such a disk"), (["log=/nowhere/log"], "No such file"), ([f"log={pipe}"], "it isn't a regular file"),
+                (["psi=2", f"log={other}"], "has 100 behind --psi")):
+            own = [] if parameters[0].startswith("pcm=") else [f"pcm={PCM}"]
+            try:
+                done = subprocess.run(["nbdkit", "-U", "-", PLUGIN, *own, *SMALL, "misses=1", *parameters, "--run", "nbdinfo --size $uri"],
+                                      stdin=subprocess.DEVNULL, capture_output=True, text=True, timeout=20)
+                check(done.returncode == 1 and what in done.stderr and not done.stdout, f"{parameters}: {done}")
+            except subprocess.TimeoutExpired:
+                check(False, f"{parameters}: it waits for ever")
+
+
+def a_log_that_cannot_be_written():
+    """It says why, each time."""
+    (ROOM / "in").write_bytes(bytes(65536))
+    words = ["nbdkit", "-U", "-", PLUGIN, f"pcm={PCM}", *SMALL, "lines=256", f"log={ROOM / 'short.csv'}", "--run", f"nbdcopy {ROOM / 'in'} $uri"]
+    words.remove("lines=64")
+    done = subprocess.run(words, stdin=subprocess.DEVNULL, capture_output=True, text=True, timeout=60, restore_signals=False,
+                          preexec_fn=lambda: resource.setrlimit(resource.RLIMIT_FSIZE, (20000, 20000)))
+    why = [line for line in done.stderr.splitlines() if "can't be written" in line]
+    check(done.returncode != 0 and why and all("File too large" in line for line in why), f"a log that can't be written: {done}")
 
 
 def a_module_that_forgets_is_found_out():
@@ -314,6 +370,25 @@ def a_program_that_ends():
         check(it.end()["status"] == -1, "so says the report")
 
 
+def a_worn_disk_stays_so(log):
+    """Behind restarts, too."""
+    shape = ["banks=4", "regions=2", "lines=32", "line=64", "spares=1", "registers=array", "lo=20", "hi=80", f"log={log}"]
+    shadow, draw = bytearray(16384), random.Random(1)
+    for life in range(3):
+        with server(*shape) as it:
+            disk, done = it.connect(), 0
+            check(it.control()["read_only"] == (life > 0) and disk.pread(16384, 0) == shadow, "a worn disk is worn behind a restart, and read as before")
+            try:
+                while done < 100000:
+                    at, data = 64 * draw.randrange(256), draw.randbytes(64)
+                    disk.pwrite(data, at)
+                    shadow[at:at + 64] = data
+                    done += 1
+            except nbd.Error as error:
+                check(error.errno == "EPERM" and (done > 100) == (life == 0), f"and takes no write: {error}")
+            it.end()
+
+
 def a_module_that_wears_out():
     with server("banks=2", "regions=1", "lines=16", "line=64", "spares=2", "lo=20", "hi=60") as it:
         disk, draw, written = it.connect(), random.Random(1), 0
@@ -351,14 +426,18 @@ def main():
         a_cut_ends_connections()
         sectors_are_whole()
         cuts_are_drawn_or_named()
+        cuts_of_control_come_beside_the_others()
         a_module_that_forgets_is_found_out()
         log = the_disk_as_a_cut_left_it(a_disk_goes_on_from_its_log())
         a_server_in_the_background_tells_of_a_wrong_log(log)
+        a_command_never_waits_for_a_server_that_cannot_start(log)
+        a_log_that_cannot_be_written()
         other_logs_are_refused(log)
         the_control_export()
         wrong_parameters()
         a_program_that_ends()
         a_module_that_wears_out()
+        a_worn_disk_stays_so(ROOM / "worn.csv")
         real_time()
     finally:
         shutil.rmtree(ROOM)
