@@ -83,6 +83,8 @@ tested() {
         cat "$room/said"
         failed "$what"
         failures=$((failures + (bad > 0 ? bad - 1 : 0)))
+    elif [ "$ran" = 0 ]; then
+        failed "$what" "no test ran"
     fi
     passes=$((passes + ran - bad))
     # (what a test skips is told behind its name, or behind the line that says what it shows)

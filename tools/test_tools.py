@@ -811,11 +811,11 @@ unittest.main()
         (self.room / "tests.py").write_text(self.TESTS.format(most=1))
         for shell in self.SHELLS:
             with self.subTest(shell):
-                done = self.check(shell, f"passed\ntested tests '{sys.executable}' '{self.room}/tests.py' -v\ntested none '{sys.executable}' -c 'x'")
+                done = self.check(shell, f"passed\ntested tests '{sys.executable}' '{self.room}/tests.py' -v\ntested none '{sys.executable}' -c 'x'\ntested empty true")
                 said = done.communicate()[0].splitlines()
                 self.assertEqual(done.returncode, 1)
                 self.assertIn("examples/some: tests: failed", said)
-                self.assertEqual(said[-2:], ["examples/some: none: failed", "1 passed, 3 failed, 2 skipped"])
+                self.assertEqual(said[-2:], ["examples/some: empty: no test ran", "1 passed, 4 failed, 2 skipped"])
 
     def test_a_check_that_breaks_off_fails(self):
         self.says("counted one sh -c 'echo 1 passed, 0 failed; exit 3'\ncounted two echo 5 passed\ncounted three false",
