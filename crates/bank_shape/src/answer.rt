@@ -53,7 +53,7 @@ pub enum Step {
 }
 
 /// How far the writing of a change to its control line has come.
-#[derive(Clone, Copy, Debug, PartialEq, Eq)]
+#[derive(Clone, Copy, PartialEq, Eq)]
 pub enum Keep {
     /// It goes on.
     More,

@@ -4,7 +4,7 @@ ghost use Rattle.std.specs.Prelude.{◌≡◌, ◌+◌, ◌<◌, ◌^◌};
 ghost use Rattle.bank_shape.specs.Acting.{chosen_by, choice, ends_with};
 
 /// What a bank is busy with.
-#[derive(Clone, Copy, Debug, PartialEq, Eq)]
+#[derive(Clone, Copy, PartialEq, Eq)]
 pub enum Doing {
     /// A sense of the array line of the oldest waiting read.
     Serving,
@@ -15,7 +15,7 @@ pub enum Doing {
 }
 
 /// An action that runs. Its event happens at its end.
-#[derive(Clone, Copy, Debug, PartialEq, Eq)]
+#[derive(Clone, Copy, PartialEq, Eq)]
 pub struct Action {
     pub doing: Doing,
     /// The tick at which it started.

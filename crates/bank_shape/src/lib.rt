@@ -16,7 +16,7 @@ pub use pace::{Pace, Policy};
 use start_gap::Move;
 
 /// Where a bank keeps its registers, its remap table and the mark of a bank that found no spare.
-#[derive(Clone, Copy, Debug, PartialEq, Eq)]
+#[derive(Clone, Copy, PartialEq, Eq)]
 pub enum Home {
     /// In memory that survives a power cut.
     Guarded,
@@ -25,7 +25,7 @@ pub enum Home {
 }
 
 /// The sizes of a bank.
-#[derive(Clone, Copy, Debug, PartialEq, Eq)]
+#[derive(Clone, Copy, PartialEq, Eq)]
 pub struct BankShape {
     /// The first of the bank's array lines.
     pub base: u32,
@@ -46,7 +46,7 @@ pub struct BankShape {
 }
 
 /// What a bank writes next.
-#[derive(Clone, Copy, Debug, PartialEq, Eq)]
+#[derive(Clone, Copy, PartialEq, Eq)]
 pub enum Work {
     /// No move is due and no write is queued, or the bank is exhausted.
     Nothing,
@@ -57,7 +57,7 @@ pub enum Work {
 }
 
 /// What an array line is used for.
-#[derive(Clone, Copy, Debug, PartialEq, Eq)]
+#[derive(Clone, Copy, PartialEq, Eq)]
 pub enum Role {
     /// It holds this line of the module.
     Line(u32),

@@ -5,7 +5,7 @@ ghost use Rattle.std.specs.Prelude.{◌≡◌};
 ghost use Rattle.bank_shape.specs.Pausing.{gives_way, is_cancelling};
 
 /// When a line write gives way to a read.
-#[derive(Clone, Copy, Debug, PartialEq, Eq)]
+#[derive(Clone, Copy, PartialEq, Eq)]
 pub enum Policy {
     /// A waiting read goes first, between two iterations; the write then resumes.
     Pause,
@@ -16,7 +16,7 @@ pub enum Policy {
 }
 
 /// How fast a bank works, and what goes first.
-#[derive(Clone, Copy, Debug, PartialEq, Eq)]
+#[derive(Clone, Copy, PartialEq, Eq)]
 pub struct Pace {
     /// Ticks of a sense, 1 to 255.
     pub read: u32,

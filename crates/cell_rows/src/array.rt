@@ -30,7 +30,7 @@ pub struct Sense<const B: usize, const M: usize> {
 }
 
 /// What the energy of a line is reckoned from, since its array was powered up. Each count stays at the greatest u64.
-#[derive(Clone, Copy, Debug, Drop, PartialEq, Eq)]
+#[derive(Clone, Copy, Drop, PartialEq, Eq)]
 pub struct LineEnergy {
     /// How often a pulse or a tear drove one of its cells to 1.
     pub set: u64,

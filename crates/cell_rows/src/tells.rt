@@ -5,7 +5,7 @@ use crate::array::{CellArray, LineEnergy};
 use crate::row::Cells;
 
 /// What an array tells of the cells of one line.
-#[derive(Clone, Copy, Debug, Drop, PartialEq, Eq)]
+#[derive(Clone, Copy, Drop, PartialEq, Eq)]
 pub struct CellWear {
     /// How many of them are stuck.
     pub stuck: u32,

@@ -17,7 +17,7 @@ pub mod times;
 pub mod writes;
 
 /// A clause of a rule: what a row may break by itself.
-#[derive(Clone, Copy, Debug, PartialEq)]
+#[derive(Clone, Copy, PartialEq)]
 pub enum Clause {
     /// A row has an outcome of its own operation.
     OfItsOperation,

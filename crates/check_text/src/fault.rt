@@ -8,7 +8,7 @@ use std::alloc::AllocError;
 use trace_reader::{ParseFault, TraceFault};
 
 /// Why `check_text` gave no verdict.
-#[derive(Clone, Copy, Debug, PartialEq)]
+#[derive(Clone, Copy, PartialEq)]
 pub enum TextFault {
     /// The trace has a fault.
     Trace(TraceFault),

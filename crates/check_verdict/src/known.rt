@@ -12,7 +12,7 @@ pub struct Keys {
 
 /// What the rows behind a row of a line bring: when the next accepted write of the line comes, when the first of the line's
 /// stores does, and when the first worn row of its bank does.
-#[derive(Clone, Copy, Debug)]
+#[derive(Clone, Copy)]
 pub struct Coming {
     pub next: Option<u64>,
     pub soonest: Option<u64>,
@@ -31,7 +31,7 @@ pub struct Grounds<'a> {
 }
 
 /// When a row comes, of which line, and whether each bank has room then.
-#[derive(Clone, Copy, Debug)]
+#[derive(Clone, Copy)]
 pub struct Arrival {
     pub tick: u64,
     pub line: u32,

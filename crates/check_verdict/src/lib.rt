@@ -19,7 +19,7 @@ mod timing;
 mod wearing;
 
 /// What a row may break.
-#[derive(Clone, Copy, Debug, PartialEq)]
+#[derive(Clone, Copy, PartialEq)]
 pub enum Rule {
     /// A row has an outcome of its operation, and a read that is answered has the newest bytes.
     Serves,
@@ -32,7 +32,7 @@ pub enum Rule {
 }
 
 /// Whether each row keeps each rule.
-#[derive(Clone, Copy, Debug, PartialEq)]
+#[derive(Clone, Copy, PartialEq)]
 pub enum Verdict {
     /// It does.
     Yes,

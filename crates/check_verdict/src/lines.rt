@@ -9,7 +9,7 @@ use masked_bytes::layers::{has_all, join_given, lay_over};
 use std::alloc::{AllocError, Global};
 
 /// The bytes that a stored write of a line gives, and those before it down to the last stored one.
-#[derive(Clone, Copy, Debug)]
+#[derive(Clone, Copy)]
 pub struct Run<const B: usize> {
     /// When that write is stored.
     pub end: u64,

@@ -8,7 +8,7 @@ ghost use Rattle.check_verdict.specs.Members as spec;
 pub const NEVER: u64 = u64::MAX;
 
 /// An accepted write that stands in the queue.
-#[derive(Clone, Copy, Debug)]
+#[derive(Clone, Copy)]
 pub struct Member {
     /// Its line, and whether it is merged into a later write of it.
     pub line: u32,

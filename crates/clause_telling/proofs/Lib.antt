@@ -1,5 +1,4 @@
 mod Bools
-mod Far
 mod Counted
 pub mod ReadClauses
 pub mod WriteClauses

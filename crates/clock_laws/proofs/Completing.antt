@@ -5,7 +5,6 @@ use Rattle.masked_bytes.specs.declared.entry.Entry.{Entry}
 use Rattle.cell_rows.specs.{Device.ArrayState, declared.array.Sense.Sense}
 use Rattle.ecp_line.specs.Reading.{decode}
 use Rattle.bank_shape.specs.{Shape.controls_of, declared.BankShape.BankShape, declared.clock.Action.Action, declared.clock.Doing.Doing, declared.pace.Pace.Pace}
-use Rattle.bank_shape.specs.declared.answer.Step.TheVariants as did
 use Rattle.bank_model.specs.{Changes.{change_after, line_of_change}, Events.BankEvent, History.{queue, begun}, Lawful.{IsAsked, IsOnTime, IsKeptOnTime}}
 use Rattle.bank_model.specs.{Running.{left, cancels_by, cancels_with, running_at}, Sensing.{is_at, sensed_by, pulsed_by, read_again, kept_sensed, kept_pulsed, copied, begun_with}}
 use Rattle.bank_model.specs.{Timing.{TimedEvent, Happens, Core, Regs, Keeping, ends, core}, Told.tick_of_row, Touching.{Touches, shown}}
@@ -19,13 +18,6 @@ use Rattle.clock_laws.proofs.{Stepping.{follows, uncancelled, leads-reaches, rea
 -- no event that ends an action has a row of its own
 ends-asked : {n : ℕ} (h : List (BankEvent n)) (event : BankEvent n) (doing : Doing) → EndsDoing event doing → IsAsked h event
 ends-asked h event doing is = grind arith
-
--- it comes as the action ends
-doing_is : (pace : Pace) (action : Action) (doing : Doing) (runs : Option Action) → action.doing ≡ doing → runs ≡ Some action
-    → (runs ≡ Some (record { doing = doing; first = action.first })) × (ends pace action ≡ ends pace (record { doing = doing; first = action.first }))
-doing_is pace action doing runs is run =
-    let same : action ≡ record { doing = doing; first = action.first } = ap (λ (doing : Doing). record action { doing = doing }) is in
-    (run ∙ ap (λ a. Some a) same, ap (λ a. ends pace a) same)
 
 ends-on_time : {n m : ℕ} (shape : BankShape) (pace : Pace) (xs : List (TimedEvent n m)) (event : BankEvent n) (action : Action) (runs : Option Action) (senses : List (Sense n m)) (pulsed : Option ℕ)
     → EndsDoing event action.doing → (change : Option Change) → IsAlone event change → item_of change ≡ change_after shape xs → runs ≡ Some action
@@ -44,10 +36,6 @@ ends-left : {n : ℕ} (shape : BankShape) (h : List (BankEvent n)) (change : Opt
 ends-left shape h change event doing runs is = grind arith
 
 -- Arrival ticks
-
--- completing the head leaves the rows
-ticks-begun : {n : ℕ} (ticks : ℕ → ℕ) (due : Option ℕ) (newest_of : ℕ → List ℕ) (es : List (Entry n)) → map (λ entry. ticks entry.row) (begun due newest_of es) ≡ map (λ entry. ticks entry.row) es
-ticks-begun ticks due newest_of es = grind arith
 
 module _ {n m : ℕ} (shape : BankShape) (xs : List (TimedEvent n m)) where
   abbrev tick_at : Entry n → ℕ

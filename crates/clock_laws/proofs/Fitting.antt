@@ -73,9 +73,6 @@ none-waits : {n : ℕ} (ws : List (Waiting n)) → nat_lt 0 (length ws) ≡ fals
 none-waits [] none = refl
 none-waits (w ∷ ws) none = let some : nat_lt 0 (length (w ∷ ws)) ≡ true = lt-ltb 0 (length (w ∷ ws)) (omega arith) in cc
 
-none-free : (n : ℕ) (work : Work) → is_free {n = n} [] work ≡ false → work ≡ Nothing
-none-free n work none = grind arith
-
 pub rest_law : RestLaw
 rest_law n m e clock none =
     let idle = none-else clock.action (chosen clock) clock.tick none in

@@ -62,7 +62,7 @@ pub struct MapJob {
 }
 
 /// The gap moves of a full turn of a region.
-#[derive(Clone, Copy, Debug, Drop, PartialEq, Eq)]
+#[derive(Clone, Copy, Drop, PartialEq, Eq)]
 pub struct MovesJob {
     /// How many lines the region has: a power of two, 4 to 256.
     pub lines: u32,
@@ -82,14 +82,14 @@ pub struct CheckJob {
 }
 
 /// How many bytes a line has.
-#[derive(Clone, Copy, Debug, Drop, PartialEq, Eq)]
+#[derive(Clone, Copy, Drop, PartialEq, Eq)]
 pub enum LineSize {
     Bytes64,
     Bytes128,
 }
 
 /// What a run writes.
-#[derive(Clone, Copy, Debug, Drop, PartialEq, Eq)]
+#[derive(Clone, Copy, Drop, PartialEq, Eq)]
 pub enum Print {
     /// A row for each row of the trace.
     Results,
@@ -102,7 +102,7 @@ pub enum Print {
 }
 
 /// Where a run takes its trace from.
-#[derive(Clone, Copy, Debug, Drop, PartialEq, Eq)]
+#[derive(Clone, Copy, Drop, PartialEq, Eq)]
 pub enum Input {
     /// The program's input.
     Source,
@@ -111,7 +111,7 @@ pub enum Input {
 }
 
 /// Why words give no job.
-#[derive(Clone, Copy, Debug, Drop, PartialEq, Eq)]
+#[derive(Clone, Copy, Drop, PartialEq, Eq)]
 pub enum Refusal {
     /// The words name no command, an option isn't one of the command's, or a value is out of its range.
     Usage,

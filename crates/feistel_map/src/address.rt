@@ -3,7 +3,7 @@ ghost use Rattle.std.specs.Prelude.{◌≡◌, ℕ, ◌*◌, ◌^◌, ◌<◌, �
 ghost use Rattle.feistel_map.specs.Addresses.{address_of, number_at};
 
 /// Where a line stands: its bank, its region in the bank, and its offset in the region, each from 0.
-#[derive(Clone, Copy, Debug, PartialEq, Eq)]
+#[derive(Clone, Copy, PartialEq, Eq)]
 pub struct Address {
     pub bank: u32,
     pub region: u32,

@@ -18,7 +18,7 @@ use rand_xoshiro::SplitMix64;
 use std::marker::Model;
 
 /// A bijection of the numbers below 2^bits.
-#[derive(Clone, Copy, Debug, PartialEq, Eq)]
+#[derive(Clone, Copy, PartialEq, Eq)]
 pub struct Feistel {
     bits: u32,
     first: u16,

@@ -15,7 +15,7 @@ pub use writing::{write_head, write_line, write_region};
 pub const END_MARK: u32 = 4_294_967_295;
 
 /// The numbers at the beginning of the image of a large module, but for the size of its lines.
-#[derive(Clone, Copy, Debug, PartialEq, Eq)]
+#[derive(Clone, Copy, PartialEq, Eq)]
 pub struct LargeHead {
     pub banks: u8,
     pub regions: u8,
@@ -30,7 +30,7 @@ pub struct LargeHead {
 }
 
 /// The registers of a region, and its stores since the last move of its gap.
-#[derive(Clone, Copy, Debug, PartialEq, Eq)]
+#[derive(Clone, Copy, PartialEq, Eq)]
 pub struct LargeRegion {
     /// Below the number of lines.
     pub start: u32,

@@ -13,7 +13,7 @@ use ecp_line::{Ecp, lowest};
 use program_verify::{Prog, Turn};
 
 /// How far a write has come.
-#[derive(Clone, Copy, PartialEq, Eq, Debug, Drop)]
+#[derive(Clone, Copy, PartialEq, Eq, Drop)]
 pub enum Progress {
     /// A step is left to make.
     More,
@@ -24,7 +24,7 @@ pub enum Progress {
 }
 
 /// Why a line is worn.
-#[derive(Clone, Copy, PartialEq, Eq, Debug, Drop)]
+#[derive(Clone, Copy, PartialEq, Eq, Drop)]
 pub enum Cause {
     /// More cells are stuck than there are entries.
     TooMany,

@@ -16,7 +16,7 @@ use run_text::{make_room, push_role};
 use text_printer::{ROW_ROOM, TEXT_ROOM};
 
 /// What the cells of an array line say of it.
-#[derive(Clone, Copy, Debug, Drop, PartialEq, Eq)]
+#[derive(Clone, Copy, Drop, PartialEq, Eq)]
 pub struct LineCells {
     /// The error-correcting pointers that are active.
     pub pointers: u8,

@@ -4,7 +4,7 @@ use crate::layers::{fill_under, join_given, lay_over};
 
 /// A write that waits: the number of the trace row that it came from, the line that it writes, and those of the line's `B` bytes that it gives.
 /// A byte that is not given is 0.
-#[derive(Clone, Copy, Debug)]
+#[derive(Clone, Copy)]
 pub struct Entry<const B: usize> {
     pub row: u32,
     pub line: u32,

@@ -24,7 +24,7 @@ use run_text::{make_room, print_rest, print_role, print_wear_header};
 use text_printer::{ROW_ROOM, TEXT_ROOM};
 
 /// A report with a row for each array line.
-#[derive(Clone, Copy, Debug, Drop, PartialEq, Eq)]
+#[derive(Clone, Copy, Drop, PartialEq, Eq)]
 pub enum Report {
     /// The wear report.
     Wear,

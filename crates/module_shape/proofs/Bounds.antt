@@ -1,9 +1,9 @@
 -- What sizes within the limits are like.
-use Rattle.std.proofs.Common.{◌≡◌, ℕ, ◌+◌, ◌*◌, ◌^◌, ◌<◌, ◌≤◌, Bool, true, false, ◌&&◌, nat_le, List, [], ◌∷◌, None, refl, ap, ◌∙◌, arith}
+use Rattle.std.proofs.Common.{◌≡◌, ℕ, ◌+◌, ◌*◌, ◌^◌, ◌<◌, ◌≤◌, Bool, true, false, nat_le, List, [], ◌∷◌, None, refl, ap, ◌∙◌, arith}
 use Rattle.std.{specs.Int.is_power_of_two, proofs.Math.Nat.{mul_assoc, mul_comm, mul-add}, proofs.lemmas.Bool.and_parts, proofs.lemmas.Bool.Decides.nat_tests}
 use Rattle.std.proofs.lemmas.Nat.{mul-le}
 use Rattle.module_shape.specs.Addresses.{module_of, lines_of}
-use Rattle.module_shape.specs.Limits.{is_between, total_of, limits, first_broken, is_small, large_limits, small_limits, most_array_lines, shape_fault, IsShape, IsSmall}
+use Rattle.module_shape.specs.Limits.{is_between, total_of, limits, first_broken, large_limits, small_limits, most_array_lines, shape_fault, IsShape, IsSmall}
 use Rattle.module_shape.{specs.declared.raw.Field.Field, specs.declared.raw.RawShape.RawShape, specs.declared.raw.SizeLimits.SizeLimits, proofs.Powers.size_of_powers}
 use Rattle.feistel_map.specs.Log2.{log2}
 
@@ -110,29 +110,10 @@ is-small raw h =
     let is = within_limits small_limits raw h in
     record { few_banks = is.banks.1; few_regions = is.regions.1; few_lines = is.lines.1; few_in_all = is.total }
 
--- the sizes that are tested so
-pub small-by : (raw : RawShape) → is_small raw ≡ true → IsSmall raw
-small-by raw h =
-    let most = small_limits in
-    let banks = and_parts (nat_le raw.banks most.banks) (nat_le raw.regions most.regions && (nat_le raw.lines most.lines && nat_le (total_of raw) most.total)) h in
-    let regions = and_parts (nat_le raw.regions most.regions) (nat_le raw.lines most.lines && nat_le (total_of raw) most.total) banks.1 in
-    let lines = and_parts (nat_le raw.lines most.lines) (nat_le (total_of raw) most.total) regions.1 in
-    record {
-      few_banks = at_most most.banks raw.banks banks.0;
-      few_regions = at_most most.regions raw.regions regions.0;
-      few_lines = at_most most.lines raw.lines lines.0;
-      few_in_all = at_most most.total (total_of raw) lines.1;
-    }
-
 -- one bank has no more lines than all
 pub bank-few : (banks regions lines most : ℕ) → 1 ≤ banks → banks * regions * lines ≤ most → regions * lines ≤ most
 bank-few banks regions lines most some few =
     omega (arith, mul-le 1 (regions * lines) banks (regions * lines) some (let same : regions * lines ≤ regions * lines = omega arith in same), mul_assoc banks regions lines)
-
--- the product of at most 64 banks, 64 regions and any lines is below 2 to the power 64
-pub product-fits : (banks regions lines : ℕ) → banks ≤ 64 → regions ≤ 64 → lines < 2 ^ 32 → banks * regions * lines < 2 ^ 64
-product-fits banks regions lines few also low =
-    omega (arith, mul-le (banks * regions) lines 4096 4294967295 (mul-le banks regions 64 64 few also) (omega arith))
 
 -- the array lines of all banks
 slots_few : (banks regions lines spares gaps behind total : ℕ) → banks * regions ≤ gaps → banks * spares ≤ behind → banks * regions * lines ≤ total

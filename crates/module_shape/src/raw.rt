@@ -5,7 +5,7 @@ ghost use Rattle.module_shape.specs.Limits.{is_between, is_power_between, large_
 use bank_shape::{Home, Policy};
 
 /// The greatest sizes that a module may have.
-#[derive(Clone, Copy, Debug, PartialEq, Eq)]
+#[derive(Clone, Copy, PartialEq, Eq)]
 pub struct SizeLimits {
     /// How many banks, a power of two.
     pub banks: u32,
@@ -43,7 +43,7 @@ pub(crate) fn large_limits() -> SizeLimits
 
 /// The sizes of a module, in range or not: a small one, on which a whole trace is replayed, or a large one, which serves a
 /// stream.
-#[derive(Clone, Copy, Debug, PartialEq, Eq)]
+#[derive(Clone, Copy, PartialEq, Eq)]
 pub struct RawShape {
     /// How many banks the module has: a power of two, 1 to 16, or to 64 in a large one.
     pub banks: u32,
@@ -71,7 +71,7 @@ pub struct RawShape {
 }
 
 /// A size of a module; `Total` is the number of its lines.
-#[derive(Clone, Copy, Debug, PartialEq, Eq)]
+#[derive(Clone, Copy, PartialEq, Eq)]
 pub enum Field {
     Banks,
     Regions,
@@ -86,7 +86,7 @@ pub enum Field {
 }
 
 /// Why a module can't have the sizes that it is asked to have: the first one out of range.
-#[derive(Clone, Copy, Debug, PartialEq, Eq)]
+#[derive(Clone, Copy, PartialEq, Eq)]
 pub struct BadShape {
     pub field: Field,
 }

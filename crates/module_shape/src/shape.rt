@@ -12,7 +12,7 @@ use feistel_map::Address;
 use std::marker::Model;
 
 /// The sizes of a module, all in range.
-#[derive(Clone, Copy, Debug, PartialEq, Eq)]
+#[derive(Clone, Copy, PartialEq, Eq)]
 pub struct Shape {
     raw: RawShape,
 }
@@ -31,7 +31,7 @@ impl Model for Shape {
 }
 
 /// A line of a bank: which bank, and the number of the line there, each from 0.
-#[derive(Clone, Copy, Debug, PartialEq, Eq)]
+#[derive(Clone, Copy, PartialEq, Eq)]
 pub struct BankLine {
     pub bank: u32,
     pub line: u32,

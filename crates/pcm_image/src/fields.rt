@@ -12,7 +12,7 @@ use crate::{ImageFault, ImageKind};
 use std::alloc::{AllocError, AllocFailed};
 
 /// Why an image gives no module.
-#[derive(Clone, Copy, Debug, PartialEq, Eq)]
+#[derive(Clone, Copy, PartialEq, Eq)]
 pub enum ReadImage {
     /// A field fails.
     Bad(ImageFault),

@@ -16,7 +16,7 @@ pub use writing::{
 };
 
 /// The registers of a region, and its stores since the last move of its gap.
-#[derive(Clone, Copy, Debug, PartialEq, Eq)]
+#[derive(Clone, Copy, PartialEq, Eq)]
 pub struct RegionImage {
     /// Below the number of lines.
     pub start: u16,
@@ -27,7 +27,7 @@ pub struct RegionImage {
 }
 
 /// A write of a bank's queue: the line of the bank, and those of its bytes that it gives. A byte that isn't given is 0.
-#[derive(Clone, Copy, Debug)]
+#[derive(Clone, Copy)]
 pub struct EntryImage<const B: usize> {
     pub line: u32,
     pub bytes: [u8; B],
@@ -35,14 +35,14 @@ pub struct EntryImage<const B: usize> {
 }
 
 /// The first field that fails: its first byte, and how.
-#[derive(Clone, Copy, Debug, PartialEq, Eq)]
+#[derive(Clone, Copy, PartialEq, Eq)]
 pub struct ImageFault {
     pub at: u32,
     pub kind: ImageKind,
 }
 
 /// How a field fails.
-#[derive(Clone, Copy, Debug, PartialEq, Eq)]
+#[derive(Clone, Copy, PartialEq, Eq)]
 pub enum ImageKind {
     /// It doesn't fit into the bytes left.
     Short,

@@ -9,7 +9,7 @@ use crate::side_by_side::Module;
 use feistel_map::Address;
 
 /// Where a line of a module stands.
-#[derive(Clone, Copy, Debug, PartialEq, Eq)]
+#[derive(Clone, Copy, PartialEq, Eq)]
 pub struct LinePlace {
     /// Its bank, its region there, and its offset in the region.
     pub address: Address,

@@ -24,7 +24,7 @@ use std::alloc::Global;
 use trace_reader::Event;
 
 /// How a job was done.
-#[derive(Clone, Copy, Debug, PartialEq, Eq)]
+#[derive(Clone, Copy, PartialEq, Eq)]
 pub enum Done {
     /// Wholly: no row of a run fell short of what it asked for, and each row of results that were checked
     /// keeps each rule.

@@ -1,7 +1,7 @@
 //! The answer of a write queue to a write.
 
 /// What became of a write.
-#[derive(Clone, Copy, Debug, PartialEq, Eq)]
+#[derive(Clone, Copy, PartialEq, Eq)]
 pub enum Accept {
     /// It stands behind all others.
     Pushed,

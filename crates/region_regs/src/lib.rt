@@ -10,7 +10,7 @@ use start_gap::Registers;
 use std::marker::Model;
 
 /// A region of 1 to 67,108,864 lines, whose gap moves every `psi` (1 to 65,535) stored writes.
-#[derive(Debug, Drop)]
+#[derive(Drop)]
 pub struct Region {
     registers: Registers,
     psi: u32,

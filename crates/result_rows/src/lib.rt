@@ -12,7 +12,7 @@ pub use print::{header, print_outcome, print_row};
 pub use results::Results;
 
 /// What a row of a trace asks for.
-#[derive(Clone, Copy, Debug, PartialEq, Eq)]
+#[derive(Clone, Copy, PartialEq, Eq)]
 pub enum Op {
     /// Read a line.
     Read,
@@ -24,7 +24,7 @@ pub enum Op {
 
 /// What became of a row of a trace, over lines of `B` bytes. Ticks are those of the simulated clock; a place is the
 /// number of an array line.
-#[derive(Clone, Copy, Debug, PartialEq, Eq)]
+#[derive(Clone, Copy, PartialEq, Eq)]
 pub enum Outcome<const B: usize> {
     /// Not set yet.
     Unset,

@@ -15,7 +15,7 @@ use std::marker::Model;
 
 /// The options of `map`: the sizes of the module, the seed of the network, how many gap moves every region made, and where
 /// the banks keep their registers.
-#[derive(Clone, Copy, Debug, PartialEq, Eq)]
+#[derive(Clone, Copy, PartialEq, Eq)]
 pub struct MapOptions {
     pub banks: u32,
     pub regions: u32,
@@ -27,7 +27,7 @@ pub struct MapOptions {
 }
 
 /// Where every line of a module stands, while no slot has a spare line.
-#[derive(Debug, Drop)]
+#[derive(Drop)]
 pub struct Map {
     options: MapOptions,
     network: Feistel,

@@ -9,7 +9,7 @@ use pcm_io::Text;
 use run_text::Counts;
 
 /// What stands behind a row of a stream, and in the end.
-#[derive(Clone, Copy, Debug, PartialEq, Eq)]
+#[derive(Clone, Copy, PartialEq, Eq)]
 pub struct Snapshot {
     /// The rows that were served.
     pub rows: u32,

@@ -4,7 +4,7 @@ use cell_rows::LineEnergy;
 use result_rows::Outcome;
 
 /// What one line of a stream tells.
-#[derive(Clone, Copy, Debug, PartialEq)]
+#[derive(Clone, Copy, PartialEq)]
 pub enum Told<const B: usize> {
     /// What became of the row of this number.
     Became(u32, Outcome<B>),
@@ -17,7 +17,7 @@ pub enum Told<const B: usize> {
 }
 
 /// What waits in a bank, and whether it goes on.
-#[derive(Clone, Copy, Debug, PartialEq, Eq)]
+#[derive(Clone, Copy, PartialEq, Eq)]
 pub struct Backlog {
     /// The bank's number, from 0.
     pub bank: u32,
@@ -30,7 +30,7 @@ pub struct Backlog {
 }
 
 /// Whether a bank goes on.
-#[derive(Clone, Copy, Debug, PartialEq, Eq)]
+#[derive(Clone, Copy, PartialEq, Eq)]
 pub enum Mark {
     /// It goes on.
     Going,
@@ -41,7 +41,7 @@ pub enum Mark {
 }
 
 /// How worn the array of a module is.
-#[derive(Clone, Copy, Debug, PartialEq, Eq)]
+#[derive(Clone, Copy, PartialEq, Eq)]
 pub struct ArrayWear {
     /// The pulses of all array lines.
     pub pulses: u64,
@@ -56,7 +56,7 @@ pub struct ArrayWear {
 }
 
 /// The shape of a module, as a stream may tell it.
-#[derive(Clone, Copy, Debug, Drop, PartialEq, Eq)]
+#[derive(Clone, Copy, Drop, PartialEq, Eq)]
 pub struct ToldShape {
     /// How many banks the module has.
     pub banks: u32,
@@ -73,7 +73,7 @@ pub struct ToldShape {
 }
 
 /// What is printed of a stream as its rows are served.
-#[derive(Clone, Copy, Debug, Drop, PartialEq, Eq)]
+#[derive(Clone, Copy, Drop, PartialEq, Eq)]
 pub enum Shown {
     /// Nothing.
     Nothing,

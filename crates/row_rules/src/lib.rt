@@ -35,7 +35,7 @@ pub struct Row<const B: usize> {
 }
 
 /// How much a bank holds, and its times.
-#[derive(Clone, Copy, Debug)]
+#[derive(Clone, Copy)]
 pub struct Rules {
     /// How many writes the queue holds.
     pub writes: u32,

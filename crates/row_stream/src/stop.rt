@@ -11,7 +11,7 @@ use trace_reader::{EventOp, TraceFault};
 use trace_stream::{Asked, StreamFault};
 
 /// Why a stream isn't served to its end.
-#[derive(Clone, Copy, Debug, PartialEq)]
+#[derive(Clone, Copy, PartialEq)]
 pub enum Stop {
     /// No further row could be had.
     Input(StreamFault),
@@ -24,7 +24,7 @@ pub enum Stop {
 }
 
 /// How a module stands behind what was asked of it.
-#[derive(Clone, Copy, Debug, PartialEq, Eq)]
+#[derive(Clone, Copy, PartialEq, Eq)]
 pub enum Behind {
     /// Nothing was asked.
     Nothing,

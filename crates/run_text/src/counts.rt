@@ -6,7 +6,7 @@ ghost use Rattle.run_text.specs.Laws.{rows_counted, rows_short};
 use result_rows::{Outcome, Results};
 
 /// The number of rows that had each outcome.
-#[derive(Clone, Copy, Debug, PartialEq, Eq)]
+#[derive(Clone, Copy, PartialEq, Eq)]
 pub struct Counts {
     pub stored: u32,
     pub merged: u32,

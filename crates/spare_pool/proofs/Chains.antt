@@ -1,7 +1,7 @@
 -- The spares of a chain, the newest first, and the lists that hold a table.
-use Rattle.std.proofs.Common.{◌≡◌, ◌≢◌, ℕ, zero, suc, ◌+◌, ◌-◌, ◌%◌, ◌^◌, ◌<◌, ◌≤◌, ◌==◌, true, false, if◌then◌else◌, inl, inr, List, [], ◌∷◌, ◌++◌, length, map, slice_index, get_or, replicate, take, refl, sym, ◌∙◌, ap, subst, arith}
+use Rattle.std.proofs.Common.{◌≡◌, ◌≢◌, ℕ, zero, suc, ◌+◌, ◌-◌, ◌%◌, ◌<◌, ◌≤◌, ◌==◌, true, false, if◌then◌else◌, inl, inr, List, [], ◌∷◌, ◌++◌, length, map, slice_index, get_or, take, refl, sym, ◌∙◌, ap, subst, arith}
 use Rattle.std.proofs.{Math.ListN.{length-set, set}, Math.Seq.take-set-le, lemmas.Bool.cases_eq, lemmas.Bool.Decides.nat_tests, lemmas.Grind.get_or_default_zero}
-use Rattle.std.proofs.lemmas.List.{get_or-set_same, get_or-set_other, get_or-take, get_or-replicate, length-map, length-take-le, map-append, take_more, take_more_set}
+use Rattle.std.proofs.lemmas.List.{get_or-set_same, get_or-set_other, get_or-take, length-map, length-take-le, map-append, take_more, take_more_set}
 use Rattle.spare_pool.specs.Table.{Table, line_from, line_by, used_by, retired_table, chain_of, newest_of, Stores, stored_table}
 use Rattle.spare_pool.proofs.Lines.{line_from-more, line_by-retired, IsTable-retired, only_given}
 
@@ -107,14 +107,6 @@ finds slots replaced used heads links slot number at stores looked some at_is he
     ∙ ap (λ n. slots + n) (length-take-le spare replaced (omega (arith, exists)))
     )
 
--- none of its chain is left
-pub finds_none : (slots : ℕ) (replaced : List ℕ) (used slot number : ℕ) → Newest slots slot replaced slot used number → number ≡ 0 → slot ≡ line_by (stored_table slots replaced used) slot
-finds_none slots replaced used slot number looked none = sym (looked.same ∙ ap (λ n. line_from slots slot (take n replaced) slot) none)
-
--- where no spare is used, a slot has its own line
-pub line_by-unused : (slots : ℕ) (replaced : List ℕ) (used slot : ℕ) → used ≡ 0 → slot ≡ line_by (stored_table slots replaced used) slot
-line_by-unused slots replaced used slot none = sym (ap (λ n. line_from slots slot (take n replaced) slot) none)
-
 -- ---- the lists at the beginning, and after one more retirement
 
 -- a used spare went to one slot alone
@@ -123,22 +115,11 @@ pub spare-slot : (slots : ℕ) (replaced : List ℕ) (used : ℕ) (heads links :
 spare-slot slots replaced used heads links spare slot stores h e =
     e ∙ get_or_default_zero replaced spare slot (omega (arith, stores.within)) ∙ sym (get_or-take used replaced spare 0 h)
 
-pub spare-exists : (slots : ℕ) (replaced : List ℕ) (used : ℕ) (heads links : List ℕ) (spare slot : ℕ) → Stores slots replaced used heads links → spare < used → slot ≡ get_or replaced spare slot
-    → slot < slots
-spare-exists slots replaced used heads links spare slot stores h e =
-    rw (spare-slot slots replaced used heads links spare slot stores h e) (stores.table.known spare (rw (length-take-le used replaced stores.within) h))
-
 pub spare-only : (slots : ℕ) (replaced : List ℕ) (used : ℕ) (heads links : List ℕ) (line slot : ℕ) → Stores slots replaced used heads links → slots ≤ line
     → line - slots < used → slot ≡ get_or replaced (line - slots) slot
     → (other : ℕ) → other < slots → line_by (stored_table slots replaced used) other ≡ line → other ≡ slot
 spare-only slots replaced used heads links line slot stores behind h e other w same =
     only_given (stored_table slots replaced used) line behind other w same ∙ sym (spare-slot slots replaced used heads links (line - slots) slot stores h e)
-
-pub spare-given : (slots : ℕ) (replaced : List ℕ) (used : ℕ) (heads links : List ℕ) (line slot : ℕ) → Stores slots replaced used heads links
-    → line - slots < used → slot ≡ get_or replaced (line - slots) slot
-    → (slot < slots) × (line < slots + used_by (stored_table slots replaced used))
-spare-given slots replaced used heads links line slot stores h e =
-    (spare-exists slots replaced used heads links (line - slots) slot stores h e, omega (arith, length-take-le used replaced stores.within))
 
 pub stored_table-retired : (slots : ℕ) (replaced : List ℕ) (used slot : ℕ) → used < length replaced
     → stored_table slots (set replaced used slot) (used + 1) ≡ retired_table (stored_table slots replaced used) slot
@@ -205,14 +186,3 @@ pub lines-retired : (slots : ℕ) (replaced : List ℕ) (used slot : ℕ) → us
     ≡ (if slot == other then slots + used_by (stored_table slots replaced used) else line_by (stored_table slots replaced used) other)
 lines-retired slots replaced used slot left other =
     ap (λ (t : Table). line_by t other) (stored_table-retired slots replaced used slot left) ∙ line_by-retired (stored_table slots replaced used) slot other
-
-pub stores-first : (slots : ℕ) (replaced heads links : List ℕ) → slots + length replaced < 2 ^ 32 → heads ≡ replicate 256 0 → length links ≡ length replaced
-    → Stores slots replaced 0 heads links
-stores-first slots replaced heads links fits zeros linked = record {
-  table = record { fits = fits; within = omega arith; known = λ spare below. absurd (omega arith) };
-  within = omega arith;
-  chains = ap length zeros;
-  linked = linked;
-  newest = λ chain below. ap (λ xs. slice_index xs chain) zeros ∙ get_or-replicate 256 chain 0 0 below;
-  before = λ spare below. absurd (omega arith);
-}

@@ -9,7 +9,7 @@ use std::alloc::{AllocError, Global};
 use std::marker::Model;
 
 /// Who has an array line of a bank: a slot, nobody yet, or nobody any more.
-#[derive(Clone, Copy, Debug, PartialEq, Eq)]
+#[derive(Clone, Copy, PartialEq, Eq)]
 pub enum Owner {
     /// The slot of this number.
     Slot(u32),
@@ -20,7 +20,7 @@ pub enum Owner {
 }
 
 /// All spares are used.
-#[derive(Clone, Copy, Debug, PartialEq, Eq)]
+#[derive(Clone, Copy, PartialEq, Eq)]
 pub struct NoSpare;
 
 // How many chains of spares there are; the slots of a chain are equal but for a multiple of this.
@@ -28,7 +28,7 @@ const CHAINS: u32 = 256;
 
 /// The lines of a bank's slots. Lines are counted from the first line of the bank: those of the slots come first, in
 /// order, and then the spares. Its memory goes by the spares, not by the slots.
-#[derive(Debug, Drop)]
+#[derive(Drop)]
 pub struct Remap {
     slots: u32,
     // Of each used spare, the slot that it was given to.

@@ -12,7 +12,7 @@ use std::marker::Model;
 pub use turn::{each_pair_once, find_move};
 
 /// One gap move: the line (its number in the region) is copied from one place of the region into another, the gap.
-#[derive(Clone, Copy, Debug, PartialEq, Eq)]
+#[derive(Clone, Copy, PartialEq, Eq)]
 pub struct Move {
     pub line: u32,
     pub from: u32,
@@ -20,7 +20,7 @@ pub struct Move {
 }
 
 /// The registers Start and Gap of a region of 1 to 67,108,864 lines.
-#[derive(Clone, Copy, Debug, PartialEq, Eq)]
+#[derive(Clone, Copy, PartialEq, Eq)]
 pub struct Registers {
     lines: u32,
     start: u32,

@@ -3,7 +3,7 @@ ghost use Rattle.std.specs.Prelude.{◌≡◌};
 ghost use Rattle.stream_top.specs.Streams.{status_done};
 
 /// How a stream was done.
-#[derive(Clone, Copy, Debug, PartialEq, Eq)]
+#[derive(Clone, Copy, PartialEq, Eq)]
 pub enum Done {
     /// Wholly: no row fell short of what it asked for, or it stopped at a refused row, as it was to.
     Whole,

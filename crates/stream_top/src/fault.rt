@@ -8,7 +8,7 @@ use program_calls::tell_trace;
 use trace_reader::TraceFault;
 
 /// Why a call of the program ends without its work done.
-#[derive(Clone, Copy, Debug, PartialEq)]
+#[derive(Clone, Copy, PartialEq)]
 pub enum Fault {
     /// The words ask for nothing.
     Usage,

@@ -28,7 +28,7 @@ pub struct StreamJob {
 }
 
 /// What a stream writes.
-#[derive(Clone, Copy, Debug, Drop, PartialEq, Eq)]
+#[derive(Clone, Copy, Drop, PartialEq, Eq)]
 pub enum StreamPrint {
     /// A row for each outcome, and in front of them what is told of the module.
     Rows(Tell),
@@ -49,7 +49,7 @@ pub enum StreamPrint {
 }
 
 /// What is told of the module between the header of rows and the first of them.
-#[derive(Clone, Copy, Debug, Drop, PartialEq, Eq)]
+#[derive(Clone, Copy, Drop, PartialEq, Eq)]
 pub enum Tell {
     /// Nothing.
     Nothing,
@@ -58,7 +58,7 @@ pub enum Tell {
 }
 
 /// Which array lines a report leaves out.
-#[derive(Clone, Copy, Debug, Drop, PartialEq, Eq)]
+#[derive(Clone, Copy, Drop, PartialEq, Eq)]
 pub enum Skip {
     /// None.
     Nothing,
@@ -92,7 +92,7 @@ fn is_read(input: &Input) -> bool
 }
 
 /// What becomes of the module behind the last row.
-#[derive(Clone, Copy, Debug, Drop, PartialEq, Eq)]
+#[derive(Clone, Copy, Drop, PartialEq, Eq)]
 pub enum End {
     /// Its banks go on until they have nothing left to do.
     Drain,
@@ -101,7 +101,7 @@ pub enum End {
 }
 
 /// Up to where the rows of a stream are served.
-#[derive(Clone, Copy, Debug, Drop, PartialEq, Eq)]
+#[derive(Clone, Copy, Drop, PartialEq, Eq)]
 pub enum Until {
     /// To their end.
     End,

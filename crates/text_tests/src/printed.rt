@@ -33,7 +33,7 @@ fn assert_written(
     wanted: (Result<(), WriteFault>, &[u8]),
 ) {
     match printed {
-        Ok((done, out)) => assert_eq!(rt; (done, out.written()), wanted),
+        Ok((done, out)) => assert!(rt; (done, out.written()) == wanted),
         Err(_) => panic!(rt; "no memory"),
     }
 }

@@ -4,7 +4,7 @@ ghost use Rattle.trace_gen.specs.Generated.{IsLongMix, cut_distance, is_cut_row,
 
 /// The number of rows and what they are. Nine words in ten draw a line among the hot ones, where there are any, and the
 /// others draw one among all.
-#[derive(Clone, Copy, Debug, PartialEq, Eq)]
+#[derive(Clone, Copy, PartialEq, Eq)]
 pub struct Mix {
     /// How many rows, 1 to 400,000; of a long trace up to 4,000,000,000.
     pub rows: u32,

@@ -1,6 +1,6 @@
 -- From the mask of one load to the bytes that pass a test.
 use Rattle.std.proofs.Common.{◌≡◌, ℕ, ◌+◌, ◌-◌, ◌%◌, ◌^◌, ◌<◌, ◌≤◌, Bool, true, false, not, ◌||◌, List, [], ◌∷◌, map, length, get_or, Fits, w8, refl, sym, ap, ap₂, ◌∙◌, subst, arith, inl, inr}
-use Rattle.std.{specs.List.prefix_len, proofs.lemmas.Bool.{agree_below, agree_below_at, not-true, cases_eq, cases_lt, eq-eqb, ne_eqb, cond-true, cond-false}}
+use Rattle.std.{specs.List.prefix_len, proofs.lemmas.Bool.{agree_below, agree_below_at, not-true, cases_eq, eq-eqb, ne_eqb, cond-true, cond-false}}
 use Rattle.std.proofs.{lemmas.List.length-map, lemmas.List.Sums.{prefix_len-le-length, prefix_len_passes}}
 use Rattle.std.proofs.lemmas.Simd.{map-map, mask_l-mod, length-chunk, get_or-chunk, leading_from_mask_l, trailing_mask_l}
 use lib.Lanes.{chunk, zip2, mask_l, top}
@@ -55,9 +55,3 @@ pub passes_in : (q : ℕ → Bool) (d : List ℕ) (i n r : ℕ) (z : List ℕ) (
 passes_in q d i n r z room few fits found f lanes all k from to =
     sym (ap (λ b. b || q (get_or d k 0)) (goes_on d i n r z room few found f lanes k from to))
     ∙ agree_below_at (λ x. top 7 (f x) || q x) (λ _. true) 256 (get_or d k 0) all (fits k).fits
-
--- a run more
-pub passed_more : (q : ℕ → Bool) (d : List ℕ) (from i r m : ℕ) → m ≡ i + r → ((k : ℕ) → from ≤ k → k < i → q (get_or d k 0) ≡ true)
-    → ((k : ℕ) → i ≤ k → k < i + r → q (get_or d k 0) ≡ true) → (k : ℕ) → from ≤ k → k < m → q (get_or d k 0) ≡ true
-passed_more q d from i r m is before here k first low =
-    elim (cases_lt k i) [ inl early ↦ before k first early | inr last ↦ here k last (omega (arith, low, is)) ]

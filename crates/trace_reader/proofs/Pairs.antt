@@ -12,9 +12,6 @@ pair_before first rest = option_and_then (λ pair. option_map (λ pairs. pair �
 abbrev pub pairs_before : List (Option ℕ) → Option (List (Option ℕ)) → Option (List (Option ℕ))
 pairs_before pairs rest = option_map (λ more. pairs ++ more) rest
 
-pairs_before-nil : (o : Option (List (Option ℕ))) → o ≡ pairs_before [] o
-pairs_before-nil o = grind arith
-
 pairs_before-pair : (pairs : List (Option ℕ)) (pair : Option ℕ) (o : Option (List (Option ℕ))) → pairs_before pairs (pair_before (Some pair) o) ≡ pairs_before (pairs ++ (pair ∷ [])) o
 pairs_before-pair pairs pair None = refl
 pairs_before-pair pairs pair (Some x) = ap Some (sym (append_assoc pairs (pair ∷ []) x))

@@ -1,7 +1,7 @@
 -- How the digits of a payload are read by what `hex` says of each character.
 use Rattle.std.proofs.Common.{◌≡◌, ℕ, zero, suc, ◌+◌, ◌*◌, ◌/◌, ◌%◌, ◌<◌, ◌≤◌, ◌==◌, List, [], ◌∷◌, length, get_or, Bool, true, false, Option, Some, None, refl, sym, ap, ◌∙◌, arith, unwrap_or, max, inl, inr, ◌≢◌}
-use Rattle.std.{specs.Prelude.{option_map, if◌then◌else◌, Result, Ok, Err}, specs.Result.result_ok, proofs.Math.ListN.set, proofs.lemmas.Bool.cases_lt}
-use Rattle.std.proofs.{lemmas.Bool.Decides.nat_tests, lemmas.List.{get_or-set_same, get_or-set_other}}
+use Rattle.std.{specs.Prelude.{option_map, if◌then◌else◌, Result, Ok, Err}, specs.Result.result_ok, proofs.lemmas.Bool.cases_lt}
+use Rattle.std.proofs.lemmas.Bool.Decides.{nat_tests}
 use Rattle.hex.specs.{Hex.{decode_pairs, hex_digit_value, digit_or_error, ◌>>=◌}, declared.error.FromHexError.FromHexError}
 use Rattle.hex.specs.declared.error.FromHexError.TheVariants.{InvalidStringLength, OddLength}
 use Rattle.trace_reader.specs.Payload.{bytes_of, value_of}
@@ -64,32 +64,6 @@ next-bad i high low rest p =
 pub record ReadsDigits (text : List ℕ) (i : ℕ) (bytes : List ℕ) : Type 0 where
   pub digits : (k : ℕ) → k < 2 * i → value_of (get_or text k 0) < 16
   pub are : (k : ℕ) → k < i → get_or bytes k 0 ≡ value_of (get_or text (2 * k) 0) * 16 + value_of (get_or text (2 * k + 1) 0)
-
--- one pair more
-pub reads_digits-more : (text : List ℕ) (i : ℕ) (bytes : List ℕ) (high low : ℕ) → high ≡ value_of (get_or text (2 * i) 0) → low ≡ value_of (get_or text (2 * i + 1) 0)
-    → high < 16 → low < 16 → i < length bytes → ReadsDigits text i bytes → ReadsDigits text (i + 1) (set bytes i (high * 16 + low))
-reads_digits-more text i bytes high low e f p q within h = record {
-  digits = λ k less.
-      elim (cases_lt k (2 * i)) [
-        | inl before ↦ h.digits k before
-        | inr behind ↦
-            elim (cases_lt k (2 * i + 1)) [
-              | inl first ↦
-                  let is : k ≡ 2 * i = omega arith in
-                  omega (arith, ap (λ j. value_of (get_or text j 0)) is)
-              | inr second ↦
-                  let is : k ≡ 2 * i + 1 = omega arith in
-                  omega (arith, ap (λ j. value_of (get_or text j 0)) is)
-            ]
-      ];
-  are = λ k less.
-      elim (cases_lt k i) [
-        | inl before ↦ get_or-set_other bytes i k (high * 16 + low) 0 (λ e. absurd (omega arith)) ∙ h.are k before
-        | inr here ↦
-            let is : k ≡ i = omega arith in
-            rw (is, ← e, ← f) (get_or-set_same bytes i (high * 16 + low) 0 within)
-      ];
-}
 
 -- a character that is no digit
 bad_from : (i : ℕ) (text : List ℕ) (k : ℕ) → k < length text → 16 ≤ value_of (get_or text k 0) → read_from i text ≡ None

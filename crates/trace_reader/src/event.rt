@@ -1,14 +1,14 @@
 //! The events that the rows of a trace stand for.
 
 /// One row of a trace: at this tick of the simulation this happens.
-#[derive(Clone, Copy, Debug, PartialEq)]
+#[derive(Clone, Copy, PartialEq)]
 pub struct Event<const B: usize> {
     pub tick: u64,
     pub op: EventOp<B>,
 }
 
 /// What happens, at a line of `B` bytes where it has one.
-#[derive(Clone, Copy, Debug, PartialEq)]
+#[derive(Clone, Copy, PartialEq)]
 pub enum EventOp<const B: usize> {
     /// A read of this line arrives.
     Read(u32),

@@ -8,7 +8,7 @@ use crate::kept::Gathered;
 use trace_reader::{Event, Kind, LATEST_TICK, number, read_fields};
 
 /// What one row of a streamed trace asks for.
-#[derive(Clone, Copy, Debug, PartialEq)]
+#[derive(Clone, Copy, PartialEq)]
 pub enum Asked<const B: usize> {
     /// This happens. The row has a number.
     Happens(Event<B>),
@@ -23,7 +23,7 @@ pub enum Asked<const B: usize> {
 }
 
 /// A settle until a row has its outcome: the module goes on to the first tick behind which it has, not before the one at which it stands.
-#[derive(Clone, Copy, Debug, PartialEq)]
+#[derive(Clone, Copy, PartialEq)]
 pub struct Until {
     /// The number of the row that is waited for, from 1.
     pub row: u32,

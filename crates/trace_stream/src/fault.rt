@@ -4,7 +4,7 @@ use std::alloc::AllocError;
 use trace_reader::TraceFault;
 
 /// Why no row could be read.
-#[derive(Clone, Copy, Debug, PartialEq)]
+#[derive(Clone, Copy, PartialEq)]
 pub enum StreamFault {
     /// A row breaks the format.
     Trace(TraceFault),

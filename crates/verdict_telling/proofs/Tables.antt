@@ -95,11 +95,6 @@ there [] (suc i) x rest is = absurd (cc)
 there (y ∷ xs) zero x rest is = let same : y ≡ x = cc in ap Some same
 there (y ∷ xs) (suc i) x rest is = there xs i x rest is
 
-pub nothing_there : {A : Type 0} (xs : List A) (i : ℕ) (x : A) → drop i xs ≡ [] → slice_get xs i ≡ Some x → ⊥
-nothing_there [] i x is at = absurd (cc)
-nothing_there (y ∷ xs) zero x is at = absurd (cc)
-nothing_there (y ∷ xs) (suc i) x is at = nothing_there xs i x is at
-
 -- behind as many as stand before a row there is that row
 some_left : {A : Type 0} (i : ℕ) (xs : List A) → i < length xs → length (drop i xs) ≡ 0 → ⊥
 some_left i [] lt is = absurd (omega (arith, lt))
