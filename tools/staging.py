@@ -3,9 +3,9 @@
     bin/pcm                     the wrapper, as ./pcm is
     libexec/pcm/                the programs
     share/pcm/                  docs/USING.md and VERSION, from which the wrapper prints; python/pcm, and a link to the wrapper for it
-    share/man/man1/             pcm.1, pcm-stream.1 and pcm-explain.1
+    share/man/man1/             pcm.1, pcm-stream.1, pcm-explain.1 and pcm-view.1
     share/bash-completion/completions/pcm, share/zsh/site-functions/_pcm
-    include/pcm_stream.h        for drivers in C and C++"""
+    include/                    pcm_stream.h and pcm_disk.h, for drivers in C and C++"""
 import pathlib
 import shutil
 
