@@ -105,6 +105,10 @@ class Requirements(unittest.TestCase):
         found = list(checking.faults_of_row(("`start_gap Registers::place: nothing`", "`start_gap no_edit`", "`no_test`")))
         self.assertEqual(found, ["clause start_gap Registers::place: nothing", "wrong body start_gap no_edit", "test no_test"])
 
+    def test_a_name_that_stays_stands_in_its_crate(self):
+        self.assertEqual(list(checking.lost_names()), [])
+        self.assertEqual(list(checking.lost_names("start_gap: Move Registers::place Registers::nothing")), ["docs/names: start_gap has no Registers::nothing"])
+
     def test_a_case_of_stored_input_is_a_test(self):
         self.assertTrue(checking.is_test("played_tests", "a_header_alone_gives_a_header_alone"))
 
