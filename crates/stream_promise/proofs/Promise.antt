@@ -5,6 +5,7 @@ use Rattle.cell_rows.specs.Device.{ArrayState}
 use Rattle.command_line.specs.{declared.job.Input.Input, declared.job.Input.TheVariants.{Source, Drawn}, declared.job.LineSize.LineSize}
 use Rattle.command_line.specs.{declared.job.LineSize.TheVariants.{Bytes64, Bytes128}, declared.job.Refusal.Refusal}
 use Rattle.module_shape.specs.{Limits.total_of, declared.raw.RawShape.RawShape}
+use Rattle.drawn_parts.specs.Parts.{drawn_for}
 use Rattle.trace_gen.specs.Generated.{generated}
 use Rattle.program_calls.specs.Calls.{Lent, SinkChange}
 use Rattle.row_printer.specs.{Printing.table_of, Snapshots.{AddsDue, takes_snapshots}, declared.snapshot.Snapshot.Snapshot, declared.told.Told.Told}
@@ -43,8 +44,8 @@ module _ {S : Type 0} (laws : StreamLaws S) (n m e : ℕ) (job : StreamJob) (sou
       (IsReadTo (total_of job.shape) source.left source.taken source.faults source.before source.now asked) is
   come (Drawn mix) asked telling is = (
     is.0,
-    end-where e job.shape job.seed (stops_at_refusal job.until) asked telling (reverse asked ≡ all_events (generated n job.seed (total_of job.shape) mix))
-        (BeginsWith asked (all_events (generated n job.seed (total_of job.shape) mix))) is.1,
+    end-where e job.shape job.seed (stops_at_refusal job.until) asked telling (reverse asked ≡ all_events (drawn_for job.shape job.seed job.banks (generated n job.seed (total_of job.shape) mix)))
+        (BeginsWith asked (all_events (drawn_for job.shape job.seed job.banks (generated n job.seed (total_of job.shape) mix)))) is.1,
   )
 
   goes-on : (fault : Fault) (asked : List (Asked n)) (telling : Telling n m e job.shape job.seed asked) → GoesAsFarAs n m e job source fault asked telling

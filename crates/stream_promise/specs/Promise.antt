@@ -17,6 +17,7 @@ use Rattle.run_text.specs.{Counting.counts_of, Pulses.pulses_in_all, SummaryText
 use Rattle.row_printer.specs.{Printing.{stream_text, table_of}, Snapshots.{AddsDue, takes_snapshots}, Telling.{became, outcomes_in, TellsOnce}, declared.snapshot.Snapshot.Snapshot}
 use Rattle.row_printer.specs.declared.told.Told.{Told}
 use Rattle.stream_words.specs.{declared.job.StreamJob.StreamJob, declared.job.StreamPrint.TheVariants.Image}
+use Rattle.drawn_parts.specs.Parts.{drawn_for}
 use Rattle.trace_gen.specs.Generated.{generated}
 use Rattle.trace_stream.specs.{Asked.events_in, Laws.all_events, declared.asked.Asked.Asked}
 use Rattle.row_stream.specs.{Asking.{BeginsWith, stays_off, tick_reached, with_cut}, Ending.rows_of, Laws.TellsEach, Looking.wear_of, Serving.ComeByBanks}
@@ -40,8 +41,8 @@ module _ {S : Type 0} (n m e : ℕ) (job : StreamJob) (source : LentSource S) wh
       (IsReadTo (total_of job.shape) source.left source.taken source.faults source.before source.now asked)
   ComeByRows (Drawn mix) asked it =
       (source.now ≡ source.before)
-      × EndWhere job.shape job.seed (stops_at_refusal job.until) asked it (reverse asked ≡ all_events (generated n job.seed (total_of job.shape) mix))
-      (BeginsWith asked (all_events (generated n job.seed (total_of job.shape) mix)))
+      × EndWhere job.shape job.seed (stops_at_refusal job.until) asked it (reverse asked ≡ all_events (drawn_for job.shape job.seed job.banks (generated n job.seed (total_of job.shape) mix)))
+      (BeginsWith asked (all_events (drawn_for job.shape job.seed job.banks (generated n job.seed (total_of job.shape) mix))))
 
   -- and where a fault ends a stream that is to stop at a refusal, none was told; but the last row may have been where the output failed
   abbrev pub GoesOnTo : Fault → (asked : List (Asked n)) → RowsTold job.shape job.seed asked → Type 0

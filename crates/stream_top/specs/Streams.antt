@@ -18,6 +18,7 @@ use Rattle.stream_words.specs.{Jobs.IsStreamJob, declared.job.End.End, declared.
 use Rattle.stream_words.specs.{declared.job.StreamPrint.StreamPrint, declared.job.StreamPrint.TheVariants.{Rows, Summary, Wear, Lines, Map, Energy, Image, Snapshots}}
 use Rattle.stream_words.specs.{declared.job.Tell.Tell, declared.job.Tell.TheVariants.{Nothing, Shape}, declared.job.Until.Until}
 use Rattle.stream_words.specs.declared.job.Until.TheVariants as up_to
+use Rattle.drawn_parts.specs.Parts.{drawn_for}
 use Rattle.trace_gen.specs.Generated.{generated}
 use Rattle.trace_stream.specs.{Asked.events_in, Laws.all_events, declared.asked.Asked.Asked}
 use Rattle.trace_stream.specs.declared.fault.StreamFault.TheVariants as from
@@ -89,8 +90,8 @@ module _ {S : Type 0} (n m e : ℕ) (job : StreamJob) (source : LentSource S) wh
       (IsReadTo (total_of job.shape) source.left source.taken source.faults source.before source.now asked)
   ComeFrom (Drawn mix) asked telling =
       (source.now ≡ source.before)
-      × EndsBehind (stops_at_refusal job.until) asked telling (reverse asked ≡ all_events (generated n job.seed (total_of job.shape) mix))
-      (BeginsWith asked (all_events (generated n job.seed (total_of job.shape) mix)))
+      × EndsBehind (stops_at_refusal job.until) asked telling (reverse asked ≡ all_events (drawn_for job.shape job.seed job.banks (generated n job.seed (total_of job.shape) mix)))
+      (BeginsWith asked (all_events (drawn_for job.shape job.seed job.banks (generated n job.seed (total_of job.shape) mix))))
 
   -- whether it stopped there
   abbrev pub has_stopped : (asked : List (Asked n)) → Telling n m e job.shape job.seed asked → Bool
@@ -122,7 +123,7 @@ module _ {S : Type 0} (n m e : ℕ) (job : StreamJob) (source : LentSource S) wh
   abbrev pub StopsBy : Input → Fault → List (Asked n) → Type 0
   StopsBy Source fault asked = HasCause fault asked
   StopsBy (Drawn mix) fault asked =
-      (fault ≡ Write) × (source.now ≡ source.before) × BeginsWith asked (all_events (generated n job.seed (total_of job.shape) mix))
+      (fault ≡ Write) × (source.now ≡ source.before) × BeginsWith asked (all_events (drawn_for job.shape job.seed job.banks (generated n job.seed (total_of job.shape) mix)))
 
   -- what was told as the rows were served, without the cut behind which the power stays off
   abbrev pub told_of_rows : (asked : List (Asked n)) {module_ : ModuleState n m e} {array : ArrayState n m} {places : ℕ} {told : List (Told n)}
