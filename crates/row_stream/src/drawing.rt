@@ -15,9 +15,9 @@ ghost use Rattle.drawn_parts.specs.Parts.{drawn_for};
 ghost use Rattle.row_stream.specs.Refusing.{EndsBehind, WentOn};
 ghost use Rattle.row_stream.specs.Serving.{IsServing, told_so_far};
 
-use drawn_parts::{Banks, next_for};
 use crate::serving::serve_event;
 use crate::stop::{Behind, behind_event, stops_behind};
+use drawn_parts::{Banks, next_for};
 use feistel_map::Feistel;
 use pcm_io::{Sink, WriteFault};
 use pcm_module::Module;
