@@ -443,33 +443,53 @@ def is_test(crate, name):
     return bool(re.search(rf"#\[test\]\s+(?:pub )?fn {name}\b|\bname: \"{name}\"", text_of(crate, "src")))
 
 
+def folders_of_body(crate, name):
+    return [it for it in (bodies.GATE, bodies.LATER) if (TOP / "crates" / crate / it / f"{name}.edit").is_file()]
+
+
+def wrong_bodies(cells):
+    """The wrong bodies of a row, each with its crate."""
+    home = re.search(r"`(\w*)", cells[0])
+    for crate, _, name in (span.partition(" ") for span in re.findall(r"`([^`]+)`", cells[1])):
+        yield (crate, name) if name else (home[1] if home else "", crate)
+
+
 def faults_of_row(cells):
     """What isn't there of a row of the table: its clauses, `crate NAME: CLAUSE`; wrong bodies, with their crate where it isn't that of the
     first clause; and tests, which stand in a crate of tests."""
-    clauses, bodies, tests = ([span.partition(" ")[::2] for span in re.findall(r"`([^`]+)`", cell)] for cell in cells)
+    clauses, tests = ([span.partition(" ")[::2] for span in re.findall(r"`([^`]+)`", cell)] for cell in (cells[0], cells[2]))
     for crate, rest in clauses:
         name, _, clause = rest.partition(": ")
         if crate not in crates.listed() or not (has_clause(crate, name, clause) if clause else defines(crate, name)):
             yield f"clause {crate} {rest}"
-    home = clauses[0][0] if clauses else ""
-    for crate, name in ((crate, name) if name else (home, crate) for crate, name in bodies):
-        if not (TOP / "crates" / crate / "must-fail" / f"{name}.edit").is_file():
+    for crate, name in wrong_bodies(cells):
+        if not folders_of_body(crate, name):
             yield f"wrong body {crate} {name}"
     for name in (name or crate for crate, name in tests):
         if not any(is_test(crate, name) for crate in crates.listed() if crate.endswith("_tests")):
             yield f"test {name}"
 
 
+def untold(text, rows):
+    """Crates of which the page says that tools/wrong alone tries their wrong bodies, and the gate does, or the other way round."""
+    said = re.search(r"`tools/wrong` alone tries those of ([\w, ]+?), whose", text)
+    told = set(re.split(r", | and ", said[1])) if said else set()
+    return sorted(told ^ {crate for cells in rows for crate, name in wrong_bodies(cells) if bodies.LATER in folders_of_body(crate, name)})
+
+
 def check_requirements():
     text = (TOP / "docs" / "VERIFYING.md").read_text(encoding="utf-8")
+    rows = []
     for row in re.findall(r"(?m)^\| (?!Requirement|-)(.*) \|$", text.partition("<!-- requirements -->")[2].partition("<!-- /requirements -->")[0]):
         requirement, *cells = row.split(" | ")
         if len(cells) != 3:
             yield f"docs/VERIFYING.md: {requirement}: {len(cells) + 1} cells"
             continue
+        rows.append(cells)
         found = list(faults_of_row(cells))
         yield from (f"docs/VERIFYING.md: {it} stands nowhere" for it in found)
         yield None
+    yield from (f"docs/VERIFYING.md: by what are the wrong bodies of {it} tried?" for it in untold(text, rows))
 
 
 # Promises, each a function and its clauses.

@@ -105,6 +105,12 @@ class Requirements(unittest.TestCase):
         found = list(checking.faults_of_row(("`start_gap Registers::place: nothing`", "`start_gap no_edit`", "`no_test`")))
         self.assertEqual(found, ["clause start_gap Registers::place: nothing", "wrong body start_gap no_edit", "test no_test"])
 
+    def test_who_tries_a_wrong_body_is_told(self):
+        rows = [("`start_gap Registers::place: apart`", "`place_one_off_behind_the_gap` `bank_core the-gap-never-moves`", "")]
+        said = "Of these `tools/wrong` alone tries those of {}, whose checks are dear."
+        self.assertEqual(checking.untold(said.format("bank_core"), rows), [])
+        self.assertEqual(checking.untold(said.format("bank_timing and start_gap"), rows), ["bank_core", "bank_timing", "start_gap"])
+
     def test_a_case_of_stored_input_is_a_test(self):
         self.assertTrue(checking.is_test("played_tests", "a_header_alone_gives_a_header_alone"))
 
