@@ -11,7 +11,6 @@ import atexit
 import glob
 import gzip
 import os
-import pathlib
 import random
 import re
 import shutil

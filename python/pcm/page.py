@@ -1,6 +1,6 @@
 """The page of a report: one file of HTML, without a script and without a link to elsewhere."""
 import heapq
-from typing import Callable, Iterable, List, Optional, Sequence, Tuple
+from typing import Callable, List, Optional, Sequence, Tuple
 
 from . import charts, tallies
 from .aging import aging
