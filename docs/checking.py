@@ -405,6 +405,25 @@ def check_names():
         yield None
 
 
+# Names that stay.
+
+
+def lost_names(text=None):
+    """Those of docs/names that don't stand in their crate: a type, a function, or a call of a type."""
+    for line in (text or (TOP / "docs" / "names").read_text(encoding="utf-8")).splitlines():
+        crate, colon, names = line.partition(":")
+        code = "\n".join(it.read_text(encoding="utf-8") for it in crates.named(crate).files("src")) if colon and not line.startswith("#") else ""
+        for name in names.split() if code else ():
+            of, _, call = name.rpartition("::")
+            item = rf"(?:impl|trait)\b[^{{;]*\b{of}\b.*?\bfn {call}\b" if of else rf"\bpub (?:fn|struct|enum|trait) {name}\b"
+            if not re.search(item, code, re.DOTALL):
+                yield f"docs/names: {crate} has no {name}"
+
+
+def check_lost_names():
+    yield from list(lost_names()) or [None]
+
+
 # The table of requirements.
 
 

@@ -111,6 +111,10 @@ class Requirements(unittest.TestCase):
         self.assertEqual(checking.untold(said.format("bank_core"), rows), [])
         self.assertEqual(checking.untold(said.format("bank_timing and start_gap"), rows), ["bank_core", "bank_timing", "start_gap"])
 
+    def test_a_name_that_stays_stands_in_its_crate(self):
+        self.assertEqual(list(checking.lost_names()), [])
+        self.assertEqual(list(checking.lost_names("start_gap: Move Registers::place Registers::nothing")), ["docs/names: start_gap has no Registers::nothing"])
+
     def test_a_case_of_stored_input_is_a_test(self):
         self.assertTrue(checking.is_test("played_tests", "a_header_alone_gives_a_header_alone"))
 

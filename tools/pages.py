@@ -25,7 +25,7 @@ def table():
 def section(heading):
     """The lines of USING.md below a heading, without comments."""
     text = re.search(rf"(?ms)^## {re.escape(heading)}\n(.*?)(?=^## |\Z)", USING.read_text(encoding="utf-8"))[1]
-    return re.sub(r"<!--.*?-->\n?", "", text).strip().replace("`./pcm", "`pcm").split("\n")
+    return re.sub(r"<!--.*?-->\n?", "", text).strip().replace("./pcm", "pcm").split("\n")
 
 
 # The manual.
@@ -66,7 +66,7 @@ def page(name, about, synopsis, parts):
     return "\n".join(lines) + "\n"
 
 
-ABOUT = "simulates a phase-change memory module with its controller; each function of it is proved"
+ABOUT = "simulates a phase-change memory module with its controller; each function of it is proved to meet its contract"
 ENVIRONMENT = [
     "- `PCM_EXPLAIN`: 1 says behind the program's line what is wrong with a word or a trace, 0 never does; else it is said on a terminal.",
     "- `PCM_PROGRESS`: 0 shows no progress of a stream on a terminal; `--progress` shows it elsewhere too.",
@@ -84,11 +84,12 @@ def manual():
 
 
 def manual_of(name):
-    """pcm-stream(1) and pcm-explain(1), of the commands that are programs of their own."""
+    """pcm-stream(1), pcm-explain(1) and pcm-view(1), of the commands that are programs of their own."""
     command = table().COMMANDS[name]
     about = ENVIRONMENT if name == "stream" else ENVIRONMENT[:1]
     parts = [("DESCRIPTION", section(f"pcm {name}")), ("ENVIRONMENT", about), ("SEE ALSO", ["`pcm`(1)"])]
-    return page(f"pcm-{name}", command.about, [f"pcm {name} [`--option` value ..] {command.usage}"], parts)
+    words = f"pcm {name} {'[`--option` value ..] ' if command.options else ''}{command.usage}"
+    return page(f"pcm-{name}", command.about, [words.rstrip()], parts)
 
 
 def read_of(text):

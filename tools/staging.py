@@ -2,11 +2,14 @@
 
     bin/pcm                     the wrapper, as ./pcm is
     libexec/pcm/                the programs
-    share/pcm/                  docs/USING.md and VERSION, from which the wrapper prints; python/pcm, and a link to the wrapper for it
-    share/man/man1/             pcm.1, pcm-stream.1 and pcm-explain.1
+    share/pcm/                  README.md, docs/, examples/, c/ and python/pcm as in the repository, VERSION, and a link pcm to the wrapper: so links
+                                lead on, and in a copy of it each recipe works as it is written
+    share/man/man1/             pcm.1, pcm-stream.1, pcm-explain.1 and pcm-view.1
     share/bash-completion/completions/pcm, share/zsh/site-functions/_pcm
-    include/pcm_stream.h        for drivers in C and C++"""
+    include/                    pcm_stream.h and pcm_disk.h, for drivers in C and C++"""
+import os
 import pathlib
+import re
 import shutil
 
 import crates
@@ -20,12 +23,27 @@ def built(name):
     return TOP / "crates" / name / "out" / name
 
 
+def readme():
+    """The repository's first page, without links to what stays there."""
+    text = (TOP / "README.md").read_text(encoding="utf-8")
+    return re.sub(r"\[([^]]*)\]\((crates/[^)]*)\)", r"\1 (in the repository)", text).encode()
+
+
+def texts():
+    """What a reader has: documents with their pictures, examples, and the drivers in C, without what was made there."""
+    for folder, kinds in (("docs", {".md", ".svg", ".png"}), ("examples", None), ("c", None)):
+        for it in sorted((TOP / folder).rglob("*")):
+            if it.is_file() and not {"out", "__pycache__"} & set(it.parts) and (kinds is None or it.suffix in kinds):
+                yield f"share/pcm/{it.relative_to(TOP)}", it, os.access(it, os.X_OK)
+
+
 def files():
     """Each file by its path in the tree: its bytes or the file that it is copied from, and whether it is run."""
     yield "bin/pcm", TOP / "pcm", True
     for name in PROGRAMS:
         yield f"libexec/pcm/{name}", built(name), True
-    yield "share/pcm/USING.md", pages.USING, False
+    yield "share/pcm/README.md", readme(), False
+    yield from texts()
     yield "share/pcm/VERSION", TOP / "VERSION", False
     for it in sorted(it for it in (TOP / "python" / "pcm").iterdir() if it.suffix in (".py", ".c")):
         yield f"share/pcm/python/pcm/{it.name}", it, False

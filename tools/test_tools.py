@@ -6,6 +6,7 @@ import contextlib
 import io
 import os
 import pathlib
+import re
 import shutil
 import signal
 import stat
@@ -20,6 +21,7 @@ TOP = pathlib.Path(__file__).resolve().parent.parent
 sys.path.append(str(TOP / "bench"))
 import pages
 import refusing
+import staging
 
 # A check that refuses the word 'wrong'.
 RATTLE = """#!/bin/sh
@@ -136,7 +138,7 @@ class Room:
         top = self.folder / name
         for folder in ("tools", "python/pcm"):
             shutil.copytree(TOP / folder, top / folder, ignore=shutil.ignore_patterns("__pycache__", "tried.txt"))
-        for file in ("pcm", "VERSION", "docs/USING.md"):
+        for file in ("pcm", "VERSION", "README.md", "docs/USING.md"):
             (top / file).parent.mkdir(exist_ok=True)
             shutil.copy(TOP / file, top / file)
         (top / "crates.txt").write_text(CRATES)
@@ -582,6 +584,17 @@ class Installed(unittest.TestCase):
         self.assertEqual(self.pcm("run", "--psi", "0", PCM_EXPLAIN="1").stderr.splitlines()[1:], ["pcm: --psi 0: it may be 1 to 65535"])
         for path in self.prefix.rglob("*"):
             self.assertTrue(path.is_symlink() or path.stat().st_mode & 0o444 == 0o444, path)
+
+    def test_what_is_installed_links_to_nothing_that_is_not(self):
+        tree = {path: source for path, source, _ in staging.files()}
+        for path, source in tree.items():
+            if path.endswith(".md"):
+                text = source.decode() if isinstance(source, bytes) else source.read_text(encoding="utf-8")
+                for target in re.findall(r"\]\(([^)#:]+)(?:#[^)]*)?\)", text):
+                    named = os.path.normpath(os.path.join(os.path.dirname(path), target))
+                    self.assertTrue(named in tree or any(it.startswith(f"{named}/") for it in tree), f"{path}: {target}")
+        self.assertIn("share/pcm/docs/USING.md", self.pcm("help").stdout)
+        self.assertNotIn("./pcm", "".join(self.pcm("help", it).stdout for it in ("run", "stream", "check", "explain", "view")))
 
     def test_the_package_finds_the_program_beside_it(self):
         words = "import pcm; print(pcm.program())"

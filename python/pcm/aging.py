@@ -1,4 +1,5 @@
 """The section of a report on how a module ages, by the snapshots of streams."""
+import functools
 from typing import Callable, List, Optional, Sequence
 
 from . import tallies
@@ -158,6 +159,6 @@ def _outcome_pictures(runs: Sequence[Run]) -> List[Picture]:
     for word, _ in _OUTCOMES:
         if word == "stored" or _any(runs, word):
             curves = [_of_run(runs, at, _outcome(run, word)) for at, run in enumerate(runs)]
-            told = _each(runs, lambda run, word=word: _outcome_told(run, word))
+            told = _each(runs, functools.partial(_outcome_told, word=word))
             pictures.append(of_rows(f"{word.capitalize()} between snapshots", told, _fit(curves, "% of the rows served there"), curves, True))
     return pictures

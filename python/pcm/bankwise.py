@@ -81,7 +81,12 @@ class Parted:
             lines[1] = lines[1].replace("  asks   write of", "  asks   read of")
         lines[2] = f"  told   {row.outcome}"
         cut = r"row (\d+)(, tick \d+: cut, )cut \d+$"
-        return "\n".join(re.sub(cut, lambda it: f"row {it[1]}{it[2]}{self._rows[int(it[1]) - 1].outcome}", line) for line in lines)
+        return "\n".join(re.sub(cut, self._with_outcome, line) for line in lines)
+
+    def _with_outcome(self, cut: "re.Match[str]") -> str:
+        """A cut's line, with the outcome that the whole table has of it."""
+        number, told = cut.groups()
+        return f"row {number}{told}{self._rows[int(number) - 1].outcome}"
 
 
 def rows_of(table: bytes) -> Iterator[Told]:

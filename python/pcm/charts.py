@@ -142,12 +142,12 @@ class Bins(NamedTuple):
     """Columns of a histogram: so many of a width from 0 on, and where `beyond` one more for all above."""
 
     width: int
-    count: int
+    columns: int
     beyond: bool
 
     def counted(self, ordered: Sequence[int]) -> List[int]:
         """How many values stand in each column."""
-        found = [0] * (self.count + self.beyond)
+        found = [0] * (self.columns + self.beyond)
         for value in ordered:
             found[min(len(found) - 1, value // self.width)] += 1
         return found
@@ -155,7 +155,7 @@ class Bins(NamedTuple):
     def words(self, column: int) -> str:
         """The values of a column."""
         first = column * self.width
-        if column == self.count:
+        if column == self.columns:
             return f"{first:,} and more"
         return f"{first:,}" if self.width == 1 else f"{first:,} to {first + self.width - 1:,}"
 
@@ -172,7 +172,7 @@ def of_waits(title: str, series: Sequence[Tuple[str, str, List[int]]], bins: Bin
     every = max(1, sum(sum(counts) for _, _, counts in series))
     told = f"{every:,} rows; " + ", ".join(words for _, words in marks)
     picture = Picture(WIDTH, 290, title, told, VARIABLES)
-    reach = bins.count * bins.width
+    reach = bins.columns * bins.width
     step, middle = max(1, round_step(reach / 8)), 0.5 * (bins.width == 1)
     ticks: List[Tuple[float, str]] = [(step * k + middle, short(step * k)) for k in range(int(reach / step) + 1) if step * k < reach]
     if bins.beyond:

@@ -23,9 +23,9 @@ class Draw(NamedTuple):
 
 def draw_of(options: Dict[str, str]) -> Draw:
     """That of a stream's options, all of which are given."""
-    names = ("seed", "rows", "write-percent", "cuts", "step", "hot")
     lines = int(options["banks"]) * int(options["regions"]) * int(options["lines"])
-    return Draw(*(int(options[name]) for name in names), lines, int(options["line"]))
+    named = {name: int(options[name.replace("_", "-")]) for name in ("seed", "rows", "write_percent", "cuts", "step", "hot")}
+    return Draw(**named, lines=lines, size=int(options["line"]))
 
 
 def _rotated(word: int, by: int) -> int:

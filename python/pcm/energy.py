@@ -62,7 +62,8 @@ def with_energy(name: str, last: Snapshot) -> Snapshot:
 def figures(last: Snapshot, line_bytes: int, units: Units, rate: Optional[float] = None) -> List[Figure]:
     """What a run cost, by its last snapshot."""
     cells = CELLS[line_bytes]
-    whole = picojoules(last.senses, last.set, last.reset, line_bytes, units)
+    senses, to_set, to_reset = last.senses or 0, last.set or 0, last.reset or 0
+    whole = picojoules(senses, to_set, to_reset, line_bytes, units)
     reads = last.read * cells * units.sense_pj
     ns = last.tick * units.tick_ns
     accepted, answered = last.stored + last.merged + last.queued, last.read + last.forwarded
@@ -72,17 +73,17 @@ def figures(last: Snapshot, line_bytes: int, units: Units, rate: Optional[float]
 
     found = [
         Figure("writes stored", "", last.stored, "stored"),
-        Figure("cells set", "", last.set, "set"),
-        Figure("cells reset", "", last.reset, "reset"),
-        Figure("senses", "", last.senses, f"senses, each of {cells} cells"),
-        Figure("energy of sets", "nJ", last.set * units.set_pj / 1000, f"set x {units.set_pj:g} pJ"),
-        Figure("energy of resets", "nJ", last.reset * units.reset_pj / 1000, f"reset x {units.reset_pj:g} pJ"),
-        Figure("energy of senses", "nJ", last.senses * cells * units.sense_pj / 1000, f"senses x {cells} x {units.sense_pj:g} pJ"),
+        Figure("cells set", "", to_set, "set"),
+        Figure("cells reset", "", to_reset, "reset"),
+        Figure("senses", "", senses, f"senses, each of {cells} cells"),
+        Figure("energy of sets", "nJ", to_set * units.set_pj / 1000, f"set x {units.set_pj:g} pJ"),
+        Figure("energy of resets", "nJ", to_reset * units.reset_pj / 1000, f"reset x {units.reset_pj:g} pJ"),
+        Figure("energy of senses", "nJ", senses * cells * units.sense_pj / 1000, f"senses x {cells} x {units.sense_pj:g} pJ"),
         Figure("energy", "nJ", whole / 1000, "the sum of these three"),
         Figure("energy of a read", "nJ", cells * units.sense_pj / 1000, f"{cells} x {units.sense_pj:g} pJ"),
         Figure("energy of a stored write", "nJ", of((whole - reads) / 1000, last.stored), "(energy - read x that of a read) / stored"),
         Figure("energy of an accepted write", "nJ", of((whole - reads) / 1000, accepted), "the same / (stored + merged + queued)"),
-        Figure("cells driven a stored write", "", of(last.set + last.reset, last.stored), "(set + reset) / stored"),
+        Figure("cells driven a stored write", "", of(to_set + to_reset, last.stored), "(set + reset) / stored"),
         Figure("time", "us", ns / 1000, f"tick of the last row x {units.tick_ns:g} ns"),
         Figure("mean power", "mW", of(whole, ns), "energy / time"),
         Figure("written", "MB/s", of(1000 * accepted * line_bytes, ns), f"(stored + merged + queued) x {line_bytes} bytes / time"),
@@ -100,14 +101,15 @@ def figures(last: Snapshot, line_bytes: int, units: Units, rate: Optional[float]
 def banks_of(source: Source) -> List[Tuple[str, int, int, int]]:
     """The rows of `--print energy`: a bank's number, or `all`, and its counts."""
     lines = source.text.splitlines()
-    found = []
+    found: List[Tuple[str, int, int, int]] = []
     for at, line in enumerate(lines[1:], 1):
         fields = line.split(",")
         wanted = "all" if at == len(lines) - 1 else str(at - 1)
         if len(fields) != 4 or fields[0] != wanted or not all(it.isascii() and it.isdigit() and len(it) <= 20 for it in fields[1:]):
             raise FileFault(f"{source.name} row {at}: {'fields' if len(fields) != 4 else 'bank' if fields[0] != wanted else 'count'}")
-        found.append((fields[0], *map(int, fields[1:])))
-    sums = tuple(sum(row[at] for row in found[:-1]) for at in (1, 2, 3))
+        senses, to_set, to_reset = map(int, fields[1:])
+        found.append((fields[0], senses, to_set, to_reset))
+    sums = tuple(map(sum, zip(*(row[1:] for row in found[:-1]))))
     if len(found) < 2 or found[-1][1:] != sums:
         raise FileFault(f"{source.name}: the row of all isn't the sum of those before it")
     return found
@@ -149,7 +151,8 @@ def ran(trace: Optional[str], options: Dict[str, str], program: Program = None, 
     """The last snapshot of a stream that the program replays."""
     last = None
     more = {name.replace("-", "_"): value for name, value in options.items()}
-    for last in snapshots(trace, every=more.pop("every", 1_000_000), program=program, progress=progress, **more):
+    every = int(more.pop("every", 1_000_000))
+    for last in snapshots(trace, every=every, program=program, progress=progress, **more):
         pass
     if last is None:
         raise FileFault("the stream told no snapshot")
@@ -201,6 +204,6 @@ def told(given: argparse.Namespace) -> str:
             else:
                 raise FileFault(f"{source.name} row 0: header: neither of --print snapshots nor of --print energy")
     text += in_columns(named, given.csv) if named else ""
-    source = DEVICES[given.device or "lee2009"].source
+    origin = DEVICES[given.device or "lee2009"].source
     remark = other_times(given.device, given.tick_ns, made) if given.run else ""
-    return text + ("" if given.csv else f"by {units.words()}\n(defaults: {source})\n{remark}")
+    return text + ("" if given.csv else f"by {units.words()}\n(defaults: {origin})\n{remark}")

@@ -22,7 +22,7 @@ def to_frame(
 
     Numbers are `Int64`, so that a place that isn't there is `<NA>` and no other place becomes a fraction. An outcome whose row the trace
     doesn't have, as the cut of `end="off"`, has neither `asked` nor `latency`. `ImportError` where pandas isn't installed."""
-    import pandas
+    import pandas  # type: ignore[import]
 
     rows = None if trace is None else _numbered(trace)
     if tick_ns is not None and rows is None:
@@ -49,7 +49,7 @@ def _columns(one: "Union[Outcome, ResultRow, None]", rows: Optional[List[Row]]) 
     """The columns of an outcome; of none their names alone."""
     outcome = one.outcome if isinstance(one, ResultRow) else one
     number = None if outcome is None else outcome.row
-    told: Dict[str, object] = {} if number is None else {
+    told: Dict[str, object] = {} if outcome is None else {
         "outcome": outcome.word, "tick": outcome.tick, "place": getattr(outcome, "place", None), "data": getattr(outcome, "data", None),
     }
     front = {"op": one.op, "line": one.line} if isinstance(one, ResultRow) else {}

@@ -3,7 +3,7 @@ import functools
 import math
 import subprocess
 import tempfile
-from typing import Dict, List, NamedTuple, Optional
+from typing import Callable, Dict, List, NamedTuple, Optional, Tuple
 
 from . import tallies
 from .drawn import draw_of, drawn
@@ -65,11 +65,11 @@ def gather(asked: Asked, program: Program = None, progress: Optional[Progress] =
     line_bytes = int(asked.options["line"]) if "line" in asked.options else None
     rows = results_of(by_kind["results"], progress, line_bytes) if "results" in by_kind else []
     run = Run(asked.name or asked.results or asked.trace or "drawn", options, origins, files, rows)
-    for kind, read in (
+    readers: Tuple[Tuple[str, Callable[[Run, Source], None]], ...] = (
         ("trace", functools.partial(_add_trace, progress=progress)), ("wear report", functools.partial(_add_wear, progress=progress)),
-        ("image", _add_image),
-        ("snapshots", _add_snapshots), ("summary", _add_summary),
-    ):
+        ("image", _add_image), ("snapshots", _add_snapshots), ("summary", _add_summary),
+    )
+    for kind, read in readers:
         if kind in by_kind:
             read(run, by_kind[kind])
     if run.has_rows:
@@ -235,7 +235,7 @@ def _in_the_end(run: Run) -> Dict[str, int]:
     if run.snapshots:
         known.update(run.snapshots[-1]._asdict())
     if run.wear:
-        known.update(retired=tallies.retired(run), pulses=tallies.all_pulses(run), most=max(run.wear.pulses))
+        known.update(retired=tallies.retired(run) or 0, pulses=sum(run.wear.pulses), most=max(run.wear.pulses))
         known.update(mean=known["pulses"] // len(run.wear))
     if run.has_rows:
         known.update(rows=len(run.rows), **run.counts)

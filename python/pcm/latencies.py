@@ -71,7 +71,8 @@ def spread(histograms: Iterable[Histogram]) -> Spread:
     if not rows:
         return Spread(0, None, (None,) * len(QUANTILES), None)
     ranks = [-(-rows * round(percent * 10) // 1000) for percent in QUANTILES]
-    found, below = [], 0
+    found: List[int] = []
+    below = 0
     for ticks in sorted(whole):
         below += whole[ticks]
         while len(found) < len(ranks) and ranks[len(found)] <= below:
@@ -181,20 +182,22 @@ def draw_asked(options: Dict[str, str]) -> Optional[Draw]:
 def of_files(rows: str, trace: Optional[str], draw: Optional[Draw] = None, built: Optional[str] = None) -> Passed:
     """Those of rows that a stream printed, a file or `-`, and of its trace."""
     try:
-        with contextlib.nullcontext(sys.stdin.buffer) if rows == "-" else open(rows, "rb") as file:
-            if built is not None and rows != "-":
-                found = _by_program([built, *_source(trace, draw), rows])
-                if found is not None:
-                    return Passed(found.found, "C", found.without)
-            elif built is not None:
-                return _of_pipe(file, trace, draw, built)
-            found = in_python(_arrivals(trace, draw), file)
-            return Passed(found.found, "Python", found.without)
+        if rows == "-":
+            return _of_rows(sys.stdin.buffer, trace, draw) if built is None else _of_pipe(sys.stdin.buffer, trace, draw, built)
+        with open(rows, "rb") as file:
+            found = None if built is None else _by_program([built, *_source(trace, draw), rows])
+            return _of_rows(file, trace, draw) if found is None else Passed(found.found, "C", found.without)
     except OSError as wrong:
         raise ReadFault(4, f"{wrong.filename}: {wrong.strerror}") from None
 
 
-def _of_pipe(file, trace: Optional[str], draw: Optional[Draw], built: str) -> Passed:
+def _of_rows(file: BinaryIO, trace: Optional[str], draw: Optional[Draw]) -> Passed:
+    """Those of an open file's rows, by Python."""
+    found = in_python(_arrivals(trace, draw), file)
+    return Passed(found.found, "Python", found.without)
+
+
+def _of_pipe(file: BinaryIO, trace: Optional[str], draw: Optional[Draw], built: str) -> Passed:
     """Those of a pipe, which can't be read twice: a pass in C that gives up ends it."""
     done = subprocess.run([built, *_source(trace, draw), "-"], stdin=file, stdout=subprocess.PIPE, stderr=subprocess.PIPE, check=False)
     if done.returncode == 3:
@@ -246,6 +249,7 @@ def of_run(
             raise ReadFault(4, f"{trace}: {wrong.strerror}") from None
         process = held.enter_context(subprocess.Popen(words, stdin=given, stdout=subprocess.PIPE, stderr=said))
         held.callback(process.kill)
+        assert process.stdout is not None  # (a pipe)
         if running is not None:
             running.add(process)
             held.callback(running.discard, process)
@@ -277,7 +281,8 @@ def _found(
     """What the pass in C counts of a process's rows; None where it leaves them to Python."""
     with subprocess.Popen([built, *words], stdin=process.stdout, stdout=subprocess.PIPE, stderr=subprocess.PIPE) as counting:
         try:
-            process.stdout.close()
+            if process.stdout is not None:
+                process.stdout.close()
             out, err = _waited(counting, given, trace, progress)
         finally:
             counting.kill()

@@ -1,6 +1,6 @@
 """What became of the rows of a trace."""
 from dataclasses import dataclass
-from typing import ClassVar, Dict, Optional, Type
+from typing import ClassVar, Dict, Optional, Tuple, Type
 
 
 @dataclass(frozen=True)
@@ -143,7 +143,8 @@ class Shape:
 
 
 _MARKS = ("going", "exhausted", "halted")
-_BY_WORD: Dict[str, Type[Outcome]] = {it.word: it for it in (Stored, Merged, Queued, Full, Worn, Read, Forwarded, Busy, Lost, Cut)}
+_KINDS: Tuple[Type[Outcome], ...] = (Stored, Merged, Queued, Full, Worn, Read, Forwarded, Busy, Lost, Cut)
+_BY_WORD: Dict[str, Type[Outcome]] = {it.word: it for it in _KINDS}
 
 
 def outcome_of(word: str, row: int, tick: int, place: str, data: str) -> Outcome:

@@ -1,6 +1,7 @@
 """The page of a report: one file of HTML, without a script and without a link to elsewhere."""
+import functools
 import heapq
-from typing import Callable, List, Optional, Sequence, Tuple
+from typing import Callable, Dict, List, Optional, Sequence, Tuple
 
 from . import charts, tallies
 from .aging import aging
@@ -126,8 +127,8 @@ def _glance(runs: Sequence[Run]) -> str:
     for word, words in (("read", "of a read"), ("stored", "until stored")):
         for percent in (50, 99):
             ticks = {id(run): tallies.quantile(tallies.waits(run, word), percent) for run in runs}
-            row(f"ticks {words}, {percent}%", lambda run, ticks=ticks: ticks[id(run)])
-            row(f"ns {words}, {percent}%", lambda run, ticks=ticks: _ns(run, ticks[id(run)]))
+            row(f"ticks {words}, {percent}%", functools.partial(_of, ticks))
+            row(f"ns {words}, {percent}%", functools.partial(_ns_of, ticks))
     refused = {id(run): tallies.first_refused(run) for run in runs}
     row("first row refused (full or worn)", lambda run: refused[id(run)][0] if run.has_rows else None)
     row("first snapshot with a refused row, its rows", lambda run: None if run.has_rows else refused[id(run)][0])
@@ -176,6 +177,16 @@ def _energy(runs: Sequence[Run]) -> Section:
 def _rounded(number: "Optional[float | int]") -> Cell:
     """A figure with four digits."""
     return rounded(number) if isinstance(number, float) else number
+
+
+def _of(values: Dict[int, Cell], run: Run) -> Cell:
+    """A run's own value."""
+    return values[id(run)]
+
+
+def _ns_of(values: Dict[int, Cell], run: Run) -> Cell:
+    """The same in nanoseconds."""
+    return _ns(run, values[id(run)])
 
 
 def _ns(run: Run, ticks: Cell) -> Cell:
@@ -238,9 +249,16 @@ def _row_of(group: tallies.Group, wear: Wear, values: Sequence[int]) -> Sequence
     return group.words, group.bank, len(here), whole, whole / len(here), most, at, wear.count("retired", group.lines)
 
 
+def _most_of(row: Sequence[Cell]) -> int:
+    """The most of a group's row."""
+    most = row[5]
+    assert isinstance(most, int)
+    return most
+
+
 def _told(rows: Sequence[Sequence[Cell]], unit: str) -> str:
     """The main numbers of groups; of many of those with the most."""
-    shown = rows if len(rows) <= _SAID else heapq.nlargest(_SAID, rows, lambda row: row[5])
+    shown = rows if len(rows) <= _SAID else heapq.nlargest(_SAID, rows, _most_of)
     left = f"; and {len(rows) - _SAID} with less" if len(rows) > _SAID else ""
     return "; ".join(
         f"{row[0]}: {row[3]:,} {unit}, {row[4]:.1f} in the mean, most {row[5]:,} at array line {row[6]}, {row[7]} retired" for row in shown
@@ -286,7 +304,7 @@ def _waits(runs: Sequence[Run], words: Sequence[Tuple[str, str]], title: str, ki
         marks = [(float(tallies.quantile(here, at) or 0), f"{at:g}%: {tallies.quantile(here, at):,}") for at in (50, 99)]
         series = [(word, colour, bins.counted(ordered[id(run), word])) for word, colour in words]
         picture = charts.of_waits(title, series, bins, max(tops), marks)
-        columns = [(bins.words(at), *(counts[at] for _, _, counts in series)) for at in range(bins.count + bins.beyond)]
+        columns = [(bins.words(at), *(counts[at] for _, _, counts in series)) for at in range(bins.columns + bins.beyond)]
         histogram = tabled("Rows by ticks", ("ticks", *(word for word, _ in words)), columns, "columns")
         return placed([picture], _quantiles(run, kind)) + folded("The numbers", histogram, _by_bank(run, words))
 

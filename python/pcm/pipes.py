@@ -30,8 +30,8 @@ def exchanged(process: "subprocess.Popen[bytes]", pieces: Iterator[bytes], tell:
                     left = left or next(pieces, b"")
                     sent = _handed(key.fd, left)
                     left = left[sent:]
-                    if sent is None:
-                        poll.unregister(key.fileobj)
+                    if sent is None and process.stdin is not None:
+                        poll.unregister(process.stdin)
                         process.stdin.close()
 
 

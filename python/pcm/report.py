@@ -80,9 +80,15 @@ def main(words: Sequence[str]) -> int:
     return answered("report", __doc__, words, _make)
 
 
+def _last(values: Sequence[str]) -> Optional[str]:
+    """The last of some words, where there is one."""
+    return values[-1] if values else None
+
+
 def _make(words: Sequence[str]) -> int:
     given = _parsed(words)
-    title, last = (given["title"] or ["Report of pcm"])[-1], {name: (given[name] or [None])[-1] for name in _OF_ALL}
+    last = {name: _last(given[name]) for name in _OF_ALL}
+    title = last["title"] or "Report of pcm"
     units = units_of(last["device"], **{name.replace("-", "_"): last[name] for name in ("tick-ns", "set-pj", "reset-pj", "sense-pj")})
     tick_ns = None if last["tick-ns"] is None and last["device"] is None else units.tick_ns
     rate = None if last["rate"] is None else positive("--rate", last["rate"])
@@ -92,7 +98,7 @@ def _make(words: Sequence[str]) -> int:
     if of_energy and given["run"] and not given["every"]:
         raise UsageError(2, f"{of_energy[0]} is told of snapshots alone: give --every N, too")
     text = report(asked, title, tick_ns=tick_ns, progress=watched, units=units, rate=rate, device=last["device"], of_energy=of_energy)
-    _write(text, (given["output"] or [None])[-1])
+    _write(text, last["output"])
     return 0
 
 
@@ -150,17 +156,20 @@ def _asked(given: Dict[str, List[str]]) -> List[Asked]:
     for name, values in lists.items():
         if len(values) not in (0, 1, count):
             raise UsageError(2, f"{len(values)} times {'a file' if name == 'files' else '--' + name}, where there are {count} runs")
-    column = {name: values * (count if len(values) == 1 else 1) or [None] * count for name, values in lists.items()}
+    column: Dict[str, List[Optional[str]]] = {
+        name: [*values] * (count if len(values) == 1 else 1) or [None] * count for name, values in lists.items()}
     shared = {name: given[name][-1] for name in known_options() if given[name]}
     made = [{**shared, **_words_of(words or "")} for words in column["options"]]
     others = _by_options(made) if len(files) < 2 <= count else column["files"]
     names = [name or other for name, other in zip(column["name"], others)]
     if runs:
-        every = (given["every"] or [None])[-1]
+        every = _last(given["every"])
         each = zip(names, made, column["files"])
         return [Asked(name, options, True, None, trace, every=every, explains=explains) for name, options, trace in each]
-    rests = zip(*(column[name] for name in ("files", "trace", "wear", "image", "summary", "snapshots")))
-    return [Asked(name, options, False, *rest, explains=explains) for name, options, rest in zip(names, made, rests)]
+    kinds = ("trace", "wear", "image", "summary", "snapshots")
+    rests = ({kind: column[kind][at] for kind in kinds} for at in range(len(files)))
+    each_file = zip(names, made, column["files"], rests)
+    return [Asked(name, options, False, results, explains=explains, **rest) for name, options, results, rest in each_file]
 
 
 def _by_options(made: Sequence[Dict[str, str]]) -> List[Optional[str]]:

@@ -11,7 +11,7 @@ import re
 import sys
 import tempfile
 from dataclasses import dataclass, field
-from typing import BinaryIO, Dict, Iterator, List, NamedTuple, Optional, Sequence, Tuple
+from typing import Dict, Iterator, List, NamedTuple, Optional, Sequence, Tuple, cast
 
 from .devices import Units
 from .errors import PcmError, ReadFault, error_of
@@ -153,8 +153,8 @@ class Run:
     @functools.cached_property
     def shape(self) -> Shape:
         """How the module is built, by the options; these must be whole by then."""
-        numbers = (int(self.options[name]) for name in ("banks", "regions", "lines", "spares"))
-        return Shape(*numbers, self.options["registers"] == "array")
+        banks, regions, lines, spares = (int(self.options[name]) for name in ("banks", "regions", "lines", "spares"))
+        return Shape(banks, regions, lines, spares, self.options["registers"] == "array")
 
     @functools.cached_property
     def banks(self) -> List[Optional[int]]:
@@ -198,14 +198,14 @@ def opened(kind: str, name: str, progress: Optional[Progress] = None) -> Source:
     shown = os.fsencode(name).decode("utf-8", "replace")
     try:
         if name == "-":
-            return Source(kind, "standard input", b"".join(_pieces(sys.stdin.buffer, progress)))
+            return Source(kind, "standard input", b"".join(_pieces(cast(io.BufferedReader, sys.stdin.buffer), progress)))
         with open(name, "rb") as file:
             return Source(kind, shown, file.read())
     except OSError as wrong:
         raise ReadFault(4, f"{shown}: {wrong.strerror}") from None
 
 
-def _pieces(file: BinaryIO, progress: Optional[Progress]) -> Iterator[bytes]:
+def _pieces(file: io.BufferedReader, progress: Optional[Progress]) -> Iterator[bytes]:
     """A pipe's bytes as they come, with the rows of so far as progress."""
     rows = 0
     if progress is not None:
@@ -223,7 +223,7 @@ def _pieces(file: BinaryIO, progress: Optional[Progress]) -> Iterator[bytes]:
 def results_of(source: Source, progress: Optional[Progress] = None, line_bytes: Optional[int] = None) -> List[Known]:
     """The rows of results, or those of a stream in the order of their numbers; of lines of so many bytes, where that is known."""
     records = _records(source, progress)
-    header = next(records, (0, []))[1]
+    header = _header(records)
     if header == RESULTS.split(","):
         return [_result(source, at, record) for at, record in _whole(source, records, 7, line_bytes)]
     if header == TOLD.split(","):
@@ -306,7 +306,7 @@ def wear_of(source: Source, progress: Optional[Progress] = None) -> Wear:
     if plain is not None:
         return plain
     records = _records(source, progress)
-    header = next(records, (0, []))[1]
+    header = _header(records)
     if header[:4] != WEAR:
         raise FileFault(f"{source.name} row 0: header")
     wear = Wear("pointers" in header)
@@ -393,6 +393,13 @@ def shape_of_wear(source: Source, wear: Wear) -> Shape:
     if rest or over or not lines or spares < 0 or wear.banks.tobytes() != b"".join(bytes([at]) * shape.array_lines for at in range(banks)):
         raise FileFault(f"{source.name}: not the wear report of a whole module")
     return shape
+
+
+def _header(records: Iterator[Tuple[int, List[str]]]) -> List[str]:
+    """The fields of the first record; none where there is none."""
+    for _, fields in records:
+        return fields
+    return []
 
 
 def _records(source: Source, progress: Optional[Progress] = None) -> Iterator[Tuple[int, List[str]]]:

@@ -4,7 +4,7 @@ import itertools
 import os
 import subprocess
 import tempfile
-from typing import BinaryIO, Iterable, Iterator, NamedTuple, Optional, Union
+from typing import BinaryIO, Iterable, Iterator, NamedTuple, Optional, Tuple, Union
 
 from .errors import error_of
 from .pipes import GATHERED, exchanged, lines_of
@@ -70,7 +70,8 @@ class SnapshotError(ValueError):
 
 def read_snapshots(file: Iterable[str]) -> Iterator[Snapshot]:
     """The snapshots of a file, or of other lines, in their order. `SnapshotError` names a line that isn't so."""
-    at, before, ended, names = -1, BEGIN, False, Snapshot._fields
+    at, before, ended = -1, BEGIN, False
+    names: Tuple[str, ...] = Snapshot._fields
     for at, line in enumerate(file):
         fields = line.rstrip("\r\n").split(",")
         if at == 0:

@@ -4,7 +4,7 @@ import math
 import os
 import shlex
 import sys
-from typing import Callable, Dict, List, Optional, Sequence
+from typing import Callable, Dict, List, NoReturn, Optional, Sequence
 
 from .errors import PcmError, UsageError
 
@@ -78,7 +78,7 @@ class Parser(argparse.ArgumentParser):
                 joined.append(word)
         return super().parse_args(joined, namespace)
 
-    def error(self, message: str) -> None:
+    def error(self, message: str) -> NoReturn:
         raise UsageError(2, f"{message}; --help tells more")
 
 

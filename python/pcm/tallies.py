@@ -127,9 +127,10 @@ def pulses(run: Run) -> List[Pulses]:
         if row.word == "stored" and row.place is not None:
             stores[row.place // run.shape.array_lines] += 1
     for bank, number in enumerate(stores):
-        here = groups(run, bank) if run.wear else []
-        control = sum(sum(group.of(run.wear.pulses)) for group in here if group.words == CONTROL)
-        found.append(Pulses(number, sum(sum(group.of(run.wear.pulses)) for group in here) - control, control))
+        wear, here = (run.wear.pulses, groups(run, bank)) if run.wear else ((), [])
+        counts = {group: sum(group.of(wear)) for group in here}
+        control = sum(count for group, count in counts.items() if group.words == CONTROL)
+        found.append(Pulses(number, sum(counts.values()) - control, control))
     return found
 
 
@@ -171,7 +172,8 @@ class Square(NamedTuple):
 
 def squares(group: Group, wear: Wear, values: Sequence[int], lines: int) -> List[Square]:
     """A group in parts of so many lines."""
-    here, roles = group.of(values), {}
+    here = group.of(values)
+    roles: Dict[int, str] = {}
     # (of lines with several roles the last of these is to be seen)
     for role in ("free", "control", "gap", "retired"):
         roles.update(((at - group.lines.start) // lines, role) for at in wear.find(role, group.lines))

@@ -349,8 +349,8 @@ class Drawing:
                 self.picture.text(self.right + _GAP, y + 11, f"{data[:2].hex()}..{data[-2:].hex()}", _SIZE, "start", colour)
         self.picture.text(self.names, top + 11, f"bytes 0 to {len(newest) - 1}", _SIZE, "start")
         taken = 0.0
-        for byte, row in givers.items():
-            x, words = self.left + each * (byte or 0), "no write" if row is None else f"row {row}"
+        for first, row in givers.items():
+            x, words = self.left + each * (first or 0), "no write" if row is None else f"row {row}"
             if x >= taken:
                 self.picture.text(x, top + 42, words, 11, "start", SOFT)
                 taken = x + width_of(words, 11)

@@ -116,6 +116,7 @@ class Watched:
 
     def _watch(self) -> None:
         output, said = self._process.stdout, self._process.stderr
+        assert output is not None and said is not None  # (both are pipes)
         with selectors.DefaultSelector() as waiting, output, said:
             for it in (output, said):
                 waiting.register(it, selectors.EVENT_READ)
@@ -126,7 +127,7 @@ class Watched:
                         self._said += piece
                     if not piece or (key.fileobj is output and not self._pass_on(piece)):
                         waiting.unregister(key.fileobj)
-                        key.fileobj.close()
+                        (said if key.fileobj is said else output).close()
                 self._tell()
 
 

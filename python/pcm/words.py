@@ -458,9 +458,12 @@ class Handed(NamedTuple):
 def wrong_handed(words: Sequence[str], line: str, rows: Iterable[Handed]) -> Optional[str]:
     """What is wrong with one of these rows, by the words of the program that it was handed to, and that one's line of it."""
     found = re.fullmatch(r"trace row (\d+): (\w+)", line)
-    for row in rows if found else ():
-        told = wrong_row(row, _shape_of(words)) if row.number == int(found[1]) else None
-        if told and told[0] == found[2]:
+    if found is None:
+        return None
+    number, kind = int(found[1]), found[2]
+    for row in rows:
+        told = wrong_row(row, _shape_of(words)) if row.number == number else None
+        if told and told[0] == kind:
             return told[1]
     return None
 

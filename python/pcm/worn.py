@@ -61,7 +61,8 @@ class Wear:
 
     def find(self, role: str, lines: range) -> List[int]:
         """Those of some array lines that have a role."""
-        wanted, found, at = _CODES[role], [], lines.start - 1
+        wanted, at = _CODES[role], lines.start - 1
+        found: List[int] = []
         while True:
             at = self._roles.find(wanted, at + 1, lines.stop)
             if at < 0:
