@@ -737,6 +737,15 @@ class Unused(unittest.TestCase):
     def test_where_all_is_used_nothing_is_said(self):
         self.assertEqual(self.lint(), [])
 
+    def test_what_stands_twice_is_listed(self):
+        shutil.copy(TOP / "tools" / "twins", self.top / "tools")
+        lines = [f"step {number}\n" for number in range(6)]
+        self.write("crates/low/proofs/Halves.antt", f"-- one\n{''.join(lines)}")
+        self.write("crates/high/proofs/Lib.antt", f"use Rattle.low\nbefore\n{''.join(lines[:3])}-- more\n\n{lines[3]}behind\n{''.join(lines[:3])}")
+        asked = [subprocess.run([self.top / "tools" / "twins", least], capture_output=True, text=True).stdout.splitlines() for least in "345"]
+        pairs = ["low/proofs/Halves.antt:2 high/proofs/Lib.antt:3", "low/proofs/Halves.antt:2 high/proofs/Lib.antt:10", "high/proofs/Lib.antt:3 high/proofs/Lib.antt:10"]
+        self.assertEqual(asked, [[f"4 lines: {pairs[0]}", f"3 lines: {pairs[2]}", f"3 lines: {pairs[1]}"], [f"4 lines: {pairs[0]}"], []])
+
     def test_a_library_a_lemma_and_an_import_that_nothing_uses(self):
         self.planted("crates.txt", "# 1. PARTS\nlow:\nhigh: low hex\n", "high: hex", "tools/lint: libraries that no file of their crate cites: failed")
         lemma = f"{self.TEXTS['crates/low/proofs/Halves.antt']}\npub doubled : half ≡ half\ndoubled = rule\n"
@@ -753,6 +762,57 @@ class Unused(unittest.TestCase):
     def test_a_fault_of_a_shell_script(self):
         self.write("folder/more.sh", "#!/bin/sh\ncd /tmp\n")
         self.assertIn("In ./folder/more.sh line 2:", self.lint())
+
+
+def can_mount():
+    asked = ["unshare", "-m", "true"] if os.geteuid() == 0 else ["unshare", "-r", "-m", "true"]
+    return bool(shutil.which("unshare") and shutil.which("git")) and subprocess.run(asked, capture_output=True).returncode == 0
+
+
+class Measured(unittest.TestCase):
+    """What bench/gate runs: in a repository whose commands say what is kept as they begin, and keep their names."""
+
+    def setUp(self):
+        self.folder = pathlib.Path(tempfile.mkdtemp(prefix="pcm tools "))
+        self.addCleanup(shutil.rmtree, self.folder)
+        self.top, self.kept = self.folder / "repo", self.folder / "rattle-kept"
+        (self.folder / "kit" / "bin").mkdir(parents=True)
+        Room.script(self.folder / "kit" / "bin" / "rt", f"#!/bin/sh\necho '{self.folder}/kit/START-HERE.md'\n")
+        self.kept.mkdir()
+        (self.kept / "own").write_text("")
+        shutil.copytree(TOP / "bench", self.top / "bench", ignore=shutil.ignore_patterns("__pycache__"))
+        for path in ("pcm", ".ci/run", "tools/test"):
+            (self.top / path).parent.mkdir(exist_ok=True)
+            says = f"echo {path} $(ls '{self.kept}') over $(ls \"$XDG_CACHE_HOME\"), ${{CI:-no CI}}"
+            Room.script(self.top / path, f"#!/bin/sh\n{says}\n: >'{self.kept}'/{pathlib.Path(path).name} >\"$XDG_CACHE_HOME\"/cached\n")
+        (self.top / "VERSION").write_text("1.0.0\n")
+        (self.top / "docs").mkdir()
+        (self.top / "docs" / "FIGURES.md").write_text("# Figures\n\n<!-- gate -->\n<!-- /gate -->\n")
+        self.around = {**os.environ, "PATH": f"{self.folder}/kit/bin:{os.environ['PATH']}", "CI": "true"}
+        author = ("-c", "user.name=tests", "-c", "user.email=tests@example.org")
+        for words in (("init", "-q"), ("add", "."), (*author, "commit", "-q", "-m", "first"), ("rm", "-q", "tools/test"), (*author, "commit", "-q", "-m", "second")):
+            subprocess.run(["git", *words], cwd=self.top, check=True)
+
+    def gate(self, *words):
+        done = subprocess.run([self.top / "bench" / "gate", *words], env=self.around, capture_output=True, text=True)
+        self.assertEqual(done.returncode, 0, done.stderr)
+        return done.stdout.splitlines()
+
+    @unittest.skipUnless(can_mount(), "there is no unshare that may mount")
+    def test_each_commit_begins_with_nothing_kept_and_the_gate_behind_a_build_finds_what_it_kept(self):
+        told = [it.rpartition("): ")[2] for it in self.gate("--commit", "HEAD~1", "--baseline", "HEAD")]
+        first = ["pcm over , no CI", ".ci/run pcm over cached, no CI", "tools/test pcm run over cached, no CI", ".ci/run over , no CI"]
+        self.assertEqual(told, [*first, *(it for it in first if not it.startswith("tools/test"))])
+        self.assertEqual([it.name for it in self.kept.iterdir()], ["own"])
+        page = (self.top / "docs" / "FIGURES.md").read_text()
+        self.assertRegex(page, r"\| commit \| `./pcm` \| the gate behind it \| `tools/test` alone \| the gate from nothing \|\n\| --- (\| --- ){4}\|\n")
+        self.assertRegex(page, r"\n\| [0-9a-f]{8}, 1.0.0 (\| 0.0 \(0.0\) ){4}\|\n\| [0-9a-f]{8}, 1.0.0 (\| 0.0 \(0.0\) ){2}\| \| 0.0 \(0.0\) \|\n")
+
+    def test_a_dry_run_prints_the_commands_alone(self):
+        told = self.gate("--dry", "--cpus", "0,1", "--baseline", "none", "--steps", "nothing", "build")
+        self.assertEqual([it.split(": ")[1] for it in told], ["build", "nothing"])
+        self.assertTrue(all("nothing kept: unshare" in it and " taskset -c 0,1 " in it for it in told), told)
+        self.assertNotIn("commit", (self.top / "docs" / "FIGURES.md").read_text())
 
 
 class Pages(unittest.TestCase):
