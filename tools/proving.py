@@ -110,7 +110,8 @@ def stop_on_change(names):
 
 
 class Lines:
-    """Reads what `rt ci` says, and notes the line with which each proof ended, which the kit doesn't keep."""
+    """Reads what `rt ci` says, and notes the line with which each proof ended, which the kit doesn't keep; where nobody noted that of a crate
+    that it has kept, the kit's words for this."""
 
     def __init__(self):
         self.stamps = {it: stamp(it) for it in crates.listed()}
@@ -121,8 +122,12 @@ class Lines:
         if line.startswith("logic="):
             self.last = line.rstrip("\n")
         told = TOLD.match(line)
-        if told and told.lastgroup == "proved" and told[1] in self.stamps and self.last:
-            keeping.note_line(told[1], self.stamps[told[1]], self.last)
+        if told and told[1] in self.stamps:
+            crate, stamp_ = told[1], self.stamps[told[1]]
+            if told.lastgroup == "proved" and self.last:
+                keeping.note_line(crate, stamp_, self.last)
+            elif told.lastgroup == "kept" and not keeping.line_of(crate, stamp_):
+                keeping.note_line(crate, stamp_, line.rstrip("\n").removeprefix(f"rt: {crate} "))
         return told and (told[1], told.lastgroup)
 
 

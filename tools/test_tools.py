@@ -29,7 +29,6 @@ while [ $# -gt 0 ]; do
     if [ "$1" = --crate-name ]; then name=$2 root=$3; fi
     shift
 done
-echo "$name" >>'{kit}/checked'
 if grep -q wrong "$root"; then
     echo "$root:1:1: error: no proof"
     echo "logic=not-proved functions=1"
@@ -120,7 +119,7 @@ class Room:
         self.kit, self.cache, self.store = self.folder / "kit", self.folder / "cache", self.folder / "rattle-kept"
         (self.kit / "bin").mkdir(parents=True)
         (self.kit / "KIT-ID").write_text("a kit for tests\n")
-        self.script(self.kit / "bin" / "rattle", RATTLE.format(kit=self.kit))
+        self.script(self.kit / "bin" / "rattle", RATTLE)
         self.script(self.kit / "bin" / "rt", RT.format(kit=self.kit))
         (self.kit / "bin" / "rtlib.py").write_text(RTLIB)
         (self.kit / "program").write_text(PROGRAM)
@@ -158,10 +157,7 @@ class Room:
 
     def called(self):
         """For which crates the gate had no proof since this was asked last."""
-        return self.noted("called")
-
-    def noted(self, name):
-        file = self.kit / name
+        file = self.kit / "called"
         names = file.read_text().split() if file.exists() else []
         file.unlink(missing_ok=True)
         return sorted(names)
@@ -238,17 +234,18 @@ class Builds(unittest.TestCase):
             self.assertEqual(((out / "stamp").read_text(), [it.name for it in (out / f"{it}.rlib").iterdir()]), (f"stamp-of-{it}", ["format"]))
         self.assertFalse((self.room.top / "crates" / "pcm_cli" / "out").exists())
 
-    def test_what_proofs_said_is_noted_of_the_gate_or_asked_for_once_more(self):
+    def test_what_proofs_said_is_noted_of_the_gate_and_else_what_the_kit_says_of_them(self):
         asked = f"cd '{self.room.top}' && RT_JOBS=1 rt ci | tools/build --note"
         (self.room.top / "crates.txt").write_text("first:\npcm_stream: first\n")
         told = subprocess.run(["bash", "-c", asked], env=self.room.around, capture_output=True, text=True)
         self.assertIn("rt: pcm_stream proved\n", told.stdout, told.stderr)
         shutil.rmtree(self.room.top / "crates/first/out")
-        self.build("--kept", "pcm_stream")
-        self.assertEqual((self.room.called(), self.room.noted("checked")), (["first", "pcm_stream"], []))
+        lines = lambda: [it.read_text() for it in sorted((self.room.cache / "leqallqu" / "lines").iterdir())]
+        self.assertEqual(lines(), ["logic=proved functions=1\n"] * 2)
         shutil.rmtree(self.room.cache)
-        self.assertIn("checking first once more: nobody noted what its proof said", self.build("--kept", "pcm_stream").stderr)
-        self.assertEqual((self.room.called(), self.room.noted("checked")), ([], ["first", "pcm_stream"]))
+        self.build("--kept", "pcm_stream")
+        self.assertEqual(self.room.called(), ["first", "pcm_stream"])
+        self.assertEqual(lines(), ["is kept: an earlier run on this machine proved the same files over the same libraries\n"] * 2)
 
     def test_a_second_clone_builds_at_once(self):
         self.build("pcm_cli")
@@ -331,7 +328,7 @@ class Builds(unittest.TestCase):
         self.assertIn("the text of first changed while it was proved: build again", said)
 
     def test_a_second_build_says_that_it_waits_and_then_makes_nothing(self):
-        (self.room.kit / "slow").write_text("0.5")
+        (self.room.kit / "slow").write_text("3")
         first = self.room.start("tools/build", "pcm_stream")
         self.room.wait_for_call()
         second = self.room.run("tools/build", "pcm_stream")
@@ -341,7 +338,7 @@ class Builds(unittest.TestCase):
         self.assertEqual(self.room.called(), ["first", "pcm_stream"])
 
     def test_builds_in_two_clones_prove_each_crate_once(self):
-        (self.room.kit / "slow").write_text("0.5")
+        (self.room.kit / "slow").write_text("3")
         other = self.room.repository("another clone")
         builds = [self.room.start("tools/build", "pcm_cli", top=top) for top in (self.room.top, other)]
         said = [it.communicate(timeout=600)[1] for it in builds]
