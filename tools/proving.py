@@ -119,8 +119,8 @@ class Lines:
 
     def read(self, line):
         """What a line says of a crate, if it does: the crate, and `kept`, `proved`, `failed` or `waits`."""
-        if line.startswith("logic="):
-            self.last = line.rstrip("\n")
+        if line.startswith(("== ", "logic=")):
+            self.last = line.rstrip("\n") if line[0] == "l" else None
         told = TOLD.match(line)
         if told and told[1] in self.stamps:
             crate, stamp_ = told[1], self.stamps[told[1]]
