@@ -76,9 +76,16 @@ def misfits(crate):
             yield f"{edit.parent.name}/{edit.name}"
 
 
+def is_single(crate):
+    """Whether each gate tries one wrong body of a crate alone, which it checks from nothing."""
+    return len(bodies.bodies(crate, bodies.GATE)) == 1
+
+
 def check_edits():
     """(`rt ci` passes over a wrong body that can't be made)"""
     for crate in crates.listed().values():
+        if is_single(crate.folder):
+            yield f"crates/{crate.name}/must-fail: a single wrong body costs a gate a whole check: it belongs into wrong/"
         yield from (f"crates/{crate.name}/{name}: what it changes doesn't stand once in its file" for name in misfits(crate.folder))
     yield None
 

@@ -229,6 +229,10 @@ class Crates(unittest.TestCase):
                 (crate / "must-fail" / f"{name}.edit").write_text(f"file: {file}\nold: {old}\nnew: x\n")
             (crate / "wrong" / "late.edit").write_text("file: src/lib.rt\nold: a\nnew: b\nold: a\nnew: c\n")
             self.assertEqual(list(checking.misfits(crate)), ["must-fail/gone.edit", "must-fail/none.edit", "must-fail/two.edit", "wrong/late.edit"])
+            self.assertFalse(checking.is_single(crate))
+            for it in sorted((crate / "must-fail").iterdir())[1:]:
+                it.unlink()
+            self.assertTrue(checking.is_single(crate))
 
     def test_a_stale_list_is_named(self):
         with tempfile.TemporaryDirectory() as room:
