@@ -652,8 +652,9 @@ class WrongBodies(unittest.TestCase):
             (path / f"{name}.edit").write_text(f"file: src/{root}.rt\nold: -- {crate}\nnew: -- {new}\n")
 
     def says(self, status, *lines, words=()):
+        """(crates are told as they are done)"""
         done = self.room.run("tools/wrong", *words)
-        self.assertEqual((done.returncode, done.stdout.splitlines()), (status, list(lines)), done.stderr)
+        self.assertEqual((done.returncode, sorted(done.stdout.splitlines())), (status, sorted(lines)), done.stderr)
 
     def test_those_that_the_gate_leaves_out_are_tried(self):
         told = "refused: src/lib.rt:1:1: error: no proof"
@@ -991,6 +992,52 @@ class Watching(unittest.TestCase):
             trace.seek(0)
             done = self.watch("head -c 500 >/dev/null; sleep 1.4", "--print", "summary", stdin=trace)
         self.assertRegex(done.stderr, r"^1 s, (50|100)%")
+
+
+class Tested(unittest.TestCase):
+    """What tools/test calls, and what it says of programs that aren't built."""
+
+    def setUp(self):
+        self.top = pathlib.Path(tempfile.mkdtemp(prefix="pcm tools ")) / "a clone"
+        self.addCleanup(shutil.rmtree, self.top.parent)
+        for path in ("tools/test", "examples/counting.sh"):
+            (self.top / path).parent.mkdir(parents=True, exist_ok=True)
+            shutil.copy(TOP / path, self.top / path)
+        (self.top / "crates" / "low" / "src").mkdir(parents=True)
+        (self.top / "crates" / "low" / "specs").mkdir()
+        (self.top / "docs").mkdir()
+        counts = "echo '2 passed, 0 failed'"
+        for path, does in (
+            ("tools/lint", counts), ("tools/test_tools.py", "echo 'Ran 3 tests in 0s'"), ("docs/test_checking.py", "echo 'Ran 4 tests in 0s'"),
+            ("docs/check", f'printf "documents: %s\\n" "$*"; {counts}'), ("examples/check", f'printf "examples:"; printf " (%s)" "$@"; echo; {counts}'),
+            ("tools/wrong", "echo '1 crates to be tried: low'; exit 1"),
+        ):
+            Room.script(self.top / path, f"#!/bin/sh\n{does}\n")
+
+    def build(self, *names):
+        for name in names:
+            (self.top / "crates" / name / "out").mkdir(parents=True, exist_ok=True)
+            Room.script(self.top / "crates" / name / "out" / name, "")
+
+    def says(self, *lines):
+        done = subprocess.run([self.top / "tools" / "test"], capture_output=True, text=True)
+        self.assertEqual((done.returncode, done.stdout.splitlines()), (0, list(lines)), done.stderr)
+
+    def test_with_all_programs(self):
+        self.build(*PROGRAMS)
+        files = [f"crates/{name}/out/{name}" for name in PROGRAMS]
+        told = [f"documents: {files[0]}", f"examples: {' '.join(f'({it})' for it in files)}", "tools/test: wrong bodies of wrong/: 1 crates to be tried: low"]
+        self.says(*told, "13 passed, 0 failed")
+        (self.top / "crates" / "low" / "src" / "lib.rt").write_text("")
+        os.utime(self.top / "crates" / "low" / "src" / "lib.rt", (2**31, 2**31))
+        self.says(*(f"tools/test: {it} is older than some text: it is tried as it is" for it in files), *told, "13 passed, 0 failed")
+
+    def test_without_some(self):
+        self.build("pcm_cli", "pcm_explain")
+        lacks = [f"tools/test: what wants {it}: skipped: it isn't built (tools/build {it})" for it in ("pcm_stream", "pcm_view")]
+        lacks.append("tools/test: commands that documents show: skipped: not all programs are built")
+        told = ["documents: ", "examples: (crates/pcm_cli/out/pcm_cli) () (crates/pcm_explain/out/pcm_explain) ()"]
+        self.says(*lacks, *told, "tools/test: wrong bodies of wrong/: 1 crates to be tried: low", "13 passed, 0 failed, 3 skipped")
 
 
 class Counting(unittest.TestCase):
