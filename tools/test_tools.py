@@ -247,6 +247,18 @@ class Builds(unittest.TestCase):
         self.assertEqual(self.room.called(), ["first", "pcm_stream"])
         self.assertEqual(lines(), ["is kept: an earlier run on this machine proved the same files over the same libraries\n"] * 2)
 
+    def test_the_gate_runs_the_tests_behind_the_proofs_and_not_where_these_fail(self):
+        (self.room.top / ".ci").mkdir()
+        shutil.copy(TOP / ".ci" / "run", self.room.top / ".ci")
+        self.room.script(self.room.top / "tools" / "test", "#!/bin/sh\necho tests\nexit 3\n")
+        (self.room.top / "crates.txt").write_text("first:\npcm_stream: first\n")
+        done = self.room.run(".ci/run", CI="", RT_JOBS="5")
+        self.assertEqual((done.returncode, done.stdout.splitlines()[-2:]), (3, ["rt: pcm_stream proved", "tests"]), done.stderr)
+        self.assertEqual((self.room.kit / "jobs").read_text(), "5")
+        (self.room.top / "crates" / "first" / "src" / "lib.rt").write_text("wrong\n")
+        done = self.room.run(".ci/run", CI="")
+        self.assertEqual((done.returncode, done.stdout.splitlines()[-1]), (1, "rt: first NOT PROVED"), done.stderr)
+
     def test_a_second_clone_builds_at_once(self):
         self.build("pcm_cli")
         self.room.called()
