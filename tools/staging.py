@@ -31,9 +31,9 @@ def readme():
 
 def texts():
     """What a reader has: documents with their pictures, examples, and the drivers in C, without what was made there."""
-    for folder, kinds in (("docs", {".md", ".svg", ".png"}), ("examples", None), ("c", None)):
+    for folder, kinds in (("docs", {".md", ".svg", ".png", "names"}), ("examples", None), ("c", None)):
         for it in sorted((TOP / folder).rglob("*")):
-            if it.is_file() and not {"out", "__pycache__"} & set(it.parts) and (kinds is None or it.suffix in kinds):
+            if it.is_file() and not {"out", "__pycache__"} & set(it.parts) and (kinds is None or (it.suffix or it.name) in kinds):
                 yield f"share/pcm/{it.relative_to(TOP)}", it, os.access(it, os.X_OK)
 
 
