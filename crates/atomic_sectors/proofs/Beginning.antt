@@ -1,7 +1,7 @@
 -- Lines to which nothing was written.
 use Rattle.std.proofs.Common.{◌≡◌, ℕ, zero, suc, ◌+◌, [], get_or, replicate, refl, sym, ◌∙◌, ap, arith}
 use Rattle.std.proofs.lemmas.Bool.{eq-eqb, cond-true}
-use Rattle.atomic_sectors.specs.{Lines.stand, Numbers.number_at, declared.layout.Layout.Layout, Sectors.{word_at, block_of, IsMapped}, Serving.{NewLaw}}
+use Rattle.atomic_sectors.specs.{Lines.stand, Numbers.number_at, Sectors.{word_at, block_of, IsMapped}, Serving.NewLaw, declared.layout.Layout.Layout}
 use Rattle.atomic_sectors.proofs.Totals.{total-same}
 
 zeros : (n i : ℕ) → get_or {A = ℕ} (replicate n 0) i 0 ≡ 0

@@ -1,7 +1,6 @@
 -- What follows where sectors fit on lines.
 use Rattle.std.proofs.Common.{ℕ, ◌+◌, ◌-◌, ◌*◌, ◌/◌, ◌^◌, ◌<◌, ◌≤◌, arith}
-use Rattle.atomic_sectors.specs.{Sectors.{Fits, word_line}, declared.layout.Layout.Layout}
-use Rattle.atomic_sectors.proofs.Places.{blocks_few, words_before, in_block, words_of}
+use Rattle.atomic_sectors.{specs.Sectors.{Fits, word_line}, specs.declared.layout.Layout.Layout, proofs.Places.{blocks_few, words_before, in_block, words_of}}
 
 module _ (n : ℕ) (layout : Layout) (count : ℕ) (fits : Fits n layout count) where
   -- there are fewer sectors than lines

@@ -1,9 +1,10 @@
 -- What stands in the sectors while the free block is written, and behind the write of a word.
 use Rattle.std.proofs.Common.{◌≡◌, ◌≢◌, ℕ, ◌+◌, ◌-◌, ◌*◌, ◌/◌, ◌<◌, ◌≤◌, ◌==◌, List, ◌∷◌, length, refl, sym, ◌∙◌, ap, subst, arith, inl, inr, if◌then◌else◌}
 use Rattle.std.proofs.lemmas.Bool.{cases_eq, eq-eqb, ne_eqb, cond-true, cond-false}
-use Rattle.atomic_sectors.specs.{Lines.{Write, stand}, Numbers.number_at, declared.layout.Layout.Layout}
+use Rattle.atomic_sectors.specs.{Lines.{Write, stand}, Numbers.number_at}
 use Rattle.atomic_sectors.specs.Sectors.{word_line, word_at, word_write, Fits, word, block_of, sector_line, IsMapped, Have, KeepsOthers, StandFrom, with_sector}
-use Rattle.atomic_sectors.proofs.{Standing.{length-stand, stand-other, stand-same}, Digits.{number_at-written, number_at-other}, Places.{in_block, blocks_apart, words_apart}, Fitting.sectors_few, Totals.{total-same, total-changed}}
+use Rattle.atomic_sectors.{specs.declared.layout.Layout.Layout, proofs.Digits.{number_at-written, number_at-other}, proofs.Fitting.sectors_few}
+use Rattle.atomic_sectors.proofs.{Places.{in_block, blocks_apart, words_apart}, Standing.{length-stand, stand-other, stand-same}, Totals.{total-same, total-changed}}
 
 -- the block that a word means for a sector
 abbrev pub block_by : ℕ → ℕ → ℕ

@@ -1,7 +1,6 @@
 -- Where blocks and words are.
 use Rattle.std.proofs.Common.{◌≡◌, ◌≢◌, ◌⊎◌, ℕ, ◌+◌, ◌*◌, ◌/◌, ◌%◌, ◌<◌, ◌≤◌, sym, ◌∙◌, ap, arith, inl, inr}
-use Rattle.std.proofs.lemmas.{Bool.cases_order, Nat.{div-add-mod', le-div}}
-use Rattle.std.proofs.Math.Nat.{mul-le-mul_left, mul-le-mul_right, div-mul-le_self}
+use Rattle.std.proofs.{Math.Nat.{mul-le-mul_left, mul-le-mul_right, div-mul-le_self}, lemmas.Bool.cases_order, lemmas.Nat.{div-add-mod', le-div}}
 
 -- a line of a block is before the end of all blocks
 pub in_block : (k last b i : ℕ) → b ≤ last → i < k → b * k + i < (last + 1) * k

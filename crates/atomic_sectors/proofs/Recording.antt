@@ -1,7 +1,7 @@
 -- Lines that keep every write.
 use Rattle.std.proofs.Common.{◌≡◌, ℕ, ◌+◌, ◌<◌, List, [], ◌∷◌, ◌++◌, length, take, get_or, refl, sym, ◌∙◌, ap}
 use Rattle.std.proofs.lemmas.List.{take_more}
-use Rattle.atomic_sectors.specs.{Lines.{Write}, Recorded.{write_of, behind}, declared.recorded.Put.Put}
+use Rattle.atomic_sectors.specs.{Lines.Write, Recorded.{write_of, behind}, declared.recorded.Put.Put}
 
 module _ {n : ℕ} where
   pub behind-push : (before : List Write) (puts : List (Put n)) (p : Put n) → behind before (puts ++ p ∷ []) ≡ write_of p ∷ behind before puts

@@ -1,9 +1,9 @@
 -- What the sectors have behind a request.
 use Rattle.std.proofs.Common.{◌≡◌, ◌⊎◌, ℕ, ◌==◌, if◌then◌else◌, List, [], ◌∷◌, ◌++◌, get_or, refl, sym, ◌∙◌, ap, subst, inl, inr, Option, Some, None}
-use Rattle.atomic_sectors.specs.{Lines.{Write, stand}, Sectors.{sector_line, Have, IsWhole, with_sector}, declared.layout.Layout.Layout}
-use Rattle.atomic_sectors.specs.Serving.{Made, content, Serves, ServesRead, ServesWrite, ServeAll, IsKnown}
-use Rattle.atomic_sectors.specs.declared.serving.{Request.Request, Request.TheVariants.{Read, Write as Writes}, Answer.Answer, Answer.TheVariants.{Stopped}}
-use Rattle.atomic_sectors.specs.declared.{lines.Stopped.Stopped as Why, sectors.Sectors.Sectors}
+use Rattle.atomic_sectors.specs.{Lines.{Write, stand}, Sectors.{sector_line, Have, IsWhole, with_sector}}
+use Rattle.atomic_sectors.specs.{Serving.{Made, content, Serves, ServesRead, ServesWrite, ServeAll, IsKnown}, declared.layout.Layout.Layout, declared.lines.Stopped.Stopped as Why}
+use Rattle.atomic_sectors.specs.{declared.sectors.Sectors.Sectors, declared.serving.Answer.Answer, declared.serving.Answer.TheVariants.Stopped, declared.serving.Request.Request}
+use Rattle.atomic_sectors.specs.declared.serving.Request.TheVariants.{Read, Write as Writes}
 
 module _ (n : ℕ) (layout : Layout) (old new : ℕ → List ℕ) (before : List Made) (have : Have n layout old (content n before)) where
   pub have_as_before : Have n layout new (sector_line n layout old) → Have n layout new (content n before)

@@ -1,6 +1,6 @@
 -- What stands in a line after one more write.
 use Rattle.std.proofs.Common.{◌≡◌, ◌≢◌, ℕ, List, [], ◌∷◌, length, ◌∙◌, ap, inl, inr}
-use Rattle.std.proofs.lemmas.{Bool.{cases_eq, eq-eqb, ne_eqb, cond-true, cond-false}, List.length-replicate}
+use Rattle.std.proofs.{lemmas.Bool.{cases_eq, eq-eqb, ne_eqb, cond-true, cond-false}, lemmas.List.length-replicate}
 use Rattle.masked_bytes.{specs.Masked.{laid, all_given}, proofs.Layering.{length-laid, laid-all_given}}
 use Rattle.atomic_sectors.specs.Lines.{Write, stand}
 

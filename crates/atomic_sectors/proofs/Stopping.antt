@@ -1,6 +1,6 @@
 -- How many requests were stopped, as one more is.
 use Rattle.std.proofs.Common.{◌≡◌, ℕ, ◌+◌, List, [], ◌∷◌, ◌++◌, arith}
-use Rattle.atomic_sectors.specs.{declared.serving.Answer.Answer, Stops.{RoseBy, stops_of, stops_in}}
+use Rattle.atomic_sectors.specs.{Stops.{RoseBy, stops_of, stops_in}, declared.serving.Answer.Answer}
 
 module _ {n : ℕ} where
   pub stops-more : (answers : List (Answer n)) (a : Answer n) → stops_in (answers ++ a ∷ []) ≡ stops_in answers + stops_of a

@@ -1,8 +1,7 @@
 -- That a write of a sector is whole or not made at each moment.
 use Rattle.std.proofs.Common.{◌≡◌, ℕ, ◌+◌, ◌*◌, ◌<◌, List, ◌∷◌, length, subst, inl, inr}
-use Rattle.atomic_sectors.specs.{Lines.{Write, stand}, Moments.{AtEachMoment}, declared.layout.Layout.Layout}
-use Rattle.atomic_sectors.specs.Sectors.{word_write, Fits, block_of, IsMapped, KeepsOthers, StandFrom, IsBeforeOrAfter}
-use Rattle.atomic_sectors.proofs.{Making.{so_too, at_end}, Mapping.{have-kept, mapped-kept, have-written, mapped-written}}
+use Rattle.atomic_sectors.specs.{Lines.{Write, stand}, Moments.AtEachMoment, Sectors.{word_write, Fits, block_of, IsMapped, KeepsOthers, StandFrom, IsBeforeOrAfter}}
+use Rattle.atomic_sectors.{specs.declared.layout.Layout.Layout, proofs.Making.{so_too, at_end}, proofs.Mapping.{have-kept, mapped-kept, have-written, mapped-written}}
 
 module _ (n : ℕ) (layout : Layout) (lines : ℕ) (fits : Fits n layout lines) (old : List Write) (free : ℕ) (mapped : IsMapped n layout (stand n old) free) where
   -- while the free block is written

@@ -1,6 +1,6 @@
 -- How many requests were stopped, and that the lines were, too.
 use Rattle.std.specs.Prelude.{ℕ, ◌+◌, ◌-◌, ◌^◌, ◌≤◌, min, List, [], ◌∷◌}
-use Rattle.atomic_sectors.specs.declared.{lines.Stopped.Stopped as Why, lines.Stopped.TheVariants.Memory, serving.Answer.Answer}
+use Rattle.atomic_sectors.specs.{declared.lines.Stopped.Stopped as Why, declared.lines.Stopped.TheVariants.Memory, declared.serving.Answer.Answer}
 use Rattle.atomic_sectors.specs.declared.serving.Answer.TheVariants.{Stopped}
 
 -- a count rose by so much at least, or stands at the greatest u64

@@ -1,5 +1,5 @@
-//! What holds before the first write. A law is what a function here ensures; the functions do nothing
-//! when they run.
+//! What holds before the first write. A law is what a function here ensures; the functions do
+//! nothing when they run.
 ghost use Rattle.atomic_sectors.specs.Serving.{NewLaw};
 
 /// Where nothing was written, the sectors are whole, and each line of them is zeros.

@@ -2,8 +2,8 @@
 ghost use Rattle.std.specs.Prelude.{◌≡◌, ◌+◌, ◌*◌, ◌<◌, ◌≤◌};
 ghost use Rattle.atomic_sectors.specs.Sectors.{Fits, word_line, word_at};
 
-/// How many lines a sector has, and how many sectors there are. Behind one block more than there are
-/// sectors stands the map, with a word of four bytes for each sector.
+/// How many lines a sector has, and how many sectors there are. Behind one block more than there
+/// are sectors stands the map, with a word of four bytes for each sector.
 #[derive(Clone, Copy, Debug, PartialEq, Eq)]
 pub struct Layout {
     pub block: u32,

@@ -30,7 +30,8 @@ pub trait Lines<const B: usize> {
     fn count(&self) -> u32
         ensures { result ≡ count self.now };
 
-    /// Writes those bytes of a line that are given. Where it is stopped, the write may have been made.
+    /// Writes those bytes of a line that are given. Where it is stopped, the write may have been
+    /// made.
     fn put(&mut self, line: u32, bytes: &[u8; B], given: &[bool; B]) -> Result<(), Stopped>
         requires exists { line < count self.old }
         ensures made { OnOk result (made self.new ≡ record {

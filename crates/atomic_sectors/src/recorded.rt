@@ -13,8 +13,8 @@ pub struct Put<const B: usize> {
     pub given: [bool; B],
 }
 
-/// So many lines, the writes that were made, the oldest first, for how many more the power lasts, and
-/// how many calls were stopped, up to the greatest number.
+/// So many lines, the writes that were made, the oldest first, for how many more the power lasts,
+/// and how many calls were stopped, up to the greatest number.
 #[derive(Drop)]
 pub struct Recorded<const B: usize> {
     pub lines: u32,

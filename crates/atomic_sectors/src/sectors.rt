@@ -24,7 +24,8 @@ fn find_block<const B: usize, L: Lines<B>>(
 ) -> Result<u32, Stopped>
     requires fits { Fits B layout.now (L.count lines.old) }
     requires exists { sector < layout.now.sectors }
-    ensures block { IfOk result (λ block. block ≡ block_of B layout.now (stand B (L.made lines.old)) sector) }
+    ensures block { IfOk result (λ block. block
+        ≡ block_of B layout.now (stand B (L.made lines.old)) sector) }
     ensures made { L.made lines.new ≡ L.made lines.old }
     ensures cause { OnErr result (Rose (L.stops lines.old) (L.stops lines.new)) }
     ensures never_falls { L.stops lines.old ≤ L.stops lines.new }
@@ -149,7 +150,8 @@ impl Sectors {
         requires exists { sector < self.now.layout.sectors }
         requires whole { length to.old ≡ self.now.layout.block }
         ensures read { OnOk result ((i : ℕ) → i < self.now.layout.block
-            → slice_index_or to.new i [] ≡ sector_line B self.now.layout (stand B (L.made lines.old)) sector i) }
+            → slice_index_or to.new i []
+            ≡ sector_line B self.now.layout (stand B (L.made lines.old)) sector i) }
         ensures made { L.made lines.new ≡ L.made lines.old }
         ensures cause { OnErr result (Rose (L.stops lines.old) (L.stops lines.new)) }
         ensures never_falls { L.stops lines.old ≤ L.stops lines.new }
@@ -159,8 +161,8 @@ impl Sectors {
         read_lines(lines, block * self.layout.block, to)
     }
 
-    /// Writes a sector's lines: all of them, or none, whatever stops it. It may be used again where it
-    /// answers `Ok`; else the sectors are to be opened again.
+    /// Writes a sector's lines: all of them, or none, whatever stops it. It may be used again where
+    /// it answers `Ok`; else the sectors are to be opened again.
     pub fn write<const B: usize, L: Lines<B>>(
         &mut self,
         lines: &mut L,
@@ -172,7 +174,8 @@ impl Sectors {
         requires exists { sector < self.old.layout.sectors }
         requires whole { length from.now ≡ self.old.layout.block }
         ensures written { OnOk result (Have B self.old.layout (stand B (L.made lines.new))
-            (with_sector sector from.now (sector_line B self.old.layout (stand B (L.made lines.old))))) }
+            (with_sector sector from.now
+            (sector_line B self.old.layout (stand B (L.made lines.old))))) }
         ensures mapped { OnOk result
             (IsMapped B self.old.layout (stand B (L.made lines.new)) self.new.free) }
 

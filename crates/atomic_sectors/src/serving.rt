@@ -139,10 +139,10 @@ fn write<const B: usize, L: Lines<B>>(
     }
 }
 
-/// Serves requests, whatever stops some of them: each read that is answered has the newest writes of
-/// its sector, of which each that was acknowledged was made, and one that was stopped was made or
-/// wasn't, once and for all. No more requests are stopped, but for want of memory, than calls of the
-/// lines were.
+/// Serves requests, whatever stops some of them: each read that is answered has the newest writes
+/// of its sector, of which each that was acknowledged was made, and one that was stopped was made
+/// or wasn't, once and for all. No more requests are stopped, but for want of memory, than calls of
+/// the lines were.
 pub fn serve_all<const B: usize, L: Lines<B>>(
     alloc: Global,
     layout: Layout,

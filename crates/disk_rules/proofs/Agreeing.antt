@@ -1,10 +1,9 @@
 -- Lines that stand alike hold the same disk.
 use Rattle.std.proofs.Common.{◌≡◌, ℕ, ◌+◌, ◌-◌, ◌*◌, ◌/◌, ◌%◌, ◌<◌, ◌≤◌, ◌==◌, if◌then◌else◌, List, get_or, sym, ◌∙◌, ap, subst, arith}
-use Rattle.std.proofs.lemmas.Nat.{mod_below, div_below}
-use Rattle.std.proofs.Math.Nat.{mul-pos}
+use Rattle.std.proofs.{Math.Nat.mul-pos, lemmas.Nat.{mod_below, div_below}}
 use Rattle.atomic_sectors.specs.{Numbers.number_at, Sectors.{sector_line, block_of, word_line, word_at, Fits, IsMapped}, declared.layout.Layout.Layout}
 use Rattle.atomic_sectors.proofs.{Fitting.{word_there, block_there}, Totals.total-same}
-use Rattle.disk_rules.specs.{Disk.{Written}, Standing.{sector_size, HoldsDisk}, Agreeing.AgreeLaw}
+use Rattle.disk_rules.specs.{Agreeing.AgreeLaw, Disk.Written, Standing.{sector_size, HoldsDisk}}
 
 module _ (n : ℕ) (layout : Layout) (count : ℕ) (fits : Fits n layout count) (one other : ℕ → List ℕ) (alike : (line : ℕ) → line < count → other line ≡ one line) where
   block_same : (s : ℕ) → s < layout.sectors → block_of n layout other s ≡ block_of n layout one s

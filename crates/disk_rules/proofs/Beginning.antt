@@ -1,6 +1,6 @@
 -- A disk to which nothing was written.
 use Rattle.std.proofs.Common.{◌≡◌, ℕ, zero, suc, get_or, replicate, refl}
-use Rattle.atomic_sectors.specs.{Serving.NewLaw}
+use Rattle.atomic_sectors.specs.Serving.{NewLaw}
 use Rattle.disk_rules.specs.Agreeing.{NewDiskLaw}
 
 zeros : (n i : ℕ) → get_or {A = ℕ} (replicate n 0) i 0 ≡ 0

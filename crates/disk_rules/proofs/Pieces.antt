@@ -1,11 +1,9 @@
 -- The bytes of a disk behind one more piece of a write.
 use Rattle.std.proofs.Common.{◌≡◌, ◌≢◌, ◌⊎◌, ℕ, ◌+◌, ◌-◌, ◌*◌, ◌/◌, ◌%◌, ◌<◌, ◌≤◌, ◌&&◌, ltb, leb, if◌then◌else◌, List, ◌∷◌, get_or, sym, ◌∙◌, ap, subst, arith, inl, inr}
-use Rattle.std.proofs.lemmas.Bool.{cases_eq, cases_lt, eq-eqb, ne_eqb, cond-true, cond-false}
-use Rattle.std.proofs.lemmas.Bool.Decides.{nat_tests}
+use Rattle.std.proofs.{Math.Nat.mul-pos, lemmas.Bool.{cases_eq, cases_lt, eq-eqb, ne_eqb, cond-true, cond-false}, lemmas.Bool.Decides.nat_tests}
 use Rattle.std.proofs.lemmas.Nat.{div-add-mod', mod_below, div-mul-add, div_below}
-use Rattle.std.proofs.Math.Nat.{mul-pos}
 use Rattle.atomic_sectors.specs.{Sectors.{sector_line, with_sector, Have, IsWhole}, declared.layout.Layout.Layout}
-use Rattle.disk_rules.specs.{Disk.{Written, byte_at}, Standing.{byte_of, sector_size, disk_size, HoldsDisk}, Pieces.{byte_in, IsPatched, PieceLaw}}
+use Rattle.disk_rules.specs.{Disk.{Written, byte_at}, Pieces.{byte_in, IsPatched, PieceLaw}, Standing.{byte_of, sector_size, disk_size, HoldsDisk}}
 
 -- of a byte, by where it lies: among those of the piece, among those that were written before, or beside the write
 in_piece : (at done more x b u : ℕ) → at + done ≤ x → x < at + done + more

@@ -1,7 +1,6 @@
 -- A disk: what its bytes are, by the writes that were made, and which answers to which requests are those of one.
-use Rattle.std.specs.Prelude.{◌≡◌, ◌⊎◌, ℕ, zero, suc, ◌+◌, ◌-◌, ◌%◌, ◌<◌, ◌==◌, ◌&&◌, nat_le, nat_lt, if◌then◌else◌, List, [], ◌∷◌, length, slice_index}
-use Rattle.std.specs.Prelude.{Option, Some, None}
-use Rattle.disk_rules.specs.declared.{Request.Request, Request.TheVariants.{Read, Write, Flush}, Refusal.Refusal, Answer.Answer}
+use Rattle.std.specs.Prelude.{◌≡◌, ◌⊎◌, ℕ, zero, suc, ◌+◌, ◌-◌, ◌%◌, ◌<◌, ◌==◌, ◌&&◌, nat_le, nat_lt, if◌then◌else◌, List, [], ◌∷◌, length, slice_index, Option, Some, None}
+use Rattle.disk_rules.specs.{declared.Answer.Answer, declared.Refusal.Refusal, declared.Request.Request, declared.Request.TheVariants.{Read, Write, Flush}}
 use Rattle.disk_rules.specs.declared.Refusal.TheVariants as why
 use Rattle.disk_rules.specs.declared.Answer.TheVariants as says
 

@@ -1,7 +1,7 @@
 -- A write of bytes is made piece by piece, a sector at a time.
 use Rattle.std.specs.Prelude.{◌≡◌, ℕ, ◌+◌, ◌-◌, ◌*◌, ◌/◌, ◌%◌, ◌<◌, ◌≤◌, ◌&&◌, nat_le, nat_lt, if◌then◌else◌, List, [], ◌∷◌, slice_index, slice_index_or}
 use Rattle.atomic_sectors.specs.{Sectors.{sector_line, with_sector, Have, IsWhole}, declared.layout.Layout.Layout}
-use Rattle.disk_rules.specs.{Disk.{Written}, Standing.{byte_of, sector_size, HoldsDisk}}
+use Rattle.disk_rules.specs.{Disk.Written, Standing.{byte_of, sector_size, HoldsDisk}}
 
 -- the byte at a place of lines of n bytes
 abbrev pub byte_in : ℕ → List (List ℕ) → ℕ → ℕ

@@ -48,8 +48,8 @@ pub fn pieces_make_a_write()
     ensures { PieceLaw }
 {}
 
-/// Lines that agree are one disk: what is a disk by its rows is the same by what is left in the array
-/// and the queues.
+/// Lines that agree are one disk: what is a disk by its rows is the same by what is left in the
+/// array and the queues.
 pub fn lines_that_agree_are_one_disk()
     ensures { AgreeLaw }
 {}

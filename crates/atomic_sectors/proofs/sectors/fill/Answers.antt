@@ -1,7 +1,7 @@
 use Rattle.std.proofs.Common.{◌≡◌, ℕ, ◌+◌, ◌<◌, List, ◌∷◌, length, get_or, [], true, replicate, refl, sym, ◌∙◌, subst, arith}
 use Rattle.std.proofs.lemmas.List.{get_or_read}
-use Rattle.atomic_sectors.specs.{Lines.{Write, stand}, Moments.AtEachMoment, Sectors.KeepsOthers}
-use Rattle.atomic_sectors.proofs.{Making.{at_start, at_end, made_one, made_or_not}, Filling.{keeps_none, keeps_more, stand_more}}
+use Rattle.atomic_sectors.{specs.Lines.{Write, stand}, specs.Moments.AtEachMoment, specs.Sectors.KeepsOthers, proofs.Filling.{keeps_none, keeps_more, stand_more}}
+use Rattle.atomic_sectors.proofs.Making.{at_start, at_end, made_one, made_or_not}
 use Rattle.atomic_sectors.proofs.sectors.fill.Goals as goal
 
 pub loop-i-init : goal.loop-i-init

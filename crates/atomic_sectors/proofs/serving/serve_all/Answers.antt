@@ -1,6 +1,6 @@
 use Rattle.std.proofs.Common.{◌≡◌, ◌+◌, List, [], ◌∷◌, ◌++◌, take, refl, sym, ◌∙◌, ap, subst}
 use Rattle.std.proofs.lemmas.List.{take_more, take_all}
-use Rattle.atomic_sectors.specs.{Serving.{ServeAll}, Stops.{RoseBy, stops_in}, declared.serving.{Request.Request, Answer.Answer}}
+use Rattle.atomic_sectors.specs.{Serving.ServeAll, Stops.{RoseBy, stops_in}, declared.serving.Answer.Answer, declared.serving.Request.Request}
 use Rattle.atomic_sectors.proofs.{Runs.{serve_more, whole_known}, Stopping.{stops-more, rose-both, rose-none}}
 use Rattle.atomic_sectors.proofs.serving.serve_all.Goals as goal
 

@@ -1,5 +1,4 @@
-use Rattle.atomic_sectors.specs.{Lines.stand, Sectors.{IsBeforeOrAfter}}
-use Rattle.atomic_sectors.proofs.{Making.at_end, Runs.stopped_by}
+use Rattle.atomic_sectors.{specs.Lines.stand, specs.Sectors.IsBeforeOrAfter, proofs.Making.at_end, proofs.Runs.stopped_by}
 use Rattle.atomic_sectors.proofs.serving.write.Goals as goal
 
 pub returns-in-Err-clause-serves : goal.returns-in-Err-clause-serves

@@ -1,9 +1,8 @@
 use Rattle.std.proofs.Common.{List, [], take, sym, ◌∙◌, ap}
 use Rattle.masked_bytes.specs.Masked.{laid}
-use Rattle.atomic_sectors.specs.{Lines.{Write, stand}, Recorded.{behind, write_of}}
-use Rattle.atomic_sectors.proofs.{Recording.behind_more, Standing.{stand-same, stand-other}}
-use Rattle.atomic_sectors.proofs.recorded.RecordedLines.get.Goals as goal
+use Rattle.atomic_sectors.{specs.Lines.{Write, stand}, specs.Recorded.{behind, write_of}, proofs.Recording.behind_more, proofs.Standing.{stand-same, stand-other}}
 use Rattle.atomic_sectors.proofs.recorded.RecordedLines.get.Goals.{then-put-line, else-put-line}
+use Rattle.atomic_sectors.proofs.recorded.RecordedLines.get.Goals as goal
 
 pub loop-put-preserved : goal.loop-put-preserved
 loop-put-preserved g c =

@@ -1,6 +1,5 @@
 use Rattle.std.proofs.Common.{◌≡◌, [], ◌∷◌, ◌++◌, ◌∙◌, ap, arith}
-use Rattle.atomic_sectors.specs.Recorded.{behind}
-use Rattle.atomic_sectors.proofs.Recording.{behind-push}
+use Rattle.atomic_sectors.{specs.Recorded.behind, proofs.Recording.behind-push}
 use Rattle.atomic_sectors.proofs.recorded.RecordedLines.put.Goals as goal
 
 pub returns-clause-made : goal.returns-clause-made

@@ -1,6 +1,5 @@
 use Rattle.std.proofs.Common.{◌≡◌, ◌+◌, ◌-◌, ◌<◌, ◌∙◌, ap, subst, arith, add-one}
-use Rattle.atomic_sectors.specs.{Lines.stand, Sectors.{IsMapped, block_of, total}}
-use Rattle.atomic_sectors.proofs.{Filling.is_free, Fitting.sectors_few}
+use Rattle.atomic_sectors.{specs.Lines.stand, specs.Sectors.{IsMapped, block_of, total}, proofs.Filling.is_free, proofs.Fitting.sectors_few}
 use Rattle.atomic_sectors.proofs.sectors.Sectors.open.Goals as goal
 
 pub loop-sector-preserved : goal.loop-sector-preserved

@@ -1,6 +1,6 @@
 use Rattle.std.proofs.Common.{◌+◌, ◌*◌, List, ◌∷◌, sym, subst}
 use Rattle.atomic_sectors.specs.{Lines.{Write, stand}, Moments.AtEachMoment, Sectors.{word_write, IsMapped, Have, IsBeforeOrAfter, sector_line, with_sector}}
-use Rattle.atomic_sectors.proofs.{Making.{at_start, made_one, made_or_not}, Mapping.{have-written, mapped-written}, Writing.{before, behind, kept, filling}, Filling.keeps_none}
+use Rattle.atomic_sectors.proofs.{Filling.keeps_none, Making.{at_start, made_one, made_or_not}, Mapping.{have-written, mapped-written}, Writing.{before, behind, kept, filling}}
 use Rattle.atomic_sectors.proofs.sectors.Sectors.write.Goals as goal
 
 pub returns-in_err-block-clause-moments : goal.returns-in_err-block-clause-moments
