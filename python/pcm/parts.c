@@ -448,6 +448,34 @@ static char *name_of(const char *prefix, uint64_t part)
     return name;
 }
 
+/* Opens the parts, each in a file of its own behind a prefix, or one of these descriptors, and what is known of their rows. */
+static void open_parts(char *to, const char *index)
+{
+    int are_open = is_digit(*to);
+    char *at = to;
+    for (uint64_t part = 0; part < whole.parts; part++) {
+        whole.out[part] = are_open ? opened((int)strtol(at, &at, 10), "a part") : opened(-1, name_of(to, part));
+        at += are_open && *at == ',';
+        if (index)
+            whole.out[part]->before = whole.index[part] = opened(-1, name_of(index, part));
+        put(whole.out[part], HEADER, sizeof HEADER - 1);
+    }
+}
+
+/* No part ends before all that is known of its rows is there. */
+static void close_parts(void)
+{
+    for (uint64_t part = 0; part < whole.parts; part++)
+        flush(whole.out[part]);
+    for (uint64_t part = 0; part < whole.parts; part++) {
+        finish(whole.out[part]);
+        if (whole.has_index)
+            finish(whole.index[part]);
+        printf("part %" PRIu64 " %" PRIu64 "\n", part, whole.count[part]);
+    }
+    printf("rows %" PRIu64 "\n", whole.rows);
+}
+
 static int split(int count, char **words)
 {
     const char *index = NULL, *drawn = NULL;
@@ -473,15 +501,7 @@ static int split(int count, char **words)
     whole.has_index = index != NULL;
     if (whole.parts < 1 || whole.parts > PARTS || !whole.lines || whole.size > 128)
         return 2;
-    char *at = words[6];
-    int are_open = is_digit(*at);
-    for (uint64_t part = 0; part < whole.parts; part++) {
-        whole.out[part] = are_open ? opened((int)strtol(at, &at, 10), "a part") : opened(-1, name_of(words[6], part));
-        at += are_open && *at == ',';
-        if (index)
-            whole.out[part]->before = whole.index[part] = opened(-1, name_of(index, part));
-        put(whole.out[part], HEADER, sizeof HEADER - 1);
-    }
+    open_parts(words[6], index);
     if (drawn)
         split_drawn(drawn);
     else
@@ -490,16 +510,7 @@ static int split(int count, char **words)
         char row[32];
         to_all(CUT, row, (size_t)sprintf(row, "%" PRIu64 ",C,,\n", whole.tick));
     }
-    /* (no part ends before all that is known of its rows is there) */
-    for (uint64_t part = 0; part < whole.parts; part++)
-        flush(whole.out[part]);
-    for (uint64_t part = 0; part < whole.parts; part++) {
-        finish(whole.out[part]);
-        if (index)
-            finish(whole.index[part]);
-        printf("part %" PRIu64 " %" PRIu64 "\n", part, whole.count[part]);
-    }
-    printf("rows %" PRIu64 "\n", whole.rows);
+    close_parts();
     return 0;
 }
 
@@ -652,7 +663,14 @@ static void put_row(struct sink *sink, uint64_t number, const char *rest, size_t
 }
 
 static uint64_t parts, part;
-static int by_number;
+/* Of placing: whether keys are rows' numbers; whether all is told of the row at which the index stands (what it decides itself comes last). */
+static int by_number, is_done = 1;
+
+static void next_row(void)
+{
+    step();
+    is_done = 0;
+}
 
 /* A line without a number: what the module or its banks answer where all settle. */
 static void place_answer(struct sink *out, char *line, size_t length)
@@ -664,8 +682,11 @@ static void place_answer(struct sink *out, char *line, size_t length)
         }
         return;
     }
+    while (!at.ended && (at.kind != SETTLE || is_done))
+        next_row();
     if (at.kind != SETTLE)
         not_of_the_part();
+    is_done = !strncmp(line, ",settled,", 9);
     unsigned within = 0;
     if (!strncmp(line, ",bank,", 6)) {
         char *text = line + 6;
@@ -704,6 +725,38 @@ static int is_now(const struct pending *one, const char *word, uint64_t tick)
     }
 }
 
+/* A line of a row that has a number. */
+static void place_row(struct sink *out, char *line, size_t length)
+{
+    char *text = line;
+    uint64_t number = told_number(&text);
+    char *word = text;
+    while (*text != ',' && *text != '\n')
+        text++;
+    if (*text++ == '\n')
+        not_of_the_part();
+    uint64_t tick = told_number(&text);
+    while (at.number < number && !at.ended)
+        next_row();
+    struct pending *one = pending_at(number);
+    if (!one->number)
+        not_of_the_part();
+    while (!at.ended && (is_done || !is_now(one, word, tick))) {
+        next_row();
+        one = pending_at(number);
+    }
+    int is_cut = *word == 'c';
+    if (!is_cut || part == 0) {
+        if (by_number)
+            put_key(out, one->row, 0);
+        else
+            put_key(out, at.ended ? UINT64_MAX : at.row + at.settles, is_cut ? 0x40 : one->bank);
+        put_row(out, one->row, word, length - (size_t)(word - line));
+    }
+    is_done = !at.ended && number == at.number && at.kind != SETTLE;
+    take_pending(one);
+}
+
 static int place(int count, char **words)
 {
     if (count && !strcmp(*words, "--by-number"))
@@ -729,44 +782,11 @@ static int place(int count, char **words)
         put_key(out, 0, 0);
         put(out, TOLD, sizeof TOLD - 1);
     }
-    int is_done = 1; /* (a row of which all is told: what it decides itself comes last) */
-    while ((line = next_line(&told, &length))) {
-        char *text = line;
-        if (*line == ',') {
-            while (strncmp(line, ",shape,", 7) && !at.ended && (at.kind != SETTLE || is_done))
-                step(), is_done = 0;
+    while ((line = next_line(&told, &length)))
+        if (*line == ',')
             place_answer(out, line, length);
-            is_done |= !strncmp(line, ",settled,", 9);
-            continue;
-        }
-        uint64_t number = told_number(&text);
-        char *rest = text, *word = text;
-        while (*text != ',' && *text != '\n')
-            text++;
-        if (*text == '\n')
-            not_of_the_part();
-        text++;
-        uint64_t tick = told_number(&text);
-        while (at.number < number && !at.ended)
-            step(), is_done = 0;
-        struct pending *one = pending_at(number);
-        if (!one->number)
-            not_of_the_part();
-        while (!at.ended && (is_done || !is_now(one, word, tick))) {
-            step(), is_done = 0;
-            one = pending_at(number);
-        }
-        int is_cut = *word == 'c', is_own = !at.ended && one->number == at.number && at.kind != SETTLE;
-        if (!is_cut || part == 0) {
-            if (by_number)
-                put_key(out, one->row, 0);
-            else
-                put_key(out, at.ended ? UINT64_MAX : at.row + at.settles, is_cut ? 0x40 : one->bank);
-            put_row(out, one->row, rest, length - (size_t)(rest - line));
-        }
-        take_pending(one);
-        is_done = is_own;
-    }
+        else
+            place_row(out, line, length);
     finish(out);
     return 0;
 }

@@ -257,7 +257,7 @@ class _Placer:
         if fields[1] == b"bank":
             within = _BANK + int(fields[3])
             is_own = int(fields[3]) % self._parts == self._part
-        self._is_done |= fields[1] == b"settled"
+        self._is_done = fields[1] == b"settled"
         return f"{index.place:016x}{within:02x}".encode() + line if is_own and not self._by_number else b""
 
     def _row(self, line: bytes) -> bytes:

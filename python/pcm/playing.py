@@ -69,6 +69,17 @@ class _Process:
                 file.close()
 
 
+@contextlib.contextmanager
+def _starting(what: str) -> Iterator[None]:
+    """Says what can't be started where the machine has no room for it."""
+    try:
+        yield
+    except OSError as wrong:
+        if wrong.filename is not None:
+            raise
+        raise PcmError(_BROKEN_OFF, f"{what} can't be started: {wrong.strerror}") from None
+
+
 class Playing:
     """A part that is being played: its stream and what stands behind it, into a file of the folder."""
 
@@ -79,7 +90,7 @@ class Playing:
         behind = _behind(folder, asked, part, passing)
         self._processes: List[_Process] = []
         try:
-            with open(self._new, "wb") as out:
+            with _starting(f"part {part}"), open(self._new, "wb") as out:
                 given: "int | BinaryIO" = source
                 for at, one in enumerate([[*stream, *asked.words()], *behind]):
                     to = out if at == len(behind) else subprocess.PIPE
@@ -223,7 +234,7 @@ def play_on_the_way(
 ) -> Split:
     """Plays all parts at once, while the trace is split."""
     started: "List[Playing | _Process]" = []
-    with _ending(started), contextlib.ExitStack() as files:
+    with _ending(started), _starting("all parts at once"), contextlib.ExitStack() as files:
         fds, parts = [], []
         for part in range(asked.parts):
             if asked.kind in PLACED:

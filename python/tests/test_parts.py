@@ -297,6 +297,14 @@ class Words(Room):
         self.refused(4, f"{self.room}/none: no trace was split there", "--folder", self.room / "none", "--part", "1")
         self.refused(4, f"{self.room}/none: no trace was split there", "--folder", self.room / "none", "--missing")
 
+    def test_standard_files_that_are_closed(self):
+        started = f"{sys.executable} -B -m pcm parts {' '.join(SHAPE)}"
+        for closed, status, line in ("<&-", 4, "parts: standard input: Bad file descriptor\n"), (">&-", 5, "parts: standard output is closed\n"):
+            done = subprocess.run(
+                f"{started} {closed}", shell=True, stdin=subprocess.DEVNULL, capture_output=True, text=True, cwd=HERE.parent, check=False,
+            )
+            self.assertEqual((status, "", line), (done.returncode, done.stdout, done.stderr))
+
     def test_help(self):
         status, told, _ = parts("--help")
         self.assertEqual((0, b"One run on several processors"), (status, told[:29]))
