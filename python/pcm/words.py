@@ -177,7 +177,10 @@ FLAGS = {
     "explain": {"all": "explains the first row of each bank that breaks a rule"},
 }
 # What the wrapper answers by itself.
-WRAPPERS = {"help": "prints this help", "version": "prints the version", "path": "prints where the built program is"}
+WRAPPERS = {
+    "help": "prints this help", "version": "prints the version", "path": "prints where the built program is",
+    "parts": "replays a trace as a stream does, on several processors",
+}
 
 
 # Words.
@@ -412,6 +415,13 @@ def _wrong_field(
         return "line", f"the third field must be a line, {named}, and is {_shown(arg)}"
     pattern = {"R": "", "W": f"[0-9a-fA-F]{{{2 * size}}}", "M": rf"(?!\.*$)(?:[0-9a-fA-F]{{2}}|\.\.){{{size}}}"}[op]
     return None if re.fullmatch(pattern, data) else ("payload", _wrong_payload(op, data, size))
+
+
+def fault_kind(record: Sequence[str], before: int, shape: Tuple[int, int, bool], number: int) -> Optional[str]:
+    """The kind of the first fault of a record behind a row of this tick, None where it has none, by the lines of the module, the bytes of a
+    line, whether rows come in a stream, and the row's number, or that of the next one."""
+    found = _wrong_field(record, (before, None), shape, number)
+    return found[0] if found else None
 
 
 def _faulty_row(path: str, row: int, kind: str, words: Sequence[str]) -> Optional[str]:
