@@ -42,29 +42,32 @@ static void let_go(void)
     control = -1;
 }
 
-/* The copy: these are its standard input and output, and what it is asked by. */
-static void go_on(const int fds[3])
+/* What a copy is handed: its standard input and output, what it is asked by, and perhaps its standard error. */
+enum { IN, OUT, ASKS, ERR, MOST };
+
+static void go_on(const int fds[], int count)
 {
     close(control);
-    control = fds[2];
-    if (dup2(fds[0], 0) < 0 || dup2(fds[1], 1) < 0)
+    control = fds[ASKS];
+    if (dup2(fds[IN], 0) < 0 || dup2(fds[OUT], 1) < 0 || (count == MOST && dup2(fds[ERR], 2) < 0))
         _exit(4);
-    close(fds[0]);
-    close(fds[1]);
+    for (int i = 0; i < count; i++)
+        if (i != ASKS)
+            close(fds[i]);
 }
 
-static void copy(const int fds[3])
+static void copy(const int fds[], int count)
 {
     int32_t told[2] = {-1, 0};
     signal(SIGCHLD, SIG_IGN); /* (nobody waits for the copies here) */
     pid_t child = fork();
     if (child == 0) {
-        go_on(fds);
+        go_on(fds, count);
         return;
     }
     told[0] = (int32_t)child;
     told[1] = child < 0 ? errno : 0;
-    for (int i = 0; i < 3; i++)
+    for (int i = 0; i < count; i++)
         close(fds[i]);
     send(control, told, sizeof told, MSG_NOSIGNAL);
 }
@@ -74,12 +77,12 @@ static void serve(void)
 {
     union {
         struct cmsghdr align;
-        char bytes[CMSG_SPACE(3 * sizeof(int))];
+        char bytes[CMSG_SPACE(MOST * sizeof(int))];
     } space;
     char byte = 0;
     struct iovec piece = {&byte, 1};
     struct msghdr message = {.msg_iov = &piece, .msg_iovlen = 1, .msg_control = space.bytes, .msg_controllen = sizeof space.bytes};
-    int fds[3];
+    int fds[MOST], count = MOST;
     ssize_t got = recvmsg(control, &message, MSG_CMSG_CLOEXEC);
     if (got < 0 && errno == EINTR)
         return;
@@ -90,10 +93,12 @@ static void serve(void)
     struct cmsghdr *with = CMSG_FIRSTHDR(&message);
     if (byte == 'q')
         _exit(0);
-    if (byte != 'f' || with == NULL || with->cmsg_type != SCM_RIGHTS || with->cmsg_len != CMSG_LEN(sizeof fds))
+    while (with != NULL && count > ASKS && with->cmsg_len != CMSG_LEN((size_t)count * sizeof(int)))
+        count--;
+    if (byte != 'f' || with == NULL || with->cmsg_type != SCM_RIGHTS || count <= ASKS)
         return;
-    memcpy(fds, CMSG_DATA(with), sizeof fds);
-    copy(fds);
+    memcpy(fds, CMSG_DATA(with), (size_t)count * sizeof(int));
+    copy(fds, count);
 }
 
 ssize_t read(int fd, void *to, size_t size)

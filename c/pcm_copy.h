@@ -30,9 +30,9 @@ static inline enum pcm_result pcm_open_copied(struct pcm *pcm, const char *const
    closed. */
 static inline enum pcm_result pcm_copy(struct pcm *from, struct pcm *to, pcm_taker take, void *context);
 
-/* From here on: how. Messages go over a socket that keeps them apart. To the program: `f`, with the three descriptors of a copy: its standard
-   input, its standard output, and its own such socket; and `q`: it ends at once. From it: `h` once it can be copied; of a copy its process
-   and the number of an error; and as it ends `e` and its status. */
+/* From here on: how. Messages go over a socket that keeps them apart. To the program: `f`, with the descriptors of a copy: its standard input,
+   its standard output, its own such socket, and perhaps its standard error; and `q`: it ends at once. From it: `h` once it can be copied; of a
+   copy its process and the number of an error; and as it ends `e` and its status. */
 
 /* What the program says of a copy. */
 struct pcm__copied {
