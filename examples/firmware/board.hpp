@@ -53,7 +53,8 @@ public:
     /* Of one that is traced each point says where the processor is, which takes a call for each instruction. */
     Board(const Image &image_, const std::string &cpu, uint32_t nvm_bytes, uint64_t limit_, bool is_traced) : image(image_), limit(limit_)
     {
-        must(uc_open(UC_ARCH_ARM, static_cast<uc_mode>(UC_MODE_THUMB | UC_MODE_MCLASS), &uc), "a Cortex-M");
+        must(uc_open(UC_ARCH_ARM, static_cast<uc_mode>(UC_MODE_THUMB | UC_MODE_MCLASS), &engine.uc), "a Cortex-M");
+        uc = engine.uc;
         must(uc_ctl_set_cpu_model(uc, model_of(cpu)), "its model");
         map_flash();
         must(uc_mem_map(uc, ram, ram_bytes, UC_PROT_READ | UC_PROT_WRITE | UC_PROT_EXEC), "RAM");
@@ -65,13 +66,8 @@ public:
         if (is_traced)
             must(uc_hook_add(uc, &hook, UC_HOOK_CODE, reinterpret_cast<void *>(on_instruction), this, 1, 0), "its instructions");
         must(uc_hook_add(uc, &hook, UC_HOOK_MEM_INVALID, reinterpret_cast<void *>(on_invalid), this, 1, 0), "its faults");
-        must(uc_context_alloc(uc, &fresh), "its registers");
-        must(uc_context_save(uc, fresh), "its registers");
-    }
-    ~Board()
-    {
-        uc_context_free(fresh);
-        uc_close(uc);
+        must(uc_context_alloc(uc, &engine.fresh), "its registers");
+        must(uc_context_save(uc, engine.fresh), "its registers");
     }
     Board(const Board &) = delete;
 
@@ -106,8 +102,18 @@ public:
 private:
     const Image &image;
     const uint64_t limit; /* of instructions of a boot */
-    uc_engine *uc = nullptr;
-    uc_context *fresh = nullptr;
+    struct Engine {
+        uc_engine *uc = nullptr;
+        uc_context *fresh = nullptr; /* the registers at power-up */
+        ~Engine()
+        {
+            if (fresh != nullptr)
+                uc_context_free(fresh);
+            if (uc != nullptr)
+                uc_close(uc);
+        }
+    } engine;
+    uc_engine *uc = nullptr; /* the engine's */
     Memory *memory = nullptr; /* of the boot that runs */
     const Boot *how = nullptr;
     std::exception_ptr failure;
@@ -145,7 +151,7 @@ private:
     void begin(Memory &memory_, const Boot &how_)
     {
         static const std::vector<uint8_t> garbage(ram_bytes, 0xa5); /* (what RAM held is lost) */
-        must(uc_context_restore(uc, fresh), "its registers");
+        must(uc_context_restore(uc, engine.fresh), "its registers");
         must(uc_mem_write(uc, ram, garbage.data(), garbage.size()), "RAM");
         memory = &memory_;
         how = &how_;

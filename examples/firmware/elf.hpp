@@ -23,6 +23,17 @@ inline std::string hex(uint64_t number, int digits = 8)
     return text;
 }
 
+/* A name as it may be printed: without what isn't ASCII, and not longer than is read. */
+inline std::string printable(std::string name)
+{
+    if (name.size() > 80)
+        name.resize(80);
+    for (char &letter : name)
+        if (letter < ' ' || letter > '~')
+            letter = '?';
+    return name;
+}
+
 class Image {
 public:
     struct Segment {
@@ -59,7 +70,7 @@ public:
     /* `FUNCTION FILE:LINE`, as far as they are known, or else the address. */
     std::string where(uint32_t address) const
     {
-        std::string line = lines.where(address);
+        std::string line = printable(lines.where(address));
         auto behind = functions.upper_bound(address);
         std::string name;
         if (behind != functions.begin()) {
@@ -202,7 +213,7 @@ private:
             unsigned info = in.byte();
             in.skip(3);
             if ((info & 15) == 2)
-                functions[value & ~1u] = {size, Cursor(texts, name).text()};
+                functions[value & ~1u] = {size, printable(Cursor(texts, name).text())};
         }
     }
 };

@@ -40,12 +40,6 @@ public:
         settle();
     }
     Module &operator=(const Module &) = delete;
-    ~Module()
-    {
-        if (making.library.empty())
-            pcm_finish(&pcm); /* (so that it ends without a word) */
-        pcm_close(&pcm);
-    }
 
     /* What the module is; it waits for that. */
     const struct pcm_shape &shape()
@@ -53,8 +47,8 @@ public:
         must(pcm_learn(&pcm, nullptr), "its shape");
         return pcm.shape;
     }
-    /* Whether its program can be copied; else `errno` says why. */
-    bool is_copied()
+    /* 0 where its program can be copied, or else the number of the error. */
+    int copy_fault()
     {
         auto copy = std::make_unique<struct pcm>();
         enum pcm_result result = pcm_copy(&pcm, copy.get(), take, this);
@@ -63,8 +57,7 @@ public:
             pcm_close(copy.get());
         else if (result != PCM_FAILED)
             must(result, "a copy");
-        errno = fault;
-        return result == PCM_OK;
+        return result == PCM_OK ? 0 : fault;
     }
     /* How many of the rows that were sent have a number. */
     size_t sent() const { return pcm.rows; }
@@ -114,8 +107,18 @@ public:
 
 private:
     static constexpr uint64_t long_enough = 1000000;
-    struct pcm pcm = {};
     const Making &making;
+    struct Held {
+        struct pcm pcm = {};
+        bool is_finished = false; /* before it is closed, so that a program that isn't copied ends without a word */
+        ~Held()
+        {
+            if (is_finished)
+                pcm_finish(&pcm);
+            pcm_close(&pcm);
+        }
+    } held;
+    struct pcm &pcm = held.pcm;
     std::string rows;         /* that were sent, each a line, where a copy plays them */
     std::vector<size_t> ends; /* of each of them */
     std::set<uint32_t> standing; /* writes that aren't known to be stored, merged or refused */
@@ -138,6 +141,7 @@ private:
     }
     void begin()
     {
+        held.is_finished = making.library.empty();
         if (making.library.empty()) {
             pcm.log = keep;
             pcm.context = this;

@@ -65,8 +65,9 @@ public:
         if (by != "copy" || plan.powerloss == "random" || plan.powerloss == "none")
             return;
         plan.making.library = library.empty() ? found_library() : library;
-        if (!plan.making.library.empty() && !Module(plan.making).is_copied()) {
-            fprintf(stderr, "cut-firmware: the program can't be copied (%s): its rows are played again for each cut\n", strerror(errno));
+        int fault = plan.making.library.empty() ? 0 : Module(plan.making).copy_fault();
+        if (fault != 0) {
+            fprintf(stderr, "cut-firmware: the program can't be copied (%s): its rows are played again for each cut\n", strerror(fault));
             plan.making.library.clear();
         }
     }

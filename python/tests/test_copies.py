@@ -1,7 +1,6 @@
 """Copies of a module where it stands."""
 import os
 import pathlib
-import subprocess
 import sys
 import tempfile
 import time
@@ -11,7 +10,20 @@ PACKAGE = pathlib.Path(__file__).resolve().parent.parent
 sys.path[:0] = [str(PACKAGE), str(PACKAGE / "tests")]
 import pcm  # noqa: E402
 from leaks import setUpModule, tearDownModule  # noqa: E402, F401
+from stand_in import stand_in  # noqa: E402
 
+# The system gives no process for a copy.
+STAND_IN = """
+import os, socket, struct, sys
+asked = socket.socket(fileno=int(os.environ["PCM_COPY"]))
+asked.send(b"h")
+print("row,outcome,tick,place,data", flush=True)
+for row in sys.stdin:
+    if ",S," in row:
+        print(",settled,0,,", flush=True)
+        asked.recvmsg(1, 1024)
+        asked.send(struct.pack("=ii", -1, 11))
+"""
 OPTIONS = {"banks": 2, "regions": 1, "lines": 4, "misses": 3, "psi": 5}
 
 
@@ -161,27 +173,13 @@ class Copies(unittest.TestCase):
         module.close()
 
     def test_a_system_without_processes_is_told(self):
-        """In a process of its own, whose program may start no other."""
-        code = """
-import resource, sys
-sys.path.insert(0, sys.argv[1])
-import pcm
-module = pcm.Module(copies=True, banks=1, regions=1, lines=4)
-module.settle(0)
-resource.prlimit(module._process.pid, resource.RLIMIT_NPROC, (0, 0))
-try:
-    module.copy()
-except pcm.PcmError as told:
-    print("told:", told)
-module.read(5, 0)
-print([it.word for it in module.finish()])
-module.close()
-"""
-        if os.getuid() == 0:
-            self.skipTest("root may always start processes")
-        said = subprocess.run([sys.executable, "-c", code, str(PACKAGE)], stdout=subprocess.PIPE, text=True, check=True).stdout
-        self.assertIn("told:", said)
-        self.assertIn("['read']", said)
+        # (it stands in for the program and its library: the loader says on standard error that /dev/null is none)
+        room = tempfile.TemporaryDirectory()
+        self.addCleanup(room.cleanup)
+        stand_in(self, pathlib.Path(room.name), STAND_IN)
+        with pcm.Module(copies="/dev/null") as module, self.assertRaises(pcm.PcmError) as told:
+            module.copy()
+        self.assertIn("the program can't be copied: Resource temporarily unavailable", str(told.exception))
 
 
 if __name__ == "__main__":
