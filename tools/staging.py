@@ -5,19 +5,48 @@
     share/pcm/                  docs/USING.md and VERSION, from which the wrapper prints; python/pcm, and a link to the wrapper for it
     share/man/man1/             pcm.1, pcm-stream.1 and pcm-explain.1
     share/bash-completion/completions/pcm, share/zsh/site-functions/_pcm
-    include/pcm_stream.h        for drivers in C and C++"""
+    include/pcm_stream.h        for drivers in C and C++
+    share/pcm/firmware          examples/firmware; and bin/cut-firmware and lib/pcm/pcm_copy.so, where they could be built"""
 import pathlib
 import shutil
+import subprocess
+import sys
 
 import crates
 import pages
 
 TOP = crates.TOP
+FIRMWARE = TOP / "examples" / "firmware"
 PROGRAMS = ("pcm_cli", *(f"pcm_{it}" for it in pages.table().ALONE))
 
 
 def built(name):
     return TOP / "crates" / name / "out" / name
+
+
+def build_firmware():
+    """Builds what cuts the power under firmware, where its tools are here; else it says that it isn't there."""
+    if not FIRMWARE.is_dir():
+        return
+    try:
+        built_it = subprocess.run(["make", "-s", "-C", FIRMWARE], stdout=subprocess.DEVNULL, stderr=subprocess.DEVNULL).returncode == 0
+    except OSError:
+        built_it = False
+    if not built_it:
+        print("cut-firmware is left out: it wants make, g++ and unicorn/unicorn.h (Debian: libunicorn-dev)", file=sys.stderr)
+        for name in ("cut-firmware", "pcm_copy.so"):
+            (FIRMWARE / "out" / name).unlink(missing_ok=True)
+
+
+def firmware():
+    """What cuts the power under firmware, where it is built, and what firmware is made of, as `files` has it."""
+    for name, path, runs in (("cut-firmware", "bin/cut-firmware", True), ("pcm_copy.so", "lib/pcm/pcm_copy.so", False)):
+        if (FIRMWARE / "out" / name).is_file():
+            yield path, FIRMWARE / "out" / name, runs
+    for it in sorted(FIRMWARE.rglob("*")):
+        path = it.relative_to(FIRMWARE)
+        if it.is_file() and not {"out", "__pycache__", "check", "test_cut_firmware.py"} & set(path.parts):
+            yield f"share/pcm/firmware/{path}", it, it.name == "every_image"
 
 
 def files():
@@ -35,6 +64,7 @@ def files():
     yield "share/zsh/site-functions/_pcm", pages.zsh().encode(), False
     for it in sorted((TOP / "c").glob("*.h")):
         yield f"include/{it.name}", it, False
+    yield from firmware()
 
 
 # The package looks for the wrapper where a checkout has it.

@@ -4,6 +4,8 @@
 
 #include "campaign.hpp"
 
+#include <sys/stat.h>
+
 static const char usage[] =
     "usage: cut-firmware IMAGE [--option value ..] [OPTION OF pcm stream ..]\n"
     "\n"
@@ -205,9 +207,12 @@ private:
         const char *named = getenv("PCM");
         if (!program.empty() || (named != nullptr && *named != 0))
             return !program.empty() ? program : named;
-        for (const std::string &path : {own_folder() + "/pcm", own_folder() + "/../../../pcm"})
-            if (access(path.c_str(), X_OK) == 0)
+        for (const char *place : {"/pcm", "/../../pcm", "/../../../pcm"}) {
+            std::string path = own_folder() + place;
+            struct stat it;
+            if (stat(path.c_str(), &it) == 0 && S_ISREG(it.st_mode) && access(path.c_str(), X_OK) == 0)
                 return path;
+        }
         return "pcm";
     }
     static std::string found_library()
