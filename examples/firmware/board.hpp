@@ -53,7 +53,8 @@ public:
     /* Of one that is traced each point says where the processor is, which takes a call for each instruction. */
     Board(const Image &image_, const std::string &cpu, uint32_t nvm_bytes, uint64_t limit_, bool is_traced) : image(image_), limit(limit_)
     {
-        must(uc_open(UC_ARCH_ARM, static_cast<uc_mode>(UC_MODE_THUMB | UC_MODE_MCLASS), &engine.uc), "a Cortex-M");
+        /* (with the mode of its class Unicorn 2.0 takes a Cortex-M33, whatever model is asked for) */
+        must(uc_open(UC_ARCH_ARM, UC_MODE_THUMB, &engine.uc), "a Cortex-M");
         uc = engine.uc;
         must(uc_ctl_set_cpu_model(uc, model_of(cpu)), "its model");
         map_flash();

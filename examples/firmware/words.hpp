@@ -23,7 +23,7 @@ static const char usage[] =
     "  --cache N         a cache of N lines of 32 bytes that writes back stands before the module (0: none)\n"
     "  --evicts N        one of N accesses of the cache writes back any line of it (6; 0: only where room is wanted)\n"
     "  --at A            store (default): moments as above; access: before each load and store\n"
-    "  --from N --to N --every N    of the first cuts only those of these numbers\n"
+    "  --from N --to N --every N    of the first cuts only those of these numbers: so a part for each processor\n"
     "  --seed N          draws the moments of a life, what the cache writes back, and the module's cells (1)\n"
     "  --limit N         instructions of a boot, behind which it hangs (10000000)\n"
     "  --cpu C           cortex-m0, cortex-m3, cortex-m4, cortex-m7 (default) or cortex-m33\n"
@@ -123,40 +123,38 @@ private:
             pass_on(word);
         }
     }
+    /* An option that is a number, and where it goes. */
+    struct Numbered {
+        const char *name;
+        uint64_t least, most;
+        std::function<void(uint64_t)> put;
+    };
+    template <class Number> static std::function<void(uint64_t)> into(Number &place)
+    {
+        return [&place](uint64_t found) { place = static_cast<Number>(found); };
+    }
     bool take_number(const std::string &word)
     {
-        struct Numbered {
-            const char *name;
-            uint64_t *number;
-            uint32_t *word;
-            uint64_t least, most;
-        };
-        static const uint64_t any = UINT64_MAX;
-        uint32_t depth_word = depth;
+        const uint64_t any = UINT64_MAX, million = 1000000;
         const Numbered all[] = {
-            {"--depth", nullptr, &depth_word, 1, 8},
-            {"--operations", nullptr, &plan.operations, 0, 1000000},
-            {"--more", nullptr, &plan.more, 0, 1000000},
-            {"--bytes", nullptr, &plan.bytes, 4, Board::most_nvm},
-            {"--cache", nullptr, &plan.wiring.cache, 0, 65536},
-            {"--evicts", nullptr, &plan.wiring.evicts, 0, 1000000},
-            {"--cuts", &plan.cuts, nullptr, 1, 1000000000},
-            {"--seed", &plan.seed, nullptr, 0, any},
-            {"--limit", &plan.limit, nullptr, 1, any},
-            {"--from", &plan.from, nullptr, 0, any},
-            {"--to", &plan.to, nullptr, 0, any},
-            {"--every", &plan.every, nullptr, 1, any},
-            {"--show", &plan.show, nullptr, 0, any},
+            {"--depth", 1, 8, into(depth)},
+            {"--operations", 0, million, into(plan.operations)},
+            {"--more", 0, million, into(plan.more)},
+            {"--bytes", 4, Board::most_nvm, into(plan.bytes)},
+            {"--cache", 0, 65536, into(plan.wiring.cache)},
+            {"--evicts", 0, million, into(plan.wiring.evicts)},
+            {"--cuts", 1, 1000 * million, into(plan.cuts)},
+            {"--seed", 0, any, into(plan.seed)},
+            {"--limit", 1, any, into(plan.limit)},
+            {"--from", 0, any, into(plan.from)},
+            {"--to", 0, any, into(plan.to)},
+            {"--every", 1, any, into(plan.every)},
+            {"--show", 0, any, into(plan.show)},
         };
         std::string name = word.substr(0, word.find('='));
         for (const Numbered &it : all)
             if (name == it.name) {
-                uint64_t found = number(name, value(word), it.least, it.most);
-                if (it.word != nullptr)
-                    *it.word = static_cast<uint32_t>(found);
-                else
-                    *it.number = found;
-                depth = depth_word;
+                it.put(number(name, value(word), it.least, it.most));
                 return true;
             }
         return false;
