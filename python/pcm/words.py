@@ -8,6 +8,7 @@ it speaks to a person, `pcm.errors` for its exceptions; the pages of help, the m
     python3 words.py command WORD           that there is no such command, and which there are
 """
 import difflib
+import itertools
 import os
 import re
 import sys
@@ -491,6 +492,7 @@ def wrong_row(row: Handed, shape: Tuple[int, int, bool]) -> Optional[Tuple[str, 
 
 # The outcomes of each operation, and which of them have a place and bytes.
 OUTCOMES = {"R": ("read", "forwarded", "busy", "lost"), "W": ("stored", "merged", "queued", "full", "worn"), "C": ("cut",)}
+ASKS = {"R": "a read", "W": "a write", "M": "a masked write", "C": "a power cut"}
 PLACED, ANSWERED = ("stored", "read"), ("read", "forwarded")
 LAST_PLACE = 98831
 
@@ -532,6 +534,18 @@ def _asked_at(path: str, row: int) -> Optional[List[str]]:
     return None
 
 
+def _unanswered(path: str, row: int) -> str:
+    """What the first row of the trace asks for that has no row of results, and how many have none behind it."""
+    rows = itertools.takewhile(lambda record: ",".join(record) != RESULTS, (record for _, record in _records(path)))
+    lacking = list(itertools.islice(rows, row, None))
+    if not lacking or len(lacking[0]) != 4 or lacking[0][1] not in ASKS:
+        return "a row of the trace lacks its own"
+    tick, op, line, _ = lacking[0]
+    more = len(lacking) - 1
+    behind = f", nor {'has the row' if more == 1 else f'have the {more:,} rows'} behind it" if more else ""
+    return f"row {row} of the trace, {ASKS[op]}{f' of line {line}' if line else ''} at tick {tick}, has no answer{behind}"
+
+
 def _faulty_result(path: str, row: int, words: Sequence[str]) -> Optional[str]:
     """Where a row stands that isn't one of results, and which of its fields can't stand there."""
     wanted = row
@@ -547,7 +561,7 @@ def _faulty_result(path: str, row: int, words: Sequence[str]) -> Optional[str]:
             if row == 0:
                 break
     if row > 0:
-        return f"the results end with line {begins}: a row of the trace lacks its own"
+        return f"the results end with line {begins}: {_unanswered(path, wanted)}"
     line, ended = line.rstrip("\n"), line.endswith("\n")
     if line.endswith("\r"):
         return f"line {begins}: it ends with CRLF, and must end with LF"
